@@ -17,10 +17,10 @@ use Rattle.acpi_c_lib.specs.declared.written_records.SpcrContents as spcr_record
 use Rattle.acpi_writer.proofs.Sized.{moved_checked, moved_contents, moved_fadt, moved_slit, moved_spcr, moved_srat, moved_table}
 use Rattle.acpi_writer.specs.Bgrt.{bgrt_body}
 use Rattle.acpi_writer.specs.Contents.{Moves}
-use Rattle.acpi_writer.specs.Gtdt.{gtdt_written}
+use Rattle.acpi_writer.specs.Gtdt.{gtdt_fields, gtdt_written}
 use Rattle.acpi_writer.specs.HpetBytes.{hpet_body}
 use Rattle.acpi_writer.specs.McfgBytes.{mcfg_entry, mcfg_reserved}
-use Rattle.acpi_writer.specs.Spcr.{port_fields, spcr_written}
+use Rattle.acpi_writer.specs.Spcr.{fixed_list, spcr_written}
 use Rattle.acpi_writer.specs.Table.{AreIds}
 use Rattle.acpi_writer.specs.declared.contents.TableContents.TheVariants as contents
 use Rattle.acpi_writer.specs.declared.gtdt.GtdtContents.{GtdtContents}
@@ -47,7 +47,7 @@ moved_listed ids Nothing are = λ room other t e fits. never _ t _ e
 -- ---- where the name of a console lies doesn't matter to its SPCR
 
 by_name : (room : ℕ) (ids : TableIds) (name : Bor (List ℕ)) (c : spcr_record.SpcrContents) → name.now ≡ codes "." → spcr_written room ids (spcr.contents name c) ≡ spcr.spcr_laid room ids c
-unfolding spcr_written port_fields
+unfolding spcr_written fixed_list
 by_name room ids name c e = rw e refl
 
 pub named : (room : ℕ) (ids : TableIds) (given : spcr_record.SpcrContents) (c : SpcrContents) → c ≡ spcr.contents c.namespace_string given → c.namespace_string.now ≡ codes "." → spcr_written room ids c ≡ spcr.spcr_laid room ids given
@@ -56,7 +56,7 @@ named room ids given c said name = ap (spcr_written room ids) said ∙ by_name r
 -- ---- nor where no timers lie to a GTDT
 
 by_timers : (room : ℕ) (ids : TableIds) (platform : Bor (List PlatformTimerContents)) (t : ArmTimers) → platform.now ≡ [] → gtdt_written room ids (gtdt.contents platform t) ≡ gtdt.gtdt_laid room ids t
-unfolding gtdt_written
+unfolding gtdt_written gtdt_fields
 by_timers room ids platform t e = rw e refl
 
 pub untimed : (room : ℕ) (ids : TableIds) (given : ArmTimers) (c : GtdtContents) → c ≡ gtdt.contents c.platform_timers given → c.platform_timers.now ≡ [] → gtdt_written room ids c ≡ gtdt.gtdt_laid room ids given

@@ -1,12 +1,12 @@
--- Bytes and flags: single bytes, trigger modes and polarities as they are read, the bytes of numbers, flags in a number,
+-- Bytes and flags: single bytes, trigger modes and polarities as they are read, the bytes of numbers, flags in a
+-- number,
 -- and checks that were passed.
 use Rattle.std.proofs.Common.{◌≡◌, ℕ, Bool, true, false, List, [], ◌∷◌, Result, Ok, Err, refl, sym, ap, ◌∙◌, arith, ◌^◌, ◌<◌, w16, w32, w64, zero, suc, ◌+◌, ◌*◌, ◌%◌, ◌/◌, ◌≤◌, length, drop, add-one, drop-cons}
 use Rattle.std.specs.Prelude.{not, if◌then◌else◌, ◌==◌}
 use Rattle.std.specs.List.{AllByRecursion}
-use Rattle.std.specs.Result.{IsErrAnd}
 use Rattle.acpi_base.specs.Bits.{has_bit}
 use Rattle.acpi_base.specs.Bytes.{number, spelling}
-use Rattle.acpi_base.specs.Steps.{Gives, ◌>>=◌, holds}
+use Rattle.acpi_base.specs.Steps.{◌>>=◌, holds}
 use Rattle.acpi_base.specs.declared.model.interrupt.Polarity.{Polarity}
 use Rattle.acpi_base.specs.declared.model.interrupt.TriggerMode.{TriggerMode}
 use Rattle.acpi_base.specs.declared.model.interrupt.TriggerMode.TheVariants.{Edge, Level, SameAsBus}
@@ -31,34 +31,6 @@ pub is_off : (b : Bool) → not b ≡ true → b ≡ false
 is_off true h = absurd cc
 is_off false h = refl
 
-pub itself : {A : Type 0} (x : A) → x ≡ x
-itself x = refl
-
-pub app : {A B : Type 0} {f g : A → B} {a b : A} → f ≡ g → a ≡ b → f a ≡ g b
-app {g = g} {a = a} e h = ap (λ k. k a) e ∙ ap g h
-
--- flags in the lowest of four bytes
-abbrev pub flags_number : Bool → Bool → Bool → Bool → ℕ
-flags_number a b c d = number (flags_of a b c d ∷ 0 ∷ 0 ∷ 0 ∷ [])
-
-pub flags_are : (a b c d : Bool) → (has_bit (flags_number a b c d) 0 ≡ a) × (has_bit (flags_number a b c d) 1 ≡ b) × (has_bit (flags_number a b c d) 2 ≡ c) × (has_bit (flags_number a b c d) 3 ≡ d)
-flags_are true true true true = (refl, refl, refl, refl)
-flags_are true true true false = (refl, refl, refl, refl)
-flags_are true true false true = (refl, refl, refl, refl)
-flags_are true true false false = (refl, refl, refl, refl)
-flags_are true false true true = (refl, refl, refl, refl)
-flags_are true false true false = (refl, refl, refl, refl)
-flags_are true false false true = (refl, refl, refl, refl)
-flags_are true false false false = (refl, refl, refl, refl)
-flags_are false true true true = (refl, refl, refl, refl)
-flags_are false true true false = (refl, refl, refl, refl)
-flags_are false true false true = (refl, refl, refl, refl)
-flags_are false true false false = (refl, refl, refl, refl)
-flags_are false false true true = (refl, refl, refl, refl)
-flags_are false false true false = (refl, refl, refl, refl)
-flags_are false false false true = (refl, refl, refl, refl)
-flags_are false false false false = (refl, refl, refl, refl)
-
 abbrev pub mode : Bool → TriggerMode
 mode edge = if edge then Edge else Level
 
@@ -81,23 +53,17 @@ pub was_true : {E : Type 0} (b : Bool) (e : E) → holds b e ≡ Ok tt → b ≡
 was_true true e good = refl
 was_true false e good = absurd cc
 
-pub first_good : {E : Type 0} (r : Result (Unit {0}) E) (f : Unit {0} → Result (Unit {0}) E) → (r >>= f) ≡ Ok tt → (r ≡ Ok tt) × (f tt ≡ Ok tt)
+pub first_good : {E : Type 0} (r : Result (Unit {0}) E) (f : Unit {0} → Result (Unit {0}) E) → (r >>= f) ≡ Ok tt
+    → (r ≡ Ok tt) × (f tt ≡ Ok tt)
 first_good (Ok tt) f good = (refl, good)
 first_good (Err e) f good = absurd cc
 
-pub each_good : {X E : Type 0} (f : X → Result (Unit {0}) E) (xs : List X) → all_checked f xs ≡ Ok tt → AllByRecursion (λ x. f x ≡ Ok tt) xs
+pub each_good : {X E : Type 0} (f : X → Result (Unit {0}) E) (xs : List X) → all_checked f xs ≡ Ok tt
+    → AllByRecursion (λ x. f x ≡ Ok tt) xs
 each_good f [] good = tt
 each_good f (x ∷ xs) good =
     let p = first_good (f x) (λ _. all_checked f xs) good in
     (p.0, each_good f xs p.1)
-
-abbrev failed : {Y E : Type 0} → E → Result Y E
-failed e = Err e
-
--- an error that is passed on
-pub passed_on : {X Y E : Type 0} (view : X → Y) (r : Result X E) (e : E) (said : Result Y E) → IsErrAnd r (λ d. d ≡ e) → said ≡ Err e → Gives view r said
-passed_on view (Ok x) e said h k = absurd h
-passed_on view (Err d) e said h k = k ∙ ap failed (sym h)
 
 -- ---- the bytes of numbers
 
@@ -135,8 +101,10 @@ unfolding flag_number
 flags_cons b bs = refl
 
 -- the flags from a place on
-pub flags_more : (bs : List Bool) (i : ℕ) → i < length bs → flag_number (drop i bs) ≡ bit_of (get_or bs i false) + 2 * flag_number (drop (i + 1) bs)
-flags_more bs i h = ap flag_number (rw add-one (drop-cons bs i false h)) ∙ flags_cons (get_or bs i false) (drop (i + 1) bs)
+pub flags_more : (bs : List Bool) (i : ℕ) → i < length bs
+    → flag_number (drop i bs) ≡ bit_of (get_or bs i false) + 2 * flag_number (drop (i + 1) bs)
+flags_more bs i h = ap flag_number (rw add-one (drop-cons bs i false h))
+    ∙ flags_cons (get_or bs i false) (drop (i + 1) bs)
 
 pub flags_none : (bs : List Bool) → 0 ≡ flag_number (drop (length bs) bs)
 unfolding flag_number
@@ -162,7 +130,8 @@ half b m = omega (arith, bit_small b)
 
 bit_next : (b : Bool) (m k : ℕ) → has_bit (bit_of b + 2 * m) (suc k) ≡ has_bit m k
 bit_next b m k =
-    let shift : (bit_of b + 2 * m) / 2 ^ suc k ≡ m / 2 ^ k = ap (λ n. (bit_of b + 2 * m) / n) (pow-succ' 2 k) ∙ sym (div-div-eq-div-mul (bit_of b + 2 * m) 2 (2 ^ k)) ∙ ap (λ n. n / 2 ^ k) (half b m) in
+    let shift : (bit_of b + 2 * m) / 2 ^ suc k ≡ m / 2 ^ k = ap (λ n. (bit_of b + 2 * m) / n) (pow-succ' 2 k)
+    ∙ sym (div-div-eq-div-mul (bit_of b + 2 * m) 2 (2 ^ k)) ∙ ap (λ n. n / 2 ^ k) (half b m) in
     ap (λ n. n % 2 == 1) shift
 
 no_bit : (k : ℕ) → has_bit 0 k ≡ false
@@ -173,3 +142,19 @@ unfolding flag_number
 flags_read [] k = no_bit k
 flags_read (b ∷ bs) zero = bit_first b (flag_number bs)
 flags_read (b ∷ bs) (suc k) = bit_next b (flag_number bs) k ∙ flags_read bs k
+
+pub flag_bits : (a b c d : Bool)
+    → (has_bit (flags_of a b c d) 0 ≡ a) × (has_bit (flags_of a b c d) 1 ≡ b)
+    × (has_bit (flags_of a b c d) 2 ≡ c) × (has_bit (flags_of a b c d) 3 ≡ d)
+unfolding flag_number
+flag_bits a b c d =
+    let flags = a ∷ b ∷ c ∷ d ∷ [] in
+    let same : flags_of a b c d ≡ flag_number flags = omega arith in
+    let bit = λ (k : ℕ). ap (λ n. has_bit n k) same ∙ flags_read flags k in
+    (bit 0, bit 1, bit 2, bit 3)
+
+pub two_bits : (a b : Bool) → (has_bit (bit_of a + 2 * bit_of b) 0 ≡ a) × (has_bit (bit_of a + 2 * bit_of b) 1 ≡ b)
+unfolding flag_number
+two_bits a b =
+    let same : bit_of a + 2 * bit_of b ≡ flag_number (a ∷ b ∷ []) = omega arith in
+    (ap (λ n. has_bit n 0) same ∙ flags_read (a ∷ b ∷ []) 0, ap (λ n. has_bit n 1) same ∙ flags_read (a ∷ b ∷ []) 1)

@@ -1,12 +1,12 @@
 -- The tables that an XSDT lists, as they are written, and what a reader says of them where a lookup finds the first of
 -- each signature.
-use Rattle.std.proofs.Common.{◌≡◌, ℕ, ◌+◌, ◌*◌, ◌^◌, ◌<◌, ◌≤◌, Bool, true, false, List, [], ◌∷◌, length, map, Option, Some, None, Ok, refl, sym, ap, subst, if◌then◌else◌, Result, arith, lit≤, length-append}
-use Rattle.std.specs.Prelude.{◌&&◌, IsUtf8, not, slice_get}
+use Rattle.std.proofs.Common.{◌≡◌, ℕ, ◌+◌, ◌*◌, ◌<◌, ◌≤◌, Bool, true, false, List, [], ◌∷◌, length, map, Option, Some, None, Ok, refl, sym, ap, subst, if◌then◌else◌, Result, arith, lit≤, length-append}
+use Rattle.std.specs.Prelude.{◌&&◌, slice_get}
 use Rattle.std.specs.List.{AllByRecursion}
 use Rattle.std.specs.Str.{bytes_eq, is_utf8}
 use Rattle.std.proofs.lemmas.Bool.{and_parts, le-leb}
 use Rattle.std.proofs.lemmas.Slice.Eq.{bytes_eq-Decides}
-use Rattle.acpi_base.proofs.Steps.{bind_ok, holds_ok}
+use Rattle.acpi_base.proofs.Steps.{bind_ok}
 use Rattle.acpi_base.specs.Bytes.{part, spelling}
 use Rattle.acpi_base.specs.Header.{check_names, check_table, header_at}
 use Rattle.acpi_base.specs.Steps.{◌>>=◌, holds}
@@ -14,29 +14,28 @@ use Rattle.acpi_base.specs.Text.{letters_of}
 use Rattle.acpi_base.specs.declared.table.signature.Signature.{Signature}
 use Rattle.acpi_base.specs.declared.table.signature.TheConstants.Signature.{BGRT, FADT, GTDT, HPET, MADT, MCFG, SLIT, SPCR, SRAT, SSDT}
 use Rattle.acpi_writer.specs.Bgrt.{IsBgrt, bgrt_body, SaysImage}
-use Rattle.acpi_writer.specs.Checked.{all_checked}
 use Rattle.acpi_writer.specs.Contents.{FitsContents, bytes_of, contents_written, most, or_none, placed, signature_of}
 use Rattle.acpi_writer.specs.FadtBytes.{fadt_body, fadt_checked, fadt_written, fixed_of}
-use Rattle.acpi_writer.specs.FadtLaws.{AreFitFor, IsFadt}
-use Rattle.acpi_writer.specs.GicMadt.{AreGicFit, IsGicMadt, gic_body, gic_written, interface_checked, gic_read}
-use Rattle.acpi_writer.specs.Gtdt.{AreTimersFit, IsGtdt, gtdt_body, gtdt_checked, gtdt_written, SaysTimers}
+use Rattle.acpi_writer.specs.FadtLaws.{IsFadt}
+use Rattle.acpi_writer.specs.GicMadt.{IsGicMadt, gic_body, gic_checked, gic_written, gic_read}
+use Rattle.acpi_writer.specs.Gtdt.{IsGtdt, gtdt_body, gtdt_checked, gtdt_written, SaysTimers}
 use Rattle.acpi_writer.specs.HpetBytes.{hpet_body}
 use Rattle.acpi_writer.specs.HpetLaws.{IsHpet}
 use Rattle.acpi_writer.specs.ImageLaws.{is_named}
 use Rattle.acpi_writer.specs.Machine.{check_tables}
 use Rattle.acpi_writer.specs.MachineLaws.{AreValid, first_at, first_of, place_of, HasFadt, HasTable, Says, platform_read}
-use Rattle.acpi_writer.specs.MadtBytes.{is_empty, madt_body, madt_checked, madt_entries, madt_fixed, madt_written}
-use Rattle.acpi_writer.specs.MadtLaws.{AreFit, IsMadt, model_read}
+use Rattle.acpi_writer.specs.MadtBytes.{madt_body, madt_checked, madt_entries, madt_fixed, madt_written}
+use Rattle.acpi_writer.specs.MadtLaws.{IsMadt, model_read}
 use Rattle.acpi_writer.specs.McfgBytes.{mcfg_body}
 use Rattle.acpi_writer.specs.McfgLaws.{IsMcfg}
 use Rattle.acpi_writer.specs.Slit.{IsSlit, slit_body, slit_checked, slit_written}
 use Rattle.acpi_writer.specs.Spcr.{spcr_body, spcr_checked, spcr_written}
-use Rattle.acpi_writer.specs.SpcrLaws.{FitsSpcr, IsSpcr, SaysConsole}
-use Rattle.acpi_writer.specs.Srat.{SratContents, srat_body, srat_checked_by, srat_entries, srat_reserved, srat_written, srat_written_by}
+use Rattle.acpi_writer.specs.SpcrLaws.{IsSpcr, SaysConsole}
+use Rattle.acpi_writer.specs.Srat.{SratContents, srat_body, srat_checked_by, srat_entries, srat_reserved, srat_written_by}
 use Rattle.acpi_writer.specs.Table.{AreIds, IsTableOf, IsValid, table_written}
 use Rattle.acpi_writer.specs.declared.contents.TableContents.{TableContents}
 use Rattle.acpi_writer.specs.declared.contents.TableContents.TheVariants.{Bgrt, Fadt, GicMadt, Gtdt, Hpet, Madt, Mcfg, Slit, Spcr, Srat, Ssdt}
-use Rattle.acpi_writer.specs.declared.error.WriterError.TheVariants.{NoProcessor}
+use Rattle.acpi_writer.specs.declared.error.WriterError.{WriterError}
 use Rattle.acpi_writer.specs.declared.fadt.contents.FadtContents.{FadtContents}
 use Rattle.acpi_writer.specs.declared.gtdt.GtdtContents.{GtdtContents}
 use Rattle.acpi_writer.specs.declared.ids.TableIds.{TableIds}
@@ -45,7 +44,7 @@ use Rattle.acpi_writer.specs.declared.madt.MadtContents.{MadtContents}
 use Rattle.acpi_writer.specs.declared.spcr.SpcrContents.{SpcrContents}
 use Rattle.acpi_writer.proofs.ShortTables.{bgrt_long, bgrt_name, bgrt_read, bgrt_valid, hpet_long, hpet_name, hpet_read, hpet_valid, mcfg_name, mcfg_read, mcfg_valid, slit_is, slit_name, slit_read, slit_valid, ssdt_read}
 use Rattle.acpi_writer.proofs.FadtRead.{fadt_is, fadt_name, fadt_read, fadt_valid}
-use Rattle.acpi_writer.proofs.GicRead.{gic_madt_valid, entry_bytes, gic_madt_read}
+use Rattle.acpi_writer.proofs.GicRead.{gic_madt_is, gic_madt_valid, entry_bytes, gic_madt_read}
 use Rattle.acpi_writer.proofs.GtdtRead.{gtdt_valid}
 use Rattle.acpi_writer.proofs.LaidRead.{holds_only, platform_has}
 use Rattle.acpi_writer.proofs.MadtRead.{fixed_long, madt_is, madt_name, madt_read, madt_valid}
@@ -69,7 +68,7 @@ use Rattle.acpi_numa.specs.Slit.{distance_of}
 use Rattle.acpi_writer.specs.SratLaws.{IsSrat, SaysDomains}
 use Rattle.acpi_writer.specs.declared.bgrt.BgrtContents.{BgrtContents}
 use Rattle.acpi_writer.specs.declared.contents.SlitContents.{SlitContents}
-use Rattle.acpi_writer.proofs.FadtParts.{body_long}
+use Rattle.acpi_writer.proofs.FadtRead.{body_long}
 use Rattle.acpi_writer.specs.SratLaws as srat
 use Rattle.acpi_writer.proofs.GtdtRead as gtdt
 use Rattle.acpi_writer.proofs.SpcrRead as spcr
@@ -99,68 +98,52 @@ IsContents ids (Bgrt c) t = IsBgrt ids c t
 IsContents ids (Gtdt c) t = IsGtdt ids c t
 IsContents ids (GicMadt c) t = IsGicMadt ids c t
 
-pub table_of : (s : Signature) (revision : ℕ) (ids : TableIds) (body t : List ℕ) → AreIds ids → table_written most s revision ids body ≡ Ok t → IsTableOf s revision ids body t
+pub table_of : (s : Signature) (revision : ℕ) (ids : TableIds) (body t : List ℕ) → AreIds ids
+    → table_written most s revision ids body ≡ Ok t → IsTableOf s revision ids body t
 table_of s revision ids body t are e =
     let w = wrote most s revision ids body t e in
     record { ids_fit = are; texts = w.texts; short = w.short; bytes = w.bytes }
 
-madt_of : (ids : TableIds) (c : MadtContents) (t : List ℕ) → AreIds ids → AreFit c → madt_written most ids c ≡ Ok t → IsMadt ids c t
-unfolding madt_written
-madt_of ids c t are fit e =
-    let one = bind_ok (madt_checked c) (λ _. table_written most MADT 5 ids (madt_body c)) t e in
-    madt_is ids c t (table_of MADT 5 ids (madt_body c) t are one.2) fit one.1
+-- of contents that are checked first
+checked_table : (checked : Result (Unit {0}) WriterError) (s : Signature) (revision : ℕ) (ids : TableIds)
+    (body t : List ℕ)
+    → AreIds ids → (checked >>= λ _. table_written most s revision ids body) ≡ Ok t
+    → IsTableOf s revision ids body t × (checked ≡ Ok tt)
+checked_table checked s revision ids body t are e =
+    let both = bind_ok checked (λ _. table_written most s revision ids body) t e in
+    (table_of s revision ids body t are both.2, both.1)
 
-slit_of : (ids : TableIds) (n : ℕ) (distances t : List ℕ) → AreIds ids → n < 2 ^ 64 → slit_written most ids n distances ≡ Ok t → IsSlit ids n distances t
-unfolding slit_written
-slit_of ids n distances t are small e =
-    let one = bind_ok (slit_checked n distances) (λ _. table_written most SLIT 1 ids (slit_body n distances)) t e in
-    slit_is ids n distances t (table_of SLIT 1 ids (slit_body n distances) t are one.2) small one.1
-
-fadt_of : (ids : TableIds) (c : FadtContents) (t : List ℕ) → AreIds ids → AreFitFor c (fixed_of c.hardware) → fadt_written most ids c ≡ Ok t → IsFadt ids c t
-unfolding fadt_written
-fadt_of ids c t are fit e =
-    let one = bind_ok (fadt_checked c) (λ _. table_written most FADT 6 ids (fadt_body c)) t e in
-    fadt_is ids c t (table_of FADT 6 ids (fadt_body c) t are one.2) fit one.1
-
-srat_of : (ids : TableIds) (c : SratContents) (t : List ℕ) → AreIds ids → srat.AreFit c → srat_written most ids c ≡ Ok t → srat.IsSrat ids c t
-unfolding srat_written_by
-srat_of ids c t are fit e =
-    let one = bind_ok (srat_checked_by (λ r. r) c) (λ _. table_written most SRAT 3 ids (srat_body c)) t e in
-    srat_is (λ r. r) ids c t (table_of SRAT 3 ids (srat_body c) t are one.2) fit one.1
-
-spcr_of : (ids : TableIds) (c : SpcrContents) (t : List ℕ) → AreIds ids → FitsSpcr c → IsUtf8 c.namespace_string.now → spcr_written most ids c ≡ Ok t → IsSpcr ids c t
-unfolding spcr_written
-spcr_of ids c t are fit text e =
-    let one = bind_ok (spcr_checked c) (λ _. table_written most SPCR 4 ids (spcr_body c)) t e in
-    spcr.spcr_is ids c t (table_of SPCR 4 ids (spcr_body c) t are one.2) fit text one.1
-
-gtdt_of : (ids : TableIds) (c : GtdtContents) (t : List ℕ) → AreIds ids → AreTimersFit c → gtdt_written most ids c ≡ Ok t → IsGtdt ids c t
-unfolding gtdt_written
-gtdt_of ids c t are fit e =
-    let one = bind_ok (gtdt_checked c) (λ _. table_written most GTDT 3 ids (gtdt_body c)) t e in
-    record { written = table_of GTDT 3 ids (gtdt_body c) t are one.2; fit = fit; checked = one.1 }
-
-gic_of : (ids : TableIds) (c : GicContents) (t : List ℕ) → AreIds ids → AreGicFit c → gic_written most ids c ≡ Ok t → IsGicMadt ids c t
-unfolding gic_written
-gic_of ids c t are fit e =
-    let modes = all_checked interface_checked c.cpu_interfaces.now in
-    let here = table_written most MADT 6 ids (gic_body c) in
-    let one = holds_ok (not (is_empty c.cpu_interfaces.now)) NoProcessor (λ _. modes >>= λ _. here) t e in
-    let two = bind_ok modes (λ _. here) t one.1 in
-    record { written = table_of MADT 6 ids (gic_body c) t are two.2; fit = fit; checked = two.1 }
-
-contents_of : (ids : TableIds) (c : TableContents) (t : List ℕ) → AreIds ids → FitsContents c → contents_written most ids c ≡ Ok t → IsContents ids c t
-contents_of ids (Madt c) t are fit e = madt_of ids c t are fit e
-contents_of ids (Mcfg regions) t are fit e = record { written = table_of MCFG 1 ids (mcfg_body regions.now) t are e; fit = fit }
+contents_of : (ids : TableIds) (c : TableContents) (t : List ℕ) → AreIds ids → FitsContents c
+    → contents_written most ids c ≡ Ok t → IsContents ids c t
+unfolding fadt_written gic_written gtdt_written madt_written slit_written spcr_written srat_written_by
+contents_of ids (Madt c) t are fit e =
+    let both = checked_table (madt_checked c) MADT 5 ids (madt_body c) t are e in
+    madt_is ids c t both.0 fit both.1
+contents_of ids (Mcfg regions) t are fit e =
+    record { written = table_of MCFG 1 ids (mcfg_body regions.now) t are e; fit = fit }
 contents_of ids (Hpet info) t are fit e = record { written = table_of HPET 1 ids (hpet_body info) t are e; fit = fit }
-contents_of ids (Slit c) t are fit e = slit_of ids c.localities c.distances.now t are fit e
+contents_of ids (Slit c) t are fit e =
+    let n = c.localities in
+    let distances = c.distances.now in
+    let both = checked_table (slit_checked n distances) SLIT 1 ids (slit_body n distances) t are e in
+    slit_is ids n distances t both.0 fit both.1
 contents_of ids (Ssdt c) t are fit e = table_of SSDT c.revision ids c.bytes.now t are e
-contents_of ids (Fadt c) t are fit e = fadt_of ids c t are fit e
-contents_of ids (Srat c) t are fit e = srat_of ids c t are fit e
-contents_of ids (Spcr c) t are fit e = spcr_of ids c t are fit.0 fit.1 e
+contents_of ids (Fadt c) t are fit e =
+    let both = checked_table (fadt_checked c) FADT 6 ids (fadt_body c) t are e in
+    fadt_is ids c t both.0 fit both.1
+contents_of ids (Srat c) t are fit e =
+    let both = checked_table (srat_checked_by (λ r. r) c) SRAT 3 ids (srat_body c) t are e in
+    srat_is (λ r. r) ids c t both.0 fit both.1
+contents_of ids (Spcr c) t are fit e =
+    let both = checked_table (spcr_checked c) SPCR 4 ids (spcr_body c) t are e in
+    spcr.spcr_is ids c t both.0 fit.0 fit.1 both.1
 contents_of ids (Bgrt c) t are fit e = record { written = table_of BGRT 1 ids (bgrt_body c) t are e; fit = fit }
-contents_of ids (Gtdt c) t are fit e = gtdt_of ids c t are fit e
-contents_of ids (GicMadt c) t are fit e = gic_of ids c t are fit e
+contents_of ids (Gtdt c) t are fit e =
+    let both = checked_table (gtdt_checked c) GTDT 3 ids (gtdt_body c) t are e in
+    record { written = both.0; fit = fit; checked = both.1 }
+contents_of ids (GicMadt c) t are fit e =
+    let both = checked_table (gic_checked c) MADT 6 ids (gic_body c) t are e in
+    gic_madt_is ids c t both.0 fit both.1
 
 valid_of : (ids : TableIds) (c : TableContents) (t : List ℕ) → IsContents ids c t → IsValid (signature_of c) t
 valid_of ids (Madt c) t is = madt_valid ids c t is
@@ -177,14 +160,18 @@ valid_of ids (GicMadt c) t is = gic_madt_valid ids c t is
 
 -- ---- all of them
 
-pub all_contents : (ids : TableIds) (cs : List TableContents) → AreIds ids → AllByRecursion FitsContents cs → check_tables ids cs ≡ Ok tt → AllByRecursion (λ c. IsContents ids c (bytes_of ids c)) cs
+pub all_contents : (ids : TableIds) (cs : List TableContents) → AreIds ids → AllByRecursion FitsContents cs
+    → check_tables ids cs ≡ Ok tt → AllByRecursion (λ c. IsContents ids c (bytes_of ids c)) cs
 all_contents ids [] are fit e = tt
 all_contents ids (c ∷ cs) are fit e =
     let first = bind_ok (contents_written most ids c) (λ _. check_tables ids cs) tt e in
-    let same : bytes_of ids c ≡ first.0 = ap or_none first.1 in
-    (subst (IsContents ids c) (sym same) (contents_of ids c first.0 are fit.0 first.1), all_contents ids cs are fit.1 first.2)
+    let same : bytes_of ids c ≡ first.0 = ap or_none first.1 in (
+      subst (IsContents ids c) (sym same) (contents_of ids c first.0 are fit.0 first.1),
+      all_contents ids cs are fit.1 first.2,
+    )
 
-pub all_valid : (ids : TableIds) (cs : List TableContents) → AllByRecursion (λ c. IsContents ids c (bytes_of ids c)) cs → AreValid (map (bytes_of ids) cs)
+pub all_valid : (ids : TableIds) (cs : List TableContents) → AllByRecursion (λ c. IsContents ids c (bytes_of ids c)) cs
+    → AreValid (map (bytes_of ids) cs)
 all_valid ids [] all = tt
 all_valid ids (c ∷ cs) all = ((signature_of c, valid_of ids c (bytes_of ids c) all.0), all_valid ids cs all.1)
 
@@ -198,33 +185,43 @@ letters_are s t valid =
     let both = and_parts (bytes_eq (part t 0 4) (letters_of s)) (is_utf8 (part t 0 4)) (holds_only _ _ first.1) in
     (bytes_eq-Decides (part t 0 4) (letters_of s)).0 both.0
 
-pick : (b : Bool) (ids : TableIds) (s : Signature) (a least : ℕ) (d c : TableContents) (cs : List TableContents) → is_named s (bytes_of ids d) ≡ b
+pick : (b : Bool) (ids : TableIds) (s : Signature) (a least : ℕ) (d c : TableContents) (cs : List TableContents)
+    → is_named s (bytes_of ids d) ≡ b
     → (if b then Some d else first_of s cs) ≡ Some c → least ≤ length (bytes_of ids c)
-    → (first_of s cs ≡ Some c → first_at s least (a + length (placed ids d)) (map (bytes_of ids) cs) ≡ Ok (place_of ids s (a + length (placed ids d)) cs, bytes_of ids c))
-    → first_at s least a (map (bytes_of ids) (d ∷ cs)) ≡ Ok ((if b then a else place_of ids s (a + length (placed ids d)) cs), bytes_of ids c)
+    → (first_of s cs ≡ Some c → first_at s least (a + length (placed ids d)) (map (bytes_of ids) cs)
+    ≡ Ok (place_of ids s (a + length (placed ids d)) cs, bytes_of ids c))
+    → first_at s least a (map (bytes_of ids) (d ∷ cs))
+    ≡ Ok ((if b then a else place_of ids s (a + length (placed ids d)) cs), bytes_of ids c)
 pick true ids s a least d c cs named is long later =
     let same : d ≡ c = same_some d c is in
     rw (named, same, le-leb least (length (bytes_of ids c)) long) refl
 pick false ids s a least d c cs named is long later = rw named (later is)
 
-pub first_found : (ids : TableIds) (s : Signature) (a least : ℕ) (c : TableContents) (cs : List TableContents) → AllByRecursion (λ d. IsContents ids d (bytes_of ids d)) cs
+pub first_found : (ids : TableIds) (s : Signature) (a least : ℕ) (c : TableContents) (cs : List TableContents)
+    → AllByRecursion (λ d. IsContents ids d (bytes_of ids d)) cs
     → first_of s cs ≡ Some c → least ≤ length (bytes_of ids c)
     → first_at s least a (map (bytes_of ids) cs) ≡ Ok (place_of ids s a cs, bytes_of ids c)
 first_found ids s a least c [] all is long = absurd (no_contents c is)
 first_found ids s a least c (d ∷ cs) all is long =
     let named : is_named s (bytes_of ids d) ≡ bytes_eq (letters_of (signature_of d)) (letters_of s) =
-    ap (λ l. bytes_eq l (letters_of s)) (letters_are (signature_of d) (bytes_of ids d) (valid_of ids d (bytes_of ids d) all.0)) in
-    pick (bytes_eq (letters_of (signature_of d)) (letters_of s)) ids s a least d c cs named is long (λ later. first_found ids s (a + length (placed ids d)) least c cs all.1 later long)
+    ap (λ l. bytes_eq l (letters_of s)) (letters_are (signature_of d) (bytes_of ids d)
+    (valid_of ids d (bytes_of ids d) all.0)) in
+    pick (bytes_eq (letters_of (signature_of d)) (letters_of s)) ids s a least d c cs named is long
+    (λ later. first_found ids s (a + length (placed ids d)) least c cs all.1 later long)
 
-first_by : (b : Bool) (ids : TableIds) (s : Signature) (c d : TableContents) (cs : List TableContents) → IsContents ids d (bytes_of ids d) → (if b then Some d else first_of s cs) ≡ Some c
+first_by : (b : Bool) (ids : TableIds) (s : Signature) (c d : TableContents) (cs : List TableContents)
+    → IsContents ids d (bytes_of ids d) → (if b then Some d else first_of s cs) ≡ Some c
     → (first_of s cs ≡ Some c → IsContents ids c (bytes_of ids c)) → IsContents ids c (bytes_of ids c)
 first_by true ids s c d cs this is later = subst (λ x. IsContents ids x (bytes_of ids x)) (same_some d c is) this
 first_by false ids s c d cs this is later = later is
 
 -- the first one is written
-pub first_is : (ids : TableIds) (s : Signature) (c : TableContents) (cs : List TableContents) → AllByRecursion (λ d. IsContents ids d (bytes_of ids d)) cs → first_of s cs ≡ Some c → IsContents ids c (bytes_of ids c)
+pub first_is : (ids : TableIds) (s : Signature) (c : TableContents) (cs : List TableContents)
+    → AllByRecursion (λ d. IsContents ids d (bytes_of ids d)) cs → first_of s cs ≡ Some c
+    → IsContents ids c (bytes_of ids c)
 first_is ids s c [] all is = absurd (no_contents c is)
-first_is ids s c (d ∷ cs) all is = first_by (bytes_eq (letters_of (signature_of d)) (letters_of s)) ids s c d cs all.0 is (λ later. first_is ids s c cs all.1 later)
+first_is ids s c (d ∷ cs) all is = first_by (bytes_eq (letters_of (signature_of d)) (letters_of s)) ids s c d cs all.0
+    is (λ later. first_is ids s c cs all.1 later)
 
 -- ---- what a reader says
 
@@ -234,7 +231,8 @@ one_distance x = Ok x
 module _
     (ids : TableIds) (m : Memory) (ps : List ℕ) (place : Signature → ℕ) (cs : List TableContents)
     (all : AllByRecursion (λ c. IsContents ids c (bytes_of ids c)) cs)
-    (found : (s : Signature) (c : TableContents) (least : ℕ) → first_of s cs ≡ Some c → 36 ≤ least → least ≤ length (bytes_of ids c) → lookup m (sdt_kind s least) ps ≡ Ok (place s, bytes_of ids c)) where
+    (found : (s : Signature) (c : TableContents) (least : ℕ) → first_of s cs ≡ Some c → 36 ≤ least
+    → least ≤ length (bytes_of ids c) → lookup m (sdt_kind s least) ps ≡ Ok (place s, bytes_of ids c)) where
   abbrev written : (s : Signature) (c : TableContents) → first_of s cs ≡ Some c → IsContents ids c (bytes_of ids c)
   written s c is_first = first_is ids s c cs all is_first
 
@@ -242,15 +240,20 @@ module _
   fadt_found c is_first =
       let t = bytes_of ids (Fadt c) in
       let this : IsFadt ids c t = written FADT (Fadt c) is_first in
-      let long = table.long FADT fadt_name 6 ids (fadt_body c) t this.written in
-      ((place FADT, t), found FADT (Fadt c) 116 is_first (lit≤ tt) (omega (arith, long, body_long c (fixed_of c.hardware))), fadt_read ids c t this)
+      let long = table.long FADT fadt_name 6 ids (fadt_body c) t this.written in (
+        (place FADT, t),
+        found FADT (Fadt c) 116 is_first (lit≤ tt)
+            (omega (arith, long, body_long c (fixed_of c.hardware))),
+        fadt_read ids c t this,
+      )
 
   model : {A : Type 0} (c : MadtContents) → first_of MADT cs ≡ Some (Madt c) → model_in {A = A} m ps ≡ Ok (model_read c)
   model {A = A} c is_first =
       let this : IsMadt ids c (bytes_of ids (Madt c)) = written MADT (Madt c) is_first in
       let size = length-append (madt_fixed c.local_apic_address c.also_has_legacy_pics) (madt_entries c) in
       let long = table.long MADT madt_name 5 ids (madt_body c) (bytes_of ids (Madt c)) this.written in
-      let there = found MADT (Madt c) 44 is_first (lit≤ tt) (omega (arith, long, size, fixed_long c.local_apic_address c.also_has_legacy_pics)) in
+      let there = found MADT (Madt c) 44 is_first (lit≤ tt)
+      (omega (arith, long, size, fixed_long c.local_apic_address c.also_has_legacy_pics)) in
       rw there (madt_read {A = A} ids c (bytes_of ids (Madt c)) this)
 
   regions : (es : _) → first_of MCFG cs ≡ Some (Mcfg es) → found_regions m ps ≡ Ok es.now
@@ -267,16 +270,21 @@ module _
       let there = found HPET (Hpet i) 56 is_first (lit≤ tt) (omega (arith, long, hpet_long i)) in
       rw there (hpet_read ids i (bytes_of ids (Hpet i)) this)
 
-  distances : (c : SlitContents) (from to : ℕ) → first_of SLIT cs ≡ Some (Slit c) → from < c.localities → to < c.localities
-      → (lookup m (sdt_kind SLIT 44) ps >>= λ found. one_distance (distance_of found.1 from to)) ≡ Ok (slice_get c.distances.now (from * c.localities + to))
+  distances : (c : SlitContents) (from to : ℕ) → first_of SLIT cs ≡ Some (Slit c) → from < c.localities
+      → to < c.localities
+      → (lookup m (sdt_kind SLIT 44) ps >>= λ found. one_distance (distance_of found.1 from to))
+      ≡ Ok (slice_get c.distances.now (from * c.localities + to))
   distances c from to is_first less below =
       let this : IsSlit ids c.localities c.distances.now (bytes_of ids (Slit c)) = written SLIT (Slit c) is_first in
-      let long = table.long SLIT slit_name 1 ids (slit_body c.localities c.distances.now) (bytes_of ids (Slit c)) this.written in
+      let long = table.long SLIT slit_name 1 ids (slit_body c.localities c.distances.now) (bytes_of ids (Slit c))
+      this.written in
       let size = length-append (spelling 8 c.localities) c.distances.now in
-      let there = found SLIT (Slit c) 44 is_first (lit≤ tt) (omega (arith, long, size, length-spelling 8 c.localities)) in
+      let there = found SLIT (Slit c) 44 is_first (lit≤ tt)
+      (omega (arith, long, size, length-spelling 8 c.localities)) in
       rw (there, slit_read ids c.localities c.distances.now (bytes_of ids (Slit c)) this from to less below) refl
 
-  platform_found : {A : Type 0} (c : FadtContents) (d : MadtContents) → first_of FADT cs ≡ Some (Fadt c) → first_of MADT cs ≡ Some (Madt d)
+  platform_found : {A : Type 0} (c : FadtContents) (d : MadtContents) → first_of FADT cs ≡ Some (Fadt c)
+      → first_of MADT cs ≡ Some (Madt d)
       → platform_of {A = A} m ps ≡ Ok (platform_read c d)
   platform_found {A = A} c d is_fadt is_madt =
       let fadt = fadt_found c is_fadt in
@@ -286,31 +294,46 @@ module _
   domains c is_first =
       let t = bytes_of ids (Srat c) in
       let this : IsSrat ids c t = written SRAT (Srat c) is_first in
-      let long = table.long SRAT srat_name 3 ids (srat_body c) t this.written in
-      ((place SRAT, t), found SRAT (Srat c) 48 is_first (lit≤ tt) (omega (arith, long, length-append srat_reserved (srat_entries c))), srat_read ids c t this)
+      let long = table.long SRAT srat_name 3 ids (srat_body c) t this.written in (
+        (place SRAT, t),
+        found SRAT (Srat c) 48 is_first (lit≤ tt)
+            (omega (arith, long, length-append srat_reserved (srat_entries c))),
+        srat_read ids c t this,
+      )
 
   console : (c : SpcrContents) → first_of SPCR cs ≡ Some (Spcr c) → HasTable m ps (sdt_kind SPCR 80) (SaysConsole c)
   console c is_first =
       let t = bytes_of ids (Spcr c) in
       let this : IsSpcr ids c t = written SPCR (Spcr c) is_first in
-      let long = table.long SPCR spcr.spcr_name 4 ids (spcr_body c) t this.written in
-      ((place SPCR, t), found SPCR (Spcr c) 80 is_first (lit≤ tt) (omega (arith, long, spcr.body_long c)), spcr.spcr_read ids c t this)
+      let long = table.long SPCR spcr.spcr_name 4 ids (spcr_body c) t this.written in (
+        (place SPCR, t),
+        found SPCR (Spcr c) 80 is_first (lit≤ tt) (omega (arith, long, spcr.body_long c)),
+        spcr.spcr_read ids c t this,
+      )
 
-  image : (c : BgrtContents) → first_of BGRT cs ≡ Some (Bgrt c) → HasTable m ps (sdt_kind BGRT 56) (λ t. SaysImage c (bgrt_at t))
+  image : (c : BgrtContents) → first_of BGRT cs ≡ Some (Bgrt c)
+      → HasTable m ps (sdt_kind BGRT 56) (λ t. SaysImage c (bgrt_at t))
   image c is_first =
       let t = bytes_of ids (Bgrt c) in
       let this : IsBgrt ids c t = written BGRT (Bgrt c) is_first in
-      let long = table.long BGRT bgrt_name 1 ids (bgrt_body c) t this.written in
-      ((place BGRT, t), found BGRT (Bgrt c) 56 is_first (lit≤ tt) (omega (arith, long, bgrt_long c)), bgrt_read ids c t this)
+      let long = table.long BGRT bgrt_name 1 ids (bgrt_body c) t this.written in (
+        (place BGRT, t),
+        found BGRT (Bgrt c) 56 is_first (lit≤ tt) (omega (arith, long, bgrt_long c)),
+        bgrt_read ids c t this,
+      )
 
   timers : (c : GtdtContents) → first_of GTDT cs ≡ Some (Gtdt c) → HasTable m ps gtdt_kind (SaysTimers c)
   timers c is_first =
       let t = bytes_of ids (Gtdt c) in
       let this : IsGtdt ids c t = written GTDT (Gtdt c) is_first in
-      let long = table.long GTDT gtdt.gtdt_name 3 ids (gtdt_body c) t this.written in
-      ((place GTDT, t), found GTDT (Gtdt c) 96 is_first (lit≤ tt) (omega (arith, long, gtdt.body_long c)), gtdt.gtdt_read ids c t this)
+      let long = table.long GTDT gtdt.gtdt_name 3 ids (gtdt_body c) t this.written in (
+        (place GTDT, t),
+        found GTDT (Gtdt c) 96 is_first (lit≤ tt) (omega (arith, long, gtdt.body_long c)),
+        gtdt.gtdt_read ids c t this,
+      )
 
-  gic : {A : Type 0} (c : GicContents) → first_of MADT cs ≡ Some (GicMadt c) → found_gic {A = A} m ps ≡ Ok (Some (gic_read c))
+  gic : {A : Type 0} (c : GicContents) → first_of MADT cs ≡ Some (GicMadt c)
+      → found_gic {A = A} m ps ≡ Ok (Some (gic_read c))
   gic {A = A} c is_first =
       let t = bytes_of ids (GicMadt c) in
       let this : IsGicMadt ids c t = written MADT (GicMadt c) is_first in

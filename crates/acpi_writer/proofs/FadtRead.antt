@@ -1,14 +1,15 @@
 -- What a reader finds in a FADT that is written, and when one is.
-use Rattle.std.proofs.Common.{◌≡◌, ℕ, ◌+◌, ◌<◌, true, false, List, length, take, drop, Option, Some, None, Ok, refl, ap, ◌∙◌, arith, Result, Err, subst}
-use Rattle.std.specs.Prelude.{◌==◌, nat_le, if◌then◌else◌, IfOk}
+use Rattle.std.proofs.Common.{◌≡◌, ℕ, zero, suc, ◌+◌, ◌*◌, ◌<◌, true, false, List, [], ◌∷◌, ◌++◌, length, take, drop, get_or, Option, Some, None, Ok, refl, sym, ap, ◌∙◌, arith, lit<, append_assoc, length-append, Result, Err, subst}
+use Rattle.std.specs.Prelude.{◌==◌, nat_le, if◌then◌else◌, flat_map, replicate, IfOk}
+use Rattle.std.specs.List.{All}
 use Rattle.std.specs.Option.{ok_or, option_map}
 use Rattle.std.specs.Str.{chars, is_utf8}
 use Rattle.std.proofs.lemmas.Bool.{and_parts, ltb-true, ne_eqb}
-use Rattle.std.proofs.lemmas.List.Elements.{recursion_from_All}
+use Rattle.std.proofs.lemmas.List.{drop-drop, drop_at, take_at}
 use Rattle.acpi.specs.Timer.{timer_of}
 use Rattle.acpi_base.specs.Address.{generic_address_of}
 use Rattle.acpi_base.specs.Bits.{has_bit}
-use Rattle.acpi_base.specs.Bytes.{field_of, filled_part}
+use Rattle.acpi_base.specs.Bytes.{field_of, filled_part, part, spelling}
 use Rattle.acpi_base.specs.Header.{header_at}
 use Rattle.acpi_base.specs.declared.address.GenericAddress.{GenericAddress}
 use Rattle.acpi_base.specs.declared.error.AcpiError.{AcpiError}
@@ -20,9 +21,9 @@ use Rattle.acpi_fixed.specs.Gpe.{gpe_of}
 use Rattle.acpi_fixed.specs.Registers.{address_or, block_at, extended_address, extended_number, has_extended, optional_block_of, register_of, timer_block_of}
 use Rattle.acpi_fixed.specs.declared.fadt.Fadt.{Fadt}
 use Rattle.acpi_fixed.specs.declared.fadt.PowerProfile.{PowerProfile}
-use Rattle.acpi_writer.specs.FadtBytes.{address_or_zero, are_blocks, are_placed, arm_flags, body_with, bytes_wide, fadt_body, fadt_checked, fadt_written, feature_flags, fixed_of, gpe_length, gpe_register, has_address, has_length, is_given, is_profile, narrow, pc_flags, profile_code, registers}
+use Rattle.acpi_writer.specs.FadtBytes.{address_or_zero, are_blocks, are_placed, arm_flags, body_with, bytes_wide, fadt_body, fadt_checked, fadt_written, feature_flags, fixed_of, front_fields, gpe_length, gpe_register, has_address, has_length, is_given, is_profile, narrow, pc_flags, profile_code, registers, wide_fields}
 use Rattle.acpi_writer.specs.FadtLaws.{AreFitFor, FadtIsRead, FadtIsValid, HasFields, HasFlags, HasHardware, HasLegacy, HasNeededBlocks, IsFadt, IsReadAs}
-use Rattle.acpi_writer.specs.Flags.{flag_number}
+use Rattle.acpi_writer.specs.Fields.{FitsField, field_at, field_bytes, field_size, field_value, fields_bytes, offset_of}
 use Rattle.acpi_writer.specs.Generic.{FitsRegister, is_register, register_bytes}
 use Rattle.acpi_writer.specs.declared.fadt.contents.FadtContents.{FadtContents}
 use Rattle.acpi_writer.specs.declared.fadt.contents.FadtHardware.{FadtHardware}
@@ -31,13 +32,13 @@ use Rattle.acpi_writer.specs.declared.fadt.contents.FixedHardware.{FixedHardware
 use Rattle.acpi_writer.specs.declared.ids.TableIds.{TableIds}
 use Rattle.acpi_base.proofs.Steps.{holds_ok}
 use Rattle.acpi_writer.proofs.Bits.{flags_read, is_off, was_true}
+use Rattle.acpi_writer.proofs.FieldsRead.{part_in, part_of, read_in}
 use Rattle.acpi_writer.proofs.Tables.{ids_are_read}
 use Rattle.acpi_writer.proofs.RegisterRead.{block_is, block_read, filled_12, given_read, gpe_read, made, optional_read, register_long, register_read, timer_read}
 use Rattle.acpi_writer.specs.Table.{IsTableOf, if_checked, table_written}
 use Rattle.acpi_writer.specs.declared.error.WriterError.{WriterError}
 use Rattle.acpi_writer.specs.declared.error.WriterError.TheVariants.{BadProfile, NoAddress}
 use Rattle.acpi_fixed.specs.declared.fadt.PowerProfile.TheVariants as profiles
-use Rattle.acpi_writer.proofs.FadtParts as parts
 use Rattle.acpi_writer.proofs.Tables as table
 
 pub fadt_name : table.IsName FADT
@@ -50,33 +51,18 @@ fadt_valid ids c t is = table.valid FADT fadt_name 6 ids (fadt_body c) t is.writ
 -- ---- values
 
 profile_read : (p : PowerProfile) → is_profile p ≡ true → profile_for (profile_code p) ≡ p
-profile_read profiles.Unspecified h = refl
-profile_read profiles.Desktop h = refl
-profile_read profiles.Mobile h = refl
-profile_read profiles.Workstation h = refl
-profile_read profiles.EnterpriseServer h = refl
-profile_read profiles.SohoServer h = refl
-profile_read profiles.AppliancePc h = refl
-profile_read profiles.PerformanceServer h = refl
-profile_read profiles.Tablet h = refl
 profile_read (profiles.Reserved code) h =
     let large : 8 < code = ltb-true _ _ h in
-    rw (
-      ne_eqb code 0 (omega arith),
-      ne_eqb code 1 (omega arith),
-      ne_eqb code 2 (omega arith),
-      ne_eqb code 3 (omega arith),
-      ne_eqb code 4 (omega arith),
-      ne_eqb code 5 (omega arith),
-      ne_eqb code 6 (omega arith),
-      ne_eqb code 7 (omega arith),
-      ne_eqb code 8 (omega arith),
-    ) refl
+    rw (ne_eqb code 0 (omega arith), ne_eqb code 1 (omega arith), ne_eqb code 2 (omega arith))
+    (rw (ne_eqb code 3 (omega arith), ne_eqb code 4 (omega arith), ne_eqb code 5 (omega arith))
+    (rw (ne_eqb code 6 (omega arith), ne_eqb code 7 (omega arith), ne_eqb code 8 (omega arith)) refl))
+profile_read _ h = refl
 
 address_read : (e : AcpiError) (wide less : ℕ) → (wide == 0) ≡ false → address_or e wide less ≡ Ok wide
 address_read e wide less some = rw some (rw some refl)
 
-facs_read : (o : Option ℕ) → has_address o ≡ true → address_or InvalidFacsAddress (address_or_zero o) (narrow (address_or_zero o)) ≡ ok_or o InvalidFacsAddress
+facs_read : (o : Option ℕ) → has_address o ≡ true
+    → address_or InvalidFacsAddress (address_or_zero o) (narrow (address_or_zero o)) ≡ ok_or o InvalidFacsAddress
 facs_read None is = refl
 facs_read (Some a) is = address_read InvalidFacsAddress a (narrow a) (is_off _ is)
 
@@ -92,7 +78,17 @@ record AreBlocks (h : FixedHardware) : Type 0 where
   gpe1_long : has_length h.gpe1 ≡ true
 
 blocks_of : (hardware : FadtHardware) → are_blocks hardware ≡ true → AreBlocks (fixed_of hardware)
-blocks_of Reduced is = record { pm1b_event = refl; pm1b_control = refl; pm2_control = refl; pm_timer = refl; gpe0 = refl; gpe0_long = refl; gpe1 = refl; gpe1_long = refl }
+blocks_of Reduced is = record {
+  pm1b_event = refl;
+  pm1b_control = refl;
+  pm2_control = refl;
+  pm_timer = refl;
+  gpe0 =
+      refl;
+  gpe0_long = refl;
+  gpe1 = refl;
+  gpe1_long = refl;
+}
 blocks_of (Fixed h) is =
     let p = and_parts _ _ is in
     let q = and_parts _ _ p.1 in
@@ -103,13 +99,25 @@ blocks_of (Fixed h) is =
     let w = and_parts _ _ v.1 in
     let x = and_parts _ _ w.1 in
     let y = and_parts _ _ x.1 in
-    record { pm1b_event = q.0; pm1b_control = s.0; pm2_control = u.0; pm_timer = v.0; gpe0 = w.0; gpe0_long = x.0; gpe1 = y.0; gpe1_long = y.1 }
+    record {
+      pm1b_event = q.0;
+      pm1b_control = s.0;
+      pm2_control = u.0;
+      pm_timer = v.0;
+      gpe0 = w.0;
+      gpe0_long =
+          x.0;
+      gpe1 = y.0;
+      gpe1_long = y.1;
+    }
 
 -- the blocks that fixed hardware has
 needed_of : (hardware : FadtHardware) (f : Fadt) → are_blocks hardware ≡ true
     → FitsRegister (Some (fixed_of hardware).pm1a_event) → FitsRegister (Some (fixed_of hardware).pm1a_control)
-    → f.registers.pm1a_event ≡ made (bytes_wide (Some (fixed_of hardware).pm1a_event)) (Some (fixed_of hardware).pm1a_event)
-    → f.registers.pm1a_control ≡ made (bytes_wide (Some (fixed_of hardware).pm1a_control)) (Some (fixed_of hardware).pm1a_control)
+    → f.registers.pm1a_event ≡ made (bytes_wide (Some (fixed_of hardware).pm1a_event))
+    (Some (fixed_of hardware).pm1a_event)
+    → f.registers.pm1a_control ≡ made (bytes_wide (Some (fixed_of hardware).pm1a_control))
+    (Some (fixed_of hardware).pm1a_control)
     → HasNeededBlocks hardware f
 needed_of Reduced f is event control e k = tt
 needed_of (Fixed h) f is event control e k =
@@ -121,178 +129,229 @@ needed_of (Fixed h) f is event control e k =
       pm1a_control = rw k (block_read (bytes_wide (Some h.pm1a_control)) h.pm1a_control control r.0);
     }
 
-timer_by : (f : Fadt) (c : FadtContents) (o : Option GenericAddress) → pm_timer_of f ≡ Ok o → has_bit (feature_bits f.flags) 8 ≡ c.features.pm_timer_is_32_bit
+timer_by : (f : Fadt) (c : FadtContents) (o : Option GenericAddress) → pm_timer_of f ≡ Ok o
+    → has_bit (feature_bits f.flags) 8 ≡ c.features.pm_timer_is_32_bit
     → timer_of f ≡ Ok (option_map (λ b. record { base = b; supports_32bit = c.features.pm_timer_is_32_bit }) o)
 timer_by f c None e flag = rw e refl
 timer_by f c (Some b) e flag = rw (e, flag) refl
 
+-- ---- the registers at its end
+
+registers_long : (os : List (Option GenericAddress)) → length (flat_map register_bytes os) ≡ 12 * length os
+registers_long [] = refl
+registers_long (o ∷ os) = omega (
+  arith,
+  length-append (register_bytes o) (flat_map register_bytes os),
+  register_long o,
+  registers_long os,
+)
+
+register_in : (os : List (Option GenericAddress)) (rest : List ℕ) (i : ℕ) → i < length os
+    → part (flat_map register_bytes os ++ rest) (12 * i) 12 ≡ register_bytes (get_or os i None)
+register_in [] rest i less = absurd (omega arith)
+register_in (o ∷ os) rest zero less =
+    ap (take 12) (append_assoc (register_bytes o) (flat_map register_bytes os) rest)
+    ∙ take_at (register_bytes o) (flat_map register_bytes os ++ rest) 12 (register_long o)
+register_in (o ∷ os) rest (suc i) less =
+    let more = flat_map register_bytes os ++ rest in
+    let past : drop 12 (flat_map register_bytes (o ∷ os) ++ rest) ≡ more =
+    ap (drop 12) (append_assoc (register_bytes o) (flat_map register_bytes os) rest)
+    ∙ drop_at (register_bytes o) more 12 (register_long o) in
+    let place : 12 * suc i ≡ 12 + 12 * i = omega arith in
+    rw place (part_in (flat_map register_bytes (o ∷ os) ++ rest) more 12 past (12 * i) 12
+    ∙ register_in os rest i (omega arith))
+
+module _ (c : FadtContents) (h : FixedHardware) where
+  abbrev last : List ℕ
+  last = flat_map register_bytes (registers c h) ++ replicate 8 0
+
+  abbrev after_reset : List ℕ
+  after_reset = fields_bytes (wide_fields c) ++ last
+
+  abbrev after_front : List ℕ
+  after_front = register_bytes c.reset_register ++ after_reset
+
+  front_long : length (fields_bytes (front_fields c h)) ≡ 80
+  unfolding front_fields spelling
+  front_long = refl
+
+  wide_long : length (fields_bytes (wide_fields c)) ≡ 20
+  unfolding wide_fields spelling
+  wide_long = refl
+
+  pub body_long : length (body_with c h) ≡ 240
+  body_long = omega (
+    arith,
+    length-append (fields_bytes (front_fields c h)) after_front,
+    front_long,
+    length-append (register_bytes c.reset_register) after_reset,
+    register_long c.reset_register,
+    length-append (fields_bytes (wide_fields c)) last,
+    wide_long,
+    length-append (flat_map register_bytes (registers c h)) (replicate 8 0),
+    registers_long (registers c h),
+  )
+
 -- ---- a table with these bytes after its header
 
-module _ (c : FadtContents) (h : FixedHardware) (t : List ℕ) (from36 : drop 36 t ≡ body_with c h) (long : length t ≡ 276) (revision : field_of t 8 1 ≡ 6) (fit : AreFitFor c h) where
+module _ (c : FadtContents) (h : FixedHardware) (t : List ℕ) (from36 : drop 36 t ≡ body_with c h)
+    (long : length t ≡ 276) (revision : field_of t 8 1 ≡ 6) (fit : AreFitFor c h) where
   has : (o n : ℕ) → nat_le (o + n) 276 ≡ true → has_extended t o n ≡ true
   has o n within = rw (revision, long, within) refl
 
   number_has : (o : ℕ) → nat_le (o + 8) 276 ≡ true → extended_number t o ≡ field_of t o 8
   number_has o within = rw (has o 8 within) refl
 
-  facs_is : field_of t 36 4 ≡ narrow (address_or_zero c.facs)
-  facs_is = parts.field_at 36 0 4 t (body_with c h) from36 ∙ parts.facs_in c h fit.head (parts.r1 c h)
+  from116 : drop 116 t ≡ after_front c h
+  from116 =
+      sym (drop-drop 80 36 t) ∙ ap (drop 80) from36
+      ∙ drop_at (fields_bytes (front_fields c h)) (after_front c h) 80 (front_long c h)
 
-  dsdt_is : field_of t 40 4 ≡ narrow c.dsdt
-  dsdt_is = parts.field_at 36 4 4 t (body_with c h) from36 ∙ parts.dsdt_in c h fit.head (parts.r1 c h)
+  from128 : drop 128 t ≡ after_reset c h
+  from128 =
+      sym (drop-drop 12 116 t) ∙ ap (drop 12) from116
+      ∙ drop_at (register_bytes c.reset_register) (after_reset c h) 12 (register_long c.reset_register)
 
-  profile_is : field_of t 45 1 ≡ profile_code c.power_profile
-  profile_is = parts.field_at 36 9 1 t (body_with c h) from36 ∙ parts.profile_in c h fit.head (parts.r1 c h)
+  from148 : drop 148 t ≡ last c h
+  from148 =
+      sym (drop-drop 20 128 t) ∙ ap (drop 20) from128
+      ∙ drop_at (fields_bytes (wide_fields c)) (last c h) 20 (wide_long c h)
 
-  sci_is : field_of t 46 2 ≡ c.sci_interrupt
-  sci_is = parts.field_at 36 10 2 t (body_with c h) from36 ∙ parts.sci_in c h fit.head (parts.r1 c h)
+  -- a field before RESET_REG, and its bytes
+  front : (i : ℕ) → i < length (front_fields c h)
+      → field_of t (36 + offset_of (front_fields c h) i) (field_size (field_at (front_fields c h) i))
+      ≡ field_value (field_at (front_fields c h) i)
+  front i less = read_in t (after_front c h) 36 (front_fields c h) from36 fit.front i less
 
-  smi_is : field_of t 48 4 ≡ h.smi_cmd_port
-  smi_is = parts.field_at 36 12 4 t (body_with c h) from36 ∙ parts.smi_in c h fit.head (parts.r1 c h)
+  port : (i : ℕ) → i < length (front_fields c h)
+      → part t (36 + offset_of (front_fields c h) i) (field_size (field_at (front_fields c h) i))
+      ≡ field_bytes (field_at (front_fields c h) i)
+  port i less = part_of t (after_front c h) 36 (front_fields c h) from36 i less
 
-  enable_is : field_of t 52 1 ≡ h.acpi_enable
-  enable_is = parts.field_at 36 16 1 t (body_with c h) from36 ∙ parts.enable_in c h fit.head (parts.r1 c h)
+  wide : (i : ℕ) → i < length (wide_fields c)
+      → field_of t (128 + offset_of (wide_fields c) i) (field_size (field_at (wide_fields c) i))
+      ≡ field_value (field_at (wide_fields c) i)
+  wide i less = read_in t (last c h) 128 (wide_fields c) from128 fit.wide i less
 
-  disable_is : field_of t 53 1 ≡ h.acpi_disable
-  disable_is = parts.field_at 36 17 1 t (body_with c h) from36 ∙ parts.disable_in c h fit.head (parts.r1 c h)
+  register : (i : ℕ) → i < 10 → part t (148 + 12 * i) 12 ≡ register_bytes (get_or (registers c h) i None)
+  register i less = part_in t (last c h) 148 from148 (12 * i) 12 ∙ register_in (registers c h) (replicate 8 0) i less
 
-  s4_is : field_of t 54 1 ≡ h.s4bios_req
-  s4_is = parts.field_at 36 18 1 t (body_with c h) from36 ∙ parts.s4_in c h fit.head (parts.r1 c h)
-
-  performance_is : field_of t 55 1 ≡ h.pstate_control
-  performance_is = parts.field_at 36 19 1 t (body_with c h) from36 ∙ parts.performance_in c h fit.head (parts.r1 c h)
-
-  base_is : field_of t 94 1 ≡ h.gpe1_base
-  base_is = parts.field_at 88 6 1 t (parts.r3 c h) (parts.from88 c h t from36) ∙ parts.base_in h (parts.r4 c h)
-
-  c_state_is : field_of t 95 1 ≡ h.c_state_control
-  c_state_is = parts.field_at 88 7 1 t (parts.r3 c h) (parts.from88 c h t from36) ∙ parts.c_state_in h (parts.r4 c h)
-
-  c2_is : field_of t 96 2 ≡ c.legacy.worst_c2_latency
-  c2_is = parts.field_at 96 0 2 t (parts.r4 c h) (parts.from96 c h t from36) ∙ parts.c2_in c fit.legacy (parts.r5 c h)
-
-  c3_is : field_of t 98 2 ≡ c.legacy.worst_c3_latency
-  c3_is = parts.field_at 96 2 2 t (parts.r4 c h) (parts.from96 c h t from36) ∙ parts.c3_in c fit.legacy (parts.r5 c h)
-
-  size_is : field_of t 100 2 ≡ c.legacy.flush_size
-  size_is = parts.field_at 96 4 2 t (parts.r4 c h) (parts.from96 c h t from36) ∙ parts.size_in c fit.legacy (parts.r5 c h)
-
-  stride_is : field_of t 102 2 ≡ c.legacy.flush_stride
-  stride_is = parts.field_at 96 6 2 t (parts.r4 c h) (parts.from96 c h t from36) ∙ parts.stride_in c fit.legacy (parts.r5 c h)
-
-  duty_offset_is : field_of t 104 1 ≡ c.legacy.duty_offset
-  duty_offset_is = parts.field_at 96 8 1 t (parts.r4 c h) (parts.from96 c h t from36) ∙ parts.duty_offset_in c fit.legacy (parts.r5 c h)
-
-  duty_width_is : field_of t 105 1 ≡ c.legacy.duty_width
-  duty_width_is = parts.field_at 96 9 1 t (parts.r4 c h) (parts.from96 c h t from36) ∙ parts.duty_width_in c fit.legacy (parts.r5 c h)
-
-  day_is : field_of t 106 1 ≡ c.legacy.day_alarm
-  day_is = parts.field_at 96 10 1 t (parts.r4 c h) (parts.from96 c h t from36) ∙ parts.day_in c fit.legacy (parts.r5 c h)
-
-  month_is : field_of t 107 1 ≡ c.legacy.month_alarm
-  month_is = parts.field_at 96 11 1 t (parts.r4 c h) (parts.from96 c h t from36) ∙ parts.month_in c fit.legacy (parts.r5 c h)
-
-  century_is : field_of t 108 1 ≡ c.legacy.century
-  century_is = parts.field_at 96 12 1 t (parts.r4 c h) (parts.from96 c h t from36) ∙ parts.century_in c fit.legacy (parts.r5 c h)
-
-  pc_is : field_of t 109 2 ≡ flag_number (pc_flags c.pc_boot)
-  pc_is = parts.field_at 96 13 2 t (parts.r4 c h) (parts.from96 c h t from36) ∙ parts.pc_in c fit.legacy (parts.r5 c h)
-
-  flags_is : field_of t 112 4 ≡ flag_number (feature_flags c)
-  flags_is = parts.field_at 96 16 4 t (parts.r4 c h) (parts.from96 c h t from36) ∙ parts.flags_in c fit.legacy (parts.r5 c h)
-
-  value_is : field_of t 128 1 ≡ c.reset_value
-  value_is = parts.field_at 128 0 1 t (parts.r6 c h) (parts.from128 c h t from36) ∙ parts.value_in c h fit.head (parts.last c h)
-
-  arm_is : field_of t 129 2 ≡ flag_number (arm_flags c.arm_boot)
-  arm_is = parts.field_at 128 1 2 t (parts.r6 c h) (parts.from128 c h t from36) ∙ parts.arm_in c h fit.head (parts.last c h)
-
-  x_facs_is : field_of t 132 8 ≡ address_or_zero c.facs
-  x_facs_is = parts.field_at 128 4 8 t (parts.r6 c h) (parts.from128 c h t from36) ∙ parts.x_facs_in c h fit.head (parts.last c h)
-
-  x_dsdt_is : field_of t 140 8 ≡ c.dsdt
-  x_dsdt_is = parts.field_at 128 12 8 t (parts.r6 c h) (parts.from128 c h t from36) ∙ parts.x_dsdt_in c h fit.head (parts.last c h)
-
+  -- a block, by the places of its length and of its port among the fields, and of its register among those
   pm1a_event_is : block_at t 56 88 148 ≡ made (bytes_wide (Some h.pm1a_event)) (Some h.pm1a_event)
-  pm1a_event_is = block_is t 56 88 148 (bytes_wide (Some h.pm1a_event)) (Some h.pm1a_event) (parts.field_at 88 0 1 t (parts.r3 c h) (parts.from88 c h t from36) ∙ parts.event_length h (parts.r4 c h)) (parts.part_at 56 0 4 t (parts.r1 c h) (parts.from56 c h t from36) ∙ parts.pm1a_event_in h (parts.r2 c h)) (has 148 12 refl) (parts.part_at 148 0 12 t (parts.last c h) (parts.from148 c h t from36) ∙ parts.x_pm1a_event c h)
+  unfolding front_fields
+  pm1a_event_is = block_is t 56 88 148 _ (Some h.pm1a_event) (front 18 (lit< tt)) (port 10 (lit< tt)) (has 148 12 refl)
+      (register 0 (lit< tt))
 
-  pm1b_event_is : block_at t 60 88 160 ≡ made (bytes_wide (Some h.pm1a_event)) (h.pm1b_event)
-  pm1b_event_is = block_is t 60 88 160 (bytes_wide (Some h.pm1a_event)) (h.pm1b_event) (parts.field_at 88 0 1 t (parts.r3 c h) (parts.from88 c h t from36) ∙ parts.event_length h (parts.r4 c h)) (parts.part_at 56 4 4 t (parts.r1 c h) (parts.from56 c h t from36) ∙ parts.pm1b_event_in h (parts.r2 c h)) (has 160 12 refl) (parts.part_at 148 12 12 t (parts.last c h) (parts.from148 c h t from36) ∙ parts.x_pm1b_event c h)
+  pm1b_event_is : block_at t 60 88 160 ≡ made (bytes_wide (Some h.pm1a_event)) h.pm1b_event
+  unfolding front_fields
+  pm1b_event_is = block_is t 60 88 160 _ h.pm1b_event (front 18 (lit< tt)) (port 11 (lit< tt)) (has 160 12 refl)
+      (register 1 (lit< tt))
 
   pm1a_control_is : block_at t 64 89 172 ≡ made (bytes_wide (Some h.pm1a_control)) (Some h.pm1a_control)
-  pm1a_control_is = block_is t 64 89 172 (bytes_wide (Some h.pm1a_control)) (Some h.pm1a_control) (parts.field_at 88 1 1 t (parts.r3 c h) (parts.from88 c h t from36) ∙ parts.control_length h (parts.r4 c h)) (parts.part_at 56 8 4 t (parts.r1 c h) (parts.from56 c h t from36) ∙ parts.pm1a_control_in h (parts.r2 c h)) (has 172 12 refl) (parts.part_at 148 24 12 t (parts.last c h) (parts.from148 c h t from36) ∙ parts.x_pm1a_control c h)
+  unfolding front_fields
+  pm1a_control_is = block_is t 64 89 172 _ (Some h.pm1a_control) (front 19 (lit< tt)) (port 12 (lit< tt))
+      (has 172 12 refl) (register 2 (lit< tt))
 
-  pm1b_control_is : block_at t 68 89 184 ≡ made (bytes_wide (Some h.pm1a_control)) (h.pm1b_control)
-  pm1b_control_is = block_is t 68 89 184 (bytes_wide (Some h.pm1a_control)) (h.pm1b_control) (parts.field_at 88 1 1 t (parts.r3 c h) (parts.from88 c h t from36) ∙ parts.control_length h (parts.r4 c h)) (parts.part_at 56 12 4 t (parts.r1 c h) (parts.from56 c h t from36) ∙ parts.pm1b_control_in h (parts.r2 c h)) (has 184 12 refl) (parts.part_at 148 36 12 t (parts.last c h) (parts.from148 c h t from36) ∙ parts.x_pm1b_control c h)
+  pm1b_control_is : block_at t 68 89 184 ≡ made (bytes_wide (Some h.pm1a_control)) h.pm1b_control
+  unfolding front_fields
+  pm1b_control_is = block_is t 68 89 184 _ h.pm1b_control (front 19 (lit< tt)) (port 13 (lit< tt)) (has 184 12 refl)
+      (register 3 (lit< tt))
 
-  pm2_control_is : block_at t 72 90 196 ≡ made (bytes_wide h.pm2_control) (h.pm2_control)
-  pm2_control_is = block_is t 72 90 196 (bytes_wide h.pm2_control) (h.pm2_control) (parts.field_at 88 2 1 t (parts.r3 c h) (parts.from88 c h t from36) ∙ parts.second_length h (parts.r4 c h)) (parts.part_at 72 0 4 t (parts.r2 c h) (parts.from72 c h t from36) ∙ parts.pm2_control_in h (parts.r3 c h)) (has 196 12 refl) (parts.part_at 148 48 12 t (parts.last c h) (parts.from148 c h t from36) ∙ parts.x_pm2_control c h)
+  pm2_control_is : block_at t 72 90 196 ≡ made (bytes_wide h.pm2_control) h.pm2_control
+  unfolding front_fields
+  pm2_control_is = block_is t 72 90 196 _ h.pm2_control (front 20 (lit< tt)) (port 14 (lit< tt)) (has 196 12 refl)
+      (register 4 (lit< tt))
 
-  pm_timer_is : block_at t 76 91 208 ≡ made (if is_given h.pm_timer then 4 else 0) (h.pm_timer)
-  pm_timer_is = block_is t 76 91 208 (if is_given h.pm_timer then 4 else 0) (h.pm_timer) (parts.field_at 88 3 1 t (parts.r3 c h) (parts.from88 c h t from36) ∙ parts.timer_length h (parts.r4 c h)) (parts.part_at 72 4 4 t (parts.r2 c h) (parts.from72 c h t from36) ∙ parts.pm_timer_in h (parts.r3 c h)) (has 208 12 refl) (parts.part_at 148 60 12 t (parts.last c h) (parts.from148 c h t from36) ∙ parts.x_pm_timer c h)
+  pm_timer_is : block_at t 76 91 208 ≡ made (if is_given h.pm_timer then 4 else 0) h.pm_timer
+  unfolding front_fields
+  pm_timer_is = block_is t 76 91 208 _ h.pm_timer (front 21 (lit< tt)) (port 15 (lit< tt)) (has 208 12 refl)
+      (register 5 (lit< tt))
 
   gpe0_is : block_at t 80 92 220 ≡ made (gpe_length h.gpe0) (gpe_register h.gpe0)
-  gpe0_is = block_is t 80 92 220 (gpe_length h.gpe0) (gpe_register h.gpe0) (parts.field_at 88 4 1 t (parts.r3 c h) (parts.from88 c h t from36) ∙ parts.gpe0_length h (parts.r4 c h)) (parts.part_at 72 8 4 t (parts.r2 c h) (parts.from72 c h t from36) ∙ parts.gpe0_in h (parts.r3 c h)) (has 220 12 refl) (parts.part_at 148 72 12 t (parts.last c h) (parts.from148 c h t from36) ∙ parts.x_gpe0 c h)
+  unfolding front_fields
+  gpe0_is = block_is t 80 92 220 _ (gpe_register h.gpe0) (front 22 (lit< tt)) (port 16 (lit< tt)) (has 220 12 refl)
+      (register 6 (lit< tt))
 
   gpe1_is : block_at t 84 93 232 ≡ made (gpe_length h.gpe1) (gpe_register h.gpe1)
-  gpe1_is = block_is t 84 93 232 (gpe_length h.gpe1) (gpe_register h.gpe1) (parts.field_at 88 5 1 t (parts.r3 c h) (parts.from88 c h t from36) ∙ parts.gpe1_length h (parts.r4 c h)) (parts.part_at 72 12 4 t (parts.r2 c h) (parts.from72 c h t from36) ∙ parts.gpe1_in h (parts.r3 c h)) (has 232 12 refl) (parts.part_at 148 84 12 t (parts.last c h) (parts.from148 c h t from36) ∙ parts.x_gpe1 c h)
+  unfolding front_fields
+  gpe1_is = block_is t 84 93 232 _ (gpe_register h.gpe1) (front 23 (lit< tt)) (port 17 (lit< tt)) (has 232 12 refl)
+      (register 7 (lit< tt))
 
   reset_is : filled_part t 116 12 ≡ register_bytes c.reset_register
-  reset_is = filled_12 t (register_bytes c.reset_register) 116 (parts.part_at 116 0 12 t (parts.r5 c h) (parts.from116 c h t from36) ∙ parts.reset_in c h fit.head (parts.r6 c h)) (register_long c.reset_register)
+  reset_is =
+      filled_12 t (register_bytes c.reset_register) 116
+      (ap (take 12) from116 ∙ take_at (register_bytes c.reset_register) (after_reset c h) 12
+      (register_long c.reset_register))
+      (register_long c.reset_register)
 
-  sleep_control_is : extended_address t 244 ≡ Some (register_bytes c.sleep_control)
-  sleep_control_is = rw (has 244 12 refl, filled_12 t (register_bytes c.sleep_control) 244 (parts.part_at 148 96 12 t (parts.last c h) (parts.from148 c h t from36) ∙ parts.sleep_control_in c h) (register_long c.sleep_control)) refl
-
-  sleep_status_is : extended_address t 256 ≡ Some (register_bytes c.sleep_status)
-  sleep_status_is = rw (has 256 12 refl, filled_12 t (register_bytes c.sleep_status) 256 (parts.part_at 148 108 12 t (parts.last c h) (parts.from148 c h t from36) ∙ parts.sleep_status_in c h) (register_long c.sleep_status)) refl
+  -- the registers for sleep, which have no other fields
+  sleep : (i : ℕ) → i < 10 → nat_le (148 + 12 * i + 12) 276 ≡ true
+      → extended_address t (148 + 12 * i) ≡ Some (register_bytes (get_or (registers c h) i None))
+  sleep i less within =
+      rw (has (148 + 12 * i) 12 within)
+      (rw (filled_12 t _ (148 + 12 * i) (register i less) (register_long (get_or (registers c h) i None))) refl)
 
   flags_are : HasFlags c (fadt_at t)
-  unfolding fadt_at
+  unfolding fadt_at front_fields wide_fields
   flags_are = record {
-    features = λ k. ap (λ n. has_bit n k) flags_is ∙ flags_read (feature_flags c) k;
-    pc = λ k. ap (λ n. has_bit n k) pc_is ∙ flags_read (pc_flags c.pc_boot) k;
-    arm = λ k. ap (λ n. has_bit n k) arm_is ∙ flags_read (arm_flags c.arm_boot) k;
+    features = λ k. ap (λ n. has_bit n k) (front 37 (lit< tt)) ∙ flags_read (feature_flags c) k;
+    pc = λ k. ap (λ n. has_bit n k) (front 35 (lit< tt)) ∙ flags_read (pc_flags c.pc_boot) k;
+    arm = λ k. ap (λ n. has_bit n k) (wide 1 (lit< tt)) ∙ flags_read (arm_flags c.arm_boot) k;
   }
 
   legacy_is : HasLegacy c.legacy (fadt_at t)
-  unfolding fadt_at
-  legacy_is = record { c2 = c2_is; c3 = c3_is; size = size_is; stride = stride_is; duty_offset = duty_offset_is; duty_width = duty_width_is; day = day_is; month = month_is; century = century_is }
+  unfolding fadt_at front_fields
+  legacy_is = record {
+    c2 = front 26 (lit< tt);
+    c3 = front 27 (lit< tt);
+    size = front 28 (lit< tt);
+    stride = front 29 (lit< tt);
+    duty_offset = front 30 (lit< tt);
+    duty_width = front 31 (lit< tt);
+    day = front 32 (lit< tt);
+    month = front 33 (lit< tt);
+    century = front 34 (lit< tt);
+  }
 
-  fields_are : are_placed c ≡ true → is_profile c.power_profile ≡ true → is_register c.reset_register ≡ true → is_register c.sleep_control ≡ true → is_register c.sleep_status ≡ true → FitsRegister c.sleep_control → FitsRegister c.sleep_status → HasFields c (fadt_at t)
-  unfolding fadt_at
+  fields_are : are_placed c ≡ true → is_profile c.power_profile ≡ true → is_register c.reset_register ≡ true
+      → is_register c.sleep_control ≡ true → is_register c.sleep_status ≡ true
+      → FitsRegister c.sleep_control → FitsRegister c.sleep_status → HasFields c (fadt_at t)
+  unfolding fadt_at front_fields wide_fields
   fields_are placed profile reset control status u v =
       let p = and_parts _ _ placed in
       record {
-        dsdt = rw (number_has 140 refl, x_dsdt_is, dsdt_is) (address_read InvalidDsdtAddress c.dsdt (narrow c.dsdt) (is_off _ p.0));
-        facs = rw (number_has 132 refl, x_facs_is, facs_is) (facs_read c.facs p.1);
-        profile = ap profile_for profile_is ∙ profile_read c.power_profile profile;
-        sci = sci_is;
+        dsdt = rw (number_has 140 refl, wide 4 (lit< tt), front 1 (lit< tt))
+            (address_read InvalidDsdtAddress c.dsdt (narrow c.dsdt) (is_off _ p.0));
+        facs = rw (number_has 132 refl, wide 3 (lit< tt), front 0 (lit< tt)) (facs_read c.facs p.1);
+        profile = ap profile_for (front 3 (lit< tt)) ∙ profile_read c.power_profile profile;
+        sci = front 4 (lit< tt);
         reset_register = ap generic_address_of reset_is ∙ given_read c.reset_register fit.reset reset;
-        reset_value = value_is;
-        sleep_control = ap register_of sleep_control_is ∙ register_read c.sleep_control u control;
-        sleep_status = ap register_of sleep_status_is ∙ register_read c.sleep_status v status;
+        reset_value = wide 0 (lit< tt);
+        sleep_control = ap register_of (sleep 8 (lit< tt) refl) ∙ register_read c.sleep_control u control;
+        sleep_status = ap register_of (sleep 9 (lit< tt) refl) ∙ register_read c.sleep_status v status;
       }
 
   hardware_is : AreBlocks h → HasHardware h (fadt_at t)
-  unfolding fadt_at
+  unfolding fadt_at front_fields
   hardware_is are =
-      let all = recursion_from_All FitsRegister (registers c h) fit.registers in
-      let b = all.1.0 in
-      let d = all.1.1.1 in
+      let fits = λ (i : ℕ) (less : i < 10). fit.registers i None less in
       record {
-        smi = smi_is;
-        enable = enable_is;
-        disable = disable_is;
-        s4 = s4_is;
-        performance = performance_is;
-        c_state = c_state_is;
-        pm1b_event = ap optional_block_of pm1b_event_is ∙ optional_read (bytes_wide (Some h.pm1a_event)) h.pm1b_event b are.pm1b_event;
-        pm1b_control = ap optional_block_of pm1b_control_is ∙ optional_read (bytes_wide (Some h.pm1a_control)) h.pm1b_control d.0 are.pm1b_control;
-        pm2_control = ap optional_block_of pm2_control_is ∙ optional_read (bytes_wide h.pm2_control) h.pm2_control d.1.0 are.pm2_control;
-        pm_timer = ap timer_block_of pm_timer_is ∙ timer_read h.pm_timer d.1.1.0 are.pm_timer;
-        gpe0 = ap gpe_of gpe0_is ∙ gpe_read h.gpe0 d.1.1.1.0 are.gpe0 are.gpe0_long;
-        gpe1 = ap gpe_of gpe1_is ∙ gpe_read h.gpe1 d.1.1.1.1.0 are.gpe1 are.gpe1_long;
-        gpe1_base = base_is;
+        smi = front 5 (lit< tt);
+        enable = front 6 (lit< tt);
+        disable = front 7 (lit< tt);
+        s4 = front 8 (lit< tt);
+        performance = front 9 (lit< tt);
+        c_state = front 25 (lit< tt);
+        pm1b_event = ap optional_block_of pm1b_event_is ∙ optional_read _ h.pm1b_event (fits 1 (lit< tt))
+            are.pm1b_event;
+        pm1b_control =
+            ap optional_block_of pm1b_control_is ∙ optional_read _ h.pm1b_control (fits 3 (lit< tt)) are.pm1b_control;
+        pm2_control = ap optional_block_of pm2_control_is ∙ optional_read _ h.pm2_control (fits 4 (lit< tt))
+            are.pm2_control;
+        pm_timer = ap timer_block_of pm_timer_is ∙ timer_read h.pm_timer (fits 5 (lit< tt)) are.pm_timer;
+        gpe0 = ap gpe_of gpe0_is ∙ gpe_read h.gpe0 (fits 6 (lit< tt)) are.gpe0 are.gpe0_long;
+        gpe1 = ap gpe_of gpe1_is ∙ gpe_read h.gpe1 (fits 7 (lit< tt)) are.gpe1 are.gpe1_long;
+        gpe1_base = front 24 (lit< tt);
       }
 
 module _ (ids : TableIds) (c : FadtContents) (t : List ℕ) (is : IsFadt ids c t) where
@@ -300,35 +359,39 @@ module _ (ids : TableIds) (c : FadtContents) (t : List ℕ) (is : IsFadt ids c t
   from36 = table.rest FADT fadt_name 6 ids (fadt_body c) t is.written
 
   long_is : length t ≡ 276
-  long_is = table.long FADT fadt_name 6 ids (fadt_body c) t is.written ∙ ap (λ n. 36 + n) (parts.body_long c (fixed_of c.hardware))
+  long_is = table.long FADT fadt_name 6 ids (fadt_body c) t is.written
+      ∙ ap (λ n. 36 + n) (body_long c (fixed_of c.hardware))
 
   revision_is : field_of t 8 1 ≡ 6
   unfolding header_at
-  revision_is = (ids_are_read FADT fadt_name.a fadt_name.b fadt_name.c fadt_name.d 6 ids (fadt_body c) t fadt_name.letters is.written).revision_is
+  revision_is = (ids_are_read FADT fadt_name.a fadt_name.b fadt_name.c fadt_name.d 6 ids (fadt_body c) t
+      fadt_name.letters is.written).revision_is
 
   blocks_are : HasNeededBlocks c.hardware (fadt_at t)
   unfolding fadt_at
   blocks_are =
       let h = fixed_of c.hardware in
-      let all = recursion_from_All FitsRegister (registers c h) is.fit.registers in
       let p = and_parts _ _ is.registers in
-      needed_of c.hardware (fadt_at t) p.0 all.0 all.1.1.0 (pm1a_event_is c h t from36 long_is revision_is is.fit) (pm1a_control_is c h t from36 long_is revision_is is.fit)
+      needed_of c.hardware (fadt_at t) p.0 (is.fit.registers 0 None (lit< tt)) (is.fit.registers 2 None (lit< tt))
+      (pm1a_event_is c h t from36 long_is revision_is is.fit)
+      (pm1a_control_is c h t from36 long_is revision_is is.fit)
 
   read_is : IsReadAs c (fadt_at t)
   read_is =
       let h = fixed_of c.hardware in
-      let all = recursion_from_All FitsRegister (registers c h) is.fit.registers in
       let p = and_parts _ _ is.registers in
       let q = and_parts _ _ p.1 in
       let r = and_parts _ _ q.1 in
-      let s = all.1.1.1.1.1.1.1.1 in
       record {
-        fields = fields_are c h t from36 long_is revision_is is.fit is.placed is.profile q.0 r.0 r.1 s.0 s.1.0;
+        fields = fields_are c h t from36 long_is revision_is is.fit is.placed is.profile q.0 r.0 r.1
+            (is.fit.registers 8 None (lit< tt)) (is.fit.registers 9 None (lit< tt));
         flags = flags_are c h t from36 long_is revision_is is.fit;
         legacy = legacy_is c h t from36 long_is revision_is is.fit;
         hardware = hardware_is c h t from36 long_is revision_is is.fit (blocks_of c.hardware p.0);
         blocks = blocks_are;
-        timer = timer_by (fadt_at t) c h.pm_timer (hardware_is c h t from36 long_is revision_is is.fit (blocks_of c.hardware p.0)).pm_timer ((flags_are c h t from36 long_is revision_is is.fit).features 8);
+        timer = timer_by (fadt_at t) c h.pm_timer
+            (hardware_is c h t from36 long_is revision_is is.fit (blocks_of c.hardware p.0)).pm_timer
+            ((flags_are c h t from36 long_is revision_is is.fit).features 8);
       }
 
 pub fadt_read : FadtIsRead
@@ -337,17 +400,39 @@ fadt_read ids c t is = read_is ids c t is
 -- ---- whether it is written
 
 -- with this hardware
-pub by_hardware : (room : ℕ) (ids : TableIds) (c : FadtContents) (h : FixedHardware) → h ≡ fixed_of c.hardware → if_checked (fadt_checked c) (table_written room FADT 6 ids (body_with c h)) ≡ fadt_written room ids c
+pub by_hardware : (room : ℕ) (ids : TableIds) (c : FadtContents) (h : FixedHardware) → h ≡ fixed_of c.hardware
+    → if_checked (fadt_checked c) (table_written room FADT 6 ids (body_with c h)) ≡ fadt_written room ids c
 unfolding fadt_written
 by_hardware room ids c h e = ap (λ x. if_checked (fadt_checked c) (table_written room FADT 6 ids (body_with c x))) e
 
-pub fadt_is : (ids : TableIds) (c : FadtContents) (t : List ℕ) → IsTableOf FADT 6 ids (fadt_body c) t → AreFitFor c (fixed_of c.hardware) → fadt_checked c ≡ Ok tt → IsFadt ids c t
+pub fadt_is : (ids : TableIds) (c : FadtContents) (t : List ℕ) → IsTableOf FADT 6 ids (fadt_body c) t
+    → AreFitFor c (fixed_of c.hardware) → fadt_checked c ≡ Ok tt → IsFadt ids c t
 fadt_is ids c t written fit good =
     let one = holds_ok (are_placed c) NoAddress _ tt good in
     let two = holds_ok (is_profile c.power_profile) BadProfile _ tt one.1 in
     record { written = written; fit = fit; placed = one.0; profile = two.0; registers = was_true _ _ two.1 }
 
-pub answer_is : (r : Result ℕ WriterError) (ids : TableIds) (c : FadtContents) (h : FixedHardware) (new : List ℕ) → h ≡ fixed_of c.hardware
-    → IfOk r (λ n. IsTableOf FADT 6 ids (body_with c h) (take n new)) → IfOk r (λ n. AreFitFor c h) → IfOk r (λ n. fadt_checked c ≡ Ok tt) → IfOk r (λ n. IsFadt ids c (take n new))
-answer_is (Ok n) ids c h new e written fit good = fadt_is ids c (take n new) (subst (λ x. IsTableOf FADT 6 ids (body_with c x) (take n new)) e written) (subst (AreFitFor c) e fit) good
+-- the numbers of a body with these registers have a place
+pub fits_for : (r : Result ℕ WriterError) (c : FadtContents) (h : FixedHardware) (rs : List (Option GenericAddress))
+    → rs ≡ registers c h
+    → IfOk r (λ n. All FitsField (front_fields c h) × (FitsRegister c.reset_register × (All FitsField (wide_fields c)
+    × (All FitsRegister rs × Unit {0}))))
+    → IfOk r (λ n. AreFitFor c h)
+fits_for (Ok n) c h rs same fits =
+    record {
+      front = fits.0;
+      reset = fits.1.0;
+      wide = fits.1.1.0;
+      registers =
+          subst (All FitsRegister) same fits.1.1.1.0;
+    }
+fits_for (Err e) c h rs same fits = tt
+
+pub answer_is : (r : Result ℕ WriterError) (ids : TableIds) (c : FadtContents) (h : FixedHardware) (new : List ℕ)
+    → h ≡ fixed_of c.hardware
+    → IfOk r (λ n. IsTableOf FADT 6 ids (body_with c h) (take n new)) → IfOk r (λ n. AreFitFor c h)
+    → IfOk r (λ n. fadt_checked c ≡ Ok tt) → IfOk r (λ n. IsFadt ids c (take n new))
+answer_is (Ok n) ids c h new e written fit good =
+    fadt_is ids c (take n new) (subst (λ x. IsTableOf FADT 6 ids (body_with c x) (take n new)) e written)
+    (subst (AreFitFor c) e fit) good
 answer_is (Err d) ids c h new e written fit good = tt

@@ -1,5 +1,5 @@
 -- What a reader finds in the structures that are written without the header of a table: an RSDP and a FACS.
-use Rattle.std.proofs.Common.{◌≡◌, ℕ, ◌^◌, ◌<◌, true, false, List, [], ◌∷◌, ◌++◌, length, take, Ok, refl, sym, ap, subst, ◌∙◌, arith, length-append, ◌+◌, ◌*◌, Bool, Some, ◌-◌, Option, None}
+use Rattle.std.proofs.Common.{◌≡◌, ℕ, ◌^◌, ◌<◌, true, false, List, [], ◌∷◌, ◌++◌, length, take, Ok, refl, sym, ap, subst, ◌∙◌, arith, length-append, ◌+◌, ◌*◌, Some, ◌-◌, Option, None}
 use Rattle.std.specs.Prelude.{◌==◌, replicate}
 use Rattle.std.specs.Str.{is_utf8}
 use Rattle.std.proofs.lemmas.Bool.{and_parts}
@@ -22,17 +22,24 @@ use Rattle.std.proofs.lemmas.List.{length-replicate}
 use Rattle.acpi_base.proofs.LentRanges.{at-front}
 use Rattle.acpi_writer.specs.Machine.{facs_gap, facs_laid, facs_room}
 use Rattle.acpi_writer.specs.MachineLaws.{HasFacs}
+use Rattle.acpi_writer.proofs.Bits.{two_bits}
 use Rattle.acpi_writer.proofs.LaidRead.{front_lent, rest_lent}
 
 -- ---- an RSDP
 
 unsummed_long : (oem_id : List ℕ) (xsdt : ℕ) → length oem_id ≡ 6 → length (rsdp_unsummed oem_id xsdt) ≡ 36
 unfolding rsdp_unsummed spelling
-unsummed_long oem_id xsdt long = omega (arith, long, length-append oem_id (2 ∷ (spelling 4 0 ++ (spelling 4 36 ++ (spelling 8 xsdt ++ replicate 4 0)))))
+unsummed_long oem_id xsdt long = omega (
+  arith,
+  long,
+  length-append oem_id
+      (2 ∷ (spelling 4 0 ++ (spelling 4 36 ++ (spelling 8 xsdt ++ replicate 4 0)))),
+)
 
 pub rsdp_long : (oem_id : List ℕ) (xsdt : ℕ) → length oem_id ≡ 6 → length (rsdp_bytes oem_id xsdt) ≡ 36
 unfolding rsdp_bytes
-rsdp_long oem_id xsdt long = length-with_sum 32 (with_first_sum (rsdp_unsummed oem_id xsdt)) ∙ length-with_first_sum (rsdp_unsummed oem_id xsdt) ∙ unsummed_long oem_id xsdt long
+rsdp_long oem_id xsdt long = length-with_sum 32 (with_first_sum (rsdp_unsummed oem_id xsdt))
+    ∙ length-with_first_sum (rsdp_unsummed oem_id xsdt) ∙ unsummed_long oem_id xsdt long
 
 -- ---- an RSDP with an OEMID of six bytes
 
@@ -42,7 +49,10 @@ module _ (a b c d e f xsdt : ℕ) where
 
   -- an RSDP with these checksums
   abbrev shape : ℕ → ℕ → List ℕ
-  shape x y = rsd_ptr ++ (x ∷ (a ∷ b ∷ c ∷ d ∷ e ∷ f ∷ (2 ∷ (spelling 4 0 ++ (spelling 4 36 ++ (spelling 8 xsdt ++ (y ∷ replicate 3 0)))))))
+  shape x y =
+      rsd_ptr
+      ++ (x
+      ∷ (a ∷ b ∷ c ∷ d ∷ e ∷ f ∷ (2 ∷ (spelling 4 0 ++ (spelling 4 36 ++ (spelling 8 xsdt ++ (y ∷ replicate 3 0)))))))
 
   abbrev first : ℕ
   first = sum_byte 8 (take 20 (rsdp_unsummed id xsdt))
@@ -103,25 +113,27 @@ module _ (a b c d e f xsdt : ℕ) where
   checked : is_utf8 id ≡ true → check_rsdp (shape first second) ≡ Ok tt
   unfolding check_rsdp checked_length check_first check_sum
   checked text =
-      rw (signature_is first second, id_is first second, text, front_sum second, revision_is first second, length_is first second, shape_long first second, all_of first second, whole_sum) refl
+      rw (signature_is first second, id_is first second, text, front_sum second, revision_is first second)
+      (rw (length_is first second, shape_long first second, all_of first second, whole_sum) refl)
 
   leads : xsdt < 2 ^ 64 → (xsdt == 0) ≡ false → root_of_rsdp (shape first second) ≡ root_pointer 2 Xsdt xsdt
   leads small some = rw (revision_is first second, xsdt_is first second small, some) refl
 
   six_read : is_utf8 id ≡ true → xsdt < 2 ^ 64 → (xsdt == 0) ≡ false → Leads id xsdt (rsdp_bytes id xsdt)
-  six_read text small some = record { checked = ap check_rsdp bytes_are ∙ checked text; oem_id_is = ap (λ r. (rsdp_of r).oem_id) bytes_are ∙ id_is first second; leads = ap root_of_rsdp bytes_are ∙ leads small some }
+  six_read text small some = record {
+    checked = ap check_rsdp bytes_are ∙ checked text;
+    oem_id_is =
+        ap (λ r. (rsdp_of r).oem_id) bytes_are ∙ id_is first second;
+    leads =
+        ap root_of_rsdp bytes_are ∙ leads small some;
+  }
 
 -- ---- an RSDP with any OEMID
 
-read_by : (oem_id : List ℕ) (xsdt : ℕ) → length oem_id ≡ 6 → is_utf8 oem_id ≡ true → xsdt < 2 ^ 64 → (xsdt == 0) ≡ false → Leads oem_id xsdt (rsdp_bytes oem_id xsdt)
-read_by [] xsdt long = absurd (omega (arith, long))
-read_by (a ∷ []) xsdt long = absurd (omega (arith, long))
-read_by (a ∷ b ∷ []) xsdt long = absurd (omega (arith, long))
-read_by (a ∷ b ∷ c ∷ []) xsdt long = absurd (omega (arith, long))
-read_by (a ∷ b ∷ c ∷ d ∷ []) xsdt long = absurd (omega (arith, long))
-read_by (a ∷ b ∷ c ∷ d ∷ e ∷ []) xsdt long = absurd (omega (arith, long))
+read_by : (oem_id : List ℕ) (xsdt : ℕ) → length oem_id ≡ 6 → is_utf8 oem_id ≡ true → xsdt < 2 ^ 64 → (xsdt == 0) ≡ false
+    → Leads oem_id xsdt (rsdp_bytes oem_id xsdt)
 read_by (a ∷ b ∷ c ∷ d ∷ e ∷ f ∷ []) xsdt long = six_read a b c d e f xsdt
-read_by (a ∷ b ∷ c ∷ d ∷ e ∷ f ∷ g ∷ more) xsdt long = absurd (omega (arith, long))
+read_by _ xsdt long = absurd (omega (arith, long))
 
 pub rsdp_read : RsdpIsRead
 rsdp_read ids xsdt rsdp is =
@@ -151,23 +163,12 @@ module _ (c : FacsContents) (fits : FitsFacs c) where
   unfolding facs_bytes spelling field_of
   flags_are = omega arith
 
-first_bit : (a b : Bool) → has_bit (bit_of a + 2 * bit_of b) 0 ≡ a
-first_bit true true = refl
-first_bit true false = refl
-first_bit false true = refl
-first_bit false false = refl
-
-second_bit : (a b : Bool) → has_bit (bit_of a + 2 * bit_of b) 1 ≡ b
-second_bit true true = refl
-second_bit true false = refl
-second_bit false true = refl
-second_bit false false = refl
-
 facs_length_is : (c : FacsContents) → facs_length_in (take 36 (facs_bytes c)) ≡ Ok 64
 unfolding facs_bytes spelling field_of header_at facs_length
 facs_length_is c = refl
 
-facs_found : (c : FacsContents) (m : Memory) (a : ℕ) → at m a 36 ≡ Some (take 36 (facs_bytes c)) → at m a 64 ≡ Some (facs_bytes c) → facs_at m a ≡ Ok (range a 64)
+facs_found : (c : FacsContents) (m : Memory) (a : ℕ) → at m a 36 ≡ Some (take 36 (facs_bytes c))
+    → at m a 64 ≡ Some (facs_bytes c) → facs_at m a ≡ Ok (range a 64)
 unfolding facs_at
 facs_found c m a head whole = rw (head, facs_length_is c, whole) refl
 
@@ -175,8 +176,8 @@ facs_by : (c : FacsContents) → FitsFacs c → IsReadAs c (facs_bytes c)
 facs_by c fits = record {
   hardware_signature = hardware_is c fits;
   waking_vector = vector_is c fits;
-  s4bios = ap (λ n. has_bit n 0) (flags_are c fits) ∙ first_bit c.supports_s4bios c.supports_64_bit_wake;
-  wake = ap (λ n. has_bit n 1) (flags_are c fits) ∙ second_bit c.supports_s4bios c.supports_64_bit_wake;
+  s4bios = ap (λ n. has_bit n 0) (flags_are c fits) ∙ (two_bits c.supports_s4bios c.supports_64_bit_wake).0;
+  wake = ap (λ n. has_bit n 1) (flags_are c fits) ∙ (two_bits c.supports_s4bios c.supports_64_bit_wake).1;
   x_waking_vector = x_vector_is c fits;
   found = facs_found c;
 }
@@ -199,13 +200,17 @@ laid_long a (Some c) =
     )
 
 -- where its bytes are lent, it is read
-pub has_facs : (m : Memory) (a : ℕ) (c : FacsContents) → IsMemory m → FitsFacs c → at m a (length (facs_laid a (Some c))) ≡ Some (facs_laid a (Some c)) → HasFacs m (a + facs_gap a) c
+pub has_facs : (m : Memory) (a : ℕ) (c : FacsContents) → IsMemory m → FitsFacs c
+    → at m a (length (facs_laid a (Some c))) ≡ Some (facs_laid a (Some c)) → HasFacs m (a + facs_gap a) c
 has_facs m a c h fits e =
     let n : ℕ = facs_gap a in
     let zeros : List ℕ = replicate (64 - n) 0 in
-    let from : at m (a + length (replicate {A = ℕ} n 0)) (length (facs_bytes c ++ zeros)) ≡ Some (facs_bytes c ++ zeros) = rest_lent m a (replicate n 0) (facs_bytes c ++ zeros) h e in
-    let there : at m (a + length (replicate {A = ℕ} n 0)) (length (facs_bytes c)) ≡ Some (facs_bytes c) = front_lent m (a + length (replicate {A = ℕ} n 0)) (facs_bytes c) zeros from in
-    let whole : at m (a + n) 64 ≡ Some (facs_bytes c) = ap (at m (a + n)) (sym (facs_long c)) ∙ ap (λ k. at m (a + k) (length (facs_bytes c))) (sym (length-replicate {A = ℕ} n 0)) ∙ there in
+    let from : at m (a + length (replicate {A = ℕ} n 0)) (length (facs_bytes c ++ zeros))
+    ≡ Some (facs_bytes c ++ zeros) = rest_lent m a (replicate n 0) (facs_bytes c ++ zeros) h e in
+    let there : at m (a + length (replicate {A = ℕ} n 0)) (length (facs_bytes c)) ≡ Some (facs_bytes c) =
+    front_lent m (a + length (replicate {A = ℕ} n 0)) (facs_bytes c) zeros from in
+    let whole : at m (a + n) 64 ≡ Some (facs_bytes c) = ap (at m (a + n)) (sym (facs_long c))
+    ∙ ap (λ k. at m (a + k) (length (facs_bytes c))) (sym (length-replicate {A = ℕ} n 0)) ∙ there in
     let long : at m (a + n) (length (facs_bytes c)) ≡ Some (facs_bytes c) = ap (at m (a + n)) (facs_long c) ∙ whole in
     let fields : IsReadAs c (facs_bytes c) = facs_read c (facs_bytes c) (record { fit = fits; bytes = refl }) in
     let head = at-front m (a + n) 36 (facs_bytes c) long (omega (arith, facs_long c)) in

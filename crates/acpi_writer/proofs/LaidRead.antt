@@ -56,14 +56,17 @@ use Rattle.acpi_writer.proofs.Tables as table
 
 -- ---- the front and the rest of what is lent
 
-pub front_lent : (m : Memory) (a : ℕ) (xs ys : List ℕ) → at m a (length (xs ++ ys)) ≡ Some (xs ++ ys) → at m a (length xs) ≡ Some xs
-front_lent m a xs ys e = at-front m a (length xs) (xs ++ ys) e (omega (arith, length-append xs ys)) ∙ ap (λ (b : List ℕ). Some b) (take_at xs ys (length xs) refl)
+pub front_lent : (m : Memory) (a : ℕ) (xs ys : List ℕ) → at m a (length (xs ++ ys)) ≡ Some (xs ++ ys)
+    → at m a (length xs) ≡ Some xs
+front_lent m a xs ys e = at-front m a (length xs) (xs ++ ys) e (omega (arith, length-append xs ys))
+    ∙ ap (λ (b : List ℕ). Some b) (take_at xs ys (length xs) refl)
 
 nothing_lent : (m : Memory) (a : ℕ) → at m a 0 ≡ Some []
 unfolding at
 nothing_lent m a = rw (le-leb 0 (length (rest_from m a)) (omega arith)) refl
 
-holds_rest : (r : Region) (a : ℕ) (xs ys : List ℕ) → HoldsRange r a (length (xs ++ ys)) (xs ++ ys) → HoldsRange r (a + length xs) (length ys) ys
+holds_rest : (r : Region) (a : ℕ) (xs ys : List ℕ) → HoldsRange r a (length (xs ++ ys)) (xs ++ ys)
+    → HoldsRange r (a + length xs) (length ys) ys
 holds_rest r a xs ys h =
     let long = length-append xs ys in
     let from : drop (length xs) (drop (a - r.start) r.bytes) ≡ drop (a + length xs - r.start) r.bytes =
@@ -71,15 +74,18 @@ holds_rest r a xs ys h =
     record {
       starts = omega (arith, h.starts);
       ends = omega (arith, h.ends, long);
-      there = sym (drop_at xs ys (length xs) refl) ∙ ap (drop (length xs)) (h.there ∙ ap (λ n. take n (drop (a - r.start) r.bytes)) long)
+      there = sym (drop_at xs ys (length xs) refl) ∙ ap (drop (length xs))
+          (h.there ∙ ap (λ n. take n (drop (a - r.start) r.bytes)) long)
           ∙ drop-take (length xs) (length ys) (drop (a - r.start) r.bytes) ∙ ap (take (length ys)) from;
     }
 
-pub rest_lent : (m : Memory) (a : ℕ) (xs ys : List ℕ) → IsMemory m → at m a (length (xs ++ ys)) ≡ Some (xs ++ ys) → at m (a + length xs) (length ys) ≡ Some ys
+pub rest_lent : (m : Memory) (a : ℕ) (xs ys : List ℕ) → IsMemory m → at m a (length (xs ++ ys)) ≡ Some (xs ++ ys)
+    → at m (a + length xs) (length ys) ≡ Some ys
 rest_lent m a xs [] h e = nothing_lent m (a + length xs)
 rest_lent m a xs (y ∷ ys) h e =
     let f = lent_inside m a (length (xs ++ y ∷ ys)) (xs ++ y ∷ ys) (omega (arith, length-append xs (y ∷ ys))) e in
-    (lent_is_inside m (a + length xs) (length (y ∷ ys)) (y ∷ ys) h (omega arith)).1 (f.0, f.1, holds_rest f.0 a xs (y ∷ ys) f.2)
+    (lent_is_inside m (a + length xs) (length (y ∷ ys)) (y ∷ ys) h (omega arith)).1
+    (f.0, f.1, holds_rest f.0 a xs (y ∷ ys) f.2)
 
 -- ---- a valid table that is lent
 
@@ -91,9 +97,11 @@ summed : (s : Signature) (t : List ℕ) → field_of t 4 4 ≡ length t → chec
 unfolding check_table
 summed s t whole e =
     let names = bind_ok (check_names s (header_at t)) _ tt e in
-    let long = holds_ok (nat_le 36 (field_of t 4 4) && nat_le (field_of t 4 4) (length t)) (SdtInvalidLength s) (λ _. holds (sum_of (take (field_of t 4 4) t) == 0) (SdtInvalidChecksum s)) tt names.2 in
+    let long = holds_ok (nat_le 36 (field_of t 4 4) && nat_le (field_of t 4 4) (length t)) (SdtInvalidLength s)
+    (λ _. holds (sum_of (take (field_of t 4 4) t) == 0) (SdtInvalidChecksum s)) tt names.2 in
     let all : take (field_of t 4 4) t ≡ t = ap (λ n. take n t) whole ∙ take_all (length t) t (omega arith) in
-    ap sum_of (sym all) ∙ eqb-true (sum_of (take (field_of t 4 4) t)) 0 (holds_only (sum_of (take (field_of t 4 4) t) == 0) (SdtInvalidChecksum s) long.1)
+    ap sum_of (sym all) ∙ eqb-true (sum_of (take (field_of t 4 4) t)) 0
+    (holds_only (sum_of (take (field_of t 4 4) t) == 0) (SdtInvalidChecksum s) long.1)
 
 header_length : (t : List ℕ) → (header_at t).length ≡ field_of t 4 4
 unfolding header_at
@@ -122,13 +130,16 @@ module _ (m : Memory) (p : ℕ) (s : Signature) (t : List ℕ) (valid : IsValid 
       })
 
   -- a lookup's step there
-  pub there : (of : Signature) (least : ℕ) → 36 ≤ least → result_ok (table_at m (sdt_kind of least) p) ≡ (if is_named of t && nat_le least (length t) then Some t else None)
+  pub there : (of : Signature) (least : ℕ) → 36 ≤ least
+      → result_ok (table_at m (sdt_kind of least) p) ≡ (if is_named of t && nat_le least (length t) then Some t
+      else None)
   unfolding header_at
   there of least enough = own_table_is m of least p enough ∙ ap (λ r. served of least (result_ok r)) own_there
 
 -- ---- tables one after the other
 
-step : (b : Bool) (p : ℕ) (t : List ℕ) (r : Result (List ℕ) AcpiError) (later others : Result (ℕ × List ℕ) AcpiError) → result_ok r ≡ (if b then Some t else None) → later ≡ others
+step : (b : Bool) (p : ℕ) (t : List ℕ) (r : Result (List ℕ) AcpiError) (later others : Result (ℕ × List ℕ) AcpiError)
+    → result_ok r ≡ (if b then Some t else None) → later ≡ others
     → or_later (here p) r later ≡ (if b then Ok (p, t) else others)
 step true p t (Ok found) later others e f = cc
 step true p t (Err d) later others e f = absurd cc
@@ -140,7 +151,8 @@ laid_found m a [] h valid e s least enough = refl
 laid_found m a (t ∷ ts) h valid e s least enough =
     let filled = replicate (gap (length t)) 0 in
     let first : at m a (length t) ≡ Some t = front_lent m a t filled (front_lent m a (padded t) (laid ts) e) in
-    step (is_named s t && nat_le least (length t)) a t (table_at m (sdt_kind s least) a) _ _ (there m a valid.0.0 t valid.0.1 first s least enough)
+    step (is_named s t && nat_le least (length t)) a t (table_at m (sdt_kind s least) a) _ _
+    (there m a valid.0.0 t valid.0.1 first s least enough)
     (laid_found m (a + length (padded t)) ts h valid.1 (rest_lent m a (padded t) (laid ts) h e) s least enough)
 
 -- ---- a table whose Checksum is set
@@ -149,49 +161,63 @@ pub with_sum_again : (offset : ℕ) (bytes : List ℕ) → with_sum offset (with
 unfolding with_sum sum_byte
 with_sum_again offset bytes = rw (set-set, set-set) refl
 
-serves_named : (s : Signature) (least : ℕ) (table : List ℕ) → serves s least (with_sum 9 table) ≡ (is_named s table && nat_le least (length table))
+serves_named : (s : Signature) (least : ℕ) (table : List ℕ)
+    → serves s least (with_sum 9 table) ≡ (is_named s table && nat_le least (length table))
 unfolding header_at with_sum
 serves_named s least table =
-    ap (λ p. bytes_eq p s.0 && nat_le least (length (with_sum 9 table))) (part_front table 9 (sum_byte 9 table) 4 (lit≤ tt)) ∙ ap (λ n. is_named s table && nat_le least n) (length-with_sum 9 table)
+    ap (λ p. bytes_eq p s.0 && nat_le least (length (with_sum 9 table)))
+    (part_front table 9 (sum_byte 9 table) 4 (lit≤ tt)) ∙ ap (λ n. is_named s table && nat_le least n)
+    (length-with_sum 9 table)
 
 abbrev summed_bytes : Region → List ℕ
 summed_bytes t = with_sum 9 t.bytes
 
-first_here : (s : Signature) (least : ℕ) (table : List ℕ) (ts : List (List ℕ)) → is_named s table ≡ true → least ≤ length table → first_of s least (with_sum 9 table ∷ ts) ≡ Ok (with_sum 9 table)
+first_here : (s : Signature) (least : ℕ) (table : List ℕ) (ts : List (List ℕ)) → is_named s table ≡ true
+    → least ≤ length table → first_of s least (with_sum 9 table ∷ ts) ≡ Ok (with_sum 9 table)
 unfolding first_of
 first_here s least table ts named long = rw (serves_named s least table, named, le-leb least (length table) long) refl
 
-first_past : (s : Signature) (least : ℕ) (table : List ℕ) (ts : List (List ℕ)) → is_named s table ≡ false → first_of s least (with_sum 9 table ∷ ts) ≡ first_of s least ts
+first_past : (s : Signature) (least : ℕ) (table : List ℕ) (ts : List (List ℕ)) → is_named s table ≡ false
+    → first_of s least (with_sum 9 table ∷ ts) ≡ first_of s least ts
 unfolding first_of
 first_past s least table ts named = rw (serves_named s least table, named) refl
 
-first_after : (s : Signature) (least a : ℕ) (table : List ℕ) (before after : Memory) → AllByRecursion (λ t. is_named s t.bytes ≡ false) before → is_named s table ≡ true → least ≤ length table
-    → first_of s least (map summed_bytes (before ++ record { start = a; bytes = table } ∷ after)) ≡ Ok (with_sum 9 table)
+first_after : (s : Signature) (least a : ℕ) (table : List ℕ) (before after : Memory)
+    → AllByRecursion (λ t. is_named s t.bytes ≡ false) before → is_named s table ≡ true → least ≤ length table
+    → first_of s least (map summed_bytes (before ++ record { start = a; bytes = table } ∷ after))
+    ≡ Ok (with_sum 9 table)
 first_after s least a table [] after others named long = first_here s least table (map summed_bytes after) named long
 first_after s least a table (t ∷ before) after others named long =
-    first_past s least t.bytes (map summed_bytes (before ++ record { start = a; bytes = table } ∷ after)) others.0 ∙ first_after s least a table before after others.1 named long
+    first_past s least t.bytes (map summed_bytes (before ++ record { start = a; bytes = table } ∷ after)) others.0
+    ∙ first_after s least a table before after others.1 named long
 
 -- what a lookup finds in the image
-pub found_in_image : (s : Signature) (least : ℕ) (p : Plan) (table : List ℕ) (first : HasFirst s p table) → is_named s table ≡ true → 36 ≤ least → least ≤ length table
+pub found_in_image : (s : Signature) (least : ℕ) (p : Plan) (table : List ℕ) (first : HasFirst s p table)
+    → is_named s table ≡ true → 36 ≤ least → least ≤ length table
     → bytes_found (lookup (records_of p) (kind s least (check_table s)) (pointers_of p)) ≡ Ok (with_sum 9 table)
 found_in_image s least p table first named enough long =
-    lookup_is (records_of p) s least (pointers_of p) enough ∙ ap (first_of s least) ((written_is_read p first.file first.bytes first.is_written).tables ∙ ap (map summed_bytes) first.tables)
+    lookup_is (records_of p) s least (pointers_of p) enough ∙ ap (first_of s least)
+    ((written_is_read p first.file first.bytes first.is_written).tables ∙ ap (map summed_bytes) first.tables)
     ∙ first_after s least first.address table first.before first.after first.others named long
 
 -- ---- a table that is written
 
-again : (s : Signature) (revision : ℕ) (ids : TableIds) (body t : List ℕ) → IsTableOf s revision ids body t → with_sum 9 t ≡ t
+again : (s : Signature) (revision : ℕ) (ids : TableIds) (body t : List ℕ) → IsTableOf s revision ids body t
+    → with_sum 9 t ≡ t
 unfolding table_bytes
-again s revision ids body t is = ap (with_sum 9) is.bytes ∙ with_sum_again 9 (unsummed s revision ids body) ∙ sym is.bytes
+again s revision ids body t is = ap (with_sum 9) is.bytes ∙ with_sum_again 9 (unsummed s revision ids body)
+    ∙ sym is.bytes
 
 abbrev fine : List ℕ → Result (List ℕ) AcpiError
 fine x = Ok x
 
 -- the first table of its signature is found as it was written
-first_found : (s : Signature) (name : table.IsName s) (least revision : ℕ) (ids : TableIds) (body t : List ℕ) (p : Plan) → IsTableOf s revision ids body t → HasFirst s p t → 36 ≤ least → least ≤ 36 + length body
+first_found : (s : Signature) (name : table.IsName s) (least revision : ℕ) (ids : TableIds) (body t : List ℕ) (p : Plan)
+    → IsTableOf s revision ids body t → HasFirst s p t → 36 ≤ least → least ≤ 36 + length body
     → bytes_found (lookup (records_of p) (kind s least (check_table s)) (pointers_of p)) ≡ Ok t
 first_found s name least revision ids body t p is first enough long =
-    found_in_image s least p t first (table.named s name revision ids body t is) enough (omega (arith, long, table.long s name revision ids body t is)) ∙ ap fine (again s revision ids body t is)
+    found_in_image s least p t first (table.named s name revision ids body t is) enough
+    (omega (arith, long, table.long s name revision ids body t is)) ∙ ap fine (again s revision ids body t is)
 
 same_found : (x y : List ℕ) → fine x ≡ fine y → x ≡ y
 same_found x y e = cc
@@ -201,14 +227,16 @@ same_found x y e = cc
 abbrev says : {A : Type 0} → Model A → Result (Model A) AcpiError
 says x = Ok x
 
-model_by_bytes : {A : Type 0} (r : Result (ℕ × List ℕ) AcpiError) (b : List ℕ) → bytes_found r ≡ Ok b → or_later (λ f. model_of f.1) r (says {A = A} (Unknown, None)) ≡ model_of b
+model_by_bytes : {A : Type 0} (r : Result (ℕ × List ℕ) AcpiError) (b : List ℕ) → bytes_found r ≡ Ok b
+    → or_later (λ f. model_of f.1) r (says {A = A} (Unknown, None)) ≡ model_of b
 model_by_bytes (Ok found) b e = ap model_of (same_found found.1 b e)
 model_by_bytes (Err d) b e = absurd cc
 
 pub madt_in_image : {A : Type 0} → MadtInImage A
 madt_in_image {A = A} p t ids c is first =
     let size = length-append (madt_fixed c.local_apic_address c.also_has_legacy_pics) (madt_entries c) in
-    let found = first_found MADT madt_name 44 5 ids (madt_body c) t p is.written first (lit≤ tt) (omega (arith, size, fixed_long c.local_apic_address c.also_has_legacy_pics)) in
+    let found = first_found MADT madt_name 44 5 ids (madt_body c) t p is.written first (lit≤ tt)
+    (omega (arith, size, fixed_long c.local_apic_address c.also_has_legacy_pics)) in
     model_by_bytes {A = A} (lookup (records_of p) madt_kind (pointers_of p)) t found ∙ madt_read {A = A} ids c t is
 
 abbrev plat : {A : Type 0} → PlatformInfo A → Result (PlatformInfo A) AcpiError
@@ -220,8 +248,15 @@ same_platform x y e = cc
 same_model : {A : Type 0} (x y : Model A) → says x ≡ says y → x ≡ y
 same_model x y e = cc
 
-timed : {A : Type 0} (c : MadtContents) (profile : PowerProfile) (q : PlatformInfo A) (said : Result (Model A) AcpiError) (timer : Result (Option PmTimer) AcpiError) → said ≡ Ok (model_read c)
-    → (said >>= λ s. timer >>= λ found. plat (record { power_profile = profile; interrupt_model = s.0; processor_info = s.1; pm_timer = found })) ≡ Ok q → HasPlatform c q
+timed : {A : Type 0} (c : MadtContents) (profile : PowerProfile) (q : PlatformInfo A)
+    (said : Result (Model A) AcpiError) (timer : Result (Option PmTimer) AcpiError) → said ≡ Ok (model_read c)
+    → (said >>= λ s. timer >>= λ found. plat (record {
+      power_profile = profile;
+      interrupt_model = s.0;
+      processor_info =
+          s.1;
+      pm_timer = found;
+    })) ≡ Ok q → HasPlatform c q
 timed c profile q (Err e) timer same is = absurd cc
 timed c profile q (Ok s) (Err e) same is = absurd cc
 timed c profile q (Ok s) (Ok found) same is =
@@ -233,20 +268,23 @@ timed c profile q (Ok s) (Ok found) same is =
     }
 
 -- where the interrupt model is found, the platform has it
-pub platform_has : {A : Type 0} (m : Memory) (ps : List ℕ) (c : MadtContents) (q : PlatformInfo A) → model_in {A = A} m ps ≡ Ok (model_read c) → platform_of m ps ≡ Ok q → HasPlatform c q
+pub platform_has : {A : Type 0} (m : Memory) (ps : List ℕ) (c : MadtContents) (q : PlatformInfo A)
+    → model_in {A = A} m ps ≡ Ok (model_read c) → platform_of m ps ≡ Ok q → HasPlatform c q
 platform_has m ps c q model answered =
     let parts = bind_ok (lookup m fadt_kind ps) _ q answered in
     timed c (profile_of (fadt_at parts.0.1)) q (model_in m ps) (timer_of (fadt_at parts.0.1)) model parts.2
 
 pub platform_in_image : {A : Type 0} → PlatformInImage A
-platform_in_image {A = A} p t ids c q is first answered = platform_has (records_of p) (pointers_of p) c q (madt_in_image p t ids c is first) answered
+platform_in_image {A = A} p t ids c q is first answered =
+    platform_has (records_of p) (pointers_of p) c q (madt_in_image p t ids c is first) answered
 
 -- ---- the MCFG
 
 abbrev regions : List McfgEntry → Result (List McfgEntry) AcpiError
 regions x = Ok x
 
-regions_by : (r : Result (ℕ × List ℕ) AcpiError) (b : List ℕ) → bytes_found r ≡ Ok b → (r >>= λ found. regions (mcfg_entries_of found.1)) ≡ regions (mcfg_entries_of b)
+regions_by : (r : Result (ℕ × List ℕ) AcpiError) (b : List ℕ) → bytes_found r ≡ Ok b
+    → (r >>= λ found. regions (mcfg_entries_of found.1)) ≡ regions (mcfg_entries_of b)
 regions_by (Ok found) b e = ap (λ z. regions (mcfg_entries_of z)) (same_found found.1 b e)
 regions_by (Err d) b e = absurd cc
 
@@ -257,11 +295,13 @@ mcfg_in_image p t ids es is first =
 
 -- ---- the HPET
 
-hpet_by : (r : Result (ℕ × List ℕ) AcpiError) (b : List ℕ) → bytes_found r ≡ Ok b → (r >>= λ found. info_of (hpet_at found.1)) ≡ info_of (hpet_at b)
+hpet_by : (r : Result (ℕ × List ℕ) AcpiError) (b : List ℕ) → bytes_found r ≡ Ok b
+    → (r >>= λ found. info_of (hpet_at found.1)) ≡ info_of (hpet_at b)
 hpet_by (Ok found) b e = ap (λ z. info_of (hpet_at z)) (same_found found.1 b e)
 hpet_by (Err d) b e = absurd cc
 
 pub hpet_in_image : HpetInImage
 hpet_in_image p t ids i is first =
-    let found = first_found HPET hpet_name 56 1 ids (hpet_body i) t p is.written first (lit≤ tt) (omega (arith, hpet_long i)) in
+    let found = first_found HPET hpet_name 56 1 ids (hpet_body i) t p is.written first (lit≤ tt)
+    (omega (arith, hpet_long i)) in
     hpet_by (lookup (records_of p) hpet_kind (pointers_of p)) t found ∙ hpet_read ids i t is

@@ -1,4 +1,5 @@
 pub mod Bits
+pub mod FieldsRead
 pub mod Sized
 pub mod Tables
 pub mod Rows
@@ -12,7 +13,6 @@ pub mod Headless
 pub mod SratRead
 pub mod SpcrRead
 pub mod RegisterRead
-pub mod FadtParts
 pub mod FadtRead
 pub mod GicRead
 pub mod GtdtStructures

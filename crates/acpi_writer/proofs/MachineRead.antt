@@ -46,7 +46,8 @@ use Rattle.acpi_writer.proofs.Sized.{table_length, wrote, padded_long, root_long
 
 -- ---- an RSDP that is lent
 
-pub rsdp_there : (m : Memory) (p : ℕ) (b : List ℕ) → length b ≡ 36 → at m p 36 ≡ Some b → check_rsdp b ≡ Ok tt → rsdp_at m p ≡ Ok b
+pub rsdp_there : (m : Memory) (p : ℕ) (b : List ℕ) → length b ≡ 36 → at m p 36 ≡ Some b → check_rsdp b ≡ Ok tt
+    → rsdp_at m p ≡ Ok b
 unfolding rsdp_at check_rsdp
 rsdp_there m p b long e checked =
     let parts = bind_ok (checked_length b) (λ n. check_whole (at_hand b) n) tt checked in
@@ -63,16 +64,23 @@ ok_from : (r : Result (List ℕ) AcpiError) (t : List ℕ) → result_ok r ≡ S
 ok_from (Ok x) t e = cc
 ok_from (Err d) t e = absurd cc
 
-pub table_there : (m : Memory) (p : ℕ) (s : Signature) (t : List ℕ) → IsValid s t → at m p (length t) ≡ Some t → table_at m (plain_kind s) p ≡ Ok t
+pub table_there : (m : Memory) (p : ℕ) (s : Signature) (t : List ℕ) → IsValid s t → at m p (length t) ≡ Some t
+    → table_at m (plain_kind s) p ≡ Ok t
 table_there m p s t valid e =
-    let named : is_named s t ≡ true = ap (λ l. bytes_eq l (letters_of s)) (letters_are s t valid) ∙ same_bytes (letters_of s) in
-    ok_from (table_at m (plain_kind s) p) t (there m p s t valid e s 36 (lit≤ tt) ∙ rw (named, le-leb 36 (length t) (table_is t valid.taken).long) refl)
+    let named : is_named s t ≡ true = ap (λ l. bytes_eq l (letters_of s)) (letters_are s t valid)
+    ∙ same_bytes (letters_of s) in
+    ok_from (table_at m (plain_kind s) p) t (there m p s t valid e s 36 (lit≤ tt)
+    ∙ rw (named, le-leb 36 (length t) (table_is t valid.taken).long) refl)
 
 -- ---- the whole machine
 
 addresses_fit : (n a : ℕ) (ts : List (List ℕ)) → a + length (laid ts) < n → AllByRecursion (λ p. p < n) (addresses a ts)
 addresses_fit n a [] less = tt
-addresses_fit n a (t ∷ ts) less = (omega (arith, less), addresses_fit n (a + length (padded t)) ts (omega (arith, less, length-append (padded t) (laid ts))))
+addresses_fit n a (t ∷ ts) less = (
+  omega (arith, less),
+  addresses_fit n (a + length (padded t)) ts
+      (omega (arith, less, length-append (padded t) (laid ts))),
+)
 
 -- what is known if the machine can be written
 record Facts (a : ℕ) (x : Machine) : Type 0 where
@@ -87,8 +95,10 @@ record Facts (a : ℕ) (x : Machine) : Type 0 where
 facts : (a : ℕ) (x : Machine) → IsWritable a x → Facts a x
 unfolding check_by
 facts a x is =
-    let one = holds_ok (are_texts x.ids) BadName (λ _. holds (nat_lt (xsdt_length x) (2 ^ 32)) TooLong >>= λ _. dsdt_written x.ids x.dsdt >>= λ _. check_tables x.ids x.tables.now) tt is.checked in
-    let two = holds_ok (nat_lt (xsdt_length x) (2 ^ 32)) TooLong (λ _. dsdt_written x.ids x.dsdt >>= λ _. check_tables x.ids x.tables.now) tt one.1 in
+    let one = holds_ok (are_texts x.ids) BadName (λ _. holds (nat_lt (xsdt_length x) (2 ^ 32)) TooLong >>= λ _.
+    dsdt_written x.ids x.dsdt >>= λ _. check_tables x.ids x.tables.now) tt is.checked in
+    let two = holds_ok (nat_lt (xsdt_length x) (2 ^ 32)) TooLong (λ _. dsdt_written x.ids x.dsdt >>= λ _.
+    check_tables x.ids x.tables.now) tt one.1 in
     let three = bind_ok (dsdt_written x.ids x.dsdt) (λ _. check_tables x.ids x.tables.now) tt two.1 in
     let place = and_parts (not (a == 0)) ((a % 16 == 0) && nat_lt (a + tree_size x) (2 ^ 64)) is.place in
     record {
@@ -96,16 +106,21 @@ facts a x is =
       short = ltb-true (xsdt_length x) (2 ^ 32) two.0;
       dsdt = three.0;
       dsdt_is = three.1;
-      tables = all_contents x.ids x.tables.now is.fit.ids (recursion_from_All FitsContents x.tables.now is.fit.tables) three.2;
+      tables = all_contents x.ids x.tables.now is.fit.ids (recursion_from_All FitsContents x.tables.now is.fit.tables)
+          three.2;
       some = is_off (a == 0) place.0;
-      ends = ltb-true (a + tree_size x) (2 ^ 64) (and_parts (a % 16 == 0) (nat_lt (a + tree_size x) (2 ^ 64)) place.1).1;
+      ends = ltb-true (a + tree_size x) (2 ^ 64)
+          (and_parts (a % 16 == 0) (nat_lt (a + tree_size x) (2 ^ 64)) place.1).1;
     }
 
-dsdt_is_valid : (ids : TableIds) (d : Option AmlContents) (c : AmlContents) (t : List ℕ) → AreIds ids → d ≡ Some c → dsdt_written ids d ≡ Ok t → IsValid DSDT t
+dsdt_is_valid : (ids : TableIds) (d : Option AmlContents) (c : AmlContents) (t : List ℕ) → AreIds ids → d ≡ Some c
+    → dsdt_written ids d ≡ Ok t → IsValid DSDT t
 dsdt_is_valid ids None c t are some e = absurd cc
-dsdt_is_valid ids (Some d) c t are some e = (dsdt_read d.revision ids d.bytes.now t (table_of DSDT d.revision ids d.bytes.now t are e)).valid
+dsdt_is_valid ids (Some d) c t are some e =
+    (dsdt_read d.revision ids d.bytes.now t (table_of DSDT d.revision ids d.bytes.now t are e)).valid
 
-module _ (m : Memory) (rsdp a : ℕ) (x : Machine) (h : IsMemory m) (is : IsWritable a x) (first : at m rsdp 36 ≡ Some (rsdp_bytes x.ids.oem_id a)) (e : at m a (tree_size x) ≡ Some (tree_bytes a x)) where
+module _ (m : Memory) (rsdp a : ℕ) (x : Machine) (h : IsMemory m) (is : IsWritable a x)
+    (first : at m rsdp 36 ≡ Some (rsdp_bytes x.ids.oem_id a)) (e : at m a (tree_size x) ≡ Some (tree_bytes a x)) where
   abbrev known : Facts a x
   known = facts a x is
 
@@ -131,10 +146,12 @@ module _ (m : Memory) (rsdp a : ℕ) (x : Machine) (h : IsMemory m) (is : IsWrit
   xsdt_lent = front_lent m a xsdt (replicate (gap (length xsdt)) 0) (front_lent m a (padded xsdt) rest whole_lent)
 
   rest_there : at m (dsdt_address a x) (length rest) ≡ Some rest
-  rest_there = ap (λ n. at m (a + n) (length rest)) (sym (padded_long xsdt ∙ ap rounded xsdt_is)) ∙ rest_lent m a (padded xsdt) rest h whole_lent
+  rest_there = ap (λ n. at m (a + n) (length rest)) (sym (padded_long xsdt ∙ ap rounded xsdt_is))
+      ∙ rest_lent m a (padded xsdt) rest h whole_lent
 
   dsdt_lent : at m (dsdt_address a x) (length (dsdt_of x)) ≡ Some (dsdt_of x)
-  dsdt_lent = front_lent m (dsdt_address a x) (dsdt_of x) (replicate (gap (length (dsdt_of x))) 0) (front_lent m (dsdt_address a x) (padded (dsdt_of x)) after rest_there)
+  dsdt_lent = front_lent m (dsdt_address a x) (dsdt_of x) (replicate (gap (length (dsdt_of x))) 0)
+      (front_lent m (dsdt_address a x) (padded (dsdt_of x)) after rest_there)
 
   after_there : at m (dsdt_end a x) (length after) ≡ Some after
   after_there = rest_lent m (dsdt_address a x) (padded (dsdt_of x)) after h rest_there
@@ -150,10 +167,18 @@ module _ (m : Memory) (rsdp a : ℕ) (x : Machine) (h : IsMemory m) (is : IsWrit
   -- ---- what is opened
 
   leads : Leads x.ids.oem_id a (rsdp_bytes x.ids.oem_id a)
-  leads = rsdp_read x.ids a (rsdp_bytes x.ids.oem_id a) (record { ids_fit = is.fit.ids; texts = known.texts; some = known.some; small = omega (arith, known.ends); bytes = refl })
+  leads = rsdp_read x.ids a (rsdp_bytes x.ids.oem_id a) (record {
+    ids_fit = is.fit.ids;
+    texts = known.texts;
+    some =
+        known.some;
+    small = omega (arith, known.ends);
+    bytes = refl;
+  })
 
   rsdp_found : rsdp_at m rsdp ≡ Ok (rsdp_bytes x.ids.oem_id a)
-  rsdp_found = rsdp_there m rsdp (rsdp_bytes x.ids.oem_id a) (rsdp_long x.ids.oem_id a is.fit.ids.oem_id) first leads.checked
+  rsdp_found = rsdp_there m rsdp (rsdp_bytes x.ids.oem_id a) (rsdp_long x.ids.oem_id a is.fit.ids.oem_id) first
+      leads.checked
 
   listed_ends : tables_address a x + length (laid (listed x)) < 2 ^ 64
   unfolding size_by
@@ -161,30 +186,47 @@ module _ (m : Memory) (rsdp a : ℕ) (x : Machine) (h : IsMemory m) (is : IsWrit
 
   root : IsRoot Xsdt x.ids (pointers_of a x) xsdt
   root = record {
-    written = record { ids_fit = is.fit.ids; texts = known.texts; short = omega (arith, known.short, root_long contents_written (tables_address a x) x.ids x.tables.now); bytes = refl };
-    fit = All-from_recursion (λ p. p < 256 ^ 8) (pointers_of a x) (addresses_fit (256 ^ 8) (tables_address a x) (listed x) (omega (arith, listed_ends)));
+    written = record {
+      ids_fit = is.fit.ids;
+      texts = known.texts;
+      short =
+          omega (arith, known.short, root_long contents_written (tables_address a x) x.ids x.tables.now);
+      bytes = refl;
+    };
+    fit = All-from_recursion (λ p. p < 256 ^ 8) (pointers_of a x)
+        (addresses_fit (256 ^ 8) (tables_address a x) (listed x) (omega (arith, listed_ends)));
   }
 
   root_found : table_at m (plain_kind XSDT) a ≡ Ok xsdt
   root_found = table_there m a XSDT xsdt (root_valid Xsdt x.ids (pointers_of a x) xsdt root) xsdt_lent
 
-  looked_up : (s : Signature) (least : ℕ) → 36 ≤ least → lookup m (sdt_kind s least) (pointers_of a x) ≡ first_at s least (tables_address a x) (listed x)
+  looked_up : (s : Signature) (least : ℕ) → 36 ≤ least
+      → lookup m (sdt_kind s least) (pointers_of a x) ≡ first_at s least (tables_address a x) (listed x)
   looked_up = laid_found m (tables_address a x) (listed x) h (all_valid x.ids x.tables.now known.tables) listed_lent
 
-  found : (s : Signature) (c : TableContents) (least : ℕ) → first_of s x.tables.now ≡ Some c → 36 ≤ least → least ≤ length (bytes_of x.ids c)
-      → lookup m (sdt_kind s least) (pointers_of a x) ≡ Ok (place_of x.ids s (tables_address a x) x.tables.now, bytes_of x.ids c)
-  found s c least is_first enough long = looked_up s least enough ∙ first_found x.ids s (tables_address a x) least c x.tables.now known.tables is_first long
+  found : (s : Signature) (c : TableContents) (least : ℕ) → first_of s x.tables.now ≡ Some c → 36 ≤ least
+      → least ≤ length (bytes_of x.ids c)
+      → lookup m (sdt_kind s least) (pointers_of a x) ≡ Ok (
+        place_of x.ids s (tables_address a x) x.tables.now,
+        bytes_of x.ids c,
+      )
+  found s c least is_first enough long = looked_up s least enough
+      ∙ first_found x.ids s (tables_address a x) least c x.tables.now known.tables is_first long
 
   dsdt_found : (d : AmlContents) → x.dsdt ≡ Some d → table_at m (plain_kind DSDT) (dsdt_address a x) ≡ Ok (dsdt_of x)
   dsdt_found d some =
-      let valid : IsValid DSDT (dsdt_of x) = subst (IsValid DSDT) (sym (ap or_none known.dsdt_is)) (dsdt_is_valid x.ids x.dsdt d known.dsdt is.fit.ids some known.dsdt_is) in
+      let valid : IsValid DSDT (dsdt_of x) =
+      subst (IsValid DSDT) (sym (ap or_none known.dsdt_is))
+      (dsdt_is_valid x.ids x.dsdt d known.dsdt is.fit.ids some known.dsdt_is) in
       table_there m (dsdt_address a x) DSDT (dsdt_of x) valid dsdt_lent
 
-  aml_found : (c : FadtContents) (d : AmlContents) → first_of FADT x.tables.now ≡ Some (Fadt c) → x.dsdt ≡ Some d → c.dsdt ≡ dsdt_address a x
+  aml_found : (c : FadtContents) (d : AmlContents) → first_of FADT x.tables.now ≡ Some (Fadt c) → x.dsdt ≡ Some d
+      → c.dsdt ≡ dsdt_address a x
       → dsdt_stream m (pointers_of a x) ≡ Ok (stream_of (dsdt_address a x) (dsdt_of x))
   unfolding stream_at
   aml_found c d is_first some same =
-      let fadt = fadt_found x.ids m (pointers_of a x) (λ s. place_of x.ids s (tables_address a x) x.tables.now) x.tables.now known.tables found c is_first in
+      let fadt = fadt_found x.ids m (pointers_of a x) (λ s. place_of x.ids s (tables_address a x) x.tables.now)
+      x.tables.now known.tables found c is_first in
       let leads_there = fadt.2.fields.dsdt in
       rw (fadt.1, leads_there, same, dsdt_found d some) refl
 
@@ -194,10 +236,12 @@ module _ (m : Memory) (rsdp a : ℕ) (x : Machine) (h : IsMemory m) (is : IsWrit
       let fits : FitsFacs f = subst FacsFits some is.fit.facs in
       has_facs m p f h fits (subst (λ o. at m p (length (facs_laid p o)) ≡ Some (facs_laid p o)) some facs_lent)
 
-  led_there : (c : FadtContents) (f : FacsContents) → first_of FADT x.tables.now ≡ Some (Fadt c) → x.facs ≡ Some f → c.facs ≡ Some (facs_address a x)
+  led_there : (c : FadtContents) (f : FacsContents) → first_of FADT x.tables.now ≡ Some (Fadt c) → x.facs ≡ Some f
+      → c.facs ≡ Some (facs_address a x)
       → led_by facs_place m (pointers_of a x) ≡ Ok (range (facs_address a x) 64)
   led_there c f is_first some same =
-      let fadt = fadt_found x.ids m (pointers_of a x) (λ s. place_of x.ids s (tables_address a x) x.tables.now) x.tables.now known.tables found c is_first in
+      let fadt = fadt_found x.ids m (pointers_of a x) (λ s. place_of x.ids s (tables_address a x) x.tables.now)
+      x.tables.now known.tables found c is_first in
       let leads_there = fadt.2.fields.facs in
       rw (fadt.1, leads_there, same, (facs_found f some).found) refl
 
@@ -216,7 +260,8 @@ module _ (m : Memory) (rsdp a : ℕ) (x : Machine) (h : IsMemory m) (is : IsWrit
 pub tree_read : {A : Type 0} → TreeIsRead A
 tree_read {A = A} m rsdp a x h is first e = (
   opened m rsdp a x h is first e,
-  says x.ids m (pointers_of a x) (λ s. place_of x.ids s (tables_address a x) x.tables.now) x.tables.now (facts a x is).tables (found m rsdp a x h is first e) {A = A},
+  says x.ids m (pointers_of a x) (λ s. place_of x.ids s (tables_address a x) x.tables.now) x.tables.now
+      (facts a x is).tables (found m rsdp a x h is first e) {A = A},
 )
 
 -- ---- what is known before
@@ -224,7 +269,8 @@ tree_read {A = A} m rsdp a x h is first e = (
 abbrev some_address : ℕ → Option ℕ
 some_address p = Some p
 
-dsdt_room : (ids : TableIds) (d : Option AmlContents) (t : List ℕ) → AreIds ids → dsdt_written ids d ≡ Ok t → (length (padded t) ≡ rounded (dsdt_length d)) × (dsdt_length d < 2 ^ 32)
+dsdt_room : (ids : TableIds) (d : Option AmlContents) (t : List ℕ) → AreIds ids → dsdt_written ids d ≡ Ok t
+    → (length (padded t) ≡ rounded (dsdt_length d)) × (dsdt_length d < 2 ^ 32)
 dsdt_room ids None t are e = (ap (λ b. length (padded b)) (sym (same_ok [] t e)), lit≤ tt)
 dsdt_room ids (Some d) t are e =
     let w = wrote most DSDT d.revision ids d.bytes.now t e in
@@ -251,7 +297,11 @@ module _ (a : ℕ) (x : Machine) (is : IsWritable (a + 48) x) where
   dsdt_known : dsdt_at a count ≡ Some (dsdt_address (a + 48) x)
   unfolding size_by
   dsdt_known =
-      rw (lt-ltb (36 + 8 * count) (2 ^ 32) facts_of.short, lt-ltb (a + (48 + rounded (36 + 8 * count))) (2 ^ 64) (omega (arith, facts_of.ends)))
+      rw (
+        lt-ltb (36 + 8 * count) (2 ^ 32) facts_of.short,
+        lt-ltb (a + (48 + rounded (36 + 8 * count))) (2 ^ 64)
+            (omega (arith, facts_of.ends)),
+      )
       (ap some_address (omega arith))
 
   facs_known : (f : FacsContents) → x.facs ≡ Some f → facs_at a count x.dsdt ≡ Some (facs_address (a + 48) x)
@@ -259,8 +309,9 @@ module _ (a : ℕ) (x : Machine) (is : IsWritable (a + 48) x) where
   facs_known f some =
       let room : facs_room x.facs ≡ 128 = ap facs_room some in
       let within : ends_at + facs_gap ends_at < 2 ^ 64 = omega (arith, facts_of.ends, room, ends_is) in
-      rw (lt-ltb (36 + 8 * count) (2 ^ 32) facts_of.short, lt-ltb (dsdt_length x.dsdt) (2 ^ 32) dsdt_is.1, lt-ltb (ends_at + facs_gap ends_at) (2 ^ 64) within)
-      (ap (λ p. some_address (p + facs_gap p)) ends_is)
+      rw (lt-ltb (36 + 8 * count) (2 ^ 32) facts_of.short, lt-ltb (dsdt_length x.dsdt) (2 ^ 32) dsdt_is.1)
+      (rw (lt-ltb (ends_at + facs_gap ends_at) (2 ^ 64) within)
+      (ap (λ p. some_address (p + facs_gap p)) ends_is))
 
 pub machine_read : {A : Type 0} → MachineIsRead A
 unfolding machine_by
@@ -271,7 +322,9 @@ machine_read {A = A} m a x h is e =
     let tree : length (tree_bytes (a + 48) x) ≡ tree_size x = tree_size_is contents_written (a + 48) x is.fit.ids in
     let all : at m a (length (padded rsdp ++ tree_bytes (a + 48) x)) ≡ Some (padded rsdp ++ tree_bytes (a + 48) x) =
     ap (at m a) (omega (arith, length-append (padded rsdp) (tree_bytes (a + 48) x), filled, tree)) ∙ e in
-    let front = front_lent m a rsdp (replicate (gap (length rsdp)) 0) (front_lent m a (padded rsdp) (tree_bytes (a + 48) x) all) in
+    let front = front_lent m a rsdp (replicate (gap (length rsdp)) 0)
+    (front_lent m a (padded rsdp) (tree_bytes (a + 48) x) all) in
     let rest = rest_lent m a (padded rsdp) (tree_bytes (a + 48) x) h all in
-    let both = tree_read {A = A} m a (a + 48) x h is (ap (at m a) (sym long) ∙ front) (ap (λ n. at m (a + n) (tree_size x)) (sym filled) ∙ ap (at m (a + length (padded rsdp))) (sym tree) ∙ rest) in
+    let both = tree_read {A = A} m a (a + 48) x h is (ap (at m a) (sym long) ∙ front)
+    (ap (λ n. at m (a + n) (tree_size x)) (sym filled) ∙ ap (at m (a + length (padded rsdp))) (sym tree) ∙ rest) in
     (both.0, both.1, record { dsdt = dsdt_known a x is; facs = facs_known a x is })

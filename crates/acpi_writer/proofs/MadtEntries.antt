@@ -21,7 +21,7 @@ use Rattle.acpi_writer.proofs.Rows.{AreRows, both_rows, no_rows, one_row, rows_a
 use Rattle.std.proofs.lemmas.Bool.{ltb-true, ne_eqb}
 use Rattle.acpi_base.proofs.Spelling.{number-spelling}
 use Rattle.acpi_base.specs.Bytes.{field_of, number, spelling}
-use Rattle.acpi_base.specs.Interrupts.{item_of, line_code}
+use Rattle.acpi_base.specs.Interrupts.{item_of, line_code, polarity_of, trigger_mode_of}
 use Rattle.acpi_base.specs.declared.model.interrupt.InterruptSourceOverride.{InterruptSourceOverride}
 use Rattle.acpi_base.specs.declared.model.interrupt.IoApic.{IoApic}
 use Rattle.acpi_base.specs.declared.model.interrupt.LocalInterruptLine.{LocalInterruptLine}
@@ -32,9 +32,13 @@ use Rattle.acpi_base.specs.declared.model.interrupt.NmiSource.{NmiSource}
 use Rattle.acpi_base.specs.declared.model.interrupt.Polarity.{Polarity}
 use Rattle.acpi_base.specs.declared.model.interrupt.TriggerMode.{TriggerMode}
 use Rattle.acpi_writer.specs.declared.madt.MadtProcessor.{MadtProcessor}
-use Rattle.acpi_writer.specs.MadtBytes.{address_entries, address_entry, apic_nmi_entry, io_apic_entry, local_apic_entry, local_x2apic_entry, long_uid, names_one, nmi_entry, nmi_line_entry, nmi_source_entry, override_entry, processor_entry, short_uid, wakeup_entries, wakeup_entry, x2apic_nmi_entry}
-use Rattle.acpi_writer.specs.MadtLaws.{FitsIoApic, FitsMailbox, FitsNmiSource, FitsOverride, FitsProcessor}
-use Rattle.acpi_writer.proofs.Bits.{one}
+use Rattle.acpi_writer.specs.MadtBytes.{inti_flags, io_apic_fields, nmi_source_fields, override_fields, address_entries, apic_nmi_fields, io_apic_entry, is_small, local_apic_fields, local_x2apic_fields, long_uid, names_one, nmi_fields, nmi_line_entry, nmi_source_entry, override_address_fields, override_entry, processor_entry, short_uid, wakeup_entries, wakeup_fields, x2apic_nmi_fields}
+use Rattle.acpi_writer.specs.MadtLaws.{FitsAddress, FitsIoApic, FitsMailbox, FitsNmiSource, FitsOverride, FitsProcessor}
+use Rattle.std.specs.List.{All}
+use Rattle.std.proofs.Common.{lit<}
+use Rattle.acpi_writer.specs.Fields.{FitsField, fields_bytes}
+use Rattle.acpi_writer.proofs.FieldsRead.{read_at}
+use Rattle.acpi_writer.proofs.Bits.{one, two_bits}
 use Rattle.acpi_base.specs.declared.model.item.MadtItem.TheVariants as item
 use Rattle.acpi_base.specs.declared.model.interrupt.NmiProcessor.TheVariants as nmi
 use Rattle.acpi_base.specs.declared.model.interrupt.Polarity.TheVariants as polarity
@@ -66,27 +70,48 @@ no_box e none = rw none refl
 one_box : (e : List ℕ) (a : ℕ) → box_of e ≡ Some a → filter_map box_of (e ∷ []) ≡ a ∷ []
 one_box e a some = rw some refl
 
-pub speaks_one : (e : List ℕ) (x : MadtItem) → IsEntry madt_layout e → said_of e ≡ Some (fine x) → box_of e ≡ None → Speaks e (x ∷ []) []
-speaks_one e x is said none = record { entries = e ∷ []; are = one_row madt_layout e is; said = said_one e x said; boxed = no_box e none }
+pub speaks_one : (e : List ℕ) (x : MadtItem) → IsEntry madt_layout e → said_of e ≡ Some (fine x) → box_of e ≡ None
+    → Speaks e (x ∷ []) []
+speaks_one e x is said none = record {
+  entries = e ∷ [];
+  are = one_row madt_layout e is;
+  said =
+      said_one e x said;
+  boxed = no_box e none;
+}
 
-pub speaks_box : (e : List ℕ) (x : MadtItem) (a : ℕ) → IsEntry madt_layout e → said_of e ≡ Some (fine x) → box_of e ≡ Some a → Speaks e (x ∷ []) (a ∷ [])
-speaks_box e x a is said some = record { entries = e ∷ []; are = one_row madt_layout e is; said = said_one e x said; boxed = one_box e a some }
+pub speaks_box : (e : List ℕ) (x : MadtItem) (a : ℕ) → IsEntry madt_layout e → said_of e ≡ Some (fine x)
+    → box_of e ≡ Some a → Speaks e (x ∷ []) (a ∷ [])
+speaks_box e x a is said some = record {
+  entries = e ∷ [];
+  are = one_row madt_layout e is;
+  said =
+      said_one e x said;
+  boxed = one_box e a some;
+}
 
-pub speaks_both : (a b : List ℕ) (xs ys : List MadtItem) (us vs : List ℕ) → Speaks a xs us → Speaks b ys vs → Speaks (a ++ b) (xs ++ ys) (us ++ vs)
+pub speaks_both : (a b : List ℕ) (xs ys : List MadtItem) (us vs : List ℕ) → Speaks a xs us → Speaks b ys vs
+    → Speaks (a ++ b) (xs ++ ys) (us ++ vs)
 speaks_both a b xs ys us vs p q = record {
   entries = p.entries ++ q.entries;
   are = both_rows madt_layout a b p.entries q.entries p.are q.are;
-  said = filter_map-append said_of p.entries q.entries ∙ ap (λ z. z ++ filter_map said_of q.entries) p.said ∙ ap (λ z. map fine xs ++ z) q.said ∙ sym (map-append fine xs ys);
-  boxed = filter_map-append box_of p.entries q.entries ∙ ap (λ z. z ++ filter_map box_of q.entries) p.boxed ∙ ap (λ z. us ++ z) q.boxed;
+  said = filter_map-append said_of p.entries q.entries ∙ ap (λ z. z ++ filter_map said_of q.entries) p.said
+      ∙ ap (λ z. map fine xs ++ z) q.said ∙ sym (map-append fine xs ys);
+  boxed = filter_map-append box_of p.entries q.entries ∙ ap (λ z. z ++ filter_map box_of q.entries) p.boxed
+      ∙ ap (λ z. us ++ z) q.boxed;
 }
 
-pub speaks_all : {X : Type 0} (P : X → Type 0) (f : X → List ℕ) (g : X → MadtItem) → ((x : X) → P x → Speaks (f x) (g x ∷ []) []) → (xs : List X) → AllByRecursion P xs → Speaks (flat_map f xs) (map g xs) []
+pub speaks_all : {X : Type 0} (P : X → Type 0) (f : X → List ℕ) (g : X → MadtItem)
+    → ((x : X) → P x → Speaks (f x) (g x ∷ []) []) → (xs : List X) → AllByRecursion P xs
+    → Speaks (flat_map f xs) (map g xs) []
 speaks_all P f g each [] all = speaks_nothing
-speaks_all P f g each (x ∷ xs) all = speaks_both (f x) (flat_map f xs) (g x ∷ []) (map g xs) [] [] (each x all.0) (speaks_all P f g each xs all.1)
+speaks_all P f g each (x ∷ xs) all = speaks_both (f x) (flat_map f xs) (g x ∷ []) (map g xs) [] [] (each x all.0)
+    (speaks_all P f g each xs all.1)
 
 -- ---- what a reader finds in them
 
-pub spoken_cut : (bytes : List ℕ) (items : List MadtItem) (boxes : List ℕ) (s : Speaks bytes items boxes) → ((cut madt_grammar bytes).0 ≡ s.entries) × ((cut madt_grammar bytes).1 ≡ [])
+pub spoken_cut : (bytes : List ℕ) (items : List MadtItem) (boxes : List ℕ) (s : Speaks bytes items boxes)
+    → ((cut madt_grammar bytes).0 ≡ s.entries) × ((cut madt_grammar bytes).1 ≡ [])
 spoken_cut bytes items boxes s = rows_are_cut madt_grammar bytes s.entries (λ bound same. cc) s.are
 
 oks : (items : List MadtItem) → filter_map result_ok (map fine items) ≡ items
@@ -103,12 +128,15 @@ model_said o madt items = elim o [
   | None ↦ Ok (model_from madt items)
 ]
 
-model_by : {A : Type 0} (o : Option MadtError) (madt : Madt) (xs items : List MadtItem) → o ≡ None → xs ≡ items → model_said {A = A} o madt xs ≡ model_said None madt items
+model_by : {A : Type 0} (o : Option MadtError) (madt : Madt) (xs items : List MadtItem) → o ≡ None → xs ≡ items
+    → model_said {A = A} o madt xs ≡ model_said None madt items
 model_by (Some fault) madt xs items none same = absurd cc
 model_by None madt xs items none same = ap (model_said None madt) same
 
-boxes_by : (o : Option MadtEntry) (es : List (List ℕ)) → filter_map box_of es ≡ filter_map mailbox_in (filter_map entry_of es)
-    → cons_option (option_and_then mailbox_in o) (filter_map box_of es) ≡ filter_map mailbox_in (cons_option o (filter_map entry_of es))
+boxes_by : (o : Option MadtEntry) (es : List (List ℕ))
+    → filter_map box_of es ≡ filter_map mailbox_in (filter_map entry_of es)
+    → cons_option (option_and_then mailbox_in o) (filter_map box_of es)
+    ≡ filter_map mailbox_in (cons_option o (filter_map entry_of es))
 boxes_by None es e = e
 boxes_by (Some x) es e = ap (cons_option (mailbox_in x)) e
 
@@ -127,13 +155,15 @@ module _ (table : List ℕ) (items : List MadtItem) (boxes : List ℕ) (s : Spea
   no_faults = sym (said_faults (cut_of table).0) ∙ ap (filter_map result_err) said_are ∙ no_errs items
 
   pub spoken_fault : fault_of table ≡ None
-  spoken_fault = ap (λ fs. first_fault fs (cut_of table).1) no_faults ∙ ap (first_fault []) (spoken_cut (drop 44 table) items boxes s).1
+  spoken_fault = ap (λ fs. first_fault fs (cut_of table).1) no_faults
+      ∙ ap (first_fault []) (spoken_cut (drop 44 table) items boxes s).1
 
   pub spoken_model : {A : Type 0} → model_of {A = A} table ≡ Ok (model_from (madt_at table) items)
   spoken_model = model_by (fault_of table) (madt_at table) (items_of table) items spoken_fault spoken_items
 
   boxes_are : filter_map mailbox_in (entries_of table) ≡ boxes
-  boxes_are = sym (boxes_twice (cut_of table).0) ∙ ap (filter_map box_of) (spoken_cut (drop 44 table) items boxes s).0 ∙ s.boxed
+  boxes_are = sym (boxes_twice (cut_of table).0) ∙ ap (filter_map box_of)
+      (spoken_cut (drop 44 table) items boxes s).0 ∙ s.boxed
 
   pub spoken_mailbox : mailbox_of table ≡ ok_or (slice_get boxes 0) (InvalidMadt (no_mailbox (cut_of table).1))
   spoken_mailbox = ap (λ bs. ok_or (slice_get bs 0) (InvalidMadt (no_mailbox (cut_of table).1))) boxes_are
@@ -142,15 +172,6 @@ module _ (table : List ℕ) (items : List MadtItem) (boxes : List ℕ) (s : Spea
 
 abbrev tell : MadtItem → Option (Result MadtItem MadtError)
 tell x = Some (fine x)
-
-same2 : {A B C : Type 0} (f : A → B → C) (a b : A) (x y : B) → a ≡ b → x ≡ y → f a x ≡ f b y
-same2 f a b x y e h = ap (λ z. f z x) e ∙ ap (f b) h
-
-same3 : {A B C D : Type 0} (f : A → B → C → D) (a b : A) (x y : B) (u v : C) → a ≡ b → x ≡ y → u ≡ v → f a x u ≡ f b y v
-same3 f a b x y u v e h i = same2 (f a) x y u v h i ∙ ap (λ z. f z y v) e
-
-abbrev some_box : ℕ → Option ℕ
-some_box a = Some a
 
 -- ---- items
 
@@ -171,205 +192,189 @@ boxes_read None = []
 
 -- ---- processors
 
-local_apic_by : (uid id : ℕ) (enabled capable : Bool) → said_of (local_apic_entry (record { processor_uid = uid; local_apic_id = id; is_enabled = enabled; is_online_capable = capable })) ≡ tell (item.Processor uid id enabled)
-unfolding local_apic_entry said_of item_of field_of spelling
-local_apic_by uid id true true = same2 (λ u i. tell (item.Processor u i true)) _ _ _ _ (one uid) (one id)
-local_apic_by uid id true false = same2 (λ u i. tell (item.Processor u i true)) _ _ _ _ (one uid) (one id)
-local_apic_by uid id false true = same2 (λ u i. tell (item.Processor u i false)) _ _ _ _ (one uid) (one id)
-local_apic_by uid id false false = same2 (λ u i. tell (item.Processor u i false)) _ _ _ _ (one uid) (one id)
+local_apic_says : (p : MadtProcessor) → All FitsField (local_apic_fields p)
+    → said_of (fields_bytes (local_apic_fields p)) ≡ tell (processor_item p)
+unfolding local_apic_fields said_of item_of
+local_apic_says p f =
+    let r = λ (i : ℕ) (h : i < 6). read_at (local_apic_fields p) f i h in
+    rw (r 2 (lit< tt), r 3 (lit< tt), r 4 (lit< tt), (two_bits p.is_enabled p.is_online_capable).0) refl
 
-local_apic_is : (p : MadtProcessor) → IsEntry madt_layout (local_apic_entry p)
-unfolding local_apic_entry
-local_apic_is p = record { entry_type = lit≤ tt; header = lit≤ tt; size = refl; least = lit≤ tt }
+x2apic_says : (p : MadtProcessor) → All FitsField (local_x2apic_fields p)
+    → said_of (fields_bytes (local_x2apic_fields p)) ≡ tell (processor_item p)
+unfolding local_x2apic_fields said_of item_of
+x2apic_says p f =
+    let r = λ (i : ℕ) (h : i < 6). read_at (local_x2apic_fields p) f i h in
+    rw (r 3 (lit< tt), r 4 (lit< tt), r 5 (lit< tt), (two_bits p.is_enabled p.is_online_capable).0) refl
 
-local_apic_box : (p : MadtProcessor) → box_of (local_apic_entry p) ≡ None
-unfolding local_apic_entry
-local_apic_box p = refl
+local_apic_is : (p : MadtProcessor) → let e = fields_bytes (local_apic_fields p) in
+    IsEntry madt_layout e × (box_of e ≡ None)
+unfolding local_apic_fields spelling
+local_apic_is p = (record { entry_type = lit≤ tt; header = lit≤ tt; size = refl; least = lit≤ tt }, refl)
 
-x2apic_by : (uid id : ℕ) (enabled capable : Bool) → uid < 2 ^ 32 → id < 2 ^ 32 → said_of (local_x2apic_entry (record { processor_uid = uid; local_apic_id = id; is_enabled = enabled; is_online_capable = capable })) ≡ tell (item.Processor uid id enabled)
-unfolding local_x2apic_entry said_of item_of field_of spelling
-x2apic_by uid id true true u i = same2 (λ u i. tell (item.Processor u i true)) _ _ _ _ (number-spelling 4 uid (omega (arith, u))) (number-spelling 4 id (omega (arith, i)))
-x2apic_by uid id true false u i = same2 (λ u i. tell (item.Processor u i true)) _ _ _ _ (number-spelling 4 uid (omega (arith, u))) (number-spelling 4 id (omega (arith, i)))
-x2apic_by uid id false true u i = same2 (λ u i. tell (item.Processor u i false)) _ _ _ _ (number-spelling 4 uid (omega (arith, u))) (number-spelling 4 id (omega (arith, i)))
-x2apic_by uid id false false u i = same2 (λ u i. tell (item.Processor u i false)) _ _ _ _ (number-spelling 4 uid (omega (arith, u))) (number-spelling 4 id (omega (arith, i)))
+x2apic_is : (p : MadtProcessor) → let e = fields_bytes (local_x2apic_fields p) in
+    IsEntry madt_layout e × (box_of e ≡ None)
+unfolding local_x2apic_fields spelling
+x2apic_is p = (record { entry_type = lit≤ tt; header = lit≤ tt; size = refl; least = lit≤ tt }, refl)
 
-x2apic_is : (p : MadtProcessor) → IsEntry madt_layout (local_x2apic_entry p)
-unfolding local_x2apic_entry spelling
-x2apic_is p = record { entry_type = lit≤ tt; header = lit≤ tt; size = refl; least = lit≤ tt }
-
-x2apic_box : (p : MadtProcessor) → box_of (local_x2apic_entry p) ≡ None
-unfolding local_x2apic_entry
-x2apic_box p = refl
-
-processor_says_by : (small : Bool) (p : MadtProcessor) → FitsProcessor p → Speaks (if small then local_apic_entry p else local_x2apic_entry p) (processor_item p ∷ []) []
-processor_says_by true p f = speaks_one (local_apic_entry p) (processor_item p) (local_apic_is p) (local_apic_by p.processor_uid p.local_apic_id p.is_enabled p.is_online_capable) (local_apic_box p)
-processor_says_by false p f = speaks_one (local_x2apic_entry p) (processor_item p) (x2apic_is p) (x2apic_by p.processor_uid p.local_apic_id p.is_enabled p.is_online_capable f.uid f.id) (x2apic_box p)
+processor_says_by : (small : Bool) (p : MadtProcessor) → let fs =
+    if small then local_apic_fields p else local_x2apic_fields p in
+    All FitsField fs → Speaks (fields_bytes fs) (processor_item p ∷ []) []
+processor_says_by true p f = speaks_one _ (processor_item p) (local_apic_is p).0 (local_apic_says p f)
+    (local_apic_is p).1
+processor_says_by false p f = speaks_one _ (processor_item p) (x2apic_is p).0 (x2apic_says p f) (x2apic_is p).1
 
 pub processor_says : (p : MadtProcessor) → FitsProcessor p → Speaks (processor_entry p) (processor_item p ∷ []) []
-unfolding processor_entry
-processor_says p f = processor_says_by _ p f
+processor_says p f = processor_says_by (is_small p) p f
 
 -- ---- the address
 
-address_by : (a : ℕ) → a < 2 ^ 64 → said_of (address_entry a) ≡ tell (item.LocalApicAddress a)
-unfolding address_entry said_of item_of field_of spelling
-address_by a h = ap (λ b. tell (item.LocalApicAddress b)) (number-spelling 8 a (omega (arith, h)))
+address_is : (a : ℕ) → let e = fields_bytes (override_address_fields a) in IsEntry madt_layout e × (box_of e ≡ None)
+unfolding override_address_fields spelling
+address_is a = (record { entry_type = lit≤ tt; header = lit≤ tt; size = refl; least = lit≤ tt }, refl)
 
-address_is : (a : ℕ) → IsEntry madt_layout (address_entry a)
-unfolding address_entry spelling
-address_is a = record { entry_type = lit≤ tt; header = lit≤ tt; size = refl; least = lit≤ tt }
+address_by : (a : ℕ) → All FitsField (override_address_fields a)
+    → said_of (fields_bytes (override_address_fields a)) ≡ tell (item.LocalApicAddress a)
+unfolding override_address_fields said_of item_of
+address_by a f = rw (read_at (override_address_fields a) f 3 (lit< tt)) refl
 
-address_box : (a : ℕ) → box_of (address_entry a) ≡ None
-unfolding address_entry
-address_box a = refl
+address_says_by : (small : Bool) (a : ℕ) → let fs = if small then [] else override_address_fields a in
+    All FitsField fs → Speaks (fields_bytes fs) (if small then [] else item.LocalApicAddress a ∷ []) []
+address_says_by true a f = speaks_nothing
+address_says_by false a f = speaks_one _ (item.LocalApicAddress a) (address_is a).0 (address_by a f) (address_is a).1
 
-address_says_by : (small : Bool) (a : ℕ) → a < 2 ^ 64 → Speaks (if small then [] else address_entry a) (if small then [] else item.LocalApicAddress a ∷ []) []
-address_says_by true a h = speaks_nothing
-address_says_by false a h = speaks_one (address_entry a) (item.LocalApicAddress a) (address_is a) (address_by a h) (address_box a)
-
-pub address_says : (a : ℕ) → a < 2 ^ 64 → Speaks (address_entries a) (address_items a) []
-unfolding address_entries
-address_says a h = address_says_by (nat_lt a (2 ^ 32)) a h
+pub address_says : (a : ℕ) → FitsAddress a → Speaks (address_entries a) (address_items a) []
+address_says a f = address_says_by (nat_lt a (2 ^ 32)) a f
 
 -- ---- I/O APICs
 
 io_apic_by : (x : IoApic) → FitsIoApic x → said_of (io_apic_entry x) ≡ tell (item.IoApic x)
-unfolding io_apic_entry said_of item_of field_of spelling
+unfolding io_apic_fields said_of item_of
 io_apic_by x f =
-    same3 (λ i a g. tell (item.IoApic (record { id = i; address = a; global_system_interrupt_base = g }))) _ _ _ _ _ _
-    (one x.id) (number-spelling 4 x.address (omega (arith, f.address))) (number-spelling 4 x.global_system_interrupt_base (omega (arith, f.base)))
+    let r = λ (i : ℕ) (h : i < 6). read_at (io_apic_fields x) f i h in
+    rw (r 2 (lit< tt), r 4 (lit< tt), r 5 (lit< tt)) refl
 
-io_apic_is : (x : IoApic) → IsEntry madt_layout (io_apic_entry x)
-unfolding io_apic_entry spelling
-io_apic_is x = record { entry_type = lit≤ tt; header = lit≤ tt; size = refl; least = lit≤ tt }
-
-io_apic_box : (x : IoApic) → box_of (io_apic_entry x) ≡ None
-unfolding io_apic_entry
-io_apic_box x = refl
+io_apic_is : (x : IoApic) → IsEntry madt_layout (io_apic_entry x) × (box_of (io_apic_entry x) ≡ None)
+unfolding io_apic_fields spelling
+io_apic_is x = (record { entry_type = lit≤ tt; header = lit≤ tt; size = refl; least = lit≤ tt }, refl)
 
 pub io_apic_says : (x : IoApic) → FitsIoApic x → Speaks (io_apic_entry x) (item.IoApic x ∷ []) []
-io_apic_says x f = speaks_one (io_apic_entry x) (item.IoApic x) (io_apic_is x) (io_apic_by x f) (io_apic_box x)
+io_apic_says x f = speaks_one (io_apic_entry x) (item.IoApic x) (io_apic_is x).0 (io_apic_by x f) (io_apic_is x).1
 
 -- ---- overrides
 
-abbrev override : ℕ → ℕ → Polarity → TriggerMode → InterruptSourceOverride
-override s g p t = record { isa_source = s; global_system_interrupt = g; polarity = p; trigger_mode = t }
+inti_read : (p : Polarity) (t : TriggerMode) → (polarity_of (inti_flags p t) ≡ Ok p)
+    × (trigger_mode_of (inti_flags p t) ≡ Ok t)
+inti_read polarity.SameAsBus trigger.SameAsBus = (refl, refl)
+inti_read polarity.SameAsBus _ = (refl, refl)
+inti_read polarity.ActiveHigh trigger.SameAsBus = (refl, refl)
+inti_read polarity.ActiveHigh _ = (refl, refl)
+inti_read polarity.ActiveLow trigger.SameAsBus = (refl, refl)
+inti_read polarity.ActiveLow _ = (refl, refl)
 
-override_by : (s g : ℕ) (p : Polarity) (t : TriggerMode) → g < 2 ^ 32 → said_of (override_entry (override s g p t)) ≡ tell (item.Override (override s g p t))
-unfolding override_entry said_of item_of field_of spelling
-override_by s g polarity.SameAsBus trigger.SameAsBus h = same2 (λ a b. tell (item.Override (override a b polarity.SameAsBus trigger.SameAsBus))) _ _ _ _ (one s) (number-spelling 4 g (omega (arith, h)))
-override_by s g polarity.SameAsBus trigger.Edge h = same2 (λ a b. tell (item.Override (override a b polarity.SameAsBus trigger.Edge))) _ _ _ _ (one s) (number-spelling 4 g (omega (arith, h)))
-override_by s g polarity.SameAsBus trigger.Level h = same2 (λ a b. tell (item.Override (override a b polarity.SameAsBus trigger.Level))) _ _ _ _ (one s) (number-spelling 4 g (omega (arith, h)))
-override_by s g polarity.ActiveHigh trigger.SameAsBus h = same2 (λ a b. tell (item.Override (override a b polarity.ActiveHigh trigger.SameAsBus))) _ _ _ _ (one s) (number-spelling 4 g (omega (arith, h)))
-override_by s g polarity.ActiveHigh trigger.Edge h = same2 (λ a b. tell (item.Override (override a b polarity.ActiveHigh trigger.Edge))) _ _ _ _ (one s) (number-spelling 4 g (omega (arith, h)))
-override_by s g polarity.ActiveHigh trigger.Level h = same2 (λ a b. tell (item.Override (override a b polarity.ActiveHigh trigger.Level))) _ _ _ _ (one s) (number-spelling 4 g (omega (arith, h)))
-override_by s g polarity.ActiveLow trigger.SameAsBus h = same2 (λ a b. tell (item.Override (override a b polarity.ActiveLow trigger.SameAsBus))) _ _ _ _ (one s) (number-spelling 4 g (omega (arith, h)))
-override_by s g polarity.ActiveLow trigger.Edge h = same2 (λ a b. tell (item.Override (override a b polarity.ActiveLow trigger.Edge))) _ _ _ _ (one s) (number-spelling 4 g (omega (arith, h)))
-override_by s g polarity.ActiveLow trigger.Level h = same2 (λ a b. tell (item.Override (override a b polarity.ActiveLow trigger.Level))) _ _ _ _ (one s) (number-spelling 4 g (omega (arith, h)))
+override_by : (x : InterruptSourceOverride) → FitsOverride x → said_of (override_entry x) ≡ tell (item.Override x)
+unfolding override_fields said_of item_of
+override_by x f =
+    let r = λ (i : ℕ) (h : i < 6). read_at (override_fields x) f i h in
+    let flags = inti_read x.polarity x.trigger_mode in
+    rw (r 2 (lit< tt), r 3 (lit< tt), r 4 (lit< tt), r 5 (lit< tt), flags.0, flags.1) refl
 
 override_is : (x : InterruptSourceOverride) → IsEntry madt_layout (override_entry x)
-unfolding override_entry spelling
-override_is x = record { entry_type = lit≤ tt; header = lit≤ tt; size = refl; least = lit≤ tt }
-
-override_box : (x : InterruptSourceOverride) → box_of (override_entry x) ≡ None
-unfolding override_entry
-override_box x = refl
+    × (box_of (override_entry x) ≡ None)
+unfolding override_fields spelling
+override_is x = (record { entry_type = lit≤ tt; header = lit≤ tt; size = refl; least = lit≤ tt }, refl)
 
 pub override_says : (x : InterruptSourceOverride) → FitsOverride x → Speaks (override_entry x) (item.Override x ∷ []) []
-override_says x f = speaks_one (override_entry x) (item.Override x) (override_is x) (override_by x.isa_source x.global_system_interrupt x.polarity x.trigger_mode f) (override_box x)
+override_says x f = speaks_one (override_entry x) (item.Override x) (override_is x).0 (override_by x f)
+    (override_is x).1
 
 -- ---- NMI sources
 
-abbrev source : ℕ → Polarity → TriggerMode → NmiSource
-source g p t = record { global_system_interrupt = g; polarity = p; trigger_mode = t }
+source_by : (x : NmiSource) → FitsNmiSource x → said_of (nmi_source_entry x) ≡ tell (item.NmiSource x)
+unfolding nmi_source_fields said_of item_of
+source_by x f =
+    let r = λ (i : ℕ) (h : i < 4). read_at (nmi_source_fields x) f i h in
+    let flags = inti_read x.polarity x.trigger_mode in
+    rw (r 2 (lit< tt), r 3 (lit< tt), flags.0, flags.1) refl
 
-source_by : (g : ℕ) (p : Polarity) (t : TriggerMode) → g < 2 ^ 32 → said_of (nmi_source_entry (source g p t)) ≡ tell (item.NmiSource (source g p t))
-unfolding nmi_source_entry said_of item_of field_of spelling
-source_by g polarity.SameAsBus trigger.SameAsBus h = ap (λ b. tell (item.NmiSource (source b polarity.SameAsBus trigger.SameAsBus))) (number-spelling 4 g (omega (arith, h)))
-source_by g polarity.SameAsBus trigger.Edge h = ap (λ b. tell (item.NmiSource (source b polarity.SameAsBus trigger.Edge))) (number-spelling 4 g (omega (arith, h)))
-source_by g polarity.SameAsBus trigger.Level h = ap (λ b. tell (item.NmiSource (source b polarity.SameAsBus trigger.Level))) (number-spelling 4 g (omega (arith, h)))
-source_by g polarity.ActiveHigh trigger.SameAsBus h = ap (λ b. tell (item.NmiSource (source b polarity.ActiveHigh trigger.SameAsBus))) (number-spelling 4 g (omega (arith, h)))
-source_by g polarity.ActiveHigh trigger.Edge h = ap (λ b. tell (item.NmiSource (source b polarity.ActiveHigh trigger.Edge))) (number-spelling 4 g (omega (arith, h)))
-source_by g polarity.ActiveHigh trigger.Level h = ap (λ b. tell (item.NmiSource (source b polarity.ActiveHigh trigger.Level))) (number-spelling 4 g (omega (arith, h)))
-source_by g polarity.ActiveLow trigger.SameAsBus h = ap (λ b. tell (item.NmiSource (source b polarity.ActiveLow trigger.SameAsBus))) (number-spelling 4 g (omega (arith, h)))
-source_by g polarity.ActiveLow trigger.Edge h = ap (λ b. tell (item.NmiSource (source b polarity.ActiveLow trigger.Edge))) (number-spelling 4 g (omega (arith, h)))
-source_by g polarity.ActiveLow trigger.Level h = ap (λ b. tell (item.NmiSource (source b polarity.ActiveLow trigger.Level))) (number-spelling 4 g (omega (arith, h)))
-
-source_is : (x : NmiSource) → IsEntry madt_layout (nmi_source_entry x)
-unfolding nmi_source_entry spelling
-source_is x = record { entry_type = lit≤ tt; header = lit≤ tt; size = refl; least = lit≤ tt }
-
-nmi_source_box : (x : NmiSource) → box_of (nmi_source_entry x) ≡ None
-unfolding nmi_source_entry
-nmi_source_box x = refl
+source_is : (x : NmiSource) → IsEntry madt_layout (nmi_source_entry x) × (box_of (nmi_source_entry x) ≡ None)
+unfolding nmi_source_fields spelling
+source_is x = (record { entry_type = lit≤ tt; header = lit≤ tt; size = refl; least = lit≤ tt }, refl)
 
 pub nmi_source_says : (x : NmiSource) → FitsNmiSource x → Speaks (nmi_source_entry x) (item.NmiSource x ∷ []) []
-nmi_source_says x f = speaks_one (nmi_source_entry x) (item.NmiSource x) (source_is x) (source_by x.global_system_interrupt x.polarity x.trigger_mode f) (nmi_source_box x)
+nmi_source_says x f = speaks_one (nmi_source_entry x) (item.NmiSource x) (source_is x).0 (source_by x f) (source_is x).1
 
 -- ---- NMI lines
 
 abbrev line_item : NmiProcessor → LocalInterruptLine → MadtItem
 line_item p l = item.NmiLine (record { processor = p; line = l })
 
-for_other : (all n uid : ℕ) (l : LocalInterruptLine) → n ≡ uid → uid < all → tell (line_item (if nat_eq n all then nmi.All else nmi.ProcessorUid n) l) ≡ tell (line_item (nmi.ProcessorUid uid) l)
+for_other : (all n uid : ℕ) (l : LocalInterruptLine) → n ≡ uid → uid < all
+    → tell (line_item (if nat_eq n all then nmi.All else nmi.ProcessorUid n) l)
+    ≡ tell (line_item (nmi.ProcessorUid uid) l)
 for_other all n uid l e less =
     let other : nat_eq uid all ≡ false = ne_eqb uid all (λ s. omega (arith, s, less)) in
     rw (e, other) refl
 
-apic_nmi_all : (l : LocalInterruptLine) → said_of (apic_nmi_entry 255 (line_code l)) ≡ tell (line_item nmi.All l)
-unfolding apic_nmi_entry said_of item_of field_of
+apic_nmi_all : (l : LocalInterruptLine) → said_of (fields_bytes (apic_nmi_fields 255 (line_code l)))
+    ≡ tell (line_item nmi.All l)
+unfolding apic_nmi_fields said_of item_of field_of
 apic_nmi_all Lint0 = refl
 apic_nmi_all Lint1 = refl
 
-apic_nmi_one : (uid : ℕ) (l : LocalInterruptLine) → uid < 255 → said_of (apic_nmi_entry uid (line_code l)) ≡ tell (line_item (nmi.ProcessorUid uid) l)
-unfolding apic_nmi_entry said_of item_of field_of
+apic_nmi_one : (uid : ℕ) (l : LocalInterruptLine) → uid < 255
+    → said_of (fields_bytes (apic_nmi_fields uid (line_code l))) ≡ tell (line_item (nmi.ProcessorUid uid) l)
+unfolding apic_nmi_fields said_of item_of field_of
 apic_nmi_one uid Lint0 h = for_other 255 (number (uid ∷ [])) uid Lint0 (one uid) h
 apic_nmi_one uid Lint1 h = for_other 255 (number (uid ∷ [])) uid Lint1 (one uid) h
 
-x2apic_nmi_one : (uid : ℕ) (l : LocalInterruptLine) → uid < 0xffffffff → said_of (x2apic_nmi_entry uid (line_code l)) ≡ tell (line_item (nmi.ProcessorUid uid) l)
-unfolding x2apic_nmi_entry said_of item_of field_of spelling
-x2apic_nmi_one uid Lint0 h = for_other 0xffffffff (number (spelling 4 uid)) uid Lint0 (number-spelling 4 uid (omega (arith, h))) h
-x2apic_nmi_one uid Lint1 h = for_other 0xffffffff (number (spelling 4 uid)) uid Lint1 (number-spelling 4 uid (omega (arith, h))) h
+x2apic_nmi_one : (uid : ℕ) (l : LocalInterruptLine) → uid < 0xffffffff
+    → said_of (fields_bytes (x2apic_nmi_fields uid (line_code l))) ≡ tell (line_item (nmi.ProcessorUid uid) l)
+unfolding x2apic_nmi_fields said_of item_of field_of spelling
+x2apic_nmi_one uid Lint0 h =
+    for_other 0xffffffff (number (spelling 4 uid)) uid Lint0 (number-spelling 4 uid (omega (arith, h))) h
+x2apic_nmi_one uid Lint1 h =
+    for_other 0xffffffff (number (spelling 4 uid)) uid Lint1 (number-spelling 4 uid (omega (arith, h))) h
 
-apic_nmi_is : (uid line : ℕ) → IsEntry madt_layout (apic_nmi_entry uid line)
-unfolding apic_nmi_entry
-apic_nmi_is uid line = record { entry_type = lit≤ tt; header = lit≤ tt; size = refl; least = lit≤ tt }
+apic_nmi_is : (uid line : ℕ) → let e = fields_bytes (apic_nmi_fields uid line) in
+    IsEntry madt_layout e × (box_of e ≡ None)
+unfolding apic_nmi_fields
+apic_nmi_is uid line = (record { entry_type = lit≤ tt; header = lit≤ tt; size = refl; least = lit≤ tt }, refl)
 
-x2apic_nmi_is : (uid line : ℕ) → IsEntry madt_layout (x2apic_nmi_entry uid line)
-unfolding x2apic_nmi_entry spelling
-x2apic_nmi_is uid line = record { entry_type = lit≤ tt; header = lit≤ tt; size = refl; least = lit≤ tt }
+x2apic_nmi_is : (uid line : ℕ) → let e = fields_bytes (x2apic_nmi_fields uid line) in
+    IsEntry madt_layout e × (box_of e ≡ None)
+unfolding x2apic_nmi_fields spelling
+x2apic_nmi_is uid line = (record { entry_type = lit≤ tt; header = lit≤ tt; size = refl; least = lit≤ tt }, refl)
 
-nmi_boxes : (uid line : ℕ) → (box_of (apic_nmi_entry uid line) ≡ None) × (box_of (x2apic_nmi_entry uid line) ≡ None)
-unfolding apic_nmi_entry x2apic_nmi_entry
-nmi_boxes uid line = (refl, refl)
+one_line_says : (small : Bool) (uid : ℕ) (l : LocalInterruptLine) → uid < 0xffffffff → nat_lt uid 255 ≡ small
+    → Speaks (fields_bytes (nmi_fields (if small then Some uid else None) uid (line_code l)))
+    (line_item (nmi.ProcessorUid uid) l ∷ []) []
+one_line_says true uid l h e =
+    let is = apic_nmi_is uid (line_code l) in
+    speaks_one _ _ is.0 (apic_nmi_one uid l (ltb-true uid 255 e)) is.1
+one_line_says false uid l h e =
+    let is = x2apic_nmi_is uid (line_code l) in
+    speaks_one _ _ is.0 (x2apic_nmi_one uid l h) is.1
 
-one_line_says : (small : Bool) (uid : ℕ) (l : LocalInterruptLine) → uid < 0xffffffff → nat_lt uid 255 ≡ small → Speaks (nmi_entry (if small then Some uid else None) uid (line_code l)) (line_item (nmi.ProcessorUid uid) l ∷ []) []
-one_line_says true uid l h e = speaks_one _ _ (apic_nmi_is uid (line_code l)) (apic_nmi_one uid l (ltb-true uid 255 e)) (nmi_boxes uid (line_code l)).0
-one_line_says false uid l h e = speaks_one _ _ (x2apic_nmi_is uid (line_code l)) (x2apic_nmi_one uid l h) (nmi_boxes uid (line_code l)).1
-
-line_says_by : (p : NmiProcessor) (l : LocalInterruptLine) → names_one p ≡ true → Speaks (nmi_entry (short_uid p) (long_uid p) (line_code l)) (line_item p l ∷ []) []
-line_says_by nmi.All l f = speaks_one _ _ (apic_nmi_is 255 (line_code l)) (apic_nmi_all l) (nmi_boxes 255 (line_code l)).0
+line_says_by : (p : NmiProcessor) (l : LocalInterruptLine) → names_one p ≡ true
+    → Speaks (fields_bytes (nmi_fields (short_uid p) (long_uid p) (line_code l))) (line_item p l ∷ []) []
+line_says_by nmi.All l f =
+    let is = apic_nmi_is 255 (line_code l) in
+    speaks_one _ _ is.0 (apic_nmi_all l) is.1
 line_says_by (nmi.ProcessorUid uid) l f = one_line_says (nat_lt uid 255) uid l (ltb-true uid 0xffffffff f) refl
 
 pub nmi_line_says : (x : NmiLine) → names_one x.processor ≡ true → Speaks (nmi_line_entry x) (item.NmiLine x ∷ []) []
-unfolding nmi_line_entry
 nmi_line_says x f = line_says_by x.processor x.line f
 
 -- ---- the mailbox
 
-wakeup_by : (a : ℕ) → said_of (wakeup_entry a) ≡ tell item.Wakeup
-unfolding wakeup_entry said_of item_of
-wakeup_by a = refl
+wakeup_is : (a : ℕ) → let e = fields_bytes (wakeup_fields a) in IsEntry madt_layout e × (said_of e ≡ tell item.Wakeup)
+unfolding wakeup_fields said_of item_of spelling
+wakeup_is a = (record { entry_type = lit≤ tt; header = lit≤ tt; size = refl; least = lit≤ tt }, refl)
 
-wakeup_is : (a : ℕ) → IsEntry madt_layout (wakeup_entry a)
-unfolding wakeup_entry spelling
-wakeup_is a = record { entry_type = lit≤ tt; header = lit≤ tt; size = refl; least = lit≤ tt }
-
-wakeup_box : (a : ℕ) → a < 2 ^ 64 → box_of (wakeup_entry a) ≡ Some a
-unfolding wakeup_entry field_of spelling
-wakeup_box a h = ap some_box (number-spelling 8 a (omega (arith, h)))
+wakeup_box : (a : ℕ) → All FitsField (wakeup_fields a) → box_of (fields_bytes (wakeup_fields a)) ≡ Some a
+unfolding wakeup_fields
+wakeup_box a f = rw (read_at (wakeup_fields a) f 4 (lit< tt)) refl
 
 pub wakeup_says : (o : Option ℕ) → FitsMailbox o → Speaks (wakeup_entries o) (wakeup_items o) (boxes_read o)
-unfolding wakeup_entries
-wakeup_says (Some a) h = speaks_box (wakeup_entry a) item.Wakeup a (wakeup_is a) (wakeup_by a) (wakeup_box a h)
-wakeup_says None h = speaks_nothing
+wakeup_says (Some a) f = speaks_box _ item.Wakeup a (wakeup_is a).0 (wakeup_is a).1 (wakeup_box a f)
+wakeup_says None f = speaks_nothing

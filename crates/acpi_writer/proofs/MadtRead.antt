@@ -1,5 +1,5 @@
 -- What a reader finds in a MADT that is written, and when one is.
-use Rattle.std.proofs.Common.{◌≡◌, ℕ, ◌^◌, Bool, true, false, List, [], ◌∷◌, ◌++◌, length, map, drop, Option, Some, None, Result, Ok, refl, sym, ap, ◌∙◌, arith, ◌<◌, ◌≤◌, Err}
+use Rattle.std.proofs.Common.{◌≡◌, ℕ, ◌^◌, Bool, true, false, List, [], ◌∷◌, ◌++◌, length, map, drop, Option, Some, None, Result, Ok, refl, sym, ap, ◌∙◌, arith}
 use Rattle.std.specs.Prelude.{not, if◌then◌else◌, nat_lt, slice_get}
 use Rattle.std.specs.List.{AllByRecursion, filter_map, list_all, list_any}
 use Rattle.std.specs.Option.{ok_or}
@@ -16,28 +16,21 @@ use Rattle.acpi_base.specs.declared.error.AcpiError.{AcpiError}
 use Rattle.acpi_base.specs.declared.error.AcpiError.TheVariants.{InvalidMadt}
 use Rattle.acpi_base.specs.declared.error.MadtError.TheVariants.{UnexpectedEntry}
 use Rattle.acpi_base.specs.declared.model.interrupt.Apic.{Apic}
-use Rattle.acpi_base.specs.declared.model.interrupt.InterruptSourceOverride.{InterruptSourceOverride}
-use Rattle.acpi_base.specs.declared.model.interrupt.IoApic.{IoApic}
 use Rattle.acpi_base.specs.declared.model.interrupt.NmiLine.{NmiLine}
-use Rattle.acpi_base.specs.declared.model.interrupt.NmiSource.{NmiSource}
 use Rattle.acpi_base.specs.declared.model.item.MadtItem.{MadtItem}
 use Rattle.acpi_base.specs.declared.model.processor.ProcessorInfo.{ProcessorInfo}
 use Rattle.acpi_base.specs.declared.table.signature.TheConstants.Signature.{MADT}
-use Rattle.acpi_writer.specs.Table.{bit_of, IsTableOf, table_written}
+use Rattle.acpi_writer.specs.Table.{bit_of, IsTableOf}
 use Rattle.acpi_writer.specs.declared.ids.TableIds.{TableIds}
 use Rattle.acpi_writer.specs.declared.madt.MadtContents.{MadtContents}
 use Rattle.acpi_writer.specs.declared.madt.MadtProcessor.{MadtProcessor}
-use Rattle.acpi_writer.specs.MadtBytes.{io_apic_entry, is_empty, is_single, madt_body, madt_checked, madt_entries, madt_fixed, names_one, nmi_line_entry, nmi_source_entry, override_entry, processor_entry}
+use Rattle.acpi_writer.specs.MadtBytes.{io_apic_entry, is_empty, is_single, madt_body, madt_checked, madt_entries, madt_fields, madt_fixed, names_one, nmi_line_entry, nmi_source_entry, override_entry, processor_entry}
 use Rattle.acpi_writer.specs.MadtLaws.{AreFit, FitsIoApic, FitsNmiSource, FitsOverride, FitsProcessor, IsMadt, MadtIsRead, MadtIsValid, MailboxIsRead, apic_read, processor_read, processors_read}
 use Rattle.acpi_base.proofs.Steps.{holds_ok}
 use Rattle.acpi_writer.proofs.Bits.{is_off, was_true}
 use Rattle.acpi_writer.proofs.Rows.{all_of, both, each_of, none_of}
 use Rattle.acpi_writer.proofs.MadtEntries.{Speaks, address_items, address_says, boxes_read, io_apic_says, nmi_line_says, nmi_source_says, override_says, processor_item, processor_says, speaks_all, speaks_both, spoken_cut, spoken_mailbox, spoken_model, wakeup_items, wakeup_says}
-use Rattle.acpi_writer.specs.declared.error.WriterError.{WriterError}
 use Rattle.acpi_writer.specs.declared.error.WriterError.TheVariants.{IdOfAll, NoProcessor}
-use Rattle.acpi_writer.specs.declared.madt.gic.GicContents.{GicContents}
-use Rattle.acpi_writer.specs.Checked.{all_checked}
-use Rattle.acpi_writer.specs.GicMadt.{gic_body, gic_written, interface_checked}
 use Rattle.acpi_base.specs.Model as read
 use Rattle.acpi_base.specs.declared.model.interrupt.InterruptModel.TheVariants as model
 use Rattle.acpi_base.specs.declared.model.item.MadtItem.TheVariants as item
@@ -46,18 +39,23 @@ use Rattle.acpi_writer.proofs.Tables as table
 -- ---- sorts of items
 
 seven : {X : Type 0} (h : MadtItem → Option X) (a b c d e f g : List MadtItem) (t u v w x y z : List X)
-    → filter_map h a ≡ t → filter_map h b ≡ u → filter_map h c ≡ v → filter_map h d ≡ w → filter_map h e ≡ x → filter_map h f ≡ y → filter_map h g ≡ z
+    → filter_map h a ≡ t → filter_map h b ≡ u → filter_map h c ≡ v → filter_map h d ≡ w → filter_map h e ≡ x
+    → filter_map h f ≡ y → filter_map h g ≡ z
     → filter_map h (a ++ (b ++ (c ++ (d ++ (e ++ (f ++ g)))))) ≡ t ++ (u ++ (v ++ (w ++ (x ++ (y ++ z)))))
-seven h a b c d e f g t u v w x y z k l m n o p q = both h a _ t _ k (both h b _ u _ l (both h c _ v _ m (both h d _ w _ n (both h e _ x _ o (both h f g y z p q)))))
+seven h a b c d e f g t u v w x y z k l m n o p q =
+    both h a _ t _ k (both h b _ u _ l (both h c _ v _ m (both h d _ w _ n (both h e _ x _ o (both h f g y z p q)))))
 
-address_by : {X : Type 0} (h : MadtItem → Option X) (small : Bool) (a : ℕ) → h (item.LocalApicAddress a) ≡ None → filter_map h (if small then [] else item.LocalApicAddress a ∷ []) ≡ []
+address_by : {X : Type 0} (h : MadtItem → Option X) (small : Bool) (a : ℕ) → h (item.LocalApicAddress a) ≡ None
+    → filter_map h (if small then [] else item.LocalApicAddress a ∷ []) ≡ []
 address_by h true a none = refl
 address_by h false a none = rw none refl
 
-no_address : {X : Type 0} (h : MadtItem → Option X) (a : ℕ) → h (item.LocalApicAddress a) ≡ None → filter_map h (address_items a) ≡ []
+no_address : {X : Type 0} (h : MadtItem → Option X) (a : ℕ) → h (item.LocalApicAddress a) ≡ None
+    → filter_map h (address_items a) ≡ []
 no_address h a none = address_by h (nat_lt a (2 ^ 32)) a none
 
-no_wakeup : {X : Type 0} (h : MadtItem → Option X) (o : Option ℕ) → h item.Wakeup ≡ None → filter_map h (wakeup_items o) ≡ []
+no_wakeup : {X : Type 0} (h : MadtItem → Option X) (o : Option ℕ) → h item.Wakeup ≡ None
+    → filter_map h (wakeup_items o) ≡ []
 no_wakeup h (Some a) none = rw none refl
 no_wakeup h None none = refl
 
@@ -73,59 +71,111 @@ madt_items c =
     ++ wakeup_items c.wakeup_mailbox)))))
 
 module _ (c : MadtContents) where
+  -- the items of each sort
+  sorts : {X : Type 0} (h : MadtItem → Option X) (t u v w x y z : List X)
+      → filter_map h (map processor_item c.processors.now) ≡ t → filter_map h (address_items c.local_apic_address) ≡ u
+      → filter_map h (map item.IoApic c.io_apics.now) ≡ v
+      → filter_map h (map item.Override c.interrupt_source_overrides.now) ≡ w
+      → filter_map h (map item.NmiSource c.nmi_sources.now) ≡ x
+      → filter_map h (map item.NmiLine c.local_apic_nmi_lines.now) ≡ y
+      → filter_map h (wakeup_items c.wakeup_mailbox) ≡ z
+      → filter_map h (madt_items c) ≡ t ++ (u ++ (v ++ (w ++ (x ++ (y ++ z)))))
+  sorts h = seven h _ _ _ _ _ _ _
+
   io_apics_are : filter_map read.io_apic_in (madt_items c) ≡ c.io_apics.now
   io_apics_are =
-      seven read.io_apic_in (map processor_item c.processors.now) (address_items c.local_apic_address) (map item.IoApic c.io_apics.now) (map item.Override c.interrupt_source_overrides.now) (map item.NmiSource c.nmi_sources.now) (map item.NmiLine c.local_apic_nmi_lines.now) (wakeup_items c.wakeup_mailbox) [] [] c.io_apics.now [] [] [] []
-      (none_of read.io_apic_in processor_item (λ x. refl) c.processors.now) (no_address read.io_apic_in c.local_apic_address refl) (all_of read.io_apic_in item.IoApic (λ x. refl) c.io_apics.now)
-      (none_of read.io_apic_in item.Override (λ x. refl) c.interrupt_source_overrides.now) (none_of read.io_apic_in item.NmiSource (λ x. refl) c.nmi_sources.now) (none_of read.io_apic_in item.NmiLine (λ x. refl) c.local_apic_nmi_lines.now) (no_wakeup read.io_apic_in c.wakeup_mailbox refl) ∙ append-nil c.io_apics.now
+      let h = read.io_apic_in in
+      sorts h [] [] c.io_apics.now [] [] [] []
+      (none_of h processor_item (λ x. refl) c.processors.now) (no_address h c.local_apic_address refl)
+      (all_of h item.IoApic (λ x. refl) c.io_apics.now)
+      (none_of h item.Override (λ x. refl) c.interrupt_source_overrides.now)
+      (none_of h item.NmiSource (λ x. refl) c.nmi_sources.now)
+      (none_of h item.NmiLine (λ x. refl) c.local_apic_nmi_lines.now)
+      (no_wakeup h c.wakeup_mailbox refl) ∙ append-nil c.io_apics.now
 
   overrides_are : filter_map read.override_in (madt_items c) ≡ c.interrupt_source_overrides.now
   overrides_are =
-      seven read.override_in (map processor_item c.processors.now) (address_items c.local_apic_address) (map item.IoApic c.io_apics.now) (map item.Override c.interrupt_source_overrides.now) (map item.NmiSource c.nmi_sources.now) (map item.NmiLine c.local_apic_nmi_lines.now) (wakeup_items c.wakeup_mailbox) [] [] [] c.interrupt_source_overrides.now [] [] []
-      (none_of read.override_in processor_item (λ x. refl) c.processors.now) (no_address read.override_in c.local_apic_address refl) (none_of read.override_in item.IoApic (λ x. refl) c.io_apics.now)
-      (all_of read.override_in item.Override (λ x. refl) c.interrupt_source_overrides.now) (none_of read.override_in item.NmiSource (λ x. refl) c.nmi_sources.now) (none_of read.override_in item.NmiLine (λ x. refl) c.local_apic_nmi_lines.now) (no_wakeup read.override_in c.wakeup_mailbox refl) ∙ append-nil c.interrupt_source_overrides.now
+      let h = read.override_in in
+      sorts h [] [] [] c.interrupt_source_overrides.now [] [] []
+      (none_of h processor_item (λ x. refl) c.processors.now) (no_address h c.local_apic_address refl)
+      (none_of h item.IoApic (λ x. refl) c.io_apics.now)
+      (all_of h item.Override (λ x. refl) c.interrupt_source_overrides.now)
+      (none_of h item.NmiSource (λ x. refl) c.nmi_sources.now)
+      (none_of h item.NmiLine (λ x. refl) c.local_apic_nmi_lines.now)
+      (no_wakeup h c.wakeup_mailbox refl) ∙ append-nil c.interrupt_source_overrides.now
 
   sources_are : filter_map read.nmi_source_in (madt_items c) ≡ c.nmi_sources.now
   sources_are =
-      seven read.nmi_source_in (map processor_item c.processors.now) (address_items c.local_apic_address) (map item.IoApic c.io_apics.now) (map item.Override c.interrupt_source_overrides.now) (map item.NmiSource c.nmi_sources.now) (map item.NmiLine c.local_apic_nmi_lines.now) (wakeup_items c.wakeup_mailbox) [] [] [] [] c.nmi_sources.now [] []
-      (none_of read.nmi_source_in processor_item (λ x. refl) c.processors.now) (no_address read.nmi_source_in c.local_apic_address refl) (none_of read.nmi_source_in item.IoApic (λ x. refl) c.io_apics.now)
-      (none_of read.nmi_source_in item.Override (λ x. refl) c.interrupt_source_overrides.now) (all_of read.nmi_source_in item.NmiSource (λ x. refl) c.nmi_sources.now) (none_of read.nmi_source_in item.NmiLine (λ x. refl) c.local_apic_nmi_lines.now) (no_wakeup read.nmi_source_in c.wakeup_mailbox refl) ∙ append-nil c.nmi_sources.now
+      let h = read.nmi_source_in in
+      sorts h [] [] [] [] c.nmi_sources.now [] []
+      (none_of h processor_item (λ x. refl) c.processors.now) (no_address h c.local_apic_address refl)
+      (none_of h item.IoApic (λ x. refl) c.io_apics.now)
+      (none_of h item.Override (λ x. refl) c.interrupt_source_overrides.now)
+      (all_of h item.NmiSource (λ x. refl) c.nmi_sources.now)
+      (none_of h item.NmiLine (λ x. refl) c.local_apic_nmi_lines.now)
+      (no_wakeup h c.wakeup_mailbox refl) ∙ append-nil c.nmi_sources.now
 
   lines_are : filter_map read.nmi_line_in (madt_items c) ≡ c.local_apic_nmi_lines.now
   lines_are =
-      seven read.nmi_line_in (map processor_item c.processors.now) (address_items c.local_apic_address) (map item.IoApic c.io_apics.now) (map item.Override c.interrupt_source_overrides.now) (map item.NmiSource c.nmi_sources.now) (map item.NmiLine c.local_apic_nmi_lines.now) (wakeup_items c.wakeup_mailbox) [] [] [] [] [] c.local_apic_nmi_lines.now []
-      (none_of read.nmi_line_in processor_item (λ x. refl) c.processors.now) (no_address read.nmi_line_in c.local_apic_address refl) (none_of read.nmi_line_in item.IoApic (λ x. refl) c.io_apics.now)
-      (none_of read.nmi_line_in item.Override (λ x. refl) c.interrupt_source_overrides.now) (none_of read.nmi_line_in item.NmiSource (λ x. refl) c.nmi_sources.now) (all_of read.nmi_line_in item.NmiLine (λ x. refl) c.local_apic_nmi_lines.now) (no_wakeup read.nmi_line_in c.wakeup_mailbox refl) ∙ append-nil c.local_apic_nmi_lines.now
+      let h = read.nmi_line_in in
+      sorts h [] [] [] [] [] c.local_apic_nmi_lines.now []
+      (none_of h processor_item (λ x. refl) c.processors.now) (no_address h c.local_apic_address refl)
+      (none_of h item.IoApic (λ x. refl) c.io_apics.now)
+      (none_of h item.Override (λ x. refl) c.interrupt_source_overrides.now)
+      (none_of h item.NmiSource (λ x. refl) c.nmi_sources.now)
+      (all_of h item.NmiLine (λ x. refl) c.local_apic_nmi_lines.now)
+      (no_wakeup h c.wakeup_mailbox refl) ∙ append-nil c.local_apic_nmi_lines.now
 
-  processors_are : (is_ap : Bool) → filter_map (read.processor_in is_ap) (madt_items c) ≡ map (processor_read is_ap) c.processors.now
+  processors_are : (is_ap : Bool) → filter_map (read.processor_in is_ap) (madt_items c)
+      ≡ map (processor_read is_ap) c.processors.now
   processors_are is_ap =
-      seven (read.processor_in is_ap) (map processor_item c.processors.now) (address_items c.local_apic_address) (map item.IoApic c.io_apics.now) (map item.Override c.interrupt_source_overrides.now) (map item.NmiSource c.nmi_sources.now) (map item.NmiLine c.local_apic_nmi_lines.now) (wakeup_items c.wakeup_mailbox) (map (processor_read is_ap) c.processors.now) [] [] [] [] [] []
-      (each_of (read.processor_in is_ap) processor_item (processor_read is_ap) (λ x. refl) c.processors.now) (no_address (read.processor_in is_ap) c.local_apic_address refl) (none_of (read.processor_in is_ap) item.IoApic (λ x. refl) c.io_apics.now)
-      (none_of (read.processor_in is_ap) item.Override (λ x. refl) c.interrupt_source_overrides.now) (none_of (read.processor_in is_ap) item.NmiSource (λ x. refl) c.nmi_sources.now) (none_of (read.processor_in is_ap) item.NmiLine (λ x. refl) c.local_apic_nmi_lines.now) (no_wakeup (read.processor_in is_ap) c.wakeup_mailbox refl) ∙ append-nil (map (processor_read is_ap) c.processors.now)
+      let h = read.processor_in is_ap in
+      sorts h (map (processor_read is_ap) c.processors.now) [] [] [] [] [] []
+      (each_of h processor_item (processor_read is_ap) (λ x. refl) c.processors.now)
+      (no_address h c.local_apic_address refl)
+      (none_of h item.IoApic (λ x. refl) c.io_apics.now)
+      (none_of h item.Override (λ x. refl) c.interrupt_source_overrides.now)
+      (none_of h item.NmiSource (λ x. refl) c.nmi_sources.now)
+      (none_of h item.NmiLine (λ x. refl) c.local_apic_nmi_lines.now)
+      (no_wakeup h c.wakeup_mailbox refl) ∙ append-nil (map (processor_read is_ap) c.processors.now)
 
-  addresses_are : filter_map read.local_apic_address_in (madt_items c) ≡ filter_map read.local_apic_address_in (address_items c.local_apic_address)
+  addresses_are : filter_map read.local_apic_address_in (madt_items c)
+      ≡ filter_map read.local_apic_address_in (address_items c.local_apic_address)
   addresses_are =
-      seven read.local_apic_address_in (map processor_item c.processors.now) (address_items c.local_apic_address) (map item.IoApic c.io_apics.now) (map item.Override c.interrupt_source_overrides.now) (map item.NmiSource c.nmi_sources.now) (map item.NmiLine c.local_apic_nmi_lines.now) (wakeup_items c.wakeup_mailbox) [] (filter_map read.local_apic_address_in (address_items c.local_apic_address)) [] [] [] [] []
-      (none_of read.local_apic_address_in processor_item (λ x. refl) c.processors.now) refl (none_of read.local_apic_address_in item.IoApic (λ x. refl) c.io_apics.now)
-      (none_of read.local_apic_address_in item.Override (λ x. refl) c.interrupt_source_overrides.now) (none_of read.local_apic_address_in item.NmiSource (λ x. refl) c.nmi_sources.now) (none_of read.local_apic_address_in item.NmiLine (λ x. refl) c.local_apic_nmi_lines.now) (no_wakeup read.local_apic_address_in c.wakeup_mailbox refl) ∙ append-nil (filter_map read.local_apic_address_in (address_items c.local_apic_address))
+      let h = read.local_apic_address_in in
+      sorts h [] (filter_map h (address_items c.local_apic_address)) [] [] [] [] []
+      (none_of h processor_item (λ x. refl) c.processors.now) refl
+      (none_of h item.IoApic (λ x. refl) c.io_apics.now)
+      (none_of h item.Override (λ x. refl) c.interrupt_source_overrides.now)
+      (none_of h item.NmiSource (λ x. refl) c.nmi_sources.now)
+      (none_of h item.NmiLine (λ x. refl) c.local_apic_nmi_lines.now)
+      (no_wakeup h c.wakeup_mailbox refl) ∙ append-nil (filter_map h (address_items c.local_apic_address))
 
 -- ---- the table
 
-all_lines : (xs : List NmiLine) → list_all (λ x. names_one x.processor) xs ≡ true → AllByRecursion (λ x. names_one x.processor ≡ true) xs
+all_lines : (xs : List NmiLine) → list_all (λ x. names_one x.processor) xs ≡ true
+    → AllByRecursion (λ x. names_one x.processor ≡ true) xs
 all_lines [] e = tt
 all_lines (x ∷ xs) e =
     let p = and_parts _ _ e in
     (p.0, all_lines xs p.1)
 
-module _ (c : MadtContents) (f : AreFit c) (lines : list_all (λ x. names_one x.processor) c.local_apic_nmi_lines.now ≡ true) where
+module _ (c : MadtContents) (f : AreFit c) (lines : list_all (λ x. names_one x.processor) c.local_apic_nmi_lines.now
+    ≡ true) where
   entries_speak : Speaks (madt_entries c) (madt_items c) (boxes_read c.wakeup_mailbox)
   entries_speak =
-      speaks_both _ _ _ _ _ _ (speaks_all FitsProcessor processor_entry processor_item processor_says c.processors.now (recursion_from_All FitsProcessor c.processors.now f.processors))
+      speaks_both _ _ _ _ _ _ (speaks_all FitsProcessor processor_entry processor_item processor_says c.processors.now
+      (recursion_from_All FitsProcessor c.processors.now f.processors))
       (speaks_both _ _ _ _ _ _ (address_says c.local_apic_address f.local_apic_address)
-      (speaks_both _ _ _ _ _ _ (speaks_all FitsIoApic io_apic_entry item.IoApic io_apic_says c.io_apics.now (recursion_from_All FitsIoApic c.io_apics.now f.io_apics))
-      (speaks_both _ _ _ _ _ _ (speaks_all FitsOverride override_entry item.Override override_says c.interrupt_source_overrides.now (recursion_from_All FitsOverride c.interrupt_source_overrides.now f.overrides))
-      (speaks_both _ _ _ _ _ _ (speaks_all FitsNmiSource nmi_source_entry item.NmiSource nmi_source_says c.nmi_sources.now (recursion_from_All FitsNmiSource c.nmi_sources.now f.nmi_sources))
-      (speaks_both _ _ _ _ _ _ (speaks_all (λ x. names_one x.processor ≡ true) nmi_line_entry item.NmiLine nmi_line_says c.local_apic_nmi_lines.now (all_lines c.local_apic_nmi_lines.now lines))
+      (speaks_both _ _ _ _ _ _ (speaks_all FitsIoApic io_apic_entry item.IoApic io_apic_says c.io_apics.now
+      (recursion_from_All FitsIoApic c.io_apics.now f.io_apics))
+      (speaks_both _ _ _ _ _ _ (speaks_all FitsOverride override_entry item.Override override_says
+      c.interrupt_source_overrides.now
+      (recursion_from_All FitsOverride c.interrupt_source_overrides.now f.overrides))
+      (speaks_both _ _ _ _ _ _ (speaks_all FitsNmiSource nmi_source_entry item.NmiSource nmi_source_says
+      c.nmi_sources.now (recursion_from_All FitsNmiSource c.nmi_sources.now f.nmi_sources))
+      (speaks_both _ _ _ _ _ _ (speaks_all (λ x. names_one x.processor ≡ true) nmi_line_entry item.NmiLine nmi_line_says
+      c.local_apic_nmi_lines.now (all_lines c.local_apic_nmi_lines.now lines))
       (wakeup_says c.wakeup_mailbox f.wakeup))))))
 
 pub madt_name : table.IsName MADT
@@ -136,23 +186,26 @@ abbrev address_field : ℕ → ℕ
 address_field a = if nat_lt a (2 ^ 32) then a else 0
 
 pub fixed_long : (a : ℕ) (b : Bool) → length (madt_fixed a b) ≡ 8
-unfolding madt_fixed spelling
+unfolding madt_fields spelling
 fixed_long a b = refl
 
 fixed_address : (a : ℕ) (b : Bool) (more : List ℕ) → part (madt_fixed a b ++ more) 0 4 ≡ spelling 4 (address_field a)
-unfolding madt_fixed spelling
+unfolding madt_fields spelling
 fixed_address a b more = refl
 
-fixed_flags : (a : ℕ) (b : Bool) (more : List ℕ) → part (madt_fixed a b ++ more) 4 4 ≡ bit_of b ∷ 0 ∷ 0 ∷ 0 ∷ []
-unfolding madt_fixed spelling
+fixed_flags : (a : ℕ) (b : Bool) (more : List ℕ) → part (madt_fixed a b ++ more) 4 4 ≡ spelling 4 (bit_of b)
+unfolding madt_fields spelling
 fixed_flags a b more = refl
 
-bool_bit : (b : Bool) → has_bit (number (bit_of b ∷ 0 ∷ 0 ∷ 0 ∷ [])) 0 ≡ b
+bool_bit : (b : Bool) → has_bit (number (spelling 4 (bit_of b))) 0 ≡ b
+unfolding spelling
 bool_bit true = refl
 bool_bit false = refl
 
 -- an address that has no place in the table's own field has an entry
-last_by : (small : Bool) (a n : ℕ) → nat_lt a (2 ^ 32) ≡ small → n ≡ number (spelling 4 (if small then a else 0)) → read.last_address n (filter_map read.local_apic_address_in (if small then [] else item.LocalApicAddress a ∷ [])) ≡ a
+last_by : (small : Bool) (a n : ℕ) → nat_lt a (2 ^ 32) ≡ small → n ≡ number (spelling 4 (if small then a else 0))
+    → read.last_address n (filter_map read.local_apic_address_in (if small then [] else item.LocalApicAddress a ∷ []))
+    ≡ a
 last_by true a n e h = h ∙ number-spelling 4 a (omega (arith, ltb-true a (2 ^ 32) e))
 last_by false a n e h = refl
 
@@ -160,16 +213,19 @@ module _ (ids : TableIds) (c : MadtContents) (t : List ℕ) (is : IsMadt ids c t
   after_fixed : drop 44 t ≡ madt_entries c
   after_fixed =
       sym (drop-drop 8 36 t) ∙ ap (drop 8) (table.rest MADT madt_name 5 ids (madt_body c) t is.written)
-      ∙ drop_at (madt_fixed c.local_apic_address c.also_has_legacy_pics) (madt_entries c) 8 (fixed_long c.local_apic_address c.also_has_legacy_pics)
+      ∙ drop_at (madt_fixed c.local_apic_address c.also_has_legacy_pics) (madt_entries c) 8
+      (fixed_long c.local_apic_address c.also_has_legacy_pics)
 
   address_is : (madt_at t).local_apic_address ≡ number (spelling 4 (address_field c.local_apic_address))
   unfolding madt_at field_of
-  address_is = table.field MADT madt_name 5 ids (madt_body c) t is.written 0 4 ∙ ap number (fixed_address c.local_apic_address c.also_has_legacy_pics (madt_entries c))
+  address_is = table.field MADT madt_name 5 ids (madt_body c) t is.written 0 4
+      ∙ ap number (fixed_address c.local_apic_address c.also_has_legacy_pics (madt_entries c))
 
   legacy_is : has_bit (madt_at t).flags 0 ≡ c.also_has_legacy_pics
   unfolding madt_at field_of
   legacy_is =
-      ap (λ n. has_bit n 0) (table.field MADT madt_name 5 ids (madt_body c) t is.written 4 4 ∙ ap number (fixed_flags c.local_apic_address c.also_has_legacy_pics (madt_entries c)))
+      ap (λ n. has_bit n 0) (table.field MADT madt_name 5 ids (madt_body c) t is.written 4 4
+      ∙ ap number (fixed_flags c.local_apic_address c.also_has_legacy_pics (madt_entries c)))
       ∙ bool_bit c.also_has_legacy_pics
 
   speaks : Speaks (drop 44 t) (madt_items c) (boxes_read c.wakeup_mailbox)
@@ -177,48 +233,52 @@ module _ (ids : TableIds) (c : MadtContents) (t : List ℕ) (is : IsMadt ids c t
 
 -- ---- the model
 
-abbrev apic : {A : Type 0} → ℕ → List IoApic → List NmiLine → List InterruptSourceOverride → List NmiSource → Bool → Apic A
-apic a i l o n b = record { local_apic_address = a; io_apics = i; local_apic_nmi_lines = l; interrupt_source_overrides = o; nmi_sources = n; also_has_legacy_pics = b }
-
-same_apic : {A : Type 0} {a a' : ℕ} {i i' : List IoApic} {l l' : List NmiLine} {o o' : List InterruptSourceOverride} {n n' : List NmiSource} {b b' : Bool} → a ≡ a' → i ≡ i' → l ≡ l' → o ≡ o' → n ≡ n' → b ≡ b' → apic {A = A} a i l o n b ≡ apic a' i' l' o' n' b'
-same_apic {a' = a'} {i = i} {i' = i'} {l = l} {l' = l'} {o = o} {o' = o'} {n = n} {n' = n'} {b = b} p q r s t u =
-    ap (λ z. apic z i l o n b) p ∙ ap (λ z. apic a' z l o n b) q ∙ ap (λ z. apic a' i' z o n b) r ∙ ap (λ z. apic a' i' l' z n b) s ∙ ap (λ z. apic a' i' l' o' z b) t ∙ ap (λ z. apic a' i' l' o' n' z) u
-
 abbrev pass : {A : Type 0} → read.Model A → Result (read.Model A) AcpiError
 pass x = Ok x
 
-from_gathered : {A : Type 0} (some : Bool) (a : Apic A) (p : Option (ProcessorInfo A)) (a' : Apic A) (p' : Option (ProcessorInfo A)) → some ≡ true → a ≡ a' → p ≡ p'
+from_gathered : {A : Type 0} (some : Bool) (a : Apic A) (p : Option (ProcessorInfo A)) (a' : Apic A)
+    (p' : Option (ProcessorInfo A)) → some ≡ true → a ≡ a' → p ≡ p'
     → pass (if some then (model.Apic a, p) else (model.Unknown, None)) ≡ pass (model.Apic a', p')
 from_gathered true a p a' p' s e h = ap (λ z. pass (model.Apic z, p)) e ∙ ap (λ z. pass (model.Apic a', z)) h
 from_gathered false a p a' p' s e h = absurd cc
 
-apic_is : {A : Type 0} (ids : TableIds) (c : MadtContents) (t : List ℕ) → IsMadt ids c t → read.apic_of {A = A} (madt_at t) (madt_items c) ≡ apic_read c
+apic_is : {A : Type 0} (ids : TableIds) (c : MadtContents) (t : List ℕ) → IsMadt ids c t
+    → read.apic_of {A = A} (madt_at t) (madt_items c) ≡ apic_read c
 apic_is ids c t is =
-    same_apic (ap (read.last_address (madt_at t).local_apic_address) (addresses_are c) ∙ last_by (nat_lt c.local_apic_address (2 ^ 32)) c.local_apic_address (madt_at t).local_apic_address refl (address_is ids c t is))
-    (io_apics_are c) (lines_are c) (overrides_are c) (sources_are c) (legacy_is ids c t is)
+    let at = (madt_at t).local_apic_address in
+    let address = last_by (nat_lt c.local_apic_address (2 ^ 32)) c.local_apic_address at refl (address_is ids c t is) in
+    rw (addresses_are c, io_apics_are c, lines_are c, overrides_are c, sources_are c, legacy_is ids c t is)
+    (rw (address) refl)
 
 -- with a first processor
-processors_of_are : {A : Type 0} (items : List MadtItem) (ps : List MadtProcessor) → ((is_ap : Bool) → filter_map (read.processor_in is_ap) items ≡ map (processor_read is_ap) ps) → read.processors_of {A = A} items ≡ processors_read ps
+processors_of_are : {A : Type 0} (items : List MadtItem) (ps : List MadtProcessor)
+    → ((is_ap : Bool) → filter_map (read.processor_in is_ap) items ≡ map (processor_read is_ap) ps)
+    → read.processors_of {A = A} items ≡ processors_read ps
 processors_of_are {A = A} items [] each = rw (by_lists {A = A} items, each false) refl
 processors_of_are {A = A} items (p ∷ ps) each = rw (by_lists {A = A} items, each false, each true) refl
 
-some_apic : (c : MadtContents) (ps : List MadtProcessor) → c.processors.now ≡ ps → is_empty ps ≡ false → list_any read.is_of_apic (madt_items c) ≡ true
+some_apic : (c : MadtContents) (ps : List MadtProcessor) → c.processors.now ≡ ps → is_empty ps ≡ false
+    → list_any read.is_of_apic (madt_items c) ≡ true
 some_apic c [] same some = absurd cc
 some_apic c (p ∷ ps) same some = rw same refl
 
 pub madt_read : {A : Type 0} → MadtIsRead A
 madt_read {A = A} ids c t is =
     spoken_model t (madt_items c) (boxes_read c.wakeup_mailbox) (speaks ids c t is) {A = A}
-    ∙ from_gathered (list_any read.is_of_apic (madt_items c)) _ _ (apic_read c) (processors_read c.processors.now) (some_apic c c.processors.now refl is.some) (apic_is {A = A} ids c t is) (processors_of_are {A = A} (madt_items c) c.processors.now (processors_are c))
+    ∙ from_gathered (list_any read.is_of_apic (madt_items c)) _ _ (apic_read c) (processors_read c.processors.now)
+    (some_apic c c.processors.now refl is.some) (apic_is {A = A} ids c t is)
+    (processors_of_are {A = A} (madt_items c) c.processors.now (processors_are c))
 
-one_boxed : (o : Option ℕ) → ok_or (slice_get (boxes_read o) 0) (InvalidMadt (no_mailbox [])) ≡ ok_or o (InvalidMadt UnexpectedEntry)
+one_boxed : (o : Option ℕ) → ok_or (slice_get (boxes_read o) 0) (InvalidMadt (no_mailbox []))
+    ≡ ok_or o (InvalidMadt UnexpectedEntry)
 one_boxed (Some a) = refl
 one_boxed None = refl
 
 pub mailbox_read : MailboxIsRead
 mailbox_read ids c t is =
     spoken_mailbox t (madt_items c) (boxes_read c.wakeup_mailbox) (speaks ids c t is)
-    ∙ ap (λ rest. ok_or (slice_get (boxes_read c.wakeup_mailbox) 0) (InvalidMadt (no_mailbox rest))) (spoken_cut (drop 44 t) (madt_items c) (boxes_read c.wakeup_mailbox) (speaks ids c t is)).1
+    ∙ ap (λ rest. ok_or (slice_get (boxes_read c.wakeup_mailbox) 0) (InvalidMadt (no_mailbox rest)))
+    (spoken_cut (drop 44 t) (madt_items c) (boxes_read c.wakeup_mailbox) (speaks ids c t is)).1
     ∙ one_boxed c.wakeup_mailbox
 
 pub madt_valid : MadtIsValid
@@ -226,31 +286,9 @@ madt_valid ids c t is = table.valid MADT madt_name 5 ids (madt_body c) t is.writ
 
 -- ---- whether it is written
 
-pub empty_is : {X : Type 0} (ps : List X) → length ps < 1 → is_empty ps ≡ true
-empty_is [] less = refl
-empty_is (p ∷ ps) less = absurd (omega (arith, less))
-
-pub some_is : {X : Type 0} (ps : List X) → 1 ≤ length ps → is_empty ps ≡ false
-some_is [] more = absurd (omega (arith, more))
-some_is (p ∷ ps) more = refl
-
-pub madt_is : (ids : TableIds) (c : MadtContents) (t : List ℕ) → IsTableOf MADT 5 ids (madt_body c) t → AreFit c → madt_checked c ≡ Ok tt → IsMadt ids c t
+pub madt_is : (ids : TableIds) (c : MadtContents) (t : List ℕ) → IsTableOf MADT 5 ids (madt_body c) t → AreFit c
+    → madt_checked c ≡ Ok tt → IsMadt ids c t
 madt_is ids c t written fit good =
     let one = holds_ok (not (is_empty c.processors.now)) NoProcessor _ tt good in
     let two = holds_ok (list_all is_single c.processors.now) IdOfAll _ tt one.1 in
     record { written = written; fit = fit; some = is_off _ one.0; lines = was_true _ _ two.1 }
-
--- ---- that of an Arm machine
-
-module _ (room : ℕ) (ids : TableIds) (c : GicContents) where
-  pub gic_none : length c.cpu_interfaces.now < 1 → gic_written room ids c ≡ Err NoProcessor
-  unfolding gic_written
-  gic_none less = rw (empty_is c.cpu_interfaces.now less) refl
-
-  pub gic_bad : (e : WriterError) → 1 ≤ length c.cpu_interfaces.now → all_checked interface_checked c.cpu_interfaces.now ≡ Err e → gic_written room ids c ≡ Err e
-  unfolding gic_written
-  gic_bad e some bad = rw (some_is c.cpu_interfaces.now some, bad) refl
-
-  pub gic_is : 1 ≤ length c.cpu_interfaces.now → all_checked interface_checked c.cpu_interfaces.now ≡ Ok tt → gic_written room ids c ≡ table_written room MADT 6 ids (gic_body c)
-  unfolding gic_written
-  gic_is some good = rw (some_is c.cpu_interfaces.now some, good) refl

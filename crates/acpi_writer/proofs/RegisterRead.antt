@@ -1,75 +1,57 @@
 -- What a reader finds of a register that is written.
-use Rattle.std.proofs.Common.{◌≡◌, ℕ, ◌^◌, ◌<◌, true, false, List, length, Option, Some, None, Ok, refl, arith}
+use Rattle.std.proofs.Common.{◌≡◌, ℕ, ◌<◌, true, false, List, length, lit<, Option, Some, None, Ok, refl}
 use Rattle.std.specs.Prelude.{◌==◌, if◌then◌else◌}
 use Rattle.std.proofs.lemmas.Bool.{and_parts}
 use Rattle.std.proofs.lemmas.List.{append-nil}
-use Rattle.acpi_base.proofs.Spelling.{number-spelling}
 use Rattle.acpi_base.specs.Address.{access_size_of, generic_address_of, size_code, space_code, space_of}
 use Rattle.acpi_base.specs.Bytes.{field_of, filled_part, part, spelling}
 use Rattle.acpi_base.specs.declared.address.AccessSize.{AccessSize}
-use Rattle.acpi_base.specs.declared.address.AccessSize.TheVariants.{Undefined, ByteAccess, WordAccess, DWordAccess, QWordAccess}
+use Rattle.acpi_base.specs.declared.address.AccessSize.TheVariants.{Undefined}
 use Rattle.acpi_base.specs.declared.address.AddressSpace.{AddressSpace}
-use Rattle.acpi_base.specs.declared.address.AddressSpace.TheVariants.{SystemMemory, SystemIo, PciConfigSpace, EmbeddedController, SMBus, SystemCmos, PciBarTarget, Ipmi, GeneralIo, GenericSerialBus, PlatformCommunicationsChannel, FunctionalFixedHardware, OemDefined}
+use Rattle.acpi_base.specs.declared.address.AddressSpace.TheVariants.{OemDefined}
 use Rattle.acpi_base.specs.declared.address.GenericAddress.{GenericAddress}
 use Rattle.acpi_fixed.specs.Gpe.{gpe_of}
 use Rattle.acpi_fixed.specs.Registers.{block_at, block_of, has_extended, optional_block_of, register_of, timer_block_of, usable_extended}
 use Rattle.acpi_fixed.specs.declared.fadt.registers.RegisterBlock.{RegisterBlock}
 use Rattle.acpi_fixed.specs.declared.fadt.registers.gpe.GpeBlock.{GpeBlock}
 use Rattle.acpi_writer.specs.FadtBytes.{gpe_length, gpe_register, has_length, is_given, port_of}
-use Rattle.acpi_writer.specs.Generic.{FitsRegister, generic_bytes, is_named_space, is_register, register_bytes, register_or_zeros}
-use Rattle.acpi_writer.proofs.Bits.{is_off, one}
+use Rattle.acpi_writer.specs.Generic.{FitsAddress, FitsRegister, address_bytes, address_fields, is_named_space, is_register, register_bytes, register_or_zeros}
+use Rattle.acpi_writer.specs.Fields.{field_at, field_size, field_value, offset_of}
+use Rattle.acpi_writer.proofs.Bits.{is_off}
+use Rattle.acpi_writer.proofs.FieldsRead.{read_at}
 
 each_space : (s : AddressSpace) → is_named_space s ≡ true → space_of (space_code s) ≡ Ok s
-each_space SystemMemory h = refl
-each_space SystemIo h = refl
-each_space PciConfigSpace h = refl
-each_space EmbeddedController h = refl
-each_space SMBus h = refl
-each_space SystemCmos h = refl
-each_space PciBarTarget h = refl
-each_space Ipmi h = refl
-each_space GeneralIo h = refl
-each_space GenericSerialBus h = refl
-each_space PlatformCommunicationsChannel h = refl
-each_space FunctionalFixedHardware h = refl
 each_space (OemDefined code) h = rw h refl
+each_space _ h = refl
 
 each_size : (s : AccessSize) → access_size_of (size_code s) ≡ Ok s
 each_size Undefined = refl
-each_size ByteAccess = refl
-each_size WordAccess = refl
-each_size DWordAccess = refl
-each_size QWordAccess = refl
+each_size _ = refl
 
 -- ---- its bytes
 
-space_field : (g : GenericAddress) → field_of (generic_bytes g) 0 1 ≡ space_code g.address_space
-unfolding field_of spelling
-space_field g = one (space_code g.address_space)
+module _ (g : GenericAddress) (fits : FitsAddress g) where
+  field : (i : ℕ) → i < length (address_fields g)
+      → field_of (address_bytes g) (offset_of (address_fields g) i) (field_size (field_at (address_fields g) i))
+      ≡ field_value (field_at (address_fields g) i)
+  field i less = read_at (address_fields g) fits i less
 
-width_field : (g : GenericAddress) → field_of (generic_bytes g) 1 1 ≡ g.bit_width
-unfolding field_of spelling
-width_field g = one g.bit_width
+  pub address_field : field_of (address_bytes g) 4 8 ≡ g.address
+  unfolding address_fields
+  address_field = field 4 (lit< tt)
 
-offset_field : (g : GenericAddress) → field_of (generic_bytes g) 2 1 ≡ g.bit_offset
-unfolding field_of spelling
-offset_field g = one g.bit_offset
+  space_field : field_of (address_bytes g) 0 1 ≡ space_code g.address_space
+  unfolding address_fields
+  space_field = field 0 (lit< tt)
 
-size_field : (g : GenericAddress) → field_of (generic_bytes g) 3 1 ≡ size_code g.access_size
-unfolding field_of spelling
-size_field g = one (size_code g.access_size)
+  pub address_read : is_named_space g.address_space ≡ true → generic_address_of (address_bytes g) ≡ Ok g
+  unfolding generic_address_of address_fields
+  address_read named =
+      rw (field 0 (lit< tt), field 1 (lit< tt), field 2 (lit< tt), field 3 (lit< tt), field 4 (lit< tt))
+      (rw (each_space g.address_space named, each_size g.access_size) refl)
 
-pub address_field : (g : GenericAddress) → g.address < 2 ^ 64 → field_of (generic_bytes g) 4 8 ≡ g.address
-unfolding field_of spelling
-address_field g fits = number-spelling 8 g.address (omega (arith, fits))
-
-pub generic_read : (g : GenericAddress) → g.address < 2 ^ 64 → is_named_space g.address_space ≡ true → generic_address_of (generic_bytes g) ≡ Ok g
-unfolding generic_address_of
-generic_read g fits named =
-    rw (space_field g, size_field g, width_field g, offset_field g, address_field g fits, each_space g.address_space named, each_size g.access_size) refl
-
-usable : (g : GenericAddress) → g.address < 2 ^ 64 → (g.address == 0) ≡ false → usable_extended (generic_bytes g) ≡ Some (generic_bytes g)
-usable g fits some = rw (address_field g fits, some) refl
+  usable : (g.address == 0) ≡ false → usable_extended (address_bytes g) ≡ Some (address_bytes g)
+  usable some = rw (address_field, some) refl
 
 -- ---- blocks
 
@@ -77,42 +59,46 @@ usable g fits some = rw (address_field g fits, some) refl
 abbrev pub made : ℕ → Option GenericAddress → RegisterBlock
 made size o = record { size = size; port = spelling 4 (port_of o); extended = register_bytes o }
 
-pub block_read : (size : ℕ) (g : GenericAddress) → g.address < 2 ^ 64 → is_register (Some g) ≡ true → block_of (made size (Some g)) ≡ Ok g
-unfolding register_bytes
+pub block_read : (size : ℕ) (g : GenericAddress) → FitsAddress g → is_register (Some g) ≡ true
+    → block_of (made size (Some g)) ≡ Ok g
 block_read size g fits is =
     let p = and_parts _ _ is in
-    rw (usable g fits (is_off _ p.0)) (generic_read g fits p.1)
+    rw (usable g fits (is_off _ p.0)) (address_read g fits p.1)
 
-pub optional_read : (size : ℕ) (o : Option GenericAddress) → FitsRegister o → is_register o ≡ true → optional_block_of (made size o) ≡ Ok o
-unfolding register_bytes field_of spelling
+pub optional_read : (size : ℕ) (o : Option GenericAddress) → FitsRegister o → is_register o ≡ true
+    → optional_block_of (made size o) ≡ Ok o
+unfolding address_fields field_of spelling
 optional_read size None fits is = refl
 optional_read size (Some g) fits is =
     let p = and_parts _ _ is in
-    rw (usable g fits (is_off _ p.0), generic_read g fits p.1) refl
+    rw (usable g fits (is_off _ p.0), address_read g fits p.1) refl
 
-pub timer_read : (o : Option GenericAddress) → FitsRegister o → is_register o ≡ true → timer_block_of (made (if is_given o then 4 else 0) o) ≡ Ok o
+pub timer_read : (o : Option GenericAddress) → FitsRegister o → is_register o ≡ true
+    → timer_block_of (made (if is_given o then 4 else 0) o) ≡ Ok o
 timer_read None fits is = refl
 timer_read (Some g) fits is = optional_read 4 (Some g) fits is
 
-gpe_some : (b : GpeBlock) → FitsRegister (gpe_register (Some b)) → is_register (gpe_register (Some b)) ≡ true → has_length (Some b) ≡ true → gpe_of (made (gpe_length (Some b)) (gpe_register (Some b))) ≡ Ok (Some b)
-unfolding register_bytes
+gpe_some : (b : GpeBlock) → FitsRegister (gpe_register (Some b)) → is_register (gpe_register (Some b)) ≡ true
+    → has_length (Some b) ≡ true → gpe_of (made (gpe_length (Some b)) (gpe_register (Some b))) ≡ Ok (Some b)
 gpe_some b fits is long =
     let g = register_or_zeros (gpe_register (Some b)) in
     let p = and_parts _ _ is in
     rw (is_off _ long, usable g fits (is_off _ p.0), space_field g, address_field g fits, each_space b.space p.1) refl
 
-pub gpe_read : (o : Option GpeBlock) → FitsRegister (gpe_register o) → is_register (gpe_register o) ≡ true → has_length o ≡ true → gpe_of (made (gpe_length o) (gpe_register o)) ≡ Ok o
+pub gpe_read : (o : Option GpeBlock) → FitsRegister (gpe_register o) → is_register (gpe_register o) ≡ true
+    → has_length o ≡ true → gpe_of (made (gpe_length o) (gpe_register o)) ≡ Ok o
 gpe_read None fits is long = refl
 gpe_read (Some b) fits is long = gpe_some b fits is long
 
-pub given_read : (o : Option GenericAddress) → FitsRegister o → is_register o ≡ true → generic_address_of (register_bytes o) ≡ Ok (register_or_zeros o)
-unfolding register_bytes
-given_read None fits is = generic_read (register_or_zeros None) fits refl
+pub given_read : (o : Option GenericAddress) → FitsRegister o → is_register o ≡ true
+    → generic_address_of (register_bytes o) ≡ Ok (register_or_zeros o)
+given_read None fits is = address_read (register_or_zeros None) fits refl
 given_read (Some g) fits is =
     let p = and_parts _ _ is in
-    generic_read g fits p.1
+    address_read g fits p.1
 
-pub register_read : (o : Option GenericAddress) → FitsRegister o → is_register o ≡ true → register_of (Some (register_bytes o)) ≡ Ok (Some (register_or_zeros o))
+pub register_read : (o : Option GenericAddress) → FitsRegister o → is_register o ≡ true
+    → register_of (Some (register_bytes o)) ≡ Ok (Some (register_or_zeros o))
 register_read o fits is = rw (given_read o fits is) refl
 
 -- ---- where a table has them
@@ -124,15 +110,18 @@ pub filled_12 : (t x : List ℕ) (o : ℕ) → part t o 12 ≡ x → length x �
 filled_12 t x o e long = rw (e, long) (append-nil x)
 
 pub register_long : (o : Option GenericAddress) → length (register_bytes o) ≡ 12
-unfolding register_bytes spelling
+unfolding address_fields spelling
 register_long o = refl
 
 port_long : (n : ℕ) → length (spelling 4 n) ≡ 4
 unfolding spelling
 port_long n = refl
 
-pub block_is : (t : List ℕ) (address size extended s : ℕ) (o : Option GenericAddress) → field_of t size 1 ≡ s → part t address 4 ≡ spelling 4 (port_of o) → has_extended t extended 12 ≡ true → part t extended 12 ≡ register_bytes o
+pub block_is : (t : List ℕ) (address size extended s : ℕ) (o : Option GenericAddress) → field_of t size 1 ≡ s
+    → part t address 4 ≡ spelling 4 (port_of o) → has_extended t extended 12 ≡ true
+    → part t extended 12 ≡ register_bytes o
     → block_at t address size extended ≡ made s o
 unfolding block_at
 block_is t address size extended s o e p has x =
-    rw (e, filled_4 t (spelling 4 (port_of o)) address p (port_long (port_of o)), has, filled_12 t (register_bytes o) extended x (register_long o)) refl
+    rw (e, filled_4 t (spelling 4 (port_of o)) address p (port_long (port_of o)), has)
+    (rw (filled_12 t (register_bytes o) extended x (register_long o)) refl)

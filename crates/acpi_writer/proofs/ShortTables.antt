@@ -1,24 +1,22 @@
--- What a reader finds in the short tables that are written: an HPET, a BGRT, an MCFG, a SLIT, root tables, and tables of
+-- What a reader finds in the short tables that are written: an HPET, a BGRT, an MCFG, a SLIT, root tables, and tables
+-- of
 -- AML.
-use Rattle.std.proofs.Common.{◌≡◌, ℕ, ◌^◌, ◌<◌, Result, Ok, refl, ap, ◌∙◌, arith, ◌+◌, ◌*◌, Bool, true, false, [], ◌∷◌, length, ◌/◌, List, ◌++◌, drop, sym, length-append, get_or, lit<}
-use Rattle.std.specs.Prelude.{◌==◌, if◌then◌else◌, flat_map, Option, Some, slice_get}
+use Rattle.std.proofs.Common.{◌≡◌, ℕ, ◌^◌, ◌<◌, Ok, refl, ap, ◌∙◌, arith, ◌+◌, ◌*◌, Bool, true, false, [], ◌∷◌, length, ◌/◌, List, ◌++◌, drop, sym, length-append, get_or, lit<}
+use Rattle.std.specs.Prelude.{flat_map, Option, Some, slice_get}
 use Rattle.std.specs.Str.{chars, is_utf8}
 use Rattle.acpi_base.proofs.Spelling.{number-spelling, length-spelling}
 use Rattle.acpi_base.specs.Bits.{bits_of, has_bit}
 use Rattle.acpi_base.specs.Bytes.{field_of, spelling}
-use Rattle.acpi_base.specs.Steps.{◌>>=◌, holds}
-use Rattle.acpi_base.specs.declared.error.AcpiError.{AcpiError}
-use Rattle.acpi_base.specs.declared.error.AcpiError.TheVariants.{InvalidGenericAddress}
 use Rattle.acpi_base.specs.declared.table.signature.TheConstants.Signature.{HPET, BGRT, MCFG, SLIT, DSDT, SSDT}
 use Rattle.acpi.specs.Hpet.{hpet_at, protection_of}
 use Rattle.acpi.specs.declared.hpet.HpetInfo.{HpetInfo}
 use Rattle.acpi.specs.declared.hpet.PageProtection.{PageProtection}
-use Rattle.acpi_writer.specs.HpetBytes.{hpet_body, protection_code}
+use Rattle.acpi_writer.specs.HpetBytes.{hpet_body, hpet_fields, protection_code}
 use Rattle.acpi_writer.specs.HpetLaws.{HpetIsRead, HpetIsValid}
-use Rattle.acpi_writer.proofs.Bits.{one, was_true}
+use Rattle.acpi_writer.proofs.Bits.{was_true}
+use Rattle.acpi_writer.proofs.FieldsRead.{read_end, read_front}
 use Rattle.acpi_fixed.specs.Bgrt.{bgrt_at}
-use Rattle.acpi_fixed.specs.declared.bgrt.ImageType.TheVariants.{Bitmap, Reserved}
-use Rattle.acpi_writer.specs.Bgrt.{BgrtIsRead, BgrtIsValid, bgrt_body, degrees_of, orientation_code, status_written}
+use Rattle.acpi_writer.specs.Bgrt.{BgrtIsRead, BgrtIsValid, bgrt_body, bgrt_fields, degrees_of, orientation_code}
 use Rattle.acpi_writer.specs.Table.{bit_of, IsTableOf}
 use Rattle.acpi_writer.specs.declared.bgrt.BgrtContents.{BgrtContents}
 use Rattle.acpi_writer.specs.declared.bgrt.BgrtOrientation.{BgrtOrientation}
@@ -27,7 +25,7 @@ use Rattle.std.proofs.lemmas.List.{drop_at, drop-drop, get_or-drop, drop-set-lt}
 use Rattle.std.proofs.lemmas.List.Elements.{recursion_from_All}
 use Rattle.acpi_base.specs.Mcfg.{mcfg_entries_in, mcfg_entry_at, whole_mcfg_entries}
 use Rattle.acpi_base.specs.declared.tables.mcfg.McfgEntry.{McfgEntry}
-use Rattle.acpi_writer.specs.McfgBytes.{mcfg_body, mcfg_entry, mcfg_reserved}
+use Rattle.acpi_writer.specs.McfgBytes.{mcfg_body, mcfg_entry, mcfg_fields, mcfg_reserved}
 use Rattle.acpi_writer.specs.McfgLaws.{FitsMcfg, McfgIsRead, McfgIsValid}
 use Rattle.std.proofs.lemmas.Bool.{eqb-true, lt-ltb}
 use Rattle.std.proofs.lemmas.Nat.{mul-add-lt}
@@ -54,56 +52,21 @@ unfolding is_utf8 chars lib.Utf8.encode
 hpet_name = record { a = _; b = _; c = _; d = _; letters = refl; text = refl; same = refl }
 
 pub hpet_long : (i : HpetInfo) → length (hpet_body i) ≡ 20
-unfolding hpet_body spelling
+unfolding hpet_fields spelling
 hpet_long i = refl
-
-block : (i : HpetInfo) → i.event_timer_block_id < 2 ^ 32 → field_of (hpet_body i) 0 4 ≡ i.event_timer_block_id
-unfolding hpet_body spelling field_of
-block i h = number-spelling 4 i.event_timer_block_id (omega (arith, h))
-
-space : (i : HpetInfo) → field_of (hpet_body i) 4 1 ≡ 0
-unfolding hpet_body spelling field_of
-space i = refl
-
-base : (i : HpetInfo) → i.base_address < 2 ^ 64 → field_of (hpet_body i) 8 8 ≡ i.base_address
-unfolding hpet_body spelling field_of
-base i h = number-spelling 8 i.base_address (omega (arith, h))
-
-which : (i : HpetInfo) → field_of (hpet_body i) 16 1 ≡ i.hpet_number
-unfolding hpet_body spelling field_of
-which i = one i.hpet_number
-
-tick : (i : HpetInfo) → i.clock_tick_unit < 2 ^ 16 → field_of (hpet_body i) 17 2 ≡ i.clock_tick_unit
-unfolding hpet_body spelling field_of
-tick i h = number-spelling 2 i.clock_tick_unit (omega (arith, h))
-
-page : (i : HpetInfo) → field_of (hpet_body i) 19 1 ≡ protection_code i.page_protection
-unfolding hpet_body spelling field_of
-page i = one (protection_code i.page_protection)
 
 protection : (x : PageProtection) → protection_of (bits_of (protection_code x) 0 4) ≡ x
 protection protections.None = refl
-protection protections.Protected4K = refl
-protection protections.Protected64K = refl
-protection protections.Other = refl
-
-abbrev info : ℕ → ℕ → ℕ → ℕ → PageProtection → HpetInfo
-info e b n t p = record { event_timer_block_id = e; base_address = b; hpet_number = n; clock_tick_unit = t; page_protection = p }
-
-abbrev told : ℕ → HpetInfo → Result HpetInfo AcpiError
-told s x = holds (s == 0) InvalidGenericAddress >>= λ _. Ok x
-
-same_info : {s e e' b b' n n' t t' : ℕ} {p p' : PageProtection} → s ≡ 0 → e ≡ e' → b ≡ b' → n ≡ n' → t ≡ t' → p ≡ p' → told s (info e b n t p) ≡ Ok (info e' b' n' t' p')
-same_info {e = e} {e' = e'} {b = b} {b' = b'} {n = n} {n' = n'} {t = t} {t' = t'} {p = p} z q r u v x =
-    ap (λ y. told y (info e b n t p)) z
-    ∙ ap (λ y. told 0 (info y b n t p)) q ∙ ap (λ y. told 0 (info e' y n t p)) r ∙ ap (λ y. told 0 (info e' b' y t p)) u ∙ ap (λ y. told 0 (info e' b' n' y p)) v ∙ ap (λ y. told 0 (info e' b' n' t' y)) x
+protection _ = refl
 
 pub hpet_read : HpetIsRead
-unfolding hpet_at
+unfolding hpet_at hpet_fields
 hpet_read ids i t is =
-    let field = table.field HPET hpet_name 1 ids (hpet_body i) t is.written in
-    same_info (field 4 1 ∙ space i) (field 0 4 ∙ block i is.fit.block) (field 8 8 ∙ base i is.fit.base) (field 16 1 ∙ which i) (field 17 2 ∙ tick i is.fit.tick)
-    (ap (λ c. protection_of (bits_of c 0 4)) (field 19 1 ∙ page i) ∙ protection i.page_protection)
+    let body = table.rest HPET hpet_name 1 ids (hpet_body i) t is.written in
+    let field = λ (k : ℕ) (less : k < 7). read_end t 36 (hpet_fields i) body is.fit k less in
+    rw (field 1 (lit< tt), field 0 (lit< tt), field 3 (lit< tt), field 4 (lit< tt), field 5 (lit< tt))
+    (rw (field 6 (lit< tt))
+    (rw (protection i.page_protection) refl))
 
 pub hpet_valid : HpetIsValid
 hpet_valid ids i t is = table.valid HPET hpet_name 1 ids (hpet_body i) t is.written
@@ -115,73 +78,34 @@ unfolding is_utf8 chars lib.Utf8.encode
 bgrt_name = record { a = _; b = _; c = _; d = _; letters = refl; text = refl; same = refl }
 
 pub bgrt_long : (c : BgrtContents) → length (bgrt_body c) ≡ 20
-unfolding bgrt_body spelling
+unfolding bgrt_fields spelling
 bgrt_long c = refl
-
-version : (c : BgrtContents) → field_of (bgrt_body c) 0 2 ≡ 1
-unfolding bgrt_body field_of
-version c = refl
-
-status : (c : BgrtContents) → field_of (bgrt_body c) 2 1 ≡ status_written c
-unfolding bgrt_body field_of
-status c = one (status_written c)
-
-kind : (c : BgrtContents) → field_of (bgrt_body c) 3 1 ≡ 0
-unfolding bgrt_body field_of
-kind c = refl
-
-address : (c : BgrtContents) → c.image_address < 2 ^ 64 → field_of (bgrt_body c) 4 8 ≡ c.image_address
-unfolding bgrt_body spelling field_of
-address c h = number-spelling 8 c.image_address (omega (arith, h))
-
-right : (c : BgrtContents) → c.image_offset.0 < 2 ^ 32 → field_of (bgrt_body c) 12 4 ≡ c.image_offset.0
-unfolding bgrt_body spelling field_of
-right c h = number-spelling 4 c.image_offset.0 (omega (arith, h))
-
-down : (c : BgrtContents) → c.image_offset.1 < 2 ^ 32 → field_of (bgrt_body c) 16 4 ≡ c.image_offset.1
-unfolding bgrt_body spelling field_of
-down c h = number-spelling 4 c.image_offset.1 (omega (arith, h))
 
 displayed : (b : Bool) (o : BgrtOrientation) → has_bit (bit_of b + 2 * orientation_code o) 0 ≡ b
 displayed true orientations.Degrees0 = refl
-displayed true orientations.Degrees90 = refl
-displayed true orientations.Degrees180 = refl
-displayed true orientations.Degrees270 = refl
+displayed true _ = refl
 displayed false orientations.Degrees0 = refl
-displayed false orientations.Degrees90 = refl
-displayed false orientations.Degrees180 = refl
-displayed false orientations.Degrees270 = refl
+displayed false _ = refl
 
 turned : (b : Bool) (o : BgrtOrientation) → bits_of (bit_of b + 2 * orientation_code o) 1 2 * 90 ≡ degrees_of o
 turned true orientations.Degrees0 = refl
-turned true orientations.Degrees90 = refl
-turned true orientations.Degrees180 = refl
-turned true orientations.Degrees270 = refl
+turned true _ = refl
 turned false orientations.Degrees0 = refl
-turned false orientations.Degrees90 = refl
-turned false orientations.Degrees180 = refl
-turned false orientations.Degrees270 = refl
-
-bitmap : (code : ℕ) → code ≡ 0 → (if code == 0 then Bitmap else Reserved) ≡ Bitmap
-bitmap code e = rw e refl
-
-abbrev both : ℕ → ℕ → ℕ × ℕ
-both a b = (a, b)
-
-pair : (a b x y : ℕ) → a ≡ x → b ≡ y → both a b ≡ both x y
-pair a b x y e h = ap (λ z. both z b) e ∙ ap (both x) h
+turned false _ = refl
 
 pub bgrt_read : BgrtIsRead
-unfolding bgrt_at
+unfolding bgrt_at bgrt_fields
 bgrt_read ids c t is =
-    let field = table.field BGRT bgrt_name 1 ids (bgrt_body c) t is.written in
+    let body = table.rest BGRT bgrt_name 1 ids (bgrt_body c) t is.written in
+    let field = λ (k : ℕ) (less : k < 6). read_end t 36 (bgrt_fields c) body is.fit k less in
     record {
-      version = field 0 2 ∙ version c;
-      was_displayed = ap (λ s. has_bit s 0) (field 2 1 ∙ status c) ∙ displayed c.was_displayed c.orientation_offset;
-      orientation_offset = ap (λ s. bits_of s 1 2 * 90) (field 2 1 ∙ status c) ∙ turned c.was_displayed c.orientation_offset;
-      image_type = bitmap (field_of t 39 1) (field 3 1 ∙ kind c);
-      image_address = field 4 8 ∙ address c is.fit.address;
-      image_offset = pair (field_of t 48 4) (field_of t 52 4) c.image_offset.0 c.image_offset.1 (field 12 4 ∙ right c is.fit.x) (field 16 4 ∙ down c is.fit.y);
+      version = field 0 (lit< tt);
+      was_displayed = ap (λ s. has_bit s 0) (field 1 (lit< tt)) ∙ displayed c.was_displayed c.orientation_offset;
+      orientation_offset = ap (λ s. bits_of s 1 2 * 90) (field 1 (lit< tt))
+          ∙ turned c.was_displayed c.orientation_offset;
+      image_type = rw (field 2 (lit< tt)) refl;
+      image_address = field 3 (lit< tt);
+      image_offset = rw (field 4 (lit< tt), field 5 (lit< tt)) refl;
     }
 
 pub bgrt_valid : BgrtIsValid
@@ -189,19 +113,14 @@ bgrt_valid ids c t is = table.valid BGRT bgrt_name 1 ids (bgrt_body c) t is.writ
 
 -- ---- an MCFG
 
-abbrev entry : ℕ → ℕ → ℕ → ℕ → McfgEntry
-entry a g s t = record { base_address = a; pci_segment_group = g; bus_number_start = s; bus_number_end = t }
-
-same_entry : (a a' g g' s s' t t' : ℕ) → a ≡ a' → g ≡ g' → s ≡ s' → t ≡ t' → entry a g s t ≡ entry a' g' s' t'
-same_entry a a' g g' s s' t t' p q r u = ap (λ z. entry z g s t) p ∙ ap (λ z. entry a' z s t) q ∙ ap (λ z. entry a' g' z t) r ∙ ap (λ z. entry a' g' s' z) u
-
 entry_at : (e : McfgEntry) (more : List ℕ) → FitsMcfg e → mcfg_entry_at (mcfg_entry e ++ more) ≡ e
-unfolding mcfg_entry spelling field_of
-entry_at e more f =
-    same_entry _ e.base_address _ e.pci_segment_group _ e.bus_number_start _ e.bus_number_end (number-spelling 8 e.base_address (omega (arith, f.base))) (number-spelling 2 e.pci_segment_group (omega (arith, f.segment))) (one e.bus_number_start) (one e.bus_number_end)
+unfolding mcfg_fields
+entry_at e more fits =
+    let field = λ (k : ℕ) (less : k < 5). read_front (mcfg_fields e) more fits k less in
+    rw (field 0 (lit< tt), field 1 (lit< tt), field 2 (lit< tt), field 3 (lit< tt)) refl
 
 entry_long : (e : McfgEntry) → length (mcfg_entry e) ≡ 16
-unfolding mcfg_entry spelling
+unfolding mcfg_fields spelling
 entry_long e = refl
 
 after_entry : (e : McfgEntry) (more : List ℕ) → drop 16 (mcfg_entry e ++ more) ≡ more
@@ -209,12 +128,19 @@ after_entry e more = drop_at (mcfg_entry e) more 16 (entry_long e)
 
 entries_long : (es : List McfgEntry) → length (flat_map mcfg_entry es) ≡ 16 * length es
 entries_long [] = refl
-entries_long (e ∷ es) = omega (arith, length-append (mcfg_entry e) (flat_map mcfg_entry es), entry_long e, entries_long es)
+entries_long (e ∷ es) = omega (
+  arith,
+  length-append (mcfg_entry e) (flat_map mcfg_entry es),
+  entry_long e,
+  entries_long es,
+)
 
-entries_in : (es : List McfgEntry) → AllByRecursion FitsMcfg es → mcfg_entries_in (length es) (flat_map mcfg_entry es) ≡ es
+entries_in : (es : List McfgEntry) → AllByRecursion FitsMcfg es
+    → mcfg_entries_in (length es) (flat_map mcfg_entry es) ≡ es
 entries_in [] all = refl
 entries_in (e ∷ es) all =
-    rw (entry_at e (flat_map mcfg_entry es) all.0, after_entry e (flat_map mcfg_entry es)) (ap (λ z. e ∷ z) (entries_in es all.1))
+    rw (entry_at e (flat_map mcfg_entry es) all.0, after_entry e (flat_map mcfg_entry es))
+    (ap (λ z. e ∷ z) (entries_in es all.1))
 
 whole_entries : (es : List McfgEntry) → AllByRecursion FitsMcfg es → whole_mcfg_entries (flat_map mcfg_entry es) ≡ es
 whole_entries es all =
@@ -228,7 +154,8 @@ mcfg_name = record { a = _; b = _; c = _; d = _; letters = refl; text = refl; sa
 pub mcfg_read : McfgIsRead
 mcfg_read ids es t is =
     let rest : drop 44 t ≡ flat_map mcfg_entry es =
-    sym (drop-drop 8 36 t) ∙ ap (drop 8) (table.rest MCFG mcfg_name 1 ids (mcfg_body es) t is.written) ∙ drop_at mcfg_reserved (flat_map mcfg_entry es) 8 refl in
+    sym (drop-drop 8 36 t) ∙ ap (drop 8) (table.rest MCFG mcfg_name 1 ids (mcfg_body es) t is.written)
+    ∙ drop_at mcfg_reserved (flat_map mcfg_entry es) 8 refl in
     ap whole_mcfg_entries rest ∙ whole_entries es (recursion_from_All FitsMcfg es is.fit)
 
 pub mcfg_valid : McfgIsValid
@@ -256,14 +183,21 @@ module _ (ids : TableIds) (n : ℕ) (distances t : List ℕ) (is : IsSlit ids n 
 
   rest : drop 44 t ≡ distances
   rest =
-      sym (drop-drop 8 36 t) ∙ ap (drop 8) (table.rest SLIT slit_name 1 ids (slit_body n distances) t is.written) ∙ drop_at (spelling 8 n) distances 8 (length-spelling 8 n)
+      sym (drop-drop 8 36 t) ∙ ap (drop 8) (table.rest SLIT slit_name 1 ids (slit_body n distances) t is.written)
+      ∙ drop_at (spelling 8 n) distances 8 (length-spelling 8 n)
 
   long : length t ≡ 44 + length distances
-  long = omega (arith, table.long SLIT slit_name 1 ids (slit_body n distances) t is.written, length-append (spelling 8 n) distances, length-spelling 8 n)
+  long = omega (
+    arith,
+    table.long SLIT slit_name 1 ids (slit_body n distances) t is.written,
+    length-append (spelling 8 n) distances,
+    length-spelling 8 n,
+  )
 
   place : (k : ℕ) → k < length distances → slice_get t (44 + k) ≡ slice_get distances k
   place k less =
-      slice_get-get_or t (44 + k) 0 (omega (arith, long, less)) ∙ ap some (sym (get_or-drop 44 t k 0) ∙ ap (λ l. get_or l k 0) rest) ∙ sym (slice_get-get_or distances k 0 less)
+      slice_get-get_or t (44 + k) 0 (omega (arith, long, less)) ∙ ap some
+      (sym (get_or-drop 44 t k 0) ∙ ap (λ l. get_or l k 0) rest) ∙ sym (slice_get-get_or distances k 0 less)
 
   distance : (from to : ℕ) → from < n → to < n → distance_of t from to ≡ slice_get distances (from * n + to)
   unfolding distance_of
@@ -275,8 +209,10 @@ module _ (ids : TableIds) (n : ℕ) (distances t : List ℕ) (is : IsSlit ids n 
 pub slit_read : SlitIsRead
 slit_read ids n distances t is from to h g = distance ids n distances t is from to h g
 
-pub slit_is : (ids : TableIds) (n : ℕ) (distances t : List ℕ) → IsTableOf SLIT 1 ids (slit_body n distances) t → n < 2 ^ 64 → slit_checked n distances ≡ Ok tt → IsSlit ids n distances t
-slit_is ids n distances t written small good = record { written = written; small = small; square = eqb-true (n * n) (length distances) (was_true _ _ good) }
+pub slit_is : (ids : TableIds) (n : ℕ) (distances t : List ℕ) → IsTableOf SLIT 1 ids (slit_body n distances) t
+    → n < 2 ^ 64 → slit_checked n distances ≡ Ok tt → IsSlit ids n distances t
+slit_is ids n distances t written small good =
+    record { written = written; small = small; square = eqb-true (n * n) (length distances) (was_true _ _ good) }
 
 -- ---- root tables and tables of AML
 
@@ -286,18 +222,21 @@ root_name Rsdt = record { a = _; b = _; c = _; d = _; letters = refl; text = ref
 root_name Xsdt = record { a = _; b = _; c = _; d = _; letters = refl; text = refl; same = refl }
 
 pub root_valid : RootIsValid
-root_valid kind ids addresses t is = table.valid (signature_of kind) (root_name kind) 1 ids (root_body kind addresses) t is.written
+root_valid kind ids addresses t is = table.valid (signature_of kind) (root_name kind) 1 ids (root_body kind addresses)
+    t is.written
 
 -- what stands after the header of acpi_image's root table: the same bytes
 same_body : (kind : RootKind) (ps : List ℕ) → drop 36 (root_to kind ps) ≡ root_body kind ps
 unfolding with_sum
 same_body kind ps =
     drop-set-lt 36 (root_unsummed kind ps) 9 (sum_byte 9 (root_unsummed kind ps)) (lit< tt)
-    ∙ drop_at (root_header (signature_of kind) (root_length kind (length ps))) (flat_map (spelling (width_of kind)) ps) 36 (length-root_header kind (root_length kind (length ps)))
+    ∙ drop_at (root_header (signature_of kind) (root_length kind (length ps))) (flat_map (spelling (width_of kind)) ps)
+    36 (length-root_header kind (root_length kind (length ps)))
 
 pub root_read : RootIsRead
 root_read kind ids addresses t is =
-    ap (pointers (width_of kind)) (table.rest (signature_of kind) (root_name kind) 1 ids (root_body kind addresses) t is.written ∙ sym (same_body kind addresses))
+    ap (pointers (width_of kind)) (table.rest (signature_of kind) (root_name kind) 1 ids (root_body kind addresses) t
+    is.written ∙ sym (same_body kind addresses))
     ∙ pointers_are kind addresses (recursion_from_All (λ a. a < 256 ^ width_of kind) addresses is.fit)
 
 dsdt_name : table.IsName DSDT
@@ -309,7 +248,15 @@ unfolding is_utf8 chars lib.Utf8.encode
 ssdt_name = record { a = _; b = _; c = _; d = _; letters = refl; text = refl; same = refl }
 
 pub dsdt_read : DsdtIsRead
-dsdt_read revision ids aml t is = record { valid = table.valid DSDT dsdt_name revision ids aml t is; aml_is = table.rest DSDT dsdt_name revision ids aml t is }
+dsdt_read revision ids aml t is = record {
+  valid = table.valid DSDT dsdt_name revision ids aml t is;
+  aml_is =
+      table.rest DSDT dsdt_name revision ids aml t is;
+}
 
 pub ssdt_read : SsdtIsRead
-ssdt_read revision ids aml t is = record { valid = table.valid SSDT ssdt_name revision ids aml t is; aml_is = table.rest SSDT ssdt_name revision ids aml t is }
+ssdt_read revision ids aml t is = record {
+  valid = table.valid SSDT ssdt_name revision ids aml t is;
+  aml_is =
+      table.rest SSDT ssdt_name revision ids aml t is;
+}

@@ -1,23 +1,22 @@
 -- How many bytes tables have, one by one and laid out, and that the room for one changes only whether it fits.
 use Rattle.std.proofs.Common.{◌≡◌, ℕ, ◌+◌, ◌^◌, ◌<◌, ◌≤◌, true, List, [], length, Result, Ok, Err, refl, sym, ap, ◌∙◌, arith, length-append, ◌-◌, ◌∷◌, ◌++◌, take, drop, get_or, map, subst, append_assoc, length-drop, Some}
-use Rattle.std.specs.Prelude.{nat_le, nat_lt, not, replicate, ◌*◌, flat_map}
+use Rattle.std.specs.Prelude.{nat_le, nat_lt, replicate, ◌*◌, flat_map}
 use Rattle.std.proofs.lemmas.Bool.{leb-true, ltb-true}
 use Rattle.acpi_base.proofs.Steps.{holds_ok, same_ok}
-use Rattle.acpi_base.specs.Steps.{◌>>=◌, holds}
+use Rattle.acpi_base.specs.Steps.{◌>>=◌}
 use Rattle.acpi_base.specs.Text.{letters_of}
 use Rattle.acpi_base.specs.declared.table.signature.Signature.{Signature}
 use Rattle.acpi_base.specs.declared.table.signature.TheConstants.Signature.{BGRT, FADT, GTDT, HPET, MADT, MCFG, SLIT, SPCR, SRAT, SSDT, XSDT}
 use Rattle.acpi_numa.specs.declared.srat.affinities.MemoryRange.{MemoryRange}
 use Rattle.acpi_image.proofs.Written.{length-with_sum}
 use Rattle.acpi_writer.specs.Bgrt.{bgrt_body}
-use Rattle.acpi_writer.specs.Checked.{all_checked}
 use Rattle.acpi_writer.specs.Contents.{Moves, contents_written, most, or_none, Written, bytes_by, placed_by, sized}
 use Rattle.acpi_writer.specs.FadtBytes.{fadt_body, fadt_checked, fadt_written}
-use Rattle.acpi_writer.specs.GicMadt.{gic_body, gic_written, interface_checked}
+use Rattle.acpi_writer.specs.GicMadt.{gic_body, gic_checked, gic_written}
 use Rattle.acpi_writer.specs.Gtdt.{gtdt_body, gtdt_checked, gtdt_written}
 use Rattle.acpi_writer.specs.HpetBytes.{hpet_body}
 use Rattle.acpi_writer.specs.Laid.{gap, padded, addresses, laid, rounded}
-use Rattle.acpi_writer.specs.MadtBytes.{is_empty, madt_body, madt_checked, madt_written}
+use Rattle.acpi_writer.specs.MadtBytes.{madt_body, madt_checked, madt_written}
 use Rattle.acpi_writer.specs.McfgBytes.{mcfg_body}
 use Rattle.acpi_writer.specs.Slit.{slit_body, slit_checked, slit_written}
 use Rattle.acpi_writer.specs.Spcr.{spcr_body, spcr_checked, spcr_written}
@@ -26,11 +25,7 @@ use Rattle.acpi_writer.specs.Table.{AreIds, are_texts, table_bytes, table_head, 
 use Rattle.acpi_writer.specs.declared.contents.TableContents.{TableContents}
 use Rattle.acpi_writer.specs.declared.contents.TableContents.TheVariants.{Bgrt, Fadt, GicMadt, Gtdt, Hpet, Madt, Mcfg, Slit, Spcr, Srat, Ssdt}
 use Rattle.acpi_writer.specs.declared.error.WriterError.{WriterError}
-use Rattle.acpi_writer.specs.declared.error.WriterError.TheVariants.{NoProcessor}
 use Rattle.acpi_writer.specs.declared.fadt.contents.FadtContents.{FadtContents}
-use Rattle.acpi_writer.specs.declared.gtdt.GtdtContents.{GtdtContents}
-use Rattle.acpi_writer.specs.declared.madt.gic.GicContents.{GicContents}
-use Rattle.acpi_writer.specs.declared.madt.MadtContents.{MadtContents}
 use Rattle.acpi_writer.specs.declared.ids.TableIds.{TableIds}
 use Rattle.acpi_writer.specs.declared.spcr.SpcrContents.{SpcrContents}
 use Rattle.acpi_writer.proofs.Tables.{head_length, it_fits}
@@ -49,11 +44,16 @@ use Rattle.std.proofs.lemmas.Grind.{flat_map-append, take_at_read}
 use Rattle.std.proofs.lemmas.List.Folds.{length-flat_map-take}
 use Rattle.acpi_writer.specs.Spelled.{Measures}
 
-pub table_length : (s : Signature) (revision : ℕ) (ids : TableIds) (body : List ℕ) → length (letters_of s) ≡ 4 → AreIds ids → length (table_bytes s revision ids body) ≡ 36 + length body
+pub table_length : (s : Signature) (revision : ℕ) (ids : TableIds) (body : List ℕ) → length (letters_of s) ≡ 4
+    → AreIds ids → length (table_bytes s revision ids body) ≡ 36 + length body
 unfolding table_bytes
 table_length s revision ids body letters are =
     length-with_sum 9 (unsummed s revision ids body)
-    ∙ omega (arith, length-append (table_head s revision ids (36 + length body)) body, head_length s revision ids letters are (36 + length body))
+    ∙ omega (
+      arith,
+      length-append (table_head s revision ids (36 + length body)) body,
+      head_length s revision ids letters are (36 + length body),
+    )
 
 -- ---- more room, and less
 
@@ -67,7 +67,8 @@ pub record Wrote (room : ℕ) (s : Signature) (revision : ℕ) (ids : TableIds) 
 abbrev done : List ℕ → Result (List ℕ) WriterError
 done x = Ok x
 
-pub wrote : (room : ℕ) (s : Signature) (revision : ℕ) (ids : TableIds) (body t : List ℕ) → table_written room s revision ids body ≡ Ok t → Wrote room s revision ids body t
+pub wrote : (room : ℕ) (s : Signature) (revision : ℕ) (ids : TableIds) (body t : List ℕ)
+    → table_written room s revision ids body ≡ Ok t → Wrote room s revision ids body t
 unfolding table_written
 wrote room s revision ids body t e =
     let texts = holds_ok (are_texts ids) _ _ t e in
@@ -85,26 +86,28 @@ different t e same = cc
 
 -- ---- in another room
 
-pub moved_table : (s : Signature) (revision : ℕ) (ids : TableIds) (body : List ℕ) → length (letters_of s) ≡ 4 → AreIds ids → Moves (λ room. table_written room s revision ids body)
+pub moved_table : (s : Signature) (revision : ℕ) (ids : TableIds) (body : List ℕ) → length (letters_of s) ≡ 4
+    → AreIds ids → Moves (λ room. table_written room s revision ids body)
 moved_table s revision ids body letters are room other t e fits =
     let w = wrote room s revision ids body t e in
     let long : length t ≡ 36 + length body = ap length w.bytes ∙ table_length s revision ids body letters are in
     it_fits other s revision ids body w.texts (omega (arith, long, fits)) w.short ∙ sym (ap done w.bytes)
 
-pub through : (r : Result (Unit {0}) WriterError) (f g : Result (List ℕ) WriterError) (t : List ℕ) → (f ≡ Ok t → g ≡ Ok t) → (r >>= λ _. f) ≡ Ok t → (r >>= λ _. g) ≡ Ok t
+pub through : (r : Result (Unit {0}) WriterError) (f g : Result (List ℕ) WriterError) (t : List ℕ)
+    → (f ≡ Ok t → g ≡ Ok t) → (r >>= λ _. f) ≡ Ok t → (r >>= λ _. g) ≡ Ok t
 through (Ok passed) f g t h p = h p
 through (Err e) f g t h p = absurd cc
 
 -- of contents that are checked first
-pub moved_checked : (checked : Result (Unit {0}) WriterError) (s : Signature) (revision : ℕ) (ids : TableIds) (body : List ℕ) → length (letters_of s) ≡ 4 → AreIds ids → Moves (λ room. checked >>= λ _. table_written room s revision ids body)
+pub moved_checked : (checked : Result (Unit {0}) WriterError) (s : Signature) (revision : ℕ) (ids : TableIds)
+    (body : List ℕ) → length (letters_of s) ≡ 4 → AreIds ids
+    → Moves (λ room. checked >>= λ _. table_written room s revision ids body)
 moved_checked checked s revision ids body letters are room other t e fits =
-    through checked (table_written room s revision ids body) (table_written other s revision ids body) t (λ p. moved_table s revision ids body letters are room other t p fits) e
+    through checked (table_written room s revision ids body) (table_written other s revision ids body) t
+    (λ p. moved_table s revision ids body letters are room other t p fits) e
 
-moved_madt : (ids : TableIds) (c : MadtContents) → AreIds ids → Moves (λ room. madt_written room ids c)
-unfolding madt_written
-moved_madt ids c are = moved_checked (madt_checked c) MADT 5 ids (madt_body c) refl are
-
-pub moved_slit : (ids : TableIds) (n : ℕ) (distances : List ℕ) → AreIds ids → Moves (λ room. slit_written room ids n distances)
+pub moved_slit : (ids : TableIds) (n : ℕ) (distances : List ℕ) → AreIds ids
+    → Moves (λ room. slit_written room ids n distances)
 unfolding slit_written
 moved_slit ids n distances are = moved_checked (slit_checked n distances) SLIT 1 ids (slit_body n distances) refl are
 
@@ -112,7 +115,8 @@ pub moved_fadt : (ids : TableIds) (c : FadtContents) → AreIds ids → Moves (�
 unfolding fadt_written
 moved_fadt ids c are = moved_checked (fadt_checked c) FADT 6 ids (fadt_body c) refl are
 
-pub moved_srat : {R : Type 0} (range : R → MemoryRange) (ids : TableIds) (c : ContentsOf R) → AreIds ids → Moves (λ room. srat_written_by range room ids c)
+pub moved_srat : {R : Type 0} (range : R → MemoryRange) (ids : TableIds) (c : ContentsOf R) → AreIds ids
+    → Moves (λ room. srat_written_by range room ids c)
 unfolding srat_written_by
 moved_srat range ids c are = moved_checked (srat_checked_by range c) SRAT 3 ids (srat_body_by range c) refl are
 
@@ -120,19 +124,9 @@ pub moved_spcr : (ids : TableIds) (c : SpcrContents) → AreIds ids → Moves (�
 unfolding spcr_written
 moved_spcr ids c are = moved_checked (spcr_checked c) SPCR 4 ids (spcr_body c) refl are
 
-moved_gtdt : (ids : TableIds) (c : GtdtContents) → AreIds ids → Moves (λ room. gtdt_written room ids c)
-unfolding gtdt_written
-moved_gtdt ids c are = moved_checked (gtdt_checked c) GTDT 3 ids (gtdt_body c) refl are
-
-moved_gic : (ids : TableIds) (c : GicContents) → AreIds ids → Moves (λ room. gic_written room ids c)
-unfolding gic_written
-moved_gic ids c are room other t e fits =
-    let modes = all_checked interface_checked c.cpu_interfaces.now in
-    through (holds (not (is_empty c.cpu_interfaces.now)) NoProcessor) (modes >>= λ _. table_written room MADT 6 ids (gic_body c)) (modes >>= λ _. table_written other MADT 6 ids (gic_body c)) t
-    (λ p. moved_checked modes MADT 6 ids (gic_body c) refl are room other t p fits) e
-
 pub moved_contents : (ids : TableIds) (c : TableContents) → AreIds ids → Moves (λ room. contents_written room ids c)
-moved_contents ids (Madt c) are = moved_madt ids c are
+unfolding gic_written gtdt_written madt_written
+moved_contents ids (Madt c) are = moved_checked (madt_checked c) MADT 5 ids (madt_body c) refl are
 moved_contents ids (Mcfg regions) are = moved_table MCFG 1 ids (mcfg_body regions.now) refl are
 moved_contents ids (Hpet info) are = moved_table HPET 1 ids (hpet_body info) refl are
 moved_contents ids (Slit c) are = moved_slit ids c.localities c.distances.now are
@@ -141,21 +135,26 @@ moved_contents ids (Fadt c) are = moved_fadt ids c are
 moved_contents ids (Srat c) are = moved_srat (λ r. r) ids c are
 moved_contents ids (Spcr c) are = moved_spcr ids c are
 moved_contents ids (Bgrt c) are = moved_table BGRT 1 ids (bgrt_body c) refl are
-moved_contents ids (Gtdt c) are = moved_gtdt ids c are
-moved_contents ids (GicMadt c) are = moved_gic ids c are
+moved_contents ids (Gtdt c) are = moved_checked (gtdt_checked c) GTDT 3 ids (gtdt_body c) refl are
+moved_contents ids (GicMadt c) are = moved_checked (gic_checked c) MADT 6 ids (gic_body c) refl are
 
 -- ---- what a call wrote, and what it didn't
 
-pub written_is : (written : ℕ → Result (List ℕ) WriterError) → Moves written → (room : ℕ) (t : List ℕ) → written room ≡ Ok t → length t ≤ most → or_none (written most) ≡ t
+pub written_is : (written : ℕ → Result (List ℕ) WriterError) → Moves written → (room : ℕ) (t : List ℕ)
+    → written room ≡ Ok t → length t ≤ most → or_none (written most) ≡ t
 written_is written moves room t e fits = ap or_none (moves room most t e fits)
 
-unwritten_by : (written : ℕ → Result (List ℕ) WriterError) → Moves written → (room : ℕ) (e : WriterError) (w : Result (List ℕ) WriterError) → written most ≡ w → written room ≡ Err e → length (padded (or_none w)) ≤ room → or_none w ≡ []
+unwritten_by : (written : ℕ → Result (List ℕ) WriterError) → Moves written
+    → (room : ℕ) (e : WriterError) (w : Result (List ℕ) WriterError) → written most ≡ w → written room ≡ Err e
+    → length (padded (or_none w)) ≤ room → or_none w ≡ []
 unwritten_by written moves room e (Ok t) all none within =
-    let there : written room ≡ Ok t = moves most room t all (omega (arith, within, length-append t (replicate (gap (length t)) 0))) in
+    let there : written room ≡ Ok t = moves most room t all
+    (omega (arith, within, length-append t (replicate (gap (length t)) 0))) in
     absurd (different t e (sym there ∙ none))
 unwritten_by written moves room e (Err d) all none within = refl
 
-pub unwritten : (written : ℕ → Result (List ℕ) WriterError) → Moves written → (room : ℕ) (e : WriterError) → written room ≡ Err e → length (padded (or_none (written most))) ≤ room → or_none (written most) ≡ []
+pub unwritten : (written : ℕ → Result (List ℕ) WriterError) → Moves written → (room : ℕ) (e : WriterError)
+    → written room ≡ Err e → length (padded (or_none (written most))) ≤ room → or_none (written most) ≡ []
 unwritten written moves room e none within = unwritten_by written moves room e (written most) refl none within
 
 abbrev pub count : ℕ → Result ℕ WriterError
@@ -164,18 +163,27 @@ count n = Ok n
 -- ---- filled up
 
 pub padded_long : (t : List ℕ) → length (padded t) ≡ rounded (length t)
-padded_long t = omega (arith, length-append t (replicate (gap (length t)) 0), length-replicate {A = ℕ} (gap (length t)) 0)
+padded_long t = omega (
+  arith,
+  length-append t (replicate (gap (length t)) 0),
+  length-replicate {A = ℕ} (gap (length t)) 0,
+)
 
 -- what `put` leaves: the table, filled up, and what stood after it
-pub put_bytes : (old new out t : List ℕ) (size : ℕ) → size ≤ length old → drop size new ≡ drop size old → length new ≡ length old → t ≡ take size new
+pub put_bytes : (old new out t : List ℕ) (size : ℕ) → size ≤ length old → drop size new ≡ drop size old
+    → length new ≡ length old → t ≡ take size new
     → out ≡ take size new ++ (replicate (gap size) 0 ++ drop (rounded size) new)
     → out ≡ padded t ++ drop (length (padded t)) old
 put_bytes old new out t size within rest same is filled =
     let long : length t ≡ size = ap length is ∙ length-take-le size new (omega (arith, within, same)) in
-    let after : drop (rounded size) new ≡ drop (rounded size) old = sym (drop-drop (gap size) size new) ∙ ap (drop (gap size)) rest ∙ drop-drop (gap size) size old in
+    let after : drop (rounded size) new ≡ drop (rounded size) old =
+    sym (drop-drop (gap size) size new) ∙ ap (drop (gap size)) rest ∙ drop-drop (gap size) size old in
     let whole : length (padded t) ≡ rounded size = padded_long t ∙ ap rounded long in
-    filled ∙ ap (λ z. z ++ (replicate (gap size) 0 ++ drop (rounded size) new)) (sym is) ∙ ap (λ z. t ++ (replicate (gap size) 0 ++ z)) after
-    ∙ sym (append_assoc t (replicate (gap size) 0) (drop (rounded size) old)) ∙ ap (λ n. (t ++ replicate (gap n) 0) ++ drop (rounded size) old) (sym long) ∙ ap (λ n. padded t ++ drop n old) (sym whole)
+    filled ∙ ap (λ z. z ++ (replicate (gap size) 0 ++ drop (rounded size) new)) (sym is)
+    ∙ ap (λ z. t ++ (replicate (gap size) 0 ++ z)) after
+    ∙ sym (append_assoc t (replicate (gap size) 0) (drop (rounded size) old))
+    ∙ ap (λ n. (t ++ replicate (gap n) 0) ++ drop (rounded size) old) (sym long)
+    ∙ ap (λ n. padded t ++ drop n old) (sym whole)
 
 pub put_none : (old new t : List ℕ) → t ≡ [] → new ≡ old → new ≡ padded t ++ drop (length (padded t)) old
 put_none old new t none same = rw none same
@@ -188,14 +196,17 @@ listed_after w size ids cs = check_each w ids cs >>= λ _. count (size + length 
 same_count : (m n : ℕ) → count m ≡ count n → m ≡ n
 same_count m n e = cc
 
-after_one : (w : Result (List ℕ) WriterError) (size more : ℕ) (rest : Result (Unit {0}) WriterError) (others : List ℕ) → sized w ≡ Ok more
-    → ((w >>= λ _. rest) >>= λ _. count (size + length (padded (or_none w) ++ others))) ≡ (rest >>= λ _. count (size + rounded more + length others))
+after_one : (w : Result (List ℕ) WriterError) (size more : ℕ) (rest : Result (Unit {0}) WriterError) (others : List ℕ)
+    → sized w ≡ Ok more
+    → ((w >>= λ _. rest) >>= λ _. count (size + length (padded (or_none w) ++ others)))
+    ≡ (rest >>= λ _. count (size + rounded more + length others))
 after_one (Ok t) size more rest others e =
     let long : length (padded t) ≡ rounded more = padded_long t ∙ ap rounded (same_count (length t) more e) in
     ap (λ n. rest >>= λ _. count n) (omega (arith, length-append (padded t) others, long))
 after_one (Err d) size more rest others e = absurd cc
 
-after_error : (w : Result (List ℕ) WriterError) (size : ℕ) (e : WriterError) (rest : Result (Unit {0}) WriterError) (others : List ℕ) → sized w ≡ Err e
+after_error : (w : Result (List ℕ) WriterError) (size : ℕ) (e : WriterError) (rest : Result (Unit {0}) WriterError)
+    (others : List ℕ) → sized w ≡ Err e
     → ((w >>= λ _. rest) >>= λ _. count (size + length (padded (or_none w) ++ others))) ≡ Err e
 after_error (Ok t) size e rest others same = absurd cc
 after_error (Err d) size e rest others same = cc
@@ -204,69 +215,113 @@ after_error (Err d) size e rest others same = cc
 opens : {A : Type 0} (cs : List A) (i : ℕ) (x : A) → x ≡ get_or cs i x → i < length cs → drop i cs ≡ x ∷ drop (i + 1) cs
 opens cs i x is less = drop_more cs i x less ∙ ap (λ y. y ∷ drop (i + 1) cs) (sym is)
 
-pub listed_error : {A : Type 0} (w : Written A) (ids : TableIds) (cs : List A) (i size : ℕ) (x : A) (e : WriterError) → x ≡ get_or cs i x → i < length cs → sized (w most ids x) ≡ Err e
+pub listed_error : {A : Type 0} (w : Written A) (ids : TableIds) (cs : List A) (i size : ℕ) (x : A) (e : WriterError)
+    → x ≡ get_or cs i x → i < length cs → sized (w most ids x) ≡ Err e
     → listed_after w size ids (drop i cs) ≡ Err e
 listed_error w ids cs i size x e is less same =
-    ap (listed_after w size ids) (opens cs i x is less) ∙ after_error (w most ids x) size e (check_each w ids (drop (i + 1) cs)) (laid (map (bytes_by w ids) (drop (i + 1) cs))) same
+    ap (listed_after w size ids) (opens cs i x is less) ∙ after_error (w most ids x) size e
+    (check_each w ids (drop (i + 1) cs)) (laid (map (bytes_by w ids) (drop (i + 1) cs))) same
 
-pub listed_step : {A : Type 0} (w : Written A) (Fits : A → Type 0) (ids : TableIds) (cs : List A) (i size more r : ℕ) (total : Result ℕ WriterError) (x : A) → x ≡ get_or cs i x → i < length cs → sized (w most ids x) ≡ Ok more
+pub listed_step : {A : Type 0} (w : Written A) (Fits : A → Type 0) (ids : TableIds) (cs : List A) (i size more r : ℕ)
+    (total : Result ℕ WriterError) (x : A) → x ≡ get_or cs i x → i < length cs → sized (w most ids x) ≡ Ok more
     → Fits x → more < 2 ^ 32 → r ≡ rounded more
     → (listed_after w size ids (drop i cs) ≡ total) × (size ≤ i * 2 ^ 32) × All Fits (take i cs)
-    → (listed_after w (size + r) ids (drop (i + 1) cs) ≡ total) × (size + r ≤ (i + 1) * 2 ^ 32) × All Fits (take (i + 1) cs)
+    → (listed_after w (size + r) ids (drop (i + 1) cs) ≡ total) × (size + r ≤ (i + 1) * 2 ^ 32)
+    × All Fits (take (i + 1) cs)
 listed_step w Fits ids cs i size more r total x is less e fit short same before =
     let rest = drop (i + 1) cs in
     let one = after_one (w most ids x) size more (check_each w ids rest) (laid (map (bytes_by w ids) rest)) e in (
-      ap (λ n. listed_after w (size + n) ids rest) same ∙ sym one ∙ sym (ap (listed_after w size ids) (opens cs i x is less)) ∙ before.0,
+      ap (λ n. listed_after w (size + n) ids rest) same ∙ sym one
+          ∙ sym (ap (listed_after w size ids) (opens cs i x is less)) ∙ before.0,
       omega (arith, before.1, short, same),
       All-more Fits cs i x less before.2 (subst Fits is fit),
     )
 
 -- ---- what is put
 
-put_long : {X : Type 0} (a k : ℕ) (xs ys : List X) → a + k ≤ length xs → length ys ≡ k → length (put_mid a k xs ys) ≡ length xs
+put_long : {X : Type 0} (a k : ℕ) (xs ys : List X) → a + k ≤ length xs → length ys ≡ k
+    → length (put_mid a k xs ys) ≡ length xs
 put_long a k xs ys within long =
-    omega (arith, length-append (take a xs) (ys ++ post_of a k xs), length-append ys (post_of a k xs), length-take-le a xs (omega (arith, within)), length-drop a xs, length-drop k (drop a xs), within, long)
+    omega (
+      arith,
+      length-append (take a xs) (ys ++ post_of a k xs),
+      length-append ys (post_of a k xs),
+      length-take-le a xs (omega (arith, within)),
+      length-drop a xs,
+      length-drop k (drop a xs),
+      within,
+      long,
+    )
 
-pub addresses_step : {A : Type 0} (w : Written A) (ids : TableIds) (cs : List A) (i place at p long sum : ℕ) (out new total : List ℕ) (x : A) → x ≡ get_or cs i x → i < length cs → long ≡ 8 * length cs → p ≡ length (placed_by w ids x)
+pub addresses_step : {A : Type 0} (w : Written A) (ids : TableIds) (cs : List A) (i place at p long sum : ℕ)
+    (out new total : List ℕ) (x : A) → x ≡ get_or cs i x → i < length cs → long ≡ 8 * length cs
+    → p ≡ length (placed_by w ids x)
     → new ≡ spelling 8 place
-    → (take at out ++ flat_map (spelling 8) (addresses place (map (bytes_by w ids) (drop i cs))) ≡ total) × (at ≡ 8 * i) × (length out ≡ long) × (place + length (laid (map (bytes_by w ids) (drop i cs))) ≡ sum)
-    → (take (at + 8) (put_mid at (at + 8 - at) out new) ++ flat_map (spelling 8) (addresses (place + p) (map (bytes_by w ids) (drop (i + 1) cs))) ≡ total)
-    × (at + 8 ≡ 8 * (i + 1)) × (length (put_mid at (at + 8 - at) out new) ≡ long) × (place + p + length (laid (map (bytes_by w ids) (drop (i + 1) cs))) ≡ sum)
+    → (take at out ++ flat_map (spelling 8) (addresses place (map (bytes_by w ids) (drop i cs))) ≡ total) × (at ≡ 8 * i)
+    × (length out ≡ long) × (place + length (laid (map (bytes_by w ids) (drop i cs))) ≡ sum)
+    → (take (at + 8) (put_mid at (at + 8 - at) out new) ++ flat_map (spelling 8)
+    (addresses (place + p) (map (bytes_by w ids) (drop (i + 1) cs))) ≡ total)
+    × (at + 8 ≡ 8 * (i + 1)) × (length (put_mid at (at + 8 - at) out new) ≡ long)
+    × (place + p + length (laid (map (bytes_by w ids) (drop (i + 1) cs))) ≡ sum)
 addresses_step w ids cs i place at p long sum out new total x here_is less whole size is before =
     let rest = map (bytes_by w ids) (drop (i + 1) cs) in
     let here = map (bytes_by w ids) (drop i cs) in
     let opened : here ≡ bytes_by w ids x ∷ rest = ap (map (bytes_by w ids)) (opens cs i x here_is less) in
     let eight : length new ≡ 8 = ap length is ∙ length-spelling 8 place in
-    let put = take-put_mid at (at + 8 - at) out new (at + 8) (omega (arith, eight)) (omega (arith, before.1, before.2, whole, less)) in
+    let put = take-put_mid at (at + 8 - at) out new (at + 8) (omega (arith, eight))
+    (omega (arith, before.1, before.2, whole, less)) in
     let next : List ℕ = flat_map (spelling 8) (addresses (place + p) rest) in
     let all : spelling 8 place ++ next ≡ flat_map (spelling 8) (addresses place here) =
-    ap (λ n. spelling 8 place ++ flat_map (spelling 8) (addresses (place + n) rest)) size ∙ sym (ap (λ ts. flat_map (spelling 8) (addresses place ts)) opened) in (
-      ap (λ z. z ++ next) put ∙ append_assoc (take at out) new next ∙ ap (λ z. take at out ++ (z ++ next)) is ∙ ap (λ z. take at out ++ z) all ∙ before.0,
+    ap (λ n. spelling 8 place ++ flat_map (spelling 8) (addresses (place + n) rest)) size
+    ∙ sym (ap (λ ts. flat_map (spelling 8) (addresses place ts)) opened) in (
+      ap (λ z. z ++ next) put ∙ append_assoc (take at out) new next ∙ ap (λ z. take at out ++ (z ++ next)) is
+          ∙ ap (λ z. take at out ++ z) all ∙ before.0,
       omega (arith, before.1),
-      put_long at (at + 8 - at) out new (omega (arith, before.1, before.2, whole, less)) (omega (arith, eight)) ∙ before.2,
+      put_long at (at + 8 - at) out new (omega (arith, before.1, before.2, whole, less)) (omega (arith, eight))
+          ∙ before.2,
       omega (arith, before.3, size, ap (λ ts. length (laid ts)) opened, length-append (placed_by w ids x) (laid rest)),
     )
 
-pub put_step : {A : Type 0} (w : Written A) (ids : TableIds) (cs : List A) (i at p long : ℕ) (out new total : List ℕ) (x : A) → x ≡ get_or cs i x → i < length cs → p ≡ length (placed_by w ids x)
+pub put_step : {A : Type 0} (w : Written A) (ids : TableIds) (cs : List A) (i at p long : ℕ) (out new total : List ℕ)
+    (x : A) → x ≡ get_or cs i x → i < length cs → p ≡ length (placed_by w ids x)
     → new ≡ placed_by w ids x ++ drop (length (placed_by w ids x)) (take (length out - at) (drop at out))
-    → (take at out ++ laid (map (bytes_by w ids) (drop i cs)) ≡ total) × (at + length (laid (map (bytes_by w ids) (drop i cs))) ≡ length out) × (length out ≡ long)
+    → (take at out ++ laid (map (bytes_by w ids) (drop i cs)) ≡ total)
+    × (at + length (laid (map (bytes_by w ids) (drop i cs))) ≡ length out) × (length out ≡ long)
     → (take (at + p) (put_mid at (length out - at) out new) ++ laid (map (bytes_by w ids) (drop (i + 1) cs)) ≡ total)
-    × (at + p + length (laid (map (bytes_by w ids) (drop (i + 1) cs))) ≡ length (put_mid at (length out - at) out new)) × (length (put_mid at (length out - at) out new) ≡ long)
+    × (at + p + length (laid (map (bytes_by w ids) (drop (i + 1) cs))) ≡ length (put_mid at (length out - at) out new))
+    × (length (put_mid at (length out - at) out new) ≡ long)
 put_step w ids cs i at p long out new total x here_is less size is before =
     let part : List ℕ = take (length out - at) (drop at out) in
     let rest = map (bytes_by w ids) (drop (i + 1) cs) in
     let this = placed_by w ids x in
-    let opened : map (bytes_by w ids) (drop i cs) ≡ bytes_by w ids x ∷ rest = ap (map (bytes_by w ids)) (opens cs i x here_is less) in
-    let within : length part ≡ length out - at = length-take-le (length out - at) (drop at out) (omega (arith, length-drop at out)) in
+    let opened : map (bytes_by w ids) (drop i cs) ≡ bytes_by w ids x ∷ rest =
+    ap (map (bytes_by w ids)) (opens cs i x here_is less) in
+    let within : length part ≡ length out - at =
+    length-take-le (length out - at) (drop at out) (omega (arith, length-drop at out)) in
     let fills : length new ≡ length out - at =
-    omega (arith, ap length is, length-append this (drop (length this) part), length-drop (length this) part, within, before.1, ap (λ ts. length (laid ts)) opened, length-append this (laid rest)) in
-    let same : length (put_mid at (length out - at) out new) ≡ length out = put_long at (length out - at) out new (omega (arith, before.1)) fills in
-    let split : put_mid at (length out - at) out new ≡ (take at out ++ this) ++ (drop (length this) part ++ post_of at (length out - at) out) =
-    ap (λ z. take at out ++ (z ++ post_of at (length out - at) out)) is ∙ ap (λ z. take at out ++ z) (append_assoc this (drop (length this) part) (post_of at (length out - at) out))
+    omega (
+      arith,
+      ap length is,
+      length-append this (drop (length this) part),
+      length-drop (length this) part,
+      within,
+      before.1,
+      ap (λ ts. length (laid ts)) opened,
+      length-append this (laid rest),
+    ) in
+    let same : length (put_mid at (length out - at) out new) ≡ length out =
+    put_long at (length out - at) out new (omega (arith, before.1)) fills in
+    let split : put_mid at (length out - at) out new ≡ (take at out ++ this)
+    ++ (drop (length this) part ++ post_of at (length out - at) out) =
+    ap (λ z. take at out ++ (z ++ post_of at (length out - at) out)) is
+    ∙ ap (λ z. take at out ++ z) (append_assoc this (drop (length this) part) (post_of at (length out - at) out))
     ∙ sym (append_assoc (take at out) this (drop (length this) part ++ post_of at (length out - at) out)) in
     let front : take (at + p) (put_mid at (length out - at) out new) ≡ take at out ++ this =
-    ap (take (at + p)) split ∙ take_at (take at out ++ this) (drop (length this) part ++ post_of at (length out - at) out) (at + p) (omega (arith, size, length-append (take at out) this, length-take-le at out (omega (arith, before.1)))) in (
-      ap (λ z. z ++ laid rest) front ∙ append_assoc (take at out) this (laid rest) ∙ ap (λ z. take at out ++ z) (sym (ap laid opened)) ∙ before.0,
+    ap (take (at + p)) split ∙ take_at (take at out ++ this) (drop (length this) part
+    ++ post_of at (length out - at) out) (at + p)
+    (omega (arith, size, length-append (take at out) this, length-take-le at out (omega (arith, before.1)))) in (
+      ap (λ z. z ++ laid rest) front ∙ append_assoc (take at out) this (laid rest)
+          ∙ ap (λ z. take at out ++ z) (sym (ap laid opened)) ∙ before.0,
       omega (arith, same, before.1, size, ap (λ ts. length (laid ts)) opened, length-append this (laid rest)),
       same ∙ before.2,
     )
@@ -279,21 +334,36 @@ addresses_long a (t ∷ ts) = omega (arith, addresses_long (a + length (padded t
 
 pub spelled_long : (ps : List ℕ) → length (flat_map (spelling 8) ps) ≡ 8 * length ps
 spelled_long [] = refl
-spelled_long (p ∷ ps) = omega (arith, length-append (spelling 8 p) (flat_map (spelling 8) ps), length-spelling 8 p, spelled_long ps)
+spelled_long (p ∷ ps) = omega (
+  arith,
+  length-append (spelling 8 p) (flat_map (spelling 8) ps),
+  length-spelling 8 p,
+  spelled_long ps,
+)
 
 -- the XSDT's body
-pub root_long : {A : Type 0} (w : Written A) (start : ℕ) (ids : TableIds) (cs : List A) → 36 + length (flat_map (spelling 8) (addresses start (map (bytes_by w ids) cs))) ≡ 36 + 8 * length cs
+pub root_long : {A : Type 0} (w : Written A) (start : ℕ) (ids : TableIds) (cs : List A)
+    → 36 + length (flat_map (spelling 8) (addresses start (map (bytes_by w ids) cs))) ≡ 36 + 8 * length cs
 root_long w start ids cs =
-    omega (arith, spelled_long (addresses start (map (bytes_by w ids) cs)), addresses_long start (map (bytes_by w ids) cs), length-map cs (bytes_by w ids))
+    omega (
+      arith,
+      spelled_long (addresses start (map (bytes_by w ids) cs)),
+      addresses_long start (map (bytes_by w ids) cs),
+      length-map cs (bytes_by w ids),
+    )
 
-pub xsdt_long : {A : Type 0} (w : Written A) (start : ℕ) (x : MachineOf A) → AreIds x.ids → length (xsdt_from w start x) ≡ xsdt_length x
-xsdt_long w start x are = table_length XSDT 1 x.ids (root_body Xsdt (addresses start (listed_by w x))) refl are ∙ root_long w start x.ids x.tables.now
+pub xsdt_long : {A : Type 0} (w : Written A) (start : ℕ) (x : MachineOf A) → AreIds x.ids
+    → length (xsdt_from w start x) ≡ xsdt_length x
+xsdt_long w start x are = table_length XSDT 1 x.ids (root_body Xsdt (addresses start (listed_by w x))) refl are
+    ∙ root_long w start x.ids x.tables.now
 
-pub tree_size_is : {A : Type 0} (w : Written A) (a : ℕ) (x : MachineOf A) → AreIds x.ids → length (tree_by w a x) ≡ size_by w x
+pub tree_size_is : {A : Type 0} (w : Written A) (a : ℕ) (x : MachineOf A) → AreIds x.ids
+    → length (tree_by w a x) ≡ size_by w x
 unfolding tree_by size_by
 tree_size_is w a x are =
     let xsdt = xsdt_by w a x in
-    let first : length (padded xsdt) ≡ rounded (xsdt_length x) = padded_long xsdt ∙ ap rounded (xsdt_long w (tables_address a x) x are) in
+    let first : length (padded xsdt) ≡ rounded (xsdt_length x) = padded_long xsdt
+    ∙ ap rounded (xsdt_long w (tables_address a x) x are) in
     let facs = facs_laid (dsdt_end a x) x.facs in
     omega (
       arith,
@@ -306,21 +376,34 @@ tree_size_is w a x are =
 
 -- ---- the things in a list
 
-spelled_more : {X : Type 0} (f : X → List ℕ) (xs : List X) (i : ℕ) (d : X) → i < length xs → flat_map f (take (i + 1) xs) ≡ flat_map f (take i xs) ++ f (get_or xs i d)
+spelled_more : {X : Type 0} (f : X → List ℕ) (xs : List X) (i : ℕ) (d : X) → i < length xs
+    → flat_map f (take (i + 1) xs) ≡ flat_map f (take i xs) ++ f (get_or xs i d)
 spelled_more f xs i d less =
-    ap (flat_map f) (take_at_read xs i d less).1 ∙ flat_map-append f (take i xs) (get_or xs i d ∷ []) ∙ ap (λ z. flat_map f (take i xs) ++ z) (append-nil (f (get_or xs i d)))
+    ap (flat_map f) (take_at_read xs i d less).1 ∙ flat_map-append f (take i xs) (get_or xs i d ∷ [])
+    ∙ ap (λ z. flat_map f (take i xs) ++ z) (append-nil (f (get_or xs i d)))
 
 -- one more is measured
-pub measured_more : {X : Type 0} (f : X → List ℕ) (P : X → Type 0) (xs : List X) (i size more room : ℕ) (x : X) → x ≡ get_or xs i x → i < length xs
-    → Measures (Some size) room (flat_map f (take i xs)) (All P (take i xs)) → Measures (Some more) (room - size) (f x) (P x)
+pub measured_more : {X : Type 0} (f : X → List ℕ) (P : X → Type 0) (xs : List X) (i size more room : ℕ) (x : X)
+    → x ≡ get_or xs i x → i < length xs
+    → Measures (Some size) room (flat_map f (take i xs)) (All P (take i xs))
+    → Measures (Some more) (room - size) (f x) (P x)
     → Measures (Some (size + more)) room (flat_map f (take (i + 1) xs)) (All P (take (i + 1) xs))
 measured_more f P xs i size more room x is less before this = (
-  omega (arith, before.0, this.0, ap (λ y. length (f y)) is, ap length (spelled_more f xs i x less), length-append (flat_map f (take i xs)) (f (get_or xs i x))),
+  omega (
+    arith,
+    before.0,
+    this.0,
+    ap (λ y. length (f y)) is,
+    ap length (spelled_more f xs i x less),
+    length-append (flat_map f (take i xs)) (f (get_or xs i x)),
+  ),
   omega (arith, before.1, this.1),
   All-more P xs i x less before.2 (subst P is this.2),
 )
 
 -- one more doesn't fit
-pub not_whole : {X : Type 0} (f : X → List ℕ) (xs : List X) (i size room : ℕ) (x : X) → x ≡ get_or xs i x → i < length xs → size ≡ length (flat_map f (take i xs)) → size ≤ room → room - size < length (f x) → room < length (flat_map f xs)
+pub not_whole : {X : Type 0} (f : X → List ℕ) (xs : List X) (i size room : ℕ) (x : X) → x ≡ get_or xs i x
+    → i < length xs → size ≡ length (flat_map f (take i xs)) → size ≤ room → room - size < length (f x)
+    → room < length (flat_map f xs)
 not_whole f xs i size room x is less before within this =
     omega (arith, before, within, this, ap (λ y. length (f y)) is, length-flat_map-take f xs i x less)

@@ -1,5 +1,5 @@
 -- What a reader finds in an SPCR that is written, and when one is.
-use Rattle.std.proofs.Common.{◌≡◌, ℕ, ◌+◌, ◌-◌, ◌^◌, ◌<◌, Bool, true, false, List, [], ◌∷◌, ◌++◌, length, take, drop, Option, Some, None, Result, Ok, Err, refl, sym, ap, ◌∙◌, arith, length-append}
+use Rattle.std.proofs.Common.{◌≡◌, ℕ, ◌+◌, ◌-◌, ◌%◌, ◌^◌, ◌<◌, Bool, true, false, List, [], ◌∷◌, ◌++◌, length, take, drop, Option, Some, None, Result, Ok, Err, refl, sym, ap, ◌∙◌, arith, length-append, subst}
 use Rattle.std.specs.Prelude.{◌==◌, ◌&&◌, ◌||◌, IfOk, IsUtf8, if◌then◌else◌, nat_le, nat_lt, replicate}
 use Rattle.std.specs.Option.{option_map, option_or}
 use Rattle.std.specs.Str.{bytes_eq, chars, is_utf8}
@@ -7,101 +7,81 @@ use Rattle.std.proofs.lemmas.Bool.{and_parts, eqb-true, le-leb, ltb-true}
 use Rattle.std.proofs.lemmas.List.{drop-drop, get_or_past, take_all}
 use Rattle.std.proofs.lemmas.Slice.Eq.{bytes_eq-Decides}
 use Rattle.std.proofs.lemmas.Str.{IsUtf8-append, IsUtf8-from_is_utf8, is_utf8-from_IsUtf8}
-use Rattle.acpi_base.proofs.Spelling.{number-spelling}
 use Rattle.acpi_base.specs.Address.{generic_address_of}
 use Rattle.acpi_base.specs.Bytes.{field_of, filled_part, part, spelling}
 use Rattle.acpi_base.specs.Header.{header_at}
 use Rattle.acpi_base.specs.Spcr.{configured_baud, interface_of, interfaces, namespace_of, spcr_at, unless}
-use Rattle.acpi_base.specs.SpcrFlags.{flow_bits, interrupt_bits, terminal_bits}
 use Rattle.acpi_base.specs.declared.address.GenericAddress.{GenericAddress}
 use Rattle.acpi_base.specs.declared.error.AcpiError.{AcpiError}
 use Rattle.acpi_base.specs.declared.table.signature.TheConstants.Signature.{SPCR}
 use Rattle.acpi_base.specs.declared.tables.spcr.interface.SpcrInterfaceType.{SpcrInterfaceType}
 use Rattle.acpi_base.specs.declared.tables.spcr.interface.SpcrInterfaceType.TheVariants as interface
-use Rattle.acpi_writer.specs.Generic.{address_bytes, is_named_space}
-use Rattle.acpi_writer.specs.Spcr.{base_written, baud_code, console_fields, device_written, interface_code, is_base, is_interface, is_somewhere, port_fields, spcr_body, spcr_checked}
+use Rattle.acpi_writer.specs.Generic.{FitsAddress, FitsRegister, address_bytes, address_fields, register_or_zeros}
+use Rattle.acpi_writer.specs.Spcr.{baud_code, device_written, fixed_list, interface_code, is_base, is_interface, is_somewhere, spcr_body, spcr_checked, spcr_fields, spcr_written}
 use Rattle.acpi_writer.specs.SpcrLaws.{FitsSpcr, IsSpcr, SaysConsole, SaysDevice, SaysPort, SpcrIsRead, SpcrIsValid, readable}
-use Rattle.acpi_writer.specs.Table.{IsTableOf}
+use Rattle.acpi_writer.specs.Table.{IsTableOf, if_checked, table_written}
 use Rattle.acpi_writer.specs.declared.error.WriterError.{WriterError}
 use Rattle.acpi_writer.specs.declared.error.WriterError.TheVariants.{BadCode, NoAddress}
 use Rattle.acpi_writer.specs.declared.ids.TableIds.{TableIds}
 use Rattle.acpi_writer.specs.declared.spcr.SpcrContents.{SpcrContents}
 use Rattle.acpi_writer.proofs.Tables.{ids_are_read}
 use Rattle.acpi_base.proofs.Steps.{holds_ok}
-use Rattle.acpi_writer.proofs.Bits.{is_off, one, was_true}
-use Rattle.acpi_writer.proofs.RegisterRead.{address_field, generic_read}
+use Rattle.acpi_writer.proofs.Bits.{is_off, was_true}
+use Rattle.acpi_writer.proofs.FieldsRead.{read_front}
+use Rattle.std.proofs.lemmas.List.Elements.{All-from_recursion}
+use Rattle.acpi_writer.specs.Fields.{FitsField, field_at, field_size, field_value, offset_of, fields_bytes}
+use Rattle.acpi_writer.specs.declared.fields.Field.TheVariants.{Zeros}
+use Rattle.std.proofs.Common.{lit<}
+use Rattle.acpi_writer.proofs.RegisterRead.{address_field, address_read}
 use Rattle.acpi_writer.proofs.Tables as table
 
 -- ---- codes
 
-unknown_by : (code : ℕ) (seven : Bool) → (code == 7) ≡ seven → (seven || nat_lt 0x15 code) ≡ true → interface_of code ≡ interface.Unknown code
+unknown_by : (code : ℕ) (seven : Bool) → (code == 7) ≡ seven → (seven || nat_lt 0x15 code) ≡ true
+    → interface_of code ≡ interface.Unknown code
 unknown_by code true e h = rw (eqb-true code 7 e) refl
 unknown_by code false e h = get_or_past interfaces code (interface.Unknown code) (omega (arith, ltb-true 0x15 code h))
 
 each_interface : (i : SpcrInterfaceType) → is_interface i ≡ true → interface_of (interface_code i) ≡ i
-each_interface interface.Full16550 h = refl
-each_interface interface.Full16450 h = refl
-each_interface interface.MAX311xE h = refl
-each_interface interface.ArmPL011 h = refl
-each_interface interface.MSM8x60 h = refl
-each_interface interface.Nvidia16550 h = refl
-each_interface interface.TiOmap h = refl
-each_interface interface.APM88xxxx h = refl
-each_interface interface.Msm8974 h = refl
-each_interface interface.Sam5250 h = refl
-each_interface interface.IntelUSIF h = refl
-each_interface interface.Imx6 h = refl
-each_interface interface.ArmSBSAGeneric32bit h = refl
-each_interface interface.ArmSBSAGeneric h = refl
-each_interface interface.ArmDCC h = refl
-each_interface interface.Bcm2835 h = refl
-each_interface interface.Sdm845_18432 h = refl
-each_interface interface.Generic16550 h = refl
-each_interface interface.Sdm845_7372 h = refl
-each_interface interface.IntelLPSS h = refl
-each_interface interface.RiscVSbi h = refl
 each_interface (interface.Unknown code) h = unknown_by code (code == 7) refl h
+each_interface _ h = refl
 
-baud_by : (rate : ℕ) (none : Bool) → (rate == 0) ≡ none → option_or (unless 0 rate) (configured_baud (baud_code rate)) ≡ unless 0 rate
+baud_by : (rate : ℕ) (none : Bool) → (rate == 0) ≡ none
+    → option_or (unless 0 rate) (configured_baud (baud_code rate)) ≡ unless 0 rate
 baud_by rate true e = rw (eqb-true rate 0 e) refl
 baud_by rate false e = rw e refl
 
 -- ---- the base address
 
-address_in : (a : GenericAddress) → a.address < 2 ^ 64 → field_of (address_bytes a) 4 8 ≡ a.address
-unfolding address_bytes
-address_in a h = address_field a h
-
-address_read : (a : GenericAddress) → a.address < 2 ^ 64 → is_named_space a.address_space ≡ true → generic_address_of (address_bytes a) ≡ Ok a
-unfolding address_bytes
-address_read a h own = generic_read a h own
-
 all_zeros : field_of (replicate 12 0) 4 8 ≡ 0
 unfolding field_of
 all_zeros = refl
 
-some_base : (zeros : Bool) (a : GenericAddress) → bytes_eq (address_bytes a) (replicate 12 0) ≡ zeros → a.address < 2 ^ 64 → (a.address == 0) ≡ false → zeros ≡ false
+some_base : (zeros : Bool) (a : GenericAddress) → bytes_eq (address_bytes a) (replicate 12 0) ≡ zeros → FitsAddress a
+    → (a.address == 0) ≡ false → zeros ≡ false
 some_base false a e h somewhere = refl
 some_base true a e h somewhere =
     let same : address_bytes a ≡ replicate 12 0 = (bytes_eq-Decides (address_bytes a) (replicate 12 0)).0 e in
-    let zero : a.address ≡ 0 = sym (address_in a h) ∙ ap (λ b. field_of b 4 8) same ∙ all_zeros in
+    let zero : a.address ≡ 0 = sym (address_field a h) ∙ ap (λ b. field_of b 4 8) same ∙ all_zeros in
     let is : (a.address == 0) ≡ true = ap (λ n. n == 0) zero in
     cc
 
 abbrev base_found : List ℕ → Option (Result GenericAddress AcpiError)
 base_found raw = if bytes_eq raw (replicate 12 0) then None else Some (generic_address_of raw)
 
-no_base : base_found (address_bytes (base_written None)) ≡ None
-unfolding address_bytes spelling
+no_base : base_found (address_bytes (register_or_zeros None)) ≡ None
+unfolding address_fields spelling
 no_base = refl
 
-base_by : (o : Option GenericAddress) → (base_written o).address < 2 ^ 64 → is_base o ≡ true → is_somewhere o ≡ true → base_found (address_bytes (base_written o)) ≡ option_map readable o
+base_by : (o : Option GenericAddress) → FitsRegister o → is_base o ≡ true → is_somewhere o ≡ true
+    → base_found (address_bytes (register_or_zeros o)) ≡ option_map readable o
 base_by None h own somewhere = no_base
 base_by (Some a) h own somewhere =
-    rw (some_base (bytes_eq (address_bytes a) (replicate 12 0)) a refl h (is_off (a.address == 0) somewhere), address_read a h own) refl
+    rw (some_base (bytes_eq (address_bytes a) (replicate 12 0)) a refl h (is_off (a.address == 0) somewhere))
+    (rw (address_read a h own) refl)
 
 filled : (a : GenericAddress) → address_bytes a ++ replicate (12 - length (address_bytes a)) 0 ≡ address_bytes a
-unfolding address_bytes spelling
+unfolding address_fields spelling
 filled a = refl
 
 -- ---- the table
@@ -110,74 +90,17 @@ pub spcr_name : table.IsName SPCR
 unfolding is_utf8 chars lib.Utf8.encode
 spcr_name = record { a = _; b = _; c = _; d = _; letters = refl; text = refl; same = refl }
 
--- one byte in the fixed fields, and a number there
 module _ (c : SpcrContents) where
-  bytes_of_port :
-      (field_of (spcr_body c) 0 1 ≡ interface_code c.interface_type) × (field_of (spcr_body c) 16 1 ≡ interrupt_bits c.interrupt_type) × (field_of (spcr_body c) 17 1 ≡ c.irq)
-      × (field_of (spcr_body c) 22 1 ≡ baud_code c.baud_rate) × (field_of (spcr_body c) 23 1 ≡ c.parity) × (field_of (spcr_body c) 24 1 ≡ c.stop_bits)
-      × (field_of (spcr_body c) 25 1 ≡ flow_bits c.flow_control) × (field_of (spcr_body c) 26 1 ≡ terminal_bits c.terminal_type) × (field_of (spcr_body c) 27 1 ≡ c.language)
-  unfolding port_fields address_bytes spelling field_of
-  bytes_of_port = (
-    one (interface_code c.interface_type),
-    one (interrupt_bits c.interrupt_type),
-    one c.irq,
-    one (baud_code c.baud_rate),
-    one c.parity,
-    one c.stop_bits,
-    one (flow_bits c.flow_control),
-    one (terminal_bits c.terminal_type),
-    one c.language,
-  )
-
-  base_in : part (spcr_body c) 4 12 ≡ address_bytes (base_written c.base_address)
-  unfolding port_fields address_bytes spelling
+  base_in : part (spcr_body c) 4 12 ≡ address_bytes (register_or_zeros c.base_address)
+  unfolding fixed_list address_fields spelling
   base_in = refl
 
   after_fields : drop 52 (spcr_body c) ≡ c.namespace_string.now ++ (0 ∷ [])
-  unfolding port_fields console_fields address_bytes spelling
+  unfolding fixed_list spelling
   after_fields = refl
 
-  bytes_of_device : let d = device_written c.pci_device in (field_of (spcr_body c) 32 1 ≡ d.bus) × (field_of (spcr_body c) 33 1 ≡ d.device) × (field_of (spcr_body c) 34 1 ≡ d.function) × (field_of (spcr_body c) 39 1 ≡ d.segment)
-  unfolding port_fields console_fields address_bytes spelling field_of
-  bytes_of_device =
-      let d = device_written c.pci_device in
-      (one d.bus, one d.device, one d.function, one d.segment)
-
-  module _ (f : FitsSpcr c) where
-    interrupt_in : field_of (spcr_body c) 18 4 ≡ c.global_system_interrupt
-    unfolding port_fields address_bytes spelling field_of
-    interrupt_in = number-spelling 4 c.global_system_interrupt (omega (arith, f.port.interrupt))
-
-    device_id_in : field_of (spcr_body c) 28 2 ≡ (device_written c.pci_device).device_id
-    unfolding port_fields console_fields address_bytes spelling field_of
-    device_id_in = number-spelling 2 (device_written c.pci_device).device_id (omega (arith, f.console.device_id))
-
-    vendor_id_in : field_of (spcr_body c) 30 2 ≡ (device_written c.pci_device).vendor_id
-    unfolding port_fields console_fields address_bytes spelling field_of
-    vendor_id_in = number-spelling 2 (device_written c.pci_device).vendor_id (omega (arith, f.console.vendor_id))
-
-    flags_in : field_of (spcr_body c) 35 4 ≡ (device_written c.pci_device).flags
-    unfolding port_fields console_fields address_bytes spelling field_of
-    flags_in = number-spelling 4 (device_written c.pci_device).flags (omega (arith, f.console.flags))
-
-    clock_in : field_of (spcr_body c) 40 4 ≡ c.uart_clock_frequency
-    unfolding port_fields console_fields address_bytes spelling field_of
-    clock_in = number-spelling 4 c.uart_clock_frequency (omega (arith, f.console.clock))
-
-    rate_in : field_of (spcr_body c) 44 4 ≡ c.baud_rate
-    unfolding port_fields console_fields address_bytes spelling field_of
-    rate_in = number-spelling 4 c.baud_rate (omega (arith, f.console.rate))
-
-    count_in : length c.namespace_string.now < 0xffff → field_of (spcr_body c) 48 2 ≡ length c.namespace_string.now + 1
-    unfolding port_fields console_fields address_bytes spelling field_of
-    count_in short = number-spelling 2 (length c.namespace_string.now + 1) (omega (arith, short))
-
-    offset_in : field_of (spcr_body c) 50 2 ≡ 88
-    unfolding port_fields console_fields address_bytes spelling field_of
-    offset_in = refl
-
   pub body_long : length (spcr_body c) ≡ 53 + length c.namespace_string.now
-  unfolding port_fields console_fields address_bytes spelling
+  unfolding fixed_list spelling
   body_long = omega (arith, length-append c.namespace_string.now (0 ∷ []))
 
 zero_ends : is_utf8 (0 ∷ []) ≡ true
@@ -194,50 +117,63 @@ module _ (ids : TableIds) (c : SpcrContents) (t : List ℕ) (is : IsSpcr ids c t
   revision : (header_at t).revision ≡ 4
   revision = (ids_are_read SPCR _ _ _ _ 4 ids (spcr_body c) t spcr_name.letters is.written).revision_is
 
-  raw : filled_part t 40 12 ≡ address_bytes (base_written c.base_address)
+  raw : filled_part t 40 12 ≡ address_bytes (register_or_zeros c.base_address)
   raw =
-      let found : part t 40 12 ≡ address_bytes (base_written c.base_address) = ap (take 12) (sym (drop-drop 4 36 t) ∙ ap (drop 4) rest) ∙ base_in c in
-      ap (λ p. p ++ replicate (12 - length p) 0) found ∙ filled (base_written c.base_address)
+      let found : part t 40 12 ≡ address_bytes (register_or_zeros c.base_address) =
+      ap (take 12) (sym (drop-drop 4 36 t) ∙ ap (drop 4) rest) ∙ base_in c in
+      ap (λ p. p ++ replicate (12 - length p) 0) found ∙ filled (register_or_zeros c.base_address)
+
+  -- a field, by its place among them
+  at_place : (i : ℕ) → i < length (spcr_fields c)
+      → field_of t (36 + offset_of (spcr_fields c) i) (field_size (field_at (spcr_fields c) i))
+      ≡ field_value (field_at (spcr_fields c) i)
+  at_place i less = field (offset_of (spcr_fields c) i) (field_size (field_at (spcr_fields c) i))
+      ∙ read_front (spcr_fields c) (c.namespace_string.now ++ (0 ∷ [])) is.fit i less
+
+  address_fits : FitsRegister c.base_address
+  unfolding fixed_list address_fields
+  address_fits =
+      let fits = λ (i : ℕ) (less : i < 27). is.fit i (Zeros 0) less in
+      All-from_recursion FitsField (address_fields (register_or_zeros c.base_address))
+      (fits 2 (lit< tt), (fits 3 (lit< tt), (fits 4 (lit< tt), (fits 5 (lit< tt), (fits 6 (lit< tt), tt)))))
 
   port : SaysPort c (spcr_at t)
-  unfolding spcr_at
+  unfolding spcr_at fixed_list
   port =
-      let b = bytes_of_port c in
-      let kind = field 16 1 ∙ b.1 in
+      let kind = at_place 7 (lit< tt) in
       record {
-        interface_type = ap interface_of (field 0 1 ∙ b.0) ∙ each_interface c.interface_type is.interface;
-        base_address = ap base_found raw ∙ base_by c.base_address is.fit.port.address is.base is.somewhere;
+        interface_type = ap interface_of (at_place 0 (lit< tt)) ∙ each_interface c.interface_type is.interface;
+        base_address = ap base_found raw ∙ base_by c.base_address address_fits is.base is.somewhere;
         interrupt_type = kind;
-        irq = rw (kind, field 17 1 ∙ b.2) refl;
-        global_system_interrupt = rw (kind, field 18 4 ∙ interrupt_in c is.fit) refl;
-        baud_rate = rw (field 44 4 ∙ rate_in c is.fit, field 22 1 ∙ b.3) (baud_by c.baud_rate (c.baud_rate == 0) refl);
-        parity = field 23 1 ∙ b.4;
-        stop_bits = field 24 1 ∙ b.5;
-        flow_control = field 25 1 ∙ b.6;
-        terminal_type = field 26 1 ∙ b.7;
-        language = field 27 1 ∙ b.8;
-        uart_clock_frequency = rw (revision, field 40 4 ∙ clock_in c is.fit) refl;
+        irq = rw (kind, at_place 8 (lit< tt)) refl;
+        global_system_interrupt = rw (kind, at_place 9 (lit< tt)) refl;
+        baud_rate = rw (at_place 24 (lit< tt), at_place 10 (lit< tt)) (baud_by c.baud_rate (c.baud_rate == 0) refl);
+        parity = at_place 11 (lit< tt);
+        stop_bits = at_place 12 (lit< tt);
+        flow_control = at_place 13 (lit< tt);
+        terminal_type = at_place 14 (lit< tt);
+        language = at_place 15 (lit< tt);
+        uart_clock_frequency = rw (revision, at_place 23 (lit< tt)) refl;
       }
 
   device : SaysDevice (device_written c.pci_device) (spcr_at t)
-  unfolding spcr_at
-  device =
-      let b = bytes_of_device c in
-      record {
-        device_id = ap (unless 0xffff) (field 28 2 ∙ device_id_in c is.fit);
-        vendor_id = ap (unless 0xffff) (field 30 2 ∙ vendor_id_in c is.fit);
-        bus = ap (unless 0) (field 32 1 ∙ b.0);
-        device = ap (unless 0) (field 33 1 ∙ b.1);
-        function = ap (unless 0) (field 34 1 ∙ b.2);
-        flags = field 35 4 ∙ flags_in c is.fit;
-        segment = field 39 1 ∙ b.3;
-      }
+  unfolding spcr_at fixed_list
+  device = record {
+    device_id = ap (unless 0xffff) (at_place 16 (lit< tt));
+    vendor_id = ap (unless 0xffff) (at_place 17 (lit< tt));
+    bus = ap (unless 0) (at_place 18 (lit< tt));
+    device = ap (unless 0) (at_place 19 (lit< tt));
+    function = ap (unless 0) (at_place 20 (lit< tt));
+    flags = at_place 21 (lit< tt);
+    segment = at_place 22 (lit< tt);
+  }
 
   abbrev name : List ℕ
   name = c.namespace_string.now ++ (0 ∷ [])
 
   name_text : is_utf8 name ≡ true
-  name_text = is_utf8-from_IsUtf8 name (IsUtf8-append c.namespace_string.now (0 ∷ []) is.text (IsUtf8-from_is_utf8 (0 ∷ []) zero_ends))
+  name_text = is_utf8-from_IsUtf8 name (IsUtf8-append c.namespace_string.now (0 ∷ []) is.text
+      (IsUtf8-from_is_utf8 (0 ∷ []) zero_ends))
 
   name_in : part t 88 (length c.namespace_string.now + 1) ≡ name
   name_in =
@@ -248,8 +184,11 @@ module _ (ids : TableIds) (c : SpcrContents) (t : List ℕ) (is : IsSpcr ids c t
   within = le-leb _ _ (omega (arith, table.long SPCR spcr_name 4 ids (spcr_body c) t is.written, body_long c))
 
   named : namespace_of t ≡ Ok name
-  unfolding spcr_at
-  named = rw (field 50 2 ∙ offset_in c is.fit, field 48 2 ∙ count_in c is.fit is.short, within, name_in, name_text) refl
+  unfolding spcr_at fixed_list
+  named =
+      let short : (length c.namespace_string.now + 1) % 2 ^ 16 ≡ length c.namespace_string.now + 1 =
+      omega (arith, is.short) in
+      rw (at_place 26 (lit< tt), at_place 25 (lit< tt), short, within, name_in, name_text) refl
 
   says : SaysConsole c t
   says = record { port = port; device = device; name = named }
@@ -262,20 +201,42 @@ spcr_valid ids c t is = table.valid SPCR spcr_name 4 ids (spcr_body c) t is.writ
 
 -- ---- whether it is written
 
-pub name_short : (c : SpcrContents) → spcr_checked c ≡ Ok tt → length c.namespace_string.now < 0xffff
-name_short c good =
-    let one = holds_ok (is_interface c.interface_type && is_base c.base_address) BadCode _ tt good in
-    let two = holds_ok (is_somewhere c.base_address) NoAddress _ tt one.1 in
-    ltb-true (length c.namespace_string.now) 0xffff (was_true _ _ two.1)
-
-pub spcr_is : (ids : TableIds) (c : SpcrContents) (t : List ℕ) → IsTableOf SPCR 4 ids (spcr_body c) t → FitsSpcr c → IsUtf8 c.namespace_string.now → spcr_checked c ≡ Ok tt → IsSpcr ids c t
+pub spcr_is : (ids : TableIds) (c : SpcrContents) (t : List ℕ) → IsTableOf SPCR 4 ids (spcr_body c) t → FitsSpcr c
+    → IsUtf8 c.namespace_string.now → spcr_checked c ≡ Ok tt → IsSpcr ids c t
 spcr_is ids c t written fit text good =
     let one = holds_ok (is_interface c.interface_type && is_base c.base_address) BadCode _ tt good in
     let two = holds_ok (is_somewhere c.base_address) NoAddress _ tt one.1 in
     let codes = and_parts (is_interface c.interface_type) (is_base c.base_address) one.0 in
-    record { written = written; fit = fit; interface = codes.0; base = codes.1; somewhere = two.0; short = name_short c good; text = text }
+    record {
+      written = written;
+      fit = fit;
+      interface = codes.0;
+      base = codes.1;
+      somewhere = two.0;
+      short =
+          ltb-true (length c.namespace_string.now) 0xffff (was_true _ _ two.1);
+      text = text;
+    }
 
-pub answer_is : (r : Result ℕ WriterError) (ids : TableIds) (c : SpcrContents) (new : List ℕ) → spcr_checked c ≡ Ok tt → IsUtf8 c.namespace_string.now
-    → IfOk r (λ n. IsTableOf SPCR 4 ids (spcr_body c) (take n new)) → IfOk r (λ n. FitsSpcr c) → IfOk r (λ n. IsSpcr ids c (take n new))
-answer_is (Ok n) ids c new good text written fit = spcr_is ids c (take n new) written fit text good
-answer_is (Err e) ids c new good text written fit = tt
+-- with this name
+abbrev named_body : SpcrContents → List ℕ → List ℕ
+named_body c name = fields_bytes (spcr_fields c) ++ (name ++ (0 ∷ []))
+
+pub written_by : (room : ℕ) (ids : TableIds) (c : SpcrContents) (name : List ℕ) → name ≡ c.namespace_string.now
+    → spcr_written room ids c ≡ if_checked (spcr_checked c) (table_written room SPCR 4 ids (named_body c name))
+unfolding spcr_written
+written_by room ids c name same = rw same refl
+
+pub answer_is : (r : Result ℕ WriterError) (ids : TableIds) (c : SpcrContents) (new name : List ℕ)
+    → name ≡ c.namespace_string.now → IsUtf8 name
+    → IfOk r (λ n. IsTableOf SPCR 4 ids (named_body c name) (take n new)) → IfOk r (λ n. FitsSpcr c)
+    → IfOk r (λ n. spcr_checked c ≡ Ok tt) → IfOk r (λ n. IsSpcr ids c (take n new))
+answer_is (Ok n) ids c new name same text written fit good =
+    spcr_is ids c (take n new)
+    (subst (λ x. IsTableOf SPCR 4 ids (named_body c x) (take n new)) same written) fit (subst IsUtf8 same text) good
+answer_is (Err e) ids c new name same text written fit good = tt
+
+pub fits_by : (r : Result ℕ WriterError) (c : SpcrContents) (P : Type 0) → IfOk r (λ n. FitsSpcr c × P)
+    → IfOk r (λ n. FitsSpcr c)
+fits_by (Ok n) c P fit = fit.0
+fits_by (Err e) c P fit = tt

@@ -1,13 +1,12 @@
 -- What a reader finds in a SRAT that is written, and when one is.
-use Rattle.std.proofs.Common.{◌≡◌, ℕ, ◌+◌, ◌*◌, ◌/◌, ◌%◌, ◌^◌, ◌<◌, Bool, true, false, List, [], ◌∷◌, ◌++◌, map, drop, Option, Some, None, Ok, refl, sym, ap, ◌∙◌, arith, lit≤}
+use Rattle.std.proofs.Common.{◌≡◌, ℕ, ◌+◌, ◌*◌, ◌/◌, ◌%◌, ◌<◌, lit<, Bool, true, false, List, [], ◌∷◌, ◌++◌, map, drop, Option, Some, None, Ok, refl, sym, ap, ◌∙◌, arith, lit≤}
 use Rattle.std.specs.Prelude.{◌==◌, flat_map, if◌then◌else◌, nat_lt}
-use Rattle.std.specs.List.{AllByRecursion, filter_map, last_or, list_all}
+use Rattle.std.specs.List.{All, AllByRecursion, filter_map, last_or, list_all}
 use Rattle.std.specs.Str.{chars, is_utf8}
 use Rattle.std.proofs.lemmas.Bool.{and_parts}
 use Rattle.std.proofs.lemmas.List.{append-nil, drop_at, drop-drop}
-use Rattle.std.proofs.lemmas.List.Elements.{filter_map-append, recursion_from_All}
-use Rattle.acpi_base.proofs.Spelling.{number-spelling}
-use Rattle.acpi_base.specs.Bytes.{field_of, number, spelling}
+use Rattle.std.proofs.lemmas.List.Elements.{recursion_from_All}
+use Rattle.acpi_base.specs.Bytes.{field_of, spelling}
 use Rattle.acpi_base.specs.Entries.{IsEntry, cut}
 use Rattle.acpi_base.specs.Header.{header_at}
 use Rattle.acpi_base.specs.declared.table.signature.TheConstants.Signature.{SRAT}
@@ -16,7 +15,7 @@ use Rattle.acpi_numa.specs.Srat.{apic_domain, cut_of, entries_of, entry_of, proc
 use Rattle.acpi_numa.specs.declared.srat.affinities.MemoryRange.{MemoryRange}
 use Rattle.acpi_numa.specs.declared.srat.entry.SratEntry.{SratEntry}
 use Rattle.acpi_numa.specs.declared.srat.entry.SratEntry.TheVariants as kinds
-use Rattle.acpi_writer.specs.Srat.{ContentsOf, SratContents, apic_entry, gicc_entry, is_one_apic, is_one_gicc, is_range, is_small, local_apic_entry, local_x2apic_entry, memory_entry, range_flags, srat_body, srat_body_by, srat_checked_by, srat_entries, srat_reserved}
+use Rattle.acpi_writer.specs.Srat.{ContentsOf, SratContents, apic_entry, gicc_entry, gicc_fields, is_one_apic, is_one_gicc, is_range, is_small, local_apic_fields, local_x2apic_fields, memory_entry, memory_fields, range_flags, srat_body, srat_body_by, srat_checked_by, srat_entries, srat_reserved}
 use Rattle.acpi_writer.specs.SratLaws.{AreFit, AreFitBy, FitsApic, FitsGicc, FitsRange, IsSrat, IsSratBy, SaysDomains, SratIsRead, SratIsValid}
 use Rattle.acpi_writer.specs.Table.{IsTableOf, bit_of}
 use Rattle.acpi_writer.specs.declared.error.WriterError.TheVariants.{IdOfAll}
@@ -24,8 +23,12 @@ use Rattle.acpi_writer.specs.declared.ids.TableIds.{TableIds}
 use Rattle.acpi_writer.specs.declared.srat.ApicDomain.{ApicDomain}
 use Rattle.acpi_writer.specs.declared.srat.GiccDomain.{GiccDomain}
 use Rattle.acpi_base.proofs.Steps.{holds_ok}
-use Rattle.acpi_writer.proofs.Bits.{one, was_true}
-use Rattle.acpi_writer.proofs.Rows.{AreRows, both, both_rows, no_rows, one_row, rows_are_cut}
+use Rattle.acpi_writer.specs.Fields.{FitsField, fields_bytes}
+use Rattle.acpi_writer.specs.declared.fields.Field.TheVariants.{Zeros}
+use Rattle.acpi_numa.specs.SratEntries as read
+use Rattle.acpi_writer.proofs.FieldsRead.{read_at}
+use Rattle.acpi_writer.proofs.Bits.{was_true}
+use Rattle.acpi_writer.proofs.Rows.{AreRows, both, both_rows, no_rows, none_of, one_row, rows_are_cut}
 use Rattle.acpi_writer.proofs.Tables.{ids_are_read}
 use Rattle.acpi_writer.proofs.Tables as table
 
@@ -49,20 +52,18 @@ speaks_both a b xs ys p q = record {
   said = both (entry_of 3) p.entries q.entries xs ys p.said q.said;
 }
 
-speaks_all : {X : Type 0} (P : X → Type 0) (f : X → List ℕ) (g : X → SratEntry) → ((x : X) → P x → Speaks (f x) (g x ∷ [])) → (xs : List X) → AllByRecursion P xs → Speaks (flat_map f xs) (map g xs)
+speaks_all : {X : Type 0} (P : X → Type 0) (f : X → List ℕ) (g : X → SratEntry)
+    → ((x : X) → P x → Speaks (f x) (g x ∷ [])) → (xs : List X) → AllByRecursion P xs
+    → Speaks (flat_map f xs) (map g xs)
 speaks_all P f g each [] all = record { entries = []; are = no_rows srat_layout; said = refl }
-speaks_all P f g each (x ∷ xs) all = speaks_both (f x) (flat_map f xs) (g x ∷ []) (map g xs) (each x all.0) (speaks_all P f g each xs all.1)
+speaks_all P f g each (x ∷ xs) all = speaks_both (f x) (flat_map f xs) (g x ∷ []) (map g xs) (each x all.0)
+    (speaks_all P f g each xs all.1)
 
-spoken_cut : (bytes : List ℕ) (items : List SratEntry) (s : Speaks bytes items) → ((cut srat_grammar bytes).0 ≡ s.entries) × ((cut srat_grammar bytes).1 ≡ [])
+spoken_cut : (bytes : List ℕ) (items : List SratEntry) (s : Speaks bytes items)
+    → ((cut srat_grammar bytes).0 ≡ s.entries) × ((cut srat_grammar bytes).1 ≡ [])
 spoken_cut bytes items s = rows_are_cut srat_grammar bytes s.entries (λ bound same. cc) s.are
 
 -- ---- what each entry says
-
-abbrev tell : SratEntry → Option SratEntry
-tell x = Some x
-
-low_byte : (n : ℕ) → number (n ∷ 0 ∷ 0 ∷ 0 ∷ []) ≡ n
-low_byte n = omega arith
 
 abbrev local_apic : ℕ → ℕ → SratEntry
 local_apic d id = kinds.LocalApic (record { domain = d; apic_id = id; flags = 1; sapic_eid = 0; clock_domain = 0 })
@@ -85,97 +86,115 @@ gicc_item p = gicc p.domain p.processor_uid
 abbrev memory_item : MemoryRange → SratEntry
 memory_item r = memory r.domain r.base r.length (range_flags r)
 
-whole_domain : (d : ℕ) → d < 2 ^ 32 → number (d % 256 ∷ []) + 256 * number (spelling 3 (d / 256)) ≡ d
-unfolding spelling
-whole_domain d h = omega (arith, number-spelling 4 d (omega (arith, h)))
+local_apic_is : (p : ApicDomain) → let e = fields_bytes (local_apic_fields p) in IsEntry srat_layout e
+    × (entry_of 3 e ≡ Some (kinds.LocalApic (read.local_apic_affinity_at 3 e)))
+unfolding local_apic_fields spelling
+local_apic_is p = (record { entry_type = lit≤ tt; header = lit≤ tt; size = refl; least = lit≤ tt }, refl)
 
-local_apic_by : (p : ApicDomain) → FitsApic p → entry_of 3 (local_apic_entry p) ≡ tell (local_apic p.domain p.local_apic_id)
-unfolding local_apic_entry field_of spelling
-local_apic_by p f = ap (λ d. tell (local_apic d (number (p.local_apic_id ∷ [])))) (whole_domain p.domain f.domain) ∙ ap (λ i. tell (local_apic p.domain i)) (one p.local_apic_id)
+-- Proximity Domain [31:8]
+upper_domain : (p : ApicDomain) → All FitsField (local_apic_fields p)
+    → field_of (fields_bytes (local_apic_fields p)) 9 3 ≡ p.domain / 256
+unfolding local_apic_fields spelling field_of
+upper_domain p fits = omega (arith, fits 7 (Zeros 0) (lit< tt))
 
-local_apic_is : (p : ApicDomain) → IsEntry srat_layout (local_apic_entry p)
-unfolding local_apic_entry spelling
-local_apic_is p = record { entry_type = lit≤ tt; header = lit≤ tt; size = refl; least = lit≤ tt }
+local_apic_says : (p : ApicDomain) → All FitsField (local_apic_fields p)
+    → Speaks (fields_bytes (local_apic_fields p)) (local_apic p.domain p.local_apic_id ∷ [])
+unfolding local_apic_fields
+local_apic_says p fits =
+    let field = λ (i : ℕ) (less : i < 9). read_at (local_apic_fields p) fits i less in
+    let whole : p.domain % 256 + 256 * (p.domain / 256) ≡ p.domain = omega arith in
+    speaks_one _ _ (local_apic_is p).0 ((local_apic_is p).1
+    ∙ rw (
+      field 2 (lit< tt),
+      field 3 (lit< tt),
+      field 4 (lit< tt),
+      field 5 (lit< tt),
+      field 8 (lit< tt),
+      upper_domain p fits,
+    )
+    (rw whole refl))
 
-x2apic_by : (p : ApicDomain) → FitsApic p → entry_of 3 (local_x2apic_entry p) ≡ tell (local_x2apic p.domain p.local_apic_id)
-unfolding local_x2apic_entry field_of spelling
-x2apic_by p f =
-    ap (λ d. tell (local_x2apic d (number (spelling 4 p.local_apic_id)))) (number-spelling 4 p.domain (omega (arith, f.domain)))
-    ∙ ap (λ i. tell (local_x2apic p.domain i)) (number-spelling 4 p.local_apic_id (omega (arith, f.id)))
+x2apic_is : (p : ApicDomain) → let e = fields_bytes (local_x2apic_fields p) in IsEntry srat_layout e
+    × (entry_of 3 e ≡ Some (kinds.LocalX2Apic (read.local_x2apic_affinity_at e)))
+unfolding local_x2apic_fields spelling
+x2apic_is p = (record { entry_type = lit≤ tt; header = lit≤ tt; size = refl; least = lit≤ tt }, refl)
 
-x2apic_is : (p : ApicDomain) → IsEntry srat_layout (local_x2apic_entry p)
-unfolding local_x2apic_entry spelling
-x2apic_is p = record { entry_type = lit≤ tt; header = lit≤ tt; size = refl; least = lit≤ tt }
+x2apic_says : (p : ApicDomain) → All FitsField (local_x2apic_fields p)
+    → Speaks (fields_bytes (local_x2apic_fields p)) (local_x2apic p.domain p.local_apic_id ∷ [])
+unfolding local_x2apic_fields
+x2apic_says p fits =
+    let field = λ (i : ℕ) (less : i < 9). read_at (local_x2apic_fields p) fits i less in
+    speaks_one _ _ (x2apic_is p).0 ((x2apic_is p).1
+    ∙ rw (field 3 (lit< tt), field 4 (lit< tt), field 5 (lit< tt), field 6 (lit< tt)) refl)
 
-apic_says_by : (small : Bool) (p : ApicDomain) → FitsApic p
-    → Speaks (if small then local_apic_entry p else local_x2apic_entry p) ((if small then local_apic p.domain p.local_apic_id else local_x2apic p.domain p.local_apic_id) ∷ [])
-apic_says_by true p f = speaks_one _ _ (local_apic_is p) (local_apic_by p f)
-apic_says_by false p f = speaks_one _ _ (x2apic_is p) (x2apic_by p f)
+apic_says_by : (small : Bool) (p : ApicDomain)
+    → All FitsField (if small then local_apic_fields p else local_x2apic_fields p)
+    → Speaks (fields_bytes (if small then local_apic_fields p else local_x2apic_fields p))
+    ((if small then local_apic p.domain p.local_apic_id else local_x2apic p.domain p.local_apic_id) ∷ [])
+apic_says_by true p fits = local_apic_says p fits
+apic_says_by false p fits = x2apic_says p fits
 
 apic_says : (p : ApicDomain) → FitsApic p → Speaks (apic_entry p) (apic_item p ∷ [])
-unfolding apic_entry
-apic_says p f = apic_says_by (is_small p) p f
+apic_says p fits = apic_says_by (is_small p) p fits
 
-gicc_by : (p : GiccDomain) → FitsGicc p → entry_of 3 (gicc_entry p) ≡ tell (gicc p.domain p.processor_uid)
-unfolding gicc_entry field_of spelling
-gicc_by p f =
-    ap (λ d. tell (gicc d (number (spelling 4 p.processor_uid)))) (number-spelling 4 p.domain (omega (arith, f.domain)))
-    ∙ ap (λ i. tell (gicc p.domain i)) (number-spelling 4 p.processor_uid (omega (arith, f.uid)))
-
-gicc_is : (p : GiccDomain) → IsEntry srat_layout (gicc_entry p)
-unfolding gicc_entry spelling
-gicc_is p = record { entry_type = lit≤ tt; header = lit≤ tt; size = refl; least = lit≤ tt }
+gicc_is : (p : GiccDomain) → let e = gicc_entry p in IsEntry srat_layout e
+    × (entry_of 3 e ≡ Some (kinds.Gicc (read.gicc_affinity_at e)))
+unfolding gicc_fields spelling
+gicc_is p = (record { entry_type = lit≤ tt; header = lit≤ tt; size = refl; least = lit≤ tt }, refl)
 
 gicc_says : (p : GiccDomain) → FitsGicc p → Speaks (gicc_entry p) (gicc_item p ∷ [])
-gicc_says p f = speaks_one _ _ (gicc_is p) (gicc_by p f)
+unfolding gicc_fields
+gicc_says p fits =
+    let field = λ (i : ℕ) (less : i < 6). read_at (gicc_fields p) fits i less in
+    speaks_one _ _ (gicc_is p).0 ((gicc_is p).1
+    ∙ rw (field 2 (lit< tt), field 3 (lit< tt), field 4 (lit< tt), field 5 (lit< tt)) refl)
 
-memory_by : (r : MemoryRange) → FitsRange r → entry_of 3 (memory_entry r) ≡ tell (memory_item r)
-unfolding memory_entry field_of spelling
-memory_by r f =
-    ap (λ d. tell (memory d (number (spelling 8 r.base)) (number (spelling 8 r.length)) (number (range_flags r ∷ 0 ∷ 0 ∷ 0 ∷ [])))) (number-spelling 4 r.domain (omega (arith, f.domain)))
-    ∙ ap (λ b. tell (memory r.domain b (number (spelling 8 r.length)) (number (range_flags r ∷ 0 ∷ 0 ∷ 0 ∷ [])))) (number-spelling 8 r.base (omega (arith, f.base)))
-    ∙ ap (λ n. tell (memory r.domain r.base n (number (range_flags r ∷ 0 ∷ 0 ∷ 0 ∷ [])))) (number-spelling 8 r.length (omega (arith, f.length)))
-    ∙ ap (λ n. tell (memory r.domain r.base r.length n)) (low_byte (range_flags r))
-
-memory_is : (r : MemoryRange) → IsEntry srat_layout (memory_entry r)
-unfolding memory_entry spelling
-memory_is r = record { entry_type = lit≤ tt; header = lit≤ tt; size = refl; least = lit≤ tt }
+memory_is : (r : MemoryRange) → let e = memory_entry r in IsEntry srat_layout e
+    × (entry_of 3 e ≡ Some (kinds.Memory (read.memory_affinity_at 3 e)))
+unfolding memory_fields spelling
+memory_is r = (record { entry_type = lit≤ tt; header = lit≤ tt; size = refl; least = lit≤ tt }, refl)
 
 memory_says : (r : MemoryRange) → FitsRange r → Speaks (memory_entry r) (memory_item r ∷ [])
-memory_says r f = speaks_one _ _ (memory_is r) (memory_by r f)
+unfolding memory_fields
+memory_says r fits =
+    let field = λ (i : ℕ) (less : i < 9). read_at (memory_fields r) fits i less in
+    speaks_one _ _ (memory_is r).0 ((memory_is r).1
+    ∙ rw (field 2 (lit< tt), field 4 (lit< tt), field 5 (lit< tt), field 7 (lit< tt)) refl)
 
 -- ---- what is found in the entries
 
 abbrev items : SratContents → List SratEntry
 items c = map apic_item c.apics.now ++ (map gicc_item c.giccs.now ++ map memory_item c.ranges.now)
 
-filtered : {X Y : Type 0} (h : SratEntry → Option Y) (g : X → SratEntry) (k : X → Option Y) → ((x : X) → h (g x) ≡ k x) → (xs : List X) → filter_map h (map g xs) ≡ filter_map k xs
+filtered : {X Y : Type 0} (h : SratEntry → Option Y) (g : X → SratEntry) (k : X → Option Y) → ((x : X) → h (g x) ≡ k x)
+    → (xs : List X) → filter_map h (map g xs) ≡ filter_map k xs
 filtered h g k e [] = refl
 filtered h g k e (x ∷ xs) = rw (e x, filtered h g k e xs) refl
 
-none_of : {X Y : Type 0} (h : SratEntry → Option Y) (g : X → SratEntry) → ((x : X) → h (g x) ≡ None) → (xs : List X) → filter_map h (map g xs) ≡ []
-none_of h g e [] = refl
-none_of h g e (x ∷ xs) = rw (e x) (none_of h g e xs)
+three : {X : Type 0} (h : SratEntry → Option X) (a b c : List SratEntry) (x y z : List X) → filter_map h a ≡ x
+    → filter_map h b ≡ y → filter_map h c ≡ z → filter_map h (a ++ (b ++ c)) ≡ x ++ (y ++ z)
+three h a b c x y z e f g = both h a (b ++ c) x (y ++ z) e (both h b c y z f g)
 
-three : {X : Type 0} (h : SratEntry → Option X) (a b c : List SratEntry) (x y z : List X) → filter_map h a ≡ x → filter_map h b ≡ y → filter_map h c ≡ z → filter_map h (a ++ (b ++ c)) ≡ x ++ (y ++ z)
-three h a b c x y z e f g =
-    filter_map-append h a (b ++ c) ∙ ap (λ v. v ++ filter_map h (b ++ c)) e
-    ∙ ap (λ v. x ++ v) (filter_map-append h b c ∙ ap (λ v. v ++ filter_map h c) f ∙ ap (λ v. y ++ v) g)
-
-apic_in_by : (small : Bool) (id : ℕ) (p : ApicDomain) → apic_domain id (if small then local_apic p.domain p.local_apic_id else local_x2apic p.domain p.local_apic_id) ≡ (if p.local_apic_id == id then Some p.domain else None)
+apic_in_by : (small : Bool) (id : ℕ) (p : ApicDomain)
+    → apic_domain id (if small then local_apic p.domain p.local_apic_id else local_x2apic p.domain p.local_apic_id)
+    ≡ (if p.local_apic_id == id then Some p.domain else None)
 apic_in_by true id p = refl
 apic_in_by false id p = refl
 
-no_uid_by : (small : Bool) (uid : ℕ) (p : ApicDomain) → processor_domain uid (if small then local_apic p.domain p.local_apic_id else local_x2apic p.domain p.local_apic_id) ≡ None
+no_uid_by : (small : Bool) (uid : ℕ) (p : ApicDomain)
+    → processor_domain uid (if small then local_apic p.domain p.local_apic_id
+    else local_x2apic p.domain p.local_apic_id) ≡ None
 no_uid_by true uid p = refl
 no_uid_by false uid p = refl
 
-no_range_by : (small : Bool) (p : ApicDomain) → range_in (if small then local_apic p.domain p.local_apic_id else local_x2apic p.domain p.local_apic_id) ≡ None
+no_range_by : (small : Bool) (p : ApicDomain)
+    → range_in (if small then local_apic p.domain p.local_apic_id else local_x2apic p.domain p.local_apic_id) ≡ None
 no_range_by true p = refl
 no_range_by false p = refl
 
 range_by : (d b n : ℕ) (hot non_volatile : Bool) → nat_lt 0 n ≡ true
-    → range_in (memory d b n (1 + (2 * bit_of hot + 4 * bit_of non_volatile))) ≡ Some (record { domain = d; base = b; length = n; is_hot_pluggable = hot; is_non_volatile = non_volatile })
+    → range_in (memory d b n (1 + (2 * bit_of hot + 4 * bit_of non_volatile)))
+    ≡ Some (record { domain = d; base = b; length = n; is_hot_pluggable = hot; is_non_volatile = non_volatile })
 range_by d b n true true some = rw some refl
 range_by d b n true false some = rw some refl
 range_by d b n false true some = rw some refl
@@ -186,7 +205,8 @@ ranges_by [] all = refl
 ranges_by (r ∷ rs) all =
     let p = and_parts _ _ all in
     let q = and_parts _ _ p.0 in
-    rw (range_by r.domain r.base r.length r.is_hot_pluggable r.is_non_volatile q.0) (ap (λ ys. r ∷ ys) (ranges_by rs p.1))
+    rw (range_by r.domain r.base r.length r.is_hot_pluggable r.is_non_volatile q.0)
+    (ap (λ ys. r ∷ ys) (ranges_by rs p.1))
 
 all_end : (rs : List MemoryRange) → list_all is_range rs ≡ true → list_all ends_below rs ≡ true
 all_end [] all = refl
@@ -198,20 +218,29 @@ all_end (r ∷ rs) all =
 module _ (c : SratContents) where
   ranges_are : list_all is_range c.ranges.now ≡ true → filter_map range_in (items c) ≡ c.ranges.now
   ranges_are all =
-      three range_in (map apic_item c.apics.now) (map gicc_item c.giccs.now) (map memory_item c.ranges.now) [] [] c.ranges.now
-      (none_of range_in apic_item (λ p. no_range_by (is_small p) p) c.apics.now) (none_of range_in gicc_item (λ p. refl) c.giccs.now) (ranges_by c.ranges.now all)
+      three range_in (map apic_item c.apics.now) (map gicc_item c.giccs.now) (map memory_item c.ranges.now) [] []
+      c.ranges.now
+      (none_of range_in apic_item (λ p. no_range_by (is_small p) p) c.apics.now)
+      (none_of range_in gicc_item (λ p. refl) c.giccs.now) (ranges_by c.ranges.now all)
 
-  apics_are : (id : ℕ) → filter_map (apic_domain id) (items c) ≡ filter_map (λ p. if p.local_apic_id == id then Some p.domain else None) c.apics.now
+  apics_are : (id : ℕ) → filter_map (apic_domain id) (items c) ≡ filter_map
+      (λ p. if p.local_apic_id == id then Some p.domain else None) c.apics.now
   apics_are id =
-      three (apic_domain id) (map apic_item c.apics.now) (map gicc_item c.giccs.now) (map memory_item c.ranges.now) _ [] []
-      (filtered (apic_domain id) apic_item (λ p. if p.local_apic_id == id then Some p.domain else None) (λ p. apic_in_by (is_small p) id p) c.apics.now)
-      (none_of (apic_domain id) gicc_item (λ p. refl) c.giccs.now) (none_of (apic_domain id) memory_item (λ r. refl) c.ranges.now) ∙ append-nil _
+      three (apic_domain id) (map apic_item c.apics.now) (map gicc_item c.giccs.now) (map memory_item c.ranges.now)
+      _ [] []
+      (filtered (apic_domain id) apic_item (λ p. if p.local_apic_id == id then Some p.domain else None)
+      (λ p. apic_in_by (is_small p) id p) c.apics.now)
+      (none_of (apic_domain id) gicc_item (λ p. refl) c.giccs.now)
+      (none_of (apic_domain id) memory_item (λ r. refl) c.ranges.now) ∙ append-nil _
 
-  giccs_are : (uid : ℕ) → filter_map (processor_domain uid) (items c) ≡ filter_map (λ p. if p.processor_uid == uid then Some p.domain else None) c.giccs.now
+  giccs_are : (uid : ℕ) → filter_map (processor_domain uid) (items c)
+      ≡ filter_map (λ p. if p.processor_uid == uid then Some p.domain else None) c.giccs.now
   giccs_are uid =
-      three (processor_domain uid) (map apic_item c.apics.now) (map gicc_item c.giccs.now) (map memory_item c.ranges.now) [] _ []
+      three (processor_domain uid) (map apic_item c.apics.now) (map gicc_item c.giccs.now)
+      (map memory_item c.ranges.now) [] _ []
       (none_of (processor_domain uid) apic_item (λ p. no_uid_by (is_small p) uid p) c.apics.now)
-      (filtered (processor_domain uid) gicc_item (λ p. if p.processor_uid == uid then Some p.domain else None) (λ p. refl) c.giccs.now)
+      (filtered (processor_domain uid) gicc_item (λ p. if p.processor_uid == uid then Some p.domain else None)
+      (λ p. refl) c.giccs.now)
       (none_of (processor_domain uid) memory_item (λ r. refl) c.ranges.now) ∙ append-nil _
 
 -- ---- the table
@@ -222,16 +251,21 @@ srat_name = record { a = _; b = _; c = _; d = _; letters = refl; text = refl; sa
 
 entries_speak : (c : SratContents) → AreFit c → Speaks (srat_entries c) (items c)
 entries_speak c f =
-    speaks_both _ _ _ _ (speaks_all FitsApic apic_entry apic_item apic_says c.apics.now (recursion_from_All FitsApic c.apics.now f.apics))
-    (speaks_both _ _ _ _ (speaks_all FitsGicc gicc_entry gicc_item gicc_says c.giccs.now (recursion_from_All FitsGicc c.giccs.now f.giccs))
-    (speaks_all FitsRange memory_entry memory_item memory_says c.ranges.now (recursion_from_All FitsRange c.ranges.now f.ranges)))
+    speaks_both _ _ _ _ (speaks_all FitsApic apic_entry apic_item apic_says c.apics.now
+    (recursion_from_All FitsApic c.apics.now f.apics))
+    (speaks_both _ _ _ _ (speaks_all FitsGicc gicc_entry gicc_item gicc_says c.giccs.now
+    (recursion_from_All FitsGicc c.giccs.now f.giccs))
+    (speaks_all FitsRange memory_entry memory_item memory_says c.ranges.now
+    (recursion_from_All FitsRange c.ranges.now f.ranges)))
 
-told : (ranges : List MemoryRange) (t : List ℕ) → (cut_of t).1 ≡ [] → ranges_of t ≡ ranges → list_all ends_below ranges ≡ true → affinities_of t ≡ Ok ranges
+told : (ranges : List MemoryRange) (t : List ℕ) → (cut_of t).1 ≡ [] → ranges_of t ≡ ranges
+    → list_all ends_below ranges ≡ true → affinities_of t ≡ Ok ranges
 told ranges t none same all = rw (none, same, all) refl
 
 module _ (ids : TableIds) (c : SratContents) (t : List ℕ) (is : IsSrat ids c t) where
   after_reserved : drop 48 t ≡ srat_entries c
-  after_reserved = sym (drop-drop 12 36 t) ∙ ap (drop 12) (table.rest SRAT srat_name 3 ids (srat_body c) t is.written) ∙ drop_at srat_reserved (srat_entries c) 12 refl
+  after_reserved = sym (drop-drop 12 36 t) ∙ ap (drop 12) (table.rest SRAT srat_name 3 ids (srat_body c) t is.written)
+      ∙ drop_at srat_reserved (srat_entries c) 12 refl
 
   speaks : Speaks (drop 48 t) (items c)
   speaks = rw after_reserved (entries_speak c is.fit)
@@ -241,11 +275,13 @@ module _ (ids : TableIds) (c : SratContents) (t : List ℕ) (is : IsSrat ids c t
   revision = (ids_are_read SRAT _ _ _ _ 3 ids (srat_body c) t srat_name.letters is.written).revision_is
 
   entries_are : entries_of t ≡ items c
-  entries_are = ap (λ r. filter_map (entry_of r) (cut_of t).0) revision ∙ ap (filter_map (entry_of 3)) (spoken_cut (drop 48 t) (items c) speaks).0 ∙ speaks.said
+  entries_are = ap (λ r. filter_map (entry_of r) (cut_of t).0) revision
+      ∙ ap (filter_map (entry_of 3)) (spoken_cut (drop 48 t) (items c) speaks).0 ∙ speaks.said
 
   says : SaysDomains c t
   says = record {
-    ranges = told c.ranges.now t (spoken_cut (drop 48 t) (items c) speaks).1 (ap (filter_map range_in) entries_are ∙ ranges_are c is.ranges) (all_end c.ranges.now is.ranges);
+    ranges = told c.ranges.now t (spoken_cut (drop 48 t) (items c) speaks).1
+        (ap (filter_map range_in) entries_are ∙ ranges_are c is.ranges) (all_end c.ranges.now is.ranges);
     apics = λ id. ap (last_or None) (ap (filter_map (apic_domain id)) entries_are ∙ apics_are c id);
     giccs = λ uid. ap (last_or None) (ap (filter_map (processor_domain uid)) entries_are ∙ giccs_are c uid);
   }
@@ -258,7 +294,9 @@ srat_valid ids c t is = table.valid SRAT srat_name 3 ids (srat_body c) t is.writ
 
 -- ---- whether it is written
 
-pub srat_is : {R : Type 0} (range : R → MemoryRange) (ids : TableIds) (c : ContentsOf R) (t : List ℕ) → IsTableOf SRAT 3 ids (srat_body_by range c) t → AreFitBy range c → srat_checked_by range c ≡ Ok tt → IsSratBy range ids c t
+pub srat_is : {R : Type 0} (range : R → MemoryRange) (ids : TableIds) (c : ContentsOf R) (t : List ℕ)
+    → IsTableOf SRAT 3 ids (srat_body_by range c) t → AreFitBy range c → srat_checked_by range c ≡ Ok tt
+    → IsSratBy range ids c t
 srat_is range ids c t written fit good =
     let one = holds_ok (list_all is_one_apic c.apics.now) IdOfAll _ tt good in
     let two = holds_ok (list_all is_one_gicc c.giccs.now) IdOfAll _ tt one.1 in

@@ -17,9 +17,12 @@ use Rattle.acpi_writer.specs.declared.ids.TableIds.{TableIds}
 
 -- ---- whether it is written
 
-pub it_fits : (room : ℕ) (s : Signature) (revision : ℕ) (ids : TableIds) (body : List ℕ) → are_texts ids ≡ true → 36 + length body ≤ room → 36 + length body < 2 ^ 32 → table_written room s revision ids body ≡ Ok (table_bytes s revision ids body)
+pub it_fits : (room : ℕ) (s : Signature) (revision : ℕ) (ids : TableIds) (body : List ℕ) → are_texts ids ≡ true
+    → 36 + length body ≤ room → 36 + length body < 2 ^ 32
+    → table_written room s revision ids body ≡ Ok (table_bytes s revision ids body)
 unfolding table_written
-it_fits room s revision ids body texts within short = rw (texts, le-leb (36 + length body) room within, lt-ltb (36 + length body) (2 ^ 32) short) refl
+it_fits room s revision ids body texts within short =
+    rw (texts, le-leb (36 + length body) room within, lt-ltb (36 + length body) (2 ^ 32) short) refl
 
 -- ---- its parts
 
@@ -36,7 +39,8 @@ pub record IsName (s : Signature) : Type 0 where
 abbrev makers : TableIds → List ℕ
 makers ids = spelling 4 ids.oem_revision ++ (ids.creator_id ++ spelling 4 ids.creator_revision)
 
-pub head_length : (s : Signature) (revision : ℕ) (ids : TableIds) → length (letters_of s) ≡ 4 → AreIds ids → (n : ℕ) → length (table_head s revision ids n) ≡ 36
+pub head_length : (s : Signature) (revision : ℕ) (ids : TableIds) → length (letters_of s) ≡ 4 → AreIds ids → (n : ℕ)
+    → length (table_head s revision ids n) ≡ 36
 unfolding table_head
 head_length s revision ids letters are n =
     let named = ids.oem_id ++ (ids.oem_table_id ++ makers ids) in
@@ -62,9 +66,12 @@ abbrev fields : ℕ → ℕ → ℕ → ℕ → ℕ → ℕ → TableIds → Lis
 fields a b c d n revision ids body =
     a ∷ b ∷ c ∷ d ∷ (spelling 4 n ++ (revision ∷ 0 ∷ (ids.oem_id ++ (ids.oem_table_id ++ (makers ids ++ body)))))
 
-raw_by : (s : Signature) (a b c d revision : ℕ) (ids : TableIds) (body : List ℕ) → letters_of s ≡ a ∷ b ∷ c ∷ d ∷ [] → unsummed s revision ids body ≡ fields a b c d (36 + length body) revision ids body
+raw_by : (s : Signature) (a b c d revision : ℕ) (ids : TableIds) (body : List ℕ) → letters_of s ≡ a ∷ b ∷ c ∷ d ∷ []
+    → unsummed s revision ids body ≡ fields a b c d (36 + length body) revision ids body
 unfolding table_head spelling
-raw_by s a b c d revision ids body letters = rw (letters, append_assoc ids.oem_id (ids.oem_table_id ++ makers ids) body, append_assoc ids.oem_table_id (makers ids) body) refl
+raw_by s a b c d revision ids body letters =
+    rw (letters, append_assoc ids.oem_id (ids.oem_table_id ++ makers ids) body)
+    (rw (append_assoc ids.oem_table_id (makers ids) body) refl)
 
 module _ (s : Signature) (name : IsName s) (revision : ℕ) (ids : TableIds) (are : AreIds ids) (body : List ℕ) where
   raw_is : unsummed s revision ids body ≡ fields name.a name.b name.c name.d (36 + length body) revision ids body
@@ -74,7 +81,11 @@ module _ (s : Signature) (name : IsName s) (revision : ℕ) (ids : TableIds) (ar
   head_long = head_length s revision ids (ap length name.letters) are
 
   pub raw_long : length (unsummed s revision ids body) ≡ 36 + length body
-  raw_long = omega (arith, length-append (table_head s revision ids (36 + length body)) body, head_long (36 + length body))
+  raw_long = omega (
+    arith,
+    length-append (table_head s revision ids (36 + length body)) body,
+    head_long (36 + length body),
+  )
 
   pub table_long : length (table_bytes s revision ids body) ≡ 36 + length body
   unfolding table_bytes
@@ -110,7 +121,9 @@ module _ (s : Signature) (name : IsName s) (revision : ℕ) (ids : TableIds) (ar
   raw_table_id : part (unsummed s revision ids body) 16 8 ≡ ids.oem_table_id
   unfolding spelling
   raw_table_id =
-      ap (λ b. part b 16 8) raw_is ∙ ap (take 8) (drop_at ids.oem_id (ids.oem_table_id ++ (makers ids ++ body)) 6 are.oem_id) ∙ take_at ids.oem_table_id (makers ids ++ body) 8 are.oem_table_id
+      ap (λ b. part b 16 8) raw_is ∙ ap (take 8)
+      (drop_at ids.oem_id (ids.oem_table_id ++ (makers ids ++ body)) 6 are.oem_id)
+      ∙ take_at ids.oem_table_id (makers ids ++ body) 8 are.oem_table_id
 
   raw_is_table : are_texts ids ≡ true → 36 + length body < 2 ^ 32 → IsTable (unsummed s revision ids body)
   raw_is_table texts short =
@@ -134,25 +147,32 @@ named_still s b named = rw (part_front b 9 (sum_byte 9 b) 4 (lit≤ tt)) named
 is_taken : (b : List ℕ) → IsTable b → is_table b ≡ true
 unfolding is_table
 is_taken b is =
-    and_from _ _ (le-leb 36 (length b) is.long) (and_from _ _ (eq-eqb (field_of b 4 4) (length b) is.whole) (and_from _ _ is.signature (and_from _ _ is.id is.table_id)))
+    and_from _ _ (le-leb 36 (length b) is.long)
+    (and_from _ _ (eq-eqb (field_of b 4 4) (length b) is.whole)
+    (and_from _ _ is.signature (and_from _ _ is.id is.table_id)))
 
 is_checked : (s : Signature) (b : List ℕ) → IsTable b → is_named s b ≡ true → sum_of b ≡ 0 → check_table s b ≡ Ok tt
 unfolding check_table check_names header_at
 is_checked s b is named sum =
     let all : take (length b) b ≡ b = take_all (length b) b (omega arith) in
-    rw (named, is.signature, is.id, is.table_id, is.whole, le-leb 36 (length b) is.long, le-leb (length b) (length b) (omega arith), all, sum) refl
+    rw (named, is.signature, is.id, is.table_id, is.whole, le-leb 36 (length b) is.long)
+    (rw (le-leb (length b) (length b) (omega arith), all, sum) refl)
 
-module _ (s : Signature) (name : IsName s) (revision : ℕ) (ids : TableIds) (body table : List ℕ) (is : IsTableOf s revision ids body table) where
+module _ (s : Signature) (name : IsName s) (revision : ℕ) (ids : TableIds) (body table : List ℕ)
+    (is : IsTableOf s revision ids body table) where
   pub named : is_named s table ≡ true
   unfolding table_bytes
-  named = ap (is_named s) is.bytes ∙ named_still s (unsummed s revision ids body) (raw_is_named s name revision ids is.ids_fit body)
+  named = ap (is_named s) is.bytes ∙ named_still s (unsummed s revision ids body)
+      (raw_is_named s name revision ids is.ids_fit body)
 
   pub valid : IsValid s table
   unfolding table_bytes
   valid =
       let raw = raw_is_table s name revision ids is.ids_fit body is.texts is.short in
       let both : IsValid s (table_bytes s revision ids body) = record {
-        checked = is_checked s (table_bytes s revision ids body) (still (unsummed s revision ids body) raw) (named_still s (unsummed s revision ids body) (raw_is_named s name revision ids is.ids_fit body)) (sum_is_set 9 (unsummed s revision ids body) (omega (arith, raw.long)));
+        checked = is_checked s (table_bytes s revision ids body) (still (unsummed s revision ids body) raw)
+            (named_still s (unsummed s revision ids body) (raw_is_named s name revision ids is.ids_fit body))
+            (sum_is_set 9 (unsummed s revision ids body) (omega (arith, raw.long)));
         taken = is_taken (table_bytes s revision ids body) (still (unsummed s revision ids body) raw);
       } in
       record { checked = ap (check_table s) is.bytes ∙ both.checked; taken = ap is_table is.bytes ∙ both.taken }
@@ -174,7 +194,8 @@ module _ (s : Signature) (name : IsName s) (revision : ℕ) (ids : TableIds) (bo
 abbrev tail : TableIds → List ℕ → List ℕ
 tail ids body = ids.creator_id ++ (spelling 4 ids.creator_revision ++ body)
 
-module _ (s : Signature) (a b c d revision : ℕ) (ids : TableIds) (body : List ℕ) (letters : letters_of s ≡ a ∷ b ∷ c ∷ d ∷ []) (are : AreIds ids) where
+module _ (s : Signature) (a b c d revision : ℕ) (ids : TableIds) (body : List ℕ)
+    (letters : letters_of s ≡ a ∷ b ∷ c ∷ d ∷ []) (are : AreIds ids) where
   abbrev raw : List ℕ
   raw = unsummed s revision ids body
 
@@ -186,10 +207,12 @@ module _ (s : Signature) (a b c d revision : ℕ) (ids : TableIds) (body : List 
   from_ids = ap (drop 10) (raw_by s a b c d revision ids body letters)
 
   from_table_id : drop 16 raw ≡ ids.oem_table_id ++ from_makers
-  from_table_id = sym (drop-drop 6 10 raw) ∙ ap (drop 6) from_ids ∙ drop_at ids.oem_id (ids.oem_table_id ++ from_makers) 6 are.oem_id
+  from_table_id = sym (drop-drop 6 10 raw) ∙ ap (drop 6) from_ids
+      ∙ drop_at ids.oem_id (ids.oem_table_id ++ from_makers) 6 are.oem_id
 
   after_names : drop 24 raw ≡ from_makers
-  after_names = sym (drop-drop 8 16 raw) ∙ ap (drop 8) from_table_id ∙ drop_at ids.oem_table_id from_makers 8 are.oem_table_id
+  after_names = sym (drop-drop 8 16 raw) ∙ ap (drop 8) from_table_id
+      ∙ drop_at ids.oem_table_id from_makers 8 are.oem_table_id
 
   after_four : drop 4 from_makers ≡ tail ids body
   unfolding spelling
@@ -203,7 +226,8 @@ module _ (s : Signature) (a b c d revision : ℕ) (ids : TableIds) (body : List 
   from_creator = sym (drop-drop 4 24 raw) ∙ ap (drop 4) after_names ∙ after_four
 
   from_last : drop 32 raw ≡ spelling 4 ids.creator_revision ++ body
-  from_last = sym (drop-drop 4 28 raw) ∙ ap (drop 4) from_creator ∙ drop_at ids.creator_id (spelling 4 ids.creator_revision ++ body) 4 are.creator_id
+  from_last = sym (drop-drop 4 28 raw) ∙ ap (drop 4) from_creator
+      ∙ drop_at ids.creator_id (spelling 4 ids.creator_revision ++ body) 4 are.creator_id
 
   four_last : take 4 (spelling 4 ids.creator_revision ++ body) ≡ spelling 4 ids.creator_revision
   unfolding spelling
@@ -228,13 +252,19 @@ module _ (s : Signature) (a b c d revision : ℕ) (ids : TableIds) (body : List 
   unfolding header_at field_of
   ids_read = record {
     revision_is = ap number (same_revision ∙ raw_revision) ∙ one;
-    oem_id = same 10 6 (lit< tt) ∙ ap (take 6) from_ids ∙ take_at ids.oem_id (ids.oem_table_id ++ from_makers) 6 are.oem_id;
-    oem_table_id = same 16 8 (lit< tt) ∙ ap (take 8) from_table_id ∙ take_at ids.oem_table_id from_makers 8 are.oem_table_id;
-    oem_revision = ap number (same 24 4 (lit< tt) ∙ ap (take 4) after_names ∙ four_of) ∙ number-spelling 4 ids.oem_revision (omega (arith, are.oem_revision));
-    creator_id = ap number (same 28 4 (lit< tt) ∙ ap (take 4) from_creator ∙ take_at ids.creator_id (spelling 4 ids.creator_revision ++ body) 4 are.creator_id);
-    creator_revision = ap number (same 32 4 (lit< tt) ∙ ap (take 4) from_last ∙ four_last) ∙ number-spelling 4 ids.creator_revision (omega (arith, are.creator_revision));
+    oem_id = same 10 6 (lit< tt) ∙ ap (take 6) from_ids ∙ take_at ids.oem_id (ids.oem_table_id ++ from_makers) 6
+        are.oem_id;
+    oem_table_id = same 16 8 (lit< tt) ∙ ap (take 8) from_table_id
+        ∙ take_at ids.oem_table_id from_makers 8 are.oem_table_id;
+    oem_revision = ap number (same 24 4 (lit< tt) ∙ ap (take 4) after_names ∙ four_of)
+        ∙ number-spelling 4 ids.oem_revision (omega (arith, are.oem_revision));
+    creator_id = ap number (same 28 4 (lit< tt) ∙ ap (take 4) from_creator
+        ∙ take_at ids.creator_id (spelling 4 ids.creator_revision ++ body) 4 are.creator_id);
+    creator_revision = ap number (same 32 4 (lit< tt) ∙ ap (take 4) from_last ∙ four_last)
+        ∙ number-spelling 4 ids.creator_revision (omega (arith, are.creator_revision));
   }
 
 pub ids_are_read : IdsAreRead
 ids_are_read s a b c d revision ids body table letters is =
-    subst (λ (t : List ℕ). HasIds revision ids (header_at t)) (sym is.bytes) (ids_read s a b c d revision ids body letters is.ids_fit)
+    subst (λ (t : List ℕ). HasIds revision ids (header_at t)) (sym is.bytes)
+    (ids_read s a b c d revision ids body letters is.ids_fit)

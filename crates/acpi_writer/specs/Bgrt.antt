@@ -1,16 +1,19 @@
 -- The BGRT that is written (ACPI 6.4, section 5.2.22).
-use Rattle.std.specs.Prelude.{◌≡◌, ℕ, ◌+◌, ◌*◌, ◌^◌, ◌<◌, List, ◌∷◌, ◌++◌, Result}
+use Rattle.std.specs.Prelude.{◌≡◌, ℕ, ◌+◌, ◌*◌, List, [], ◌∷◌, Result}
+use Rattle.std.specs.List.{All}
 use Rattle.acpi_base.specs.Bits.{bits_of, has_bit}
-use Rattle.acpi_base.specs.Bytes.{spelling}
 use Rattle.acpi_base.specs.declared.table.signature.TheConstants.Signature.{BGRT}
 use Rattle.acpi_fixed.specs.Bgrt.{bgrt_at, image_type_of, offset_of, status_of}
 use Rattle.acpi_fixed.specs.declared.bgrt.Bgrt.{Bgrt}
 use Rattle.acpi_fixed.specs.declared.bgrt.ImageType.TheVariants.{Bitmap}
+use Rattle.acpi_writer.specs.Fields.{FitsField, fields_bytes}
 use Rattle.acpi_writer.specs.Table.{IsTableOf, IsValid, bit_of, table_written}
 use Rattle.acpi_writer.specs.declared.bgrt.BgrtContents.{BgrtContents}
 use Rattle.acpi_writer.specs.declared.bgrt.BgrtOrientation.{BgrtOrientation}
 use Rattle.acpi_writer.specs.declared.bgrt.BgrtOrientation.TheVariants as orientations
 use Rattle.acpi_writer.specs.declared.error.WriterError.{WriterError}
+use Rattle.acpi_writer.specs.declared.fields.Field.{Field}
+use Rattle.acpi_writer.specs.declared.fields.Field.TheVariants.{U8, U16, U32, U64}
 use Rattle.acpi_writer.specs.declared.ids.TableIds.{TableIds}
 
 -- Orientation Offset: the code of each
@@ -31,12 +34,16 @@ degrees_of orientations.Degrees270 = 270
 abbrev pub status_written : BgrtContents → ℕ
 status_written c = bit_of c.was_displayed + 2 * orientation_code c.orientation_offset
 
--- after the header: at 36 Version, which is 1; at 38 Status; at 39 Image Type, of which 0 is a bitmap; at 40 Image
--- Address; at 48 Image Offset X; at 52 Image Offset Y
-unfoldable pub bgrt_body : BgrtContents → List ℕ
-bgrt_body c =
-    1 ∷ 0 ∷ status_written c ∷ 0 ∷ (spelling 8 c.image_address
-    ++ (spelling 4 c.image_offset.0 ++ spelling 4 c.image_offset.1))
+-- the fields after the header
+unfoldable pub bgrt_fields : BgrtContents → List Field
+bgrt_fields c =
+    U16 1 ∷ U8 (status_written c) ∷ U8 0  -- 36: Version, 38: Status, 39: Image Type, of which 0 is a bitmap
+    ∷ U64 c.image_address  -- 40: Image Address
+    ∷ U32 c.image_offset.0 ∷ U32 c.image_offset.1  -- 48: Image Offset X, 52: Image Offset Y
+    ∷ []
+
+abbrev pub bgrt_body : BgrtContents → List ℕ
+bgrt_body c = fields_bytes (bgrt_fields c)
 
 -- the table, of revision 1, in so much room, or the error
 abbrev pub bgrt_written : ℕ → TableIds → BgrtContents → Result (List ℕ) WriterError
@@ -45,10 +52,8 @@ bgrt_written room ids c = table_written room BGRT 1 ids (bgrt_body c)
 -- ---- laws
 
 -- the numbers have a place
-pub record FitsBgrt (c : BgrtContents) : Type 0 where
-  pub address : c.image_address < 2 ^ 64
-  pub x : c.image_offset.0 < 2 ^ 32
-  pub y : c.image_offset.1 < 2 ^ 32
+abbrev pub FitsBgrt : BgrtContents → Type 0
+FitsBgrt c = All FitsField (bgrt_fields c)
 
 -- the bytes are the table of contents whose numbers have a place
 pub record IsBgrt (ids : TableIds) (c : BgrtContents) (table : List ℕ) : Type 0 where

@@ -12,12 +12,15 @@ use Rattle.acpi_writer.specs.declared.error.WriterError.{WriterError}
 use Rattle.acpi_writer.specs.declared.error.WriterError.TheVariants.{NoRoom}
 use Rattle.acpi_writer.specs.declared.facs.FacsContents.{FacsContents}
 
--- at 0 Signature, 4 a Length of 64, 8 Hardware Signature, 12 Firmware Waking Vector, 16 a Global Lock of 0, 20 Flags, of
--- which bit 0 is S4BIOS_F and bit 1 64BIT_WAKE_SUPPORTED_F, 24 X_Firmware_Waking_Vector, 32 a Version of 2, 33 Reserved,
+-- at 0 Signature, 4 a Length of 64, 8 Hardware Signature, 12 Firmware Waking Vector, 16 a Global Lock of 0, 20 Flags,
+-- of
+-- which bit 0 is S4BIOS_F and bit 1 64BIT_WAKE_SUPPORTED_F, 24 X_Firmware_Waking_Vector, 32 a Version of 2, 33
+-- Reserved,
 -- 36 OSPM Flags of 0, 40 Reserved
 unfoldable pub facs_bytes : FacsContents → List ℕ
 facs_bytes c =
-    letters_of FACS ++ (spelling 4 64 ++ (spelling 4 c.hardware_signature ++ (spelling 4 c.waking_vector ++ (spelling 4 0
+    letters_of FACS ++ (spelling 4 64 ++ (spelling 4 c.hardware_signature
+    ++ (spelling 4 c.waking_vector ++ (spelling 4 0
     ++ ((bit_of c.supports_s4bios + 2 * bit_of c.supports_64_bit_wake) ∷ 0 ∷ 0 ∷ 0 ∷ (spelling 8 c.x_waking_vector
     ++ (2 ∷ replicate 31 0)))))))
 

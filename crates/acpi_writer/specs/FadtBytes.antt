@@ -1,7 +1,6 @@
 -- The bytes of a FADT that says what is given (ACPI 6.4, section 5.2.9).
 use Rattle.std.specs.Prelude.{ℕ, ◌*◌, ◌/◌, ◌^◌, ◌==◌, ◌&&◌, Bool, true, false, not, if◌then◌else◌}
-use Rattle.std.specs.Prelude.{List, [], ◌∷◌, ◌++◌, flat_map, nat_lt, Option, Some, None, Result}
-use Rattle.acpi_base.specs.Bytes.{spelling}
+use Rattle.std.specs.Prelude.{List, [], ◌∷◌, ◌++◌, flat_map, nat_lt, replicate, Option, Some, None, Result}
 use Rattle.acpi_base.specs.Steps.{◌>>=◌, holds}
 use Rattle.acpi_base.specs.declared.address.AccessSize.TheVariants.{Undefined}
 use Rattle.acpi_base.specs.declared.address.AddressSpace.{AddressSpace}
@@ -11,6 +10,7 @@ use Rattle.acpi_base.specs.declared.table.signature.TheConstants.Signature.{FADT
 use Rattle.acpi_fixed.specs.declared.fadt.PowerProfile.{PowerProfile}
 use Rattle.acpi_fixed.specs.declared.fadt.PowerProfile.TheVariants as profiles
 use Rattle.acpi_fixed.specs.declared.fadt.registers.gpe.GpeBlock.{GpeBlock}
+use Rattle.acpi_writer.specs.Fields.{fields_bytes}
 use Rattle.acpi_writer.specs.Flags.{flag_number}
 use Rattle.acpi_writer.specs.Generic.{is_register, register_bytes, register_or_zeros}
 use Rattle.acpi_writer.specs.Table.{table_written}
@@ -23,6 +23,8 @@ use Rattle.acpi_writer.specs.declared.fadt.contents.FixedHardware.{FixedHardware
 use Rattle.acpi_writer.specs.declared.fadt.features.ArmBootFeatures.{ArmBootFeatures}
 use Rattle.acpi_writer.specs.declared.fadt.features.FixedFeatures.{FixedFeatures}
 use Rattle.acpi_writer.specs.declared.fadt.features.PcBootFeatures.{PcBootFeatures}
+use Rattle.acpi_writer.specs.declared.fields.Field.{Field}
+use Rattle.acpi_writer.specs.declared.fields.Field.TheVariants.{U8, U16, U32, U64, Zeros}
 use Rattle.acpi_writer.specs.declared.ids.TableIds.{TableIds}
 
 -- ---- the values of fields
@@ -152,51 +154,39 @@ pc_flags p =
 abbrev pub arm_flags : ArmBootFeatures → List Bool
 arm_flags a = a.implements_psci ∷ a.use_hvc_as_psci_conduit ∷ []  -- PSCI_COMPLIANT, PSCI_USE_HVC
 
--- ---- the parts after the header, each from an offset in the table on
+-- ---- the fields after the header
 
--- at 36 FIRMWARE_CTRL, 40 DSDT, 44 Reserved, 45 Preferred_PM_Profile, 46 SCI_INT, 48 SMI_CMD, 52 ACPI_ENABLE, 53
--- ACPI_DISABLE, 54 S4BIOS_REQ, 55 PSTATE_CNT
-unfoldable pub fadt_head : FadtContents → FixedHardware → List ℕ
-fadt_head c h =
-    spelling 4 (narrow (address_or_zero c.facs)) ++ (spelling 4 (narrow c.dsdt)
-    ++ (0 ∷ profile_code c.power_profile ∷ (spelling 2 c.sci_interrupt ++ (spelling 4 h.smi_cmd_port
-    ++ (h.acpi_enable ∷ h.acpi_disable ∷ h.s4bios_req ∷ h.pstate_control ∷ [])))))
+-- before RESET_REG
+unfoldable pub front_fields : FadtContents → FixedHardware → List Field
+front_fields c h =
+    U32 (narrow (address_or_zero c.facs)) ∷ U32 (narrow c.dsdt)  -- 36: FIRMWARE_CTRL, 40: DSDT
+    ∷ Zeros 1 ∷ U8 (profile_code c.power_profile)  -- 44: Reserved, 45: Preferred_PM_Profile
+    ∷ U16 c.sci_interrupt ∷ U32 h.smi_cmd_port  -- 46: SCI_INT, 48: SMI_CMD
+    ∷ U8 h.acpi_enable ∷ U8 h.acpi_disable  -- 52: ACPI_ENABLE, 53: ACPI_DISABLE
+    ∷ U8 h.s4bios_req ∷ U8 h.pstate_control  -- 54: S4BIOS_REQ, 55: PSTATE_CNT
+    ∷ U32 (port_of (Some h.pm1a_event)) ∷ U32 (port_of h.pm1b_event)  -- 56: PM1a_EVT_BLK, 60: PM1b_EVT_BLK
+    ∷ U32 (port_of (Some h.pm1a_control)) ∷ U32 (port_of h.pm1b_control)  -- 64: PM1a_CNT_BLK, 68: PM1b_CNT_BLK
+    ∷ U32 (port_of h.pm2_control) ∷ U32 (port_of h.pm_timer)  -- 72: PM2_CNT_BLK, 76: PM_TMR_BLK
+    ∷ U32 (port_of (gpe_register h.gpe0)) ∷ U32 (port_of (gpe_register h.gpe1))  -- 80: GPE0_BLK, 84: GPE1_BLK
+    ∷ U8 (bytes_wide (Some h.pm1a_event)) ∷ U8 (bytes_wide (Some h.pm1a_control))  -- 88: PM1_EVT_LEN, 89: PM1_CNT_LEN
+    ∷ U8 (bytes_wide h.pm2_control) ∷ U8 (if is_given h.pm_timer then 4 else 0)  -- 90: PM2_CNT_LEN, 91: PM_TMR_LEN
+    ∷ U8 (gpe_length h.gpe0) ∷ U8 (gpe_length h.gpe1)  -- 92: GPE0_BLK_LEN, 93: GPE1_BLK_LEN
+    ∷ U8 h.gpe1_base ∷ U8 h.c_state_control  -- 94: GPE1_BASE, 95: CST_CNT
+    ∷ U16 c.legacy.worst_c2_latency ∷ U16 c.legacy.worst_c3_latency  -- 96: P_LVL2_LAT, 98: P_LVL3_LAT
+    ∷ U16 c.legacy.flush_size ∷ U16 c.legacy.flush_stride  -- 100: FLUSH_SIZE, 102: FLUSH_STRIDE
+    ∷ U8 c.legacy.duty_offset ∷ U8 c.legacy.duty_width  -- 104: DUTY_OFFSET, 105: DUTY_WIDTH
+    ∷ U8 c.legacy.day_alarm ∷ U8 c.legacy.month_alarm  -- 106: DAY_ALRM, 107: MON_ALRM
+    ∷ U8 c.legacy.century ∷ U16 (flag_number (pc_flags c.pc_boot))  -- 108: CENTURY, 109: IAPC_BOOT_ARCH
+    ∷ Zeros 1 ∷ U32 (flag_number (feature_flags c))  -- 111: Reserved, 112: Flags
+    ∷ []
 
--- at 56 PM1a_EVT_BLK, 60 PM1b_EVT_BLK, 64 PM1a_CNT_BLK, 68 PM1b_CNT_BLK
-unfoldable pub pm1_ports : FixedHardware → List ℕ
-pm1_ports h =
-    spelling 4 (port_of (Some h.pm1a_event)) ++ (spelling 4 (port_of h.pm1b_event)
-    ++ (spelling 4 (port_of (Some h.pm1a_control)) ++ spelling 4 (port_of h.pm1b_control)))
-
--- at 72 PM2_CNT_BLK, 76 PM_TMR_BLK, 80 GPE0_BLK, 84 GPE1_BLK
-unfoldable pub other_ports : FixedHardware → List ℕ
-other_ports h =
-    spelling 4 (port_of h.pm2_control) ++ (spelling 4 (port_of h.pm_timer)
-    ++ (spelling 4 (port_of (gpe_register h.gpe0)) ++ spelling 4 (port_of (gpe_register h.gpe1))))
-
--- at 88 PM1_EVT_LEN, 89 PM1_CNT_LEN, 90 PM2_CNT_LEN, 91 PM_TMR_LEN, 92 GPE0_BLK_LEN, 93 GPE1_BLK_LEN, 94 GPE1_BASE, 95
--- CST_CNT
-unfoldable pub block_lengths : FixedHardware → List ℕ
-block_lengths h =
-    bytes_wide (Some h.pm1a_event) ∷ bytes_wide (Some h.pm1a_control) ∷ bytes_wide h.pm2_control
-    ∷ (if is_given h.pm_timer then 4 else 0) ∷ gpe_length h.gpe0 ∷ gpe_length h.gpe1
-    ∷ h.gpe1_base ∷ h.c_state_control ∷ []
-
--- at 96 P_LVL2_LAT, 98 P_LVL3_LAT, 100 FLUSH_SIZE, 102 FLUSH_STRIDE, 104 DUTY_OFFSET, 105 DUTY_WIDTH, 106 DAY_ALRM, 107
--- MON_ALRM, 108 CENTURY, 109 IAPC_BOOT_ARCH, 111 Reserved, 112 Flags
-unfoldable pub fadt_features : FadtContents → List ℕ
-fadt_features c =
-    let l = c.legacy in
-    spelling 2 l.worst_c2_latency ++ (spelling 2 l.worst_c3_latency ++ (spelling 2 l.flush_size
-    ++ (spelling 2 l.flush_stride
-    ++ (l.duty_offset ∷ l.duty_width ∷ l.day_alarm ∷ l.month_alarm ∷ l.century
-    ∷ (spelling 2 (flag_number (pc_flags c.pc_boot)) ++ (0 ∷ spelling 4 (flag_number (feature_flags c))))))))
-
--- at 128 RESET_VALUE, 129 ARM_BOOT_ARCH, 131 a FADT Minor Version of 4, 132 X_FIRMWARE_CTRL, 140 X_DSDT
-unfoldable pub fadt_wide : FadtContents → List ℕ
-fadt_wide c =
-    c.reset_value ∷ (spelling 2 (flag_number (arm_flags c.arm_boot))
-    ++ (4 ∷ (spelling 8 (address_or_zero c.facs) ++ spelling 8 c.dsdt)))
+-- between RESET_REG, at 116, and the registers
+unfoldable pub wide_fields : FadtContents → List Field
+wide_fields c =
+    U8 c.reset_value ∷ U16 (flag_number (arm_flags c.arm_boot))  -- 128: RESET_VALUE, 129: ARM_BOOT_ARCH
+    ∷ U8 4  -- 131: FADT Minor Version
+    ∷ U64 (address_or_zero c.facs) ∷ U64 c.dsdt  -- 132: X_FIRMWARE_CTRL, 140: X_DSDT
+    ∷ []
 
 -- at 148 X_PM1a_EVT_BLK, 160 X_PM1b_EVT_BLK, 172 X_PM1a_CNT_BLK, 184 X_PM1b_CNT_BLK, 196 X_PM2_CNT_BLK, 208
 -- X_PM_TMR_BLK, 220 X_GPE0_BLK, 232 X_GPE1_BLK, 244 SLEEP_CONTROL_REG, 256 SLEEP_STATUS_REG
@@ -205,12 +195,11 @@ registers c h =
     Some h.pm1a_event ∷ h.pm1b_event ∷ Some h.pm1a_control ∷ h.pm1b_control ∷ h.pm2_control ∷ h.pm_timer
     ∷ gpe_register h.gpe0 ∷ gpe_register h.gpe1 ∷ c.sleep_control ∷ c.sleep_status ∷ []
 
--- all of it: RESET_REG stands at 116, Hypervisor Vendor Identity at 268
+-- all of it: Hypervisor Vendor Identity stands at 268
 abbrev pub body_with : FadtContents → FixedHardware → List ℕ
 body_with c h =
-    fadt_head c h ++ (pm1_ports h ++ (other_ports h ++ (block_lengths h ++ (fadt_features c
-    ++ (register_bytes c.reset_register ++ (fadt_wide c
-    ++ (flat_map register_bytes (registers c h) ++ spelling 8 0)))))))
+    fields_bytes (front_fields c h) ++ (register_bytes c.reset_register ++ (fields_bytes (wide_fields c)
+    ++ (flat_map register_bytes (registers c h) ++ replicate 8 0)))
 
 abbrev pub fadt_body : FadtContents → List ℕ
 fadt_body c = body_with c (fixed_of c.hardware)

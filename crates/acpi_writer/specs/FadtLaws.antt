@@ -1,5 +1,5 @@
 -- What holds of a FADT that is written: what was given is what is read.
-use Rattle.std.specs.Prelude.{◌≡◌, ℕ, ◌^◌, ◌<◌, true, List, Option, Some, Ok}
+use Rattle.std.specs.Prelude.{◌≡◌, ℕ, true, List, Option, Some, Ok}
 use Rattle.std.specs.List.{All}
 use Rattle.std.specs.Option.{ok_or, option_map}
 use Rattle.acpi.specs.Timer.{timer_of}
@@ -13,7 +13,8 @@ use Rattle.acpi_fixed.specs.Flags.{arm_bits, feature_bits, pc_bits}
 use Rattle.acpi_fixed.specs.Gpe.{gpe_of}
 use Rattle.acpi_fixed.specs.Registers.{block_of, optional_block_of, register_of}
 use Rattle.acpi_fixed.specs.declared.fadt.Fadt.{Fadt}
-use Rattle.acpi_writer.specs.FadtBytes.{address_or_zero, are_placed, are_registers, arm_flags, fadt_body, feature_flags, fixed_of, is_profile, pc_flags, registers}
+use Rattle.acpi_writer.specs.FadtBytes.{are_placed, are_registers, arm_flags, fadt_body, feature_flags, fixed_of, front_fields, is_profile, pc_flags, registers, wide_fields}
+use Rattle.acpi_writer.specs.Fields.{FitsField}
 use Rattle.acpi_writer.specs.Flags.{flag_at}
 use Rattle.acpi_writer.specs.Generic.{FitsRegister, register_or_zeros}
 use Rattle.acpi_writer.specs.Table.{IsTableOf, IsValid}
@@ -26,22 +27,10 @@ use Rattle.acpi_writer.specs.declared.ids.TableIds.{TableIds}
 
 -- ---- the numbers have a place
 
-pub record FitsHead (c : FadtContents) (h : FixedHardware) : Type 0 where
-  pub dsdt : c.dsdt < 2 ^ 64
-  pub facs : address_or_zero c.facs < 2 ^ 64
-  pub sci : c.sci_interrupt < 2 ^ 16
-  pub smi : h.smi_cmd_port < 2 ^ 32
-
-pub record FitsLegacy (l : LegacyFields) : Type 0 where
-  pub c2 : l.worst_c2_latency < 2 ^ 16
-  pub c3 : l.worst_c3_latency < 2 ^ 16
-  pub size : l.flush_size < 2 ^ 16
-  pub stride : l.flush_stride < 2 ^ 16
-
 pub record AreFitFor (c : FadtContents) (h : FixedHardware) : Type 0 where
-  pub head : FitsHead c h
-  pub legacy : FitsLegacy c.legacy
+  pub front : All FitsField (front_fields c h)
   pub reset : FitsRegister c.reset_register
+  pub wide : All FitsField (wide_fields c)
   pub registers : All FitsRegister (registers c h)
 
 -- the bytes are the table of contents whose numbers have a place, and that no error is for
@@ -110,7 +99,8 @@ HasNeededBlocks Reduced f = Unit {0}
 
 -- the timer as a summary has it
 abbrev pub timer_read : FadtContents → Option PmTimer
-timer_read c = option_map (λ b. record { base = b; supports_32bit = c.features.pm_timer_is_32_bit }) (fixed_of c.hardware).pm_timer
+timer_read c = option_map (λ b. record { base = b; supports_32bit = c.features.pm_timer_is_32_bit })
+    (fixed_of c.hardware).pm_timer
 
 -- all of it
 pub record IsReadAs (c : FadtContents) (f : Fadt) : Type 0 where

@@ -1,11 +1,14 @@
 -- The bytes of registers, as generic addresses (ACPI 6.4, section 5.2.3.2).
-use Rattle.std.specs.Prelude.{ℕ, ◌^◌, ◌<◌, ◌==◌, ◌&&◌, Bool, true, not, List, ◌∷◌, nat_le, Option, Some, None}
+use Rattle.std.specs.Prelude.{ℕ, ◌==◌, ◌&&◌, Bool, true, not, List, [], ◌∷◌, nat_le, Option, Some, None}
+use Rattle.std.specs.List.{All}
 use Rattle.acpi_base.specs.Address.{size_code, space_code}
-use Rattle.acpi_base.specs.Bytes.{spelling}
 use Rattle.acpi_base.specs.declared.address.AccessSize.TheVariants.{Undefined}
 use Rattle.acpi_base.specs.declared.address.AddressSpace.{AddressSpace}
 use Rattle.acpi_base.specs.declared.address.AddressSpace.TheVariants.{OemDefined, SystemMemory}
 use Rattle.acpi_base.specs.declared.address.GenericAddress.{GenericAddress}
+use Rattle.acpi_writer.specs.Fields.{FitsField, fields_bytes}
+use Rattle.acpi_writer.specs.declared.fields.Field.{Field}
+use Rattle.acpi_writer.specs.declared.fields.Field.TheVariants.{U8, U64}
 
 -- a register, or one of zeros if there is none
 abbrev pub register_or_zeros : Option GenericAddress → GenericAddress
@@ -18,18 +21,20 @@ register_or_zeros None = record {
   address = 0;
 }
 
--- at 0 Address Space ID, 1 Register Bit Width, 2 Register Bit Offset, 3 Access Size, 4 Address
-abbrev pub generic_bytes : GenericAddress → List ℕ
-generic_bytes g =
-    space_code g.address_space ∷ g.bit_width ∷ g.bit_offset ∷ size_code g.access_size ∷ spelling 8 g.address
+-- its fields
+unfoldable pub address_fields : GenericAddress → List Field
+address_fields g =
+    U8 (space_code g.address_space)  -- 0: Address Space ID
+    ∷ U8 g.bit_width ∷ U8 g.bit_offset  -- 1: Register Bit Width, 2: Register Bit Offset
+    ∷ U8 (size_code g.access_size) ∷ U64 g.address  -- 3: Access Size, 4: Address
+    ∷ []
 
--- the same, for proofs that don't look into them
-unfoldable pub address_bytes : GenericAddress → List ℕ
-address_bytes g = generic_bytes g
+abbrev pub address_bytes : GenericAddress → List ℕ
+address_bytes g = fields_bytes (address_fields g)
 
 -- twelve zeros if there is none
-unfoldable pub register_bytes : Option GenericAddress → List ℕ
-register_bytes o = generic_bytes (register_or_zeros o)
+abbrev pub register_bytes : Option GenericAddress → List ℕ
+register_bytes o = address_bytes (register_or_zeros o)
 
 -- the code names the space: the makers' own begin at 0xc0
 abbrev pub is_named_space : AddressSpace → Bool
@@ -41,6 +46,9 @@ abbrev pub is_register : Option GenericAddress → Bool
 is_register (Some g) = not (g.address == 0) && is_named_space g.address_space
 is_register None = true
 
--- the address has a place
+-- the numbers have a place
+abbrev pub FitsAddress : GenericAddress → Type 0
+FitsAddress g = All FitsField (address_fields g)
+
 abbrev pub FitsRegister : Option GenericAddress → Type 0
-FitsRegister o = (register_or_zeros o).address < 2 ^ 64
+FitsRegister o = FitsAddress (register_or_zeros o)

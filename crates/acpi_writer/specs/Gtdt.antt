@@ -1,8 +1,7 @@
 -- The GTDT that is written (ACPI 6.4, section 5.2.24), and that what was given is what is read.
-use Rattle.std.specs.Prelude.{◌≡◌, ℕ, ◌+◌, ◌*◌, ◌^◌, ◌<◌, false, List, [], ◌∷◌, ◌++◌, flat_map, length, map, nat_le, Option, Some, None, Result, Ok}
+use Rattle.std.specs.Prelude.{◌≡◌, ℕ, ◌+◌, ◌*◌, ◌%◌, ◌^◌, false, List, [], ◌∷◌, ◌++◌, flat_map, length, map, nat_le, Option, Some, None, Result, Ok}
 use Rattle.std.proofs.Common.{inl, inr}
 use Rattle.std.specs.List.{All}
-use Rattle.acpi_base.specs.Bytes.{spelling}
 use Rattle.acpi_base.specs.Steps.{◌>>=◌, holds}
 use Rattle.acpi_base.specs.declared.table.signature.TheConstants.Signature.{GTDT}
 use Rattle.acpi_arm.specs.Gtdt.{control_base_of, gtdt_at, read_base_of, virtual_el2_of}
@@ -13,9 +12,12 @@ use Rattle.acpi_arm.specs.declared.gtdt.ArmTimer.{ArmTimer}
 use Rattle.acpi_arm.specs.declared.timers.SbsaWatchdog.{SbsaWatchdog}
 use Rattle.acpi_writer.specs.Arm.{base_checked, flags_of, is_edge, is_low, modes_checked}
 use Rattle.acpi_writer.specs.Checked.{all_checked}
+use Rattle.acpi_writer.specs.Fields.{FitsField, fields_bytes}
 use Rattle.acpi_writer.specs.Table.{IsTableOf, IsValid, table_written}
 use Rattle.acpi_writer.specs.declared.error.WriterError.{WriterError}
 use Rattle.acpi_writer.specs.declared.error.WriterError.TheVariants.{TooManyFrames}
+use Rattle.acpi_writer.specs.declared.fields.Field.{Field}
+use Rattle.acpi_writer.specs.declared.fields.Field.TheVariants.{U8, U16, U32, U64, Zeros}
 use Rattle.acpi_writer.specs.declared.gtdt.GtdtContents.{GtdtContents}
 use Rattle.acpi_writer.specs.declared.gtdt.PlatformTimerContents.{PlatformTimerContents}
 use Rattle.acpi_writer.specs.declared.gtdt.PlatformTimerContents.TheVariants as kinds
@@ -32,70 +34,73 @@ base_of None = 0xffffffffffffffff
 abbrev pub timer_flags : ArmTimer → ℕ
 timer_flags t = flags_of (is_edge t.trigger_mode) (is_low t.polarity) t.always_on false
 
--- at 0 GSIV, 4 Flags
-unfoldable pub timer_bytes : ArmTimer → List ℕ
-timer_bytes t = spelling 4 t.interrupt ++ (timer_flags t ∷ 0 ∷ 0 ∷ 0 ∷ [])
-
 -- Flags of an interrupt of a frame: bit 0 Timer interrupt Mode, 1 Timer Interrupt polarity
 abbrev pub interrupt_flags : TimerInterrupt → ℕ
 interrupt_flags t = flags_of (is_edge t.trigger_mode) (is_low t.polarity) false false
 
--- GT Block Timer Structure (section 5.2.24.1.1): at 0 GT Frame Number, 1 Reserved, 4 CntBaseX, 12 CntEL0BaseX, 20 GTx
--- Physical Timer GSIV, 24 its Flags, 28 GTx Virtual Timer GSIV, 32 its Flags, 36 GTx Common Flags, of which bit 0 is
--- Secure Timer and 1 Always-on Capability
-unfoldable pub frame_bytes : GtFrame → List ℕ
-frame_bytes f =
-    f.number ∷ 0 ∷ 0 ∷ 0 ∷ (spelling 8 f.base ++ (spelling 8 (base_of f.el0_base)
-    ++ (spelling 4 f.physical_timer.interrupt ++ (interrupt_flags f.physical_timer ∷ 0 ∷ 0 ∷ 0
-    ∷ (spelling 4 f.virtual_timer.interrupt ++ (interrupt_flags f.virtual_timer ∷ 0 ∷ 0 ∷ 0
-    ∷ flags_of f.is_secure f.is_always_on false false ∷ 0 ∷ 0 ∷ 0 ∷ []))))))
+-- GT Block Timer Structure (section 5.2.24.1.1)
+unfoldable pub frame_fields : GtFrame → List Field
+frame_fields f =
+    U8 f.number ∷ Zeros 3  -- 0: GT Frame Number, 1: Reserved
+    ∷ U64 f.base ∷ U64 (base_of f.el0_base)  -- 4: CntBaseX, 12: CntEL0BaseX
+    ∷ U32 f.physical_timer.interrupt  -- 20: GTx Physical Timer GSIV
+    ∷ U32 (interrupt_flags f.physical_timer)  -- 24: GTx Physical Timer Flags
+    ∷ U32 f.virtual_timer.interrupt  -- 28: GTx Virtual Timer GSIV
+    ∷ U32 (interrupt_flags f.virtual_timer)  -- 32: GTx Virtual Timer Flags
+    ∷ U32 (flags_of f.is_secure f.is_always_on false false)  -- 36: GTx Common Flags: Secure Timer, Always-on Capability
+    ∷ []
 
--- GT Block (section 5.2.24.1.1) of so many frames: at 0 Type, 1 Length, 3 Reserved, 4 GT Block Physical address, 12 GT
--- Block Timer Count, 16 GT Block Timer Offset; from 20 on its frames
-unfoldable pub block_head : ℕ → ℕ → List ℕ
-block_head address n =
-    0 ∷ (spelling 2 (20 + 40 * n) ++ (0 ∷ (spelling 8 address ++ (spelling 4 n ++ (20 ∷ 0 ∷ 0 ∷ 0 ∷ [])))))
+abbrev pub frame_bytes : GtFrame → List ℕ
+frame_bytes f = fields_bytes (frame_fields f)
+
+-- GT Block (section 5.2.24.1.1) of so many frames, which stand from 20 on
+unfoldable pub block_fields : ℕ → ℕ → List Field
+block_fields address n =
+    U8 0 ∷ U16 ((20 + 40 * n) % 2 ^ 16) ∷ Zeros 1  -- 0: Type, 1: Length, 3: Reserved
+    ∷ U64 address  -- 4: GT Block Physical address
+    ∷ U32 (n % 2 ^ 32) ∷ U32 20  -- 12: GT Block Timer Count, 16: GT Block Timer Offset
+    ∷ []
 
 -- Watchdog Timer Flags: bit 0 Timer interrupt Mode, 1 Timer Interrupt polarity, 2 Secure Timer
 abbrev pub watchdog_flags : SbsaWatchdog → ℕ
 watchdog_flags w = flags_of (is_edge w.trigger_mode) (is_low w.polarity) w.is_secure false
 
--- Arm Generic Watchdog (section 5.2.24.1.2): at 0 Type, 1 Length, 3 Reserved, 4 RefreshFrame Physical Address, 12
--- WatchdogControlFrame Physical Address, 20 Watchdog Timer GSIV, 24 Watchdog Timer Flags
-unfoldable pub watchdog_bytes : SbsaWatchdog → List ℕ
-watchdog_bytes w =
-    1 ∷ 28 ∷ 0 ∷ 0 ∷ (spelling 8 w.refresh_frame ++ (spelling 8 w.control_frame ++ (spelling 4 w.interrupt
-    ++ (watchdog_flags w ∷ 0 ∷ 0 ∷ 0 ∷ []))))
+-- Arm Generic Watchdog (section 5.2.24.1.2)
+unfoldable pub watchdog_fields : SbsaWatchdog → List Field
+watchdog_fields w =
+    U8 1 ∷ U16 28 ∷ Zeros 1  -- 0: Type, 1: Length, 3: Reserved
+    ∷ U64 w.refresh_frame  -- 4: RefreshFrame Physical Address
+    ∷ U64 w.control_frame  -- 12: WatchdogControlFrame Physical Address
+    ∷ U32 w.interrupt ∷ U32 (watchdog_flags w)  -- 20: Watchdog Timer GSIV, 24: Watchdog Timer Flags
+    ∷ []
 
 abbrev pub structure_bytes : PlatformTimerContents → List ℕ
-structure_bytes (kinds.GtBlock b) = block_head b.address (length b.frames.now) ++ flat_map frame_bytes b.frames.now
-structure_bytes (kinds.SbsaWatchdog w) = watchdog_bytes w
-
--- at 88 Platform Timer Count, 92 Platform Timer Offset
-unfoldable pub array_bytes : ℕ → List ℕ
-array_bytes n = spelling 4 n ++ (104 ∷ 0 ∷ 0 ∷ 0 ∷ [])
-
--- at 44 Reserved
-abbrev pub gtdt_reserved : List ℕ
-gtdt_reserved = 0 ∷ 0 ∷ 0 ∷ 0 ∷ []
+structure_bytes (kinds.GtBlock b) =
+    fields_bytes (block_fields b.address (length b.frames.now)) ++ flat_map frame_bytes b.frames.now
+structure_bytes (kinds.SbsaWatchdog w) = fields_bytes (watchdog_fields w)
 
 -- ---- the table
 
--- after the header: at 36 CntControlBase Physical Address, 44 Reserved, 48 Secure EL1 Timer, 56 Non-Secure EL1 Timer, 64
--- Virtual EL1 Timer, 72 EL2 Timer, 80 CntReadBase Physical Address, 88 the array's place, 96 Virtual EL2 Timer, and from
--- 104 on the Platform Timer Structures
+-- the fields after the header
+unfoldable pub gtdt_fields : GtdtContents → List Field
+gtdt_fields c =
+    U64 (base_of c.counter_control_base) ∷ Zeros 4  -- 36: CntControlBase Physical Address, 44: Reserved
+    ∷ U32 c.secure_el1_timer.interrupt  -- 48: Secure EL1 Timer GSIV
+    ∷ U32 (timer_flags c.secure_el1_timer)  -- 52: Secure EL1 Timer Flags
+    ∷ U32 c.non_secure_el1_timer.interrupt  -- 56: Non-Secure EL1 Timer GSIV
+    ∷ U32 (timer_flags c.non_secure_el1_timer)  -- 60: Non-Secure EL1 Timer Flags
+    ∷ U32 c.virtual_el1_timer.interrupt  -- 64: Virtual EL1 Timer GSIV
+    ∷ U32 (timer_flags c.virtual_el1_timer)  -- 68: Virtual EL1 Timer Flags
+    ∷ U32 c.el2_timer.interrupt ∷ U32 (timer_flags c.el2_timer)  -- 72: EL2 Timer GSIV, 76: EL2 Timer Flags
+    ∷ U64 (base_of c.counter_read_base)  -- 80: CntReadBase Physical Address
+    ∷ U32 (length c.platform_timers.now % 2 ^ 32) ∷ U32 104  -- 88: Platform Timer Count, 92: Platform Timer Offset
+    ∷ U32 c.virtual_el2_timer.interrupt  -- 96: Virtual EL2 Timer GSIV
+    ∷ U32 (timer_flags c.virtual_el2_timer)  -- 100: Virtual EL2 Timer Flags
+    ∷ []
+
+-- after the header: the fields, and from 104 on the Platform Timer Structures
 abbrev pub gtdt_body : GtdtContents → List ℕ
-gtdt_body c =
-    spelling 8 (base_of c.counter_control_base)
-    ++ (gtdt_reserved
-    ++ (timer_bytes c.secure_el1_timer
-    ++ (timer_bytes c.non_secure_el1_timer
-    ++ (timer_bytes c.virtual_el1_timer
-    ++ (timer_bytes c.el2_timer
-    ++ (spelling 8 (base_of c.counter_read_base)
-    ++ (array_bytes (length c.platform_timers.now)
-    ++ (timer_bytes c.virtual_el2_timer
-    ++ flat_map structure_bytes c.platform_timers.now))))))))
+gtdt_body c = fields_bytes (gtdt_fields c) ++ flat_map structure_bytes c.platform_timers.now
 
 -- ---- errors
 
@@ -134,38 +139,19 @@ gtdt_written room ids c = do
 
 -- ---- which numbers have a place
 
-abbrev pub FitsBase : Option ℕ → Type 0
-FitsBase base = base_of base < 2 ^ 64
+abbrev pub FitsFrame : GtFrame → Type 0
+FitsFrame f = All FitsField (frame_fields f)
 
-abbrev pub FitsTimer : ArmTimer → Type 0
-FitsTimer t = t.interrupt < 2 ^ 32
-
-pub record FitsFrame (f : GtFrame) : Type 0 where
-  pub base : f.base < 2 ^ 64
-  pub el0_base : FitsBase f.el0_base
-  pub physical : f.physical_timer.interrupt < 2 ^ 32
-  pub virtual : f.virtual_timer.interrupt < 2 ^ 32
-
-abbrev pub FitsBlock : ℕ → Type 0
-FitsBlock address = address < 2 ^ 64
-
-pub record FitsWatchdog (w : SbsaWatchdog) : Type 0 where
-  pub refresh : w.refresh_frame < 2 ^ 64
-  pub control : w.control_frame < 2 ^ 64
-  pub interrupt : w.interrupt < 2 ^ 32
+abbrev pub FitsWatchdog : SbsaWatchdog → Type 0
+FitsWatchdog w = All FitsField (watchdog_fields w)
 
 abbrev pub FitsStructure : PlatformTimerContents → Type 0
-FitsStructure (kinds.GtBlock b) = FitsBlock b.address × All FitsFrame b.frames.now
+FitsStructure (kinds.GtBlock b) = All FitsField (block_fields b.address (length b.frames.now))
+    × All FitsFrame b.frames.now
 FitsStructure (kinds.SbsaWatchdog w) = FitsWatchdog w
 
 pub record AreTimersFit (c : GtdtContents) : Type 0 where
-  pub control : FitsBase c.counter_control_base
-  pub secure_el1 : FitsTimer c.secure_el1_timer
-  pub non_secure_el1 : FitsTimer c.non_secure_el1_timer
-  pub virtual_el1 : FitsTimer c.virtual_el1_timer
-  pub el2 : FitsTimer c.el2_timer
-  pub read : FitsBase c.counter_read_base
-  pub virtual_el2 : FitsTimer c.virtual_el2_timer
+  pub fields : All FitsField (gtdt_fields c)
   pub platform : All FitsStructure c.platform_timers.now
 
 -- the bytes are the table of contents that have a place

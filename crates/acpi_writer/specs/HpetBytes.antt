@@ -1,12 +1,14 @@
 -- The bytes of an HPET that says what is given. The layout is that of the IA-PC HPET Specification 1.0a, section 3.2.4.
-use Rattle.std.specs.Prelude.{ℕ, List, [], ◌∷◌, ◌++◌, Result}
-use Rattle.acpi_base.specs.Bytes.{spelling}
+use Rattle.std.specs.Prelude.{ℕ, List, [], ◌∷◌, Result}
 use Rattle.acpi_base.specs.declared.table.signature.TheConstants.Signature.{HPET}
 use Rattle.acpi.specs.declared.hpet.HpetInfo.{HpetInfo}
 use Rattle.acpi.specs.declared.hpet.PageProtection.{PageProtection}
 use Rattle.acpi.specs.declared.hpet.PageProtection.TheVariants as protections
+use Rattle.acpi_writer.specs.Fields.{fields_bytes}
 use Rattle.acpi_writer.specs.Table.{table_written}
 use Rattle.acpi_writer.specs.declared.error.WriterError.{WriterError}
+use Rattle.acpi_writer.specs.declared.fields.Field.{Field}
+use Rattle.acpi_writer.specs.declared.fields.Field.TheVariants.{U8, U16, U32, U64, Zeros}
 use Rattle.acpi_writer.specs.declared.ids.TableIds.{TableIds}
 
 -- Page Protection: the code of each; of those that are reserved the first
@@ -16,12 +18,18 @@ protection_code protections.Protected4K = 1
 protection_code protections.Protected64K = 2
 protection_code protections.Other = 3
 
--- after the header: at 36 Event Timer Block ID; at 40 BASE_ADDRESS, an address in memory; at 52 HPET Number; at 53
--- Main Counter Minimum Clock_tick in Periodic Mode; at 55 Page Protection And OEM Attribute
-unfoldable pub hpet_body : HpetInfo → List ℕ
-hpet_body i =
-    spelling 4 i.event_timer_block_id ++ (0 ∷ 0 ∷ 0 ∷ 0 ∷ (spelling 8 i.base_address
-    ++ (i.hpet_number ∷ (spelling 2 i.clock_tick_unit ++ (protection_code i.page_protection ∷ [])))))
+-- the fields after the header
+unfoldable pub hpet_fields : HpetInfo → List Field
+hpet_fields i =
+    U32 i.event_timer_block_id  -- 36: Event Timer Block ID
+    ∷ U8 0 ∷ Zeros 3 ∷ U64 i.base_address  -- 40: BASE_ADDRESS, whose space is memory and whose address is at 44
+    ∷ U8 i.hpet_number  -- 52: HPET Number
+    ∷ U16 i.clock_tick_unit  -- 53: Main Counter Minimum Clock_tick in Periodic Mode
+    ∷ U8 (protection_code i.page_protection)  -- 55: Page Protection And OEM Attribute
+    ∷ []
+
+abbrev pub hpet_body : HpetInfo → List ℕ
+hpet_body i = fields_bytes (hpet_fields i)
 
 -- the table, of revision 1, in so much room, or the error
 abbrev pub hpet_written : ℕ → TableIds → HpetInfo → Result (List ℕ) WriterError

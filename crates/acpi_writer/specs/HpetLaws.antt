@@ -1,17 +1,17 @@
 -- What holds of an HPET that is written: what was given is what is read.
-use Rattle.std.specs.Prelude.{◌≡◌, ℕ, ◌^◌, ◌<◌, List, Ok}
+use Rattle.std.specs.Prelude.{◌≡◌, ℕ, List, Ok}
+use Rattle.std.specs.List.{All}
 use Rattle.acpi_base.specs.declared.table.signature.TheConstants.Signature.{HPET}
 use Rattle.acpi.specs.Hpet.{hpet_at, info_of}
 use Rattle.acpi.specs.declared.hpet.HpetInfo.{HpetInfo}
-use Rattle.acpi_writer.specs.HpetBytes.{hpet_body}
+use Rattle.acpi_writer.specs.Fields.{FitsField}
+use Rattle.acpi_writer.specs.HpetBytes.{hpet_body, hpet_fields}
 use Rattle.acpi_writer.specs.Table.{IsTableOf, IsValid}
 use Rattle.acpi_writer.specs.declared.ids.TableIds.{TableIds}
 
 -- the numbers have a place
-pub record FitsHpet (i : HpetInfo) : Type 0 where
-  pub block : i.event_timer_block_id < 2 ^ 32
-  pub base : i.base_address < 2 ^ 64
-  pub tick : i.clock_tick_unit < 2 ^ 16
+abbrev pub FitsHpet : HpetInfo → Type 0
+FitsHpet i = All FitsField (hpet_fields i)
 
 -- the bytes are the table of a block whose numbers have a place
 pub record IsHpet (ids : TableIds) (i : HpetInfo) (table : List ℕ) : Type 0 where

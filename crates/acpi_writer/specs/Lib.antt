@@ -16,6 +16,7 @@ pub mod SratLaws
 pub mod Bgrt
 pub mod Spcr
 pub mod SpcrLaws
+pub mod Fields
 pub mod Flags
 pub mod Generic
 pub mod FadtBytes

@@ -65,7 +65,8 @@ dsdt_address a m = a + rounded (xsdt_length m)
 -- where `write_tables` lays the DSDT for an address, with so many listed tables, if that is an address
 abbrev pub dsdt_at : ℕ → ℕ → Option ℕ
 dsdt_at a n =
-    if nat_lt (36 + 8 * n) (2 ^ 32) && nat_lt (a + (48 + rounded (36 + 8 * n))) (2 ^ 64) then Some (a + (48 + rounded (36 + 8 * n)))
+    if nat_lt (36 + 8 * n) (2 ^ 32) && nat_lt (a + (48 + rounded (36 + 8 * n))) (2 ^ 64)
+    then Some (a + (48 + rounded (36 + 8 * n)))
     else None
 
 -- and the FACS, after this DSDT
@@ -79,7 +80,8 @@ facs_from a n dsdt = a + (48 + rounded (36 + 8 * n) + rounded dsdt)
 abbrev pub facs_at : ℕ → ℕ → Option AmlContents → Option ℕ
 facs_at a n dsdt =
     let end = facs_from a n (dsdt_length dsdt) in
-    if nat_lt (36 + 8 * n) (2 ^ 32) && (nat_lt (dsdt_length dsdt) (2 ^ 32) && nat_lt (end + facs_gap end) (2 ^ 64)) then Some (end + facs_gap end)
+    if nat_lt (36 + 8 * n) (2 ^ 32) && (nat_lt (dsdt_length dsdt) (2 ^ 32) && nat_lt (end + facs_gap end) (2 ^ 64))
+    then Some (end + facs_gap end)
     else None
 
 abbrev pub dsdt_end : {A : Type 0} → ℕ → MachineOf A → ℕ

@@ -2,7 +2,6 @@
 use Rattle.std.specs.Prelude.{ℕ, ◌+◌, ◌*◌, ◌^◌, ◌&&◌, Bool, true, false, not, if◌then◌else◌}
 use Rattle.std.specs.Prelude.{List, [], ◌∷◌, ◌++◌, flat_map, nat_lt, Option, Some, None, Result}
 use Rattle.std.specs.List.{list_all}
-use Rattle.acpi_base.specs.Bytes.{spelling}
 use Rattle.acpi_base.specs.Interrupts.{line_code, polarity_code, trigger_code}
 use Rattle.acpi_base.specs.Steps.{◌>>=◌, holds}
 use Rattle.acpi_base.specs.declared.table.signature.TheConstants.Signature.{MADT}
@@ -14,9 +13,12 @@ use Rattle.acpi_base.specs.declared.model.interrupt.NmiProcessor.TheVariants as 
 use Rattle.acpi_base.specs.declared.model.interrupt.NmiSource.{NmiSource}
 use Rattle.acpi_base.specs.declared.model.interrupt.Polarity.{Polarity}
 use Rattle.acpi_base.specs.declared.model.interrupt.TriggerMode.{TriggerMode}
+use Rattle.acpi_writer.specs.Fields.{fields_bytes}
 use Rattle.acpi_writer.specs.Table.{bit_of, table_written}
 use Rattle.acpi_writer.specs.declared.error.WriterError.{WriterError}
 use Rattle.acpi_writer.specs.declared.error.WriterError.TheVariants.{IdOfAll, NoProcessor, UidOfAll}
+use Rattle.acpi_writer.specs.declared.fields.Field.{Field}
+use Rattle.acpi_writer.specs.declared.fields.Field.TheVariants.{U8, U16, U32, U64, Zeros}
 use Rattle.acpi_writer.specs.declared.ids.TableIds.{TableIds}
 use Rattle.acpi_writer.specs.declared.madt.MadtContents.{MadtContents}
 use Rattle.acpi_writer.specs.declared.madt.MadtProcessor.{MadtProcessor}
@@ -27,60 +29,90 @@ use Rattle.acpi_writer.specs.declared.madt.MadtProcessor.{MadtProcessor}
 abbrev pub processor_flags : MadtProcessor → ℕ
 processor_flags p = bit_of p.is_enabled + 2 * bit_of p.is_online_capable
 
--- Processor Local APIC (section 5.2.12.2): at 0 Type, 1 Length, 2 ACPI Processor UID, 3 APIC ID, 4 Flags
-unfoldable pub local_apic_entry : MadtProcessor → List ℕ
-local_apic_entry p = 0 ∷ 8 ∷ p.processor_uid ∷ p.local_apic_id ∷ processor_flags p ∷ 0 ∷ 0 ∷ 0 ∷ []
+-- Processor Local APIC (section 5.2.12.2)
+unfoldable pub local_apic_fields : MadtProcessor → List Field
+local_apic_fields p =
+    U8 0 ∷ U8 8 ∷ U8 p.processor_uid ∷ U8 p.local_apic_id  -- 0: Type, 1: Length, 2: ACPI Processor UID, 3: APIC ID
+    ∷ U32 (processor_flags p) ∷ Zeros 0  -- 4: Flags
+    ∷ []
 
--- Processor Local x2APIC (section 5.2.12.12): at 0 Type, 1 Length, 2 Reserved, 4 X2APIC ID, 8 Flags, 12 ACPI Processor
--- UID
-unfoldable pub local_x2apic_entry : MadtProcessor → List ℕ
-local_x2apic_entry p =
-    9 ∷ 16 ∷ 0 ∷ 0 ∷ (spelling 4 p.local_apic_id
-    ++ (processor_flags p ∷ 0 ∷ 0 ∷ 0 ∷ spelling 4 p.processor_uid))
+-- Processor Local x2APIC (section 5.2.12.12)
+unfoldable pub local_x2apic_fields : MadtProcessor → List Field
+local_x2apic_fields p =
+    U8 9 ∷ U8 16 ∷ Zeros 2 ∷ U32 p.local_apic_id  -- 0: Type, 1: Length, 2: Reserved, 4: X2APIC ID
+    ∷ U32 (processor_flags p) ∷ U32 p.processor_uid  -- 8: Flags, 12: ACPI Processor UID
+    ∷ []
 
 -- the ids have a place in the first, in which 255 stands for all
 abbrev pub is_small : MadtProcessor → Bool
 is_small p = nat_lt p.processor_uid 255 && nat_lt p.local_apic_id 255
 
-unfoldable pub processor_entry : MadtProcessor → List ℕ
-processor_entry p = if is_small p then local_apic_entry p else local_x2apic_entry p
+abbrev pub processor_fields : MadtProcessor → List Field
+processor_fields p = if is_small p then local_apic_fields p else local_x2apic_fields p
 
--- Local APIC Address Override (section 5.2.12.8): at 0 Type, 1 Length, 2 Reserved, 4 Local APIC Address
-unfoldable pub address_entry : ℕ → List ℕ
-address_entry a = 5 ∷ 12 ∷ 0 ∷ 0 ∷ spelling 8 a
+abbrev pub processor_entry : MadtProcessor → List ℕ
+processor_entry p = fields_bytes (processor_fields p)
+
+-- Local APIC Address Override (section 5.2.12.8)
+unfoldable pub override_address_fields : ℕ → List Field
+override_address_fields a =
+    U8 5 ∷ U8 12 ∷ Zeros 2 ∷ U64 a ∷ []  -- 0: Type, 1: Length, 2: Reserved, 4: Local APIC Address
 
 -- only if the table's own field has no place for the address
-unfoldable pub address_entries : ℕ → List ℕ
-address_entries a = if nat_lt a (2 ^ 32) then [] else address_entry a
+abbrev pub address_fields : ℕ → List Field
+address_fields a = if nat_lt a (2 ^ 32) then [] else override_address_fields a
 
--- I/O APIC (section 5.2.12.3): at 0 Type, 1 Length, 2 I/O APIC ID, 3 Reserved, 4 I/O APIC Address, 8 Global System
--- Interrupt Base
-unfoldable pub io_apic_entry : IoApic → List ℕ
-io_apic_entry x = 1 ∷ 12 ∷ x.id ∷ 0 ∷ (spelling 4 x.address ++ spelling 4 x.global_system_interrupt_base)
+abbrev pub address_entries : ℕ → List ℕ
+address_entries a = fields_bytes (address_fields a)
+
+-- I/O APIC (section 5.2.12.3)
+unfoldable pub io_apic_fields : IoApic → List Field
+io_apic_fields x =
+    U8 1 ∷ U8 12 ∷ U8 x.id ∷ Zeros 1  -- 0: Type, 1: Length, 2: I/O APIC ID, 3: Reserved
+    ∷ U32 x.address ∷ U32 x.global_system_interrupt_base  -- 4: I/O APIC Address, 8: Global System Interrupt Base
+    ∷ []
+
+abbrev pub io_apic_entry : IoApic → List ℕ
+io_apic_entry x = fields_bytes (io_apic_fields x)
 
 -- MPS INTI Flags: the lower byte; the higher one is 0
 abbrev pub inti_flags : Polarity → TriggerMode → ℕ
 inti_flags p t = polarity_code p + 4 * trigger_code t
 
--- Interrupt Source Override (section 5.2.12.5): at 0 Type, 1 Length, 2 Bus, 3 Source, 4 Global System Interrupt, 8
--- Flags
-unfoldable pub override_entry : InterruptSourceOverride → List ℕ
-override_entry x =
-    2 ∷ 10 ∷ 0 ∷ x.isa_source ∷ (spelling 4 x.global_system_interrupt
-    ++ (inti_flags x.polarity x.trigger_mode ∷ 0 ∷ []))
+-- Interrupt Source Override (section 5.2.12.5)
+unfoldable pub override_fields : InterruptSourceOverride → List Field
+override_fields x =
+    U8 2 ∷ U8 10 ∷ U8 0 ∷ U8 x.isa_source  -- 0: Type, 1: Length, 2: Bus, 3: Source
+    ∷ U32 x.global_system_interrupt  -- 4: Global System Interrupt
+    ∷ U16 (inti_flags x.polarity x.trigger_mode)  -- 8: Flags
+    ∷ []
 
--- NMI Source (section 5.2.12.6): at 0 Type, 1 Length, 2 Flags, 4 Global System Interrupt
-unfoldable pub nmi_source_entry : NmiSource → List ℕ
-nmi_source_entry x = 3 ∷ 8 ∷ inti_flags x.polarity x.trigger_mode ∷ 0 ∷ spelling 4 x.global_system_interrupt
+abbrev pub override_entry : InterruptSourceOverride → List ℕ
+override_entry x = fields_bytes (override_fields x)
 
--- Local APIC NMI (section 5.2.12.7): at 0 Type, 1 Length, 2 ACPI Processor UID, 3 Flags, 5 Local APIC LINT#
-unfoldable pub apic_nmi_entry : ℕ → ℕ → List ℕ
-apic_nmi_entry uid line = 4 ∷ 6 ∷ uid ∷ 0 ∷ 0 ∷ line ∷ []
+-- NMI Source (section 5.2.12.6)
+unfoldable pub nmi_source_fields : NmiSource → List Field
+nmi_source_fields x =
+    U8 3 ∷ U8 8 ∷ U16 (inti_flags x.polarity x.trigger_mode)  -- 0: Type, 1: Length, 2: Flags
+    ∷ U32 x.global_system_interrupt  -- 4: Global System Interrupt
+    ∷ []
 
--- Local x2APIC NMI (section 5.2.12.13): at 0 Type, 1 Length, 2 Flags, 4 ACPI Processor UID, 8 Local x2APIC
--- LINT#, 9 Reserved
-unfoldable pub x2apic_nmi_entry : ℕ → ℕ → List ℕ
-x2apic_nmi_entry uid line = 10 ∷ 12 ∷ 0 ∷ 0 ∷ (spelling 4 uid ++ (line ∷ 0 ∷ 0 ∷ 0 ∷ []))
+abbrev pub nmi_source_entry : NmiSource → List ℕ
+nmi_source_entry x = fields_bytes (nmi_source_fields x)
+
+-- Local APIC NMI (section 5.2.12.7)
+unfoldable pub apic_nmi_fields : ℕ → ℕ → List Field
+apic_nmi_fields uid line =
+    U8 4 ∷ U8 6 ∷ U8 uid  -- 0: Type, 1: Length, 2: ACPI Processor UID
+    ∷ Zeros 2 ∷ U8 line ∷ Zeros 0  -- 3: Flags, 5: Local APIC LINT#
+    ∷ []
+
+-- Local x2APIC NMI (section 5.2.12.13)
+unfoldable pub x2apic_nmi_fields : ℕ → ℕ → List Field
+x2apic_nmi_fields uid line =
+    U8 10 ∷ U8 12 ∷ Zeros 2 ∷ U32 uid  -- 0: Type, 1: Length, 2: Flags, 4: ACPI Processor UID
+    ∷ U8 line ∷ Zeros 3  -- 8: Local x2APIC LINT#, 9: Reserved
+    ∷ []
 
 -- the uid in the first, in which 255 stands for all, if it has a place there
 abbrev pub short_uid : NmiProcessor → Option ℕ
@@ -92,20 +124,29 @@ abbrev pub long_uid : NmiProcessor → ℕ
 long_uid nmi.All = 0xffffffff
 long_uid (nmi.ProcessorUid uid) = uid
 
-abbrev pub nmi_entry : Option ℕ → ℕ → ℕ → List ℕ
-nmi_entry (Some uid) long line = apic_nmi_entry uid line
-nmi_entry None long line = x2apic_nmi_entry long line
+abbrev pub nmi_fields : Option ℕ → ℕ → ℕ → List Field
+nmi_fields (Some uid) long line = apic_nmi_fields uid line
+nmi_fields None long line = x2apic_nmi_fields long line
 
-unfoldable pub nmi_line_entry : NmiLine → List ℕ
-nmi_line_entry x = nmi_entry (short_uid x.processor) (long_uid x.processor) (line_code x.line)
+abbrev pub nmi_line_fields : NmiLine → List Field
+nmi_line_fields x = nmi_fields (short_uid x.processor) (long_uid x.processor) (line_code x.line)
 
--- Multiprocessor Wakeup (section 5.2.12.19): at 0 Type, 1 Length, 2 MailBoxVersion, 4 Reserved, 8 MailBoxAddress
-unfoldable pub wakeup_entry : ℕ → List ℕ
-wakeup_entry a = 16 ∷ 16 ∷ 0 ∷ 0 ∷ 0 ∷ 0 ∷ 0 ∷ 0 ∷ spelling 8 a
+abbrev pub nmi_line_entry : NmiLine → List ℕ
+nmi_line_entry x = fields_bytes (nmi_line_fields x)
 
-unfoldable pub wakeup_entries : Option ℕ → List ℕ
-wakeup_entries (Some a) = wakeup_entry a
-wakeup_entries None = []
+-- Multiprocessor Wakeup (section 5.2.12.19)
+unfoldable pub wakeup_fields : ℕ → List Field
+wakeup_fields a =
+    U8 16 ∷ U8 16 ∷ Zeros 2  -- 0: Type, 1: Length, 2: MailBoxVersion
+    ∷ Zeros 4 ∷ U64 a  -- 4: Reserved, 8: MailBoxAddress
+    ∷ []
+
+abbrev pub mailbox_fields : Option ℕ → List Field
+mailbox_fields (Some a) = wakeup_fields a
+mailbox_fields None = []
+
+abbrev pub wakeup_entries : Option ℕ → List ℕ
+wakeup_entries o = fields_bytes (mailbox_fields o)
 
 -- ---- the table
 
@@ -136,9 +177,15 @@ madt_sorts c = record {
 abbrev pub madt_entries : MadtContents → List ℕ
 madt_entries c = madt_entries_of c.local_apic_address c.wakeup_mailbox (madt_sorts c)
 
--- at 36 Local Interrupt Controller Address, 0 if it has no place; at 40 Flags, of which bit 0 is PCAT_COMPAT
-unfoldable pub madt_fixed : ℕ → Bool → List ℕ
-madt_fixed a pics = spelling 4 (if nat_lt a (2 ^ 32) then a else 0) ++ (bit_of pics ∷ 0 ∷ 0 ∷ 0 ∷ [])
+-- the fields after the header: the address is 0 if it has no place
+unfoldable pub madt_fields : ℕ → Bool → List Field
+madt_fields a pics =
+    U32 (if nat_lt a (2 ^ 32) then a else 0)  -- 36: Local Interrupt Controller Address
+    ∷ U32 (bit_of pics)  -- 40: Flags, of which bit 0 is PCAT_COMPAT
+    ∷ []
+
+abbrev pub madt_fixed : ℕ → Bool → List ℕ
+madt_fixed a pics = fields_bytes (madt_fields a pics)
 
 -- after the header
 abbrev pub madt_body_of : ℕ → Bool → Option ℕ → MadtSorts → List ℕ

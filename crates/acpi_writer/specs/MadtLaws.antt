@@ -1,5 +1,5 @@
 -- What holds of a MADT that is written: what was given is what is read.
-use Rattle.std.specs.Prelude.{◌≡◌, ℕ, ◌^◌, ◌<◌, Bool, true, false, List, [], ◌∷◌, map, Option, Some, None, Ok}
+use Rattle.std.specs.Prelude.{◌≡◌, ℕ, Bool, true, false, List, [], ◌∷◌, map, Option, Some, None, Ok}
 use Rattle.std.specs.List.{All, list_all}
 use Rattle.std.specs.Option.{ok_or}
 use Rattle.acpi_base.specs.Madt.{mailbox_of}
@@ -14,7 +14,8 @@ use Rattle.acpi_base.specs.declared.model.interrupt.IoApic.{IoApic}
 use Rattle.acpi_base.specs.declared.model.interrupt.NmiSource.{NmiSource}
 use Rattle.acpi_base.specs.declared.model.processor.Processor.{Processor}
 use Rattle.acpi_base.specs.declared.model.processor.ProcessorInfo.{ProcessorInfo}
-use Rattle.acpi_writer.specs.MadtBytes.{is_empty, madt_body, names_one}
+use Rattle.acpi_writer.specs.Fields.{FitsField}
+use Rattle.acpi_writer.specs.MadtBytes.{address_fields, mailbox_fields, io_apic_fields, is_empty, madt_body, names_one, nmi_source_fields, override_fields, processor_fields}
 use Rattle.acpi_writer.specs.Table.{IsTableOf, IsValid}
 use Rattle.acpi_writer.specs.declared.ids.TableIds.{TableIds}
 use Rattle.acpi_writer.specs.declared.madt.MadtContents.{MadtContents}
@@ -22,26 +23,23 @@ use Rattle.acpi_writer.specs.declared.madt.MadtProcessor.{MadtProcessor}
 
 -- ---- which numbers have a place in an entry
 
-pub record FitsProcessor (p : MadtProcessor) : Type 0 where
-  pub uid : p.processor_uid < 2 ^ 32
-  pub id : p.local_apic_id < 2 ^ 32
+abbrev pub FitsProcessor : MadtProcessor → Type 0
+FitsProcessor p = All FitsField (processor_fields p)
 
 abbrev pub FitsAddress : ℕ → Type 0
-FitsAddress a = a < 2 ^ 64
+FitsAddress a = All FitsField (address_fields a)
 
-pub record FitsIoApic (x : IoApic) : Type 0 where
-  pub address : x.address < 2 ^ 32
-  pub base : x.global_system_interrupt_base < 2 ^ 32
+abbrev pub FitsIoApic : IoApic → Type 0
+FitsIoApic x = All FitsField (io_apic_fields x)
 
 abbrev pub FitsOverride : InterruptSourceOverride → Type 0
-FitsOverride x = x.global_system_interrupt < 2 ^ 32
+FitsOverride x = All FitsField (override_fields x)
 
 abbrev pub FitsNmiSource : NmiSource → Type 0
-FitsNmiSource x = x.global_system_interrupt < 2 ^ 32
+FitsNmiSource x = All FitsField (nmi_source_fields x)
 
 abbrev pub FitsMailbox : Option ℕ → Type 0
-FitsMailbox (Some a) = a < 2 ^ 64
-FitsMailbox None = Unit {0}
+FitsMailbox o = All FitsField (mailbox_fields o)
 
 pub record AreFit (c : MadtContents) : Type 0 where
   pub local_apic_address : FitsAddress c.local_apic_address

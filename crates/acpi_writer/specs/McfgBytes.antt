@@ -1,16 +1,23 @@
 -- The bytes of an MCFG that says what is given. The layout is that of the PCI Firmware Specification, section 4.1.2.
 use Rattle.std.specs.Prelude.{ℕ, List, [], ◌∷◌, ◌++◌, flat_map, replicate, Result}
-use Rattle.acpi_base.specs.Bytes.{spelling}
 use Rattle.acpi_base.specs.declared.table.signature.TheConstants.Signature.{MCFG}
 use Rattle.acpi_base.specs.declared.tables.mcfg.McfgEntry.{McfgEntry}
+use Rattle.acpi_writer.specs.Fields.{fields_bytes}
 use Rattle.acpi_writer.specs.Table.{table_written}
 use Rattle.acpi_writer.specs.declared.error.WriterError.{WriterError}
+use Rattle.acpi_writer.specs.declared.fields.Field.{Field}
+use Rattle.acpi_writer.specs.declared.fields.Field.TheVariants.{U8, U16, U64, Zeros}
 use Rattle.acpi_writer.specs.declared.ids.TableIds.{TableIds}
 
--- at 0 Base Address, 8 PCI Segment Group Number, 10 Start Bus Number, 11 End Bus Number, 12 Reserved
-unfoldable pub mcfg_entry : McfgEntry → List ℕ
-mcfg_entry e = spelling 8 e.base_address ++ (spelling 2 e.pci_segment_group
-    ++ (e.bus_number_start ∷ e.bus_number_end ∷ 0 ∷ 0 ∷ 0 ∷ 0 ∷ []))
+-- a region
+unfoldable pub mcfg_fields : McfgEntry → List Field
+mcfg_fields e =
+    U64 e.base_address ∷ U16 e.pci_segment_group  -- 0: Base Address, 8: PCI Segment Group Number
+    ∷ U8 e.bus_number_start ∷ U8 e.bus_number_end ∷ Zeros 4  -- 10: Start Bus Number, 11: End Bus Number, 12: Reserved
+    ∷ []
+
+abbrev pub mcfg_entry : McfgEntry → List ℕ
+mcfg_entry e = fields_bytes (mcfg_fields e)
 
 -- after the header: at 36 Reserved
 abbrev pub mcfg_reserved : List ℕ

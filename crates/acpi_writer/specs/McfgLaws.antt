@@ -1,17 +1,17 @@
 -- What holds of an MCFG that is written: what was given is what is read.
-use Rattle.std.specs.Prelude.{◌≡◌, ℕ, ◌^◌, ◌<◌, List}
+use Rattle.std.specs.Prelude.{◌≡◌, ℕ, List}
 use Rattle.std.specs.List.{All}
 use Rattle.acpi_base.specs.Mcfg.{mcfg_entries_of}
 use Rattle.acpi_base.specs.declared.table.signature.TheConstants.Signature.{MCFG}
 use Rattle.acpi_base.specs.declared.tables.mcfg.McfgEntry.{McfgEntry}
-use Rattle.acpi_writer.specs.McfgBytes.{mcfg_body}
+use Rattle.acpi_writer.specs.Fields.{FitsField}
+use Rattle.acpi_writer.specs.McfgBytes.{mcfg_body, mcfg_fields}
 use Rattle.acpi_writer.specs.Table.{IsTableOf, IsValid}
 use Rattle.acpi_writer.specs.declared.ids.TableIds.{TableIds}
 
 -- the numbers have a place
-pub record FitsMcfg (e : McfgEntry) : Type 0 where
-  pub base : e.base_address < 2 ^ 64
-  pub segment : e.pci_segment_group < 2 ^ 16
+abbrev pub FitsMcfg : McfgEntry → Type 0
+FitsMcfg e = All FitsField (mcfg_fields e)
 
 -- the bytes are the table of regions whose numbers have a place
 pub record IsMcfg (ids : TableIds) (es : List McfgEntry) (table : List ℕ) : Type 0 where

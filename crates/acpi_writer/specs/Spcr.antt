@@ -1,19 +1,20 @@
 -- The bytes of an SPCR that says what is given (ACPI 6.4, section 5.2.6). The layout is Microsoft's.
-use Rattle.std.specs.Prelude.{ℕ, ◌+◌, ◌==◌, ◌&&◌, ◌||◌, Bool, true, not, if◌then◌else◌}
+use Rattle.std.specs.Prelude.{ℕ, ◌+◌, ◌%◌, ◌^◌, ◌==◌, ◌&&◌, ◌||◌, Bool, true, not, if◌then◌else◌}
 use Rattle.std.specs.Prelude.{List, [], ◌∷◌, ◌++◌, length, nat_lt, Option, Some, None, Result}
-use Rattle.acpi_base.specs.Bytes.{spelling}
+use Rattle.acpi_base.specs.Address.{size_code, space_code}
 use Rattle.acpi_base.specs.SpcrFlags.{flow_bits, interrupt_bits, terminal_bits}
 use Rattle.acpi_base.specs.Steps.{◌>>=◌, holds}
-use Rattle.acpi_base.specs.declared.address.AccessSize.TheVariants.{Undefined}
-use Rattle.acpi_base.specs.declared.address.AddressSpace.TheVariants.{SystemMemory}
 use Rattle.acpi_base.specs.declared.address.GenericAddress.{GenericAddress}
 use Rattle.acpi_base.specs.declared.table.signature.TheConstants.Signature.{SPCR}
 use Rattle.acpi_base.specs.declared.tables.spcr.interface.SpcrInterfaceType.{SpcrInterfaceType}
 use Rattle.acpi_base.specs.declared.tables.spcr.interface.SpcrInterfaceType.TheVariants as interface
-use Rattle.acpi_writer.specs.Generic.{address_bytes, is_named_space}
+use Rattle.acpi_writer.specs.Fields.{fields_bytes}
+use Rattle.acpi_writer.specs.Generic.{is_named_space, register_or_zeros}
 use Rattle.acpi_writer.specs.Table.{table_written}
 use Rattle.acpi_writer.specs.declared.error.WriterError.{WriterError}
 use Rattle.acpi_writer.specs.declared.error.WriterError.TheVariants.{BadCode, LongName, NoAddress}
+use Rattle.acpi_writer.specs.declared.fields.Field.{Field}
+use Rattle.acpi_writer.specs.declared.fields.Field.TheVariants.{U8, U16, U32, U64, Zeros}
 use Rattle.acpi_writer.specs.declared.ids.TableIds.{TableIds}
 use Rattle.acpi_writer.specs.declared.spcr.SpcrContents.{SpcrContents}
 use Rattle.acpi_writer.specs.declared.spcr.SpcrPciDevice.{SpcrPciDevice}
@@ -43,17 +44,6 @@ interface_code interface.IntelLPSS = 0x14
 interface_code interface.RiscVSbi = 0x15
 interface_code (interface.Unknown code) = code
 
--- Base Address: if there is none, its bytes are zeros
-abbrev pub base_written : Option GenericAddress → GenericAddress
-base_written (Some a) = a
-base_written None = record {
-  address_space = SystemMemory;
-  bit_width = 0;
-  bit_offset = 0;
-  access_size = Undefined;
-  address = 0;
-}
-
 -- the PCI device: if there is none, its ids are 0xffff, and its other numbers 0
 abbrev pub device_written : Option SpcrPciDevice → SpcrPciDevice
 device_written (Some d) = d
@@ -76,29 +66,30 @@ baud_code rate =
     else if rate == 115200 then 7
     else 0
 
--- at 36 Interface Type, 37 Reserved, 40 Base Address, 52 Interrupt Type, 53 IRQ, 54 Global System Interrupt, 58
--- Configured Baud Rate, 59 Parity, 60 Stop Bits, 61 Flow Control, 62 Terminal Type, 63 Language
-unfoldable pub port_fields : SpcrContents → List ℕ
-port_fields c =
-    interface_code c.interface_type ∷ 0 ∷ 0 ∷ 0 ∷ (address_bytes (base_written c.base_address)
-    ++ (interrupt_bits c.interrupt_type ∷ c.irq ∷ (spelling 4 c.global_system_interrupt
-    ++ (baud_code c.baud_rate ∷ c.parity ∷ c.stop_bits ∷ flow_bits c.flow_control ∷ terminal_bits c.terminal_type
-    ∷ c.language ∷ []))))
+-- the fixed fields, with this base address and PCI device
+unfoldable pub fixed_list : SpcrContents → GenericAddress → SpcrPciDevice → List Field
+fixed_list c a d =
+    U8 (interface_code c.interface_type) ∷ Zeros 3  -- 36: Interface Type, 37: Reserved
+    ∷ U8 (space_code a.address_space) ∷ U8 a.bit_width ∷ U8 a.bit_offset ∷ U8 (size_code a.access_size)
+    ∷ U64 a.address  -- 40: Base Address
+    ∷ U8 (interrupt_bits c.interrupt_type) ∷ U8 c.irq  -- 52: Interrupt Type, 53: IRQ
+    ∷ U32 c.global_system_interrupt  -- 54: Global System Interrupt
+    ∷ U8 (baud_code c.baud_rate) ∷ U8 c.parity ∷ U8 c.stop_bits  -- 58: Configured Baud Rate, 59: Parity, 60: Stop Bits
+    ∷ U8 (flow_bits c.flow_control) ∷ U8 (terminal_bits c.terminal_type)  -- 61: Flow Control, 62: Terminal Type
+    ∷ U8 c.language ∷ U16 d.device_id ∷ U16 d.vendor_id  -- 63: Language, 64: PCI Device ID, 66: PCI Vendor ID
+    ∷ U8 d.bus ∷ U8 d.device ∷ U8 d.function  -- 68: PCI Bus Number, 69: PCI Device Number, 70: PCI Function Number
+    ∷ U32 d.flags ∷ U8 d.segment  -- 71: PCI Flags, 75: PCI Segment
+    ∷ U32 c.uart_clock_frequency ∷ U32 c.baud_rate  -- 76: UART Clock Frequency, 80: Precise Baud Rate
+    ∷ U16 ((length c.namespace_string.now + 1) % 2 ^ 16)  -- 84: NamespaceStringLength
+    ∷ U16 88  -- 86: NamespaceStringOffset
+    ∷ []
 
--- at 64 PCI Device ID, 66 PCI Vendor ID, 68 PCI Bus Number, 69 PCI Device Number, 70 PCI Function Number, 71 PCI Flags,
--- 75 PCI Segment, 76 UART Clock Frequency, 80 Precise Baud Rate, 84 NamespaceStringLength, 86 NamespaceStringOffset,
--- which is 88
-unfoldable pub console_fields : SpcrPciDevice → ℕ → ℕ → ℕ → List ℕ
-console_fields d clock rate name_length =
-    spelling 2 d.device_id ++ (spelling 2 d.vendor_id ++ (d.bus ∷ d.device ∷ d.function ∷ (spelling 4 d.flags
-    ++ (d.segment ∷ (spelling 4 clock ++ (spelling 4 rate ++ (spelling 2 name_length ++ (88 ∷ 0 ∷ []))))))))
+abbrev pub spcr_fields : SpcrContents → List Field
+spcr_fields c = fixed_list c (register_or_zeros c.base_address) (device_written c.pci_device)
 
 -- after the header: the fields, and from 88 on NamespaceString, which a zero ends
 abbrev pub spcr_body : SpcrContents → List ℕ
-spcr_body c =
-    port_fields c
-    ++ (console_fields (device_written c.pci_device) c.uart_clock_frequency c.baud_rate (length c.namespace_string.now + 1)
-    ++ (c.namespace_string.now ++ (0 ∷ [])))
+spcr_body c = fields_bytes (spcr_fields c) ++ (c.namespace_string.now ++ (0 ∷ []))
 
 -- ---- errors
 

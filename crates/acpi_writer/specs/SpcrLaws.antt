@@ -1,5 +1,6 @@
 -- What holds of an SPCR that is written: what was given is what is read.
-use Rattle.std.specs.Prelude.{◌≡◌, ℕ, ◌^◌, ◌<◌, ◌==◌, true, List, [], ◌∷◌, ◌++◌, length, IsUtf8, None, Some, Result, Ok, if◌then◌else◌}
+use Rattle.std.specs.Prelude.{◌≡◌, ℕ, ◌<◌, ◌==◌, true, List, [], ◌∷◌, ◌++◌, length, IsUtf8, None, Some, Result, Ok, if◌then◌else◌}
+use Rattle.std.specs.List.{All}
 use Rattle.std.specs.Option.{option_map}
 use Rattle.acpi_base.specs.Bits.{bits_of, has_bit}
 use Rattle.acpi_base.specs.Spcr.{base_of, baud_of, bus_of, clock_of, device_id_of, device_of, flow_byte, function_of, interface_in, interrupt_byte, interrupt_of, irq_of, namespace_of, spcr_at, terminal_byte, unless, vendor_id_of}
@@ -8,7 +9,8 @@ use Rattle.acpi_base.specs.declared.address.GenericAddress.{GenericAddress}
 use Rattle.acpi_base.specs.declared.error.AcpiError.{AcpiError}
 use Rattle.acpi_base.specs.declared.table.signature.TheConstants.Signature.{SPCR}
 use Rattle.acpi_base.specs.declared.tables.spcr.Spcr.{Spcr}
-use Rattle.acpi_writer.specs.Spcr.{base_written, device_written, is_base, is_interface, is_somewhere, spcr_body}
+use Rattle.acpi_writer.specs.Fields.{FitsField}
+use Rattle.acpi_writer.specs.Spcr.{spcr_fields, device_written, is_base, is_interface, is_somewhere, spcr_body}
 use Rattle.acpi_writer.specs.Table.{IsTableOf, IsValid}
 use Rattle.acpi_writer.specs.declared.ids.TableIds.{TableIds}
 use Rattle.acpi_writer.specs.declared.spcr.SpcrContents.{SpcrContents}
@@ -16,20 +18,8 @@ use Rattle.acpi_writer.specs.declared.spcr.SpcrPciDevice.{SpcrPciDevice}
 
 -- ---- which numbers have a place
 
-pub record FitsPort (c : SpcrContents) : Type 0 where
-  pub address : (base_written c.base_address).address < 2 ^ 64
-  pub interrupt : c.global_system_interrupt < 2 ^ 32
-
-pub record FitsConsole (d : SpcrPciDevice) (frequency baud_rate : ℕ) : Type 0 where
-  pub device_id : d.device_id < 2 ^ 16
-  pub vendor_id : d.vendor_id < 2 ^ 16
-  pub flags : d.flags < 2 ^ 32
-  pub clock : frequency < 2 ^ 32
-  pub rate : baud_rate < 2 ^ 32
-
-pub record FitsSpcr (c : SpcrContents) : Type 0 where
-  pub port : FitsPort c
-  pub console : FitsConsole (device_written c.pci_device) c.uart_clock_frequency c.baud_rate
+abbrev pub FitsSpcr : SpcrContents → Type 0
+FitsSpcr c = All FitsField (spcr_fields c)
 
 -- the bytes are the table of contents whose numbers and name have a place, and whose codes are their own
 pub record IsSpcr (ids : TableIds) (c : SpcrContents) (table : List ℕ) : Type 0 where

@@ -1,15 +1,17 @@
 -- The bytes of a SRAT that says what is given (ACPI 6.4, section 5.2.16).
-use Rattle.std.specs.Prelude.{ℕ, ◌+◌, ◌*◌, ◌/◌, ◌%◌, ◌==◌, ◌&&◌, Bool, not, if◌then◌else◌}
+use Rattle.std.specs.Prelude.{ℕ, ◌+◌, ◌*◌, ◌/◌, ◌%◌, ◌^◌, ◌==◌, ◌&&◌, Bool, not, if◌then◌else◌}
 use Rattle.std.specs.Prelude.{List, [], ◌∷◌, ◌++◌, flat_map, nat_lt, Result}
 use Rattle.std.specs.List.{list_all}
-use Rattle.acpi_base.specs.Bytes.{spelling}
 use Rattle.acpi_base.specs.Steps.{◌>>=◌, holds}
 use Rattle.acpi_base.specs.declared.table.signature.TheConstants.Signature.{SRAT}
 use Rattle.acpi_numa.specs.Affinities.{ends_below}
 use Rattle.acpi_numa.specs.declared.srat.affinities.MemoryRange.{MemoryRange}
+use Rattle.acpi_writer.specs.Fields.{fields_bytes}
 use Rattle.acpi_writer.specs.Table.{bit_of, table_written}
 use Rattle.acpi_writer.specs.declared.error.WriterError.{WriterError}
 use Rattle.acpi_writer.specs.declared.error.WriterError.TheVariants.{BadRange, IdOfAll}
+use Rattle.acpi_writer.specs.declared.fields.Field.{Field}
+use Rattle.acpi_writer.specs.declared.fields.Field.TheVariants.{U8, U16, U32, U64, Zeros}
 use Rattle.acpi_writer.specs.declared.ids.TableIds.{TableIds}
 use Rattle.acpi_writer.specs.declared.srat.ApicDomain.{ApicDomain}
 use Rattle.acpi_writer.specs.declared.srat.GiccDomain.{GiccDomain}
@@ -25,43 +27,58 @@ SratContents = ContentsOf MemoryRange
 
 -- ---- entries, each of which has bit 0 of Flags set: Enabled
 
--- Processor Local APIC/SAPIC Affinity (section 5.2.16.1): at 0 Type, 1 Length, 2 Proximity Domain [7:0], 3 APIC ID, 4
--- Flags, 8 Local SAPIC EID, 9 Proximity Domain [31:8], 12 Clock Domain
-unfoldable pub local_apic_entry : ApicDomain → List ℕ
-local_apic_entry p =
-    0 ∷ 16 ∷ p.domain % 256 ∷ p.local_apic_id ∷ 1 ∷ 0 ∷ 0 ∷ 0 ∷ 0
-    ∷ (spelling 3 (p.domain / 256) ++ (0 ∷ 0 ∷ 0 ∷ 0 ∷ []))
+-- Processor Local APIC/SAPIC Affinity (section 5.2.16.1)
+unfoldable pub local_apic_fields : ApicDomain → List Field
+local_apic_fields p =
+    U8 0 ∷ U8 16  -- 0: Type, 1: Length
+    ∷ U8 (p.domain % 256) ∷ U8 p.local_apic_id  -- 2: Proximity Domain [7:0], 3: APIC ID
+    ∷ U32 1 ∷ U8 0  -- 4: Flags, 8: Local SAPIC EID
+    ∷ U8 (p.domain / 2 ^ 8 % 2 ^ 8) ∷ U16 (p.domain / 2 ^ 16)  -- 9: Proximity Domain [31:8]
+    ∷ Zeros 4  -- 12: Clock Domain
+    ∷ []
 
--- Processor Local x2APIC Affinity (section 5.2.16.3): at 0 Type, 1 Length, 2 Reserved, 4 Proximity Domain, 8 X2APIC ID,
--- 12 Flags, 16 Clock Domain, 20 Reserved
-unfoldable pub local_x2apic_entry : ApicDomain → List ℕ
-local_x2apic_entry p =
-    2 ∷ 24 ∷ 0 ∷ 0 ∷ (spelling 4 p.domain ++ (spelling 4 p.local_apic_id
-    ++ (1 ∷ 0 ∷ 0 ∷ 0 ∷ 0 ∷ 0 ∷ 0 ∷ 0 ∷ 0 ∷ 0 ∷ 0 ∷ 0 ∷ [])))
+-- Processor Local x2APIC Affinity (section 5.2.16.3)
+unfoldable pub local_x2apic_fields : ApicDomain → List Field
+local_x2apic_fields p =
+    U8 2 ∷ U8 24 ∷ Zeros 2  -- 0: Type, 1: Length, 2: Reserved
+    ∷ U32 p.domain ∷ U32 p.local_apic_id  -- 4: Proximity Domain, 8: X2APIC ID
+    ∷ U32 1 ∷ Zeros 4 ∷ Zeros 4 ∷ Zeros 0  -- 12: Flags, 16: Clock Domain, 20: Reserved
+    ∷ []
 
 -- the id has a place in the first, in which 255 stands for all
 abbrev pub is_small : ApicDomain → Bool
 is_small p = nat_lt p.local_apic_id 255
 
-unfoldable pub apic_entry : ApicDomain → List ℕ
-apic_entry p = if is_small p then local_apic_entry p else local_x2apic_entry p
+abbrev pub apic_fields : ApicDomain → List Field
+apic_fields p = if is_small p then local_apic_fields p else local_x2apic_fields p
 
--- GICC Affinity (section 5.2.16.4): at 0 Type, 1 Length, 2 Proximity Domain, 6 ACPI Processor UID, 10 Flags, 14 Clock
--- Domain
-unfoldable pub gicc_entry : GiccDomain → List ℕ
-gicc_entry p =
-    3 ∷ 18 ∷ (spelling 4 p.domain ++ (spelling 4 p.processor_uid ++ (1 ∷ 0 ∷ 0 ∷ 0 ∷ 0 ∷ 0 ∷ 0 ∷ 0 ∷ [])))
+abbrev pub apic_entry : ApicDomain → List ℕ
+apic_entry p = fields_bytes (apic_fields p)
+
+-- GICC Affinity (section 5.2.16.4)
+unfoldable pub gicc_fields : GiccDomain → List Field
+gicc_fields p =
+    U8 3 ∷ U8 18 ∷ U32 p.domain  -- 0: Type, 1: Length, 2: Proximity Domain
+    ∷ U32 p.processor_uid ∷ U32 1 ∷ Zeros 4  -- 6: ACPI Processor UID, 10: Flags, 14: Clock Domain
+    ∷ []
+
+abbrev pub gicc_entry : GiccDomain → List ℕ
+gicc_entry p = fields_bytes (gicc_fields p)
 
 -- Flags: bit 0 is Enabled, bit 1 Hot Pluggable, bit 2 NonVolatile
 abbrev pub range_flags : MemoryRange → ℕ
 range_flags r = 1 + (2 * bit_of r.is_hot_pluggable + 4 * bit_of r.is_non_volatile)
 
--- Memory Affinity (section 5.2.16.2): at 0 Type, 1 Length, 2 Proximity Domain, 6 Reserved, 8 Base Address Low and High,
--- 16 Length Low and High, 24 Reserved, 28 Flags, 32 Reserved
-unfoldable pub memory_entry : MemoryRange → List ℕ
-memory_entry r =
-    1 ∷ 40 ∷ (spelling 4 r.domain ++ (0 ∷ 0 ∷ (spelling 8 r.base ++ (spelling 8 r.length
-    ++ (0 ∷ 0 ∷ 0 ∷ 0 ∷ range_flags r ∷ 0 ∷ 0 ∷ 0 ∷ 0 ∷ 0 ∷ 0 ∷ 0 ∷ 0 ∷ 0 ∷ 0 ∷ 0 ∷ [])))))
+-- Memory Affinity (section 5.2.16.2)
+unfoldable pub memory_fields : MemoryRange → List Field
+memory_fields r =
+    U8 1 ∷ U8 40 ∷ U32 r.domain ∷ Zeros 2  -- 0: Type, 1: Length, 2: Proximity Domain, 6: Reserved
+    ∷ U64 r.base ∷ U64 r.length  -- 8: Base Address Low and High, 16: Length Low and High
+    ∷ Zeros 4 ∷ U32 (range_flags r) ∷ Zeros 8  -- 24: Reserved, 28: Flags, 32: Reserved
+    ∷ []
+
+abbrev pub memory_entry : MemoryRange → List ℕ
+memory_entry r = fields_bytes (memory_fields r)
 
 -- ---- the table
 

@@ -1,11 +1,12 @@
 -- What holds of a SRAT that is written: what was given is what is read.
-use Rattle.std.specs.Prelude.{◌≡◌, ℕ, ◌^◌, ◌<◌, ◌==◌, true, List, Option, None, Some, Ok, if◌then◌else◌}
+use Rattle.std.specs.Prelude.{◌≡◌, ℕ, ◌==◌, true, List, Option, None, Some, Ok, if◌then◌else◌}
 use Rattle.std.specs.List.{All, filter_map, last_or, list_all}
 use Rattle.acpi_base.specs.declared.table.signature.TheConstants.Signature.{SRAT}
 use Rattle.acpi_numa.specs.Affinities.{affinities_of}
 use Rattle.acpi_numa.specs.Srat.{domain_of_apic, domain_of_processor}
 use Rattle.acpi_numa.specs.declared.srat.affinities.MemoryRange.{MemoryRange}
-use Rattle.acpi_writer.specs.Srat.{ContentsOf, SratContents, is_range, srat_body_by}
+use Rattle.acpi_writer.specs.Fields.{FitsField}
+use Rattle.acpi_writer.specs.Srat.{ContentsOf, SratContents, apic_fields, gicc_fields, is_range, memory_fields, srat_body_by}
 use Rattle.acpi_writer.specs.Table.{IsTableOf, IsValid}
 use Rattle.acpi_writer.specs.declared.ids.TableIds.{TableIds}
 use Rattle.acpi_writer.specs.declared.srat.ApicDomain.{ApicDomain}
@@ -13,18 +14,14 @@ use Rattle.acpi_writer.specs.declared.srat.GiccDomain.{GiccDomain}
 
 -- ---- which numbers have a place in an entry
 
-pub record FitsApic (p : ApicDomain) : Type 0 where
-  pub id : p.local_apic_id < 2 ^ 32
-  pub domain : p.domain < 2 ^ 32
+abbrev pub FitsApic : ApicDomain → Type 0
+FitsApic p = All FitsField (apic_fields p)
 
-pub record FitsGicc (p : GiccDomain) : Type 0 where
-  pub uid : p.processor_uid < 2 ^ 32
-  pub domain : p.domain < 2 ^ 32
+abbrev pub FitsGicc : GiccDomain → Type 0
+FitsGicc p = All FitsField (gicc_fields p)
 
-pub record FitsRange (r : MemoryRange) : Type 0 where
-  pub domain : r.domain < 2 ^ 32
-  pub base : r.base < 2 ^ 64
-  pub length : r.length < 2 ^ 64
+abbrev pub FitsRange : MemoryRange → Type 0
+FitsRange r = All FitsField (memory_fields r)
 
 pub record AreFitBy {R : Type 0} (range : R → MemoryRange) (c : ContentsOf R) : Type 0 where
   pub apics : All FitsApic c.apics.now

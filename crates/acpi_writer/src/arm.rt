@@ -1,14 +1,12 @@
 //! What the tables of an Arm machine share: flags, the trigger mode and the polarity of an interrupt in them, and
 //! addresses that may be missing.
-ghost use Rattle.std.specs.Prelude.{◌≡◌, ◌^◌, ◌<◌};
-ghost use Rattle.acpi_base.specs.Bytes.{spelling};
+ghost use Rattle.std.specs.Prelude.{◌≡◌};
 ghost use Rattle.acpi_writer.specs.Arm.{base_checked, flags_of, has_polarity, has_trigger};
 ghost use Rattle.acpi_writer.specs.Arm.{is_edge, is_low, modes_checked};
 
 use crate::checked::require;
 use crate::error::WriterError;
-use crate::numbers::{bit_of, word};
-use crate::spelled::Spelled;
+use crate::numbers::bit_of;
 use acpi_base::model::{Polarity, TriggerMode};
 
 /// Four flags, from bit 0 on.
@@ -75,23 +73,5 @@ pub(crate) fn check_base(base: Option<u64>) -> Result<(), WriterError>
     match base {
         Some(address) => require(address < u64::MAX, WriterError::NoAddress),
         None => Ok(()),
-    }
-}
-
-impl Spelled for u16 {
-    ghost spelled = { λ n. spelling 2 n };
-
-    ghost fits = { λ n. n < 256 ^ 2 };
-
-    #[tactic(auto, unfolding(acpi_base::specs::Bytes::spelling))]
-    fn measure(&self, room: usize) -> Option<usize> {
-        let _in_range = *self;
-        if room < 2 { None } else { Some(2) }
-    }
-
-    #[tactic(auto, unfolding(acpi_base::specs::Bytes::spelling))]
-    fn put(&self, out: &mut [u8]) {
-        let [a, b] = word(*self);
-        out.copy_from_slice(&[a, b]);
     }
 }

@@ -5,9 +5,9 @@ ghost use Rattle.acpi_writer.specs.Bgrt as bgrt;
 ghost use Rattle.acpi_writer.specs.Table.{Keeps};
 
 use crate::error::WriterError;
+use crate::fields::{Field, Record};
 use crate::ids::TableIds;
-use crate::numbers::{bit_of, dword, qword};
-use crate::spelled::Spelled;
+use crate::numbers::bit_of;
 use crate::table::write_table;
 use acpi_base::Signature;
 
@@ -58,28 +58,22 @@ fn status_of(contents: &BgrtContents) -> u8
     bit_of(contents.was_displayed) + 2 * orientation_code(contents.orientation_offset)
 }
 
-impl Spelled for BgrtContents {
-    ghost spelled = { bgrt.bgrt_body };
+impl Record for BgrtContents {
+    type Fields = [Field; 6];
 
-    ghost fits = { bgrt.FitsBgrt };
+    ghost fields_of = { bgrt.bgrt_fields };
 
-    #[tactic(auto, unfolding(crate::specs::Bgrt::bgrt_body, acpi_base::specs::Bytes::spelling))]
-    fn measure(&self, room: usize) -> Option<usize> {
-        let _address = self.image_address;
-        let (_x, _y) = self.image_offset;
-        if room < 20 { None } else { Some(20) }
-    }
-
-    #[tactic(auto, unfolding(crate::specs::Bgrt::bgrt_body, acpi_base::specs::Bytes::spelling))]
-    fn put(&self, out: &mut [u8]) {
-        let status = status_of(self);
-        let [a, b, c, d, e, f, g, h] = qword(self.image_address);
+    #[tactic(auto, unfolding(crate::specs::Bgrt::bgrt_fields))]
+    fn fields(&self) -> [Field; 6] {
         let (x, y) = self.image_offset;
-        let [i, j, k, l] = dword(x);
-        let [m, n, o, p] = dword(y);
-        out.copy_from_slice(&[
-            1, 0, status, 0, a, b, c, d, e, f, g, h, i, j, k, l, m, n, o, p,
-        ]);
+        [
+            Field::U16(1),
+            Field::U8(status_of(self)),
+            Field::U8(0),
+            Field::U64(self.image_address),
+            Field::U32(x),
+            Field::U32(y),
+        ]
     }
 }
 

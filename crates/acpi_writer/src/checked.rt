@@ -21,10 +21,7 @@ pub(crate) fn check_all<T: Checked>(xs: &[T]) -> Result<(), WriterError>
     ensures { result ≡ all_checked T.checked xs.now }
 {
     for x in xs {
-        match x.check() {
-            Ok(()) => {}
-            Err(error) => return Err(error),
-        }
+        x.check()?;
     }
     Ok(())
 }

@@ -10,21 +10,20 @@ ghost use Rattle.acpi_writer.specs.Table.{IsTableOf, Keeps, if_checked, table_wr
 mod contents;
 mod features;
 mod parts;
-mod registers;
 
 use crate::checked::{Checked, require};
 use crate::error::WriterError;
+use crate::fields::Field;
 use crate::generic::is_register;
 use crate::ids::TableIds;
-use crate::spelled::Then;
+use crate::spelled::{Each, Then};
 use crate::table::{checked_size, write_checked};
 use acpi_base::Signature;
 use acpi_fixed::fadt::{GpeBlock, PowerProfile};
 pub use contents::{FadtContents, FadtHardware, FixedHardware, LegacyFields};
 pub use features::{ArmBootFeatures, FixedFeatures, PcBootFeatures};
 pub use parts::profile_code;
-use parts::{Features, Head, Lengths, OtherPorts, Pm1Ports, Wide, fixed_of, gpe_register};
-use registers::Registers;
+use parts::{Front, Wide, fixed_of, gpe_register, registers};
 
 /// Whether the DSDT, and the FACS if there is one, are at an address other than 0.
 fn are_placed(contents: &FadtContents) -> bool
@@ -100,12 +99,10 @@ impl Checked for FadtContents {
 
 /// All after the header of a FADT.
 macro_rules! body_of {
-    ($contents:expr, $hardware:expr) => {{
-        let ends = Then(Registers($contents, $hardware), 0u64);
-        let wide = Then($contents.reset_register, Then(Wide($contents), ends));
-        let features = Then(Lengths($hardware), Then(Features($contents), wide));
-        let ports = Then(Pm1Ports($hardware), Then(OtherPorts($hardware), features));
-        Then(Head($contents, $hardware), ports)
+    ($contents:expr, $hardware:expr, $registers:expr) => {{
+        let last = Then(Each($registers), Field::Zeros(8));
+        let wide = Then($contents.reset_register, Then(Wide($contents), last));
+        Then(Front($contents, $hardware), wide)
     }};
 }
 
@@ -125,7 +122,8 @@ fn write_contents(
     ensures fits { IfOk result (λ n. AreFitFor contents.now hardware.now) }
     ensures checked { IfOk result (λ n. bytes.fadt_checked contents.now ≡ Ok tt) }
 {
-    let body = body_of!(contents, hardware);
+    let registers = registers(contents, hardware);
+    let body = body_of!(contents, hardware, &registers);
     write_checked(out, Signature::FADT, 6, ids, contents, &body)
 }
 
@@ -140,7 +138,8 @@ fn contents_size(
     ensures short { IfOk result (λ n. n < 2 ^ 32) }
     ensures fits { IfOk result (λ n. AreFitFor contents.now hardware.now) }
 {
-    let body = body_of!(contents, hardware);
+    let registers = registers(contents, hardware);
+    let body = body_of!(contents, hardware, &registers);
     checked_size(Signature::FADT, 6, ids, contents, &body)
 }
 

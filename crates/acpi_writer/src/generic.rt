@@ -3,8 +3,7 @@ ghost use Rattle.std.specs.Prelude.{◌≡◌};
 ghost use Rattle.acpi_base.specs.Address.{size_code, space_code};
 ghost use Rattle.acpi_writer.specs.Generic as bytes;
 
-use crate::numbers::qword;
-use crate::spelled::Spelled;
+use crate::fields::{Field, Record};
 use acpi_base::address::{AccessSize, AddressSpace, GenericAddress};
 
 /// The code of an address space: Address Space ID (section 5.2.3.2).
@@ -67,18 +66,6 @@ pub(crate) fn is_named_space(space: AddressSpace) -> bool
     }
 }
 
-/// The twelve bytes of a generic address.
-#[tactic(auto, unfolding(crate::specs::Generic::address_bytes, acpi_base::specs::Bytes::spelling))]
-pub(crate) fn address_bytes(address: GenericAddress) -> [u8; 12]
-    ensures { result ≡ bytes.address_bytes address }
-{
-    let space = space_code(address.address_space);
-    let size = size_code(address.access_size);
-    let [a, b, c, d, e, f, g, h] = qword(address.address);
-    let (width, offset) = (address.bit_width, address.bit_offset);
-    [space, width, offset, size, a, b, c, d, e, f, g, h]
-}
-
 /// Whether a register, if there is one, is at an address other than 0 of a space that its code names.
 pub(crate) fn is_register(register: Option<GenericAddress>) -> bool
     ensures { result ≡ bytes.is_register register }
@@ -89,20 +76,20 @@ pub(crate) fn is_register(register: Option<GenericAddress>) -> bool
     }
 }
 
-impl Spelled for Option<GenericAddress> {
-    ghost spelled = { bytes.register_bytes };
+impl Record for Option<GenericAddress> {
+    type Fields = [Field; 5];
 
-    ghost fits = { bytes.FitsRegister };
+    ghost fields_of = { λ o. bytes.address_fields (bytes.register_or_zeros o) };
 
-    #[tactic(auto, unfolding(crate::specs::Generic::register_bytes, acpi_base::specs::Bytes::spelling))]
-    fn measure(&self, room: usize) -> Option<usize> {
+    #[tactic(auto, unfolding(crate::specs::Generic::address_fields))]
+    fn fields(&self) -> [Field; 5] {
         let register = register_or_zeros(*self);
-        let _address = register.address;
-        if room < 12 { None } else { Some(12) }
-    }
-
-    #[tactic(auto, unfolding(crate::specs::Generic::register_bytes, crate::specs::Generic::address_bytes))]
-    fn put(&self, out: &mut [u8]) {
-        out.copy_from_slice(&address_bytes(register_or_zeros(*self)));
+        [
+            Field::U8(space_code(register.address_space)),
+            Field::U8(register.bit_width),
+            Field::U8(register.bit_offset),
+            Field::U8(size_code(register.access_size)),
+            Field::U64(register.address),
+        ]
     }
 }

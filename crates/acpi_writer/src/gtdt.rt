@@ -16,7 +16,7 @@ use crate::spelled::Then;
 use crate::table::{checked_size, write_checked};
 use acpi_arm::gtdt::{ArmTimer, GtFrame, SbsaWatchdog};
 use acpi_base::Signature;
-use structures::{Array, Base, Reserved, Structures};
+use structures::Structures;
 
 /// A GT Block (section 5.2.24.1.1), in the words of `GtBlock`, as which it is read.
 #[derive(Clone, Copy)]
@@ -75,23 +75,7 @@ impl Checked for GtdtContents<'_> {
 /// All after the header of a GTDT.
 macro_rules! body_of {
     ($contents:expr) => {{
-        let platform = Then(
-            Array($contents.platform_timers.len()),
-            Then(
-                $contents.virtual_el2_timer,
-                Structures($contents.platform_timers),
-            ),
-        );
-        let el2 = Then(
-            $contents.el2_timer,
-            Then(Base($contents.counter_read_base), platform),
-        );
-        let el1 = Then(
-            $contents.non_secure_el1_timer,
-            Then($contents.virtual_el1_timer, el2),
-        );
-        let timers = Then(Reserved, Then($contents.secure_el1_timer, el1));
-        Then(Base($contents.counter_control_base), timers)
+        Then(*$contents, Structures($contents.platform_timers))
     }};
 }
 

@@ -2,13 +2,12 @@
 ghost use Rattle.std.specs.Prelude.{◌≡◌, length, take, IfOk};
 ghost use Rattle.acpi_base.specs.Steps.{Gives};
 ghost use Rattle.acpi_writer.specs.HpetBytes as bytes;
-ghost use Rattle.acpi_writer.specs.HpetLaws.{FitsHpet, IsHpet};
+ghost use Rattle.acpi_writer.specs.HpetLaws.{IsHpet};
 ghost use Rattle.acpi_writer.specs.Table.{Keeps};
 
 use crate::error::WriterError;
+use crate::fields::{Field, Record};
 use crate::ids::TableIds;
-use crate::numbers::{dword, qword, word};
-use crate::spelled::Spelled;
 use crate::table::write_table;
 use acpi::HpetInfo;
 use acpi::hpet::PageProtection;
@@ -26,29 +25,22 @@ pub fn protection_code(protection: PageProtection) -> u8
     }
 }
 
-impl Spelled for HpetInfo {
-    ghost spelled = { bytes.hpet_body };
+impl Record for HpetInfo {
+    type Fields = [Field; 7];
 
-    ghost fits = { FitsHpet };
+    ghost fields_of = { bytes.hpet_fields };
 
-    #[tactic(auto, unfolding(crate::specs::HpetBytes::hpet_body, acpi_base::specs::Bytes::spelling))]
-    fn measure(&self, room: usize) -> Option<usize> {
-        let _block = self.event_timer_block_id;
-        let _base = self.base_address;
-        let _tick = self.clock_tick_unit;
-        if room < 20 { None } else { Some(20) }
-    }
-
-    #[tactic(auto, unfolding(crate::specs::HpetBytes::hpet_body, acpi_base::specs::Bytes::spelling))]
-    fn put(&self, out: &mut [u8]) {
-        let [i, j, k, l] = dword(self.event_timer_block_id);
-        let [a, b, c, d, e, f, g, h] = qword(self.base_address);
-        let [u, v] = word(self.clock_tick_unit);
-        let protection = protection_code(self.page_protection);
-        let number = self.hpet_number;
-        out.copy_from_slice(&[
-            i, j, k, l, 0, 0, 0, 0, a, b, c, d, e, f, g, h, number, u, v, protection,
-        ]);
+    #[tactic(auto, unfolding(crate::specs::HpetBytes::hpet_fields))]
+    fn fields(&self) -> [Field; 7] {
+        [
+            Field::U32(self.event_timer_block_id),
+            Field::U8(0),
+            Field::Zeros(3),
+            Field::U64(self.base_address),
+            Field::U8(self.hpet_number),
+            Field::U16(self.clock_tick_unit),
+            Field::U8(protection_code(self.page_protection)),
+        ]
     }
 }
 

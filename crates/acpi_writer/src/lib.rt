@@ -11,6 +11,7 @@ pub mod contents;
 pub mod error;
 pub mod facs;
 pub mod fadt;
+pub mod fields;
 mod flags;
 pub mod generic;
 pub mod gtdt;

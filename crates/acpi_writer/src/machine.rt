@@ -110,10 +110,7 @@ fn dsdt_size<T>(machine: &Machine<'_, T>) -> Result<usize, WriterError>
     ensures short { IfOk result (λ n. n ≤ 2 ^ 32) }
 {
     match machine.dsdt {
-        Some(dsdt) => match Dsdt(dsdt).size(&machine.ids) {
-            Ok(size) => Ok(rounded(size)),
-            Err(error) => Err(error),
-        },
+        Some(dsdt) => Ok(rounded(Dsdt(dsdt).size(&machine.ids)?)),
         None => Ok(0),
     }
 }
@@ -166,10 +163,7 @@ fn tree_size<T: Listed>(machine: &Machine<'_, T>) -> Result<usize, WriterError>
 pub fn tables_size<T: Listed>(machine: &Machine<'_, T>) -> Result<usize, WriterError>
     ensures { result ≡ whole.machine_size T.written machine.now }
 {
-    match tree_size(machine) {
-        Ok(size) => Ok(48 + size),
-        Err(error) => Err(error),
-    }
+    Ok(48 + tree_size(machine)?)
 }
 
 /// Puts the addresses of tables, of which the first lies at this one.
@@ -328,16 +322,10 @@ pub fn write_tables_without_rsdp<T: Listed>(
     // The machine can be written for this address, so that a reader finds it there (`machine_is_read`).
     ensures fits { IfOk result (λ n. whole.CanLie T.written T.fits address machine.now) }
 {
-    match tree_size(machine) {
-        Ok(size) => match check_place(out.len(), address, size) {
-            Ok(()) => {
-                put_tree(&mut out[..size], address, machine);
-                Ok(size)
-            }
-            Err(error) => Err(error),
-        },
-        Err(error) => Err(error),
-    }
+    let size = tree_size(machine)?;
+    check_place(out.len(), address, size)?;
+    put_tree(&mut out[..size], address, machine);
+    Ok(size)
 }
 
 /// Puts the RSDP of an XSDT at this address.
@@ -380,17 +368,8 @@ pub fn write_tables<T: Listed>(
     // The machine can be written for this address, so that a reader finds it there (`machine_is_read`).
     ensures fits { IfOk result (λ n. whole.CanLie T.written T.fits (address + 48) machine.now) }
 {
-    match tree_size(machine) {
-        Ok(tree) => {
-            let size = 48 + tree;
-            match check_place(out.len(), address, size) {
-                Ok(()) => {
-                    put_machine(&mut out[..size], address, machine);
-                    Ok(size)
-                }
-                Err(error) => Err(error),
-            }
-        }
-        Err(error) => Err(error),
-    }
+    let size = 48 + tree_size(machine)?;
+    check_place(out.len(), address, size)?;
+    put_machine(&mut out[..size], address, machine);
+    Ok(size)
 }

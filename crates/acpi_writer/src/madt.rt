@@ -4,9 +4,8 @@ ghost use Rattle.std.specs.List.{All, list_all};
 ghost use Rattle.acpi_base.specs.Steps.{Gives};
 ghost use Rattle.acpi_writer.specs.Contents.{most, sized};
 ghost use Rattle.acpi_writer.specs.MadtBytes as bytes;
-ghost use Rattle.acpi_base.specs.declared.table.signature.TheConstants.Signature.{MADT};
 ghost use Rattle.acpi_writer.specs.MadtLaws.{AreFit, FitsAddress, FitsMailbox, IsMadt};
-ghost use Rattle.acpi_writer.specs.Table.{IsTableOf, Keeps, table_written};
+ghost use Rattle.acpi_writer.specs.Table.{Keeps};
 
 mod entries;
 pub mod gic;
@@ -14,8 +13,8 @@ pub mod gic;
 use crate::checked::{Checked, require};
 use crate::error::WriterError;
 use crate::ids::TableIds;
-use crate::spelled::{Each, EachFor, StandsFor, Then};
-use crate::table::{checked_size, table_size, write_checked, write_table};
+use crate::spelled::{Each, Spelled, Then};
+use crate::table::{checked_size, write_checked};
 use acpi_base::Signature;
 use acpi_base::model::{InterruptSourceOverride, IoApic, NmiLine, NmiProcessor, NmiSource};
 pub use entries::Fixed;
@@ -89,7 +88,7 @@ fn lines_fit(lines: &[NmiLine]) -> bool
     lines.iter().all(|line| names_one(line.processor))
 }
 
-/// What a MADT is to say, as in `MadtContents`, by what stands for the things that are its entries.
+/// The lists of a MADT, as in `MadtContents`, of anything that is spelled as its entries are.
 pub struct MadtLists<'a, P, I, O, S, L> {
     /// The physical address of each processor's local APIC.
     pub local_apic_address: u64,
@@ -124,72 +123,46 @@ impl<P, I, O, S, L> Clone for MadtLists<'_, P, I, O, S, L> {
 
 /// All after the header of a MADT: the fixed fields, and the entries sort by sort.
 macro_rules! body_of {
-    ($contents:expr, $each:ident) => {{
+    ($contents:expr) => {{
         let fixed = Fixed {
             local_apic_address: $contents.local_apic_address,
             also_has_legacy_pics: $contents.also_has_legacy_pics,
         };
         let wakeup = Wakeup($contents.wakeup_mailbox);
         let nmis = Then(
-            $each($contents.nmi_sources),
-            Then($each($contents.local_apic_nmi_lines), wakeup),
+            Each($contents.nmi_sources),
+            Then(Each($contents.local_apic_nmi_lines), wakeup),
         );
-        let wirings = Then($each($contents.interrupt_source_overrides), nmis);
-        let controllers = Then($each($contents.io_apics), wirings);
+        let wirings = Then(Each($contents.interrupt_source_overrides), nmis);
+        let controllers = Then(Each($contents.io_apics), wirings);
         let address = AddressOverride($contents.local_apic_address);
-        let entries = Then($each($contents.processors), Then(address, controllers));
+        let entries = Then(Each($contents.processors), Then(address, controllers));
         Then(fixed, entries)
     }};
 }
 
-/// Writes a MADT of revision 5 of these entries, whatever they say.
-///
-/// Returns, in this order, `BadName`, `NoRoom` and `TooLong`, as `write_madt` does.
-pub fn write_madt_of<P: StandsFor, I: StandsFor, O: StandsFor, S: StandsFor, L: StandsFor>(
-    out: &mut [u8],
-    ids: &TableIds,
-    lists: &MadtLists<'_, P, I, O, S, L>,
-) -> Result<usize, WriterError>
-    ensures exact { let body = bytes.madt_body_of lists.now.local_apic_address
-        lists.now.also_has_legacy_pics lists.now.wakeup_mailbox (record {
-          processors = flat_map (λ x. P.Thing.spelled (P.thing_of x)) lists.now.processors.now;
-          io_apics = flat_map (λ x. I.Thing.spelled (I.thing_of x)) lists.now.io_apics.now;
-          overrides = flat_map (λ x. O.Thing.spelled (O.thing_of x)) lists.now.interrupt_source_overrides.now;
-          nmi_sources = flat_map (λ x. S.Thing.spelled (S.thing_of x)) lists.now.nmi_sources.now;
-          nmi_lines = flat_map (λ x. L.Thing.spelled (L.thing_of x)) lists.now.local_apic_nmi_lines.now;
-        }) in
-        Gives (λ n. take n out.new) result (table_written (length out.old) MADT 5 ids.now body)
-        × IfOk result (λ n. IsTableOf MADT 5 ids.now body (take n out.new)) }
-    ensures keeps { Keeps result out.old out.new }
-    ensures fits { IfOk result (λ n. FitsAddress lists.now.local_apic_address
-        × All (λ x. P.Thing.fits (P.thing_of x)) lists.now.processors.now
-        × All (λ x. I.Thing.fits (I.thing_of x)) lists.now.io_apics.now
-        × All (λ x. O.Thing.fits (O.thing_of x)) lists.now.interrupt_source_overrides.now
-        × All (λ x. S.Thing.fits (S.thing_of x)) lists.now.nmi_sources.now
-        × FitsMailbox lists.now.wakeup_mailbox) }
-{
-    let body = body_of!(lists, EachFor);
-    write_table(out, Signature::MADT, 5, ids, &body)
-}
+impl<P: Spelled, I: Spelled, O: Spelled, S: Spelled, L: Spelled> Spelled
+    for MadtLists<'_, P, I, O, S, L> {
+    ghost spelled = { λ x. bytes.madt_body_of x.local_apic_address x.also_has_legacy_pics x.wakeup_mailbox (record {
+      processors = flat_map P.spelled x.processors.now;
+      io_apics = flat_map I.spelled x.io_apics.now;
+      overrides = flat_map O.spelled x.interrupt_source_overrides.now;
+      nmi_sources = flat_map S.spelled x.nmi_sources.now;
+      nmi_lines = flat_map L.spelled x.local_apic_nmi_lines.now;
+    }) };
 
-/// How many bytes such a MADT has, or the first error of `write_madt_of` in a slice of any length.
-pub fn madt_size_of<P: StandsFor, I: StandsFor, O: StandsFor, S: StandsFor, L: StandsFor>(
-    ids: &TableIds,
-    lists: &MadtLists<'_, P, I, O, S, L>,
-) -> Result<usize, WriterError>
-    ensures exact { result ≡ sized (table_written most MADT 5 ids.now
-        (bytes.madt_body_of lists.now.local_apic_address
-        lists.now.also_has_legacy_pics lists.now.wakeup_mailbox (record {
-          processors = flat_map (λ x. P.Thing.spelled (P.thing_of x)) lists.now.processors.now;
-          io_apics = flat_map (λ x. I.Thing.spelled (I.thing_of x)) lists.now.io_apics.now;
-          overrides = flat_map (λ x. O.Thing.spelled (O.thing_of x)) lists.now.interrupt_source_overrides.now;
-          nmi_sources = flat_map (λ x. S.Thing.spelled (S.thing_of x)) lists.now.nmi_sources.now;
-          nmi_lines = flat_map (λ x. L.Thing.spelled (L.thing_of x)) lists.now.local_apic_nmi_lines.now;
-        }))) }
-    ensures short { IfOk result (λ n. n < 2 ^ 32) }
-{
-    let body = body_of!(lists, EachFor);
-    table_size(Signature::MADT, 5, ids, &body)
+    ghost fits = { λ x. FitsAddress x.local_apic_address × All P.fits x.processors.now × All I.fits x.io_apics.now
+        × All O.fits x.interrupt_source_overrides.now × All S.fits x.nmi_sources.now × FitsMailbox x.wakeup_mailbox };
+
+    fn measure(&self, room: usize) -> Option<usize> {
+        let body = body_of!(self);
+        body.measure(room)
+    }
+
+    fn put(&self, out: &mut [u8]) {
+        let body = body_of!(self);
+        body.put(out);
+    }
 }
 
 /// Whether there is one.
@@ -219,7 +192,7 @@ pub(crate) fn madt_size(ids: &TableIds, contents: &MadtContents<'_>) -> Result<u
     ensures short { IfOk result (λ n. n < 2 ^ 32) }
     ensures fits { IfOk result (λ n. AreFit contents.now) }
 {
-    let body = body_of!(contents, Each);
+    let body = body_of!(contents);
     checked_size(Signature::MADT, 5, ids, contents, &body)
 }
 
@@ -247,6 +220,6 @@ pub fn write_madt(
     // The numbers that were given fit, so that what was given is what is read (`tables_are_read`).
     ensures fits { IfOk result (λ n. IsMadt ids.now contents.now (take n out.new)) }
 {
-    let body = body_of!(contents, Each);
+    let body = body_of!(contents);
     write_checked(out, Signature::MADT, 5, ids, contents, &body)
 }

@@ -4,55 +4,32 @@ ghost use Rattle.std.specs.List.{All};
 ghost use Rattle.acpi_base.specs.Steps.{Gives};
 ghost use Rattle.acpi_writer.specs.Contents.{most, sized};
 ghost use Rattle.acpi_writer.specs.McfgBytes as bytes;
-ghost use Rattle.acpi_writer.specs.McfgLaws.{FitsMcfg, IsMcfg};
+ghost use Rattle.acpi_writer.specs.McfgLaws.{IsMcfg};
 ghost use Rattle.acpi_base.specs.declared.table.signature.TheConstants.Signature.{MCFG};
 ghost use Rattle.acpi_writer.specs.Table.{IsTableOf, Keeps};
 
 use crate::error::WriterError;
+use crate::fields::{Field, Record};
 use crate::ids::TableIds;
-use crate::numbers::{qword, word};
 use crate::spelled::{Each, Spelled, Then};
 use crate::table::{table_size, write_table};
 use acpi_base::Signature;
 use acpi_base::mcfg::McfgEntry;
 
-impl Spelled for McfgEntry {
-    ghost spelled = { bytes.mcfg_entry };
+impl Record for McfgEntry {
+    type Fields = [Field; 5];
 
-    ghost fits = { FitsMcfg };
+    ghost fields_of = { bytes.mcfg_fields };
 
-    #[tactic(auto, unfolding(crate::specs::McfgBytes::mcfg_entry, acpi_base::specs::Bytes::spelling))]
-    fn measure(&self, room: usize) -> Option<usize> {
-        let _base = self.base_address;
-        let _segment = self.pci_segment_group;
-        if room < 16 { None } else { Some(16) }
-    }
-
-    #[tactic(auto, unfolding(crate::specs::McfgBytes::mcfg_entry, acpi_base::specs::Bytes::spelling))]
-    fn put(&self, out: &mut [u8]) {
-        let [a, b, c, d, e, f, g, h] = qword(self.base_address);
-        let [i, j] = word(self.pci_segment_group);
-        let start = self.bus_number_start;
-        let end = self.bus_number_end;
-        out.copy_from_slice(&[a, b, c, d, e, f, g, h, i, j, start, end, 0, 0, 0, 0]);
-    }
-}
-
-/// The eight bytes of an MCFG that are Reserved.
-#[derive(Clone, Copy)]
-struct Reserved;
-
-impl Spelled for Reserved {
-    ghost spelled = { λ _. bytes.mcfg_reserved };
-
-    ghost fits = { λ _. Unit {0} };
-
-    fn measure(&self, room: usize) -> Option<usize> {
-        if room < 8 { None } else { Some(8) }
-    }
-
-    fn put(&self, out: &mut [u8]) {
-        out.copy_from_slice(&[0; 8]);
+    #[tactic(auto, unfolding(crate::specs::McfgBytes::mcfg_fields))]
+    fn fields(&self) -> [Field; 5] {
+        [
+            Field::U64(self.base_address),
+            Field::U16(self.pci_segment_group),
+            Field::U8(self.bus_number_start),
+            Field::U8(self.bus_number_end),
+            Field::Zeros(4),
+        ]
     }
 }
 
@@ -69,7 +46,13 @@ pub fn write_mcfg_of<E: Spelled>(
         IsTableOf MCFG 1 ids.now (bytes.mcfg_reserved ++ flat_map E.spelled regions.now) (take n out.new)) }
     ensures fits { IfOk result (λ n. All E.fits regions.now) }
 {
-    write_table(out, Signature::MCFG, 1, ids, &Then(Reserved, Each(regions)))
+    write_table(
+        out,
+        Signature::MCFG,
+        1,
+        ids,
+        &Then(Field::Zeros(8), Each(regions)),
+    )
 }
 
 /// How many bytes the MCFG has, or the first error of `write_mcfg_of` in a slice of any length.
@@ -78,7 +61,12 @@ pub fn mcfg_size<E: Spelled>(ids: &TableIds, regions: &[E]) -> Result<usize, Wri
     ensures short { IfOk result (λ n. n < 2 ^ 32) }
     ensures fits { IfOk result (λ n. All E.fits regions.now) }
 {
-    table_size(Signature::MCFG, 1, ids, &Then(Reserved, Each(regions)))
+    table_size(
+        Signature::MCFG,
+        1,
+        ids,
+        &Then(Field::Zeros(8), Each(regions)),
+    )
 }
 
 /// Writes an MCFG of revision 1 to the front of a slice, and returns how many bytes it has: 44, and 16 for each region.

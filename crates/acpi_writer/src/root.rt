@@ -7,8 +7,8 @@ ghost use Rattle.acpi_writer.specs.Root.{IsRoot, root_written};
 ghost use Rattle.acpi_writer.specs.Table.{Keeps};
 
 use crate::error::WriterError;
+use crate::fields::Field;
 use crate::ids::TableIds;
-use crate::numbers::{dword, qword};
 use crate::spelled::{Each, Spelled};
 use crate::table::write_table;
 use acpi_base::Signature;
@@ -18,16 +18,12 @@ impl Spelled for u32 {
 
     ghost fits = { λ n. n < 256 ^ 4 };
 
-    #[tactic(auto, unfolding(acpi_base::specs::Bytes::spelling))]
     fn measure(&self, room: usize) -> Option<usize> {
-        let _in_range = *self;
-        if room < 4 { None } else { Some(4) }
+        Field::U32(*self).measure(room)
     }
 
-    #[tactic(auto, unfolding(acpi_base::specs::Bytes::spelling))]
     fn put(&self, out: &mut [u8]) {
-        let [a, b, c, d] = dword(*self);
-        out.copy_from_slice(&[a, b, c, d]);
+        Field::U32(*self).put(out)
     }
 }
 
@@ -36,16 +32,12 @@ impl Spelled for u64 {
 
     ghost fits = { λ n. n < 256 ^ 8 };
 
-    #[tactic(auto, unfolding(acpi_base::specs::Bytes::spelling))]
     fn measure(&self, room: usize) -> Option<usize> {
-        let _in_range = *self;
-        if room < 8 { None } else { Some(8) }
+        Field::U64(*self).measure(room)
     }
 
-    #[tactic(auto, unfolding(acpi_base::specs::Bytes::spelling))]
     fn put(&self, out: &mut [u8]) {
-        let [a, b, c, d, e, f, g, h] = qword(*self);
-        out.copy_from_slice(&[a, b, c, d, e, f, g, h]);
+        Field::U64(*self).put(out)
     }
 }
 

@@ -1,25 +1,24 @@
 //! The Serial Port Console Redirection Table (SPCR, section 5.2.6), from what it says of a serial port. Its layout is
 //! Microsoft's.
-ghost use Rattle.std.specs.Prelude.{◌≡◌, ◌+◌, ◌^◌, ◌<◌, ◌&&◌, length, take, IfOk, IsUtf8, Ok};
+ghost use Rattle.std.specs.Prelude.{◌≡◌, ◌^◌, ◌<◌, ◌&&◌, length, take, IfOk, IsUtf8};
 ghost use Rattle.acpi_base.specs.Steps.{Gives};
-ghost use Rattle.acpi_base.specs.declared.table.signature.TheConstants.Signature.{SPCR};
 ghost use Rattle.acpi_writer.specs.Contents.{most, sized};
 ghost use Rattle.acpi_writer.specs.Spcr as spcr;
 ghost use Rattle.acpi_writer.specs.SpcrLaws as laws;
-ghost use Rattle.acpi_writer.specs.Table.{IsTableOf, Keeps, table_written};
+ghost use Rattle.acpi_writer.specs.Table.{Keeps};
 
 mod fields;
 
 use crate::checked::{Checked, require};
 use crate::error::WriterError;
+use crate::fields::Field;
 use crate::generic::is_named_space;
 use crate::ids::TableIds;
 use crate::spelled::{Bytes, Then};
-use crate::table::{table_size, write_table};
+use crate::table::{checked_size, write_checked};
 use acpi_base::Signature;
 use acpi_base::address::GenericAddress;
 use acpi_base::spcr::{SpcrFlowControl, SpcrInterfaceType, SpcrInterruptType, SpcrTerminalType};
-use fields::{Console, Port, device_of};
 
 /// The PCI device that a serial port is, as an SPCR has it.
 #[derive(Clone, Copy, Debug)]
@@ -123,61 +122,14 @@ impl Checked for SpcrContents<'_> {
     }
 }
 
-/// How many bytes NamespaceString has, with the zero that ends it.
-#[tactic(auto, using(crate::proofs::SpcrRead::name_short))]
-fn name_length(contents: &SpcrContents<'_>) -> u16
-    requires { spcr.spcr_checked contents.now ≡ Ok tt }
-    ensures { result ≡ length contents.now.namespace_string.now + 1 }
-{
-    contents.namespace_string.len() as u16 + 1
-}
-
-/// All after the header of an SPCR.
+/// All after the header of an SPCR, whose name ends with a zero.
 macro_rules! body_of {
-    ($contents:expr) => {{
-        let console = Console {
-            device: device_of($contents.pci_device),
-            uart_clock_frequency: $contents.uart_clock_frequency,
-            baud_rate: $contents.baud_rate,
-            name_length: name_length($contents),
-        };
-        // A zero ends the name.
-        let text = Then(Bytes($contents.namespace_string.as_bytes()), Bytes(&[0]));
-        Then(Port(*$contents), Then(console, text))
-    }};
-}
-
-/// Writes an SPCR whose contents may be written.
-///
-/// Returns, in this order, `BadName`, `NoRoom` and `TooLong`.
-fn write_contents(
-    out: &mut [u8],
-    ids: &TableIds,
-    contents: &SpcrContents<'_>,
-) -> Result<usize, WriterError>
-    requires { spcr.spcr_checked contents.now ≡ Ok tt }
-    ensures exact { Gives (λ n. take n out.new) result
-        (table_written (length out.old) SPCR 4 ids.now (spcr.spcr_body contents.now)) }
-    ensures keeps { Keeps result out.old out.new }
-    ensures table { IfOk result (λ n.
-        IsTableOf SPCR 4 ids.now (spcr.spcr_body contents.now) (take n out.new)) }
-    ensures fits { IfOk result (λ n. laws.FitsSpcr contents.now) }
-    ensures text { IsUtf8 contents.now.namespace_string.now }
-{
-    let body = body_of!(contents);
-    write_table(out, Signature::SPCR, 4, ids, &body)
-}
-
-/// How many bytes the SPCR of contents that may be written has, or the first error.
-fn contents_size(ids: &TableIds, contents: &SpcrContents<'_>) -> Result<usize, WriterError>
-    requires { spcr.spcr_checked contents.now ≡ Ok tt }
-    ensures exact { result ≡ sized (table_written most SPCR 4 ids.now (spcr.spcr_body contents.now)) }
-    ensures short { IfOk result (λ n. n < 2 ^ 32) }
-    ensures fits { IfOk result (λ n. laws.FitsSpcr contents.now) }
-    ensures text { IsUtf8 contents.now.namespace_string.now }
-{
-    let body = body_of!(contents);
-    table_size(Signature::SPCR, 4, ids, &body)
+    ($contents:expr) => {
+        Then(
+            *$contents,
+            Then(Bytes($contents.namespace_string.as_bytes()), Field::U8(0)),
+        )
+    };
 }
 
 /// How many bytes the SPCR has, or the first error of `write_spcr` in a slice of any length.
@@ -187,10 +139,8 @@ pub(crate) fn spcr_size(ids: &TableIds, contents: &SpcrContents<'_>) -> Result<u
     ensures short { IfOk result (λ n. n < 2 ^ 32) }
     ensures fits { IfOk result (λ n. laws.FitsSpcr contents.now × IsUtf8 contents.now.namespace_string.now) }
 {
-    match contents.check() {
-        Ok(()) => contents_size(ids, contents),
-        Err(error) => Err(error),
-    }
+    let body = body_of!(contents);
+    checked_size(Signature::SPCR, 4, ids, contents, &body)
 }
 
 /// Writes an SPCR of revision 4 to the front of a slice, and returns how many bytes it has: 88, and those of its name
@@ -213,8 +163,6 @@ pub fn write_spcr(
     // The numbers that were given fit, so that what was given is what is read (`tables_are_read`).
     ensures fits { IfOk result (λ n. laws.IsSpcr ids.now contents.now (take n out.new)) }
 {
-    match contents.check() {
-        Ok(()) => write_contents(out, ids, contents),
-        Err(error) => Err(error),
-    }
+    let body = body_of!(contents);
+    write_checked(out, Signature::SPCR, 4, ids, contents, &body)
 }

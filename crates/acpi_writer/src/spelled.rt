@@ -21,19 +21,6 @@ pub trait Spelled {
         ensures { out.new ≡ spelled self.now };
 }
 
-/// What stands for a thing that has bytes in a table: a record of a caller's own.
-pub trait StandsFor {
-    /// What it stands for.
-    type Thing: Spelled + Copy;
-
-    // The thing.
-    ghost thing_of: { Self → Self.Thing };
-
-    /// The thing.
-    fn thing(&self) -> Self::Thing
-        ensures { result ≡ thing_of self.now };
-}
-
 /// A way to spell the things of a type.
 pub(crate) trait Way<T> {
     // The bytes of a thing.
@@ -121,42 +108,6 @@ impl<'a, T: Spelled> Spelled for Each<'a, T> {
 
     fn put(&self, out: &mut [u8]) {
         EachBy(Itself, self.0).put(out);
-    }
-}
-
-/// As the thing is spelled that something stands for.
-#[derive(Clone, Copy)]
-struct AsThing;
-
-impl<T: StandsFor> Way<T> for AsThing {
-    ghost bytes = { λ _ x. T.Thing.spelled (T.thing_of x) };
-
-    ghost has_place = { λ _ x. T.Thing.fits (T.thing_of x) };
-
-    fn measure_one(&self, x: &T, room: usize) -> Option<usize> {
-        x.thing().measure(room)
-    }
-
-    fn put_one(&self, x: &T, out: &mut [u8]) {
-        x.thing().put(out);
-    }
-}
-
-/// The things that those of a list stand for, one after the other.
-#[derive(Clone, Copy)]
-pub struct EachFor<'a, T>(pub &'a [T]);
-
-impl<'a, T: StandsFor> Spelled for EachFor<'a, T> {
-    ghost spelled = { λ s. flat_map (λ x. T.Thing.spelled (T.thing_of x)) s.0.now };
-
-    ghost fits = { λ s. All (λ x. T.Thing.fits (T.thing_of x)) s.0.now };
-
-    fn measure(&self, room: usize) -> Option<usize> {
-        EachBy(AsThing, self.0).measure(room)
-    }
-
-    fn put(&self, out: &mut [u8]) {
-        EachBy(AsThing, self.0).put(out);
     }
 }
 

@@ -11,8 +11,9 @@ ghost use Rattle.acpi_writer.specs.Table.{IsTableOf, Keeps, table_written};
 
 use crate::checked::{Checked, require};
 use crate::error::WriterError;
+use crate::fields::{Field, Record};
 use crate::ids::TableIds;
-use crate::numbers::{bit_of, dword, qword};
+use crate::numbers::bit_of;
 use crate::spelled::{Bytes, Each, EachBy, Spelled, Then, Way};
 use crate::table::{checked_size, write_checked};
 use acpi_base::Signature;
@@ -87,51 +88,57 @@ fn is_small(apic: &ApicDomain) -> bool
     apic.local_apic_id < 255
 }
 
-impl Spelled for ApicDomain {
-    ghost spelled = { srat.apic_entry };
+impl Record for ApicDomain {
+    type Fields = [Field; 9];
 
-    ghost fits = { laws.FitsApic };
+    ghost fields_of = { srat.apic_fields };
 
-    #[tactic(auto, unfolding(crate::specs::Srat::apic_entry, crate::specs::Srat::local_apic_entry, crate::specs::Srat::local_x2apic_entry, acpi_base::specs::Bytes::spelling))]
-    fn measure(&self, room: usize) -> Option<usize> {
-        let size = if is_small(self) { 16 } else { 24 };
-        let _id = self.local_apic_id;
-        let _domain = self.domain;
-        if room < size { None } else { Some(size) }
-    }
-
-    #[tactic(auto, unfolding(crate::specs::Srat::apic_entry, crate::specs::Srat::local_apic_entry, crate::specs::Srat::local_x2apic_entry, acpi_base::specs::Bytes::spelling))]
-    fn put(&self, out: &mut [u8]) {
-        let [a, b, c, d] = dword(self.domain);
+    #[tactic(auto, unfolding(crate::specs::Srat::local_apic_fields, crate::specs::Srat::local_x2apic_fields))]
+    fn fields(&self) -> [Field; 9] {
+        let domain = self.domain;
         if is_small(self) {
-            let id = self.local_apic_id as u8;
-            out.copy_from_slice(&[0, 16, a, id, 1, 0, 0, 0, 0, b, c, d, 0, 0, 0, 0]);
+            [
+                Field::U8(0),
+                Field::U8(16),
+                Field::U8((domain % 256) as u8),
+                Field::U8(self.local_apic_id as u8),
+                Field::U32(1),
+                Field::U8(0),
+                Field::U8((domain / 256 % 256) as u8),
+                Field::U16((domain / 65536) as u16),
+                Field::Zeros(4),
+            ]
         } else {
-            let [i, j, k, l] = dword(self.local_apic_id);
-            out.copy_from_slice(&[
-                2, 24, 0, 0, a, b, c, d, i, j, k, l, 1, 0, 0, 0, 0, 0, 0, 0, 0, 0, 0, 0,
-            ]);
+            [
+                Field::U8(2),
+                Field::U8(24),
+                Field::Zeros(2),
+                Field::U32(domain),
+                Field::U32(self.local_apic_id),
+                Field::U32(1),
+                Field::Zeros(4),
+                Field::Zeros(4),
+                Field::Zeros(0),
+            ]
         }
     }
 }
 
-impl Spelled for GiccDomain {
-    ghost spelled = { srat.gicc_entry };
+impl Record for GiccDomain {
+    type Fields = [Field; 6];
 
-    ghost fits = { laws.FitsGicc };
+    ghost fields_of = { srat.gicc_fields };
 
-    #[tactic(auto, unfolding(crate::specs::Srat::gicc_entry, acpi_base::specs::Bytes::spelling))]
-    fn measure(&self, room: usize) -> Option<usize> {
-        let _uid = self.processor_uid;
-        let _domain = self.domain;
-        if room < 18 { None } else { Some(18) }
-    }
-
-    #[tactic(auto, unfolding(crate::specs::Srat::gicc_entry, acpi_base::specs::Bytes::spelling))]
-    fn put(&self, out: &mut [u8]) {
-        let [a, b, c, d] = dword(self.domain);
-        let [i, j, k, l] = dword(self.processor_uid);
-        out.copy_from_slice(&[3, 18, a, b, c, d, i, j, k, l, 1, 0, 0, 0, 0, 0, 0, 0]);
+    #[tactic(auto, unfolding(crate::specs::Srat::gicc_fields))]
+    fn fields(&self) -> [Field; 6] {
+        [
+            Field::U8(3),
+            Field::U8(18),
+            Field::U32(self.domain),
+            Field::U32(self.processor_uid),
+            Field::U32(1),
+            Field::Zeros(4),
+        ]
     }
 }
 
@@ -142,29 +149,24 @@ fn range_flags(range: &MemoryRange) -> u8
     1 + (2 * bit_of(range.is_hot_pluggable) + 4 * bit_of(range.is_non_volatile))
 }
 
-impl Spelled for MemoryRange {
-    ghost spelled = { srat.memory_entry };
+impl Record for MemoryRange {
+    type Fields = [Field; 9];
 
-    ghost fits = { laws.FitsRange };
+    ghost fields_of = { srat.memory_fields };
 
-    #[tactic(auto, unfolding(crate::specs::Srat::memory_entry, acpi_base::specs::Bytes::spelling))]
-    fn measure(&self, room: usize) -> Option<usize> {
-        let _domain = self.domain;
-        let _base = self.base;
-        let _length = self.length;
-        if room < 40 { None } else { Some(40) }
-    }
-
-    #[tactic(auto, unfolding(crate::specs::Srat::memory_entry, acpi_base::specs::Bytes::spelling))]
-    fn put(&self, out: &mut [u8]) {
-        let [u, v, w, x] = dword(self.domain);
-        let [a, b, c, d, e, f, g, h] = qword(self.base);
-        let [i, j, k, l, m, n, o, p] = qword(self.length);
-        let flags = range_flags(self);
-        out.copy_from_slice(&[
-            1, 40, u, v, w, x, 0, 0, a, b, c, d, e, f, g, h, i, j, k, l, m, n, o, p, 0, 0, 0, 0,
-            flags, 0, 0, 0, 0, 0, 0, 0, 0, 0, 0, 0,
-        ]);
+    #[tactic(auto, unfolding(crate::specs::Srat::memory_fields))]
+    fn fields(&self) -> [Field; 9] {
+        [
+            Field::U8(1),
+            Field::U8(40),
+            Field::U32(self.domain),
+            Field::Zeros(2),
+            Field::U64(self.base),
+            Field::U64(self.length),
+            Field::Zeros(4),
+            Field::U32(range_flags(self) as u32),
+            Field::Zeros(8),
+        ]
     }
 }
 

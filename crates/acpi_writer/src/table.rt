@@ -142,10 +142,8 @@ pub(crate) fn checked_size<C: Checked, B: Spelled>(
     ensures short { IfOk result (λ n. n < 2 ^ 32) }
     ensures fits { IfOk result (λ n. B.fits body.now) }
 {
-    match contents.check() {
-        Ok(()) => table_size(signature, revision, ids, body),
-        Err(error) => Err(error),
-    }
+    contents.check()?;
+    table_size(signature, revision, ids, body)
 }
 
 /// Writes a table of contents to the front of a slice, and returns how many bytes it has.
@@ -167,8 +165,6 @@ pub(crate) fn write_checked<C: Checked, B: Spelled>(
     ensures fits { IfOk result (λ n. B.fits body.now) }
     ensures checked { IfOk result (λ n. C.checked contents.now ≡ Ok tt) }
 {
-    match contents.check() {
-        Ok(()) => write_table(out, signature, revision, ids, body),
-        Err(error) => Err(error),
-    }
+    contents.check()?;
+    write_table(out, signature, revision, ids, body)
 }

@@ -5,6 +5,7 @@ ghost use Rattle.acpi_base.specs.Steps.{Gives};
 ghost use Rattle.acpi_c_lib.specs.Writing.{is_wiring};
 ghost use Rattle.acpi_c_lib.specs.WrittenGic as written;
 ghost use Rattle.acpi_writer.specs.Contents.{most, sized};
+ghost use Rattle.acpi_writer.specs.GicMadt as bytes;
 ghost use Rattle.acpi_writer.specs.Table.{Keeps};
 
 use super::madt::{is_wiring, trigger};
@@ -13,31 +14,33 @@ use crate::records::Range;
 use crate::written_records::{GicContents, TableIds};
 use acpi_arm::gic;
 use acpi_base::Signature;
+use acpi_writer::fields::{Field, Record};
 use acpi_writer::madt::Fixed;
-use acpi_writer::spelled::{EachFor, StandsFor, Then};
+use acpi_writer::spelled::{Each, Then};
 use acpi_writer::{WriterError, require, table_size, write_table};
 
-impl StandsFor for GicDistributor {
-    type Thing = gic::GicDistributor;
+impl Record for GicDistributor {
+    type Fields = [Field; 8];
 
-    ghost thing_of = { written.distributor_of };
+    ghost fields_of = { λ x. bytes.gicd_fields (written.distributor_of x) };
 
-    fn thing(&self) -> gic::GicDistributor {
+    fn fields(&self) -> [Field; 8] {
         gic::GicDistributor {
             id: self.id,
             address: self.address,
             system_vector_base: self.system_vector_base,
             version: self.version,
         }
+        .fields()
     }
 }
 
-impl StandsFor for GicCpuInterface {
-    type Thing = gic::GicCpuInterface;
+impl Record for GicCpuInterface {
+    type Fields = [Field; 19];
 
-    ghost thing_of = { written.cpu_interface_of };
+    ghost fields_of = { λ x. bytes.gicc_fields (written.cpu_interface_of x) };
 
-    fn thing(&self) -> gic::GicCpuInterface {
+    fn fields(&self) -> [Field; 19] {
         let trace = self.trace_buffer_interrupt; // TRBE Interrupt, of which 0 is none
         gic::GicCpuInterface {
             number: self.number,
@@ -59,15 +62,16 @@ impl StandsFor for GicCpuInterface {
             spe_overflow_interrupt: self.spe_overflow_interrupt,
             trace_buffer_interrupt: (trace != 0).then_some(trace),
         }
+        .fields()
     }
 }
 
-impl StandsFor for Range {
-    type Thing = gic::GicRedistributors;
+impl Record for Range {
+    type Fields = [Field; 5];
 
-    ghost thing_of = { written.redistributors_of };
+    ghost fields_of = { λ x. bytes.gicr_fields (written.redistributors_of x) };
 
-    fn thing(&self) -> gic::GicRedistributors {
+    fn fields(&self) -> [Field; 5] {
         gic::GicRedistributors {
             address: self.address,
             length: if self.length <= 0xffffffff {
@@ -76,28 +80,30 @@ impl StandsFor for Range {
                 0
             },
         }
+        .fields()
     }
 }
 
-impl StandsFor for GicTranslationService {
-    type Thing = gic::GicTranslationService;
+impl Record for GicTranslationService {
+    type Fields = [Field; 6];
 
-    ghost thing_of = { written.translation_service_of };
+    ghost fields_of = { λ x. bytes.its_fields (written.translation_service_of x) };
 
-    fn thing(&self) -> gic::GicTranslationService {
+    fn fields(&self) -> [Field; 6] {
         gic::GicTranslationService {
             id: self.id,
             address: self.address,
         }
+        .fields()
     }
 }
 
-impl StandsFor for GicMsiFrame {
-    type Thing = gic::GicMsiFrame;
+impl Record for GicMsiFrame {
+    type Fields = [Field; 8];
 
-    ghost thing_of = { written.msi_frame_of };
+    ghost fields_of = { λ x. bytes.msi_fields (written.msi_frame_of x) };
 
-    fn thing(&self) -> gic::GicMsiFrame {
+    fn fields(&self) -> [Field; 8] {
         gic::GicMsiFrame {
             id: self.id,
             address: self.address,
@@ -106,6 +112,7 @@ impl StandsFor for GicMsiFrame {
                 count: self.spi_count,
             }),
         }
+        .fields()
     }
 }
 
@@ -150,12 +157,12 @@ macro_rules! body_of {
             also_has_legacy_pics: false,
         };
         let messages = Then(
-            EachFor($contents.translation_services),
-            EachFor($contents.msi_frames),
+            Each($contents.translation_services),
+            Each($contents.msi_frames),
         );
-        let redistributors = Then(EachFor($contents.redistributors), messages);
-        let interfaces = Then(EachFor($contents.cpu_interfaces), redistributors);
-        Then(fixed, Then($contents.distributor.thing(), interfaces))
+        let redistributors = Then(Each($contents.redistributors), messages);
+        let interfaces = Then(Each($contents.cpu_interfaces), redistributors);
+        Then(fixed, Then($contents.distributor, interfaces))
     }};
 }
 

@@ -65,7 +65,7 @@ impl Listed for Contents<'_> {
 
     ghost fits = { λ _. Unit {0} };
 
-    #[tactic(auto, using(crate::proofs::WrittenTables::named, crate::proofs::WrittenTables::untimed), unfolding(acpi_writer::specs::Spcr::spcr_written, acpi_writer::specs::Spcr::port_fields, acpi_writer::specs::Gtdt::gtdt_written))]
+    #[tactic(auto, using(crate::proofs::WrittenTables::named, crate::proofs::WrittenTables::untimed), unfolding(acpi_writer::specs::Spcr::spcr_written, acpi_writer::specs::Spcr::fixed_list, acpi_writer::specs::Gtdt::gtdt_fields, acpi_writer::specs::Gtdt::gtdt_written))]
     fn size(&self, ids: &TableIds) -> Result<usize, WriterError> {
         match self {
             Contents::Fadt(hardware) => fadt_size(ids, &fadt::contents(hardware)),
@@ -87,7 +87,7 @@ impl Listed for Contents<'_> {
         }
     }
 
-    #[tactic(auto, using(crate::proofs::WrittenTables::named, crate::proofs::WrittenTables::untimed), unfolding(acpi_writer::specs::Spcr::spcr_written, acpi_writer::specs::Spcr::port_fields, acpi_writer::specs::Gtdt::gtdt_written))]
+    #[tactic(auto, using(crate::proofs::WrittenTables::named, crate::proofs::WrittenTables::untimed), unfolding(acpi_writer::specs::Spcr::spcr_written, acpi_writer::specs::Spcr::fixed_list, acpi_writer::specs::Gtdt::gtdt_fields, acpi_writer::specs::Gtdt::gtdt_written))]
     fn write(&self, out: &mut [u8], ids: &TableIds) -> Result<usize, WriterError> {
         match self {
             Contents::Fadt(hardware) => write_fadt(out, ids, &fadt::contents(hardware)),

@@ -4,16 +4,18 @@ ghost use Rattle.std.specs.List.{list_all};
 ghost use Rattle.acpi_base.specs.Steps.{Gives};
 ghost use Rattle.acpi_c_lib.specs.Writing as writing;
 ghost use Rattle.acpi_writer.specs.Contents.{most, sized};
+ghost use Rattle.acpi_writer.specs.MadtBytes as bytes;
 ghost use Rattle.acpi_writer.specs.MadtBytes.{is_single, names_one};
 ghost use Rattle.acpi_writer.specs.Table.{Keeps};
 
 use crate::interrupt_records::{InterruptSourceOverride, IoApic, NmiLine, NmiSource, Processor};
 use crate::written_records::{MadtContents, TableIds};
+use acpi_base::Signature;
 use acpi_base::model;
 use acpi_base::model::{LocalInterruptLine, NmiProcessor, Polarity, TriggerMode};
-use acpi_writer::madt::{MadtLists, madt_size_of, write_madt_of};
-use acpi_writer::spelled::StandsFor;
-use acpi_writer::{MadtProcessor, WriterError, require};
+use acpi_writer::fields::{Field, Record};
+use acpi_writer::madt::MadtLists;
+use acpi_writer::{MadtProcessor, WriterError, require, table_size, write_table};
 
 /// Whether a number is one of a polarity, and of a trigger mode.
 pub(super) fn is_wiring(code: u8) -> bool
@@ -42,70 +44,74 @@ pub(super) fn trigger(code: u8) -> TriggerMode
     }
 }
 
-impl StandsFor for Processor {
-    type Thing = MadtProcessor;
+impl Record for Processor {
+    type Fields = [Field; 6];
 
-    ghost thing_of = { writing.processor_of };
+    ghost fields_of = { λ x. bytes.processor_fields (writing.processor_of x) };
 
-    fn thing(&self) -> MadtProcessor {
+    fn fields(&self) -> [Field; 6] {
         MadtProcessor {
             processor_uid: self.uid,
             local_apic_id: self.local_apic_id,
             is_enabled: self.state != 0,
             is_online_capable: false,
         }
+        .fields()
     }
 }
 
-impl StandsFor for IoApic {
-    type Thing = model::IoApic;
+impl Record for IoApic {
+    type Fields = [Field; 6];
 
-    ghost thing_of = { writing.io_apic_of };
+    ghost fields_of = { λ x. bytes.io_apic_fields (writing.io_apic_of x) };
 
-    fn thing(&self) -> model::IoApic {
+    fn fields(&self) -> [Field; 6] {
         model::IoApic {
             id: self.id,
             address: self.address,
             global_system_interrupt_base: self.global_system_interrupt_base,
         }
+        .fields()
     }
 }
 
-impl StandsFor for InterruptSourceOverride {
-    type Thing = model::InterruptSourceOverride;
+impl Record for InterruptSourceOverride {
+    type Fields = [Field; 6];
 
-    ghost thing_of = { writing.override_of };
+    ghost fields_of = { λ x. bytes.override_fields (writing.override_of x) };
 
-    fn thing(&self) -> model::InterruptSourceOverride {
+    fn fields(&self) -> [Field; 6] {
         model::InterruptSourceOverride {
             isa_source: self.isa_source,
             global_system_interrupt: self.global_system_interrupt,
             polarity: polarity(self.polarity),
             trigger_mode: trigger(self.trigger),
         }
+        .fields()
     }
 }
 
-impl StandsFor for NmiSource {
-    type Thing = model::NmiSource;
+impl Record for NmiSource {
+    type Fields = [Field; 4];
 
-    ghost thing_of = { writing.nmi_source_of };
+    ghost fields_of = { λ x. bytes.nmi_source_fields (writing.nmi_source_of x) };
 
-    fn thing(&self) -> model::NmiSource {
+    fn fields(&self) -> [Field; 4] {
         model::NmiSource {
             global_system_interrupt: self.global_system_interrupt,
             polarity: polarity(self.polarity),
             trigger_mode: trigger(self.trigger),
         }
+        .fields()
     }
 }
 
-impl StandsFor for NmiLine {
-    type Thing = model::NmiLine;
+impl Record for NmiLine {
+    type Fields = [Field; 6];
 
-    ghost thing_of = { writing.nmi_line_of };
+    ghost fields_of = { λ x. bytes.nmi_line_fields (writing.nmi_line_of x) };
 
-    fn thing(&self) -> model::NmiLine {
+    fn fields(&self) -> [Field; 6] {
         model::NmiLine {
             processor: if self.of_all == 0 {
                 NmiProcessor::ProcessorUid(self.processor_uid)
@@ -118,6 +124,7 @@ impl StandsFor for NmiLine {
                 LocalInterruptLine::Lint1
             },
         }
+        .fields()
     }
 }
 
@@ -210,7 +217,7 @@ pub(crate) fn write_laid(
 {
     check_lists(contents)?;
     let lists = lists_of!(contents);
-    write_madt_of(out, ids, &lists)
+    write_table(out, Signature::MADT, 5, ids, &lists)
 }
 
 /// How many bytes such a MADT has, or the first error.
@@ -220,5 +227,5 @@ pub(crate) fn laid_size(ids: &TableIds, contents: &MadtContents<'_>) -> Result<u
 {
     check_lists(contents)?;
     let lists = lists_of!(contents);
-    madt_size_of(ids, &lists)
+    table_size(Signature::MADT, 5, ids, &lists)
 }

@@ -2,15 +2,13 @@
 ghost use Rattle.std.specs.Prelude.{◌≡◌, ◌<◌, ◌^◌};
 ghost use Rattle.acpi_base.specs.declared.address.AddressSpace.TheVariants.{SystemIo};
 ghost use Rattle.acpi_writer.specs.FadtBytes as bytes;
-ghost use Rattle.acpi_writer.specs.FadtLaws as laws;
 ghost use Rattle.acpi_writer.specs.Flags.{flag_number};
 
 use super::contents::{FadtContents, FadtHardware, FixedHardware};
 use super::features::{ArmBootFeatures, PcBootFeatures};
+use crate::fields::{Field, Record};
 use crate::flags::flag_number;
 use crate::generic::register_or_zeros;
-use crate::numbers::{dword, qword, word};
-use crate::spelled::{Each, Spelled};
 use acpi_base::address::{AccessSize, AddressSpace, GenericAddress};
 use acpi_fixed::fadt::{GpeBlock, PowerProfile};
 
@@ -129,121 +127,6 @@ fn address_or_zero(address: Option<u64>) -> u64
     }
 }
 
-/// From FIRMWARE_CTRL to PSTATE_CNT.
-#[derive(Clone, Copy)]
-pub(super) struct Head<'a>(pub(super) &'a FadtContents, pub(super) &'a FixedHardware);
-
-impl<'a> Spelled for Head<'a> {
-    ghost spelled = { λ s. bytes.fadt_head s.0.now s.1.now };
-
-    ghost fits = { λ s. laws.FitsHead s.0.now s.1.now };
-
-    #[tactic(auto, unfolding(crate::specs::FadtBytes::fadt_head, acpi_base::specs::Bytes::spelling))]
-    fn measure(&self, room: usize) -> Option<usize> {
-        let _dsdt = self.0.dsdt;
-        let _facs = address_or_zero(self.0.facs);
-        let _sci = self.0.sci_interrupt;
-        let _smi = self.1.smi_cmd_port;
-        if room < 20 { None } else { Some(20) }
-    }
-
-    #[tactic(auto, unfolding(crate::specs::FadtBytes::fadt_head, acpi_base::specs::Bytes::spelling))]
-    fn put(&self, out: &mut [u8]) {
-        let [a, b, c, d] = dword(narrow(address_or_zero(self.0.facs)));
-        let [e, f, g, h] = dword(narrow(self.0.dsdt));
-        let profile = profile_code(self.0.power_profile);
-        let [i, j] = word(self.0.sci_interrupt);
-        let [k, l, m, n] = dword(self.1.smi_cmd_port);
-        let enable = self.1.acpi_enable;
-        let disable = self.1.acpi_disable;
-        let s4 = self.1.s4bios_req;
-        let state = self.1.pstate_control;
-        out.copy_from_slice(&[
-            a, b, c, d, e, f, g, h, 0, profile, i, j, k, l, m, n, enable, disable, s4, state,
-        ]);
-    }
-}
-
-/// From PM1a_EVT_BLK to PM1b_CNT_BLK.
-#[derive(Clone, Copy)]
-pub(super) struct Pm1Ports<'a>(pub(super) &'a FixedHardware);
-
-impl<'a> Spelled for Pm1Ports<'a> {
-    ghost spelled = { λ s. bytes.pm1_ports s.0.now };
-
-    ghost fits = { λ _. Unit {0} };
-
-    #[tactic(auto, unfolding(crate::specs::FadtBytes::pm1_ports, acpi_base::specs::Bytes::spelling))]
-    fn measure(&self, room: usize) -> Option<usize> {
-        if room < 16 { None } else { Some(16) }
-    }
-
-    #[tactic(auto, unfolding(crate::specs::FadtBytes::pm1_ports, acpi_base::specs::Bytes::spelling))]
-    fn put(&self, out: &mut [u8]) {
-        let ports = [
-            port_of(Some(self.0.pm1a_event)),
-            port_of(self.0.pm1b_event),
-            port_of(Some(self.0.pm1a_control)),
-            port_of(self.0.pm1b_control),
-        ];
-        Each(&ports).put(out);
-    }
-}
-
-/// From PM2_CNT_BLK to GPE1_BLK.
-#[derive(Clone, Copy)]
-pub(super) struct OtherPorts<'a>(pub(super) &'a FixedHardware);
-
-impl<'a> Spelled for OtherPorts<'a> {
-    ghost spelled = { λ s. bytes.other_ports s.0.now };
-
-    ghost fits = { λ _. Unit {0} };
-
-    #[tactic(auto, unfolding(crate::specs::FadtBytes::other_ports, acpi_base::specs::Bytes::spelling))]
-    fn measure(&self, room: usize) -> Option<usize> {
-        if room < 16 { None } else { Some(16) }
-    }
-
-    #[tactic(auto, unfolding(crate::specs::FadtBytes::other_ports, acpi_base::specs::Bytes::spelling))]
-    fn put(&self, out: &mut [u8]) {
-        let ports = [
-            port_of(self.0.pm2_control),
-            port_of(self.0.pm_timer),
-            port_of(gpe_register(self.0.gpe0)),
-            port_of(gpe_register(self.0.gpe1)),
-        ];
-        Each(&ports).put(out);
-    }
-}
-
-/// From PM1_EVT_LEN to CST_CNT.
-#[derive(Clone, Copy)]
-pub(super) struct Lengths<'a>(pub(super) &'a FixedHardware);
-
-impl<'a> Spelled for Lengths<'a> {
-    ghost spelled = { λ s. bytes.block_lengths s.0.now };
-
-    ghost fits = { λ _. Unit {0} };
-
-    #[tactic(auto, unfolding(crate::specs::FadtBytes::block_lengths))]
-    fn measure(&self, room: usize) -> Option<usize> {
-        if room < 8 { None } else { Some(8) }
-    }
-
-    #[tactic(auto, unfolding(crate::specs::FadtBytes::block_lengths))]
-    fn put(&self, out: &mut [u8]) {
-        let event = bytes_wide(Some(self.0.pm1a_event));
-        let control = bytes_wide(Some(self.0.pm1a_control));
-        let second = bytes_wide(self.0.pm2_control);
-        let timer = if self.0.pm_timer.is_some() { 4 } else { 0 };
-        let gpe0 = gpe_length(self.0.gpe0);
-        let gpe1 = gpe_length(self.0.gpe1);
-        let base = self.0.gpe1_base;
-        let state = self.0.c_state_control;
-        out.copy_from_slice(&[event, control, second, timer, gpe0, gpe1, base, state]);
-    }
-}
-
 /// IAPC_BOOT_ARCH, as a number.
 fn pc_number(pc: &PcBootFeatures) -> u16
     ensures { result ≡ flag_number (bytes.pc_flags pc.now) }
@@ -306,80 +189,97 @@ fn feature_number(contents: &FadtContents) -> u32
     ])
 }
 
-/// From P_LVL2_LAT to Flags.
+/// The fields before RESET_REG.
 #[derive(Clone, Copy)]
-pub(super) struct Features<'a>(pub(super) &'a FadtContents);
+pub(super) struct Front<'a>(pub(super) &'a FadtContents, pub(super) &'a FixedHardware);
 
-impl<'a> Spelled for Features<'a> {
-    ghost spelled = { λ s. bytes.fadt_features s.0.now };
+impl Record for Front<'_> {
+    type Fields = [Field; 38];
 
-    ghost fits = { λ s. laws.FitsLegacy s.0.now.legacy };
+    ghost fields_of = { λ s. bytes.front_fields s.0.now s.1.now };
 
-    #[tactic(auto, unfolding(crate::specs::FadtBytes::fadt_features, acpi_base::specs::Bytes::spelling))]
-    fn measure(&self, room: usize) -> Option<usize> {
-        let _c2 = self.0.legacy.worst_c2_latency;
-        let _c3 = self.0.legacy.worst_c3_latency;
-        let _size = self.0.legacy.flush_size;
-        let _stride = self.0.legacy.flush_stride;
-        if room < 20 { None } else { Some(20) }
-    }
-
-    #[tactic(auto, unfolding(crate::specs::FadtBytes::fadt_features, acpi_base::specs::Bytes::spelling))]
-    fn put(&self, out: &mut [u8]) {
-        let old = self.0.legacy;
-        let [a, b] = word(old.worst_c2_latency);
-        let [c, d] = word(old.worst_c3_latency);
-        let [e, f] = word(old.flush_size);
-        let [g, h] = word(old.flush_stride);
-        let [i, j] = word(pc_number(&self.0.pc_boot));
-        let [k, l, m, n] = dword(feature_number(self.0));
-        out.copy_from_slice(&[
-            a,
-            b,
-            c,
-            d,
-            e,
-            f,
-            g,
-            h,
-            old.duty_offset,
-            old.duty_width,
-            old.day_alarm,
-            old.month_alarm,
-            old.century,
-            i,
-            j,
-            0,
-            k,
-            l,
-            m,
-            n,
-        ]);
+    #[tactic(auto, unfolding(crate::specs::FadtBytes::front_fields))]
+    fn fields(&self) -> [Field; 38] {
+        let Front(c, h) = *self;
+        [
+            Field::U32(narrow(address_or_zero(c.facs))),
+            Field::U32(narrow(c.dsdt)),
+            Field::Zeros(1),
+            Field::U8(profile_code(c.power_profile)),
+            Field::U16(c.sci_interrupt),
+            Field::U32(h.smi_cmd_port),
+            Field::U8(h.acpi_enable),
+            Field::U8(h.acpi_disable),
+            Field::U8(h.s4bios_req),
+            Field::U8(h.pstate_control),
+            Field::U32(port_of(Some(h.pm1a_event))),
+            Field::U32(port_of(h.pm1b_event)),
+            Field::U32(port_of(Some(h.pm1a_control))),
+            Field::U32(port_of(h.pm1b_control)),
+            Field::U32(port_of(h.pm2_control)),
+            Field::U32(port_of(h.pm_timer)),
+            Field::U32(port_of(gpe_register(h.gpe0))),
+            Field::U32(port_of(gpe_register(h.gpe1))),
+            Field::U8(bytes_wide(Some(h.pm1a_event))),
+            Field::U8(bytes_wide(Some(h.pm1a_control))),
+            Field::U8(bytes_wide(h.pm2_control)),
+            Field::U8(if h.pm_timer.is_some() { 4 } else { 0 }),
+            Field::U8(gpe_length(h.gpe0)),
+            Field::U8(gpe_length(h.gpe1)),
+            Field::U8(h.gpe1_base),
+            Field::U8(h.c_state_control),
+            Field::U16(c.legacy.worst_c2_latency),
+            Field::U16(c.legacy.worst_c3_latency),
+            Field::U16(c.legacy.flush_size),
+            Field::U16(c.legacy.flush_stride),
+            Field::U8(c.legacy.duty_offset),
+            Field::U8(c.legacy.duty_width),
+            Field::U8(c.legacy.day_alarm),
+            Field::U8(c.legacy.month_alarm),
+            Field::U8(c.legacy.century),
+            Field::U16(pc_number(&c.pc_boot)),
+            Field::Zeros(1),
+            Field::U32(feature_number(c)),
+        ]
     }
 }
 
-/// From RESET_VALUE to X_DSDT.
+/// The fields between RESET_REG and the registers.
 #[derive(Clone, Copy)]
 pub(super) struct Wide<'a>(pub(super) &'a FadtContents);
 
-impl<'a> Spelled for Wide<'a> {
-    ghost spelled = { λ s. bytes.fadt_wide s.0.now };
+impl Record for Wide<'_> {
+    type Fields = [Field; 5];
 
-    ghost fits = { λ _. Unit {0} };
+    ghost fields_of = { λ s. bytes.wide_fields s.0.now };
 
-    #[tactic(auto, unfolding(crate::specs::FadtBytes::fadt_wide, acpi_base::specs::Bytes::spelling))]
-    fn measure(&self, room: usize) -> Option<usize> {
-        if room < 20 { None } else { Some(20) }
+    #[tactic(auto, unfolding(crate::specs::FadtBytes::wide_fields))]
+    fn fields(&self) -> [Field; 5] {
+        let c = self.0;
+        [
+            Field::U8(c.reset_value),
+            Field::U16(arm_number(&c.arm_boot)),
+            Field::U8(4),
+            Field::U64(address_or_zero(c.facs)),
+            Field::U64(c.dsdt),
+        ]
     }
+}
 
-    #[tactic(auto, unfolding(crate::specs::FadtBytes::fadt_wide, acpi_base::specs::Bytes::spelling))]
-    fn put(&self, out: &mut [u8]) {
-        let value = self.0.reset_value;
-        let [a, b] = word(arm_number(&self.0.arm_boot));
-        let [c, d, e, f, g, h, i, j] = qword(address_or_zero(self.0.facs));
-        let [k, l, m, n, o, p, q, r] = qword(self.0.dsdt);
-        out.copy_from_slice(&[
-            value, a, b, 4, c, d, e, f, g, h, i, j, k, l, m, n, o, p, q, r,
-        ]);
-    }
+/// The registers from X_PM1a_EVT_BLK to SLEEP_STATUS_REG.
+pub(super) fn registers(c: &FadtContents, h: &FixedHardware) -> [Option<GenericAddress>; 10]
+    ensures { result ≡ bytes.registers c.now h.now }
+{
+    [
+        Some(h.pm1a_event),
+        h.pm1b_event,
+        Some(h.pm1a_control),
+        h.pm1b_control,
+        h.pm2_control,
+        h.pm_timer,
+        gpe_register(h.gpe0),
+        gpe_register(h.gpe1),
+        c.sleep_control,
+        c.sleep_status,
+    ]
 }

@@ -1,14 +1,13 @@
 //! The parts of a GTDT, each with its bytes (section 5.2.24).
 ghost use Rattle.std.specs.Prelude.{◌≡◌, flat_map, length};
 ghost use Rattle.std.specs.List.{All};
-ghost use Rattle.acpi_base.specs.Bytes.{spelling};
 ghost use Rattle.acpi_writer.specs.Gtdt as gtdt;
 
-use super::{GtBlockContents, PlatformTimerContents};
+use super::{GtBlockContents, GtdtContents, PlatformTimerContents};
 use crate::arm::{check_base, check_modes, flags_of, is_edge, is_low};
 use crate::checked::{Checked, check_all, require};
 use crate::error::WriterError;
-use crate::numbers::{dword, qword, word};
+use crate::fields::{Field, Record};
 use crate::spelled::{Each, Spelled, Then};
 use acpi_arm::gtdt::{ArmTimer, GtFrame, SbsaWatchdog, TimerInterrupt};
 
@@ -19,24 +18,6 @@ fn base_of(base: Option<u64>) -> u64
     match base {
         Some(address) => address,
         None => u64::MAX,
-    }
-}
-
-/// An address, or none.
-#[derive(Clone, Copy)]
-pub(super) struct Base(pub(super) Option<u64>);
-
-impl Spelled for Base {
-    ghost spelled = { λ b. spelling 8 (gtdt.base_of b.0) };
-
-    ghost fits = { λ b. gtdt.FitsBase b.0 };
-
-    fn measure(&self, room: usize) -> Option<usize> {
-        base_of(self.0).measure(room)
-    }
-
-    fn put(&self, out: &mut [u8]) {
-        base_of(self.0).put(out)
     }
 }
 
@@ -60,61 +41,32 @@ impl Checked for ArmTimer {
     }
 }
 
-impl Spelled for ArmTimer {
-    ghost spelled = { gtdt.timer_bytes };
+/// The fields of a GTDT.
+impl Record for GtdtContents<'_> {
+    type Fields = [Field; 15];
 
-    ghost fits = { gtdt.FitsTimer };
+    ghost fields_of = { gtdt.gtdt_fields };
 
-    #[tactic(auto, unfolding(crate::specs::Gtdt::timer_bytes, acpi_base::specs::Bytes::spelling))]
-    fn measure(&self, room: usize) -> Option<usize> {
-        let _interrupt = self.interrupt;
-        if room < 8 { None } else { Some(8) }
-    }
-
-    #[tactic(auto, unfolding(crate::specs::Gtdt::timer_bytes, acpi_base::specs::Bytes::spelling))]
-    fn put(&self, out: &mut [u8]) {
-        let [i, j, k, l] = dword(self.interrupt);
-        let flags = timer_flags(self);
-        out.copy_from_slice(&[i, j, k, l, flags, 0, 0, 0]);
-    }
-}
-
-/// The four bytes of a GTDT that are Reserved.
-#[derive(Clone, Copy)]
-pub(super) struct Reserved;
-
-impl Spelled for Reserved {
-    ghost spelled = { λ _. gtdt.gtdt_reserved };
-
-    ghost fits = { λ _. Unit {0} };
-
-    fn measure(&self, room: usize) -> Option<usize> {
-        if room < 4 { None } else { Some(4) }
-    }
-
-    fn put(&self, out: &mut [u8]) {
-        out.copy_from_slice(&[0; 4]);
-    }
-}
-
-/// How many platform timers there are, and where they begin.
-#[derive(Clone, Copy)]
-pub(super) struct Array(pub(super) usize);
-
-impl Spelled for Array {
-    ghost spelled = { λ a. gtdt.array_bytes a.0 };
-
-    ghost fits = { λ _. Unit {0} };
-
-    #[tactic(auto, unfolding(crate::specs::Gtdt::array_bytes, acpi_base::specs::Bytes::spelling))]
-    fn measure(&self, room: usize) -> Option<usize> {
-        if room < 8 { None } else { Some(8) }
-    }
-
-    #[tactic(auto, unfolding(crate::specs::Gtdt::array_bytes, acpi_base::specs::Bytes::spelling))]
-    fn put(&self, out: &mut [u8]) {
-        let [i, j, k, l, _, _, _, _] = qword(self.0 as u64);
-        out.copy_from_slice(&[i, j, k, l, 104, 0, 0, 0]);
+    #[tactic(auto, unfolding(crate::specs::Gtdt::gtdt_fields))]
+    fn fields(&self) -> [Field; 15] {
+        let count = self.platform_timers.len() as u64;
+        [
+            Field::U64(base_of(self.counter_control_base)),
+            Field::Zeros(4),
+            Field::U32(self.secure_el1_timer.interrupt),
+            Field::U32(timer_flags(&self.secure_el1_timer) as u32),
+            Field::U32(self.non_secure_el1_timer.interrupt),
+            Field::U32(timer_flags(&self.non_secure_el1_timer) as u32),
+            Field::U32(self.virtual_el1_timer.interrupt),
+            Field::U32(timer_flags(&self.virtual_el1_timer) as u32),
+            Field::U32(self.el2_timer.interrupt),
+            Field::U32(timer_flags(&self.el2_timer) as u32),
+            Field::U64(base_of(self.counter_read_base)),
+            Field::U32((count % 0x100000000) as u32),
+            Field::U32(104),
+            Field::U32(self.virtual_el2_timer.interrupt),
+            Field::U32(timer_flags(&self.virtual_el2_timer) as u32),
+        ]
     }
 }
 
@@ -143,59 +95,44 @@ impl Checked for GtFrame {
     }
 }
 
-impl Spelled for GtFrame {
-    ghost spelled = { gtdt.frame_bytes };
+impl Record for GtFrame {
+    type Fields = [Field; 9];
 
-    ghost fits = { gtdt.FitsFrame };
+    ghost fields_of = { gtdt.frame_fields };
 
-    #[tactic(auto, unfolding(crate::specs::Gtdt::frame_bytes, acpi_base::specs::Bytes::spelling))]
-    fn measure(&self, room: usize) -> Option<usize> {
-        let _base = self.base;
-        let _el0_base = base_of(self.el0_base);
-        let _physical = self.physical_timer.interrupt;
-        let _virtual = self.virtual_timer.interrupt;
-        if room < 40 { None } else { Some(40) }
-    }
-
-    #[tactic(auto, unfolding(crate::specs::Gtdt::frame_bytes, acpi_base::specs::Bytes::spelling))]
-    fn put(&self, out: &mut [u8]) {
-        let number = self.number;
-        let [a, b, c, d, e, f, g, h] = qword(self.base);
-        let [i, j, k, l, m, n, o, p] = qword(base_of(self.el0_base));
-        let [q, r, s, t] = dword(self.physical_timer.interrupt);
-        let physical = interrupt_flags(self.physical_timer);
-        let [u, v, w, x] = dword(self.virtual_timer.interrupt);
-        let virtual_ = interrupt_flags(self.virtual_timer);
-        let flags = flags_of(self.is_secure, self.is_always_on, false, false);
-        out.copy_from_slice(&[
-            number, 0, 0, 0, a, b, c, d, e, f, g, h, i, j, k, l, m, n, o, p, q, r, s, t, physical,
-            0, 0, 0, u, v, w, x, virtual_, 0, 0, 0, flags, 0, 0, 0,
-        ]);
+    #[tactic(auto, unfolding(crate::specs::Gtdt::frame_fields))]
+    fn fields(&self) -> [Field; 9] {
+        [
+            Field::U8(self.number),
+            Field::Zeros(3),
+            Field::U64(self.base),
+            Field::U64(base_of(self.el0_base)),
+            Field::U32(self.physical_timer.interrupt),
+            Field::U32(interrupt_flags(self.physical_timer) as u32),
+            Field::U32(self.virtual_timer.interrupt),
+            Field::U32(interrupt_flags(self.virtual_timer) as u32),
+            Field::U32(flags_of(self.is_secure, self.is_always_on, false, false) as u32),
+        ]
     }
 }
 
-/// The 20 bytes of a GT Block before its frames.
-#[derive(Clone, Copy)]
-struct Head<'a>(GtBlockContents<'a>);
+/// A GT Block before its frames.
+impl Record for GtBlockContents<'_> {
+    type Fields = [Field; 6];
 
-impl<'a> Spelled for Head<'a> {
-    ghost spelled = { λ h. gtdt.block_head h.0.address (length h.0.frames.now) };
+    ghost fields_of = { λ b. gtdt.block_fields b.address (length b.frames.now) };
 
-    ghost fits = { λ h. gtdt.FitsBlock h.0.address };
-
-    #[tactic(auto, unfolding(crate::specs::Gtdt::block_head, acpi_base::specs::Bytes::spelling))]
-    fn measure(&self, room: usize) -> Option<usize> {
-        let _address = self.0.address;
-        if room < 20 { None } else { Some(20) }
-    }
-
-    #[tactic(auto, unfolding(crate::specs::Gtdt::block_head, acpi_base::specs::Bytes::spelling))]
-    fn put(&self, out: &mut [u8]) {
-        let count = self.0.frames.len() as u64;
-        let [k, l, _, _, _, _, _, _] = qword(20 + 40 * count);
-        let [a, b, c, d, e, f, g, h] = qword(self.0.address);
-        let [q, r, s, t, _, _, _, _] = qword(count);
-        out.copy_from_slice(&[0, k, l, 0, a, b, c, d, e, f, g, h, q, r, s, t, 20, 0, 0, 0]);
+    #[tactic(auto, unfolding(crate::specs::Gtdt::block_fields))]
+    fn fields(&self) -> [Field; 6] {
+        let count = self.frames.len() as u64;
+        [
+            Field::U8(0),
+            Field::U16(((20 + 40 * count) % 0x10000) as u16),
+            Field::Zeros(1),
+            Field::U64(self.address),
+            Field::U32((count % 0x100000000) as u32),
+            Field::U32(20),
+        ]
     }
 }
 
@@ -211,28 +148,22 @@ fn watchdog_flags(watchdog: &SbsaWatchdog) -> u8
     )
 }
 
-impl Spelled for SbsaWatchdog {
-    ghost spelled = { gtdt.watchdog_bytes };
+impl Record for SbsaWatchdog {
+    type Fields = [Field; 7];
 
-    ghost fits = { gtdt.FitsWatchdog };
+    ghost fields_of = { gtdt.watchdog_fields };
 
-    #[tactic(auto, unfolding(crate::specs::Gtdt::watchdog_bytes, acpi_base::specs::Bytes::spelling))]
-    fn measure(&self, room: usize) -> Option<usize> {
-        let _refresh = self.refresh_frame;
-        let _control = self.control_frame;
-        let _interrupt = self.interrupt;
-        if room < 28 { None } else { Some(28) }
-    }
-
-    #[tactic(auto, unfolding(crate::specs::Gtdt::watchdog_bytes, acpi_base::specs::Bytes::spelling))]
-    fn put(&self, out: &mut [u8]) {
-        let [a, b, c, d, e, f, g, h] = qword(self.refresh_frame);
-        let [i, j, k, l, m, n, o, p] = qword(self.control_frame);
-        let [q, r, s, t] = dword(self.interrupt);
-        let flags = watchdog_flags(self);
-        out.copy_from_slice(&[
-            1, 28, 0, 0, a, b, c, d, e, f, g, h, i, j, k, l, m, n, o, p, q, r, s, t, flags, 0, 0, 0,
-        ]);
+    #[tactic(auto, unfolding(crate::specs::Gtdt::watchdog_fields))]
+    fn fields(&self) -> [Field; 7] {
+        [
+            Field::U8(1),
+            Field::U16(28),
+            Field::Zeros(1),
+            Field::U64(self.refresh_frame),
+            Field::U64(self.control_frame),
+            Field::U32(self.interrupt),
+            Field::U32(watchdog_flags(self) as u32),
+        ]
     }
 }
 
@@ -259,18 +190,14 @@ impl<'a> Spelled for PlatformTimerContents<'a> {
 
     fn measure(&self, room: usize) -> Option<usize> {
         match self {
-            PlatformTimerContents::GtBlock(block) => {
-                Then(Head(*block), Each(block.frames)).measure(room)
-            }
+            PlatformTimerContents::GtBlock(block) => Then(*block, Each(block.frames)).measure(room),
             PlatformTimerContents::SbsaWatchdog(watchdog) => watchdog.measure(room),
         }
     }
 
     fn put(&self, out: &mut [u8]) {
         match self {
-            PlatformTimerContents::GtBlock(block) => Then(Head(*block), Each(block.frames)).put(
-                out,
-            ),
+            PlatformTimerContents::GtBlock(block) => Then(*block, Each(block.frames)).put(out),
             PlatformTimerContents::SbsaWatchdog(watchdog) => watchdog.put(out),
         }
     }

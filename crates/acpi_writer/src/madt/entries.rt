@@ -2,11 +2,10 @@
 ghost use Rattle.std.specs.Prelude.{◌≡◌, ◌≤◌};
 ghost use Rattle.acpi_base.specs.Interrupts as interrupts;
 ghost use Rattle.acpi_writer.specs.MadtBytes as bytes;
-ghost use Rattle.acpi_writer.specs.MadtLaws as laws;
 
 use super::MadtProcessor;
-use crate::numbers::{bit_of, dword, qword};
-use crate::spelled::Spelled;
+use crate::fields::{Field, Record};
+use crate::numbers::bit_of;
 use acpi_base::model::{
     InterruptSourceOverride, IoApic, LocalInterruptLine, NmiLine, NmiProcessor, NmiSource,
     Polarity, TriggerMode,
@@ -21,26 +20,22 @@ pub struct Fixed {
     pub also_has_legacy_pics: bool,
 }
 
-impl Spelled for Fixed {
-    ghost spelled = { λ f. bytes.madt_fixed f.local_apic_address f.also_has_legacy_pics };
+impl Record for Fixed {
+    type Fields = [Field; 2];
 
-    ghost fits = { λ _. Unit {0} };
+    ghost fields_of = { λ f. bytes.madt_fields f.local_apic_address f.also_has_legacy_pics };
 
-    #[tactic(auto, unfolding(crate::specs::MadtBytes::madt_fixed, acpi_base::specs::Bytes::spelling))]
-    fn measure(&self, room: usize) -> Option<usize> {
-        if room < 8 { None } else { Some(8) }
-    }
-
-    #[tactic(auto, unfolding(crate::specs::MadtBytes::madt_fixed, acpi_base::specs::Bytes::spelling))]
-    fn put(&self, out: &mut [u8]) {
+    #[tactic(auto, unfolding(crate::specs::MadtBytes::madt_fields))]
+    fn fields(&self) -> [Field; 2] {
         let address = if self.local_apic_address < 0x100000000 {
             self.local_apic_address as u32
         } else {
             0
         };
-        let [a, b, c, d] = dword(address);
-        let flags = bit_of(self.also_has_legacy_pics);
-        out.copy_from_slice(&[a, b, c, d, flags, 0, 0, 0]);
+        [
+            Field::U32(address),
+            Field::U32(bit_of(self.also_has_legacy_pics) as u32),
+        ]
     }
 }
 
@@ -58,30 +53,35 @@ fn is_small(p: &MadtProcessor) -> bool
     p.processor_uid < 255 && p.local_apic_id < 255
 }
 
-impl Spelled for MadtProcessor {
-    ghost spelled = { bytes.processor_entry };
+impl Record for MadtProcessor {
+    type Fields = [Field; 6];
 
-    ghost fits = { laws.FitsProcessor };
+    ghost fields_of = { bytes.processor_fields };
 
-    #[tactic(auto, unfolding(crate::specs::MadtBytes::processor_entry, crate::specs::MadtBytes::local_apic_entry, crate::specs::MadtBytes::local_x2apic_entry, acpi_base::specs::Bytes::spelling))]
-    fn measure(&self, room: usize) -> Option<usize> {
-        let size = if is_small(self) { 8 } else { 16 };
-        let _uid = self.processor_uid;
-        let _id = self.local_apic_id;
-        if room < size { None } else { Some(size) }
-    }
-
-    #[tactic(auto, unfolding(crate::specs::MadtBytes::processor_entry, crate::specs::MadtBytes::local_apic_entry, crate::specs::MadtBytes::local_x2apic_entry, acpi_base::specs::Bytes::spelling))]
-    fn put(&self, out: &mut [u8]) {
-        let flags = processor_flags(self);
+    #[tactic(auto, unfolding(crate::specs::MadtBytes::local_apic_fields, crate::specs::MadtBytes::local_x2apic_fields))]
+    fn fields(&self) -> [Field; 6] {
+        let (uid, id) = (self.processor_uid, self.local_apic_id);
+        let flags = Field::U32(processor_flags(self) as u32);
         if is_small(self) {
-            let uid = self.processor_uid as u8;
-            let id = self.local_apic_id as u8;
-            out.copy_from_slice(&[0, 8, uid, id, flags, 0, 0, 0]);
+            let ids = (Field::U8(uid as u8), Field::U8(id as u8));
+            [
+                Field::U8(0),
+                Field::U8(8),
+                ids.0,
+                ids.1,
+                flags,
+                Field::Zeros(0),
+            ]
         } else {
-            let [i, j, k, l] = dword(self.local_apic_id);
-            let [u, v, w, x] = dword(self.processor_uid);
-            out.copy_from_slice(&[9, 16, 0, 0, i, j, k, l, flags, 0, 0, 0, u, v, w, x]);
+            let ids = (Field::U32(id), Field::U32(uid));
+            [
+                Field::U8(9),
+                Field::U8(16),
+                Field::Zeros(2),
+                ids.0,
+                flags,
+                ids.1,
+            ]
         }
     }
 }
@@ -90,43 +90,41 @@ impl Spelled for MadtProcessor {
 #[derive(Clone, Copy)]
 pub(super) struct AddressOverride(pub(super) u64);
 
-impl Spelled for AddressOverride {
-    ghost spelled = { λ a. bytes.address_entries a.0 };
+impl Record for AddressOverride {
+    type Fields = Option<[Field; 4]>;
 
-    ghost fits = { λ a. laws.FitsAddress a.0 };
+    ghost fields_of = { λ a. bytes.address_fields a.0 };
 
-    #[tactic(auto, unfolding(crate::specs::MadtBytes::address_entries, crate::specs::MadtBytes::address_entry, acpi_base::specs::Bytes::spelling))]
-    fn measure(&self, room: usize) -> Option<usize> {
-        let size = if self.0 < 0x100000000 { 0 } else { 12 };
-        if room < size { None } else { Some(size) }
-    }
-
-    #[tactic(auto, unfolding(crate::specs::MadtBytes::address_entries, crate::specs::MadtBytes::address_entry, acpi_base::specs::Bytes::spelling))]
-    fn put(&self, out: &mut [u8]) {
-        if self.0 >= 0x100000000 {
-            let [a, b, c, d, e, f, g, h] = qword(self.0);
-            out.copy_from_slice(&[5, 12, 0, 0, a, b, c, d, e, f, g, h]);
+    #[tactic(auto, unfolding(crate::specs::MadtBytes::override_address_fields))]
+    fn fields(&self) -> Option<[Field; 4]> {
+        if self.0 < 0x100000000 {
+            None
+        } else {
+            Some([
+                Field::U8(5),
+                Field::U8(12),
+                Field::Zeros(2),
+                Field::U64(self.0),
+            ])
         }
     }
 }
 
-impl Spelled for IoApic {
-    ghost spelled = { bytes.io_apic_entry };
+impl Record for IoApic {
+    type Fields = [Field; 6];
 
-    ghost fits = { laws.FitsIoApic };
+    ghost fields_of = { bytes.io_apic_fields };
 
-    #[tactic(auto, unfolding(crate::specs::MadtBytes::io_apic_entry, acpi_base::specs::Bytes::spelling))]
-    fn measure(&self, room: usize) -> Option<usize> {
-        let _address = self.address;
-        let _base = self.global_system_interrupt_base;
-        if room < 12 { None } else { Some(12) }
-    }
-
-    #[tactic(auto, unfolding(crate::specs::MadtBytes::io_apic_entry, acpi_base::specs::Bytes::spelling))]
-    fn put(&self, out: &mut [u8]) {
-        let [i, j, k, l] = dword(self.address);
-        let [u, v, w, x] = dword(self.global_system_interrupt_base);
-        out.copy_from_slice(&[1, 12, self.id, 0, i, j, k, l, u, v, w, x]);
+    #[tactic(auto, unfolding(crate::specs::MadtBytes::io_apic_fields))]
+    fn fields(&self) -> [Field; 6] {
+        [
+            Field::U8(1),
+            Field::U8(12),
+            Field::U8(self.id),
+            Field::Zeros(1),
+            Field::U32(self.address),
+            Field::U32(self.global_system_interrupt_base),
+        ]
     }
 }
 
@@ -137,41 +135,37 @@ fn inti_flags(polarity: Polarity, trigger_mode: TriggerMode) -> u8
     polarity.code() + 4 * trigger_mode.code()
 }
 
-impl Spelled for InterruptSourceOverride {
-    ghost spelled = { bytes.override_entry };
+impl Record for InterruptSourceOverride {
+    type Fields = [Field; 6];
 
-    ghost fits = { laws.FitsOverride };
+    ghost fields_of = { bytes.override_fields };
 
-    #[tactic(auto, unfolding(crate::specs::MadtBytes::override_entry, acpi_base::specs::Bytes::spelling))]
-    fn measure(&self, room: usize) -> Option<usize> {
-        let _gsi = self.global_system_interrupt;
-        if room < 10 { None } else { Some(10) }
-    }
-
-    #[tactic(auto, unfolding(crate::specs::MadtBytes::override_entry, acpi_base::specs::Bytes::spelling))]
-    fn put(&self, out: &mut [u8]) {
-        let [i, j, k, l] = dword(self.global_system_interrupt);
-        let flags = inti_flags(self.polarity, self.trigger_mode);
-        out.copy_from_slice(&[2, 10, 0, self.isa_source, i, j, k, l, flags, 0]);
+    #[tactic(auto, unfolding(crate::specs::MadtBytes::override_fields))]
+    fn fields(&self) -> [Field; 6] {
+        [
+            Field::U8(2),
+            Field::U8(10),
+            Field::U8(0),
+            Field::U8(self.isa_source),
+            Field::U32(self.global_system_interrupt),
+            Field::U16(inti_flags(self.polarity, self.trigger_mode) as u16),
+        ]
     }
 }
 
-impl Spelled for NmiSource {
-    ghost spelled = { bytes.nmi_source_entry };
+impl Record for NmiSource {
+    type Fields = [Field; 4];
 
-    ghost fits = { laws.FitsNmiSource };
+    ghost fields_of = { bytes.nmi_source_fields };
 
-    #[tactic(auto, unfolding(crate::specs::MadtBytes::nmi_source_entry, acpi_base::specs::Bytes::spelling))]
-    fn measure(&self, room: usize) -> Option<usize> {
-        let _gsi = self.global_system_interrupt;
-        if room < 8 { None } else { Some(8) }
-    }
-
-    #[tactic(auto, unfolding(crate::specs::MadtBytes::nmi_source_entry, acpi_base::specs::Bytes::spelling))]
-    fn put(&self, out: &mut [u8]) {
-        let [i, j, k, l] = dword(self.global_system_interrupt);
-        let flags = inti_flags(self.polarity, self.trigger_mode);
-        out.copy_from_slice(&[3, 8, flags, 0, i, j, k, l]);
+    #[tactic(auto, unfolding(crate::specs::MadtBytes::nmi_source_fields))]
+    fn fields(&self) -> [Field; 4] {
+        [
+            Field::U8(3),
+            Field::U8(8),
+            Field::U16(inti_flags(self.polarity, self.trigger_mode) as u16),
+            Field::U32(self.global_system_interrupt),
+        ]
     }
 }
 
@@ -205,29 +199,31 @@ fn long_uid(processor: NmiProcessor) -> u32
     }
 }
 
-impl Spelled for NmiLine {
-    ghost spelled = { bytes.nmi_line_entry };
+impl Record for NmiLine {
+    type Fields = [Field; 6];
 
-    ghost fits = { λ _. Unit {0} };
+    ghost fields_of = { bytes.nmi_line_fields };
 
-    #[tactic(auto, unfolding(crate::specs::MadtBytes::nmi_line_entry, crate::specs::MadtBytes::apic_nmi_entry, crate::specs::MadtBytes::x2apic_nmi_entry, acpi_base::specs::Bytes::spelling))]
-    fn measure(&self, room: usize) -> Option<usize> {
-        let size = match short_uid(self.processor) {
-            Some(_) => 6,
-            None => 12,
-        };
-        if room < size { None } else { Some(size) }
-    }
-
-    #[tactic(auto, unfolding(crate::specs::MadtBytes::nmi_line_entry, crate::specs::MadtBytes::apic_nmi_entry, crate::specs::MadtBytes::x2apic_nmi_entry, acpi_base::specs::Bytes::spelling))]
-    fn put(&self, out: &mut [u8]) {
+    #[tactic(auto, unfolding(crate::specs::MadtBytes::apic_nmi_fields, crate::specs::MadtBytes::x2apic_nmi_fields))]
+    fn fields(&self) -> [Field; 6] {
         let line = line_code(self.line);
         match short_uid(self.processor) {
-            Some(uid) => out.copy_from_slice(&[4, 6, uid, 0, 0, line]),
-            None => {
-                let [i, j, k, l] = dword(long_uid(self.processor));
-                out.copy_from_slice(&[10, 12, 0, 0, i, j, k, l, line, 0, 0, 0]);
-            }
+            Some(uid) => [
+                Field::U8(4),
+                Field::U8(6),
+                Field::U8(uid),
+                Field::Zeros(2),
+                Field::U8(line),
+                Field::Zeros(0),
+            ],
+            None => [
+                Field::U8(10),
+                Field::U8(12),
+                Field::Zeros(2),
+                Field::U32(long_uid(self.processor)),
+                Field::U8(line),
+                Field::Zeros(3),
+            ],
         }
     }
 }
@@ -236,27 +232,22 @@ impl Spelled for NmiLine {
 #[derive(Clone, Copy)]
 pub(super) struct Wakeup(pub(super) Option<u64>);
 
-impl Spelled for Wakeup {
-    ghost spelled = { λ w. bytes.wakeup_entries w.0 };
+impl Record for Wakeup {
+    type Fields = Option<[Field; 5]>;
 
-    ghost fits = { λ w. laws.FitsMailbox w.0 };
+    ghost fields_of = { λ w. bytes.mailbox_fields w.0 };
 
-    #[tactic(auto, unfolding(crate::specs::MadtBytes::wakeup_entries, crate::specs::MadtBytes::wakeup_entry, acpi_base::specs::Bytes::spelling))]
-    fn measure(&self, room: usize) -> Option<usize> {
+    #[tactic(auto, unfolding(crate::specs::MadtBytes::wakeup_fields))]
+    fn fields(&self) -> Option<[Field; 5]> {
         match self.0 {
-            Some(address) => {
-                let _in_range = address;
-                if room < 16 { None } else { Some(16) }
-            }
-            None => Some(0),
-        }
-    }
-
-    #[tactic(auto, unfolding(crate::specs::MadtBytes::wakeup_entries, crate::specs::MadtBytes::wakeup_entry, acpi_base::specs::Bytes::spelling))]
-    fn put(&self, out: &mut [u8]) {
-        if let Some(address) = self.0 {
-            let [a, b, c, d, e, f, g, h] = qword(address);
-            out.copy_from_slice(&[16, 16, 0, 0, 0, 0, 0, 0, a, b, c, d, e, f, g, h]);
+            Some(address) => Some([
+                Field::U8(16),
+                Field::U8(16),
+                Field::Zeros(2),
+                Field::Zeros(4),
+                Field::U64(address),
+            ]),
+            None => None,
         }
     }
 }

@@ -2,19 +2,19 @@
 ghost use Rattle.std.specs.Prelude.{◌≡◌, ◌^◌, ◌<◌, length, take, IfOk};
 ghost use Rattle.std.specs.List.{list_all};
 ghost use Rattle.acpi_base.specs.Steps.{Gives};
-ghost use Rattle.acpi_base.specs.declared.table.signature.TheConstants.Signature.{MADT};
 ghost use Rattle.acpi_writer.specs.Contents.{most, sized};
-ghost use Rattle.acpi_writer.specs.GicMadt.{AreGicFit, IsGicMadt, gic_body, gic_written};
-ghost use Rattle.acpi_writer.specs.Table.{IsTableOf, Keeps, table_written};
+ghost use Rattle.acpi_writer.specs.GicMadt.{AreGicFit, IsGicMadt, gic_checked, gic_written};
+ghost use Rattle.acpi_writer.specs.Table.{Keeps};
 
 mod entries;
 
 use super::entries::Fixed;
-use crate::checked::check_all;
+use super::has_some;
+use crate::checked::{Checked, check_all, require};
 use crate::error::WriterError;
 use crate::ids::TableIds;
 use crate::spelled::{Each, Then};
-use crate::table::{table_size, write_table};
+use crate::table::{checked_size, write_checked};
 use acpi_arm::gic::{
     GicCpuInterface, GicDistributor, GicMsiFrame, GicRedistributors, GicTranslationService,
 };
@@ -55,48 +55,24 @@ macro_rules! body_of {
     }};
 }
 
-/// Writes a MADT whose contents may be written.
-///
-/// Returns, in this order, `BadName`, `NoRoom` and `TooLong`.
-fn write_contents(
-    out: &mut [u8],
-    ids: &TableIds,
-    contents: &GicContents<'_>,
-) -> Result<usize, WriterError>
-    ensures exact { Gives (λ n. take n out.new) result
-        (table_written (length out.old) MADT 6 ids.now (gic_body contents.now)) }
-    ensures keeps { Keeps result out.old out.new }
-    ensures table { IfOk result (λ n.
-        IsTableOf MADT 6 ids.now (gic_body contents.now) (take n out.new)) }
-    ensures fits { IfOk result (λ n. AreGicFit contents.now) }
-{
-    let body = body_of!(contents);
-    write_table(out, Signature::MADT, 6, ids, &body)
-}
+impl Checked for GicContents<'_> {
+    ghost checked = { gic_checked };
 
-/// How many bytes the MADT of contents that may be written has, or the first error.
-fn contents_size(ids: &TableIds, contents: &GicContents<'_>) -> Result<usize, WriterError>
-    ensures exact { result ≡ sized (table_written most MADT 6 ids.now (gic_body contents.now)) }
-    ensures short { IfOk result (λ n. n < 2 ^ 32) }
-    ensures fits { IfOk result (λ n. AreGicFit contents.now) }
-{
-    let body = body_of!(contents);
-    table_size(Signature::MADT, 6, ids, &body)
+    fn check(&self) -> Result<(), WriterError> {
+        require(has_some(self.cpu_interfaces), WriterError::NoProcessor)?;
+        check_all(self.cpu_interfaces)
+    }
 }
 
 /// How many bytes the MADT has, or the first error of `write_gic_madt` in a slice of any length.
+#[tactic(auto, unfolding(crate::specs::GicMadt::gic_written))]
 pub(crate) fn gic_size(ids: &TableIds, contents: &GicContents<'_>) -> Result<usize, WriterError>
     ensures exact { result ≡ sized (gic_written most ids.now contents.now) }
     ensures short { IfOk result (λ n. n < 2 ^ 32) }
     ensures fits { IfOk result (λ n. AreGicFit contents.now) }
 {
-    if contents.cpu_interfaces.len() < 1 {
-        return Err(WriterError::NoProcessor);
-    }
-    match check_all(contents.cpu_interfaces) {
-        Ok(()) => contents_size(ids, contents),
-        Err(error) => Err(error),
-    }
+    let body = body_of!(contents);
+    checked_size(Signature::MADT, 6, ids, contents, &body)
 }
 
 /// Writes the MADT of an Arm machine, of revision 6, to the front of a slice, and returns how many bytes it has. Its
@@ -107,6 +83,7 @@ pub(crate) fn gic_size(ids: &TableIds, contents: &GicContents<'_>) -> Result<usi
 /// Returns, in this order, `NoProcessor` if there is no processor, `SameAsBus` if a trigger mode is that of a bus,
 /// `BadName` if a name of the ids is not valid UTF-8, `NoRoom` if the slice is shorter than the table, and `TooLong` if
 /// the table has 2^32 bytes or more.
+#[tactic(auto, unfolding(crate::specs::GicMadt::gic_written), using(crate::proofs::GicRead::gic_madt_is))]
 pub fn write_gic_madt(
     out: &mut [u8],
     ids: &TableIds,
@@ -120,9 +97,6 @@ pub fn write_gic_madt(
     // The numbers that were given fit, so that what was given is what is read (`tables_are_read`).
     ensures fits { IfOk result (λ n. IsGicMadt ids.now contents.now (take n out.new)) }
 {
-    if contents.cpu_interfaces.len() < 1 {
-        return Err(WriterError::NoProcessor);
-    }
-    check_all(contents.cpu_interfaces)?;
-    write_contents(out, ids, contents)
+    let body = body_of!(contents);
+    write_checked(out, Signature::MADT, 6, ids, contents, &body)
 }

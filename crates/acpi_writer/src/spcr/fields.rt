@@ -2,13 +2,10 @@
 ghost use Rattle.std.specs.Prelude.{◌≡◌};
 ghost use Rattle.acpi_base.specs.SpcrFlags.{flow_bits, interrupt_bits, terminal_bits};
 ghost use Rattle.acpi_writer.specs.Spcr as spcr;
-ghost use Rattle.acpi_writer.specs.SpcrLaws as laws;
 
 use super::{SpcrContents, SpcrPciDevice};
-use crate::generic::address_bytes;
-use crate::numbers::{dword, word};
-use crate::spelled::Spelled;
-use acpi_base::address::{AccessSize, AddressSpace, GenericAddress};
+use crate::fields::{Field, Record};
+use crate::generic::{register_or_zeros, size_code, space_code};
 use acpi_base::spcr::{SpcrFlowControl, SpcrInterfaceType, SpcrInterruptType, SpcrTerminalType};
 use bitflags::Flags;
 
@@ -42,24 +39,8 @@ fn interface_code(interface: SpcrInterfaceType) -> u8
     }
 }
 
-/// The base address, or the twelve zeros that say that there is none.
-fn base_of(address: Option<GenericAddress>) -> GenericAddress
-    ensures { result ≡ spcr.base_written address }
-{
-    match address {
-        Some(base) => base,
-        None => GenericAddress {
-            address_space: AddressSpace::SystemMemory,
-            bit_width: 0,
-            bit_offset: 0,
-            access_size: AccessSize::Undefined,
-            address: 0,
-        },
-    }
-}
-
 /// The PCI device, or the numbers that say that the port is none.
-pub(super) fn device_of(device: Option<SpcrPciDevice>) -> SpcrPciDevice
+fn device_of(device: Option<SpcrPciDevice>) -> SpcrPciDevice
     ensures { result ≡ spcr.device_written device }
 {
     match device {
@@ -114,124 +95,46 @@ fn terminal_byte(terminal_type: SpcrTerminalType) -> u8
     terminal_type.bits()
 }
 
-/// The fields up to Language: the port itself.
-#[derive(Clone, Copy)]
-pub(super) struct Port<'a>(pub(super) SpcrContents<'a>);
+/// The fixed fields.
+impl Record for SpcrContents<'_> {
+    type Fields = [Field; 27];
 
-impl<'a> Spelled for Port<'a> {
-    ghost spelled = { λ p. spcr.port_fields p.0 };
+    ghost fields_of = { spcr.spcr_fields };
 
-    ghost fits = { λ p. laws.FitsPort p.0 };
-
-    #[tactic(auto, unfolding(crate::specs::Spcr::port_fields, crate::specs::Generic::address_bytes, acpi_base::specs::Bytes::spelling))]
-    fn measure(&self, room: usize) -> Option<usize> {
-        let base = base_of(self.0.base_address);
-        let _address = base.address;
-        let _gsi = self.0.global_system_interrupt;
-        if room < 28 { None } else { Some(28) }
-    }
-
-    #[tactic(auto, unfolding(crate::specs::Spcr::port_fields, crate::specs::Generic::address_bytes, acpi_base::specs::Bytes::spelling))]
-    fn put(&self, out: &mut [u8]) {
-        let c = self.0;
-        let interface = interface_code(c.interface_type);
-        let [s, w, o, z, a, b, d, e, f, g, h, i] = address_bytes(base_of(c.base_address));
-        let interrupt = interrupt_byte(c.interrupt_type);
-        let [j, k, l, m] = dword(c.global_system_interrupt);
-        let baud = baud_code(c.baud_rate);
-        let flow = flow_byte(c.flow_control);
-        let terminal = terminal_byte(c.terminal_type);
-        out.copy_from_slice(&[
-            interface,
-            0,
-            0,
-            0,
-            s,
-            w,
-            o,
-            z,
-            a,
-            b,
-            d,
-            e,
-            f,
-            g,
-            h,
-            i,
-            interrupt,
-            c.irq,
-            j,
-            k,
-            l,
-            m,
-            baud,
-            c.parity,
-            c.stop_bits,
-            flow,
-            terminal,
-            c.language,
-        ]);
-    }
-}
-
-/// The fields from PCI Device ID to NamespaceStringOffset.
-#[derive(Clone, Copy)]
-pub(super) struct Console {
-    pub(super) device: SpcrPciDevice,
-    pub(super) uart_clock_frequency: u32,
-    pub(super) baud_rate: u32,
-    pub(super) name_length: u16,
-}
-
-impl Spelled for Console {
-    ghost spelled = { λ x. spcr.console_fields x.device x.uart_clock_frequency x.baud_rate x.name_length };
-
-    ghost fits = { λ x. laws.FitsConsole x.device x.uart_clock_frequency x.baud_rate };
-
-    #[tactic(auto, unfolding(crate::specs::Spcr::console_fields, acpi_base::specs::Bytes::spelling))]
-    fn measure(&self, room: usize) -> Option<usize> {
-        let _device_id = self.device.device_id;
-        let _vendor_id = self.device.vendor_id;
-        let _flags = self.device.flags;
-        let _uart = self.uart_clock_frequency;
-        let _baud = self.baud_rate;
-        if room < 24 { None } else { Some(24) }
-    }
-
-    #[tactic(auto, unfolding(crate::specs::Spcr::console_fields, acpi_base::specs::Bytes::spelling))]
-    fn put(&self, out: &mut [u8]) {
-        let pci = self.device;
-        let [a, b] = word(pci.device_id);
-        let [c, d] = word(pci.vendor_id);
-        let [e, f, g, h] = dword(pci.flags);
-        let [i, j, k, l] = dword(self.uart_clock_frequency);
-        let [m, n, o, p] = dword(self.baud_rate);
-        let [q, r] = word(self.name_length);
-        out.copy_from_slice(&[
-            a,
-            b,
-            c,
-            d,
-            pci.bus,
-            pci.device,
-            pci.function,
-            e,
-            f,
-            g,
-            h,
-            pci.segment,
-            i,
-            j,
-            k,
-            l,
-            m,
-            n,
-            o,
-            p,
-            q,
-            r,
-            88,
-            0,
-        ]);
+    #[tactic(auto, unfolding(crate::specs::Spcr::fixed_list))]
+    fn fields(&self) -> [Field; 27] {
+        let base = register_or_zeros(self.base_address);
+        let device = device_of(self.pci_device);
+        // With the zero that ends it.
+        let name_length = self.namespace_string.len() as u64 + 1;
+        [
+            Field::U8(interface_code(self.interface_type)),
+            Field::Zeros(3),
+            Field::U8(space_code(base.address_space)),
+            Field::U8(base.bit_width),
+            Field::U8(base.bit_offset),
+            Field::U8(size_code(base.access_size)),
+            Field::U64(base.address),
+            Field::U8(interrupt_byte(self.interrupt_type)),
+            Field::U8(self.irq),
+            Field::U32(self.global_system_interrupt),
+            Field::U8(baud_code(self.baud_rate)),
+            Field::U8(self.parity),
+            Field::U8(self.stop_bits),
+            Field::U8(flow_byte(self.flow_control)),
+            Field::U8(terminal_byte(self.terminal_type)),
+            Field::U8(self.language),
+            Field::U16(device.device_id),
+            Field::U16(device.vendor_id),
+            Field::U8(device.bus),
+            Field::U8(device.device),
+            Field::U8(device.function),
+            Field::U32(device.flags),
+            Field::U8(device.segment),
+            Field::U32(self.uart_clock_frequency),
+            Field::U32(self.baud_rate),
+            Field::U16((name_length % 0x10000) as u16),
+            Field::U16(88),
+        ]
     }
 }

@@ -6,7 +6,12 @@ pub loop-i-init : goal.loop-i-init
 loop-i-init c = (flags_none c.args.flags.now, omega arith)
 
 pub overflow_mul-number : goal.overflow_mul-number
-overflow_mul-number c = omega (arith, c.loop-i.invariant.0, flags_few c.args.flags.now c.loop-i.i c.requires c.loop-i-test.true)
+overflow_mul-number c = omega (
+  arith,
+  c.loop-i.invariant.0,
+  flags_few c.args.flags.now c.loop-i.i c.requires
+      c.loop-i-test.true,
+)
 
 pub overflow_add-number : goal.overflow_add-number
 overflow_add-number c =

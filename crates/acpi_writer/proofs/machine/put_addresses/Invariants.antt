@@ -10,4 +10,5 @@ invariant-loop-table g l =
     let rest = map (bytes_by g.T.Listed.written l.ids) (drop l.table-index l.tables) in
     let all = map (bytes_by g.T.Listed.written l.ids) l.tables in
     (take l.at l.out ++ flat_map (spelling 8) (addresses l.place rest) ≡ flat_map (spelling 8) (addresses l.start all))
-    × (l.at ≡ 8 * l.table-index) × (length l.out ≡ length l.fn.out) × (l.place + length (laid rest) ≡ l.start + length (laid all))
+    × (l.at ≡ 8 * l.table-index) × (length l.out ≡ length l.fn.out)
+    × (l.place + length (laid rest) ≡ l.start + length (laid all))

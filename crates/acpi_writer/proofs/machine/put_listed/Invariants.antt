@@ -7,4 +7,5 @@ use Rattle.acpi_writer.proofs.machine.put_listed.Given as goal
 abbrev pub invariant-loop-table : goal.invariant-loop-table
 invariant-loop-table g l =
     let rest = map (bytes_by g.T.Listed.written l.ids) (drop l.table-index l.tables) in
-    (take l.at l.out ++ laid rest ≡ laid (map (bytes_by g.T.Listed.written l.ids) l.tables)) × (l.at + length (laid rest) ≡ length l.out) × (length l.out ≡ length l.fn.out)
+    (take l.at l.out ++ laid rest ≡ laid (map (bytes_by g.T.Listed.written l.ids) l.tables))
+    × (l.at + length (laid rest) ≡ length l.out) × (length l.out ≡ length l.fn.out)

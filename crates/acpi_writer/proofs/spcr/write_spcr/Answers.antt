@@ -1,7 +1,16 @@
-use Rattle.std.proofs.Common.{sym, ◌∙◌}
-use Rattle.acpi_writer.proofs.SpcrRead.{answer_is}
+use Rattle.std.proofs.Common.{length}
+use Rattle.acpi_writer.proofs.SpcrRead.{answer_is, fits_by, written_by}
 use Rattle.acpi_writer.proofs.spcr.write_spcr.Goals as goal
 
-pub returns-in-Ok-clause-fits : goal.returns-in-Ok-clause-fits
-returns-in-Ok-clause-fits c =
-    answer_is c.write_contents.result c.args.ids.now c.args.contents.now c.write_contents.new.out (sym c.check.ensures ∙ c.in-Ok.is) c.write_contents.ensures.text c.write_contents.ensures.table c.write_contents.ensures.fits
+pub returns-clause-exact : goal.returns-clause-exact
+returns-clause-exact c =
+    let name = c.as_bytes.result.now in
+    rw (written_by (length c.args.out.now) c.args.ids.now c.args.contents.now name c.as_bytes.ensures.value)
+    c.write_checked.ensures.exact
+
+pub returns-clause-fits : goal.returns-clause-fits
+returns-clause-fits c =
+    let name = c.as_bytes.result.now in
+    answer_is c.write_checked.result c.args.ids.now c.args.contents.now c.write_checked.new.out name
+    c.as_bytes.ensures.value c.as_bytes.ensures.utf8 c.write_checked.ensures.table
+    (fits_by c.write_checked.result c.args.contents.now _ c.write_checked.ensures.fits) c.write_checked.ensures.checked
