@@ -1,9 +1,9 @@
 -- What a run is to end with, and how far it gets.
-use Rattle.std.proofs.Common.{◌≡◌, ◌∙◌, ◌≤◌, ◌-◌, ℕ, List, [], ◌++◌, ap, append_assoc, append-nil, arith, drop, inl, inr, length, refl, subst, sym, take, take-append-drop}
+use Rattle.std.proofs.Common.{◌≡◌, ◌∙◌, ◌≤◌, ◌-◌, ℕ, List, [], ◌++◌, ap, append_assoc, arith, drop, inl, inr, length, refl, subst, sym, take, take-append-drop}
 use Rattle.std.proofs.KnownBytes.{Appends-kept, Appends-nil, Appends-trans}
 use Rattle.std.proofs.lemmas.List.{length-drop, length-take, take-take, take_all}
 use Rattle.std.specs.Io.KnownBytes.{Appends, Keeps}
-use Rattle.std.specs.Prelude.{Option, Result, Ok, Err}
+use Rattle.std.specs.Prelude.{Option, Ok, Err}
 use Rattle.std.specs.Global.{Global}
 use Rattle.acpi_cli.specs.declared.root.Root.{Root}
 use Rattle.acpi_view_lib.specs.Command.{root_for}
