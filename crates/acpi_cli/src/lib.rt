@@ -84,7 +84,7 @@ fn after_name(mut args: Vec<String>) -> Vec<String>
 /// The process's arguments after the program's name, in order.
 ///
 /// Fails if the system refuses them.
-fn given_args(rt: &HostRuntime) -> io::Result<Vec<String>> {
+fn args_after_name(rt: &HostRuntime) -> io::Result<Vec<String>> {
     let args = env::args(rt)?.collect(rt.alloc())?;
     Ok(after_name(args))
 }
@@ -94,7 +94,7 @@ fn given_args(rt: &HostRuntime) -> io::Result<Vec<String>> {
 ///
 /// Fails if memory for them is refused.
 pub fn args(rt: &HostRuntime) -> io::Result<Vec<String>> {
-    args_or_none(rt.alloc(), given_args(rt))
+    args_or_none(rt.alloc(), args_after_name(rt))
 }
 
 /// Owned texts, borrowed, in order.

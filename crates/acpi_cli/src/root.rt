@@ -1,6 +1,5 @@
 //! The way to the root table, as arguments say it, and the tables that it leads to.
-ghost use Rattle.std.specs.Prelude.{◌≡◌, map};
-ghost use Rattle.acpi_base.specs.Equality.{IsEquality};
+ghost use Rattle.std.specs.Prelude.{◌≡◌, IfOk, map};
 ghost use Rattle.acpi_cli.specs.Root.{bios_root, form_root, root_of, rsdp_root, rsdt_root};
 
 use crate::{parse_address, parse_revision};
@@ -27,7 +26,6 @@ pub enum Root {
 }
 
 impl Root {
-    ghost use Rattle.std.specs.Prelude.{◌≡◌, IfOk};
     ghost use Rattle.acpi_base.specs.Steps.{Gives};
     ghost use Rattle.acpi.specs.Opened.{opened_of};
     ghost use Rattle.acpi.specs.Tables.{lender_of};
@@ -103,11 +101,4 @@ pub fn parse_root(words: &[&str]) -> Option<Root>
         return None;
     };
     parse_form(form, rest)
-}
-
-/// Two `Root`s compare as equal exactly if they are the same variant with the same fields.
-pub fn root_equality(a: &Root, b: &Root) -> bool
-    ensures { IsEquality result a.now b.now }
-{
-    a == b
 }

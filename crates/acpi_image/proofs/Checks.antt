@@ -1,4 +1,4 @@
--- The checks of what is to be written. Whether records can lie where they are placed depends on their starts and lengths
+-- The checks of what is to be written. Whether records can lie where they are placed depends on starts and lengths
 -- alone, and is decided place by place.
 use Rattle.std.proofs.Common.{◌≡◌, ℕ, ◌^◌, ◌==◌, nat_lt, true, false, Ok, List, [], ◌∷◌, length, map, refl, sym, ap, ◌∙◌, zero, suc, ◌+◌, ◌<◌, ◌≤◌, Bool, ◌++◌, take, drop, get_or, subst, arith, inl, inr, add-one, append_assoc, replicate, slice_index_or, Result, Err}
 use Rattle.std.specs.List.{list_all, list_any, AllByRecursion}
@@ -43,7 +43,8 @@ same_some [] (y ∷ n) all = absurd all
 same_some (x ∷ m) [] all = absurd all
 same_some (x ∷ m) (y ∷ n) all = rw (same_shares m n x y all.1 all.0, same_some m n all.1) refl
 
-same_ends : (m n : Memory) → SamePlaces m n → list_all (λ r. nat_lt (end_of r) (2 ^ 64)) m ≡ list_all (λ r. nat_lt (end_of r) (2 ^ 64)) n
+same_ends : (m n : Memory) → SamePlaces m n
+    → list_all (λ r. nat_lt (end_of r) (2 ^ 64)) m ≡ list_all (λ r. nat_lt (end_of r) (2 ^ 64)) n
 same_ends [] [] all = refl
 same_ends [] (y ∷ n) all = absurd all
 same_ends (x ∷ m) [] all = absurd all
@@ -55,33 +56,50 @@ same_places m n all = rw (same_ends m n all, same_some m n all) refl
 
 tables_there : (tables : List PlacedTable) → SamePlaces (places_of tables) (map summed (placed tables))
 tables_there [] = tt
-tables_there (t ∷ ts) =
-    (record { start = refl; count = length-replicate (length t.bytes.now) 0 ∙ sym (length-with_sum 9 t.bytes.now) }, tables_there ts)
+tables_there (t ∷ ts) = (
+  record { start = refl; count = length-replicate (length t.bytes.now) 0 ∙ sym (length-with_sum 9 t.bytes.now) },
+  tables_there ts,
+)
 
 -- the records lie where they were looked for
 planned_places : (rsdp root : AddressRange) (revision : ℕ) (tables : List PlacedTable)
     → rsdp.length ≡ 36 → root.length ≡ root_length (kind_of_revision revision) (length tables)
-    → check_places (region_in rsdp ∷ region_in root ∷ places_of tables) ≡ check_places (records_of (plan rsdp.address root.address revision tables))
+    → check_places (region_in rsdp ∷ region_in root ∷ places_of tables)
+    ≡ check_places (records_of (plan rsdp.address root.address revision tables))
 planned_places rsdp root revision tables few many =
-    same_places (region_in rsdp ∷ region_in root ∷ places_of tables) (records_of (plan rsdp.address root.address revision tables)) (
-      record { start = refl; count = length-replicate rsdp.length 0 ∙ few ∙ sym (length-rsdp_to revision root.address) },
+    same_places (region_in rsdp ∷ region_in root ∷ places_of tables)
+    (records_of (plan rsdp.address root.address revision tables)) (
+      record {
+        start = refl;
+        count = length-replicate rsdp.length 0 ∙ few
+            ∙ sym (length-rsdp_to revision root.address);
+      },
       (
-        record { start = refl; count = length-replicate root.length 0 ∙ many ∙ sym (length-root_to _ _ ∙ ap (root_length (kind_of_revision revision)) (length-map _ _ ∙ length-map _ _)) },
+        record {
+          start = refl;
+          count = length-replicate root.length 0 ∙ many
+              ∙ sym (length-root_to _ _ ∙ ap (root_length (kind_of_revision revision))
+              (length-map _ _ ∙ length-map _ _));
+        },
         tables_there tables,
       ),
     )
 
 -- what is left to check once the other checks hold
-pub places_left : (rsdp root : AddressRange) (revision : ℕ) (tables : List PlacedTable) → rsdp.length ≡ 36 → root.length ≡ root_length (kind_of_revision revision) (length tables)
-    → (root.address == 0) ≡ false → check_tables 0 (placed tables) ≡ Ok tt → nat_lt (root_length (kind_of_revision revision) (length tables)) (2 ^ 32) ≡ true
+pub places_left : (rsdp root : AddressRange) (revision : ℕ) (tables : List PlacedTable) → rsdp.length ≡ 36
+    → root.length ≡ root_length (kind_of_revision revision) (length tables)
+    → (root.address == 0) ≡ false → check_tables 0 (placed tables) ≡ Ok tt
+    → nat_lt (root_length (kind_of_revision revision) (length tables)) (2 ^ 32) ≡ true
     → pointers_fit revision (root.address ∷ starts_of (placed tables)) ≡ true
-    → check_places (region_in rsdp ∷ region_in root ∷ places_of tables) ≡ check_plan (plan rsdp.address root.address revision tables)
+    → check_places (region_in rsdp ∷ region_in root ∷ places_of tables)
+    ≡ check_plan (plan rsdp.address root.address revision tables)
 unfolding check_plan
 places_left rsdp root revision tables few many some are short fit =
     planned_places rsdp root revision tables few many ∙ rw (some, are, length-map tables placed_region, short, fit) refl
 
 -- two tables share a byte exactly if their ranges do
-pub tables_share : (p q : AddressRange) (t u : PlacedTable) → p.address ≡ t.address → p.length ≡ length t.bytes.now → q.address ≡ u.address → q.length ≡ length u.bytes.now
+pub tables_share : (p q : AddressRange) (t u : PlacedTable) → p.address ≡ t.address → p.length ≡ length t.bytes.now
+    → q.address ≡ u.address → q.length ≡ length u.bytes.now
     → share (region_in p) (region_in q) ≡ share (placed_region t) (placed_region u)
 tables_share p q t u p_start p_count q_start q_count =
     ranges_share p q (placed_region t) (placed_region u) p_start p_count q_start q_count
@@ -122,23 +140,30 @@ none_found (r ∷ m) h = or_from _ _ (shares_none m r (flipped_all r m h.0)) (no
 
 -- ---- the table in turn
 
-is_of : (p : AddressRange) (t : PlacedTable) → p.address ≡ t.address → p.length ≡ length t.bytes.now → region_in p ≡ place_of t
+is_of : (p : AddressRange) (t : PlacedTable) → p.address ≡ t.address → p.length ≡ length t.bytes.now
+    → region_in p ≡ place_of t
 is_of p t start count = rw (start, count) refl
 
-module _ (m : Memory) (tables : List PlacedTable) (i : ℕ) (d : PlacedTable) (less : i < length tables) (p : AddressRange) (start : p.address ≡ (get_or tables i d).address) (count : p.length ≡ length (get_or tables i d).bytes.now) where
+module _ (m : Memory) (tables : List PlacedTable) (i : ℕ) (d : PlacedTable) (less : i < length tables)
+    (p : AddressRange) (start : p.address ≡ (get_or tables i d).address)
+    (count : p.length ≡ length (get_or tables i d).bytes.now) where
   abbrev before : Memory
   before = m ++ places_of (take i tables)
 
   one_more : before ++ (region_in p ∷ []) ≡ m ++ places_of (take (i + 1) tables)
   one_more =
-      let front : places_of (take (i + 1) tables) ≡ places_of (take i tables) ++ (place_of (get_or tables i d) ∷ []) = ap places_of (take_more tables i d less) ∙ map-append place_of (take i tables) (get_or tables i d ∷ []) in
-      rw (is_of p (get_or tables i d) start count, front) (append_assoc m (places_of (take i tables)) (place_of (get_or tables i d) ∷ []))
+      let front : places_of (take (i + 1) tables) ≡ places_of (take i tables) ++ (place_of (get_or tables i d) ∷ []) =
+      ap places_of (take_more tables i d less) ∙ map-append place_of (take i tables) (get_or tables i d ∷ []) in
+      rw (is_of p (get_or tables i d) start count, front)
+      (append_assoc m (places_of (take i tables)) (place_of (get_or tables i d) ∷ []))
 
   all_of : before ++ (region_in p ∷ places_of (drop (i + 1) tables)) ≡ m ++ places_of tables
   all_of =
       let rest : drop i tables ≡ get_or tables i d ∷ drop (i + 1) tables = rw add-one (drop-cons tables i d less) in
-      let parts : places_of tables ≡ places_of (take i tables) ++ places_of (drop i tables) = ap places_of (sym (take-append-drop i tables)) ∙ map-append place_of (take i tables) (drop i tables) in
-      rw (is_of p (get_or tables i d) start count, parts, rest) (append_assoc m (places_of (take i tables)) (place_of (get_or tables i d) ∷ places_of (drop (i + 1) tables)))
+      let parts : places_of tables ≡ places_of (take i tables) ++ places_of (drop i tables) =
+      ap places_of (sym (take-append-drop i tables)) ∙ map-append place_of (take i tables) (drop i tables) in
+      rw (is_of p (get_or tables i d) start count, parts, rest)
+      (append_assoc m (places_of (take i tables)) (place_of (get_or tables i d) ∷ places_of (drop (i + 1) tables)))
 
   -- it shares a byte
   pub table_shares : true ≡ shares_any before (region_in p) → true ≡ some_share (m ++ places_of tables)
@@ -146,11 +171,13 @@ module _ (m : Memory) (tables : List PlacedTable) (i : ℕ) (d : PlacedTable) (l
       sym (some_found before (region_in p) (places_of (drop (i + 1) tables)) (sym e)) ∙ ap some_share all_of
 
   -- it is listed
-  pub table_added : (starts : BTreeMap ℕ ℕ) → IsPlaced starts (before ++ (region_in p ∷ [])) → IsPlaced starts (m ++ places_of (take (i + 1) tables))
+  pub table_added : (starts : BTreeMap ℕ ℕ) → IsPlaced starts (before ++ (region_in p ∷ []))
+      → IsPlaced starts (m ++ places_of (take (i + 1) tables))
   table_added starts h = subst (λ (n : Memory). IsPlaced starts n) one_more h
 
 -- it ends below 2^64
-pub table_fits : (tables : List PlacedTable) (i : ℕ) (d : PlacedTable) (p : AddressRange) → i < length tables → p.address ≡ (get_or tables i d).address → p.length ≡ length (get_or tables i d).bytes.now
+pub table_fits : (tables : List PlacedTable) (i : ℕ) (d : PlacedTable) (p : AddressRange) → i < length tables
+    → p.address ≡ (get_or tables i d).address → p.length ≡ length (get_or tables i d).bytes.now
     → list_all (λ r. nat_lt (end_of r) (2 ^ 64)) (places_of tables) ≡ true → end_of (region_in p) < 2 ^ 64
 table_fits (t ∷ tables) zero d p less start count h =
     let fits = ltb-true _ _ (and_parts _ _ h).0 in
@@ -160,7 +187,8 @@ table_fits (t ∷ tables) (suc i) d p less start count h =
 table_fits [] i d p less start count h = absurd (omega arith)
 
 -- no table is left
-pub tables_end : (m : Memory) (tables : List PlacedTable) (i : ℕ) (starts : BTreeMap ℕ ℕ) → length tables ≤ i → IsPlaced starts (m ++ places_of (take i tables)) → false ≡ some_share (m ++ places_of tables)
+pub tables_end : (m : Memory) (tables : List PlacedTable) (i : ℕ) (starts : BTreeMap ℕ ℕ) → length tables ≤ i
+    → IsPlaced starts (m ++ places_of (take i tables)) → false ≡ some_share (m ++ places_of tables)
 tables_end m tables i starts past h =
     let all : take i tables ≡ tables = take_all i tables past in
     sym (none_found (m ++ places_of tables) (rw all at h).0)
@@ -179,15 +207,19 @@ two_placed r s starts more all empty apart first second =
 
 -- what the tables are asked by their places
 
-pub any_shares : (tables : List PlacedTable) (r : Region) → shares_any (places_of tables) r ≡ list_any (λ t. share (place_of t) r) tables
+pub any_shares : (tables : List PlacedTable) (r : Region)
+    → shares_any (places_of tables) r ≡ list_any (λ t. share (place_of t) r) tables
 any_shares [] r = refl
 any_shares (t ∷ tables) r = ap (λ b. share (place_of t) r || b) (any_shares tables r)
 
-pub all_fit : (tables : List PlacedTable) → list_all (λ r. nat_lt (end_of r) (2 ^ 64)) (places_of tables) ≡ list_all (λ t. nat_lt (end_of (place_of t)) (2 ^ 64)) tables
+pub all_fit : (tables : List PlacedTable)
+    → list_all (λ r. nat_lt (end_of r) (2 ^ 64)) (places_of tables)
+    ≡ list_all (λ t. nat_lt (end_of (place_of t)) (2 ^ 64)) tables
 all_fit [] = refl
 all_fit (t ∷ tables) = rw (all_fit tables) refl
 
-pub all_low : (tables : List PlacedTable) → list_all (λ a. nat_lt a (2 ^ 32)) (starts_of (placed tables)) ≡ list_all (λ t. nat_lt t.address (2 ^ 32)) tables
+pub all_low : (tables : List PlacedTable)
+    → list_all (λ a. nat_lt a (2 ^ 32)) (starts_of (placed tables)) ≡ list_all (λ t. nat_lt t.address (2 ^ 32)) tables
 all_low [] = refl
 all_low (t ∷ tables) = rw (all_low tables) refl
 
@@ -208,11 +240,13 @@ NotMemory (Err refusal.PointerTooLarge) = Unit {0}
 NotMemory (Err refusal.EndTooLarge) = Unit {0}
 NotMemory (Err refusal.Overlap) = Unit {0}
 
-held : {A : Type 0} (b : Bool) (d : WriteError) (f : Unit {0} → Result A WriteError) → NotMemory {A = A} (Err d) → ((x : Unit {0}) → NotMemory (f x)) → NotMemory (holds b d >>= f)
+held : {A : Type 0} (b : Bool) (d : WriteError) (f : Unit {0} → Result A WriteError) → NotMemory {A = A} (Err d)
+    → ((x : Unit {0}) → NotMemory (f x)) → NotMemory (holds b d >>= f)
 held true d f n more = more tt
 held false d f n more = n
 
-then_held : {A B : Type 0} (r : Result A WriteError) (f : A → Result B WriteError) → NotMemory r → ((x : A) → NotMemory (f x)) → NotMemory (r >>= f)
+then_held : {A B : Type 0} (r : Result A WriteError) (f : A → Result B WriteError) → NotMemory r
+    → ((x : A) → NotMemory (f x)) → NotMemory (r >>= f)
 then_held (Ok x) f n more = more x
 then_held (Err refusal.OutOfMemory) f n more = n
 then_held (Err refusal.ZeroRoot) f n more = tt
@@ -228,36 +262,44 @@ last false d n = n
 
 tables_held : (n : ℕ) (ts : Memory) → NotMemory (check_tables n ts)
 tables_held n [] = tt
-tables_held n (t ∷ ts) = held {A = Unit {0}} (is_table t.bytes) (refusal.BadTable n) (λ _. check_tables (n + 1) ts) tt (λ _. tables_held (n + 1) ts)
+tables_held n (t ∷ ts) = held {A = Unit {0}} (is_table t.bytes) (refusal.BadTable n) (λ _. check_tables (n + 1) ts) tt
+    (λ _. tables_held (n + 1) ts)
 
 places_held : (m : Memory) → NotMemory (check_places m)
 unfolding check_places
 places_held m =
-    held {A = Unit {0}} (list_all (λ r. nat_lt (end_of r) (2 ^ 64)) m) refusal.EndTooLarge (λ _. holds (not (some_share m)) refusal.Overlap) tt (λ _. last (not (some_share m)) refusal.Overlap tt)
+    held {A = Unit {0}} (list_all (λ r. nat_lt (end_of r) (2 ^ 64)) m) refusal.EndTooLarge
+    (λ _. holds (not (some_share m)) refusal.Overlap) tt (λ _. last (not (some_share m)) refusal.Overlap tt)
 
 -- the checks after those of the tables
 later_checks : Plan → Result (Unit {0}) WriteError
 later_checks p =
     holds (nat_lt (root_length (kind_of p) (length p.tables)) (2 ^ 32)) refusal.TooMany
-    >>= λ _. holds (pointers_fit p.revision (p.root ∷ pointers_of p)) refusal.PointerTooLarge >>= λ _. check_places (records_of p)
+    >>= λ _. holds (pointers_fit p.revision (p.root ∷ pointers_of p)) refusal.PointerTooLarge >>= λ _.
+    check_places (records_of p)
 
 later_held : (p : Plan) → NotMemory (later_checks p)
 unfolding later_checks
 later_held p =
     held {A = Unit {0}} (nat_lt (root_length (kind_of p) (length p.tables)) (2 ^ 32)) refusal.TooMany
-    (λ _. holds (pointers_fit p.revision (p.root ∷ pointers_of p)) refusal.PointerTooLarge >>= λ _. check_places (records_of p)) tt
-    (λ _. held {A = Unit {0}} (pointers_fit p.revision (p.root ∷ pointers_of p)) refusal.PointerTooLarge (λ _. check_places (records_of p)) tt (λ _. places_held (records_of p)))
+    (λ _. holds (pointers_fit p.revision (p.root ∷ pointers_of p)) refusal.PointerTooLarge >>= λ _.
+    check_places (records_of p)) tt
+    (λ _. held {A = Unit {0}} (pointers_fit p.revision (p.root ∷ pointers_of p)) refusal.PointerTooLarge
+    (λ _. check_places (records_of p)) tt (λ _. places_held (records_of p)))
 
 plan_held : (p : Plan) → NotMemory (check_plan p)
 unfolding check_plan later_checks
 plan_held p =
     held {A = Unit {0}} (not (p.root == 0)) refusal.ZeroRoot (λ _. check_tables 0 p.tables >>= λ _. later_checks p) tt
-    (λ _. then_held {A = Unit {0}} {B = Unit {0}} (check_tables 0 p.tables) (λ _. later_checks p) (tables_held 0 p.tables) (λ _. later_held p))
+    (λ _. then_held {A = Unit {0}} {B = Unit {0}} (check_tables 0 p.tables) (λ _. later_checks p)
+    (tables_held 0 p.tables) (λ _. later_held p))
 
 -- a refusal of the checks is the one that is defined
-pub refused : {X : Type 0} (view : X → List ℕ) (p : Plan) (e : WriteError) → check_plan p ≡ Err e → WritesOrRunsOut view (Err e) (written p)
+pub refused : {X : Type 0} (view : X → List ℕ) (p : Plan) (e : WriteError) → check_plan p ≡ Err e
+    → WritesOrRunsOut view (Err e) (written p)
 unfolding written
-refused view p refusal.OutOfMemory h = absurd (subst (λ (r : Result (Unit {0}) WriteError). NotMemory r) h (plan_held p))
+refused view p refusal.OutOfMemory h = absurd
+    (subst (λ (r : Result (Unit {0}) WriteError). NotMemory r) h (plan_held p))
 refused view p refusal.ZeroRoot h = rw h refl
 refused view p (refusal.BadTable n) h = rw h refl
 refused view p refusal.TooMany h = rw h refl
@@ -266,7 +308,8 @@ refused view p refusal.EndTooLarge h = rw h refl
 refused view p refusal.Overlap h = rw h refl
 
 -- an answer that hands a refusal on
-pub handed_on : {X : Type 0} (view : X → List ℕ) (r : Result X WriteError) (e : WriteError) (p : Plan) → IsErrAnd r (λ x. x ≡ e) → check_plan p ≡ Err e → WritesOrRunsOut view r (written p)
+pub handed_on : {X : Type 0} (view : X → List ℕ) (r : Result X WriteError) (e : WriteError) (p : Plan)
+    → IsErrAnd r (λ x. x ≡ e) → check_plan p ≡ Err e → WritesOrRunsOut view r (written p)
 handed_on view (Ok x) e p h k = absurd h
 handed_on view (Err x) e p h k = refused view p x (k ∙ ap (λ y. Err y) (sym h))
 
@@ -295,7 +338,8 @@ passed p x e =
     let d = holds_ok _ _ _ x c.1 in
     record { some = a.0; tables = b.1 ∙ ok_is b.0; short = c.0; fit = d.0; places = d.1 ∙ ok_is x }
 
-pub are_tables : (n : ℕ) (ts : Memory) (x : Unit {0}) → check_tables n ts ≡ Ok x → AllByRecursion (λ t. is_table t.bytes ≡ true) ts
+pub are_tables : (n : ℕ) (ts : Memory) (x : Unit {0}) → check_tables n ts ≡ Ok x
+    → AllByRecursion (λ t. is_table t.bytes ≡ true) ts
 are_tables n [] x e = tt
 are_tables n (t ∷ ts) x e =
     let a = holds_ok _ _ _ x e in
@@ -305,12 +349,15 @@ is_long : (bytes : List ℕ) → is_table bytes ≡ true → 36 ≤ length bytes
 unfolding is_table
 is_long bytes e = leb-true _ _ (and_parts _ _ e).0
 
-each_long : (ts : List PlacedTable) (k : ℕ) (d : PlacedTable) → AllByRecursion (λ t. is_table t.bytes ≡ true) (placed ts) → k < length ts → 36 ≤ length (slice_index_or ts k d).bytes.now
+each_long : (ts : List PlacedTable) (k : ℕ) (d : PlacedTable)
+    → AllByRecursion (λ t. is_table t.bytes ≡ true) (placed ts) → k < length ts
+    → 36 ≤ length (slice_index_or ts k d).bytes.now
 each_long [] k d all less = absurd (omega arith)
 each_long (t ∷ ts) zero d all less = is_long t.bytes.now all.0
 each_long (t ∷ ts) (suc k) d all less = each_long ts k d all.1 (omega arith)
 
-module _ (rsdp root revision : ℕ) (tables : List PlacedTable) (x : Unit {0}) (e : check_plan (plan rsdp root revision tables) ≡ Ok x) where
+module _ (rsdp root revision : ℕ) (tables : List PlacedTable) (x : Unit {0})
+    (e : check_plan (plan rsdp root revision tables) ≡ Ok x) where
   pub tables_long : (k : ℕ) (d : PlacedTable) → k < length tables → 36 ≤ length (slice_index_or tables k d).bytes.now
   tables_long k d less = each_long tables k d (are_tables 0 (placed tables) tt (passed _ x e).tables) less
 

@@ -40,13 +40,18 @@ length-rsdp_unsummed revision rsdt count xsdt = refl
 pub length-with_first_sum : (bytes : List ℕ) → length (with_first_sum bytes) ≡ length bytes
 unfolding with_first_sum
 length-with_first_sum bytes =
-    length-append (with_sum 8 (take 20 bytes)) (drop 20 bytes) ∙ ap (λ n. n + length (drop 20 bytes)) (length-with_sum 8 (take 20 bytes))
+    length-append (with_sum 8 (take 20 bytes)) (drop 20 bytes) ∙ ap (λ n. n + length (drop 20 bytes))
+    (length-with_sum 8 (take 20 bytes))
     ∙ sym (length-append (take 20 bytes) (drop 20 bytes)) ∙ ap length (take-append-drop 20 bytes)
 
-length_by : (first : Bool) (revision root : ℕ) → length (if first then with_first_sum (rsdp_unsummed revision root 0 0) else with_sum 32 (with_first_sum (rsdp_unsummed revision 0 36 root))) ≡ 36
-length_by true revision root = length-with_first_sum (rsdp_unsummed revision root 0 0) ∙ length-rsdp_unsummed revision root 0 0
+length_by : (first : Bool) (revision root : ℕ)
+    → length (if first then with_first_sum (rsdp_unsummed revision root 0 0)
+    else with_sum 32 (with_first_sum (rsdp_unsummed revision 0 36 root))) ≡ 36
+length_by true revision root = length-with_first_sum (rsdp_unsummed revision root 0 0)
+    ∙ length-rsdp_unsummed revision root 0 0
 length_by false revision root =
-    length-with_sum 32 (with_first_sum (rsdp_unsummed revision 0 36 root)) ∙ length-with_first_sum (rsdp_unsummed revision 0 36 root) ∙ length-rsdp_unsummed revision 0 36 root
+    length-with_sum 32 (with_first_sum (rsdp_unsummed revision 0 36 root))
+    ∙ length-with_first_sum (rsdp_unsummed revision 0 36 root) ∙ length-rsdp_unsummed revision 0 36 root
 
 pub length-rsdp_to : (revision root : ℕ) → length (rsdp_to revision root) ≡ 36
 unfolding rsdp_to
@@ -54,26 +59,36 @@ length-rsdp_to revision root = length_by _ revision root
 
 length-spelled : (width : ℕ) (ps : List ℕ) → length (flat_map (spelling width) ps) ≡ width * length ps
 length-spelled width [] = omega arith
-length-spelled width (p ∷ ps) = omega (arith, length-append (spelling width p) (flat_map (spelling width) ps), length-spelling width p, length-spelled width ps)
+length-spelled width (p ∷ ps) = omega (
+  arith,
+  length-append (spelling width p) (flat_map (spelling width) ps),
+  length-spelling width p,
+  length-spelled width ps,
+)
 
 pub length-root_header : (kind : RootKind) (count : ℕ) → length (root_header (signature_of kind) count) ≡ 36
 unfolding root_header spelling
 length-root_header Rsdt count = refl
 length-root_header Xsdt count = refl
 
-pub length-root_unsummed : (kind : RootKind) (ps : List ℕ) → length (root_unsummed kind ps) ≡ root_length kind (length ps)
+pub length-root_unsummed : (kind : RootKind) (ps : List ℕ)
+    → length (root_unsummed kind ps) ≡ root_length kind (length ps)
 length-root_unsummed kind ps =
-    length-append (root_header (signature_of kind) (root_length kind (length ps))) (flat_map (spelling (width_of kind)) ps)
-    ∙ ap (λ n. n + length (flat_map (spelling (width_of kind)) ps)) (length-root_header kind (root_length kind (length ps)))
+    length-append (root_header (signature_of kind) (root_length kind (length ps)))
+    (flat_map (spelling (width_of kind)) ps)
+    ∙ ap (λ n. n + length (flat_map (spelling (width_of kind)) ps))
+    (length-root_header kind (root_length kind (length ps)))
     ∙ ap (λ n. 36 + n) (length-spelled (width_of kind) ps)
 
 pub length-root_to : (kind : RootKind) (ps : List ℕ) → length (root_to kind ps) ≡ root_length kind (length ps)
 length-root_to kind ps = length-with_sum 9 (root_unsummed kind ps) ∙ length-root_unsummed kind ps
 
 -- that of tables has a pointer for each
-pub root_long : (kind : RootKind) (tables : List PlacedTable) → length (root_to kind (starts_of (placed tables))) ≡ root_length kind (length tables)
+pub root_long : (kind : RootKind) (tables : List PlacedTable)
+    → length (root_to kind (starts_of (placed tables))) ≡ root_length kind (length tables)
 root_long kind tables =
-    length-root_to kind (starts_of (placed tables)) ∙ ap (root_length kind) (length-map (placed tables) (λ t. t.start) ∙ length-map tables placed_region)
+    length-root_to kind (starts_of (placed tables)) ∙ ap (root_length kind)
+    (length-map (placed tables) (λ t. t.start) ∙ length-map tables placed_region)
 
 -- what is known of lengths while a root table is put
 pub ruleset lengths = (length-root_header, root_long)
@@ -96,7 +111,8 @@ pub le_bytes : (n : ℕ) → n < 2 ^ 64 → to_le_bytes w64 n ≡ spelling 8 n
 le_bytes n small =
     let long = length-spelling 8 n in
     let whole = whole_part (spelling 8 n) long in
-    let value : from_le_bytes w64 (spelling 8 n) ≡ n = rw whole at (number_filled (spelling 8 n) (omega arith)) ∙ number-spelling 8 n (omega arith) in
+    let value : from_le_bytes w64 (spelling 8 n) ≡ n = rw whole at (number_filled (spelling 8 n) (omega arith))
+    ∙ number-spelling 8 n (omega arith) in
     le_bytes_8 (spelling 8 n) n long (IsBytes-spelling 8 n) (sym value)
 
 spelling_front : (w v n : ℕ) → w ≤ v → take w (spelling v n) ≡ spelling w n
@@ -135,15 +151,18 @@ pub record_bytes : (rs : Memory) → IsBytes (flat_map record_spelling rs) → A
 record_bytes [] h = tt
 record_bytes (r ∷ rs) h =
     let this = front_bytes (record_spelling r) (flat_map record_spelling rs) h in
-    let after_start = rest_bytes (spelling 8 r.start) (spelling 8 (length r.bytes) ++ r.bytes) this in
-    (rest_bytes (spelling 8 (length r.bytes)) r.bytes after_start, record_bytes rs (rest_bytes (record_spelling r) (flat_map record_spelling rs) h))
+    let after_start = rest_bytes (spelling 8 r.start) (spelling 8 (length r.bytes) ++ r.bytes) this in (
+      rest_bytes (spelling 8 (length r.bytes)) r.bytes after_start,
+      record_bytes rs (rest_bytes (record_spelling r) (flat_map record_spelling rs) h),
+    )
 
 -- ---- a byte that is set so that the sum is 0
 
 pub sum_is_set : SumIsSet
 unfolding with_sum sum_byte sum_of
 sum_is_set offset bytes within =
-    let none : sum (set bytes offset 0) + get_or bytes offset 0 ≡ sum bytes + 0 = sum_by-set (λ x. x) bytes offset 0 0 within in
+    let none : sum (set bytes offset 0) + get_or bytes offset 0 ≡ sum bytes + 0 =
+    sum_by-set (λ x. x) bytes offset 0 0 within in
     let some = sum_by-set (λ x. x) bytes offset ((256 - sum (set bytes offset 0) % 256) % 256) 0 within in
     omega (arith, none, some)
 
@@ -158,7 +177,9 @@ part_front bytes k x n le = take-set-le n bytes k x le
 pub part_before : (bytes : List ℕ) (k x o n : ℕ) → o + n ≤ k → part (set bytes k x) o n ≡ part bytes o n
 part_before bytes k x o n le =
     let k_is : o + (k - o) ≡ k = omega arith in
-    let moved : drop o (set bytes k x) ≡ set (drop o bytes) (k - o) x = subst (λ (i : ℕ). drop o (set bytes i x) ≡ set (drop o bytes) (k - o) x) k_is (drop-set-add o bytes (k - o) x) in
+    let moved : drop o (set bytes k x) ≡ set (drop o bytes) (k - o) x =
+    subst (λ (i : ℕ). drop o (set bytes i x) ≡ set (drop o bytes) (k - o) x) k_is
+    (drop-set-add o bytes (k - o) x) in
     ap (take n) moved ∙ take-set-le n (drop o bytes) (k - o) x (omega arith)
 
 -- ---- members of a memory
@@ -181,31 +202,54 @@ module _ (m : Memory) (r : Region) (h : IsMemory m) (c : Contains m r) where
   at_start : (n : ℕ) → 0 < n → n ≤ length r.bytes → at m r.start n ≡ Some (take n r.bytes)
   at_start n some fits =
       let none : r.start - r.start ≡ 0 = omega arith in
-      (lent_is_inside m r.start n (take n r.bytes) h some).1 (r, c, record { starts = omega arith; ends = omega arith; there = rw none refl })
+      (lent_is_inside m r.start n (take n r.bytes) h some).1 (
+        r,
+        c,
+        record { starts = omega arith; ends = omega arith; there = rw none refl },
+      )
 
   pub lent_start : (n : ℕ) → 0 < n → n ≤ length r.bytes → lent m r.start n ≡ Ok (take n r.bytes)
   lent_start n some fits = rw (at_start n some fits) refl
 
   -- a table that fills the region
-  module _ (s : Signature) (names : check_names s (header_at r.bytes) ≡ Ok tt) (long : 36 ≤ length r.bytes) (whole : field_of r.bytes 4 4 ≡ length r.bytes) (zero_sum : sum_of r.bytes ≡ 0) where
+  module _ (s : Signature) (names : check_names s (header_at r.bytes) ≡ Ok tt) (long : 36 ≤ length r.bytes)
+      (whole : field_of r.bytes 4 4 ≡ length r.bytes) (zero_sum : sum_of r.bytes ≡ 0) where
     checked : check_table s r.bytes ≡ Ok tt
     unfolding check_table
     checked =
         let all : take (field_of r.bytes 4 4) r.bytes ≡ r.bytes = take_all _ r.bytes (omega (arith, whole)) in
-        rw (names, le-leb 36 (field_of r.bytes 4 4) (omega arith), le-leb (field_of r.bytes 4 4) (length r.bytes) (omega arith), all, zero_sum) refl
+        rw (
+          names,
+          le-leb 36 (field_of r.bytes 4 4) (omega arith),
+          le-leb (field_of r.bytes 4 4) (length r.bytes) (omega arith),
+          all,
+          zero_sum,
+        ) refl
 
     pub table_there : table_at m (plain_kind s) r.start ≡ Ok r.bytes
     unfolding table_at
     table_there =
         let all : take (length r.bytes) r.bytes ≡ r.bytes = take_all _ r.bytes (omega arith) in
         let enough = le-leb 36 (length r.bytes) long in
-        rw (lent_start 36 (lit≤ tt) long, header_front r.bytes, names, length_is r.bytes, whole, enough, lent_start (length r.bytes) (omega arith) (omega arith), all, checked) refl
+        rw (
+          lent_start 36 (lit≤ tt) long,
+          header_front r.bytes,
+          names,
+          length_is r.bytes,
+          whole,
+          enough,
+          lent_start (length r.bytes) (omega arith) (omega arith),
+          all,
+          checked,
+        ) refl
 
-  pub own_table_there : check_names (header_at r.bytes).signature (header_at r.bytes) ≡ Ok tt → 36 ≤ length r.bytes → field_of r.bytes 4 4 ≡ length r.bytes → sum_of r.bytes ≡ 0
+  pub own_table_there : check_names (header_at r.bytes).signature (header_at r.bytes) ≡ Ok tt → 36 ≤ length r.bytes
+      → field_of r.bytes 4 4 ≡ length r.bytes → sum_of r.bytes ≡ 0
       → own_table_at m r.start ≡ Ok r.bytes
   unfolding own_table_at
   own_table_there names long whole zero_sum =
-      rw (lent_start 36 (lit≤ tt) long, header_front r.bytes) (table_there (header_at r.bytes).signature names long whole zero_sum)
+      rw (lent_start 36 (lit≤ tt) long, header_front r.bytes)
+      (table_there (header_at r.bytes).signature names long whole zero_sum)
 
 -- ---- tables that are written are valid, and no others are listed
 
@@ -213,12 +257,14 @@ same_bytes : (xs : List ℕ) → bytes_eq xs xs ≡ true
 same_bytes [] = refl
 same_bytes (x ∷ xs) = and_from _ _ (eq-eqb x x refl) (same_bytes xs)
 
-names_hold : (h : SdtHeader) → is_utf8 h.signature.0 ≡ true → is_utf8 h.oem_id ≡ true → is_utf8 h.oem_table_id ≡ true → check_names h.signature h ≡ Ok tt
+names_hold : (h : SdtHeader) → is_utf8 h.signature.0 ≡ true → is_utf8 h.oem_id ≡ true → is_utf8 h.oem_table_id ≡ true
+    → check_names h.signature h ≡ Ok tt
 unfolding check_names
 names_hold h s o t = rw (same_bytes h.signature.0, s, o, t) refl
 
 -- the names of a header lie in parts of the bytes
-pub header_names : (b : List ℕ) → is_utf8 (part b 0 4) ≡ true → is_utf8 (part b 10 6) ≡ true → is_utf8 (part b 16 8) ≡ true → check_names (header_at b).signature (header_at b) ≡ Ok tt
+pub header_names : (b : List ℕ) → is_utf8 (part b 0 4) ≡ true → is_utf8 (part b 10 6) ≡ true
+    → is_utf8 (part b 16 8) ≡ true → check_names (header_at b).signature (header_at b) ≡ Ok tt
 unfolding header_at
 header_names b s o t = names_hold _ s o t
 
@@ -253,15 +299,18 @@ still b is = record {
 table_sum : (b : List ℕ) → is_table b ≡ true → sum_of (with_sum 9 b) ≡ 0
 table_sum b e = sum_is_set 9 b (omega (arith, (table_is b e).long))
 
-pub sums_are_set : (ts : Memory) → AllByRecursion (λ t. is_table t.bytes ≡ true) ts → AllByRecursion (λ table. sum_of table ≡ 0) (map (λ t. with_sum 9 t.bytes) ts)
+pub sums_are_set : (ts : Memory) → AllByRecursion (λ t. is_table t.bytes ≡ true) ts
+    → AllByRecursion (λ table. sum_of table ≡ 0) (map (λ t. with_sum 9 t.bytes) ts)
 sums_are_set [] all = tt
 sums_are_set (t ∷ ts) all = (table_sum t.bytes all.0, sums_are_set ts all.1)
 
-pub tables_there : (m ts : Memory) → IsMemory m → AllByRecursion (Contains m) (map summed ts) → AllByRecursion (λ t. is_table t.bytes ≡ true) ts
+pub tables_there : (m ts : Memory) → IsMemory m → AllByRecursion (Contains m) (map summed ts)
+    → AllByRecursion (λ t. is_table t.bytes ≡ true) ts
     → valid_tables m (starts_of ts) ≡ map (λ t. with_sum 9 t.bytes) ts
 tables_there m [] h within all = refl
 tables_there m (t ∷ ts) h within all =
     let is = still t.bytes (table_is t.bytes all.0) in
     let this : own_table_at m t.start ≡ Ok (with_sum 9 t.bytes) =
-    own_table_there m (summed t) h within.0 (header_names (with_sum 9 t.bytes) is.signature is.id is.table_id) is.long is.whole (table_sum t.bytes all.0) in
+    own_table_there m (summed t) h within.0 (header_names (with_sum 9 t.bytes) is.signature is.id is.table_id) is.long
+    is.whole (table_sum t.bytes all.0) in
     rw (this, tables_there m ts h within.1 all.1) refl

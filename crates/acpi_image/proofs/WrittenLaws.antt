@@ -1,5 +1,5 @@
--- Records that can lie where they are placed are a memory; what is written is read back, opened, and has the tables that
--- were placed.
+-- Records that can lie where they are placed are a memory; what is written is read back, opened, and has the tables
+-- that were placed.
 use Rattle.std.proofs.Common.{◌≡◌, ℕ, ◌^◌, ◌<◌, Bool, true, false, List, [], ◌∷◌, length, map, Result, Ok, refl, arith, drop, Err, sym, subst, ◌∙◌}
 use Rattle.std.specs.Prelude.{◌||◌, flat_map, if◌then◌else◌, nat_lt, not, ◌==◌, IfOk}
 use Rattle.std.specs.List.{AllByRecursion, list_all}
@@ -88,16 +88,19 @@ all_below limit (a ∷ ps) e =
     (ltb-true _ _ p.0, all_below limit ps p.1)
 
 -- for revision 0 they are below 2^32
-pub low_ones : (first : Bool) (ps : List ℕ) → (not first || list_all (λ a. nat_lt a (2 ^ 32)) ps) ≡ true → first ≡ true → AllByRecursion (λ a. a < 2 ^ 32) ps
+pub low_ones : (first : Bool) (ps : List ℕ) → (not first || list_all (λ a. nat_lt a (2 ^ 32)) ps) ≡ true → first ≡ true
+    → AllByRecursion (λ a. a < 2 ^ 32) ps
 low_ones true ps e f = all_below (2 ^ 32) ps e
 low_ones false ps e f = absurd cc
 
-wide_by : (first : Bool) (ps : List ℕ) → AllByRecursion (λ a. a < 2 ^ 64) ps → (first ≡ true → AllByRecursion (λ a. a < 2 ^ 32) ps)
+wide_by : (first : Bool) (ps : List ℕ) → AllByRecursion (λ a. a < 2 ^ 64) ps
+    → (first ≡ true → AllByRecursion (λ a. a < 2 ^ 32) ps)
     → AllByRecursion (λ a. a < 256 ^ width_of (if first then Rsdt else Xsdt)) ps
 wide_by true ps wide low = low refl
 wide_by false ps wide low = wide
 
-pub pointers_narrow : (first : Bool) (ts : Memory) → Ends (map summed ts) → (first ≡ true → AllByRecursion (λ a. a < 2 ^ 32) (starts_of ts))
+pub pointers_narrow : (first : Bool) (ts : Memory) → Ends (map summed ts)
+    → (first ≡ true → AllByRecursion (λ a. a < 2 ^ 32) (starts_of ts))
     → AllByRecursion (λ a. a < 256 ^ width_of (if first then Rsdt else Xsdt)) (starts_of ts)
 pointers_narrow first ts ends low = wide_by first (starts_of ts) (starts_below ts ends) low
 
@@ -142,24 +145,29 @@ module _ (p : Plan) (ok : Passed p) (memory : IsMemory (records_of p)) where
   root_is = root_there (records_of p) (kind_of p) p.root (pointers_of p) memory (every_in (records_of p)).1.0 short
 
   pointers_there : pointers (width_of (kind_of p)) (drop 36 (root_to (kind_of p) (pointers_of p))) ≡ pointers_of p
-  pointers_there = pointers_are (kind_of p) (pointers_of p) (pointers_narrow (p.revision == 0) p.tables ends.1.1 (λ first. (low first).1))
+  pointers_there = pointers_are (kind_of p) (pointers_of p)
+      (pointers_narrow (p.revision == 0) p.tables ends.1.1 (λ first. (low first).1))
 
   rsdp_tested : IsRsdp p.revision p.root (rsdp_to p.revision p.root)
-  rsdp_tested = is_rsdp p.revision p.root (not_true (p.root == 0) ok.some) (omega (arith, ends.1.0)) (λ first. (low first).0)
+  rsdp_tested = is_rsdp p.revision p.root (not_true (p.root == 0) ok.some) (omega (arith, ends.1.0))
+      (λ first. (low first).0)
 
   rsdp_is : rsdp_at (records_of p) p.rsdp ≡ Ok (rsdp_to p.revision p.root)
-  rsdp_is = rsdp_there (records_of p) (rsdp_record p.rsdp p.revision p.root) memory (every_in (records_of p)).0 (length-rsdp_to p.revision p.root) p.revision p.root rsdp_tested
+  rsdp_is = rsdp_there (records_of p) (rsdp_record p.rsdp p.revision p.root) memory (every_in (records_of p)).0
+      (length-rsdp_to p.revision p.root) p.revision p.root rsdp_tested
 
   opened_is : opened_by_rsdp (records_of p) p.rsdp ≡ Ok (opened_of p)
   opened_is = rw (rsdp_is, rsdp_tested.leads_to, root_is) refl
 
   valid_are : valid_tables (records_of p) (pointers_of p) ≡ tables_of p
-  valid_are = tables_there (records_of p) p.tables memory (every_in (records_of p)).1.1 (are_tables 0 p.tables tt ok.tables)
+  valid_are = tables_there (records_of p) p.tables memory (every_in (records_of p)).1.1
+      (are_tables 0 p.tables tt ok.tables)
 
 pub written_is_read : WrittenIsRead
 written_is_read p file bytes e =
     let known = facts p file e in
-    let memory = places_are (records_of p) known.ok.places (subst (λ (b : List ℕ). IsBytes b) (sym known.image) bytes) in
+    let memory = places_are (records_of p) known.ok.places
+    (subst (λ (b : List ℕ). IsBytes b) (sym known.image) bytes) in
     record {
       image = sym known.image;
       memory = memory;
@@ -174,20 +182,27 @@ written_is_read p file bytes e =
 
 -- ---- wherever the tables lie
 
-moved_by : {A : Type 0} (n : Memory) (r : Result (List ℕ) AcpiError) (pointers_in : List ℕ → List ℕ) (ts : List (List ℕ))
-    (defined : Memory → List ℕ → Result A AcpiError) (said : Result A AcpiError) → ((qs : List ℕ) → valid_tables n qs ≡ ts → defined n qs ≡ said)
-    → (r >>= λ root. lists (valid_tables n (pointers_in root))) ≡ Ok ts → (r >>= λ root. defined n (pointers_in root)) ≡ said
+moved_by : {A : Type 0} (n : Memory) (r : Result (List ℕ) AcpiError) (pointers_in : List ℕ
+    → List ℕ) (ts : List (List ℕ))
+    (defined : Memory → List ℕ → Result A AcpiError) (said : Result A AcpiError)
+    → ((qs : List ℕ) → valid_tables n qs ≡ ts → defined n qs ≡ said)
+    → (r >>= λ root. lists (valid_tables n (pointers_in root))) ≡ Ok ts
+    → (r >>= λ root. defined n (pointers_in root)) ≡ said
 moved_by n (Ok root) pointers_in ts defined said each e = each (pointers_in root) (same_lists _ _ e)
 moved_by n (Err d) pointers_in ts defined said each e = absurd cc
 
 -- what follows the valid tables says the same of the image
-pub says_of_tables : {A : Type 0} (defined : Memory → List ℕ → Result A AcpiError) → FollowsTables defined → SaysOfTables defined
+pub says_of_tables : {A : Type 0} (defined : Memory → List ℕ → Result A AcpiError) → FollowsTables defined
+    → SaysOfTables defined
 says_of_tables defined follows p file bytes e n kind address same =
     let known = facts p file e in
-    let memory = places_are (records_of p) known.ok.places (subst (λ (b : List ℕ). IsBytes b) (sym known.image) bytes) in
+    let memory = places_are (records_of p) known.ok.places
+    (subst (λ (b : List ℕ). IsBytes b) (sym known.image) bytes) in
     let tables = valid_are p known.ok memory in
-    let said : said_of p defined ≡ defined (records_of p) (pointers_of p) = rw (root_is p known.ok memory, pointers_there p known.ok memory) refl in
-    moved_by n (root_at n kind address) (λ root. pointers (width_of kind) (drop 36 root)) (tables_of p) defined (said_of p defined)
+    let said : said_of p defined ≡ defined (records_of p) (pointers_of p) =
+    rw (root_is p known.ok memory, pointers_there p known.ok memory) refl in
+    moved_by n (root_at n kind address) (λ root. pointers (width_of kind) (drop 36 root)) (tables_of p) defined
+    (said_of p defined)
     (λ qs f. follows (records_of p) n (pointers_of p) qs (f ∙ sym tables) ∙ sym said) same
 
 pub headers_say : SaysOfTables (λ m ps. Ok (valid_headers m ps))
@@ -204,7 +219,8 @@ regions_say = says_of_tables found_regions regions_follow
 
 -- ---- what a call answered
 
-pub answer_is_written : {V : Type 0} (items : V → List ℕ) (r : Result V WriteError) (p : Plan) → IfOk r (λ v. IsBytes (items v)) → WritesOrRunsOut items r (written p)
+pub answer_is_written : {V : Type 0} (items : V → List ℕ) (r : Result V WriteError) (p : Plan)
+    → IfOk r (λ v. IsBytes (items v)) → WritesOrRunsOut items r (written p)
     → IfOk r (λ v. IsWritten p (items v))
 answer_is_written items (Ok v) p bytes said = written_is_read p (items v) bytes said
 answer_is_written items (Err e) p bytes said = tt

@@ -19,9 +19,11 @@ use Rattle.acpi_image_reader.specs.declared.error.ImageError.TheVariants as refu
 
 -- the next record, and those after it
 abbrev pub step_from : (ℕ → Bool) → ℕ → Memory → List ℕ → Result Memory ImageError
-step_from granted n kept left = next_at kept left >>= λ found. (holds (granted (length kept)) refusal.OutOfMemory >>= λ _. records_from granted n (kept ++ (found.0 ∷ [])) found.1)
+step_from granted n kept left = next_at kept left >>= λ found.
+    (holds (granted (length kept)) refusal.OutOfMemory >>= λ _. records_from granted n (kept ++ (found.0 ∷ [])) found.1)
 
-pub records_step : (granted : ℕ → Bool) (n : ℕ) (kept : Memory) (left : List ℕ) → 0 < length left → records_from granted (suc n) kept left ≡ step_from granted n kept left
+pub records_step : (granted : ℕ → Bool) (n : ℕ) (kept : Memory) (left : List ℕ) → 0 < length left
+    → records_from granted (suc n) kept left ≡ step_from granted n kept left
 records_step granted n kept [] some = absurd (omega arith)
 records_step granted n kept (b ∷ bs) some = refl
 
@@ -53,7 +55,8 @@ record IsStep (kept : Memory) (left file : List ℕ) : Type 0 where
   pub room : length left ≤ suc more
   pub same : Leads (λ granted. step_from granted more kept left) kept file
 
-step_of : (most : ℕ) (kept : Memory) (left file : List ℕ) → 0 < length left → length left ≤ most → Leads (λ granted. records_from granted most kept left) kept file → IsStep kept left file
+step_of : (most : ℕ) (kept : Memory) (left file : List ℕ) → 0 < length left → length left ≤ most
+    → Leads (λ granted. records_from granted most kept left) kept file → IsStep kept left file
 step_of zero kept left file some room same = absurd (omega arith)
 step_of (suc n) kept left file some room same = record {
   more = n;
@@ -80,7 +83,8 @@ module _ (kept : Memory) (left file : List ℕ) (so_far : IsReading kept left fi
     step = step_of so_far.most kept left file some so_far.room so_far.same
 
     -- the next record is read
-    pub reading_goes_on : (found : Region × List ℕ) → length found.1 < length left → next_at kept left ≡ Ok found → IsReading (kept ++ (found.0 ∷ [])) found.1 file
+    pub reading_goes_on : (found : Region × List ℕ) → length found.1 < length left → next_at kept left ≡ Ok found
+        → IsReading (kept ++ (found.0 ∷ [])) found.1 file
     reading_goes_on found less next = record {
       most = step.more;
       room = omega (arith, step.room);
@@ -104,7 +108,8 @@ module _ (kept : Memory) (left file : List ℕ) (so_far : IsReading kept left fi
         (granted, sym (rw (next, past) at (step.same granted (λ i less. lt-ltb i (length kept) less))))
 
 -- an answer that hands a refusal on
-pub handed_on : {X : Type 0} (file : List ℕ) (view : X → Memory) (r : Result X ImageError) (x : ImageError) (said : Result Memory ImageError) → IsErrAnd r (λ e. e ≡ x) → Refuses file x said → GivesOrRunsOut file view r said
+pub handed_on : {X : Type 0} (file : List ℕ) (view : X → Memory) (r : Result X ImageError) (x : ImageError)
+    (said : Result Memory ImageError) → IsErrAnd r (λ e. e ≡ x) → Refuses file x said → GivesOrRunsOut file view r said
 handed_on file view (Ok y) x said h k = absurd h
 handed_on file view (Err e) x said h k = rw h k
 
@@ -131,7 +136,8 @@ record IsRead (b : List ℕ) (found : Region × List ℕ) : Type 0 where
   pub rest : IsBytes found.1
   pub less : length found.1 < length b
 
-cut_again : (b : List ℕ) (i j n : ℕ) → (take i b ++ (take j (drop i b) ++ take n (drop j (drop i b)))) ++ drop n (drop j (drop i b)) ≡ b
+cut_again : (b : List ℕ) (i j n : ℕ) → (take i b ++ (take j (drop i b) ++ take n (drop j (drop i b))))
+    ++ drop n (drop j (drop i b)) ≡ b
 cut_again b i j n = simp (append_assoc, take-append-drop)
 
 spelled_at : (b : List ℕ) (o : ℕ) → IsBytes b → o + 8 ≤ length b → spelling 8 (field_of b o 8) ≡ take 8 (drop o b)
@@ -147,11 +153,16 @@ cut_at b n =
     rw two at (cut_again b 8 8 n)
 
 abbrev front_of : List ℕ → Region × List ℕ
-front_of b = (record { start = field_of b 0 8; bytes = take (field_of b 8 8) (drop 16 b) }, drop (field_of b 8 8) (drop 16 b))
+front_of b = (
+  record { start = field_of b 0 8; bytes = take (field_of b 8 8) (drop 16 b) },
+  drop (field_of b 8 8) (drop 16 b),
+)
 
-front_is : (b : List ℕ) → IsBytes b → 16 ≤ length b → field_of b 8 8 ≤ length (drop 16 b) → b ≡ record_spelling (front_of b).0 ++ (front_of b).1
+front_is : (b : List ℕ) → IsBytes b → 16 ≤ length b → field_of b 8 8 ≤ length (drop 16 b)
+    → b ≡ record_spelling (front_of b).0 ++ (front_of b).1
 front_is b h room fits =
-    let many : length (take (field_of b 8 8) (drop 16 b)) ≡ field_of b 8 8 = length-take-le (field_of b 8 8) (drop 16 b) fits in
+    let many : length (take (field_of b 8 8) (drop 16 b)) ≡ field_of b 8 8 =
+    length-take-le (field_of b 8 8) (drop 16 b) fits in
     let start = spelled_at b 0 h (omega arith) in
     let count = spelled_at b 8 h (omega arith) in
     rw (many, start, count) (sym (cut_at b (field_of b 8 8)))
@@ -165,7 +176,8 @@ record_is b found h e =
     let room : 16 ≤ length b = leb-true _ _ p.0 in
     let fits : field_of b 8 8 ≤ length (drop 16 b) = leb-true _ _ q.0 in
     let low : field_of b 0 8 + field_of b 8 8 < 2 ^ 64 = ltb-true _ _ s.0 in
-    let many : length (take (field_of b 8 8) (drop 16 b)) ≡ field_of b 8 8 = length-take-le (field_of b 8 8) (drop 16 b) fits in
+    let many : length (take (field_of b 8 8) (drop 16 b)) ≡ field_of b 8 8 =
+    length-take-le (field_of b 8 8) (drop 16 b) fits in
     let same : front_of b ≡ found = ok_is _ _ s.1 in
     subst (λ (f : Region × List ℕ). IsRead b f) same (record {
       parts = front_is b h room fits;
@@ -174,11 +186,21 @@ record_is b found h e =
       less = simp (length-drop) (omega arith);
     })
 
-record_from : (b : List ℕ) (r : Region) (rest : List ℕ) → 16 ≤ length b → field_of b 0 8 ≡ r.start → field_of b 8 8 ≡ length r.bytes → drop 16 b ≡ r.bytes ++ rest → end_of r < 2 ^ 64 → record_at b ≡ Ok (r, rest)
+record_from : (b : List ℕ) (r : Region) (rest : List ℕ) → 16 ≤ length b → field_of b 0 8 ≡ r.start
+    → field_of b 8 8 ≡ length r.bytes → drop 16 b ≡ r.bytes ++ rest → end_of r < 2 ^ 64 → record_at b ≡ Ok (r, rest)
 unfolding record_at
 record_from b r rest room start count behind low =
     let fits : length r.bytes ≤ length (r.bytes ++ rest) = omega (arith, length-append r.bytes rest) in
-    rw (le-leb _ _ room, start, count, behind, le-leb _ _ fits, lt-ltb _ _ low, take-append_seam r.bytes rest, drop-append_seam r.bytes rest) refl
+    rw (
+      le-leb _ _ room,
+      start,
+      count,
+      behind,
+      le-leb _ _ fits,
+      lt-ltb _ _ low,
+      take-append_seam r.bytes rest,
+      drop-append_seam r.bytes rest,
+    ) refl
 
 -- three parts, the first two of eight bytes
 module _ (s l x rest : List ℕ) (first : length s ≡ 8) (second : length l ≡ 8) where
@@ -209,13 +231,18 @@ record_again : (r : Region) (rest : List ℕ) → IsRegion r → record_at (reco
 record_again r rest h =
     let first = length-spelling 8 r.start in
     let second = length-spelling 8 (length r.bytes) in
-    let start = start_at (spelling 8 r.start) (spelling 8 (length r.bytes)) r.bytes rest first second ∙ number-spelling 8 r.start (omega arith) in
-    let count = count_at (spelling 8 r.start) (spelling 8 (length r.bytes)) r.bytes rest first second ∙ number-spelling 8 (length r.bytes) (omega arith) in
-    record_from (record_spelling r ++ rest) r rest (long (spelling 8 r.start) (spelling 8 (length r.bytes)) r.bytes rest first second) start count (behind_at (spelling 8 r.start) (spelling 8 (length r.bytes)) r.bytes rest first second) h.0
+    let start = start_at (spelling 8 r.start) (spelling 8 (length r.bytes)) r.bytes rest first second
+    ∙ number-spelling 8 r.start (omega arith) in
+    let count = count_at (spelling 8 r.start) (spelling 8 (length r.bytes)) r.bytes rest first second
+    ∙ number-spelling 8 (length r.bytes) (omega arith) in
+    record_from (record_spelling r ++ rest) r rest
+    (long (spelling 8 r.start) (spelling 8 (length r.bytes)) r.bytes rest first second) start count
+    (behind_at (spelling 8 r.start) (spelling 8 (length r.bytes)) r.bytes rest first second) h.0
 
 -- ---- the next record
 
-next_is : (m : Memory) (b : List ℕ) (found : Region × List ℕ) → next_at m b ≡ Ok found → (record_at b ≡ Ok found) × (shares_any m found.0 ≡ false)
+next_is : (m : Memory) (b : List ℕ) (found : Region × List ℕ) → next_at m b ≡ Ok found
+    → (record_at b ≡ Ok found) × (shares_any m found.0 ≡ false)
 unfolding next_at
 next_is m b found e =
     let p = bind_ok _ _ _ e in
@@ -223,7 +250,8 @@ next_is m b found e =
     let same : p.0 ≡ found = ok_is _ _ q.1 in
     subst (λ (f : Region × List ℕ). (record_at b ≡ Ok f) × (shares_any m f.0 ≡ false)) same (p.1, not_true _ q.0)
 
-next_again : (m : Memory) (b : List ℕ) (found : Region × List ℕ) → record_at b ≡ Ok found → shares_any m found.0 ≡ false → next_at m b ≡ Ok found
+next_again : (m : Memory) (b : List ℕ) (found : Region × List ℕ) → record_at b ≡ Ok found → shares_any m found.0 ≡ false
+    → next_at m b ≡ Ok found
 unfolding next_at
 next_again m b found e none = rw (e, none) refl
 
@@ -239,9 +267,16 @@ record AreRead (m : Memory) (b : List ℕ) (all : Memory) : Type 0 where
 none_left : (m all : Memory) → IsMemory m → done m ≡ done all → AreRead m [] all
 none_left m all h e =
     let same : m ≡ all = ok_is _ _ e in
-    record { later = []; parts = refl; joined = sym same ∙ sym (append-nil m); memory = subst (λ (x : Memory). IsMemory x) same h }
+    record {
+      later = [];
+      parts = refl;
+      joined = sym same ∙ sym (append-nil m);
+      memory =
+          subst (λ (x : Memory). IsMemory x) same h;
+    }
 
-records_are : (n : ℕ) (m : Memory) (b : List ℕ) (all : Memory) → length b ≤ n → IsBytes b → IsMemory m → records_from ample n m b ≡ Ok all → AreRead m b all
+records_are : (n : ℕ) (m : Memory) (b : List ℕ) (all : Memory) → length b ≤ n → IsBytes b → IsMemory m
+    → records_from ample n m b ≡ Ok all → AreRead m b all
 records_are zero m [] all room h hm e = none_left m all hm e
 records_are zero m (b ∷ bs) all room h hm e = absurd (omega arith)
 records_are (suc n) m [] all room h hm e = none_left m all hm e
@@ -261,7 +296,8 @@ records_are (suc n) m (b ∷ bs) all room h hm e =
 record_long : (r : Region) (rest : List ℕ) → 16 + length rest ≤ length (record_spelling r ++ rest)
 record_long r rest = simp (length-append, length-spelling) (omega arith)
 
-records_again : (n : ℕ) (m rs : Memory) → length (flat_map record_spelling rs) ≤ n → IsMemory (m ++ rs) → records_from ample n m (flat_map record_spelling rs) ≡ Ok (m ++ rs)
+records_again : (n : ℕ) (m rs : Memory) → length (flat_map record_spelling rs) ≤ n → IsMemory (m ++ rs)
+    → records_from ample n m (flat_map record_spelling rs) ≡ Ok (m ++ rs)
 records_again n m [] room h = rw append-nil (records_nil ample n m)
 records_again zero m (r ∷ rs) room h =
     let long = record_long r (flat_map record_spelling rs) in
@@ -269,9 +305,11 @@ records_again zero m (r ∷ rs) room h =
 records_again (suc n) m (r ∷ rs) room h =
     let long = record_long r (flat_map record_spelling rs) in
     let here = memory_at m r rs h in
-    let next = next_again m (record_spelling r ++ flat_map record_spelling rs) (r, flat_map record_spelling rs) (record_again r (flat_map record_spelling rs) here.0) (shares_none m r here.1) in
+    let next = next_again m (record_spelling r ++ flat_map record_spelling rs) (r, flat_map record_spelling rs)
+    (record_again r (flat_map record_spelling rs) here.0) (shares_none m r here.1) in
     let rest = records_again n (m ++ (r ∷ [])) rs (omega arith) (rw append_assoc h) in
-    records_step ample n m (record_spelling r ++ flat_map record_spelling rs) (omega arith) ∙ rw next (rest ∙ ap (λ (x : Memory). done x) (append_assoc m (r ∷ []) rs))
+    records_step ample n m (record_spelling r ++ flat_map record_spelling rs) (omega arith)
+    ∙ rw next (rest ∙ ap (λ (x : Memory). done x) (append_assoc m (r ∷ []) rs))
 
 pub image_is : (file : List ℕ) (rs : Memory) → IsBytes file → records_in file ≡ Ok rs → IsImage file rs × IsMemory rs
 unfolding records_with
@@ -297,12 +335,14 @@ abbrev Answers : List ℕ → Answer → Result Memory ImageError → Type 0
 Answers file answer said = GivesOrRunsOut file (λ i. memory_of i) answer said
 
 -- an image that was found is the file's
-pub image_found : (file : List ℕ) (answer : Answer) → IsBytes file → Answers file answer (records_in file) → IfOk answer (λ i. IsImage file (memory_of i))
+pub image_found : (file : List ℕ) (answer : Answer) → IsBytes file → Answers file answer (records_in file)
+    → IfOk answer (λ i. IsImage file (memory_of i))
 image_found file (Ok i) h e = (image_is file (memory_of i) h e).0
 image_found file (Err x) h e = tt
 
 -- a file that is the records of a memory is read as that memory
-pub image_only : (file : List ℕ) (answer : Answer) (m : Memory) → IsMemory m → IsImage file m → Answers file answer (records_in file) → Answers file answer (Ok m)
+pub image_only : (file : List ℕ) (answer : Answer) (m : Memory) → IsMemory m → IsImage file m
+    → Answers file answer (records_in file) → Answers file answer (Ok m)
 image_only file answer m h same e = rw (image_again file m h same) at e
 
 -- the definition reads a file as the one memory whose records it is

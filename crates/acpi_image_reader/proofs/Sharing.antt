@@ -68,7 +68,8 @@ unfolding share
 same_share r r' s s' a b = rw (a.start, a.count, b.start, b.count) refl
 
 -- two regions share a byte exactly if the ranges that they lie in do
-pub ranges_share : (p q : AddressRange) (r s : Region) → p.address ≡ r.start → p.length ≡ length r.bytes → q.address ≡ s.start → q.length ≡ length s.bytes
+pub ranges_share : (p q : AddressRange) (r s : Region) → p.address ≡ r.start → p.length ≡ length r.bytes
+    → q.address ≡ s.start → q.length ≡ length s.bytes
     → share (region_in p) (region_in q) ≡ share r s
 ranges_share p q r s p_start p_count q_start q_count =
     same_share (region_in p) r (region_in q) s
@@ -89,7 +90,8 @@ all_apart (s ∷ m) r h =
 
 -- ---- a region after a memory
 
-all_with : {X : Type 0} (P : X → Type 0) (xs : List X) (y : X) → AllByRecursion P xs → P y → AllByRecursion P (xs ++ (y ∷ []))
+all_with : {X : Type 0} (P : X → Type 0) (xs : List X) (y : X) → AllByRecursion P xs → P y
+    → AllByRecursion P (xs ++ (y ∷ []))
 all_with P [] y h hy = (hy, tt)
 all_with P (x ∷ xs) y h hy = (h.0, all_with P xs y h.1 hy)
 
@@ -97,11 +99,13 @@ all_at : {X : Type 0} (P : X → Type 0) (xs : List X) (y : X) (ys : List X) →
 all_at P [] y ys h = h.0
 all_at P (x ∷ xs) y ys h = all_at P xs y ys h.1
 
-pub memory_with : (m : Memory) (r : Region) → IsMemory m → IsRegion r → AllByRecursion (λ s. AreApart s r) m → IsMemory (m ++ (r ∷ []))
+pub memory_with : (m : Memory) (r : Region) → IsMemory m → IsRegion r → AllByRecursion (λ s. AreApart s r) m
+    → IsMemory (m ++ (r ∷ []))
 memory_with [] r h hr apart = (hr, (tt, tt))
 memory_with (s ∷ m) r h hr apart = (h.0, (all_with (AreApart s) m r h.1.0 apart.0, memory_with m r h.1.1 hr apart.1))
 
-pub memory_at : (m : Memory) (r : Region) (rs : Memory) → IsMemory (m ++ (r ∷ rs)) → IsRegion r × AllByRecursion (λ s. AreApart s r) m
+pub memory_at : (m : Memory) (r : Region) (rs : Memory) → IsMemory (m ++ (r ∷ rs))
+    → IsRegion r × AllByRecursion (λ s. AreApart s r) m
 memory_at [] r rs h = (h.0, tt)
 memory_at (s ∷ m) r rs h =
     let later = memory_at m r rs h.1.1 in

@@ -27,15 +27,6 @@ impl<'a> MemoryImage<'a> {
     ghost use Rattle.acpi_image_reader.specs.Image.{GivesOrRunsOut, IsImage, records_in};
     ghost use Rattle.acpi_image_reader.specs.Held.{memory_of};
 
-    /// What `from_bytes` answers: it reads the records, and keeps them as the memory.
-    #[tactic(auto, using(crate::proofs::Images::image_memory))]
-    fn from_bytes_exact(alloc: Global, bytes: &'a [u8]) -> Result<MemoryImage<'a>, ImageError>
-        ensures { GivesOrRunsOut bytes.now (λ i. memory_of i) result (records_in bytes.now) }
-    {
-        let records = records_of(alloc, bytes)?;
-        Ok(MemoryImage { records })
-    }
-
     /// The memory that a file encodes. It allocates only a list of the records and
     /// a map of their starts.
     ///
@@ -57,7 +48,8 @@ impl<'a> MemoryImage<'a> {
         ensures law { (m : Memory)
             → (records_in bytes.now ≡ Ok m) ↔ (IsImage bytes.now m × IsMemory m) }
     {
-        MemoryImage::from_bytes_exact(alloc, bytes)
+        let records = records_of(alloc, bytes)?;
+        Ok(MemoryImage { records })
     }
 
     /// The regions of the memory, in the order of the file's records.

@@ -3,7 +3,6 @@
 
 mod error;
 pub mod image;
-pub mod laws;
 pub mod range;
 pub mod reader;
 mod record;

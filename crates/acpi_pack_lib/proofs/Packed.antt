@@ -46,7 +46,8 @@ all_rest : {X : Type 0} (P : X → Type 0) (xs ys : List X) → AllByRecursion P
 all_rest P [] ys h = h
 all_rest P (x ∷ xs) ys h = all_rest P xs ys h.1
 
-all_both : {X : Type 0} (P : X → Type 0) (xs ys : List X) → AllByRecursion P xs → AllByRecursion P ys → AllByRecursion P (xs ++ ys)
+all_both : {X : Type 0} (P : X → Type 0) (xs ys : List X) → AllByRecursion P xs → AllByRecursion P ys
+    → AllByRecursion P (xs ++ ys)
 all_both P [] ys h k = k
 all_both P (x ∷ xs) ys h k = (h.0, all_both P xs ys h.1 k)
 
@@ -54,7 +55,8 @@ of_bytes : (ts : Memory) → AllByRecursion IsRight (map (λ t. t.bytes) ts) →
 of_bytes [] h = tt
 of_bytes (t ∷ ts) h = (h.0, of_bytes ts h.1)
 
-low_starts : (fixed : Region) (from : ℕ) (ts : Memory) → ArePlaced fixed from ts → AllByRecursion (λ p. p < 2 ^ 64) (starts_of ts)
+low_starts : (fixed : Region) (from : ℕ) (ts : Memory) → ArePlaced fixed from ts
+    → AllByRecursion (λ p. p < 2 ^ 64) (starts_of ts)
 low_starts fixed from [] h = tt
 low_starts fixed from (t ∷ ts) h =
     let ends = h.0.ends in
@@ -76,7 +78,8 @@ only_one : (r : Region) (others : List (ℕ × List ℕ)) (d : Option Region) �
 only_one r [] d e = same_dsdt _ _ e
 only_one r (x ∷ others) d e = absurd cc
 
-dsdt_known : (address : Option ℕ) (found : List (ℕ × List ℕ)) (d : Option Region) → dsdt_at address found ≡ Ok d → DsdtIs d
+dsdt_known : (address : Option ℕ) (found : List (ℕ × List ℕ)) (d : Option Region)
+    → dsdt_at address found ≡ Ok d → DsdtIs d
 dsdt_known address [] d e = subst (λ (o : Option Region). DsdtIs o) (same_dsdt _ _ e) tt
 dsdt_known None (first ∷ others) d e = subst (λ (o : Option Region). DsdtIs o) (same_dsdt _ _ e) tt
 dsdt_known (Some a) (first ∷ others) d e =
@@ -99,12 +102,15 @@ some_is : (o : Option ℕ) (x : ℕ) → ok_or o NoRoom ≡ Ok x → o ≡ Some 
 some_is None x e = absurd cc
 some_is (Some y) x e = cc
 
-laid_is : (dsdt : Option Region) (listed : List (List ℕ)) (m : Memory) → laid_out dsdt listed ≡ Ok m → IsLaid dsdt listed m
+laid_is : (dsdt : Option Region) (listed : List (List ℕ)) (m : Memory) → laid_out dsdt listed ≡ Ok m
+    → IsLaid dsdt listed m
 unfolding laid_out
 laid_is dsdt listed m e =
     let first = holds_ok _ _ _ m e in
-    let second = bind_ok (ok_or (place_at (fixed_of dsdt) first_address (root_length Xsdt (length listed))) NoRoom) _ m first.1 in
-    let third = bind_ok (placed_from (fixed_of dsdt) (second.0 + root_length Xsdt (length listed)) listed) _ m second.2 in
+    let second = bind_ok (ok_or (place_at (fixed_of dsdt) first_address (root_length Xsdt (length listed))) NoRoom) _ m
+        first.1 in
+    let third = bind_ok (placed_from (fixed_of dsdt) (second.0 + root_length Xsdt (length listed)) listed) _ m
+        second.2 in
     record {
       root = second.0;
       tables = third.0;
@@ -129,9 +135,12 @@ module _ (dsdt : Option Region) (listed : List (List ℕ)) (m : Memory) (laid : 
 
   all_placed : ArePlaced (fixed_of dsdt) first_address (root_region ∷ laid.tables)
   all_placed =
-      let there : place_at (fixed_of dsdt) first_address (length root_region.bytes) ≡ Some laid.root = rw root_long laid.root_is in
-      let behind : placed_from (fixed_of dsdt) (end_of root_region) listed ≡ Ok laid.tables = rw root_long laid.tables_are in
-      (is_placed (fixed_of dsdt) first_address root_region.bytes laid.root there, placed_law (fixed_of dsdt) (end_of root_region) listed laid.tables behind)
+      let there : place_at (fixed_of dsdt) first_address (length root_region.bytes) ≡ Some laid.root =
+          rw root_long laid.root_is in
+      let behind : placed_from (fixed_of dsdt) (end_of root_region) listed ≡ Ok laid.tables =
+          rw root_long laid.tables_are in
+      (is_placed (fixed_of dsdt) first_address root_region.bytes laid.root there,
+          placed_law (fixed_of dsdt) (end_of root_region) listed laid.tables behind)
 
   module _ (known : DsdtIs dsdt) (bytes : AllBytes (all_regions laid.root laid.tables dsdt)) where
     abbrev first_region : Region
@@ -139,30 +148,36 @@ module _ (dsdt : Option Region) (listed : List (List ℕ)) (m : Memory) (laid : 
 
     placed_ones : IsMemory (root_region ∷ laid.tables)
     placed_ones =
-        placed_memory (fixed_of dsdt) first_address (root_region ∷ laid.tables) all_placed (bytes.1.0, all_front (λ r. IsBytes r.bytes) laid.tables (listed_or dsdt) bytes.1.1)
+        placed_memory (fixed_of dsdt) first_address (root_region ∷ laid.tables) all_placed
+            (bytes.1.0, all_front (λ r. IsBytes r.bytes) laid.tables (listed_or dsdt) bytes.1.1)
 
     first_ends : end_of first_region ≤ first_address
     first_ends = let few = length-rsdp_to 2 laid.root in omega (arith, few)
 
     first_apart : AllByRecursion (AreApart first_region) (root_region ∷ laid.tables)
-    first_apart = placed_behind (fixed_of dsdt) first_region first_address (root_region ∷ laid.tables) first_ends all_placed
+    first_apart = placed_behind (fixed_of dsdt) first_region first_address (root_region ∷ laid.tables) first_ends
+        all_placed
 
 -- a region that keeps away from the RSDP's place keeps away from the RSDP
 from_place : (root : ℕ) (d : Region) → AreApart rsdp_place d → AreApart (rsdp_record rsdp_address 2 root) d
 from_place root d h a here there =
-    let same : length (rsdp_to 2 root) ≡ length rsdp_place.bytes = length-rsdp_to 2 root ∙ sym (length-replicate {A = ℕ} 36 0) in
+    let same : length (rsdp_to 2 root) ≡ length rsdp_place.bytes =
+        length-rsdp_to 2 root ∙ sym (length-replicate {A = ℕ} 36 0) in
     h a (rw same at here) there
 
-with_dsdt : (dsdt : Option Region) (root : ℕ) (ms : Memory) → DsdtIs dsdt → AllBytes (listed_or dsdt) → IsMemory ms → AllByRecursion (λ r. AreApart r (fixed_of dsdt)) ms
+with_dsdt : (dsdt : Option Region) (root : ℕ) (ms : Memory) → DsdtIs dsdt → AllBytes (listed_or dsdt) → IsMemory ms
+    → AllByRecursion (λ r. AreApart r (fixed_of dsdt)) ms
     → IsMemory (ms ++ listed_or dsdt)
 with_dsdt None root ms known bytes h apart = rw append-nil h
 with_dsdt (Some d) root ms known bytes h apart = memory_with ms d h (known.ends, bytes.0) apart
 
-dsdt_apart : (dsdt : Option Region) (root : ℕ) → DsdtIs dsdt → AllByRecursion (AreApart (rsdp_record rsdp_address 2 root)) (listed_or dsdt)
+dsdt_apart : (dsdt : Option Region) (root : ℕ) → DsdtIs dsdt
+    → AllByRecursion (AreApart (rsdp_record rsdp_address 2 root)) (listed_or dsdt)
 dsdt_apart None root known = tt
 dsdt_apart (Some d) root known = (from_place root d known.apart.0, tt)
 
-all_memory : (dsdt : Option Region) (listed : List (List ℕ)) (m : Memory) (laid : IsLaid dsdt listed m) (known : DsdtIs dsdt) → AllBytes (all_regions laid.root laid.tables dsdt)
+all_memory : (dsdt : Option Region) (listed : List (List ℕ)) (m : Memory) (laid : IsLaid dsdt listed m)
+    (known : DsdtIs dsdt) → AllBytes (all_regions laid.root laid.tables dsdt)
     → IsMemory (all_regions laid.root laid.tables dsdt)
 all_memory dsdt listed m laid known bytes =
     let few = length-rsdp_to 2 laid.root in
@@ -170,12 +185,15 @@ all_memory dsdt listed m laid known bytes =
     let last = all_rest (λ r. IsBytes r.bytes) laid.tables (listed_or dsdt) bytes.1.1 in
     let front = root_record Xsdt laid.root (starts_of laid.tables) ∷ laid.tables in
     let behind : IsMemory (front ++ listed_or dsdt) =
-    with_dsdt dsdt laid.root front known last placed (placed_apart (fixed_of dsdt) first_address front (all_placed dsdt listed m laid)) in
+    with_dsdt dsdt laid.root front known last placed
+        (placed_apart (fixed_of dsdt) first_address front (all_placed dsdt listed m laid)) in
     let apart : AllByRecursion (AreApart (rsdp_record rsdp_address 2 laid.root)) (front ++ listed_or dsdt) =
-    all_both (AreApart (rsdp_record rsdp_address 2 laid.root)) front (listed_or dsdt) (first_apart dsdt listed m laid known bytes) (dsdt_apart dsdt laid.root known) in
+    all_both (AreApart (rsdp_record rsdp_address 2 laid.root)) front (listed_or dsdt)
+        (first_apart dsdt listed m laid known bytes) (dsdt_apart dsdt laid.root known) in
     ((omega (arith, few), bytes.0), (apart, behind))
 
-module _ (dsdt : Option Region) (listed : List (List ℕ)) (m : Memory) (laid : IsLaid dsdt listed m) (memory : IsMemory (all_regions laid.root laid.tables dsdt)) where
+module _ (dsdt : Option Region) (listed : List (List ℕ)) (m : Memory) (laid : IsLaid dsdt listed m)
+    (memory : IsMemory (all_regions laid.root laid.tables dsdt)) where
   abbrev all : Memory
   all = all_regions laid.root laid.tables dsdt
 
@@ -195,7 +213,8 @@ module _ (dsdt : Option Region) (listed : List (List ℕ)) (m : Memory) (laid : 
   rsdp_tested = is_rsdp 2 laid.root some (omega (arith, low)) (λ e. absurd cc)
 
   rsdp_is : rsdp_at all rsdp_address ≡ Ok (rsdp_to 2 laid.root)
-  rsdp_is = rsdp_there all (rsdp_record rsdp_address 2 laid.root) memory (every_in all).0 (length-rsdp_to 2 laid.root) 2 laid.root rsdp_tested
+  rsdp_is = rsdp_there all (rsdp_record rsdp_address 2 laid.root) memory (every_in all).0 (length-rsdp_to 2 laid.root) 2
+      laid.root rsdp_tested
 
   root_is : root_at all Xsdt laid.root ≡ Ok (root_to Xsdt ps)
   root_is = root_there all Xsdt laid.root ps memory (every_in all).1.0 (rw (as_many dsdt listed m laid) laid.short)
@@ -215,7 +234,8 @@ module _ (dsdt : Option Region) (listed : List (List ℕ)) (m : Memory) (laid : 
 -- ---- what a call packs
 
 abbrev laid_for : List (Option (List ℕ)) → Result Memory Refusal
-laid_for files = dsdt_at (dsdt_address (bytes_of (entries Listed 0 files))) (entries Dsdt 0 files) >>= λ dsdt. laid_out dsdt (bytes_of (entries Listed 0 files))
+laid_for files = dsdt_at (dsdt_address (bytes_of (entries Listed 0 files))) (entries Dsdt 0 files) >>= λ dsdt.
+    laid_out dsdt (bytes_of (entries Listed 0 files))
 
 record Packs (files : List (Option (List ℕ))) (m : Memory) : Type 0 where
   pub dsdt : Option Region
@@ -226,26 +246,30 @@ packs : (files : List (Option (List ℕ))) (m : Memory) → packed_tables files 
 unfolding packed_tables
 packs files m e =
     let first = bind_ok (check_tables 0 files) (λ _. laid_for files) m e in
-    let second = bind_ok (dsdt_at (dsdt_address (bytes_of (entries Listed 0 files))) (entries Dsdt 0 files)) (λ dsdt. laid_out dsdt (bytes_of (entries Listed 0 files))) m first.2 in
+    let second = bind_ok (dsdt_at (dsdt_address (bytes_of (entries Listed 0 files))) (entries Dsdt 0 files))
+        (λ dsdt. laid_out dsdt (bytes_of (entries Listed 0 files))) m first.2 in
     record {
       dsdt = second.0;
       known = dsdt_known _ _ second.0 second.1;
       laid = laid_is second.0 _ m second.2;
     }
 
-pub tables_packed : (files : List (Option (List ℕ))) (file : List ℕ) → IsBytes file → file_of (packed_tables files) ≡ Ok file → IsPacked files file
+pub tables_packed : (files : List (Option (List ℕ))) (file : List ℕ) → IsBytes file
+    → file_of (packed_tables files) ≡ Ok file → IsPacked files file
 tables_packed files file bytes e =
     let known = file_is (packed_tables files) file bytes e in
     let p = packs files known.all known.packed_is in
     let same = p.laid.all in
     let listed = bytes_of (entries Listed 0 files) in
-    let memory = all_memory p.dsdt listed known.all p.laid p.known (subst (λ (k : Memory). AllBytes k) (sym same) known.bytes) in
+    let memory = all_memory p.dsdt listed known.all p.laid p.known
+        (subst (λ (k : Memory). AllBytes k) (sym same) known.bytes) in
     record {
       root = p.laid.root;
       tables = p.laid.tables;
       dsdt = p.dsdt;
       packed = known.packed_is ∙ ap (λ (k : Memory). Ok k) (sym same);
-      file_is = is_file (all_regions p.laid.root p.laid.tables p.dsdt) file memory (subst (λ (k : Memory). IsImage file k) (sym same) known.image);
+      file_is = is_file (all_regions p.laid.root p.laid.tables p.dsdt) file memory
+          (subst (λ (k : Memory). IsImage file k) (sym same) known.image);
       bytes = bytes_are p.dsdt listed known.all p.laid;
       placed = all_placed p.dsdt listed known.all p.laid;
       opened = opened_is p.dsdt listed known.all p.laid memory;
@@ -256,7 +280,8 @@ tables_packed files file bytes e =
 -- ---- names, and the files that they name
 
 -- labels that are names alone
-pub names_shown : (names : List (Bor (List ℕ))) → map label_text (map (λ n. label.Name n) names) ≡ map (λ n. n.now) names
+pub names_shown : (names : List (Bor (List ℕ)))
+    → map label_text (map (λ n. label.Name n) names) ≡ map (λ n. n.now) names
 names_shown [] = refl
 names_shown (n ∷ names) = ap (λ (ls : List (List ℕ)). n.now ∷ ls) (names_shown names)
 
@@ -266,14 +291,16 @@ Begin named m = (others : List (List ℕ)) × (named ≡ map (λ r. r.bytes) m +
 
 -- files at addresses
 
-ranges_named : (addresses : List ℕ) (files : List (Option (List ℕ))) → Begin (map bytes_in files) (regions addresses files)
+ranges_named : (addresses : List ℕ) (files : List (Option (List ℕ)))
+    → Begin (map bytes_in files) (regions addresses files)
 ranges_named [] files = (map bytes_in files, refl)
 ranges_named (a ∷ addresses) [] = ([], refl)
 ranges_named (a ∷ addresses) (f ∷ files) =
     let rest = ranges_named addresses files in
     (rest.0, ap (λ (xs : List (List ℕ)). bytes_in f ∷ xs) rest.1)
 
-files_named : (addresses : List ℕ) (files : List (Option (List ℕ))) (m : Memory) → packed_files addresses files ≡ Ok m → AreNamed (Some addresses) files m
+files_named : (addresses : List ℕ) (files : List (Option (List ℕ))) (m : Memory) → packed_files addresses files ≡ Ok m
+    → AreNamed (Some addresses) files m
 unfolding packed_files
 files_named addresses files m e =
     let first = bind_ok (check_contents 0 files) _ m e in
@@ -282,20 +309,25 @@ files_named addresses files m e =
 
 -- tables
 
-one_named : (a : ℕ) (first : ℕ × List ℕ) (others : List (ℕ × List ℕ)) (d : Option Region) → unless_second (record { start = a; bytes = first.1 }) others ≡ Ok d
+one_named : (a : ℕ) (first : ℕ × List ℕ) (others : List (ℕ × List ℕ)) (d : Option Region)
+    → unless_second (record { start = a; bytes = first.1 }) others ≡ Ok d
     → Begin (bytes_of (first ∷ others)) (listed_or d)
-one_named a first [] d e = subst (λ (o : Option Region). Begin (bytes_of (first ∷ [])) (listed_or o)) (same_dsdt _ _ e) ([], refl)
+one_named a first [] d e = subst (λ (o : Option Region). Begin (bytes_of (first ∷ [])) (listed_or o))
+    (same_dsdt _ _ e) ([], refl)
 one_named a first (x ∷ others) d e = absurd cc
 
-dsdt_named : (address : Option ℕ) (found : List (ℕ × List ℕ)) (d : Option Region) → dsdt_at address found ≡ Ok d → Begin (bytes_of found) (listed_or d)
+dsdt_named : (address : Option ℕ) (found : List (ℕ × List ℕ)) (d : Option Region) → dsdt_at address found ≡ Ok d
+    → Begin (bytes_of found) (listed_or d)
 dsdt_named address [] d e = subst (λ (o : Option Region). Begin [] (listed_or o)) (same_dsdt _ _ e) ([], refl)
 dsdt_named None (first ∷ others) d e =
-    subst (λ (o : Option Region). Begin (bytes_of (first ∷ others)) (listed_or o)) (same_dsdt _ _ e) (bytes_of (first ∷ others), refl)
+    subst (λ (o : Option Region). Begin (bytes_of (first ∷ others)) (listed_or o)) (same_dsdt _ _ e)
+        (bytes_of (first ∷ others), refl)
 dsdt_named (Some a) (first ∷ others) d e =
     let parts = bind_ok (check_place first.0 (rsdp_place ∷ []) (record { start = a; bytes = first.1 })) _ d e in
     one_named a first others d parts.2
 
-joined : (listed dsdts : List (ℕ × List ℕ)) (tables ds : Memory) → map (λ r. r.bytes) tables ≡ bytes_of listed → Begin (bytes_of dsdts) ds → Begin (bytes_of (listed ++ dsdts)) (tables ++ ds)
+joined : (listed dsdts : List (ℕ × List ℕ)) (tables ds : Memory) → map (λ r. r.bytes) tables ≡ bytes_of listed
+    → Begin (bytes_of dsdts) ds → Begin (bytes_of (listed ++ dsdts)) (tables ++ ds)
 joined listed dsdts tables ds same begun = (
   begun.0,
   map-append (λ e. e.1) listed dsdts
@@ -309,11 +341,15 @@ tables_named : (files : List (Option (List ℕ))) (m : Memory) → packed_tables
 unfolding packed_tables
 tables_named files m e =
     let first = bind_ok (check_tables 0 files) _ m e in
-    let second = bind_ok (dsdt_at (dsdt_address (bytes_of (entries Listed 0 files))) (entries Dsdt 0 files)) _ m first.2 in
+    let second = bind_ok (dsdt_at (dsdt_address (bytes_of (entries Listed 0 files))) (entries Dsdt 0 files)) _ m
+        first.2 in
     let laid = laid_is second.0 (bytes_of (entries Listed 0 files)) m second.2 in
     let begun = dsdt_named _ (entries Dsdt 0 files) second.0 second.1 in
-    subst (λ (k : Memory). AreNamed None files k) laid.all (joined (entries Listed 0 files) (entries Dsdt 0 files) laid.tables (listed_or second.0) (bytes_are second.0 (bytes_of (entries Listed 0 files)) m laid) begun)
+    subst (λ (k : Memory). AreNamed None files k) laid.all
+        (joined (entries Listed 0 files) (entries Dsdt 0 files) laid.tables (listed_or second.0)
+        (bytes_are second.0 (bytes_of (entries Listed 0 files)) m laid) begun)
 
-pub are_named : (addresses : Option (List ℕ)) (files : List (Option (List ℕ))) (m : Memory) → packed_by addresses files ≡ Ok m → AreNamed addresses files m
+pub are_named : (addresses : Option (List ℕ)) (files : List (Option (List ℕ))) (m : Memory)
+    → packed_by addresses files ≡ Ok m → AreNamed addresses files m
 are_named (Some addresses) files m e = files_named addresses files m e
 are_named None files m e = tables_named files m e

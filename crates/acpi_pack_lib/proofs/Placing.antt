@@ -31,16 +31,19 @@ use Rattle.acpi_pack_lib.specs.Packed.{IsMemoryFile, IsRight}
 
 -- ---- how many are of a role
 
-few_by : (b : Bool) (e : ℕ × List ℕ) (es : List (ℕ × List ℕ)) (n : ℕ) → length es ≤ n → length (if b then e ∷ es else es) ≤ suc n
+few_by : (b : Bool) (e : ℕ × List ℕ) (es : List (ℕ × List ℕ)) (n : ℕ) → length es ≤ n
+    → length (if b then e ∷ es else es) ≤ suc n
 few_by true e es n few = omega (arith, few)
 few_by false e es n few = omega (arith, few)
 
 few : (role : FileRole) (n : ℕ) (files : List (Option (List ℕ))) → length (entries role n files) ≤ length files
 few role n [] = omega arith
-few role n (file ∷ files) = few_by (is_of role (bytes_in file)) (n, bytes_in file) (entries role (n + 1) files) (length files) (few role (n + 1) files)
+few role n (file ∷ files) = few_by (is_of role (bytes_in file)) (n, bytes_in file) (entries role (n + 1) files)
+    (length files) (few role (n + 1) files)
 
 -- no more than there are files
-pub entries_few : (role : FileRole) (files : List (Option (Bor (List ℕ)))) → length (entries role 0 (contents files)) ≤ length files
+pub entries_few : (role : FileRole) (files : List (Option (Bor (List ℕ))))
+    → length (entries role 0 (contents files)) ≤ length files
 entries_few role files = rw (length-map files content) at (few role 0 (contents files))
 
 -- as many as have bytes there
@@ -53,9 +56,11 @@ contents_read (r ∷ readings) = ap (λ (cs : List (Option (List ℕ))). (read_o
 
 -- the bytes that are read of later files
 pub later_read : (readings : List Reading) (start : ℕ)
-    → map (λ r. (read_of r).content) (take (length readings - start) (drop start readings)) ≡ contents_of (drop start (map read_of readings))
+    → map (λ r. (read_of r).content) (take (length readings - start) (drop start readings))
+    ≡ contents_of (drop start (map read_of readings))
 later_read readings start =
-    ap (map (λ r. (read_of r).content)) (take_rest readings start) ∙ sym (contents_read (drop start readings)) ∙ ap contents_of (sym (drop-map read_of start readings))
+    ap (map (λ r. (read_of r).content)) (take_rest readings start) ∙ sym (contents_read (drop start readings))
+        ∙ ap contents_of (sym (drop-map read_of start readings))
 
 -- ---- files at their addresses
 
@@ -75,7 +80,8 @@ no_files [] = refl
 no_files (a ∷ addresses) = refl
 
 -- no region is left if addresses or files are at their end
-pub regions_past : (i : ℕ) (addresses : List ℕ) (fs : List (Option (Bor (List ℕ)))) (n : ℕ) → n ≡ min (length addresses) (length fs) → n ≤ i
+pub regions_past : (i : ℕ) (addresses : List ℕ) (fs : List (Option (Bor (List ℕ)))) (n : ℕ)
+    → n ≡ min (length addresses) (length fs) → n ≤ i
     → regions (drop i addresses) (contents (drop i fs)) ≡ []
 regions_past i addresses fs n e past =
     elim (cases_lt i (length addresses)) [
@@ -85,30 +91,39 @@ regions_past i addresses fs n e past =
       | inr le ↦ rw (drop_of_length-le addresses le) refl
     ]
 
-more : (n : ℕ) (addresses : List ℕ) (fs : List (Option (Bor (List ℕ)))) (a : ℕ) (f : Option (Bor (List ℕ))) → n < length addresses → n < length fs
-    → regions (take (suc n) addresses) (contents (take (suc n) fs)) ≡ regions (take n addresses) (contents (take n fs)) ++ (file_at n addresses fs a f ∷ [])
+more : (n : ℕ) (addresses : List ℕ) (fs : List (Option (Bor (List ℕ)))) (a : ℕ) (f : Option (Bor (List ℕ)))
+    → n < length addresses → n < length fs
+    → regions (take (suc n) addresses) (contents (take (suc n) fs)) ≡ regions (take n addresses) (contents (take n fs))
+    ++ (file_at n addresses fs a f ∷ [])
 more n [] fs a f less there = absurd (omega arith)
 more n (x ∷ addresses) [] a f less there = absurd (omega arith)
 more zero (x ∷ addresses) (y ∷ fs) a f less there = refl
 more (suc n) (x ∷ addresses) (y ∷ fs) a f less there =
-    ap (λ (m : Memory). record { start = x; bytes = bytes_in (content y) } ∷ m) (more n addresses fs a f (omega arith) (omega arith))
+    ap (λ (m : Memory). record { start = x; bytes = bytes_in (content y) } ∷ m)
+        (more n addresses fs a f (omega arith) (omega arith))
 
-module _ (i : ℕ) (addresses : List ℕ) (fs : List (Option (Bor (List ℕ)))) (a : ℕ) (f : Option (Bor (List ℕ))) (n : ℕ) (e : n ≡ min (length addresses) (length fs)) (before : i < n) where
+module _ (i : ℕ) (addresses : List ℕ) (fs : List (Option (Bor (List ℕ)))) (a : ℕ) (f : Option (Bor (List ℕ))) (n : ℕ)
+    (e : n ≡ min (length addresses) (length fs)) (before : i < n) where
   less : i < length addresses
   less = omega arith
 
   there : i < length fs
   there = omega arith
 
-  next : regions (drop i addresses) (contents (drop i fs)) ≡ file_at i addresses fs a f ∷ regions (drop (i + 1) addresses) (contents (drop (i + 1) fs))
+  next : regions (drop i addresses) (contents (drop i fs)) ≡ file_at i addresses fs a f
+      ∷ regions (drop (i + 1) addresses) (contents (drop (i + 1) fs))
   next = rw (add-one, drop-cons addresses i a less, drop-cons fs i f there) refl
 
   -- the next file has its place
-  pub place_checked : (x : Unit {0}) → check_place i (regions (take i addresses) (contents (take i fs))) (file_at i addresses fs a f) ≡ Ok x
-      → check_places (i + 1) (regions (take (i + 1) addresses) (contents (take (i + 1) fs))) (regions (drop (i + 1) addresses) (contents (drop (i + 1) fs)))
-      ≡ check_places i (regions (take i addresses) (contents (take i fs))) (regions (drop i addresses) (contents (drop i fs)))
+  pub place_checked : (x : Unit {0}) → check_place i (regions (take i addresses) (contents (take i fs)))
+      (file_at i addresses fs a f) ≡ Ok x
+      → check_places (i + 1) (regions (take (i + 1) addresses) (contents (take (i + 1) fs)))
+      (regions (drop (i + 1) addresses) (contents (drop (i + 1) fs)))
+      ≡ check_places i (regions (take i addresses) (contents (take i fs)))
+          (regions (drop i addresses) (contents (drop i fs)))
   place_checked x placed =
-      let front : regions (take (i + 1) addresses) (contents (take (i + 1) fs)) ≡ regions (take i addresses) (contents (take i fs)) ++ (file_at i addresses fs a f ∷ []) =
+      let front : regions (take (i + 1) addresses) (contents (take (i + 1) fs))
+          ≡ regions (take i addresses) (contents (take i fs)) ++ (file_at i addresses fs a f ∷ []) =
       rw add-one (more i addresses fs a f less there) in
       rw (front, next, placed) refl
 
@@ -133,7 +148,8 @@ record IsGiven (fixed : Region) (from count a : ℕ) : Type 0 where
   pub even : a % 16 ≡ 0
   pub apart : (a + count ≤ fixed.start) ⊎ (end_of fixed ≤ a)
 
-given_by : (fixed : Region) (from count : ℕ) (b : Bool) → (nat_le (aligned from + count) fixed.start || nat_le (end_of fixed) (aligned from)) ≡ b
+given_by : (fixed : Region) (from count : ℕ) (b : Bool)
+    → (nat_le (aligned from + count) fixed.start || nat_le (end_of fixed) (aligned from)) ≡ b
     → IsGiven fixed from count (if b then aligned from else aligned (end_of fixed))
 given_by fixed from count true e = record {
   behind = above from;
@@ -162,8 +178,10 @@ some x = Some x
 same : (x y : ℕ) → some x ≡ some y → x ≡ y
 same x y e = cc
 
-placed_by : (fixed : Region) (from : ℕ) (table : List ℕ) (a : ℕ) (b : Bool) → nat_lt (start_at fixed from (length table) + length table) (2 ^ 64) ≡ b
-    → (if b then Some (start_at fixed from (length table)) else None) ≡ Some a → IsPlaced fixed from (record { start = a; bytes = table })
+placed_by : (fixed : Region) (from : ℕ) (table : List ℕ) (a : ℕ) (b : Bool)
+    → nat_lt (start_at fixed from (length table) + length table) (2 ^ 64) ≡ b
+    → (if b then Some (start_at fixed from (length table)) else None) ≡ Some a
+    → IsPlaced fixed from (record { start = a; bytes = table })
 placed_by fixed from table a true e is =
     let start : start_at fixed from (length table) ≡ a = same _ _ is in
     let known = given fixed from (length table) in
@@ -174,7 +192,8 @@ placed_by fixed from table a true e is =
 placed_by fixed from table a false e is = absurd cc
 
 -- what has an address lies there as it is to
-pub is_placed : (fixed : Region) (from : ℕ) (table : List ℕ) (a : ℕ) → place_at fixed from (length table) ≡ Some a → IsPlaced fixed from (record { start = a; bytes = table })
+pub is_placed : (fixed : Region) (from : ℕ) (table : List ℕ) (a : ℕ) → place_at fixed from (length table) ≡ Some a
+    → IsPlaced fixed from (record { start = a; bytes = table })
 unfolding place_at
 is_placed fixed from table a e = placed_by fixed from table a _ refl e
 
@@ -184,7 +203,8 @@ all_placed m k e = cc
 abbrev IsLaw : Region → List (List ℕ) → Type 0
 IsLaw fixed ts = (from : ℕ) (m : Memory) → placed_from fixed from ts ≡ Ok m → ArePlaced fixed from m
 
-law_by : (fixed : Region) (from : ℕ) (t : List ℕ) (ts : List (List ℕ)) (m : Memory) (o : Option ℕ) → IsLaw fixed ts → place_at fixed from (length t) ≡ o
+law_by : (fixed : Region) (from : ℕ) (t : List ℕ) (ts : List (List ℕ)) (m : Memory) (o : Option ℕ) → IsLaw fixed ts
+    → place_at fixed from (length t) ≡ o
     → place_or fixed o t (λ next. placed_from fixed next ts) ≡ Ok m → ArePlaced fixed from m
 law_by fixed from t ts m None each o e = absurd cc
 law_by fixed from t ts m (Some a) each o e =
@@ -198,13 +218,15 @@ law_all fixed [] from m e = rw (← all_placed [] m e) tt
 law_all fixed (t ∷ ts) from m e = law_by fixed from t ts m _ (law_all fixed ts) refl e
 
 -- tables that are placed lie as they are to
-pub placed_law : (fixed : Region) (from : ℕ) (ts : List (List ℕ)) (m : Memory) → placed_from fixed from ts ≡ Ok m → ArePlaced fixed from m
+pub placed_law : (fixed : Region) (from : ℕ) (ts : List (List ℕ)) (m : Memory) → placed_from fixed from ts ≡ Ok m
+    → ArePlaced fixed from m
 placed_law fixed from ts m e = law_all fixed ts from m e
 
 abbrev KeepsBytes : Region → List (List ℕ) → Type 0
 KeepsBytes fixed ts = (from : ℕ) (m : Memory) → placed_from fixed from ts ≡ Ok m → map (λ r. r.bytes) m ≡ ts
 
-bytes_by : (fixed : Region) (from : ℕ) (t : List ℕ) (ts : List (List ℕ)) (m : Memory) (o : Option ℕ) → KeepsBytes fixed ts
+bytes_by : (fixed : Region) (from : ℕ) (t : List ℕ) (ts : List (List ℕ)) (m : Memory) (o : Option ℕ)
+    → KeepsBytes fixed ts
     → place_or fixed o t (λ next. placed_from fixed next ts) ≡ Ok m → map (λ r. r.bytes) m ≡ t ∷ ts
 bytes_by fixed from t ts m None each e = absurd cc
 bytes_by fixed from t ts m (Some a) each e =
@@ -218,13 +240,16 @@ bytes_all fixed [] from m e = rw (← all_placed [] m e) refl
 bytes_all fixed (t ∷ ts) from m e = bytes_by fixed from t ts m _ (bytes_all fixed ts) e
 
 -- tables are placed as they are, in order
-pub placed_bytes : (fixed : Region) (from : ℕ) (ts : List (List ℕ)) (m : Memory) → placed_from fixed from ts ≡ Ok m → map (λ r. r.bytes) m ≡ ts
+pub placed_bytes : (fixed : Region) (from : ℕ) (ts : List (List ℕ)) (m : Memory) → placed_from fixed from ts ≡ Ok m
+    → map (λ r. r.bytes) m ≡ ts
 placed_bytes fixed from ts m e = bytes_all fixed ts from m e
 
 -- as many as were to be placed
-pub placed_count : (fixed : Region) (from : ℕ) (ts : List (List ℕ)) (tables : List PlacedTable) → placed_from fixed from ts ≡ Ok (placed tables) → length tables ≡ length ts
+pub placed_count : (fixed : Region) (from : ℕ) (ts : List (List ℕ)) (tables : List PlacedTable)
+    → placed_from fixed from ts ≡ Ok (placed tables) → length tables ≡ length ts
 placed_count fixed from ts tables e =
-    sym (length-map tables placed_region) ∙ sym (length-map (placed tables) (λ r. r.bytes)) ∙ ap length (placed_bytes fixed from ts (placed tables) e)
+    sym (length-map tables placed_region) ∙ sym (length-map (placed tables) (λ r. r.bytes))
+        ∙ ap length (placed_bytes fixed from ts (placed tables) e)
 
 -- no table is left
 pub placed_all : (fixed : Region) (from : ℕ) (before : Memory) → behind before (placed_from fixed from []) ≡ Ok before
@@ -249,7 +274,8 @@ turned r s h a hs hr = h a hr hs
 abbrev AllBytes : Memory → Type 0
 AllBytes m = AllByRecursion (λ r. IsBytes r.bytes) m
 
-pub placed_behind : (fixed r : Region) (from : ℕ) (rs : Memory) → end_of r ≤ from → ArePlaced fixed from rs → AllByRecursion (AreApart r) rs
+pub placed_behind : (fixed r : Region) (from : ℕ) (rs : Memory) → end_of r ≤ from → ArePlaced fixed from rs
+    → AllByRecursion (AreApart r) rs
 placed_behind fixed r from [] h placed = tt
 placed_behind fixed r from (s ∷ rs) h placed =
     let first : from ≤ s.start = placed.0.behind in
@@ -259,13 +285,15 @@ placed_behind fixed r from (s ∷ rs) h placed =
 pub placed_memory : (fixed : Region) (from : ℕ) (rs : Memory) → ArePlaced fixed from rs → AllBytes rs → IsMemory rs
 placed_memory fixed from [] placed bytes = tt
 placed_memory fixed from (r ∷ rs) placed bytes =
-    ((placed.0.ends, bytes.0), (placed_behind fixed r (end_of r) rs (omega arith) placed.1, placed_memory fixed (end_of r) rs placed.1 bytes.1))
+    ((placed.0.ends, bytes.0), (placed_behind fixed r (end_of r) rs (omega arith) placed.1,
+        placed_memory fixed (end_of r) rs placed.1 bytes.1))
 
 apart_by : (fixed r : Region) → (end_of r ≤ fixed.start) ⊎ (end_of fixed ≤ r.start) → AreApart r fixed
 apart_by fixed r (inl before) = before_is_apart r fixed before
 apart_by fixed r (inr behind) = turned fixed r (before_is_apart fixed r behind)
 
-pub placed_apart : (fixed : Region) (from : ℕ) (rs : Memory) → ArePlaced fixed from rs → AllByRecursion (λ r. AreApart r fixed) rs
+pub placed_apart : (fixed : Region) (from : ℕ) (rs : Memory) → ArePlaced fixed from rs
+    → AllByRecursion (λ r. AreApart r fixed) rs
 placed_apart fixed from [] placed = tt
 placed_apart fixed from (r ∷ rs) placed = (apart_by fixed r placed.0.apart, placed_apart fixed (end_of r) rs placed.1)
 
@@ -284,13 +312,15 @@ pub record HasPlace (earlier : Memory) (r : Region) : Type 0 where
   pub ends : end_of r < 2 ^ 64
   pub apart : AllByRecursion (λ s. AreApart s r) earlier
 
-pub has_place : (n : ℕ) (earlier : Memory) (r : Region) (x : Unit {0}) → check_place n earlier r ≡ Ok x → HasPlace earlier r
+pub has_place : (n : ℕ) (earlier : Memory) (r : Region) (x : Unit {0}) → check_place n earlier r ≡ Ok x
+    → HasPlace earlier r
 unfolding check_place
 has_place n earlier r x e =
     let p = holds_ok _ _ _ x e in
     record { ends = ltb-true _ _ p.0; apart = all_apart earlier r (not_true _ (last_holds _ _ x p.1)) }
 
-checked_memory : (n : ℕ) (earlier rs : Memory) (x : Unit {0}) → IsMemory earlier → AllBytes rs → check_places n earlier rs ≡ Ok x → IsMemory (earlier ++ rs)
+checked_memory : (n : ℕ) (earlier rs : Memory) (x : Unit {0}) → IsMemory earlier → AllBytes rs
+    → check_places n earlier rs ≡ Ok x → IsMemory (earlier ++ rs)
 checked_memory n earlier [] x h bytes e = rw append-nil h
 checked_memory n earlier (r ∷ rs) x h bytes e =
     let parts = bind_ok (check_place n earlier r) _ x e in
@@ -322,27 +352,33 @@ pub record IsFileOf (packed : Result Memory Refusal) (file : List ℕ) : Type 0 
   pub image : IsImage file all
   pub bytes : AllBytes all
 
-pub file_is : (packed : Result Memory Refusal) (file : List ℕ) → IsBytes file → file_of packed ≡ Ok file → IsFileOf packed file
+pub file_is : (packed : Result Memory Refusal) (file : List ℕ) → IsBytes file → file_of packed ≡ Ok file
+    → IsFileOf packed file
 file_is packed file bytes e =
     let parts = bind_ok packed _ file e in
     let image : flat_map record_spelling parts.0 ≡ file = same_file _ _ parts.2 in
-    record { all = parts.0; packed_is = parts.1; image = sym image; bytes = record_bytes parts.0 (subst (λ (b : List ℕ). IsBytes b) (sym image) bytes) }
+    record { all = parts.0; packed_is = parts.1; image = sym image; bytes =
+        record_bytes parts.0 (subst (λ (b : List ℕ). IsBytes b) (sym image) bytes) }
 
 -- the regions, if each has its place
 abbrev placed_or : List ℕ → List (Option (List ℕ)) → Result Memory Refusal
 placed_or addresses files = check_places 0 [] (regions addresses files) >>= λ _. regions_done (regions addresses files)
 
-files_by : (addresses : List ℕ) (files : List (Option (List ℕ))) (m : Memory) → AllBytes m → packed_files addresses files ≡ Ok m → (m ≡ regions addresses files) × IsMemory m
+files_by : (addresses : List ℕ) (files : List (Option (List ℕ))) (m : Memory) → AllBytes m
+    → packed_files addresses files ≡ Ok m → (m ≡ regions addresses files) × IsMemory m
 unfolding packed_files
 files_by addresses files m bytes e =
     let first = bind_ok (check_contents 0 files) (λ _. placed_or addresses files) m e in
-    let second = bind_ok (check_places 0 [] (regions addresses files)) (λ _. regions_done (regions addresses files)) m first.2 in
+    let second = bind_ok (check_places 0 [] (regions addresses files)) (λ _. regions_done (regions addresses files)) m
+        first.2 in
     let same : m ≡ regions addresses files = sym (same_regions _ _ second.2) in
     let there = subst (λ (k : Memory). AllBytes k) same bytes in
-    (same, subst (λ (k : Memory). IsMemory k) (sym same) (checked_memory 0 [] (regions addresses files) second.0 tt there second.1))
+    (same, subst (λ (k : Memory). IsMemory k) (sym same)
+        (checked_memory 0 [] (regions addresses files) second.0 tt there second.1))
 
 -- files at addresses are packed as the memory of them
-pub files_packed : (addresses : List ℕ) (files : List (Option (List ℕ))) (file : List ℕ) → IsBytes file → file_of (packed_files addresses files) ≡ Ok file
+pub files_packed : (addresses : List ℕ) (files : List (Option (List ℕ))) (file : List ℕ) → IsBytes file
+    → file_of (packed_files addresses files) ≡ Ok file
     → IsMemoryFile (regions addresses files) file
 files_packed addresses files file bytes e =
     let known = file_is (packed_files addresses files) file bytes e in
@@ -351,7 +387,8 @@ files_packed addresses files file bytes e =
 
 -- ---- valid tables
 
-pub tables_valid : (m ts : Memory) → IsMemory m → AllByRecursion (Contains m) ts → AllByRecursion (λ t. IsRight t.bytes) ts
+pub tables_valid : (m ts : Memory) → IsMemory m → AllByRecursion (Contains m) ts
+    → AllByRecursion (λ t. IsRight t.bytes) ts
     → valid_tables m (starts_of ts) ≡ map (λ t. t.bytes) ts
 tables_valid m [] h within all = refl
 tables_valid m (t ∷ ts) h within all =

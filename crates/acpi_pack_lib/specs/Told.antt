@@ -1,9 +1,10 @@
 -- What the program tells of itself.
-use Rattle.std.specs.Prelude.{ℕ, List, [], ◌∷◌, Option, Some, None, if◌then◌else◌, codes}
+use Rattle.std.specs.Prelude.{ℕ, List, [], ◌∷◌, ◌++◌, Option, Some, None, if◌then◌else◌, codes}
 use Rattle.std.specs.Str.{bytes_eq}
 
 abbrev pub help_text : List ℕ
-help_text = codes "usage: acpi_pack OUT memory ADDRESS FILE [ADDRESS FILE]... | tables FILE...\n       acpi_pack --help | --version\n"
+help_text = codes "usage: acpi_pack OUT memory ADDRESS FILE [ADDRESS FILE]... | tables FILE...\n"
+    ++ codes "       acpi_pack --help | --version\n"
 
 abbrev pub version_text : List ℕ
 version_text = codes "acpi_pack 5.2.0\n"

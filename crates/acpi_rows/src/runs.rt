@@ -12,7 +12,7 @@ use crate::texts::first_word;
 use acpi_cli::root::Root;
 use acpi_image::{PlacedTable, write_image};
 use acpi_testkit::rows::shown;
-use acpi_view_lib::arguments::{files_named, parse_command};
+use acpi_view_lib::arguments::{file_named, parse_command};
 use acpi_view_lib::run::run;
 use heaps::{over_heaps, without_memory};
 use std::alloc::{AllocError, Global};
@@ -179,15 +179,15 @@ fn lines(
     if asks.contains("full") {
         over_heaps(alloc, image, &mut lines);
     }
-    lines.add("memory", without_memory(alloc));
+    lines.add_text("memory", without_memory(alloc));
     lines.finish()
 }
 
 /// The file that words name.
 fn taken_file(alloc: Global, words: &[&str]) -> Result<String, AllocError> {
-    match files_named(parse_command(words), words) {
-        [file, ..] => format!(in alloc; "{file}\n"),
-        [] => String::from_str(alloc, "none\n"),
+    match file_named(words) {
+        Some(file) => format!(in alloc; "{file}\n"),
+        None => String::from_str(alloc, "none\n"),
     }
 }
 

@@ -5,23 +5,27 @@
 //! `acpi_view IMAGE bios` the one that the RSDP leads to which the BIOS areas hold.
 #![tactic(auto)]
 
-use acpi_cli::files::HostFiles;
 use acpi_cli::{args, borrowed};
-use acpi_view_lib::view::view;
-use std::io;
+use acpi_view_lib::arguments::file_named;
+use acpi_view_lib::run::run;
 use std::process::ExitCode;
+use std::{fs, io};
 
 fn main(rt: HostRuntime) -> ExitCode {
     ExitCode::from(status(&rt).unwrap_or(1))
 }
 
-/// The status of the program over the process's arguments, files and outputs.
+/// The status of the program over the process's arguments, the file that they name and its outputs. No file is
+/// read if they are not a command.
 ///
-/// Fails if a write fails or memory runs out.
+/// Fails if memory for the arguments is refused.
 fn status(rt: &HostRuntime) -> io::Result<u8> {
     let args = args(rt)?;
-    let args = borrowed(rt.alloc(), &args)?;
-    let mut files = HostFiles::new(rt);
-    let (status, _, _) = view(rt.alloc(), &args, &mut files, io::writer(rt), rt.stderr())?;
-    Ok(status)
+    let words = borrowed(rt.alloc(), &args)?;
+    let image = match file_named(&words) {
+        Some(name) => fs::read(rt, name).ok(),
+        None => None,
+    };
+    let (mut out, mut err) = (io::writer(rt), rt.stderr());
+    Ok(run(rt.alloc(), &words, image.as_deref(), &mut out, &mut err))
 }

@@ -9,11 +9,11 @@ abbrev pub root_for : List (List ℕ) → Option Root
 root_for (image ∷ rest) = root_of rest
 root_for [] = None
 
--- the files that are read for a command of these arguments: the first of them; none for no command
-abbrev pub files_for : Option Root → List (List ℕ) → List (List ℕ)
-files_for None arguments = []
-files_for (Some root) [] = []
-files_for (Some root) (image ∷ rest) = image ∷ []
+-- the file that is read for these arguments: the first of them, if they are a command
+abbrev pub file_with : Option Root → List (List ℕ) → Option (List ℕ)
+file_with (Some root) (image ∷ rest) = Some image
+file_with (Some root) [] = None
+file_with None arguments = None
 
-abbrev pub files_of : List (List ℕ) → List (List ℕ)
-files_of arguments = files_for (root_for arguments) arguments
+abbrev pub file_for : List (List ℕ) → Option (List ℕ)
+file_for arguments = file_with (root_for arguments) arguments

@@ -19,7 +19,6 @@ use Rattle.acpi_view_lib.specs.Lines.{IsPciText, bgrt_kind, bgrt_lines, dsdt_lin
 use Rattle.acpi_view_lib.specs.PlatformLines.{IsPlatformText}
 use Rattle.acpi_cli.specs.Root.{opened_for}
 use Rattle.acpi_view_lib.specs.Status.{RunsOutWith, status_with}
-use Rattle.acpi_view_lib.specs.Writing.{AppendsSome}
 use Rattle.acpi_cli.specs.declared.root.Root.{Root}
 
 -- ---- standard output
@@ -89,9 +88,6 @@ found_with None file = Err usage_line
 found_with (Some root) None = Err (refusal_line (codes "Unreadable"))
 found_with (Some root) (Some file) = found_over root (records_in file)
 
-abbrev pub found_for : List (List ℕ) → Option (List ℕ) → Found
-found_for arguments file = found_with (root_for arguments) file
-
 -- a text of standard output: all lines, or nothing if nothing is found
 abbrev pub IsOutput : Found → List ℕ → Type 0
 IsOutput (Ok found) text = IsLines found.0 found.1 text
@@ -102,20 +98,29 @@ abbrev pub stderr_of : Found → List ℕ
 stderr_of (Ok found) = skipped_lines_of found.0 found.1
 stderr_of (Err complaint) = complaint
 
--- standard output grew by its text and by nothing else, and standard error by its own
-pub record Prints (found : Found) (out out_after err err_after : Option (List ℕ)) : Type 0 where
-  pub lines : AppendsSome (IsOutput found) out out_after
-  pub complaints : Appends err err_after (stderr_of found)
+-- the status and the texts of both outputs that a run is to end with: those of what is found, or if memory for the
+-- image can run out, 1 and the line that says so
+abbrev pub IsReport : Option Root → Option (List ℕ) → ℕ → List ℕ → List ℕ → Type 0
+IsReport asked file status lines complaints =
+    ((status ≡ status_with asked file)
+    × IsOutput (found_with asked file) lines × (complaints ≡ stderr_of (found_with asked file)))
+    ⊎ ((status ≡ 1) × RunsOutWith asked file × (lines ≡ []) × (complaints ≡ refusal_line (codes "OutOfMemory")))
 
--- how a run ends of which each write is taken: with the status that is defined, and what is found is
--- printed, or if memory can run out, with 1 and a line that says so
-abbrev pub EndsWith : Option Root → Option (List ℕ) → ℕ
-    → Option (List ℕ) → Option (List ℕ) → Option (List ℕ) → Option (List ℕ) → Type 0
-EndsWith asked file status out out_after err err_after =
-    ((status ≡ status_with asked file) × Prints (found_with asked file) out out_after err err_after)
-    ⊎ ((status ≡ 1) × RunsOutWith asked file
-    × Prints (Err (refusal_line (codes "OutOfMemory"))) out out_after err err_after)
+-- known bytes grew by the front of a text that ends before this rest
+abbrev pub AppendsUntil : List ℕ → Option (List ℕ) → Option (List ℕ) → List ℕ → Type 0
+AppendsUntil rest old new text = (front : List ℕ) × (text ≡ front ++ rest) × Appends old new front
 
-abbrev pub Ends : List (List ℕ) → Option (List ℕ) → ℕ
-    → Option (List ℕ) → Option (List ℕ) → Option (List ℕ) → Option (List ℕ) → Type 0
-Ends arguments file = EndsWith (root_for arguments) file
+-- known bytes grew by a front of a text
+abbrev pub AppendsFront : Option (List ℕ) → Option (List ℕ) → List ℕ → Type 0
+AppendsFront old new text = (rest : List ℕ) × AppendsUntil rest old new text
+
+-- how a run over two outputs ends: with the status that is defined, and each output grew by its text and by nothing
+-- else; or with status 1, and each grew by a front of its text
+pub record Runs (arguments : List (List ℕ)) (file : Option (List ℕ)) (status : ℕ)
+    (out out_after err err_after : Option (List ℕ)) : Type 0 where
+  pub defined : ℕ
+  pub lines : List ℕ
+  pub complaints : List ℕ
+  pub report : IsReport (root_for arguments) file defined lines complaints
+  pub ends : ((status ≡ defined) × Appends out out_after lines × Appends err err_after complaints)
+      ⊎ ((status ≡ 1) × AppendsFront out out_after lines × AppendsFront err err_after complaints)

@@ -5,7 +5,6 @@ use Rattle.acpi_image_reader.specs.Image.{RunsOut, records_in}
 use Rattle.acpi_image_reader.specs.declared.error.ImageError.{ImageError}
 use Rattle.acpi_cli.specs.Root.{opened_for}
 use Rattle.acpi_cli.specs.declared.root.Root.{Root}
-use Rattle.acpi_view_lib.specs.Command.{root_for}
 
 -- 0 if something was found, and 1 if it was refused
 abbrev pub status_of : {A E : Type 0} → Result A E → ℕ
@@ -22,9 +21,6 @@ abbrev pub status_with : Option Root → Option (List ℕ) → ℕ
 status_with None file = 2
 status_with (Some root) None = 1
 status_with (Some root) (Some file) = status_over root (records_in file)
-
-abbrev pub status_for : List (List ℕ) → Option (List ℕ) → ℕ
-status_for arguments file = status_with (root_for arguments) file
 
 -- memory can run out over the file of a command
 abbrev pub RunsOutWith : Option Root → Option (List ℕ) → Type 0

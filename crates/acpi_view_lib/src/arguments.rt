@@ -1,6 +1,6 @@
 //! The program's arguments: a file, and the way to the root table in it.
-ghost use Rattle.std.specs.Prelude.{◌≡◌, map};
-ghost use Rattle.acpi_view_lib.specs.Command.{files_for, root_for};
+ghost use Rattle.std.specs.Prelude.{◌≡◌, map, option_map};
+ghost use Rattle.acpi_view_lib.specs.Command.{file_for, root_for};
 
 use acpi_cli::root::{Root, parse_root};
 
@@ -15,13 +15,12 @@ pub fn parse_command(arguments: &[&str]) -> Option<Root>
     parse_root(rest)
 }
 
-/// The names of the files that are read for these arguments: the first argument, or none if they are not a
-/// command.
-pub fn files_named<'a, 'w>(asked: Option<Root>, arguments: &'a [&'w str]) -> &'a [&'w str]
-    ensures { map (λ n. n.now) result.now ≡ files_for asked (map (λ w. w.now) arguments.now) }
+/// The name of the file that is read for these arguments: the first of them, or `None` if they are not a command.
+pub fn file_named<'w>(arguments: &[&'w str]) -> Option<&'w str>
+    ensures { option_map (λ n. n.now) result ≡ file_for (map (λ w. w.now) arguments.now) }
 {
-    if asked.is_none() || arguments.is_empty() {
-        return &[];
+    match (parse_command(arguments), arguments) {
+        (Some(_), [image, ..]) => Some(*image),
+        _ => None,
     }
-    &arguments[..1]
 }

@@ -4,4 +4,3 @@
 pub mod arguments;
 pub mod lines;
 pub mod run;
-pub mod view;

@@ -1,287 +1,234 @@
-//! The lines that the program prints.
-ghost use Rattle.std.specs.Prelude.{◌≡◌, OnOk, codes, flat_map, map};
+//! The lines that the program prints. Each function puts its lines after those of a text.
+ghost use Rattle.std.specs.Prelude.{◌≡◌, ◌++◌, List, ℕ, OnOk, codes, flat_map, string_bytes};
 ghost use Rattle.acpi.specs.Lists.{faults_of};
-ghost use Rattle.acpi.specs.Tables.{memory_of, of_tables, pointers_of, revision_of};
 ghost use Rattle.acpi.specs.Opened.{opened_of};
+ghost use Rattle.acpi.specs.Tables.{memory_of, of_tables, pointers_of, revision_of};
+ghost use Rattle.acpi_view_lib.specs.Lines.{IsPciText, bgrt_lines, console_line, dsdt_lines, graphic_line, header_lines, hpet_lines, lines_or_refusal, number_words, refused_line, region_lines, revision_line, skipped_line, spcr_lines, ssdt_lines, stream_line, yes_or_no};
 ghost use Rattle.acpi_view_lib.specs.Output.{IsLines, skipped_lines_of};
-ghost use Rattle.acpi_view_lib.specs.Writing.{AppendsSome, Grows, GrowsSome};
-ghost use Rattle.acpi_view_lib.specs.Lines.{IsPciText, bgrt_lines, console_line, dsdt_lines};
-ghost use Rattle.acpi_view_lib.specs.Lines.{graphic_line, line};
-ghost use Rattle.acpi_view_lib.specs.Lines.{hpet_lines, lines_or_refusal, refused_line, region_lines};
-ghost use Rattle.acpi_view_lib.specs.Lines.{revision_line, skipped_line, spcr_lines};
-ghost use Rattle.acpi_view_lib.specs.Pieces.{piece_text};
-ghost use Rattle.acpi_view_lib.specs.Lines.{stream_line, yes_or_no};
 
-mod listed;
-mod pieces;
 mod platform;
 
 use acpi::bgrt::Bgrt;
 use acpi::fadt::Fadt;
 use acpi::hpet::HpetTable;
 use acpi::madt::Madt;
-use acpi::mcfg::{Mcfg, PciConfigEntry, PciConfigEntryIterator};
-use acpi::sdt::SdtHeader;
+use acpi::mcfg::Mcfg;
 use acpi::spcr::Spcr;
 use acpi::{
-    AcpiError, AcpiHandler, AcpiResult, AcpiTable, AcpiTables, AmlTable, HpetInfo, Lender,
-    PciConfigRegions, SdtHeaderIterator, SsdtIterator, TableFault, TableFaults,
+    AcpiError, AcpiHandler, AcpiResult, AcpiTable, AcpiTables, AmlTable, HpetInfo, PciConfigRegions,
 };
-pub(crate) use listed::{Line, Walk, print_walk};
-pub use pieces::Printed;
-pub(crate) use pieces::{Piece, Pieces, print_line, setting};
 pub use platform::print_platform;
-use std::alloc::{Allocator, Global};
-use std::io;
-use std::io::Write;
+use std::alloc::{AllocError, Allocator, Global};
+use std::fmt::Write;
 
-/// Prints the lines of each part of the tables, in this order: the revision, the valid tables' headers, the
-/// AML of the DSDT and of the SSDTs, the platform, the HPET, the regions of PCI configuration space, the boot
-/// graphic (BGRT) and the serial console (SPCR). A part that is refused is one line that says why.
+/// The lines of each part of the tables, in this order: the revision, the valid tables' headers, the AML of the
+/// DSDT and of the SSDTs, the platform, the HPET, the regions of PCI configuration space, the boot graphic
+/// (BGRT) and the serial console (SPCR). A part that is refused is one line that says why.
 ///
-/// Fails with the error of the first write that is refused.
-pub fn print_parts<H: AcpiHandler, W: Write>(
+/// Fails if memory for the text is refused.
+pub fn print_parts<H: AcpiHandler>(
     alloc: Global,
     tables: &AcpiTables<'_, H>,
-    out: &mut W,
-) -> io::Result<()>
-    ensures { OnOk result (AppendsSome (IsLines (memory_of tables.now) (opened_of tables.now))
-        (W.contents out.old) (W.contents out.new)) }
+    text: &mut String,
+) -> Result<(), AllocError>
+    ensures { OnOk result ((lines : List ℕ) × IsLines (memory_of tables.now) (opened_of tables.now) lines
+        × (string_bytes text.new ≡ string_bytes text.old ++ lines)) }
 {
-    let printed = print_line(Ok(()), revision_pieces(tables), out);
-    let printed = print_walk(printed, tables.headers(), out);
-    let printed = print_line(printed, dsdt_pieces(tables), out);
-    let printed = print_walk(printed, tables.ssdts(), out);
-    let printed = print_platform(printed, alloc, tables, out);
-    let printed = print_line(printed, hpet_pieces(tables), out);
-    let printed = print_pci(printed, alloc, tables, out);
-    let printed = print_line(printed, bgrt_pieces(tables), out);
-    print_line(printed, spcr_pieces(tables), out)
-}
-
-/// Prints a line for each table that a lookup passes over as faulty, with the refusal, for FADT, MADT, MCFG,
-/// HPET, BGRT and SPCR, in this order.
-pub fn print_skipped_tables<H: AcpiHandler, E: Write>(
-    printed: Printed,
-    tables: &AcpiTables<'_, H>,
-    err: &mut E,
-) -> Printed
-    ensures { Grows printed result (E.contents err.old) (E.contents err.new)
-        (skipped_lines_of (memory_of tables.now) (opened_of tables.now)) }
-{
-    let printed = print_skipped::<H, Fadt, E>(printed, tables, err);
-    let printed = print_skipped::<H, Madt, E>(printed, tables, err);
-    let printed = print_skipped::<H, Mcfg, E>(printed, tables, err);
-    let printed = print_skipped::<H, HpetTable, E>(printed, tables, err);
-    let printed = print_skipped::<H, Bgrt, E>(printed, tables, err);
-    print_skipped::<H, Spcr, E>(printed, tables, err)
-}
-
-/// Prints the line of each table that the lookup of a type passes over, but for those of another signature.
-fn print_skipped<H: AcpiHandler, T: AcpiTable, E: Write>(
-    printed: Printed,
-    tables: &AcpiTables<'_, H>,
-    err: &mut E,
-) -> Printed
-    ensures { Grows printed result (E.contents err.old) (E.contents err.new)
-        (flat_map (skipped_line T.SIGNATURE) (of_tables tables.now (λ m. faults_of m T.kind))) }
-{
-    print_walk(printed, tables.faults::<T>(), err)
-}
-
-/// `skipped SIG ADDRESS: REFUSAL` for each fault.
-impl<H: Lender, T: AcpiTable> Walk for TableFaults<'_, '_, H, T> {
-    ghost use Rattle.std.specs.Prelude.{flat_map};
-    ghost use Rattle.std.proofs.Common.{ap};
-    ghost use Rattle.acpi.specs.Walks.{faults_left};
-    ghost use Rattle.acpi_view_lib.specs.Lines.{skipped_line};
-
-    ghost item_line = { skipped_line T.SIGNATURE };
-
-    ghost lines = { λ s. flat_map (skipped_line T.SIGNATURE) (faults_left H.memory T.kind s) };
-
-    fn item_pieces(fault: TableFault) -> Pieces
-        ensures { line (map piece_text result) ≡ skipped_line T.SIGNATURE fault }
-    {
-        [
-            Piece::Name("skipped ", T::SIGNATURE),
-            Piece::Address(" ", fault.address),
-            Piece::Refusal(": ", fault.error),
-            Piece::Nothing,
-        ]
-    }
-
-    ghost next = { λ s t x e. ap (flat_map (skipped_line T.SIGNATURE)) e };
-
-    ghost end = { λ s t e. ap (flat_map (skipped_line T.SIGNATURE)) e.0 };
+    print_revision(tables, text)?;
+    print_headers(tables, text)?;
+    print_dsdt(tables, text)?;
+    print_ssdts(tables, text)?;
+    print_platform(alloc, tables, text)?;
+    print_hpet(tables, text)?;
+    print_pci(alloc, tables, text)?;
+    print_bgrt(tables, text)?;
+    print_spcr(tables, text)?;
+    Ok(())
 }
 
 /// `revision R`, the one that the tables were opened with.
 #[tactic(auto, unfolding(crate::specs::Lines::revision_line))]
-fn revision_pieces<H: AcpiHandler>(tables: &AcpiTables<'_, H>) -> Pieces
-    ensures { line (map piece_text result) ≡ revision_line (revision_of tables.now) }
+fn print_revision<H: AcpiHandler>(
+    tables: &AcpiTables<'_, H>,
+    text: &mut String,
+) -> Result<(), AllocError>
+    ensures { OnOk result (string_bytes text.new
+        ≡ string_bytes text.old ++ revision_line (revision_of tables.now)) }
 {
-    let revision = Piece::Number("revision ", tables.revision() as u64);
-    [revision, Piece::Nothing, Piece::Nothing, Piece::Nothing]
+    writeln!(text, "revision {}", tables.revision())?;
+    Ok(())
+}
+
+/// A line for each table that a lookup passes over as faulty, with the refusal, for FADT, MADT, MCFG, HPET,
+/// BGRT and SPCR, in this order.
+///
+/// Fails if memory for the text is refused.
+pub fn print_skipped_tables<H: AcpiHandler>(
+    tables: &AcpiTables<'_, H>,
+    text: &mut String,
+) -> Result<(), AllocError>
+    ensures { OnOk result (string_bytes text.new
+        ≡ string_bytes text.old ++ skipped_lines_of (memory_of tables.now) (opened_of tables.now)) }
+{
+    print_skipped::<H, Fadt>(tables, text)?;
+    print_skipped::<H, Madt>(tables, text)?;
+    print_skipped::<H, Mcfg>(tables, text)?;
+    print_skipped::<H, HpetTable>(tables, text)?;
+    print_skipped::<H, Bgrt>(tables, text)?;
+    print_skipped::<H, Spcr>(tables, text)
+}
+
+/// `skipped SIG ADDRESS: REFUSAL` for each table that the lookup of a type passes over, but for those of another
+/// signature.
+fn print_skipped<H: AcpiHandler, T: AcpiTable>(
+    tables: &AcpiTables<'_, H>,
+    text: &mut String,
+) -> Result<(), AllocError>
+    ensures { OnOk result (string_bytes text.new ≡ string_bytes text.old
+        ++ flat_map (skipped_line T.SIGNATURE) (of_tables tables.now (λ m. faults_of m T.kind))) }
+{
+    for fault in tables.faults::<T>() {
+        writeln!(
+            text,
+            "skipped {} 0x{:x}: {}",
+            T::SIGNATURE,
+            fault.address,
+            fault.error
+        )?;
+    }
+    Ok(())
 }
 
 /// `table SIG length L revision R` for each header.
-impl<H: Lender> Walk for SdtHeaderIterator<'_, '_, H> {
-    ghost use Rattle.std.specs.Prelude.{flat_map};
-    ghost use Rattle.std.proofs.Common.{ap};
-    ghost use Rattle.acpi.specs.Walks.{headers_left};
-    ghost use Rattle.acpi_view_lib.specs.Lines.{header_line};
-
-    ghost item_line = { header_line };
-
-    ghost lines = { λ s. flat_map header_line (headers_left H.memory s) };
-
-    fn item_pieces(header: SdtHeader) -> Pieces
-        ensures { line (map piece_text result) ≡ header_line header }
-    {
-        [
-            Piece::Name("table ", header.signature),
-            Piece::Number(" length ", header.length as u64),
-            Piece::Number(" revision ", header.revision as u64),
-            Piece::Nothing,
-        ]
+fn print_headers<H: AcpiHandler>(
+    tables: &AcpiTables<'_, H>,
+    text: &mut String,
+) -> Result<(), AllocError>
+    ensures { OnOk result (string_bytes text.new
+        ≡ string_bytes text.old ++ header_lines (memory_of tables.now) (pointers_of tables.now)) }
+{
+    for header in tables.headers() {
+        let (signature, length) = (header.signature, header.length);
+        writeln!(
+            text,
+            "table {signature} length {length} revision {}",
+            header.revision
+        )?;
     }
-
-    ghost next = { λ s t x e. ap (flat_map header_line) e };
-
-    ghost end = { λ s t e. ap (flat_map header_line) e.0 };
+    Ok(())
 }
 
 /// `dsdt ADDRESS length L` for the AML of the DSDT, or its refusal.
-fn dsdt_pieces<H: AcpiHandler>(tables: &AcpiTables<'_, H>) -> Pieces
-    ensures { line (map piece_text result)
-        ≡ dsdt_lines (memory_of tables.now) (pointers_of tables.now) }
+fn print_dsdt<H: AcpiHandler>(
+    tables: &AcpiTables<'_, H>,
+    text: &mut String,
+) -> Result<(), AllocError>
+    ensures { OnOk result (string_bytes text.new
+        ≡ string_bytes text.old ++ dsdt_lines (memory_of tables.now) (pointers_of tables.now)) }
 {
     match tables.dsdt() {
-        Ok(stream) => stream_pieces("dsdt", stream),
-        Err(refusal) => refused_pieces("dsdt", refusal),
+        Ok(stream) => print_stream("dsdt", stream, text),
+        Err(refusal) => print_refusal("dsdt", refusal, text),
     }
 }
 
-/// `ssdt ADDRESS length L` for each stream.
-impl<H: Lender> Walk for SsdtIterator<'_, '_, H> {
-    ghost use Rattle.std.specs.Prelude.{codes, flat_map};
-    ghost use Rattle.std.proofs.Common.{ap};
-    ghost use Rattle.acpi.specs.Walks.{ssdts_left};
-    ghost use Rattle.acpi_view_lib.specs.Lines.{stream_line};
-
-    ghost item_line = { stream_line (codes "ssdt") };
-
-    ghost lines = { λ s. flat_map (stream_line (codes "ssdt")) (ssdts_left H.memory s) };
-
-    fn item_pieces(stream: AmlTable) -> Pieces
-        ensures { line (map piece_text result) ≡ stream_line (codes "ssdt") stream }
-    {
-        stream_pieces("ssdt", stream)
+/// `ssdt ADDRESS length L` for the AML of each SSDT.
+fn print_ssdts<H: AcpiHandler>(
+    tables: &AcpiTables<'_, H>,
+    text: &mut String,
+) -> Result<(), AllocError>
+    ensures { OnOk result (string_bytes text.new
+        ≡ string_bytes text.old ++ ssdt_lines (memory_of tables.now) (pointers_of tables.now)) }
+{
+    for stream in tables.ssdts() {
+        print_stream("ssdt", stream, text)?;
     }
-
-    ghost next = { λ s t x e. ap (flat_map (stream_line (codes "ssdt"))) e };
-
-    ghost end = { λ s t e. ap (flat_map (stream_line (codes "ssdt"))) e.0 };
+    Ok(())
 }
 
 /// `hpet ADDRESS number N tick T` for the event timer block, or its refusal.
-fn hpet_pieces<H: AcpiHandler>(tables: &AcpiTables<'_, H>) -> Pieces
-    ensures { line (map piece_text result)
-        ≡ hpet_lines (memory_of tables.now) (pointers_of tables.now) }
+fn print_hpet<H: AcpiHandler>(
+    tables: &AcpiTables<'_, H>,
+    text: &mut String,
+) -> Result<(), AllocError>
+    ensures { OnOk result (string_bytes text.new
+        ≡ string_bytes text.old ++ hpet_lines (memory_of tables.now) (pointers_of tables.now)) }
 {
-    match HpetInfo::new(tables) {
-        Ok(info) => [
-            Piece::Address("hpet ", info.base_address),
-            Piece::Number(" number ", info.hpet_number as u64),
-            Piece::Number(" tick ", info.clock_tick_unit as u64),
-            Piece::Nothing,
-        ],
-        Err(refusal) => refused_pieces("hpet", refusal),
-    }
+    let info = match HpetInfo::new(tables) {
+        Ok(info) => info,
+        Err(refusal) => return print_refusal("hpet", refusal, text),
+    };
+    let (number, tick) = (info.hpet_number, info.clock_tick_unit);
+    writeln!(
+        text,
+        "hpet 0x{:x} number {number} tick {tick}",
+        info.base_address
+    )?;
+    Ok(())
 }
 
-/// Prints the lines of the regions of PCI configuration space, or the one line of their refusal. Memory for
-/// them is an allocator's.
-pub fn print_pci<H: AcpiHandler, A: Allocator + Clone, W: Write>(
-    printed: Printed,
+/// The lines of the regions of PCI configuration space, or the one line of their refusal. Memory for the regions
+/// is an allocator's.
+///
+/// Fails if memory for the text is refused.
+pub fn print_pci<H: AcpiHandler, A: Allocator + Clone>(
     alloc: A,
     tables: &AcpiTables<'_, H>,
-    out: &mut W,
-) -> Printed
-    ensures { GrowsSome (IsPciText (memory_of tables.now) (pointers_of tables.now))
-        printed result (W.contents out.old) (W.contents out.new) }
+    text: &mut String,
+) -> Result<(), AllocError>
+    ensures { OnOk result ((lines : List ℕ)
+        × IsPciText (memory_of tables.now) (pointers_of tables.now) lines
+        × (string_bytes text.new ≡ string_bytes text.old ++ lines)) }
 {
-    print_regions(printed, PciConfigRegions::new_in(tables, alloc), out)
+    print_regions(PciConfigRegions::new_in(tables, alloc), text)
 }
 
-/// Prints the lines of the regions that are found, or their refusal.
-fn print_regions<A: Allocator, W: Write>(
-    printed: Printed,
+/// `pci SEGMENT FIRST LAST ADDRESS` for each region, or their refusal.
+fn print_regions<A: Allocator>(
     found: AcpiResult<PciConfigRegions<A>>,
-    out: &mut W,
-) -> Printed
-    ensures { Grows printed result (W.contents out.old) (W.contents out.new)
-        (lines_or_refusal (codes "pci") region_lines found) }
+    text: &mut String,
+) -> Result<(), AllocError>
+    ensures { OnOk result (string_bytes text.new
+        ≡ string_bytes text.old ++ lines_or_refusal (codes "pci") region_lines found) }
 {
-    match found {
-        Ok(regions) => print_walk(printed, regions.iter(), out),
-        Err(refusal) => print_line(printed, refused_pieces("pci", refusal), out),
-    }
-}
-
-/// `pci SEGMENT FIRST LAST ADDRESS` for each region.
-impl Walk for PciConfigEntryIterator<'_> {
-    ghost use Rattle.std.specs.Prelude.{flat_map};
-    ghost use Rattle.std.proofs.Common.{ap};
-    ghost use Rattle.acpi.specs.Pci.{shown_in, shown_left};
-    ghost use Rattle.acpi_view_lib.specs.Lines.{shown_line};
-
-    ghost item_line = { λ region. shown_line (shown_in region) };
-
-    ghost lines = { λ s. flat_map shown_line (shown_left s) };
-
-    fn item_pieces(region: PciConfigEntry) -> Pieces
-        ensures { line (map piece_text result) ≡ shown_line (shown_in region) }
-    {
+    let regions = match found {
+        Ok(regions) => regions,
+        Err(refusal) => return print_refusal("pci", refusal, text),
+    };
+    for region in regions.iter() {
         let (first, last) = region.bus_range.into_inner();
-        [
-            Piece::Number("pci ", region.segment_group as u64),
-            Piece::Number(" ", first as u64),
-            Piece::Number(" ", last as u64),
-            Piece::Address(" ", region.physical_address),
-        ]
+        let (segment, address) = (region.segment_group, region.physical_address);
+        writeln!(text, "pci {segment} {first} {last} 0x{address:x}")?;
     }
-
-    ghost next = { λ s t x e. ap (flat_map shown_line) e };
-
-    ghost end = { λ s t e. ap (flat_map shown_line) e.0 };
+    Ok(())
 }
 
 /// The line of the boot graphic, or its refusal.
-fn bgrt_pieces<H: AcpiHandler>(tables: &AcpiTables<'_, H>) -> Pieces
-    ensures { line (map piece_text result)
-        ≡ bgrt_lines (memory_of tables.now) (pointers_of tables.now) }
+fn print_bgrt<H: AcpiHandler>(
+    tables: &AcpiTables<'_, H>,
+    text: &mut String,
+) -> Result<(), AllocError>
+    ensures { OnOk result (string_bytes text.new
+        ≡ string_bytes text.old ++ bgrt_lines (memory_of tables.now) (pointers_of tables.now)) }
 {
     match tables.find_table::<Bgrt>() {
-        Ok(graphic) => graphic_pieces(&graphic),
-        Err(refusal) => refused_pieces("bgrt", refusal),
+        Ok(graphic) => print_graphic(&graphic, text),
+        Err(refusal) => print_refusal("bgrt", refusal, text),
     }
 }
 
 /// `bgrt displayed yes|no angle A offset X Y`.
-fn graphic_pieces(graphic: &Bgrt) -> Pieces
-    ensures { line (map piece_text result) ≡ graphic_line graphic.now }
+fn print_graphic(graphic: &Bgrt, text: &mut String) -> Result<(), AllocError>
+    ensures { OnOk result (string_bytes text.new ≡ string_bytes text.old ++ graphic_line graphic.now) }
 {
     let displayed = yes_or_no(graphic.was_displayed());
     let angle = graphic.orientation_offset();
     let (x, y) = graphic.image_offset();
-    [
-        Piece::Word("bgrt displayed ", displayed),
-        Piece::Number(" angle ", angle as u64),
-        Piece::Number(" offset ", x as u64),
-        Piece::Number(" ", y as u64),
-    ]
+    writeln!(
+        text,
+        "bgrt displayed {displayed} angle {angle} offset {x} {y}"
+    )?;
+    Ok(())
 }
 
 /// `yes` if it holds, else `no`.
@@ -292,54 +239,57 @@ fn yes_or_no(holds: bool) -> &'static str
 }
 
 /// The line of the serial console, or its refusal.
-fn spcr_pieces<H: AcpiHandler>(tables: &AcpiTables<'_, H>) -> Pieces
-    ensures { line (map piece_text result)
-        ≡ spcr_lines (memory_of tables.now) (pointers_of tables.now) }
+fn print_spcr<H: AcpiHandler>(
+    tables: &AcpiTables<'_, H>,
+    text: &mut String,
+) -> Result<(), AllocError>
+    ensures { OnOk result (string_bytes text.new
+        ≡ string_bytes text.old ++ spcr_lines (memory_of tables.now) (pointers_of tables.now)) }
 {
     match tables.find_table::<Spcr>() {
-        Ok(console) => console_pieces(&console),
-        Err(refusal) => refused_pieces("spcr", refusal),
+        Ok(console) => print_console(&console, text),
+        Err(refusal) => print_refusal("spcr", refusal, text),
     }
 }
 
 /// `spcr baud B irq I gsi G`.
-fn console_pieces(console: &Spcr) -> Pieces
-    ensures { line (map piece_text result) ≡ console_line console.now }
+fn print_console(console: &Spcr, text: &mut String) -> Result<(), AllocError>
+    ensures { OnOk result (string_bytes text.new ≡ string_bytes text.old ++ console_line console.now) }
 {
-    [
-        Piece::Text("spcr"),
-        setting(" baud ", console.baud_rate()),
-        setting(" irq ", widened(console.irq())),
-        setting(" gsi ", console.global_system_interrupt()),
-    ]
+    text.push_str("spcr")?;
+    print_setting("baud", console.baud_rate(), text)?;
+    print_setting("irq", console.irq().map(u32::from), text)?;
+    print_setting("gsi", console.global_system_interrupt(), text)?;
+    text.push_str("\n")
 }
 
-/// The number in four bytes.
-fn widened(number: Option<u8>) -> Option<u32>
-    ensures { result ≡ number }
+/// ` NAME N`, or ` NAME none` if there is no number.
+fn print_setting(name: &str, number: Option<u32>, text: &mut String) -> Result<(), AllocError>
+    ensures { OnOk result (string_bytes text.new ≡ string_bytes text.old ++ number_words name.now number) }
 {
     match number {
-        Some(number) => Some(u32::from(number)),
-        None => None,
+        Some(number) => write!(text, " {name} {number}")?,
+        None => write!(text, " {name} none")?,
     }
+    Ok(())
 }
 
 /// `PART ADDRESS length L` for a stream of AML.
-fn stream_pieces(part: &'static str, stream: AmlTable) -> Pieces
-    ensures { line (map piece_text result) ≡ stream_line part.now stream }
+fn print_stream(part: &str, stream: AmlTable, text: &mut String) -> Result<(), AllocError>
+    ensures { OnOk result (string_bytes text.new ≡ string_bytes text.old ++ stream_line part.now stream) }
 {
-    [
-        Piece::Text(part),
-        Piece::Address(" ", stream.address),
-        Piece::Number(" length ", stream.length as u64),
-        Piece::Nothing,
-    ]
+    writeln!(
+        text,
+        "{part} 0x{:x} length {}",
+        stream.address, stream.length
+    )?;
+    Ok(())
 }
 
 /// `PART: REFUSAL`, if this part is refused.
-fn refused_pieces(part: &'static str, refusal: AcpiError) -> Pieces
-    ensures { line (map piece_text result) ≡ refused_line part.now refusal }
+fn print_refusal(part: &str, refusal: AcpiError, text: &mut String) -> Result<(), AllocError>
+    ensures { OnOk result (string_bytes text.new ≡ string_bytes text.old ++ refused_line part.now refusal) }
 {
-    let refusal = Piece::Refusal(": ", refusal);
-    [Piece::Text(part), refusal, Piece::Nothing, Piece::Nothing]
+    writeln!(text, "{part}: {refusal}")?;
+    Ok(())
 }

@@ -4,10 +4,9 @@ use super::Chosen;
 use acpi::{AcpiTables, ManagedSlice};
 use acpi_image::{ImageError, MemoryImage};
 use acpi_view_lib::lines::{print_pci, print_platform};
-use acpi_view_lib::run::refuse;
+use acpi_view_lib::run::refused;
 use linked_list_allocator::LocalHeap;
-use std::alloc::Global;
-use std::io::Write;
+use std::alloc::{AllocError, Global};
 
 /// Adds the lines of the platform and of the PCI regions over a heap that is full, and over one with
 /// ample memory, where the file has an RSDT at 0x1000.
@@ -37,30 +36,26 @@ fn over_heap(
     match LocalHeap::new(alloc, size) {
         Ok(heap) => {
             let _filled = ManagedSlice::new_in(taken, 0u8, &heap);
-            lines.add(kind, printed_over(alloc, &heap, tables));
+            lines.add_text(kind, printed_over(alloc, &heap, tables));
         }
         Err(_) => lines.is_refused = true,
     }
 }
 
-/// The lines of the platform and of the PCI regions over a heap, unless a write is refused.
+/// The lines of the platform and of the PCI regions over a heap.
 fn printed_over(
     alloc: Global,
     heap: &LocalHeap,
     tables: &AcpiTables<'_, MemoryImage<'_>>,
-) -> Option<Vec<u8>> {
-    let mut out = Vec::new(alloc);
-    let printed = print_platform(Ok(()), heap, tables, &mut out);
-    let printed = print_pci(printed, heap, tables, &mut out);
-    printed.is_ok().then_some(out)
+) -> Result<String, AllocError> {
+    let mut text = String::new(alloc);
+    print_platform(heap, tables, &mut text)?;
+    print_pci(heap, tables, &mut text)?;
+    Ok(text)
 }
 
-/// The status that a run ends with where memory for the image is refused, and the line.
-pub(super) fn without_memory(alloc: Global) -> Option<Vec<u8>> {
-    let mut text = Vec::new(alloc);
-    let is_printed = match refuse(ImageError::OutOfMemory, &mut text) {
-        Ok(status) => writeln!(text, "{status}").is_ok(),
-        Err(_) => false,
-    };
-    is_printed.then_some(text)
+/// The line of a run where memory for the image is refused, and its status.
+pub(super) fn without_memory(alloc: Global) -> Result<String, AllocError> {
+    let report = refused(alloc, ImageError::OutOfMemory)?;
+    format!(in alloc; "{}{}\n", report.complaints.as_str(), report.status)
 }

@@ -1,8 +1,7 @@
 //! What is written at a time, and writes that are refused.
 
 use super::refusing::{Refused, Refusing};
-use acpi_view_lib::arguments::parse_command;
-use acpi_view_lib::run::run_gathered;
+use acpi_view_lib::run::run;
 use std::alloc::{AllocError, Global};
 
 /// A run over two writers, and what they took.
@@ -26,11 +25,7 @@ impl Program<'_> {
     fn run(&self, out: Refused, err: Refused) -> Run {
         let mut out = Refusing::new(self.alloc, out);
         let mut err = Refusing::new(self.alloc, err);
-        let asked = parse_command(self.words);
-        let status = match run_gathered(self.alloc, asked, self.image, &mut out, &mut err) {
-            Ok((status, _, _)) => status,
-            Err(_) => 1,
-        };
+        let status = run(self.alloc, self.words, self.image, &mut out, &mut err);
         Run { status, out, err }
     }
 

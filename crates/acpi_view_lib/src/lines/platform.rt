@@ -1,78 +1,63 @@
 //! The lines of the platform.
-ghost use Rattle.std.specs.Prelude.{◌≡◌, ℕ, codes, map};
+ghost use Rattle.std.specs.Prelude.{◌≡◌, ◌++◌, ℕ, List, OnOk, codes, flat_map, string_bytes};
 ghost use Rattle.acpi_fixed.specs.Fadt.{profile_for};
 ghost use Rattle.acpi.specs.Tables.{memory_of, pointers_of};
-ghost use Rattle.acpi_view_lib.specs.Lines.{line, lines_or_refusal};
-ghost use Rattle.acpi_view_lib.specs.Pieces.{piece_text};
-ghost use Rattle.acpi_view_lib.specs.PlatformLines.{IsPlatformText, apic_line, apic_lines, info_lines};
-ghost use Rattle.acpi_view_lib.specs.PlatformLines.{input_word, io_apic_line, model_lines};
-ghost use Rattle.acpi_view_lib.specs.PlatformLines.{nmi_input_line, nmi_source_line, override_line};
-ghost use Rattle.acpi_view_lib.specs.PlatformLines.{polarity_word, processor_line, processor_lines};
-ghost use Rattle.acpi_view_lib.specs.PlatformLines.{profile_line, profile_number, state_word};
-ghost use Rattle.acpi_view_lib.specs.PlatformLines.{timer_line, trigger_word};
-ghost use Rattle.acpi_view_lib.specs.Writing.{Grows, GrowsSome};
+ghost use Rattle.acpi_view_lib.specs.Lines.{lines_or_refusal};
+ghost use Rattle.acpi_view_lib.specs.PlatformLines.{IsPlatformText, apic_lines, info_lines, input_word, io_apic_line, model_lines, nmi_input_line, nmi_source_line, override_line, polarity_word, processor_line, processor_lines, profile_number, state_word, timer_line, trigger_word};
 
-use super::{Line, Piece, Pieces, Printed, print_line, print_walk, refused_pieces, yes_or_no};
+use super::{print_refusal, yes_or_no};
 use acpi::platform::interrupt::{
     Apic, InterruptModel, InterruptSourceOverride, IoApic, LocalInterruptLine, NmiLine,
     NmiProcessor, NmiSource, Polarity, TriggerMode,
 };
 use acpi::platform::{PmTimer, Processor, ProcessorInfo, ProcessorState};
 use acpi::{AcpiHandler, AcpiResult, AcpiTables, PlatformInfo, PowerProfile};
-use std::alloc::Allocator;
-use std::io::Write;
+use std::alloc::{AllocError, Allocator};
+use std::fmt::Write;
 
-/// Prints the lines of the platform, as the FADT and the MADT describe it, or the one line of its refusal.
-/// Memory for it is an allocator's.
-pub fn print_platform<H: AcpiHandler, A: Allocator + Clone, W: Write>(
-    printed: Printed,
+/// The lines of the platform, as the FADT and the MADT describe it, or the one line of its refusal. Memory for
+/// it is an allocator's.
+///
+/// Fails if memory for the text is refused.
+pub fn print_platform<H: AcpiHandler, A: Allocator + Clone>(
     alloc: A,
     tables: &AcpiTables<'_, H>,
-    out: &mut W,
-) -> Printed
-    ensures { GrowsSome (IsPlatformText A (memory_of tables.now) (pointers_of tables.now))
-        printed result (W.contents out.old) (W.contents out.new) }
+    text: &mut String,
+) -> Result<(), AllocError>
+    ensures { OnOk result ((lines : List ℕ)
+        × IsPlatformText A (memory_of tables.now) (pointers_of tables.now) lines
+        × (string_bytes text.new ≡ string_bytes text.old ++ lines)) }
 {
-    print_found(printed, tables.platform_info_in(alloc), out)
+    print_found(tables.platform_info_in(alloc), text)
 }
 
-/// Prints the lines of the platform that is found, or its refusal.
-fn print_found<A: Allocator, W: Write>(
-    printed: Printed,
+/// The lines of the platform that is found, or its refusal.
+fn print_found<A: Allocator>(
     found: AcpiResult<PlatformInfo<A>>,
-    out: &mut W,
-) -> Printed
-    ensures { Grows printed result (W.contents out.old) (W.contents out.new)
-        (lines_or_refusal (codes "platform") info_lines found) }
+    text: &mut String,
+) -> Result<(), AllocError>
+    ensures { OnOk result (string_bytes text.new
+        ≡ string_bytes text.old ++ lines_or_refusal (codes "platform") info_lines found) }
 {
     match found {
-        Ok(platform) => print_info(printed, &platform, out),
-        Err(refusal) => print_line(printed, refused_pieces("platform", refusal), out),
+        Ok(platform) => print_info(&platform, text),
+        Err(refusal) => print_refusal("platform", refusal, text),
     }
 }
 
-/// Prints the lines of the profile, of the interrupt model, of the processors and of the timer.
-fn print_info<A: Allocator, W: Write>(
-    printed: Printed,
-    platform: &PlatformInfo<A>,
-    out: &mut W,
-) -> Printed
-    ensures { Grows printed result (W.contents out.old) (W.contents out.new)
-        (info_lines platform.now) }
-{
-    let printed = print_line(printed, profile_pieces(platform.power_profile), out);
-    let printed = print_model(printed, &platform.interrupt_model, out);
-    let printed = print_processors(printed, &platform.processor_info, out);
-    print_line(printed, timer_pieces(platform.pm_timer), out)
-}
-
-/// `platform profile N`.
+/// `platform profile N`, then the lines of the interrupt model, of the processors and of the timer.
 #[tactic(auto, unfolding(crate::specs::PlatformLines::profile_line))]
-fn profile_pieces(profile: PowerProfile) -> Pieces
-    ensures { line (map piece_text result) ≡ profile_line profile }
+fn print_info<A: Allocator>(platform: &PlatformInfo<A>, text: &mut String) -> Result<(), AllocError>
+    ensures { OnOk result (string_bytes text.new ≡ string_bytes text.old ++ info_lines platform.now) }
 {
-    let profile = Piece::Number("platform profile ", profile_number(profile) as u64);
-    [profile, Piece::Nothing, Piece::Nothing, Piece::Nothing]
+    writeln!(
+        text,
+        "platform profile {}",
+        profile_number(platform.power_profile)
+    )?;
+    print_model(&platform.interrupt_model, text)?;
+    print_processors(&platform.processor_info, text)?;
+    print_timer(platform.pm_timer, text)
 }
 
 /// The code of Preferred_PM_Profile that stands for a profile.
@@ -95,90 +80,94 @@ fn profile_number(profile: PowerProfile) -> u8
     }
 }
 
-/// Prints `model unknown`, or the lines of the APICs.
-fn print_model<A: Allocator, W: Write>(
-    printed: Printed,
-    model: &InterruptModel<A>,
-    out: &mut W,
-) -> Printed
-    ensures { Grows printed result (W.contents out.old) (W.contents out.new)
-        (model_lines model.now) }
+/// `model unknown`, or the lines of the APICs.
+fn print_model<A: Allocator>(model: &InterruptModel<A>, text: &mut String) -> Result<(), AllocError>
+    ensures { OnOk result (string_bytes text.new ≡ string_bytes text.old ++ model_lines model.now) }
 {
     match model {
-        InterruptModel::Unknown => {
-            let unknown = Piece::Text("model unknown");
-            let pieces = [unknown, Piece::Nothing, Piece::Nothing, Piece::Nothing];
-            print_line(printed, pieces, out)
-        }
-        InterruptModel::Apic(apic) => print_apic(printed, apic, out),
+        InterruptModel::Unknown => text.push_str("model unknown\n"),
+        InterruptModel::Apic(apic) => print_apic(apic, text),
     }
 }
 
-/// Prints the line of the local APICs, then the lines of each list.
-fn print_apic<A: Allocator, W: Write>(printed: Printed, apic: &Apic<A>, out: &mut W) -> Printed
-    ensures { Grows printed result (W.contents out.old) (W.contents out.new)
-        (apic_lines apic.now) }
+/// `model apic ADDRESS pics yes|no`, then the lines of each list.
+#[tactic(auto, unfolding(crate::specs::PlatformLines::apic_line))]
+fn print_apic<A: Allocator>(apic: &Apic<A>, text: &mut String) -> Result<(), AllocError>
+    ensures { OnOk result (string_bytes text.new ≡ string_bytes text.old ++ apic_lines apic.now) }
 {
-    let printed = print_line(printed, local_apic_pieces(apic), out);
-    let printed = print_walk(printed, apic.io_apics.as_slice().iter(), out);
-    let printed = print_walk(
-        printed,
-        apic.interrupt_source_overrides.as_slice().iter(),
-        out,
-    );
-    let printed = print_walk(printed, apic.nmi_sources.as_slice().iter(), out);
-    print_walk(printed, apic.local_apic_nmi_lines.as_slice().iter(), out)
+    let pics = yes_or_no(apic.also_has_legacy_pics);
+    writeln!(
+        text,
+        "model apic 0x{:x} pics {pics}",
+        apic.local_apic_address
+    )?;
+    print_each(apic.io_apics.as_slice(), text)?;
+    print_each(apic.interrupt_source_overrides.as_slice(), text)?;
+    print_each(apic.nmi_sources.as_slice(), text)?;
+    print_each(apic.local_apic_nmi_lines.as_slice(), text)
 }
 
-/// `model apic ADDRESS pics yes|no`.
-#[tactic(auto, unfolding(crate::specs::PlatformLines::apic_line))]
-fn local_apic_pieces<A: Allocator>(apic: &Apic<A>) -> Pieces
-    ensures { line (map piece_text result) ≡ apic_line apic.now }
+/// An item that is printed as one line.
+trait Line {
+    // The line, with its newline.
+    ghost item_line: { Self → List ℕ };
+
+    /// Puts the item's line after the text.
+    fn print(&self, text: &mut String) -> Result<(), AllocError>
+        ensures { OnOk result (string_bytes text.new ≡ string_bytes text.old ++ item_line self.now) };
+}
+
+/// The line of each item, in order.
+fn print_each<L: Line>(items: &[L], text: &mut String) -> Result<(), AllocError>
+    ensures { OnOk result (string_bytes text.new ≡ string_bytes text.old ++ flat_map L.item_line items.now) }
 {
-    let address = Piece::Address("model apic ", apic.local_apic_address);
-    let pics = Piece::Word(" pics ", yes_or_no(apic.also_has_legacy_pics));
-    [address, pics, Piece::Nothing, Piece::Nothing]
+    for item in items {
+        item.print(text)?;
+    }
+    Ok(())
 }
 
 /// `ioapic ID ADDRESS BASE`.
 impl Line for IoApic {
-    ghost item_text = { io_apic_line };
+    ghost item_line = { io_apic_line };
 
-    fn pieces(&self) -> Pieces {
-        [
-            Piece::Number("ioapic ", self.id as u64),
-            Piece::Address(" ", self.address as u64),
-            Piece::Number(" ", self.global_system_interrupt_base as u64),
-            Piece::Nothing,
-        ]
+    fn print(&self, text: &mut String) -> Result<(), AllocError> {
+        let base = self.global_system_interrupt_base;
+        writeln!(text, "ioapic {} 0x{:x} {base}", self.id, self.address)?;
+        Ok(())
     }
 }
 
 /// `override SOURCE GSI POLARITY TRIGGER`.
 impl Line for InterruptSourceOverride {
-    ghost item_text = { override_line };
+    ghost item_line = { override_line };
 
-    fn pieces(&self) -> Pieces {
-        [
-            Piece::Number("override ", self.isa_source as u64),
-            Piece::Number(" ", self.global_system_interrupt as u64),
-            Piece::Word(" ", polarity_word(self.polarity)),
-            Piece::Word(" ", trigger_word(self.trigger_mode)),
-        ]
+    fn print(&self, text: &mut String) -> Result<(), AllocError> {
+        let (source, gsi) = (self.isa_source, self.global_system_interrupt);
+        let (polarity, trigger) = (
+            polarity_word(self.polarity),
+            trigger_word(self.trigger_mode),
+        );
+        writeln!(text, "override {source} {gsi} {polarity} {trigger}")?;
+        Ok(())
     }
 }
 
 /// `nmi GSI POLARITY TRIGGER`.
 impl Line for NmiSource {
-    ghost item_text = { nmi_source_line };
+    ghost item_line = { nmi_source_line };
 
-    fn pieces(&self) -> Pieces {
-        [
-            Piece::Number("nmi ", self.global_system_interrupt as u64),
-            Piece::Word(" ", polarity_word(self.polarity)),
-            Piece::Word(" ", trigger_word(self.trigger_mode)),
-            Piece::Nothing,
-        ]
+    fn print(&self, text: &mut String) -> Result<(), AllocError> {
+        let (polarity, trigger) = (
+            polarity_word(self.polarity),
+            trigger_word(self.trigger_mode),
+        );
+        writeln!(
+            text,
+            "nmi {} {polarity} {trigger}",
+            self.global_system_interrupt
+        )?;
+        Ok(())
     }
 }
 
@@ -206,15 +195,15 @@ fn trigger_word(trigger: TriggerMode) -> &'static str
 
 /// `line all|UID lint0|lint1`.
 impl Line for NmiLine {
-    ghost item_text = { nmi_input_line };
+    ghost item_line = { nmi_input_line };
 
-    fn pieces(&self) -> Pieces {
-        let whose = match self.processor {
-            NmiProcessor::All => Piece::Text("line all"),
-            NmiProcessor::ProcessorUid(uid) => Piece::Number("line ", uid as u64),
-        };
-        let line = Piece::Word(" ", input_word(self.line));
-        [whose, line, Piece::Nothing, Piece::Nothing]
+    fn print(&self, text: &mut String) -> Result<(), AllocError> {
+        let line = input_word(self.line);
+        match self.processor {
+            NmiProcessor::All => writeln!(text, "line all {line}")?,
+            NmiProcessor::ProcessorUid(uid) => writeln!(text, "line {uid} {line}")?,
+        }
+        Ok(())
     }
 }
 
@@ -228,33 +217,32 @@ fn input_word(input: LocalInterruptLine) -> &'static str
     }
 }
 
-/// Prints the line of each processor, the boot processor's first.
-fn print_processors<A: Allocator, W: Write>(
-    printed: Printed,
-    listed: &Option<ProcessorInfo<A>>,
-    out: &mut W,
-) -> Printed
-    ensures { Grows printed result (W.contents out.old) (W.contents out.new)
-        (processor_lines listed.now) }
+/// The line of each processor, the boot processor's first.
+fn print_processors<A: Allocator>(
+    processors: &Option<ProcessorInfo<A>>,
+    text: &mut String,
+) -> Result<(), AllocError>
+    ensures { OnOk result (string_bytes text.new ≡ string_bytes text.old ++ processor_lines processors.now) }
 {
-    let Some(info) = listed else {
-        return printed;
+    let Some(info) = processors else {
+        return Ok(());
     };
-    let printed = print_line(printed, info.boot_processor.pieces(), out);
-    print_walk(printed, info.application_processors.as_slice().iter(), out)
+    info.boot_processor.print(text)?;
+    print_each(info.application_processors.as_slice(), text)
 }
 
 /// `processor UID ID running|waiting|disabled`.
 impl Line for Processor {
-    ghost item_text = { processor_line };
+    ghost item_line = { processor_line };
 
-    fn pieces(&self) -> Pieces {
-        [
-            Piece::Number("processor ", self.processor_uid as u64),
-            Piece::Number(" ", self.local_apic_id as u64),
-            Piece::Word(" ", state_word(self.state)),
-            Piece::Nothing,
-        ]
+    fn print(&self, text: &mut String) -> Result<(), AllocError> {
+        let (uid, id, state) = (
+            self.processor_uid,
+            self.local_apic_id,
+            state_word(self.state),
+        );
+        writeln!(text, "processor {uid} {id} {state}")?;
+        Ok(())
     }
 }
 
@@ -270,16 +258,13 @@ fn state_word(state: ProcessorState) -> &'static str
 }
 
 /// `timer none`, or `timer ADDRESS bits 24|32`.
-fn timer_pieces(timer: Option<PmTimer>) -> Pieces
-    ensures { line (map piece_text result) ≡ timer_line timer }
+fn print_timer(timer: Option<PmTimer>, text: &mut String) -> Result<(), AllocError>
+    ensures { OnOk result (string_bytes text.new ≡ string_bytes text.old ++ timer_line timer) }
 {
-    let (base, bits) = match timer {
-        Some(timer) => {
-            let bits = if timer.supports_32bit { "32" } else { "24" };
-            let base = Piece::Address("timer ", timer.base.address);
-            (base, Piece::Word(" bits ", bits))
-        }
-        None => (Piece::Text("timer none"), Piece::Nothing),
+    let Some(timer) = timer else {
+        return text.push_str("timer none\n");
     };
-    [base, bits, Piece::Nothing, Piece::Nothing]
+    let bits = if timer.supports_32bit { "32" } else { "24" };
+    writeln!(text, "timer 0x{:x} bits {bits}", timer.base.address)?;
+    Ok(())
 }

@@ -13,14 +13,18 @@ returns g c = reading_ends _ _ _ c.loop-rest.invariant (grind (arith, common_ste
 pub returns-in_err-next : goal.returns-in_err-next
 returns-in_err-next g c =
     let left : 0 < length c.loop-rest.rest.now = grind (arith, common_steps) in
-    handed_on _ _ _ _ _ c.from_residual.ensures.1 (reading_refuses _ _ _ c.loop-rest.invariant left _ c.in_err-next.ensures.exact)
+    handed_on _ _ _ _ _ c.from_residual.ensures.1
+    (reading_refuses _ _ _ c.loop-rest.invariant left _ c.in_err-next.ensures.exact)
 
 pub returns-in_err-records : goal.returns-in_err-records
 returns-in_err-records g c =
     let left : 0 < length c.loop-rest.rest.now = grind (arith, common_steps) in
-    handed_on _ _ _ _ _ c.from_residual-in_err-records.ensures.1 (rw c.in_err-records.ensures.refused (reading_runs_out _ _ _ c.loop-rest.invariant left _ c.in_ok-next.ensures.exact))
+    handed_on _ _ _ _ _ c.from_residual-in_err-records.ensures.1
+    (rw c.in_err-records.ensures.refused
+    (reading_runs_out _ _ _ c.loop-rest.invariant left _ c.in_ok-next.ensures.exact))
 
 pub loop-rest-preserved : goal.loop-rest-preserved
 loop-rest-preserved g c =
     let left : 0 < length c.loop-rest.rest.now = grind (arith, common_steps) in
-    rw (c.in_ok-records.ensures.kept, map-append) (reading_goes_on _ _ _ c.loop-rest.invariant left _ c.in_ok-next.ensures.shorter c.in_ok-next.ensures.exact)
+    rw (c.in_ok-records.ensures.kept, map-append)
+    (reading_goes_on _ _ _ c.loop-rest.invariant left _ c.in_ok-next.ensures.shorter c.in_ok-next.ensures.exact)

@@ -5,4 +5,5 @@ use Rattle.acpi_pack_lib.specs.Listing.{label_text, record_lines}
 use Rattle.acpi_pack_lib.proofs.listing.lines_of.Given as goal
 
 abbrev pub invariant-loop-index : goal.invariant-loop-index
-invariant-loop-index l = string_bytes l.text ++ record_lines (map label_text l.labels) l.index (regions_of (drop l.index l.records)) ≡ record_lines (map label_text l.labels) 0 (regions_of l.records)
+invariant-loop-index l = string_bytes l.text ++ record_lines (map label_text l.labels) l.index
+    (regions_of (drop l.index l.records)) ≡ record_lines (map label_text l.labels) 0 (regions_of l.records)

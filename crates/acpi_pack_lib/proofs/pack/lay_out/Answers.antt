@@ -22,12 +22,14 @@ abbrev checked : Result (Unit {0}) Refusal
 checked = Ok tt
 
 -- an answer that hands a refusal on
-refuses : {X : Type 0} (r : Result X Refusal) (d : Refusal) (packed : Result Memory Refusal) → IsErrAnd r (λ x. x ≡ d) → RefusesOrRunsOut packed d → IfErr r (λ e. RefusesOrRunsOut packed e)
+refuses : {X : Type 0} (r : Result X Refusal) (d : Refusal) (packed : Result Memory Refusal) → IsErrAnd r (λ x. x ≡ d)
+    → RefusesOrRunsOut packed d → IfErr r (λ e. RefusesOrRunsOut packed e)
 refuses (Ok x) d packed h says = tt
 refuses (Err x) d packed h says = rw h says
 
 -- what refuses by name only what is refused, of what is not
-only_memory : (e : Refusal) (r : Result Memory Refusal) (m : Memory) → r ≡ Ok m → (e ≢ refusal.OutOfMemory → r ≡ Err e) → e ≡ refusal.OutOfMemory
+only_memory : (e : Refusal) (r : Result Memory Refusal) (m : Memory) → r ≡ Ok m → (e ≢ refusal.OutOfMemory → r ≡ Err e)
+    → e ≡ refusal.OutOfMemory
 only_memory refusal.OutOfMemory r m is named = refl
 only_memory refusal.NoRoom r m is named =
     let both : done m ≡ Err refusal.NoRoom = sym is ∙ named (λ x. absurd cc) in
@@ -40,7 +42,8 @@ room_fails : (r : Result Memory Refusal) (e : Refusal) → (r >>= λ _. checked)
 room_fails (Ok m) e fails = absurd cc
 room_fails (Err d) e fails = cc
 
-module _ (dsdt : Option Region) (fixed : Region) (tables : List (List ℕ)) (count root : ℕ) (fixed_is : fixed ≡ fixed_of dsdt) (count_is : count ≡ root_length Xsdt (length tables))
+module _ (dsdt : Option Region) (fixed : Region) (tables : List (List ℕ)) (count root : ℕ)
+    (fixed_is : fixed ≡ fixed_of dsdt) (count_is : count ≡ root_length Xsdt (length tables))
     (low : count < 2 ^ 32) (there : place_at fixed first_address count ≡ Some root) where
   abbrev behind_root : ℕ
   behind_root = root + root_length Xsdt (length tables)
@@ -48,21 +51,25 @@ module _ (dsdt : Option Region) (fixed : Region) (tables : List (List ℕ)) (cou
   short : nat_lt (root_length Xsdt (length tables)) (2 ^ 32) ≡ true
   short = lt-ltb _ _ (rw count_is at low)
 
-  laid : laid_out dsdt tables ≡ (placed_from (fixed_of dsdt) behind_root tables >>= λ placed. done (all_regions root placed dsdt))
+  laid : laid_out dsdt tables ≡ (placed_from (fixed_of dsdt) behind_root tables >>= λ placed.
+      done (all_regions root placed dsdt))
   unfolding laid_out
   laid =
-      let lies : place_at (fixed_of dsdt) first_address (root_length Xsdt (length tables)) ≡ Some root = rw (fixed_is, count_is) at there in
+      let lies : place_at (fixed_of dsdt) first_address (root_length Xsdt (length tables)) ≡ Some root =
+          rw (fixed_is, count_is) at there in
       rw (short, lies) refl
 
   no_room : (e : Refusal) → room fixed (root + count) tables ≡ Err e → RefusesOrRunsOut (laid_out dsdt tables) e
   no_room e fails =
-      let why : placed_from (fixed_of dsdt) behind_root tables ≡ Err e = room_fails _ e (rw (fixed_is, count_is) at fails) in
+      let why : placed_from (fixed_of dsdt) behind_root tables ≡ Err e =
+          room_fails _ e (rw (fixed_is, count_is) at fails) in
       inl (laid ∙ rw why refl)
 
   module _ (x : Unit {0}) (passed : room fixed (root + count) tables ≡ Ok x) where
     all : (m : Memory) × (placed_from (fixed_of dsdt) behind_root tables ≡ Ok m)
     all =
-        let parts = bind_ok (placed_from (fixed_of dsdt) behind_root tables) (λ _. checked) x (rw (fixed_is, count_is) at passed) in
+        let parts = bind_ok (placed_from (fixed_of dsdt) behind_root tables) (λ _. checked) x
+            (rw (fixed_is, count_is) at passed) in
         (parts.0, parts.1)
 
     has_room : IsOk (laid_out dsdt tables)
@@ -71,26 +78,37 @@ module _ (dsdt : Option Region) (fixed : Region) (tables : List (List ℕ)) (cou
     out_of_memory : (e : Refusal) → e ≡ refusal.OutOfMemory → RefusesOrRunsOut (laid_out dsdt tables) e
     out_of_memory e is = inr (is, has_room)
 
-    not_placed : (e : Refusal) → (e ≢ refusal.OutOfMemory → placed_from fixed (root + count) tables ≡ Err e) → RefusesOrRunsOut (laid_out dsdt tables) e
+    not_placed : (e : Refusal) → (e ≢ refusal.OutOfMemory → placed_from fixed (root + count) tables ≡ Err e)
+        → RefusesOrRunsOut (laid_out dsdt tables) e
     not_placed e named =
-        out_of_memory e (only_memory e (placed_from (fixed_of dsdt) behind_root tables) all.0 all.1 (λ other. rw (fixed_is, count_is) at (named other)))
+        out_of_memory e (only_memory e (placed_from (fixed_of dsdt) behind_root tables) all.0 all.1
+            (λ other. rw (fixed_is, count_is) at (named other)))
 
 pub returns-in_err-check_room-clause-refused : goal.returns-in_err-check_room-clause-refused
 returns-in_err-check_room-clause-refused c =
-    let long = c.in-Some.ensures.there ∙ ap (root_length Xsdt) (c.listed_count.ensures ∙ sym (listed_length (contents c.args.files.now))) in
+    let long = c.in-Some.ensures.there ∙ ap (root_length Xsdt) (c.listed_count.ensures
+        ∙ sym (listed_length (contents c.args.files.now))) in
     let there = sym c.place_one.ensures.value ∙ c.in-Some-place_one.is in
-    refuses _ _ _ c.from_residual.ensures.1 (no_room _ _ _ _ _ c.fixed_of-fixed.ensures long c.in-Some.ensures.low there _ (sym c.check_room.ensures ∙ c.in_err-check_room.was))
+    refuses _ _ _ c.from_residual.ensures.1
+        (no_room _ _ _ _ _ c.fixed_of-fixed.ensures long c.in-Some.ensures.low there _
+        (sym c.check_room.ensures ∙ c.in_err-check_room.was))
 
 pub returns-in_err-tables-clause-refused : goal.returns-in_err-tables-clause-refused
 returns-in_err-tables-clause-refused c =
-    let long = c.in-Some.ensures.there ∙ ap (root_length Xsdt) (c.listed_count.ensures ∙ sym (listed_length (contents c.args.files.now))) in
+    let long = c.in-Some.ensures.there ∙ ap (root_length Xsdt) (c.listed_count.ensures
+        ∙ sym (listed_length (contents c.args.files.now))) in
     let there = sym c.place_one.ensures.value ∙ c.in-Some-place_one.is in
     let room = sym c.check_room.ensures ∙ c.in_ok-check_room.was in
-    refuses _ _ _ c.from_residual-in_err-tables.ensures.1 (not_placed _ _ _ _ _ c.fixed_of-fixed.ensures long c.in-Some.ensures.low there _ room _ c.in_err-tables.ensures.refused)
+    refuses _ _ _ c.from_residual-in_err-tables.ensures.1
+        (not_placed _ _ _ _ _ c.fixed_of-fixed.ensures long c.in-Some.ensures.low there _ room _
+        c.in_err-tables.ensures.refused)
 
 pub returns-in_err-put_all-clause-refused : goal.returns-in_err-put_all-clause-refused
 returns-in_err-put_all-clause-refused c =
-    let long = c.in-Some.ensures.there ∙ ap (root_length Xsdt) (c.listed_count.ensures ∙ sym (listed_length (contents c.args.files.now))) in
+    let long = c.in-Some.ensures.there ∙ ap (root_length Xsdt) (c.listed_count.ensures
+        ∙ sym (listed_length (contents c.args.files.now))) in
     let there = sym c.place_one.ensures.value ∙ c.in-Some-place_one.is in
     let room = sym c.check_room.ensures ∙ c.in_ok-check_room.was in
-    refuses _ _ _ c.from_residual-in_err-put_all.ensures.1 (out_of_memory _ _ _ _ _ c.fixed_of-fixed.ensures long c.in-Some.ensures.low there _ room _ c.in_err-put_all.ensures.refused)
+    refuses _ _ _ c.from_residual-in_err-put_all.ensures.1
+        (out_of_memory _ _ _ _ _ c.fixed_of-fixed.ensures long c.in-Some.ensures.low there _ room _
+        c.in_err-put_all.ensures.refused)

@@ -6,4 +6,5 @@ use Rattle.acpi_pack_lib.specs.Sources.{bytes_of, listed}
 use Rattle.acpi_pack_lib.proofs.place.check_room.Given as goal
 
 abbrev pub invariant-loop-table : goal.invariant-loop-table
-invariant-loop-table l = room (placed_region l.fixed) l.next (bytes_of (entries_left l.table-iterator)) ≡ room (placed_region l.fixed) l.fn.from (listed (contents l.files))
+invariant-loop-table l = room (placed_region l.fixed) l.next (bytes_of (entries_left l.table-iterator))
+    ≡ room (placed_region l.fixed) l.fn.from (listed (contents l.files))

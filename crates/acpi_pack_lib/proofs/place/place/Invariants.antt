@@ -8,4 +8,6 @@ use Rattle.acpi_pack_lib.proofs.place.place.Given as goal
 
 abbrev pub invariant-loop-table : goal.invariant-loop-table
 invariant-loop-table l =
-    behind (placed l.placed.items) (placed_from (placed_region l.fixed) l.next (bytes_of (entries_left l.table-iterator))) ≡ placed_from (placed_region l.fixed) l.fn.from (listed (contents l.files))
+    behind (placed l.placed.items) (placed_from (placed_region l.fixed) l.next
+        (bytes_of (entries_left l.table-iterator))) ≡ placed_from (placed_region l.fixed) l.fn.from
+        (listed (contents l.files))

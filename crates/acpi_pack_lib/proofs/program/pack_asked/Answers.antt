@@ -42,7 +42,8 @@ packed (Ok s) arguments asked names before after start contents shown kept said 
           (subst (λ cs. Ends asked cs said err between) (are_shown ∙ read) ends);
       follows = subst (λ a. Follows a (contents_of asks.reads) said saved saved_after s out out_after between err_after)
           is_asked
-          (subst (λ cs. Follows asked cs said saved saved_after s out out_after between err_after) (are_kept ∙ read) follows);
+          (subst (λ cs. Follows asked cs said saved saved_after s out out_after between err_after) (are_kept ∙ read)
+              follows);
     }
 packed (Err e) arguments asked names before after start contents shown kept said saved saved_after
     out out_after err between err_after is_asked are_named asks at_start are_read are_shown ends are_kept follows = tt

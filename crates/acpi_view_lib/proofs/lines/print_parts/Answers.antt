@@ -1,17 +1,18 @@
+use Rattle.std.proofs.Common.{refl}
 use Rattle.acpi.specs.Opened.{opened_of}
 use Rattle.acpi.specs.Tables.{memory_of}
-use Rattle.acpi_view_lib.proofs.Running.{all_lines, printed_some}
+use Rattle.acpi_view_lib.specs.Output.{lines_of}
+use Rattle.acpi_view_lib.proofs.Reports.{more}
 use Rattle.acpi_view_lib.proofs.lines.print_parts.Goals as goal
 
 pub returns : goal.returns
 returns g c =
-    let tables = c.args.tables.now in
-    printed_some _ _ _ _
-    (all_lines (memory_of tables) (opened_of tables)
-    (rw c.revision_pieces.ensures at c.print_line-printed.ensures)
-    (rw c.headers.ensures.items at c.print_walk-printed.ensures)
-    (rw c.dsdt_pieces.ensures at c.print_line-printed-2.ensures)
-    (rw c.ssdts.ensures.items at c.print_walk-printed-2.ensures)
-    c.print_platform-printed.ensures (rw c.hpet_pieces.ensures at c.print_line-printed-3.ensures)
-    c.print_pci-printed.ensures (rw c.bgrt_pieces.ensures at c.print_line-printed-4.ensures)
-    (rw c.spcr_pieces.ensures at c.print_line.ensures))
+    let platform = c.in_ok-print_platform.ensures in
+    let pci = c.in_ok-print_pci.ensures in (
+      lines_of platform.0 pci.0 (memory_of c.args.tables.now) (opened_of c.args.tables.now),
+      record { platform = platform.0; pci = pci.0; platform_is = platform.1; pci_is = pci.1; whole = refl },
+      more _ _ _ _ _ (more _ _ _ _ _ (more _ _ _ _ _ (more _ _ _ _ _ (more _ _ _ _ _ (more _ _ _ _ _ (more _ _ _ _ _
+          (more _ _ _ _ _ c.in_ok-print_revision.ensures c.in_ok-print_headers.ensures) c.in_ok-print_dsdt.ensures)
+          c.in_ok-print_ssdts.ensures) platform.2) c.in_ok-print_hpet.ensures) pci.2)
+          c.in_ok-print_bgrt.ensures) c.in_ok-print_spcr.ensures,
+    )

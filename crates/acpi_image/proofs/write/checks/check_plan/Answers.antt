@@ -10,5 +10,7 @@ returns g c =
     let some : (c.args.root_address == 0) ≡ false = ne_eqb _ _ c.if-root_address-eq0.false in
     let are : checks.check_tables 0 (placed c.args.tables.now) ≡ Ok tt = grind (arith, common_steps) in
     c.check_places.ensures
-    ∙ places_left (record { address = c.args.rsdp_address; length = 36 }) (record { address = c.args.root_address; length = c.root_length.result }) c.args.revision c.args.tables.now
-    refl c.root_length.ensures some are (sym c.is_short.ensures ∙ c.if-not-is_short.false) (sym c.pointers_fit.ensures ∙ c.if-not-pointers_fit.false)
+    ∙ places_left (record { address = c.args.rsdp_address; length = 36 })
+    (record { address = c.args.root_address; length = c.root_length.result }) c.args.revision c.args.tables.now
+    refl c.root_length.ensures some are (sym c.is_short.ensures ∙ c.if-not-is_short.false)
+    (sym c.pointers_fit.ensures ∙ c.if-not-pointers_fit.false)

@@ -11,5 +11,8 @@ returns-then-shares_byte g c =
 
 pub returns : goal.returns
 returns g c =
-    let placed = two_placed (region_in c.args.rsdp) (region_in c.args.root) c.new-starts.result c.add_place.new.starts c.add_place-2.new.starts c.new-starts.ensures.empty c.if-shares_byte.ensures c.in_ok-add_place.ensures c.in_ok-add_place-2.ensures in
-    IfOk-weaker c.tables_share.result _ _ (λ b says. says (region_in c.args.rsdp ∷ region_in c.args.root ∷ []) placed) c.tables_share.ensures
+    let placed = two_placed (region_in c.args.rsdp) (region_in c.args.root) c.new-starts.result c.add_place.new.starts
+    c.add_place-2.new.starts c.new-starts.ensures.empty c.if-shares_byte.ensures c.in_ok-add_place.ensures
+    c.in_ok-add_place-2.ensures in
+    IfOk-weaker c.tables_share.result _ _ (λ b says. says (region_in c.args.rsdp ∷ region_in c.args.root ∷ []) placed)
+    c.tables_share.ensures
