@@ -66,7 +66,7 @@ pub(crate) enum Mistake<'w> {
 
 /// What the arguments ask for.
 #[derive(Drop)]
-pub(crate) struct Asked<'w> {
+pub(crate) struct Request<'w> {
     /// The names of what is read.
     pub(crate) inputs: Vec<&'w str>,
     /// The kind of the inputs, if it is said.
@@ -143,7 +143,7 @@ fn word_of<'w>(matches: &ArgMatches<'w>, option: &str) -> &'w str {
     matches.get_str(option).unwrap_or("")
 }
 
-impl<'w> Asked<'w> {
+impl<'w> Request<'w> {
     /// Keeps a mistake, unless one was made before.
     fn refuse(&mut self, mistake: Mistake<'w>) {
         if self.mistake.is_none() {
@@ -260,8 +260,8 @@ impl<'w> Asked<'w> {
 
 /// The request that matches make, with the first mistake, in this order: the words of options, memory for the inputs,
 /// the choices, the views, and the way to the root table.
-pub(crate) fn asked_by<'w>(alloc: Global, matches: &ArgMatches<'w>) -> Asked<'w> {
-    let mut asked = Asked {
+pub(crate) fn request_of<'w>(alloc: Global, matches: &ArgMatches<'w>) -> Request<'w> {
+    let mut request = Request {
         inputs: Vec::new(alloc),
         kind: None,
         at: None,
@@ -273,11 +273,11 @@ pub(crate) fn asked_by<'w>(alloc: Global, matches: &ArgMatches<'w>) -> Asked<'w>
         color: Color::Auto,
         mistake: None,
     };
-    asked.add_words(matches);
-    asked.add_inputs(matches);
-    asked.add_choices(matches, "table", Contents::Fields);
-    asked.add_choices(matches, "hex", Contents::Bytes);
-    asked.add_view(matches);
-    asked.take_root(matches);
-    asked
+    request.add_words(matches);
+    request.add_inputs(matches);
+    request.add_choices(matches, "table", Contents::Fields);
+    request.add_choices(matches, "hex", Contents::Bytes);
+    request.add_view(matches);
+    request.take_root(matches);
+    request
 }

@@ -1,10 +1,11 @@
 //! What differs between the tables of two inputs.
 
+use crate::contents::print_name;
 use crate::entries::Entry;
+use crate::fault::Fault;
 use crate::fields::{print_hex, print_meaning, print_value};
 use crate::out::Out;
-use crate::shown::print_name;
-use crate::walk::{Fault, Group, Show, Shown, cut, walk_table};
+use crate::walk::{Field, Group, Show, walk_table};
 use std::alloc::{AllocError, Global};
 use std::io::Write;
 
@@ -53,7 +54,7 @@ impl Items {
 }
 
 impl Show for Items {
-    fn field(&mut self, shown: &Shown<'_>) {
+    fn field(&mut self, shown: &Field<'_>) {
         let start = self.values.length();
         print_value(shown.bytes, shown.meaning, &mut self.values);
         print_meaning(shown.bytes, shown.meaning, &mut self.values);
@@ -152,18 +153,12 @@ fn differences<'a>(
     Ok(found)
 }
 
-/// The letters from one place of a table on to another, or none if it ends before.
-fn letters_in<'a>(entry: &Entry<'a>, start: usize, end: usize) -> &'a [u8] {
-    cut(entry.bytes, start, end).unwrap_or(&[])
-}
-
-/// Whether a table is the same in two inputs, as far as its letters say: its signature and, of an SSDT, its OEM table id.
+/// Whether a table is the same in two inputs, as far as its letters say: its signature and, of an SSDT, its OEM table
+/// id.
 fn is_alike(one: &Entry<'_>, other: &Entry<'_>) -> bool {
-    let signature = letters_in(one, 0, 4);
-    if signature != letters_in(other, 0, 4) {
-        return false;
-    }
-    signature != b"SSDT".as_slice() || letters_in(one, 16, 24) == letters_in(other, 16, 24)
+    let (one, other) = (one.bytes, other.bytes);
+    one.get(..4) == other.get(..4)
+        && (!one.starts_with(b"SSDT") || one.get(16..24) == other.get(16..24))
 }
 
 /// The table of another input that is the same as one by its letters, and by how many with these stand before it.

@@ -4,11 +4,14 @@
 
 mod tables;
 
+ghost use Rattle.json.specs.Reads.{token_of};
+ghost use Rattle.json.specs.Print.{IsPrintable};
+
+use crate::fault::Fault;
 use crate::fields::{number_of, print_hex, print_meaning, print_text, print_value};
 use crate::language::Meaning;
 use crate::out::Out;
-use crate::text::print_fault;
-use crate::walk::{Fault, Group, Show, Shown};
+use crate::walk::{Field, Group, Show};
 use json::{Pretty, Token, is_number};
 use std::alloc::{AllocError, Global};
 use std::fmt::Display;
@@ -41,7 +44,7 @@ impl Document {
             open: Vec::new(alloc),
             is_refused: false,
         };
-        document.begin_object();
+        document.token(Token::BeginObject);
         if part != BEFORE_INPUTS {
             document.inputs(inputs);
         }
@@ -60,13 +63,13 @@ impl Document {
         part: &str,
         out: &mut Out<W>,
     ) -> Result<(), AllocError> {
-        self.end_list();
+        self.token(Token::EndArray);
         if part == BEFORE_INPUTS {
             self.inputs(inputs);
         }
         self.number("version", VERSION);
         self.text("view", view);
-        self.end_object();
+        self.token(Token::EndObject);
         if self.is_refused {
             return Err(AllocError);
         }
@@ -76,68 +79,41 @@ impl Document {
         Ok(())
     }
 
-    /// Begins an object.
-    pub(crate) fn begin_object(&mut self) {
-        let put = self.pieces.token(Token::BeginObject);
-        self.is_refused |= put.is_err();
-    }
-
-    /// Ends an object.
-    pub(crate) fn end_object(&mut self) {
-        let put = self.pieces.token(Token::EndObject);
-        self.is_refused |= put.is_err();
-    }
-
-    /// Adds the name of a member.
-    fn key(&mut self, name: &str) {
-        let put = self.pieces.token(Token::Key(name));
+    /// Adds a piece.
+    pub(crate) fn token(&mut self, token: Token<'_>)
+        requires { IsPrintable (token_of token) }
+    {
+        let put = self.pieces.token(token);
         self.is_refused |= put.is_err();
     }
 
     /// Begins a member that is a list.
     fn begin_list(&mut self, name: &str) {
-        self.key(name);
-        let put = self.pieces.token(Token::BeginArray);
-        self.is_refused |= put.is_err();
-    }
-
-    /// Ends a list.
-    fn end_list(&mut self) {
-        let put = self.pieces.token(Token::EndArray);
-        self.is_refused |= put.is_err();
-    }
-
-    /// Adds a text to a list, or after the name of a member.
-    fn string(&mut self, text: &str) {
-        let put = self.pieces.token(Token::String(text));
-        self.is_refused |= put.is_err();
+        self.token(Token::Key(name));
+        self.token(Token::BeginArray);
     }
 
     /// Adds a text.
     pub(crate) fn text(&mut self, name: &str, text: &str) {
-        self.key(name);
-        self.string(text);
+        self.token(Token::Key(name));
+        self.token(Token::String(text));
     }
 
     /// Adds a number.
     pub(crate) fn number(&mut self, name: &str, number: u64) {
         let mut text = Out::new(Vec::new(self.alloc));
         write!(text, "{number}");
-        self.key(name);
+        self.token(Token::Key(name));
         match text.printed() {
-            Some(digits) if is_number(digits) => {
-                let put = self.pieces.token(Token::Number(digits));
-                self.is_refused |= put.is_err();
-            }
+            Some(digits) if is_number(digits) => self.token(Token::Number(digits)),
             _ => self.is_refused = true,
         }
     }
 
     /// Adds a yes or no.
     pub(crate) fn flag(&mut self, name: &str, is_so: bool) {
-        self.key(name);
-        let put = self.pieces.token(Token::Bool(is_so));
-        self.is_refused |= put.is_err();
+        self.token(Token::Key(name));
+        self.token(Token::Bool(is_so));
     }
 
     /// Adds what was printed.
@@ -178,15 +154,15 @@ impl Document {
     fn inputs(&mut self, inputs: &[&str]) {
         self.begin_list("inputs");
         for name in inputs {
-            self.string(*name);
+            self.token(Token::String(*name));
         }
-        self.end_list();
+        self.token(Token::EndArray);
     }
 }
 
 impl Show for Document {
-    fn field(&mut self, shown: &Shown<'_>) {
-        self.begin_object();
+    fn field(&mut self, shown: &Field<'_>) {
+        self.token(Token::BeginObject);
         self.number("length", shown.bytes.len() as u64);
         if !matches!(shown.meaning, Meaning::Decimal) {
             add_meaning(self, shown);
@@ -197,22 +173,22 @@ impl Show for Document {
         }
         self.number("offset", shown.offset);
         add_value(self, shown);
-        self.end_object();
+        self.token(Token::EndObject);
     }
 
     fn bytes(&mut self, offset: u64, bytes: &[u8]) {
         if bytes.is_empty() {
             return;
         }
-        self.begin_object();
+        self.token(Token::BeginObject);
         self.hex("bytes", bytes);
         self.number("length", bytes.len() as u64);
         self.number("offset", offset);
-        self.end_object();
+        self.token(Token::EndObject);
     }
 
     fn begin(&mut self, group: &Group) {
-        self.begin_object();
+        self.token(Token::BeginObject);
         self.number("entry", group.number);
         self.begin_list("fields");
         let pushed = self.open.push(*group);
@@ -223,28 +199,28 @@ impl Show for Document {
         let Some(group) = self.open.pop() else {
             return;
         };
-        self.end_list();
+        self.token(Token::EndArray);
         self.number("length", group.length);
         self.text("name", group.name);
         self.number("offset", group.offset);
         if let Some(kind) = group.kind {
             self.number("type", kind);
         }
-        self.end_object();
+        self.token(Token::EndObject);
     }
 
     fn malformed(&mut self, offset: u64, fault: Fault) {
         let mut why = Out::new(Vec::new(self.alloc));
-        print_fault(offset, fault, &mut why);
-        self.begin_object();
+        fault.print(offset, &mut why);
+        self.token(Token::BeginObject);
         self.printed("malformed", &why);
         self.number("offset", offset);
-        self.end_object();
+        self.token(Token::EndObject);
     }
 }
 
 /// Adds the value of a field: a number of up to four bytes as one, and else hexadecimal text.
-fn add_value(document: &mut Document, shown: &Shown<'_>) {
+fn add_value(document: &mut Document, shown: &Field<'_>) {
     let is_number = !matches!(
         shown.meaning,
         Meaning::Text | Meaning::Wide | Meaning::Row | Meaning::Guid
@@ -259,7 +235,7 @@ fn add_value(document: &mut Document, shown: &Shown<'_>) {
 }
 
 /// Adds the meaning of a field, if it has one.
-fn add_meaning(document: &mut Document, shown: &Shown<'_>) {
+fn add_meaning(document: &mut Document, shown: &Field<'_>) {
     let mut text = Out::new(Vec::new(document.alloc));
     print_meaning(shown.bytes, shown.meaning, &mut text);
     match text.printed() {

@@ -10,10 +10,9 @@ use acpi::madt::Madt;
 use acpi::mcfg::Mcfg;
 use acpi::sdt::{SdtHeader, Signature, field};
 use acpi::spcr::Spcr;
-use acpi::{
-    AcpiError, AcpiHandler, AcpiResult, AcpiTable, AcpiTables, PhysicalRecord, facs_length,
-};
+use acpi::{AcpiError, AcpiResult, AcpiTable, AcpiTables, PhysicalRecord, facs_length};
 use acpi_base::bytes::byte_sum;
+use acpi_image_reader::MemoryImage;
 use std::alloc::{AllocError, Global};
 
 /// Where a table lies.
@@ -41,10 +40,7 @@ pub(crate) struct Entry<'a> {
 impl Entry<'_> {
     /// The signature that it begins with, if it has so many bytes.
     pub(crate) fn signature(&self) -> Option<Signature> {
-        match self.bytes {
-            [a, b, c, d, ..] => Some(Signature::from_bytes([*a, *b, *c, *d])),
-            _ => None,
-        }
+        signature_of(self.bytes)
     }
 
     /// Whether it has a signature, or should have it, in either case.
@@ -52,6 +48,19 @@ impl Entry<'_> {
         let wanted = wanted.to_bytes();
         is_same(self.signature(), &wanted) || is_same(self.sought, &wanted)
     }
+}
+
+/// The signature that bytes begin with, if there are so many.
+fn signature_of(bytes: &[u8]) -> Option<Signature> {
+    match bytes {
+        [a, b, c, d, ..] => Some(Signature::from_bytes([*a, *b, *c, *d])),
+        _ => None,
+    }
+}
+
+/// The signature that bytes begin with, or four zeros.
+pub(crate) fn own_signature(bytes: &[u8]) -> Signature {
+    signature_of(bytes).unwrap_or(Signature::from_bytes([0, 0, 0, 0]))
 }
 
 /// Whether a signature is these letters in either case.
@@ -132,11 +141,13 @@ fn check_header(lent: &[u8], signature: Signature, cut: AcpiError) -> Status {
 
 /// What the checks say of a FACS (section 5.2.10), over the bytes that there are of it.
 fn check_facs(lent: &[u8], cut: AcpiError) -> Status {
-    let [a, b, c, d, e, f, g, h, ..] = lent else {
+    let Some(signature) = signature_of(lent) else {
         return Status::Refused(cut);
     };
-    let signature = Signature::from_bytes([*a, *b, *c, *d]);
-    match facs_length(signature, u32::from_le_bytes([*e, *f, *g, *h])) {
+    if lent.len() < 8 {
+        return Status::Refused(cut);
+    }
+    match facs_length(signature, field(lent, 4, 4) as u32) {
         Ok(length) if length as usize > lent.len() => Status::Cut {
             refusal: cut,
             has: lent.len(),
@@ -154,26 +165,22 @@ fn entry_of_file(file: &TableFile) -> Entry<'_> {
         Some(address) => Place::Address(address),
         None => Place::File(file.name.as_str()),
     };
-    let signature = match lent {
-        [a, b, c, d, ..] => Signature::from_bytes([*a, *b, *c, *d]),
-        _ => Signature::from_bytes([0, 0, 0, 0]),
-    };
+    let signature = own_signature(lent);
     let cut = AcpiError::SdtInvalidLength(signature);
-    let (bytes, status) = if lent.starts_with(b"RSD PTR ") {
-        let status = match check_file(lent) {
+    let status = if lent.starts_with(b"RSD PTR ") {
+        match check_file(lent) {
             Ok(()) => Status::Valid,
             Err(refusal) => Status::Refused(refusal),
-        };
-        (lent, status)
+        }
     } else if signature == Signature::FACS {
-        (lent, check_facs(lent, cut))
+        check_facs(lent, cut)
     } else {
-        (lent, check_header(lent, signature, cut))
+        check_header(lent, signature, cut)
     };
     Entry {
         place,
         sought: None,
-        bytes,
+        bytes: lent,
         status,
     }
 }
@@ -192,21 +199,23 @@ pub(crate) fn entries_of_files(
     Ok(entries)
 }
 
-/// The bytes that are lent from an address on.
-pub(crate) fn lent_at<H: AcpiHandler>(handler: &H, address: u64) -> &[u8] {
-    match handler.map_physical_region(address, 1) {
-        Ok(lent) => lent,
-        Err(_) => &[],
+/// The bytes of a memory from an address to the end of its record, or none if it lies in no record. They are the file's
+/// own: the memory isn't asked for them as a handler is, so no notice is due.
+pub(crate) fn bytes_from<'i>(image: &MemoryImage<'i>, address: u64) -> &'i [u8] {
+    for record in image.records() {
+        if record.start <= address
+            && let Some(rest @ [_, ..]) = record.bytes.get((address - record.start) as usize..)
+        {
+            return rest;
+        }
     }
+    &[]
 }
 
 /// The table at an address, checked under the signature that it should have, or under its own.
-fn entry_at<H: AcpiHandler>(handler: &H, address: u64, sought: Option<Signature>) -> Entry<'_> {
-    let lent = lent_at(handler, address);
-    let own = match lent {
-        [a, b, c, d, ..] => Signature::from_bytes([*a, *b, *c, *d]),
-        _ => Signature::from_bytes([0, 0, 0, 0]),
-    };
+fn entry_at<'i>(image: &MemoryImage<'i>, address: u64, sought: Option<Signature>) -> Entry<'i> {
+    let lent = bytes_from(image, address);
+    let own = own_signature(lent);
     let status = match sought {
         Some(_) if lent.is_empty() => Status::NotHere,
         Some(signature) if signature == Signature::FACS => check_facs(lent, AcpiError::MapFailed),
@@ -222,13 +231,13 @@ fn entry_at<H: AcpiHandler>(handler: &H, address: u64, sought: Option<Signature>
 }
 
 /// The table that a FADT leads to, or its refusal to say where.
-fn entry_led<'h, H: AcpiHandler>(
-    handler: &'h H,
+fn entry_led<'i>(
+    image: &MemoryImage<'i>,
     address: AcpiResult<u64>,
     signature: Signature,
-) -> Entry<'h> {
+) -> Entry<'i> {
     match address {
-        Ok(address) => entry_at(handler, address, Some(signature)),
+        Ok(address) => entry_at(image, address, Some(signature)),
         Err(refusal) => Entry {
             place: Place::Nowhere,
             sought: Some(signature),
@@ -238,46 +247,30 @@ fn entry_led<'h, H: AcpiHandler>(
     }
 }
 
-/// Adds the DSDT and the FACS that a valid FADT leads to, if one is listed.
-fn add_led<'h, H: AcpiHandler>(
-    handler: &'h H,
-    tables: &AcpiTables<'_, H>,
-    entries: &mut Vec<Entry<'h>>,
-) -> Result<(), AllocError> {
-    let (dsdt, facs) = match &tables.find_table::<Fadt>() {
-        Ok(fadt) => (fadt.get().dsdt_address(), fadt.get().facs_address()),
-        Err(_) => return Ok(()),
-    };
-    entries.extend_from_slice(&[
-        entry_led(handler, dsdt, Signature::DSDT),
-        entry_led(handler, facs, Signature::FACS),
-    ])
-}
-
-/// Adds the root table and its members.
-fn add_listed<'h, H: AcpiHandler>(
-    handler: &'h H,
-    tables: &AcpiTables<'_, H>,
-    entries: &mut Vec<Entry<'h>>,
-) -> Result<(), AllocError> {
-    entries.push(entry_at(handler, tables.root_address(), None))?;
-    for address in tables.addresses() {
-        entries.push(entry_at(handler, address, None))?;
-    }
-    Ok(())
+/// Where a valid FADT says that the DSDT and the FACS lie, if one is listed.
+fn addresses_in(
+    tables: &AcpiTables<'_, MemoryImage<'_>>,
+) -> Option<(AcpiResult<u64>, AcpiResult<u64>)> {
+    let fadt = &tables.find_table::<Fadt>().ok()?;
+    Some((fadt.get().dsdt_address(), fadt.get().facs_address()))
 }
 
 /// The tables that a memory has: the root table, its members, and, if a valid FADT is listed, the DSDT and the FACS
 /// that it leads to.
 ///
 /// Fails if memory runs out.
-pub(crate) fn entries_of<'h, H: AcpiHandler>(
+pub(crate) fn entries_of<'i>(
     alloc: Global,
-    handler: &'h H,
-    tables: &AcpiTables<'_, H>,
-) -> Result<Vec<Entry<'h>>, AllocError> {
-    let mut entries = Vec::new(alloc);
-    add_listed(handler, tables, &mut entries)?;
-    add_led(handler, tables, &mut entries)?;
+    image: &MemoryImage<'i>,
+    tables: &AcpiTables<'_, MemoryImage<'_>>,
+) -> Result<Vec<Entry<'i>>, AllocError> {
+    let mut entries = vec![in alloc; entry_at(image, tables.root_address(), None)]?;
+    for address in tables.addresses() {
+        entries.push(entry_at(image, address, None))?;
+    }
+    if let Some((dsdt, facs)) = addresses_in(tables) {
+        entries.push(entry_led(image, dsdt, Signature::DSDT))?;
+        entries.push(entry_led(image, facs, Signature::FACS))?;
+    }
     Ok(entries)
 }

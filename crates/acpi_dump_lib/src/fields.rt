@@ -1,10 +1,11 @@
 //! Fields, one a line: offset, name, value, meaning.
 
+use crate::fault::Fault;
 use crate::language;
 use crate::language::{Meaning, cut_at, next_word};
 use crate::out::Out;
 use crate::text::print_indent;
-use crate::walk::Shown;
+use crate::walk::Field;
 use acpi::sdt::field;
 use std::io::Write;
 
@@ -31,7 +32,7 @@ pub(crate) fn print_hex<W: Write>(bytes: &[u8], out: &mut Out<W>) {
 const VALUES: usize = 46;
 
 /// Prints one field, in a structure so deep in others.
-pub(crate) fn print_field<W: Write>(shown: &Shown<'_>, depth: usize, out: &mut Out<W>) {
+pub(crate) fn print_field<W: Write>(shown: &Field<'_>, depth: usize, out: &mut Out<W>) {
     print_indent(depth, out);
     write!(out, "{:04x}  {}", shown.offset, shown.name);
     let mut column = depth
@@ -105,10 +106,10 @@ pub(crate) fn print_text<W: Write>(bytes: &[u8], out: &mut Out<W>) {
 }
 
 /// Prints the meaning of a number that is a code.
-fn print_code<W: Write>(number: u64, codes: &str, out: &mut Out<W>) {
+fn print_code<W: Write>(number: u64, codes: &'static str, out: &mut Out<W>) {
     for item in codes.split(['|', '\n']) {
         let (code, name) = next_word(item);
-        if !code.is_empty() && language::number_of(code) == number {
+        if language::number_of(code).ok() == Some(number) {
             out.text("  ");
             return out.text(name.trim_ascii());
         }
@@ -129,44 +130,60 @@ fn bits_of(number: u64, first: u64, last: u64) -> u64 {
     }
 }
 
-/// Prints the parts of a number that aren't 0, and the meanings of those that are codes.
-fn print_flags<W: Write>(number: u64, flags: &str, out: &mut Out<W>) {
-    let mut is_first = true;
-    for item in flags.split(['|', '\n']) {
-        let (bits, name) = next_word(item);
-        if !bits.is_empty() && print_flag(number, is_first, bits, name, out) {
-            is_first = false;
+/// The bits of a number that a word says, and the code that they have to be if it says one: `BIT`, `HIGH:LOW` or
+/// `HIGH:LOW/NUMBER`.
+#[derive(Clone, Copy)]
+struct Flag {
+    first: u64,
+    last: u64,
+    code: Option<u64>,
+}
+
+impl Flag {
+    /// The bits that a word says.
+    fn read(word: &'static str) -> Result<Flag, Fault> {
+        let (bits, code) = cut_at(word, '/');
+        let (highest, lowest) = cut_at(bits, ':');
+        let last = language::number_of(highest)?;
+        let first = if lowest.is_empty() {
+            last
+        } else {
+            language::number_of(lowest)?
+        };
+        let code = if code.is_empty() {
+            None
+        } else {
+            Some(language::number_of(code)?)
+        };
+        Ok(Flag { first, last, code })
+    }
+
+    /// Whether it says something of a number: that the bits are its code, or aren't 0.
+    fn is_in(self, number: u64) -> bool {
+        let part = bits_of(number, self.first, self.last);
+        match self.code {
+            Some(code) => part == code,
+            None => part != 0,
         }
     }
 }
 
-/// Prints a part of a number, by the word for its bits, after a comma if it isn't the first that is
-/// printed. It answers whether there is something to print.
-fn print_flag<W: Write>(
-    number: u64,
-    is_first: bool,
-    bits: &str,
-    name: &str,
-    out: &mut Out<W>,
-) -> bool {
-    let (bits, code) = cut_at(bits, '/');
-    let (highest, lowest) = cut_at(bits, ':');
-    let last = language::number_of(highest);
-    let first = if lowest.is_empty() {
-        last
-    } else {
-        language::number_of(lowest)
-    };
-    let part = bits_of(number, first, last);
-    if code.is_empty() && part == 0 || !code.is_empty() && part != language::number_of(code) {
-        return false;
+/// Prints the parts of a number that aren't 0, and the meanings of those that are codes.
+fn print_flags<W: Write>(number: u64, flags: &'static str, out: &mut Out<W>) {
+    let mut is_first = true;
+    for item in flags.split(['|', '\n']) {
+        let (word, name) = next_word(item);
+        if let Ok(flag) = Flag::read(word)
+            && flag.is_in(number)
+        {
+            out.text(if is_first { "  " } else { ", " });
+            out.text(name.trim_ascii());
+            if flag.code.is_none() && flag.first < flag.last {
+                write!(out, " {}", bits_of(number, flag.first, flag.last));
+            }
+            is_first = false;
+        }
     }
-    out.text(if is_first { "  " } else { ", " });
-    out.text(name.trim_ascii());
-    if code.is_empty() && first < last {
-        write!(out, " {part}");
-    }
-    true
 }
 
 /// Prints a text in UTF-16 as characters, those that aren't printable ASCII as `.`, up to a zero.

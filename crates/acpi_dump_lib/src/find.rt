@@ -4,6 +4,7 @@ use crate::document::Document;
 use crate::input::candidates::Candidate;
 use crate::language::cut_at;
 use crate::out::Out;
+use json::Token;
 use std::io::Write;
 
 /// Prints a line for each RSDP: its address, what it points to, and what the checks say.
@@ -26,7 +27,7 @@ pub(crate) fn print_candidates<W: Write>(found: &[Candidate], out: &mut Out<W>) 
 
 /// Adds an RSDP.
 fn add_candidate(document: &mut Document, candidate: &Candidate) {
-    document.begin_object();
+    document.token(Token::BeginObject);
     document.address("address", candidate.address);
     if let Some(fields) = candidate.fields {
         document.number("revision", fields.revision as u64);
@@ -42,7 +43,7 @@ fn add_candidate(document: &mut Document, candidate: &Candidate) {
     {
         document.address("xsdt", xsdt);
     }
-    document.end_object();
+    document.token(Token::EndObject);
 }
 
 /// Adds RSDPs.
@@ -64,9 +65,9 @@ pub(crate) fn print_facts<W: Write>(facts: &str, out: &mut Out<W>) {
 pub(crate) fn add_fact_lines(document: &mut Document, facts: &str) {
     for fact in facts.lines() {
         let (name, text) = cut_at(fact, '\t');
-        document.begin_object();
+        document.token(Token::BeginObject);
         document.text("name", name);
         document.text("value", text);
-        document.end_object();
+        document.token(Token::EndObject);
     }
 }

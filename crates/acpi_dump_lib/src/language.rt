@@ -24,7 +24,11 @@
 //! `row` (numbers of a byte), `guid`, `fn` (bus, device and function), `path` (device and function),
 //! `gas` (a generic address), `codes` (`| NUMBER MEANING` for each) or `flags`: `| BIT NAME`, `| HIGH:LOW
 //! NAME` for a number, `| HIGH:LOW/NUMBER MEANING` for a code. `| @BLOCK` takes them from a block.
+//!
+//! A word that isn't understood, and the name of a block that isn't there, is the fault `Unread`.
+//! `scripts/check_layouts` reads every layout, and so finds it before a table does.
 
+use crate::fault::Fault;
 use acpi::sdt::field;
 
 /// The meaning of a field's bytes. What follows the name of a field is the text of its codes or flags.
@@ -54,13 +58,18 @@ pub(crate) enum Meaning {
     Register,
 }
 
-/// A block: the length of the structure if its type determines it, its title, and its lines.
+/// A block: the parts of its first line, and the others.
 #[derive(Clone, Copy)]
 pub(crate) struct Block {
+    name: &'static str,
+    kinds: &'static str,
     pub(crate) size: &'static str,
     pub(crate) title: &'static str,
     pub(crate) lines: &'static str,
 }
+
+/// How many blocks a text has at most.
+const MOST: usize = 40;
 
 /// A number that a sum gives, and the offset after the last place that it reads.
 #[derive(Clone, Copy)]
@@ -80,12 +89,12 @@ pub(crate) fn next_word(line: &str) -> (&str, &str) {
 }
 
 /// The number that a word is, in decimal digits or after `0x` in hexadecimal ones.
-pub(crate) fn number_of(word: &str) -> u64 {
+pub(crate) fn number_of(word: &'static str) -> Result<u64, Fault> {
     let number = match word.strip_prefix("0x") {
         Some(digits) => u64::from_str_radix(digits, 16),
         None => word.parse::<u64>(),
     };
-    number.unwrap_or(0)
+    number.or(Err(Fault::Unread(word)))
 }
 
 /// Whether a word is a number by itself.
@@ -103,122 +112,148 @@ fn number_at(bytes: &[u8], offset: usize, length: usize) -> u64 {
 }
 
 /// The number of a factor: a number, or the number at a place of bytes.
-fn factor_of(word: &str, bytes: &[u8]) -> Sum {
+fn factor_of(word: &'static str, bytes: &[u8]) -> Result<Sum, Fault> {
     let (offset, length) = cut_at(word, ':');
+    let number = number_of(offset)?;
     if length.is_empty() {
-        return Sum {
-            number: number_of(word),
-            end: 0,
-        };
+        return Ok(Sum { number, end: 0 });
     }
-    let offset = number_of(offset) as usize;
-    let length = number_of(length) as usize;
-    Sum {
-        number: number_at(bytes, offset, length),
-        end: offset.saturating_add(length),
-    }
+    let (offset, length) = (number as usize, number_of(length)? as usize);
+    let number = number_at(bytes, offset, length);
+    let end = offset.saturating_add(length);
+    Ok(Sum { number, end })
 }
 
 /// The product of the factors of a term.
-fn product_of(term: &str, bytes: &[u8]) -> Sum {
-    let mut product = Sum { number: 1, end: 0 };
+fn product_of(term: &'static str, bytes: &[u8]) -> Result<Sum, Fault> {
+    let (mut number, mut end) = (1u64, 0usize);
     for word in term.split('*') {
-        let factor = factor_of(word, bytes);
-        product = Sum {
-            number: product.number.saturating_mul(factor.number),
-            end: product.end.max(factor.end),
-        };
+        let factor = factor_of(word, bytes)?;
+        number = number.saturating_mul(factor.number);
+        end = end.max(factor.end);
     }
-    product
+    Ok(Sum { number, end })
 }
 
 /// The number that a sum gives over the bytes of a structure.
-pub(crate) fn sum_of(word: &str, bytes: &[u8]) -> Sum {
-    let mut sum = Sum { number: 0, end: 0 };
+pub(crate) fn sum_of(word: &'static str, bytes: &[u8]) -> Result<Sum, Fault> {
+    let (mut number, mut end) = (0u64, 0usize);
     for added in word.split('+') {
         let (term, taken) = cut_at(added, '-');
-        let term = product_of(term, bytes);
-        let taken = if taken.is_empty() {
-            Sum { number: 0, end: 0 }
-        } else {
-            product_of(taken, bytes)
-        };
-        sum = Sum {
-            number: sum
-                .number
-                .saturating_add(term.number)
-                .saturating_sub(taken.number),
-            end: sum.end.max(term.end).max(taken.end),
-        };
+        let term = product_of(term, bytes)?;
+        number = number.saturating_add(term.number);
+        end = end.max(term.end);
+        if !taken.is_empty() {
+            let taken = product_of(taken, bytes)?;
+            number = number.saturating_sub(taken.number);
+            end = end.max(taken.end);
+        }
     }
-    sum
+    Ok(Sum { number, end })
 }
 
-/// The block of a text with a name, for structures of a type, or for what all of them begin with.
-pub(crate) fn find_block(text: &'static str, name: &str, kind: Option<u64>) -> Option<Block> {
-    for block in text.split('=') {
-        let (head, lines) = cut_at(block, '\n');
-        let (word, head) = next_word(head);
-        if word == name {
-            let (kinds, head) = next_word(head);
-            let (size, title) = next_word(head);
-            if is_of_kind(kinds, kind) {
-                return Some(Block {
-                    size,
-                    title: title.trim_ascii_start(),
-                    lines,
-                });
+impl Block {
+    /// What stands in place of a block that isn't there: no structure has its name.
+    pub(crate) const NONE: Block = Block {
+        name: "",
+        kinds: "",
+        size: "",
+        title: "",
+        lines: "",
+    };
+
+    /// The block that a text after a `=` describes.
+    fn read(text: &'static str) -> Block {
+        let (head, lines) = cut_at(text, '\n');
+        let (name, head) = next_word(head);
+        let (kinds, head) = next_word(head);
+        let (size, title) = next_word(head);
+        let title = title.trim_ascii_start();
+        Block {
+            name,
+            kinds,
+            size,
+            title,
+            lines,
+        }
+    }
+
+    /// Whether it is for structures of a type, or for what all of them begin with.
+    fn is_of_kind(&self, kind: Option<u64>) -> Result<bool, Fault> {
+        let Some(kind) = kind else {
+            return Ok(self.kinds == "*");
+        };
+        if self.kinds == "*" {
+            return Ok(false);
+        }
+        let (first, last) = cut_at(self.kinds, '-');
+        let last = if last.is_empty() { first } else { last };
+        Ok(number_of(first)? <= kind && kind <= number_of(last)?)
+    }
+}
+
+/// The blocks of a text. Each look-up goes over their names, and the text is read once.
+#[derive(Clone, Copy)]
+pub(crate) struct Blocks {
+    list: [Block; MOST],
+}
+
+impl Blocks {
+    /// The blocks of a text.
+    pub(crate) fn read(text: &'static str) -> Blocks {
+        let mut list = [Block::NONE; MOST];
+        let mut count = 0usize;
+        for block in text.split('=').skip(1) {
+            if count < MOST {
+                list[count] = Block::read(block);
+                count += 1;
             }
         }
+        Blocks { list }
     }
-    None
-}
 
-/// The lines of the block that the first word names.
-pub(crate) fn lines_of(text: &'static str, rest: &str) -> &'static str {
-    let (name, _) = next_word(rest);
-    match find_block(text, name, None) {
-        Some(block) => block.lines,
-        None => "",
-    }
-}
-
-/// Whether a type is one of those that a block is for.
-fn is_of_kind(kinds: &str, kind: Option<u64>) -> bool {
-    match kind {
-        None => kinds == "*",
-        Some(kind) => {
-            let (first, last) = cut_at(kinds, '-');
-            let last = if last.is_empty() { first } else { last };
-            kinds != "*" && number_of(first) <= kind && kind <= number_of(last)
+    /// The block with a name, for structures of a type, or for what all of them begin with.
+    pub(crate) fn find(&self, name: &str, kind: Option<u64>) -> Result<Option<Block>, Fault> {
+        for block in &self.list {
+            if block.name == name && block.is_of_kind(kind)? {
+                return Ok(Some(*block));
+            }
         }
+        Ok(None)
     }
-}
 
-/// The meaning of a field, and its name, by what a line says after the length.
-pub(crate) fn field_of(text: &'static str, rest: &'static str) -> (Meaning, &'static str) {
-    let (word, rest) = next_word(rest);
-    let (name, items) = cut_at(rest, '|');
-    let meaning = match word {
-        "dec" => Meaning::Decimal,
-        "text" => Meaning::Text,
-        "wide" => Meaning::Wide,
-        "row" => Meaning::Row,
-        "guid" => Meaning::Guid,
-        "fn" => Meaning::Function,
-        "path" => Meaning::Path,
-        "gas" => Meaning::Register,
-        "codes" => Meaning::Codes(items_of(text, items)),
-        "flags" => Meaning::Flags(items_of(text, items)),
-        _ => Meaning::Plain,
-    };
-    (meaning, name.trim_ascii())
-}
+    /// The block that the first word names.
+    pub(crate) fn named(&self, rest: &'static str) -> Result<Block, Fault> {
+        let (name, _) = next_word(rest);
+        self.find(name, None)?.ok_or(Fault::Unread(name))
+    }
 
-/// The codes or flags that a line gives, or the block that it names.
-fn items_of(text: &'static str, items: &'static str) -> &'static str {
-    match items.trim_ascii().strip_prefix('@') {
-        Some(name) => lines_of(text, name),
-        None => items,
+    /// The meaning of a field, and its name, by what a line says after the length.
+    pub(crate) fn field(&self, rest: &'static str) -> Result<(Meaning, &'static str), Fault> {
+        let (word, rest) = next_word(rest);
+        let (name, items) = cut_at(rest, '|');
+        let meaning = match word {
+            "-" => Meaning::Plain,
+            "dec" => Meaning::Decimal,
+            "text" => Meaning::Text,
+            "wide" => Meaning::Wide,
+            "row" => Meaning::Row,
+            "guid" => Meaning::Guid,
+            "fn" => Meaning::Function,
+            "path" => Meaning::Path,
+            "gas" => Meaning::Register,
+            "codes" => Meaning::Codes(self.items(items)?),
+            "flags" => Meaning::Flags(self.items(items)?),
+            _ => return Err(Fault::Unread(word)),
+        };
+        Ok((meaning, name.trim_ascii()))
+    }
+
+    /// The codes or flags that a line gives, or those of the block that it names.
+    fn items(&self, items: &'static str) -> Result<&'static str, Fault> {
+        match items.trim_ascii().strip_prefix('@') {
+            Some(name) => Ok(self.named(name)?.lines),
+            None => Ok(items),
+        }
     }
 }

@@ -13,45 +13,40 @@ mod processors;
 mod roots;
 mod trust;
 
-use crate::language::find_block;
+use crate::language::Blocks;
 use acpi::sdt::Signature;
 pub(crate) use roots::HEADER;
 
-/// How many texts of layouts there are.
-const TEXTS: u8 = 17;
+/// The texts of layouts.
+const TEXTS: [&str; 17] = [
+    roots::ROOTS,
+    interrupts::MADT,
+    interrupts::GTDT,
+    localities::LOCALITIES,
+    devices::PORTS,
+    devices::TIMERS,
+    boot::BOOT,
+    errors::ERRORS,
+    iommu::DMAR,
+    iommu::IVRS,
+    iommu::IORT,
+    memory::MEMORY,
+    memory::NFIT,
+    trust::TRUST,
+    processors::PROCESSORS,
+    processors::MACHINES,
+    management::MANAGEMENT,
+];
 
-/// The text of layouts with this number.
-fn text_at(number: u8) -> &'static str {
-    match number {
-        0 => roots::ROOTS,
-        1 => interrupts::MADT,
-        2 => interrupts::GTDT,
-        3 => localities::LOCALITIES,
-        4 => devices::PORTS,
-        5 => devices::TIMERS,
-        6 => boot::BOOT,
-        7 => errors::ERRORS,
-        8 => iommu::DMAR,
-        9 => iommu::IVRS,
-        10 => iommu::IORT,
-        11 => memory::MEMORY,
-        12 => memory::NFIT,
-        13 => trust::TRUST,
-        14 => processors::PROCESSORS,
-        15 => processors::MACHINES,
-        _ => management::MANAGEMENT,
-    }
-}
-
-/// The text that has the layout of a table with this signature, and its lines after the header. A FACS has
-/// no header: these are then all of its lines.
-pub(crate) fn layout_of(signature: Signature) -> (&'static str, &'static str) {
+/// The blocks among which the layout of a table with this signature is, and its lines after the header: none if no text
+/// has it. A FACS has no header: these are then all of its lines.
+pub(crate) fn layout_of(signature: Signature) -> (Blocks, &'static str) {
     let name = signature.as_str().unwrap_or("");
-    for number in 0..TEXTS {
-        let text = text_at(number);
-        if let Some(block) = find_block(text, name, None) {
-            return (text, block.lines);
+    for text in &TEXTS {
+        let blocks = Blocks::read(*text);
+        if let Ok(Some(block)) = blocks.find(name, None) {
+            return (blocks, block.lines);
         }
     }
-    ("", "")
+    (Blocks::read(""), "")
 }

@@ -1,7 +1,7 @@
 //! The ACPI tables of an input: one line a table, the fields or the bytes of some, or the machine in short.
 //!
-//! Every function returns for every input, without fault. The tables of acpidump's text are exact by a definition; which
-//! bytes are printed is tested, and not proved.
+//! Every function returns for every input, without fault. The tables of acpidump's text are exact by a definition;
+//! which bytes are printed is tested, and not proved.
 #![tactic(auto)]
 
 mod arguments;
@@ -10,6 +10,7 @@ mod contents;
 mod document;
 mod entries;
 mod errors;
+mod fault;
 mod fields;
 mod find;
 mod getters;
@@ -22,7 +23,6 @@ mod options;
 mod out;
 mod paint;
 pub mod run;
-mod shown;
 pub mod sources;
 mod status;
 mod summary;

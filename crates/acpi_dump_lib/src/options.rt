@@ -4,8 +4,8 @@ use crate::language::next_word;
 use clap::{Arg, ArgAction, Command};
 use std::alloc::{AllocError, Global};
 
-/// The options, a line for each: what it is called, what it takes, and what the help says of it. It takes nothing (`-`),
-/// one value, or with `..` after the value's name a value each time that it comes, or several between commas.
+/// The options, a line for each: what it is called, what it takes, and what the help says of it. It takes nothing
+/// (`-`), one value, or with `..` after the value's name a value each time that it comes, or several between commas.
 const OPTIONS: &str = "as KIND What the input is: image, memory, text or table
 at ADDRESS The address of raw memory's first byte
 start START The way to the root table: rsdt:REVISION:ADDRESS, rsdp:ADDRESS or bios

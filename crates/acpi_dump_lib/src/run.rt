@@ -1,6 +1,6 @@
 //! The program over any files and any writers.
 
-use crate::arguments::{Asked, Color, Mistake, View, WrongWord, asked_by};
+use crate::arguments::{Color, Mistake, Request, View, WrongWord, request_of};
 use crate::errors::tell_word;
 use crate::input::gather::{Input, gather};
 use crate::input::read::Reading;
@@ -53,23 +53,12 @@ fn print_asked<S: Sources, W: Write, E: Write>(
     err: &mut Out<E>,
 ) -> Result<u8, AllocError> {
     let parsed = command(alloc)?.try_get_matches_from(arguments);
-    match &parsed {
-        Ok(matches) => print_matched(alloc, matches, sources, out, err),
-        Err(refusal) => print_refusal(alloc, refusal, out, err),
-    }
-}
-
-/// Prints what the matches of arguments ask for.
-fn print_matched<S: Sources, W: Write, E: Write>(
-    alloc: Global,
-    matches: &ArgMatches<'_>,
-    sources: &mut S,
-    out: &mut Out<W>,
-    err: &mut Out<E>,
-) -> Result<u8, AllocError> {
-    let asked = asked_by(alloc, matches);
-    match asked.mistake {
-        None => print_inputs(alloc, &asked, sources, out, err),
+    let request = match &parsed {
+        Ok(matches) => &request_of(alloc, matches),
+        Err(refusal) => return print_refusal(alloc, refusal, out, err),
+    };
+    match request.mistake {
+        None => print_inputs(alloc, request, sources, out, err),
         Some(Mistake::Word(wrong)) => {
             tell_word(err, wrong);
             Ok(2)
@@ -99,33 +88,28 @@ fn print_refusal<W: Write, E: Write>(
     Ok(0)
 }
 
-/// Whether colors are printed.
-fn paint_of<S: Sources>(color: Color, sources: &mut S) -> Paint {
-    let is_on = match color {
-        Color::Auto => sources.takes_color(),
-        Color::Always => true,
-        Color::Never => false,
-    };
-    Paint { is_on }
-}
-
 /// Prints what is asked for of the inputs.
 fn print_inputs<S: Sources, W: Write, E: Write>(
     alloc: Global,
-    asked: &Asked<'_>,
+    request: &Request<'_>,
     sources: &mut S,
     out: &mut Out<W>,
     err: &mut Out<E>,
 ) -> Result<u8, AllocError> {
+    let is_on = match request.color {
+        Color::Auto => sources.takes_color(),
+        Color::Always => true,
+        Color::Never => false,
+    };
     let output = Output {
         alloc,
-        asked,
-        paint: paint_of(asked.color, sources),
+        request,
+        paint: Paint { is_on },
     };
-    if matches!(asked.view, View::Differences) {
+    if matches!(request.view, View::Differences) {
         return print_two(output, sources, out, err);
     }
-    match &gather_named(output, &asked.inputs, sources, err)? {
+    match &gather_named(output, &request.inputs, sources, err)? {
         Some(input) => print_input(output, input, out, err),
         None => Ok(1),
     }
@@ -138,33 +122,19 @@ fn print_two<S: Sources, W: Write, E: Write>(
     out: &mut Out<W>,
     err: &mut Out<E>,
 ) -> Result<u8, AllocError> {
-    let [old, new] = output.asked.inputs.as_slice() else {
-        tell_word(
-            err,
-            WrongWord {
-                option: "compare",
-                word: "it takes two inputs",
-                usage: "A B",
-            },
-        );
+    let [old, new] = output.request.inputs.as_slice() else {
+        let wrong = WrongWord {
+            option: "compare",
+            word: "it takes two inputs",
+            usage: "A B",
+        };
+        tell_word(err, wrong);
         return Ok(2);
     };
-    match &gather_named(output, &[*old], sources, err)? {
-        Some(first) => print_beside(output, first, *new, sources, out, err),
-        None => Ok(1),
-    }
-}
-
-/// Prints what differs between an input and the one of this name.
-fn print_beside<S: Sources, W: Write, E: Write>(
-    output: Output<'_, '_>,
-    first: &Input,
-    name: &str,
-    sources: &mut S,
-    out: &mut Out<W>,
-    err: &mut Out<E>,
-) -> Result<u8, AllocError> {
-    match &gather_named(output, &[name], sources, err)? {
+    let Some(first) = &gather_named(output, &[*old], sources, err)? else {
+        return Ok(1);
+    };
+    match &gather_named(output, &[*new], sources, err)? {
         Some(second) => print_compared(output, first, second, out, err),
         None => Ok(1),
     }
@@ -178,8 +148,8 @@ fn gather_named<S: Sources, E: Write>(
     err: &mut Out<E>,
 ) -> Result<Option<Input>, AllocError> {
     let reading = Reading {
-        kind: output.asked.kind,
-        at: output.asked.at,
+        kind: output.request.kind,
+        at: output.request.at,
     };
     gather(output.alloc, names, reading, sources, err)
 }

@@ -3,9 +3,10 @@
 mod compared;
 mod packed;
 
-use crate::arguments::{Asked, View};
+use crate::arguments::{Request, View};
+use crate::contents::{missing, print_tables};
 use crate::document::{Document, add_all, add_chosen};
-use crate::entries::{Entry, entries_of, entries_of_files, lent_at};
+use crate::entries::{Entry, bytes_from, entries_of, entries_of_files};
 use crate::errors::tell;
 use crate::find::{add_candidates, add_fact_lines, print_candidates, print_facts};
 use crate::input::candidates::{Candidate, candidates, ebda_of, starts};
@@ -14,7 +15,6 @@ use crate::input::tables::TableFile;
 use crate::listing::print_lines;
 use crate::out::Out;
 use crate::paint::Paint;
-use crate::shown::{missing, print_tables};
 use crate::summary::{Facts, add_facts};
 use acpi::{AcpiError, AcpiTables};
 use acpi_cli::root::Root;
@@ -28,7 +28,7 @@ use std::io::Write;
 #[derive(Clone, Copy)]
 pub(crate) struct Output<'o, 'w> {
     pub(crate) alloc: Global,
-    pub(crate) asked: &'o Asked<'w>,
+    pub(crate) request: &'o Request<'w>,
     pub(crate) paint: Paint,
 }
 
@@ -44,7 +44,7 @@ enum Loaded<'i> {
 impl<'w> Output<'_, 'w> {
     /// The name of the input of this number.
     fn name(self, number: usize) -> &'w str {
-        match self.asked.inputs.get(number) {
+        match self.request.inputs.get(number) {
             Some(name) => *name,
             None => "/sys/firmware/acpi/tables",
         }
@@ -52,7 +52,7 @@ impl<'w> Output<'_, 'w> {
 
     /// The beginning of a document of what a view shows in the member of this name.
     fn document(self, part: &str) -> Document {
-        Document::new(self.alloc, &self.asked.inputs, part)
+        Document::new(self.alloc, &self.request.inputs, part)
     }
 
     /// Prints a document that is begun so.
@@ -63,7 +63,7 @@ impl<'w> Output<'_, 'w> {
         part: &str,
         out: &mut Out<W>,
     ) -> Result<(), AllocError> {
-        document.print(view, &self.asked.inputs, part, out)
+        document.print(view, &self.request.inputs, part, out)
     }
 }
 
@@ -86,12 +86,6 @@ fn load<'i, E: Write>(
     }
 }
 
-/// The addresses of the valid RSDPs that a search of a memory finds.
-fn addresses_in(alloc: Global, image: &MemoryImage<'_>) -> Result<Vec<u64>, AllocError> {
-    let found = candidates(alloc, image)?;
-    starts(alloc, &found, ebda_of(lent_at(image, 0x40e)))
-}
-
 /// Says that there are several valid RSDPs.
 fn tell_several<E: Write>(name: &str, addresses: &[u64], err: &mut Out<E>) {
     write!(err, "acpi_dump: {name}: valid RSDPs at");
@@ -109,26 +103,21 @@ fn start_of<E: Write>(
     image: &MemoryImage<'_>,
     err: &mut Out<E>,
 ) -> Result<Option<Root>, AllocError> {
-    if output.asked.start.is_some() {
-        return Ok(output.asked.start);
+    if output.request.start.is_some() {
+        return Ok(output.request.start);
     }
     let name = output.name(number);
-    let addresses = addresses_in(output.alloc, image)?;
-    let first = addresses.first().copied();
-    if addresses.len() > 1 {
-        tell_several(name, &addresses, err);
+    let ebda = ebda_of(bytes_from(image, 0x40e));
+    let addresses = &starts(output.alloc, &candidates(output.alloc, image)?, ebda)?;
+    let [address, others @ ..] = addresses.as_slice() else {
+        let what = "no valid RSDP: --find shows those that there are, --start says where to begin";
+        tell(err, name, &what);
+        return Ok(None);
+    };
+    if !others.is_empty() {
+        tell_several(name, addresses, err);
     }
-    if first.is_none() {
-        tell(
-            err,
-            name,
-            &"no valid RSDP: --find shows those that there are, --start says where to begin",
-        );
-    }
-    match first {
-        Some(address) => Ok(Some(Root::Rsdp { address })),
-        None => Ok(None),
-    }
+    Ok(Some(Root::Rsdp { address: *address }))
 }
 
 /// Says why the root table isn't opened.
@@ -199,7 +188,7 @@ fn print_loaded<W: Write, E: Write>(
     err: &mut Out<E>,
 ) -> Result<u8, AllocError> {
     if let Loaded::Tables(_) = loaded
-        && output.asked.start.is_some()
+        && output.request.start.is_some()
     {
         tell(
             err,
@@ -208,7 +197,7 @@ fn print_loaded<W: Write, E: Write>(
         );
         return Ok(2);
     }
-    match output.asked.view {
+    match output.request.view {
         View::Candidates => print_found(output, loaded, out, err),
         View::Summary => print_summary(output, loaded, out, err),
         _ => match &entries_in(output, 0, loaded, err)? {
@@ -225,9 +214,9 @@ fn print_entries<W: Write, E: Write>(
     out: &mut Out<W>,
     err: &mut Out<E>,
 ) -> Result<u8, AllocError> {
-    let choices = output.asked.choices.as_slice();
-    let is_chosen = matches!(output.asked.view, View::Tables);
-    if output.asked.is_json {
+    let choices = output.request.choices.as_slice();
+    let is_chosen = matches!(output.request.view, View::Tables);
+    if output.request.is_json {
         print_document(output, entries, is_chosen, out)?;
     } else if is_chosen {
         print_tables(entries, choices, output.paint, out);
@@ -249,7 +238,7 @@ fn print_document<W: Write>(
 ) -> Result<(), AllocError> {
     let mut document = output.document("tables");
     if is_chosen {
-        add_chosen(&mut document, entries, &output.asked.choices);
+        add_chosen(&mut document, entries, &output.request.choices);
     } else {
         add_all(&mut document, entries);
     }
@@ -260,7 +249,7 @@ fn print_document<W: Write>(
 /// The status if all is shown: 3 if a table is invalid and that counts.
 fn strict_status(output: Output<'_, '_>, entries: &[Entry<'_>]) -> u8 {
     for entry in entries {
-        if output.asked.is_strict && entry.status.is_invalid() {
+        if output.request.is_strict && entry.status.is_invalid() {
             return 3;
         }
     }
@@ -293,7 +282,7 @@ fn print_rsdps<W: Write, E: Write>(
     out: &mut Out<W>,
     err: &mut Out<E>,
 ) -> Result<u8, AllocError> {
-    if output.asked.is_json {
+    if output.request.is_json {
         let mut document = output.document("rsdps");
         add_candidates(&mut document, found);
         output.print(document, "find", "rsdps", out)?;
@@ -351,7 +340,7 @@ fn print_summary<W: Write, E: Write>(
     let Some(facts) = facts.printed() else {
         return Err(AllocError);
     };
-    if output.asked.is_json {
+    if output.request.is_json {
         let mut document = output.document("facts");
         add_fact_lines(&mut document, facts);
         output.print(document, "summary", "facts", out)?;

@@ -5,12 +5,12 @@ mod parts;
 
 ghost use Rattle.std.specs.Prelude.{◌<◌, length};
 
-use crate::language::{Meaning, is_number, lines_of, next_word, number_of, sum_of};
+use crate::fault::Fault;
+use crate::language::{Meaning, is_number, next_word, number_of, sum_of};
 use crate::layouts::{HEADER, layout_of};
 use acpi::sdt::Signature;
-use entry::{Entry, next_entry};
-pub(crate) use parts::cut;
-use parts::{Extent, Piece, is_more, list_extent, show_fields, show_gap, show_missing, show_start};
+use entry::next_entry;
+use parts::{Extent, Piece, list_extent, show_fields, show_gap, show_missing, show_start};
 
 /// How deep structures lie in structures at most.
 const DEEPEST: u32 = 16;
@@ -18,7 +18,7 @@ const DEEPEST: u32 = 16;
 /// A field of a table: its offset in the table, its bytes, its name, its number if it is one of
 /// several of this name, and its meaning.
 #[derive(Clone, Copy)]
-pub(crate) struct Shown<'a> {
+pub(crate) struct Field<'a> {
     pub(crate) offset: u64,
     pub(crate) bytes: &'a [u8],
     pub(crate) name: &'static str,
@@ -37,34 +37,10 @@ pub(crate) struct Group {
     pub(crate) kind: Option<u64>,
 }
 
-/// Why a rest of a table isn't shown by its layout.
-#[derive(Clone, Copy)]
-pub(crate) enum Fault {
-    /// The entry that begins there has this length, which is less than its type and its length take.
-    Length(u64),
-    /// The entry that begins there has this length, and so many bytes aren't left.
-    Past(u64),
-    /// Too few bytes are left for an entry.
-    Cut,
-    /// The entry that begins there has this type, which isn't known and has no length.
-    Unknown(u64),
-    /// That many of the entries that are counted aren't there.
-    Missing(u64),
-    /// What is to begin at this offset of the structure there begins before the end of what stands
-    /// before it.
-    Before(u64),
-    /// What is to begin at this offset of the structure there begins past its end.
-    Outside(u64),
-    /// What is to end at this offset of the structure there ends past its end.
-    Beyond(u64),
-    /// Structures lie too deep in structures.
-    Deep,
-}
-
 /// What a walk shows a table to, in the order of the bytes.
 pub(crate) trait Show {
     /// Shows a field.
-    fn field(&mut self, shown: &Shown<'_>);
+    fn field(&mut self, shown: &Field<'_>);
 
     /// Shows bytes at an offset of the table that no field covers.
     fn bytes(&mut self, offset: u64, bytes: &[u8]);
@@ -82,18 +58,18 @@ pub(crate) trait Show {
 
 /// Shows a table.
 pub(crate) fn walk_table<S: Show>(signature: Signature, table: &[u8], show: &mut S) {
-    let (text, lines) = layout_of(signature);
+    let (blocks, lines) = &layout_of(signature);
     let piece = Piece {
         base: 0,
         bytes: table,
-        text,
+        blocks,
     };
     let head = if signature == Signature::FACS {
         ""
     } else {
         HEADER
     };
-    walk_structure(piece, head, lines, DEEPEST, show)
+    walk_structure(piece, head, *lines, DEEPEST, show)
 }
 
 /// Shows the parts of a structure, and all other bytes of it as they are.
@@ -129,47 +105,47 @@ fn walk_lines<S: Show>(
         return shown;
     }
     for line in lines.split('\n') {
-        let (word, rest) = next_word(line);
-        if word.is_empty() {
-            continue;
+        match walk_line(piece, line, shown, depth - 1, show) {
+            Ok(end) => shown = end,
+            Err(fault) => show.malformed(piece.base, fault),
         }
-        shown = match block_lines(piece, word, rest) {
-            Some(inner) => {
-                let start = if word == "then" { shown } else { 0 };
-                let from = shown.saturating_sub(start);
-                let end = walk_lines(rest_of(piece, start), inner, from, depth - 1, show);
-                start.saturating_add(end)
-            }
-            None => walk_part(piece, shown, word, rest, depth - 1, show),
-        };
     }
     shown
 }
 
-/// Shows the part that a line describes, by its first word and what follows it.
+/// Shows what a line describes.
+///
+/// Fails if that can't be there, or if a word isn't understood.
 #[cycle(walk)]
-fn walk_part<S: Show>(
+fn walk_line<S: Show>(
     piece: Piece<'_>,
+    line: &'static str,
     shown: usize,
-    word: &'static str,
-    rest: &'static str,
     depth: u32,
     show: &mut S,
-) -> usize {
-    let start = if word == ">" {
-        shown
-    } else {
-        sum_of(word, piece.bytes).number as usize
+) -> Result<usize, Fault> {
+    let (word, rest) = next_word(line);
+    let start = match word {
+        "" => return Ok(shown),
+        "if" => return Ok(walk_lines(piece, chosen_lines(piece, rest)?, shown, depth, show)),
+        "with" => return Ok(walk_lines(piece, piece.blocks.named(rest)?.lines, shown, depth, show)),
+        "then" => {
+            let lines = piece.blocks.named(rest)?.lines;
+            let end = walk_lines(piece.from(shown), lines, 0, depth, show);
+            return Ok(shown.saturating_add(end));
+        }
+        ">" => shown,
+        _ => sum_of(word, piece.bytes)?.number as usize,
     };
     let (length, rest) = next_word(rest);
-    if let Some(count) = length.strip_prefix('{') {
-        let extent = list_extent(piece.bytes, start, count);
-        if depth > 0 && show_start(piece, shown, extent, show) {
-            return walk_list(piece, extent, rest, depth - 1, show);
-        }
-        return shown;
+    let Some(count) = length.strip_prefix('{') else {
+        return show_fields(piece, shown, start, is_number(word), length, rest, show);
+    };
+    let extent = list_extent(piece.bytes, start, count)?;
+    if depth > 0 && show_start(piece, shown, extent, show)? {
+        return Ok(walk_list(piece, extent, rest, depth - 1, show));
     }
-    show_fields(piece, shown, start, is_number(word), length, rest, show)
+    Ok(shown)
 }
 
 /// Shows the entries of a list, as far as they are there. It answers up to where the structure is shown then.
@@ -181,13 +157,13 @@ fn walk_list<S: Show>(
     depth: u32,
     show: &mut S,
 ) -> usize {
-    let mut rest = cut(piece.bytes, extent.start, extent.end).unwrap_or(&[]);
+    let mut rest = piece.bytes.get(extent.start..extent.end).unwrap_or(&[]);
     let mut offset = piece.base.saturating_add(extent.start as u64);
     let mut number: u64 = 0;
     if depth == 0 {
         return extent.start;
     }
-    'entries: while !rest.is_empty() && is_more(extent, number) {
+    'entries: while !rest.is_empty() && extent.is_more(number) {
         let entry = match next_entry(piece, rest, how) {
             Ok(entry) => entry,
             Err(fault) => {
@@ -197,11 +173,17 @@ fn walk_list<S: Show>(
             }
         };
         let (bytes, others) = split(rest, entry.length);
-        show.begin(&group_of(offset, number, entry));
+        show.begin(&Group {
+            offset,
+            length: entry.length as u64,
+            number,
+            name: entry.name,
+            kind: entry.kind,
+        });
         let inner = Piece {
             base: offset,
             bytes,
-            text: piece.text,
+            blocks: piece.blocks,
         };
         walk_structure(inner, entry.head, entry.lines, depth - 1, show);
         show.end();
@@ -224,45 +206,16 @@ fn split(bytes: &[u8], place: usize) -> (&[u8], &[u8])
     }
 }
 
-/// The group that an entry is.
-fn group_of(offset: u64, number: u64, entry: Entry) -> Group {
-    Group {
-        offset,
-        length: entry.length as u64,
-        number,
-        name: entry.name,
-        kind: entry.kind,
-    }
-}
-
-/// A structure from an offset of it on.
-fn rest_of(piece: Piece<'_>, start: usize) -> Piece<'_> {
-    Piece {
-        base: piece.base.saturating_add(start as u64),
-        bytes: cut(piece.bytes, start, piece.bytes.len()).unwrap_or(&[]),
-        text: piece.text,
-    }
-}
-
-/// The lines that stand for a line, which follow its first word, if that is `if`, `with` or `then`.
-fn block_lines(piece: Piece<'_>, word: &str, rest: &'static str) -> Option<&'static str> {
-    match word {
-        "if" => Some(chosen_lines(piece, rest)),
-        "with" | "then" => Some(lines_of(piece.text, rest)),
-        _ => None,
-    }
-}
-
 /// The lines of the block that the fourth word names, if the number at the place that is the first
 /// is neither less than the second nor more than the third.
-fn chosen_lines(piece: Piece<'_>, rest: &'static str) -> &'static str {
+fn chosen_lines(piece: Piece<'_>, rest: &'static str) -> Result<&'static str, Fault> {
     let (place, rest) = next_word(rest);
     let (first, rest) = next_word(rest);
     let (last, rest) = next_word(rest);
-    let number = sum_of(place, piece.bytes).number;
-    if number_of(first) <= number && number <= number_of(last) {
-        lines_of(piece.text, rest)
+    let number = sum_of(place, piece.bytes)?.number;
+    if number_of(first)? <= number && number <= number_of(last)? {
+        Ok(piece.blocks.named(rest)?.lines)
     } else {
-        ""
+        Ok("")
     }
 }

@@ -3,11 +3,12 @@
 use super::Document;
 use crate::arguments::{Choice, Contents};
 use crate::compare::{Difference, ShowDifferences};
+use crate::contents::chooses;
 use crate::entries::{Entry, Place};
-use crate::shown::chooses;
 use crate::walk::walk_table;
 use acpi::PhysicalRecord;
 use acpi::sdt::SdtHeader;
+use json::Token;
 
 /// What is shown of a table beside where it lies, its header and what the checks say.
 #[derive(Clone, Copy)]
@@ -35,7 +36,7 @@ impl ShowDifferences for Document {
 /// Adds a table.
 fn add_table(document: &mut Document, entry: &Entry<'_>, part: Part<'_>) {
     let header = header_of(entry);
-    document.begin_object();
+    document.token(Token::BeginObject);
     if let Place::Address(address) = entry.place {
         document.address("address", address);
     }
@@ -60,7 +61,7 @@ fn add_table(document: &mut Document, entry: &Entry<'_>, part: Part<'_>) {
         document.number("revision", header.revision as u64);
     }
     add_status(document, entry);
-    document.end_object();
+    document.token(Token::EndObject);
 }
 
 /// The header of a table, unless it has none or is cut in it.
@@ -98,14 +99,14 @@ fn add_fields(document: &mut Document, entry: &Entry<'_>, part: Part<'_>) {
             if let Some(signature) = entry.signature() {
                 walk_table(signature, entry.bytes, document);
             }
-            document.end_list();
+            document.token(Token::EndArray);
         }
         Part::Changed(found) => {
             document.begin_list("fields");
             for difference in found {
                 add_difference(document, *difference);
             }
-            document.end_list();
+            document.token(Token::EndArray);
         }
         _ => {}
     }
@@ -113,7 +114,7 @@ fn add_fields(document: &mut Document, entry: &Entry<'_>, part: Part<'_>) {
 
 /// Adds a field that differs between two tables.
 fn add_difference(document: &mut Document, difference: Difference<'_>) {
-    document.begin_object();
+    document.token(Token::BeginObject);
     document.text("name", difference.name);
     if let Some(value) = difference.new {
         document.text("new", value);
@@ -122,7 +123,7 @@ fn add_difference(document: &mut Document, difference: Difference<'_>) {
     if let Some(value) = difference.old {
         document.text("old", value);
     }
-    document.end_object();
+    document.token(Token::EndObject);
 }
 
 /// Adds tables, without their contents.

@@ -3,19 +3,13 @@
 use crate::errors::tell;
 use crate::input::kind::Kind;
 use crate::input::order::in_order;
-use crate::input::read::{ANY, read_input};
+use crate::input::read::ANY;
 use crate::input::tables::{TableFile, add_input};
 use crate::out::Out;
 use crate::sources::{Sources, reason_of};
 use acpi_cli::borrowed;
 use std::alloc::{AllocError, Global};
 use std::io::Write;
-
-/// The name of a file in a folder.
-fn path_of(alloc: Global, folder: &str, name: &str) -> Result<String, AllocError> {
-    let mark = if folder.ends_with('/') { "" } else { "/" };
-    format!(in alloc; "{folder}{mark}{name}")
-}
 
 /// Adds the tables of a file in a folder. A folder in it is skipped, and so is a file without tables, with a message.
 fn add_within<S: Sources, E: Write>(
@@ -28,30 +22,16 @@ fn add_within<S: Sources, E: Write>(
     if matches!(sources.is_folder(path), Ok(true)) {
         return Ok(true);
     }
-    let Some(bytes) = read_input(alloc, path, sources, err) else {
-        return Ok(false);
-    };
-    let (kind, bytes) = ANY.recognised(alloc, bytes)?;
-    match kind {
-        Some(Kind::Table | Kind::Text) => add_input(alloc, tables, path, kind, bytes, err),
-        _ => {
+    match ANY.read(alloc, path, sources, err)? {
+        None => Ok(false),
+        Some((kind @ Some(Kind::Table | Kind::Text), bytes)) => {
+            add_input(alloc, tables, path, kind, bytes, err)
+        }
+        Some(_) => {
             tell(err, path, &"not a table: passed over");
             Ok(true)
         }
     }
-}
-
-/// Adds the tables of the file of this name in a folder.
-fn add_named<S: Sources, E: Write>(
-    alloc: Global,
-    tables: &mut Vec<TableFile>,
-    folder: &str,
-    name: &str,
-    sources: &mut S,
-    err: &mut Out<E>,
-) -> Result<bool, AllocError> {
-    let path = path_of(alloc, folder, name)?;
-    add_within(alloc, tables, path.as_str(), sources, err)
 }
 
 /// Adds the tables of the files of these names in a folder, in the order of their names.
@@ -64,8 +44,11 @@ fn add_names<S: Sources, E: Write>(
     err: &mut Out<E>,
 ) -> Result<bool, AllocError> {
     let before = tables.len();
+    let mark = if folder.ends_with('/') { "" } else { "/" };
     for name in &in_order(alloc, names)? {
-        if !add_named(alloc, tables, folder, *name, sources, err)? {
+        let name = *name;
+        let path = &format!(in alloc; "{folder}{mark}{name}")?;
+        if !add_within(alloc, tables, path.as_str(), sources, err)? {
             return Ok(false);
         }
     }

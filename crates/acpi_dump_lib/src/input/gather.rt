@@ -6,7 +6,7 @@ use crate::input::kind::Kind;
 use crate::input::machine::are_of_one_machine;
 use crate::input::memory::image_of;
 use crate::input::order::in_order;
-use crate::input::read::{Reading, is_folder, read_any, read_input};
+use crate::input::read::{Reading, is_folder, read_any};
 use crate::input::tables::{TableFile, add_input};
 use crate::out::Out;
 use crate::sources::Sources;
@@ -56,28 +56,18 @@ fn gather_file<S: Sources, E: Write>(
             None => None,
         });
     }
-    let Some(bytes) = read_input(alloc, name, sources, err) else {
-        return Ok(None);
-    };
-    let (kind, bytes) = reading.recognised(alloc, bytes)?;
-    match kind {
-        Some(Kind::Image) => Ok(Some(Input::Memory(bytes))),
-        Some(Kind::Memory) => memory_from(alloc, name, reading.at.unwrap_or(0), &bytes, err),
-        kind => gather_one(alloc, name, kind, bytes, err),
+    match reading.read(alloc, name, sources, err)? {
+        None => Ok(None),
+        Some((Some(Kind::Image), bytes)) => Ok(Some(Input::Memory(bytes))),
+        Some((Some(Kind::Memory), bytes)) => {
+            memory_from(alloc, name, reading.at.unwrap_or(0), &bytes, err)
+        }
+        Some((kind, bytes)) => {
+            let mut tables = Vec::new(alloc);
+            let is_added = add_input(alloc, &mut tables, name, kind, bytes, err)?;
+            Ok(ended(tables, is_added, err))
+        }
     }
-}
-
-/// The tables that bytes of this kind are.
-fn gather_one<E: Write>(
-    alloc: Global,
-    name: &str,
-    kind: Option<Kind>,
-    bytes: Vec<u8>,
-    err: &mut Out<E>,
-) -> Result<Option<Input>, AllocError> {
-    let mut tables = Vec::new(alloc);
-    let is_added = add_input(alloc, &mut tables, name, kind, bytes, err)?;
-    Ok(ended(tables, is_added, err))
 }
 
 /// These tables as an input, if they were all added and are those of one machine.
@@ -87,22 +77,6 @@ fn ended<E: Write>(tables: Vec<TableFile>, are_added: bool, err: &mut Out<E>) ->
     } else {
         None
     }
-}
-
-/// Adds the tables of a file.
-fn add_file<S: Sources, E: Write>(
-    alloc: Global,
-    tables: &mut Vec<TableFile>,
-    name: &str,
-    reading: Reading,
-    sources: &mut S,
-    err: &mut Out<E>,
-) -> Result<bool, AllocError> {
-    let Some(bytes) = read_input(alloc, name, sources, err) else {
-        return Ok(false);
-    };
-    let (kind, bytes) = reading.recognised(alloc, bytes)?;
-    add_input(alloc, tables, name, kind, bytes, err)
 }
 
 /// Adds the tables of a file or a folder.
@@ -117,7 +91,10 @@ fn add_word<S: Sources, E: Write>(
     match is_folder(name, sources, err) {
         None => Ok(false),
         Some(true) => add_folder(alloc, tables, name, sources, err),
-        Some(false) => add_file(alloc, tables, name, reading, sources, err),
+        Some(false) => match reading.read(alloc, name, sources, err)? {
+            None => Ok(false),
+            Some((kind, bytes)) => add_input(alloc, tables, name, kind, bytes, err),
+        },
     }
 }
 
@@ -151,24 +128,6 @@ fn gather_tables<S: Sources, E: Write>(
     Ok(ended(tables, are_added, err))
 }
 
-/// The machine's own tables.
-fn gather_own<S: Sources, E: Write>(
-    alloc: Global,
-    reading: Reading,
-    sources: &mut S,
-    err: &mut Out<E>,
-) -> Result<Option<Input>, AllocError> {
-    let own = gather_tables(alloc, &[OWN], reading, sources, err)?;
-    if own.is_none() {
-        tell(
-            err,
-            OWN,
-            &"Linux shows the machine's tables there, to root alone",
-        );
-    }
-    Ok(own)
-}
-
 /// The input that words name, or the machine's own tables if there are no words. It answers `None`, after saying
 /// why, if something isn't there or isn't what it should be.
 ///
@@ -181,7 +140,14 @@ pub(crate) fn gather<S: Sources, E: Write>(
     err: &mut Out<E>,
 ) -> Result<Option<Input>, AllocError> {
     match names {
-        [] => gather_own(alloc, reading, sources, err),
+        [] => {
+            let own = gather_tables(alloc, &[OWN], reading, sources, err)?;
+            if own.is_none() {
+                let what = "Linux shows the machine's tables there, to root alone";
+                tell(err, OWN, &what);
+            }
+            Ok(own)
+        }
         [name] => match is_folder(*name, sources, err) {
             None => Ok(None),
             Some(false) => gather_file(alloc, *name, reading, sources, err),

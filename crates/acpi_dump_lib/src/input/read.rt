@@ -6,7 +6,6 @@ use crate::input::wide::{is_wide, narrowed};
 use crate::out::Out;
 use crate::sources::{Sources, reason_of};
 use std::alloc::{AllocError, Global};
-use std::io;
 use std::io::Write;
 
 /// Whether a word names a folder, or `None`, after saying why, if the system refuses it.
@@ -27,44 +26,26 @@ pub(crate) fn is_folder<S: Sources, E: Write>(
     }
 }
 
-/// The bytes of an input, which is standard input if its name is `-`.
-fn content_of<S: Sources>(alloc: Global, name: &str, sources: &mut S) -> io::Result<Vec<u8>> {
-    if name == "-" {
-        sources.read_standard_input(alloc)
-    } else {
-        sources.read(name)
-    }
-}
-
-/// The bytes of an input, or `None`, after saying why, if the system refuses it.
+/// The bytes of an input, which is standard input if its name is `-`, or `None`, after saying why, if the system refuses
+/// it.
 pub(crate) fn read_any<S: Sources, E: Write>(
     alloc: Global,
     name: &str,
     sources: &mut S,
     err: &mut Out<E>,
 ) -> Option<Vec<u8>> {
-    match content_of(alloc, name, sources) {
+    let content = if name == "-" {
+        sources.read_standard_input(alloc)
+    } else {
+        sources.read(name)
+    };
+    match content {
         Ok(bytes) => Some(bytes),
         Err(refusal) => {
             tell(err, name, &reason_of(&refusal));
             None
         }
     }
-}
-
-/// The bytes of an input, or `None`, after saying why, if the system refuses it or it is empty.
-pub(crate) fn read_input<S: Sources, E: Write>(
-    alloc: Global,
-    name: &str,
-    sources: &mut S,
-    err: &mut Out<E>,
-) -> Option<Vec<u8>> {
-    let bytes = read_any(alloc, name, sources, err)?;
-    if bytes.is_empty() {
-        tell(err, name, &"it is empty");
-        return None;
-    }
-    Some(bytes)
 }
 
 /// How inputs are read.
@@ -92,17 +73,27 @@ impl Reading {
         }
     }
 
-    /// The kind of input that bytes are, and the bytes: those of a text in UTF-16 as one in ASCII.
-    pub(crate) fn recognised(
+    /// The kind of an input, and its bytes: those of a text in UTF-16 as one in ASCII. It is `None`, after saying why,
+    /// if the system refuses the input or it is empty.
+    pub(crate) fn read<S: Sources, E: Write>(
         self,
         alloc: Global,
-        bytes: Vec<u8>,
-    ) -> Result<(Option<Kind>, Vec<u8>), AllocError> {
+        name: &str,
+        sources: &mut S,
+        err: &mut Out<E>,
+    ) -> Result<Option<(Option<Kind>, Vec<u8>)>, AllocError> {
+        let Some(bytes) = read_any(alloc, name, sources, err) else {
+            return Ok(None);
+        };
+        if bytes.is_empty() {
+            tell(err, name, &"it is empty");
+            return Ok(None);
+        }
         let kind = self.kind_of(alloc, &bytes);
         if !is_wide(&bytes) || !matches!(kind, None | Some(Kind::Text)) {
-            return Ok((kind, bytes));
+            return Ok(Some((kind, bytes)));
         }
         let narrow = narrowed(alloc, &bytes)?;
-        Ok((self.kind_of(alloc, &narrow), narrow))
+        Ok(Some((self.kind_of(alloc, &narrow), narrow)))
     }
 }

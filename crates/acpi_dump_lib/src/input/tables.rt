@@ -2,7 +2,7 @@
 
 use crate::errors::tell;
 use crate::input::kind::{Kind, text_in};
-use crate::input::text::{SpelledTable, TextError, tables_in};
+use crate::input::text::{TextError, tables_in};
 use crate::out::Out;
 use std::alloc::{AllocError, Global};
 use std::io::Write;
@@ -35,19 +35,6 @@ fn push_table(
     Ok(tables.push(table)?)
 }
 
-/// Adds the tables that a text spells.
-fn push_spelled(
-    alloc: Global,
-    tables: &mut Vec<TableFile>,
-    name: &str,
-    spelled: Vec<SpelledTable>,
-) -> Result<(), AllocError> {
-    for table in spelled {
-        push_table(alloc, tables, name, Some(table.address), table.bytes)?;
-    }
-    Ok(())
-}
-
 /// Adds the tables that a text spells, and answers whether it does, after saying where it is wrong.
 fn add_text<E: Write>(
     alloc: Global,
@@ -66,7 +53,9 @@ fn add_text<E: Write>(
             if !is_some {
                 tell(err, name, &"no table in it");
             }
-            push_spelled(alloc, tables, name, spelled)?;
+            for table in spelled {
+                push_table(alloc, tables, name, Some(table.address), table.bytes)?;
+            }
             Ok(is_some)
         }
         Err(TextError::OutOfMemory) => Err(AllocError),
@@ -92,20 +81,13 @@ pub(crate) fn add_input<E: Write>(
             push_table(alloc, tables, name, None, bytes)?;
             Ok(true)
         }
-        Some(_) => {
-            tell(
-                err,
-                name,
-                &"memory, which stands alone and not beside other inputs",
-            );
-            Ok(false)
-        }
-        None => {
-            tell(
-                err,
-                name,
-                &"not recognised: --as image, memory, text or table says what it is",
-            );
+        _ => {
+            let why = if kind.is_some() {
+                "memory, which stands alone and not beside other inputs"
+            } else {
+                "not recognised: --as image, memory, text or table says what it is"
+            };
+            tell(err, name, &why);
             Ok(false)
         }
     }

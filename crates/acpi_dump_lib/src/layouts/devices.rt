@@ -97,7 +97,8 @@ if 12:2 0x8003 0xffff DBG2-other
 14 2 codes Port Subtype | 0 IEEE1394 Standard Host Controller Interface
 
 = DBG2-usb * - subtype of a USB port
-14 2 codes Port Subtype | 0 XHCI-compliant controller with debug interface | 1 EHCI-compliant controller with debug interface
+14 2 codes Port Subtype | 0 XHCI-compliant controller with debug interface \
+    | 1 EHCI-compliant controller with debug interface
 
 = DBG2-other * - subtype of another port
 14 2 - Port Subtype
@@ -118,7 +119,8 @@ pub(crate) const TIMERS: &str = "
 40 12 gas BASE_ADDRESS
 52 1 dec HPET Number
 53 2 dec Main Counter Minimum Clock_tick
-55 1 flags Page Protection And OEM Attribute | 3:0/1 4 KB page protection | 3:0/2 64 KB page protection | 7:4 OEM attribute
+55 1 flags Page Protection And OEM Attribute | 3:0/1 4 KB page protection | 3:0/2 64 KB page protection \
+    | 7:4 OEM attribute
 
 = WAET * - Windows ACPI Emulated Devices Table
 36 4 flags Emulated Device Flags | 0 RTC good | 1 ACPI PM timer good
@@ -140,7 +142,8 @@ pub(crate) const TIMERS: &str = "
 
 = WDAT-entry * - Watchdog Instruction Entry
 0 1 codes Watchdog Action | @WDAT-actions
-1 1 flags Instruction Flags | 6:0/0 READ_VALUE | 6:0/1 READ_COUNTDOWN | 6:0/2 WRITE_VALUE | 6:0/3 WRITE_COUNTDOWN | 7 PRESERVE_REGISTER
+1 1 flags Instruction Flags | 6:0/0 READ_VALUE | 6:0/1 READ_COUNTDOWN | 6:0/2 WRITE_VALUE | 6:0/3 WRITE_COUNTDOWN \
+    | 7 PRESERVE_REGISTER
 2 2 - Reserved
 4 12 gas Register Region
 16 4 - Value
@@ -182,7 +185,8 @@ pub(crate) const TIMERS: &str = "
 54 2 dec Timer Maximum Count
 56 2 dec Timer Minimum Count
 58 2 dec Timer Count Period
-60 2 flags Watchdog Status | 0 Available | 1 Active | 2 Owned by the OS | 11 User reset | 12 Watchdog reset | 13 Power failure | 14 Unknown reset
+60 2 flags Watchdog Status | 0 Available | 1 Active | 2 Owned by the OS | 11 User reset | 12 Watchdog reset \
+    | 13 Power failure | 14 Unknown reset
 62 2 flags Watchdog Capability | 0 Automatic reset | 1 Alert support
 
 = VRTC * - Virtual Real Time Clock Table

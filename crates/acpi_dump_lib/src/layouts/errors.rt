@@ -154,7 +154,8 @@ then HEST-notification
 = HEST-notification * - Hardware Error Notification Structure (table 18.14)
 0 1 codes Type | @HEST-notification-types
 1 1 dec Length
-2 2 flags Configuration Write Enable | 0 Type | 1 Poll Interval | 2 Switch To Polling Threshold Value | 3 Switch To Polling Threshold Window | 4 Error Threshold Value | 5 Error Threshold Window
+2 2 flags Configuration Write Enable | 0 Type | 1 Poll Interval | 2 Switch To Polling Threshold Value \
+    | 3 Switch To Polling Threshold Window | 4 Error Threshold Value | 5 Error Threshold Window
 4 4 dec Poll Interval
 8 4 dec Vector
 12 4 dec Switch To Polling Threshold Value

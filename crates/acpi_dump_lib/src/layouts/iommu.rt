@@ -85,7 +85,8 @@ pub(crate) const IVRS: &str = "
 = IVRS-block 0x10 - I/O Virtualization Hardware Definition (IVHD)
 1 1 flags Flags | 0 HtTunEn | 1 PassPW | 2 ResPassPW | 3 Isoc | 4 IotlbSup | 5 Coherent | 6 PreFSup | 7 PPRSup
 with IVHD
-20 4 flags IOMMU Feature Reporting | 0 XTSup | 1 NXSup | 2 GTSup | 4:3 GLXSup | 5 IASup | 6 GASup | 7 HESup | 12:8 PASmax | 16:13 PNCounters | 22:17 PNBanks | 27:23 MsiNumPPR | 29:28 GATS | 31:30 HATS
+20 4 flags IOMMU Feature Reporting | 0 XTSup | 1 NXSup | 2 GTSup | 4:3 GLXSup | 5 IASup | 6 GASup | 7 HESup \
+    | 12:8 PASmax | 16:13 PNCounters | 22:17 PNBanks | 27:23 MsiNumPPR | 29:28 GATS | 31:30 HATS
 24 {*} sized 0:1 IVHD-entry
 
 = IVRS-block 0x11 - I/O Virtualization Hardware Definition (IVHD)
@@ -239,9 +240,11 @@ pub(crate) const IORT: &str = "
 
 = IORT-memory-access * - Memory access properties
 0 4 codes CCA: Cache Coherent Attribute | 0 not coherent | 1 fully coherent
-4 1 flags AH: Allocation Hints | 0 TR: transient | 1 WA: write allocate | 2 RA: read allocate | 3 AHO: allocation hints override
+4 1 flags AH: Allocation Hints | 0 TR: transient | 1 WA: write allocate | 2 RA: read allocate \
+    | 3 AHO: allocation hints override
 5 2 - Reserved
-7 1 flags MAF: Memory Access Flags | 0 CPM: coherent path to memory | 1 DACS: device attributes are cacheable and inner shareable | 2 CANWBS
+7 1 flags MAF: Memory Access Flags | 0 CPM: coherent path to memory \
+    | 1 DACS: device attributes are cacheable and inner shareable | 2 CANWBS
 
 = IORT-node 0 - ITS Group
 16 4 dec Number of ITSs
@@ -282,7 +285,8 @@ then IORT-memory-access
 = IORT-node 3 - SMMUv1 or SMMUv2
 16 8 - Base address
 24 8 - Span
-32 4 codes Model | 0 Generic SMMUv1 | 1 Generic SMMUv2 | 2 Arm Corelink MMU-400 | 3 Arm Corelink MMU-500 | 4 Arm Corelink MMU-401 | 5 Cavium ThunderX SMMUv2
+32 4 codes Model | 0 Generic SMMUv1 | 1 Generic SMMUv2 | 2 Arm Corelink MMU-400 | 3 Arm Corelink MMU-500 \
+    | 4 Arm Corelink MMU-401 | 5 Cavium ThunderX SMMUv2
 36 4 flags Flags | 0 DVM Supported | 1 Coherent page table walk supported
 40 4 - Reference to Global Interrupt Array
 44 4 dec Number of context interrupts

@@ -110,7 +110,8 @@ if 8:1 2 255 HMAT-2
 4 4 dec Length
 
 = HMAT-entry-1 0 - Memory Subsystem Address Range Structure
-8 2 flags Flags | 0 Processor Proximity Domain field is valid | 1 Memory Proximity Domain field is valid | 2 Reservation hint
+8 2 flags Flags | 0 Processor Proximity Domain field is valid | 1 Memory Proximity Domain field is valid \
+    | 2 Reservation hint
 10 2 - Reserved
 12 4 dec Processor Proximity Domain
 16 4 dec Memory Proximity Domain

@@ -1,7 +1,7 @@
 //! Memory: its power, its topology, non-volatile modules and CXL.
 
-/// The MPST (ACPI 6.5, section 5.2.22), the PMTT (5.2.21.12; up to revision 1 that of ACPI 6.3), the RASF (5.2.20), the RAS2
-/// (5.2.21), the BDAT and the MISC (5.2.34).
+/// The MPST (ACPI 6.5, section 5.2.22), the PMTT (5.2.21.12; up to revision 1 that of ACPI 6.3), the RASF (5.2.20), the
+/// RAS2 (5.2.21), the BDAT and the MISC (5.2.34).
 pub(crate) const MEMORY: &str = "
 = MPST * - Memory Power State Table
 36 1 - Memory PCC Identifier
@@ -151,7 +151,8 @@ pub(crate) const NFIT: &str = "
 
 = NFIT-structure 0 - System Physical Address (SPA) Range Structure
 4 2 dec SPA Range Structure Index
-6 2 flags Flags | 0 Control region only for management during hot add or online operation | 1 Proximity Domain is valid | 2 SpaLocationCookie is valid
+6 2 flags Flags | 0 Control region only for management during hot add or online operation \
+    | 1 Proximity Domain is valid | 2 SpaLocationCookie is valid
 8 4 - Reserved
 12 4 dec Proximity Domain
 16 16 guid Address Range Type GUID
@@ -171,7 +172,8 @@ pub(crate) const NFIT: &str = "
 32 8 - NVDIMM Physical Address Region Base
 40 2 dec Interleave Structure Index
 42 2 dec Interleave Ways
-44 2 flags NVDIMM State Flags | 0 SAVE to device failed | 1 RESTORE from device failed | 2 platform flush failed | 3 not armed | 4 SMART health events observed | 5 health events enabled | 6 not mapped
+44 2 flags NVDIMM State Flags | 0 SAVE to device failed | 1 RESTORE from device failed | 2 platform flush failed \
+    | 3 not armed | 4 SMART health events observed | 5 health events enabled | 6 not mapped
 46 2 - Reserved
 
 = NFIT-structure 2 - Interleave Structure
@@ -225,7 +227,9 @@ pub(crate) const NFIT: &str = "
 = NFIT-structure 7 - Platform Capabilities Structure
 4 1 dec Highest Valid Capability
 5 3 - Reserved
-8 4 flags Capabilities | 0 CPU Cache Flush to NVDIMM Durability on Power Loss Capable | 1 Memory Controller Flush to NVDIMM Durability on Power Loss Capable | 2 Byte Addressable Persistent Memory Hardware Mirroring Capable
+8 4 flags Capabilities | 0 CPU Cache Flush to NVDIMM Durability on Power Loss Capable \
+    | 1 Memory Controller Flush to NVDIMM Durability on Power Loss Capable \
+    | 2 Byte Addressable Persistent Memory Hardware Mirroring Capable
 12 4 - Reserved
 
 = CEDT * - CXL Early Discovery Table
@@ -247,11 +251,13 @@ pub(crate) const NFIT: &str = "
 4 4 - Reserved
 8 8 - Base HPA
 16 8 - Window Size
-24 1 codes Encoded Number of Interleave Ways (ENIW) | 0 1 way | 1 2 ways | 2 4 ways | 3 8 ways | 4 16 ways | 8 3 ways | 9 6 ways | 10 12 ways
+24 1 codes Encoded Number of Interleave Ways (ENIW) | 0 1 way | 1 2 ways | 2 4 ways | 3 8 ways | 4 16 ways | 8 3 ways \
+    | 9 6 ways | 10 12 ways
 25 1 codes Interleave Arithmetic | 0 standard modulo | 1 modulo with XOR
 26 2 - Reserved
 28 4 dec Host Bridge Interleave Granularity (HBIG)
-32 2 flags Window Restrictions | 0 CXL Type 2 memory | 1 CXL Type 3 memory | 2 volatile | 3 persistent | 4 fixed device configuration
+32 2 flags Window Restrictions | 0 CXL Type 2 memory | 1 CXL Type 3 memory | 2 volatile | 3 persistent \
+    | 4 fixed device configuration
 34 2 dec QTG ID
 36 4[*] - Interleave Target List
 

@@ -13,19 +13,23 @@ pub(crate) const PROCESSORS: &str = "
 2 2 - Reserved
 
 = PPTT-node 0 - Processor hierarchy node structure
-4 4 flags Flags | 0 Physical package | 1 ACPI Processor ID valid | 2 Processor is a Thread | 3 Node is a Leaf | 4 Identical Implementation
+4 4 flags Flags | 0 Physical package | 1 ACPI Processor ID valid | 2 Processor is a Thread | 3 Node is a Leaf \
+    | 4 Identical Implementation
 8 4 - Parent
 12 4 dec ACPI Processor ID
 16 4 dec Number of private resources
 20 4[16:4] - Private resource
 
 = PPTT-node 1 - Cache Type Structure
-4 4 flags Flags | 0 Size property valid | 1 Number of sets valid | 2 Associativity valid | 3 Allocation type valid | 4 Cache type valid | 5 Write policy valid | 6 Line size valid | 7 Cache ID valid
+4 4 flags Flags | 0 Size property valid | 1 Number of sets valid | 2 Associativity valid | 3 Allocation type valid \
+    | 4 Cache type valid | 5 Write policy valid | 6 Line size valid | 7 Cache ID valid
 8 4 - Next Level of Cache
 12 4 dec Size
 16 4 dec Number of sets
 20 1 dec Associativity
-21 1 flags Attributes | 1:0/0 read allocate | 1:0/1 write allocate | 1:0/2 read and write allocate | 1:0/3 read and write allocate | 3:2/0 data | 3:2/1 instruction | 3:2/2 unified | 3:2/3 unified | 4:4/0 write back | 4:4/1 write through
+21 1 flags Attributes | 1:0/0 read allocate | 1:0/1 write allocate | 1:0/2 read and write allocate \
+    | 1:0/3 read and write allocate | 3:2/0 data | 3:2/1 instruction | 3:2/2 unified | 3:2/3 unified \
+    | 4:4/0 write back | 4:4/1 write through
 22 2 dec Line size
 24 4 - Cache ID
 
@@ -326,7 +330,8 @@ with AEST-rest
 0 4 - Identifier
 4 1 dec RIS Index
 5 2 - Reserved
-7 1 codes Locator type | 0 Processor cache | 1 Memory | 2 SMMU | 3 Memory cache | 4 ACPI device | 5 Interconnect | 0xff Unknown
+7 1 codes Locator type | 0 Processor cache | 1 Memory | 2 SMMU | 3 Memory cache | 4 ACPI device | 5 Interconnect \
+    | 0xff Unknown
 8 12 - Locator
 20 4 dec Number of functional dependencies
 24 {20:4} each 8 MPAM-dependency

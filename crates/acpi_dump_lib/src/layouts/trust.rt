@@ -49,7 +49,8 @@ if 36:2 1 1 TCPA-server
 48 8 - Log Area Start Address (LASA)
 56 2 - TCG Specification Revision
 58 1 flags Device Flags | 0 PCI device | 1 Bus is Plug and Play | 2 Configuration address is valid
-59 1 flags Interrupt Flags | 0 Interrupt mode | 1 Interrupt polarity | 2 SCI triggered through GPE | 3 I/O APIC interrupt
+59 1 flags Interrupt Flags | 0 Interrupt mode | 1 Interrupt polarity | 2 SCI triggered through GPE \
+    | 3 I/O APIC interrupt
 60 1 dec GPE
 61 3 - Reserved
 64 4 dec Global System Interrupt
@@ -70,7 +71,8 @@ if 36:2 1 1 TCPA-server
 72 8 - Log_Area_Start
 80 4 dec Log_Area_Length
 84 8 - Architecture_Dependent
-92 4 flags DRT_Flags | 0 Namespace in TCB | 1 Gap code on S3 resume | 2 Gap code on DLME_Exit | 3 PCR_Authorities changed
+92 4 flags DRT_Flags | 0 Namespace in TCB | 1 Gap code on S3 resume | 2 Gap code on DLME_Exit \
+    | 3 PCR_Authorities changed
 then DRTM-tables
 
 = DRTM-tables * - Validated Tables

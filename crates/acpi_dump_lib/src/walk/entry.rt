@@ -1,8 +1,8 @@
 //! The structures in a structure, one by one.
 
-use super::Fault;
 use super::parts::{Piece, after_zero};
-use crate::language::{Block, find_block, lines_of, next_word, sum_of};
+use crate::fault::Fault;
+use crate::language::{Block, next_word, sum_of};
 
 /// What is known of an entry: its length, its name, its type, and the lines of its layout.
 #[derive(Clone, Copy)]
@@ -23,26 +23,40 @@ pub(super) fn next_entry(piece: Piece<'_>, rest: &[u8], how: &'static str) -> Re
             let length = if first == "z" {
                 after_zero(rest, 0)
             } else {
-                sum_of(first, piece.bytes).number as usize
+                sum_of(first, piece.bytes)?.number as usize
             };
-            plain_entry(
-                piece.text,
-                checked_length(rest, length, length.max(1))?,
-                how,
-            )
+            let length = checked_length(rest, length, length.max(1))?;
+            Ok(Entry::of(length, piece.blocks.named(how)?))
         }
-        "own" => plain_entry(piece.text, own_length(rest, first, 1)?, how),
+        "own" => {
+            let length = own_length(rest, first, 1)?;
+            Ok(Entry::of(length, piece.blocks.named(how)?))
+        }
         "typed" => {
-            let kind = sum_of(first, rest);
+            let kind = sum_of(first, rest)?;
             let (size, how) = next_word(how);
             let length = own_length(rest, size, kind.end)?;
-            typed_entry(piece.text, length, kind.number, how)
+            let block = typed_block(piece, kind.number, how)?;
+            let entry = Entry::of(length, block.unwrap_or(Block::NONE));
+            Ok(entry.typed(kind.number, piece.blocks.named(how)?))
         }
-        _ => {
-            let kind = sum_of(first, rest);
-            sized_entry(piece.text, rest, kind.number, kind.end, how)
+        "sized" => {
+            let kind = sum_of(first, rest)?;
+            if rest.len() < kind.end {
+                return Err(Fault::Cut);
+            }
+            let block = typed_block(piece, kind.number, how)?.ok_or(Fault::Unknown(kind.number))?;
+            let entry = Entry::of(own_length(rest, block.size, kind.end)?, block);
+            Ok(entry.typed(kind.number, piece.blocks.named(how)?))
         }
+        _ => Err(Fault::Unread(word)),
     }
+}
+
+/// The block of a name for structures of a type, if there is one.
+fn typed_block(piece: Piece<'_>, kind: u64, how: &'static str) -> Result<Option<Block>, Fault> {
+    let (name, _) = next_word(how);
+    piece.blocks.find(name, Some(kind))
 }
 
 /// A length of an entry, if it is at least so much, and at most what is left.
@@ -60,59 +74,28 @@ fn checked_length(rest: &[u8], length: usize, least: usize) -> Result<usize, Fau
 
 /// The length that stands in the entry that bytes begin with, which is at least so much.
 fn own_length(rest: &[u8], size: &'static str, least: usize) -> Result<usize, Fault> {
-    let length = sum_of(size, rest);
+    let length = sum_of(size, rest)?;
     checked_length(rest, length.number as usize, length.end.max(least))
 }
 
-/// An entry without a type.
-fn plain_entry(text: &'static str, length: usize, how: &'static str) -> Result<Entry, Fault> {
-    let (name, _) = next_word(how);
-    Ok(entry_of(length, None, "", find_block(text, name, None)))
-}
-
-/// An entry of a type.
-fn typed_entry(
-    text: &'static str,
-    length: usize,
-    kind: u64,
-    how: &'static str,
-) -> Result<Entry, Fault> {
-    let (name, _) = next_word(how);
-    let block = find_block(text, name, Some(kind));
-    Ok(entry_of(length, Some(kind), lines_of(text, how), block))
-}
-
-/// An entry of a type that determines its length.
-fn sized_entry(
-    text: &'static str,
-    rest: &[u8],
-    kind: u64,
-    least: usize,
-    how: &'static str,
-) -> Result<Entry, Fault> {
-    if rest.len() < least {
-        return Err(Fault::Cut);
+impl Entry {
+    /// An entry without a type, which a block describes.
+    fn of(length: usize, block: Block) -> Entry {
+        Entry {
+            length,
+            name: block.title,
+            kind: None,
+            head: "",
+            lines: block.lines,
+        }
     }
-    let (name, _) = next_word(how);
-    let block = find_block(text, name, Some(kind));
-    let Some(Block { size, .. }) = block else {
-        return Err(Fault::Unknown(kind));
-    };
-    let length = own_length(rest, size, least)?;
-    Ok(entry_of(length, Some(kind), lines_of(text, how), block))
-}
 
-/// An entry that a block describes.
-fn entry_of(length: usize, kind: Option<u64>, head: &'static str, block: Option<Block>) -> Entry {
-    let (name, lines) = match block {
-        Some(block) => (block.title, block.lines),
-        None => ("", ""),
-    };
-    Entry {
-        length,
-        name,
-        kind,
-        head,
-        lines,
+    /// This entry with a type, and with what those of all types begin with.
+    fn typed(self, kind: u64, head: Block) -> Entry {
+        Entry {
+            kind: Some(kind),
+            head: head.lines,
+            ..self
+        }
     }
 }
