@@ -41,7 +41,7 @@ static const struct zacpi_range long_redistributors[] = {{0, 0}, {0, 0x100000000
 static const struct zacpi_gic_translation_service services[] = {{0x08080000, 7}};
 /* The second one's SPIs aren't looked at. */
 static const struct zacpi_gic_msi_frame frames[] = {{0x08020000, 1, 0x150, 64, 255}, {0x08030000, 2, 9, 9, 0}};
-#define GICD {0x08000000, 0x01020304, 9, 3}
+#define GICD {0x108000000, 0x01020304, 9, 3}
 static const struct zacpi_gic_contents whole_gic = {
     GICD, LISTED(interfaces), LISTED(redistributors), LISTED(services), LISTED(frames)};
 static const struct zacpi_gic_contents small_gic = {
@@ -51,11 +51,11 @@ static const struct zacpi_gic_contents gic_without_processor = {
 static const struct zacpi_gic_contents gic_of_long_range = {
     GICD, LISTED(interfaces), LISTED(long_redistributors), NONE(services), NONE(frames)};
 
-#define GICD_ENTRY 12, 24, 0, 0, 4, 3, 2, 1, 0, 0, 0, 8, 0, 0, 0, 0, 9, 0, 0, 0, 3, 0, 0, 0
+#define GICD_ENTRY 12, 24, 0, 0, 4, 3, 2, 1, 0, 0, 0, 8, 1, 0, 0, 0, 9, 0, 0, 0, 3, 0, 0, 0
 /* The 80 bytes of the second GICC, without TRBE Interrupt: not enabled; of Flags VGIC Maintenance Interrupt Mode. */
 #define SHORT_GICC 11, 80, 0, 0, 4, 3, 2, 1, 255, 255, 255, 255, 4, 0, 0, 0, \
     ZEROS_12, ZEROS_12, ZEROS_12, ZEROS_12, ZEROS_12, 0, 0, 0, 0
-static const uint8_t gic_bytes[] = {LONG_HEAD('A', 'P', 'I', 'C', 58, 1, 6, 0xa5), 0, 0, 0, 0, 0, 0, 0, 0, GICD_ENTRY,
+static const uint8_t gic_bytes[] = {LONG_HEAD('A', 'P', 'I', 'C', 58, 1, 6, 0xa4), 0, 0, 0, 0, 0, 0, 0, 0, GICD_ENTRY,
     11, 82, 0, 0, 1, 0, 0, 0, 2, 0, 0, 0, 0x0b, 0, 0, 0, 3, 0, 0, 0, 23, 0, 0, 0, /* GICC: Number, UID, Flags, .. */
     8, 7, 6, 5, 4, 3, 2, 1, 0, 0, 1, 8, 0, 0, 0, 0,  /* Parked Address, Physical Base Address */
     0, 0, 4, 8, 0, 0, 0, 0, 0, 0, 3, 8, 0, 0, 0, 0,  /* GICV, GICH */
@@ -67,7 +67,7 @@ static const uint8_t gic_bytes[] = {LONG_HEAD('A', 'P', 'I', 'C', 58, 1, 6, 0xa5
     15, 20, 0, 0, 7, 0, 0, 0, 0, 0, 8, 8, 0, 0, 0, 0, 0, 0, 0, 0,              /* GIC ITS */
     13, 24, 0, 0, 1, 0, 0, 0, 0, 0, 2, 8, 0, 0, 0, 0, 1, 0, 0, 0, 64, 0, 80, 1, /* GIC MSI Frame: SPI Count, Base */
     13, 24, 0, 0, 2, 0, 0, 0, 0, 0, 3, 8, 0, 0, 0, 0, 0, 0, 0, 0, 0, 0, 0, 0};
-static const uint8_t small_gic_bytes[] = {HEAD('A', 'P', 'I', 'C', 148, 6, 0x71), 0, 0, 0, 0, 0, 0, 0, 0, GICD_ENTRY,
+static const uint8_t small_gic_bytes[] = {HEAD('A', 'P', 'I', 'C', 148, 6, 0x70), 0, 0, 0, 0, 0, 0, 0, 0, GICD_ENTRY,
     SHORT_GICC};
 
 /* ---- A machine ------------------------------------------------------------------------------------------- */

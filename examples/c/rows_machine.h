@@ -26,6 +26,11 @@ static const struct zacpi_fixed_hardware reduced_fadt = {
     .sleep_status = {{0x0807060504030201, 0x7f, 64, 3, 4}, 1}, .smi_command = 0xb2, .flags = 0x001aaaaa,
     .sci_interrupt = 9, .x86_boot_flags = 0x2a, .arm_boot_flags = 2, .power_profile = 200, .acpi_enable = 1,
     .reset_value = 0x77};
+/* Reduced too, with a register that resets, high in memory, and a space of an OEM; 9 is the least reserved profile. */
+static const struct zacpi_fixed_hardware reset_fadt = {
+    .dsdt_address = 0x7ff00000, .reset = {{0x1fed80000, 0, 16, 1, 4}, 0}, .sleep_status = PORT(0x600, 32, 2),
+    .sleep_control = {{0x1234, 0xc0, 16, 1, 4}, 1}, .flags = 1 << 10 | 1 << 20, .sci_interrupt = 0x102,
+    .arm_boot_flags = 3, .power_profile = 9, .reset_value = 1};
 static const struct zacpi_facs_contents facs = {0x3132333435363738, 0x11121314, 0x21222324, 1, 1};
 
 static const uint8_t fadt_bytes[] = {LONG_HEAD('F', 'A', 'C', 'P', 0x14, 1, 6, 0x03),
@@ -61,6 +66,17 @@ static const uint8_t reduced_fadt_bytes[] = {LONG_HEAD('F', 'A', 'C', 'P', 0x14,
     ZEROS_12, ZEROS_12, ZEROS_12, ZEROS_12, ZEROS_12, ZEROS_12, ZEROS_12, ZEROS_12, /* X_PM1a_EVT_BLK to X_GPE1_BLK */
     0, 8, 0, 1, 0, 0, 0xd0, 0xfe, 0, 0, 0, 0,       /* SLEEP_CONTROL_REG */
     0x7f, 64, 3, 4, 1, 2, 3, 4, 5, 6, 7, 8,         /* SLEEP_STATUS_REG */
+    0, 0, 0, 0, 0, 0, 0, 0};
+static const uint8_t reset_fadt_bytes[] = {LONG_HEAD('F', 'A', 'C', 'P', 0x14, 1, 6, 0x64),
+    0, 0, 0, 0, 0, 0, 0xf0, 0x7f, 0, 9, 2, 1,       /* FIRMWARE_CTRL to SCI_INT */
+    ZEROS_12, ZEROS_12, ZEROS_12, ZEROS_12, ZEROS_12, 0, /* SMI_CMD to CENTURY */
+    0, 0, 0, 0, 4, 0x10, 0,                         /* IAPC_BOOT_ARCH, Reserved, Flags */
+    0, 16, 1, 4, 0, 0, 0xd8, 0xfe, 1, 0, 0, 0,      /* RESET_REG */
+    1, 3, 0, 4,                                     /* RESET_VALUE, ARM_BOOT_ARCH, FADT Minor Version */
+    0, 0, 0, 0, 0, 0, 0, 0, 0, 0, 0xf0, 0x7f, 0, 0, 0, 0, /* X_FIRMWARE_CTRL, X_DSDT */
+    ZEROS_12, ZEROS_12, ZEROS_12, ZEROS_12, ZEROS_12, ZEROS_12, ZEROS_12, ZEROS_12, /* X_PM1a_EVT_BLK to X_GPE1_BLK */
+    0xc0, 16, 1, 4, 0x34, 0x12, 0, 0, 0, 0, 0, 0,   /* SLEEP_CONTROL_REG */
+    1, 32, 0, 2, 0, 6, 0, 0, 0, 0, 0, 0,            /* SLEEP_STATUS_REG */
     0, 0, 0, 0, 0, 0, 0, 0};
 static const uint8_t facs_bytes[64] = {'F', 'A', 'C', 'S', 64, 0, 0, 0, 0x14, 0x13, 0x12, 0x11, /* Hardware Signature */
     0x24, 0x23, 0x22, 0x21, 0, 0, 0, 0, 3, 0, 0, 0, /* Firmware_Waking_Vector, Global_Lock, Flags */
@@ -130,8 +146,12 @@ static const struct zacpi_aml_contents some_aml = {LISTED(code), 2}, no_aml = {N
 static zacpi_status on_machine(const struct zacpi_listed_table *tables, size_t count, size_t dsdts, uint64_t address,
                                int has_rsdp, uint8_t *to, size_t room, size_t *length) {
     const struct zacpi_machine machine = {*ids, tables, count, &some_aml, dsdts};
-    return has_rsdp ? zacpi_write_tables(&machine, address, to, room, length)
-                    : zacpi_write_tables_without_rsdp(&machine, address, to, room, length);
+    size_t size = UNCOUNTED;
+    zacpi_status got;
+    if (!has_rsdp) return zacpi_write_tables_without_rsdp(&machine, address, to, room, length);
+    got = zacpi_write_tables(&machine, address, to, room, length);
+    if (!got) result(!zacpi_tables_size(&machine, &size) && size == *length, "tables_size", (int)count, room, got);
+    return got;
 }
 static zacpi_status on_seven(uint64_t address, int has_rsdp, uint8_t *to, size_t room, size_t *length) {
     const struct zacpi_srat_contents srat = zacpi_srat_of(LISTED(domains_of_apics), LISTED(domains_of_memory));

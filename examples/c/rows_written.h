@@ -1,5 +1,5 @@
 /* Rows of the calls that write a table, with each byte that they have to write, worked out by hand from the layouts.
- * For rows.c. */
+ * For rows.c. What no record of C can say is in crates/acpi_tests/src/written. */
 #ifndef ROWS_WRITTEN_H
 #define ROWS_WRITTEN_H
 
@@ -26,6 +26,8 @@ static const uint8_t code[] = {0xa4, 0x01, 0x02};
 static const uint8_t distances[] = {10, 20, 21, 10};
 static const struct zacpi_pci_region buses[] = {{0xb0000000, 0, 0, 255}, {0x2000000000, 0x102, 16, 31}};
 static const struct zacpi_hpet_info timers_block = {0x1fed00000, 0x8086a201, 0x1234, 2, 1};
+static const struct zacpi_hpet_info unprotected = {0x1fed00000, 0x8086a201, 0x1234, 2, 0};
+static const struct zacpi_hpet_info protected_64k = {0x1fed00000, 0x8086a201, 0x1234, 2, 2};
 static const struct zacpi_hpet_info reserved_protection = {0xfed00000, 0x8086a201, 0x80, 2, 9};
 /* The second one's ids are too large for a Processor Local APIC; the third one's uid alone, and the fourth one's id. */
 static const struct zacpi_processor listed[] = {{7, 2, ZACPI_PROCESSOR_RUNNING, 1},
@@ -33,13 +35,18 @@ static const struct zacpi_processor listed[] = {{7, 2, ZACPI_PROCESSOR_RUNNING, 
                                                 {255, 254, ZACPI_PROCESSOR_WAITING, 0},
                                                 {254, 255, ZACPI_PROCESSOR_WAITING, 0},
                                                 {254, 254, ZACPI_PROCESSOR_WAITING, 1}};
-static const struct zacpi_io_apic controllers[] = {{0xfec00000, 24, 3}};
+static const struct zacpi_io_apic controllers[] = {{0xfec00000, 24, 3}, {0xfe020304, 0x05060708, 0}};
 static const struct zacpi_interrupt_source_override wirings[] = {
-    {20, 9, ZACPI_POLARITY_LOW, ZACPI_TRIGGER_LEVEL}, {0x01020304, 0, ZACPI_POLARITY_HIGH, ZACPI_TRIGGER_BUS}};
-static const struct zacpi_nmi_source sources_of_nmis[] = {{21, ZACPI_POLARITY_HIGH, ZACPI_TRIGGER_EDGE}};
-static const struct zacpi_nmi_line lines_of_nmis[] = {{9, 1, 1}, {255, 0, 0}, {254, 0, 1}};
-static const struct zacpi_processor of_all_uids[] = {{0xffffffff, 0, ZACPI_PROCESSOR_RUNNING, 1}};
-static const struct zacpi_processor of_all_ids[] = {{0, 0xffffffff, ZACPI_PROCESSOR_RUNNING, 1}};
+    {20, 9, ZACPI_POLARITY_LOW, ZACPI_TRIGGER_LEVEL}, {0x01020304, 0, ZACPI_POLARITY_HIGH, ZACPI_TRIGGER_BUS},
+    {5, 1, ZACPI_POLARITY_BUS, ZACPI_TRIGGER_LEVEL}};
+static const struct zacpi_nmi_source sources_of_nmis[] = {{21, ZACPI_POLARITY_HIGH, ZACPI_TRIGGER_EDGE},
+                                                        {0x01020304, ZACPI_POLARITY_BUS, ZACPI_TRIGGER_BUS}};
+static const struct zacpi_nmi_line lines_of_nmis[] = {{9, 1, 1}, {255, 0, 0}, {254, 0, 1}, {0xfffffffe, 0, 1}};
+/* The second one's uid stands for all processors, or its id. */
+static const struct zacpi_processor of_all_uids[] = {{7, 2, ZACPI_PROCESSOR_RUNNING, 1},
+                                                     {0xffffffff, 1, ZACPI_PROCESSOR_RUNNING, 0}};
+static const struct zacpi_processor of_all_ids[] = {{7, 2, ZACPI_PROCESSOR_RUNNING, 1},
+                                                    {1, 0xffffffff, ZACPI_PROCESSOR_RUNNING, 0}};
 static const struct zacpi_interrupt_source_override no_polarity[] = {{20, 9, 2, ZACPI_TRIGGER_LEVEL}};
 static const struct zacpi_interrupt_source_override no_trigger[] = {{20, 9, ZACPI_POLARITY_LOW, 4}};
 static const struct zacpi_nmi_source no_source_trigger[] = {{21, ZACPI_POLARITY_LOW, 2}};
@@ -92,11 +99,11 @@ MADT(whole_madt, LISTED(listed), LISTED(controllers), LISTED(wirings), LISTED(so
      0x1fee00000, 0x7000, 1, 1)
 MADT(small_madt, listed, 1, NONE(controllers), NONE(wirings), NONE(sources_of_nmis), NONE(lines_of_nmis), 0xfee00000,
      0x7000, 0, 0)
-MADT(no_madt_processor, NONE(listed), NONE(controllers), NONE(wirings), NONE(sources_of_nmis), NONE(lines_of_nmis),
+MADT(no_madt_processor, NONE(listed), NONE(controllers), NONE(wirings), NONE(sources_of_nmis), LISTED(line_of_all),
      0xfee00000, 0, 0, 0)
 MADT(madt_of_uid, LISTED(of_all_uids), NONE(controllers), NONE(wirings), NONE(sources_of_nmis), LISTED(line_of_all),
      0xfee00000, 0, 0, 0)
-MADT(madt_of_id, LISTED(of_all_ids), NONE(controllers), NONE(wirings), NONE(sources_of_nmis), NONE(lines_of_nmis),
+MADT(madt_of_id, LISTED(of_all_ids), NONE(controllers), NONE(wirings), NONE(sources_of_nmis), LISTED(line_of_all),
      0xfee00000, 0, 0, 0)
 MADT(madt_of_line, listed, 1, NONE(controllers), NONE(wirings), NONE(sources_of_nmis), LISTED(line_of_all),
      0xfee00000, 0, 0, 0)
@@ -138,12 +145,14 @@ static const uint8_t mcfg_bytes[] = {HEAD('M', 'C', 'F', 'G', 76, 1, 0x64), 0, 0
     0, 0, 0, 0xb0, 0, 0, 0, 0, 0, 0, 0, 255, 0, 0, 0, 0, 0, 0, 0, 0, 0x20, 0, 0, 0, 2, 1, 16, 31, 0, 0, 0, 0};
 static const uint8_t no_region_bytes[] = {HEAD('M', 'C', 'F', 'G', 44, 1, 0x85), 0, 0, 0, 0, 0, 0, 0, 0};
 /* Event Timer Block ID; BASE_ADDRESS; HPET Number, Main Counter Minimum Clock_tick, Page Protection. */
-static const uint8_t hpet_bytes[] = {HEAD('H', 'P', 'E', 'T', 56, 1, 0xa4), 1, 0xa2, 0x86, 0x80,
-    0, 0, 0, 0, 0, 0, 0xd0, 0xfe, 1, 0, 0, 0, 2, 0x34, 0x12, 1};
+#define HPET(checksum, protection) {HEAD('H', 'P', 'E', 'T', 56, 1, checksum), 1, 0xa2, 0x86, 0x80, \
+    0, 0, 0, 0, 0, 0, 0xd0, 0xfe, 1, 0, 0, 0, 2, 0x34, 0x12, protection}
+static const uint8_t hpet_bytes[] = HPET(0xa4, 1), unprotected_bytes[] = HPET(0xa5, 0);
+static const uint8_t protected_64k_bytes[] = HPET(0xa3, 2);
 static const uint8_t reserved_hpet_bytes[] = {HEAD('H', 'P', 'E', 'T', 56, 1, 0x69), 1, 0xa2, 0x86, 0x80,
     0, 0, 0, 0, 0, 0, 0xd0, 0xfe, 0, 0, 0, 0, 2, 0x80, 0, 3};
 static const uint8_t slit_bytes[] = {HEAD('S', 'L', 'I', 'T', 48, 1, 0x23), 2, 0, 0, 0, 0, 0, 0, 0, 10, 20, 21, 10};
-static const uint8_t madt_bytes[] = {HEAD('A', 'P', 'I', 'C', 200, 5, 0x3f), 0, 0, 0, 0, 1, 0, 0, 0,
+static const uint8_t madt_bytes[] = {HEAD('A', 'P', 'I', 'C', 242, 5, 0xa2), 0, 0, 0, 0, 1, 0, 0, 0,
     0, 8, 7, 2, 1, 0, 0, 0,                                  /* Processor Local APIC: uid 7, id 2 */
     9, 16, 0, 0, 0x34, 0x12, 0, 0, 0, 0, 0, 0, 255, 0, 0, 0, /* Processor Local x2APIC: disabled */
     9, 16, 0, 0, 254, 0, 0, 0, 1, 0, 0, 0, 255, 0, 0, 0,
@@ -151,12 +160,16 @@ static const uint8_t madt_bytes[] = {HEAD('A', 'P', 'I', 'C', 200, 5, 0x3f), 0, 
     0, 8, 254, 254, 1, 0, 0, 0,
     5, 12, 0, 0, 0, 0, 0xe0, 0xfe, 1, 0, 0, 0,               /* Local APIC Address Override */
     1, 12, 3, 0, 0, 0, 0xc0, 0xfe, 24, 0, 0, 0,              /* I/O APIC */
+    1, 12, 0, 0, 4, 3, 2, 0xfe, 8, 7, 6, 5,
     2, 10, 0, 9, 20, 0, 0, 0, 15, 0,                         /* Interrupt Source Override: active low, level */
     2, 10, 0, 0, 4, 3, 2, 1, 1, 0,                           /* active high, as the bus */
+    2, 10, 0, 1, 5, 0, 0, 0, 12, 0,                          /* as the bus, level */
     3, 8, 5, 0, 21, 0, 0, 0,                                 /* NMI Source: active high, edge */
+    3, 8, 0, 0, 4, 3, 2, 1,                                  /* as the bus */
     4, 6, 255, 0, 0, 1,                                      /* Local APIC NMI: all processors, LINT1 */
     10, 12, 0, 0, 255, 0, 0, 0, 0, 0, 0, 0,                  /* Local x2APIC NMI: uid 255, LINT0 */
     4, 6, 254, 0, 0, 1,                                      /* Local APIC NMI: uid 254, LINT1 */
+    10, 12, 0, 0, 0xfe, 255, 255, 255, 1, 0, 0, 0,           /* Local x2APIC NMI: uid 0xfffffffe, LINT1 */
     16, 16, 0, 0, 0, 0, 0, 0, 0, 0x70, 0, 0, 0, 0, 0, 0};    /* Multiprocessor Wakeup */
 static const uint8_t small_madt_bytes[] = {HEAD('A', 'P', 'I', 'C', 52, 5, 0x89), 0, 0, 0xe0, 0xfe, 0, 0, 0, 0,
     0, 8, 7, 2, 1, 0, 0, 0};
@@ -218,10 +231,13 @@ WRITE(an_ssdt, ssdt, 1, NONE(code))
 WRITE(an_mcfg, mcfg, LISTED(buses))
 WRITE(an_mcfg_of_none, mcfg, NONE(buses))
 WRITE(an_hpet, hpet, &timers_block)
+WRITE(an_unprotected_hpet, hpet, &unprotected)
+WRITE(an_hpet_of_64k, hpet, &protected_64k)
 WRITE(a_reserved_hpet, hpet, &reserved_protection)
 WRITE(a_slit, slit, 2, LISTED(distances))
 WRITE(a_slit_of_3, slit, 3, LISTED(distances))
 WRITE(a_slit_of_many, slit, 0x8000000000000002, LISTED(distances))
+WRITE(a_slit_of_more, slit, 0x100000000, NONE(distances))
 WRITE(a_madt, madt, &whole_madt)
 WRITE(a_small_madt, madt, &small_madt)
 WRITE(no_processor, madt, &no_madt_processor)
@@ -266,6 +282,7 @@ WRITE(no_interface, gic_madt, &gic_without_processor)
 WRITE(long_range, gic_madt, &gic_of_long_range)
 WRITE(a_fadt, fadt, &pc_fadt)
 WRITE(a_reduced_fadt, fadt, &reduced_fadt)
+WRITE(a_reset_fadt, fadt, &reset_fadt)
 WRITE(a_fadt_without_dsdt, fadt, &fadt_without_dsdt)
 WRITE(a_fadt_without_pm1a, fadt, &fadt_without_pm1a)
 WRITE(a_fadt_without_control, fadt, &fadt_without_control)
@@ -291,12 +308,14 @@ static const struct written_row {
     WRITTEN(an_rsdp, rsdp_bytes), WRITTEN(an_rsdt, rsdt_bytes), WRITTEN(an_xsdt, xsdt_bytes),
     WRITTEN(a_dsdt, dsdt_bytes), WRITTEN(an_ssdt, ssdt_bytes), WRITTEN(an_mcfg, mcfg_bytes),
     WRITTEN(an_mcfg_of_none, no_region_bytes), WRITTEN(an_hpet, hpet_bytes),
+    WRITTEN(an_unprotected_hpet, unprotected_bytes), WRITTEN(an_hpet_of_64k, protected_64k_bytes),
     WRITTEN(a_reserved_hpet, reserved_hpet_bytes), WRITTEN(a_slit, slit_bytes), WRITTEN(a_madt, madt_bytes),
     WRITTEN(a_small_madt, small_madt_bytes), WRITTEN(a_srat, srat_bytes), WRITTEN(an_empty_srat, empty_srat_bytes),
     NOT_WRITTEN(domain_of_ids, ZACPI_ID_OF_ALL), NOT_WRITTEN(domain_of_uids, ZACPI_ID_OF_ALL),
     NOT_WRITTEN(range_of_no_byte, ZACPI_BAD_RANGE), NOT_WRITTEN(range_past_end, ZACPI_BAD_RANGE),
     NOT_WRITTEN(an_rsdp_to_0, ZACPI_NO_ADDRESS), NOT_WRITTEN(a_slit_of_3, ZACPI_BAD_MATRIX),
     NOT_WRITTEN(a_slit_of_many, ZACPI_BAD_MATRIX), /* 2^63 + 2, whose square is 4 modulo 2^64 */
+    NOT_WRITTEN(a_slit_of_more, ZACPI_BAD_MATRIX), /* 2^32, whose square is 0 */
     NOT_WRITTEN(no_processor, ZACPI_NO_PROCESSOR), NOT_WRITTEN(all_uids, ZACPI_ID_OF_ALL),
     NOT_WRITTEN(all_ids, ZACPI_ID_OF_ALL), NOT_WRITTEN(all_lines, ZACPI_UID_OF_ALL),
     NOT_WRITTEN(bad_polarity, ZACPI_UNKNOWN_CODE), NOT_WRITTEN(bad_trigger, ZACPI_UNKNOWN_CODE),
@@ -311,6 +330,7 @@ static const struct written_row {
     NOT_WRITTEN(bad_no_controller, ZACPI_UNKNOWN_CODE), NOT_WRITTEN(bad_8259, ZACPI_UNKNOWN_CODE),
     NOT_WRITTEN(bad_bit_5, ZACPI_UNKNOWN_CODE),
     WRITTEN(a_fadt, fadt_bytes), WRITTEN(a_reduced_fadt, reduced_fadt_bytes),
+    WRITTEN(a_reset_fadt, reset_fadt_bytes),
     {"a_facs", a_facs, facs_bytes, sizeof facs_bytes, ZACPI_OK, ZACPI_OK},
     NOT_WRITTEN(a_fadt_without_dsdt, ZACPI_NO_ADDRESS), NOT_WRITTEN(a_fadt_without_pm1a, ZACPI_BAD_REGISTER),
     NOT_WRITTEN(a_fadt_without_control, ZACPI_BAD_REGISTER), NOT_WRITTEN(a_fadt_without_reset, ZACPI_BAD_REGISTER),

@@ -1,8 +1,10 @@
 //! The comparisons that all tests make. They stand here once, since each is long to prove.
 
-use crate::bytes::{Part, has_part};
 use std::fmt::Debug;
 use std::process::Abort;
+
+/// What stands at which offset.
+pub(crate) type Part = (usize, &'static [u8]);
 
 /// Checks what was found against what is wanted.
 pub(crate) fn check<T: Copy + Debug + PartialEq>(rt: &impl Abort, name: &str, found: T, wanted: T) {
@@ -10,11 +12,6 @@ pub(crate) fn check<T: Copy + Debug + PartialEq>(rt: &impl Abort, name: &str, fo
         found == wanted,
         "{name}: {found:?}, but {wanted:?} is wanted"
     );
-}
-
-/// Checks that something is right about what a row says of a place.
-pub(crate) fn check_at(rt: &impl Abort, name: &str, place: u64, is_right: bool) {
-    check(rt, name, (place, is_right), (place, true));
 }
 
 /// The first place where bytes differ from others, or where one of them ends before the other.
@@ -34,16 +31,17 @@ pub(crate) fn check_same(rt: &impl Abort, name: &str, found: &[u8], wanted: &[u8
     check(rt, name, difference(found, wanted), None);
 }
 
-/// Checks bytes against their length and what they have at some offsets.
-pub(crate) fn check_bytes(
-    rt: &impl Abort,
-    name: &str,
-    bytes: &[u8],
-    length: usize,
-    parts: &[Part],
-) {
-    check(rt, name, bytes.len(), length);
+/// Whether bytes have this part.
+fn has_part(bytes: &[u8], (offset, part): Part) -> bool {
+    match bytes.get(offset..) {
+        Some(rest) => rest.starts_with(part),
+        None => false,
+    }
+}
+
+/// Checks bytes against what they have at some offsets.
+pub(crate) fn check_parts(rt: &impl Abort, name: &str, bytes: &[u8], parts: &[Part]) {
     for part in parts {
-        check_at(rt, name, part.0 as u64, has_part(bytes, *part));
+        check(rt, name, (part.0, has_part(bytes, *part)), (part.0, true));
     }
 }

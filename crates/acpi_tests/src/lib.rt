@@ -3,21 +3,17 @@
 #![tactic(auto)]
 
 #[cfg(test)]
-mod bytes;
-#[cfg(test)]
 mod checks;
 #[cfg(test)]
 mod examples;
 #[cfg(test)]
-mod pairing;
+mod image;
 #[cfg(test)]
 mod programs;
 #[cfg(test)]
 mod reading;
 #[cfg(test)]
 mod regions;
-#[cfg(test)]
-mod saving;
 #[cfg(test)]
 mod slices;
 #[cfg(test)]

@@ -1,8 +1,8 @@
-//! What can't be seen of a program from outside: arguments that can't be had, how many files it asks for, and writes that
-//! are refused.
+//! What can't be seen of a program from outside: arguments that can't be had, how many files it asks for, writes that
+//! are refused, and names of files that no shell passes.
 
 use crate::checks::check;
-use crate::reading::{GRAPHIC, ROOT, file_of};
+use crate::image::FILE;
 use acpi_cli::args_or_none;
 use acpi_cli::files::{HostFiles, count};
 use acpi_dump_lib::run::dump;
@@ -10,9 +10,11 @@ use acpi_dump_lib::sources::{HostSources, Sources};
 use acpi_pack_lib::arguments::parse_command;
 use acpi_pack_lib::program::pack;
 use acpi_pack_lib::run::run;
+use acpi_pack_lib::save::{SaveError, save};
 use acpi_pack_lib::storage::HostStorage;
-use std::alloc::{AllocError, Global};
+use std::alloc::Global;
 use std::io::{ErrorKind, Write};
+use std::test::Fail;
 use std::{fs, io};
 
 /// One argument that was had.
@@ -45,7 +47,8 @@ fn arguments_that_cant_be_had(rt: HostRuntime) {
 /// A run: the arguments, the status, and how many files are asked for.
 type Run = (&'static [&'static str], u8, usize);
 
-/// Runs of `acpi_dump`. The file `asked.image` has an RSDT at 0x1000 that lists a BGRT.
+/// Runs of `acpi_dump`. The file `asked.image` has an RSDT at 0x1000 that lists a BGRT and no HPET.
+#[rattlefmt::skip]
 static DUMPS: [Run; 12] = [
     (&["asked.image", "rsdt", "256", "0x1000"], 2, 0),
     (&["asked.image", "bios", "--table"], 2, 0),
@@ -54,16 +57,8 @@ static DUMPS: [Run; 12] = [
     (&["--help"], 0, 0),
     (&["--version"], 0, 0),
     (&["asked.image", "rsdt", "0", "0x1000"], 0, 1),
-    (
-        &["asked.image", "rsdt", "0", "0x1000", "--hex", "BGRT"],
-        0,
-        1,
-    ),
-    (
-        &["asked.image", "rsdt", "0", "0x1000", "--table", "FACP"],
-        1,
-        1,
-    ),
+    (&["asked.image", "rsdt", "0", "0x1000", "--hex", "BGRT"], 0, 1),
+    (&["asked.image", "rsdt", "0", "0x1000", "--table", "HPET"], 1, 1),
     (&["asked.image", "bios"], 1, 1),
     (&["missing.image", "bios"], 1, 0),
     (&["--compare", "asked.image", "asked.image"], 1, 2),
@@ -111,6 +106,7 @@ fn dumped(rt: &HostRuntime, arguments: &[&str]) -> (Option<u8>, usize) {
 }
 
 /// Runs of `acpi_pack`.
+#[rattlefmt::skip]
 static PACKS: [Run; 7] = [
     (&[], 2, 0),
     (&["--Help"], 2, 0),
@@ -125,8 +121,9 @@ static PACKS: [Run; 7] = [
 fn packed(rt: &HostRuntime, arguments: &[&str]) -> (Option<u8>, usize) {
     let (mut files, mut storage) = (HostFiles::new(rt), HostStorage::new(rt));
     let (mut out, mut err) = (Vec::new(rt.alloc()), Vec::new(rt.alloc()));
+    let alloc = rt.alloc();
     let status = pack(
-        rt.alloc(),
+        alloc,
         arguments,
         &mut files,
         &mut storage,
@@ -137,9 +134,8 @@ fn packed(rt: &HostRuntime, arguments: &[&str]) -> (Option<u8>, usize) {
 }
 
 #[test]
-fn no_more_files_are_asked_for(rt: HostRuntime) {
-    let image = file_of(&[ROOT, GRAPHIC], 128);
-    let is_written = fs::write(&rt, "asked.image", image.bytes()).is_ok();
+fn no_more_files_are_asked_for(rt: HostRuntime) -> Result<(), Fail> {
+    fs::write(&rt, "asked.image", &FILE[52..])?;
     for (arguments, status, asked) in &DUMPS {
         let wanted = (Some(*status), *asked);
         check(&rt, "dump", dumped(&rt, *arguments), wanted);
@@ -148,8 +144,8 @@ fn no_more_files_are_asked_for(rt: HostRuntime) {
         let wanted = (Some(*status), *asked);
         check(&rt, "pack", packed(&rt, *arguments), wanted);
     }
-    let is_removed = fs::remove_file(&rt, "asked.image").is_ok();
-    check(&rt, "the image", (is_written, is_removed), (true, true));
+    fs::remove_file(&rt, "asked.image")?;
+    Ok(())
 }
 
 /// A writer that takes nothing.
@@ -166,24 +162,31 @@ impl Write for Closed {
     }
 }
 
-/// Whether `acpi_pack` fails that can't say which file it leaves out.
-fn is_pack_failed(alloc: Global) -> bool {
+#[test]
+fn a_line_that_cant_be_printed_fails(rt: HostRuntime) -> Result<(), Fail> {
+    // `acpi_pack` can't say which file it leaves out, and `acpi_dump` can't print its version.
     let facs = b"FACS\x24\0\0\0\0\0\0\0\0\0\0\0\0\0\0\0\0\0\0\0\0\0\0\0\0\0\0\0\0\0\0\0";
-    match parse_command(alloc, &["out", "tables", "facs"]) {
-        Ok(asked) => run(alloc, &asked, &[Some(facs.as_slice())], &mut Closed).is_err(),
-        Err(AllocError) => false,
-    }
+    let asked = parse_command(rt.alloc(), &["out", "tables", "facs"])?;
+    let packed = run(rt.alloc(), &asked, &[Some(facs.as_slice())], &mut Closed).is_err();
+    let mut sources = HostSources::new(&rt);
+    let (mut out, mut err) = (Closed, Closed);
+    let dumped = dump(rt.alloc(), &["--version"], &mut sources, &mut out, &mut err).is_err();
+    check(&rt, "failed", (packed, dumped), (true, true));
+    Ok(())
 }
 
-/// Whether `acpi_dump` fails that can't print its version.
-fn is_dump_failed(rt: &HostRuntime) -> bool {
-    let mut sources = HostSources::new(rt);
-    let (mut out, mut err) = (Closed, Closed);
-    dump(rt.alloc(), &["--version"], &mut sources, &mut out, &mut err).is_err()
-}
+/// What is not saved, for what no program can be given: its name, the files that it is made of, and why.
+/// `crates/acpi_pack/runs` has all else that comes of saving.
+static UNSAVED: [(&str, &[&str], SaveError); 2] = [
+    ("kept", &["kept"], SaveError::SameFile),
+    ("a name\0b", &[], SaveError::Unwritable),
+];
 
 #[test]
-fn a_line_that_cant_be_printed_fails(rt: HostRuntime) {
-    let failed = (is_pack_failed(rt.alloc()), is_dump_failed(&rt));
-    check(&rt, "failed", failed, (true, true));
+fn leaves_all_as_it_was_where_it_refuses(rt: HostRuntime) {
+    for (name, sources, wanted) in &UNSAVED {
+        let refused = save(&rt, *name, *sources, b"one").err();
+        let is_there = fs::exists(&rt, *name).unwrap_or(false);
+        check(&rt, *name, (refused, is_there), (Some(*wanted), false));
+    }
 }

@@ -4,13 +4,11 @@ use crate::checks::check;
 use acpi::AcpiHandler;
 use acpi::handler::{MappedRegion, MappedRegions, RegionError};
 use acpi_testkit::samples::front;
-
-/// Bytes that regions begin with.
-static BYTES: [u8; 4] = [1, 2, 3, 4];
+use std::test::Fail;
 
 /// A region of so many bytes.
 fn region(start: u64, count: usize) -> Result<MappedRegion<'static>, RegionError> {
-    MappedRegion::new(start, front(&BYTES, count.min(4)))
+    MappedRegion::new(start, front(&[1, 2, 3, 4], count))
 }
 
 /// How many bytes are lent from an address on, where so many are asked for.
@@ -25,48 +23,32 @@ fn lent<H: AcpiHandler>(memory: &H, address: u64, size: usize) -> Option<usize> 
 }
 
 /// Requests for memory that lies from 0x1000 to 0x1004.
+#[rattlefmt::skip]
 static LENT_OF_ONE: [(u64, usize, Option<usize>); 7] = [
-    (0x1000, 1, Some(4)),
-    (0x1003, 1, Some(1)),
-    (0xFFF, 1, None),
-    (0x1000, 5, None),
-    (0x1003, 2, None),
-    (0x1004, 1, None),
-    (u64::MAX, 1, None),
+    (0x1000, 1, Some(4)), (0x1003, 1, Some(1)),
+    (0xFFF, 1, None), (0x1000, 5, None), (0x1003, 2, None), (0x1004, 1, None), (u64::MAX, 1, None),
 ];
-
-/// What one region lends.
-fn lent_of_one(address: u64, size: usize) -> Result<Option<usize>, RegionError> {
-    Ok(lent(&region(0x1000, 4)?, address, size))
-}
 
 /// Requests for memory that lies from 0x1000 to 0x1004, from there to 0x1006, and from 0x2000 to
 /// 0x2001.
+#[rattlefmt::skip]
 static LENT_OF_THREE: [(u64, usize, Option<usize>); 8] = [
-    (0x1000, 4, Some(4)),
-    (0x1003, 1, Some(1)),
-    (0x1003, 2, None),
-    (0x1004, 2, Some(2)),
-    (0x1006, 1, None),
-    (0x2000, 1, Some(1)),
-    (0x2001, 1, None),
-    (0xFFF, 1, None),
+    (0x1000, 4, Some(4)), (0x1003, 1, Some(1)), (0x1004, 2, Some(2)), (0x2000, 1, Some(1)),
+    (0x1003, 2, None), (0x1006, 1, None), (0x2001, 1, None), (0xFFF, 1, None),
 ];
 
-/// What three regions lend.
-fn lent_of_three(address: u64, size: usize) -> Result<Option<usize>, RegionError> {
-    let regions = [region(0x1000, 4)?, region(0x1004, 2)?, region(0x2000, 1)?];
-    Ok(lent(&MappedRegions::new(&regions)?, address, size))
-}
-
 #[test]
-fn regions_lend_what_lies_inside_one_of_them(rt: HostRuntime) {
+fn regions_lend_what_lies_inside_one_of_them(rt: HostRuntime) -> Result<(), Fail> {
+    let one = region(0x1000, 4)?;
     for (address, size, wanted) in &LENT_OF_ONE {
-        check(&rt, "one", lent_of_one(*address, *size), Ok(*wanted));
+        check(&rt, "one", lent(&one, *address, *size), *wanted);
     }
+    let regions = [one, region(0x1004, 2)?, region(0x2000, 1)?];
+    let three = MappedRegions::new(&regions)?;
     for (address, size, wanted) in &LENT_OF_THREE {
-        check(&rt, "three", lent_of_three(*address, *size), Ok(*wanted));
+        check(&rt, "three", lent(&three, *address, *size), *wanted);
     }
+    Ok(())
 }
 
 /// Where two regions start and how many bytes they have, and why they are no memory.

@@ -1,67 +1,50 @@
-//! Refusals as they are printed.
+//! Refusals as they are printed. `crates/acpi_pack/runs` has those of files, and `acpi_rows` the others of images.
 
 use crate::checks::check;
 use acpi_image::{ImageError, WriteError};
 use acpi_pack_lib::{FileError, Refusal};
 use std::alloc::Global;
 use std::fmt::Display;
+use std::process::Abort;
+use std::test::Fail;
 
-/// A refusal of what is read, written or packed.
-enum Refused {
-    Reading(ImageError),
-    Writing(WriteError),
-    File(FileError),
-    Packing(Refusal),
-}
-
-/// Every refusal, and how it is printed.
-static TEXTS: [(Refused, &str); 20] = [
-    (Refused::Reading(ImageError::Truncated), "Truncated"),
-    (Refused::Reading(ImageError::EndTooLarge), "EndTooLarge"),
-    (Refused::Reading(ImageError::Overlap), "Overlap"),
-    (Refused::Reading(ImageError::OutOfMemory), "OutOfMemory"),
-    (Refused::Writing(WriteError::ZeroRoot), "ZeroRoot"),
-    (Refused::Writing(WriteError::BadTable(12)), "BadTable 12"),
-    (Refused::Writing(WriteError::TooMany), "TooMany"),
-    (
-        Refused::Writing(WriteError::PointerTooLarge),
-        "PointerTooLarge",
-    ),
-    (Refused::Writing(WriteError::EndTooLarge), "EndTooLarge"),
-    (Refused::Writing(WriteError::Overlap), "Overlap"),
-    (Refused::Writing(WriteError::OutOfMemory), "OutOfMemory"),
-    (Refused::File(FileError::Unreadable), "Unreadable"),
-    (Refused::File(FileError::Empty), "Empty"),
-    (Refused::File(FileError::Short), "Short"),
-    (Refused::File(FileError::Long), "Long"),
-    (Refused::File(FileError::EndTooLarge), "EndTooLarge"),
-    (Refused::File(FileError::Overlap), "Overlap"),
-    (Refused::Packing(Refusal::File(7, FileError::Long)), "Long"),
-    (Refused::Packing(Refusal::NoRoom), "NoRoom"),
-    (Refused::Packing(Refusal::OutOfMemory), "OutOfMemory"),
+static IMAGES: [(ImageError, &str); 2] = [
+    (ImageError::EndTooLarge, "EndTooLarge"),
+    (ImageError::Overlap, "Overlap"),
 ];
 
-/// Whether a value prints this text.
-fn is_printed<T: Display>(alloc: Global, value: &T, text: &str) -> bool {
-    match format!(in alloc; "{value}") {
-        Ok(said) => said.as_str() == text,
-        Err(_) => false,
-    }
-}
+static WRITES: [(WriteError, &str); 7] = [
+    (WriteError::ZeroRoot, "ZeroRoot"),
+    (WriteError::BadTable(12), "BadTable 12"),
+    (WriteError::TooMany, "TooMany"),
+    (WriteError::PointerTooLarge, "PointerTooLarge"),
+    (WriteError::EndTooLarge, "EndTooLarge"),
+    (WriteError::Overlap, "Overlap"),
+    (WriteError::OutOfMemory, "OutOfMemory"),
+];
 
-/// Whether a refusal prints this text.
-fn is_text_of(alloc: Global, refused: &Refused, text: &str) -> bool {
-    match refused {
-        Refused::Reading(error) => is_printed(alloc, error, text),
-        Refused::Writing(error) => is_printed(alloc, error, text),
-        Refused::File(error) => is_printed(alloc, error, text),
-        Refused::Packing(refusal) => is_printed(alloc, refusal, text),
+static PACKS: [(Refusal, &str); 3] = [
+    (Refusal::File(7, FileError::Long), "Long"),
+    (Refusal::NoRoom, "NoRoom"),
+    (Refusal::OutOfMemory, "OutOfMemory"),
+];
+
+/// Checks how values are printed.
+fn check_texts<T: Display>(
+    rt: &impl Abort,
+    alloc: Global,
+    texts: &[(T, &str)],
+) -> Result<(), Fail> {
+    for (value, text) in texts {
+        let printed = format!(in alloc; "{value}")?;
+        check(rt, text, printed.as_str() == *text, true);
     }
+    Ok(())
 }
 
 #[test]
-fn refusals_print_their_names(rt: HostRuntime) {
-    for (refused, text) in &TEXTS {
-        check(&rt, text, is_text_of(rt.alloc(), refused, text), true);
-    }
+fn refusals_print_their_names(rt: HostRuntime) -> Result<(), Fail> {
+    check_texts(&rt, rt.alloc(), &IMAGES)?;
+    check_texts(&rt, rt.alloc(), &WRITES)?;
+    check_texts(&rt, rt.alloc(), &PACKS)
 }

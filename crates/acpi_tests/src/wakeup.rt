@@ -1,15 +1,14 @@
 //! Waking a processor by the mailbox, over tables that are found from an RSDT.
 
 use crate::checks::check;
+use crate::image::{FILE, memory};
+use acpi::handler::MappedRegion;
 use acpi::platform::{Mailbox, MailboxCall, MailboxWrite, ScriptedMailbox, wakeup_aps};
 use acpi::sdt::Signature;
 use acpi::{AcpiError, AcpiResult, AcpiTables, MadtError};
-use acpi_image::MemoryImage;
 use acpi_testkit::samples::front;
-use acpi_testkit::samples::graphics::empty_root;
-use acpi_testkit::samples::madts::with_madt;
-use std::alloc::Global;
 use std::process::Abort;
+use std::test::Fail;
 
 const NO_MADT: AcpiError = AcpiError::TableMissing(Signature::MADT);
 
@@ -26,54 +25,19 @@ const WRITES: [MailboxWrite; 4] = [
 ];
 
 /// The calls that are made of a mailbox at 0x5000, as far as the command is read nine times.
+#[rattlefmt::skip]
 const CALLS: [MailboxCall; 14] = [
-    MailboxCall::Opened(0x5000),
-    MailboxCall::Wrote(MailboxWrite::Command(0)),
-    MailboxCall::Wrote(MailboxWrite::ApicId(7)),
-    MailboxCall::Wrote(MailboxWrite::WakeupVector(0x8000)),
+    MailboxCall::Opened(0x5000), MailboxCall::Wrote(MailboxWrite::Command(0)),
+    MailboxCall::Wrote(MailboxWrite::ApicId(7)), MailboxCall::Wrote(MailboxWrite::WakeupVector(0x8000)),
     MailboxCall::Wrote(MailboxWrite::Command(1)),
-    MailboxCall::Read,
-    MailboxCall::Read,
-    MailboxCall::Read,
-    MailboxCall::Read,
-    MailboxCall::Read,
-    MailboxCall::Read,
-    MailboxCall::Read,
-    MailboxCall::Read,
-    MailboxCall::Read,
+    MailboxCall::Read, MailboxCall::Read, MailboxCall::Read, MailboxCall::Read, MailboxCall::Read,
+    MailboxCall::Read, MailboxCall::Read, MailboxCall::Read, MailboxCall::Read,
 ];
 
-/// An RSDT that lists a MADT of 60 bytes with a wakeup entry. The mailbox lies at 0x5000.
-fn with_mailbox() -> [u8; 136] {
-    with_madt(&[0x10, 0x10, 0, 0, 0, 0, 0, 0, 0, 0x50, 0, 0, 0, 0, 0, 0])
-}
-
-/// Wakes the processor with the id 7, to run at 0x8000. `None` if there are no tables.
-fn woken<M: Mailbox>(
-    tables: AcpiResult<AcpiTables<'_, MemoryImage<'_>>>,
-    mailbox: &mut M,
-    timeout: u64,
-) -> Option<AcpiResult<()>> {
-    match tables {
-        Ok(tables) => Some(wakeup_aps(&tables, mailbox, 7, 0x8000, timeout)),
-        Err(_) => None,
-    }
-}
-
-/// Wakes that processor, by the tables below the RSDT at 0x1000 of a file.
-fn wake<M: Mailbox>(
-    alloc: Global,
-    file: &[u8],
-    mailbox: &mut M,
-    timeout: u64,
-) -> Option<AcpiResult<()>> {
-    match MemoryImage::from_bytes(alloc, file) {
-        Ok(image) => {
-            let tables = AcpiTables::from_rsdt(&image, 0, 0x1000);
-            woken(tables, mailbox, timeout)
-        }
-        Err(_) => None,
-    }
+/// Wakes the processor with the id 7, to run at 0x8000, by the tables below the RSDT at 0x1000.
+fn wake<M: Mailbox>(region: &MappedRegion<'_>, mailbox: &mut M, timeout: u64) -> AcpiResult<()> {
+    let tables = AcpiTables::from_rsdt(region, 0, 0x1000)?;
+    wakeup_aps(&tables, mailbox, 7, 0x8000, timeout)
 }
 
 /// What the mailbox answers, how often it may be read, the outcome, and how many calls are made of
@@ -88,45 +52,43 @@ static ROWS: [(&[u16], u64, AcpiResult<()>, usize); 7] = [
     (&[], 5, Err(TIMEOUT), 10),
 ];
 
-/// Checks what was done to a mailbox: so many calls.
-fn check_done(rt: &impl Abort, mailbox: &ScriptedMailbox<'_>, count: usize) {
-    check(rt, "calls", Some(mailbox.calls()), CALLS.get(..count));
-    check(rt, "opened", mailbox.opened(), Some(0x5000));
-    check(rt, "writes", mailbox.writes(), WRITES.as_slice());
-}
-
 #[test]
-fn the_mailbox_is_read_until_it_is_taken(rt: HostRuntime) {
-    let file = with_mailbox();
+fn the_mailbox_is_read_until_it_is_taken(rt: HostRuntime) -> Result<(), Fail> {
+    let region = MappedRegion::new(0x1000, memory())?;
     for (answers, timeout, outcome, count) in &ROWS {
         let mut mailbox = ScriptedMailbox::new(answers);
-        let answer = wake(rt.alloc(), front(&file, 132), &mut mailbox, *timeout);
-        check(&rt, "outcome", answer, Some(*outcome));
-        check_done(&rt, &mailbox, *count);
+        let answer = wake(&region, &mut mailbox, *timeout);
+        check(&rt, "outcome", answer, *outcome);
+        check(&rt, "calls", Some(mailbox.calls()), CALLS.get(..*count));
+        check(&rt, "opened", mailbox.opened(), Some(0x5000));
+        check(&rt, "writes", mailbox.writes(), WRITES.as_slice());
     }
+    Ok(())
 }
 
-/// Checks what the answer was, and that nothing was done to the mailbox.
-fn check_untouched(
-    rt: &impl Abort,
-    answer: Option<AcpiResult<()>>,
-    refusal: AcpiError,
-    mailbox: &ScriptedMailbox<'_>,
-) {
-    check(rt, "refused", answer, Some(Err(refusal)));
+/// Checks that nothing was done to a mailbox.
+fn check_untouched(rt: &impl Abort, mailbox: &ScriptedMailbox<'_>) {
     check(rt, "opened", mailbox.opened(), None);
     let counts = (mailbox.calls().len(), mailbox.reads());
     check(rt, "calls", counts, (0, 0));
 }
 
 #[test]
-fn nothing_is_done_without_a_mailbox(rt: HostRuntime) {
+fn nothing_is_done_without_a_mailbox(rt: HostRuntime) -> Result<(), Fail> {
     let mut mailbox = ScriptedMailbox::new(&[0]);
-    let missing = wake(rt.alloc(), &empty_root(), &mut mailbox, 9);
-    check_untouched(&rt, missing, NO_MADT, &mailbox);
-    let file = with_madt(&[0x7F, 2]);
-    let other = wake(rt.alloc(), front(&file, 118), &mut mailbox, 9);
-    check_untouched(&rt, other, NO_MAILBOX, &mailbox);
+    // The memory ends before the MADT.
+    let region = MappedRegion::new(0x1000, front(memory(), 0x140))?;
+    let missing = wake(&region, &mut mailbox, 9);
+    check(&rt, "MADT", missing, Err(NO_MADT));
+    // The entry is of another type, 0x6F more, and Checksum as much less.
+    let mut file = FILE;
+    file[68 + 0x190] = 0x7F;
+    file[68 + 0x149] = 0xA6;
+    let region = MappedRegion::new(0x1000, &file[68..])?;
+    let other = wake(&region, &mut mailbox, 9);
+    check(&rt, "mailbox", other, Err(NO_MAILBOX));
+    check_untouched(&rt, &mailbox);
+    Ok(())
 }
 
 /// A mailbox that can't be opened.
@@ -171,11 +133,12 @@ impl<'a> Mailbox for Closed<'a> {
 }
 
 #[test]
-fn nothing_is_done_to_a_mailbox_that_stays_closed(rt: HostRuntime) {
-    let file = with_mailbox();
+fn nothing_is_done_to_a_mailbox_that_stays_closed(rt: HostRuntime) -> Result<(), Fail> {
     let mut closed = Closed {
         inner: ScriptedMailbox::new(&[0]),
     };
-    let refused = wake(rt.alloc(), front(&file, 132), &mut closed, 9);
-    check_untouched(&rt, refused, AcpiError::MapFailed, &closed.inner);
+    let refused = wake(&MappedRegion::new(0x1000, memory())?, &mut closed, 9);
+    check(&rt, "refused", refused, Err(AcpiError::MapFailed));
+    check_untouched(&rt, &closed.inner);
+    Ok(())
 }

@@ -2,14 +2,13 @@
 
 mod heaps;
 
-use crate::bytes::Part;
-use crate::checks::{check, check_bytes};
+use crate::checks::{Part, check, check_parts};
 use acpi::bgrt::Bgrt;
 use acpi::sdt::Signature;
-use acpi::{AcpiError, AcpiHandler, AcpiResult, AcpiTables};
-use acpi_image::{MemoryImage, PlacedTable, WriteError, write_image};
+use acpi::{AcpiError, AcpiResult, AcpiTables};
+use acpi_image::{ImageError, MemoryImage, PlacedTable, WriteError, write_image};
 use std::alloc::Global;
-use std::process::Abort;
+use std::test::Fail;
 
 /// A boot graphic, displayed and turned by 180 degrees, whose checksum is 0.
 static GRAPHIC: [u8; 56] = [
@@ -30,111 +29,77 @@ fn graphic_at(address: u64) -> PlacedTable<'static> {
 type Graphic = AcpiResult<(u8, usize, u64, u16)>;
 
 /// An image with an RSDP at 0x500, a root table at 0x1000 and so many boot graphics, which begin at
-/// every 0x1000 bytes from an address on: its length, what it has at which offsets, and what is read
-/// in it.
-struct Written {
-    name: &'static str,
-    revision: u8,
-    first: u64,
-    tables: usize,
-    length: usize,
-    parts: &'static [Part],
-    opened: Graphic,
-}
+/// every 0x1000 bytes from an address on: its name in a message, the revision, the address and the count, its length,
+/// what it has at which offsets, and what is read in it.
+type Row = (
+    &'static str,
+    (u8, u64, usize),
+    usize,
+    &'static [Part],
+    Graphic,
+);
 
-static WRITTEN: [Written; 5] = [
-    Written {
-        name: "an RSDT",
-        revision: 0,
-        first: 0x2000,
-        tables: 1,
-        length: 180,
-        parts: &[
-            (0, &[0, 5, 0, 0, 0, 0, 0, 0, 36, 0, 0, 0, 0, 0, 0, 0]),
-            (16, b"RSD PTR \x11      \x00\x00\x10\x00\x00"),
-            (36, &[0, 0, 0, 0, 0, 0, 0, 0, 0, 0, 0, 0, 0, 0, 0, 0]),
-            (52, &[0, 0x10, 0, 0, 0, 0, 0, 0, 40, 0, 0, 0, 0, 0, 0, 0]),
-            (68, b"RSDT\x28\x00\x00\x00\x01\xBA              "),
-            (92, &[0, 0, 0, 0, 0, 0, 0, 0, 0, 0, 0, 0, 0, 0x20, 0, 0]),
-            (108, &[0, 0x20, 0, 0, 0, 0, 0, 0, 56, 0, 0, 0, 0, 0, 0, 0]),
-            (124, &[b'B', b'G', b'R', b'T', 56, 0, 0, 0, 0, 0x93]),
-            (134, &[0, 0, 0, 0, 0, 0, 0, 0, 0, 0, 0, 0, 0]),
-            (147, &[0, 0, 0, 0, 0, 0, 0, 0, 0, 0, 0, 0, 0, 1, 0, 5]),
-            (163, &[0, 0, 0, 0, 0, 0, 0, 0, 0, 0, 0, 0, 0, 0, 0, 0, 0]),
-        ],
-        opened: Ok((0, 1, 0x2000, 180)),
-    },
-    Written {
-        name: "an XSDT",
-        revision: 2,
-        first: 0x2000,
-        tables: 1,
-        length: 184,
-        parts: &[
-            (16, b"RSD PTR \x1F      \x02\x00\x00\x00\x00"),
-            (36, &[36, 0, 0, 0, 0, 0x10, 0, 0, 0, 0, 0, 0, 0xCC, 0, 0, 0]),
-            (68, b"XSDT\x2C\x00\x00\x00\x01\xB0              "),
-            (104, &[0, 0x20, 0, 0, 0, 0, 0, 0]),
-        ],
-        opened: Ok((2, 1, 0x2000, 180)),
-    },
-    Written {
-        name: "no tables",
-        revision: 0,
-        first: 0x2000,
-        tables: 0,
-        length: 104,
-        parts: &[(68, b"RSDT\x24\x00\x00\x00\x01\xDE")],
-        opened: Err(AcpiError::TableMissing(Signature::BGRT)),
-    },
+#[rattlefmt::skip]
+static WRITTEN: [Row; 5] = [
+    ("an RSDT", (0, 0x2000, 1), 180, &[
+        (0, &[0, 5, 0, 0, 0, 0, 0, 0, 36, 0, 0, 0, 0, 0, 0, 0]),
+        (16, b"RSD PTR \x11      \x00\x00\x10\x00\x00"),
+        (36, &[0, 0, 0, 0, 0, 0, 0, 0, 0, 0, 0, 0, 0, 0, 0, 0]),
+        (52, &[0, 0x10, 0, 0, 0, 0, 0, 0, 40, 0, 0, 0, 0, 0, 0, 0]),
+        (68, b"RSDT\x28\x00\x00\x00\x01\xBA              "),
+        (92, &[0, 0, 0, 0, 0, 0, 0, 0, 0, 0, 0, 0, 0, 0x20, 0, 0]),
+        (108, &[0, 0x20, 0, 0, 0, 0, 0, 0, 56, 0, 0, 0, 0, 0, 0, 0]),
+        (124, &[b'B', b'G', b'R', b'T', 56, 0, 0, 0, 0, 0x93]),
+        (134, &[0, 0, 0, 0, 0, 0, 0, 0, 0, 0, 0, 0, 0]),
+        (147, &[0, 0, 0, 0, 0, 0, 0, 0, 0, 0, 0, 0, 0, 1, 0, 5]),
+        (163, &[0, 0, 0, 0, 0, 0, 0, 0, 0, 0, 0, 0, 0, 0, 0, 0, 0])], Ok((0, 1, 0x2000, 180))),
+    ("an XSDT", (2, 0x2000, 1), 184, &[
+        (16, b"RSD PTR \x1F      \x02\x00\x00\x00\x00"),
+        (36, &[36, 0, 0, 0, 0, 0x10, 0, 0, 0, 0, 0, 0, 0xCC, 0, 0, 0]),
+        (68, b"XSDT\x2C\x00\x00\x00\x01\xB0              "),
+        (104, &[0, 0x20, 0, 0, 0, 0, 0, 0])], Ok((2, 1, 0x2000, 180))),
+    ("no tables", (0, 0x2000, 0), 104, &[(68, b"RSDT\x24\x00\x00\x00\x01\xDE")],
+        Err(AcpiError::TableMissing(Signature::BGRT))),
     // The bytes of the pointers 0x10000, 0x11000 and so on up to 0x4bf000 sum to 160: those of 16
     // in a row sum to 240 times 8 and 16 times one of 1 to 75.
-    Written {
-        name: "1,200 tables in an RSDT",
-        revision: 0,
-        first: 0x1_0000,
-        tables: 1200,
-        length: 91304,
-        parts: &[
-            (52, &[0, 0x10, 0, 0, 0, 0, 0, 0, 0xE4, 0x12, 0, 0]),
-            (68, b"RSDT\xE4\x12\x00\x00\x01\x6C              "),
-            (104, &[0, 0, 1, 0, 0, 0x10, 1, 0]),
-            (4896, &[0, 0xE0, 0x4B, 0, 0, 0xF0, 0x4B, 0]),
-            (4904, &[0, 0, 1, 0, 0, 0, 0, 0, 56, 0, 0, 0, 0, 0, 0, 0]),
-            (4920, &[b'B', b'G', b'R', b'T', 56, 0, 0, 0, 0, 0x93]),
-            (91232, &[0, 0xF0, 0x4B, 0, 0, 0, 0, 0, 56, 0, 0, 0]),
-            (91248, &[b'B', b'G', b'R', b'T', 56, 0, 0, 0, 0, 0x93]),
-            (91284, &[1, 0, 5, 0, 0, 0, 0, 0, 0, 0, 0, 0, 0, 0]),
-        ],
-        opened: Ok((0, 1200, 0x1_0000, 180)),
-    },
-    Written {
-        name: "1,200 tables in an XSDT",
-        revision: 2,
-        first: 0x1_0000,
-        tables: 1200,
-        length: 96104,
-        parts: &[
-            (52, &[0, 0x10, 0, 0, 0, 0, 0, 0, 0xA4, 0x25, 0, 0]),
-            (68, b"XSDT\xA4\x25\x00\x00\x01\x93              "),
-            (104, &[0, 0, 1, 0, 0, 0, 0, 0, 0, 0x10, 1, 0, 0, 0, 0, 0]),
-            (9696, &[0, 0xF0, 0x4B, 0, 0, 0, 0, 0]),
-            (9704, &[0, 0, 1, 0, 0, 0, 0, 0, 56, 0, 0, 0, 0, 0, 0, 0]),
-            (9720, &[b'B', b'G', b'R', b'T', 56, 0, 0, 0, 0, 0x93]),
-            (96032, &[0, 0xF0, 0x4B, 0, 0, 0, 0, 0, 56, 0, 0, 0]),
-            (96048, &[b'B', b'G', b'R', b'T', 56, 0, 0, 0, 0, 0x93]),
-            (96084, &[1, 0, 5, 0, 0, 0, 0, 0, 0, 0, 0, 0, 0, 0]),
-        ],
-        opened: Ok((2, 1200, 0x1_0000, 180)),
-    },
+    ("1,200 tables in an RSDT", (0, 0x1_0000, 1200), 91304, &[
+        (52, &[0, 0x10, 0, 0, 0, 0, 0, 0, 0xE4, 0x12, 0, 0]),
+        (68, b"RSDT\xE4\x12\x00\x00\x01\x6C              "),
+        (104, &[0, 0, 1, 0, 0, 0x10, 1, 0]),
+        (4896, &[0, 0xE0, 0x4B, 0, 0, 0xF0, 0x4B, 0]),
+        (4904, &[0, 0, 1, 0, 0, 0, 0, 0, 56, 0, 0, 0, 0, 0, 0, 0]),
+        (4920, &[b'B', b'G', b'R', b'T', 56, 0, 0, 0, 0, 0x93]),
+        (91232, &[0, 0xF0, 0x4B, 0, 0, 0, 0, 0, 56, 0, 0, 0]),
+        (91248, &[b'B', b'G', b'R', b'T', 56, 0, 0, 0, 0, 0x93]),
+        (91284, &[1, 0, 5, 0, 0, 0, 0, 0, 0, 0, 0, 0, 0, 0])], Ok((0, 1200, 0x1_0000, 180))),
+    ("1,200 tables in an XSDT", (2, 0x1_0000, 1200), 96104, &[
+        (52, &[0, 0x10, 0, 0, 0, 0, 0, 0, 0xA4, 0x25, 0, 0]),
+        (68, b"XSDT\xA4\x25\x00\x00\x01\x93              "),
+        (104, &[0, 0, 1, 0, 0, 0, 0, 0, 0, 0x10, 1, 0, 0, 0, 0, 0]),
+        (9696, &[0, 0xF0, 0x4B, 0, 0, 0, 0, 0]),
+        (9704, &[0, 0, 1, 0, 0, 0, 0, 0, 56, 0, 0, 0, 0, 0, 0, 0]),
+        (9720, &[b'B', b'G', b'R', b'T', 56, 0, 0, 0, 0, 0x93]),
+        (96032, &[0, 0xF0, 0x4B, 0, 0, 0, 0, 0, 56, 0, 0, 0]),
+        (96048, &[b'B', b'G', b'R', b'T', 56, 0, 0, 0, 0, 0x93]),
+        (96084, &[1, 0, 5, 0, 0, 0, 0, 0, 0, 0, 0, 0, 0, 0])], Ok((2, 1200, 0x1_0000, 180))),
 ];
 
-/// Checks what is read in a file.
-fn check_opened(rt: &impl Abort, alloc: Global, name: &str, file: &[u8], opened: Graphic) {
-    match MemoryImage::from_bytes(alloc, file) {
-        Ok(image) => check(rt, name, graphic_in(&image), opened),
-        Err(error) => check(rt, name, Some(error), None),
-    }
+/// What is read in the image of a file.
+fn graphic_in(alloc: Global, file: &[u8]) -> Result<Graphic, ImageError> {
+    let image = MemoryImage::from_bytes(alloc, file)?;
+    Ok(found_in(&image))
+}
+
+/// What is read in an image whose RSDP lies at 0x500.
+fn found_in(image: &MemoryImage<'_>) -> Graphic {
+    let tables = AcpiTables::from_rsdp(image, 0x500)?;
+    let graphic = tables.find_table::<Bgrt>()?;
+    Ok((
+        tables.revision(),
+        tables.headers().count(),
+        graphic.physical_start(),
+        graphic.orientation_offset(),
+    ))
 }
 
 /// 1,200 boot graphics, which begin at every 0x1000 bytes from an address on.
@@ -147,44 +112,27 @@ fn graphics_from(first: u64) -> [PlacedTable<'static>; 1200] {
 }
 
 #[test]
-fn each_image_has_what_its_row_says(rt: HostRuntime) {
-    for row in &WRITTEN {
-        let tables = graphics_from(row.first);
-        let tables = &tables[..row.tables.min(1200)];
-        match write_image(rt.alloc(), 0x500, 0x1000, row.revision, tables) {
-            Ok(file) => {
-                check_bytes(&rt, row.name, &file, row.length, row.parts);
-                check_opened(&rt, rt.alloc(), row.name, &file, row.opened);
-            }
-            Err(error) => check(&rt, row.name, Some(error), None),
-        }
+fn each_image_has_what_its_row_says(rt: HostRuntime) -> Result<(), Fail> {
+    for (name, (revision, first, count), length, parts, opened) in &WRITTEN {
+        let tables = graphics_from(*first);
+        let tables = &tables[..(*count).min(1200)];
+        let file = write_image(rt.alloc(), 0x500, 0x1000, *revision, tables)?;
+        check(&rt, name, file.len(), *length);
+        check_parts(&rt, name, &file, parts);
+        check(&rt, name, graphic_in(rt.alloc(), &file), Ok(*opened));
     }
-}
-
-/// What is read in an image whose RSDP lies at 0x500.
-fn graphic_in(image: &MemoryImage<'_>) -> Graphic {
-    let tables = AcpiTables::from_rsdp(image, 0x500)?;
-    let graphic = tables.find_table::<Bgrt>()?;
-    Ok((
-        tables.revision(),
-        tables.headers().count(),
-        graphic.physical_start(),
-        graphic.orientation_offset(),
-    ))
+    Ok(())
 }
 
 #[test]
-fn what_is_written_is_opened(rt: HostRuntime) {
+fn what_is_written_is_opened(rt: HostRuntime) -> Result<(), Fail> {
     let tables = [graphic_at(0x3000), graphic_at(0x2000)];
     for revision in &[0u8, 1, 2, 255] {
-        match write_image(rt.alloc(), 0x500, 0x1000, *revision, &tables) {
-            Ok(file) => {
-                let opened = Ok((*revision, 2, 0x3000, 180));
-                check_opened(&rt, rt.alloc(), "opened", &file, opened);
-            }
-            Err(error) => check(&rt, "written", Some(error), None),
-        }
+        let file = write_image(rt.alloc(), 0x500, 0x1000, *revision, &tables)?;
+        let opened = Ok((*revision, 2, 0x3000, 180));
+        check(&rt, "opened", graphic_in(rt.alloc(), &file), Ok(opened));
     }
+    Ok(())
 }
 
 /// The front of the boot graphic, by its address and how many bytes it has.
@@ -194,50 +142,21 @@ type Table = (u64, usize);
 /// why it is not written.
 type Plan = (u64, u64, u8, &'static [Table], Option<WriteError>);
 
+#[rattlefmt::skip]
 static PLANS: [Plan; 19] = [
     // in order
     (0x500, 0, 0, &[(0x2000, 35)], Some(WriteError::ZeroRoot)),
-    (
-        0x500,
-        0x1000,
-        0,
-        &[(0x2000, 56), (0x1_0000_0000, 35)],
-        Some(WriteError::BadTable(1)),
-    ),
+    (0x500, 0x1000, 0, &[(0x2000, 56), (0x1_0000_0000, 35)], Some(WriteError::BadTable(1))),
     (0x1000, 0x1010, 0, &[], Some(WriteError::Overlap)),
     // pointers
-    (
-        0x500,
-        0x1000,
-        0,
-        &[(0x1_0000_0000, 56)],
-        Some(WriteError::PointerTooLarge),
-    ),
+    (0x500, 0x1000, 0, &[(0x1_0000_0000, 56)], Some(WriteError::PointerTooLarge)),
     (0x500, 0x1000, 0, &[(0xFFFF_FFFF, 56)], None),
     (0x500, 0x1000, 2, &[(0x1_0000_0000, 56)], None),
-    (
-        0x500,
-        0x1_0000_0000,
-        0,
-        &[],
-        Some(WriteError::PointerTooLarge),
-    ),
+    (0x500, 0x1_0000_0000, 0, &[], Some(WriteError::PointerTooLarge)),
     // ends
-    (
-        0x500,
-        0x1000,
-        2,
-        &[(0xFFFF_FFFF_FFFF_FFC8, 56)],
-        Some(WriteError::EndTooLarge),
-    ),
+    (0x500, 0x1000, 2, &[(0xFFFF_FFFF_FFFF_FFC8, 56)], Some(WriteError::EndTooLarge)),
     (0x500, 0x1000, 2, &[(0xFFFF_FFFF_FFFF_FFC7, 56)], None),
-    (
-        0xFFFF_FFFF_FFFF_FFDC,
-        0x1000,
-        0,
-        &[(0x1010, 56)],
-        Some(WriteError::EndTooLarge),
-    ),
+    (0xFFFF_FFFF_FFFF_FFDC, 0x1000, 0, &[(0x1010, 56)], Some(WriteError::EndTooLarge)),
     // overlaps
     (0x500, 0x1000, 0, &[(0x523, 56)], Some(WriteError::Overlap)),
     (0x500, 0x1000, 0, &[(0x4C9, 56)], Some(WriteError::Overlap)),
@@ -247,13 +166,7 @@ static PLANS: [Plan; 19] = [
     (0x500, 0x1000, 0, &[(0x4C8, 56)], None),
     (0x500, 0x1000, 0, &[(0x1028, 56)], None),
     (0x500, 0x1000, 0, &[(0xFC8, 56)], None),
-    (
-        0x500,
-        0x1000,
-        0,
-        &[(0x2000, 56), (0x3000, 56), (0x2037, 56)],
-        Some(WriteError::Overlap),
-    ),
+    (0x500, 0x1000, 0, &[(0x2000, 56), (0x3000, 56), (0x2037, 56)], Some(WriteError::Overlap)),
 ];
 
 /// Why a plan is not written.
@@ -291,20 +204,11 @@ fn each_plan_is_refused_as_its_row_says(rt: HostRuntime) {
 
 /// So many bytes of the graphic, of which one is another one or not, and whether they are refused as
 /// no table.
+#[rattlefmt::skip]
 static CHANGES: [(usize, usize, u8, bool); 13] = [
-    (56, 0, b'B', false),
-    (55, 0, b'B', true),
-    (56, 4, 55, true),
-    (56, 7, 1, true),
-    (56, 0, 0xFF, true),
-    (56, 3, 0xC3, true),
-    (56, 10, 0xFF, true),
-    (56, 23, 0xFF, true),
-    (56, 8, 0xFF, false),
-    (56, 9, 0xFF, false),
-    (56, 15, 0x7F, false),
-    (56, 24, 0xFF, false),
-    (56, 55, 0xFF, false),
+    (56, 0, b'B', false), (55, 0, b'B', true), (56, 4, 55, true), (56, 7, 1, true), (56, 0, 0xFF, true),
+    (56, 3, 0xC3, true), (56, 10, 0xFF, true), (56, 23, 0xFF, true), (56, 8, 0xFF, false), (56, 9, 0xFF, false),
+    (56, 15, 0x7F, false), (56, 24, 0xFF, false), (56, 55, 0xFF, false),
 ];
 
 /// The graphic with another byte at an offset.
@@ -347,19 +251,10 @@ fn fifteen_with(address: u64) -> [PlacedTable<'static>; 15] {
 
 /// Where the last of fifteen graphics lies, and whether it shares a byte with what is before it.
 /// The RSDP lies from 0x500 to 0x524, and the root table from 0x1000 to 0x109C.
+#[rattlefmt::skip]
 static LASTS: [(u64, bool); 12] = [
-    (0x4C8, false),
-    (0x4C9, true),
-    (0x523, true),
-    (0x524, false),
-    (0xFC9, true),
-    (0x109B, true),
-    (0x109C, false),
-    (0x1FC8, false),
-    (0x1FC9, true),
-    (0x2150, true),
-    (0x230F, true),
-    (0x2310, false),
+    (0x4C8, false), (0x4C9, true), (0x523, true), (0x524, false), (0xFC9, true), (0x109B, true),
+    (0x109C, false), (0x1FC8, false), (0x1FC9, true), (0x2150, true), (0x230F, true), (0x2310, false),
 ];
 
 #[test]

@@ -1,30 +1,43 @@
-//! Tests of the tables that `acpi_writer` writes: their bytes, and what is refused, worked out by hand from the layouts.
+//! Tests of the tables that `acpi_writer` writes, in Rattle's words, worked out by hand from the layouts.
+//! `examples/c/rows_written.h` has the bytes that C can pass too, over the same calls.
 
-mod affinities;
-mod calls;
-mod devices;
-mod fadt;
-mod gic;
-mod gtdt;
-mod listed;
-mod madt;
-mod read_back;
+mod machine;
 mod refused;
-mod roots;
-mod samples;
 mod tables;
-mod whole;
 
-use calls::check_calls;
+use crate::checks::{check, check_same};
+use acpi_examples::machine::write_processors;
+use acpi_writer::{Listed, WriterError};
+use machine::MACHINE;
+use tables::{IDS, MADT_BYTES, PROCESSORS, WRITTEN};
+
+/// A slice of sevens that begins with some bytes.
+fn before_sevens(bytes: &[u8]) -> [u8; 288] {
+    let mut left = [7; 288];
+    for (there, byte) in left.iter_mut().zip(bytes) {
+        *there = *byte;
+    }
+    left
+}
 
 #[test]
-fn each_call_writes_a_table_or_is_refused(rt: HostRuntime) {
-    check_calls(&rt, &roots::CALLS);
-    check_calls(&rt, &tables::CALLS);
-    check_calls(&rt, &fadt::CALLS);
-    check_calls(&rt, &gic::CALLS);
-    check_calls(&rt, &gtdt::CALLS);
-    check_calls(&rt, &affinities::CALLS);
-    check_calls(&rt, &devices::CALLS);
-    check_calls(&rt, &refused::CALLS);
+fn each_table_is_written_in_its_room(rt: HostRuntime) {
+    for (contents, (name, _, bytes)) in MACHINE.tables.iter().zip(&WRITTEN) {
+        let count = bytes.len().min(288);
+        let mut out = [7; 288];
+        let less = contents.write(&mut out[..count.saturating_sub(1)], &IDS);
+        check_same(&rt, name, &out, &[7; 288]);
+        let whole = contents.write(&mut out[..count], &IDS);
+        let wanted = [Err(WriterError::NoRoom), Ok(bytes.len())];
+        check(&rt, name, [less, whole], wanted);
+        check_same(&rt, name, &out, &before_sevens(bytes));
+    }
+}
+
+#[test]
+fn the_example_writes_processors(rt: HostRuntime) {
+    let mut out = [7; 288];
+    let found = write_processors(&mut out, &IDS, &PROCESSORS);
+    check(&rt, "MADT", found, Ok(80));
+    check_same(&rt, "MADT", &out, &before_sevens(&MADT_BYTES));
 }

@@ -1,6 +1,5 @@
 //! Records of tables that lie at any addresses, with any bytes around them.
 
-use super::put_head;
 use std::alloc::AllocError;
 
 /// The bytes around each table in its record: so many before it and after it, all the same.
@@ -35,11 +34,10 @@ pub fn add_record(
     let start = address.wrapping_sub(margins.before as u64);
     let count = table.len().wrapping_add(margins.before);
     let count = count.wrapping_add(margins.after);
-    let mut head = [0; 16];
-    put_head(&mut head, 0, start, count as u64);
-    let begun = file.extend_from_slice(&head);
+    let started = file.extend_from_slice(&start.to_le_bytes());
+    let begun = file.extend_from_slice(&(count as u64).to_le_bytes());
     let filled = file.resize(file.len().saturating_add(margins.before), margins.byte);
     let put = file.extend_from_slice(table);
     let ended = file.resize(file.len().saturating_add(margins.after), margins.byte);
-    begun.and(filled).and(put).and(ended)
+    started.and(begun).and(filled).and(put).and(ended)
 }

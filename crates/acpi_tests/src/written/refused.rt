@@ -1,100 +1,89 @@
-//! What is refused for other reasons than room, in order. `TooLong` isn't tried: it needs a slice of 4 GiB.
+//! What is refused, for what C can't pass: `examples/c/rows_written.h` has all else, and with each call a byte less of
+//! room, and names that aren't UTF-8. `TooLong` isn't tried: it needs a slice of 4 GiB.
 
-use super::calls::{Call, Contents};
-use super::samples::{HPET, IDS, MADT, PROCESSOR, REGIONS};
-use acpi_base::model::{LocalInterruptLine, NmiLine, NmiProcessor};
-use acpi_writer::{MadtContents, MadtProcessor, TableIds, WriterError};
+use super::tables::{FADT, GTDT, HARDWARE, IDS, PORT, SECURE, SPCR};
+use crate::checks::{check, check_same};
+use acpi_arm::gtdt::{GtFrame, TimerInterrupt};
+use acpi_base::address::{AddressSpace, GenericAddress};
+use acpi_base::model::{Polarity, TriggerMode};
+use acpi_base::spcr::SpcrInterfaceType;
+use acpi_fixed::fadt::PowerProfile;
+use acpi_writer::fadt::FixedHardware;
+use acpi_writer::{
+    FadtContents, FadtHardware, GtBlockContents, GtdtContents, Listed, PlatformTimerContents,
+    SpcrContents, TableContents, TableIds, WriterError,
+};
 
 /// A byte that begins no text.
-pub(super) const BAD: TableIds = TableIds {
+const BAD: TableIds = TableIds {
     creator_id: [b'Z', 0xff, b'G', b'Z'],
     ..IDS
 };
 
-const BAD_OEM: TableIds = TableIds {
-    oem_id: [b'G', b'U', b'E', b'S', b'T', 0xff],
-    ..IDS
-};
+const NOWHERE: Option<GenericAddress> = Some(GenericAddress { address: 0, ..PORT });
 
-const BAD_TABLE: TableIds = TableIds {
-    oem_table_id: [b'M', b'A', b'C', b'H', b'I', b'N', b'E', 0xff],
-    ..IDS
-};
-
-const OF_ALL: [NmiLine; 1] = [NmiLine {
-    processor: NmiProcessor::ProcessorUid(0xffffffff),
-    line: LocalInterruptLine::Lint0,
-}];
-
-const UID_OF_ALL: MadtContents<'static> = MadtContents {
-    local_apic_nmi_lines: &OF_ALL,
-    ..MADT
-};
-
-const NO_PROCESSOR: MadtContents<'static> = MadtContents {
-    processors: &[],
-    ..UID_OF_ALL
-};
-
-/// The second processor has the id that stands for all.
-const ID_OF_ALL: MadtContents<'static> = MadtContents {
-    processors: &[
-        PROCESSOR,
-        MadtProcessor {
-            processor_uid: 1,
-            local_apic_id: 0xffffffff,
-            is_enabled: true,
-            is_online_capable: false,
-        },
-    ],
-    ..UID_OF_ALL
-};
-
-/// The second processor has the uid that stands for all.
-const PROCESSOR_OF_ALL: MadtContents<'static> = MadtContents {
-    processors: &[
-        PROCESSOR,
-        MadtProcessor {
-            processor_uid: 0xffffffff,
-            local_apic_id: 1,
-            is_enabled: true,
-            is_online_capable: false,
-        },
-    ],
-    ..UID_OF_ALL
-};
-
-/// What is refused.
 #[rattlefmt::skip]
-pub(super) static CALLS: [Call; 28] = [
-    // contents come before names, and names before room
-    ("empty", &BAD, Contents::Madt(&NO_PROCESSOR), 8, Err(WriterError::NoProcessor)),
-    ("id of all", &BAD, Contents::Madt(&ID_OF_ALL), 8, Err(WriterError::IdOfAll)),
-    ("id of all", &BAD, Contents::Madt(&PROCESSOR_OF_ALL), 8, Err(WriterError::IdOfAll)),
-    ("uid of all", &BAD, Contents::Madt(&UID_OF_ALL), 8, Err(WriterError::UidOfAll)),
-    ("MADT", &BAD, Contents::Madt(&MADT), 8, Err(WriterError::BadName)),
-    ("MCFG", &BAD, Contents::Mcfg(&REGIONS), 8, Err(WriterError::BadName)),
-    ("HPET", &BAD, Contents::Hpet(&HPET), 8, Err(WriterError::BadName)),
-    ("room", &IDS, Contents::Hpet(&HPET), 8, Err(WriterError::NoRoom)),
-    // each name is asked of each table, after its contents
-    ("RSDP", &BAD, Contents::Rsdp(0x1000), 8, Err(WriterError::BadName)),
-    ("RSDT", &BAD, Contents::Rsdt(&[0x1000]), 8, Err(WriterError::BadName)),
-    ("XSDT", &BAD, Contents::Xsdt(&[0x1000]), 8, Err(WriterError::BadName)),
-    ("DSDT", &BAD, Contents::Dsdt(2, &[]), 8, Err(WriterError::BadName)),
-    ("SSDT", &BAD, Contents::Ssdt(2, &[]), 8, Err(WriterError::BadName)),
-    ("SLIT", &BAD, Contents::Slit(1, &[10]), 8, Err(WriterError::BadName)),
-    ("RSDP", &BAD_OEM, Contents::Rsdp(0x1000), 8, Err(WriterError::BadName)),
-    ("RSDT", &BAD_OEM, Contents::Rsdt(&[0x1000]), 8, Err(WriterError::BadName)),
-    ("XSDT", &BAD_OEM, Contents::Xsdt(&[0x1000]), 8, Err(WriterError::BadName)),
-    ("DSDT", &BAD_OEM, Contents::Dsdt(2, &[]), 8, Err(WriterError::BadName)),
-    ("SSDT", &BAD_OEM, Contents::Ssdt(2, &[]), 8, Err(WriterError::BadName)),
-    ("SLIT", &BAD_OEM, Contents::Slit(1, &[10]), 8, Err(WriterError::BadName)),
-    ("RSDP", &BAD_TABLE, Contents::Rsdp(0x1000), 8, Err(WriterError::BadName)),
-    ("RSDT", &BAD_TABLE, Contents::Rsdt(&[0x1000]), 8, Err(WriterError::BadName)),
-    ("XSDT", &BAD_TABLE, Contents::Xsdt(&[0x1000]), 8, Err(WriterError::BadName)),
-    ("DSDT", &BAD_TABLE, Contents::Dsdt(2, &[]), 8, Err(WriterError::BadName)),
-    ("SSDT", &BAD_TABLE, Contents::Ssdt(2, &[]), 8, Err(WriterError::BadName)),
-    ("SLIT", &BAD_TABLE, Contents::Slit(1, &[10]), 8, Err(WriterError::BadName)),
-    ("no square", &BAD, Contents::Slit(2, &[10]), 8, Err(WriterError::BadMatrix)),
-    ("address 0", &BAD, Contents::Rsdp(0), 8, Err(WriterError::NoAddress)),
+const UNNAMED: Option<GenericAddress> = Some(GenericAddress { address_space: AddressSpace::OemDefined(0xbf), ..PORT });
+
+const UNNAMED_NOWHERE: Option<GenericAddress> = Some(GenericAddress {
+    address_space: AddressSpace::OemDefined(0xbf),
+    address: 0,
+    ..PORT
+});
+
+/// A GTDT of one block with some frames.
+#[rattlefmt::skip]
+macro_rules! frames {
+    ($frames:expr) => {
+        TableContents::Gtdt(GtdtContents {
+            platform_timers: &[PlatformTimerContents::GtBlock(GtBlockContents {
+                address: 0x2a810000, frames: $frames,
+            })],
+            ..GTDT
+        })
+    };
+}
+
+/// What is written with which ids into eight bytes, and the error: contents come before names, and names before room.
+#[rattlefmt::skip]
+static REFUSED: [(&TableIds, TableContents<'static>, WriterError); 12] = [
+    // a FACS at 0, a reserved profile that has a name, and registers without an address or a space, in order
+    (&BAD, TableContents::Fadt(FadtContents {
+        facs: Some(0), power_profile: PowerProfile::Reserved(8), sleep_status: NOWHERE, ..FADT
+    }), WriterError::NoAddress),
+    (&BAD, TableContents::Fadt(FadtContents {
+        power_profile: PowerProfile::Reserved(8), sleep_status: NOWHERE, ..FADT
+    }), WriterError::BadProfile),
+    (&BAD, TableContents::Fadt(FadtContents { sleep_status: NOWHERE, ..FADT }), WriterError::BadRegister),
+    (&BAD, TableContents::Fadt(FadtContents { reset_register: UNNAMED, ..FADT }), WriterError::BadRegister),
+    (&BAD, TableContents::Fadt(FadtContents {
+        hardware: FadtHardware::Fixed(FixedHardware { pm_timer: NOWHERE, ..HARDWARE }), ..FADT
+    }), WriterError::BadRegister),
+    // an interface and a space without a name, and then an address
+    (&BAD, TableContents::Spcr(SpcrContents {
+        interface_type: SpcrInterfaceType::Unknown(0x15), base_address: NOWHERE, ..SPCR
+    }), WriterError::BadCode),
+    (&BAD, TableContents::Spcr(SpcrContents { base_address: UNNAMED_NOWHERE, ..SPCR }), WriterError::BadCode),
+    (&BAD, TableContents::Spcr(SpcrContents { base_address: NOWHERE, ..SPCR }), WriterError::NoAddress),
+    // the second frame has the base that stands for none, or a timer that is as its bus has it
+    (&BAD, frames!(&[SECURE, GtFrame { el0_base: Some(u64::MAX), ..SECURE }]), WriterError::NoAddress),
+    (&BAD, frames!(&[SECURE, GtFrame {
+        virtual_timer: TimerInterrupt {
+            interrupt: 572, trigger_mode: TriggerMode::Level, polarity: Polarity::SameAsBus,
+        },
+        ..SECURE
+    }]), WriterError::SameAsBus),
+    // a block has less than 64 KiB
+    (&BAD, frames!(&[SECURE; 1638]), WriterError::TooManyFrames),
+    (&IDS, frames!(&[SECURE; 1637]), WriterError::NoRoom),
 ];
+
+#[test]
+fn bad_contents_are_refused(rt: HostRuntime) {
+    for (index, (ids, contents, error)) in REFUSED.iter().enumerate() {
+        let mut out = [7; 8];
+        let found = contents.write(&mut out, ids);
+        check(&rt, "row", (index, found), (index, Err(*error)));
+        check_same(&rt, "row", &out, &[7; 8]);
+    }
+}
