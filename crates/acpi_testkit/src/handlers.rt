@@ -1,6 +1,6 @@
 //! Handlers over another handler, for tests.
 
-use crate::history::{Event, Flaw, History, Shown};
+use crate::history::{Event, History};
 use acpi::sdt::field;
 use acpi::{AcpiHandler, AcpiResult};
 use std::cell::Cell;
@@ -54,8 +54,7 @@ pub struct Recording<'a, H: AcpiHandler> {
 }
 
 impl<'a, H: AcpiHandler> Recording<'a, H> {
-    /// A handler that records the requests to this one, and the notices that it gets, for a scenario in which
-    /// each mapping shows as many bytes as were asked for, or the whole table.
+    /// A handler that records the requests to this one, its grants, and the notices that it gets.
     pub fn new(inner: &'a H) -> Self {
         Recording {
             inner,
@@ -71,12 +70,6 @@ impl<'a, H: AcpiHandler> Recording<'a, H> {
     /// The cell that the history is kept in. If another history is put there, it is continued.
     pub fn cell(&self) -> &Cell<History> {
         &self.history
-    }
-
-    /// The first flaw of the history, or `None` if each loan has its one notice, now that all loans should
-    /// have ended.
-    pub fn flaw(&self) -> Option<Flaw> {
-        self.history.get().flaw(Shown::AsAsked)
     }
 
     fn record(&self, event: Event) {

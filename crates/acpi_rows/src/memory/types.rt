@@ -1,130 +1,84 @@
-//! Questions about the types of table that the library knows: `FACT SIGNATURE`, or `FACT each` of all six.
+//! Calls about a type of table: `find` (where the first valid one lies), `faults` and `all` (where each lies, with a
+//! number of the most that are asked for), `whole` (its bytes), `lent` (how many are lent of it), and those over
+//! its bytes (`tables`).
 
-use crate::texts::{Parts, listed};
+use crate::numbers::first_word;
+use crate::tables;
+use crate::text::Text;
+use crate::wsmt::Wsmt;
 use acpi::bgrt::Bgrt;
 use acpi::fadt::Fadt;
 use acpi::hpet::HpetTable;
 use acpi::madt::Madt;
 use acpi::mcfg::Mcfg;
 use acpi::spcr::Spcr;
-use acpi::{AcpiHandler, AcpiResult, AcpiTable, AcpiTables, PhysicalMapping};
-use acpi_testkit::answers::place_of;
-use acpi_testkit::rows::{named, shown};
-use std::alloc::{AllocError, Global};
+use acpi::{AcpiHandler, AcpiTable, AcpiTables};
+use acpi_arm::gtdt::Gtdt;
+use acpi_iommu::{Dmar, Ivrs};
+use acpi_numa::{Slit, Srat};
 
-/// A type of table.
-#[derive(Clone, Copy)]
-enum Type {
-    Fadt,
-    Madt,
-    Hpet,
-    Mcfg,
-    Bgrt,
-    Spcr,
-}
-
-const TYPES: [(&str, Type); 6] = [
-    ("FACP", Type::Fadt),
-    ("APIC", Type::Madt),
-    ("HPET", Type::Hpet),
-    ("MCFG", Type::Mcfg),
-    ("BGRT", Type::Bgrt),
-    ("SPCR", Type::Spcr),
-];
-
-/// What is asked of a type of table.
-#[derive(Clone, Copy)]
-enum Fact {
-    Place,
-    Faults,
-    Bytes,
-    Lent,
-    Found,
-}
-
-const FACTS: [(&str, Fact); 5] = [
-    ("place", Fact::Place),
-    ("faults", Fact::Faults),
-    ("bytes", Fact::Bytes),
-    ("lent", Fact::Lent),
-    ("found", Fact::Found),
-];
-
-/// What is asked of the type of table that has a signature, or of `each` of the six.
+/// Prints what a call gives about a type of table, or about each of six.
 pub(super) fn answer<H: AcpiHandler>(
-    alloc: Global,
+    out: &mut Text<'_>,
     tables: &AcpiTables<'_, H>,
-    word: &str,
-    name: &str,
-) -> Result<String, AllocError> {
-    let Some(fact) = named(&FACTS, word) else {
-        return Ok(String::new(alloc));
-    };
-    let mut parts = Parts::new(alloc);
-    for (signature, of) in &TYPES {
-        if name == "each" || name == *signature {
-            parts.add_text(of_one(alloc, tables, fact, *of));
+    kind: &str,
+    call: &str,
+) {
+    if kind == "each" {
+        for kind in &["fadt", "madt", "hpet", "mcfg", "bgrt", "spcr"] {
+            answer_one(out, tables, kind, call);
         }
+    } else {
+        answer_one(out, tables, kind, call);
     }
-    parts.text()
 }
 
-/// What is asked of one type of table.
-fn of_one<H: AcpiHandler>(
-    alloc: Global,
+fn answer_one<H: AcpiHandler>(
+    out: &mut Text<'_>,
     tables: &AcpiTables<'_, H>,
-    fact: Fact,
-    of: Type,
-) -> Result<String, AllocError> {
-    match of {
-        Type::Fadt => of_type::<Fadt, H>(alloc, tables, fact),
-        Type::Madt => of_type::<Madt, H>(alloc, tables, fact),
-        Type::Hpet => of_type::<HpetTable, H>(alloc, tables, fact),
-        Type::Mcfg => of_type::<Mcfg, H>(alloc, tables, fact),
-        Type::Bgrt => of_type::<Bgrt, H>(alloc, tables, fact),
-        Type::Spcr => of_type::<Spcr, H>(alloc, tables, fact),
+    kind: &str,
+    call: &str,
+) {
+    match kind {
+        "fadt" => of_type::<Fadt, H>(out, tables, kind, call),
+        "madt" => of_type::<Madt, H>(out, tables, kind, call),
+        "hpet" => of_type::<HpetTable, H>(out, tables, kind, call),
+        "mcfg" => of_type::<Mcfg, H>(out, tables, kind, call),
+        "bgrt" => of_type::<Bgrt, H>(out, tables, kind, call),
+        "spcr" => of_type::<Spcr, H>(out, tables, kind, call),
+        "wsmt" => of_type::<Wsmt, H>(out, tables, kind, call),
+        "gtdt" => of_type::<Gtdt, H>(out, tables, kind, call),
+        "srat" => of_type::<Srat, H>(out, tables, kind, call),
+        "slit" => of_type::<Slit, H>(out, tables, kind, call),
+        "dmar" => of_type::<Dmar, H>(out, tables, kind, call),
+        "ivrs" => of_type::<Ivrs, H>(out, tables, kind, call),
+        _ => out.print(&"no such call"),
     }
 }
 
-/// What is asked of a type.
 fn of_type<T: AcpiTable, H: AcpiHandler>(
-    alloc: Global,
+    out: &mut Text<'_>,
     tables: &AcpiTables<'_, H>,
-    fact: Fact,
-) -> Result<String, AllocError> {
-    match fact {
-        Fact::Place => shown(alloc, &place_of::<T, H>(tables)),
-        Fact::Faults => listed(alloc, tables.faults::<T>()),
-        Fact::Found => listed(alloc, tables.find_tables::<T>().map(ends_of)),
-        Fact::Bytes => bytes_of(alloc, tables.find_table::<T>()),
-        Fact::Lent => lent_of(alloc, tables.find_table::<T>()),
+    kind: &str,
+    call: &str,
+) {
+    let (call, rest) = first_word(call);
+    let most = rest.parse::<u16>().unwrap_or(u16::MAX) as usize;
+    match call {
+        "faults" => out.list(tables.faults::<T>().take(most)),
+        "all" => {
+            for table in tables.find_tables::<T>().take(most) {
+                out.place(&table);
+            }
+        }
+        _ => match tables.find_table::<T>() {
+            Err(refusal) => out.show(&refusal),
+            Ok(table) => match call {
+                "find" => out.place(&table),
+                "whole" => out.bytes(table.bytes()),
+                "lent" => out.show(&table.mapped_length()),
+                _ => tables::answer(out, kind, table.bytes(), (call, rest)),
+            },
+        },
     }
-}
-
-/// The bytes of a table, or the refusal.
-fn bytes_of<T: AcpiTable, H: AcpiHandler>(
-    alloc: Global,
-    found: AcpiResult<PhysicalMapping<'_, H, T>>,
-) -> Result<String, AllocError> {
-    match found {
-        Ok(table) => hex::encode(alloc, table.bytes()),
-        Err(refusal) => shown(alloc, &refusal),
-    }
-}
-
-/// How many bytes are lent of a table, or the refusal.
-fn lent_of<T: AcpiTable, H: AcpiHandler>(
-    alloc: Global,
-    found: AcpiResult<PhysicalMapping<'_, H, T>>,
-) -> Result<String, AllocError> {
-    let lent: AcpiResult<usize> = match found {
-        Ok(table) => Ok(table.mapped_length()),
-        Err(refusal) => Err(refusal),
-    };
-    shown(alloc, &lent)
-}
-
-/// Where a table lies, and how long it is.
-fn ends_of<H: AcpiHandler, T: AcpiTable>(table: PhysicalMapping<'_, H, T>) -> (u64, usize) {
-    (table.physical_start(), table.region_length())
 }

@@ -1,0 +1,62 @@
+//! Mappings that a scene keeps.
+
+use crate::rows::signature_of;
+use crate::text::Text;
+use acpi::bgrt::Bgrt;
+use acpi::sdt::{SdtHeader, map_own_sdt, map_sdt, map_table};
+use acpi::{AcpiHandler, AcpiResult, Lender, PhysicalMapping};
+
+/// A mapping that a scene keeps.
+#[derive(Drop)]
+pub(super) enum Kept<'h, H: Lender> {
+    Graphic(PhysicalMapping<'h, H, Bgrt>),
+    Header(PhysicalMapping<'h, H, SdtHeader>),
+}
+
+impl<H: AcpiHandler> Kept<'_, H> {
+    /// Prints where it lies.
+    pub(super) fn place(&self, out: &mut Text<'_>) {
+        match self {
+            Kept::Graphic(mapping) => out.place(mapping),
+            Kept::Header(mapping) => out.place(mapping),
+        }
+    }
+
+    /// Prints what it holds, and its bytes.
+    pub(super) fn show(&self, out: &mut Text<'_>) {
+        match self {
+            Kept::Header(header) => {
+                out.show(&(header.signature, header.length));
+                out.bytes(header.bytes());
+            }
+            Kept::Graphic(graphic) => {
+                out.show(&(graphic.version, graphic.was_displayed()));
+                out.show(&(graphic.orientation_offset(), graphic.image_type()));
+                out.show(&(graphic.image_address, graphic.image_offset()));
+                out.bytes(graphic.bytes());
+            }
+        }
+    }
+}
+
+/// What lies at an address: a graphic (`table`), or a header, as a table of a name (`named`), as what it says (`own`),
+/// in bytes that were lent before (`given`) or by itself (`map`).
+pub(super) fn mapped<'h, H: AcpiHandler>(
+    handler: &'h H,
+    call: &str,
+    name: &str,
+    address: u64,
+) -> AcpiResult<Kept<'h, H>> {
+    if call == "table" {
+        return Ok(Kept::Graphic(map_table(handler, address)?));
+    }
+    Ok(Kept::Header(match call {
+        "named" => map_sdt(handler, address, signature_of(name))?,
+        "own" => map_own_sdt(handler, address)?,
+        "given" => {
+            let bytes = handler.map_physical_region(address, 40)?;
+            PhysicalMapping::new(address, bytes, 40, handler)
+        }
+        _ => PhysicalMapping::map(handler, address, 36)?,
+    }))
+}

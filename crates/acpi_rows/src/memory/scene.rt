@@ -1,0 +1,129 @@
+//! A scene: what its steps open and keep.
+//!
+//! - `rsdt REVISION ADDRESS`, `rsdp ADDRESS`, `bios`, `areas ADDRESS LENGTH, ..` and `validated` open tables (`ways`).
+//!   `close` drops them.
+//! - `search` and `within ADDRESS LENGTH, ..` look an RSDP up and drop it, and `bios_areas EBDA` says where the former
+//!   looks.
+//! - `keep` finds the boot graphic and keeps its mapping. `table ADDRESS`, `named NAME ADDRESS`, `own ADDRESS`, `given
+//!   ADDRESS` and `map ADDRESS` keep what they map (`kept`). `show` prints what was kept last, and `release PLACE`
+//!   drops one, or else the first.
+//! - All other steps ask the tables (`all`).
+
+use super::all;
+use super::kept::{Kept, mapped};
+use super::ways::{found, open};
+use crate::numbers::number_of;
+use crate::text::Text;
+use acpi::rsdp::bios_areas;
+use acpi::{AcpiHandler, AcpiResult, AcpiTables, Lender};
+use acpi_cli::parse_address;
+use std::alloc::Global;
+
+/// What the steps so far have opened and kept.
+#[derive(Drop)]
+pub(super) struct Scene<'r, H: Lender> {
+    handler: &'r H,
+    tables: Option<AcpiTables<'r, H>>,
+    kept: Vec<Kept<'r, H>>,
+}
+
+impl<'r, H: AcpiHandler> Scene<'r, H> {
+    /// A scene before its first step.
+    pub(super) fn new(alloc: Global, handler: &'r H) -> Scene<'r, H> {
+        Scene {
+            handler,
+            tables: None,
+            kept: Vec::new(alloc),
+        }
+    }
+
+    /// Does a step by itself, after tables are opened by a way if it is about tables.
+    pub(super) fn perform_alone(
+        &mut self,
+        out: &mut Text<'_>,
+        (way, place): (&str, &str),
+        (call, rest): (&str, &str),
+    ) {
+        if matches!(call, "search" | "within" | "bios_areas") {
+            self.perform(out, call, rest);
+            return;
+        }
+        match open(out.alloc, self.handler, way, place) {
+            Err(refusal) => out.show(&refusal),
+            Ok(tables) => all::answer(out, &tables, call, rest),
+        }
+    }
+
+    /// Does a step.
+    pub(super) fn perform(&mut self, out: &mut Text<'_>, call: &str, rest: &str) {
+        match call {
+            "rsdt" | "rsdp" | "bios" | "areas" | "validated" => self.open(out, call, rest),
+            "search" | "within" => match found(out.alloc, self.handler, call, rest) {
+                Ok(rsdp) => out.place(&rsdp),
+                Err(refusal) => out.show(&refusal),
+            },
+            "bios_areas" => out.show(&bios_areas(parse_address(rest))),
+            "close" => self.tables = None,
+            "release" => self.release(number_of(rest) as usize),
+            "show" => {
+                if let Some(kept) = self.kept.last() {
+                    kept.show(out);
+                }
+            }
+            "keep" => self.keep_graphic(out),
+            "table" | "named" | "own" | "given" | "map" => {
+                let (name, address) = rest.split_once(' ').unwrap_or(("", rest));
+                let address = parse_address(address).unwrap_or(0);
+                let mapping = mapped(self.handler, call, name, address);
+                self.keep(out, mapping);
+            }
+            _ => {
+                if let Some(tables) = &self.tables {
+                    all::answer(out, tables, call, rest);
+                }
+            }
+        }
+    }
+
+    /// Opens tables, and keeps them if there are any.
+    fn open(&mut self, out: &mut Text<'_>, way: &str, place: &str) {
+        match open(out.alloc, self.handler, way, place) {
+            Err(refusal) => out.show(&refusal),
+            Ok(tables) => {
+                out.show(&tables.revision());
+                self.tables = Some(tables);
+            }
+        }
+    }
+
+    /// Keeps the boot graphic, if it is found in tables that are open.
+    fn keep_graphic(&mut self, out: &mut Text<'_>) {
+        if let Some(tables) = &self.tables {
+            let graphic = found_graphic(tables);
+            self.keep(out, graphic);
+        }
+    }
+
+    /// Keeps a mapping, if there is one.
+    fn keep(&mut self, out: &mut Text<'_>, mapping: AcpiResult<Kept<'r, H>>) {
+        match mapping {
+            Err(refusal) => out.show(&refusal),
+            Ok(mapping) => {
+                mapping.place(out);
+                out.require(self.kept.push(mapping).is_ok());
+            }
+        }
+    }
+
+    /// Drops the mapping that is kept at a place of the list.
+    fn release(&mut self, place: usize) {
+        if place < self.kept.len() {
+            self.kept.remove(place);
+        }
+    }
+}
+
+/// The boot graphic that is found.
+fn found_graphic<'r, H: AcpiHandler>(tables: &AcpiTables<'r, H>) -> AcpiResult<Kept<'r, H>> {
+    Ok(Kept::Graphic(tables.find_table()?))
+}

@@ -1,0 +1,41 @@
+//! The timers that a GTDT describes: `record`, those of each processor, and `platform`, those of the machine.
+
+use crate::text::Text;
+use acpi::{AcpiTable, PhysicalRecord};
+use acpi_arm::gtdt::{Gtdt, PlatformTimer, PlatformTimerIter};
+
+/// Prints what a GTDT says.
+pub(super) fn answer(out: &mut Text<'_>, bytes: &[u8], call: &str) {
+    if bytes.len() < 96 {
+        return out.print(&"short");
+    }
+    if call == "platform" {
+        return platform(out, PlatformTimerIter::over(bytes));
+    }
+    let table = Gtdt::read(bytes);
+    out.show(&table.validate(bytes));
+    out.show(&(table.counter_control_base(), table.counter_read_base()));
+    out.show(&("secure el1", table.secure_el1_timer));
+    out.show(&("non-secure el1", table.non_secure_el1_timer));
+    out.show(&("virtual el1", table.virtual_el1_timer));
+    out.show(&("el2", table.el2_timer));
+    out.show(&("virtual el2", table.virtual_el2_timer()));
+}
+
+/// Blocks of timers, each with its address and its frames, and watchdogs, and how they end.
+fn platform(out: &mut Text<'_>, mut timers: PlatformTimerIter<'_>) {
+    for timer in timers.by_ref() {
+        match timer {
+            PlatformTimer::SbsaWatchdog(watchdog) => out.show(&watchdog),
+            PlatformTimer::GtBlock(block) => {
+                out.show(&("block", block.address));
+                out.list(block.frames);
+            }
+        }
+    }
+    out.print(&if timers.ended_malformed() {
+        "malformed"
+    } else {
+        "end"
+    });
+}

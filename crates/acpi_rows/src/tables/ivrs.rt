@@ -1,0 +1,85 @@
+//! AMD's units that remap devices.
+//!
+//! - `record`: IVinfo;
+//! - `blocks`: each with its type and its fields, and its device entries with their type, first and last device and
+//!   settings, and what else their type has, and how these end; then whether they have ended malformed before the first
+//!   one is asked for, how many there are, and whether they have after the last one;
+//! - `best`: the fields of the blocks of the best type;
+//! - `unit SEGMENT ID`, `memory ID`, ids in hexadecimal.
+
+use crate::numbers::{first_word, hex_of, number_of};
+use crate::text::Text;
+use acpi_base::PhysicalRecord;
+use acpi_iommu::{DeviceEntry, Ivrs, IvrsBlock, IvrsBlocks};
+
+/// Prints what an IVRS says.
+pub(super) fn answer(out: &mut Text<'_>, table: &[u8], call: &str, rest: &str) {
+    let all = IvrsBlocks::over(table);
+    let (segment, id) = first_word(rest);
+    match call {
+        "record" if table.len() < Ivrs::MIN_LENGTH => out.print(&"short"),
+        "record" => out.show(&Ivrs::read(table).info),
+        "blocks" => blocks(out, &all),
+        "best" => match all.blocks_of_best_type() {
+            Err(refusal) => out.show(&refusal),
+            Ok(blocks) => {
+                for block in blocks {
+                    out.show(&block.fields());
+                }
+            }
+        },
+        "unit" => {
+            let segment = (number_of(segment) % 0x10000) as u16;
+            out.show(&all.block_for(segment, (hex_of(id) % 0x10000) as u16));
+        }
+        _ => match all.memory_for((hex_of(rest) % 0x10000) as u16) {
+            Err(refusal) => out.show(&refusal),
+            Ok(ranges) => out.list(ranges),
+        },
+    }
+}
+
+fn blocks(out: &mut Text<'_>, all: &IvrsBlocks<'_>) {
+    let mut blocks = all.blocks();
+    let before = blocks.ended_malformed();
+    let mut count = 0u32;
+    for block in blocks.by_ref() {
+        out.show(&(block.kind(), block.fields()));
+        entries(out, &block);
+        count = count.wrapping_add(1);
+    }
+    out.show(&(before, count, blocks.ended_malformed()));
+}
+
+fn entries(out: &mut Text<'_>, block: &IvrsBlock<'_>) {
+    let mut entries = block.entries();
+    if entries.ended_malformed() {
+        out.print(&"malformed before it began");
+    }
+    for entry in entries.by_ref() {
+        out.show(&(entry.kind(), entry.first(), entry.last(), entry.settings()));
+        more(out, &entry);
+    }
+    out.print(&if entries.ended_malformed() {
+        "malformed"
+    } else {
+        "whole"
+    });
+}
+
+/// What else the type of an entry has.
+fn more(out: &mut Text<'_>, entry: &DeviceEntry<'_>) {
+    if let Some(source) = entry.alias() {
+        out.show(&("as", source));
+    }
+    if let Some(settings) = entry.extended_settings() {
+        out.show(&("more", settings));
+    }
+    if let Some(device) = entry.special() {
+        out.show(&device);
+    }
+    if entry.kind() == 0xf0 {
+        out.show(&(entry.hardware_id(), entry.compatible_id()));
+        out.show(&(entry.unique_id_format(), entry.unique_id()));
+    }
+}
