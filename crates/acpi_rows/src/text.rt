@@ -196,7 +196,7 @@ impl<'r> Text<'r> {
                 shown,
                 lent,
             } => {
-                let sign = if self.end_loan(address, shown, lent) {
+                let sign = if self.close_loan(address, shown, lent) {
                     '-'
                 } else {
                     '?'
@@ -214,7 +214,7 @@ impl<'r> Text<'r> {
     }
 
     /// Takes a loan off the list for which a notice is right, and says whether there is one.
-    fn end_loan(&mut self, address: u64, shown: usize, lent: usize) -> bool {
+    fn close_loan(&mut self, address: u64, shown: usize, lent: usize) -> bool {
         let notice = (address, shown, lent);
         match self.loans.iter().position(|loan| loan.is_named(notice)) {
             None => {
