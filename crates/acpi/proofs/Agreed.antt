@@ -1,43 +1,13 @@
 -- Memories that agree on the ranges of a definition have the same answer of it: below a root table, and of what leads
 -- to one.
-use Rattle.std.proofs.Common.{◌≡◌, ℕ, List, [], ◌∷◌, ◌++◌, Option, Some, Result, Ok, Err, refl, ap, ◌∙◌, length, zero, suc, ◌+◌, None}
-use Rattle.std.specs.Prelude.{filter_map, flat_map}
-use Rattle.std.specs.Result.{result_ok}
-use Rattle.acpi_base.proofs.AllowedRanges.{each_back, each_front}
-use Rattle.acpi_base.proofs.OwnTable.{same_own_table, same_table}
-use Rattle.acpi_base.specs.declared.error.AcpiError.{AcpiError}
-use Rattle.acpi_base.specs.declared.table.signature.TheConstants.Signature.{DSDT, SSDT}
-use Rattle.acpi_base.specs.Madt.{mailbox_of}
-use Rattle.acpi_base.specs.Mcfg.{mcfg_entries_of}
-use Rattle.acpi_base.specs.Memory.{Memory, at}
-use Rattle.acpi_base.specs.Ranges.{AgreesOn, DependsOn, Footprint, Ranges, own_table_ranges, table_ranges, unless_found}
-use Rattle.acpi_base.specs.Steps.{◌>>=◌, lent}
-use Rattle.acpi_base.specs.Table.{Kind, plain_kind, table_at}
-use Rattle.acpi_fixed.specs.Fadt.{dsdt_address_of, facs_address_of, fadt_at}
-use Rattle.acpi_fixed.specs.declared.fadt.Fadt.{Fadt}
+use Rattle.std.proofs.Common.{◌≡◌, ℕ, List, [], ◌∷◌, ◌++◌, Option, Some, Result, Ok, Err, refl, ap, ◌∙◌, length, zero, suc, ◌+◌, None, filter_map, flat_map}
+use Rattle.acpi_base.specs.FromStd.{result_ok, option_or}
+use Rattle.acpi_base.proofs.Words.{each_back, each_front, same_own_table, same_table}
+use Rattle.acpi.specs.Types.{AcpiError, DSDT, SSDT, Fadt, NoValidRsdp, AddressRange}
+use Rattle.acpi_base.specs.Words.{mailbox_of, mcfg_entries_of, Memory, at, AgreesOn, DependsOn, Footprint, Ranges, own_table_ranges, table_ranges, unless_found, ◌>>=◌, lent, Kind, plain_kind, table_at}
+use Rattle.acpi_fixed.specs.Words.{dsdt_address_of, facs_address_of, fadt_at}
 use Rattle.acpi.proofs.First.{here}
-use Rattle.acpi.specs.Footprint.{FootprintBelow, below, header_ranges, lookup_ranges, root_ranges, dsdt_ranges, platform_ranges, ssdt_ranges}
-use Rattle.acpi.specs.Hpet.{hpet_at, hpet_kind, info_of, hpet_of}
-use Rattle.acpi.specs.Later.{or_later}
-use Rattle.acpi.specs.Lists.{fadt_kind, faults_of, own_header_at, stream_at, unless_valid, dsdt_stream, ssdt_streams, valid_headers}
-use Rattle.acpi.specs.Lookup.{lookup}
-use Rattle.acpi.specs.Members.{found_at, kind_ranges, members_of, tables_found}
-use Rattle.acpi.specs.Pci.{mcfg_kind, found_regions}
-use Rattle.acpi.specs.Places.{both_place_ranges, dsdt_place, dsdt_place_ranges, facs_at, facs_length_in, facs_place, facs_place_ranges, facs_ranges, led_by, led_by_ranges, led_ranges, place_at, place_ranges, places_of, range}
-use Rattle.acpi.specs.Platform.{madt_kind, model_in, platform_of}
-use Rattle.acpi.specs.Root.{root_at, root_kind, root_of_revision}
-use Rattle.acpi.specs.Wake.{mailbox_found}
-use Rattle.acpi.specs.Tables.{kind_of, memory_of, pointers_of, root_address_of, root_of}
-use Rattle.acpi.specs.declared.tables.AcpiTables.{AcpiTables}
-use Rattle.acpi_base.specs.declared.error.AcpiError.TheVariants.{NoValidRsdp}
-use Rattle.acpi.specs.Opened.{opened_at, opened_from, opened_by_rsdp, opened_by_search}
-use Rattle.acpi.specs.OpenedRanges.{area_ranges, length_ranges, opened_ranges, or_else_ranges, rsdp_ranges, search_ranges, walk_ranges, opened_by_rsdp_ranges, opened_by_search_ranges}
-use Rattle.acpi.specs.Rsdp.{check_whole, checked_length, root_of_rsdp, rsdp_at}
-use Rattle.acpi.specs.Search.{count_of, first_area, found_in, found_rsdp, or_else, room_of, second_area, walk, word_in}
-use Rattle.acpi.specs.declared.rsdp.bios.Area.{Area}
-use Rattle.std.specs.Option.{option_or}
-use Rattle.acpi_base.specs.declared.range.AddressRange.{AddressRange}
-use Rattle.acpi.specs.Areas.{areas_ranges, count_in, first_in, found_among, found_in_areas, walk_in, opened_in_areas_ranges, opened_in_areas}
+use Rattle.acpi.specs.Words.{FootprintBelow, below, header_ranges, lookup_ranges, root_ranges, dsdt_ranges, platform_ranges, ssdt_ranges, hpet_at, hpet_kind, info_of, hpet_of, or_later, fadt_kind, faults_of, own_header_at, stream_at, unless_valid, dsdt_stream, ssdt_streams, valid_headers, lookup, found_at, kind_ranges, members_of, tables_found, mcfg_kind, found_regions, both_place_ranges, dsdt_place, dsdt_place_ranges, facs_at, facs_length_in, facs_place, facs_place_ranges, facs_ranges, led_by, led_by_ranges, led_ranges, place_at, place_ranges, places_of, range, madt_kind, model_in, platform_of, root_at, root_kind, root_of_revision, mailbox_found, kind_of, memory_of, pointers_of, root_address_of, root_of, AcpiTables, opened_at, opened_from, opened_by_rsdp, opened_by_search, area_ranges, length_ranges, opened_ranges, or_else_ranges, rsdp_ranges, search_ranges, walk_ranges, opened_by_rsdp_ranges, opened_by_search_ranges, check_whole, checked_length, root_of_rsdp, rsdp_at, count_of, first_area, found_in, found_rsdp, or_else, room_of, second_area, walk, word_in, Area, areas_ranges, count_in, first_in, found_among, found_in_areas, walk_in, opened_in_areas_ranges, opened_in_areas}
 use Rattle.acpi_base.specs.Ranges as ranges
 
 -- ---- lookups

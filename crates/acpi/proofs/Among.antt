@@ -1,25 +1,11 @@
 -- The search in areas that a caller gives: candidate by candidate, and in the reader's words.
-use Rattle.std.proofs.Common.{◌≡◌, ℕ, zero, suc, ◌+◌, ◌-◌, ◌*◌, ◌/◌, ◌<◌, ◌≤◌, List, [], ◌∷◌, ◌++◌, length, drop, get_or, length-drop, Bool, true, false, arith, refl, ap, sym, subst, ◌∙◌, Option, Some, None, Result, Ok, Err}
-use Rattle.std.specs.Prelude.{◌&&◌, nat_le, IfOk, IsOk, MatchOption, unwrap_or}
-use Rattle.std.specs.List.{AllByRecursion}
-use Rattle.std.specs.Option.{ok_or, option_or}
-use Rattle.std.specs.Result.{is_err}
-use Rattle.std.proofs.lemmas.Bool.Decides.{nat_tests}
-use Rattle.std.proofs.lemmas.List.{drop_all, drop_more}
-use Rattle.acpi_base.specs.Bytes.{part}
-use Rattle.acpi_base.specs.Memory.{Memory, IsMemory, at}
-use Rattle.acpi_base.specs.Steps.{Gives, lent}
-use Rattle.acpi_base.specs.declared.error.AcpiError.{AcpiError}
-use Rattle.acpi_base.specs.declared.memory.mapping.PhysicalMapping.{PhysicalMapping}
-use Rattle.acpi_base.specs.Mapping.{start_of}
-use Rattle.acpi_base.specs.declared.error.AcpiError.TheVariants.{NoValidRsdp}
-use Rattle.acpi_base.specs.declared.range.AddressRange.{AddressRange}
-use Rattle.acpi_base.specs.Ranges.{Allows}
-use Rattle.acpi_base.proofs.AllowedRanges.{all_back, all_front}
-use Rattle.acpi.specs.Areas.{areas_ranges, opened_in_areas_ranges, IsCandidateIn, IsFirstIn, IsSearchedIn, NoneIn, count_in, end_of, first_in, found_among, found_in_areas, is_refused_in, walk_in}
-use Rattle.acpi.specs.OpenedRanges.{opened_ranges, or_else_ranges, walk_ranges}
-use Rattle.acpi.specs.Rsdp.{checked_length, root_of_rsdp, rsdp_at}
-use Rattle.acpi.specs.Search.{IsRefused, placed, walk}
+use Rattle.std.proofs.Common.{◌≡◌, ℕ, zero, suc, ◌+◌, ◌-◌, ◌*◌, ◌/◌, ◌<◌, ◌≤◌, List, [], ◌∷◌, ◌++◌, length, drop, get_or, length-drop, Bool, true, false, arith, refl, ap, sym, subst, ◌∙◌, Option, Some, None, Result, Ok, Err, ◌&&◌, nat_le, IfOk, IsOk, MatchOption, unwrap_or, ok_or}
+use Rattle.acpi_base.specs.FromStd.{AllByRecursion, option_or, is_err}
+use Rattle.acpi_base.proofs.FromStd.{nat_tests, drop_all, drop_more}
+use Rattle.acpi_base.specs.Words.{part, Memory, IsMemory, at, Gives, lent, start_of, Allows}
+use Rattle.acpi.specs.Types.{AcpiError, PhysicalMapping, NoValidRsdp, AddressRange}
+use Rattle.acpi_base.proofs.Words.{all_back, all_front}
+use Rattle.acpi.specs.Words.{areas_ranges, opened_in_areas_ranges, IsCandidateIn, IsFirstIn, IsSearchedIn, NoneIn, count_in, end_of, first_in, found_among, found_in_areas, is_refused_in, walk_in, opened_ranges, or_else_ranges, walk_ranges, checked_length, root_of_rsdp, rsdp_at, IsRefused, placed, walk}
 use Rattle.acpi.proofs.Asked.{asked_next}
 use Rattle.acpi.proofs.Search.{Says, lent_part, walk_later, walk_says}
 

@@ -1,29 +1,12 @@
 -- What may be asked for below a root table: each part of the ranges of a definition.
-use Rattle.std.proofs.Common.{refl, ap, sym, drop, slice_get, ◌≡◌, ℕ, zero, suc, ◌+◌, ◌-◌, ◌*◌, ◌<◌, List, [], ◌∷◌, ◌++◌, Bool, subst, Option, Some, None, Result, Ok, Err, arith}
-use Rattle.std.specs.Prelude.{IfSome, IsOk, MatchOption, flat_map}
-use Rattle.std.proofs.lemmas.Option.{get_or_from_slice_get}
-use Rattle.acpi_base.proofs.AllowedRanges.{all_back, all_front, all_rest}
-use Rattle.acpi_base.specs.declared.error.AcpiError.{AcpiError}
-use Rattle.acpi_base.specs.declared.table.signature.TheConstants.Signature.{DSDT}
-use Rattle.acpi_base.specs.Memory.{Memory}
+use Rattle.std.proofs.Common.{refl, ap, sym, drop, slice_get, ◌≡◌, ℕ, zero, suc, ◌+◌, ◌-◌, ◌*◌, ◌<◌, List, [], ◌∷◌, ◌++◌, Bool, subst, Option, Some, None, Result, Ok, Err, arith, IfSome, IsOk, MatchOption, flat_map}
+use Rattle.acpi_base.proofs.FromStd.{get_or_from_slice_get}
+use Rattle.acpi_base.proofs.Words.{all_back, all_front, all_rest}
+use Rattle.acpi.specs.Types.{AcpiError, DSDT, Fadt}
+use Rattle.acpi_base.specs.Words.{Memory, Allows, Ranges, table_ranges, unless_found, lent, Kind, plain_kind, table_at}
 use Rattle.acpi_base.specs.Ranges as ranges
-use Rattle.acpi_base.specs.Ranges.{Allows, Ranges, table_ranges, unless_found}
-use Rattle.acpi_base.specs.Steps.{lent}
-use Rattle.acpi_base.specs.Table.{Kind, plain_kind, table_at}
-use Rattle.acpi_fixed.specs.Fadt.{dsdt_address_of, fadt_at}
-use Rattle.acpi_fixed.specs.declared.fadt.Fadt.{Fadt}
-use Rattle.acpi.specs.Footprint.{dsdt_ranges, header_ranges, lookup_ranges}
-use Rattle.acpi.specs.Lists.{fadt_kind, faults_of, unless_valid}
-use Rattle.acpi.specs.Lookup.{lookup}
-use Rattle.acpi.specs.Opened.{Opened, opened_from}
-use Rattle.acpi.specs.Root.{pointers, width_of}
-use Rattle.acpi.specs.declared.records.TableFault.{TableFault}
-use Rattle.acpi.specs.declared.root.RootPointer.{RootPointer}
-use Rattle.acpi.specs.OpenedRanges.{root_and_ranges, area_ranges, opened_by_rsdp_ranges, opened_by_search_ranges, opened_ranges, rsdp_ranges, search_ranges, walk_ranges}
-use Rattle.acpi.specs.Places.{both_place_ranges, dsdt_place_ranges, facs_place_ranges, led_by_ranges, led_ranges, place_ranges}
-use Rattle.acpi.specs.Rsdp.{root_of_rsdp, rsdp_at}
-use Rattle.acpi.specs.Search.{count_of, first_area, found_in, found_rsdp, room_of, second_area, word_in}
-use Rattle.acpi.specs.declared.rsdp.bios.Area.{Area}
+use Rattle.acpi_fixed.specs.Words.{dsdt_address_of, fadt_at}
+use Rattle.acpi.specs.Words.{dsdt_ranges, header_ranges, lookup_ranges, fadt_kind, faults_of, unless_valid, lookup, Opened, opened_from, pointers, width_of, TableFault, RootPointer, root_and_ranges, area_ranges, opened_by_rsdp_ranges, opened_by_search_ranges, opened_ranges, rsdp_ranges, search_ranges, walk_ranges, both_place_ranges, dsdt_place_ranges, facs_place_ranges, led_by_ranges, led_ranges, place_ranges, root_of_rsdp, rsdp_at, count_of, first_area, found_in, found_rsdp, room_of, second_area, word_in, Area}
 
 -- the pointer that is seen first, and those after it
 pub peeked : (all : List ℕ) (p : ℕ) → Some p ≡ slice_get all 0 → all ≡ p ∷ drop 1 all

@@ -1,8 +1,6 @@
 -- The calls that are made of a mailbox, one after the other.
 use Rattle.std.proofs.Common.{◌≡◌, ℕ, zero, suc, ◌+◌, List, [], ◌∷◌, ◌++◌, refl, sym, ap, ◌∙◌, arith}
-use Rattle.acpi.specs.Wake.{Makes, MakesUntilWoken, NoneBelow, reads}
-use Rattle.acpi.specs.declared.platform.mailbox.MailboxCall.{MailboxCall}
-use Rattle.acpi.specs.declared.platform.mailbox.MailboxCall.TheVariants.{Read}
+use Rattle.acpi.specs.Words.{Makes, MakesUntilWoken, NoneBelow, reads, MailboxCall, Read}
 
 module _ {S : Type 0} (called : S → MailboxCall → S → Type 0) where
   -- no call and then others

@@ -1,20 +1,10 @@
 -- A lookup answers a table exactly if that is the first valid one. Members that aren't valid change nothing, and lists
 -- over members are no longer than the members.
-use Rattle.std.proofs.Common.{◌≡◌, ℕ, List, [], ◌∷◌, ◌++◌, Result, Ok, Err, refl, ap, ◌∙◌, ◌+◌, ◌≤◌, length, Option, Some, None, arith, zero, suc, ◌^◌, ◌<◌, drop, length-drop}
-use Rattle.std.specs.Prelude.{IsErr, IsOk, IfOk, filter_map}
-use Rattle.acpi_base.specs.Memory.{Memory}
-use Rattle.acpi_base.specs.Steps.{Gives}
-use Rattle.acpi_base.specs.Table.{Kind, table_at}
-use Rattle.acpi_base.specs.declared.error.AcpiError.{AcpiError}
-use Rattle.acpi_base.specs.declared.error.AcpiError.TheVariants.{TableMissing}
-use Rattle.acpi_base.specs.declared.table.signature.Signature.{Signature}
-use Rattle.acpi.specs.Laws.{LookupIsFirst, SkipsInvalid, ValidEndsFaults}
-use Rattle.acpi.specs.Later.{or_later}
-use Rattle.acpi.specs.Lookup.{IsFirstValid, NoneValid, lookup}
-use Rattle.std.specs.List.{cons_option}
-use Rattle.acpi.specs.Lists.{faults_of, unless_valid, with_fault}
-use Rattle.acpi.specs.Root.{pieces, pointers}
-use Rattle.acpi.specs.declared.records.TableFault.{TableFault}
+use Rattle.std.proofs.Common.{◌≡◌, ℕ, List, [], ◌∷◌, ◌++◌, Result, Ok, Err, refl, ap, ◌∙◌, ◌+◌, ◌≤◌, length, Option, Some, None, arith, zero, suc, ◌^◌, ◌<◌, drop, length-drop, IsErr, IsOk, IfOk, filter_map}
+use Rattle.acpi_base.specs.Words.{Memory, Gives, Kind, table_at}
+use Rattle.acpi.specs.Types.{AcpiError, TableMissing, Signature}
+use Rattle.acpi.specs.Words.{LookupIsFirst, SkipsInvalid, ValidEndsFaults, or_later, IsFirstValid, NoneValid, lookup, faults_of, unless_valid, with_fault, pieces, pointers, TableFault}
+use Rattle.acpi_base.specs.FromStd.{cons_option}
 use Rattle.acpi_base.specs.declared.error.AcpiError.TheVariants as refusal
 
 abbrev done : ℕ × List ℕ → Result (ℕ × List ℕ) AcpiError

@@ -1,33 +1,12 @@
 -- What is found in valid tables doesn't depend on where they lie.
 use Rattle.std.proofs.Common.{◌≡◌, ℕ, ◌≤◌, Bool, true, false, List, [], ◌∷◌, drop, map, Option, Some, None, Result, Ok, Err, refl, ap, sym, ◌∙◌, if◌then◌else◌, lit≤}
-use Rattle.std.specs.List.{cons_option}
-use Rattle.std.specs.Result.{result_ok}
-use Rattle.acpi_base.proofs.OwnTable.{own_table_is, served, serves}
-use Rattle.acpi_base.specs.Header.{check_table, header_at}
-use Rattle.acpi_base.specs.Mcfg.{mcfg_entries_of}
-use Rattle.acpi_base.specs.Memory.{Memory}
+use Rattle.acpi_base.specs.FromStd.{cons_option, result_ok}
+use Rattle.acpi_base.proofs.Words.{own_table_is, served, serves}
+use Rattle.acpi_base.specs.Words.{check_table, header_at, mcfg_entries_of, Memory, ◌>>=◌, kind, own_table_at, table_at, sdt_kind}
 use Rattle.acpi_base.specs.Model as model
-use Rattle.acpi_base.specs.Steps.{◌>>=◌}
-use Rattle.acpi_base.specs.Table.{kind, own_table_at, table_at, sdt_kind}
-use Rattle.acpi_base.specs.declared.error.AcpiError.{AcpiError}
-use Rattle.acpi_base.specs.declared.error.AcpiError.TheVariants.{TableMissing}
-use Rattle.acpi_base.specs.declared.model.interrupt.InterruptModel.TheVariants.{Unknown}
-use Rattle.acpi_base.specs.declared.table.header.SdtHeader.{SdtHeader}
-use Rattle.acpi_base.specs.declared.table.signature.Signature.{Signature}
-use Rattle.acpi_base.specs.declared.table.signature.TheConstants.Signature.{FADT, HPET, MADT, MCFG}
+use Rattle.acpi.specs.Types.{AcpiError, TableMissing, Unknown, SdtHeader, Signature, FADT, HPET, MADT, MCFG}
 use Rattle.acpi.proofs.First.{here}
-use Rattle.acpi.specs.Footprint.{below}
-use Rattle.acpi.specs.Hpet.{hpet_at, info_of, hpet_of}
-use Rattle.acpi.specs.Later.{or_later}
-use Rattle.acpi.specs.Lists.{fadt_kind, own_header_at, valid_headers, valid_tables}
-use Rattle.acpi.specs.Lookup.{lookup}
-use Rattle.acpi.specs.Platform.{madt_kind, model_in, platform_of}
-use Rattle.acpi.specs.Relocation.{FollowsTables, bytes_found}
-use Rattle.acpi.specs.Root.{pointers, root_at, width_of}
-use Rattle.acpi.specs.Tables.{memory_of, pointers_of}
-use Rattle.acpi.specs.declared.root.RootKind.{RootKind}
-use Rattle.acpi.specs.declared.tables.AcpiTables.{AcpiTables}
-use Rattle.acpi.specs.Pci.{found_regions}
+use Rattle.acpi.specs.Words.{below, hpet_at, info_of, hpet_of, or_later, fadt_kind, own_header_at, valid_headers, valid_tables, lookup, madt_kind, model_in, platform_of, FollowsTables, bytes_found, pointers, root_at, width_of, memory_of, pointers_of, RootKind, AcpiTables, found_regions}
 
 abbrev done : {A : Type 0} → A → Result A AcpiError
 done x = Ok x

@@ -1,29 +1,16 @@
 -- Where things lie: the members that the pointers lead to, the tables, the functions of PCI, which lie apart in one
 -- region and have two addresses each, and the regions that a handler lends, which are a memory: they ascend, and an
 -- address lies in one of them at most.
-use Rattle.std.proofs.Common.{◌≡◌, ℕ, ◌+◌, ◌-◌, ◌*◌, ◌^◌, ◌≤◌, ◌<◌, List, [], ◌∷◌, length, length-append, length-drop, drop, Bool, true, false, sym, ap, refl, arith, ◌∙◌, Option, Some, None, zero, suc, leb, ◌++◌, take, get_or, add-one}
-use Rattle.std.specs.Prelude.{filter_map, find, map, Option, Some, None, IfSome, if◌then◌else◌, nat_lt, ◌&&◌, option_and_then, IfNone, MatchOption}
-use Rattle.std.specs.List.{cons_option, AllByRecursion}
-use Rattle.std.specs.Result.{result_ok}
-use Rattle.std.proofs.lemmas.Bool.Decides.{nat_tests}
-use Rattle.acpi_base.specs.Memory.{Memory, Region, AreApart, IsMemory, at, end_of, lies_in, rest_from}
-use Rattle.acpi_base.specs.declared.range.AddressRange.{AddressRange}
-use Rattle.acpi_base.specs.OneRegion.{one_region}
-use Rattle.acpi_base.specs.declared.tables.mcfg.McfgEntry.{McfgEntry}
+use Rattle.std.proofs.Common.{◌≡◌, ℕ, ◌+◌, ◌-◌, ◌*◌, ◌^◌, ◌≤◌, ◌<◌, List, [], ◌∷◌, length, length-append, length-drop, drop, Bool, true, false, sym, ap, refl, arith, ◌∙◌, Option, Some, None, zero, suc, leb, ◌++◌, take, get_or, add-one, filter_map, find, map, IfSome, if◌then◌else◌, nat_lt, ◌&&◌, option_and_then, IfNone, MatchOption}
+use Rattle.acpi_base.specs.FromStd.{cons_option, AllByRecursion, result_ok, IsPartitionPoint}
+use Rattle.acpi_base.proofs.FromStd.{nat_tests, map-append, drop_more, le-leb, lt-leb, lt-ltb, le-ltb, and_parts, and_left, and_right, leb-true, ltb-true, take-length, take-suc}
+use Rattle.acpi_base.specs.Words.{Memory, Region, AreApart, IsMemory, at, end_of, lies_in, rest_from, one_region, ecam_in, ecam_place}
+use Rattle.acpi.specs.Types.{AddressRange, McfgEntry}
 use Rattle.acpi.proofs.First.{filter_map_few, one_more, pointers_few}
-use Rattle.acpi.specs.Members.{members_of}
-use Rattle.acpi.specs.Places.{dsdt_place, facs_place, led_by, place_at, places_of}
-use Rattle.acpi.specs.Root.{pointers}
-use Rattle.acpi.specs.Pci.{IsApart, function_address, is_of, pci_address, place_in, region_of as pci_region_of}
-use Rattle.acpi_base.specs.Ecam.{ecam_in, ecam_place}
-use Rattle.acpi.specs.Ecam.{IsBeside, ecam_address}
+use Rattle.acpi.specs.Words.{members_of, dsdt_place, facs_place, led_by, place_at, places_of, pointers, IsApart, function_address, is_of, pci_address, place_in, IsBeside, ecam_address, IsAscending, check_after, check_regions, region_memory, regions_of, MappedRegion}
+use Rattle.acpi.specs.Pci.{region_of as pci_region_of}
 use denote.Ref.{Bor}
-use Rattle.std.specs.List.Sorted.{IsPartitionPoint}
-use Rattle.std.proofs.lemmas.List.{map-append, drop_more}
-use Rattle.std.proofs.lemmas.Bool.{le-leb, lt-leb, lt-ltb, le-ltb, and_parts, and_left, and_right, leb-true, ltb-true}
-use Rattle.std.proofs.Math.Seq.{take-length, take-suc}
-use Rattle.acpi.specs.Regions.{IsAscending, check_after, check_regions, region_memory, region_of, regions_of}
-use Rattle.acpi.specs.declared.handler.region.MappedRegion.{MappedRegion}
+use Rattle.acpi.specs.Regions.{region_of}
 
 -- ---- members and tables
 

@@ -1,25 +1,10 @@
 -- The search for the RSDP: the candidates one at a time, the least valid one, and what a valid RSDP is.
-use Rattle.std.proofs.Common.{◌≡◌, ℕ, ◌+◌, ◌-◌, ◌<◌, ◌≤◌, List, length, take, drop, drop-drop, Option, Some, None, Ok, Err, refl, ap, sym, ◌∙◌, false, arith, zero, suc, ◌*◌, subst, Result, inl, inr, lit≤}
-use Rattle.std.proofs.lemmas.Bool.{leb-true}
-use Rattle.std.proofs.lemmas.List.{take-take, drop-take, length-take-le}
-use Rattle.std.proofs.lemmas.Option.{cond_some}
-use Rattle.std.specs.Str.{bytes_eq}
-use Rattle.acpi_base.specs.Bytes.{part, field_of}
-use Rattle.acpi_base.specs.Memory.{Memory, Region, HoldsRange, IsMemory, at, rest_from}
-use Rattle.acpi_base.specs.Steps.{lent, ◌>>=◌, Gives}
-use Rattle.std.specs.Option.{ok_or}
-use Rattle.acpi_base.specs.declared.error.AcpiError.TheVariants.{RsdpIncorrectSignature, MapFailed, NoValidRsdp}
-use Rattle.acpi_base.proofs.LentRanges.{lent_is_inside, lent_front}
-use Rattle.acpi.specs.Rsdp.{check_first, checked_length, rsd_ptr, rsdp_at, rsdp_of, check_rsdp, check_whole, at_hand}
-use Rattle.acpi_base.specs.declared.error.AcpiError.{AcpiError}
-use Rattle.acpi_base.specs.declared.memory.mapping.PhysicalMapping.{PhysicalMapping}
-use Rattle.acpi_base.specs.Mapping.{start_of}
-use Rattle.acpi.specs.Later.{or_later}
-use Rattle.acpi.specs.Search.{walk, first_area, second_area, room_of, count_of, found_in, found_rsdp, or_else, word_in, IsRefused, IsLeast, HasNone, IsLent, IsSecond, IsSearched, IsFound, placed}
-use Rattle.acpi.specs.declared.rsdp.bios.Area.{Area}
-use Rattle.std.specs.Prelude.{IsOk, IfOk, nat_le}
-use Rattle.acpi_base.proofs.Steps.{bind_ok, holds_ok}
-use Rattle.acpi_base.proofs.OwnTable.{part_within}
+use Rattle.std.proofs.Common.{◌≡◌, ℕ, ◌+◌, ◌-◌, ◌<◌, ◌≤◌, List, length, take, drop, drop-drop, Option, Some, None, Ok, Err, refl, ap, sym, ◌∙◌, false, arith, zero, suc, ◌*◌, subst, Result, inl, inr, lit≤, bytes_eq, ok_or, IsOk, IfOk, nat_le}
+use Rattle.acpi_base.proofs.FromStd.{leb-true, take-take, drop-take, length-take-le, cond_some}
+use Rattle.acpi_base.specs.Words.{part, field_of, Memory, Region, HoldsRange, IsMemory, at, rest_from, lent, ◌>>=◌, Gives, start_of}
+use Rattle.acpi.specs.Types.{RsdpIncorrectSignature, MapFailed, NoValidRsdp, AcpiError, PhysicalMapping}
+use Rattle.acpi_base.proofs.Words.{lent_is_inside, lent_front, bind_ok, holds_ok, part_within}
+use Rattle.acpi.specs.Words.{check_first, checked_length, rsd_ptr, rsdp_at, rsdp_of, check_rsdp, check_whole, at_hand, or_later, walk, first_area, second_area, room_of, count_of, found_in, found_rsdp, or_else, word_in, IsRefused, IsLeast, HasNone, IsLent, IsSecond, IsSearched, IsFound, placed, Area}
 
 there_is : {A E : Type 0} (o : Option A) (e : E) (x : A) → ok_or o e ≡ Ok x → o ≡ Some x
 there_is None e x given = absurd cc

@@ -1,18 +1,10 @@
 -- The pointers that a root table's bytes encode.
-use Rattle.std.proofs.Common.{◌≡◌, ℕ, zero, suc, ◌+◌, ◌-◌, ◌*◌, ◌/◌, ◌%◌, ◌^◌, ◌<◌, ◌≤◌, List, [], ◌∷◌, ◌++◌, length, take, drop, inl, inr, refl, sym, ap, ◌∙◌, arith, length-append, append_assoc, length-drop, Ok, ◌↔◌}
-use Rattle.std.specs.Prelude.{replicate, flat_map}
-use Rattle.std.specs.List.{AllByRecursion}
-use Rattle.std.proofs.lemmas.List.{length-replicate, append-nil, take-append-drop, take_at, drop_at, take_all, drop_all, length-take-le}
-use Rattle.std.proofs.lemmas.Bool.{cases_lt}
-use Rattle.std.proofs.Math.Nat.{mul-le-mul_left, pow-suc}
-use Rattle.acpi_base.proofs.Spelling.{IsBytes-drop, IsBytes-take, length-spelling, number-spelling}
-use Rattle.acpi_base.specs.Bytes.{IsBytes, number, spelling, field_of}
-use Rattle.acpi.specs.Laws.{OnePointers}
-use Rattle.acpi.specs.Root.{IsPointers, pieces, pointers, root_at, root_kind, width_of}
-use Rattle.acpi_base.proofs.OwnTable.{table_bytes}
-use Rattle.acpi_base.specs.Memory.{Memory, IsMemory}
-use Rattle.acpi.specs.declared.root.RootKind.{RootKind}
-use Rattle.acpi.specs.declared.root.RootKind.TheVariants.{Rsdt, Xsdt}
+use Rattle.std.proofs.Common.{◌≡◌, ℕ, zero, suc, ◌+◌, ◌-◌, ◌*◌, ◌/◌, ◌%◌, ◌^◌, ◌<◌, ◌≤◌, List, [], ◌∷◌, ◌++◌, length, take, drop, inl, inr, refl, sym, ap, ◌∙◌, arith, length-append, append_assoc, length-drop, Ok, ◌↔◌, replicate, flat_map}
+use Rattle.acpi_base.specs.FromStd.{AllByRecursion}
+use Rattle.acpi_base.proofs.FromStd.{length-replicate, append-nil, take-append-drop, take_at, drop_at, take_all, drop_all, length-take-le, cases_lt, mul-le-mul_left, pow-suc}
+use Rattle.acpi_base.proofs.Words.{IsBytes-drop, IsBytes-take, length-spelling, number-spelling, table_bytes}
+use Rattle.acpi_base.specs.Words.{IsBytes, number, spelling, field_of, Memory, IsMemory}
+use Rattle.acpi.specs.Words.{OnePointers, IsPointers, pieces, pointers, root_at, root_kind, width_of, RootKind, Rsdt, Xsdt}
 
 length-spelled : (width : ℕ) (ps : List ℕ) → length (flat_map (spelling width) ps) ≡ width * length ps
 length-spelled width [] = omega arith

@@ -1,14 +1,8 @@
 -- The search for the RSDP in areas that a caller gives (ACPI 6.4, section 5.2.5.1).
 use Rattle.std.specs.Prelude.{◌≡◌, ℕ, ◌+◌, ◌-◌, ◌*◌, ◌/◌, ◌^◌, ◌<◌, ◌≤◌, ◌&&◌, nat_le, nat_lt, Bool, if◌then◌else◌, List, [], ◌∷◌, ◌++◌, length, drop, Option, Some, None, Result, Ok, Err, ok_or, is_err}
-use Rattle.std.specs.List.{AllByRecursion}
-use Rattle.std.specs.Option.{option_or}
-use Rattle.acpi_base.specs.Bytes.{part}
-use Rattle.acpi_base.specs.Memory.{Memory}
-use Rattle.acpi_base.specs.Ranges.{Ranges}
-use Rattle.acpi_base.specs.Steps.{◌>>=◌}
-use Rattle.acpi_base.specs.declared.error.AcpiError.{AcpiError}
-use Rattle.acpi_base.specs.declared.error.AcpiError.TheVariants.{NoValidRsdp}
-use Rattle.acpi_base.specs.declared.range.AddressRange.{AddressRange}
+use Rattle.acpi_base.specs.FromStd.{AllByRecursion, option_or}
+use Rattle.acpi_base.specs.Words.{part, Memory, Ranges, ◌>>=◌}
+use Rattle.acpi.specs.Types.{AcpiError, NoValidRsdp, AddressRange}
 use Rattle.acpi.specs.Opened.{Opened, opened_from}
 use Rattle.acpi.specs.OpenedRanges.{opened_ranges, or_else_ranges, walk_ranges}
 use Rattle.acpi.specs.Rsdp.{checked_length, root_of_rsdp, rsdp_at}

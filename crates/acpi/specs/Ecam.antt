@@ -1,10 +1,8 @@
 -- Where the configuration space of a PCI function lies, by the base of bus 0 (PCI Firmware
 -- Specification, section 4.1.2).
 use Rattle.std.specs.Prelude.{◌≡◌, ℕ, ◌+◌, ◌*◌, ◌^◌, List, map, Option, Some, option_and_then}
-use Rattle.acpi_base.specs.Ecam.{ecam_in, ecam_range}
-use Rattle.acpi_base.specs.declared.tables.mcfg.McfgEntry.{McfgEntry}
-use Rattle.acpi_base.specs.declared.range.AddressRange.{AddressRange}
-use Rattle.acpi.specs.declared.mcfg.ecam.EcamRanges.{EcamRanges}
+use Rattle.acpi_base.specs.Words.{ecam_in, ecam_range}
+use Rattle.acpi.specs.Types.{McfgEntry, AddressRange, EcamRanges}
 use Rattle.acpi.specs.Pci.{pci_address, region_of}
 
 -- a function's address, in the first region of the segment group that holds the bus

@@ -1,18 +1,15 @@
 -- The ranges of a memory that answers below a root table depend on: for each definition the ranges
 -- that it comes to, in its own shape.
 use Rattle.std.specs.Prelude.{ℕ, List, [], ◌∷◌, ◌++◌, drop, flat_map, Result}
-use Rattle.acpi_base.specs.declared.error.AcpiError.{AcpiError}
-use Rattle.acpi_base.specs.declared.table.signature.TheConstants.Signature.{DSDT, SSDT}
-use Rattle.acpi_base.specs.Memory.{Memory}
-use Rattle.acpi_base.specs.Ranges.{◌>>=◌, Allows, Footprint, Ranges, own_table_ranges, table_ranges, unless_found}
-use Rattle.acpi_base.specs.Table.{Kind, plain_kind, table_at}
-use Rattle.acpi_fixed.specs.Fadt.{dsdt_address_of, fadt_at}
+use Rattle.acpi.specs.Types.{AcpiError, DSDT, SSDT, RootKind}
+use Rattle.acpi_base.specs.Words.{Memory, Allows, Footprint, Ranges, own_table_ranges, table_ranges, unless_found, Kind, plain_kind, table_at}
+use Rattle.acpi_base.specs.Ranges.{◌>>=◌}
+use Rattle.acpi_fixed.specs.Words.{dsdt_address_of, fadt_at}
 use Rattle.acpi.specs.Lists.{fadt_kind}
 use Rattle.acpi.specs.Lookup.{lookup}
 use Rattle.acpi.specs.Platform.{madt_kind}
 use Rattle.acpi.specs.Root.{pointers, root_at, root_kind, width_of}
 use Rattle.acpi.specs.Tables.{kind_of, may_of, memory_of, pointers_of, root_address_of}
-use Rattle.acpi.specs.declared.root.RootKind.{RootKind}
 use Rattle.acpi.specs.declared.tables.AcpiTables.{AcpiTables}
 use Rattle.acpi_base.specs.Steps as steps
 

@@ -1,19 +1,9 @@
 -- The High Precision Event Timer (signature HPET; ACPI 6.4, section 5.2.6). The layout is that of the IA-PC HPET
 -- Specification 1.0a, section 3.2.4.
 use Rattle.std.specs.Prelude.{ℕ, ◌==◌, List, Result, Ok, if◌then◌else◌}
-use Rattle.acpi_base.specs.Bits.{bits_of}
-use Rattle.acpi_base.specs.Bytes.{field_of}
-use Rattle.acpi_base.specs.Header.{header_at}
-use Rattle.acpi_base.specs.Memory.{Memory}
-use Rattle.acpi_base.specs.Steps.{◌>>=◌, holds}
-use Rattle.acpi_base.specs.Table.{Kind, sdt_kind}
-use Rattle.acpi_base.specs.declared.error.AcpiError.{AcpiError}
-use Rattle.acpi_base.specs.declared.error.AcpiError.TheVariants.{InvalidGenericAddress}
-use Rattle.acpi_base.specs.declared.table.signature.TheConstants.Signature.{HPET}
+use Rattle.acpi_base.specs.Words.{bits_of, field_of, header_at, Memory, ◌>>=◌, holds, Kind, sdt_kind}
+use Rattle.acpi.specs.Types.{AcpiError, InvalidGenericAddress, HPET, HpetInfo, HpetTable, PageProtection}
 use Rattle.acpi.specs.Lookup.{lookup}
-use Rattle.acpi.specs.declared.hpet.HpetInfo.{HpetInfo}
-use Rattle.acpi.specs.declared.hpet.HpetTable.{HpetTable}
-use Rattle.acpi.specs.declared.hpet.PageProtection.{PageProtection}
 use Rattle.acpi.specs.declared.hpet.PageProtection.TheVariants as protections
 
 -- what a table's bytes mean; of BASE_ADDRESS, the generic address from 40 on, the space and the address

@@ -1,8 +1,6 @@
 -- What holds of the definitions.
 use Rattle.std.specs.Prelude.{◌≡◌, ℕ, ◌<◌, List, ◌∷◌, ◌++◌, Ok, IsErr, IsOk, ◌↔◌}
-use Rattle.acpi_base.specs.Bytes.{IsBytes}
-use Rattle.acpi_base.specs.Memory.{Memory}
-use Rattle.acpi_base.specs.Table.{Kind, table_at}
+use Rattle.acpi_base.specs.Words.{IsBytes, Memory, Kind, table_at}
 use Rattle.acpi.specs.Lists.{faults_of}
 use Rattle.acpi.specs.Lookup.{IsFirstValid, lookup}
 use Rattle.acpi.specs.Search.{area, second_area}

@@ -24,5 +24,7 @@ pub mod Scripted
 pub mod Search
 pub mod Tables
 pub mod Timer
+pub mod Types
 pub mod Wake
 pub mod Walks
+pub mod Words

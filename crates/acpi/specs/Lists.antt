@@ -1,18 +1,10 @@
 -- What a list of pointers leads to: headers, streams of AML and faults.
 use Rattle.std.specs.Prelude.{ℕ, ◌+◌, ◌-◌, List, [], ◌∷◌, length, filter_map, Result, Ok, Err}
-use Rattle.std.specs.Result.{result_ok}
-use Rattle.acpi_base.specs.declared.error.AcpiError.{AcpiError}
-use Rattle.acpi_base.specs.declared.table.header.SdtHeader.{SdtHeader}
-use Rattle.acpi_base.specs.declared.table.signature.Signature.{Signature}
-use Rattle.acpi_base.specs.declared.table.signature.TheConstants.Signature.{DSDT, FADT, SSDT}
-use Rattle.acpi_base.specs.Header.{header_at}
-use Rattle.acpi_base.specs.Memory.{Memory}
-use Rattle.acpi_base.specs.Steps.{◌>>=◌}
-use Rattle.acpi_base.specs.Table.{Kind, sdt_kind, own_table_at, plain_kind, table_at}
-use Rattle.acpi_fixed.specs.Fadt.{dsdt_address_of, fadt_at}
+use Rattle.acpi_base.specs.FromStd.{result_ok}
+use Rattle.acpi.specs.Types.{AcpiError, SdtHeader, Signature, DSDT, FADT, SSDT, AmlTable, TableFault}
+use Rattle.acpi_base.specs.Words.{header_at, Memory, ◌>>=◌, Kind, sdt_kind, own_table_at, plain_kind, table_at}
+use Rattle.acpi_fixed.specs.Words.{dsdt_address_of, fadt_at}
 use Rattle.acpi.specs.Lookup.{lookup}
-use Rattle.acpi.specs.declared.records.AmlTable.{AmlTable}
-use Rattle.acpi.specs.declared.records.TableFault.{TableFault}
 use Rattle.acpi_base.specs.declared.error.AcpiError.TheVariants as refusal
 
 -- the header of the table at an address, if the table is valid under the signature that it has

@@ -1,10 +1,8 @@
 -- The first valid table of a kind that a list of pointers leads to.
 use Rattle.std.specs.Prelude.{◌≡◌, ℕ, List, [], ◌∷◌, ◌++◌, Result, Ok, Err, IsErr}
-use Rattle.std.specs.List.{AllByRecursion}
-use Rattle.acpi_base.specs.declared.error.AcpiError.{AcpiError}
-use Rattle.acpi_base.specs.declared.error.AcpiError.TheVariants.{TableMissing}
-use Rattle.acpi_base.specs.Memory.{Memory}
-use Rattle.acpi_base.specs.Table.{Kind, table_at}
+use Rattle.acpi_base.specs.FromStd.{AllByRecursion}
+use Rattle.acpi.specs.Types.{AcpiError, TableMissing}
+use Rattle.acpi_base.specs.Words.{Memory, Kind, table_at}
 use Rattle.acpi.specs.Later.{or_later}
 
 -- the first pointer to a valid table, with that table's bytes, or TableMissing. What to believe is the law

@@ -1,5 +1,5 @@
 -- The memory that several mapped regions lend.
-use Rattle.acpi_base.specs.Memory.{Memory}
+use Rattle.acpi_base.specs.Words.{Memory}
 use Rattle.acpi.specs.Regions.{regions_of}
 use Rattle.acpi.specs.declared.handler.regions.MappedRegions.{MappedRegions}
 

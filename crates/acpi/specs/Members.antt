@@ -1,11 +1,8 @@
 -- What each pointer of a root table leads to, and all tables of a kind.
 use Rattle.std.specs.Prelude.{ℕ, List, map, filter_map, flat_map, Result, Ok}
-use Rattle.std.specs.Result.{result_ok}
-use Rattle.acpi_base.specs.declared.error.AcpiError.{AcpiError}
-use Rattle.acpi_base.specs.Memory.{Memory}
-use Rattle.acpi_base.specs.Ranges.{Ranges, table_ranges}
-use Rattle.acpi_base.specs.Steps.{◌>>=◌}
-use Rattle.acpi_base.specs.Table.{Kind, table_at}
+use Rattle.acpi_base.specs.FromStd.{result_ok}
+use Rattle.acpi.specs.Types.{AcpiError}
+use Rattle.acpi_base.specs.Words.{Memory, Ranges, table_ranges, ◌>>=◌, Kind, table_at}
 use Rattle.acpi.specs.Lists.{own_header_at}
 use Rattle.acpi.specs.declared.members.TableMember.{TableMember}
 

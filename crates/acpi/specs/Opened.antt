@@ -1,14 +1,11 @@
 -- The root tables that constructors open.
 use Rattle.std.specs.Prelude.{ℕ, List, Result, Ok}
-use Rattle.acpi_base.specs.declared.error.AcpiError.{AcpiError}
-use Rattle.acpi_base.specs.Memory.{Memory}
-use Rattle.acpi_base.specs.Steps.{◌>>=◌}
+use Rattle.acpi.specs.Types.{AcpiError, RootKind, RootPointer}
+use Rattle.acpi_base.specs.Words.{Memory, ◌>>=◌}
 use Rattle.acpi.specs.Root.{root_at, root_of_revision}
 use Rattle.acpi.specs.Rsdp.{root_of_rsdp, rsdp_at}
 use Rattle.acpi.specs.Search.{found_rsdp}
 use Rattle.acpi.specs.Tables.{kind_of, revision_of, root_address_of, root_of}
-use Rattle.acpi.specs.declared.root.RootKind.{RootKind}
-use Rattle.acpi.specs.declared.root.RootPointer.{RootPointer}
 use Rattle.acpi.specs.declared.tables.AcpiTables.{AcpiTables}
 
 -- what tables were opened with: the revision of what named the root table, and that table's kind,

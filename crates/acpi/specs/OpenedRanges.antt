@@ -1,15 +1,13 @@
 -- The ranges of a memory that the RSDP, the search for it and what they lead to depend on.
 use Rattle.std.specs.Prelude.{ℕ, zero, suc, ◌+◌, List, [], ◌∷◌, ◌++◌, drop, Option, Some, None}
-use Rattle.acpi_base.specs.Memory.{Memory}
-use Rattle.acpi_base.specs.Ranges.{◌>>=◌, Ranges, unless_found}
-use Rattle.acpi_base.specs.Steps.{lent}
+use Rattle.acpi_base.specs.Words.{Memory, Ranges, unless_found, lent}
+use Rattle.acpi_base.specs.Ranges.{◌>>=◌}
 use Rattle.acpi.specs.Footprint.{root_ranges}
 use Rattle.acpi.specs.Opened.{opened_from}
 use Rattle.acpi.specs.Root.{pointers, width_of}
 use Rattle.acpi.specs.Rsdp.{checked_length, root_of_rsdp, rsdp_at}
 use Rattle.acpi.specs.Search.{count_of, first_area, found_in, found_rsdp, room_of, second_area, word_in}
-use Rattle.acpi.specs.declared.root.RootPointer.{RootPointer}
-use Rattle.acpi.specs.declared.rsdp.bios.Area.{Area}
+use Rattle.acpi.specs.Types.{RootPointer, Area}
 
 -- the ranges of the whole of an RSDP, if it has a length
 abbrev pub length_ranges : ℕ → Option ℕ → Ranges

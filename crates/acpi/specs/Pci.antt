@@ -1,13 +1,8 @@
 -- Where the configuration space of a PCI function lies.
 use Rattle.std.specs.Prelude.{◌≡◌, ℕ, ◌+◌, ◌-◌, ◌*◌, ◌^◌, ◌<◌, ◌==◌, ◌&&◌, Bool, false, List, map, find, nat_le, nat_lt, Option, Some, None, option_and_then, Result, Ok, ◌∷◌, if◌then◌else◌}
-use Rattle.std.specs.Range.{range_inclusive_end, range_inclusive_exhausted, range_inclusive_start}
-use Rattle.acpi_base.specs.Mcfg.{mcfg_entries_of}
-use Rattle.acpi_base.specs.Memory.{Memory}
-use Rattle.acpi_base.specs.Steps.{◌>>=◌}
-use Rattle.acpi_base.specs.Table.{Kind, sdt_kind}
-use Rattle.acpi_base.specs.declared.error.AcpiError.{AcpiError}
-use Rattle.acpi_base.specs.declared.tables.mcfg.McfgEntry.{McfgEntry}
-use Rattle.acpi_base.specs.declared.table.signature.TheConstants.Signature.{MCFG}
+use Rattle.acpi_base.specs.FromStd.{range_inclusive_end, range_inclusive_exhausted, range_inclusive_start}
+use Rattle.acpi_base.specs.Words.{mcfg_entries_of, Memory, ◌>>=◌, Kind, sdt_kind}
+use Rattle.acpi.specs.Types.{AcpiError, McfgEntry, MCFG}
 use Rattle.acpi.specs.Lookup.{lookup}
 use Rattle.acpi.specs.declared.mcfg.PciConfigEntry.{PciConfigEntry}
 use Rattle.acpi.specs.declared.mcfg.PciConfigEntryIterator.{PciConfigEntryIterator}

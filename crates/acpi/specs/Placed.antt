@@ -1,10 +1,8 @@
 -- What is still to come of walks along what the pointers lead to.
 use Rattle.std.specs.Prelude.{ℕ, List, [], ◌++◌, filter_map, length}
-use Rattle.std.specs.List.{cons_option}
-use Rattle.std.specs.Result.{result_ok}
-use Rattle.acpi_base.specs.Memory.{Memory}
-use Rattle.acpi_base.specs.Table.{Kind}
-use Rattle.acpi_base.specs.declared.range.AddressRange.{AddressRange}
+use Rattle.acpi_base.specs.FromStd.{cons_option, result_ok}
+use Rattle.acpi_base.specs.Words.{Memory, Kind}
+use Rattle.acpi.specs.Types.{AddressRange}
 use Rattle.acpi.specs.Members.{members_of, tables_found}
 use Rattle.acpi.specs.Places.{place_at, range}
 use Rattle.acpi.specs.Pointers.{pointers_left}

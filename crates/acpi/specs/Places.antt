@@ -1,19 +1,9 @@
 -- Where the tables lie.
 use Rattle.std.specs.Prelude.{ℕ, List, [], ◌∷◌, ◌++◌, length, filter_map, nat_le, Result, Ok, bytes_eq}
-use Rattle.std.specs.List.{cons_option}
-use Rattle.std.specs.Result.{result_ok}
-use Rattle.acpi_base.specs.declared.error.AcpiError.{AcpiError}
-use Rattle.acpi_base.specs.declared.error.AcpiError.TheVariants.{SdtInvalidLength, SdtInvalidSignature}
-use Rattle.acpi_base.specs.declared.table.signature.Signature.{Signature}
-use Rattle.acpi_base.specs.declared.table.signature.TheConstants.Signature.{DSDT, FACS}
-use Rattle.acpi_base.specs.Header.{header_at}
-use Rattle.acpi_base.specs.Memory.{Memory}
-use Rattle.acpi_base.specs.Ranges.{Ranges, table_ranges}
-use Rattle.acpi_base.specs.Steps.{◌>>=◌, holds, lent}
-use Rattle.acpi_base.specs.Table.{own_table_at, plain_kind, table_at}
-use Rattle.acpi_fixed.specs.Fadt.{dsdt_address_of, facs_address_of, fadt_at}
-use Rattle.acpi_fixed.specs.declared.fadt.Fadt.{Fadt}
-use Rattle.acpi_base.specs.declared.range.AddressRange.{AddressRange}
+use Rattle.acpi_base.specs.FromStd.{cons_option, result_ok}
+use Rattle.acpi.specs.Types.{AcpiError, SdtInvalidLength, SdtInvalidSignature, Signature, DSDT, FACS, Fadt, AddressRange}
+use Rattle.acpi_base.specs.Words.{header_at, Memory, Ranges, table_ranges, ◌>>=◌, holds, lent, own_table_at, plain_kind, table_at}
+use Rattle.acpi_fixed.specs.Words.{dsdt_address_of, facs_address_of, fadt_at}
 use Rattle.acpi.specs.Footprint.{header_ranges, lookup_ranges}
 use Rattle.acpi.specs.Lists.{fadt_kind}
 use Rattle.acpi.specs.Lookup.{lookup}

@@ -1,17 +1,12 @@
 -- What the FADT and the MADT say together.
 use Rattle.std.specs.Prelude.{ℕ, List, None, Result, Ok, Err, IsOk}
-use Rattle.acpi_base.specs.Memory.{Memory}
-use Rattle.acpi_base.specs.Steps.{◌>>=◌}
-use Rattle.acpi_base.specs.Table.{Kind, sdt_kind}
-use Rattle.acpi_base.specs.declared.error.AcpiError.{AcpiError}
-use Rattle.acpi_base.specs.declared.model.interrupt.InterruptModel.TheVariants.{Unknown}
-use Rattle.acpi_base.specs.declared.table.signature.TheConstants.Signature.{MADT}
-use Rattle.acpi_fixed.specs.Fadt.{fadt_at, profile_of}
+use Rattle.acpi_base.specs.Words.{Memory, ◌>>=◌, Kind, sdt_kind}
+use Rattle.acpi.specs.Types.{AcpiError, Unknown, MADT, PlatformInfo}
+use Rattle.acpi_fixed.specs.Words.{fadt_at, profile_of}
 use Rattle.acpi.specs.Later.{or_later}
 use Rattle.acpi.specs.Lists.{fadt_kind}
 use Rattle.acpi.specs.Lookup.{lookup}
 use Rattle.acpi.specs.Timer.{timer_of}
-use Rattle.acpi.specs.declared.platform.PlatformInfo.{PlatformInfo}
 use Rattle.acpi_base.specs.Model as model
 
 abbrev pub madt_kind : Kind

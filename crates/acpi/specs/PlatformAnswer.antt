@@ -1,13 +1,12 @@
 -- What the four calls say that return the platform of some tables: `platform_info`, `platform_info_in`,
 -- `PlatformInfo::new` and `new_in`.
 use Rattle.std.specs.Prelude.{Result}
-use Rattle.acpi_base.specs.Steps.{GivesOrFull}
-use Rattle.acpi_base.specs.declared.error.AcpiError.{AcpiError}
+use Rattle.acpi_base.specs.Words.{GivesOrFull}
+use Rattle.acpi.specs.Types.{AcpiError, PlatformInfo}
 use Rattle.acpi.specs.Footprint.{FootprintBelow, platform_ranges}
 use Rattle.acpi.specs.Platform.{PlatformAsks, platform_of}
 use Rattle.acpi.specs.Relocation.{Relocation}
 use Rattle.acpi.specs.Tables.{of_tables}
-use Rattle.acpi.specs.declared.platform.PlatformInfo.{PlatformInfo}
 use Rattle.acpi.specs.declared.tables.AcpiTables.{AcpiTables}
 
 -- the answer is the platform that is defined, or AllocError, and that only if memory is asked for

@@ -1,10 +1,7 @@
 -- Regions as a caller has them mapped, and which of them are a memory.
 use Rattle.std.specs.Prelude.{ℕ, ◌+◌, ◌^◌, ◌≤◌, nat_le, nat_lt, List, [], ◌∷◌, codes, length, map, Result, Ok}
-use Rattle.std.specs.Coded.{×_prop, Unit-prop, le_prop}
-use Rattle.std.specs.List.{AllByRecursion, AllByRecursion-prop}
-use Rattle.acpi_base.specs.Memory.{Memory, Region, end_of}
-use Rattle.acpi_base.specs.OneRegion.{one_region}
-use Rattle.acpi_base.specs.Steps.{◌>>=◌, holds}
+use Rattle.acpi_base.specs.FromStd.{×_prop, Unit-prop, le_prop, AllByRecursion, AllByRecursion-prop}
+use Rattle.acpi_base.specs.Words.{Memory, Region, end_of, one_region, ◌>>=◌, holds}
 use Rattle.acpi.specs.declared.handler.region.MappedRegion.{MappedRegion}
 use Rattle.acpi.specs.declared.handler.region.RegionError.{RegionError}
 use Rattle.acpi.specs.declared.handler.region.RegionError.TheVariants.{EndTooLarge, NotAscending, Overlap}

@@ -1,11 +1,10 @@
 -- What answers say if only the valid tables are known, wherever they lie.
 use Rattle.std.specs.Prelude.{◌≡◌, ℕ, List, Result, Ok, Err}
-use Rattle.acpi_base.specs.declared.error.AcpiError.{AcpiError}
-use Rattle.acpi_base.specs.Memory.{Memory}
+use Rattle.acpi.specs.Types.{AcpiError, RootKind}
+use Rattle.acpi_base.specs.Words.{Memory}
 use Rattle.acpi.specs.Footprint.{below}
 use Rattle.acpi.specs.Lists.{valid_tables}
 use Rattle.acpi.specs.Tables.{of_tables}
-use Rattle.acpi.specs.declared.root.RootKind.{RootKind}
 use Rattle.acpi.specs.declared.tables.AcpiTables.{AcpiTables}
 
 -- a definition over pointers is the same wherever the same valid tables are led to in this order

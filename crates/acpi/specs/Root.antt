@@ -1,16 +1,9 @@
 -- The root table and its pointers (ACPI 6.4, sections 5.2.7 and 5.2.8). What it lists depends on its kind, whatever the
 -- revision of the RSDP is.
 use Rattle.std.specs.Prelude.{◌≡◌, ℕ, ◌<◌, ◌^◌, ◌==◌, zero, suc, if◌then◌else◌, Result, List, [], ◌∷◌, ◌++◌, take, drop, length, flat_map, replicate}
-use Rattle.std.specs.List.{AllByRecursion}
-use Rattle.acpi_base.specs.declared.error.AcpiError.{AcpiError}
-use Rattle.acpi_base.specs.declared.table.signature.Signature.{Signature}
-use Rattle.acpi_base.specs.declared.table.signature.TheConstants.Signature.{RSDT, XSDT}
-use Rattle.acpi_base.specs.Bytes.{number, spelling}
-use Rattle.acpi_base.specs.Memory.{Memory}
-use Rattle.acpi_base.specs.Table.{Kind, plain_kind, table_at}
-use Rattle.acpi.specs.declared.root.RootKind.{RootKind}
-use Rattle.acpi.specs.declared.root.RootKind.TheVariants.{Rsdt, Xsdt}
-use Rattle.acpi.specs.declared.root.RootPointer.{RootPointer}
+use Rattle.acpi_base.specs.FromStd.{AllByRecursion}
+use Rattle.acpi.specs.Types.{AcpiError, Signature, RSDT, XSDT, RootKind, Rsdt, Xsdt, RootPointer}
+use Rattle.acpi_base.specs.Words.{number, spelling, Memory, Kind, plain_kind, table_at}
 
 -- the signature of a root table of this kind
 abbrev pub signature_of : RootKind → Signature

@@ -1,15 +1,9 @@
 -- The RSDP: its fields, its checks, and the RSDP at an address (ACPI 6.4, section 5.2.5.3).
 use Rattle.std.specs.Prelude.{ℕ, ◌==◌, ◌||◌, List, [], ◌∷◌, take, length, nat_le, if◌then◌else◌, Option, Some, None, Result, Ok, bytes_eq}
-use Rattle.std.specs.Str.{is_utf8}
-use Rattle.acpi_base.specs.declared.error.AcpiError.{AcpiError}
-use Rattle.acpi_base.specs.declared.error.AcpiError.TheVariants.{RsdpIncorrectSignature, RsdpInvalidChecksum, RsdpInvalidOemId}
-use Rattle.acpi_base.specs.Bytes.{field_of, part, sum_of}
-use Rattle.acpi_base.specs.Memory.{Memory}
-use Rattle.acpi_base.specs.Steps.{◌>>=◌, holds, lent}
+use Rattle.acpi_base.specs.FromStd.{is_utf8}
+use Rattle.acpi.specs.Types.{AcpiError, RsdpIncorrectSignature, RsdpInvalidChecksum, RsdpInvalidOemId, Rsdt, Xsdt, RootPointer, Rsdp}
+use Rattle.acpi_base.specs.Words.{field_of, part, sum_of, Memory, ◌>>=◌, holds, lent}
 use Rattle.acpi.specs.Root.{root_pointer}
-use Rattle.acpi.specs.declared.root.RootKind.TheVariants.{Rsdt, Xsdt}
-use Rattle.acpi.specs.declared.root.RootPointer.{RootPointer}
-use Rattle.acpi.specs.declared.rsdp.Rsdp.{Rsdp}
 
 -- the RSDP that the bytes begin with
 unfoldable pub rsdp_of : List ℕ → Rsdp

@@ -1,13 +1,7 @@
 -- The search for the RSDP on systems that boot by a BIOS (ACPI 6.4, section 5.2.5.1).
 use Rattle.std.specs.Prelude.{◌≡◌, ◌⊎◌, ℕ, zero, suc, ◌+◌, ◌-◌, ◌*◌, ◌/◌, ◌<◌, ◌≤◌, ◌&&◌, nat_le, nat_lt, if◌then◌else◌, List, Option, Some, None, Result, Ok, Err}
-use Rattle.acpi_base.specs.declared.error.AcpiError.{AcpiError}
-use Rattle.acpi_base.specs.declared.error.AcpiError.TheVariants.{MapFailed, NoValidRsdp}
-use Rattle.acpi_base.specs.declared.memory.mapping.PhysicalMapping.{PhysicalMapping}
-use Rattle.acpi_base.specs.Bytes.{field_of}
-use Rattle.acpi_base.specs.Mapping.{start_of, bytes_of}
-use Rattle.acpi_base.specs.Memory.{Memory, at}
-use Rattle.acpi_base.specs.Steps.{◌>>=◌, lent}
-use Rattle.acpi.specs.declared.rsdp.bios.Area.{Area}
+use Rattle.acpi.specs.Types.{AcpiError, MapFailed, NoValidRsdp, PhysicalMapping, Area}
+use Rattle.acpi_base.specs.Words.{field_of, start_of, bytes_of, Memory, at, ◌>>=◌, lent}
 use Rattle.acpi.specs.Later.{or_later}
 use Rattle.acpi.specs.Rsdp.{rsdp_at}
 

@@ -1,8 +1,8 @@
 -- What a value of `AcpiTables` shows.
 use Rattle.std.specs.Prelude.{◌≡◌, ◌↔◌, ℕ, Bool, List, drop}
-use Rattle.acpi_base.specs.Memory.{Memory}
+use Rattle.acpi_base.specs.Words.{Memory}
 use Rattle.acpi.specs.Root.{IsPointers, pointers, width_of}
-use Rattle.acpi.specs.declared.root.RootKind.{RootKind}
+use Rattle.acpi.specs.Types.{RootKind}
 use Rattle.acpi.specs.declared.tables.AcpiTables.{AcpiTables}
 use Rattle.acpi_base.specs.Mapping as mapping
 

@@ -1,14 +1,8 @@
 -- The power management timer (ACPI 6.4, section 4.8.3.3).
 use Rattle.std.specs.Prelude.{Option, Result, Ok, option_map}
-use Rattle.acpi_base.specs.declared.address.GenericAddress.{GenericAddress}
-use Rattle.acpi_base.specs.declared.error.AcpiError.{AcpiError}
-use Rattle.acpi_base.specs.Bits.{has_bit}
-use Rattle.acpi_base.specs.Steps.{◌>>=◌}
-use Rattle.acpi_fixed.specs.Fadt.{pm_timer_of}
-use Rattle.acpi_fixed.specs.Flags.{feature_bits}
-use Rattle.acpi_fixed.specs.declared.fadt.Fadt.{Fadt}
-use Rattle.acpi_fixed.specs.declared.fadt.flags.FixedFeatureFlags.{FixedFeatureFlags}
-use Rattle.acpi.specs.declared.platform.timer.PmTimer.{PmTimer}
+use Rattle.acpi.specs.Types.{GenericAddress, AcpiError, Fadt, FixedFeatureFlags, PmTimer}
+use Rattle.acpi_base.specs.Words.{has_bit, ◌>>=◌}
+use Rattle.acpi_fixed.specs.Words.{pm_timer_of, feature_bits}
 
 -- the timer of a block, with TMR_VAL_EXT, bit 8 of the Fixed Feature Flags (section 5.2.9)
 abbrev pub timer_at : FixedFeatureFlags → GenericAddress → PmTimer

@@ -1,11 +1,7 @@
 -- Waking a processor by the mailbox (ACPI 6.4, section 5.2.12.19).
 use Rattle.std.specs.Prelude.{◌≡◌, ◌≢◌, ◌<◌, ◌+◌, ◌++◌, ℕ, List, [], ◌∷◌, Result, MatchResult, replicate}
-use Rattle.acpi_base.specs.Madt.{mailbox_of}
-use Rattle.acpi_base.specs.Memory.{Memory}
-use Rattle.acpi_base.specs.Steps.{◌>>=◌}
-use Rattle.acpi_base.specs.declared.error.AcpiError.{AcpiError}
-use Rattle.acpi_base.specs.declared.error.AcpiError.TheVariants.{InvalidMadt}
-use Rattle.acpi_base.specs.declared.error.MadtError.TheVariants.{WakeupApsTimeout}
+use Rattle.acpi_base.specs.Words.{mailbox_of, Memory, ◌>>=◌}
+use Rattle.acpi.specs.Types.{AcpiError, InvalidMadt, WakeupApsTimeout}
 use Rattle.acpi.specs.Lookup.{lookup}
 use Rattle.acpi.specs.Platform.{madt_kind}
 use Rattle.acpi.specs.declared.platform.mailbox.MailboxCall.{MailboxCall}

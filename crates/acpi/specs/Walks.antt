@@ -1,12 +1,9 @@
 -- What a walk along the members shows: the items that are still to come.
 use Rattle.std.specs.Prelude.{List}
-use Rattle.acpi_base.specs.declared.table.header.SdtHeader.{SdtHeader}
-use Rattle.acpi_base.specs.Memory.{Memory}
-use Rattle.acpi_base.specs.Table.{Kind}
+use Rattle.acpi.specs.Types.{SdtHeader, AmlTable, TableFault}
+use Rattle.acpi_base.specs.Words.{Memory, Kind}
 use Rattle.acpi.specs.Lists.{faults_of, ssdt_streams, valid_headers}
 use Rattle.acpi.specs.Pointers.{pointers_left}
-use Rattle.acpi.specs.declared.records.AmlTable.{AmlTable}
-use Rattle.acpi.specs.declared.records.TableFault.{TableFault}
 use Rattle.acpi.specs.declared.headers.SdtHeaderIterator.{SdtHeaderIterator}
 use Rattle.acpi.specs.declared.ssdts.SsdtIterator.{SsdtIterator}
 use Rattle.acpi.specs.declared.faults.TableFaults.{TableFaults}

@@ -1,9 +1,8 @@
 //! Why members were passed over in a lookup.
 ghost use Rattle.std.proofs.Props.{props};
-ghost use Rattle.std.specs.Iterator.{YieldsFirst, item_count};
+ghost use Rattle.acpi_base.specs.FromStd.{YieldsFirst, item_count};
 ghost use Rattle.std.specs.Prelude.{◌≡◌, Err, IsOk, MatchOption};
-ghost use Rattle.acpi_base.specs.Ranges.{Allows, table_ranges};
-ghost use Rattle.acpi_base.specs.Table.{table_at};
+ghost use Rattle.acpi_base.specs.Words.{Allows, table_ranges, table_at};
 ghost use Rattle.acpi.specs.Footprint.{lookup_ranges};
 ghost use Rattle.acpi.specs.Pointers.{pointers_left};
 

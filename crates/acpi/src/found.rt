@@ -1,9 +1,8 @@
 //! All valid tables of a type.
 ghost use Rattle.std.proofs.Props.{props};
 ghost use Rattle.std.specs.Prelude.{◌≡◌};
-ghost use Rattle.std.specs.Iterator.{YieldsFirstBy, item_count};
-ghost use Rattle.acpi_base.specs.Ranges.{Allows, table_ranges};
-ghost use Rattle.acpi_base.specs.Mapping.{bytes_of, start_of};
+ghost use Rattle.acpi_base.specs.FromStd.{YieldsFirstBy, item_count};
+ghost use Rattle.acpi_base.specs.Words.{Allows, table_ranges, bytes_of, start_of};
 ghost use Rattle.acpi.specs.Members.{kind_ranges};
 ghost use Rattle.acpi.specs.Pointers.{pointers_left};
 

@@ -1,9 +1,8 @@
 //! The headers of all valid tables.
 ghost use Rattle.std.proofs.Props.{props};
 ghost use Rattle.std.specs.Prelude.{◌≡◌};
-ghost use Rattle.std.specs.Iterator.{YieldsFirst, item_count};
-ghost use Rattle.std.specs.Result.{result_ok};
-ghost use Rattle.acpi_base.specs.Ranges.{Allows, own_table_ranges};
+ghost use Rattle.acpi_base.specs.FromStd.{YieldsFirst, item_count, result_ok};
+ghost use Rattle.acpi_base.specs.Words.{Allows, own_table_ranges};
 ghost use Rattle.acpi.specs.Footprint.{header_ranges};
 ghost use Rattle.acpi.specs.Pointers.{pointers_left};
 

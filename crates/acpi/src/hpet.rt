@@ -1,11 +1,8 @@
 //! The IA-PC High Precision Event Timer Table (HPET).
 ghost use Rattle.std.specs.Prelude.{◌≡◌, refl, ◌+◌};
 ghost use Rattle.std.proofs.Common.{lit≤};
-ghost use Rattle.acpi_base.specs.Bits.{bits_of, has_bit};
-ghost use Rattle.acpi.specs.Hpet.{protection_of, hpet_at, hpet_kind, hpet_of, info_of};
-ghost use Rattle.acpi.specs.Footprint.{AllowsBelow, FootprintBelow, lookup_ranges};
-ghost use Rattle.acpi.specs.Relocation.{Relocation};
-ghost use Rattle.acpi.specs.Tables.{of_tables};
+ghost use Rattle.acpi_base.specs.Words.{bits_of, has_bit};
+ghost use Rattle.acpi.specs.Words.{protection_of, hpet_at, hpet_kind, hpet_of, info_of, AllowsBelow, FootprintBelow, lookup_ranges, Relocation, of_tables};
 
 use crate::tables::AcpiTables;
 use acpi_base::bytes::{bits, field_in, has_bit, u8_in, u16_in, u32_in};
@@ -48,7 +45,7 @@ impl PhysicalRecord for HpetTable {
 }
 
 impl AcpiTable for HpetTable {
-    ghost use Rattle.acpi_base.specs.declared.table.signature.TheConstants.Signature.{HPET};
+    ghost use Rattle.acpi.specs.Types.{HPET};
 
     const SIGNATURE: Signature = Signature::HPET;
 

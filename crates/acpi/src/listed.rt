@@ -1,8 +1,7 @@
 //! What the pointers of a root table lead to, without what isn't valid.
 ghost use Rattle.std.specs.Prelude.{◌≡◌, ◌∷◌, [], IfSome, MatchOption, filter_map, flat_map, ℕ, Option};
-ghost use Rattle.std.specs.Iterator.{YieldsFirst};
-ghost use Rattle.acpi_base.specs.Ranges.{Allows, Ranges};
-ghost use Rattle.acpi_base.specs.Memory.{Memory};
+ghost use Rattle.acpi_base.specs.FromStd.{YieldsFirst};
+ghost use Rattle.acpi_base.specs.Words.{Allows, Ranges, Memory};
 ghost use Rattle.acpi.specs.Pointers.{pointers_left};
 
 use crate::pointers::Pointers;

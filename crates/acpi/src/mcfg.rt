@@ -1,9 +1,8 @@
 //! The addresses of the configuration space of PCI functions, by the MCFG.
 ghost use Rattle.std.specs.Prelude.{◌≡◌, ◌<◌, ◌≤◌, List, [], vec_capacity, vec_len, IfOk, IfSome, IsOk, option_copied};
-ghost use Rattle.std.specs.Iterator.{YieldsFirstBy, item_count};
-ghost use Rattle.acpi_base.specs.Mcfg.{mcfg_entries_left};
-ghost use Rattle.acpi_base.specs.declared.tables.mcfg.McfgEntry.{McfgEntry};
-ghost use Rattle.acpi_base.specs.Steps.{GivesOrFull};
+ghost use Rattle.acpi_base.specs.FromStd.{YieldsFirstBy, item_count};
+ghost use Rattle.acpi_base.specs.Words.{mcfg_entries_left, GivesOrFull};
+ghost use Rattle.acpi.specs.Types.{McfgEntry};
 ghost use Rattle.acpi.specs.Pci.{function_address, is_of, region_of, RegionsAsk, found_regions, mcfg_kind, IsApart, entries_left, pci_address, shown_in, shown_left};
 ghost use Rattle.acpi.specs.Footprint.{AllowsBelow, FootprintBelow, lookup_ranges};
 ghost use Rattle.acpi.specs.Relocation.{Relocation};

@@ -1,8 +1,8 @@
 //! The members of the root table, valid or not.
 ghost use Rattle.std.proofs.Props.{props};
-ghost use Rattle.std.specs.Iterator.{YieldsFirst, item_count};
+ghost use Rattle.acpi_base.specs.FromStd.{YieldsFirst, item_count};
 ghost use Rattle.std.specs.Prelude.{◌≡◌};
-ghost use Rattle.acpi_base.specs.Ranges.{Allows, own_table_ranges};
+ghost use Rattle.acpi_base.specs.Words.{Allows, own_table_ranges};
 ghost use Rattle.acpi.specs.Footprint.{header_ranges};
 ghost use Rattle.acpi.specs.Pointers.{pointers_left};
 ghost use Rattle.acpi.specs.Lists.{own_header_at};

@@ -1,10 +1,7 @@
 //! A machine's purpose, interrupt controllers, processors and timer, by the FADT and the MADT.
 ghost use Rattle.std.specs.Prelude.{◌≡◌};
-ghost use Rattle.acpi_base.specs.Steps.{GivesOrFull};
-ghost use Rattle.acpi.specs.Footprint.{AllowsBelow, lookup_ranges, platform_ranges};
-ghost use Rattle.acpi.specs.Platform.{ModelAsks, madt_kind, model_in};
-ghost use Rattle.acpi.specs.PlatformAnswer.{GivesPlatform, PlatformFootprint, PlatformRelocation};
-ghost use Rattle.acpi.specs.Tables.{of_tables};
+ghost use Rattle.acpi_base.specs.Words.{GivesOrFull};
+ghost use Rattle.acpi.specs.Words.{AllowsBelow, lookup_ranges, platform_ranges, ModelAsks, madt_kind, model_in, GivesPlatform, PlatformFootprint, PlatformRelocation, of_tables};
 
 pub mod interrupt;
 mod mailbox;

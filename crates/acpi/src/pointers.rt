@@ -1,7 +1,7 @@
 //! The pointers that a root table lists.
 ghost use Rattle.std.specs.Prelude.{◌≤◌, ◌≡◌, [], drop, slice_get};
-ghost use Rattle.std.specs.Iterator.{YieldsFirst, item_count};
-ghost use Rattle.acpi_base.specs.Bytes.{field_of};
+ghost use Rattle.acpi_base.specs.FromStd.{YieldsFirst, item_count};
+ghost use Rattle.acpi_base.specs.Words.{field_of};
 
 use acpi_base::bytes::{field, skip};
 

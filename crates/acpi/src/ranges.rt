@@ -1,11 +1,8 @@
 //! The ranges of physical memory in which the tables lie.
 ghost use Rattle.std.specs.Prelude.{◌≡◌, ◌≤◌, IfOk, ◌∷◌, ◌++◌, [], filter_map};
-ghost use Rattle.std.specs.Result.{result_ok};
+ghost use Rattle.acpi_base.specs.FromStd.{result_ok, cons_option, YieldsFirst, item_count};
 ghost use Rattle.std.proofs.Props.{props};
-ghost use Rattle.std.specs.List.{cons_option};
-ghost use Rattle.std.specs.Iterator.{YieldsFirst, item_count};
-ghost use Rattle.acpi_base.specs.Ranges.{Allows, own_table_ranges};
-ghost use Rattle.acpi_base.specs.Steps.{Gives};
+ghost use Rattle.acpi_base.specs.Words.{Allows, own_table_ranges, Gives};
 ghost use Rattle.acpi.specs.Footprint.{header_ranges};
 ghost use Rattle.acpi.specs.Places.{facs_at, facs_length, facs_ranges, place_at};
 ghost use Rattle.acpi.specs.Pointers.{pointers_left};

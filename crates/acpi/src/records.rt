@@ -1,8 +1,7 @@
 //! Plain records that lookups and lists answer.
 ghost use Rattle.std.specs.Prelude.{◌≡◌};
-ghost use Rattle.acpi_base.specs.Ranges.{Allows, table_ranges};
-ghost use Rattle.acpi_base.specs.Table.{plain_kind};
-ghost use Rattle.acpi.specs.Lists.{stream_at};
+ghost use Rattle.acpi_base.specs.Words.{Allows, table_ranges, plain_kind};
+ghost use Rattle.acpi.specs.Words.{stream_at};
 
 use acpi_base::sdt::{SdtHeader, Signature, map_sdt};
 use acpi_base::{AcpiError, AcpiResult, Lender, PhysicalRecord};

@@ -1,12 +1,8 @@
 //! The Root System Description Pointer (RSDP), which leads to the root table (section 5.2.5).
 ghost use Rattle.std.specs.Prelude.{◌≡◌, IfOk, Ok, ◌≤◌, ℕ, length, IfSome, IsOk, Some};
-ghost use Rattle.acpi_base.specs.Mapping.{IsOfMemory, start_of, bytes_of, handler_of};
-ghost use Rattle.acpi_base.specs.Ranges.{Allows};
-ghost use Rattle.acpi_base.specs.Steps.{Gives, lent};
-ghost use Rattle.acpi_base.specs.Memory.{Memory, at};
-ghost use Rattle.acpi_base.specs.Text.{IsTextOf};
-ghost use Rattle.acpi.specs.OpenedRanges.{rsdp_ranges};
-ghost use Rattle.acpi.specs.Rsdp.{check_sum, rsdp_at, rsdp_of, check_rsdp, checked_length, extended_length_of, root_of, unless_first};
+ghost use Rattle.acpi_base.specs.Words.{IsOfMemory, start_of, bytes_of, handler_of, Allows, Gives, lent, Memory, at, IsTextOf};
+ghost use Rattle.acpi.specs.Words.{rsdp_ranges, check_sum, rsdp_at, rsdp_of, check_rsdp, checked_length, extended_length_of, unless_first};
+ghost use Rattle.acpi.specs.Rsdp.{root_of};
 
 mod areas;
 mod bios;

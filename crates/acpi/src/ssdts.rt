@@ -1,10 +1,8 @@
 //! The AML of all valid SSDTs.
 ghost use Rattle.std.proofs.Props.{props};
 ghost use Rattle.std.specs.Prelude.{◌≡◌};
-ghost use Rattle.std.specs.Iterator.{YieldsFirst, item_count};
-ghost use Rattle.std.specs.Result.{result_ok};
-ghost use Rattle.acpi_base.specs.Ranges.{Allows, table_ranges};
-ghost use Rattle.acpi_base.specs.Table.{plain_kind};
+ghost use Rattle.acpi_base.specs.FromStd.{YieldsFirst, item_count, result_ok};
+ghost use Rattle.acpi_base.specs.Words.{Allows, table_ranges, plain_kind};
 ghost use Rattle.acpi.specs.Footprint.{ssdt_ranges};
 ghost use Rattle.acpi.specs.Pointers.{pointers_left};
 
@@ -53,14 +51,14 @@ impl<H: Lender> Iterator for SsdtIterator<'_, '_, H> {
 }
 
 impl Asked for AmlTable {
-    ghost use Rattle.acpi_base.specs.declared.table.signature.TheConstants.Signature.{SSDT};
+    ghost use Rattle.acpi.specs.Types.{SSDT};
 
     ghost ranges = { λ m. table_ranges m (plain_kind SSDT) };
 }
 
 /// That of an SSDT.
 impl Found for AmlTable {
-    ghost use Rattle.acpi_base.specs.declared.table.signature.TheConstants.Signature.{SSDT};
+    ghost use Rattle.acpi.specs.Types.{SSDT};
     ghost use Rattle.acpi.specs.Lists as lists;
 
     ghost found = { λ m p. result_ok (lists.stream_at m SSDT p) };

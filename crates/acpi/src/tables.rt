@@ -1,12 +1,9 @@
 //! The root table (sections 5.2.7 and 5.2.8), and the tables that it leads to.
 ghost use Rattle.std.specs.Prelude.{◌≡◌, ◌^◌, ◌<◌, length, Some, ◌≤◌, ◌∷◌, ◌++◌, ℕ, List, IfErr, IsErr, IfOk, Ok, Err};
-ghost use Rattle.std.specs.Result.{result_ok};
+ghost use Rattle.acpi_base.specs.FromStd.{result_ok};
 ghost use Rattle.std.proofs.Props.{props};
-ghost use Rattle.acpi_base.specs.Claim.{IsLentOf, claimed_at, claimed_from, shown_by};
-ghost use Rattle.acpi_base.specs.Mapping.{IsOfMemory, start_of, bytes_of, handler_of};
-ghost use Rattle.acpi_base.specs.Steps.{Gives};
-ghost use Rattle.acpi_base.specs.Table.{table_at};
-ghost use Rattle.acpi_base.specs.declared.error.AcpiError.TheVariants.{TableMissing};
+ghost use Rattle.acpi_base.specs.Words.{IsLentOf, claimed_at, claimed_from, shown_by, IsOfMemory, start_of, bytes_of, handler_of, Gives, table_at};
+ghost use Rattle.acpi.specs.Types.{TableMissing};
 ghost use Rattle.acpi.specs.Root.{root_at};
 
 mod opening;

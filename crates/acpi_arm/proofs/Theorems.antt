@@ -1,13 +1,10 @@
 -- A GIC depends on the valid MADT alone, wherever it lies.
 use Rattle.std.proofs.Common.{lit≤}
-use Rattle.acpi_base.specs.Ranges.{DependsOn}
-use Rattle.acpi_base.specs.Steps.{◌>>=◌}
-use Rattle.acpi_base.specs.declared.table.signature.TheConstants.Signature.{MADT}
+use Rattle.acpi_base.specs.Words.{DependsOn, ◌>>=◌}
+use Rattle.acpi.specs.Types.{MADT}
 use Rattle.acpi.proofs.Agreed.{same_said}
 use Rattle.acpi.proofs.Moved.{said_follows}
-use Rattle.acpi.specs.Footprint.{lookup_ranges}
-use Rattle.acpi.specs.Platform.{madt_kind}
-use Rattle.acpi.specs.Relocation.{FollowsTables}
+use Rattle.acpi.specs.Words.{lookup_ranges, madt_kind, FollowsTables}
 use Rattle.acpi_arm.specs.Gic.{found_gic, gic_of}
 
 pub same_gic : {A : Type 0} → DependsOn (λ m. lookup_ranges m madt_kind) (λ m ps. found_gic {A = A} m ps)

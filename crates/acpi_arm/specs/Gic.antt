@@ -1,24 +1,10 @@
 -- The interrupt controller of an Arm machine: what the entries of the MADT say together of its GIC
 -- (ACPI 6.4, sections 5.2.12.14 to 5.2.12.18).
-use Rattle.std.specs.Prelude.{ℕ, ◌+◌, ◌<◌, not, List, length, slice_get, Option, Some, None, Result, Ok, Err, if◌then◌else◌}
-use Rattle.std.specs.List.{filter_map}
-use Rattle.std.specs.Option.{option_map}
-use Rattle.acpi_base.specs.Bits.{has_bit}
-use Rattle.acpi_base.specs.Bytes.{field_of}
-use Rattle.acpi_base.specs.Extended.{shown_of}
-use Rattle.acpi_base.specs.Madt.{cut_of, entries_of}
-use Rattle.acpi_base.specs.MadtWalk.{is_left}
-use Rattle.acpi_base.specs.Memory.{Memory}
-use Rattle.acpi_base.specs.Steps.{◌>>=◌, holds}
-use Rattle.acpi_base.specs.declared.error.AcpiError.{AcpiError}
-use Rattle.acpi_base.specs.declared.error.AcpiError.TheVariants.{InvalidMadt}
-use Rattle.acpi_base.specs.declared.error.MadtError.TheVariants.{InvalidEntryLength}
-use Rattle.acpi_base.specs.declared.tables.madt.entry.MadtEntry.{MadtEntry}
+use Rattle.std.specs.Prelude.{ℕ, ◌+◌, ◌<◌, not, List, length, slice_get, Option, Some, None, Result, Ok, Err, if◌then◌else◌, filter_map, option_map}
+use Rattle.acpi_base.specs.Words.{has_bit, field_of, shown_of, cut_of, entries_of, is_left, Memory, ◌>>=◌, holds}
+use Rattle.acpi.specs.Types.{AcpiError, InvalidMadt, InvalidEntryLength, MadtEntry, GicMsiFrameEntry, GiccEntry}
 use Rattle.acpi_base.specs.declared.tables.madt.entry.MadtEntry.TheVariants as kinds
-use Rattle.acpi_base.specs.declared.tables.madt.gic.GicMsiFrameEntry.{GicMsiFrameEntry}
-use Rattle.acpi_base.specs.declared.tables.madt.gic.GiccEntry.{GiccEntry}
-use Rattle.acpi.specs.Lookup.{lookup}
-use Rattle.acpi.specs.Platform.{madt_kind}
+use Rattle.acpi.specs.Words.{lookup, madt_kind}
 use Rattle.acpi_arm.specs.Gtdt.{trigger_in}
 use Rattle.acpi_arm.specs.declared.gic.GicModel.{GicModel}
 use Rattle.acpi_arm.specs.declared.gic.part.GicCpuInterface.{GicCpuInterface}

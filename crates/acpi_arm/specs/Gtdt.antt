@@ -1,16 +1,7 @@
 -- The generic timers: the Generic Timer Description Table, GTDT (ACPI 6.4, section 5.2.24).
 use Rattle.std.specs.Prelude.{ℕ, ◌+◌, ◌-◌, ◌^◌, ◌==◌, ◌||◌, nat_le, nat_lt, List, Option, None, if◌then◌else◌}
-use Rattle.acpi_base.specs.Bits.{has_bit}
-use Rattle.acpi_base.specs.Bytes.{field_of}
-use Rattle.acpi_base.specs.Extended.{extended_at, shown_of}
-use Rattle.acpi_base.specs.Header.{header_at}
-use Rattle.acpi_base.specs.Spcr.{unless}
-use Rattle.acpi_base.specs.Table.{Kind, sdt_kind}
-use Rattle.acpi_base.specs.declared.model.interrupt.Polarity.{Polarity}
-use Rattle.acpi_base.specs.declared.model.interrupt.Polarity.TheVariants.{ActiveHigh, ActiveLow}
-use Rattle.acpi_base.specs.declared.model.interrupt.TriggerMode.{TriggerMode}
-use Rattle.acpi_base.specs.declared.model.interrupt.TriggerMode.TheVariants.{Edge, Level}
-use Rattle.acpi_base.specs.declared.table.signature.TheConstants.Signature.{GTDT}
+use Rattle.acpi_base.specs.Words.{has_bit, field_of, extended_at, shown_of, header_at, unless, Kind, sdt_kind}
+use Rattle.acpi.specs.Types.{Polarity, ActiveHigh, ActiveLow, TriggerMode, Edge, Level, GTDT}
 use Rattle.acpi_arm.specs.declared.gtdt.ArmTimer.{ArmTimer}
 use Rattle.acpi_arm.specs.declared.gtdt.Gtdt.{Gtdt}
 

@@ -1,13 +1,8 @@
 -- The timers of the platform, in structures that the GTDT counts (ACPI 6.4, section 5.2.24.1).
-use Rattle.std.specs.Prelude.{◌≡◌, ◌⊎◌, ℕ, zero, suc, ◌+◌, ◌-◌, ◌*◌, ◌==◌, ◌&&◌, ◌||◌, Bool, not, nat_le, nat_lt, List, [], ◌∷◌, length, drop, Option, Some, None, if◌then◌else◌}
+use Rattle.std.specs.Prelude.{◌≡◌, ◌⊎◌, ℕ, zero, suc, ◌+◌, ◌-◌, ◌*◌, ◌==◌, ◌&&◌, ◌||◌, Bool, not, nat_le, nat_lt, List, [], ◌∷◌, length, drop, Option, Some, None, if◌then◌else◌, filter_map}
 use Rattle.std.proofs.Common.{inl, inr}
-use Rattle.std.specs.List.{filter_map}
-use Rattle.acpi_base.specs.Bits.{has_bit}
-use Rattle.acpi_base.specs.Bytes.{field_of}
-use Rattle.acpi_base.specs.Entries.{cut}
-use Rattle.acpi_base.specs.declared.entries.EntryLayout.{EntryLayout}
-use Rattle.acpi_base.specs.declared.entries.Grammar.{Grammar}
-use Rattle.acpi_base.specs.declared.entries.Width.TheVariants.{One, Two}
+use Rattle.acpi_base.specs.Words.{has_bit, field_of, cut}
+use Rattle.acpi.specs.Types.{EntryLayout, Grammar, One, Two}
 use Rattle.acpi_arm.specs.Gtdt.{polarity_in, trigger_in, unless_ones}
 use Rattle.acpi_arm.specs.declared.frames.GtFrame.{GtFrame}
 use Rattle.acpi_arm.specs.declared.frames.GtFrameIter.{GtFrameIter}

@@ -94,7 +94,7 @@ impl<'a> GtFrameIter<'a> {
 }
 
 impl Iterator for GtFrameIter<'_> {
-    ghost use Rattle.std.specs.Iterator.{YieldsFirst, item_count};
+    ghost use Rattle.acpi_base.specs.FromStd.{YieldsFirst, item_count};
     ghost use Rattle.acpi_arm.specs.Timers.{frames_left};
 
     type Item = GtFrame;

@@ -1,11 +1,8 @@
 //! The Generic Interrupt Controller (GIC), as the entries of a MADT describe it together (sections
 //! 5.2.12.14 to 5.2.12.18).
 ghost use Rattle.std.specs.Prelude.{◌≡◌, ◌<◌, IfOk, IfErr};
-ghost use Rattle.acpi_base.specs.Steps.{GivesOrFull};
-ghost use Rattle.acpi.specs.Footprint.{AllowsBelow, FootprintBelow, lookup_ranges};
-ghost use Rattle.acpi.specs.Platform.{madt_kind};
-ghost use Rattle.acpi.specs.Relocation.{Relocation};
-ghost use Rattle.acpi.specs.Tables.{of_tables};
+ghost use Rattle.acpi_base.specs.Words.{GivesOrFull};
+ghost use Rattle.acpi.specs.Words.{AllowsBelow, FootprintBelow, lookup_ranges, madt_kind, Relocation, of_tables};
 ghost use Rattle.acpi_arm.specs.Gic.{AsksMemory, GicAsks, found_gic, gic_of, item_count, model_beside};
 
 mod collect;

@@ -105,9 +105,10 @@ impl PhysicalRecord for Gtdt {
 }
 
 impl AcpiTable for Gtdt {
-    ghost use Rattle.std.proofs.Common.{lit≤, refl};
+    ghost use Rattle.std.proofs.Common.{lit≤};
+    ghost use Rattle.std.specs.Prelude.{refl};
     ghost use Rattle.acpi_arm.specs.Gtdt.{gtdt_kind};
-    ghost use Rattle.acpi_base.specs.declared.table.signature.TheConstants.Signature.{GTDT};
+    ghost use Rattle.acpi.specs.Types.{GTDT};
 
     const SIGNATURE: Signature = Signature::GTDT;
 

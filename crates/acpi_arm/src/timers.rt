@@ -1,6 +1,5 @@
 //! The Platform Timer Structures of a GTDT, one at a time (section 5.2.24.1).
-ghost use Rattle.std.specs.Prelude.{◌≡◌};
-ghost use Rattle.std.specs.Option.{option_map};
+ghost use Rattle.std.specs.Prelude.{◌≡◌, option_map};
 ghost use Rattle.acpi_arm.specs.Timers.{frames_fit, is_sound, shown_in, timer_bytes, timer_count, timer_of, timers_grammar, watchdog_at};
 
 use crate::frames::{FRAME_LENGTH, GtFrameIter};
@@ -135,8 +134,7 @@ pub struct PlatformTimerIter<'a> {
 
 impl<'a> PlatformTimerIter<'a> {
     ghost use Rattle.std.specs.Prelude.{false};
-    ghost use Rattle.acpi_arm.specs.Timers.{has_ended, is_malformed, missing_left, missing_of};
-    ghost use Rattle.acpi_arm.specs.Timers.{timers_left, timers_of};
+    ghost use Rattle.acpi_arm.specs.Timers.{has_ended, is_malformed, missing_left, missing_of, timers_left, timers_of};
 
     /// The Platform Timer Structures of a GTDT's bytes (section 5.2.24.1), in order. It needs no handler. A
     /// table below revision 2 has none.
@@ -185,7 +183,7 @@ fn timer_bytes(table: &[u8]) -> &[u8]
 }
 
 impl<'a> Iterator for PlatformTimerIter<'a> {
-    ghost use Rattle.std.specs.Iterator.{YieldsFirstBy, item_count};
+    ghost use Rattle.acpi_base.specs.FromStd.{YieldsFirstBy, item_count};
     ghost use Rattle.acpi_arm.specs.Timers.{EndsWhereMissing, shown_in, timers_left};
 
     type Item = PlatformTimer<'a>;

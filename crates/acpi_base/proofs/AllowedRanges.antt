@@ -1,17 +1,8 @@
 -- Each of some ranges may be asked for: so may each part of them.
 use Rattle.std.proofs.Common.{◌≡◌, ℕ, ◌==◌, ◌&&◌, List, [], ◌∷◌, ◌++◌, get_or, Bool, true, Ok, ap, arith, refl, subst, sym, ◌≤◌}
-use Rattle.std.specs.List.{AllByRecursion}
-use Rattle.std.proofs.lemmas.Bool.{eq-eqb, le-leb}
-use Rattle.std.proofs.lemmas.List.Folds.{list_any_at}
-use Rattle.std.proofs.lemmas.List.Elements.{All-cons, All-head, All-nil, All-tail}
-use Rattle.acpi_base.specs.Bytes.{part}
-use Rattle.acpi_base.specs.Text.{letters_of}
-use Rattle.acpi_base.specs.declared.table.signature.Signature.{Signature}
-use Rattle.acpi_base.specs.Header.{check_names, header_at}
-use Rattle.acpi_base.specs.Memory.{Memory}
-use Rattle.acpi_base.specs.Ranges.{Allows, Ranges, is_listed, own_table_ranges, table_ranges, whole_ranges}
-use Rattle.acpi_base.specs.Steps.{lent}
-use Rattle.acpi_base.specs.Table.{Kind}
+use Rattle.acpi_base.specs.FromStd.{AllByRecursion}
+use Rattle.acpi_base.proofs.FromStd.{eq-eqb, le-leb, list_any_at, All-cons, All-head, All-nil, All-tail}
+use Rattle.acpi_base.specs.Words.{part, letters_of, Signature, check_names, header_at, Memory, Allows, Ranges, is_listed, own_table_ranges, table_ranges, whole_ranges, lent, Kind}
 
 abbrev the_signature : List ℕ → Signature
 the_signature letters = record { 0 = letters }

@@ -1,6 +1,6 @@
 -- Lists of clones.
 use Rattle.std.proofs.Common.{◌≡◌, List, [], ◌∷◌, Contains, refl, arith, suc}
-use Rattle.std.specs.List.{AllZip}
+use Rattle.acpi_base.specs.FromStd.{AllZip}
 
 -- if each clone of an item equals it, clones of the items in order are the items
 pub clones_equal : {X : Type 0} (R : X → X → Type 0) (xs ys : List X) → ((x y : X) → Contains xs x → R x y → y ≡ x)

@@ -1,16 +1,9 @@
 -- Bytes are cut in exactly one way.
-use Rattle.std.proofs.Common.{◌≡◌, ℕ, zero, suc, ◌+◌, ◌-◌, ◌≤◌, Bool, true, false, cond, List, [], ◌∷◌, ◌++◌, length, take, drop, get_or, Option, Some, None, refl, sym, ap, ◌∙◌, arith, append_assoc, length-append, length-drop, leb, ◌⊎◌, inl, inr}
-use Rattle.std.proofs.lemmas.List.{get_or_append_left, take_at, drop_at, take-append-drop, get_or-take, length-take-le}
-use Rattle.std.proofs.lemmas.Bool.{and_parts, and_from, leb-true, le-leb}
-use Rattle.std.specs.List.{concat}
-use Rattle.std.specs.Option.{option_map}
-use Rattle.acpi_base.specs.Entries.{IsEntry, IsCut, IsFew, after_one, front, is_full, next_front, with_entry, cut_within, cut, end_of, least_length, number_at, number_in, width_of}
-use Rattle.acpi_base.specs.EntryLaws.{OneCut, CutIsCut}
-use Rattle.acpi_base.specs.declared.entries.EntryLayout.{EntryLayout}
-use Rattle.acpi_base.specs.declared.entries.Grammar.{Grammar}
-use Rattle.acpi_base.specs.declared.entries.Place.{Place}
-use Rattle.acpi_base.specs.declared.entries.Width.{Width}
-use Rattle.acpi_base.specs.declared.entries.Width.TheVariants.{One, Two}
+use Rattle.std.proofs.Common.{◌≡◌, ℕ, zero, suc, ◌+◌, ◌-◌, ◌≤◌, Bool, true, false, cond, List, [], ◌∷◌, ◌++◌, length, take, drop, get_or, Option, Some, None, refl, sym, ap, ◌∙◌, arith, append_assoc, length-append, length-drop, leb, ◌⊎◌, inl, inr, option_map}
+use Rattle.acpi_base.proofs.FromStd.{get_or_append_left, take_at, drop_at, take-append-drop, get_or-take, length-take-le, and_parts, and_from, leb-true, le-leb}
+use Rattle.acpi_base.specs.FromStd.{concat}
+use Rattle.acpi_base.specs.Words.{IsEntry, IsCut, IsFew, after_one, front, is_full, next_front, with_entry, cut_within, cut, least_length, number_at, number_in, width_of, OneCut, CutIsCut, EntryLayout, Grammar, Place, Width, One, Two}
+use Rattle.acpi_base.specs.Entries.{end_of}
 
 -- ---- numbers in the front of bytes
 

@@ -1,25 +1,10 @@
 -- The entries of a MADT and of an MCFG: what their bytes say, and how many there are.
-use Rattle.std.proofs.Common.{◌≡◌, ℕ, List, [], ◌∷◌, Option, Some, None, option_and_then, Result, refl, ap, ◌≤◌, ◌++◌, get_or, ◌∙◌, arith, append_assoc, suc, ◌*◌, ◌-◌, length, length-drop, drop, Err, sym, length-append, zero, ◌/◌, true, false, slice_get}
-use Rattle.std.specs.List.{filter_map, cons_option, concat, AllByRecursion}
-use Rattle.std.specs.Option.{option_map}
-use Rattle.std.specs.Result.{result_err, result_ok}
-use Rattle.acpi_base.specs.Interrupts.{item_of}
-use Rattle.acpi_base.specs.Madt.{entry_of, madt_grammar, madt_layout, cut_of, entries_of}
-use Rattle.acpi_base.specs.Model.{fault_in, item_in, fault_of, first_fault, processor_in, processors_of}
-use Rattle.acpi_base.specs.Items.{item_said, said_of, model_counts, said_in}
-use Rattle.acpi_base.specs.declared.error.MadtError.{MadtError}
-use Rattle.acpi_base.specs.declared.tables.madt.entry.MadtEntry.{MadtEntry}
-use Rattle.acpi_base.specs.declared.model.item.MadtItem.{MadtItem}
+use Rattle.std.proofs.Common.{◌≡◌, ℕ, List, [], ◌∷◌, Option, Some, None, option_and_then, Result, refl, ap, ◌≤◌, ◌++◌, get_or, ◌∙◌, arith, append_assoc, suc, ◌*◌, ◌-◌, length, length-drop, drop, Err, sym, length-append, zero, ◌/◌, true, false, slice_get, filter_map, option_map}
+use Rattle.acpi_base.specs.FromStd.{cons_option, concat, AllByRecursion, result_err, result_ok}
+use Rattle.acpi_base.specs.Words.{item_of, entry_of, madt_grammar, madt_layout, cut_of, entries_of, fault_in, item_in, fault_of, first_fault, processor_in, processors_of, item_said, said_of, model_counts, said_in, MadtError, MadtEntry, MadtItem, Processor, ProcessorInfo, IsEntry, after_one, cut, with_entry, BeginsDefined, InvalidEntryLength, InvalidMadt, mcfg_entries_in, mcfg_entries_of, whole_mcfg_entries}
 use Rattle.acpi_base.specs.declared.model.item.MadtItem.TheVariants as item
-use Rattle.acpi_base.specs.declared.model.processor.Processor.{Processor}
-use Rattle.acpi_base.specs.declared.model.processor.ProcessorInfo.{ProcessorInfo}
-use Rattle.std.proofs.lemmas.List.{get_or_append_left}
-use Rattle.acpi_base.specs.Entries.{IsEntry, after_one, cut, with_entry}
-use Rattle.acpi_base.specs.MadtWalk.{BeginsDefined}
+use Rattle.acpi_base.proofs.FromStd.{get_or_append_left}
 use Rattle.acpi_base.proofs.Cuts.{cut_is_cut}
-use Rattle.acpi_base.specs.declared.error.MadtError.TheVariants.{InvalidEntryLength}
-use Rattle.acpi_base.specs.declared.error.AcpiError.TheVariants.{InvalidMadt}
-use Rattle.acpi_base.specs.Mcfg.{mcfg_entries_in, mcfg_entries_of, whole_mcfg_entries}
 
 one_fault : (o : Option MadtEntry) (xs : List (Result MadtItem MadtError)) (ys : List MadtEntry)
     → filter_map result_err xs ≡ filter_map fault_in ys

@@ -1,15 +1,9 @@
 -- The answers of the ISA interrupts: two are one global system interrupt only by overrides of both, and what is
 -- gathered from Interrupt Source Overrides decides them.
-use Rattle.std.proofs.Common.{◌≡◌, ℕ, List, [], ◌∷◌, Bool, true, false, refl, sym, ◌∙◌, ap, arith, Option, Some, None, inl, inr, subst, eq-eqb, zero, suc, ◌+◌, ◌<◌, ◌≤◌, min, ◌++◌, length, cond, get_or, set, replicate, get_or-set_same, get_or-set_other, length-set}
-use Rattle.std.specs.Prelude.{◌==◌, ◌⊎◌, ◌||◌, filter, nat_lt, IfSome, if◌then◌else◌, count_by}
-use Rattle.std.specs.List.{last_or, list_any}
-use Rattle.std.proofs.lemmas.Bool.Decides.{nat_tests}
-use Rattle.acpi_base.specs.declared.model.interrupt.InterruptSourceOverride.{InterruptSourceOverride}
-use Rattle.acpi_base.specs.declared.model.isa.IsaInterrupt.{IsaInterrupt}
-use Rattle.acpi_base.specs.Isa.{SharedByOverrides, goes_to, isa_interrupt, is_taken, leads_to, override_for, straight, wired}
-use Rattle.std.proofs.Math.ListN.{get_or-eq_default}
-use Rattle.std.proofs.lemmas.List.Sums.{count_by-le-length, sum_by-cons, sum_by-set}
-use Rattle.acpi_base.specs.IsaOverrides.{AreCounted, Gathered, IsGathered}
+use Rattle.std.proofs.Common.{◌≡◌, ℕ, List, [], ◌∷◌, Bool, true, false, refl, sym, ◌∙◌, ap, arith, Option, Some, None, inl, inr, subst, eq-eqb, zero, suc, ◌+◌, ◌<◌, ◌≤◌, min, ◌++◌, length, cond, get_or, set, replicate, get_or-set_same, get_or-set_other, length-set, ◌==◌, ◌⊎◌, ◌||◌, filter, nat_lt, IfSome, if◌then◌else◌, count_by}
+use Rattle.acpi_base.specs.FromStd.{last_or, list_any}
+use Rattle.acpi_base.proofs.FromStd.{nat_tests, get_or-eq_default, count_by-le-length, sum_by-cons, sum_by-set}
+use Rattle.acpi_base.specs.Words.{InterruptSourceOverride, IsaInterrupt, SharedByOverrides, goes_to, isa_interrupt, is_taken, leads_to, override_for, straight, wired, AreCounted, Gathered, IsGathered}
 use Rattle.acpi_base.specs.declared.model.interrupt.Polarity.TheVariants as polarity
 use Rattle.acpi_base.specs.declared.model.interrupt.TriggerMode.TheVariants as trigger
 

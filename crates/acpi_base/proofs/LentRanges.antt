@@ -1,19 +1,10 @@
 -- What a memory lends: exactly the ranges inside one region, bytes that end below 2^64, and the fronts of what is lent.
-use Rattle.std.proofs.Common.{◌≡◌, ℕ, zero, suc, ◌-◌, ◌<◌, ◌≤◌, List, [], ◌∷◌, Bool, true, false, length, length-drop, take, drop, slice_index_or, Some, refl, sym, ap, ◌∙◌, arith, ◌+◌, ◌^◌, Ok, get_or, subst, None, Err, inl, inr}
-use Rattle.std.proofs.lemmas.Bool.{leb-true, ltb-true, le-leb, lt-ltb, and_from, and_parts, cases_lt, lt-leb, le-ltb}
-use Rattle.std.proofs.lemmas.Option.{cond_some}
-use Rattle.std.specs.List.{AllByRecursion, Contains}
-use Rattle.acpi_base.specs.Memory.{Memory, Region, AreApart, IsMemory, HoldsRange, at, end_of, lies_in, rest_from, IsRegion}
-use Rattle.acpi_base.specs.Laws.{LentIsInside}
-use Rattle.std.specs.Prelude.{if◌then◌else◌}
-use Rattle.std.proofs.lemmas.List.{get_or_past, length-take, length-take-le, take-take}
+use Rattle.std.proofs.Common.{◌≡◌, ℕ, zero, suc, ◌-◌, ◌<◌, ◌≤◌, List, [], ◌∷◌, Bool, true, false, length, length-drop, take, drop, slice_index_or, Some, refl, sym, ap, ◌∙◌, arith, ◌+◌, ◌^◌, Ok, get_or, subst, None, Err, inl, inr, Contains, if◌then◌else◌}
+use Rattle.acpi_base.proofs.FromStd.{leb-true, ltb-true, le-leb, lt-ltb, and_from, and_parts, cases_lt, lt-leb, le-ltb, cond_some, get_or_past, length-take, length-take-le, take-take, take-length}
+use Rattle.acpi_base.specs.FromStd.{AllByRecursion}
+use Rattle.acpi_base.specs.Words.{Memory, Region, AreApart, IsMemory, HoldsRange, at, end_of, lies_in, rest_from, IsRegion, LentIsInside, IsBytes, lent, MapFailed, one_region}
 use Rattle.acpi_base.proofs.Spelling.{IsBytes-drop, IsBytes-take}
 use Rattle.acpi_base.proofs.Steps.{some_lent}
-use Rattle.acpi_base.specs.Bytes.{IsBytes}
-use Rattle.acpi_base.specs.Steps.{lent}
-use Rattle.acpi_base.specs.declared.error.AcpiError.TheVariants.{MapFailed}
-use Rattle.std.proofs.Math.Seq.{take-length}
-use Rattle.acpi_base.specs.OneRegion.{one_region}
 
 -- ---- a range that is lent lies whole inside one region
 

@@ -2,6 +2,7 @@ pub mod AllowedRanges
 pub mod Clones
 pub mod Cuts
 pub mod EntryLists
+pub mod FromStd
 pub mod Isa
 pub mod LentRanges
 pub mod Pin
@@ -10,3 +11,4 @@ pub mod OwnTable
 pub mod Spelling
 pub mod Steps
 pub mod Sums
+pub mod Words

@@ -1,7 +1,6 @@
 -- Constants are what their names say: each signature has its letters, and each named flag of the SPCR its number.
 use Rattle.std.proofs.Common.{rules}
-use Rattle.acpi_base.specs.Names.{NamesAreSpelled}
-use Rattle.acpi_base.specs.SpcrFlags.{FlagsAreNumbered}
+use Rattle.acpi_base.specs.Words.{NamesAreSpelled, FlagsAreNumbered}
 
 pub names_are_spelled : NamesAreSpelled
 names_are_spelled = Prim.search rules

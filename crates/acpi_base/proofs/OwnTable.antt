@@ -2,29 +2,12 @@
 -- the
 -- signature that it has, has this one, and is as long. And memories that agree on the ranges of a table have the same
 -- table.
-use Rattle.std.proofs.Common.{◌≡◌, ℕ, ◌≤◌, Bool, true, false, ◌&&◌, ◌+◌, List, length, take, drop, lit≤, Option, Some, None, Result, Ok, Err, refl, sym, ap, subst, ◌∙◌, arith, if◌then◌else◌, ◌==◌}
-use Rattle.std.specs.Prelude.{nat_le}
-use Rattle.std.specs.Result.{result_ok}
-use Rattle.std.specs.Str.{bytes_eq, is_utf8}
-use Rattle.std.proofs.lemmas.Bool.{and_from, and_parts, leb-true, le-leb, ne_eqb}
-use Rattle.std.proofs.lemmas.List.{drop-take, length-take-le, take-take}
-use Rattle.std.proofs.lemmas.Option.{cond_some}
-use Rattle.std.proofs.lemmas.Slice.Eq.{bytes_eq-Decides}
+use Rattle.std.proofs.Common.{◌≡◌, ℕ, ◌≤◌, Bool, true, false, ◌&&◌, ◌+◌, List, length, take, drop, lit≤, Option, Some, None, Result, Ok, Err, refl, sym, ap, subst, ◌∙◌, arith, if◌then◌else◌, ◌==◌, nat_le, bytes_eq}
+use Rattle.acpi_base.specs.FromStd.{result_ok, is_utf8}
+use Rattle.acpi_base.proofs.FromStd.{and_from, and_parts, leb-true, le-leb, ne_eqb, drop-take, length-take-le, take-take, cond_some, bytes_eq-Decides, take-length}
 use Rattle.acpi_base.proofs.LentRanges.{at-front, lent_bytes}
 use Rattle.acpi_base.proofs.Steps.{bind_ok, holds_ok, some_lent, same_ok}
-use Rattle.acpi_base.specs.Bytes.{IsBytes, field_of, part, sum_of}
-use Rattle.acpi_base.specs.Claim.{unchecked}
-use Rattle.acpi_base.specs.Header.{check_names, check_table, header_at}
-use Rattle.acpi_base.specs.Memory.{Memory, IsMemory, at, rest_from}
-use Rattle.acpi_base.specs.Ranges.{DependsOn, own_table_ranges, table_ranges}
-use Rattle.acpi_base.specs.Steps.{◌>>=◌, holds, lent}
-use Rattle.acpi_base.specs.Table.{kind, own_table_at, plain_kind, table_at, Kind}
-use Rattle.acpi_base.specs.declared.error.AcpiError.{AcpiError}
-use Rattle.acpi_base.specs.declared.error.AcpiError.TheVariants.{SdtInvalidChecksum, SdtInvalidLength, SdtInvalidSignature}
-use Rattle.acpi_base.specs.declared.table.header.SdtHeader.{SdtHeader}
-use Rattle.acpi_base.specs.declared.table.signature.Signature.{Signature}
-use Rattle.std.proofs.Math.Seq.{take-length}
-use Rattle.acpi_base.specs.Text.{letters_of}
+use Rattle.acpi_base.specs.Words.{IsBytes, field_of, part, sum_of, unchecked, check_names, check_table, header_at, Memory, IsMemory, at, rest_from, DependsOn, own_table_ranges, table_ranges, ◌>>=◌, holds, lent, kind, own_table_at, plain_kind, table_at, Kind, AcpiError, SdtInvalidChecksum, SdtInvalidLength, SdtInvalidSignature, SdtHeader, Signature, letters_of}
 
 abbrev only : {A : Type 0} → Bool → Option A → Option A
 only b o = if b then o else None

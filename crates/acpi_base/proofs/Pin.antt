@@ -1,11 +1,8 @@
 -- The I/O APIC that is found has the nearest base, and is the first of that base.
-use Rattle.std.proofs.Common.{◌≡◌, ℕ, ◌-◌, ◌≤◌, ◌<◌, List, [], ◌∷◌, ◌++◌, Bool, true, false, refl, ap, sym, subst, arith, Option, Some, None}
-use Rattle.std.specs.Prelude.{◌&&◌, nat_le, nat_lt, if◌then◌else◌}
-use Rattle.std.specs.List.{AllByRecursion}
-use Rattle.std.specs.Option.{option_map}
-use Rattle.std.proofs.lemmas.Bool.Decides.{nat_tests}
-use Rattle.acpi_base.specs.declared.model.interrupt.IoApic.{IoApic}
-use Rattle.acpi_base.specs.Pin.{IsNearest, IsNoNearer, base_of, io_apic_for, nearer, nearest}
+use Rattle.std.proofs.Common.{◌≡◌, ℕ, ◌-◌, ◌≤◌, ◌<◌, List, [], ◌∷◌, ◌++◌, Bool, true, false, refl, ap, sym, subst, arith, Option, Some, None, ◌&&◌, nat_le, nat_lt, if◌then◌else◌, option_map}
+use Rattle.acpi_base.specs.FromStd.{AllByRecursion}
+use Rattle.acpi_base.proofs.FromStd.{nat_tests}
+use Rattle.acpi_base.specs.Words.{IoApic, IsNearest, IsNoNearer, base_of, io_apic_for, nearer, nearest}
 
 -- ---- one at a time from the front
 

@@ -1,17 +1,8 @@
 -- The numbers that bytes encode, each of which has one spelling in so many bytes, and their texts.
-use Rattle.std.proofs.Common.{◌≡◌, ℕ, true, false, zero, suc, ◌+◌, ◌*◌, ◌^◌, ◌%◌, ◌/◌, ◌<◌, List, [], ◌∷◌, length, take, drop, drop-cons, refl, ap, arith, inl, inr, ◌≤◌, lit<, w64, w8, Fits, get_or, ◌++◌, sym, ◌∙◌}
-use Rattle.std.proofs.lemmas.Bool.{cases_lt}
-use Rattle.std.proofs.lemmas.List.{length-take, get_or-drop, get_or-take, get_or_past, drop-replicate}
-use Rattle.std.proofs.Math.Nat.{div-lt_iff_lt-mul}
-use Rattle.std.proofs.Math.Pow.{pow_mono}
-use Rattle.std.proofs.lemmas.Bool.{false_from_ne_true}
-use Rattle.std.proofs.lemmas.Str.{is_utf8-from_IsUtf8, IsUtf8-from_ascii, IsUtf8-from_is_utf8}
-use Rattle.std.specs.Str.{is_utf8, IsAscii, IsUtf8}
-use Rattle.acpi_base.specs.Bytes.{IsBytes, field_of, filled_part, number, part, spelling}
-use Rattle.std.specs.Int.{from_le_bytes}
-use Rattle.std.proofs.lemmas.Nat.{pow-add}
-use Rattle.std.specs.Prelude.{replicate}
-use Rattle.acpi_base.specs.Laws.{FieldPastEnd}
+use Rattle.std.proofs.Common.{◌≡◌, ℕ, true, false, zero, suc, ◌+◌, ◌*◌, ◌^◌, ◌%◌, ◌/◌, ◌<◌, List, [], ◌∷◌, length, take, drop, drop-cons, refl, ap, arith, inl, inr, ◌≤◌, lit<, w64, w8, Fits, get_or, ◌++◌, sym, ◌∙◌, IsAscii, IsUtf8, replicate}
+use Rattle.acpi_base.proofs.FromStd.{cases_lt, length-take, get_or-drop, get_or-take, get_or_past, drop-replicate, div-lt_iff_lt-mul, pow_mono, false_from_ne_true, is_utf8-from_IsUtf8, IsUtf8-from_ascii, IsUtf8-from_is_utf8, pow-add}
+use Rattle.acpi_base.specs.FromStd.{is_utf8, from_le_bytes}
+use Rattle.acpi_base.specs.Words.{IsBytes, field_of, filled_part, number, part, spelling, FieldPastEnd}
 
 pub IsBytes-drop : (n : ℕ) (bs : List ℕ) → IsBytes bs → IsBytes (drop n bs)
 IsBytes-drop n bs h i = rw get_or-drop (h (n + i))

@@ -1,8 +1,6 @@
 -- What a chain of checks that answers Ok went through.
-use Rattle.std.proofs.Common.{◌≡◌, ℕ, Bool, true, false, List, Option, None, Some, Result, Ok, Err, refl}
-use Rattle.std.specs.Option.{ok_or}
-use Rattle.acpi_base.specs.Steps.{◌>>=◌, holds}
-use Rattle.acpi_base.specs.declared.error.AcpiError.TheVariants.{MapFailed}
+use Rattle.std.proofs.Common.{◌≡◌, ℕ, Bool, true, false, List, Option, None, Some, Result, Ok, Err, refl, ok_or}
+use Rattle.acpi_base.specs.Words.{◌>>=◌, holds, MapFailed}
 
 -- ---- a value that was answered
 

@@ -1,21 +1,10 @@
 -- Sums modulo 256: in lanes that wrap, and of a valid table in which one byte is changed.
-use Rattle.std.proofs.Common.{◌≡◌, ℕ, suc, zero, ◌+◌, ◌-◌, ◌%◌, ◌≤◌, ◌<◌, List, [], ◌∷◌, ◌++◌, length, length-append, length-drop, take, drop, replicate, refl, ap, sym, ◌∙◌, arith, ◌≢◌, ◌⊎◌, inl, inr, Bool, true, false, set, get_or, sum, Result, Ok, Err, subst, Fits, w8}
-use Rattle.std.specs.Prelude.{bit_and, IsOk, IsErr}
-use Rattle.std.specs.Simd.Lanes.{chunk, fold_l, zip2}
-use Rattle.std.proofs.Math.Seq.{take-add, take-append-add}
-use Rattle.std.proofs.lemmas.List.{drop-append-le, drop-drop, drop-replicate, take_all, take-replicate, drop-set-lt, drop-set-add, take-set-le}
-use Rattle.std.proofs.lemmas.List.Sums.{sum_by-append, sum_by-cons, sum_by-take-drop, sum_by-set}
-use Rattle.std.proofs.lemmas.Nat.{and_mask}
-use Rattle.std.proofs.lemmas.Simd.{length-chunk, length-replicate, length-zip2}
-use Rattle.acpi_base.specs.Bytes.{sum_of, field_of, number}
-use Rattle.acpi_base.specs.Sums.{AddsUp}
-use Rattle.std.proofs.lemmas.Bool.{leb-true, eqb-true, and_parts}
+use Rattle.std.proofs.Common.{◌≡◌, ℕ, suc, zero, ◌+◌, ◌-◌, ◌%◌, ◌≤◌, ◌<◌, List, [], ◌∷◌, ◌++◌, length, length-append, length-drop, take, drop, replicate, refl, ap, sym, ◌∙◌, arith, ◌≢◌, ◌⊎◌, inl, inr, Bool, true, false, set, get_or, sum, Result, Ok, Err, subst, Fits, w8, bit_and, IsOk, IsErr}
+use Rattle.acpi_base.specs.FromStd.{chunk, fold_l, zip2}
+use Rattle.acpi_base.proofs.FromStd.{take-add, take-append-add, drop-append-le, drop-drop, drop-replicate, take_all, take-replicate, drop-set-lt, drop-set-add, take-set-le, sum_by-append, sum_by-cons, sum_by-take-drop, sum_by-set, and_mask, length-chunk, length-zip2, leb-true, eqb-true, and_parts}
+use Rattle.std.proofs.lemmas.Simd.{length-replicate}
+use Rattle.acpi_base.specs.Words.{sum_of, field_of, number, AddsUp, check_names, check_table, header_at, DamageShows, holds, AcpiError, Signature}
 use Rattle.acpi_base.proofs.Steps.{bind_ok, holds_ok}
-use Rattle.acpi_base.specs.Header.{check_names, check_table, header_at}
-use Rattle.acpi_base.specs.Laws.{DamageShows}
-use Rattle.acpi_base.specs.Steps.{holds}
-use Rattle.acpi_base.specs.declared.error.AcpiError.{AcpiError}
-use Rattle.acpi_base.specs.declared.table.signature.Signature.{Signature}
 
 -- lanes that wrap
 abbrev pub wrapped : List ℕ → List ℕ → List ℕ

@@ -1,15 +1,8 @@
 -- Generic addresses: the Generic Address Structure, GAS (ACPI 6.4, section 5.2.3.2).
-use Rattle.std.specs.Prelude.{ℕ, ◌==◌, nat_le, List, [], ◌∷◌, find, Result, Ok, if◌then◌else◌}
-use Rattle.acpi_base.specs.declared.error.AcpiError.{AcpiError}
-use Rattle.acpi_base.specs.declared.error.AcpiError.TheVariants.{InvalidGenericAddress}
-use Rattle.acpi_base.specs.declared.address.AddressSpace.{AddressSpace}
-use Rattle.acpi_base.specs.declared.address.AddressSpace.TheVariants.{SystemMemory, SystemIo, PciConfigSpace, EmbeddedController, SMBus, SystemCmos, PciBarTarget, Ipmi, GeneralIo, GenericSerialBus, PlatformCommunicationsChannel, FunctionalFixedHardware, OemDefined}
-use Rattle.acpi_base.specs.declared.address.AccessSize.{AccessSize}
-use Rattle.acpi_base.specs.declared.address.AccessSize.TheVariants.{Undefined, ByteAccess, WordAccess, DWordAccess, QWordAccess}
-use Rattle.acpi_base.specs.declared.address.GenericAddress.{GenericAddress}
+use Rattle.std.specs.Prelude.{ℕ, ◌==◌, nat_le, List, [], ◌∷◌, find, Result, Ok, if◌then◌else◌, ok_or}
+use Rattle.acpi_base.specs.Types.{AcpiError, InvalidGenericAddress, AddressSpace, SystemMemory, SystemIo, PciConfigSpace, EmbeddedController, SMBus, SystemCmos, PciBarTarget, Ipmi, GeneralIo, GenericSerialBus, PlatformCommunicationsChannel, FunctionalFixedHardware, OemDefined, AccessSize, Undefined, ByteAccess, WordAccess, DWordAccess, QWordAccess, GenericAddress}
 use Rattle.acpi_base.specs.Bytes.{field_of}
 use Rattle.acpi_base.specs.Steps.{◌>>=◌}
-use Rattle.std.specs.Option.{ok_or}
 
 -- Address Space ID: the code of each address space
 abbrev pub space_code : AddressSpace → ℕ

@@ -3,7 +3,7 @@ use Rattle.std.specs.Prelude.{◌≡◌, ◌+◌, ◌^◌, ◌<◌, ◌≤◌, �
 use Rattle.acpi_base.specs.Memory.{Memory, at}
 use Rattle.acpi_base.specs.Table.{Kind, kind}
 use Rattle.acpi_base.specs.declared.memory.claim.Claim.{Claim}
-use Rattle.acpi_base.specs.declared.table.signature.Signature.{Signature}
+use Rattle.acpi_base.specs.Types.{Signature}
 
 -- where the lent bytes start
 abbrev pub claimed_at : {H h : _} → Claim H h → ℕ

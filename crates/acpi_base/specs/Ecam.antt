@@ -1,8 +1,7 @@
 -- Where the configuration space of a function lies, by a base that is that of bus 0 (PCI Firmware
 -- Specification, section 4.1.2).
 use Rattle.std.specs.Prelude.{ℕ, ◌+◌, ◌-◌, ◌*◌, ◌^◌, ◌&&◌, nat_le, nat_lt, Bool, Option, Some, None, if◌then◌else◌}
-use Rattle.acpi_base.specs.declared.tables.mcfg.McfgEntry.{McfgEntry}
-use Rattle.acpi_base.specs.declared.range.AddressRange.{AddressRange}
+use Rattle.acpi_base.specs.Types.{McfgEntry, AddressRange}
 
 -- a region holds a bus
 abbrev pub holds_bus : McfgEntry → ℕ → Bool

@@ -1,14 +1,9 @@
 -- How a table's bytes are cut into entries, each of which has its type and its length near its front.
 -- What tables differ in is a value, a grammar: where the type and the length stand, the least length
 -- of each type, and how many entries there are at most.
-use Rattle.std.specs.Prelude.{◌≡◌, ℕ, zero, suc, ◌+◌, ◌-◌, ◌*◌, ◌≤◌, ◌&&◌, Bool, true, false, List, [], ◌∷◌, ◌++◌, length, take, drop, Option, Some, None, nat_le, if◌then◌else◌, slice_index, slice_index_or}
-use Rattle.std.specs.List.{concat, AllByRecursion}
-use Rattle.std.specs.Option.{option_map, unwrap_or}
-use Rattle.acpi_base.specs.declared.entries.EntryLayout.{EntryLayout}
-use Rattle.acpi_base.specs.declared.entries.Grammar.{Grammar}
-use Rattle.acpi_base.specs.declared.entries.Place.{Place}
-use Rattle.acpi_base.specs.declared.entries.Width.{Width}
-use Rattle.acpi_base.specs.declared.entries.Width.TheVariants.{One, Two}
+use Rattle.std.specs.Prelude.{◌≡◌, ℕ, zero, suc, ◌+◌, ◌-◌, ◌*◌, ◌≤◌, ◌&&◌, Bool, true, false, List, [], ◌∷◌, ◌++◌, length, take, drop, Option, Some, None, nat_le, if◌then◌else◌, slice_index, slice_index_or, option_map, unwrap_or}
+use Rattle.acpi_base.specs.FromStd.{concat, AllByRecursion}
+use Rattle.acpi_base.specs.Types.{EntryLayout, Grammar, Place, Width, One, Two}
 
 -- ---- one entry
 

@@ -1,7 +1,7 @@
 -- What holds of the cut of bytes into entries.
 use Rattle.std.specs.Prelude.{◌≡◌, ℕ, List}
 use Rattle.acpi_base.specs.Entries.{IsCut, cut}
-use Rattle.acpi_base.specs.declared.entries.Grammar.{Grammar}
+use Rattle.acpi_base.specs.Types.{Grammar}
 
 -- bytes are cut in one way at most
 abbrev pub OneCut : Type 0

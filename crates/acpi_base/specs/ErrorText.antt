@@ -1,8 +1,7 @@
 -- How a refusal is printed.
 use Rattle.std.specs.Prelude.{ℕ, List, ◌++◌, codes}
-use Rattle.acpi_base.specs.declared.error.AcpiError.{AcpiError}
+use Rattle.acpi_base.specs.Types.{AcpiError, MadtError}
 use Rattle.acpi_base.specs.declared.error.AcpiError.TheVariants as refusal
-use Rattle.acpi_base.specs.declared.error.MadtError.{MadtError}
 use Rattle.acpi_base.specs.declared.error.MadtError.TheVariants as madt
 use Rattle.acpi_base.specs.Text.{signature_text}
 

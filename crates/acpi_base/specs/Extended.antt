@@ -1,8 +1,7 @@
 -- Fields that tables have from a revision on, and only if they are long enough.
-use Rattle.std.specs.Prelude.{ℕ, ◌+◌, nat_le, List, length, Option, Some, None, if◌then◌else◌}
-use Rattle.std.specs.Option.{option_map}
+use Rattle.std.specs.Prelude.{ℕ, ◌+◌, nat_le, List, length, Option, Some, None, if◌then◌else◌, option_map}
 use Rattle.acpi_base.specs.Bytes.{part}
-use Rattle.acpi_base.specs.declared.extended.ExtendedField.{ExtendedField}
+use Rattle.acpi_base.specs.Types.{ExtendedField}
 
 -- the n bytes at an offset, if all of them lie in the table
 abbrev pub whole_part : List ℕ → ℕ → ℕ → Option (List ℕ)

@@ -1,6 +1,6 @@
 -- What a guarded lender shows.
 use Rattle.acpi_base.specs.Ranges.{Ranges}
-use Rattle.acpi_base.specs.declared.memory.guarded.Guarded.{Guarded}
+use Rattle.acpi_base.specs.Types.{Guarded}
 
 -- the lender that its requests are passed on to
 abbrev pub guarded_by : {H : Type 0} → Guarded H → H

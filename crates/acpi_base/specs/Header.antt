@@ -1,10 +1,7 @@
 -- The header that every table begins with, DESCRIPTION_HEADER, and its checks (ACPI 6.4, section 5.2.6).
-use Rattle.std.specs.Prelude.{ℕ, ◌&&◌, ◌==◌, List, take, length, nat_le, Result}
-use Rattle.std.specs.Str.{bytes_eq, is_utf8}
-use Rattle.acpi_base.specs.declared.error.AcpiError.{AcpiError}
-use Rattle.acpi_base.specs.declared.error.AcpiError.TheVariants.{SdtInvalidSignature, SdtInvalidOemId, SdtInvalidTableId, SdtInvalidChecksum, SdtInvalidLength}
-use Rattle.acpi_base.specs.declared.table.signature.Signature.{Signature}
-use Rattle.acpi_base.specs.declared.table.header.SdtHeader.{SdtHeader}
+use Rattle.std.specs.Prelude.{ℕ, ◌&&◌, ◌==◌, List, take, length, nat_le, Result, bytes_eq}
+use Rattle.acpi_base.specs.FromStd.{is_utf8}
+use Rattle.acpi_base.specs.Types.{AcpiError, SdtInvalidSignature, SdtInvalidOemId, SdtInvalidTableId, SdtInvalidChecksum, SdtInvalidLength, Signature, SdtHeader}
 use Rattle.acpi_base.specs.Bytes.{field_of, part, sum_of}
 use Rattle.acpi_base.specs.Steps.{◌>>=◌, holds}
 

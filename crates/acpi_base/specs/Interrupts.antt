@@ -1,28 +1,11 @@
 -- What one entry of the MADT says of interrupts and processors (ACPI 6.4, section 5.2.12).
-use Rattle.std.specs.Prelude.{ℕ, ◌==◌, List, [], ◌∷◌, find, Result, Ok, Err, if◌then◌else◌}
-use Rattle.std.specs.Option.{ok_or}
+use Rattle.std.specs.Prelude.{ℕ, ◌==◌, List, [], ◌∷◌, find, Result, Ok, Err, if◌then◌else◌, ok_or}
 use Rattle.acpi_base.specs.Bits.{bits_of, has_bit}
 use Rattle.acpi_base.specs.Steps.{◌>>=◌, holds}
-use Rattle.acpi_base.specs.declared.error.MadtError.{MadtError}
-use Rattle.acpi_base.specs.declared.error.MadtError.TheVariants.{InterruptOverrideEntryHasInvalidBus, InvalidLocalNmiLine, MpsIntiInvalidPolarity, MpsIntiInvalidTriggerMode, UnexpectedEntry}
-use Rattle.acpi_base.specs.declared.tables.madt.apic.InterruptSourceOverrideEntry.{InterruptSourceOverrideEntry}
-use Rattle.acpi_base.specs.declared.tables.madt.apic.IoApicEntry.{IoApicEntry}
-use Rattle.acpi_base.specs.declared.tables.madt.apic.NmiSourceEntry.{NmiSourceEntry}
-use Rattle.acpi_base.specs.declared.tables.madt.entry.MadtEntry.{MadtEntry}
+use Rattle.acpi_base.specs.Types.{MadtError, InterruptOverrideEntryHasInvalidBus, InvalidLocalNmiLine, MpsIntiInvalidPolarity, MpsIntiInvalidTriggerMode, UnexpectedEntry, InterruptSourceOverrideEntry, IoApicEntry, NmiSourceEntry, MadtEntry, InterruptSourceOverride, IoApic, LocalInterruptLine, Lint0, Lint1, NmiLine, NmiProcessor, All, ProcessorUid, NmiSource, Polarity, TriggerMode, MadtItem}
 use Rattle.acpi_base.specs.declared.tables.madt.entry.MadtEntry.TheVariants as variants
-use Rattle.acpi_base.specs.declared.model.interrupt.InterruptSourceOverride.{InterruptSourceOverride}
-use Rattle.acpi_base.specs.declared.model.interrupt.IoApic.{IoApic}
-use Rattle.acpi_base.specs.declared.model.interrupt.LocalInterruptLine.{LocalInterruptLine}
-use Rattle.acpi_base.specs.declared.model.interrupt.LocalInterruptLine.TheVariants.{Lint0, Lint1}
-use Rattle.acpi_base.specs.declared.model.interrupt.NmiLine.{NmiLine}
-use Rattle.acpi_base.specs.declared.model.interrupt.NmiProcessor.{NmiProcessor}
-use Rattle.acpi_base.specs.declared.model.interrupt.NmiProcessor.TheVariants.{All, ProcessorUid}
-use Rattle.acpi_base.specs.declared.model.interrupt.NmiSource.{NmiSource}
-use Rattle.acpi_base.specs.declared.model.interrupt.Polarity.{Polarity}
 use Rattle.acpi_base.specs.declared.model.interrupt.Polarity.TheVariants as polarity
-use Rattle.acpi_base.specs.declared.model.interrupt.TriggerMode.{TriggerMode}
 use Rattle.acpi_base.specs.declared.model.interrupt.TriggerMode.TheVariants as trigger
-use Rattle.acpi_base.specs.declared.model.item.MadtItem.{MadtItem}
 use Rattle.acpi_base.specs.declared.model.item.MadtItem.TheVariants as item
 
 -- Polarity: the code of each; 2 is reserved (MPS INTI Flags, section 5.2.12.5)

@@ -1,13 +1,10 @@
 -- How ISA interrupts, and the one of the machine's events, come to the I/O APICs (ACPI 6.4, sections
 -- 5.2.9 and 5.2.12.5).
 use Rattle.std.specs.Prelude.{◌≡◌, ◌≢◌, ◌==◌, ℕ, Bool, true, false, List, filter, nat_lt, Option, Some, None, if◌then◌else◌}
-use Rattle.std.specs.List.{last_or, list_any}
-use Rattle.acpi_base.specs.declared.model.interrupt.InterruptSourceOverride.{InterruptSourceOverride}
-use Rattle.acpi_base.specs.declared.model.interrupt.Polarity.{Polarity}
+use Rattle.acpi_base.specs.FromStd.{last_or, list_any}
+use Rattle.acpi_base.specs.Types.{InterruptSourceOverride, Polarity, TriggerMode, IsaInterrupt}
 use Rattle.acpi_base.specs.declared.model.interrupt.Polarity.TheVariants as polarity
-use Rattle.acpi_base.specs.declared.model.interrupt.TriggerMode.{TriggerMode}
 use Rattle.acpi_base.specs.declared.model.interrupt.TriggerMode.TheVariants as trigger
-use Rattle.acpi_base.specs.declared.model.isa.IsaInterrupt.{IsaInterrupt}
 
 -- the override of a source that counts: the last one
 abbrev pub override_for : List InterruptSourceOverride → ℕ → Option InterruptSourceOverride

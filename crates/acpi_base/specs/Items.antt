@@ -1,18 +1,11 @@
 -- What a walk along the MADT's entries shows of what they say.
-use Rattle.std.specs.Prelude.{ℕ, ◌+◌, ◌||◌, List, length, false, true, Option, None, Some, option_and_then, Result, Ok, Err}
-use Rattle.std.specs.List.{filter_map, list_any}
-use Rattle.std.specs.Option.{option_map}
-use Rattle.std.specs.Result.{result_ok}
+use Rattle.std.specs.Prelude.{ℕ, ◌+◌, ◌||◌, List, length, false, true, Option, None, Some, option_and_then, Result, Ok, Err, filter_map, option_map}
+use Rattle.acpi_base.specs.FromStd.{list_any, result_ok}
 use Rattle.acpi_base.specs.Entries.{cut}
 use Rattle.acpi_base.specs.Interrupts.{item_of}
 use Rattle.acpi_base.specs.Madt.{entry_of, madt_grammar}
 use Rattle.acpi_base.specs.Model.{fault_of, io_apic_in, is_of_apic, nmi_line_in, nmi_source_in, override_in, items_of, processor_in}
-use Rattle.acpi_base.specs.declared.error.AcpiError.{AcpiError}
-use Rattle.acpi_base.specs.declared.error.AcpiError.TheVariants.{InvalidMadt}
-use Rattle.acpi_base.specs.declared.error.MadtError.{MadtError}
-use Rattle.acpi_base.specs.declared.model.counts.Counts.{Counts}
-use Rattle.acpi_base.specs.declared.model.item.MadtItem.{MadtItem}
-use Rattle.acpi_base.specs.declared.model.items.MadtItems.{MadtItems}
+use Rattle.acpi_base.specs.Types.{AcpiError, InvalidMadt, MadtError, Counts, MadtItem, MadtItems}
 
 -- what an entry's bytes say, or why it is refused; nothing if its type isn't defined
 unfoldable pub said_of : List ℕ → Option (Result MadtItem MadtError)

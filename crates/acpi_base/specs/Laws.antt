@@ -2,7 +2,7 @@
 use Rattle.std.specs.Prelude.{◌≡◌, ◌≢◌, ℕ, ◌<◌, ◌≤◌, ◌⊎◌, List, ◌++◌, Some, IsErr, Contains, replicate, slice_index, slice_set, ◌↔◌}
 use Rattle.acpi_base.specs.Bytes.{field_of}
 use Rattle.acpi_base.specs.Header.{check_table}
-use Rattle.acpi_base.specs.declared.table.signature.Signature.{Signature}
+use Rattle.acpi_base.specs.Types.{Signature}
 use Rattle.acpi_base.specs.Memory.{Memory, Region, IsMemory, HoldsRange, at}
 
 -- in a memory, what is lent is exactly a range that lies whole inside one region, with its bytes; for n of at least 1

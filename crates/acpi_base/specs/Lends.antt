@@ -1,8 +1,7 @@
 -- What an owned slice ends as, once a mutable borrow of its items ends: they are those that were last written through
 -- it, and as many as before.
 use Rattle.std.specs.Prelude.{List, length, take, drop, ◌++◌}
-use Rattle.std.specs.Borrow.{Lends, Fml, RattleType, MutBor, Array}
-use Rattle.std.specs.declared.alloc.Allocator.{Ghosts}
+use Rattle.acpi_base.specs.FromStd.{Lends, Fml, RattleType, MutBor, Array, Ghosts}
 use Rattle.acpi_base.specs.contracts.managed_slice.ManagedSlice.{the_row}
 
 -- items with others written over the first of them

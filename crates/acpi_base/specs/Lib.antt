@@ -3,6 +3,7 @@ pub mod Bits
 pub mod Bytes
 pub mod Claim
 pub mod Ecam
+pub mod FromStd
 pub mod ModelBuilder
 pub mod Entries
 pub mod EntryLaws
@@ -36,4 +37,6 @@ pub mod Steps
 pub mod Sums
 pub mod Table
 pub mod Text
+pub mod Types
 pub mod Wakeup
+pub mod Words

@@ -1,20 +1,10 @@
 -- The entries of the MADT (ACPI 6.4, section 5.2.12).
-use Rattle.std.specs.Prelude.{ℕ, List, [], ◌∷◌, map, drop, slice_get, slice_index, Option, Some, None, Result}
-use Rattle.std.specs.List.{filter_map}
-use Rattle.std.specs.Option.{ok_or, option_map}
+use Rattle.std.specs.Prelude.{ℕ, List, [], ◌∷◌, map, drop, slice_get, slice_index, Option, Some, None, Result, filter_map, ok_or, option_map}
 use Rattle.acpi_base.specs.Bytes.{field_of}
 use Rattle.acpi_base.specs.Header.{header_at}
-use Rattle.acpi_base.specs.declared.error.AcpiError.{AcpiError}
-use Rattle.acpi_base.specs.declared.error.AcpiError.TheVariants.{InvalidMadt}
-use Rattle.acpi_base.specs.declared.error.MadtError.{MadtError}
-use Rattle.acpi_base.specs.declared.error.MadtError.TheVariants.{InvalidEntryLength, UnexpectedEntry}
-use Rattle.acpi_base.specs.declared.tables.madt.Madt.{Madt}
+use Rattle.acpi_base.specs.Types.{AcpiError, InvalidMadt, MadtError, InvalidEntryLength, UnexpectedEntry, Madt, EntryLayout, Grammar, One, MadtEntry}
 use Rattle.acpi_base.specs.Entries.{cut}
-use Rattle.acpi_base.specs.declared.entries.EntryLayout.{EntryLayout}
-use Rattle.acpi_base.specs.declared.entries.Grammar.{Grammar}
-use Rattle.acpi_base.specs.declared.entries.Width.TheVariants.{One}
 use Rattle.acpi_base.specs.MadtEntries as entries
-use Rattle.acpi_base.specs.declared.tables.madt.entry.MadtEntry.{MadtEntry}
 use Rattle.acpi_base.specs.declared.tables.madt.entry.MadtEntry.TheVariants as variants
 
 -- the types in order, from type 0 on: the least length of an entry, and what its bytes mean

@@ -3,24 +3,7 @@
 use Rattle.std.specs.Prelude.{ℕ, List}
 use Rattle.acpi_base.specs.Bytes.{field_of}
 use Rattle.acpi_base.specs.Extended.{extended_at}
-use Rattle.acpi_base.specs.declared.tables.madt.entry.EntryHeader.{EntryHeader}
-use Rattle.acpi_base.specs.declared.tables.madt.apic.LocalApicEntry.{LocalApicEntry}
-use Rattle.acpi_base.specs.declared.tables.madt.apic.IoApicEntry.{IoApicEntry}
-use Rattle.acpi_base.specs.declared.tables.madt.apic.InterruptSourceOverrideEntry.{InterruptSourceOverrideEntry}
-use Rattle.acpi_base.specs.declared.tables.madt.apic.NmiSourceEntry.{NmiSourceEntry}
-use Rattle.acpi_base.specs.declared.tables.madt.apic.LocalApicNmiEntry.{LocalApicNmiEntry}
-use Rattle.acpi_base.specs.declared.tables.madt.apic.LocalApicAddressOverrideEntry.{LocalApicAddressOverrideEntry}
-use Rattle.acpi_base.specs.declared.tables.madt.apic.LocalX2ApicEntry.{LocalX2ApicEntry}
-use Rattle.acpi_base.specs.declared.tables.madt.apic.X2ApicNmiEntry.{X2ApicNmiEntry}
-use Rattle.acpi_base.specs.declared.tables.madt.sapic.IoSapicEntry.{IoSapicEntry}
-use Rattle.acpi_base.specs.declared.tables.madt.sapic.LocalSapicEntry.{LocalSapicEntry}
-use Rattle.acpi_base.specs.declared.tables.madt.sapic.PlatformInterruptSourceEntry.{PlatformInterruptSourceEntry}
-use Rattle.acpi_base.specs.declared.tables.madt.gic.GiccEntry.{GiccEntry}
-use Rattle.acpi_base.specs.declared.tables.madt.gic.GicdEntry.{GicdEntry}
-use Rattle.acpi_base.specs.declared.tables.madt.gic.GicMsiFrameEntry.{GicMsiFrameEntry}
-use Rattle.acpi_base.specs.declared.tables.madt.gic.GicRedistributorEntry.{GicRedistributorEntry}
-use Rattle.acpi_base.specs.declared.tables.madt.gic.GicInterruptTranslationServiceEntry.{GicInterruptTranslationServiceEntry}
-use Rattle.acpi_base.specs.declared.tables.madt.wakeup.MultiprocessorWakeupEntry.{MultiprocessorWakeupEntry}
+use Rattle.acpi_base.specs.Types.{EntryHeader, LocalApicEntry, IoApicEntry, InterruptSourceOverrideEntry, NmiSourceEntry, LocalApicNmiEntry, LocalApicAddressOverrideEntry, LocalX2ApicEntry, X2ApicNmiEntry, IoSapicEntry, LocalSapicEntry, PlatformInterruptSourceEntry, GiccEntry, GicdEntry, GicMsiFrameEntry, GicRedistributorEntry, GicInterruptTranslationServiceEntry, MultiprocessorWakeupEntry}
 
 -- what each entry begins with: Type at 0, Length at 1
 abbrev pub entry_header_at : List ℕ → EntryHeader

@@ -1,11 +1,9 @@
 -- What a walk along the MADT's entries shows. It begins with the table's `entries_of` and the rest of its `cut_of`, and
 -- each step gives the first entry that is left.
-use Rattle.std.specs.Prelude.{◌≡◌, ◌&&◌, Bool, true, false, ℕ, List, [], ◌∷◌, ◌≤◌, Option, Some, None, slice_index}
-use Rattle.std.specs.List.{filter_map}
+use Rattle.std.specs.Prelude.{◌≡◌, ◌&&◌, Bool, true, false, ℕ, List, [], ◌∷◌, ◌≤◌, Option, Some, None, slice_index, filter_map}
 use Rattle.acpi_base.specs.Entries.{cut}
 use Rattle.acpi_base.specs.Madt.{entry_of, madt_grammar}
-use Rattle.acpi_base.specs.declared.tables.madt.entry.MadtEntry.{MadtEntry}
-use Rattle.acpi_base.specs.declared.tables.madt.walk.MadtEntryIter.{MadtEntryIter}
+use Rattle.acpi_base.specs.Types.{MadtEntry, MadtEntryIter}
 
 -- the entries of defined types that bytes begin with
 abbrev pub entries_in : List ℕ → List MadtEntry

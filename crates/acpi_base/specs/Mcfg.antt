@@ -3,9 +3,7 @@
 use Rattle.std.specs.Prelude.{ℕ, ◌/◌, zero, suc, List, [], ◌∷◌, length, drop}
 use Rattle.acpi_base.specs.Bytes.{field_of}
 use Rattle.acpi_base.specs.Header.{header_at}
-use Rattle.acpi_base.specs.declared.tables.mcfg.Mcfg.{Mcfg}
-use Rattle.acpi_base.specs.declared.tables.mcfg.McfgEntry.{McfgEntry}
-use Rattle.acpi_base.specs.declared.tables.mcfg.McfgEntryIter.{McfgEntryIter}
+use Rattle.acpi_base.specs.Types.{Mcfg, McfgEntry, McfgEntryIter}
 
 -- what a table's first bytes mean
 unfoldable pub mcfg_at : List ℕ → Mcfg

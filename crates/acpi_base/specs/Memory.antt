@@ -1,7 +1,6 @@
 -- Memory: regions of bytes, and what is lent of it.
 use Rattle.std.specs.Prelude.{◌≡◌, ℕ, ◌+◌, ◌-◌, ◌^◌, ◌<◌, ◌≤◌, ◌&&◌, Bool, List, [], ◌∷◌, length, take, drop, Option, Some, None, nat_lt, nat_le, if◌then◌else◌, true}
-use Rattle.std.specs.List.{AllByRecursion, AllByRecursion-prop}
-use Rattle.std.specs.Coded.{×_prop, Π_prop, →_prop, Unit-prop, le_prop}
+use Rattle.acpi_base.specs.FromStd.{AllByRecursion, AllByRecursion-prop, ×_prop, Π_prop, →_prop, Unit-prop, le_prop}
 use Rattle.acpi_base.specs.Bytes.{IsBytes}
 
 -- where a region starts, and its bytes

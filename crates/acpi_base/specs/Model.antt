@@ -1,29 +1,12 @@
 -- The interrupt model: what the entries of the MADT say together (ACPI 6.4, section 5.2.12).
-use Rattle.std.specs.Prelude.{◌≡◌, ℕ, Bool, true, false, List, [], ◌∷◌, Option, Some, None, Result, Ok, Err, IsTrue, if◌then◌else◌}
-use Rattle.std.specs.List.{filter_map, list_any}
-use Rattle.std.specs.Result.{result_err, result_ok}
+use Rattle.std.specs.Prelude.{◌≡◌, ℕ, Bool, true, false, List, [], ◌∷◌, Option, Some, None, Result, Ok, Err, IsTrue, if◌then◌else◌, filter_map}
+use Rattle.acpi_base.specs.FromStd.{list_any, result_err, result_ok}
 use Rattle.acpi_base.specs.Bits.{has_bit}
 use Rattle.acpi_base.specs.Interrupts.{item_of}
 use Rattle.acpi_base.specs.Madt.{cut_of, entries_of, madt_at}
-use Rattle.acpi_base.specs.declared.error.AcpiError.{AcpiError}
-use Rattle.acpi_base.specs.declared.error.AcpiError.TheVariants.{InvalidMadt}
-use Rattle.acpi_base.specs.declared.error.MadtError.{MadtError}
-use Rattle.acpi_base.specs.declared.error.MadtError.TheVariants.{InvalidEntryLength}
-use Rattle.acpi_base.specs.declared.tables.madt.Madt.{Madt}
-use Rattle.acpi_base.specs.declared.tables.madt.entry.MadtEntry.{MadtEntry}
-use Rattle.acpi_base.specs.declared.model.interrupt.Apic.{Apic}
-use Rattle.acpi_base.specs.declared.model.interrupt.InterruptModel.{InterruptModel}
+use Rattle.acpi_base.specs.Types.{AcpiError, InvalidMadt, MadtError, InvalidEntryLength, Madt, MadtEntry, Apic, InterruptModel, InterruptSourceOverride, IoApic, NmiLine, NmiSource, MadtItem, Processor, ProcessorInfo, ProcessorState, Disabled, Running, WaitingForSipi}
 use Rattle.acpi_base.specs.declared.model.interrupt.InterruptModel.TheVariants as model
-use Rattle.acpi_base.specs.declared.model.interrupt.InterruptSourceOverride.{InterruptSourceOverride}
-use Rattle.acpi_base.specs.declared.model.interrupt.IoApic.{IoApic}
-use Rattle.acpi_base.specs.declared.model.interrupt.NmiLine.{NmiLine}
-use Rattle.acpi_base.specs.declared.model.interrupt.NmiSource.{NmiSource}
-use Rattle.acpi_base.specs.declared.model.item.MadtItem.{MadtItem}
 use Rattle.acpi_base.specs.declared.model.item.MadtItem.TheVariants as item
-use Rattle.acpi_base.specs.declared.model.processor.Processor.{Processor}
-use Rattle.acpi_base.specs.declared.model.processor.ProcessorInfo.{ProcessorInfo}
-use Rattle.acpi_base.specs.declared.model.processor.ProcessorState.{ProcessorState}
-use Rattle.acpi_base.specs.declared.model.processor.ProcessorState.TheVariants.{Disabled, Running, WaitingForSipi}
 
 -- ---- refusals
 

@@ -1,14 +1,8 @@
 -- How far a model is gathered.
-use Rattle.std.specs.Prelude.{◌≡◌, ℕ, ◌+◌, ◌-◌, ◌≤◌, length, vec_capacity, vec_len, true, List, ◌++◌, Option, Some, None}
-use Rattle.std.specs.List.{filter_map}
-use Rattle.std.specs.Option.{option_map}
+use Rattle.std.specs.Prelude.{◌≡◌, ℕ, ◌+◌, ◌-◌, ◌≤◌, length, vec_capacity, vec_len, true, List, ◌++◌, Option, Some, None, filter_map, option_map}
 use Rattle.acpi_base.specs.Model.{Model, local_apic_address_in, io_apic_in, last_address, nmi_line_in, nmi_source_in, override_in, processor_in, processors_of}
-use Rattle.acpi_base.specs.declared.model.counts.Counts.{Counts}
-use Rattle.acpi_base.specs.declared.model.builder.ModelBuilder.{ModelBuilder}
+use Rattle.acpi_base.specs.Types.{Counts, ModelBuilder, MadtItem, Processor, ProcessorInfo}
 use Rattle.acpi_base.specs.declared.model.interrupt.InterruptModel.TheVariants as model
-use Rattle.acpi_base.specs.declared.model.item.MadtItem.{MadtItem}
-use Rattle.acpi_base.specs.declared.model.processor.Processor.{Processor}
-use Rattle.acpi_base.specs.declared.model.processor.ProcessorInfo.{ProcessorInfo}
 
 -- the processors, if those so far are these and more follow
 abbrev pub processors_behind : {A : Type 0} → Option Processor → List Processor → List MadtItem

@@ -1,21 +1,8 @@
 -- The names of the tables (ACPI 6.4, section 5.2.6, tables 5.5 and 5.6).
 use Rattle.std.specs.Prelude.{◌≡◌, ℕ, List, [], ◌∷◌, codes}
-use Rattle.std.specs.List.{AllByRecursion}
+use Rattle.acpi_base.specs.FromStd.{AllByRecursion}
 use Rattle.acpi_base.specs.Text.{letters_of}
-use Rattle.acpi_base.specs.declared.table.signature.Signature.{Signature}
-use Rattle.acpi_base.specs.declared.table.signature.TheConstants.Signature.{RSDT, XSDT, FADT, HPET, MADT}
-use Rattle.acpi_base.specs.declared.table.signature.TheConstants.Signature.{MCFG, SSDT, BERT, BGRT, CPEP}
-use Rattle.acpi_base.specs.declared.table.signature.TheConstants.Signature.{DSDT, ECDT, EINJ, ERST, FACS}
-use Rattle.acpi_base.specs.declared.table.signature.TheConstants.Signature.{FPDT, GTDT, HEST, MSCT, MPST}
-use Rattle.acpi_base.specs.declared.table.signature.TheConstants.Signature.{NFIT, PCCT, PHAT, PMTT, PSDT}
-use Rattle.acpi_base.specs.declared.table.signature.TheConstants.Signature.{RASF, SBST, SDEV, SLIT, SRAT}
-use Rattle.acpi_base.specs.declared.table.signature.TheConstants.Signature.{AEST, BDAT, CDIT, CEDT, CRAT}
-use Rattle.acpi_base.specs.declared.table.signature.TheConstants.Signature.{CSRT, DBGP, DBG2, DMAR, DRTM}
-use Rattle.acpi_base.specs.declared.table.signature.TheConstants.Signature.{ETDT, IBFT, IORT, IVRS, LPIT}
-use Rattle.acpi_base.specs.declared.table.signature.TheConstants.Signature.{MCHI, MPAM, MSDM, PRMT, RGRT}
-use Rattle.acpi_base.specs.declared.table.signature.TheConstants.Signature.{SDEI, SLIC, SPCR, SPMI, STAO}
-use Rattle.acpi_base.specs.declared.table.signature.TheConstants.Signature.{SVKL, TCPA, TPM2, UEFI, WAET}
-use Rattle.acpi_base.specs.declared.table.signature.TheConstants.Signature.{WDAT, WDRT, WPBT, WSMT, XENV}
+use Rattle.acpi_base.specs.Types.{Signature, RSDT, XSDT, FADT, HPET, MADT, MCFG, SSDT, BERT, BGRT, CPEP, DSDT, ECDT, EINJ, ERST, FACS, FPDT, GTDT, HEST, MSCT, MPST, NFIT, PCCT, PHAT, PMTT, PSDT, RASF, SBST, SDEV, SLIT, SRAT, AEST, BDAT, CDIT, CEDT, CRAT, CSRT, DBGP, DBG2, DMAR, DRTM, ETDT, IBFT, IORT, IVRS, LPIT, MCHI, MPAM, MSDM, PRMT, RGRT, SDEI, SLIC, SPCR, SPMI, STAO, SVKL, TCPA, TPM2, UEFI, WAET, WDAT, WDRT, WPBT, WSMT, XENV}
 
 -- each constant, and the four letters that it is to have
 abbrev pub named_tables : List (Signature × List ℕ)

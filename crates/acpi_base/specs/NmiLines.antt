@@ -1,10 +1,7 @@
 -- The inputs of one processor's local APIC that NMIs come to (ACPI 6.4, sections 5.2.12.7 and
 -- 5.2.12.13).
 use Rattle.std.specs.Prelude.{ℕ, ◌==◌, Bool, true, List, filter}
-use Rattle.acpi_base.specs.declared.model.interrupt.NmiLine.{NmiLine}
-use Rattle.acpi_base.specs.declared.model.interrupt.NmiProcessor.{NmiProcessor}
-use Rattle.acpi_base.specs.declared.model.interrupt.NmiProcessor.TheVariants.{All, ProcessorUid}
-use Rattle.acpi_base.specs.declared.model.nmi_lines.LocalNmiLines.{LocalNmiLines}
+use Rattle.acpi_base.specs.Types.{NmiLine, NmiProcessor, All, ProcessorUid, LocalNmiLines}
 
 -- a processor is all, or this one
 abbrev pub is_or_all : ℕ → NmiProcessor → Bool

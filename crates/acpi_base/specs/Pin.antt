@@ -1,9 +1,7 @@
 -- The I/O APIC and its pin that a global system interrupt comes to (ACPI 6.4, section 5.2.12.3).
-use Rattle.std.specs.Prelude.{◌≡◌, ℕ, ◌+◌, ◌-◌, ◌<◌, ◌≤◌, ◌&&◌, nat_le, List, [], ◌∷◌, ◌++◌, Option, Some, None, if◌then◌else◌}
-use Rattle.std.specs.List.{AllByRecursion}
-use Rattle.std.specs.Option.{option_map}
-use Rattle.acpi_base.specs.declared.model.interrupt.IoApic.{IoApic}
-use Rattle.acpi_base.specs.declared.model.pin.IoApicPin.{IoApicPin}
+use Rattle.std.specs.Prelude.{◌≡◌, ℕ, ◌+◌, ◌-◌, ◌<◌, ◌≤◌, ◌&&◌, nat_le, List, [], ◌∷◌, ◌++◌, Option, Some, None, if◌then◌else◌, option_map}
+use Rattle.acpi_base.specs.FromStd.{AllByRecursion}
+use Rattle.acpi_base.specs.Types.{IoApic, IoApicPin}
 
 -- the first interrupt of an I/O APIC
 abbrev pub base_of : IoApic → ℕ

@@ -1,9 +1,8 @@
 -- The ranges of a memory that an answer depends on. Each definition over a memory has its ranges, which follow its
 -- steps: they go on after a step that succeeds, and end at one that fails.
 use Rattle.std.specs.Prelude.{◌≡◌, ℕ, ◌==◌, ◌&&◌, Bool, true, List, [], ◌∷◌, All, nat_le, Result, Ok, Err}
-use Rattle.std.specs.List.{AllByRecursion, list_any}
-use Rattle.acpi_base.specs.declared.error.AcpiError.TheVariants.{SdtInvalidLength}
-use Rattle.acpi_base.specs.declared.table.signature.Signature.{Signature}
+use Rattle.acpi_base.specs.FromStd.{AllByRecursion, list_any}
+use Rattle.acpi_base.specs.Types.{SdtInvalidLength, Signature}
 use Rattle.acpi_base.specs.Header.{check_names, header_at}
 use Rattle.acpi_base.specs.Memory.{Memory, at}
 use Rattle.acpi_base.specs.Steps.{holds, lent}

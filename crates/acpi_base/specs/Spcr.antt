@@ -1,17 +1,12 @@
 -- The Serial Port Console Redirection table (signature SPCR; ACPI 6.4, section 5.2.6). The layout is Microsoft's.
-use Rattle.std.specs.Prelude.{ℕ, ◌+◌, ◌==◌, nat_le, nat_lt, List, [], ◌∷◌, length, replicate, slice_index_or, Option, Some, None, Result, Ok, Err, if◌then◌else◌}
-use Rattle.std.specs.Option.{option_or}
-use Rattle.std.specs.Str.{bytes_eq, is_utf8}
+use Rattle.std.specs.Prelude.{ℕ, ◌+◌, ◌==◌, nat_le, nat_lt, List, [], ◌∷◌, length, replicate, slice_index_or, Option, Some, None, Result, Ok, Err, if◌then◌else◌, bytes_eq}
+use Rattle.acpi_base.specs.FromStd.{option_or, is_utf8}
 use Rattle.acpi_base.specs.Address.{generic_address_of}
 use Rattle.acpi_base.specs.Bits.{bits_of, has_bit}
 use Rattle.acpi_base.specs.Bytes.{field_of, filled_part, part}
 use Rattle.acpi_base.specs.Header.{header_at}
 use Rattle.acpi_base.specs.Steps.{◌>>=◌, holds}
-use Rattle.acpi_base.specs.declared.address.GenericAddress.{GenericAddress}
-use Rattle.acpi_base.specs.declared.error.AcpiError.{AcpiError}
-use Rattle.acpi_base.specs.declared.error.AcpiError.TheVariants.{InvalidNamespaceString}
-use Rattle.acpi_base.specs.declared.tables.spcr.Spcr.{Spcr}
-use Rattle.acpi_base.specs.declared.tables.spcr.interface.SpcrInterfaceType.{SpcrInterfaceType}
+use Rattle.acpi_base.specs.Types.{GenericAddress, AcpiError, InvalidNamespaceString, Spcr, SpcrInterfaceType}
 use Rattle.acpi_base.specs.declared.tables.spcr.interface.SpcrInterfaceType.TheVariants as interface
 
 -- what a table's bytes mean; a field that reaches past the end is read as if zeros followed

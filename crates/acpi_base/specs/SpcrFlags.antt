@@ -1,12 +1,7 @@
 -- The bits of the sets of flags in the SPCR.
 use Rattle.std.specs.Prelude.{◌≡◌, ℕ, [], ◌∷◌}
-use Rattle.std.specs.List.{AllByRecursion}
-use Rattle.acpi_base.specs.declared.tables.spcr.flags.TheConstants.SpcrFlowControl.{DCD, RTS_CTS, XON_XOFF}
-use Rattle.acpi_base.specs.declared.tables.spcr.flags.TheConstants.SpcrInterruptType.{DUAL_8259, IO_APIC, IO_SAPIC, ARMH_GIC, RISCV_PLIC}
-use Rattle.acpi_base.specs.declared.tables.spcr.flags.TheConstants.SpcrTerminalType.{VT1000, EXTENDED_VT1000, VT_UTF8, ANSI}
-use Rattle.acpi_base.specs.declared.tables.spcr.flags.SpcrFlowControl.{SpcrFlowControl}
-use Rattle.acpi_base.specs.declared.tables.spcr.flags.SpcrInterruptType.{SpcrInterruptType}
-use Rattle.acpi_base.specs.declared.tables.spcr.flags.SpcrTerminalType.{SpcrTerminalType}
+use Rattle.acpi_base.specs.FromStd.{AllByRecursion}
+use Rattle.acpi_base.specs.Types.{DCD, RTS_CTS, XON_XOFF, DUAL_8259, IO_APIC, IO_SAPIC, ARMH_GIC, RISCV_PLIC, VT1000, EXTENDED_VT1000, VT_UTF8, ANSI, SpcrFlowControl, SpcrInterruptType, SpcrTerminalType}
 
 abbrev pub interrupt_bits : SpcrInterruptType → ℕ
 interrupt_bits s = s.0

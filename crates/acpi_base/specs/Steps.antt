@@ -1,9 +1,7 @@
 -- Checks in a row, written with `do`: each line is a check or a value, and the first that fails gives the error. And
 -- calls that return what is defined.
-use Rattle.std.specs.Prelude.{◌≡◌, ◌⊎◌, ℕ, Bool, List, Result, Ok, Err, if◌then◌else◌}
-use Rattle.std.specs.Option.{ok_or}
-use Rattle.acpi_base.specs.declared.error.AcpiError.{AcpiError}
-use Rattle.acpi_base.specs.declared.error.AcpiError.TheVariants.{AllocError, MapFailed}
+use Rattle.std.specs.Prelude.{◌≡◌, ◌⊎◌, ℕ, Bool, List, Result, Ok, Err, if◌then◌else◌, ok_or}
+use Rattle.acpi_base.specs.Types.{AcpiError, AllocError, MapFailed}
 use Rattle.acpi_base.specs.Memory.{Memory, at}
 
 infixl 10 ◌>>=◌

@@ -1,8 +1,6 @@
 -- The table at an address (ACPI 6.4, sections 5.2.5 and 5.2.6).
 use Rattle.std.specs.Prelude.{ℕ, List, nat_le, Result, Ok}
-use Rattle.acpi_base.specs.declared.error.AcpiError.{AcpiError}
-use Rattle.acpi_base.specs.declared.error.AcpiError.TheVariants.{SdtInvalidLength}
-use Rattle.acpi_base.specs.declared.table.signature.Signature.{Signature}
+use Rattle.acpi_base.specs.Types.{AcpiError, SdtInvalidLength, Signature}
 use Rattle.acpi_base.specs.Header.{header_at, check_names, check_table}
 use Rattle.acpi_base.specs.Memory.{Memory}
 use Rattle.acpi_base.specs.Steps.{◌>>=◌, holds, lent}

@@ -1,8 +1,7 @@
 -- Texts, and how a signature is printed.
 use Rattle.std.specs.Prelude.{◌≡◌, Result, Ok, Err, IsUtf8, MatchOption, Option, ℕ, List, [], ◌∷◌, ◌+◌, ◌/◌, ◌%◌, if◌then◌else◌, nat_lt}
-use Rattle.std.specs.Borrow.{Bor}
-use Rattle.std.specs.Str.{is_utf8}
-use Rattle.acpi_base.specs.declared.table.signature.Signature.{Signature}
+use Rattle.acpi_base.specs.FromStd.{Bor, is_utf8}
+use Rattle.acpi_base.specs.Types.{Signature}
 
 -- the answer is the text that the bytes encode in UTF-8, or none if they encode none
 abbrev pub IsTextOf : Option (Bor (List ℕ)) → List ℕ → Type 0

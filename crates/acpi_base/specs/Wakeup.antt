@@ -1,8 +1,6 @@
 -- The commands of the wakeup mailbox (ACPI 6.4, section 5.2.12.19).
-use Rattle.std.specs.Prelude.{ℕ, List, [], ◌∷◌, slice_get, Result}
-use Rattle.std.specs.Option.{ok_or}
-use Rattle.acpi_base.specs.declared.tables.madt.wakeup.MpProtectedModeWakeupCommand.{MpProtectedModeWakeupCommand}
-use Rattle.acpi_base.specs.declared.tables.madt.wakeup.MpProtectedModeWakeupCommand.TheVariants.{Noop, Wakeup, Sleep, AcceptPages}
+use Rattle.std.specs.Prelude.{ℕ, List, [], ◌∷◌, slice_get, Result, ok_or}
+use Rattle.acpi_base.specs.Types.{MpProtectedModeWakeupCommand, Noop, Wakeup, Sleep, AcceptPages}
 
 -- Command: the commands of the mailbox, from number 0 on
 abbrev pub commands : List MpProtectedModeWakeupCommand

@@ -1,8 +1,7 @@
 //! The Generic Address Structure (GAS): a register, by a number in one of several address spaces (section
 //! 5.2.3.2).
 ghost use Rattle.std.specs.Prelude.{◌≡◌};
-ghost use Rattle.acpi_base.specs.Address.{generic_address_of, space_of, access_size_of};
-ghost use Rattle.acpi_base.specs.Bytes.{filled_part};
+ghost use Rattle.acpi_base.specs.Words.{generic_address_of, space_of, access_size_of, filled_part};
 
 use crate::bytes::{field_in, filled, u8_in};
 use crate::error::{AcpiError, AcpiResult};

@@ -1,9 +1,7 @@
 //! Numbers, sums and texts of bytes.
-ghost use Rattle.std.specs.Prelude.{◌≡◌, ◌+◌, ◌*◌, ◌^◌, ◌<◌, ◌≤◌, nat_le, drop, length, true};
-ghost use Rattle.std.specs.Str.{IsAscii, is_utf8};
-ghost use Rattle.acpi_base.specs.Bits.{bits_of, has_bit};
-ghost use Rattle.acpi_base.specs.Bytes.{field_of, filled_part, number};
-ghost use Rattle.acpi_base.specs.Text.{IsTextOf};
+ghost use Rattle.std.specs.Prelude.{◌≡◌, ◌+◌, ◌*◌, ◌^◌, ◌<◌, ◌≤◌, nat_le, drop, length, true, IsAscii};
+ghost use Rattle.acpi_base.specs.FromStd.{is_utf8};
+ghost use Rattle.acpi_base.specs.Words.{bits_of, has_bit, field_of, filled_part, number, IsTextOf};
 
 pub use crate::table::sum::byte_sum;
 

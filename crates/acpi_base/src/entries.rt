@@ -3,7 +3,8 @@
 //! What tables differ in is a value, a `Grammar`. A walk goes from entry to entry by `split_front`; over
 //! a grammar that is a constant it costs what a walk written for that table does.
 ghost use Rattle.std.specs.Prelude.{◌≡◌, ◌<◌, ◌≤◌, length, IfSome, IfNone, [], slice_index, Some};
-ghost use Rattle.acpi_base.specs.Entries.{IsEntry, after_one, cut, end_of, front, least_length, next_front, number_at, with_entry};
+ghost use Rattle.acpi_base.specs.Words.{IsEntry, after_one, cut, front, least_length, next_front, number_at, with_entry};
+ghost use Rattle.acpi_base.specs.Entries.{end_of};
 
 /// How many bytes a number has.
 #[derive(Clone, Copy)]

@@ -1,7 +1,7 @@
 //! The refusals of this library.
 ghost use Rattle.std.specs.Prelude.{◌≡◌, Some};
 ghost use Rattle.acpi_base.specs.declared.error.AcpiError.TheVariants.{AllocError as NoMemory};
-ghost use Rattle.acpi_base.specs.ErrorText.{error_text, madt_error_text};
+ghost use Rattle.acpi_base.specs.Words.{error_text, madt_error_text};
 
 use crate::table::signature::Signature;
 use std::alloc::AllocError;

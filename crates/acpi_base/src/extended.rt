@@ -1,6 +1,6 @@
 //! Fields that only tables of later revisions have.
 ghost use Rattle.std.specs.Prelude.{◌≡◌};
-ghost use Rattle.acpi_base.specs.Extended.{held_of, shown_of, extended_at};
+ghost use Rattle.acpi_base.specs.Words.{held_of, shown_of, extended_at};
 
 use crate::bytes::has_part;
 use crate::memory::handler::PhysicalRecord;

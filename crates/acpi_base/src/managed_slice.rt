@@ -56,7 +56,7 @@ impl<T: Clone + Drop> ManagedSlice<T, Global> {
 }
 
 impl<T, A: Allocator> ManagedSlice<T, A> {
-    ghost use Rattle.std.specs.Borrow.{sem};
+    ghost use Rattle.acpi_base.specs.FromStd.{sem};
     ghost use Rattle.acpi_base.specs.Lends.{lends_slice};
 
     /// The items of a vector, in the memory that they lie in already.

@@ -1,6 +1,6 @@
 //! Ranges of physical memory.
 ghost use Rattle.std.specs.Prelude.{◌≡◌};
-ghost use Rattle.acpi_base.specs.Range.{range_fits, range_holds};
+ghost use Rattle.acpi_base.specs.Words.{range_fits, range_holds};
 
 /// A range of physical addresses: where it begins, and how many bytes it has.
 #[derive(Clone, Copy, Debug, PartialEq, Eq)]

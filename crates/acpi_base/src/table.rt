@@ -2,7 +2,7 @@
 ghost use Rattle.std.specs.Prelude.{◌≡◌, ℕ, ◌≤◌, List, length, Ok};
 ghost use Rattle.acpi_base.specs.Header.{check_names, check_table, header_at};
 ghost use Rattle.acpi_base.specs.Table.{Kind};
-ghost use Rattle.acpi_base.specs.declared.table.signature.Signature.{Signature};
+ghost use Rattle.acpi_base.specs.Types.{Signature};
 
 pub mod header;
 mod lookup;

@@ -1,7 +1,5 @@
 //! The generic interrupt controller (GIC) and the generic timers of an Arm machine.
-ghost use Rattle.acpi_c_lib.specs.Answers.{Answers, AnswersList};
-ghost use Rattle.acpi_c_lib.specs.Arm.{below_gic, cpu_interfaces_shown, distributor_shown, msi_frames_shown, redistributors_shown, translation_services_shown};
-ghost use Rattle.acpi_c_lib.specs.ArmTimers.{frames_shown, gtdt_below, timers_shown, watchdogs_shown};
+ghost use Rattle.acpi_c_lib.specs.Words.{Answers, AnswersList, below_gic, cpu_interfaces_shown, distributor_shown, msi_frames_shown, redistributors_shown, translation_services_shown, frames_shown, gtdt_below, timers_shown, watchdogs_shown};
 
 use acpi_c_lib::answer::answer;
 use acpi_c_lib::arm_records::{

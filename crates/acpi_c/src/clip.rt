@@ -1,6 +1,6 @@
 //! Ranges of memory in order: as a firmware's memory map gives them, some of them left out, and
 //! clipped to a window.
-ghost use Rattle.acpi_c_lib.specs.Clip.{AnswersClip};
+ghost use Rattle.acpi_c_lib.specs.Words.{AnswersClip};
 
 use acpi_c_lib::clip::clip_ranges;
 use acpi_c_lib::records::Range;

@@ -1,9 +1,5 @@
 //! The fixed hardware, the serial console, and devices that tables of their own describe.
-ghost use Rattle.acpi_c_lib.specs.Answers.{Answers};
-ghost use Rattle.acpi_c_lib.specs.Console.{console_below};
-ghost use Rattle.acpi_c_lib.specs.Devices.{graphic_below, timer_below};
-ghost use Rattle.acpi_c_lib.specs.Fixed.{fixed_below};
-ghost use Rattle.acpi_c_lib.specs.Shown.{hpet_below};
+ghost use Rattle.acpi_c_lib.specs.Words.{Answers, console_below, graphic_below, timer_below, fixed_below, hpet_below};
 
 use acpi_c_lib::answer::answer;
 use acpi_c_lib::console::console;

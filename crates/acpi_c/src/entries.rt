@@ -1,9 +1,7 @@
 //! Where bytes lie, and the entries of any table, for calls that are passed the regions alone.
 ghost use Rattle.std.specs.Prelude.{◌≡◌};
-ghost use Rattle.std.specs.Result.{result_unwrap_or};
-ghost use Rattle.acpi_c_lib.specs.Answers.{AnswersList, AnswersPlain, result_map};
-ghost use Rattle.acpi_c_lib.specs.Entries.{entries_below, entries_said, left_said};
-ghost use Rattle.acpi_c_lib.specs.Located.{located};
+ghost use Rattle.acpi_base.specs.FromStd.{result_unwrap_or};
+ghost use Rattle.acpi_c_lib.specs.Words.{AnswersList, AnswersPlain, result_map, entries_below, entries_said, left_said, located};
 
 use acpi_c_lib::answer::{answer, answer_plain};
 use acpi_c_lib::entries::table_entries;

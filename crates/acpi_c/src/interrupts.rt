@@ -1,9 +1,6 @@
 //! The interrupt model and the processors, and how interrupts come to the I/O APICs.
 ghost use Rattle.std.specs.Prelude.{◌≡◌};
-ghost use Rattle.acpi_c_lib.specs.Answers.{Answers, AnswersList, items_said, put_from};
-ghost use Rattle.acpi_c_lib.specs.IsaList.{isa_list_below};
-ghost use Rattle.acpi_c_lib.specs.Model.{below_platform, counts_of, io_apics_of, nmi_lines_of, nmi_sources_of, overrides_of, processors_of};
-ghost use Rattle.acpi_c_lib.specs.Routes.{below_apics, below_known, isa_below, pin_below, sci_below};
+ghost use Rattle.acpi_c_lib.specs.Words.{Answers, AnswersList, items_said, put_from, isa_list_below, below_platform, counts_of, io_apics_of, nmi_lines_of, nmi_sources_of, overrides_of, processors_of, below_apics, below_known, isa_below, pin_below, sci_below};
 
 use acpi_c_lib::answer::answer;
 use acpi_c_lib::interrupt_records::{

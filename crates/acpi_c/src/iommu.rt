@@ -1,8 +1,6 @@
 //! The units that remap what devices ask of memory, by the DMAR (Intel Virtualization Technology for Directed I/O 4.0)
 //! and by the IVRS (AMD I/O Virtualization Technology (IOMMU) Specification 3.08).
-ghost use Rattle.acpi_c_lib.specs.Answers.{Answers, AnswersList};
-ghost use Rattle.acpi_c_lib.specs.Iommu.{dmar_hpet_below, dmar_io_apic_below, dmar_reserved_below, dmar_unit_below};
-ghost use Rattle.acpi_c_lib.specs.Iommu.{ivrs_memory_below, ivrs_unit_below};
+ghost use Rattle.acpi_c_lib.specs.Words.{Answers, AnswersList, dmar_hpet_below, dmar_io_apic_below, dmar_reserved_below, dmar_unit_below, ivrs_memory_below, ivrs_unit_below};
 
 use acpi_c_lib::answer::answer;
 use acpi_c_lib::iommu::{

@@ -1,6 +1,5 @@
 //! The ranges of memory that a caller has to map before the calls can read all tables.
-ghost use Rattle.acpi_c_lib.specs.Answers.{AnswersList};
-ghost use Rattle.acpi_c_lib.specs.Missing.{missing_below};
+ghost use Rattle.acpi_c_lib.specs.Words.{AnswersList, missing_below};
 
 use acpi_c_lib::answer::answer;
 use acpi_c_lib::missing::missing;

@@ -1,7 +1,5 @@
 //! The domains that memory and processors are in, by the SRAT, and the distances between localities, by the SLIT.
-ghost use Rattle.acpi_c_lib.specs.Answers.{Answers, AnswersList, AnswersSome};
-ghost use Rattle.acpi_c_lib.specs.Numa.{IsLocalities, affinities_below, distance_below, slit_in};
-ghost use Rattle.acpi_c_lib.specs.Numa.{domain_of_address_below, domain_of_apic_below, domain_of_processor_below};
+ghost use Rattle.acpi_c_lib.specs.Words.{Answers, AnswersList, AnswersSome, IsLocalities, affinities_below, distance_below, slit_in, domain_of_address_below, domain_of_apic_below, domain_of_processor_below};
 
 use acpi_c_lib::answer::answer;
 use acpi_c_lib::numa::{

@@ -1,6 +1,5 @@
 //! PCI configuration space.
-ghost use Rattle.acpi_c_lib.specs.Answers.{Answers, AnswersList};
-ghost use Rattle.acpi_c_lib.specs.Shown.{ecam_below, ecam_ranges_below, pci_regions_below};
+ghost use Rattle.acpi_c_lib.specs.Words.{Answers, AnswersList, ecam_below, ecam_ranges_below, pci_regions_below};
 
 use acpi_c_lib::answer::answer;
 use acpi_c_lib::fixed_records::EcamRange;

@@ -1,8 +1,5 @@
 //! The root table and the tables that it lists.
-ghost use Rattle.acpi_c_lib.specs.Answers.{Answers, AnswersList};
-ghost use Rattle.acpi_c_lib.specs.Faults.{faults_below};
-ghost use Rattle.acpi_c_lib.specs.Shown.{dsdt_below, root_below, table_below, tables_below};
-ghost use Rattle.acpi_c_lib.specs.Walked.{nth_below, ranges_below, ssdts_below};
+ghost use Rattle.acpi_c_lib.specs.Words.{Answers, AnswersList, faults_below, dsdt_below, root_below, table_below, tables_below, nth_below, ranges_below, ssdts_below};
 
 use acpi_c_lib::answer::answer;
 use acpi_c_lib::faults::faults;

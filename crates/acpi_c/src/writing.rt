@@ -1,17 +1,10 @@
 //! Tables that are written, from what they are to say, into a buffer of the caller's.
 ghost use Rattle.std.specs.Prelude.{length};
 ghost use Rattle.acpi.specs.declared.root.RootKind.TheVariants.{Rsdt, Xsdt};
-ghost use Rattle.acpi_base.specs.declared.table.signature.TheConstants.Signature.{DSDT, SSDT};
-ghost use Rattle.acpi_c_lib.specs.Answers.{AnswersPlain};
-ghost use Rattle.acpi_c_lib.specs.Writing.{WritesTable, writer_refused};
-ghost use Rattle.acpi_c_lib.specs.WrittenFadt.{facs_contents};
-ghost use Rattle.acpi_c_lib.specs.WrittenMachine.{dsdt_said, machine_said, size_said, table_said, tree_said};
+ghost use Rattle.acpi.specs.Types.{DSDT, SSDT};
+ghost use Rattle.acpi_c_lib.specs.Words.{AnswersPlain, WritesTable, writer_refused, facs_contents, dsdt_said, machine_said, size_said, table_said, tree_said};
 ghost use Rattle.acpi_c_lib.specs.declared.writing.machine.Contents.TheVariants.{Bgrt, Fadt, Gic, Gtdt, Hpet, Madt, Mcfg, Spcr, Srat};
-ghost use Rattle.acpi_writer.specs.Facs.{facs_written};
-ghost use Rattle.acpi_writer.specs.Root.{root_written};
-ghost use Rattle.acpi_writer.specs.Rsdp.{rsdp_written};
-ghost use Rattle.acpi_writer.specs.Slit.{slit_written};
-ghost use Rattle.acpi_writer.specs.Table.{table_written};
+ghost use Rattle.acpi_writer.specs.Words.{facs_written, root_written, rsdp_written, slit_written, table_written};
 
 use acpi_c_lib::answer::answer_plain;
 use acpi_c_lib::arm_records::ArmTimers;

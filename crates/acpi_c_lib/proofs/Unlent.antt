@@ -1,42 +1,17 @@
 -- What isn't lent: of what opening asks for and what leads to a table, and of the candidates of a search.
-use Rattle.std.proofs.Common.{◌≡◌, ℕ, ◌≤◌, List, [], ◌∷◌, ◌++◌, Bool, true, false, Option, Some, None, Result, Ok, Err, arith, refl, sym, ap, subst, ◌∙◌, if◌then◌else◌, ◌+◌, length, ◌^◌, ◌<◌, zero, suc, ◌-◌, ◌*◌, ◌/◌, drop}
-use Rattle.std.specs.Prelude.{◌==◌}
-use Rattle.std.specs.List.{last_or, cons_option}
-use Rattle.std.specs.Option.{ok_or, option_map, is_some}
-use Rattle.std.specs.Result.{is_ok, result_ok}
-use Rattle.acpi_base.specs.Bytes.{field_of}
-use Rattle.acpi_base.specs.Header.{check_names, check_table, header_at}
-use Rattle.acpi_base.specs.Memory.{Memory, at, IsMemory, rest_from}
-use Rattle.acpi_base.specs.Ranges.{Ranges}
-use Rattle.acpi_base.specs.Steps.{◌>>=◌, lent}
-use Rattle.acpi_base.specs.Table.{table_at, Kind, own_table_at, plain_kind}
-use Rattle.acpi_base.specs.declared.error.AcpiError.TheVariants.{MapFailed, NoValidRsdp}
-use Rattle.acpi_base.specs.declared.table.header.SdtHeader.{SdtHeader}
-use Rattle.acpi_base.specs.declared.table.signature.Signature.{Signature}
-use Rattle.acpi.specs.Areas.{areas_ranges, bios_areas, found_among, found_in_areas, count_in, ebda_area, end_of, first_in, range}
-use Rattle.acpi.specs.Opened.{Opened, opened_at, opened_by_rsdp, opened_by_search, opened_from}
-use Rattle.acpi.specs.OpenedRanges.{area_ranges, opened_by_rsdp_ranges, opened_by_search_ranges, opened_ranges, or_else_ranges, search_ranges, length_ranges, rsdp_ranges}
-use Rattle.acpi.specs.Root.{root_of_revision}
-use Rattle.acpi.specs.Rsdp.{check_first, check_sum, extended_length_of, checked_length, root_of_rsdp, rsdp_at, rsdp_of}
-use Rattle.acpi.specs.Search.{first_area, found_in, found_rsdp, or_else, room_of, second_area, word_in, area, count_of, walk}
-use Rattle.acpi_c_lib.specs.Below.{AcpiError, Refusal, Source, ebda_in, opened_as_lent, opened_in, refused_as}
-use Rattle.acpi_c_lib.specs.declared.refusal.Refusal.TheVariants.{Acpi, UnknownStart}
-use Rattle.acpi_c_lib.specs.Missing.{Areas, IsUnlent, OpeningHasHole, Range, areas_holes, candidate_hole, candidate_holes, has_valid, hole, last_range, missing_below, missing_in, opened_as_lent_ranges, range_of, walk_holes}
-use Rattle.acpi_c_lib.specs.Answers.{Fills, Writes, items_said, put_from, result_map}
-use Rattle.acpi_c_lib.specs.Regions.{memory_in}
+use Rattle.std.proofs.Common.{◌≡◌, ℕ, ◌≤◌, List, [], ◌∷◌, ◌++◌, Bool, true, false, Option, Some, None, Result, Ok, Err, arith, refl, sym, ap, subst, ◌∙◌, if◌then◌else◌, ◌+◌, length, ◌^◌, ◌<◌, zero, suc, ◌-◌, ◌*◌, ◌/◌, drop, ◌==◌, ok_or, option_map, bytes_eq}
+use Rattle.acpi_base.specs.FromStd.{last_or, cons_option, is_some, is_ok, result_ok}
+use Rattle.acpi_base.specs.Words.{field_of, check_names, check_table, header_at, Memory, at, IsMemory, rest_from, Ranges, ◌>>=◌, lent, table_at, Kind, own_table_at, plain_kind, letters_of}
+use Rattle.acpi.specs.Types.{MapFailed, NoValidRsdp, SdtHeader, Signature, AddressRange}
+use Rattle.acpi.specs.Words.{areas_ranges, bios_areas, found_among, found_in_areas, count_in, ebda_area, end_of, first_in, Opened, opened_at, opened_by_rsdp, opened_by_search, opened_from, area_ranges, opened_by_rsdp_ranges, opened_by_search_ranges, opened_ranges, or_else_ranges, search_ranges, length_ranges, rsdp_ranges, root_of_revision, check_first, check_sum, extended_length_of, checked_length, root_of_rsdp, rsdp_at, rsdp_of, first_area, found_in, found_rsdp, or_else, room_of, second_area, word_in, area, count_of, walk, or_later}
+use Rattle.acpi.specs.Areas.{range}
+use Rattle.acpi_c_lib.specs.Words.{AcpiError, Refusal, Source, ebda_in, opened_as_lent, opened_in, refused_as, Acpi, UnknownStart, Areas, IsUnlent, OpeningHasHole, areas_holes, candidate_hole, candidate_holes, has_valid, hole, last_range, missing_below, missing_in, opened_as_lent_ranges, range_of, walk_holes, Fills, Writes, items_said, put_from, result_map, memory_in}
+use Rattle.acpi_c_lib.specs.Missing.{Range}
 use Rattle.acpi_c_lib.proofs.Written.{two_parts, one_part}
-use Rattle.std.specs.Str.{bytes_eq}
-use Rattle.std.proofs.lemmas.Slice.Eq.{bytes_eq-Decides}
-use Rattle.acpi_base.specs.Text.{letters_of}
-use Rattle.std.proofs.lemmas.List.{length-take}
-use Rattle.std.proofs.lemmas.Option.{cond_some}
-use Rattle.acpi_base.proofs.LentRanges.{lent_ends}
-use Rattle.acpi_base.proofs.OwnTable.{passed}
-use Rattle.acpi_base.proofs.Steps.{bind_ok, some_lent}
+use Rattle.acpi_base.proofs.FromStd.{bytes_eq-Decides, length-take, cond_some}
+use Rattle.acpi_base.proofs.Words.{lent_ends, passed, bind_ok, some_lent}
 use Rattle.acpi_base.specs.Ranges as ranges
-use Rattle.acpi_base.specs.declared.range.AddressRange.{AddressRange}
-use Rattle.acpi.specs.Later.{or_later}
-use Rattle.acpi.specs.declared.rsdp.Rsdp.{Rsdp}
+use Rattle.acpi_c_lib.specs.Types.{Rsdp}
 
 -- ---- the checks, which refuse by other errors
 
@@ -83,27 +58,35 @@ refused_by false first second (Ok b) = first
 refused_by ok first second (Err e) = (0x40e, 2)
 
 abbrev pub refused_at : Bool → Result (List ℕ) AcpiError → ℕ × ℕ
-refused_at ok r = refused_by ok (first_area.start, room_of first_area) (λ w. ((second_area w).start, room_of (second_area w))) r
+refused_at ok r = refused_by ok (first_area.start, room_of first_area)
+    (λ w. ((second_area w).start, room_of (second_area w))) r
 
-search_by : (m : Memory) (ok : Bool) (s : _) (t : ℕ → _) (r : Result (List ℕ) AcpiError) → is_ok (lent m s.start (room_of s)) ≡ ok → lent m 0x40e 2 ≡ r
-    → ((r >>= λ b. Ok (field_of b 0 2)) >>= λ word. found_in m s >>= λ first. or_else first (found_in m (t word) >>= λ second. or_else second (Err NoValidRsdp))) ≡ Err MapFailed
+search_by : (m : Memory) (ok : Bool) (s : _) (t : ℕ → _) (r : Result (List ℕ) AcpiError)
+    → is_ok (lent m s.start (room_of s)) ≡ ok → lent m 0x40e 2 ≡ r
+    → ((r >>= λ b. Ok (field_of b 0 2)) >>= λ word. found_in m s >>= λ first.
+    or_else first (found_in m (t word) >>= λ second. or_else second (Err NoValidRsdp))) ≡ Err MapFailed
     → let at_end = refused_by ok (s.start, room_of s) (λ w. ((t w).start, room_of (t w))) r in
-    (last_or (Some (0x40e, 2)) (ranges.◌>>=◌ (r >>= λ b. Ok (field_of b 0 2)) (λ word. area_ranges m s ++ ranges.◌>>=◌ (found_in m s) (λ first. or_else_ranges first (area_ranges m (t word))))) ≡ Some at_end)
+    (last_or (Some (0x40e, 2)) (ranges.◌>>=◌ (r >>= λ b. Ok (field_of b 0 2))
+    (λ word. area_ranges m s ++ ranges.◌>>=◌ (found_in m s) (λ first.
+    or_else_ranges first (area_ranges m (t word))))) ≡ Some at_end)
     × (at m at_end.0 at_end.1 ≡ None)
 unfolding found_in
 search_by m true s t (Ok b) first is e = rw last_append (grind arith)
 search_by m false s t (Ok b) first is e = rw last_append (grind arith)
 search_by m ok s t (Err d) first is e = grind arith
 
-search_last : (m : Memory) (ok : Bool) → is_ok (lent m first_area.start (room_of first_area)) ≡ ok → found_rsdp m ≡ Err MapFailed
+search_last : (m : Memory) (ok : Bool) → is_ok (lent m first_area.start (room_of first_area)) ≡ ok
+    → found_rsdp m ≡ Err MapFailed
     → let r = refused_at ok (lent m 0x40e 2) in (last_or None (search_ranges m) ≡ Some r) × (at m r.0 r.1 ≡ None)
 unfolding found_rsdp word_in
 search_last m ok first e = search_by m ok first_area second_area (lent m 0x40e 2) first refl e
 
-pub search_refused : (m : Memory) (ok : Bool) (o : Result (List ℕ) AcpiError) (x : _) → is_ok (lent m first_area.start (room_of first_area)) ≡ ok → lent m 0x40e 2 ≡ o → x ≡ range_of (refused_at ok o)
+pub search_refused : (m : Memory) (ok : Bool) (o : Result (List ℕ) AcpiError) (x : _)
+    → is_ok (lent m first_area.start (room_of first_area)) ≡ ok → lent m 0x40e 2 ≡ o → x ≡ range_of (refused_at ok o)
     → found_rsdp m ≡ Err MapFailed → last_range (search_ranges m) ≡ Some x
 search_refused m ok o x first is place e =
-    ap (option_map range_of) (search_last m ok first e).0 ∙ ap (λ q. Some (range_of (refused_at ok q))) is ∙ sym (ap (λ y. Some y) place)
+    ap (option_map range_of) (search_last m ok first e).0 ∙ ap (λ q. Some (range_of (refused_at ok q))) is
+    ∙ sym (ap (λ y. Some y) place)
 
 search_unlent : (m : Memory) → found_rsdp m ≡ Err MapFailed → IsUnlent m (last_range (search_ranges m))
 search_unlent m e =
@@ -112,15 +95,18 @@ search_unlent m e =
 
 -- ---- opening
 
-from_unlent : (m : Memory) (place : _) → opened_from m place ≡ Err MapFailed → IsUnlent m (last_range (opened_ranges m place))
+from_unlent : (m : Memory) (place : _) → opened_from m place ≡ Err MapFailed
+    → IsUnlent m (last_range (opened_ranges m place))
 unfolding table_at
 from_unlent m place e = grind (arith, names_not, table_not)
 
-rsdp_unlent : (m : Memory) (a : ℕ) → opened_by_rsdp m a ≡ Err MapFailed → IsUnlent m (last_range (opened_by_rsdp_ranges m a))
+rsdp_unlent : (m : Memory) (a : ℕ) → opened_by_rsdp m a ≡ Err MapFailed
+    → IsUnlent m (last_range (opened_by_rsdp_ranges m a))
 unfolding rsdp_at
 rsdp_unlent m a e = grind (arith, sum_not, rsdp_not, from_unlent)
 
-by_search_unlent : (m : Memory) → opened_by_search m ≡ Err MapFailed → IsUnlent m (last_range (opened_by_search_ranges m))
+by_search_unlent : (m : Memory) → opened_by_search m ≡ Err MapFailed
+    → IsUnlent m (last_range (opened_by_search_ranges m))
 by_search_unlent m e = rw last_append (grind (arith, search_unlent, from_unlent))
 
 -- the search in areas has one refusal, and it is another
@@ -131,32 +117,43 @@ opened_by m r = r >>= λ found. opened_from m (root_of_rsdp found.1)
 abbrev ranges_by : Memory → Result (ℕ × List ℕ) AcpiError → Ranges
 ranges_by m r = ranges.◌>>=◌ r (λ found. opened_ranges m (root_of_rsdp found.1))
 
-nothing_by : (m : Memory) (o : Option (ℕ × List ℕ)) (e : AcpiError) → ok_or o NoValidRsdp ≡ Err e → opened_by m (ok_or o NoValidRsdp) ≡ Err MapFailed → ⊥
+nothing_by : (m : Memory) (o : Option (ℕ × List ℕ)) (e : AcpiError) → ok_or o NoValidRsdp ≡ Err e
+    → opened_by m (ok_or o NoValidRsdp) ≡ Err MapFailed → ⊥
 nothing_by m (Some found) e is refused = cc
 nothing_by m None e is refused = cc
 
-pub lent_nothing : (m : Memory) (e : AcpiError) → found_in_areas m (bios_areas (ebda_in m)) ≡ Err e → opened_as_lent m ≡ Err MapFailed → ⊥
+pub lent_nothing : (m : Memory) (e : AcpiError) → found_in_areas m (bios_areas (ebda_in m)) ≡ Err e
+    → opened_as_lent m ≡ Err MapFailed → ⊥
 unfolding opened_as_lent found_in_areas
 lent_nothing m e is refused = nothing_by m (found_among m (bios_areas (ebda_in m))) e is refused
 
-root_by : (m : Memory) (xs : Ranges) (r : Result (ℕ × List ℕ) AcpiError) (found : ℕ × List ℕ) (x : Range) → r ≡ Ok found → opened_by m r ≡ Err MapFailed
-    → (opened_from m (root_of_rsdp found.1) ≡ Err MapFailed → last_range (opened_ranges m (root_of_rsdp found.1)) ≡ Some x) → last_range (xs ++ ranges_by m r) ≡ Some x
+root_by : (m : Memory) (xs : Ranges) (r : Result (ℕ × List ℕ) AcpiError) (found : ℕ × List ℕ) (x : Range) → r ≡ Ok found
+    → opened_by m r ≡ Err MapFailed
+    → (opened_from m (root_of_rsdp found.1) ≡ Err MapFailed
+    → last_range (opened_ranges m (root_of_rsdp found.1)) ≡ Some x) → last_range (xs ++ ranges_by m r) ≡ Some x
 root_by m xs (Ok y) found x is refused last =
     let same : found ≡ y = cc in
-    let here : opened_from m (root_of_rsdp y.1) ≡ Err MapFailed → last_range (opened_ranges m (root_of_rsdp y.1)) ≡ Some x =
-    subst (λ (z : ℕ × List ℕ). opened_from m (root_of_rsdp z.1) ≡ Err MapFailed → last_range (opened_ranges m (root_of_rsdp z.1)) ≡ Some x) same last in
+    let here : opened_from m (root_of_rsdp y.1) ≡ Err MapFailed
+    → last_range (opened_ranges m (root_of_rsdp y.1)) ≡ Some x =
+    subst (λ (z : ℕ × List ℕ). opened_from m (root_of_rsdp z.1) ≡ Err MapFailed
+    → last_range (opened_ranges m (root_of_rsdp z.1)) ≡ Some x) same last in
     ap (option_map range_of) (last_append None xs (opened_ranges m (root_of_rsdp y.1))) ∙ here refused
 root_by m xs (Err e) found x is refused last = absurd cc
 
-pub lent_root : (m : Memory) (found : ℕ × List ℕ) (x : Range) → found_in_areas m (bios_areas (ebda_in m)) ≡ Ok found → opened_as_lent m ≡ Err MapFailed
-    → (opened_from m (root_of_rsdp found.1) ≡ Err MapFailed → last_range (opened_ranges m (root_of_rsdp found.1)) ≡ Some x)
+pub lent_root : (m : Memory) (found : ℕ × List ℕ) (x : Range) → found_in_areas m (bios_areas (ebda_in m)) ≡ Ok found
+    → opened_as_lent m ≡ Err MapFailed
+    → (opened_from m (root_of_rsdp found.1) ≡ Err MapFailed
+    → last_range (opened_ranges m (root_of_rsdp found.1)) ≡ Some x)
     → last_range (opened_as_lent_ranges m) ≡ Some x
 unfolding opened_as_lent opened_as_lent_ranges
-lent_root m found x is refused last = root_by m (areas_ranges m (bios_areas (ebda_in m))) (found_in_areas m (bios_areas (ebda_in m))) found x is refused last
+lent_root m found x is refused last = root_by m (areas_ranges m (bios_areas (ebda_in m)))
+    (found_in_areas m (bios_areas (ebda_in m))) found x is refused last
 
-areas_by : (m : Memory) (xs : Ranges) (o : Option (ℕ × List ℕ)) → opened_by m (ok_or o NoValidRsdp) ≡ Err MapFailed → IsUnlent m (last_range (xs ++ ranges_by m (ok_or o NoValidRsdp)))
+areas_by : (m : Memory) (xs : Ranges) (o : Option (ℕ × List ℕ)) → opened_by m (ok_or o NoValidRsdp) ≡ Err MapFailed
+    → IsUnlent m (last_range (xs ++ ranges_by m (ok_or o NoValidRsdp)))
 areas_by m xs (Some found) refused =
-    subst (λ o. IsUnlent m (option_map range_of o)) (sym (last_append None xs (opened_ranges m (root_of_rsdp found.1)))) (from_unlent m (root_of_rsdp found.1) refused)
+    subst (λ o. IsUnlent m (option_map range_of o)) (sym (last_append None xs (opened_ranges m (root_of_rsdp found.1))))
+    (from_unlent m (root_of_rsdp found.1) refused)
 areas_by m xs None refused = absurd cc
 
 by_areas_unlent : (m : Memory) → opened_as_lent m ≡ Err MapFailed → IsUnlent m (last_range (opened_as_lent_ranges m))
@@ -166,31 +163,39 @@ by_areas_unlent m e = areas_by m (areas_ranges m (bios_areas (ebda_in m))) (foun
 refused_is : {A : Type 0} (r : Result A AcpiError) → refused_as r ≡ Err (Acpi MapFailed) → r ≡ Err MapFailed
 refused_is r e = grind arith
 
-started : {A : Type 0} (m : Memory) (b : Bool) (r : Result A AcpiError) (later : Result A Refusal) (R S : Ranges) → (r ≡ Err MapFailed → IsUnlent m (last_range R)) → (later ≡ Err (Acpi MapFailed) → IsUnlent m (last_range S))
+started : {A : Type 0} (m : Memory) (b : Bool) (r : Result A AcpiError) (later : Result A Refusal) (R S : Ranges)
+    → (r ≡ Err MapFailed → IsUnlent m (last_range R)) → (later ≡ Err (Acpi MapFailed) → IsUnlent m (last_range S))
     → (if b then refused_as r else later) ≡ Err (Acpi MapFailed) → IsUnlent m (last_range (if b then R else S))
 started m true r later R S first second e = first (refused_is r e)
 started m false r later R S first second e = second e
 
 pub opening_unlent : OpeningHasHole
 opening_unlent m s =
-    started m (s.start == 0) (opened_by_rsdp m s.address) _ (opened_by_rsdp_ranges m s.address) _ (rsdp_unlent m s.address)
-    (started m (s.start == 1) (opened_at m (0, s.address)) _ (opened_ranges m (root_of_revision 0 s.address)) _ (from_unlent m (root_of_revision 0 s.address))
-    (started m (s.start == 2) (opened_at m (2, s.address)) _ (opened_ranges m (root_of_revision 2 s.address)) _ (from_unlent m (root_of_revision 2 s.address))
+    started m (s.start == 0) (opened_by_rsdp m s.address) _ (opened_by_rsdp_ranges m s.address) _
+    (rsdp_unlent m s.address)
+    (started m (s.start == 1) (opened_at m (0, s.address)) _ (opened_ranges m (root_of_revision 0 s.address)) _
+    (from_unlent m (root_of_revision 0 s.address))
+    (started m (s.start == 2) (opened_at m (2, s.address)) _ (opened_ranges m (root_of_revision 2 s.address)) _
+    (from_unlent m (root_of_revision 2 s.address))
     (started m (s.start == 3) (opened_by_search m) _ (opened_by_search_ranges m) _ (by_search_unlent m)
-    (started m (s.start == 4) (opened_as_lent m) (Err UnknownStart) (opened_as_lent_ranges m) [] (by_areas_unlent m) (λ q. cc)))))
+    (started m (s.start == 4) (opened_as_lent m) (Err UnknownStart) (opened_as_lent_ranges m) [] (by_areas_unlent m)
+    (λ q. cc)))))
 
 -- ---- the ranges of a search's candidates, and then the others
 
 -- only an unknown start is refused, and that is no search
-no_candidates : (m : Memory) (s : Source) (e : Refusal) → missing_in m s (opened_in m s) ≡ Err e → candidate_holes m s ≡ []
+no_candidates : (m : Memory) (s : Source) (e : Refusal) → missing_in m s (opened_in m s) ≡ Err e
+    → candidate_holes m s ≡ []
 unfolding candidate_holes has_valid walk_holes
 no_candidates m s e is = grind arith
 
 abbrev both : List Range → Result (List Range) Refusal → Result (List Range) Refusal
 both xs others = others >>= λ ys. Ok (xs ++ ys)
 
-by_others : (old mid new xs : List Range) (n : ℕ) (said : Result ℕ Refusal) (others : Result (List Range) Refusal) → ((e : Refusal) → others ≡ Err e → xs ≡ []) → Writes n old mid xs
-    → said ≡ result_map (λ ys. n + length ys) others → new ≡ put_from mid n (items_said others) → Fills said old new (both xs others)
+by_others : (old mid new xs : List Range) (n : ℕ) (said : Result ℕ Refusal) (others : Result (List Range) Refusal)
+    → ((e : Refusal) → others ≡ Err e → xs ≡ []) → Writes n old mid xs
+    → said ≡ result_map (λ ys. n + length ys) others → new ≡ put_from mid n (items_said others)
+    → Fills said old new (both xs others)
 by_others old mid new xs n said (Ok ys) none first count items =
     let all = two_parts old mid new xs ys n (n + length ys) first.1 (first.0 ∙ omega arith) items refl in
     (count ∙ ap (λ k. Ok k) all.0, all.1)
@@ -198,10 +203,13 @@ by_others old mid new xs n said (Err e) none first count items =
     let empty = none e refl in
     (count, items ∙ first.1 ∙ ap (λ zs. put_from old 0 zs) empty)
 
-pub joined : (s : Source) (m : Memory) (old mid new : List Range) (n : ℕ) (said : Result ℕ Refusal) → memory_in s.regions.now ≡ Ok m → Writes n old mid (candidate_holes m s)
-    → said ≡ result_map (λ ys. n + length ys) (missing_in m s (opened_in m s)) → new ≡ put_from mid n (items_said (missing_in m s (opened_in m s))) → Fills said old new (missing_below s)
+pub joined : (s : Source) (m : Memory) (old mid new : List Range) (n : ℕ) (said : Result ℕ Refusal)
+    → memory_in s.regions.now ≡ Ok m → Writes n old mid (candidate_holes m s)
+    → said ≡ result_map (λ ys. n + length ys) (missing_in m s (opened_in m s))
+    → new ≡ put_from mid n (items_said (missing_in m s (opened_in m s))) → Fills said old new (missing_below s)
 joined s m old mid new n said is first count items =
-    rw is (by_others old mid new (candidate_holes m s) n said (missing_in m s (opened_in m s)) (no_candidates m s) first count items)
+    rw is (by_others old mid new (candidate_holes m s) n said (missing_in m s (opened_in m s)) (no_candidates m s) first
+    count items)
 
 -- ---- a signature is its four bytes, and a table that is lent ends below 2^64
 
@@ -221,13 +229,15 @@ lent_short m a n bytes e =
     let both = cond_some _ _ _ (some_lent _ _ e) in
     subst (λ (b : List ℕ). length b ≤ n) both.1 (omega (arith, length-take n (rest_from m a)))
 
-table_ends : (m : Memory) (k : Kind) (p : ℕ) (table : List ℕ) → IsMemory m → 0 < length table → table_at m k p ≡ Ok table → p + length table < 2 ^ 64
+table_ends : (m : Memory) (k : Kind) (p : ℕ) (table : List ℕ) → IsMemory m → 0 < length table
+    → table_at m k p ≡ Ok table → p + length table < 2 ^ 64
 table_ends m k p table h some e =
     let passes = passed m k p table e in
     let n = (header_at passes.head).length in
     lent_ends m p n table h (omega (arith, some, lent_short m p n table passes.whole)) passes.whole
 
-pub own_table_ends : (m : Memory) (p : ℕ) (table : List ℕ) → IsMemory m → 0 < length table → own_table_at m p ≡ Ok table → p + length table < 2 ^ 64
+pub own_table_ends : (m : Memory) (p : ℕ) (table : List ℕ) → IsMemory m → 0 < length table → own_table_at m p ≡ Ok table
+    → p + length table < 2 ^ 64
 unfolding own_table_at
 own_table_ends m p table h some e =
     let head = bind_ok (lent m p 36) _ table e in
@@ -235,15 +245,18 @@ own_table_ends m p table h some e =
 
 -- ---- one candidate
 
-long_ranges : (m : Memory) (a : ℕ) (b : List ℕ) → lent m a 36 ≡ Ok b → rsdp_at m a ≡ Err MapFailed → drop 1 (rsdp_ranges m a) ≡ length_ranges a (extended_length_of (rsdp_of b))
+long_ranges : (m : Memory) (a : ℕ) (b : List ℕ) → lent m a 36 ≡ Ok b → rsdp_at m a ≡ Err MapFailed
+    → drop 1 (rsdp_ranges m a) ≡ length_ranges a (extended_length_of (rsdp_of b))
 unfolding rsdp_at
 long_ranges m a b is refused = grind (arith, rsdp_not, rsdp_length, sum_not)
 
-pub length_said : (m : Memory) (a : ℕ) (b : List ℕ) (r : Rsdp) → lent m a 36 ≡ Ok b → r ≡ rsdp_of b → rsdp_at m a ≡ Err MapFailed
+pub length_said : (m : Memory) (a : ℕ) (b : List ℕ) (r : Rsdp) → lent m a 36 ≡ Ok b → r ≡ rsdp_of b
+    → rsdp_at m a ≡ Err MapFailed
     → last_range (length_ranges a (extended_length_of r)) ≡ candidate_hole m a
 unfolding candidate_hole
 length_said m a b r is read refused =
-    ap (λ q. last_range (length_ranges a (extended_length_of q))) read ∙ sym (rw refused (ap last_range (long_ranges m a b is refused)))
+    ap (λ q. last_range (length_ranges a (extended_length_of q))) read
+    ∙ sym (rw refused (ap last_range (long_ranges m a b is refused)))
 
 -- ---- areas that begin at a multiple of 16
 
@@ -253,24 +266,30 @@ first_is s e = omega (arith, e)
 end_is : (s : AddressRange) → s.address + s.length ≤ 2 ^ 64 → end_of s ≡ s.address + s.length
 end_is s h = grind (arith, h)
 
-pub count_is : (s : AddressRange) → s.address / 16 * 16 ≡ s.address → s.address + s.length ≤ 2 ^ 64 → count_in s ≡ (s.length - 4) / 16
+pub count_is : (s : AddressRange) → s.address / 16 * 16 ≡ s.address → s.address + s.length ≤ 2 ^ 64
+    → count_in s ≡ (s.length - 4) / 16
 count_is s e h = rw (end_is s h, first_is s e) (omega arith)
 
 -- ---- so many candidates
 
-later_found : (r : Result (List ℕ) AcpiError) (a : ℕ) (o : Option (ℕ × List ℕ)) → is_some (or_later (λ x. Some (a, x)) r o) ≡ (if is_ok r then true else is_some o)
+later_found : (r : Result (List ℕ) AcpiError) (a : ℕ) (o : Option (ℕ × List ℕ))
+    → is_some (or_later (λ x. Some (a, x)) r o) ≡ (if is_ok r then true else is_some o)
 later_found (Ok x) a o = refl
 later_found (Err e) a o = refl
 
-later_holes : (r : Result (List ℕ) AcpiError) (b : Bool) (xs : List Range) → is_ok r ≡ b → or_later (λ x. []) r xs ≡ (if b then [] else xs)
+later_holes : (r : Result (List ℕ) AcpiError) (b : Bool) (xs : List Range) → is_ok r ≡ b
+    → or_later (λ x. []) r xs ≡ (if b then [] else xs)
 later_holes (Ok x) b xs is = rw (← is) refl
 later_holes (Err e) b xs is = rw (← is) refl
 
-put_hole : (old : List Range) (n : ℕ) (o : Option Range) (ys : List Range) → put_from (put_from old n (cons_option o [])) (n + length (cons_option o [])) ys ≡ put_from old n (cons_option o ys)
+put_hole : (old : List Range) (n : ℕ) (o : Option Range) (ys : List Range)
+    → put_from (put_from old n (cons_option o [])) (n + length (cons_option o [])) ys
+    ≡ put_from old n (cons_option o ys)
 put_hole old n (Some r) ys = refl
 put_hole old n None ys = ap (λ i. put_from old i ys) (omega arith)
 
-more_holes : (n : ℕ) (o : Option Range) (ys : List Range) → n + length (cons_option o []) + length ys ≡ n + length (cons_option o ys)
+more_holes : (n : ℕ) (o : Option Range) (ys : List Range)
+    → n + length (cons_option o []) + length ys ≡ n + length (cons_option o ys)
 more_holes n (Some r) ys = omega arith
 more_holes n None ys = omega arith
 
@@ -281,30 +300,40 @@ few_holes None = omega arith
 -- what is written and what is left are the whole, and those that are left have a valid one if all have
 abbrev pub Walked : Memory → ℕ → ℕ → List Range → ℕ → List Range → ℕ → Bool → Type 0
 Walked m left a new next all count valid =
-    (put_from new next (walk_holes m left a) ≡ all) × (next + length (walk_holes m left a) ≡ count) × (has_valid m left a ≡ valid)
+    (put_from new next (walk_holes m left a) ≡ all) × (next + length (walk_holes m left a) ≡ count)
+    × (has_valid m left a ≡ valid)
 
-pub walked_more : (m : Memory) (left a : ℕ) (new : List Range) (next : ℕ) (o : Option Range) (all : List Range) (count : ℕ) (valid : Bool) → 0 < left → is_ok (rsdp_at m a) ≡ false → o ≡ candidate_hole m a
-    → Walked m left a new next all count valid → Walked m (left - 1) (a + 16) (put_from new next (cons_option o [])) (next + length (cons_option o [])) all count valid
+pub walked_more : (m : Memory) (left a : ℕ) (new : List Range) (next : ℕ) (o : Option Range) (all : List Range)
+    (count : ℕ) (valid : Bool) → 0 < left → is_ok (rsdp_at m a) ≡ false → o ≡ candidate_hole m a
+    → Walked m left a new next all count valid
+    → Walked m (left - 1) (a + 16) (put_from new next (cons_option o [])) (next + length (cons_option o []))
+    all count valid
 unfolding walk_holes has_valid
 walked_more m zero a new next o all count valid some refused is w = absurd (omega (arith, some))
 walked_more m (suc left) a new next o all count valid some refused is w =
     let less : suc left - 1 ≡ left = omega arith in
     let ys = walk_holes m left (a + 16) in
-    let holes : walk_holes m (suc left) a ≡ cons_option o ys = later_holes (rsdp_at m a) false _ refused ∙ ap (λ x. cons_option x ys) (sym is) in
-    let found : has_valid m (suc left) a ≡ has_valid m left (a + 16) = later_found (rsdp_at m a) a (walk m left (a + 16)) ∙ ap (λ b. if b then true else has_valid m left (a + 16)) refused in
+    let holes : walk_holes m (suc left) a ≡ cons_option o ys = later_holes (rsdp_at m a) false _ refused
+    ∙ ap (λ x. cons_option x ys) (sym is) in
+    let found : has_valid m (suc left) a ≡ has_valid m left (a + 16) =
+    later_found (rsdp_at m a) a (walk m left (a + 16)) ∙ ap (λ b. if b then true else has_valid m left (a + 16))
+    refused in
     rw less (put_hole new next o ys ∙ (rw holes at w.0), more_holes next o ys ∙ (rw holes at w.1), sym found ∙ w.2)
 
 -- a valid one is the last
-pub walked_to : (m : Memory) (left a : ℕ) (new : List Range) (next : ℕ) (all : List Range) (count : ℕ) (valid : Bool) → 0 < left → is_ok (rsdp_at m a) ≡ true → Walked m left a new next all count valid
+pub walked_to : (m : Memory) (left a : ℕ) (new : List Range) (next : ℕ) (all : List Range) (count : ℕ) (valid : Bool)
+    → 0 < left → is_ok (rsdp_at m a) ≡ true → Walked m left a new next all count valid
     → (new ≡ all) × (next ≡ count) × (true ≡ valid)
 unfolding walk_holes has_valid
 walked_to m zero a new next all count valid some is w = absurd (omega (arith, some))
 walked_to m (suc left) a new next all count valid some is w =
     let holes : walk_holes m (suc left) a ≡ [] = later_holes (rsdp_at m a) true _ is in
-    let found : has_valid m (suc left) a ≡ true = later_found (rsdp_at m a) a (walk m left (a + 16)) ∙ ap (λ b. if b then true else has_valid m left (a + 16)) is in
+    let found : has_valid m (suc left) a ≡ true = later_found (rsdp_at m a) a (walk m left (a + 16))
+    ∙ ap (λ b. if b then true else has_valid m left (a + 16)) is in
     (rw holes at w.0, omega (arith, rw holes at w.1), sym found ∙ w.2)
 
-pub walked_all : (m : Memory) (left a : ℕ) (new : List Range) (next : ℕ) (all : List Range) (count : ℕ) (valid : Bool) → left ≤ 0 → Walked m left a new next all count valid
+pub walked_all : (m : Memory) (left a : ℕ) (new : List Range) (next : ℕ) (all : List Range) (count : ℕ) (valid : Bool)
+    → left ≤ 0 → Walked m left a new next all count valid
     → (new ≡ all) × (next ≡ count) × (false ≡ valid)
 unfolding walk_holes has_valid
 walked_all m zero a new next all count valid none w = (w.0, omega (arith, w.1), w.2)
@@ -312,11 +341,16 @@ walked_all m (suc left) a new next all count valid none w = absurd (omega (arith
 
 -- ---- of two areas
 
-module _ (m : Memory) (a : Areas) (old mid : List Range) (n : ℕ) (valid : Bool) (written : mid ≡ put_from old 0 (walk_holes m a.first.count a.first.first)) (counted : n ≡ 0 + length (walk_holes m a.first.count a.first.first)) (is : valid ≡ has_valid m a.first.count a.first.first) where
+module _ (m : Memory) (a : Areas) (old mid : List Range) (n : ℕ) (valid : Bool)
+    (written : mid ≡ put_from old 0 (walk_holes m a.first.count a.first.first))
+    (counted : n ≡ 0 + length (walk_holes m a.first.count a.first.first))
+    (is : valid ≡ has_valid m a.first.count a.first.first) where
   pub first_found : valid ≡ true → Writes n old mid (areas_holes m a)
   first_found found = rw (← is, found) (one_part old mid _ n written counted)
 
-  pub both_walked : (new : List Range) (k : ℕ) → valid ≡ false → new ≡ put_from mid n (walk_holes m a.second.count a.second.first) → k ≡ n + length (walk_holes m a.second.count a.second.first) → Writes k old new (areas_holes m a)
+  pub both_walked : (new : List Range) (k : ℕ) → valid ≡ false
+      → new ≡ put_from mid n (walk_holes m a.second.count a.second.first)
+      → k ≡ n + length (walk_holes m a.second.count a.second.first) → Writes k old new (areas_holes m a)
   both_walked new k none second all = rw (← is, none) (two_parts old mid new _ _ n k written counted second all)
 
 abbrev IsLow : AddressRange → Type 0
@@ -333,10 +367,13 @@ pub bios_fits : IsLow (range 0xe0000 0x20000)
 bios_fits = (refl, omega arith)
 
 abbrev pub SecondFits : ℕ → Type 0
-SecondFits word = let s = second_area word in (s.start + 16 * ((room_of s - 20) / 16) ≤ 2 ^ 20) × (count_of s ≡ (room_of s - 20) / 16) × (20 ≤ room_of s) × (room_of s < 2 ^ 32)
+SecondFits word = let s = second_area word in (s.start + 16 * ((room_of s - 20) / 16) ≤ 2 ^ 20)
+    × (count_of s ≡ (room_of s - 20) / 16) × (20 ≤ room_of s) × (room_of s < 2 ^ 32)
 
-by_start : (a : ℕ) (b : Bool) → (b ≡ true → a < 0x9ffff) → let s = (if b then area a (a + 1024) else area 0x80000 0xa0000) in
-    (s.start + 16 * ((room_of s - 20) / 16) ≤ 2 ^ 20) × (count_of s ≡ (room_of s - 20) / 16) × (20 ≤ room_of s) × (room_of s < 2 ^ 32)
+by_start : (a : ℕ) (b : Bool) → (b ≡ true → a < 0x9ffff) → let s =
+    (if b then area a (a + 1024) else area 0x80000 0xa0000) in
+    (s.start + 16 * ((room_of s - 20) / 16) ≤ 2 ^ 20) × (count_of s ≡ (room_of s - 20) / 16) × (20 ≤ room_of s)
+    × (room_of s < 2 ^ 32)
 by_start a true low =
     let under = low refl in
     (omega (arith, under), omega arith, omega arith, omega arith)

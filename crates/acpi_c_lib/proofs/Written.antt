@@ -1,70 +1,61 @@
 -- Lists that are written, in one part or in two, and how many items they have at most.
-use Rattle.std.proofs.Common.{◌≡◌, ◌∙◌, ◌+◌, ℕ, List, [], ◌∷◌, ◌++◌, length, length-append, slice_set, ap, sym, arith, drop, zero, suc, map, Some, None, true, refl, add-one, ◌<◌, ◌*◌, ◌≤◌, Bool, false, Option, length-drop, inl, inr, take}
-use Rattle.std.proofs.lemmas.List.{append-nil, length-map}
-use Rattle.acpi_c_lib.specs.Answers.{Writes, put_from}
-use Rattle.std.specs.Prelude.{nat_lt, ◌==◌, ◌&&◌, ◌||◌, not, nat_le, if◌then◌else◌, filter, Ok}
+use Rattle.std.proofs.Common.{◌≡◌, ◌∙◌, ◌+◌, ℕ, List, [], ◌∷◌, ◌++◌, length, length-append, slice_set, ap, sym, arith, drop, zero, suc, map, Some, None, true, refl, add-one, ◌<◌, ◌*◌, ◌≤◌, Bool, false, Option, length-drop, inl, inr, take, nat_lt, ◌==◌, ◌&&◌, ◌||◌, not, nat_le, if◌then◌else◌, filter, Ok, filter_map, option_map}
+use Rattle.acpi_base.proofs.FromStd.{append-nil, length-map, nat_tests, length-filter, count_by-le-length}
+use Rattle.acpi_c_lib.specs.Words.{Writes, put_from, MadtItem, left_after, listed, processor_record, Processor, plain_grammar, plain_layout, GtFrame, frame_record, frames_in, frames_of, frames_shown, watchdog_in, watchdogs_shown}
 use Rattle.acpi.proofs.First.{filter_map_few}
-use Rattle.std.specs.List.{filter_map, concat, AllByRecursion, cons_option, list_all}
-use Rattle.std.specs.Option.{option_map}
-use Rattle.acpi_base.specs.Model.{processor_in, processors_of}
-use Rattle.acpi_c_lib.specs.Model.{MadtItem, left_after, listed, processor_record}
-use Rattle.acpi_c_lib.specs.declared.interrupt_records.Processor.{Processor}
-use Rattle.acpi_base.proofs.Cuts.{cut_is_cut}
-use Rattle.acpi_base.specs.Bytes.{IsBytes, field_of}
-use Rattle.acpi_base.specs.Entries.{IsEntry, after_one, cut, number_in, width_of, with_entry}
-use Rattle.acpi_base.specs.declared.entries.Width.{Width}
-use Rattle.acpi_base.specs.declared.entries.Width.TheVariants.{One, Two}
-use Rattle.acpi_c_lib.specs.Entries.{plain_grammar, plain_layout}
-use Rattle.std.proofs.lemmas.Bool.Decides.{nat_tests}
+use Rattle.acpi_base.specs.FromStd.{concat, AllByRecursion, cons_option, list_all}
+use Rattle.acpi_base.specs.Words.{processor_in, processors_of, IsBytes, field_of, IsEntry, after_one, cut, number_in, width_of, with_entry, ◌>>=◌, holds}
+use Rattle.acpi_base.proofs.Words.{cut_is_cut}
+use Rattle.acpi.specs.Types.{Width, One, Two}
 use Rattle.acpi_arm.specs.Timers.{Timer, frame_count, frames_fit, is_sound, kind_of, sound_front, timer_bytes, timer_count, timer_of, timers_grammar, timers_layout, watchdog_at}
-use Rattle.acpi_c_lib.specs.ArmTimers.{GtFrame, frame_record, frames_in, frames_of, frames_shown, watchdog_in, watchdogs_shown}
-use Rattle.std.proofs.lemmas.List.Sums.{length-filter, count_by-le-length}
-use Rattle.acpi_base.specs.Steps.{◌>>=◌, holds}
-use Rattle.acpi_iommu.specs.Dmar.{is_range, rmrr_at, structure_size, structures_of}
-use Rattle.acpi_iommu.specs.DmarUnits.{is_reserved_for, reserved_for}
-use Rattle.acpi_iommu.specs.Ivrs.{block_size, blocks_of, ivmd_at}
-use Rattle.acpi_iommu.specs.IvrsUnits.{ends_below, is_memory_for, memory_for}
-use Rattle.acpi_iommu.specs.Pieces.{front, pieces, pieces_within}
-use Rattle.acpi_iommu.specs.declared.dmar.fields.Rmrr.{Rmrr}
-use Rattle.acpi_iommu.specs.declared.dmar.scope.Hop.{Hop}
-use Rattle.acpi_iommu.specs.declared.error.IommuError.TheVariants.{InvalidMemoryRange, InvalidStructureLength}
-use Rattle.acpi_iommu.specs.declared.ivrs.block.Ivmd.{Ivmd}
+use Rattle.acpi_iommu.specs.Words.{is_range, rmrr_at, structure_size, structures_of, is_reserved_for, reserved_for, block_size, blocks_of, ivmd_at, ends_below, is_memory_for, memory_for, front, pieces, pieces_within}
+use Rattle.acpi_c_lib.specs.Types.{Rmrr, Hop, InvalidStructureLength, Ivmd}
+use Rattle.acpi_iommu.specs.declared.error.IommuError.TheVariants.{InvalidMemoryRange}
 use Rattle.acpi_arm.specs.Timers as arm
 use Rattle.acpi_c_lib.specs.Records as records
 use Rattle.acpi_iommu.specs.DmarUnits as dmar
 use Rattle.acpi_iommu.specs.IvrsUnits as ivrs
 
 -- what is written from where the first part ends on is the second part
-pub put_parts : {X : Type 0} (old : List X) (n : ℕ) (xs ys : List X) → put_from old n (xs ++ ys) ≡ put_from (put_from old n xs) (n + length xs) ys
+pub put_parts : {X : Type 0} (old : List X) (n : ℕ) (xs ys : List X)
+    → put_from old n (xs ++ ys) ≡ put_from (put_from old n xs) (n + length xs) ys
 put_parts old n [] ys = ap (λ k. put_from old k ys) (omega arith)
-put_parts old n (x ∷ xs) ys = put_parts (slice_set old n x) (n + 1) xs ys ∙ ap (λ k. put_from (put_from (slice_set old n x) (n + 1) xs) k ys) (omega arith)
+put_parts old n (x ∷ xs) ys = put_parts (slice_set old n x) (n + 1) xs ys
+    ∙ ap (λ k. put_from (put_from (slice_set old n x) (n + 1) xs) k ys) (omega arith)
 
-pub two_parts : {X : Type 0} (old mid new xs ys : List X) (n k : ℕ) → mid ≡ put_from old 0 xs → n ≡ 0 + length xs → new ≡ put_from mid n ys → k ≡ n + length ys → Writes k old new (xs ++ ys)
+pub two_parts : {X : Type 0} (old mid new xs ys : List X) (n k : ℕ) → mid ≡ put_from old 0 xs → n ≡ 0 + length xs
+    → new ≡ put_from mid n ys → k ≡ n + length ys → Writes k old new (xs ++ ys)
 two_parts old mid new xs ys n k first counted second all = (
   omega (arith, all, counted, length-append xs ys),
-  second ∙ ap (λ x. put_from x n ys) first ∙ ap (λ i. put_from (put_from old 0 xs) i ys) counted ∙ sym (put_parts old 0 xs ys),
+  second ∙ ap (λ x. put_from x n ys) first ∙ ap (λ i. put_from (put_from old 0 xs) i ys) counted
+      ∙ sym (put_parts old 0 xs ys),
 )
 
-pub one_part : {X : Type 0} (old new xs : List X) (n : ℕ) → new ≡ put_from old 0 xs → n ≡ 0 + length xs → Writes n old new (xs ++ [])
+pub one_part : {X : Type 0} (old new xs : List X) (n : ℕ) → new ≡ put_from old 0 xs → n ≡ 0 + length xs
+    → Writes n old new (xs ++ [])
 one_part old new xs n first counted = rw (append-nil xs) (omega (arith, counted), first)
 
 -- no more have a record than there are items
-pub found_few : {X Y Z : Type 0} (f : Y → Z) (g : X → Option Y) (xs : List X) → length (map f (filter_map g xs)) ≤ length xs
+pub found_few : {X Y Z : Type 0} (f : Y → Z) (g : X → Option Y) (xs : List X)
+    → length (map f (filter_map g xs)) ≤ length xs
 found_few f g xs = omega (arith, length-map (filter_map g xs) f, filter_map_few g xs)
 
 -- ---- processors: the first is the boot processor
 
-pub next_some : (n : ℕ) (x : MadtItem) (items : List MadtItem) (r : Processor) → option_map processor_record (processor_in (nat_lt 0 n) x) ≡ Some r
+pub next_some : (n : ℕ) (x : MadtItem) (items : List MadtItem) (r : Processor)
+    → option_map processor_record (processor_in (nat_lt 0 n) x) ≡ Some r
     → left_after n (x ∷ items) ≡ r ∷ left_after (n + 1) items
 next_some zero x items r e = grind (arith, e)
 next_some (suc n) x items r e = grind (arith, e, add-one (suc n))
 
-pub next_none : (n : ℕ) (x : MadtItem) (items : List MadtItem) → option_map processor_record (processor_in (nat_lt 0 n) x) ≡ None → left_after n (x ∷ items) ≡ left_after n items
+pub next_none : (n : ℕ) (x : MadtItem) (items : List MadtItem)
+    → option_map processor_record (processor_in (nat_lt 0 n) x) ≡ None → left_after n (x ∷ items) ≡ left_after n items
 next_none zero x items e = grind (arith, e)
 next_none (suc n) x items e = grind (arith, e)
 
 -- as many are listed as there are entries of processors
-pub as_many : (items : List MadtItem) → length (listed (processors_of items)) ≡ length (filter_map (processor_in true) items)
+pub as_many : (items : List MadtItem) → length (listed (processors_of items))
+    ≡ length (filter_map (processor_in true) items)
 as_many [] = refl
 as_many (x ∷ items) = grind (arith, as_many items)
 
@@ -79,14 +70,25 @@ pub entry_small : (w : Width) (e : List ℕ) → IsBytes e → IsEntry (plain_la
 entry_small w e h entry = omega (arith, number_small w (width_of w) e h, entry.size)
 
 -- the bytes of an entry and those after it are all bytes
-pub front_whole : (w : Width) (rest e others : List ℕ) → cut (plain_grammar w) rest ≡ with_entry e (cut (after_one (plain_grammar w)) others) → length rest ≡ length e + length others
+pub front_whole : (w : Width) (rest e others : List ℕ)
+    → cut (plain_grammar w) rest ≡ with_entry e (cut (after_one (plain_grammar w)) others)
+    → length rest ≡ length e + length others
 front_whole w rest e others front =
     let all = cut_is_cut 0 (plain_grammar w) rest in
     let more = cut_is_cut 0 (plain_grammar w) others in
-    let here : rest ≡ concat (e ∷ (cut (plain_grammar w) others).0) ++ (cut (plain_grammar w) others).1 = rw front at all.whole in
+    let here : rest ≡ concat (e ∷ (cut (plain_grammar w) others).0) ++ (cut (plain_grammar w) others).1 =
+    rw front at all.whole in
     let long = ap length here in
     let later = ap length more.whole in
-    omega (arith, long, later, length-append (concat (e ∷ (cut (plain_grammar w) others).0)) (cut (plain_grammar w) others).1, length-append e (concat (cut (plain_grammar w) others).0), length-append (concat (cut (plain_grammar w) others).0) (cut (plain_grammar w) others).1)
+    omega (
+      arith,
+      long,
+      later,
+      length-append (concat (e ∷ (cut (plain_grammar w) others).0))
+          (cut (plain_grammar w) others).1,
+      length-append e (concat (cut (plain_grammar w) others).0),
+      length-append (concat (cut (plain_grammar w) others).0) (cut (plain_grammar w) others).1,
+    )
 
 -- ---- frames
 
@@ -102,23 +104,28 @@ said (Some t) = frames_in t
 said None = []
 
 by_kind : (e : List ℕ) (b c : Bool) → (not b || frames_fit e) ≡ true
-    → length (said (if b then Some (inl (field_of e 4 8, arm.frames_of e)) else if c then Some (inr (watchdog_at e)) else None)) ≤ length e
+    → length (said (if b then Some (inl (field_of e 4 8, arm.frames_of e)) else if c then Some (inr (watchdog_at e))
+    else None)) ≤ length e
 by_kind e true c h =
-    let many = length-map (arm.frames_of e) (frame_record (field_of e 4 8)) ∙ length_frames (frame_count e) (drop (arm.frames_offset e) e) in
+    let many = length-map (arm.frames_of e) (frame_record (field_of e 4 8))
+    ∙ length_frames (frame_count e) (drop (arm.frames_offset e) e) in
     omega (arith, many, few (frame_count e) (arm.frames_offset e) (length e) h)
 by_kind e false true h = omega arith
 by_kind e false false h = omega arith
 
-with_said : (o : Option Timer) (timers : List Timer) (n m : ℕ) → length (said o) ≤ n → length (frames_of timers) ≤ m → length (frames_of (cons_option o timers)) ≤ n + m
+with_said : (o : Option Timer) (timers : List Timer) (n m : ℕ) → length (said o) ≤ n → length (frames_of timers) ≤ m
+    → length (frames_of (cons_option o timers)) ≤ n + m
 with_said (Some t) timers n m h k = omega (arith, h, k, length-append (frames_in t) (frames_of timers))
 with_said None timers n m h k = omega (arith, k)
 
 abbrev frames_among : List (List ℕ) → List records.GtFrame
 frames_among es = frames_of (filter_map timer_of es)
 
-by_sound : (b : Bool) (e : List ℕ) (es : List (List ℕ)) → is_sound e ≡ b → length (frames_among (sound_front es)) ≤ length (concat es)
+by_sound : (b : Bool) (e : List ℕ) (es : List (List ℕ)) → is_sound e ≡ b
+    → length (frames_among (sound_front es)) ≤ length (concat es)
     → length (frames_among (if b then e ∷ sound_front es else [])) ≤ length e + length (concat es)
-by_sound true e es h k = with_said (timer_of e) (filter_map timer_of (sound_front es)) (length e) (length (concat es)) (by_kind e (kind_of e == 0) (kind_of e == 1) h) k
+by_sound true e es h k = with_said (timer_of e) (filter_map timer_of (sound_front es)) (length e) (length (concat es))
+    (by_kind e (kind_of e == 0) (kind_of e == 1) h) k
 by_sound false e es h k = omega arith
 
 frames_sound : (es : List (List ℕ)) → length (frames_among (sound_front es)) ≤ length (concat es)
@@ -128,8 +135,14 @@ frames_sound (e ∷ es) = omega (arith, by_sound (is_sound e) e es refl (frames_
 cut_whole : (count : ℕ) (bytes : List ℕ) → length (concat (cut (timers_grammar count) bytes).0) ≤ length bytes
 cut_whole count bytes =
     let c = cut_is_cut 2 (timers_grammar count) bytes in
-    let long : length bytes ≡ length (concat (cut (timers_grammar count) bytes).0 ++ (cut (timers_grammar count) bytes).1) = ap length c.whole in
-    omega (arith, long, length-append (concat (cut (timers_grammar count) bytes).0) (cut (timers_grammar count) bytes).1)
+    let long : length bytes ≡ length (concat (cut (timers_grammar count) bytes).0
+    ++ (cut (timers_grammar count) bytes).1) = ap length c.whole in
+    omega (
+      arith,
+      long,
+      length-append (concat (cut (timers_grammar count) bytes).0)
+          (cut (timers_grammar count) bytes).1,
+    )
 
 few_bytes : (b : Bool) (table : List ℕ) (n : ℕ) → length (if b then [] else drop n table) ≤ length table
 few_bytes true table n = omega arith
@@ -140,7 +153,12 @@ bytes_few table = few_bytes _ table (field_of table 92 4)
 
 pub frames_few : (table : List ℕ) → length (frames_shown table) ≤ length table
 frames_few table =
-    omega (arith, frames_sound (cut (timers_grammar (timer_count table)) (timer_bytes table)).0, cut_whole (timer_count table) (timer_bytes table), bytes_few table)
+    omega (
+      arith,
+      frames_sound (cut (timers_grammar (timer_count table)) (timer_bytes table)).0,
+      cut_whole (timer_count table) (timer_bytes table),
+      bytes_few table,
+    )
 
 -- ---- watchdogs
 
@@ -148,7 +166,8 @@ one_each : (es : List (List ℕ)) → AllByRecursion (IsEntry timers_layout) es 
 one_each [] a = omega arith
 one_each (e ∷ es) a = omega (arith, one_each es a.1, a.0.header, length-append e (concat es))
 
-by_front : (b : Bool) (e : List ℕ) (es fs : List (List ℕ)) → length fs ≤ length es → length (if b then e ∷ fs else []) ≤ suc (length es)
+by_front : (b : Bool) (e : List ℕ) (es fs : List (List ℕ)) → length fs ≤ length es
+    → length (if b then e ∷ fs else []) ≤ suc (length es)
 by_front true e es fs h = omega (arith, h)
 by_front false e es fs h = omega arith
 
@@ -160,21 +179,32 @@ pub watchdogs_few : (table : List ℕ) → length (watchdogs_shown table) ≤ le
 watchdogs_few table =
     let es = (cut (timers_grammar (timer_count table)) (timer_bytes table)).0 in
     let c = cut_is_cut 2 (timers_grammar (timer_count table)) (timer_bytes table) in
-    omega (arith, filter_map_few watchdog_in (filter_map timer_of (sound_front es)), filter_map_few timer_of (sound_front es), front_few es, one_each es c.entries, cut_whole (timer_count table) (timer_bytes table), bytes_few table)
+    omega (
+      arith,
+      filter_map_few watchdog_in (filter_map timer_of (sound_front es)),
+      filter_map_few timer_of (sound_front es),
+      front_few es,
+      one_each es c.entries,
+      cut_whole (timer_count table) (timer_bytes table),
+      bytes_few table,
+    )
 
 -- ---- blocks one after the other
 
 -- the frames that are left before a block, with the block's frames first
 
-pub block_first : (all : ℕ) (count : ℕ) (block : ℕ) (frames : List GtFrame) (left more : List Timer) → left ≡ inl (block, frames) ∷ more → count + length (frames_of left) ≡ all
+pub block_first : (all : ℕ) (count : ℕ) (block : ℕ) (frames : List GtFrame) (left more : List Timer)
+    → left ≡ inl (block, frames) ∷ more → count + length (frames_of left) ≡ all
     → count + length (map (frame_record block) frames) + length (frames_of more) ≡ all
 block_first all count block frames left more e h =
     let many = rw (e, length-append (map (frame_record block) frames) (frames_of more)) at h in
     omega (arith, many)
 
-pub block_written : (old out : List records.GtFrame) (all : List records.GtFrame) (count : ℕ) (block : ℕ) (frames : List GtFrame) (left more : List Timer) → left ≡ inl (block, frames) ∷ more
+pub block_written : (old out : List records.GtFrame) (all : List records.GtFrame) (count : ℕ) (block : ℕ)
+    (frames : List GtFrame) (left more : List Timer) → left ≡ inl (block, frames) ∷ more
     → put_from out count (frames_of left) ≡ put_from old 0 all
-    → put_from (put_from out count (map (frame_record block) frames)) (count + length (map (frame_record block) frames)) (frames_of more) ≡ put_from old 0 all
+    → put_from (put_from out count (map (frame_record block) frames)) (count + length (map (frame_record block) frames))
+    (frames_of more) ≡ put_from old 0 all
 block_written old out all count block frames left more e h =
     let whole = rw e at h in
     sym (put_parts out count (map (frame_record block) frames) (frames_of more)) ∙ whole
@@ -187,14 +217,16 @@ block_written old out all count block frames left more e h =
 abbrev step : List ℕ → (ℕ → List (List ℕ) × List ℕ) → Option ℕ → List (List ℕ) × List ℕ
 step bytes next o = elim o [ Some n ↦ with_entry (take n bytes) (next n) | None ↦ ([], bytes) ]
 
-one_more : (most : ℕ) (bytes : List ℕ) (next : ℕ → List (List ℕ) × List ℕ) (o : Option ℕ) → ((n : ℕ) → length (next n).0 ≤ most) → length (step bytes next o).0 ≤ suc most
+one_more : (most : ℕ) (bytes : List ℕ) (next : ℕ → List (List ℕ) × List ℕ) (o : Option ℕ)
+    → ((n : ℕ) → length (next n).0 ≤ most) → length (step bytes next o).0 ≤ suc most
 one_more most bytes next None h = omega arith
 one_more most bytes next (Some n) h = omega (arith, h n)
 
 within_few : (size : List ℕ → Option ℕ) (most : ℕ) (bytes : List ℕ) → length (pieces_within size most bytes).0 ≤ most
 within_few size zero bytes = omega arith
 within_few size (suc most) bytes =
-    one_more most bytes (λ n. pieces_within size most (drop n bytes)) (front size bytes) (λ n. within_few size most (drop n bytes))
+    one_more most bytes (λ n. pieces_within size most (drop n bytes)) (front size bytes)
+    (λ n. within_few size most (drop n bytes))
 
 pieces_few : (size : List ℕ → Option ℕ) (table : List ℕ) → length (pieces size (drop 48 table)).0 ≤ length table
 unfolding pieces
@@ -203,19 +235,40 @@ pieces_few size table = omega (arith, within_few size (length (drop 48 table)) (
 -- ---- ranges
 
 -- what is listed after two checks that hold
-after_two : {A E : Type 0} (a b : Bool) (e f : E) (xs ys : List A) → (holds a e >>= λ _. holds b f >>= λ _. Ok xs) ≡ Ok ys → xs ≡ ys
+after_two : {A E : Type 0} (a b : Bool) (e f : E) (xs ys : List A)
+    → (holds a e >>= λ _. holds b f >>= λ _. Ok xs) ≡ Ok ys → xs ≡ ys
 after_two true true e f xs ys p = cc
 after_two true false e f xs ys p = absurd cc
 after_two false b e f xs ys p = absurd cc
 
-pub reserved_few : {R : Type 0} (f : Rmrr → R) (table : List ℕ) (segment bus : ℕ) (hops : List Hop) (rs : List Rmrr) → reserved_for table segment bus hops ≡ Ok rs → length (map f rs) ≤ length table
+pub reserved_few : {R : Type 0} (f : Rmrr → R) (table : List ℕ) (segment bus : ℕ) (hops : List Hop) (rs : List Rmrr)
+    → reserved_for table segment bus hops ≡ Ok rs → length (map f rs) ≤ length table
 reserved_few f table segment bus hops rs said =
     let some = filter (is_reserved_for segment bus hops) (structures_of table) in
-    let same = after_two (dmar.is_whole table) (list_all is_range (map rmrr_at some)) InvalidStructureLength InvalidMemoryRange (map rmrr_at some) rs said in
-    omega (arith, length-map rs f, ap length same, length-map some rmrr_at, length-filter (is_reserved_for segment bus hops) (structures_of table), count_by-le-length (is_reserved_for segment bus hops) (structures_of table), pieces_few structure_size table)
+    let same = after_two (dmar.is_whole table) (list_all is_range (map rmrr_at some)) InvalidStructureLength
+    InvalidMemoryRange (map rmrr_at some) rs said in
+    omega (
+      arith,
+      length-map rs f,
+      ap length same,
+      length-map some rmrr_at,
+      length-filter (is_reserved_for segment bus hops) (structures_of table),
+      count_by-le-length (is_reserved_for segment bus hops) (structures_of table),
+      pieces_few structure_size table,
+    )
 
-pub memory_few : {R : Type 0} (f : Ivmd → R) (table : List ℕ) (id : ℕ) (ms : List Ivmd) → memory_for table id ≡ Ok ms → length (map f ms) ≤ length table
+pub memory_few : {R : Type 0} (f : Ivmd → R) (table : List ℕ) (id : ℕ) (ms : List Ivmd) → memory_for table id ≡ Ok ms
+    → length (map f ms) ≤ length table
 memory_few f table id ms said =
     let some = filter (is_memory_for id) (blocks_of table) in
-    let same = after_two (ivrs.is_whole table) (list_all ends_below (map ivmd_at some)) InvalidStructureLength InvalidMemoryRange (map ivmd_at some) ms said in
-    omega (arith, length-map ms f, ap length same, length-map some ivmd_at, length-filter (is_memory_for id) (blocks_of table), count_by-le-length (is_memory_for id) (blocks_of table), pieces_few block_size table)
+    let same = after_two (ivrs.is_whole table) (list_all ends_below (map ivmd_at some)) InvalidStructureLength
+    InvalidMemoryRange (map ivmd_at some) ms said in
+    omega (
+      arith,
+      length-map ms f,
+      ap length same,
+      length-map some ivmd_at,
+      length-filter (is_memory_for id) (blocks_of table),
+      count_by-le-length (is_memory_for id) (blocks_of table),
+      pieces_few block_size table,
+    )

@@ -1,10 +1,10 @@
 -- What C gets of an answer.
 use Rattle.std.specs.Prelude.{◌≡◌, ℕ, ◌+◌, List, [], ◌∷◌, length, slice_set, Option, Some, None, Result, Ok, Err}
-use Rattle.acpi_base.specs.Text.{letters_of}
-use Rattle.acpi_base.specs.declared.table.signature.Signature.{Signature}
+use Rattle.acpi_base.specs.Words.{letters_of}
+use Rattle.acpi.specs.Types.{Signature}
 use Rattle.acpi_c_lib.specs.Codes.{code_of, signature_of}
 use Rattle.acpi_c_lib.specs.Records as records
-use Rattle.acpi_c_lib.specs.declared.refusal.Refusal.{Refusal}
+use Rattle.acpi_c_lib.specs.Types.{Refusal}
 
 -- what is made of the value, or the refusal
 abbrev pub result_map : {A B E : Type 0} → (A → B) → Result A E → Result B E
@@ -62,7 +62,8 @@ AnswersList status old new old_count new_count old_name new_name said =
 
 -- 0, and a value written of which this holds; or the refusal's number, and nothing written but its
 -- signature
-abbrev pub AnswersSome : {A B : Type 0} → (B → A → Type 0) → ℕ → A → A → records.Signature → records.Signature → Result B Refusal
+abbrev pub AnswersSome : {A B : Type 0} → (B → A → Type 0) → ℕ → A → A → records.Signature → records.Signature
+    → Result B Refusal
     → Type 0
 AnswersSome Is status old new old_name new_name (Ok x) = (status ≡ 0) × Is x new × (new_name ≡ old_name)
 AnswersSome Is status old new old_name new_name (Err e) =

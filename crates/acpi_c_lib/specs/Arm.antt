@@ -1,23 +1,14 @@
 -- The generic interrupt controller (GIC) of an Arm machine as C gets it.
-use Rattle.std.specs.Prelude.{List, map, Option, Result}
-use Rattle.std.specs.Option.{is_some, ok_or, unwrap_or}
-use Rattle.acpi_base.specs.Interrupts.{trigger_code}
-use Rattle.acpi_base.specs.Steps.{◌>>=◌}
-use Rattle.acpi.specs.Platform.{madt_kind}
+use Rattle.std.specs.Prelude.{List, map, Option, Result, ok_or, unwrap_or}
+use Rattle.acpi_base.specs.FromStd.{is_some}
+use Rattle.acpi_base.specs.Words.{trigger_code, ◌>>=◌}
+use Rattle.acpi.specs.Words.{madt_kind}
 use Rattle.acpi_arm.specs.Gic.{gic_of}
-use Rattle.acpi_arm.specs.declared.gic.GicModel.{GicModel}
-use Rattle.acpi_arm.specs.declared.gic.part.GicCpuInterface.{GicCpuInterface}
-use Rattle.acpi_arm.specs.declared.gic.part.GicDistributor.{GicDistributor}
-use Rattle.acpi_arm.specs.declared.gic.part.GicMsiFrame.{GicMsiFrame}
-use Rattle.acpi_arm.specs.declared.gic.part.GicRedistributors.{GicRedistributors}
-use Rattle.acpi_arm.specs.declared.gic.part.GicTranslationService.{GicTranslationService}
-use Rattle.acpi_arm.specs.declared.gic.part.SpiRange.{SpiRange}
+use Rattle.acpi_c_lib.specs.Types.{GicModel, GicCpuInterface, GicDistributor, GicMsiFrame, GicRedistributors, GicTranslationService, SpiRange, Range, NoGic}
 use Rattle.acpi_c_lib.specs.Answers.{result_map}
 use Rattle.acpi_c_lib.specs.Below.{Refusal, Source, first_table, refused_as}
 use Rattle.acpi_c_lib.specs.Devices.{flag}
 use Rattle.acpi_c_lib.specs.Records as records
-use Rattle.acpi_c_lib.specs.declared.records.Range.{Range}
-use Rattle.acpi_c_lib.specs.declared.refusal.Refusal.TheVariants.{NoGic}
 
 -- a GIC, of no allocator
 abbrev pub Gic : Type 0

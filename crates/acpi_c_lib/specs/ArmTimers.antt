@@ -1,20 +1,14 @@
 -- The generic timers of an Arm machine (GTDT, section 5.2.24) as C gets them.
-use Rattle.std.specs.Prelude.{ℕ, ◌-◌, ◌^◌, nat_lt, Bool, List, [], ◌∷◌, ◌++◌, map, Option, Some, None, Result}
+use Rattle.std.specs.Prelude.{ℕ, ◌-◌, ◌^◌, nat_lt, Bool, List, [], ◌∷◌, ◌++◌, map, Option, Some, None, Result, filter_map, unwrap_or}
 use Rattle.std.proofs.Common.{inl, inr}
-use Rattle.std.specs.List.{filter_map}
-use Rattle.std.specs.Option.{unwrap_or}
-use Rattle.acpi_base.specs.Interrupts.{polarity_code, trigger_code}
+use Rattle.acpi_base.specs.Words.{polarity_code, trigger_code}
 use Rattle.acpi_arm.specs.Gtdt.{control_base_of, gtdt_at, gtdt_kind, read_base_of, virtual_el2_of}
 use Rattle.acpi_arm.specs.Timers.{Timer, missing_of, timers_of}
 pub use Rattle.acpi_arm.specs.declared.frames.GtFrame.{GtFrame}
-use Rattle.acpi_arm.specs.declared.gtdt.ArmTimer.{ArmTimer}
-use Rattle.acpi_arm.specs.declared.gtdt.Gtdt.{Gtdt}
-use Rattle.acpi_arm.specs.declared.timers.SbsaWatchdog.{SbsaWatchdog}
+use Rattle.acpi_c_lib.specs.Types.{ArmTimer, Gtdt, SbsaWatchdog, ArmTimers, Watchdog}
 use Rattle.acpi_c_lib.specs.Below.{Refusal, Source, below_first}
 use Rattle.acpi_c_lib.specs.Devices.{flag}
 use Rattle.acpi_c_lib.specs.Records as records
-use Rattle.acpi_c_lib.specs.declared.arm_records.ArmTimers.{ArmTimers}
-use Rattle.acpi_c_lib.specs.declared.arm_records.Watchdog.{Watchdog}
 
 -- what is shown of the bytes of the first valid GTDT
 abbrev pub gtdt_below : {A : Type 0} → Source → (List ℕ → A) → Result A Refusal

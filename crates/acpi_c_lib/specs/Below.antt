@@ -1,21 +1,14 @@
 -- The tables that a caller names.
-use Rattle.std.specs.Prelude.{ℕ, ◌*◌, ◌==◌, List, drop, Option, Result, Ok, Err, if◌then◌else◌}
-use Rattle.std.specs.Option.{option_map}
-use Rattle.std.specs.Result.{result_ok}
-use Rattle.acpi_base.specs.Memory.{Memory}
-use Rattle.acpi_base.specs.Steps.{◌>>=◌}
-use Rattle.acpi_base.specs.Table.{Kind}
+use Rattle.std.specs.Prelude.{ℕ, ◌*◌, ◌==◌, List, drop, Option, Result, Ok, Err, if◌then◌else◌, option_map}
+use Rattle.acpi_base.specs.FromStd.{result_ok}
+use Rattle.acpi_base.specs.Words.{Memory, ◌>>=◌, Kind}
 pub use Rattle.acpi_base.specs.declared.error.AcpiError.{AcpiError}
-use Rattle.acpi.specs.Areas.{bios_areas, opened_in_areas}
-use Rattle.acpi.specs.Lookup.{lookup}
-use Rattle.acpi.specs.Opened.{Opened, opened_at, opened_by_rsdp, opened_by_search}
-use Rattle.acpi.specs.Root.{pointers, width_of}
-use Rattle.acpi.specs.Search.{word_in}
+use Rattle.acpi.specs.Words.{bios_areas, opened_in_areas, lookup, Opened, opened_at, opened_by_rsdp, opened_by_search, pointers, width_of, word_in}
 use Rattle.acpi_c_lib.specs.Answers.{result_map}
 use Rattle.acpi_c_lib.specs.Regions.{memory_in}
 pub use Rattle.acpi_c_lib.specs.declared.records.Source.{Source}
 pub use Rattle.acpi_c_lib.specs.declared.refusal.Refusal.{Refusal}
-use Rattle.acpi_c_lib.specs.declared.refusal.Refusal.TheVariants.{Acpi, UnknownStart}
+use Rattle.acpi_c_lib.specs.Types.{Acpi, UnknownStart}
 
 -- a refusal of the library's is one of the call's
 abbrev pub refused_as : {A : Type 0} → Result A AcpiError → Result A Refusal

@@ -1,13 +1,10 @@
 -- The numbers that C gets for refusals, those of `enum zacpi_refusal` in include/zacpi.h, and the signatures.
 use Rattle.std.specs.Prelude.{ℕ, Option, Some, None}
-use Rattle.acpi_base.specs.declared.error.AcpiError.{AcpiError}
+use Rattle.acpi.specs.Types.{AcpiError, MadtError, Signature}
 use Rattle.acpi_base.specs.declared.error.AcpiError.TheVariants as acpi
-use Rattle.acpi_base.specs.declared.error.MadtError.{MadtError}
 use Rattle.acpi_base.specs.declared.error.MadtError.TheVariants as madt
-use Rattle.acpi_base.specs.declared.table.signature.Signature.{Signature}
-use Rattle.acpi_c_lib.specs.declared.refusal.Refusal.{Refusal}
+use Rattle.acpi_c_lib.specs.Types.{Refusal, WriterError}
 use Rattle.acpi_c_lib.specs.declared.refusal.Refusal.TheVariants as refusal
-use Rattle.acpi_writer.specs.declared.error.WriterError.{WriterError}
 use Rattle.acpi_writer.specs.declared.error.WriterError.TheVariants as writer
 
 -- why the entries of a MADT are refused (section 5.2.12)

@@ -1,14 +1,12 @@
 -- The serial console (SPCR, whose layout is Microsoft's) as C gets it.
-use Rattle.std.specs.Prelude.{ℕ, Result}
-use Rattle.std.specs.Option.{is_some, unwrap_or}
-use Rattle.acpi_base.specs.Bytes.{field_of}
-use Rattle.acpi_base.specs.Spcr.{base_of, baud_of, bus_of, clock_of, device_id_of, device_of, function_of, interrupt_of, irq_of, spcr_at, vendor_id_of}
-use Rattle.acpi_base.specs.Table.{sdt_kind}
-use Rattle.acpi_base.specs.declared.table.signature.TheConstants.Signature.{SPCR}
-use Rattle.acpi_base.specs.declared.tables.spcr.Spcr.{Spcr}
+use Rattle.std.specs.Prelude.{ℕ, Result, unwrap_or}
+use Rattle.acpi_base.specs.FromStd.{is_some}
+use Rattle.acpi_base.specs.Words.{field_of, baud_of, bus_of, clock_of, device_id_of, device_of, function_of, interrupt_of, irq_of, spcr_at, vendor_id_of, sdt_kind}
+use Rattle.acpi_base.specs.Spcr.{base_of}
+use Rattle.acpi.specs.Types.{SPCR, Spcr}
 use Rattle.acpi_c_lib.specs.Below.{Refusal, Source, below_first}
 use Rattle.acpi_c_lib.specs.Devices.{flag, register_if}
-use Rattle.acpi_c_lib.specs.declared.fixed_records.Console.{Console}
+use Rattle.acpi_c_lib.specs.Types.{Console}
 
 -- a table's fixed fields, and its Interface Type
 abbrev pub console_record : Spcr → ℕ → Console

@@ -1,24 +1,13 @@
 -- Registers, the timer and the boot graphic as C gets them.
 use Rattle.std.specs.Prelude.{ℕ, ◌*◌, Bool, true, false, List, Option, Some, None, Result, Ok, Err}
-use Rattle.acpi_base.specs.Address.{size_code, space_code}
-use Rattle.acpi_base.specs.Bits.{bits_of, has_bit}
-use Rattle.acpi_base.specs.Memory.{Memory}
-use Rattle.acpi_base.specs.Steps.{◌>>=◌}
-use Rattle.acpi_base.specs.Table.{sdt_kind}
-use Rattle.acpi_base.specs.declared.address.GenericAddress.{GenericAddress}
-use Rattle.acpi_base.specs.declared.table.signature.TheConstants.Signature.{BGRT}
-use Rattle.acpi_fixed.specs.Bgrt.{bgrt_at, image_type_of, offset_of, rank_of, status_of}
-use Rattle.acpi_fixed.specs.Fadt.{fadt_at}
-use Rattle.acpi_fixed.specs.declared.bgrt.Bgrt.{Bgrt}
-use Rattle.acpi.specs.Lists.{fadt_kind}
-use Rattle.acpi.specs.Lookup.{lookup}
-use Rattle.acpi.specs.Timer.{timer_of}
-use Rattle.acpi.specs.declared.platform.timer.PmTimer.{PmTimer}
+use Rattle.acpi_base.specs.Words.{size_code, space_code, bits_of, has_bit, Memory, ◌>>=◌, sdt_kind}
+use Rattle.acpi.specs.Types.{GenericAddress, BGRT, Bgrt}
+use Rattle.acpi_fixed.specs.Words.{bgrt_at, image_type_of, offset_of, rank_of, status_of, fadt_at}
+use Rattle.acpi.specs.Words.{fadt_kind, lookup, timer_of}
+use Rattle.acpi_c_lib.specs.Types.{PmTimer, BootGraphic, Register}
 use Rattle.acpi_c_lib.specs.Answers.{result_map}
 use Rattle.acpi_c_lib.specs.Below.{AcpiError, Refusal, Source, below_first, below_source}
 use Rattle.acpi_c_lib.specs.Records as records
-use Rattle.acpi_c_lib.specs.declared.records.BootGraphic.{BootGraphic}
-use Rattle.acpi_c_lib.specs.declared.records.Register.{Register}
 
 abbrev pub flag : Bool → ℕ
 flag true = 1

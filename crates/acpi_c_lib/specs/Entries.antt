@@ -1,19 +1,11 @@
 -- The entries of any table as C gets them.
 use Rattle.std.specs.Prelude.{ℕ, ◌+◌, ◌==◌, nat_le, nat_lt, List, [], ◌∷◌, drop, length, None, Result, Ok, Err, if◌then◌else◌}
-use Rattle.acpi_base.specs.Entries.{cut, number_at, width_of}
-use Rattle.acpi_base.specs.Header.{header_at}
-use Rattle.acpi_base.specs.Steps.{◌>>=◌, holds}
-use Rattle.acpi_base.specs.Table.{own_table_at}
-use Rattle.acpi_base.specs.declared.entries.EntryLayout.{EntryLayout}
-use Rattle.acpi_base.specs.declared.entries.Grammar.{Grammar}
-use Rattle.acpi_base.specs.declared.entries.Width.{Width}
-use Rattle.acpi_base.specs.declared.entries.Width.TheVariants.{One, Two}
-use Rattle.acpi_base.specs.declared.error.AcpiError.TheVariants.{SdtInvalidLength}
+use Rattle.acpi_base.specs.Words.{cut, number_at, width_of, header_at, ◌>>=◌, holds, own_table_at}
+use Rattle.acpi.specs.Types.{EntryLayout, Grammar, Width, One, Two, SdtInvalidLength}
 use Rattle.acpi_c_lib.specs.Below.{Refusal, refused_as}
 use Rattle.acpi_c_lib.specs.Devices.{flag}
 use Rattle.acpi_c_lib.specs.Regions.{Region, memory_in}
-use Rattle.acpi_c_lib.specs.declared.records.Entry.{Entry}
-use Rattle.acpi_c_lib.specs.declared.refusal.Refusal.TheVariants.{Acpi, UnknownWidth}
+use Rattle.acpi_c_lib.specs.Types.{Entry, Acpi, UnknownWidth}
 
 -- an entry that begins with Type and Length, numbers of this width; no type has a least length of its own
 abbrev pub plain_layout : Width → EntryLayout 0

@@ -1,15 +1,13 @@
 -- The tables that lookups pass over.
-use Rattle.std.specs.Prelude.{ℕ, List, if◌then◌else◌, map, Result, Ok}
-use Rattle.std.specs.Str.{bytes_eq}
-use Rattle.acpi_base.specs.Table.{Kind, sdt_kind}
-use Rattle.acpi_base.specs.declared.table.signature.TheConstants.Signature.{BGRT, DMAR, FADT, GTDT, HPET, IVRS, MADT, MCFG, SLIT, SPCR, SRAT}
-use Rattle.acpi.specs.Lists.{faults_of}
-use Rattle.acpi.specs.declared.records.TableFault.{TableFault}
+use Rattle.std.specs.Prelude.{ℕ, List, if◌then◌else◌, map, Result, Ok, bytes_eq}
+use Rattle.acpi_base.specs.Words.{Kind, sdt_kind}
+use Rattle.acpi.specs.Types.{BGRT, DMAR, FADT, GTDT, HPET, IVRS, MADT, MCFG, SLIT, SPCR, SRAT}
+use Rattle.acpi.specs.Words.{faults_of}
+use Rattle.acpi_c_lib.specs.Types.{TableFault, Fault}
 use Rattle.acpi_c_lib.specs.Below.{Refusal, Source, below_source}
 use Rattle.acpi_c_lib.specs.Codes.{acpi_code}
 use Rattle.acpi_c_lib.specs.Records as records
 use Rattle.acpi_c_lib.specs.Shown.{Signature, signature_named}
-use Rattle.acpi_c_lib.specs.declared.records.Fault.{Fault}
 
 abbrev pub fault_record : TableFault → Fault
 fault_record f = record { address = f.address; status = acpi_code f.error }

@@ -1,19 +1,15 @@
 -- The fixed hardware (FADT, section 5.2.9) as C gets it.
 use Rattle.std.specs.Prelude.{ℕ, Option, Some, None, Result, Ok, Err}
-use Rattle.std.specs.Result.{result_unwrap_or}
-use Rattle.acpi_base.specs.Address.{generic_address_of, space_code}
-use Rattle.acpi_fixed.specs.Fadt.{dsdt_address_of, facs_address_of, fadt_at, pm_timer_of, profile_of, registers_of}
-use Rattle.acpi_fixed.specs.Flags.{arm_bits, feature_bits, pc_bits}
-use Rattle.acpi_fixed.specs.Gpe.{gpe_of}
-use Rattle.acpi_fixed.specs.Registers.{block_of, optional_block_of, register_of}
-use Rattle.acpi_fixed.specs.declared.fadt.Fadt.{Fadt}
-use Rattle.acpi_fixed.specs.declared.fadt.registers.gpe.GpeBlock.{GpeBlock}
-use Rattle.acpi.specs.Lists.{fadt_kind}
+use Rattle.acpi_base.specs.FromStd.{result_unwrap_or}
+use Rattle.acpi_base.specs.Words.{generic_address_of, space_code}
+use Rattle.acpi_fixed.specs.Words.{dsdt_address_of, facs_address_of, fadt_at, pm_timer_of, profile_of, registers_of, arm_bits, feature_bits, pc_bits, gpe_of, block_of, optional_block_of, register_of}
+use Rattle.acpi.specs.Types.{Fadt, GpeBlock}
+use Rattle.acpi.specs.Words.{fadt_kind}
 use Rattle.acpi_c_lib.specs.Below.{AcpiError, Refusal, Source, below_first}
 use Rattle.acpi_c_lib.specs.Devices.{optional_register, required_register}
 use Rattle.acpi_c_lib.specs.Records as records
-use Rattle.acpi_c_lib.specs.declared.fixed_records.FixedHardware.{FixedHardware}
-use Rattle.acpi_writer.specs.FadtBytes.{profile_code}
+use Rattle.acpi_c_lib.specs.Types.{FixedHardware}
+use Rattle.acpi_writer.specs.Words.{profile_code}
 
 -- no block of general purpose events: zeros, and 0 if there is none or 2 if its address is refused
 abbrev pub no_gpe : ℕ → records.GpeBlock

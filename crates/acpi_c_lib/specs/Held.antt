@@ -1,5 +1,5 @@
 -- What a checked memory shows.
-use Rattle.acpi_base.specs.Memory.{Memory}
+use Rattle.acpi_base.specs.Words.{Memory}
 use Rattle.acpi_c_lib.specs.Regions.{memory_of}
 use Rattle.acpi_c_lib.specs.declared.regions.Mapped.{Mapped}
 

@@ -1,30 +1,13 @@
 -- The units that remap what devices ask of memory, as C gets them.
-use Rattle.std.specs.Prelude.{ℕ, List, Option, Some, None, map, Result, Ok, Err}
-use Rattle.std.specs.Option.{is_some, unwrap_or}
-use Rattle.acpi_base.specs.Steps.{◌>>=◌}
-use Rattle.acpi_base.specs.Table.{sdt_kind}
-use Rattle.acpi_base.specs.declared.table.signature.TheConstants.Signature.{DMAR, IVRS}
-use Rattle.acpi_iommu.specs.Dmar.{includes_pci_all, register_bytes}
-use Rattle.acpi_iommu.specs.DmarUnits.{reserved_for, unit_for, unit_of_hpet, unit_of_io_apic}
-use Rattle.acpi_iommu.specs.IvrsUnits.{block_for, memory_for}
-use Rattle.acpi_iommu.specs.declared.dmar.fields.Drhd.{Drhd}
-use Rattle.acpi_iommu.specs.declared.dmar.fields.Rmrr.{Rmrr}
-use Rattle.acpi_iommu.specs.declared.dmar.scope.Hop.{Hop}
-use Rattle.acpi_iommu.specs.declared.dmar.units.UnitSource.{UnitSource}
-use Rattle.acpi_iommu.specs.declared.error.IommuError.{IommuError}
+use Rattle.std.specs.Prelude.{ℕ, List, Option, Some, None, map, Result, Ok, Err, unwrap_or}
+use Rattle.acpi_base.specs.FromStd.{is_some}
+use Rattle.acpi_base.specs.Words.{◌>>=◌, sdt_kind}
+use Rattle.acpi.specs.Types.{DMAR, IVRS}
+use Rattle.acpi_iommu.specs.Words.{includes_pci_all, register_bytes, reserved_for, unit_for, unit_of_hpet, unit_of_io_apic, block_for, memory_for}
+use Rattle.acpi_c_lib.specs.Types.{Drhd, Rmrr, Hop, UnitSource, IommuError, Ivhd, Ivmd, DeviceUnit, DmarReserved, DmarSource, DmarUnit, IvrsDevice, IvrsMemory, IvrsUnit, InvalidIommuMemoryRange, InvalidIommuStructureLength, NoIommu}
 use Rattle.acpi_iommu.specs.declared.error.IommuError.TheVariants as iommu
-use Rattle.acpi_iommu.specs.declared.ivrs.block.Ivhd.{Ivhd}
-use Rattle.acpi_iommu.specs.declared.ivrs.block.Ivmd.{Ivmd}
-use Rattle.acpi_iommu.specs.declared.ivrs.blocks.DeviceUnit.{DeviceUnit}
 use Rattle.acpi_c_lib.specs.Below.{Refusal, Source, first_table}
 use Rattle.acpi_c_lib.specs.Devices.{flag}
-use Rattle.acpi_c_lib.specs.declared.iommu_records.DmarReserved.{DmarReserved}
-use Rattle.acpi_c_lib.specs.declared.iommu_records.DmarSource.{DmarSource}
-use Rattle.acpi_c_lib.specs.declared.iommu_records.DmarUnit.{DmarUnit}
-use Rattle.acpi_c_lib.specs.declared.iommu_records.IvrsDevice.{IvrsDevice}
-use Rattle.acpi_c_lib.specs.declared.iommu_records.IvrsMemory.{IvrsMemory}
-use Rattle.acpi_c_lib.specs.declared.iommu_records.IvrsUnit.{IvrsUnit}
-use Rattle.acpi_c_lib.specs.declared.refusal.Refusal.TheVariants.{InvalidIommuMemoryRange, InvalidIommuStructureLength, NoIommu}
 
 -- ---- answers
 

@@ -1,13 +1,8 @@
 -- The 16 ISA interrupts at once, each as the calls for one answer it.
-use Rattle.std.specs.Prelude.{◌≡◌, ℕ, ◌-◌, ◌<◌, ◌&&◌, nat_le, List, map, slice_index_or, Option, Some, None, Result, Ok, Err, if◌then◌else◌}
-use Rattle.std.specs.List.{range_with_len}
-use Rattle.std.specs.Option.{option_map}
-use Rattle.acpi_base.specs.Isa.{isa_interrupt}
-use Rattle.acpi_base.specs.Pin.{base_of, io_apic_for}
-use Rattle.acpi_base.specs.Steps.{◌>>=◌}
-use Rattle.acpi_base.specs.declared.model.interrupt.InterruptSourceOverride.{InterruptSourceOverride}
-use Rattle.acpi_base.specs.declared.model.interrupt.IoApic.{IoApic}
-use Rattle.acpi_base.specs.declared.model.isa.IsaInterrupt.{IsaInterrupt}
+use Rattle.std.specs.Prelude.{◌≡◌, ℕ, ◌-◌, ◌<◌, ◌&&◌, nat_le, List, map, slice_index_or, Option, Some, None, Result, Ok, Err, if◌then◌else◌, option_map}
+use Rattle.acpi_base.specs.FromStd.{range_with_len}
+use Rattle.acpi_base.specs.Words.{isa_interrupt, base_of, io_apic_for, ◌>>=◌}
+use Rattle.acpi.specs.Types.{InterruptSourceOverride, IoApic, IsaInterrupt}
 use Rattle.acpi_c_lib.specs.Below.{Refusal, Source}
 use Rattle.acpi_c_lib.specs.Routes.{Interrupt, IoApicPin, interrupt_or, interrupt_record, is_nearer, isa_below, known_apics, pin_below, pin_or}
 pub use Rattle.acpi_c_lib.specs.declared.interrupt_records.IsaInterrupts.{IsaInterrupts}

@@ -21,7 +21,9 @@ pub mod Records
 pub mod Regions
 pub mod Routes
 pub mod Shown
+pub mod Types
 pub mod Walked
+pub mod Words
 pub mod Writing
 pub mod WrittenBgrt
 pub mod WrittenFadt

@@ -1,8 +1,6 @@
 -- What a walk lists for C: the records of those of its items that have one.
-use Rattle.std.specs.Prelude.{◌≡◌, List, [], ◌∷◌, map, Option, Some, None, refl}
-use Rattle.std.specs.List.{cons_option, filter_map}
-use Rattle.std.specs.Option.{option_map}
-use Rattle.std.specs.Iterator.{YieldsFirst, YieldsFirstBy}
+use Rattle.std.specs.Prelude.{◌≡◌, List, [], ◌∷◌, map, Option, Some, None, refl, filter_map, option_map}
+use Rattle.acpi_base.specs.FromStd.{cons_option, YieldsFirst, YieldsFirstBy}
 use Rattle.std.proofs.Common.{◌∙◌, ap}
 
 -- a call from s that gave an item and left t: with the item's record, if it has one, what t lists is what s lists
@@ -28,13 +26,16 @@ pub lists_some : {S A R : Type 0} (f : A → Option R) (rest : S → List A) (s 
     → YieldsFirst rest s item t → ListsFirst f (λ u. filter_map f (rest u)) s item t
 lists_some f rest = lists_by (λ x. x) f (filter_map f) rest refl (λ x xs. refl)
 
-map_option : {B R : Type 0} (f : B → R) (o : Option B) (xs : List B) → map f (cons_option o xs) ≡ cons_option (option_map f o) (map f xs)
+map_option : {B R : Type 0} (f : B → R) (o : Option B) (xs : List B)
+    → map f (cons_option o xs) ≡ cons_option (option_map f o) (map f xs)
 map_option f None xs = refl
 map_option f (Some x) xs = refl
 
 -- some have, by what is found in them
-pub lists_found : {S A B R : Type 0} (f : B → R) (g : A → Option B) (rest : S → List A) (s : S) (item : Option A) (t : S)
+pub lists_found : {S A B R : Type 0} (f : B → R) (g : A → Option B) (rest : S
+    → List A) (s : S) (item : Option A) (t : S)
     → YieldsFirst rest s item t
     → ListsFirst (λ x. option_map f (g x)) (λ u. map f (filter_map g (rest u))) s item t
 lists_found f g rest =
-    lists_by (λ x. x) (λ x. option_map f (g x)) (λ xs. map f (filter_map g xs)) rest refl (λ x xs. map_option f (g x) (filter_map g xs))
+    lists_by (λ x. x) (λ x. option_map f (g x)) (λ xs. map f (filter_map g xs)) rest refl
+    (λ x xs. map_option f (g x) (filter_map g xs))

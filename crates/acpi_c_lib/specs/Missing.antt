@@ -1,32 +1,15 @@
 -- The ranges of memory that a caller has to map before the calls can read all tables.
-use Rattle.std.specs.Prelude.{◌≡◌, ℕ, zero, suc, ◌+◌, ◌*◌, ◌^◌, ◌≤◌, ◌==◌, List, [], ◌∷◌, ◌++◌, drop, filter_map, Bool, Option, Some, None, Result, Ok, Err, if◌then◌else◌}
-use Rattle.std.specs.List.{cons_option, last_or}
-use Rattle.std.specs.Option.{is_some, option_map}
-use Rattle.std.specs.Result.{is_ok}
-use Rattle.acpi_base.specs.Memory.{Memory, at}
-use Rattle.acpi_base.specs.Ranges.{Ranges, own_table_ranges}
-use Rattle.acpi_base.specs.Steps.{◌>>=◌, lent}
-use Rattle.acpi_base.specs.Table.{own_table_at}
-use Rattle.acpi_base.specs.declared.error.AcpiError.TheVariants.{MapFailed}
-use Rattle.acpi_base.specs.declared.range.AddressRange.{AddressRange}
-use Rattle.acpi_fixed.specs.Fadt.{fadt_at}
-use Rattle.acpi_fixed.specs.declared.fadt.Fadt.{Fadt}
-use Rattle.acpi.specs.Areas.{bios_areas, count_in, first_in, opened_in_areas_ranges}
-use Rattle.acpi.specs.Later.{or_later}
-use Rattle.acpi.specs.Lists.{fadt_kind}
-use Rattle.acpi.specs.Lookup.{lookup}
-use Rattle.acpi.specs.Opened.{Opened}
-use Rattle.acpi.specs.OpenedRanges.{opened_by_rsdp_ranges, opened_by_search_ranges, opened_ranges, rsdp_ranges}
-use Rattle.acpi.specs.Places.{dsdt_place, dsdt_place_ranges, facs_place, facs_place_ranges}
-use Rattle.acpi.specs.Root.{pointers, root_of_revision, width_of}
-use Rattle.acpi.specs.Rsdp.{rsdp_at}
-use Rattle.acpi.specs.Search.{count_of, first_area, room_of, second_area, walk, word_in}
+use Rattle.std.specs.Prelude.{◌≡◌, ℕ, zero, suc, ◌+◌, ◌*◌, ◌^◌, ◌≤◌, ◌==◌, List, [], ◌∷◌, ◌++◌, drop, filter_map, Bool, Option, Some, None, Result, Ok, Err, if◌then◌else◌, option_map}
+use Rattle.acpi_base.specs.FromStd.{cons_option, last_or, is_some, is_ok}
+use Rattle.acpi_base.specs.Words.{Memory, at, Ranges, own_table_ranges, ◌>>=◌, lent, own_table_at}
+use Rattle.acpi.specs.Types.{MapFailed, AddressRange, Fadt}
+use Rattle.acpi_fixed.specs.Words.{fadt_at}
+use Rattle.acpi.specs.Words.{bios_areas, count_in, first_in, opened_in_areas_ranges, or_later, fadt_kind, lookup, Opened, opened_by_rsdp_ranges, opened_by_search_ranges, opened_ranges, rsdp_ranges, dsdt_place, dsdt_place_ranges, facs_place, facs_place_ranges, pointers, root_of_revision, width_of, rsdp_at, count_of, first_area, room_of, second_area, walk, word_in}
 use Rattle.acpi_c_lib.specs.Below.{AcpiError, Refusal, Source, ebda_in, opened_in}
 use Rattle.acpi_c_lib.specs.Regions.{memory_in}
 pub use Rattle.acpi_c_lib.specs.declared.candidates.Areas.{Areas}
-use Rattle.acpi_c_lib.specs.declared.candidates.Candidates.{Candidates}
+use Rattle.acpi_c_lib.specs.Types.{Candidates, Acpi}
 pub use Rattle.acpi_c_lib.specs.declared.records.Range.{Range}
-use Rattle.acpi_c_lib.specs.declared.refusal.Refusal.TheVariants.{Acpi}
 
 abbrev pub range_of : ℕ × ℕ → Range
 range_of r = record { address = r.0; length = r.1 }

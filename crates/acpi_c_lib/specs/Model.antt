@@ -1,30 +1,16 @@
 -- The interrupt model (MADT, section 5.2.12) as C gets it.
-use Rattle.std.specs.Prelude.{ℕ, zero, suc, not, true, List, [], ◌∷◌, length, map, Option, Some, None, Result}
-use Rattle.std.specs.List.{filter_map}
-use Rattle.acpi_base.specs.Interrupts.{line_code, polarity_code, trigger_code}
-use Rattle.acpi_base.specs.Madt.{madt_at}
-use Rattle.acpi_base.specs.Memory.{Memory}
+use Rattle.std.specs.Prelude.{ℕ, zero, suc, not, true, List, [], ◌∷◌, length, map, Option, Some, None, Result, filter_map}
+use Rattle.acpi_base.specs.Words.{line_code, polarity_code, trigger_code, madt_at, Memory}
 use Rattle.acpi_base.specs.Model as base
-use Rattle.acpi_base.specs.declared.model.interrupt.Apic.{Apic}
+use Rattle.acpi.specs.Types.{Apic, InterruptSourceOverride, IoApic, NmiLine, NmiProcessor, All, ProcessorUid, NmiSource, Processor, ProcessorInfo, ProcessorState, Disabled, Running, WaitingForSipi}
 use Rattle.acpi_base.specs.declared.model.interrupt.InterruptModel.TheVariants as model
-use Rattle.acpi_base.specs.declared.model.interrupt.InterruptSourceOverride.{InterruptSourceOverride}
-use Rattle.acpi_base.specs.declared.model.interrupt.IoApic.{IoApic}
-use Rattle.acpi_base.specs.declared.model.interrupt.NmiLine.{NmiLine}
-use Rattle.acpi_base.specs.declared.model.interrupt.NmiProcessor.{NmiProcessor}
-use Rattle.acpi_base.specs.declared.model.interrupt.NmiProcessor.TheVariants.{All, ProcessorUid}
-use Rattle.acpi_base.specs.declared.model.interrupt.NmiSource.{NmiSource}
 pub use Rattle.acpi_base.specs.declared.model.item.MadtItem.{MadtItem}
-use Rattle.acpi_base.specs.declared.model.processor.Processor.{Processor}
-use Rattle.acpi_base.specs.declared.model.processor.ProcessorInfo.{ProcessorInfo}
-use Rattle.acpi_base.specs.declared.model.processor.ProcessorState.{ProcessorState}
-use Rattle.acpi_base.specs.declared.model.processor.ProcessorState.TheVariants.{Disabled, Running, WaitingForSipi}
-use Rattle.acpi.specs.Platform.{platform_of}
-use Rattle.acpi.specs.declared.platform.PlatformInfo.{PlatformInfo}
+use Rattle.acpi.specs.Words.{platform_of}
+use Rattle.acpi_c_lib.specs.Types.{PlatformInfo, InterruptModel}
 use Rattle.acpi_c_lib.specs.Answers.{result_map}
 use Rattle.acpi_c_lib.specs.Below.{AcpiError, Refusal, Source, below_source}
 use Rattle.acpi_c_lib.specs.Devices.{flag}
 use Rattle.acpi_c_lib.specs.Records as records
-use Rattle.acpi_c_lib.specs.declared.interrupt_records.InterruptModel.{InterruptModel}
 
 -- a model and its processors, of no allocator
 abbrev pub Platform : Type 0

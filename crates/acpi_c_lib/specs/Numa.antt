@@ -1,21 +1,13 @@
 -- Domains and distances as C gets them.
-use Rattle.std.specs.Prelude.{◌≡◌, ◌≤◌, ◌↔◌, ℕ, List, map, Result, Ok, Err}
-use Rattle.std.specs.Option.{ok_or}
-use Rattle.acpi_base.specs.Steps.{◌>>=◌}
-use Rattle.acpi_base.specs.Table.{Kind, sdt_kind}
-use Rattle.acpi_base.specs.declared.table.signature.TheConstants.Signature.{SLIT}
-use Rattle.acpi_numa.specs.Affinities.{affinities_of, domain_at, srat_kind}
-use Rattle.acpi_numa.specs.Slit.{IsSane, distance_of, localities_of}
-use Rattle.acpi_numa.specs.Srat.{domain_of_apic, domain_of_processor}
-use Rattle.acpi_numa.specs.declared.error.NumaError.{NumaError}
+use Rattle.std.specs.Prelude.{◌≡◌, ◌≤◌, ◌↔◌, ℕ, List, map, Result, Ok, Err, ok_or}
+use Rattle.acpi_base.specs.Words.{◌>>=◌, Kind, sdt_kind}
+use Rattle.acpi.specs.Types.{SLIT}
+use Rattle.acpi_numa.specs.Words.{affinities_of, domain_at, srat_kind, IsSane, distance_of, localities_of, domain_of_apic, domain_of_processor}
+use Rattle.acpi_c_lib.specs.Types.{NumaError, MemoryRange, Localities, MemoryAffinity, Acpi, InvalidMemoryRange, InvalidSratEntryLength, NoDistance, NoDomain}
 use Rattle.acpi_numa.specs.declared.error.NumaError.TheVariants as numa
-use Rattle.acpi_numa.specs.declared.srat.affinities.MemoryRange.{MemoryRange}
 use Rattle.acpi_c_lib.specs.Answers.{result_map}
 use Rattle.acpi_c_lib.specs.Below.{Refusal, Source, below_first, first_table}
 use Rattle.acpi_c_lib.specs.Devices.{flag}
-use Rattle.acpi_c_lib.specs.declared.numa_records.Localities.{Localities}
-use Rattle.acpi_c_lib.specs.declared.numa_records.MemoryAffinity.{MemoryAffinity}
-use Rattle.acpi_c_lib.specs.declared.refusal.Refusal.TheVariants.{Acpi, InvalidMemoryRange, InvalidSratEntryLength, NoDistance, NoDomain}
 
 -- a refusal of the crate for domains is one of the call's
 abbrev pub numa_refusal : NumaError → Refusal

@@ -1,23 +1,16 @@
 -- How interrupts come to the I/O APICs, as C gets it.
-use Rattle.std.specs.Prelude.{ℕ, Bool, true, nat_lt, List, Option, Some, None, Result, Ok, Err}
-use Rattle.std.specs.Option.{ok_or}
-use Rattle.acpi_base.specs.Interrupts.{polarity_code, trigger_code}
-use Rattle.acpi_base.specs.Isa.{isa_interrupt, sci_interrupt}
-use Rattle.acpi_base.specs.Memory.{Memory}
-use Rattle.acpi_base.specs.Pin.{base_of, io_apic_for}
-use Rattle.acpi_base.specs.Steps.{◌>>=◌}
+use Rattle.std.specs.Prelude.{ℕ, Bool, true, nat_lt, List, Option, Some, None, Result, Ok, Err, ok_or}
+use Rattle.acpi_base.specs.Words.{polarity_code, trigger_code, isa_interrupt, sci_interrupt, Memory, base_of, io_apic_for, ◌>>=◌}
 use Rattle.acpi_base.specs.declared.model.interrupt.InterruptModel.TheVariants as model
-use Rattle.acpi_base.specs.declared.model.interrupt.IoApic.{IoApic}
-use Rattle.acpi_base.specs.declared.model.isa.IsaInterrupt.{IsaInterrupt}
-use Rattle.acpi_fixed.specs.Fadt.{fadt_at}
-use Rattle.acpi.specs.Lists.{fadt_kind}
-use Rattle.acpi.specs.Lookup.{lookup}
+use Rattle.acpi.specs.Types.{IoApic, IsaInterrupt}
+use Rattle.acpi_fixed.specs.Words.{fadt_at}
+use Rattle.acpi.specs.Words.{fadt_kind, lookup}
 use Rattle.acpi_c_lib.specs.Answers.{result_map}
 use Rattle.acpi_c_lib.specs.Below.{Refusal, Source, below, refused_as}
 use Rattle.acpi_c_lib.specs.Model.{Apics, Platform, io_apic_record, platform_model}
 pub use Rattle.acpi_c_lib.specs.declared.interrupt_records.Interrupt.{Interrupt}
 pub use Rattle.acpi_c_lib.specs.declared.interrupt_records.IoApicPin.{IoApicPin}
-use Rattle.acpi_c_lib.specs.declared.refusal.Refusal.TheVariants.{NoApics, NoSuchInterrupt, NoSuchIoApic}
+use Rattle.acpi_c_lib.specs.Types.{NoApics, NoSuchInterrupt, NoSuchIoApic}
 
 abbrev pub interrupt_record : IsaInterrupt → Interrupt
 interrupt_record i = record {

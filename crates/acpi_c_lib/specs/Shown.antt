@@ -1,34 +1,17 @@
 -- What the calls answer of the tables that a caller names.
-use Rattle.std.specs.Prelude.{ℕ, List, filter_map, length, map, Option, Result, Ok}
-use Rattle.std.specs.Option.{is_some, ok_or, unwrap_or}
-use Rattle.std.specs.Result.{result_ok}
-use Rattle.acpi_base.specs.Ecam.{ecam_range}
-use Rattle.acpi_base.specs.Header.{header_at}
-use Rattle.acpi_base.specs.Mcfg.{mcfg_entries_of}
-use Rattle.acpi_base.specs.Memory.{Memory}
-use Rattle.acpi_base.specs.Steps.{◌>>=◌}
-use Rattle.acpi_base.specs.Table.{own_table_at, plain_kind}
-use Rattle.acpi_base.specs.Text.{letters_of}
+use Rattle.std.specs.Prelude.{ℕ, List, filter_map, length, map, Option, Result, Ok, ok_or, unwrap_or}
+use Rattle.acpi_base.specs.FromStd.{is_some, result_ok}
+use Rattle.acpi_base.specs.Words.{ecam_range, header_at, mcfg_entries_of, Memory, ◌>>=◌, own_table_at, plain_kind, letters_of}
 pub use Rattle.acpi_base.specs.declared.table.signature.Signature.{Signature}
-use Rattle.acpi_base.specs.declared.tables.mcfg.McfgEntry.{McfgEntry}
-use Rattle.acpi.specs.Ecam.{ecam_address}
-use Rattle.acpi.specs.Hpet.{hpet_of}
-use Rattle.acpi.specs.Lists.{dsdt_stream}
-use Rattle.acpi.specs.Lookup.{lookup}
-use Rattle.acpi.specs.Pci.{mcfg_kind}
-use Rattle.acpi.specs.Root.{width_of}
-use Rattle.acpi.specs.declared.hpet.HpetInfo.{HpetInfo}
-use Rattle.acpi.specs.declared.records.AmlTable.{AmlTable}
+use Rattle.acpi.specs.Types.{McfgEntry}
+use Rattle.acpi.specs.Words.{ecam_address, hpet_of, dsdt_stream, lookup, mcfg_kind, width_of}
+use Rattle.acpi_c_lib.specs.Types.{HpetInfo, AmlTable, EcamRange, PciRegion, Root, NoSuchFunction}
 use Rattle.acpi_c_lib.specs.Answers.{result_map}
 use Rattle.acpi_c_lib.specs.Below.{Refusal, Source, below_first, below_source, first_table, opened_below}
 use Rattle.acpi_c_lib.specs.Devices.{flag}
 use Rattle.acpi_c_lib.specs.Records as records
-use Rattle.acpi_c_lib.specs.declared.fixed_records.EcamRange.{EcamRange}
-use Rattle.acpi_c_lib.specs.declared.records.PciRegion.{PciRegion}
-use Rattle.acpi_c_lib.specs.declared.records.Root.{Root}
 pub use Rattle.acpi_c_lib.specs.declared.records.Table.{Table}
-use Rattle.acpi_c_lib.specs.declared.refusal.Refusal.TheVariants.{NoSuchFunction}
-use Rattle.acpi_writer.specs.HpetBytes.{protection_code}
+use Rattle.acpi_writer.specs.Words.{protection_code}
 
 -- ---- the root table
 

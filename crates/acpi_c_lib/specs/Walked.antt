@@ -1,20 +1,12 @@
 -- What walks along the members of the root table answer.
-use Rattle.std.specs.Prelude.{ℕ, List, drop, length, map, slice_get, Result, Ok}
-use Rattle.std.specs.Option.{ok_or}
-use Rattle.acpi_base.specs.Memory.{Memory}
-use Rattle.acpi_base.specs.Steps.{◌>>=◌}
-use Rattle.acpi_base.specs.Table.{plain_kind}
-use Rattle.acpi_base.specs.declared.error.AcpiError.TheVariants.{TableMissing}
-use Rattle.acpi_base.specs.declared.range.AddressRange.{AddressRange}
-use Rattle.acpi.specs.Lists.{ssdt_streams}
-use Rattle.acpi.specs.Members.{tables_found}
-use Rattle.acpi.specs.Opened.{Opened}
-use Rattle.acpi.specs.Places.{places_of}
-use Rattle.acpi.specs.Root.{pointers, width_of}
+use Rattle.std.specs.Prelude.{ℕ, List, drop, length, map, slice_get, Result, Ok, ok_or}
+use Rattle.acpi_base.specs.Words.{Memory, ◌>>=◌, plain_kind}
+use Rattle.acpi.specs.Types.{TableMissing, AddressRange}
+use Rattle.acpi.specs.Words.{ssdt_streams, tables_found, Opened, places_of, pointers, width_of}
 use Rattle.acpi_c_lib.specs.Below.{AcpiError, Refusal, Source, below_source, opened_below}
 use Rattle.acpi_c_lib.specs.Records as records
 use Rattle.acpi_c_lib.specs.Shown.{Signature, Table, aml_record, signature_named, table_record}
-use Rattle.acpi_c_lib.specs.declared.records.Range.{Range}
+use Rattle.acpi_c_lib.specs.Types.{Range}
 
 -- the valid table of a signature with so many before it, or that it is missing
 abbrev pub nth_in : Memory → Signature → ℕ → List ℕ → Result Table AcpiError

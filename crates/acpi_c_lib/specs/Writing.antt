@@ -1,34 +1,19 @@
 -- Tables that are written for C.
 use Rattle.std.specs.Prelude.{◌≡◌, ℕ, ◌≤◌, ◌&&◌, ◌||◌, ◌==◌, Bool, false, not, nat_le, nat_lt, List, flat_map, length, take, drop, Option, Some, None, Result, Ok, Err, if◌then◌else◌}
-use Rattle.std.specs.List.{list_all}
-use Rattle.acpi_base.specs.Steps.{◌>>=◌, holds}
-use Rattle.acpi_base.specs.declared.model.interrupt.InterruptSourceOverride.{InterruptSourceOverride}
-use Rattle.acpi_base.specs.declared.model.interrupt.IoApic.{IoApic}
-use Rattle.acpi_base.specs.declared.model.interrupt.LocalInterruptLine.TheVariants.{Lint0, Lint1}
-use Rattle.acpi_base.specs.declared.model.interrupt.NmiLine.{NmiLine}
+use Rattle.acpi_base.specs.FromStd.{list_all}
+use Rattle.acpi_base.specs.Words.{◌>>=◌, holds}
+use Rattle.acpi.specs.Types.{InterruptSourceOverride, IoApic, Lint0, Lint1, NmiLine, NmiSource, Polarity, TriggerMode, MADT, McfgEntry}
 use Rattle.acpi_base.specs.declared.model.interrupt.NmiProcessor.TheVariants as nmi
-use Rattle.acpi_base.specs.declared.model.interrupt.NmiSource.{NmiSource}
-use Rattle.acpi_base.specs.declared.model.interrupt.Polarity.{Polarity}
 use Rattle.acpi_base.specs.declared.model.interrupt.Polarity.TheVariants as polarity
-use Rattle.acpi_base.specs.declared.model.interrupt.TriggerMode.{TriggerMode}
 use Rattle.acpi_base.specs.declared.model.interrupt.TriggerMode.TheVariants as trigger
-use Rattle.acpi_base.specs.declared.table.signature.TheConstants.Signature.{MADT}
-use Rattle.acpi_base.specs.declared.tables.mcfg.McfgEntry.{McfgEntry}
-use Rattle.acpi.specs.declared.hpet.HpetInfo.{HpetInfo}
-use Rattle.acpi.specs.declared.hpet.PageProtection.{PageProtection}
+use Rattle.acpi_c_lib.specs.Types.{HpetInfo, PageProtection, PciRegion, Writer, MadtContents, IdOfAll, NoProcessor, UidOfAll, MadtProcessor}
 use Rattle.acpi.specs.declared.hpet.PageProtection.TheVariants as protection
 use Rattle.acpi_c_lib.specs.Codes.{code_of}
 use Rattle.acpi_c_lib.specs.Records as records
-use Rattle.acpi_c_lib.specs.declared.records.PciRegion.{PciRegion}
 pub use Rattle.acpi_c_lib.specs.declared.refusal.Refusal.{Refusal}
-use Rattle.acpi_c_lib.specs.declared.refusal.Refusal.TheVariants.{Writer}
-use Rattle.acpi_c_lib.specs.declared.written_records.MadtContents.{MadtContents}
-use Rattle.acpi_writer.specs.MadtBytes.{MadtSorts, io_apic_entry, is_single, madt_body_of, names_one, nmi_line_entry, nmi_source_entry, override_entry, processor_entry}
-use Rattle.acpi_writer.specs.Table.{table_written}
+use Rattle.acpi_writer.specs.Words.{MadtSorts, io_apic_entry, is_single, madt_body_of, names_one, nmi_line_entry, nmi_source_entry, override_entry, processor_entry, table_written}
 pub use Rattle.acpi_writer.specs.declared.error.WriterError.{WriterError}
-use Rattle.acpi_writer.specs.declared.error.WriterError.TheVariants.{IdOfAll, NoProcessor, UidOfAll}
 pub use Rattle.acpi_writer.specs.declared.ids.TableIds.{TableIds}
-use Rattle.acpi_writer.specs.declared.madt.MadtProcessor.{MadtProcessor}
 
 -- an error of the writer's is one of the call's
 abbrev pub writer_refused : {A : Type 0} → Result A WriterError → Result A Refusal
@@ -44,7 +29,8 @@ abbrev pub IsKeptOr : Result ℕ Refusal → List ℕ → List ℕ → Type 0
 IsKeptOr (Ok n) old new = IsKept n old new
 IsKeptOr (Err e) old new = new ≡ old
 
--- 0, with the table at the front of the buffer, its length, and the rest of the buffer unchanged; or the error's number,
+-- 0, with the table at the front of the buffer, its length, and the rest of the buffer unchanged; or the error's
+-- number,
 -- and nothing written
 abbrev pub WritesTable : ℕ → List ℕ → List ℕ → ℕ → ℕ → Result (List ℕ) Refusal → Type 0
 WritesTable status old new old_length new_length (Ok table) =
@@ -101,7 +87,8 @@ abbrev pub is_wiring : ℕ → Bool
 is_wiring code = code == 0 || (code == 1 || code == 3)
 
 abbrev pub polarity_of : ℕ → Polarity
-polarity_of code = if code == 1 then polarity.ActiveHigh else if code == 3 then polarity.ActiveLow else polarity.SameAsBus
+polarity_of code = if code == 1 then polarity.ActiveHigh else if code == 3 then polarity.ActiveLow
+    else polarity.SameAsBus
 
 abbrev pub trigger_of : ℕ → TriggerMode
 trigger_of code = if code == 1 then trigger.Edge else if code == 3 then trigger.Level else trigger.SameAsBus

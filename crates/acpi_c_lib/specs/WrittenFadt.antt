@@ -1,26 +1,12 @@
 -- The FADT that is written for C (section 5.2.9), from the record as which it is read, and the FACS (section 5.2.10).
 use Rattle.std.specs.Prelude.{ℕ, ◌&&◌, ◌||◌, ◌==◌, Bool, not, is_ok, nat_le, Option, Some, None, if◌then◌else◌}
-use Rattle.std.specs.Result.{result_unwrap_or}
-use Rattle.acpi_base.specs.Address.{access_size_of, space_of}
-use Rattle.acpi_base.specs.Bits.{has_bit}
-use Rattle.acpi_base.specs.declared.address.AccessSize.TheVariants.{Undefined}
-use Rattle.acpi_base.specs.declared.address.AddressSpace.{AddressSpace}
-use Rattle.acpi_base.specs.declared.address.AddressSpace.TheVariants.{SystemMemory}
-use Rattle.acpi_base.specs.declared.address.GenericAddress.{GenericAddress}
-use Rattle.acpi_fixed.specs.Fadt.{profile_for}
-use Rattle.acpi_fixed.specs.declared.fadt.registers.gpe.GpeBlock.{GpeBlock}
+use Rattle.acpi_base.specs.FromStd.{result_unwrap_or}
+use Rattle.acpi_base.specs.Words.{access_size_of, space_of, has_bit}
+use Rattle.acpi.specs.Types.{Undefined, AddressSpace, SystemMemory, GenericAddress, GpeBlock}
+use Rattle.acpi_fixed.specs.Words.{profile_for}
 use Rattle.acpi_c_lib.specs.Records as records
-use Rattle.acpi_c_lib.specs.declared.fixed_records.FixedHardware.{FixedHardware}
-use Rattle.acpi_c_lib.specs.declared.records.Register.{Register}
+use Rattle.acpi_c_lib.specs.Types.{FixedHardware, Register, FacsContents, FadtContents, FadtHardware, Fixed, Reduced, LegacyFields, ArmBootFeatures, FixedFeatures, PcBootFeatures}
 use Rattle.acpi_c_lib.specs.declared.written_records.FacsContents as facs_record
-use Rattle.acpi_writer.specs.declared.facs.FacsContents.{FacsContents}
-use Rattle.acpi_writer.specs.declared.fadt.contents.FadtContents.{FadtContents}
-use Rattle.acpi_writer.specs.declared.fadt.contents.FadtHardware.{FadtHardware}
-use Rattle.acpi_writer.specs.declared.fadt.contents.FadtHardware.TheVariants.{Fixed, Reduced}
-use Rattle.acpi_writer.specs.declared.fadt.contents.LegacyFields.{LegacyFields}
-use Rattle.acpi_writer.specs.declared.fadt.features.ArmBootFeatures.{ArmBootFeatures}
-use Rattle.acpi_writer.specs.declared.fadt.features.FixedFeatures.{FixedFeatures}
-use Rattle.acpi_writer.specs.declared.fadt.features.PcBootFeatures.{PcBootFeatures}
 
 -- ---- registers
 
@@ -44,7 +30,12 @@ abbrev pub optional : Register → Option GenericAddress
 optional r = if r.present == 0 || r.at.address == 0 then None else Some (register r.at)
 
 abbrev pub gpe : records.GpeBlock → Option GpeBlock
-gpe b = if b.present == 0 then None else Some (record { space = space b.space; address = b.address; byte_length = b.byte_length })
+gpe b = if b.present == 0 then None else Some (record {
+  space = space b.space;
+  address = b.address;
+  byte_length =
+      b.byte_length;
+})
 
 -- ---- flags, by name
 

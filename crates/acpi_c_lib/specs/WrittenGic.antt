@@ -1,21 +1,12 @@
 -- The MADT of an Arm machine that is written for C (sections 5.2.12.14 to 5.2.12.18).
 use Rattle.std.specs.Prelude.{ℕ, ◌&&◌, ◌==◌, ◌^◌, Bool, false, not, nat_lt, List, ◌++◌, flat_map, length, Option, Some, None, Result, if◌then◌else◌}
-use Rattle.std.specs.List.{list_all}
-use Rattle.acpi_base.specs.Steps.{◌>>=◌, holds}
-use Rattle.acpi_base.specs.declared.table.signature.TheConstants.Signature.{MADT}
-use Rattle.acpi_arm.specs.declared.gic.part.GicCpuInterface.{GicCpuInterface}
-use Rattle.acpi_arm.specs.declared.gic.part.GicDistributor.{GicDistributor}
-use Rattle.acpi_arm.specs.declared.gic.part.GicMsiFrame.{GicMsiFrame}
-use Rattle.acpi_arm.specs.declared.gic.part.GicRedistributors.{GicRedistributors}
-use Rattle.acpi_arm.specs.declared.gic.part.GicTranslationService.{GicTranslationService}
+use Rattle.acpi_base.specs.FromStd.{list_all}
+use Rattle.acpi_base.specs.Words.{◌>>=◌, holds}
+use Rattle.acpi.specs.Types.{MADT}
+use Rattle.acpi_c_lib.specs.Types.{GicCpuInterface, GicDistributor, GicMsiFrame, GicRedistributors, GicTranslationService, Range, GicContents, BadRange, NoProcessor, SameAsBus}
 use Rattle.acpi_c_lib.specs.Records as records
 use Rattle.acpi_c_lib.specs.Writing.{TableIds, WriterError, is_wiring, trigger_of}
-use Rattle.acpi_c_lib.specs.declared.records.Range.{Range}
-use Rattle.acpi_c_lib.specs.declared.written_records.GicContents.{GicContents}
-use Rattle.acpi_writer.specs.GicMadt.{gicc_entry, gicd_entry, gicr_entry, its_entry, msi_entry}
-use Rattle.acpi_writer.specs.MadtBytes.{madt_fixed}
-use Rattle.acpi_writer.specs.Table.{table_written}
-use Rattle.acpi_writer.specs.declared.error.WriterError.TheVariants.{BadRange, NoProcessor, SameAsBus}
+use Rattle.acpi_writer.specs.Words.{gicc_entry, gicd_entry, gicr_entry, its_entry, msi_entry, madt_fixed, table_written}
 
 -- ---- records, as the writer has them
 

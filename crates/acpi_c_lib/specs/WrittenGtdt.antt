@@ -1,15 +1,11 @@
 -- The GTDT that is written for C (section 5.2.24), which has no timers of the platform.
 use Rattle.std.specs.Prelude.{ℕ, ◌-◌, ◌^◌, ◌&&◌, ◌==◌, Bool, false, not, List, [], Option, Some, None, Result, if◌then◌else◌}
-use Rattle.std.specs.Borrow.{Bor}
-use Rattle.acpi_base.specs.declared.model.interrupt.Polarity.TheVariants.{ActiveHigh}
-use Rattle.acpi_base.specs.declared.model.interrupt.TriggerMode.TheVariants.{Level}
-use Rattle.acpi_arm.specs.declared.gtdt.ArmTimer.{ArmTimer}
+use Rattle.acpi_base.specs.FromStd.{Bor}
+use Rattle.acpi.specs.Types.{ActiveHigh, Level}
+use Rattle.acpi_c_lib.specs.Types.{ArmTimer, ArmTimers, GtdtContents, PlatformTimerContents}
 use Rattle.acpi_c_lib.specs.Records as records
 use Rattle.acpi_c_lib.specs.Writing.{TableIds, WriterError, is_wiring, polarity_of, trigger_of}
-use Rattle.acpi_c_lib.specs.declared.arm_records.ArmTimers.{ArmTimers}
-use Rattle.acpi_writer.specs.Gtdt.{gtdt_written}
-use Rattle.acpi_writer.specs.declared.gtdt.GtdtContents.{GtdtContents}
-use Rattle.acpi_writer.specs.declared.gtdt.PlatformTimerContents.{PlatformTimerContents}
+use Rattle.acpi_writer.specs.Words.{gtdt_written}
 
 -- an address, of which all ones stand for none
 abbrev pub base : ℕ → Option ℕ

@@ -1,8 +1,7 @@
 -- The tables of a whole machine that are written for C.
-use Rattle.std.specs.Prelude.{ℕ, ◌==◌, List, [], ◌∷◌, flat_map, Option, Some, None, Result, Ok, Err, if◌then◌else◌}
-use Rattle.std.specs.Option.{ok_or}
-use Rattle.acpi_base.specs.Steps.{◌>>=◌, holds}
-use Rattle.acpi_base.specs.declared.table.signature.TheConstants.Signature.{SSDT}
+use Rattle.std.specs.Prelude.{ℕ, ◌==◌, List, [], ◌∷◌, flat_map, Option, Some, None, Result, Ok, Err, if◌then◌else◌, ok_or}
+use Rattle.acpi_base.specs.Words.{◌>>=◌, holds}
+use Rattle.acpi.specs.Types.{SSDT}
 use Rattle.acpi_c_lib.specs.WrittenBgrt as bgrt
 use Rattle.acpi_c_lib.specs.WrittenFadt as fadt
 use Rattle.acpi_c_lib.specs.WrittenGic as gic
@@ -11,22 +10,12 @@ use Rattle.acpi_c_lib.specs.WrittenSpcr as spcr
 use Rattle.acpi_c_lib.specs.WrittenSrat as srat
 use Rattle.acpi_c_lib.specs.Writing as writing
 use Rattle.acpi_c_lib.specs.Writing.{Refusal, TableIds, WriterError, hpet_info_of, madt_laid, region_of, writer_refused}
-use Rattle.acpi_c_lib.specs.declared.refusal.Refusal.TheVariants.{UnknownCode, UnknownTable, Writer}
+use Rattle.acpi_c_lib.specs.Types.{UnknownCode, UnknownTable, Writer, Bgrt, Fadt, Gic, Hpet, Madt, Mcfg, Nothing, Slit, Spcr, Srat, Ssdt, ListedTable, AmlContents, BadCode, NoAddress}
 pub use Rattle.acpi_c_lib.specs.declared.writing.machine.Contents.{Contents}
-use Rattle.acpi_c_lib.specs.declared.writing.machine.Contents.TheVariants.{Bgrt, Fadt, Gic, Gtdt, Hpet, Madt, Mcfg, Nothing, Slit, Spcr, Srat, Ssdt}
+use Rattle.acpi_c_lib.specs.declared.writing.machine.Contents.TheVariants.{Gtdt}
 use Rattle.acpi_c_lib.specs.declared.written_records.AmlContents as aml
-use Rattle.acpi_c_lib.specs.declared.written_records.ListedTable.{ListedTable}
 use Rattle.acpi_c_lib.specs.declared.written_records.Machine as record_of
-use Rattle.acpi_writer.specs.Bgrt.{bgrt_written}
-use Rattle.acpi_writer.specs.FadtBytes.{fadt_written}
-use Rattle.acpi_writer.specs.HpetBytes.{hpet_written}
-use Rattle.acpi_writer.specs.Machine.{MachineOf, dsdt_at, machine_size, machine_written, tree_written}
-use Rattle.acpi_writer.specs.McfgBytes.{mcfg_entry, mcfg_written_of}
-use Rattle.acpi_writer.specs.Slit.{slit_written}
-use Rattle.acpi_writer.specs.Srat.{srat_written_by}
-use Rattle.acpi_writer.specs.Table.{table_written}
-use Rattle.acpi_writer.specs.declared.contents.AmlContents.{AmlContents}
-use Rattle.acpi_writer.specs.declared.error.WriterError.TheVariants.{BadCode, NoAddress}
+use Rattle.acpi_writer.specs.Words.{bgrt_written, fadt_written, hpet_written, MachineOf, dsdt_at, machine_size, machine_written, tree_written, mcfg_entry, mcfg_written_of, slit_written, srat_written_by, table_written}
 
 -- ---- a table
 

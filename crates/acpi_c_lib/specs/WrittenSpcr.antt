@@ -1,18 +1,12 @@
 -- The SPCR that is written for C, from the record as which it is read. The layout is Microsoft's.
 use Rattle.std.specs.Prelude.{ℕ, ◌==◌, ◌&&◌, ◌||◌, Bool, not, bit_or, codes, nat_lt, List, Option, Some, None, Result, if◌then◌else◌}
-use Rattle.std.specs.Borrow.{Bor}
-use Rattle.acpi_base.specs.Bits.{has_bit}
-use Rattle.acpi_base.specs.Spcr.{interface_of}
-use Rattle.acpi_base.specs.declared.address.GenericAddress.{GenericAddress}
+use Rattle.acpi_base.specs.FromStd.{Bor}
+use Rattle.acpi_base.specs.Words.{has_bit, interface_of}
+use Rattle.acpi.specs.Types.{GenericAddress}
 use Rattle.acpi_c_lib.specs.WrittenFadt.{has_codes_at, register}
-use Rattle.acpi_c_lib.specs.declared.fixed_records.Console.{Console}
-use Rattle.acpi_c_lib.specs.declared.records.Register.{Register}
+use Rattle.acpi_c_lib.specs.Types.{Console, Register, WriterError, TableIds, SpcrContents, SpcrPciDevice}
 use Rattle.acpi_c_lib.specs.declared.written_records.SpcrContents as spcr_record
-use Rattle.acpi_writer.specs.Spcr.{spcr_written}
-use Rattle.acpi_writer.specs.declared.error.WriterError.{WriterError}
-use Rattle.acpi_writer.specs.declared.ids.TableIds.{TableIds}
-use Rattle.acpi_writer.specs.declared.spcr.SpcrContents.{SpcrContents}
-use Rattle.acpi_writer.specs.declared.spcr.SpcrPciDevice.{SpcrPciDevice}
+use Rattle.acpi_writer.specs.Words.{spcr_written}
 
 abbrev pub base : Register → Option GenericAddress
 base r = if r.present == 0 then None else Some (register r.at)

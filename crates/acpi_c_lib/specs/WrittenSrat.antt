@@ -1,9 +1,7 @@
 -- The SRAT that is written for C (section 5.2.16).
 use Rattle.std.specs.Prelude.{◌==◌, not}
-use Rattle.acpi_c_lib.specs.declared.numa_records.MemoryAffinity.{MemoryAffinity}
-use Rattle.acpi_c_lib.specs.declared.written_records.SratContents.{SratContents}
-use Rattle.acpi_numa.specs.declared.srat.affinities.MemoryRange.{MemoryRange}
-use Rattle.acpi_writer.specs.Srat.{ContentsOf}
+use Rattle.acpi_c_lib.specs.Types.{MemoryAffinity, SratContents, MemoryRange}
+use Rattle.acpi_writer.specs.Words.{ContentsOf}
 
 -- a flag is set unless it is 0
 abbrev pub range_of : MemoryAffinity → MemoryRange

@@ -1,6 +1,6 @@
 //! How an answer is written for C.
 ghost use Rattle.std.specs.Prelude.{◌≡◌};
-ghost use Rattle.acpi_c_lib.specs.Answers.{Answers, AnswersPlain, name_or};
+ghost use Rattle.acpi_c_lib.specs.Words.{Answers, AnswersPlain, name_or};
 
 use crate::records::Signature;
 use crate::refusal::Refusal;

@@ -1,7 +1,7 @@
 //! Ranges of memory in order: as a firmware's memory map gives them, some of them left out, and
 //! clipped to a window.
 ghost use Rattle.std.specs.Prelude.{◌≡◌, ◌+◌, ◌^◌, ◌<◌, true, ◌-◌, ◌≤◌, ℕ};
-ghost use Rattle.acpi_c_lib.specs.Clip.{all_fit, AnswersClip, any_holds, change_in, change_of, FillsClipped, fits, holds, IsNext, wanted};
+ghost use Rattle.acpi_c_lib.specs.Words.{all_fit, AnswersClip, any_holds, change_in, change_of, FillsClipped, fits, holds, IsNext, wanted};
 
 use crate::lists::put;
 use crate::records::Range;

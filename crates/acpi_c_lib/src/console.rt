@@ -1,6 +1,6 @@
 //! The serial console.
 ghost use Rattle.std.specs.Prelude.{◌≡◌};
-ghost use Rattle.acpi_c_lib.specs.Console.{console_below, console_record};
+ghost use Rattle.acpi_c_lib.specs.Words.{console_below, console_record};
 
 use crate::devices::register_if;
 use crate::fixed_records::Console;

@@ -1,7 +1,6 @@
 //! Devices that tables of their own describe.
 ghost use Rattle.std.specs.Prelude.{◌≡◌};
-ghost use Rattle.acpi_c_lib.specs.Devices.{generic_record, graphic_below, graphic_record, optional_register, register_if, required_register, timer_below, timer_record};
-ghost use Rattle.acpi_c_lib.specs.Shown.{hpet_below};
+ghost use Rattle.acpi_c_lib.specs.Words.{generic_record, graphic_below, graphic_record, optional_register, register_if, required_register, timer_below, timer_record, hpet_below};
 
 use crate::opening::{first, open};
 use crate::records::{self, BootGraphic, Register, Source};

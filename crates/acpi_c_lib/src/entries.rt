@@ -1,9 +1,8 @@
 //! The entries of any table, which begin with Type and Length.
 ghost use Rattle.std.specs.Prelude.{◌≡◌, ◌+◌, ◌^◌, ◌<◌, length};
-ghost use Rattle.std.specs.Result.{result_unwrap_or};
-ghost use Rattle.acpi_base.specs.Entries.{IsEntry, cut};
-ghost use Rattle.acpi_c_lib.specs.Answers.{Fills, Writes, result_map};
-ghost use Rattle.acpi_c_lib.specs.Entries.{entries_below, entries_from, entries_said, entry_record, left_said, plain_grammar, plain_layout, width_of_bytes};
+ghost use Rattle.acpi_base.specs.FromStd.{result_unwrap_or};
+ghost use Rattle.acpi_base.specs.Words.{IsEntry, cut};
+ghost use Rattle.acpi_c_lib.specs.Words.{Fills, Writes, result_map, entries_below, entries_from, entries_said, entry_record, left_said, plain_grammar, plain_layout, width_of_bytes};
 
 use crate::lists::put;
 use crate::records::Entry;

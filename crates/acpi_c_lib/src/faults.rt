@@ -1,10 +1,8 @@
 //! The tables that lookups pass over.
 ghost use Rattle.std.specs.Prelude.{◌≡◌, ◌^◌, ◌<◌, length, map};
-ghost use Rattle.acpi.specs.Lists.{faults_of};
-ghost use Rattle.acpi.specs.Pointers.{pointers_left};
-ghost use Rattle.acpi_base.specs.Table.{table_at};
-ghost use Rattle.acpi_c_lib.specs.Answers.{Fills, Writes, result_map};
-ghost use Rattle.acpi_c_lib.specs.Faults.{fault_record, faults_below, kind_named};
+ghost use Rattle.acpi.specs.Words.{faults_of, pointers_left};
+ghost use Rattle.acpi_base.specs.Words.{table_at};
+ghost use Rattle.acpi_c_lib.specs.Words.{Fills, Writes, result_map, fault_record, faults_below, kind_named};
 
 use crate::lists::put;
 use crate::opening::open;

@@ -1,8 +1,7 @@
 //! The fixed hardware.
 ghost use Rattle.std.specs.Prelude.{◌≡◌, ◌≤◌, length};
-ghost use Rattle.acpi_fixed.specs.Fadt.{fadt_at};
-ghost use Rattle.acpi_fixed.specs.Flags.{arm_bits, feature_bits, pc_bits};
-ghost use Rattle.acpi_c_lib.specs.Fixed.{fixed_below, fixed_record, gpe_record};
+ghost use Rattle.acpi_fixed.specs.Words.{fadt_at, arm_bits, feature_bits, pc_bits};
+ghost use Rattle.acpi_c_lib.specs.Words.{fixed_below, fixed_record, gpe_record};
 
 use crate::devices::{optional_register, required_register};
 use crate::fixed_records as records;

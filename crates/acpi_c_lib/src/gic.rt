@@ -1,13 +1,9 @@
 //! The generic interrupt controller (GIC) of an Arm machine, with no heap: each list is written by a walk along the
 //! entries of the MADT.
-ghost use Rattle.std.specs.Prelude.{◌≡◌, map, refl, ℕ, List};
-ghost use Rattle.std.specs.List.{filter_map};
-ghost use Rattle.std.specs.Option.{option_map};
-ghost use Rattle.acpi_base.specs.Mapping.{bytes_of};
-ghost use Rattle.acpi_base.specs.Steps.{Gives};
-ghost use Rattle.acpi_base.specs.MadtWalk.{entries_left};
+ghost use Rattle.std.specs.Prelude.{◌≡◌, map, refl, ℕ, List, filter_map, option_map};
+ghost use Rattle.acpi_base.specs.Words.{bytes_of, Gives, entries_left};
 ghost use Rattle.acpi_arm.specs.Gic.{items_of, model_beside};
-ghost use Rattle.acpi_arm.specs.declared.gic.part.GicDistributor.{GicDistributor};
+ghost use Rattle.acpi_c_lib.specs.Types.{GicDistributor};
 ghost use Rattle.acpi_c_lib.specs.Answers.{Fills, Writes};
 ghost use Rattle.acpi_c_lib.specs.Held.{mapped_memory};
 ghost use Rattle.acpi_c_lib.specs.Regions.{memory_in};

@@ -1,15 +1,9 @@
 //! The interrupt model, gathered with no heap: what is counted is counted by a walk along the entries of
 //! the MADT, and what is listed is written by another one.
-ghost use Rattle.std.specs.Prelude.{◌≡◌, ◌^◌, ◌<◌, length, map, IfOk, IfSome, Some, refl, ℕ, List, Option};
-ghost use Rattle.std.specs.List.{filter_map};
-ghost use Rattle.std.specs.Option.{option_map};
-ghost use Rattle.acpi_base.specs.Items.{counts_of, items_left};
-ghost use Rattle.acpi_base.specs.Mapping.{bytes_of};
-ghost use Rattle.acpi_base.specs.Model.{items_of, io_apic_in, nmi_line_in, nmi_source_in, override_in};
-ghost use Rattle.acpi_base.specs.Steps.{Gives};
-ghost use Rattle.acpi_base.specs.declared.model.item.MadtItem.{MadtItem};
-ghost use Rattle.acpi.specs.Platform.{model_in};
-ghost use Rattle.acpi.specs.Tables.{of_tables};
+ghost use Rattle.std.specs.Prelude.{◌≡◌, ◌^◌, ◌<◌, length, map, IfOk, IfSome, Some, refl, ℕ, List, Option, filter_map, option_map};
+ghost use Rattle.acpi_base.specs.Words.{counts_of, items_left, bytes_of, items_of, io_apic_in, nmi_line_in, nmi_source_in, override_in, Gives};
+ghost use Rattle.acpi.specs.Types.{MadtItem};
+ghost use Rattle.acpi.specs.Words.{model_in, of_tables};
 ghost use Rattle.acpi_c_lib.specs.Answers.{Fills};
 ghost use Rattle.acpi_c_lib.specs.Model.{apics_by, io_apic_record, model_by, platform_model, io_apics_of, nmi_line_record, nmi_lines_of, nmi_source_record, nmi_sources_of, override_record, overrides_of, Apics};
 ghost use Rattle.acpi_c_lib.specs.Held.{mapped_memory};

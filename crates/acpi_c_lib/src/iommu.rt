@@ -1,11 +1,8 @@
 //! The units that remap what devices ask of memory (IOMMUs), by the DMAR (Intel Virtualization Technology for Directed
 //! I/O 4.0, chapter 8) and by the IVRS (AMD I/O Virtualization Technology (IOMMU) Specification 3.08, section 5.2).
 ghost use Rattle.std.specs.Prelude.{◌≡◌, Some, map};
-ghost use Rattle.acpi_iommu.specs.DmarUnits.{reserved_left};
-ghost use Rattle.acpi_iommu.specs.IvrsUnits.{memory_left};
-ghost use Rattle.acpi_c_lib.specs.Answers.{Fills};
-ghost use Rattle.acpi_c_lib.specs.Iommu.{block_record, dmar_hpet_below, dmar_io_apic_below, dmar_reserved_below, dmar_unit_below, iommu_refusal, ivrs_memory_below, ivrs_unit_below, memory_record, reserved_record, source_record, unit_record};
-ghost use Rattle.acpi_c_lib.specs.Listed.{lists_each};
+ghost use Rattle.acpi_iommu.specs.Words.{reserved_left, memory_left};
+ghost use Rattle.acpi_c_lib.specs.Words.{Fills, block_record, dmar_hpet_below, dmar_io_apic_below, dmar_reserved_below, dmar_unit_below, iommu_refusal, ivrs_memory_below, ivrs_unit_below, memory_record, reserved_record, source_record, unit_record, lists_each};
 
 use crate::iommu_records::{
     DmarReserved, DmarSource, DmarUnit, Hop, IvrsDevice, IvrsMemory, IvrsUnit,

@@ -1,13 +1,8 @@
 //! How all ISA interrupts come to the I/O APICs, by one walk along the overrides and one along the I/O APICs.
-ghost use Rattle.std.specs.Prelude.{◌≡◌, ◌<◌, ℕ, None, map, slice_index_or};
-ghost use Rattle.std.specs.List.{filter_map};
-ghost use Rattle.std.specs.Result.{result_unwrap_or};
-ghost use Rattle.acpi_base.specs.Isa.{isa_interrupt};
-ghost use Rattle.acpi_base.specs.IsaOverrides.{IsGathered};
-ghost use Rattle.acpi_base.specs.Mapping.{bytes_of};
-ghost use Rattle.acpi_base.specs.Model.{io_apic_in, items_of, override_in};
-ghost use Rattle.acpi_c_lib.specs.Answers.{result_map};
-ghost use Rattle.acpi_c_lib.specs.IsaList.{isa_list_below, isa_numbers, isa_route, nearer_of, no_route, number_of, route_of};
+ghost use Rattle.std.specs.Prelude.{◌≡◌, ◌<◌, ℕ, None, map, slice_index_or, filter_map};
+ghost use Rattle.acpi_base.specs.FromStd.{result_unwrap_or};
+ghost use Rattle.acpi_base.specs.Words.{isa_interrupt, IsGathered, bytes_of, io_apic_in, items_of, override_in};
+ghost use Rattle.acpi_c_lib.specs.Words.{result_map, isa_list_below, isa_numbers, isa_route, nearer_of, no_route, number_of, route_of};
 
 use crate::interrupt_records::{IoApicPin, IsaInterrupts, IsaRoute};
 use crate::interrupts::{io_apic_record, known_madt};

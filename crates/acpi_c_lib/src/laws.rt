@@ -1,6 +1,5 @@
 //! Laws of the definitions, each the contract of a call that does nothing.
-ghost use Rattle.acpi_c_lib.specs.IsaList.{ItemsAreAnswers};
-ghost use Rattle.acpi_c_lib.specs.Missing.{CandidatesHaveHoles, LedHaveHoles, MembersHaveHoles, OpeningHasHole};
+ghost use Rattle.acpi_c_lib.specs.Words.{ItemsAreAnswers, CandidatesHaveHoles, LedHaveHoles, MembersHaveHoles, OpeningHasHole};
 
 /// Each member of the root table that is refused with `MapFailed` has a range among those that
 /// `zacpi_list_missing_ranges` lists, and that range lies in no one region.

@@ -1,6 +1,6 @@
 //! How a list is written for C: as many records as there is room for are written, and all of them are counted.
 ghost use Rattle.std.specs.Prelude.{◌≡◌, ◌+◌, ◌^◌, ◌<◌, length, slice_set, List, Option};
-ghost use Rattle.std.specs.Iterator.{IsFinite};
+ghost use Rattle.acpi_base.specs.FromStd.{IsFinite};
 ghost use Rattle.acpi_c_lib.specs.Answers.{Writes, put_from};
 ghost use Rattle.acpi_c_lib.specs.Listed.{ListsFirst};
 

@@ -1,23 +1,11 @@
 //! The ranges of memory that a caller has to map before the calls can read all tables.
 ghost use Rattle.std.specs.Prelude.{◌≡◌, [], ◌+◌, ◌++◌, ◌^◌, ◌<◌, ◌≤◌, filter_map, length, Err, Some};
-ghost use Rattle.std.specs.List.{cons_option};
-ghost use Rattle.std.specs.Result.{is_ok};
-ghost use Rattle.acpi_base.specs.Ranges.{own_table_ranges, table_ranges};
-ghost use Rattle.acpi_base.specs.Steps.{lent};
-ghost use Rattle.acpi_base.specs.Table.{own_table_at, plain_kind, table_at};
-ghost use Rattle.acpi_base.specs.declared.error.AcpiError.TheVariants.{MapFailed};
-ghost use Rattle.acpi_base.specs.declared.table.signature.Signature.{Signature};
-ghost use Rattle.acpi.specs.Opened.{opened_by_rsdp, opened_by_search, opened_from};
-ghost use Rattle.acpi.specs.OpenedRanges.{opened_by_rsdp_ranges, opened_by_search_ranges, opened_ranges, search_ranges};
-ghost use Rattle.acpi.specs.Places.{dsdt_place, dsdt_place_ranges, facs_place, facs_place_ranges};
-ghost use Rattle.acpi.specs.Pointers.{pointers_left};
+ghost use Rattle.acpi_base.specs.FromStd.{cons_option, is_ok};
+ghost use Rattle.acpi_base.specs.Words.{own_table_ranges, table_ranges, lent, own_table_at, plain_kind, table_at};
+ghost use Rattle.acpi.specs.Types.{MapFailed, Signature};
+ghost use Rattle.acpi.specs.Words.{opened_by_rsdp, opened_by_search, opened_from, opened_by_rsdp_ranges, opened_by_search_ranges, opened_ranges, search_ranges, dsdt_place, dsdt_place_ranges, facs_place, facs_place_ranges, pointers_left, found_rsdp, room_of, second_area};
 ghost use Rattle.acpi.specs.Rsdp.{root_of};
-ghost use Rattle.acpi.specs.Search.{found_rsdp, room_of, second_area};
-ghost use Rattle.acpi_c_lib.specs.Answers.{Fills, items_said, put_from, result_map};
-ghost use Rattle.acpi_c_lib.specs.Below.{opened_as_lent, opened_in};
-ghost use Rattle.acpi_c_lib.specs.Missing.{hole, last_range, member_hole, missing_below, missing_in, opened_as_lent_ranges, opening_ranges, range_of};
-ghost use Rattle.acpi_c_lib.specs.declared.refusal.Refusal.TheVariants.{Acpi};
-ghost use Rattle.acpi_c_lib.specs.Listed.{lists_some};
+ghost use Rattle.acpi_c_lib.specs.Words.{Fills, items_said, put_from, result_map, opened_as_lent, opened_in, hole, last_range, member_hole, missing_below, missing_in, opened_as_lent_ranges, opening_ranges, range_of, Acpi, lists_some};
 
 use crate::candidates::candidate_holes;
 use crate::lists::{Listing, fill_from, put};
@@ -91,7 +79,7 @@ fn fill<H: AcpiHandler>(
 }
 
 impl<H: AcpiHandler> Listing<H, Range> for Pointers<'_> {
-    ghost use Rattle.std.specs.List.{filter_map};
+    ghost use Rattle.std.specs.Prelude.{filter_map};
 
     ghost record_of = { λ handler p. member_hole (H.memory handler) p };
 

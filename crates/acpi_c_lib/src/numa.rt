@@ -1,12 +1,7 @@
 //! The domains that memory and processors are in, by the SRAT, and the distances between localities, by the SLIT.
-ghost use Rattle.std.specs.Prelude.{◌≡◌, map};
-ghost use Rattle.std.specs.List.{filter_map};
-ghost use Rattle.std.specs.Option.{option_map};
-ghost use Rattle.acpi_numa.specs.Affinities.{domain_at, ranges_of, range_in};
-ghost use Rattle.acpi_numa.specs.SratWalk.{entries_left};
-ghost use Rattle.acpi_c_lib.specs.Answers.{Fills, GivesSome};
-ghost use Rattle.acpi_c_lib.specs.Numa.{IsLocalities, affinities_below, distance_below, slit_in, numa_refusal, affinity_record, domain_of_address_below, domain_of_apic_below, domain_of_processor_below};
-ghost use Rattle.acpi_c_lib.specs.Listed.{lists_found};
+ghost use Rattle.std.specs.Prelude.{◌≡◌, map, filter_map, option_map};
+ghost use Rattle.acpi_numa.specs.Words.{domain_at, ranges_of, range_in, entries_left};
+ghost use Rattle.acpi_c_lib.specs.Words.{Fills, GivesSome, IsLocalities, affinities_below, distance_below, slit_in, numa_refusal, affinity_record, domain_of_address_below, domain_of_apic_below, domain_of_processor_below, lists_found};
 
 use crate::lists::{Listing, fill};
 use crate::numa_records::{Localities, MemoryAffinity};

@@ -1,14 +1,8 @@
 //! How the tables that a caller names are opened.
 ghost use Rattle.std.specs.Prelude.{◌≡◌, Ok, IfOk};
-ghost use Rattle.acpi_base.specs.Mapping.{bytes_of};
-ghost use Rattle.acpi_base.specs.Steps.{Gives};
-ghost use Rattle.acpi.specs.Opened.{opened_of};
-ghost use Rattle.acpi.specs.Search.{word_in};
-ghost use Rattle.acpi.specs.Tables.{lender_of};
-ghost use Rattle.acpi_c_lib.specs.Below.{ebda_in, first_table, opened_as_lent, opened_in};
-ghost use Rattle.acpi_c_lib.specs.Held.{mapped_memory};
-ghost use Rattle.acpi_c_lib.specs.Regions.{memory_in};
-ghost use Rattle.acpi_c_lib.specs.Shown.{root_below};
+ghost use Rattle.acpi_base.specs.Words.{bytes_of, Gives};
+ghost use Rattle.acpi.specs.Words.{opened_of, word_in, lender_of};
+ghost use Rattle.acpi_c_lib.specs.Words.{ebda_in, first_table, opened_as_lent, opened_in, mapped_memory, memory_in, root_below};
 
 use crate::records::{Root, Source};
 use crate::refusal::Refusal;

@@ -1,11 +1,8 @@
 //! PCI configuration space.
 ghost use Rattle.std.specs.Prelude.{◌≡◌, ◌≤◌, IfSome, Some, map};
-ghost use Rattle.acpi_base.specs.Mcfg.{mcfg_entries_left};
-ghost use Rattle.acpi.specs.Ecam.{ecam_address};
-ghost use Rattle.acpi.specs.Pci.{region_of};
-ghost use Rattle.acpi_c_lib.specs.Answers.{Fills};
-ghost use Rattle.acpi_c_lib.specs.Shown.{ecam_below, ecam_ranges_below, pci_regions_below, pci_record, ecam_record};
-ghost use Rattle.acpi_c_lib.specs.Listed.{lists_each};
+ghost use Rattle.acpi_base.specs.Words.{mcfg_entries_left};
+ghost use Rattle.acpi.specs.Words.{ecam_address, region_of};
+ghost use Rattle.acpi_c_lib.specs.Words.{Fills, ecam_below, ecam_ranges_below, pci_regions_below, pci_record, ecam_record, lists_each};
 
 use crate::fixed_records::EcamRange;
 use crate::lists::{Listing, fill};

@@ -1,13 +1,9 @@
 //! The interrupt model with all its lists at once: the entries of the MADT are walked along once to count them, and once
 //! to write them.
-ghost use Rattle.std.specs.Prelude.{◌≡◌, ◌∷◌, ◌+◌, ◌^◌, ◌<◌, ◌≤◌, List, length, map};
-ghost use Rattle.std.specs.List.{filter_map};
-ghost use Rattle.acpi_base.specs.Items.{items_left};
-ghost use Rattle.acpi_base.specs.Model.{io_apic_in, last_address, local_apic_address_in, nmi_line_in, nmi_source_in, override_in};
-ghost use Rattle.acpi_base.specs.declared.model.item.MadtItem.{MadtItem};
-ghost use Rattle.acpi_c_lib.specs.Answers.{items_said, put_from};
-ghost use Rattle.acpi_c_lib.specs.Model.{counts_of, io_apic_record, io_apics_of, left_after, nmi_line_record, nmi_lines_of, nmi_source_record, nmi_sources_of, override_record, overrides_of, processors_in, processors_of};
-ghost use Rattle.acpi_c_lib.specs.Routes.{below_apics, below_known};
+ghost use Rattle.std.specs.Prelude.{◌≡◌, ◌∷◌, ◌+◌, ◌^◌, ◌<◌, ◌≤◌, List, length, map, filter_map};
+ghost use Rattle.acpi_base.specs.Words.{items_left, io_apic_in, last_address, local_apic_address_in, nmi_line_in, nmi_source_in, override_in};
+ghost use Rattle.acpi.specs.Types.{MadtItem};
+ghost use Rattle.acpi_c_lib.specs.Words.{items_said, put_from, counts_of, io_apic_record, io_apics_of, left_after, nmi_line_record, nmi_lines_of, nmi_source_record, nmi_sources_of, override_record, overrides_of, processors_in, processors_of, below_apics, below_known};
 
 use crate::interrupt_records::{
     InterruptModel, InterruptSourceOverride, IoApic, NmiLine, NmiSource, Processor,

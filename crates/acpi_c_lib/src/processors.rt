@@ -1,14 +1,8 @@
 //! The processors, and what there is of interrupts in all.
-ghost use Rattle.std.specs.Prelude.{◌≡◌, ◌^◌, ◌<◌, length, Some};
-ghost use Rattle.std.specs.List.{filter_map};
-ghost use Rattle.std.specs.Option.{option_map};
+ghost use Rattle.std.specs.Prelude.{◌≡◌, ◌^◌, ◌<◌, length, Some, filter_map, option_map};
 ghost use Rattle.acpi_base.specs.Items as items;
-ghost use Rattle.acpi_base.specs.Items.{items_left};
-ghost use Rattle.acpi_base.specs.Mapping.{bytes_of};
-ghost use Rattle.acpi_base.specs.Model.{items_of, last_address, local_apic_address_in, processor_in, state_of};
-ghost use Rattle.acpi_c_lib.specs.Answers.{Fills, Writes};
-ghost use Rattle.acpi_c_lib.specs.Model.{apics_by, below_platform, counts_of, model_by, processor_record, processors_in, processors_of, state_code};
-ghost use Rattle.acpi_c_lib.specs.Routes.{below_known};
+ghost use Rattle.acpi_base.specs.Words.{items_left, bytes_of, items_of, last_address, local_apic_address_in, processor_in, state_of};
+ghost use Rattle.acpi_c_lib.specs.Words.{Fills, Writes, apics_by, below_platform, counts_of, model_by, processor_record, processors_in, processors_of, state_code, below_known};
 
 use crate::interrupt_records::{InterruptModel, Processor};
 use crate::interrupts::{ApicMadt, apic_madt, items_of, known_madt};

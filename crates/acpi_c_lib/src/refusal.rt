@@ -1,7 +1,7 @@
 //! Why a call refuses, the number that C gets for it, and the signature that it carries.
 ghost use Rattle.std.specs.Prelude.{◌≡◌};
 ghost use Rattle.acpi_c_lib.specs.Codes as codes;
-ghost use Rattle.acpi_c_lib.specs.declared.refusal.Refusal.TheVariants.{Acpi, Writer};
+ghost use Rattle.acpi_c_lib.specs.Words.{Acpi, Writer};
 
 use acpi::sdt::Signature;
 use acpi::{AcpiError, MadtError};

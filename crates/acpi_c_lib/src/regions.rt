@@ -1,14 +1,11 @@
 //! Physical memory, as a kernel has it mapped.
-ghost use Rattle.std.specs.Prelude.{◌≡◌, length, IfOk, ◌-◌, IfSome, IfNone, Some, None, drop, true, false, ◌^◌, ◌<◌, ◌≤◌, IfErr};
-ghost use Rattle.std.specs.Option.{option_map};
-ghost use Rattle.acpi_base.specs.Bytes.{IsBytes};
-ghost use Rattle.acpi_base.specs.Memory.{IsMemory, IsMemory-prop, at, rest_from, end_of, lies_in};
-ghost use Rattle.acpi_base.specs.declared.error.AcpiError.TheVariants.{MapFailed};
-ghost use Rattle.acpi_base.specs.Steps.{Gives};
-ghost use Rattle.acpi.specs.Regions.{IsAscending, IsAscending-prop};
+ghost use Rattle.std.specs.Prelude.{◌≡◌, length, IfOk, ◌-◌, IfSome, IfNone, Some, None, drop, true, false, ◌^◌, ◌<◌, ◌≤◌, IfErr, option_map};
+ghost use Rattle.acpi_base.specs.Words.{IsBytes, IsMemory, IsMemory-prop, at, rest_from, end_of, lies_in, Gives};
+ghost use Rattle.acpi.specs.Types.{MapFailed};
+ghost use Rattle.acpi.specs.Words.{IsAscending, IsAscending-prop};
 ghost use Rattle.acpi_c_lib.specs.Located.{LiesOnlyAt, located, spot_from};
 ghost use Rattle.acpi_c_lib.specs.Regions.{check_regions, memory_of, region_of, memory_in};
-ghost use Rattle.acpi_c_lib.specs.declared.refusal.Refusal.TheVariants.{RegionTooHigh};
+ghost use Rattle.acpi_c_lib.specs.Types.{RegionTooHigh};
 
 use crate::records::Place;
 use crate::refusal::Refusal;

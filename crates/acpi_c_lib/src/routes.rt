@@ -1,10 +1,7 @@
 //! How interrupts come to the I/O APICs, by walks along the entries of the MADT.
-ghost use Rattle.std.specs.Prelude.{◌≡◌, ◌≤◌, IfSome};
-ghost use Rattle.std.specs.List.{filter_map};
-ghost use Rattle.acpi_base.specs.Mapping.{bytes_of};
-ghost use Rattle.acpi_base.specs.Model.{io_apic_in, items_of};
-ghost use Rattle.acpi_base.specs.Pin.{base_of, nearest};
-ghost use Rattle.acpi_c_lib.specs.Routes.{interrupt_record, is_nearer, isa_below, pin_below, sci_below};
+ghost use Rattle.std.specs.Prelude.{◌≡◌, ◌≤◌, IfSome, filter_map};
+ghost use Rattle.acpi_base.specs.Words.{bytes_of, io_apic_in, items_of, base_of, nearest};
+ghost use Rattle.acpi_c_lib.specs.Words.{interrupt_record, is_nearer, isa_below, pin_below, sci_below};
 
 use crate::interrupt_records::{Interrupt, IoApicPin};
 use crate::interrupts::{apic_madt, io_apic_record, known_madt};

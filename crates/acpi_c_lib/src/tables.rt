@@ -1,10 +1,8 @@
 //! The tables that the root table lists.
 ghost use Rattle.std.specs.Prelude.{◌≡◌};
-ghost use Rattle.acpi_base.specs.Mapping.{bytes_of, start_of};
-ghost use Rattle.acpi.specs.Pointers.{pointers_left};
-ghost use Rattle.acpi_c_lib.specs.Answers.{Fills};
-ghost use Rattle.acpi_c_lib.specs.Shown.{dsdt_below, signature_named, table_below, table_record, tables_below, table_in, tables_in};
-ghost use Rattle.acpi_c_lib.specs.Listed.{lists_some};
+ghost use Rattle.acpi_base.specs.Words.{bytes_of, start_of};
+ghost use Rattle.acpi.specs.Words.{pointers_left};
+ghost use Rattle.acpi_c_lib.specs.Words.{Fills, dsdt_below, signature_named, table_below, table_record, tables_below, table_in, tables_in, lists_some};
 
 use crate::lists::{Listing, fill};
 use crate::opening::open;

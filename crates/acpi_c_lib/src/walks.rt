@@ -1,13 +1,8 @@
 //! Walks along the members of the root table: all tables of a signature, SSDTs, and the memory that the
 //! tables take.
 ghost use Rattle.std.specs.Prelude.{◌≡◌, Some, map};
-ghost use Rattle.acpi.specs.Pointers.{pointers_left};
-ghost use Rattle.acpi.specs.Placed.{places_left};
-ghost use Rattle.acpi.specs.Walks.{ssdts_left};
-ghost use Rattle.acpi_c_lib.specs.Answers.{Fills};
-ghost use Rattle.acpi_c_lib.specs.Walked.{nth_below, nth_in, ranges_below, ssdts_below, range_record};
-ghost use Rattle.acpi_c_lib.specs.Listed.{lists_each};
-ghost use Rattle.acpi_c_lib.specs.Shown.{aml_record};
+ghost use Rattle.acpi.specs.Words.{pointers_left, places_left, ssdts_left};
+ghost use Rattle.acpi_c_lib.specs.Words.{Fills, nth_below, nth_in, ranges_below, ssdts_below, range_record, lists_each, aml_record};
 
 use crate::lists::{Listing, fill};
 use crate::opening::open;

@@ -1,9 +1,8 @@
 //! Tables that are written for C, from its records, as `acpi_writer` writes them.
 ghost use Rattle.std.specs.Prelude.{◌≡◌};
-ghost use Rattle.acpi_c_lib.specs.Answers.{AnswersPlain};
+ghost use Rattle.acpi_c_lib.specs.Words.{AnswersPlain};
 ghost use Rattle.acpi_c_lib.specs.Writing as writing;
-ghost use Rattle.acpi_writer.specs.McfgBytes.{mcfg_entry};
-ghost use Rattle.acpi_writer.specs.McfgLaws.{FitsMcfg};
+ghost use Rattle.acpi_writer.specs.Words.{mcfg_entry, FitsMcfg};
 
 mod bgrt;
 mod fadt;

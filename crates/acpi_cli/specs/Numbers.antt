@@ -1,8 +1,6 @@
 -- What numbers an argument encodes.
 use Rattle.std.specs.Prelude.{ℕ, ◌&&◌, List, length, drop, nat_eq, nat_le, Option, Some, None, option_and_then, if◌then◌else◌, codes}
-use Rattle.std.specs.Char.{is_digit}
-use Rattle.std.specs.List.{list_all, starts_with}
-use Rattle.std.specs.Str.Parse.{digits_value}
+use Rattle.acpi_base.specs.FromStd.{is_digit, list_all, starts_with, digits_value}
 
 -- the number that digits of a base encode, the highest first: at least one, and at most that many
 abbrev pub numeral : ℕ → ℕ → List ℕ → Option ℕ

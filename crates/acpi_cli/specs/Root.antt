@@ -1,9 +1,8 @@
 -- What leads to the tables, as arguments say it, and what it opens.
-use Rattle.std.specs.Prelude.{ℕ, List, [], ◌∷◌, Option, Some, None, Result, if◌then◌else◌, codes}
-use Rattle.std.specs.Str.{bytes_eq}
-use Rattle.acpi_base.specs.Memory.{Memory}
-use Rattle.acpi_base.specs.declared.error.AcpiError.{AcpiError}
-use Rattle.acpi.specs.Opened.{Opened, opened_at, opened_by_rsdp, opened_by_search}
+use Rattle.std.specs.Prelude.{ℕ, List, [], ◌∷◌, Option, Some, None, Result, if◌then◌else◌, codes, bytes_eq}
+use Rattle.acpi_base.specs.Words.{Memory}
+use Rattle.acpi.specs.Types.{AcpiError}
+use Rattle.acpi.specs.Words.{Opened, opened_at, opened_by_rsdp, opened_by_search}
 use Rattle.acpi_cli.specs.Numbers.{address_of, revision_of}
 use Rattle.acpi_cli.specs.declared.root.Root.{Root}
 use Rattle.acpi_cli.specs.declared.root.Root.TheVariants.{Rsdt, Rsdp, Bios}

@@ -1,6 +1,5 @@
 //! Files as a program asks for them: each name that it asks for is listed, with the bytes that were read.
-ghost use Rattle.std.specs.Prelude.{◌≡◌, ◌++◌, ◌∷◌, ℕ, List, [], IfOk, OnErr, OnOk, Option, length, map};
-ghost use Rattle.std.specs.Option.{option_copied};
+ghost use Rattle.std.specs.Prelude.{◌≡◌, ◌++◌, ◌∷◌, ℕ, List, [], IfOk, OnErr, OnOk, Option, length, map, option_copied};
 ghost use Rattle.acpi_cli.specs.Reads.{FileRead, read_of};
 
 use std::alloc::AllocError;

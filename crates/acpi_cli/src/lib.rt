@@ -5,9 +5,7 @@ pub mod files;
 pub mod root;
 
 ghost use Rattle.std.specs.Prelude.{◌≡◌, ◌≢◌, ◌^◌, ◌≤◌, [], IfErr, IfOk, IsOkAnd, drop, map, string_bytes};
-ghost use Rattle.std.specs.Char.{is_digit};
-ghost use Rattle.std.specs.IoError.{error_kind};
-ghost use Rattle.std.specs.List.{list_all};
+ghost use Rattle.acpi_base.specs.FromStd.{is_digit, error_kind, list_all};
 ghost use Rattle.acpi_cli.specs.Numbers.{address_of, numeral, revision_of};
 
 use std::alloc::{AllocError, Global};

@@ -26,9 +26,8 @@ pub enum Root {
 }
 
 impl Root {
-    ghost use Rattle.acpi_base.specs.Steps.{Gives};
-    ghost use Rattle.acpi.specs.Opened.{opened_of};
-    ghost use Rattle.acpi.specs.Tables.{lender_of};
+    ghost use Rattle.acpi_base.specs.Words.{Gives};
+    ghost use Rattle.acpi.specs.Words.{opened_of, lender_of};
     ghost use Rattle.acpi_cli.specs.Root.{opened_for};
 
     /// The tables below the root table that this way leads to.

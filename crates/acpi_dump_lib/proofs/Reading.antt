@@ -1,12 +1,10 @@
 -- What stands at the front of what is read: a line of a text, a pair of digits, the numbers of a record.
-use Rattle.std.proofs.Common.{◌≡◌, ℕ, ◌+◌, ◌<◌, ◌≤◌, ◌==◌, Bool, true, false, List, [], ◌∷◌, length, refl, ap, arith, if◌then◌else◌, zero, suc, ◌-◌, ◌++◌, Some, None, ◌^◌, w64, take}
-use Rattle.std.specs.Prelude.{Some, None, Ok, Err}
-use Rattle.std.specs.List.{after_first, before_first}
+use Rattle.std.proofs.Common.{◌≡◌, ℕ, ◌+◌, ◌<◌, ◌≤◌, ◌==◌, Bool, true, false, List, [], ◌∷◌, length, refl, ap, arith, if◌then◌else◌, zero, suc, ◌-◌, ◌++◌, Some, None, ◌^◌, w64, take, Ok, Err}
+use Rattle.acpi_base.specs.FromStd.{after_first, before_first, to_le_bytes}
 use Rattle.acpi_dump_lib.specs.DumpText.{Tables, all_of, lines_of, onto_first, or_wrong, tables_from, with_line, begins_with_gap, first_pair, with_pairs}
-use Rattle.std.proofs.lemmas.Grind.{common_steps}
-use Rattle.acpi_base.specs.Bytes.{spelling}
+use Rattle.acpi_base.proofs.FromStd.{common_steps}
+use Rattle.acpi_base.specs.Words.{spelling}
 use Rattle.acpi_image.proofs.Written.{low_bytes}
-use Rattle.std.specs.Int.{to_le_bytes}
 
 -- ---- a text, one line at a time
 
@@ -48,14 +46,16 @@ lines_end n t (c ∷ text) h = absurd (omega arith)
 pub lines_wrong : (n : ℕ) (t : Tables) (text : List ℕ) → 0 < length text
     → with_line t (before_first feed text) ≡ None → tables_from n t (lines_of text) ≡ Err n
 unfolding tables_from
-lines_wrong n t text h e = rw (lines_step text h) (ap (λ o. or_wrong n o (λ more. tables_from (n + 1) more (lines_of (after_first feed text)))) e)
+lines_wrong n t text h e = rw (lines_step text h)
+    (ap (λ o. or_wrong n o (λ more. tables_from (n + 1) more (lines_of (after_first feed text)))) e)
 
 -- the first line is right
 pub lines_more : (n : ℕ) (t more : Tables) (text : List ℕ) → 0 < length text
     → with_line t (before_first feed text) ≡ Some more
     → tables_from n t (lines_of text) ≡ tables_from (n + 1) more (lines_of (after_first feed text))
 unfolding tables_from
-lines_more n t more text h e = rw (lines_step text h) (ap (λ o. or_wrong n o (λ next. tables_from (n + 1) next (lines_of (after_first feed text)))) e)
+lines_more n t more text h e = rw (lines_step text h)
+    (ap (λ o. or_wrong n o (λ next. tables_from (n + 1) next (lines_of (after_first feed text)))) e)
 
 -- ---- pairs, one at a time
 

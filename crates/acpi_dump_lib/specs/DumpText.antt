@@ -1,10 +1,7 @@
 -- The text of acpidump: for each table a heading, `FACP @ 0x00000000BFFE0000`, and rows of its bytes,
 -- `    0010: 42 4F 43 48 ..`, up to a blank line.
-use Rattle.std.specs.Prelude.{ℕ, ◌+◌, ◌*◌, ◌==◌, Bool, true, ◌&&◌, ◌||◌, if◌then◌else◌, zero, suc, codes, is_some, nat_eq}
-use Rattle.std.specs.Prelude.{List, [], ◌∷◌, ◌++◌, length, drop, Option, Some, None, option_map, option_and_then, Result, Ok, Err}
-use Rattle.std.specs.Char.{digit_value, is_digit}
-use Rattle.std.specs.List.{after_first, before_first, starts_with}
-use Rattle.std.specs.Str.{trim, trim_start}
+use Rattle.std.specs.Prelude.{ℕ, ◌+◌, ◌*◌, ◌==◌, Bool, true, ◌&&◌, ◌||◌, if◌then◌else◌, zero, suc, codes, is_some, nat_eq, List, [], ◌∷◌, ◌++◌, length, drop, Option, Some, None, option_map, option_and_then, Result, Ok, Err}
+use Rattle.acpi_base.specs.FromStd.{digit_value, is_digit, after_first, before_first, starts_with, trim, trim_start}
 use Rattle.acpi_cli.specs.Numbers.{address_of, numeral}
 
 -- the lines of a text: what stands before each line feed, and after the last one if that isn't the end

@@ -43,12 +43,15 @@ same_opened : (x y : Opened) → found x ≡ found y → x ≡ y
 same_opened x y e = cc
 
 -- what is opened in a memory that is read from the file
-pub guest_count : (p : Plan) (file : List ℕ) (m : Memory) (o : Opened) → IsWritten p file → m ≡ records_of p → opened_by_rsdp m p.rsdp ≡ Ok o
+pub guest_count : (p : Plan) (file : List ℕ) (m : Memory) (o : Opened) → IsWritten p file → m ≡ records_of p
+    → opened_by_rsdp m p.rsdp ≡ Ok o
     → length (valid_headers m (pointers (width_of o.kind) (drop 36 o.root))) ≡ length p.tables
 guest_count p file m o is same opened =
-    let there : opened_by_rsdp (records_of p) p.rsdp ≡ Ok o = subst (λ (n : Memory). opened_by_rsdp n p.rsdp ≡ Ok o) same opened in
+    let there : opened_by_rsdp (records_of p) p.rsdp ≡ Ok o =
+    subst (λ (n : Memory). opened_by_rsdp n p.rsdp ≡ Ok o) same opened in
     let which : o ≡ opened_of p = same_opened _ _ (sym there ∙ is.opened) in
-    rw (which, same, is.listed) (headers_count (records_of p) (pointers_of p) ∙ ap length is.tables ∙ length-map p.tables _)
+    rw (which, same, is.listed) (headers_count (records_of p) (pointers_of p) ∙ ap length is.tables
+    ∙ length-map p.tables _)
 
 abbrev read_as : Memory → Result Memory ImageError
 read_as m = Ok m
@@ -63,9 +66,12 @@ pub with_any : (listed : Bool) → listed ≡ true → (listed && true) ≡ true
 with_any true h = refl
 with_any false h = absurd cc
 
-pub listed_allowed : {H : Type 0} (memory : H → Memory) (asked guarded : H) (ranges listed : Ranges) (rsdt : ℕ) → guarded ≡ asked → listed ≡ ranges
-    → ranges ≡ graphic_ranges (memory asked) rsdt → Allows (λ a n. is_listed listed a n && true) (graphic_ranges (memory guarded) rsdt)
+pub listed_allowed : {H : Type 0} (memory : H → Memory) (asked guarded : H) (ranges listed : Ranges) (rsdt : ℕ)
+    → guarded ≡ asked → listed ≡ ranges
+    → ranges ≡ graphic_ranges (memory asked) rsdt
+    → Allows (λ a n. is_listed listed a n && true) (graphic_ranges (memory guarded) rsdt)
 listed_allowed memory asked guarded ranges listed rsdt same kept named =
     let all : Allows (is_listed listed) (graphic_ranges (memory guarded) rsdt) =
-    allows_equal listed (graphic_ranges (memory guarded) rsdt) (kept ∙ named ∙ ap (λ h. graphic_ranges (memory h) rsdt) (sym same)) in
+    allows_equal listed (graphic_ranges (memory guarded) rsdt) (kept ∙ named
+    ∙ ap (λ h. graphic_ranges (memory h) rsdt) (sym same)) in
     λ k d less. with_any _ (all k d less)

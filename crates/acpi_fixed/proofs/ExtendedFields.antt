@@ -1,8 +1,8 @@
 -- Fields that came with revision 2.
 use Rattle.std.proofs.Common.{◌≡◌, ℕ, ◌+◌, ◌≤◌, true, List, length, arith}
-use Rattle.std.proofs.lemmas.Bool.{and_from, le-leb}
-use Rattle.acpi_base.specs.Bytes.{field_of}
-use Rattle.acpi_fixed.specs.Registers.{HasBlocks, has_extended}
+use Rattle.acpi_base.proofs.FromStd.{and_from, le-leb}
+use Rattle.acpi_base.specs.Words.{field_of}
+use Rattle.acpi_fixed.specs.Words.{HasBlocks, has_extended}
 
 -- a table that has all blocks has each field up to the last of them
 pub field_known : (b : List ℕ) (o n : ℕ) → HasBlocks b → o + n ≤ 244 → has_extended b o n ≡ true

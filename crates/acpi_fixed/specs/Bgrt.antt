@@ -1,7 +1,6 @@
 -- The boot graphic: the Boot Graphics Resource Table, BGRT (ACPI 6.4, section 5.2.22).
 use Rattle.std.specs.Prelude.{ℕ, List, ◌==◌, if◌then◌else◌}
-use Rattle.acpi_base.specs.Bytes.{field_of}
-use Rattle.acpi_base.specs.Header.{header_at}
+use Rattle.acpi_base.specs.Words.{field_of, header_at}
 use Rattle.acpi_fixed.specs.declared.bgrt.Bgrt.{Bgrt}
 use Rattle.acpi_fixed.specs.declared.bgrt.ImageType.{ImageType}
 use Rattle.acpi_fixed.specs.declared.bgrt.ImageType.TheVariants.{Bitmap, Reserved}

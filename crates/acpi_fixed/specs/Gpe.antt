@@ -1,8 +1,6 @@
 -- The registers of general purpose events, by their length in bytes (ACPI 6.4, section 5.2.9).
 use Rattle.std.specs.Prelude.{ℕ, ◌==◌, List, Option, Some, None, Result, Ok, Err, if◌then◌else◌}
-use Rattle.acpi_base.specs.Address.{space_of}
-use Rattle.acpi_base.specs.Bytes.{field_of}
-use Rattle.acpi_base.specs.Steps.{◌>>=◌}
+use Rattle.acpi_base.specs.Words.{space_of, field_of, ◌>>=◌}
 use Rattle.acpi_base.specs.declared.address.AddressSpace.TheVariants.{SystemIo}
 use Rattle.acpi_base.specs.declared.error.AcpiError.{AcpiError}
 use Rattle.acpi_fixed.specs.declared.fadt.Fadt.{Fadt}

@@ -4,3 +4,4 @@ pub mod Flags
 pub mod Gpe
 pub mod Registers
 pub mod View
+pub mod Words

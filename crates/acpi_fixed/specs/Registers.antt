@@ -1,15 +1,13 @@
 -- Blocks of registers and addresses that the FADT gives in two ways: by a field of its first
 -- versions, and by an extended one (ACPI 6.4, section 5.2.9).
 use Rattle.std.specs.Prelude.{ℕ, ◌+◌, ◌*◌, ◌≤◌, ◌&&◌, ◌==◌, nat_le, nat_lt, Bool, if◌then◌else◌, List, length, replicate, Option, Some, None, is_none, Result, Ok, Err}
-use Rattle.std.specs.Option.{option_map_or}
+use Rattle.acpi_base.specs.FromStd.{option_map_or}
 use Rattle.acpi_base.specs.declared.address.AccessSize.TheVariants.{Undefined}
 use Rattle.acpi_base.specs.declared.address.AddressSpace.TheVariants.{SystemIo}
 use Rattle.acpi_base.specs.declared.address.GenericAddress.{GenericAddress}
 use Rattle.acpi_base.specs.declared.error.AcpiError.{AcpiError}
 use Rattle.acpi_base.specs.declared.error.AcpiError.TheVariants.{InvalidGenericAddress}
-use Rattle.acpi_base.specs.Address.{generic_address_of}
-use Rattle.acpi_base.specs.Bytes.{field_of, filled_part}
-use Rattle.acpi_base.specs.Steps.{◌>>=◌, holds}
+use Rattle.acpi_base.specs.Words.{generic_address_of, field_of, filled_part, ◌>>=◌, holds}
 use Rattle.acpi_fixed.specs.declared.fadt.registers.RegisterBlock.{RegisterBlock}
 use Rattle.acpi_fixed.specs.declared.fadt.registers.Registers.{Registers}
 

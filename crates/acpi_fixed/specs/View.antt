@@ -1,5 +1,5 @@
 -- What a view of a FADT shows.
-use Rattle.acpi_base.specs.Mapping.{bytes_of}
+use Rattle.acpi_base.specs.Words.{bytes_of}
 use Rattle.acpi_fixed.specs.Fadt.{fadt_at}
 use Rattle.acpi_fixed.specs.declared.fadt.Fadt.{Fadt}
 use Rattle.acpi_fixed.specs.declared.fadt.view.FadtView.{FadtView}

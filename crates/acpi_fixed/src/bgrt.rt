@@ -2,9 +2,8 @@
 //! (section 5.2.22).
 ghost use Rattle.std.specs.Prelude.{◌≡◌, ◌*◌, refl};
 ghost use Rattle.std.proofs.Common.{lit≤};
-ghost use Rattle.acpi_base.specs.Table.{sdt_kind};
-ghost use Rattle.acpi_base.specs.Bits.{bits_of, has_bit};
-ghost use Rattle.acpi_fixed.specs.Bgrt.{bgrt_at, image_type_of, offset_of, status_of};
+ghost use Rattle.acpi_base.specs.Words.{sdt_kind, bits_of, has_bit};
+ghost use Rattle.acpi_fixed.specs.Words.{bgrt_at, image_type_of, offset_of, status_of};
 
 use acpi_base::bytes::{bits, field_in, has_bit, u8_in, u16_in, u32_in};
 use acpi_base::sdt::SdtHeader;

@@ -2,10 +2,8 @@
 //! 5.2.9).
 ghost use Rattle.std.specs.Prelude.{◌≡◌, ◌≤◌, length, true, refl};
 ghost use Rattle.std.proofs.Common.{lit≤};
-ghost use Rattle.acpi_base.specs.Table.{sdt_kind};
-ghost use Rattle.acpi_base.specs.Address.{generic_address_of};
-ghost use Rattle.acpi_fixed.specs.Fadt.{fadt_at, profile_for, dsdt_address_of, facs_address_of, profile_of, pm_timer_of, registers_of};
-ghost use Rattle.acpi_fixed.specs.Registers.{HasBlocks, block_of, optional_block_of, register_of};
+ghost use Rattle.acpi_base.specs.Words.{sdt_kind, generic_address_of};
+ghost use Rattle.acpi_fixed.specs.Words.{fadt_at, profile_for, dsdt_address_of, facs_address_of, profile_of, pm_timer_of, registers_of, HasBlocks, block_of, optional_block_of, register_of};
 
 mod flags;
 mod places;

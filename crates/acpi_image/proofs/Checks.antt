@@ -1,28 +1,17 @@
 -- The checks of what is to be written. Whether records can lie where they are placed depends on starts and lengths
 -- alone, and is decided place by place.
-use Rattle.std.proofs.Common.{◌≡◌, ℕ, ◌^◌, ◌==◌, nat_lt, true, false, Ok, List, [], ◌∷◌, length, map, refl, sym, ap, ◌∙◌, zero, suc, ◌+◌, ◌<◌, ◌≤◌, Bool, ◌++◌, take, drop, get_or, subst, arith, inl, inr, add-one, append_assoc, replicate, slice_index_or, Result, Err}
-use Rattle.std.specs.List.{list_all, list_any, AllByRecursion}
-use Rattle.std.proofs.lemmas.List.{length-replicate, length-map, map-append, take_all, take_more, take-append-drop}
-use Rattle.acpi_base.specs.Memory.{Memory, Region, end_of, AreApart}
-use Rattle.acpi_image_reader.specs.Image.{share, shares_any}
-use Rattle.acpi_image.specs.Places.{IsPlaced, place_of, places_of}
-use Rattle.acpi_image_reader.specs.Regions.{region_in}
+use Rattle.std.proofs.Common.{◌≡◌, ℕ, ◌^◌, ◌==◌, nat_lt, true, false, Ok, List, [], ◌∷◌, length, map, refl, sym, ap, ◌∙◌, zero, suc, ◌+◌, ◌<◌, ◌≤◌, Bool, ◌++◌, take, drop, get_or, subst, arith, inl, inr, add-one, append_assoc, replicate, slice_index_or, Result, Err, ◌||◌, IsErrAnd, not}
+use Rattle.acpi_base.specs.FromStd.{list_all, list_any, AllByRecursion, BTreeMap}
+use Rattle.acpi_base.proofs.FromStd.{length-replicate, length-map, map-append, take_all, take_more, take-append-drop, and_parts, ltb-true, or_cases, or_from, or_left, or_right, leb-true, drop-cons}
+use Rattle.acpi_base.specs.Words.{Memory, Region, end_of, AreApart, ◌>>=◌, holds}
+use Rattle.acpi_image_reader.specs.Words.{share, shares_any, region_in, AreAllApart}
+use Rattle.acpi_image.specs.Words.{IsPlaced, place_of, places_of, check_places, check_plan, check_tables, pointers_fit, some_share, WritesOrRunsOut, is_table, written, placed, placed_region, plan, records_of, root_length, starts_of, summed, Plan, kind_of, pointers_of, PlacedTable, WriteError}
 use Rattle.acpi_image_reader.proofs.Sharing.{SamePlace, ranges_share, same_share, apart_is, share_is, shares_none}
-use Rattle.acpi_image.specs.WriteChecks.{check_places, check_plan, check_tables, pointers_fit, some_share, WritesOrRunsOut, is_table, written}
-use Rattle.acpi_image.specs.Written.{placed, placed_region, plan, records_of, root_length, starts_of, summed, Plan, kind_of, pointers_of}
 use Rattle.acpi_image.proofs.Written.{length-root_to, length-rsdp_to, length-with_sum}
-use Rattle.acpi_image.specs.declared.write.PlacedTable.{PlacedTable}
-use Rattle.acpi_base.specs.declared.range.AddressRange.{AddressRange}
-use Rattle.acpi.specs.Root.{kind_of_revision}
-use Rattle.std.proofs.lemmas.Bool.{and_parts, ltb-true, or_cases, or_from, or_left, or_right, leb-true}
-use Rattle.std.proofs.Math.Seq.{drop-cons}
-use Rattle.std.specs.BTreeMap.{BTreeMap}
+use Rattle.acpi.specs.Types.{AddressRange}
+use Rattle.acpi.specs.Words.{kind_of_revision}
 use Rattle.acpi_image_reader.proofs.Listing.{flipped, starts_none}
-use Rattle.acpi_image_reader.specs.Starts.{AreAllApart}
-use Rattle.std.specs.Prelude.{◌||◌, IsErrAnd, nat_lt, not, ◌==◌}
-use Rattle.acpi_base.proofs.Steps.{bind_ok, holds_ok}
-use Rattle.acpi_base.specs.Steps.{◌>>=◌, holds}
-use Rattle.acpi_image.specs.declared.error.WriteError.{WriteError}
+use Rattle.acpi_base.proofs.Words.{bind_ok, holds_ok}
 use Rattle.acpi_image.specs.declared.error.WriteError.TheVariants as refusal
 
 abbrev SamePlaces : Memory → Memory → Type 0

@@ -1,33 +1,16 @@
 -- What is written: how long it is, how numbers are encoded, sums, and the tables, which are found at the start of their
 -- regions.
-use Rattle.std.proofs.Common.{◌≡◌, ℕ, zero, suc, ◌+◌, ◌-◌, ◌*◌, ◌/◌, ◌%◌, ◌^◌, ◌<◌, ◌≤◌, Bool, true, false, List, [], ◌∷◌, ◌++◌, length, take, drop, refl, sym, ap, ◌∙◌, arith, if◌then◌else◌, w64, get_or, inl, inr, set, sum, subst, Some, Ok, lit≤, map, lit<, eq-eqb}
-use Rattle.std.specs.Prelude.{Ok, flat_map}
-use Rattle.acpi_image_reader.specs.Image.{record_spelling}
-use Rattle.std.specs.Int.{from_le_bytes, to_le_bytes}
-use Rattle.std.proofs.lemmas.Nat.{le_bytes_8}
-use Rattle.std.proofs.lemmas.List.{length-append, length-map, length-set, append-nil, take-append-drop, take_all, get_or_past, drop-set-add, drop-set-lt, take-set-le}
-use Rattle.acpi_base.specs.Bytes.{IsBytes, filled_part, spelling, part, sum_of, field_of, number}
-use Rattle.acpi_base.specs.declared.table.signature.Signature.{Signature}
-use Rattle.acpi_base.proofs.Spelling.{length-spelling, number-spelling, number_filled}
-use Rattle.acpi.specs.Root.{signature_of, width_of}
+use Rattle.std.proofs.Common.{◌≡◌, ℕ, zero, suc, ◌+◌, ◌-◌, ◌*◌, ◌/◌, ◌%◌, ◌^◌, ◌<◌, ◌≤◌, Bool, true, false, List, [], ◌∷◌, ◌++◌, length, take, drop, refl, sym, ap, ◌∙◌, arith, if◌then◌else◌, w64, get_or, inl, inr, set, sum, subst, Some, Ok, lit≤, map, lit<, eq-eqb, flat_map, Contains, bytes_eq}
+use Rattle.acpi_image_reader.specs.Words.{record_spelling}
+use Rattle.acpi_base.specs.FromStd.{from_le_bytes, to_le_bytes, AllByRecursion, is_utf8}
+use Rattle.acpi_base.proofs.FromStd.{le_bytes_8, length-append, length-map, length-set, append-nil, take-append-drop, take_all, get_or_past, drop-set-add, drop-set-lt, take-set-le, cases_lt, le-leb, and_from, and_parts, eqb-true, leb-true, sum_by-set}
+use Rattle.acpi_base.specs.Words.{IsBytes, filled_part, spelling, part, sum_of, field_of, number, Memory, Region, IsMemory, at, check_names, check_table, header_at, lent, own_table_at, plain_kind, table_at}
+use Rattle.acpi.specs.Types.{Signature, SdtHeader}
+use Rattle.acpi_base.proofs.Words.{length-spelling, number-spelling, number_filled, lent_is_inside, header_front}
+use Rattle.acpi.specs.Words.{signature_of, width_of, valid_tables}
 use Rattle.acpi.specs.declared.root.RootKind.{RootKind}
 use Rattle.acpi.specs.declared.root.RootKind.TheVariants.{Rsdt, Xsdt}
-use Rattle.acpi_image.specs.Written.{root_header, root_length, root_to, root_unsummed, rsdp_to, rsdp_unsummed, sum_byte, with_first_sum, with_sum, placed, placed_region, starts_of, summed}
-use Rattle.std.proofs.lemmas.Bool.{cases_lt, le-leb, and_from, and_parts, eqb-true, leb-true}
-use Rattle.std.specs.List.{AllByRecursion, Contains}
-use Rattle.acpi_base.specs.Memory.{Memory, Region, IsMemory, at}
-use Rattle.std.proofs.lemmas.List.Sums.{sum_by-set}
-use Rattle.acpi_image.specs.WriteLaws.{SumIsSet}
-use Rattle.acpi_base.proofs.LentRanges.{lent_is_inside}
-use Rattle.acpi_base.proofs.OwnTable.{header_front}
-use Rattle.acpi_base.specs.Header.{check_names, check_table, header_at}
-use Rattle.acpi_base.specs.Steps.{lent}
-use Rattle.acpi_base.specs.Table.{own_table_at, plain_kind, table_at}
-use Rattle.std.specs.Str.{bytes_eq, is_utf8}
-use Rattle.acpi_base.specs.declared.table.header.SdtHeader.{SdtHeader}
-use Rattle.acpi.specs.Lists.{valid_tables}
-use Rattle.acpi_image.specs.WriteChecks.{is_table}
-use Rattle.acpi_image.specs.declared.write.PlacedTable.{PlacedTable}
+use Rattle.acpi_image.specs.Words.{root_header, root_length, root_to, root_unsummed, rsdp_to, rsdp_unsummed, sum_byte, with_first_sum, with_sum, placed, placed_region, starts_of, summed, SumIsSet, is_table, PlacedTable}
 
 pub length-with_sum : (offset : ℕ) (bytes : List ℕ) → length (with_sum offset bytes) ≡ length bytes
 unfolding with_sum

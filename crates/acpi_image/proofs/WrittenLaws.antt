@@ -1,35 +1,20 @@
 -- Records that can lie where they are placed are a memory; what is written is read back, opened, and has the tables
 -- that were placed.
-use Rattle.std.proofs.Common.{◌≡◌, ℕ, ◌^◌, ◌<◌, Bool, true, false, List, [], ◌∷◌, length, map, Result, Ok, refl, arith, drop, Err, sym, subst, ◌∙◌}
-use Rattle.std.specs.Prelude.{◌||◌, flat_map, if◌then◌else◌, nat_lt, not, ◌==◌, IfOk}
-use Rattle.std.specs.List.{AllByRecursion, list_all}
-use Rattle.std.proofs.lemmas.Bool.{and_parts, ltb-true, or_parts}
-use Rattle.acpi_base.proofs.Steps.{holds_ok, bind_ok}
-use Rattle.acpi_base.specs.Bytes.{IsBytes}
-use Rattle.acpi_base.specs.Memory.{Memory, Region, AreApart, IsMemory, end_of}
-use Rattle.acpi_base.specs.Steps.{holds, ◌>>=◌}
-use Rattle.acpi.specs.Root.{width_of, pointers, root_at}
+use Rattle.std.proofs.Common.{◌≡◌, ℕ, ◌^◌, ◌<◌, Bool, true, false, List, [], ◌∷◌, length, map, Result, Ok, refl, arith, drop, Err, sym, subst, ◌∙◌, ◌||◌, flat_map, if◌then◌else◌, nat_lt, not, ◌==◌, IfOk}
+use Rattle.acpi_base.specs.FromStd.{AllByRecursion, list_all}
+use Rattle.acpi_base.proofs.FromStd.{and_parts, ltb-true, or_parts, length-map}
+use Rattle.acpi_base.proofs.Words.{holds_ok, bind_ok}
+use Rattle.acpi_base.specs.Words.{IsBytes, Memory, Region, AreApart, IsMemory, end_of, holds, ◌>>=◌}
+use Rattle.acpi.specs.Words.{width_of, pointers, root_at, hpet_of, valid_headers, valid_tables, found_regions, platform_of, FollowsTables, opened_by_rsdp, rsdp_at}
 use Rattle.acpi.specs.declared.root.RootKind.TheVariants.{Rsdt, Xsdt}
 use Rattle.acpi_image_reader.proofs.Sharing.{all_apart}
-use Rattle.acpi_image_reader.specs.Image.{record_spelling}
-use Rattle.acpi_image.specs.WriteChecks.{check_places, some_share, WritesOrRunsOut, check_plan, written}
-use Rattle.acpi_image.specs.Written.{starts_of, summed, Plan, kind_of, pointers_of, records_of, root_length, root_to, rsdp_record, rsdp_to, tables_of}
-use Rattle.acpi_image.specs.declared.error.WriteError.{WriteError}
-use Rattle.acpi_image.specs.declared.error.WriteError.TheVariants.{Overlap}
-use Rattle.std.proofs.lemmas.List.{length-map}
-use Rattle.acpi_base.specs.declared.error.AcpiError.{AcpiError}
+use Rattle.acpi_image_reader.specs.Words.{record_spelling}
+use Rattle.acpi_image.specs.Words.{check_places, some_share, WritesOrRunsOut, check_plan, written, starts_of, summed, Plan, kind_of, pointers_of, records_of, root_length, root_to, rsdp_record, rsdp_to, tables_of, WriteError, Overlap, IsWritten, SaysOfTables, WrittenIsRead, opened_of, said_of}
+use Rattle.acpi.specs.Types.{AcpiError}
 use Rattle.acpi.proofs.Moved.{headers_follow, hpet_follows, in_ok_follows, platform_follows, regions_follow}
-use Rattle.acpi.specs.Hpet.{hpet_of}
-use Rattle.acpi.specs.Lists.{valid_headers, valid_tables}
-use Rattle.acpi.specs.Pci.{found_regions}
-use Rattle.acpi.specs.Platform.{platform_of}
-use Rattle.acpi.specs.Relocation.{FollowsTables}
-use Rattle.acpi.specs.Opened.{opened_by_rsdp}
-use Rattle.acpi.specs.Rsdp.{rsdp_at}
 use Rattle.acpi_image_reader.proofs.Images.{image_again}
 use Rattle.acpi_image.proofs.Written.{length-rsdp_to, every_in, record_bytes, sums_are_set, tables_there}
 use Rattle.acpi_image.proofs.WrittenRoot.{IsRsdp, is_rsdp, pointers_are, root_there, rsdp_there}
-use Rattle.acpi_image.specs.WriteLaws.{IsWritten, SaysOfTables, WrittenIsRead, opened_of, said_of}
 use Rattle.acpi_image.proofs.Checks.{Passed, are_tables, passed}
 
 -- ---- places

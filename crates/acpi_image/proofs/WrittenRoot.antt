@@ -1,21 +1,15 @@
 -- The RSDP that is written is valid, and leads to the root table that is written, which is valid too and lists the
 -- tables.
-use Rattle.std.proofs.Common.{◌≡◌, ℕ, ◌^◌, ◌<◌, Bool, true, false, List, ◌∷◌, ◌++◌, length, take, Some, None, Result, Ok, refl, sym, ap, subst, ◌∙◌, arith, lit≤, lit<, if◌then◌else◌, zero, suc, [], drop, set}
-use Rattle.std.specs.Prelude.{◌==◌, ◌||◌, replicate, flat_map}
-use Rattle.std.specs.List.{Contains, AllByRecursion}
-use Rattle.std.specs.Str.{chars, is_utf8}
-use Rattle.std.proofs.lemmas.List.{length-take-le, take_all, append-nil, drop-set-lt, drop_at, get_or_past}
-use Rattle.acpi_base.proofs.Spelling.{number-spelling}
-use Rattle.acpi_base.specs.Bytes.{field_of, number, part, spelling, sum_of, IsBytes}
-use Rattle.acpi_base.specs.Memory.{Memory, Region, IsMemory}
-use Rattle.acpi_base.specs.Steps.{lent}
-use Rattle.acpi_base.specs.declared.error.AcpiError.{AcpiError}
-use Rattle.acpi.specs.Root.{root_of_revision, root_pointer, IsPointers, pointers, root_at, signature_of, width_of}
+use Rattle.std.proofs.Common.{◌≡◌, ℕ, ◌^◌, ◌<◌, Bool, true, false, List, ◌∷◌, ◌++◌, length, take, Some, None, Result, Ok, refl, sym, ap, subst, ◌∙◌, arith, lit≤, lit<, if◌then◌else◌, zero, suc, [], drop, set, ◌==◌, ◌||◌, replicate, flat_map, Contains}
+use Rattle.acpi_base.specs.FromStd.{AllByRecursion, chars, is_utf8}
+use Rattle.acpi_base.proofs.FromStd.{length-take-le, take_all, append-nil, drop-set-lt, drop_at, get_or_past}
+use Rattle.acpi_base.proofs.Words.{number-spelling}
+use Rattle.acpi_base.specs.Words.{field_of, number, part, spelling, sum_of, IsBytes, Memory, Region, IsMemory, lent, check_names, header_at}
+use Rattle.acpi.specs.Types.{AcpiError}
+use Rattle.acpi.specs.Words.{root_of_revision, root_pointer, IsPointers, pointers, root_at, signature_of, width_of, check_first, check_length, check_sum, checked_length, root_of_rsdp, rsd_ptr, rsdp_at, rsdp_of}
 use Rattle.acpi.specs.declared.root.RootKind.TheVariants.{Rsdt, Xsdt}
-use Rattle.acpi.specs.Rsdp.{check_first, check_length, check_sum, checked_length, root_of_rsdp, rsd_ptr, rsdp_at, rsdp_of}
 use Rattle.acpi_image.proofs.Written.{length-rsdp_unsummed, length-with_first_sum, IsBytes-spelling, length-root_header, length-root_to, length-root_unsummed, lent_start, part_before, sum_is_set, table_there}
-use Rattle.acpi_image.specs.Written.{rsdp_to, rsdp_unsummed, spaces, sum_byte, with_first_sum, with_sum, root_header, root_length, root_record, root_to, root_unsummed}
-use Rattle.acpi_base.specs.Header.{check_names, header_at}
+use Rattle.acpi_image.specs.Words.{rsdp_to, rsdp_unsummed, spaces, sum_byte, with_first_sum, with_sum, root_header, root_length, root_record, root_to, root_unsummed}
 use Rattle.acpi.proofs.Spelled.{one_pointers}
 use Rattle.acpi.specs.declared.root.RootKind.{RootKind}
 

@@ -4,6 +4,7 @@ pub use Rattle.acpi_image_reader.specs.Regions
 pub use Rattle.acpi_image_reader.specs.Starts
 pub mod ErrorText
 pub mod Places
+pub mod Words
 pub mod WriteChecks
 pub mod WriteLaws
 pub mod Written

@@ -1,8 +1,8 @@
 -- Where records lie: their starts and lengths, whatever their bytes are.
 use Rattle.std.specs.Prelude.{ℕ, List, length, map, replicate}
-use Rattle.std.specs.BTreeMap.{BTreeMap}
-use Rattle.acpi_base.specs.Memory.{Memory, Region}
-use Rattle.acpi_image_reader.specs.Starts.{AreAllApart, ListsStarts}
+use Rattle.acpi_base.specs.FromStd.{BTreeMap}
+use Rattle.acpi_base.specs.Words.{Memory, Region}
+use Rattle.acpi_image_reader.specs.Words.{AreAllApart, ListsStarts}
 use Rattle.acpi_image.specs.declared.write.PlacedTable.{PlacedTable}
 
 -- the region where a table is to lie

@@ -1,12 +1,8 @@
 -- Why an image is not written, and what is written otherwise.
-use Rattle.std.specs.Prelude.{◌≡◌, ℕ, ◌+◌, ◌^◌, ◌==◌, nat_le, nat_lt, Bool, false, not, ◌&&◌, ◌||◌}
-use Rattle.std.specs.Prelude.{List, [], ◌∷◌, length, flat_map, Result, Ok, Err, IsOk}
-use Rattle.std.specs.List.{list_all}
-use Rattle.std.specs.Str.{is_utf8}
-use Rattle.acpi_base.specs.Bytes.{field_of, part}
-use Rattle.acpi_base.specs.Memory.{Memory, end_of}
-use Rattle.acpi_base.specs.Steps.{◌>>=◌, holds}
-use Rattle.acpi_image_reader.specs.Image.{record_spelling, shares_any}
+use Rattle.std.specs.Prelude.{◌≡◌, ℕ, ◌+◌, ◌^◌, ◌==◌, nat_le, nat_lt, Bool, false, not, ◌&&◌, ◌||◌, List, [], ◌∷◌, length, flat_map, Result, Ok, Err, IsOk}
+use Rattle.acpi_base.specs.FromStd.{list_all, is_utf8}
+use Rattle.acpi_base.specs.Words.{field_of, part, Memory, end_of, ◌>>=◌, holds}
+use Rattle.acpi_image_reader.specs.Words.{record_spelling, shares_any}
 use Rattle.acpi_image.specs.Written.{Plan, kind_of, pointers_of, records_of, root_length}
 use Rattle.acpi_image.specs.declared.error.WriteError.{WriteError}
 use Rattle.acpi_image.specs.declared.error.WriteError.TheVariants as refusal

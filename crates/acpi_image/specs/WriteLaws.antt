@@ -1,20 +1,14 @@
 -- What holds of an image that is written: it is read back, opened, and has the tables that were
 -- placed.
 use Rattle.std.specs.Prelude.{◌≡◌, ℕ, ◌<◌, List, drop, length, Result, Ok}
-use Rattle.std.specs.List.{AllByRecursion}
-use Rattle.acpi_base.specs.declared.error.AcpiError.{AcpiError}
-use Rattle.acpi_base.specs.Bytes.{IsBytes, sum_of}
-use Rattle.acpi_base.specs.Memory.{Memory, IsMemory}
-use Rattle.acpi.specs.Footprint.{below}
-use Rattle.acpi.specs.Lists.{valid_tables}
-use Rattle.acpi.specs.Opened.{Opened, opened_by_rsdp}
-use Rattle.acpi.specs.Root.{pointers, root_at, width_of}
-use Rattle.acpi.specs.Rsdp.{rsdp_at}
+use Rattle.acpi_base.specs.FromStd.{AllByRecursion}
+use Rattle.acpi.specs.Types.{AcpiError}
+use Rattle.acpi_base.specs.Words.{IsBytes, sum_of, Memory, IsMemory}
+use Rattle.acpi.specs.Words.{below, valid_tables, Opened, opened_by_rsdp, pointers, root_at, width_of, rsdp_at}
 use Rattle.acpi.specs.declared.root.RootKind.{RootKind}
-use Rattle.acpi_image_reader.specs.Image.{IsImage, records_in}
+use Rattle.acpi_image_reader.specs.Words.{IsImage, records_in}
 use Rattle.acpi_image.specs.WriteChecks.{written}
-use Rattle.acpi_image.specs.Written.{Plan, kind_of, pointers_of, records_of, root_to}
-use Rattle.acpi_image.specs.Written.{rsdp_to, tables_of, with_sum}
+use Rattle.acpi_image.specs.Written.{Plan, kind_of, pointers_of, records_of, root_to, rsdp_to, tables_of, with_sum}
 
 -- the byte that is set makes the sum 0
 abbrev pub SumIsSet : Type 0

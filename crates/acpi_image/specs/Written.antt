@@ -1,14 +1,9 @@
 -- What a written image holds: an RSDP, the root table that it leads to, and the tables that this
 -- one lists (ACPI 6.4, sections 5.2.5.3, 5.2.6, 5.2.7 and 5.2.8).
-use Rattle.std.specs.Prelude.{ℕ, ◌+◌, ◌-◌, ◌*◌, ◌%◌, ◌==◌, if◌then◌else◌}
-use Rattle.std.specs.Prelude.{List, ◌∷◌, ◌++◌, length, take, drop, map, flat_map}
-use Rattle.std.specs.Prelude.{replicate, slice_set}
-use Rattle.acpi_base.specs.Bytes.{spelling, sum_of}
-use Rattle.acpi_base.specs.Memory.{Memory, Region}
-use Rattle.acpi_base.specs.Text.{letters_of}
-use Rattle.acpi_base.specs.declared.table.signature.Signature.{Signature}
-use Rattle.acpi.specs.Root.{kind_of_revision, signature_of, width_of}
-use Rattle.acpi.specs.Rsdp.{rsd_ptr}
+use Rattle.std.specs.Prelude.{ℕ, ◌+◌, ◌-◌, ◌*◌, ◌%◌, ◌==◌, if◌then◌else◌, List, ◌∷◌, ◌++◌, length, take, drop, map, flat_map, replicate, slice_set}
+use Rattle.acpi_base.specs.Words.{spelling, sum_of, Memory, Region, letters_of}
+use Rattle.acpi.specs.Types.{Signature}
+use Rattle.acpi.specs.Words.{kind_of_revision, signature_of, width_of, rsd_ptr}
 use Rattle.acpi.specs.declared.root.RootKind.{RootKind}
 use Rattle.acpi_image.specs.declared.write.PlacedTable.{PlacedTable}
 

@@ -26,7 +26,7 @@ pub enum WriteError {
 /// Prints the variant's name, and after a space the index that it carries.
 impl fmt::Display for WriteError {
     ghost use Rattle.std.specs.Prelude.{Some};
-    ghost use Rattle.acpi_image.specs.ErrorText.{write_error_text};
+    ghost use Rattle.acpi_image.specs.Words.{write_error_text};
 
     ghost output = { λ e. Some (write_error_text e) };
 

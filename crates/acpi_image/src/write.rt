@@ -1,9 +1,7 @@
 //! Files of memory that are written with given tables.
 ghost use Rattle.std.specs.Prelude.{IfOk};
-ghost use Rattle.acpi_base.specs.Bytes.{IsBytes};
-ghost use Rattle.acpi_image.specs.WriteChecks.{WritesOrRunsOut, written};
-ghost use Rattle.acpi_image.specs.WriteLaws.{IsWritten};
-ghost use Rattle.acpi_image.specs.Written.{plan};
+ghost use Rattle.acpi_base.specs.Words.{IsBytes};
+ghost use Rattle.acpi_image.specs.Words.{WritesOrRunsOut, written, IsWritten, plan};
 
 mod checks;
 mod places;

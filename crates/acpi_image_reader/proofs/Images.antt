@@ -1,19 +1,9 @@
 -- A file is read one record at a time, as the regions whose records it is, and as no others.
-use Rattle.std.proofs.Common.{◌≡◌, ℕ, zero, suc, ◌<◌, ◌≤◌, Bool, true, false, nat_lt, List, [], ◌∷◌, ◌++◌, ◌+◌, length, Result, Ok, Err, refl, sym, ◌∙◌, arith, ◌^◌, not, take, drop, ap, subst, drop-drop, append_assoc}
-use Rattle.std.proofs.lemmas.Bool.{le-ltb, lt-ltb, leb-true, le-leb, ltb-true}
-use Rattle.std.proofs.lemmas.List.{length-append, nil_from_length, length-take, length-take-le, length-drop, take-append-drop, append-nil}
-use Rattle.std.specs.Prelude.{IsErrAnd, IfOk, ◌↔◌}
-use Rattle.acpi_base.specs.Memory.{Memory, Region, IsMemory, IsRegion, end_of}
-use Rattle.acpi_base.specs.Steps.{◌>>=◌, holds}
-use Rattle.acpi_image_reader.specs.Image.{next_at, records_from, records_in, records_with, ample, GivesOrRunsOut, Refuses, RunsOut, IsImage, record_at, record_spelling, shares_any}
-use Rattle.acpi_image_reader.specs.declared.error.ImageError.{ImageError}
-use Rattle.std.specs.List.{flat_map}
-use Rattle.acpi_image_reader.specs.Held.{memory_of}
-use Rattle.acpi_image_reader.specs.declared.image.MemoryImage.{MemoryImage}
-use Rattle.std.proofs.Math.Seq.{take-append_seam, drop-append_seam}
-use Rattle.acpi_base.specs.Bytes.{IsBytes, number, spelling, field_of}
-use Rattle.acpi_base.proofs.Steps.{bind_ok, holds_ok}
-use Rattle.acpi_base.proofs.Spelling.{IsBytes-drop, IsBytes-take, length-spelling, number-spelling, spelling-number}
+use Rattle.std.proofs.Common.{◌≡◌, ℕ, zero, suc, ◌<◌, ◌≤◌, Bool, true, false, nat_lt, List, [], ◌∷◌, ◌++◌, ◌+◌, length, Result, Ok, Err, refl, sym, ◌∙◌, arith, ◌^◌, not, take, drop, ap, subst, drop-drop, append_assoc, IsErrAnd, IfOk, ◌↔◌, flat_map}
+use Rattle.acpi_base.proofs.FromStd.{le-ltb, lt-ltb, leb-true, le-leb, ltb-true, length-append, nil_from_length, length-take, length-take-le, length-drop, take-append-drop, append-nil, take-append_seam, drop-append_seam}
+use Rattle.acpi_base.specs.Words.{Memory, Region, IsMemory, IsRegion, end_of, ◌>>=◌, holds, IsBytes, number, spelling, field_of}
+use Rattle.acpi_image_reader.specs.Words.{next_at, records_from, records_in, records_with, ample, GivesOrRunsOut, Refuses, RunsOut, IsImage, record_at, record_spelling, shares_any, ImageError, memory_of, MemoryImage}
+use Rattle.acpi_base.proofs.Words.{bind_ok, holds_ok, IsBytes-drop, IsBytes-take, length-spelling, number-spelling, spelling-number}
 use Rattle.acpi_image_reader.proofs.Sharing.{all_apart, memory_at, memory_with, shares_none}
 use Rattle.acpi_image_reader.specs.declared.error.ImageError.TheVariants as refusal
 

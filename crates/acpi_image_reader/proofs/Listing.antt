@@ -1,21 +1,11 @@
 -- Regions by their starts: the last one that starts at an address or below it is the only one that
 -- can hold the address.
-use Rattle.std.proofs.Common.{Option, ◌≡◌, ℕ, zero, suc, ◌-◌, ◌<◌, ◌≤◌, ◌==◌, ◌&&◌, nat_lt, Bool, true, false, List, [], ◌∷◌, ◌++◌, length, drop, slice_index_or, Some, None, IsSome, refl, sym, ap, subst, ◌∙◌, arith, inl, inr, ◌⊎◌, eq-eqb, ne_eqb, cond, take}
-use Rattle.std.proofs.lemmas.Bool.{and_parts, and_from, ltb-true, lt-ltb, eqb-true, cases_lt, or_right, and_right, cases_eq, le-ltb, le-leb, lt-leb, and_left}
-use Rattle.std.proofs.lemmas.Bool.Decides.{nat_tests}
-use Rattle.std.specs.BTreeMap.{BTreeMap, get}
-use Rattle.std.specs.Option.{option_map}
-use Rattle.std.specs.Ordering.{is_eq, nat_cmp}
-use Rattle.std.proofs.lemmas.List.Elements.{All-from_recursion, All-contains, recursion_from_All, Contains-get_or}
-use Rattle.std.specs.List.{AllByRecursion, Contains}
-use Rattle.acpi_base.specs.Memory.{Memory, Region, AreApart, IsMemory, end_of, lies_in, rest_from, at}
-use Rattle.acpi_image_reader.specs.Image.{share, shares_any}
-use Rattle.acpi_image_reader.specs.Starts.{AreAllApart, ListsStarts, bytes_at}
+use Rattle.std.proofs.Common.{Option, ◌≡◌, ℕ, zero, suc, ◌-◌, ◌<◌, ◌≤◌, ◌==◌, ◌&&◌, nat_lt, Bool, true, false, List, [], ◌∷◌, ◌++◌, length, drop, slice_index_or, Some, None, IsSome, refl, sym, ap, subst, ◌∙◌, arith, inl, inr, ◌⊎◌, eq-eqb, ne_eqb, cond, take, option_map, Contains}
+use Rattle.acpi_base.proofs.FromStd.{and_parts, and_from, ltb-true, lt-ltb, eqb-true, cases_lt, or_right, and_right, cases_eq, le-ltb, le-leb, lt-leb, and_left, nat_tests, All-from_recursion, All-contains, recursion_from_All, Contains-get_or, take-length, map-append}
+use Rattle.acpi_base.specs.FromStd.{BTreeMap, get, is_eq, nat_cmp, AllByRecursion}
+use Rattle.acpi_base.specs.Words.{Memory, Region, AreApart, IsMemory, end_of, lies_in, rest_from, at}
+use Rattle.acpi_image_reader.specs.Words.{share, shares_any, AreAllApart, ListsStarts, bytes_at, region_of, regions_of, Record}
 use Rattle.acpi_image_reader.proofs.Sharing.{all_apart, apart_is, inside, shares_none, within}
-use Rattle.std.proofs.Math.Seq.{take-length}
-use Rattle.acpi_image_reader.specs.Regions.{region_of, regions_of}
-use Rattle.std.proofs.lemmas.List.{map-append}
-use Rattle.acpi_image_reader.specs.declared.record.Record.{Record}
 
 pub all_apart_in : (m : Memory) → IsMemory m → AreAllApart m
 all_apart_in [] h = tt

@@ -1,13 +1,10 @@
 -- When regions share a byte.
-use Rattle.std.proofs.Common.{◌≡◌, ℕ, ◌<◌, ◌≤◌, Bool, true, false, ◌||◌, sym, List, [], ◌∷◌, ◌++◌, length, refl, arith, inl, inr, ◌∙◌}
-use Rattle.std.proofs.lemmas.Bool.{and_parts, and_from, or_cases, or_parts, or_from, or_left, or_right, false_from_ne_true, leb-true, le-leb, ltb-true, lt-ltb, cases_lt}
-use Rattle.std.proofs.lemmas.List.{length-replicate}
-use Rattle.std.specs.List.{AllByRecursion}
-use Rattle.std.specs.Prelude.{◌↔◌}
-use Rattle.acpi_base.specs.Memory.{Memory, Region, AreApart, IsMemory, IsRegion, end_of, lies_in}
+use Rattle.std.proofs.Common.{◌≡◌, ℕ, ◌<◌, ◌≤◌, Bool, true, false, ◌||◌, sym, List, [], ◌∷◌, ◌++◌, length, refl, arith, inl, inr, ◌∙◌, ◌↔◌}
+use Rattle.acpi_base.proofs.FromStd.{and_parts, and_from, or_cases, or_parts, or_from, or_left, or_right, false_from_ne_true, leb-true, le-leb, ltb-true, lt-ltb, cases_lt, length-replicate}
+use Rattle.acpi_base.specs.FromStd.{AllByRecursion}
+use Rattle.acpi_base.specs.Words.{Memory, Region, AreApart, IsMemory, IsRegion, end_of, lies_in}
 use Rattle.acpi_base.specs.declared.range.AddressRange.{AddressRange}
-use Rattle.acpi_image_reader.specs.Image.{share, shares_any}
-use Rattle.acpi_image_reader.specs.Regions.{region_in}
+use Rattle.acpi_image_reader.specs.Words.{share, shares_any, region_in}
 
 pub inside : (r : Region) (a : ℕ) → lies_in r a ≡ true → (r.start ≤ a) × (a < end_of r)
 inside r a h =

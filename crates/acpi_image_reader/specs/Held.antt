@@ -1,5 +1,5 @@
 -- What an image shows.
-use Rattle.acpi_base.specs.Memory.{Memory}
+use Rattle.acpi_base.specs.Words.{Memory}
 use Rattle.acpi_image_reader.specs.Regions.{regions_of}
 use Rattle.acpi_image_reader.specs.declared.image.MemoryImage.{MemoryImage}
 

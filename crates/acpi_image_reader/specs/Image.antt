@@ -1,10 +1,6 @@
 -- A file of memory is its records, one after the other, and nothing else.
-use Rattle.std.specs.Prelude.{◌≡◌, ℕ, ◌+◌, ◌^◌, zero, suc, nat_le, nat_lt, Result, Ok, Err}
-use Rattle.std.specs.Prelude.{Bool, true, false, not, ◌&&◌, ◌||◌}
-use Rattle.std.specs.Prelude.{List, [], ◌∷◌, ◌++◌, length, take, drop, flat_map}
-use Rattle.acpi_base.specs.Bytes.{spelling, field_of}
-use Rattle.acpi_base.specs.Memory.{Memory, Region, lies_in}
-use Rattle.acpi_base.specs.Steps.{◌>>=◌, holds}
+use Rattle.std.specs.Prelude.{◌≡◌, ℕ, ◌+◌, ◌^◌, zero, suc, nat_le, nat_lt, Result, Ok, Err, Bool, true, false, not, ◌&&◌, ◌||◌, List, [], ◌∷◌, ◌++◌, length, take, drop, flat_map}
+use Rattle.acpi_base.specs.Words.{spelling, field_of, Memory, Region, lies_in, ◌>>=◌, holds}
 use Rattle.acpi_image_reader.specs.declared.error.ImageError.{ImageError}
 use Rattle.acpi_image_reader.specs.declared.error.ImageError.TheVariants as refusal
 

@@ -3,3 +3,4 @@ pub mod Held
 pub mod Image
 pub mod Regions
 pub mod Starts
+pub mod Words

@@ -1,12 +1,7 @@
 -- Which regions start at which addresses.
-use Rattle.std.specs.Prelude.{◌≡◌, ℕ, ◌==◌, ◌&&◌, nat_lt, if◌then◌else◌}
-use Rattle.std.specs.Prelude.{List, [], ◌∷◌, length, Option, Some, None}
-use Rattle.std.specs.BTreeMap.{BTreeMap, get}
-use Rattle.std.specs.Coded.{×_prop, Unit-prop}
-use Rattle.std.specs.List.{AllByRecursion, AllByRecursion-prop}
-use Rattle.std.specs.Option.{option_map}
-use Rattle.std.specs.Ordering.{nat_cmp}
-use Rattle.acpi_base.specs.Memory.{Memory, AreApart, AreApart-prop}
+use Rattle.std.specs.Prelude.{◌≡◌, ℕ, ◌==◌, ◌&&◌, nat_lt, if◌then◌else◌, List, [], ◌∷◌, length, Option, Some, None, option_map}
+use Rattle.acpi_base.specs.FromStd.{BTreeMap, get, ×_prop, Unit-prop, AllByRecursion, AllByRecursion-prop, nat_cmp}
+use Rattle.acpi_base.specs.Words.{Memory, AreApart, AreApart-prop}
 
 -- no two regions share an address
 abbrev pub AreAllApart : Memory → Type 0

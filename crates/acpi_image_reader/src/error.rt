@@ -19,7 +19,7 @@ pub enum ImageError {
 /// Prints the variant's name.
 impl fmt::Display for ImageError {
     ghost use Rattle.std.specs.Prelude.{Some};
-    ghost use Rattle.acpi_image_reader.specs.ErrorText.{image_error_text};
+    ghost use Rattle.acpi_image_reader.specs.Words.{image_error_text};
 
     ghost output = { λ e. Some (image_error_text e) };
 

@@ -4,7 +4,7 @@
 //! a start (8 bytes), a length (8 bytes), both little-endian, and that many bytes: the memory from
 //! the address `start` on. A file without a record is an empty memory, and a record without bytes
 //! lends nothing.
-ghost use Rattle.acpi_base.specs.Memory.{IsMemory, IsMemory-prop};
+ghost use Rattle.acpi_base.specs.Words.{IsMemory, IsMemory-prop};
 ghost use Rattle.acpi_image_reader.specs.Regions.{regions_of};
 
 pub use crate::error::ImageError;
@@ -23,7 +23,7 @@ pub struct MemoryImage<'a> {
 
 impl<'a> MemoryImage<'a> {
     ghost use Rattle.std.specs.Prelude.{◌≡◌, ◌↔◌, IfOk, Ok};
-    ghost use Rattle.acpi_base.specs.Memory.{Memory};
+    ghost use Rattle.acpi_base.specs.Words.{Memory};
     ghost use Rattle.acpi_image_reader.specs.Image.{GivesOrRunsOut, IsImage, records_in};
     ghost use Rattle.acpi_image_reader.specs.Held.{memory_of};
 
@@ -63,7 +63,7 @@ impl<'a> MemoryImage<'a> {
 /// Lends the file's bytes.
 impl AcpiHandler for MemoryImage<'_> {
     ghost use Rattle.std.specs.Prelude.{◌≡◌, ◌<◌, ◌≤◌, length, Some, None, IfOk, IfErr};
-    ghost use Rattle.acpi_base.specs.Memory.{at, rest_from};
+    ghost use Rattle.acpi_base.specs.Words.{at, rest_from};
     ghost use Rattle.acpi_base.specs.declared.error.AcpiError.TheVariants.{MapFailed};
     ghost use Rattle.acpi_image_reader.specs.Held.{memory_of};
 

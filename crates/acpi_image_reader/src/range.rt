@@ -1,8 +1,7 @@
 //! The ranges of records: whether one ends below 2^64, and whether two share a byte.
 ghost use Rattle.std.specs.Prelude.{◌≡◌, ◌^◌, nat_lt};
-ghost use Rattle.acpi_base.specs.Memory.{end_of, lies_in};
-ghost use Rattle.acpi_image_reader.specs.Image.{share};
-ghost use Rattle.acpi_image_reader.specs.Regions.{region_in};
+ghost use Rattle.acpi_base.specs.Words.{end_of, lies_in};
+ghost use Rattle.acpi_image_reader.specs.Words.{share, region_in};
 
 use acpi_base::AddressRange;
 

@@ -1,8 +1,7 @@
 //! Reading the records of a file, in order.
 ghost use Rattle.std.specs.Prelude.{◌≡◌, ◌<◌, false, length, IfOk};
-ghost use Rattle.acpi_base.specs.Steps.{Gives};
-ghost use Rattle.acpi_image_reader.specs.Image.{GivesOrRunsOut, next_at, records_in, shares_any};
-ghost use Rattle.acpi_image_reader.specs.Regions.{region_of, regions_of};
+ghost use Rattle.acpi_base.specs.Words.{Gives};
+ghost use Rattle.acpi_image_reader.specs.Words.{GivesOrRunsOut, next_at, records_in, shares_any, region_of, regions_of};
 
 use crate::error::ImageError;
 use crate::record::{Record, first_record};

@@ -1,9 +1,7 @@
 //! One record of a file.
 ghost use Rattle.std.specs.Prelude.{◌^◌, ◌<◌, length, IfOk};
-ghost use Rattle.acpi_base.specs.Memory.{end_of};
-ghost use Rattle.acpi_base.specs.Steps.{Gives};
-ghost use Rattle.acpi_image_reader.specs.Image.{record_at};
-ghost use Rattle.acpi_image_reader.specs.Regions.{region_of};
+ghost use Rattle.acpi_base.specs.Words.{end_of, Gives};
+ghost use Rattle.acpi_image_reader.specs.Words.{record_at, region_of};
 
 use crate::error::ImageError;
 use crate::range::shares_byte;
@@ -21,8 +19,8 @@ pub struct Record<'a> {
 
 impl<'a> Record<'a> {
     ghost use Rattle.std.specs.Prelude.{◌≡◌, ◌-◌, ◌↔◌, IfSome, IfNone, drop, true, false};
-    ghost use Rattle.acpi_base.specs.Memory.{AreApart, lies_in};
-    ghost use Rattle.acpi_image_reader.specs.Image.{share};
+    ghost use Rattle.acpi_base.specs.Words.{AreApart, lies_in};
+    ghost use Rattle.acpi_image_reader.specs.Words.{share};
 
     /// The bytes from an address on, or `None` if it doesn't lie in this record.
     #[tactic(auto, using(crate::proofs::Listing::is_inside, crate::proofs::Listing::is_above, crate::proofs::Listing::is_below))]

@@ -1,7 +1,7 @@
 //! The records of a file, in its order and by their starts.
 ghost use Rattle.std.proofs.Props.{props};
 ghost use Rattle.std.specs.Prelude.{◌≡◌, ◌<◌, [], ◌∷◌, ◌++◌, false, IfErr, IsOk, OnOk, vec_capacity, vec_len};
-ghost use Rattle.acpi_base.specs.Memory.{Memory};
+ghost use Rattle.acpi_base.specs.Words.{Memory};
 ghost use Rattle.acpi_image_reader.specs.Image.{shares_any};
 ghost use Rattle.acpi_image_reader.specs.Regions.{region_of, regions_of};
 ghost use Rattle.acpi_image_reader.specs.declared.error.ImageError.TheVariants.{OutOfMemory};
@@ -66,7 +66,7 @@ pub struct Records<'a, A: Allocator> {
 
 impl<'a, A: Allocator> Records<'a, A> {
     ghost use Rattle.std.specs.Prelude.{◌≡◌, ◌^◌, ◌<◌, ◌≤◌, ℕ, [], ◌∷◌, ◌++◌, false, None, Some, IfNone, IfSome, IsSome, IfOk, IfErr};
-    ghost use Rattle.acpi_base.specs.Memory.{end_of, rest_from};
+    ghost use Rattle.acpi_base.specs.Words.{end_of, rest_from};
     ghost use Rattle.acpi_image_reader.specs.Starts.{bytes_at};
 
     /// No record.

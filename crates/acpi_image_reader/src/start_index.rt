@@ -1,12 +1,9 @@
 //! The starts of regions, in ascending order: the region that an address can lie in is found without a
 //! walk along the others.
-ghost use Rattle.std.specs.Prelude.{◌≡◌, ◌<◌, ◌≤◌, ℕ, List, Some, None, IsSome, IfSome, IfNone, OnOk, IfErr};
-ghost use Rattle.std.specs.Prelude.{[], ◌∷◌, ◌++◌, false, length};
-ghost use Rattle.std.specs.BTreeMap.{get};
-ghost use Rattle.std.specs.Ordering.{nat_cmp};
-ghost use Rattle.acpi_base.specs.Memory.{Memory, Region};
-ghost use Rattle.acpi_image_reader.specs.Image.{shares_any};
-ghost use Rattle.acpi_image_reader.specs.Starts.{ListsStarts};
+ghost use Rattle.std.specs.Prelude.{◌≡◌, ◌<◌, ◌≤◌, ℕ, List, Some, None, IsSome, IfSome, IfNone, OnOk, IfErr, [], ◌∷◌, ◌++◌, false, length};
+ghost use Rattle.acpi_base.specs.FromStd.{get, nat_cmp};
+ghost use Rattle.acpi_base.specs.Words.{Memory, Region};
+ghost use Rattle.acpi_image_reader.specs.Words.{shares_any, ListsStarts};
 
 use std::alloc::{AllocError, Allocator};
 use std::collections::BTreeMap;

@@ -1,20 +1,11 @@
 -- Pieces say their own lengths, and bytes are cut into them in one way; hops are cut into a path and others after it.
-use Rattle.std.proofs.Common.{◌≡◌, ℕ, zero, suc, ◌≤◌, Bool, true, false, cond, List, [], ◌∷◌, ◌++◌, length, take, drop, Option, Some, None, refl, sym, ap, ◌∙◌, subst, arith, append_assoc, length-append, length-drop, leb, ◌+◌}
-use Rattle.std.proofs.lemmas.Bool.{and_parts, and_from, eqb-true, leb-true, le-leb}
-use Rattle.std.proofs.lemmas.Bool.Decides.{nat_tests}
-use Rattle.std.proofs.lemmas.List.{take_all, take_at, drop_at, take-append-drop, length-take-le, append-nil, take-append-le, drop-append-le}
-use Rattle.std.specs.Prelude.{◌==◌, ◌&&◌, ◌||◌, nat_lt, filter, is_some, slice_get}
-use Rattle.std.specs.List.{concat, AllByRecursion, list_all, list_any, prefix_len}
-use Rattle.acpi_base.specs.Entries.{with_entry}
-use Rattle.acpi_iommu.specs.DmarScopes.{FrontIsFront, is_front, is_same_hop, scope_size}
-use Rattle.acpi_iommu.specs.Pieces.{IsCut, IsPiece, OneCut, SaysItself, front, pieces, pieces_within, said}
-use Rattle.acpi_iommu.specs.declared.dmar.scope.Hop.{Hop}
-use Rattle.acpi_base.specs.Bytes.{field_of, number, part}
-use Rattle.acpi_iommu.specs.Dmar.{kind_of, structure_size}
+use Rattle.std.proofs.Common.{◌≡◌, ℕ, zero, suc, ◌≤◌, Bool, true, false, cond, List, [], ◌∷◌, ◌++◌, length, take, drop, Option, Some, None, refl, sym, ap, ◌∙◌, subst, arith, append_assoc, length-append, length-drop, leb, ◌+◌, ◌==◌, ◌&&◌, ◌||◌, nat_lt, filter, is_some, slice_get}
+use Rattle.acpi_base.proofs.FromStd.{and_parts, and_from, eqb-true, leb-true, le-leb, nat_tests, take_all, take_at, drop_at, take-append-drop, length-take-le, append-nil, take-append-le, drop-append-le}
+use Rattle.acpi_base.specs.FromStd.{concat, AllByRecursion, list_all, list_any, prefix_len}
+use Rattle.acpi_base.specs.Words.{with_entry, field_of, number, part}
+use Rattle.acpi_iommu.specs.Words.{FrontIsFront, is_front, is_same_hop, scope_size, IsCut, IsPiece, OneCut, SaysItself, front, pieces, pieces_within, said, Hop, kind_of, structure_size, block_kind, block_size, is_ivhd, is_ivmd, entry_kind, entry_size, own_size}
 use Rattle.acpi_iommu.specs.Dmar as dmar
-use Rattle.acpi_iommu.specs.Ivrs.{block_kind, block_size, is_ivhd, is_ivmd}
 use Rattle.acpi_iommu.specs.Ivrs as ivrs
-use Rattle.acpi_iommu.specs.IvrsEntries.{entry_kind, entry_size, own_size}
 
 -- ---- the piece with which bytes begin
 

@@ -1,22 +1,12 @@
 -- Which unit remaps a device, and which memory has its own rules for it, in a reader's words.
-use Rattle.std.proofs.Common.{◌≡◌, ◌⊎◌, inl, inr, ℕ, ◌+◌, ◌<◌, ◌≤◌, Bool, true, false, cond, List, [], ◌∷◌, Option, Some, None, Result, Ok, refl, ap, subst}
-use Rattle.std.specs.Prelude.{◌==◌, ◌&&◌, ◌||◌, ◌^◌, nat_le, find, filter, map, slice_get}
-use Rattle.std.specs.List.{AllByRecursion, cons_option, filter_map, list_all}
-use Rattle.std.specs.Option.{option_map, option_or}
-use Rattle.std.proofs.lemmas.Bool.{and_parts, eqb-true, leb-true, ltb-true}
-use Rattle.acpi_base.proofs.Steps.{holds_ok, same_ok}
-use Rattle.acpi_iommu.specs.Dmar.{drhd_at, includes_pci_all, structures_of}
-use Rattle.acpi_iommu.specs.DmarScopes.{names_device}
-use Rattle.acpi_iommu.specs.DmarUnits.{is_unit_of, source_in}
+use Rattle.std.proofs.Common.{◌≡◌, ◌⊎◌, inl, inr, ℕ, ◌+◌, ◌<◌, ◌≤◌, Bool, true, false, cond, List, [], ◌∷◌, Option, Some, None, Result, Ok, refl, ap, subst, ◌==◌, ◌&&◌, ◌||◌, ◌^◌, nat_le, find, filter, map, slice_get, filter_map, option_map}
+use Rattle.acpi_base.specs.FromStd.{AllByRecursion, cons_option, list_all, option_or}
+use Rattle.acpi_base.proofs.FromStd.{and_parts, eqb-true, leb-true, ltb-true}
+use Rattle.acpi_base.proofs.Words.{holds_ok, same_ok}
+use Rattle.acpi_iommu.specs.Words.{drhd_at, includes_pci_all, structures_of, names_device, is_unit_of, source_in, Drhd, IommuError, InvalidMemoryRange, InvalidStructureLength, blocks_of, ivmd_at, best_kind, ends_below, is_memory_for, is_of_kind, memory_in, unit_in, BlockIsFirst, FirstSays, IsMeantFor, MemoryIsMeant, SourceIsFirst, UnitIsFirst, of_others}
 use Rattle.acpi_iommu.specs.DmarUnits as dmar
 use Rattle.acpi_iommu.specs.IvrsUnits as ivrs
-use Rattle.acpi_base.specs.Steps.{◌>>=◌, holds}
-use Rattle.acpi_iommu.specs.declared.dmar.fields.Drhd.{Drhd}
-use Rattle.acpi_iommu.specs.declared.error.IommuError.{IommuError}
-use Rattle.acpi_iommu.specs.declared.error.IommuError.TheVariants.{InvalidMemoryRange, InvalidStructureLength}
-use Rattle.acpi_iommu.specs.Ivrs.{blocks_of, ivmd_at}
-use Rattle.acpi_iommu.specs.IvrsUnits.{best_kind, ends_below, is_memory_for, is_of_kind, memory_in, unit_in}
-use Rattle.acpi_iommu.specs.UnitLaws.{BlockIsFirst, FirstSays, IsMeantFor, MemoryIsMeant, SourceIsFirst, UnitIsFirst, of_others}
+use Rattle.acpi_base.specs.Words.{◌>>=◌, holds}
 
 -- ---- the first that says something
 

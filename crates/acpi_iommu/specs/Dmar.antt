@@ -1,9 +1,7 @@
 -- The DMA Remapping Reporting Structure, DMAR (Intel Virtualization Technology for Directed I/O 4.0, chapter 8), and
 -- the structures that it is made of.
 use Rattle.std.specs.Prelude.{ℕ, ◌+◌, ◌-◌, ◌*◌, ◌^◌, ◌==◌, ◌&&◌, ◌||◌, Bool, nat_lt, nat_le, List, [], drop, Option, None, Some, if◌then◌else◌}
-use Rattle.acpi_base.specs.Bits.{bits_of, has_bit}
-use Rattle.acpi_base.specs.Bytes.{field_of}
-use Rattle.acpi_base.specs.Header.{header_at}
+use Rattle.acpi_base.specs.Words.{bits_of, has_bit, field_of, header_at}
 use Rattle.acpi_iommu.specs.Pieces.{left, pieces, rest_after, said}
 use Rattle.acpi_iommu.specs.Texts.{up_to_zero}
 use Rattle.acpi_iommu.specs.declared.dmar.Dmar.{Dmar}

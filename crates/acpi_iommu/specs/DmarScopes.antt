@@ -1,7 +1,7 @@
 -- Which devices a structure of a DMAR names, by its device scopes (section 8.3.1).
 use Rattle.std.specs.Prelude.{◌≡◌, ◌↔◌, ℕ, ◌==◌, ◌++◌, ◌&&◌, Bool, true, false, nat_lt, List, [], ◌∷◌, length, drop, Option, None, if◌then◌else◌}
-use Rattle.std.specs.List.{last_or, list_any}
-use Rattle.acpi_base.specs.Bytes.{field_of}
+use Rattle.acpi_base.specs.FromStd.{last_or, list_any}
+use Rattle.acpi_base.specs.Words.{field_of}
 use Rattle.acpi_iommu.specs.Dmar.{scope_bytes}
 use Rattle.acpi_iommu.specs.Pieces.{left, pieces, rest_after, said}
 use Rattle.acpi_iommu.specs.declared.dmar.scope.DeviceScope.{DeviceScope}

@@ -1,9 +1,7 @@
 -- Which unit of a DMAR remaps a device, and which memory is reserved for it (sections 8.3 and 8.4).
-use Rattle.std.specs.Prelude.{ℕ, ◌==◌, ◌&&◌, Bool, not, find, filter, List, map, slice_get, Option, None, Result, Ok, if◌then◌else◌}
-use Rattle.std.specs.List.{filter_map, list_all}
-use Rattle.std.specs.Option.{option_map, option_or}
-use Rattle.acpi_base.specs.Steps.{◌>>=◌, holds}
-use Rattle.acpi_base.specs.MadtWalk.{is_left}
+use Rattle.std.specs.Prelude.{ℕ, ◌==◌, ◌&&◌, Bool, not, find, filter, List, map, slice_get, Option, None, Result, Ok, if◌then◌else◌, filter_map, option_map}
+use Rattle.acpi_base.specs.FromStd.{list_all, option_or}
+use Rattle.acpi_base.specs.Words.{◌>>=◌, holds, is_left}
 use Rattle.acpi_iommu.specs.Dmar.{cut_of, drhd_at, includes_pci_all, is_range, kind_of, rmrr_at, segment_of, structures_left, structures_of}
 use Rattle.acpi_iommu.specs.DmarScopes.{is_numbered, last_hop, names_device, scopes_of, scopes_rest, start_bus}
 use Rattle.acpi_iommu.specs.declared.dmar.fields.Drhd.{Drhd}

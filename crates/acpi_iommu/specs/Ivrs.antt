@@ -1,8 +1,7 @@
 -- The I/O Virtualization Reporting Structure, IVRS (AMD I/O Virtualization Technology (IOMMU) Specification 3.08,
 -- section 5.2), and the blocks that it is made of.
 use Rattle.std.specs.Prelude.{ℕ, ◌==◌, ◌||◌, Bool, List, drop, Option, None, Some, if◌then◌else◌, []}
-use Rattle.acpi_base.specs.Bytes.{field_of}
-use Rattle.acpi_base.specs.Header.{header_at}
+use Rattle.acpi_base.specs.Words.{field_of, header_at}
 use Rattle.acpi_iommu.specs.Pieces.{left, pieces, rest_after, said}
 use Rattle.acpi_iommu.specs.declared.ivrs.Ivrs.{Ivrs}
 use Rattle.acpi_iommu.specs.declared.ivrs.block.Ivhd.{Ivhd}

@@ -1,7 +1,6 @@
 -- Which devices a block of an IVRS is for, by its device entries (section 5.2).
-use Rattle.std.specs.Prelude.{ℕ, ◌+◌, ◌==◌, ◌&&◌, ◌||◌, Bool, nat_le, nat_lt, List, Option, None, Some, if◌then◌else◌, []}
-use Rattle.std.specs.Option.{unwrap_or}
-use Rattle.acpi_base.specs.Bytes.{field_of, part}
+use Rattle.std.specs.Prelude.{ℕ, ◌+◌, ◌==◌, ◌&&◌, ◌||◌, Bool, nat_le, nat_lt, List, Option, None, Some, if◌then◌else◌, [], unwrap_or}
+use Rattle.acpi_base.specs.Words.{field_of, part}
 use Rattle.acpi_iommu.specs.Ivrs.{entry_bytes}
 use Rattle.acpi_iommu.specs.Pieces.{left, pieces, rest_after}
 use Rattle.acpi_iommu.specs.Texts.{up_to_zero}

@@ -1,9 +1,7 @@
 -- Which unit of an IVRS remaps a device, and which memory has its own rules for it (section 5.2).
-use Rattle.std.specs.Prelude.{ℕ, ◌+◌, ◌^◌, ◌==◌, ◌&&◌, ◌||◌, Bool, not, nat_le, nat_lt, find, filter, List, map, slice_get, Option, None, Result, Ok, if◌then◌else◌}
-use Rattle.std.specs.List.{filter_map, list_all, list_any}
-use Rattle.std.specs.Option.{option_map}
-use Rattle.acpi_base.specs.Steps.{◌>>=◌, holds}
-use Rattle.acpi_base.specs.MadtWalk.{is_left}
+use Rattle.std.specs.Prelude.{ℕ, ◌+◌, ◌^◌, ◌==◌, ◌&&◌, ◌||◌, Bool, not, nat_le, nat_lt, find, filter, List, map, slice_get, Option, None, Result, Ok, if◌then◌else◌, filter_map, option_map}
+use Rattle.acpi_base.specs.FromStd.{list_all, list_any}
+use Rattle.acpi_base.specs.Words.{◌>>=◌, holds, is_left}
 use Rattle.acpi_iommu.specs.Ivrs.{block_kind, blocks_cut, blocks_left, blocks_of, ivhd_at, ivmd_at}
 use Rattle.acpi_iommu.specs.IvrsEntries.{covers, entries_cut, entries_of, settings_of, source_for}
 use Rattle.acpi_iommu.specs.declared.error.IommuError.{IommuError}

@@ -8,3 +8,4 @@ pub mod IvrsUnits
 pub mod Pieces
 pub mod Texts
 pub mod UnitLaws
+pub mod Words

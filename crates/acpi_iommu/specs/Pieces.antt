@@ -1,9 +1,8 @@
 -- How bytes are cut into pieces, each of which says by its first bytes how long it is, and what a walk along them
 -- shows.
 use Rattle.std.specs.Prelude.{◌≡◌, ◌↔◌, ℕ, zero, suc, ◌≤◌, ◌&&◌, ◌++◌, Bool, nat_le, List, [], length, take, drop, Option, Some, None, if◌then◌else◌}
-use Rattle.std.specs.List.{concat, AllByRecursion}
-use Rattle.acpi_base.specs.Entries.{with_entry}
-use Rattle.acpi_base.specs.MadtWalk.{is_left}
+use Rattle.acpi_base.specs.FromStd.{concat, AllByRecursion}
+use Rattle.acpi_base.specs.Words.{with_entry, is_left}
 use Rattle.acpi_iommu.specs.declared.pieces.PieceIter.{PieceIter}
 
 -- ---- one piece

@@ -1,6 +1,6 @@
 -- In a reader's words: which unit remaps a device, and which memory has its own rules for it.
 use Rattle.std.specs.Prelude.{◌≡◌, ◌⊎◌, ◌&&◌, ℕ, ◌+◌, ◌^◌, ◌<◌, ◌≤◌, List, ◌∷◌, ◌++◌, Option, Some, None, Ok, if◌then◌else◌}
-use Rattle.std.specs.List.{AllByRecursion}
+use Rattle.acpi_base.specs.FromStd.{AllByRecursion}
 use Rattle.acpi_iommu.specs.Dmar.{drhd_at, includes_pci_all, structures_of}
 use Rattle.acpi_iommu.specs.DmarScopes.{names_device}
 use Rattle.acpi_iommu.specs.DmarUnits.{is_unit_of, source_in, source_of, unit_for}

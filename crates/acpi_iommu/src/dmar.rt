@@ -30,7 +30,7 @@ pub struct Dmar {
 }
 
 impl PhysicalRecord for Dmar {
-    ghost use Rattle.acpi_iommu.specs.Dmar.{dmar_at};
+    ghost use Rattle.acpi_iommu.specs.Words.{dmar_at};
 
     const MIN_LENGTH: usize = 48;
 
@@ -49,8 +49,9 @@ impl PhysicalRecord for Dmar {
 }
 
 impl AcpiTable for Dmar {
-    ghost use Rattle.std.proofs.Common.{lit≤, refl};
-    ghost use Rattle.acpi_base.specs.Table.{sdt_kind};
+    ghost use Rattle.std.proofs.Common.{lit≤};
+    ghost use Rattle.std.specs.Prelude.{refl};
+    ghost use Rattle.acpi_base.specs.Words.{sdt_kind};
     ghost use Rattle.acpi_base.specs.declared.table.signature.TheConstants.Signature.{DMAR};
 
     const SIGNATURE: Signature = Signature::DMAR;
@@ -79,7 +80,7 @@ impl AcpiTable for Dmar {
 
 impl Dmar {
     ghost use Rattle.std.specs.Prelude.{◌≡◌, ◌+◌};
-    ghost use Rattle.acpi_base.specs.Bits.{has_bit};
+    ghost use Rattle.acpi_base.specs.Words.{has_bit};
 
     /// Host Address Width: how many bits an address has that a device can reach, from 1 to 256.
     pub fn address_bits(&self) -> u16

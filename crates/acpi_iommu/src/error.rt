@@ -19,7 +19,7 @@ pub enum IommuError {
 /// Prints the variant's name.
 impl fmt::Display for IommuError {
     ghost use Rattle.std.specs.Prelude.{Some};
-    ghost use Rattle.acpi_iommu.specs.ErrorText.{iommu_error_text};
+    ghost use Rattle.acpi_iommu.specs.Words.{iommu_error_text};
 
     ghost output = { λ e. Some (iommu_error_text e) };
 

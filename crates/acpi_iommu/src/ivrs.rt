@@ -24,7 +24,7 @@ pub struct Ivrs {
 }
 
 impl PhysicalRecord for Ivrs {
-    ghost use Rattle.acpi_iommu.specs.Ivrs.{ivrs_at};
+    ghost use Rattle.acpi_iommu.specs.Words.{ivrs_at};
 
     const MIN_LENGTH: usize = 48;
 
@@ -42,8 +42,9 @@ impl PhysicalRecord for Ivrs {
 }
 
 impl AcpiTable for Ivrs {
-    ghost use Rattle.std.proofs.Common.{lit≤, refl};
-    ghost use Rattle.acpi_base.specs.Table.{sdt_kind};
+    ghost use Rattle.std.proofs.Common.{lit≤};
+    ghost use Rattle.std.specs.Prelude.{refl};
+    ghost use Rattle.acpi_base.specs.Words.{sdt_kind};
     ghost use Rattle.acpi_base.specs.declared.table.signature.TheConstants.Signature.{IVRS};
 
     const SIGNATURE: Signature = Signature::IVRS;

@@ -1,9 +1,8 @@
 //! Bytes that are pieces one after the other, each of which says by its first bytes how long it is: the structures and
 //! blocks of a table, the device scopes and entries of one.
 ghost use Rattle.std.specs.Prelude.{◌≡◌, ◌&&◌, IfSome, IfNone, [], false, not};
-ghost use Rattle.std.specs.List.{list_all};
-ghost use Rattle.acpi_base.specs.Entries.{with_entry};
-ghost use Rattle.acpi_base.specs.MadtWalk.{is_left};
+ghost use Rattle.acpi_base.specs.FromStd.{list_all};
+ghost use Rattle.acpi_base.specs.Words.{with_entry, is_left};
 ghost use Rattle.acpi_iommu.specs.Pieces.{front, has_ended, is_malformed, left, pieces, rest_after, said};
 
 use std::marker::PhantomData;
@@ -111,7 +110,7 @@ impl<'a, K: PieceKind<'a>> PieceIter<'a, K> {
 }
 
 impl<'a, K: PieceKind<'a>> Iterator for PieceIter<'a, K> {
-    ghost use Rattle.std.specs.Iterator.{YieldsFirstBy, item_count};
+    ghost use Rattle.acpi_base.specs.FromStd.{YieldsFirstBy, item_count};
     ghost use Rattle.acpi_iommu.specs.Pieces.{EndsAtRest, left};
 
     type Item = K::Piece;

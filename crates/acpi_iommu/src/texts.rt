@@ -1,7 +1,7 @@
 //! Texts in fields of a fixed place.
 ghost use Rattle.std.specs.Prelude.{◌≡◌, ◌==◌, not};
-ghost use Rattle.std.specs.List.{prefix_len};
-ghost use Rattle.acpi_iommu.specs.Texts.{up_to_zero};
+ghost use Rattle.acpi_base.specs.FromStd.{prefix_len};
+ghost use Rattle.acpi_iommu.specs.Words.{up_to_zero};
 
 /// How many bytes stand before the first zero, or how many there are.
 fn before_zero(bytes: &[u8]) -> usize

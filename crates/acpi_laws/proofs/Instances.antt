@@ -1,31 +1,14 @@
 -- The examples by computation.
-use Rattle.std.proofs.Common.{◌≡◌, ℕ, zero, suc, ◌<◌, ◌≤◌, Bool, true, List, [], ◌∷◌, arith, lit≤, refl, ◌++◌, drop, Option, Some, Result, Ok, ap, ◌∙◌}
-use Rattle.std.specs.Prelude.{◌&&◌, ◌^◌, nat_le, nat_lt, replicate}
-use Rattle.std.specs.List.{AllByRecursion}
-use Rattle.std.proofs.lemmas.Bool.{and_parts, leb-true, ltb-true}
-use Rattle.acpi_base.specs.Bytes.{IsBytes, field_of, sum_of}
-use Rattle.acpi_base.specs.Memory.{AreApart, IsMemory, Memory, Region, end_of, at, rest_from}
-use Rattle.std.specs.Str.{chars, is_utf8}
-use Rattle.acpi_base.specs.Entries.{cut, front}
-use Rattle.acpi_base.specs.Header.{check_names, check_table, header_at}
-use Rattle.acpi_base.specs.Interrupts.{item_of}
-use Rattle.acpi_base.specs.Madt.{madt_at}
-use Rattle.acpi_base.specs.Table.{own_table_at, table_at}
-use Rattle.acpi_fixed.specs.Fadt.{fadt_at}
-use Rattle.acpi_fixed.specs.Registers.{block_at}
+use Rattle.std.proofs.Common.{◌≡◌, ℕ, zero, suc, ◌<◌, ◌≤◌, Bool, true, List, [], ◌∷◌, arith, lit≤, refl, ◌++◌, drop, Option, Some, Result, Ok, ap, ◌∙◌, ◌&&◌, ◌^◌, nat_le, nat_lt, replicate}
+use Rattle.acpi_base.specs.FromStd.{AllByRecursion, chars, is_utf8}
+use Rattle.acpi_base.proofs.FromStd.{and_parts, leb-true, ltb-true}
+use Rattle.acpi_base.specs.Words.{IsBytes, field_of, sum_of, AreApart, IsMemory, Memory, Region, end_of, at, rest_from, cut, front, check_names, check_table, header_at, item_of, madt_at, own_table_at, table_at, AgreesOn, Ranges, ◌>>=◌, lent}
+use Rattle.acpi_fixed.specs.Words.{fadt_at, block_at}
 use Rattle.acpi_laws.specs.Examples.{AreMemories, TheyDiffer, TheyList, bios, bios_here, bios_there, damaged, dsdt, fadt, here, hpet, madt, mcfg, memory, moved, rsdp, rsdt, ssdt, there, unnamed, xsdt}
 use Rattle.acpi_laws.specs.ExampleLaws.{Instances, MovedInstances, OpenedBySearchInstance, SearchInstance, opened}
-use Rattle.acpi.specs.Hpet.{hpet_at}
-use Rattle.acpi.specs.Lists.{own_header_at, stream_at}
-use Rattle.acpi.specs.Root.{pointers}
-use Rattle.acpi.specs.Rsdp.{check_first, check_sum, checked_length, rsdp_at, rsdp_of, root_of_rsdp}
+use Rattle.acpi.specs.Words.{hpet_at, own_header_at, stream_at, pointers, check_first, check_sum, checked_length, rsdp_at, rsdp_of, root_of_rsdp, opened_from, area_ranges, opened_ranges, or_else_ranges, rsdp_ranges, search_ranges, count_of, first_area, found_in, found_rsdp, room_of, second_area, word_in}
 use Rattle.acpi_base.specs.Ranges as ranges
-use Rattle.acpi_base.specs.Ranges.{AgreesOn, Ranges}
-use Rattle.acpi_base.specs.Steps.{◌>>=◌, lent}
-use Rattle.acpi_base.specs.declared.error.AcpiError.{AcpiError}
-use Rattle.acpi.specs.Opened.{opened_from}
-use Rattle.acpi.specs.OpenedRanges.{area_ranges, opened_ranges, or_else_ranges, rsdp_ranges, search_ranges}
-use Rattle.acpi.specs.Search.{count_of, first_area, found_in, found_rsdp, room_of, second_area, word_in}
+use Rattle.acpi.specs.Types.{AcpiError}
 
 -- ---- a test that regions, written out in order, are a memory
 
@@ -150,7 +133,7 @@ ranges_are : (m : Memory) (s : _) (n word : ℕ) (area b : List ℕ) → count_o
     ≡ (s.start, room_of s) ∷ ((rsdp_ranges m s.start ++ []) ++ [])
 ranges_are m s n word area b count named there valid =
     behind_word (λ word. area_ranges m (second_area word)) (word_in m) (found_in m s) (area_ranges m s) _ word
-        (s.start, b) named
+    (s.start, b) named
     (found_there m s n area b count there valid) (ranges_there m s n area b count there valid)
 
 agrees_by : (m k : Memory) (r s : Ranges) → r ≡ s → AgreesOn m k s → AgreesOn m k r

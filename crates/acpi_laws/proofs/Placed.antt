@@ -1,31 +1,13 @@
 -- The members, and the ranges in which the tables lie.
-use Rattle.std.proofs.Common.{◌≡◌, ◌⊎◌, inl, inr, ℕ, ◌≤◌, List, [], ◌∷◌, ◌++◌, length, Option, Some, None, Result, Ok, Err, refl, sym, ap, ◌∙◌, arith, lit≤}
-use Rattle.std.specs.Prelude.{IsErr, filter_map, flat_map, nat_le, slice_get}
-use Rattle.std.specs.List.{AllByRecursion, cons_option}
-use Rattle.std.specs.Result.{result_ok}
-use Rattle.std.proofs.lemmas.Bool.{leb-true}
-use Rattle.acpi_base.proofs.OwnTable.{is_whole, passed}
-use Rattle.acpi_base.proofs.Steps.{bind_ok, same_ok}
-use Rattle.acpi_base.specs.declared.error.AcpiError.{AcpiError}
-use Rattle.acpi_base.specs.declared.error.AcpiError.TheVariants.{SdtInvalidLength}
-use Rattle.acpi_base.specs.declared.table.signature.Signature.{Signature}
-use Rattle.acpi_base.specs.declared.table.signature.TheConstants.Signature.{DSDT, SSDT}
-use Rattle.acpi_base.specs.Header.{check_names, check_table, header_at}
-use Rattle.acpi_base.specs.Memory.{Memory}
+use Rattle.std.proofs.Common.{◌≡◌, ◌⊎◌, inl, inr, ℕ, ◌≤◌, List, [], ◌∷◌, ◌++◌, length, Option, Some, None, Result, Ok, Err, refl, sym, ap, ◌∙◌, arith, lit≤, IsErr, filter_map, flat_map, nat_le, slice_get}
+use Rattle.acpi_base.specs.FromStd.{AllByRecursion, cons_option, result_ok}
+use Rattle.acpi_base.proofs.FromStd.{leb-true}
+use Rattle.acpi_base.proofs.Words.{is_whole, passed, bind_ok, same_ok}
+use Rattle.acpi.specs.Types.{AcpiError, SdtInvalidLength, Signature, DSDT, SSDT, AddressRange}
+use Rattle.acpi_base.specs.Words.{check_names, check_table, header_at, Memory, Ranges, own_table_ranges, table_ranges, unless_found, whole_ranges, ◌>>=◌, holds, lent, Kind, own_table_at, plain_kind, table_at}
 use Rattle.acpi_base.specs.Ranges as ranges
-use Rattle.acpi_base.specs.Ranges.{Ranges, own_table_ranges, table_ranges, unless_found, whole_ranges}
-use Rattle.acpi_base.specs.Steps.{◌>>=◌, holds, lent}
-use Rattle.acpi_base.specs.Table.{Kind, own_table_at, plain_kind, table_at}
-use Rattle.acpi_fixed.specs.Fadt.{dsdt_address_of, fadt_at}
-use Rattle.acpi.specs.Footprint.{lookup_ranges, root_ranges}
-use Rattle.acpi.specs.Lists.{fadt_kind, own_header_at}
-use Rattle.acpi.specs.Later.{or_later}
-use Rattle.acpi.specs.Lookup.{lookup}
-use Rattle.acpi.specs.Members.{found_at, tables_found}
-use Rattle.acpi.specs.Places.{dsdt_place, led_by, place_at, places_of, range}
-use Rattle.acpi.specs.Platform.{madt_kind}
-use Rattle.acpi.specs.Root.{root_kind, signature_of}
-use Rattle.acpi_base.specs.declared.range.AddressRange.{AddressRange}
+use Rattle.acpi_fixed.specs.Words.{dsdt_address_of, fadt_at}
+use Rattle.acpi.specs.Words.{lookup_ranges, root_ranges, fadt_kind, own_header_at, or_later, lookup, found_at, tables_found, dsdt_place, led_by, place_at, places_of, range, madt_kind, root_kind, signature_of}
 use Rattle.acpi_laws.specs.PlaceLaws.{AreReserved, BeginsNoDsdt, BeginsRefused, FirstIsFound, FoundBySignature, HeadersOfMembers, LiesIn, LiesInOne, RootLiesInRange, TablesLieInRanges}
 
 -- ---- members
@@ -182,7 +164,7 @@ listed_lies : (m : Memory) (p : ℕ) (table : List ℕ) (asked : ℕ × ℕ) →
 listed_lies m p table asked valid fits [] there = absurd there
 listed_lies m p table asked valid fits (q ∷ ps) (inl same) =
     lies_here asked (result_ok (place_at m q)) q (length table) _ (place_is m q table (rw same at valid))
-        (rw same at fits)
+    (rw same at fits)
 listed_lies m p table asked valid fits (q ∷ ps) (inr later) =
     lies_later asked (result_ok (place_at m q)) _ (listed_lies m p table asked valid fits ps later)
 
@@ -201,7 +183,7 @@ module _ (root : AddressRange) (m : Memory) (all : List ℕ) where
   at_member p xs (Ok table) is there fits begins =
       all_map (Fits p (length table)) IsReserved
       (λ asked h. inl (inr (lies_front asked (filter_map (λ q. result_ok (place_at m q)) all) _
-          (listed_lies m p table asked is h all there))))
+      (listed_lies m p table asked is h all there))))
       xs (fits table refl)
   at_member p xs (Err e) is there fits begins =
       all_map (Begins p) IsReserved
@@ -212,14 +194,14 @@ module _ (root : AddressRange) (m : Memory) (all : List ℕ) where
   kind_member k p there =
       at_member p (table_ranges m k p) (own_table_at m p) refl there
       (λ table is. kind_fits m k p (length table) (λ head front. (own_long m p head table front is).0)
-          (own_enough m p table is))
+      (own_enough m p table is))
       (refl, whole_begins p (λ _. k.signature) k.least (lent m p 36))
 
   own_member : (p : ℕ) → IsListed all p → AreReserved root m all (own_table_ranges m p)
   own_member p there =
       at_member p (own_table_ranges m p) (own_table_at m p) refl there
       (λ table is. own_fits m p (length table) (λ head front. (own_long m p head table front is).0)
-          (own_enough m p table is))
+      (own_enough m p table is))
       (refl, whole_begins p (λ head. (header_at head).signature) 36 (lent m p 36))
 
   -- ---- lists of members
@@ -229,7 +211,7 @@ module _ (root : AddressRange) (m : Memory) (all : List ℕ) where
   each_member of each [] inside = tt
   each_member of each (p ∷ ps) inside =
       all_append IsReserved (of p) (flat_map of ps) (each p (inside p (inl refl)))
-          (each_member of each ps (λ q there. inside q (inr there)))
+      (each_member of each ps (λ q there. inside q (inr there)))
 
   unless_reserved : (r : Result (List ℕ) AcpiError) (xs : Ranges) → AreReserved root m all xs
       → AreReserved root m all (unless_found r xs)
@@ -260,11 +242,11 @@ module _ (root : AddressRange) (m : Memory) (all : List ℕ) where
   dsdt_at found a (Ok table) there address is =
       all_map (Fits a (length table)) IsReserved
       (λ asked h. inl (inr (lies_back asked (filter_map (λ q. result_ok (place_at m q)) all) _
-          (lies_here asked (result_ok (led_by dsdt_place m all)) a (length table) _
-          (dsdt_led found a table there address is) h))))
+      (lies_here asked (result_ok (led_by dsdt_place m all)) a (length table) _
+      (dsdt_led found a table there address is) h))))
       (table_ranges m (plain_kind DSDT) a)
       (kind_fits m (plain_kind DSDT) a (length table) (λ head front. (plain_long m DSDT a head table front is).0)
-          (plain_enough m DSDT a table is))
+      (plain_enough m DSDT a table is))
   dsdt_at found a (Err e) there address is =
       all_map (Begins a) IsReserved
       (λ asked h. inr (inr (found, there, address ∙ ap done_at (sym h), rw (h, is) refl)))
@@ -308,5 +290,5 @@ root_lies_in_range m rk address table valid =
     (λ asked h. (omega (arith, h.0), omega (arith, h.0, h.1)))
     (root_ranges m rk address)
     (kind_fits m (root_kind rk) address (length table) (λ head front.
-        (plain_long m (signature_of rk) address head table front valid).0)
-        (plain_enough m (signature_of rk) address table valid))
+    (plain_long m (signature_of rk) address head table front valid).0)
+    (plain_enough m (signature_of rk) address table valid))

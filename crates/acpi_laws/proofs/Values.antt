@@ -1,18 +1,11 @@
 -- Decoding a code gives the one value whose code it is, and the registers of a FADT are those of its bytes.
-use Rattle.std.proofs.Common.{◌≡◌, ℕ, Bool, true, false, List, [], ◌∷◌, Option, Some, None, Result, Ok, Err, refl, rules}
-use Rattle.std.specs.Prelude.{cond, find, nat_le, ◌==◌}
-use Rattle.std.specs.List.{AllByRecursion}
-use Rattle.std.proofs.lemmas.Bool.{eqb-true, le-leb, leb-true}
-use Rattle.acpi_base.specs.declared.error.AcpiError.{AcpiError}
-use Rattle.acpi_base.specs.declared.error.AcpiError.TheVariants.{InvalidGenericAddress}
-use Rattle.acpi_base.specs.declared.address.AddressSpace.{AddressSpace}
-use Rattle.acpi_base.specs.declared.address.AddressSpace.TheVariants.{SystemMemory, SystemIo, PciConfigSpace, EmbeddedController, SMBus, SystemCmos, PciBarTarget, Ipmi, GeneralIo, GenericSerialBus, PlatformCommunicationsChannel, FunctionalFixedHardware, OemDefined}
-use Rattle.acpi_base.specs.declared.address.AccessSize.{AccessSize}
-use Rattle.acpi_base.specs.declared.address.AccessSize.TheVariants.{Undefined, ByteAccess, WordAccess, DWordAccess, QWordAccess}
-use Rattle.acpi_base.specs.Address.{access_size_of, access_sizes, named_spaces, size_code, space_code, space_of}
-use Rattle.acpi_fixed.specs.Fadt.{fadt_at}
+use Rattle.std.proofs.Common.{◌≡◌, ℕ, Bool, true, false, List, [], ◌∷◌, Option, Some, None, Result, Ok, Err, refl, rules, cond, find, nat_le, ◌==◌, ok_or}
+use Rattle.acpi_base.specs.FromStd.{AllByRecursion}
+use Rattle.acpi_base.proofs.FromStd.{eqb-true, le-leb, leb-true}
+use Rattle.acpi.specs.Types.{AcpiError, InvalidGenericAddress, AddressSpace, SystemMemory, SystemIo, PciConfigSpace, EmbeddedController, SMBus, SystemCmos, PciBarTarget, Ipmi, GeneralIo, GenericSerialBus, PlatformCommunicationsChannel, FunctionalFixedHardware, OemDefined, AccessSize, Undefined, ByteAccess, WordAccess, DWordAccess, QWordAccess}
+use Rattle.acpi_base.specs.Words.{access_size_of, access_sizes, named_spaces, size_code, space_code, space_of}
+use Rattle.acpi_fixed.specs.Words.{fadt_at}
 use Rattle.acpi_laws.specs.CodeLaws.{HasSpaceCode, RegistersAreTheTables, SizesDecode, SpacesDecode}
-use Rattle.std.specs.Option.{ok_or}
 
 -- the value of this code in a list, or the refusal
 abbrev searched : {A : Type 0} → (A → ℕ) → List A → ℕ → Result A AcpiError
@@ -63,7 +56,7 @@ only_space code s true own e =
     rw (← same) (leb-true _ _ own, refl)
 only_space code s false named e =
     found_is HasSpaceCode space_code code named_spaces s
-        (tt, (tt, (tt, (tt, (tt, (tt, (tt, (tt, (tt, (tt, (tt, (tt, tt)))))))))))) e
+    (tt, (tt, (tt, (tt, (tt, (tt, (tt, (tt, (tt, (tt, (tt, (tt, tt)))))))))))) e
 
 space_refusal : (code : ℕ) (e : AcpiError) (b : Bool)
     → cond b (Ok (OemDefined code)) (searched space_code named_spaces code) ≡ Err e → e ≡ InvalidGenericAddress

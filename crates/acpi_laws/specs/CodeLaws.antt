@@ -1,13 +1,8 @@
 -- What holds of the codes in generic addresses, and of the registers of a FADT.
 use Rattle.std.specs.Prelude.{◌≡◌, ℕ, ◌≤◌, List, Result, Ok, Err}
-use Rattle.acpi_base.specs.Address.{access_size_of, size_code, space_code, space_of}
-use Rattle.acpi_base.specs.declared.address.AccessSize.{AccessSize}
-use Rattle.acpi_base.specs.declared.address.AddressSpace.{AddressSpace}
-use Rattle.acpi_base.specs.declared.address.AddressSpace.TheVariants.{OemDefined}
-use Rattle.acpi_base.specs.declared.error.AcpiError.{AcpiError}
-use Rattle.acpi_base.specs.declared.error.AcpiError.TheVariants.{InvalidGenericAddress}
-use Rattle.acpi_fixed.specs.Fadt.{fadt_at, registers_of}
-use Rattle.acpi_fixed.specs.Registers.{registers_at}
+use Rattle.acpi_base.specs.Words.{access_size_of, size_code, space_code, space_of}
+use Rattle.acpi.specs.Types.{AccessSize, AddressSpace, OemDefined, AcpiError, InvalidGenericAddress}
+use Rattle.acpi_fixed.specs.Words.{fadt_at, registers_of, registers_at}
 
 -- decoding gives the one value whose code that is, and refuses a code that none has
 pub record IsInverse {A : Type 0} (HasCode : A → Type 0) (code_of : A → ℕ)

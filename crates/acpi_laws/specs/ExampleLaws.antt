@@ -1,34 +1,11 @@
 -- The laws of ranges and of relocation, each at the memories that are written out: an example shows that a law isn't
 -- empty. The lemmas `instances` and `moved_instances` show them.
 use Rattle.std.specs.Prelude.{◌≡◌, ℕ, true, false, List, [], ◌∷◌, map, Some, Ok, Err}
-use Rattle.acpi_base.specs.declared.address.AccessSize.TheVariants.{Undefined}
-use Rattle.acpi_base.specs.declared.address.AddressSpace.TheVariants.{SystemIo}
-use Rattle.acpi_base.specs.declared.error.AcpiError.TheVariants.{SdtInvalidOemId, SdtInvalidSignature}
-use Rattle.acpi_base.specs.declared.tables.mcfg.McfgEntry.{McfgEntry}
+use Rattle.acpi.specs.Types.{Undefined, SystemIo, SdtInvalidOemId, SdtInvalidSignature, McfgEntry, Running, FADT, HPET, Desktop}
 use Rattle.acpi_base.specs.declared.model.interrupt.InterruptModel.TheVariants.{Apic}
-use Rattle.acpi_base.specs.declared.model.processor.ProcessorState.TheVariants.{Running}
-use Rattle.acpi_base.specs.declared.table.signature.TheConstants.Signature.{FADT, HPET}
-use Rattle.acpi_base.specs.Header.{header_at}
-use Rattle.acpi_base.specs.Memory.{Memory}
-use Rattle.acpi_base.specs.Ranges.{AgreesOn, Ranges, own_table_ranges, table_ranges}
-use Rattle.acpi_base.specs.Table.{own_table_at, plain_kind, table_at}
-use Rattle.acpi_fixed.specs.declared.fadt.PowerProfile.TheVariants.{Desktop}
+use Rattle.acpi_base.specs.Words.{header_at, Memory, AgreesOn, Ranges, own_table_ranges, table_ranges, own_table_at, plain_kind, table_at}
 use Rattle.acpi_laws.specs.Examples.{bios_here, bios_there, here, hpet, listed, more, moved, moved_pointers, rsdp, rsdt, tables, there}
-use Rattle.acpi.specs.Footprint.{dsdt_ranges, header_ranges, lookup_ranges, platform_ranges}
-use Rattle.acpi.specs.Footprint.{ssdt_ranges}
-use Rattle.acpi.specs.Hpet.{hpet_kind, hpet_of}
-use Rattle.acpi.specs.Lists.{dsdt_stream, faults_of, ssdt_streams, valid_headers, valid_tables}
-use Rattle.acpi.specs.Lookup.{lookup}
-use Rattle.acpi.specs.Opened.{Opened, opened_by_rsdp, opened_by_search, opened_from}
-use Rattle.acpi.specs.OpenedRanges.{opened_by_rsdp_ranges, opened_by_search_ranges, opened_ranges}
-use Rattle.acpi.specs.OpenedRanges.{root_and_ranges, rsdp_ranges, search_ranges}
-use Rattle.acpi.specs.Pci.{found_regions, mcfg_kind}
-use Rattle.acpi.specs.Platform.{madt_kind, platform_of}
-use Rattle.acpi.specs.Relocation.{bytes_found}
-use Rattle.acpi.specs.Root.{root_pointer}
-use Rattle.acpi.specs.Rsdp.{rsdp_at}
-use Rattle.acpi.specs.Search.{found_rsdp}
-use Rattle.acpi.specs.Wake.{mailbox_found}
+use Rattle.acpi.specs.Words.{dsdt_ranges, header_ranges, lookup_ranges, platform_ranges, ssdt_ranges, hpet_kind, hpet_of, dsdt_stream, faults_of, ssdt_streams, valid_headers, valid_tables, lookup, Opened, opened_by_rsdp, opened_by_search, opened_from, opened_by_rsdp_ranges, opened_by_search_ranges, opened_ranges, root_and_ranges, rsdp_ranges, search_ranges, found_regions, mcfg_kind, madt_kind, platform_of, bytes_found, root_pointer, rsdp_at, found_rsdp, mailbox_found}
 use Rattle.acpi.specs.declared.hpet.HpetInfo.{HpetInfo}
 use Rattle.acpi.specs.declared.hpet.PageProtection.TheVariants as protections
 use Rattle.acpi.specs.declared.platform.PlatformInfo.{PlatformInfo}
@@ -105,7 +82,7 @@ pub record Instances (A : Type 0) : Type 0 where
   pub own_table : At own_table_ranges own_table_at 0x4000 (Ok hpet)
   pub other_table :
       At (λ m. table_ranges m (plain_kind FADT)) (λ m. table_at m (plain_kind FADT)) 0x2000
-          (Err (SdtInvalidSignature FADT))
+      (Err (SdtInvalidSignature FADT))
   pub unnamed_table : At own_table_ranges own_table_at 0x2000 (Err (SdtInvalidOemId HPET))
   -- below a root table
   pub lookup : At (λ m. lookup_ranges m hpet_kind) (λ m. lookup m hpet_kind) more (Ok (0x4000, hpet))

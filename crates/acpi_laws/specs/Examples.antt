@@ -1,8 +1,8 @@
 -- Memories written out: two that differ, two with the areas of the BIOS too, and one with the same
 -- tables elsewhere.
 use Rattle.std.specs.Prelude.{◌≡◌, ℕ, List, [], ◌∷◌, ◌++◌, codes, map, replicate, Some, Ok}
-use Rattle.acpi_base.specs.Memory.{IsMemory, Memory, Region, at}
-use Rattle.acpi.specs.Footprint.{below}
+use Rattle.acpi_base.specs.Words.{IsMemory, Memory, Region, at}
+use Rattle.acpi.specs.Words.{below}
 use Rattle.acpi.specs.declared.root.RootKind.TheVariants.{Rsdt, Xsdt}
 
 -- ---- tables

@@ -1,21 +1,11 @@
 -- What holds of the members of a root table, and of the ranges in which the tables lie: the contracts of
 -- `acpi_laws::places`.
 use Rattle.std.specs.Prelude.{◌≡◌, ◌⊎◌, ℕ, ◌+◌, ◌≤◌, List, [], ◌∷◌, IsErr, Ok, filter_map, length, map, slice_get}
-use Rattle.std.specs.List.{AllByRecursion}
-use Rattle.std.specs.Result.{result_ok}
-use Rattle.acpi_base.specs.declared.table.signature.TheConstants.Signature.{DSDT}
-use Rattle.acpi_base.specs.Header.{check_table}
-use Rattle.acpi_base.specs.Memory.{Memory}
-use Rattle.acpi_base.specs.Ranges.{Ranges}
-use Rattle.acpi_base.specs.Table.{Kind, own_table_at, plain_kind, table_at}
-use Rattle.acpi_fixed.specs.Fadt.{dsdt_address_of, fadt_at}
-use Rattle.acpi.specs.Footprint.{dsdt_ranges, header_ranges, lookup_ranges, platform_ranges, root_ranges, ssdt_ranges}
-use Rattle.acpi.specs.Lists.{fadt_kind, valid_headers}
-use Rattle.acpi.specs.Lookup.{lookup}
-use Rattle.acpi.specs.Members.{kind_ranges, members_of, tables_found}
-use Rattle.acpi.specs.Places.{places_of, range}
-use Rattle.acpi.specs.Root.{root_at}
-use Rattle.acpi_base.specs.declared.range.AddressRange.{AddressRange}
+use Rattle.acpi_base.specs.FromStd.{AllByRecursion, result_ok}
+use Rattle.acpi.specs.Types.{DSDT, AddressRange}
+use Rattle.acpi_base.specs.Words.{check_table, Memory, Ranges, Kind, own_table_at, plain_kind, table_at}
+use Rattle.acpi_fixed.specs.Words.{dsdt_address_of, fadt_at}
+use Rattle.acpi.specs.Words.{dsdt_ranges, header_ranges, lookup_ranges, platform_ranges, root_ranges, ssdt_ranges, fadt_kind, valid_headers, lookup, kind_ranges, members_of, tables_found, places_of, range, root_at}
 use Rattle.acpi.specs.declared.root.RootKind.{RootKind}
 
 -- there is exactly one member for each pointer: their addresses are the pointers

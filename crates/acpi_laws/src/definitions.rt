@@ -1,8 +1,6 @@
 //! Laws of the definitions of memory, numbers, codes, entries, pointers, lookups, the search, members and places.
-ghost use Rattle.acpi_base.specs.EntryLaws.{CutIsCut, OneCut};
-ghost use Rattle.acpi_base.specs.Laws.{FieldPastEnd, LentIsInside};
-ghost use Rattle.acpi_base.specs.Names.{NamesAreSpelled};
-ghost use Rattle.acpi.specs.Laws.{LookupIsFirst, OnePointers, SecondAreas, SkipsInvalid};
+ghost use Rattle.acpi_base.specs.Words.{CutIsCut, OneCut, FieldPastEnd, LentIsInside, NamesAreSpelled};
+ghost use Rattle.acpi.specs.Words.{LookupIsFirst, OnePointers, SecondAreas, SkipsInvalid};
 ghost use Rattle.acpi_laws.specs.CodeLaws.{RegistersAreTheTables, SizesDecode, SpacesDecode};
 ghost use Rattle.acpi_laws.specs.PlaceLaws.{FirstIsFound, FoundBySignature, HeadersOfMembers, OneForEach, RootLiesInRange, TablesLieInRanges};
 

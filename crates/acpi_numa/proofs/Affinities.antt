@@ -1,23 +1,15 @@
 -- What the first valid SRAT says depends on what its lookup depends on, wherever the tables lie; the domain that is
 -- computed is that of the first range in which the address lies; and there are few ranges.
-use Rattle.std.proofs.Common.{Result, Ok, lit≤, ◌≡◌, ℕ, Bool, true, false, List, [], ◌∷◌, Option, Some, None, refl, ap, arith, suc, ◌-◌, ◌≤◌, ◌++◌, length, length-drop, drop, length-append}
-use Rattle.acpi_base.specs.Ranges.{DependsOn}
-use Rattle.acpi_base.specs.Steps.{◌>>=◌}
-use Rattle.acpi_base.specs.declared.error.AcpiError.{AcpiError}
-use Rattle.acpi_base.specs.declared.table.signature.TheConstants.Signature.{SRAT}
+use Rattle.std.proofs.Common.{Result, Ok, lit≤, ◌≡◌, ℕ, Bool, true, false, List, [], ◌∷◌, Option, Some, None, refl, ap, arith, suc, ◌-◌, ◌≤◌, ◌++◌, length, length-drop, drop, length-append, find, if◌then◌else◌, option_map, filter_map}
+use Rattle.acpi_base.specs.Words.{DependsOn, ◌>>=◌, IsEntry, cut}
+use Rattle.acpi.specs.Types.{AcpiError, SRAT}
 use Rattle.acpi.proofs.Agreed.{same_said}
 use Rattle.acpi.proofs.Moved.{said_follows}
-use Rattle.acpi.specs.Footprint.{lookup_ranges}
-use Rattle.acpi.specs.Relocation.{FollowsTables}
-use Rattle.acpi_numa.specs.Affinities.{affinities_of, found_affinities, srat_kind, IsDomainOf, LiesIn, domain_at, lies_in, range_in, ranges_of}
-use Rattle.std.specs.Prelude.{find, if◌then◌else◌}
-use Rattle.std.specs.Option.{option_map}
-use Rattle.std.proofs.lemmas.Bool.Decides.{nat_tests}
-use Rattle.acpi_numa.specs.declared.srat.affinities.MemoryRange.{MemoryRange}
-use Rattle.std.specs.List.{concat, AllByRecursion, filter_map, cons_option}
-use Rattle.acpi_base.proofs.Cuts.{cut_is_cut}
-use Rattle.acpi_base.specs.Entries.{IsEntry, cut}
-use Rattle.acpi_numa.specs.Srat.{entries_of, entry_of, revision_of, srat_grammar, srat_layout}
+use Rattle.acpi.specs.Words.{lookup_ranges, FollowsTables}
+use Rattle.acpi_numa.specs.Words.{affinities_of, found_affinities, srat_kind, IsDomainOf, LiesIn, domain_at, lies_in, range_in, ranges_of, MemoryRange, entries_of, entry_of, revision_of, srat_grammar, srat_layout}
+use Rattle.acpi_base.proofs.FromStd.{nat_tests}
+use Rattle.acpi_base.specs.FromStd.{concat, AllByRecursion, cons_option}
+use Rattle.acpi_base.proofs.Words.{cut_is_cut}
 
 abbrev done : {A : Type 0} → A → Result A AcpiError
 done x = Ok x
@@ -90,14 +82,22 @@ cut_few : (bytes : List ℕ) → length (cut srat_grammar bytes).0 ≤ length by
 cut_few bytes =
     let c = cut_is_cut 7 srat_grammar bytes in
     let long : length bytes ≡ length (concat (cut srat_grammar bytes).0 ++ (cut srat_grammar bytes).1) =
-        ap length c.whole in
-    omega (arith, one_each (cut srat_grammar bytes).0 c.entries, long,
-        length-append (concat (cut srat_grammar bytes).0) (cut srat_grammar bytes).1)
+    ap length c.whole in
+    omega (
+      arith,
+      one_each (cut srat_grammar bytes).0 c.entries,
+      long,
+      length-append (concat (cut srat_grammar bytes).0) (cut srat_grammar bytes).1,
+    )
 
 pub entries_few : (table : List ℕ) → length (entries_of table) ≤ length table - 48
 entries_few table =
-    omega (arith, length-filter_map (entry_of (revision_of table)) (cut srat_grammar (drop 48 table)).0,
-        cut_few (drop 48 table), length-drop 48 table)
+    omega (
+      arith,
+      length-filter_map (entry_of (revision_of table)) (cut srat_grammar (drop 48 table)).0,
+      cut_few (drop 48 table),
+      length-drop 48 table,
+    )
 
 pub ranges_few : (table : List ℕ) → length (ranges_of table) ≤ length table - 48
 ranges_few table = omega (arith, length-filter_map range_in (entries_of table), entries_few table)

@@ -1,14 +1,9 @@
 -- Which domain each range of memory is in (signature SRAT; ACPI 6.4, section 5.2.16.2).
-use Rattle.std.specs.Prelude.{◌≡◌, ℕ, ◌+◌, ◌^◌, ◌<◌, ◌≤◌, ◌&&◌, Bool, true, false, List, [], ◌∷◌, ◌++◌, length, find, nat_le, nat_lt, Option, Some, None, Result, Ok, if◌then◌else◌}
-use Rattle.std.specs.List.{AllByRecursion, filter_map, list_all}
-use Rattle.std.specs.Option.{option_map}
-use Rattle.acpi_base.specs.Bits.{has_bit}
-use Rattle.acpi_base.specs.Memory.{Memory}
-use Rattle.acpi_base.specs.Steps.{◌>>=◌, holds}
-use Rattle.acpi_base.specs.Table.{Kind, sdt_kind}
-use Rattle.acpi_base.specs.declared.error.AcpiError.{AcpiError}
-use Rattle.acpi_base.specs.declared.table.signature.TheConstants.Signature.{SRAT}
-use Rattle.acpi.specs.Lookup.{lookup}
+use Rattle.std.specs.Prelude.{◌≡◌, ℕ, ◌+◌, ◌^◌, ◌<◌, ◌≤◌, ◌&&◌, Bool, true, false, List, [], ◌∷◌, ◌++◌, length, find, nat_le, nat_lt, Option, Some, None, Result, Ok, if◌then◌else◌, filter_map, option_map}
+use Rattle.acpi_base.specs.FromStd.{AllByRecursion, list_all}
+use Rattle.acpi_base.specs.Words.{has_bit, Memory, ◌>>=◌, holds, Kind, sdt_kind}
+use Rattle.acpi.specs.Types.{AcpiError, SRAT}
+use Rattle.acpi.specs.Words.{lookup}
 use Rattle.acpi_numa.specs.Answers.{joined}
 use Rattle.acpi_numa.specs.Srat.{cut_of, entries_of}
 use Rattle.acpi_numa.specs.declared.error.NumaError.{NumaError}

@@ -1,7 +1,6 @@
 -- What calls of this crate answer.
 use Rattle.std.specs.Prelude.{◌≡◌, ◌⊎◌, Result, Ok, Err}
-use Rattle.acpi_base.specs.declared.error.AcpiError.{AcpiError}
-use Rattle.acpi_base.specs.declared.error.AcpiError.TheVariants.{AllocError}
+use Rattle.acpi.specs.Types.{AcpiError, AllocError}
 use Rattle.acpi_numa.specs.declared.error.NumaError.{NumaError}
 use Rattle.acpi_numa.specs.declared.error.NumaError.TheVariants.{Acpi}
 

@@ -1,6 +1,6 @@
 -- How a refusal is printed.
 use Rattle.std.specs.Prelude.{ℕ, List, codes}
-use Rattle.acpi_base.specs.ErrorText.{error_text}
+use Rattle.acpi_base.specs.Words.{error_text}
 use Rattle.acpi_numa.specs.declared.error.NumaError.{NumaError}
 use Rattle.acpi_numa.specs.declared.error.NumaError.TheVariants.{Acpi, InvalidEntryLength, InvalidMemoryRange}
 

@@ -5,3 +5,4 @@ pub mod Slit
 pub mod Srat
 pub mod SratEntries
 pub mod SratWalk
+pub mod Words

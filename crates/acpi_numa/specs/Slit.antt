@@ -1,7 +1,6 @@
 -- How far localities are from each other: the System Locality Information Table, SLIT (ACPI 6.4, section 5.2.17).
 use Rattle.std.specs.Prelude.{◌≡◌, ℕ, ◌+◌, ◌*◌, ◌<◌, ◌≤◌, ◌==◌, ◌&&◌, Bool, false, IsTrue, List, length, nat_lt, slice_get, Option, None, Some, if◌then◌else◌}
-use Rattle.acpi_base.specs.Bytes.{field_of}
-use Rattle.acpi_base.specs.Header.{header_at}
+use Rattle.acpi_base.specs.Words.{field_of, header_at}
 use Rattle.acpi_numa.specs.declared.slit.Distances.{Distances}
 use Rattle.acpi_numa.specs.declared.slit.Slit.{Slit}
 

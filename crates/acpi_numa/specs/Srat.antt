@@ -1,14 +1,8 @@
 -- The domains that processors and memory are in: the System Resource Affinity Table, SRAT (ACPI 6.4, section 5.2.16).
-use Rattle.std.specs.Prelude.{ℕ, ◌==◌, ◌&&◌, Bool, List, [], ◌∷◌, map, drop, slice_get, slice_index, Option, Some, None, if◌then◌else◌}
-use Rattle.std.specs.List.{filter_map, last_or}
-use Rattle.std.specs.Option.{option_map}
-use Rattle.acpi_base.specs.Bits.{has_bit}
-use Rattle.acpi_base.specs.Bytes.{field_of}
-use Rattle.acpi_base.specs.Header.{header_at}
-use Rattle.acpi_base.specs.Entries.{cut}
-use Rattle.acpi_base.specs.declared.entries.EntryLayout.{EntryLayout}
-use Rattle.acpi_base.specs.declared.entries.Grammar.{Grammar}
-use Rattle.acpi_base.specs.declared.entries.Width.TheVariants.{One}
+use Rattle.std.specs.Prelude.{ℕ, ◌==◌, ◌&&◌, Bool, List, [], ◌∷◌, map, drop, slice_get, slice_index, Option, Some, None, if◌then◌else◌, filter_map, option_map}
+use Rattle.acpi_base.specs.FromStd.{last_or}
+use Rattle.acpi_base.specs.Words.{has_bit, field_of, header_at, cut}
+use Rattle.acpi.specs.Types.{EntryLayout, Grammar, One}
 use Rattle.acpi_numa.specs.SratEntries as entries
 use Rattle.acpi_numa.specs.declared.srat.Srat.{Srat}
 use Rattle.acpi_numa.specs.declared.srat.domains.Domains.{Domains}

@@ -1,6 +1,6 @@
 -- The fields of the SRAT's entries, each at its place in the entry (ACPI 6.4, section 5.2.16).
 use Rattle.std.specs.Prelude.{ℕ, ◌+◌, ◌*◌, List, nat_lt, if◌then◌else◌}
-use Rattle.acpi_base.specs.Bytes.{field_of, filled_part}
+use Rattle.acpi_base.specs.Words.{field_of, filled_part}
 use Rattle.acpi_numa.specs.declared.srat.kinds.GenericAffinity.{GenericAffinity}
 use Rattle.acpi_numa.specs.declared.srat.kinds.GicItsAffinity.{GicItsAffinity}
 use Rattle.acpi_numa.specs.declared.srat.kinds.GiccAffinity.{GiccAffinity}

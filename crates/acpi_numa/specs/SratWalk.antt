@@ -1,8 +1,7 @@
 -- What a walk along the SRAT's entries shows. It begins with the table's `entries_of` and the rest of its `cut_of`, and
 -- each step gives the first entry that is left.
-use Rattle.std.specs.Prelude.{◌≡◌, ◌&&◌, Bool, true, false, ℕ, List, [], ◌∷◌, Option, Some, None}
-use Rattle.std.specs.List.{filter_map}
-use Rattle.acpi_base.specs.Entries.{cut}
+use Rattle.std.specs.Prelude.{◌≡◌, ◌&&◌, Bool, true, false, ℕ, List, [], ◌∷◌, Option, Some, None, filter_map}
+use Rattle.acpi_base.specs.Words.{cut}
 use Rattle.acpi_numa.specs.Srat.{entry_of, srat_grammar}
 use Rattle.acpi_numa.specs.declared.srat.entry.SratEntry.{SratEntry}
 use Rattle.acpi_numa.specs.declared.srat.walk.SratEntryIter.{SratEntryIter}

@@ -23,7 +23,7 @@ pub enum NumaError {
 
 impl From<AcpiError> for NumaError {
     ghost use Rattle.std.specs.Prelude.{◌≡◌};
-    ghost use Rattle.acpi_numa.specs.declared.error.NumaError.TheVariants.{Acpi};
+    ghost use Rattle.acpi_numa.specs.Words.{Acpi};
 
     ghost from_gives = { λ refused e. e ≡ Acpi refused };
 
@@ -36,7 +36,7 @@ impl From<AcpiError> for NumaError {
 impl From<AllocError> for NumaError {
     ghost use Rattle.std.specs.Prelude.{◌≡◌};
     ghost use Rattle.acpi_base.specs.declared.error.AcpiError.TheVariants.{AllocError as NoMemory};
-    ghost use Rattle.acpi_numa.specs.declared.error.NumaError.TheVariants.{Acpi};
+    ghost use Rattle.acpi_numa.specs.Words.{Acpi};
 
     ghost from_gives = { λ _ e. e ≡ Acpi NoMemory };
 
@@ -49,7 +49,7 @@ impl From<AllocError> for NumaError {
 /// Prints the variant's name, or of `Acpi` what the refusal in it prints.
 impl fmt::Display for NumaError {
     ghost use Rattle.std.specs.Prelude.{Some};
-    ghost use Rattle.acpi_numa.specs.ErrorText.{numa_error_text};
+    ghost use Rattle.acpi_numa.specs.Words.{numa_error_text};
 
     ghost output = { λ e. Some (numa_error_text e) };
 

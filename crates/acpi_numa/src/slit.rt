@@ -1,6 +1,6 @@
 //! The System Locality Information Table (SLIT): how far localities are from each other (section 5.2.17).
 ghost use Rattle.std.specs.Prelude.{◌≡◌};
-ghost use Rattle.acpi_numa.specs.Slit.{fits};
+ghost use Rattle.acpi_numa.specs.Words.{fits};
 
 use acpi_base::bytes::{field, field_in};
 use acpi_base::sdt::SdtHeader;
@@ -19,7 +19,7 @@ pub struct Slit {
 }
 
 impl PhysicalRecord for Slit {
-    ghost use Rattle.acpi_numa.specs.Slit.{slit_at};
+    ghost use Rattle.acpi_numa.specs.Words.{slit_at};
 
     const MIN_LENGTH: usize = 44;
 
@@ -37,9 +37,10 @@ impl PhysicalRecord for Slit {
 }
 
 impl AcpiTable for Slit {
-    ghost use Rattle.std.proofs.Common.{lit≤, refl};
-    ghost use Rattle.acpi_base.specs.Table.{sdt_kind};
-    ghost use Rattle.acpi_base.specs.declared.table.signature.TheConstants.Signature.{SLIT};
+    ghost use Rattle.std.proofs.Common.{lit≤};
+    ghost use Rattle.std.specs.Prelude.{refl};
+    ghost use Rattle.acpi_base.specs.Words.{sdt_kind};
+    ghost use Rattle.acpi.specs.Types.{SLIT};
 
     const SIGNATURE: Signature = Signature::SLIT;
 
@@ -73,7 +74,7 @@ pub struct Distances<'a> {
 
 impl<'a> Distances<'a> {
     ghost use Rattle.std.specs.Prelude.{◌≡◌, ◌↔◌, ◌+◌, ◌*◌, nat_le, length, IsTrue};
-    ghost use Rattle.acpi_numa.specs.Slit.{IsRowSane, IsSane, distance_of, localities_of, slit_bytes};
+    ghost use Rattle.acpi_numa.specs.Words.{IsRowSane, IsSane, distance_of, localities_of, slit_bytes};
 
     /// The distances in a SLIT's bytes (section 5.2.17), from the table's first byte on. In fewer than 45
     /// bytes there is none.

@@ -28,7 +28,7 @@ pub struct Srat {
 }
 
 impl PhysicalRecord for Srat {
-    ghost use Rattle.acpi_numa.specs.Srat.{srat_at};
+    ghost use Rattle.acpi_numa.specs.Words.{srat_at};
 
     const MIN_LENGTH: usize = 48;
 
@@ -45,9 +45,10 @@ impl PhysicalRecord for Srat {
 }
 
 impl AcpiTable for Srat {
-    ghost use Rattle.std.proofs.Common.{lit≤, refl};
-    ghost use Rattle.acpi_base.specs.Table.{sdt_kind};
-    ghost use Rattle.acpi_base.specs.declared.table.signature.TheConstants.Signature.{SRAT};
+    ghost use Rattle.std.proofs.Common.{lit≤};
+    ghost use Rattle.std.specs.Prelude.{refl};
+    ghost use Rattle.acpi_base.specs.Words.{sdt_kind};
+    ghost use Rattle.acpi.specs.Types.{SRAT};
 
     const SIGNATURE: Signature = Signature::SRAT;
 

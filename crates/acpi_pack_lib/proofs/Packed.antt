@@ -1,37 +1,20 @@
 -- What is packed of tables is a memory, is opened there, and lists the files in order; its records have the bytes of
 -- files in order too.
-use Rattle.std.proofs.Common.{◌≡◌, ℕ, ◌+◌, ◌^◌, ◌<◌, ◌≤◌, false, List, [], ◌∷◌, ◌++◌, length, map, drop, Some, None, Result, Ok, refl, sym, ap, subst, ◌∙◌, arith, ne_eqb}
-use Rattle.std.specs.Prelude.{◌==◌, Option}
-use Rattle.std.specs.List.{AllByRecursion, Contains}
-use Rattle.std.specs.Option.{ok_or}
-use Rattle.std.proofs.lemmas.Bool.{ltb-true}
-use Rattle.std.proofs.lemmas.List.{append-nil, length-map, length-replicate, append_assoc, map-append}
-use Rattle.acpi_base.proofs.Steps.{bind_ok, holds_ok}
-use Rattle.acpi_base.specs.Bytes.{IsBytes}
-use Rattle.acpi_base.specs.Memory.{Memory, Region, AreApart, IsMemory, end_of}
-use Rattle.acpi_base.specs.Steps.{◌>>=◌}
-use Rattle.acpi.specs.Lists.{valid_tables}
-use Rattle.acpi.specs.Opened.{opened_by_rsdp}
-use Rattle.acpi.specs.Root.{pointers, root_at, width_of}
-use Rattle.acpi.specs.Rsdp.{rsdp_at}
+use Rattle.std.proofs.Common.{◌≡◌, ℕ, ◌+◌, ◌^◌, ◌<◌, ◌≤◌, false, List, [], ◌∷◌, ◌++◌, length, map, drop, Some, None, Result, Ok, refl, sym, ap, subst, ◌∙◌, arith, ne_eqb, ◌==◌, Option, Contains, ok_or}
+use Rattle.acpi_base.specs.FromStd.{AllByRecursion, Bor}
+use Rattle.acpi_base.proofs.FromStd.{ltb-true, append-nil, length-map, length-replicate, append_assoc, map-append}
+use Rattle.acpi_base.proofs.Words.{bind_ok, holds_ok}
+use Rattle.acpi_base.specs.Words.{IsBytes, Memory, Region, AreApart, IsMemory, end_of, ◌>>=◌}
+use Rattle.acpi.specs.Words.{valid_tables, opened_by_rsdp, pointers, root_at, width_of, rsdp_at}
 use Rattle.acpi.specs.declared.root.RootKind.TheVariants.{Xsdt}
 use Rattle.acpi_image.proofs.Written.{every_in, length-root_to, length-rsdp_to}
 use Rattle.acpi_image_reader.proofs.Sharing.{memory_with}
 use Rattle.acpi_image.proofs.WrittenRoot.{pointers_are, root_there, IsRsdp, is_rsdp, rsdp_there}
-use Rattle.acpi_image_reader.specs.Image.{IsImage}
-use Rattle.acpi_image.specs.Written.{root_length, root_record, root_to, rsdp_record, rsdp_to, starts_of}
+use Rattle.acpi_image_reader.specs.Words.{IsImage}
+use Rattle.acpi_image.specs.Words.{root_length, root_record, root_to, rsdp_record, rsdp_to, starts_of}
 use Rattle.acpi_pack_lib.proofs.Placing.{HasPlace, file_is, has_place, is_file, placed_apart, placed_behind, placed_memory, same_regions, tables_valid, is_placed, placed_bytes, placed_law}
-use Rattle.acpi_pack_lib.specs.Pack.{all_regions, check_place, dsdt_address, dsdt_at, file_of, first_address, fixed_of, laid_out, listed_or, packed_tables, rsdp_address, rsdp_place, unless_second, check_places, packed_files, regions}
-use Rattle.acpi_pack_lib.specs.Packed.{IsPacked, IsRight, opened_with}
-use Rattle.acpi_pack_lib.specs.Place.{ArePlaced, place_at, placed_from}
-use Rattle.acpi_pack_lib.specs.Sources.{bytes_of, check_tables, entries, bytes_in, check_contents}
-use Rattle.acpi_pack_lib.specs.declared.error.Refusal.{Refusal}
-use Rattle.acpi_pack_lib.specs.declared.error.Refusal.TheVariants.{NoRoom}
-use Rattle.acpi_pack_lib.specs.declared.sources.FileRole.TheVariants.{Dsdt, Listed}
-use Rattle.std.specs.Borrow.{Bor}
-use Rattle.acpi_pack_lib.specs.Listing.{AreNamed, label_text}
+use Rattle.acpi_pack_lib.specs.Words.{all_regions, check_place, dsdt_address, dsdt_at, file_of, first_address, fixed_of, laid_out, listed_or, packed_tables, rsdp_address, rsdp_place, unless_second, check_places, packed_files, regions, IsPacked, IsRight, opened_with, ArePlaced, place_at, placed_from, bytes_of, check_tables, entries, bytes_in, check_contents, Refusal, NoRoom, Dsdt, Listed, AreNamed, label_text, packed_by}
 use Rattle.acpi_pack_lib.specs.declared.listing.Label.TheVariants as label
-use Rattle.acpi_pack_lib.specs.Run.{packed_by}
 
 abbrev AllBytes : Memory → Type 0
 AllBytes m = AllByRecursion (λ r. IsBytes r.bytes) m
@@ -108,9 +91,9 @@ unfolding laid_out
 laid_is dsdt listed m e =
     let first = holds_ok _ _ _ m e in
     let second = bind_ok (ok_or (place_at (fixed_of dsdt) first_address (root_length Xsdt (length listed))) NoRoom) _ m
-        first.1 in
+    first.1 in
     let third = bind_ok (placed_from (fixed_of dsdt) (second.0 + root_length Xsdt (length listed)) listed) _ m
-        second.2 in
+    second.2 in
     record {
       root = second.0;
       tables = third.0;
@@ -136,11 +119,12 @@ module _ (dsdt : Option Region) (listed : List (List ℕ)) (m : Memory) (laid : 
   all_placed : ArePlaced (fixed_of dsdt) first_address (root_region ∷ laid.tables)
   all_placed =
       let there : place_at (fixed_of dsdt) first_address (length root_region.bytes) ≡ Some laid.root =
-          rw root_long laid.root_is in
+      rw root_long laid.root_is in
       let behind : placed_from (fixed_of dsdt) (end_of root_region) listed ≡ Ok laid.tables =
-          rw root_long laid.tables_are in
-      (is_placed (fixed_of dsdt) first_address root_region.bytes laid.root there,
-          placed_law (fixed_of dsdt) (end_of root_region) listed laid.tables behind)
+      rw root_long laid.tables_are in (
+        is_placed (fixed_of dsdt) first_address root_region.bytes laid.root there,
+        placed_law (fixed_of dsdt) (end_of root_region) listed laid.tables behind,
+      )
 
   module _ (known : DsdtIs dsdt) (bytes : AllBytes (all_regions laid.root laid.tables dsdt)) where
     abbrev first_region : Region
@@ -149,7 +133,7 @@ module _ (dsdt : Option Region) (listed : List (List ℕ)) (m : Memory) (laid : 
     placed_ones : IsMemory (root_region ∷ laid.tables)
     placed_ones =
         placed_memory (fixed_of dsdt) first_address (root_region ∷ laid.tables) all_placed
-            (bytes.1.0, all_front (λ r. IsBytes r.bytes) laid.tables (listed_or dsdt) bytes.1.1)
+        (bytes.1.0, all_front (λ r. IsBytes r.bytes) laid.tables (listed_or dsdt) bytes.1.1)
 
     first_ends : end_of first_region ≤ first_address
     first_ends = let few = length-rsdp_to 2 laid.root in omega (arith, few)
@@ -162,7 +146,7 @@ module _ (dsdt : Option Region) (listed : List (List ℕ)) (m : Memory) (laid : 
 from_place : (root : ℕ) (d : Region) → AreApart rsdp_place d → AreApart (rsdp_record rsdp_address 2 root) d
 from_place root d h a here there =
     let same : length (rsdp_to 2 root) ≡ length rsdp_place.bytes =
-        length-rsdp_to 2 root ∙ sym (length-replicate {A = ℕ} 36 0) in
+    length-rsdp_to 2 root ∙ sym (length-replicate {A = ℕ} 36 0) in
     h a (rw same at here) there
 
 with_dsdt : (dsdt : Option Region) (root : ℕ) (ms : Memory) → DsdtIs dsdt → AllBytes (listed_or dsdt) → IsMemory ms
@@ -186,10 +170,10 @@ all_memory dsdt listed m laid known bytes =
     let front = root_record Xsdt laid.root (starts_of laid.tables) ∷ laid.tables in
     let behind : IsMemory (front ++ listed_or dsdt) =
     with_dsdt dsdt laid.root front known last placed
-        (placed_apart (fixed_of dsdt) first_address front (all_placed dsdt listed m laid)) in
+    (placed_apart (fixed_of dsdt) first_address front (all_placed dsdt listed m laid)) in
     let apart : AllByRecursion (AreApart (rsdp_record rsdp_address 2 laid.root)) (front ++ listed_or dsdt) =
     all_both (AreApart (rsdp_record rsdp_address 2 laid.root)) front (listed_or dsdt)
-        (first_apart dsdt listed m laid known bytes) (dsdt_apart dsdt laid.root known) in
+    (first_apart dsdt listed m laid known bytes) (dsdt_apart dsdt laid.root known) in
     ((omega (arith, few), bytes.0), (apart, behind))
 
 module _ (dsdt : Option Region) (listed : List (List ℕ)) (m : Memory) (laid : IsLaid dsdt listed m)
@@ -247,7 +231,7 @@ unfolding packed_tables
 packs files m e =
     let first = bind_ok (check_tables 0 files) (λ _. laid_for files) m e in
     let second = bind_ok (dsdt_at (dsdt_address (bytes_of (entries Listed 0 files))) (entries Dsdt 0 files))
-        (λ dsdt. laid_out dsdt (bytes_of (entries Listed 0 files))) m first.2 in
+    (λ dsdt. laid_out dsdt (bytes_of (entries Listed 0 files))) m first.2 in
     record {
       dsdt = second.0;
       known = dsdt_known _ _ second.0 second.1;
@@ -262,7 +246,7 @@ tables_packed files file bytes e =
     let same = p.laid.all in
     let listed = bytes_of (entries Listed 0 files) in
     let memory = all_memory p.dsdt listed known.all p.laid p.known
-        (subst (λ (k : Memory). AllBytes k) (sym same) known.bytes) in
+    (subst (λ (k : Memory). AllBytes k) (sym same) known.bytes) in
     record {
       root = p.laid.root;
       tables = p.laid.tables;
@@ -321,7 +305,7 @@ dsdt_named : (address : Option ℕ) (found : List (ℕ × List ℕ)) (d : Option
 dsdt_named address [] d e = subst (λ (o : Option Region). Begin [] (listed_or o)) (same_dsdt _ _ e) ([], refl)
 dsdt_named None (first ∷ others) d e =
     subst (λ (o : Option Region). Begin (bytes_of (first ∷ others)) (listed_or o)) (same_dsdt _ _ e)
-        (bytes_of (first ∷ others), refl)
+    (bytes_of (first ∷ others), refl)
 dsdt_named (Some a) (first ∷ others) d e =
     let parts = bind_ok (check_place first.0 (rsdp_place ∷ []) (record { start = a; bytes = first.1 })) _ d e in
     one_named a first others d parts.2
@@ -342,12 +326,12 @@ unfolding packed_tables
 tables_named files m e =
     let first = bind_ok (check_tables 0 files) _ m e in
     let second = bind_ok (dsdt_at (dsdt_address (bytes_of (entries Listed 0 files))) (entries Dsdt 0 files)) _ m
-        first.2 in
+    first.2 in
     let laid = laid_is second.0 (bytes_of (entries Listed 0 files)) m second.2 in
     let begun = dsdt_named _ (entries Dsdt 0 files) second.0 second.1 in
     subst (λ (k : Memory). AreNamed None files k) laid.all
-        (joined (entries Listed 0 files) (entries Dsdt 0 files) laid.tables (listed_or second.0)
-        (bytes_are second.0 (bytes_of (entries Listed 0 files)) m laid) begun)
+    (joined (entries Listed 0 files) (entries Dsdt 0 files) laid.tables (listed_or second.0)
+    (bytes_are second.0 (bytes_of (entries Listed 0 files)) m laid) begun)
 
 pub are_named : (addresses : Option (List ℕ)) (files : List (Option (List ℕ))) (m : Memory)
     → packed_by addresses files ≡ Ok m → AreNamed addresses files m

@@ -1,33 +1,19 @@
 -- Where files are placed, how many are of a role, and that what is packed is a memory whose valid tables they are.
-use Rattle.std.proofs.Common.{◌-◌, ◌≡◌, ℕ, zero, suc, ◌+◌, ◌<◌, ◌≤◌, List, [], ◌∷◌, ◌++◌, length, drop, take, get_or, drop-cons, add-one, Ok, refl, ap, arith, inl, inr, Bool, true, false, if◌then◌else◌, ◌%◌, ◌^◌, map, Some, None, Result, sym, ◌∙◌, subst}
-use Rattle.std.specs.Prelude.{Option, min, ◌⊎◌, nat_le, nat_lt, ◌||◌, not, flat_map}
-use Rattle.std.specs.Borrow.{Bor}
-use Rattle.std.proofs.Math.ListN.{drop_of_length-le}
-use Rattle.std.proofs.lemmas.Bool.{cases_lt, leb-false, leb-true, ltb-true, or_cases, or_parts, and_parts}
-use Rattle.std.specs.List.{list_any, zip, AllByRecursion, Contains}
-use Rattle.acpi_image_reader.specs.Image.{share, shares_any, IsImage, record_spelling}
-use Rattle.acpi_base.specs.Memory.{Memory, Region, end_of, AreApart, IsMemory}
-use Rattle.acpi_pack_lib.specs.Held.{content, contents, region_at}
-use Rattle.acpi_pack_lib.specs.Pack.{check_place, check_places, regions, file_of, packed_files}
-use Rattle.acpi_pack_lib.specs.Sources.{bytes_in, entries, is_of, listed, check_contents}
-use Rattle.std.proofs.lemmas.List.{drop-map, take_rest, length-map, append-nil, append_assoc}
-use Rattle.acpi_pack_lib.specs.declared.sources.FileRole.{FileRole}
-use Rattle.acpi_pack_lib.specs.declared.sources.FileRole.TheVariants.{Listed}
+use Rattle.std.proofs.Common.{◌-◌, ◌≡◌, ℕ, zero, suc, ◌+◌, ◌<◌, ◌≤◌, List, [], ◌∷◌, ◌++◌, length, drop, take, get_or, drop-cons, add-one, Ok, refl, ap, arith, inl, inr, Bool, true, false, if◌then◌else◌, ◌%◌, ◌^◌, map, Some, None, Result, sym, ◌∙◌, subst, Option, min, ◌⊎◌, nat_le, nat_lt, ◌||◌, not, flat_map, zip, Contains}
+use Rattle.acpi_base.specs.FromStd.{Bor, list_any, AllByRecursion}
+use Rattle.acpi_base.proofs.FromStd.{drop_of_length-le, cases_lt, leb-false, leb-true, ltb-true, or_cases, or_parts, and_parts, drop-map, take_rest, length-map, append-nil, append_assoc}
+use Rattle.acpi_image_reader.specs.Words.{share, shares_any, IsImage, record_spelling}
+use Rattle.acpi_base.specs.Words.{Memory, Region, end_of, AreApart, IsMemory, ◌>>=◌, holds, IsBytes, own_table_at}
+use Rattle.acpi_pack_lib.specs.Words.{content, contents, region_at, check_place, check_places, regions, file_of, packed_files, bytes_in, entries, is_of, listed, check_contents, FileRole, Listed, ArePlaced, IsPlaced, aligned, place_at, place_or, placed_from, start_at, Refusal, IsMemoryFile, IsRight}
 use Rattle.acpi_cli.specs.Reads.{contents_of, read_of}
 use Rattle.acpi_cli.specs.declared.files.Reading.{Reading}
-use Rattle.acpi_base.specs.Steps.{◌>>=◌, holds}
-use Rattle.acpi_base.proofs.Steps.{bind_ok, holds_ok}
-use Rattle.acpi_pack_lib.specs.Place.{ArePlaced, IsPlaced, aligned, place_at, place_or, placed_from, start_at}
-use Rattle.acpi_image.specs.Written.{placed, placed_region, starts_of}
+use Rattle.acpi_base.proofs.Words.{bind_ok, holds_ok}
+use Rattle.acpi_image.specs.Words.{placed, placed_region, starts_of}
 use Rattle.acpi_image.specs.declared.write.PlacedTable.{PlacedTable}
-use Rattle.acpi_pack_lib.specs.declared.error.Refusal.{Refusal}
-use Rattle.acpi_base.specs.Bytes.{IsBytes}
-use Rattle.acpi_base.specs.Table.{own_table_at}
-use Rattle.acpi.specs.Lists.{valid_tables}
+use Rattle.acpi.specs.Words.{valid_tables}
 use Rattle.acpi_image_reader.proofs.Images.{image_again}
 use Rattle.acpi_image.proofs.Written.{own_table_there, record_bytes, header_names, table_is}
 use Rattle.acpi_image_reader.proofs.Sharing.{all_apart, memory_with}
-use Rattle.acpi_pack_lib.specs.Packed.{IsMemoryFile, IsRight}
 
 -- ---- how many are of a role
 
@@ -60,7 +46,7 @@ pub later_read : (readings : List Reading) (start : ℕ)
     ≡ contents_of (drop start (map read_of readings))
 later_read readings start =
     ap (map (λ r. (read_of r).content)) (take_rest readings start) ∙ sym (contents_read (drop start readings))
-        ∙ ap contents_of (sym (drop-map read_of start readings))
+    ∙ ap contents_of (sym (drop-map read_of start readings))
 
 -- ---- files at their addresses
 
@@ -100,7 +86,7 @@ more n (x ∷ addresses) [] a f less there = absurd (omega arith)
 more zero (x ∷ addresses) (y ∷ fs) a f less there = refl
 more (suc n) (x ∷ addresses) (y ∷ fs) a f less there =
     ap (λ (m : Memory). record { start = x; bytes = bytes_in (content y) } ∷ m)
-        (more n addresses fs a f (omega arith) (omega arith))
+    (more n addresses fs a f (omega arith) (omega arith))
 
 module _ (i : ℕ) (addresses : List ℕ) (fs : List (Option (Bor (List ℕ)))) (a : ℕ) (f : Option (Bor (List ℕ))) (n : ℕ)
     (e : n ≡ min (length addresses) (length fs)) (before : i < n) where
@@ -120,10 +106,10 @@ module _ (i : ℕ) (addresses : List ℕ) (fs : List (Option (Bor (List ℕ)))) 
       → check_places (i + 1) (regions (take (i + 1) addresses) (contents (take (i + 1) fs)))
       (regions (drop (i + 1) addresses) (contents (drop (i + 1) fs)))
       ≡ check_places i (regions (take i addresses) (contents (take i fs)))
-          (regions (drop i addresses) (contents (drop i fs)))
+      (regions (drop i addresses) (contents (drop i fs)))
   place_checked x placed =
       let front : regions (take (i + 1) addresses) (contents (take (i + 1) fs))
-          ≡ regions (take i addresses) (contents (take i fs)) ++ (file_at i addresses fs a f ∷ []) =
+      ≡ regions (take i addresses) (contents (take i fs)) ++ (file_at i addresses fs a f ∷ []) =
       rw add-one (more i addresses fs a f less there) in
       rw (front, next, placed) refl
 
@@ -249,7 +235,7 @@ pub placed_count : (fixed : Region) (from : ℕ) (ts : List (List ℕ)) (tables 
     → placed_from fixed from ts ≡ Ok (placed tables) → length tables ≡ length ts
 placed_count fixed from ts tables e =
     sym (length-map tables placed_region) ∙ sym (length-map (placed tables) (λ r. r.bytes))
-        ∙ ap length (placed_bytes fixed from ts (placed tables) e)
+    ∙ ap length (placed_bytes fixed from ts (placed tables) e)
 
 -- no table is left
 pub placed_all : (fixed : Region) (from : ℕ) (before : Memory) → behind before (placed_from fixed from []) ≡ Ok before
@@ -284,9 +270,13 @@ placed_behind fixed r from (s ∷ rs) h placed =
 
 pub placed_memory : (fixed : Region) (from : ℕ) (rs : Memory) → ArePlaced fixed from rs → AllBytes rs → IsMemory rs
 placed_memory fixed from [] placed bytes = tt
-placed_memory fixed from (r ∷ rs) placed bytes =
-    ((placed.0.ends, bytes.0), (placed_behind fixed r (end_of r) rs (omega arith) placed.1,
-        placed_memory fixed (end_of r) rs placed.1 bytes.1))
+placed_memory fixed from (r ∷ rs) placed bytes = (
+  (placed.0.ends, bytes.0),
+  (
+    placed_behind fixed r (end_of r) rs (omega arith) placed.1,
+    placed_memory fixed (end_of r) rs placed.1 bytes.1,
+  ),
+)
 
 apart_by : (fixed r : Region) → (end_of r ≤ fixed.start) ⊎ (end_of fixed ≤ r.start) → AreApart r fixed
 apart_by fixed r (inl before) = before_is_apart r fixed before
@@ -357,8 +347,13 @@ pub file_is : (packed : Result Memory Refusal) (file : List ℕ) → IsBytes fil
 file_is packed file bytes e =
     let parts = bind_ok packed _ file e in
     let image : flat_map record_spelling parts.0 ≡ file = same_file _ _ parts.2 in
-    record { all = parts.0; packed_is = parts.1; image = sym image; bytes =
-        record_bytes parts.0 (subst (λ (b : List ℕ). IsBytes b) (sym image) bytes) }
+    record {
+      all = parts.0;
+      packed_is = parts.1;
+      image = sym image;
+      bytes =
+          record_bytes parts.0 (subst (λ (b : List ℕ). IsBytes b) (sym image) bytes);
+    }
 
 -- the regions, if each has its place
 abbrev placed_or : List ℕ → List (Option (List ℕ)) → Result Memory Refusal
@@ -370,11 +365,13 @@ unfolding packed_files
 files_by addresses files m bytes e =
     let first = bind_ok (check_contents 0 files) (λ _. placed_or addresses files) m e in
     let second = bind_ok (check_places 0 [] (regions addresses files)) (λ _. regions_done (regions addresses files)) m
-        first.2 in
+    first.2 in
     let same : m ≡ regions addresses files = sym (same_regions _ _ second.2) in
-    let there = subst (λ (k : Memory). AllBytes k) same bytes in
-    (same, subst (λ (k : Memory). IsMemory k) (sym same)
-        (checked_memory 0 [] (regions addresses files) second.0 tt there second.1))
+    let there = subst (λ (k : Memory). AllBytes k) same bytes in (
+      same,
+      subst (λ (k : Memory). IsMemory k) (sym same)
+          (checked_memory 0 [] (regions addresses files) second.0 tt there second.1),
+    )
 
 -- files at addresses are packed as the memory of them
 pub files_packed : (addresses : List ℕ) (files : List (Option (List ℕ))) (file : List ℕ) → IsBytes file

@@ -1,6 +1,5 @@
 -- What the arguments ask for.
-use Rattle.std.specs.Prelude.{ℕ, List, [], ◌∷◌, map, Option, Some, None, if◌then◌else◌, codes}
-use Rattle.std.specs.Str.{bytes_eq}
+use Rattle.std.specs.Prelude.{ℕ, List, [], ◌∷◌, map, Option, Some, None, if◌then◌else◌, codes, bytes_eq}
 use Rattle.acpi_pack_lib.specs.declared.arguments.Command.{Command}
 use Rattle.acpi_pack_lib.specs.declared.arguments.Form.{Form}
 use Rattle.acpi_pack_lib.specs.declared.arguments.Form.TheVariants.{Memory, Tables}

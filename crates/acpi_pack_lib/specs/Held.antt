@@ -1,8 +1,7 @@
 -- What files and entries hold, wherever their bytes lie.
-use Rattle.std.specs.Prelude.{ℕ, List, drop, map, Option}
-use Rattle.std.specs.Option.{option_copied}
-use Rattle.std.specs.Borrow.{Bor}
-use Rattle.acpi_base.specs.Memory.{Memory, Region}
+use Rattle.std.specs.Prelude.{ℕ, List, drop, map, Option, option_copied}
+use Rattle.acpi_base.specs.FromStd.{Bor}
+use Rattle.acpi_base.specs.Words.{Memory, Region}
 use Rattle.acpi_pack_lib.specs.Pack.{regions}
 use Rattle.acpi_pack_lib.specs.Sources.{bytes_in, entries}
 use Rattle.acpi_pack_lib.specs.declared.place.FilesAt.{FilesAt}

@@ -11,3 +11,4 @@ pub mod Sources
 pub mod Texts
 pub mod Told
 pub mod Arguments
+pub mod Words

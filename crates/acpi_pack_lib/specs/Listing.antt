@@ -1,12 +1,8 @@
 -- What lies where in an image that is packed: a line for each of its records.
-use Rattle.std.specs.Prelude.{◌≡◌, ℕ, ◌+◌, false, codes, List, [], ◌∷◌, ◌++◌, drop, map, Option, Some, None, Result, Ok}
-use Rattle.std.specs.Prelude.{slice_get, unwrap_or}
-use Rattle.std.specs.Fmt.{digits}
-use Rattle.acpi_base.specs.Bytes.{filled_part}
-use Rattle.acpi_base.specs.Memory.{Memory}
-use Rattle.acpi_base.specs.Steps.{◌>>=◌}
-use Rattle.acpi_base.specs.Text.{bytes_text}
-use Rattle.acpi_image_reader.specs.Image.{records_in}
+use Rattle.std.specs.Prelude.{◌≡◌, ℕ, ◌+◌, false, codes, List, [], ◌∷◌, ◌++◌, drop, map, Option, Some, None, Result, Ok, slice_get, unwrap_or}
+use Rattle.acpi_base.specs.FromStd.{digits}
+use Rattle.acpi_base.specs.Words.{filled_part, Memory, ◌>>=◌, bytes_text}
+use Rattle.acpi_image_reader.specs.Words.{records_in}
 use Rattle.acpi_image_reader.specs.declared.error.ImageError.{ImageError}
 use Rattle.acpi_pack_lib.specs.Sources.{bytes_in, bytes_of, entries}
 use Rattle.acpi_pack_lib.specs.declared.listing.Label.{Label}

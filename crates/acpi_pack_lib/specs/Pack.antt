@@ -1,15 +1,11 @@
 -- What is packed: the regions that an image is made of, or the first refusal.
-use Rattle.std.specs.Prelude.{◌≡◌, ◌⊎◌, ℕ, ◌+◌, ◌^◌, nat_le, nat_lt, not, if◌then◌else◌, codes}
-use Rattle.std.specs.Prelude.{List, [], ◌∷◌, ◌++◌, length, flat_map, replicate}
-use Rattle.std.specs.Prelude.{Option, Some, None, Result, Ok, Err, IsOk}
-use Rattle.std.specs.Option.{ok_or}
-use Rattle.std.specs.Result.{result_ok}
+use Rattle.std.specs.Prelude.{◌≡◌, ◌⊎◌, ℕ, ◌+◌, ◌^◌, nat_le, nat_lt, not, if◌then◌else◌, codes, List, [], ◌∷◌, ◌++◌, length, flat_map, replicate, Option, Some, None, Result, Ok, Err, IsOk, ok_or}
+use Rattle.acpi_base.specs.FromStd.{result_ok}
 use Rattle.acpi.specs.declared.root.RootKind.TheVariants.{Xsdt}
-use Rattle.acpi_base.specs.Memory.{Memory, Region, end_of}
-use Rattle.acpi_base.specs.Steps.{◌>>=◌, holds}
-use Rattle.acpi_fixed.specs.Fadt.{dsdt_address_of, fadt_at}
-use Rattle.acpi_image_reader.specs.Image.{record_spelling, shares_any}
-use Rattle.acpi_image.specs.Written.{root_length, root_record, rsdp_record, starts_of}
+use Rattle.acpi_base.specs.Words.{Memory, Region, end_of, ◌>>=◌, holds}
+use Rattle.acpi_fixed.specs.Words.{dsdt_address_of, fadt_at}
+use Rattle.acpi_image_reader.specs.Words.{record_spelling, shares_any}
+use Rattle.acpi_image.specs.Words.{root_length, root_record, rsdp_record, starts_of}
 use Rattle.acpi_pack_lib.specs.Place.{place_at, placed_from}
 use Rattle.acpi_pack_lib.specs.Sources.{begins, bytes_in, bytes_of, check_contents, check_tables, entries}
 use Rattle.acpi_pack_lib.specs.declared.error.FileError.TheVariants as fault

@@ -1,16 +1,12 @@
 -- What holds of an image that is packed: it is read as the memory of what is placed, and what is
 -- opened there lists the tables.
 use Rattle.std.specs.Prelude.{◌≡◌, ℕ, List, ◌∷◌, drop, map, Option, Ok, true}
-use Rattle.std.specs.List.{AllByRecursion}
-use Rattle.acpi.specs.Lists.{valid_tables}
-use Rattle.acpi.specs.Opened.{Opened, opened_by_rsdp}
-use Rattle.acpi.specs.Root.{pointers, width_of}
+use Rattle.acpi_base.specs.FromStd.{AllByRecursion}
+use Rattle.acpi.specs.Words.{valid_tables, Opened, opened_by_rsdp, pointers, width_of}
 use Rattle.acpi.specs.declared.root.RootKind.TheVariants.{Xsdt}
-use Rattle.acpi_base.specs.Bytes.{sum_of}
-use Rattle.acpi_base.specs.Memory.{Memory, Region, IsMemory}
-use Rattle.acpi_image_reader.specs.Image.{IsImage, records_in}
-use Rattle.acpi_image.specs.WriteChecks.{is_table}
-use Rattle.acpi_image.specs.Written.{root_record, root_to, starts_of}
+use Rattle.acpi_base.specs.Words.{sum_of, Memory, Region, IsMemory}
+use Rattle.acpi_image_reader.specs.Words.{IsImage, records_in}
+use Rattle.acpi_image.specs.Words.{is_table, root_record, root_to, starts_of}
 use Rattle.acpi_pack_lib.specs.Pack.{all_regions, first_address, fixed_of, packed_tables, rsdp_address}
 use Rattle.acpi_pack_lib.specs.Place.{ArePlaced}
 use Rattle.acpi_pack_lib.specs.Sources.{bytes_of, entries}

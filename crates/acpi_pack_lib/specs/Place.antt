@@ -1,8 +1,6 @@
 -- Where tables lie: one after the other, and away from a region that lies already.
-use Rattle.std.specs.Prelude.{◌≡◌, ◌⊎◌, ℕ, ◌+◌, ◌*◌, ◌/◌, ◌%◌, ◌^◌, ◌<◌, ◌≤◌, nat_le, nat_lt, ◌||◌, if◌then◌else◌}
-use Rattle.std.specs.Prelude.{List, [], ◌∷◌, length, Option, Some, None, Result, Ok, Err}
-use Rattle.acpi_base.specs.Memory.{Memory, Region, end_of}
-use Rattle.acpi_base.specs.Steps.{◌>>=◌}
+use Rattle.std.specs.Prelude.{◌≡◌, ◌⊎◌, ℕ, ◌+◌, ◌*◌, ◌/◌, ◌%◌, ◌^◌, ◌<◌, ◌≤◌, nat_le, nat_lt, ◌||◌, if◌then◌else◌, List, [], ◌∷◌, length, Option, Some, None, Result, Ok, Err}
+use Rattle.acpi_base.specs.Words.{Memory, Region, end_of, ◌>>=◌}
 use Rattle.acpi_pack_lib.specs.declared.error.Refusal.{Refusal}
 use Rattle.acpi_pack_lib.specs.declared.error.Refusal.TheVariants.{NoRoom}
 

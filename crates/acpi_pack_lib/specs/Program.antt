@@ -1,6 +1,6 @@
 -- What the program does with its arguments, its files, its storage and its outputs.
 use Rattle.std.specs.Prelude.{◌≡◌, ℕ, List, [], ◌∷◌, ◌++◌, codes, Option, Some, None, Result, Ok, Err}
-use Rattle.std.specs.Io.KnownBytes.{Appends}
+use Rattle.acpi_base.specs.FromStd.{Appends}
 use Rattle.acpi_cli.specs.Reads.{Asks, FileRead, contents_of}
 use Rattle.acpi_pack_lib.specs.Listing.{labels_of, listing}
 use Rattle.acpi_pack_lib.specs.Run.{Ends}

@@ -1,8 +1,7 @@
 -- What a run comes to, and what it prints.
-use Rattle.std.specs.Prelude.{◌≡◌, ℕ, ◌++◌, if◌then◌else◌, codes, is_none}
-use Rattle.std.specs.Prelude.{List, [], flat_map, Option, Some, None, Result, Ok}
-use Rattle.std.specs.Io.KnownBytes.{Appends}
-use Rattle.acpi_base.specs.Memory.{Memory}
+use Rattle.std.specs.Prelude.{◌≡◌, ℕ, ◌++◌, if◌then◌else◌, codes, is_none, List, [], flat_map, Option, Some, None, Result, Ok}
+use Rattle.acpi_base.specs.FromStd.{Appends}
+use Rattle.acpi_base.specs.Words.{Memory}
 use Rattle.acpi_pack_lib.specs.Listing.{name_of}
 use Rattle.acpi_pack_lib.specs.Pack.{RefusesOrRunsOut, dsdt_address, file_of, packed_files, packed_tables}
 use Rattle.acpi_pack_lib.specs.Sources.{bytes_of, entries}

@@ -1,9 +1,7 @@
 -- What files hold, which of them are tables, and why one is refused by itself.
-use Rattle.std.specs.Prelude.{ℕ, ◌+◌, nat_eq, nat_le, Bool, not, ◌&&◌, ◌||◌, if◌then◌else◌, codes}
-use Rattle.std.specs.Prelude.{List, [], ◌∷◌, length, map, Option, Some, None, Result, Ok, Err}
-use Rattle.std.specs.List.{starts_with}
-use Rattle.acpi_base.specs.Bytes.{field_of}
-use Rattle.acpi_base.specs.Steps.{◌>>=◌, holds}
+use Rattle.std.specs.Prelude.{ℕ, ◌+◌, nat_eq, nat_le, Bool, not, ◌&&◌, ◌||◌, if◌then◌else◌, codes, List, [], ◌∷◌, length, map, Option, Some, None, Result, Ok, Err}
+use Rattle.acpi_base.specs.FromStd.{starts_with}
+use Rattle.acpi_base.specs.Words.{field_of, ◌>>=◌, holds}
 use Rattle.acpi_pack_lib.specs.declared.error.FileError.TheVariants as fault
 use Rattle.acpi_pack_lib.specs.declared.error.Refusal.{Refusal}
 use Rattle.acpi_pack_lib.specs.declared.error.Refusal.TheVariants.{File}

@@ -1,6 +1,5 @@
 -- What the program tells of itself.
-use Rattle.std.specs.Prelude.{ℕ, List, [], ◌∷◌, ◌++◌, Option, Some, None, if◌then◌else◌, codes}
-use Rattle.std.specs.Str.{bytes_eq}
+use Rattle.std.specs.Prelude.{ℕ, List, [], ◌∷◌, ◌++◌, Option, Some, None, if◌then◌else◌, codes, bytes_eq}
 
 abbrev pub help_text : List ℕ
 help_text = codes "usage: acpi_pack OUT memory ADDRESS FILE [ADDRESS FILE]... | tables FILE...\n"

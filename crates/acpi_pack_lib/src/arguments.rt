@@ -1,6 +1,6 @@
 //! The arguments of the program, as a command.
 ghost use Rattle.std.specs.Prelude.{◌≡◌, IfOk, map, option_map};
-ghost use Rattle.acpi_pack_lib.specs.Arguments.{form_request, memory_request, request_in, request_of, tables_request};
+ghost use Rattle.acpi_pack_lib.specs.Words.{form_request, memory_request, request_in, request_of, tables_request};
 
 use acpi_cli::parse_address;
 use std::alloc::{AllocError, Global};

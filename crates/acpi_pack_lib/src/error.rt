@@ -24,7 +24,7 @@ pub enum FileError {
 /// Prints the variant's name.
 impl fmt::Display for FileError {
     ghost use Rattle.std.specs.Prelude.{Some};
-    ghost use Rattle.acpi_pack_lib.specs.Texts.{file_error_text};
+    ghost use Rattle.acpi_pack_lib.specs.Words.{file_error_text};
 
     ghost output = { λ e. Some (file_error_text e) };
 
@@ -54,7 +54,7 @@ pub enum Refusal {
 /// Prints the error of the file, or the variant's name.
 impl fmt::Display for Refusal {
     ghost use Rattle.std.specs.Prelude.{Some};
-    ghost use Rattle.acpi_pack_lib.specs.Texts.{refusal_text};
+    ghost use Rattle.acpi_pack_lib.specs.Words.{refusal_text};
 
     ghost output = { λ e. Some (refusal_text e) };
 
@@ -70,7 +70,7 @@ impl fmt::Display for Refusal {
 /// Makes `OutOfMemory`, if memory runs out for one more item.
 impl<T: Drop> From<AllocFailed<T>> for Refusal {
     ghost use Rattle.std.specs.Prelude.{◌≡◌};
-    ghost use Rattle.acpi_pack_lib.specs.declared.error.Refusal.TheVariants.{OutOfMemory};
+    ghost use Rattle.acpi_pack_lib.specs.Words.{OutOfMemory};
 
     ghost from_gives = { λ _ r. r ≡ OutOfMemory };
 
@@ -83,7 +83,7 @@ impl<T: Drop> From<AllocFailed<T>> for Refusal {
 /// records into a file.
 impl From<WriteError> for Refusal {
     ghost use Rattle.std.specs.Prelude.{◌≡◌};
-    ghost use Rattle.acpi_pack_lib.specs.declared.error.Refusal.TheVariants.{OutOfMemory};
+    ghost use Rattle.acpi_pack_lib.specs.Words.{OutOfMemory};
 
     ghost from_gives = { λ _ r. r ≡ OutOfMemory };
 

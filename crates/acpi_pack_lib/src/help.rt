@@ -1,6 +1,6 @@
 //! The texts that the program tells of itself.
 ghost use Rattle.std.specs.Prelude.{◌≡◌, map, option_map};
-ghost use Rattle.acpi_pack_lib.specs.Told.{told_of, told_to};
+ghost use Rattle.acpi_pack_lib.specs.Words.{told_of, told_to};
 
 /// The text that says how the program is called.
 const HELP: &str = "usage: acpi_pack OUT memory ADDRESS FILE [ADDRESS FILE]... | tables FILE...

@@ -1,15 +1,11 @@
 //! The lines of the records of an image that is packed.
 ghost use Rattle.std.specs.Prelude.{◌≡◌, ◌≢◌, ◌++◌, IfErr, IfOk, None, OnOk, Ok, Err, map, string_bytes};
-ghost use Rattle.acpi_base.specs.Memory.{Memory};
-ghost use Rattle.acpi_image_reader.specs.Image.{records_in};
-ghost use Rattle.acpi_image_reader.specs.Regions.{regions_of};
+ghost use Rattle.acpi_base.specs.Words.{Memory};
+ghost use Rattle.acpi_image_reader.specs.Words.{records_in, regions_of};
 ghost use Rattle.acpi_image_reader.specs.declared.error.ImageError.TheVariants.{OutOfMemory};
-ghost use Rattle.acpi_pack_lib.specs.Held.{contents, entries_left, entry_of};
+ghost use Rattle.acpi_pack_lib.specs.Words.{contents, entries_left, entry_of, AreNamed, label_text, labels_of, name_of, table_label, packed_by, addresses_of};
 ghost use Rattle.acpi_pack_lib.specs.Listing as listing;
-ghost use Rattle.acpi_pack_lib.specs.Listing.{AreNamed, label_text, labels_of, name_of, table_label};
-ghost use Rattle.acpi_pack_lib.specs.Run.{packed_by};
 ghost use Rattle.acpi_pack_lib.specs.declared.listing.Label.TheVariants as label;
-ghost use Rattle.acpi_pack_lib.specs.Arguments.{addresses_of};
 
 use crate::arguments::{Command, Form};
 use crate::sources::{FileBytes, FileRole, FilesOfRole, IndexedFile, of_role};

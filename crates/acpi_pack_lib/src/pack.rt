@@ -1,20 +1,12 @@
 //! Images that are packed from files.
-ghost use Rattle.std.specs.Prelude.{◌≡◌, ◌+◌, ◌^◌, ◌<◌, ◌≤◌, ◌++◌, [], length, option_map, flat_map, IfErr, IfNone, IfOk, IfSome, OnOk, Ok};
-ghost use Rattle.std.specs.List.{list_any, zip};
+ghost use Rattle.std.specs.Prelude.{◌≡◌, ◌+◌, ◌^◌, ◌<◌, ◌≤◌, ◌++◌, [], length, option_map, flat_map, IfErr, IfNone, IfOk, IfSome, OnOk, Ok, zip};
+ghost use Rattle.acpi_base.specs.FromStd.{list_any};
 ghost use Rattle.acpi.specs.declared.root.RootKind.TheVariants.{Xsdt};
-ghost use Rattle.acpi_base.specs.Bytes.{IsBytes};
-ghost use Rattle.acpi_base.specs.Memory.{end_of};
-ghost use Rattle.acpi_base.specs.Steps.{Gives};
-ghost use Rattle.acpi_image_reader.specs.Image.{record_spelling, share, shares_any};
-ghost use Rattle.acpi_image.specs.Written.{placed, placed_region, root_length};
-ghost use Rattle.acpi_pack_lib.specs.Held.{contents, region_at};
+ghost use Rattle.acpi_base.specs.Words.{IsBytes, end_of, Gives};
+ghost use Rattle.acpi_image_reader.specs.Words.{record_spelling, share, shares_any};
+ghost use Rattle.acpi_image.specs.Words.{placed, placed_region, root_length};
+ghost use Rattle.acpi_pack_lib.specs.Words.{contents, region_at, RefusesOrRunsOut, all_regions, check_place, check_places, file_of, fixed_of, laid_out, packed_files, packed_tables, regions, IsMemoryFile, IsPacked, entries, listed, OutOfMemory, Dsdt};
 ghost use Rattle.acpi_pack_lib.specs.Pack as pack;
-ghost use Rattle.acpi_pack_lib.specs.Pack.{RefusesOrRunsOut, all_regions, check_place, check_places, file_of, fixed_of};
-ghost use Rattle.acpi_pack_lib.specs.Pack.{laid_out, packed_files, packed_tables, regions};
-ghost use Rattle.acpi_pack_lib.specs.Packed.{IsMemoryFile, IsPacked};
-ghost use Rattle.acpi_pack_lib.specs.Sources.{entries, listed};
-ghost use Rattle.acpi_pack_lib.specs.declared.error.Refusal.TheVariants.{OutOfMemory};
-ghost use Rattle.acpi_pack_lib.specs.declared.sources.FileRole.TheVariants.{Dsdt};
 
 use crate::error::{FileError, Refusal};
 use crate::place::{check_room, files_at, place, place_one};

@@ -1,12 +1,8 @@
 //! The placement of tables.
 ghost use Rattle.std.specs.Prelude.{◌≡◌, ◌≢◌, ◌+◌, ◌^◌, ◌<◌, length, IfErr, IfOk, IfSome, Ok, Err};
-ghost use Rattle.acpi_image.specs.Written.{placed, placed_region};
-ghost use Rattle.acpi_base.specs.Memory.{end_of};
-ghost use Rattle.acpi_pack_lib.specs.Held.{contents, regions_left};
-ghost use Rattle.acpi_pack_lib.specs.Pack.{regions};
-ghost use Rattle.acpi_pack_lib.specs.Place.{ArePlaced, aligned, place_at, placed_from, room};
-ghost use Rattle.acpi_pack_lib.specs.Sources.{listed};
-ghost use Rattle.acpi_pack_lib.specs.declared.error.Refusal.TheVariants.{OutOfMemory};
+ghost use Rattle.acpi_image.specs.Words.{placed, placed_region};
+ghost use Rattle.acpi_base.specs.Words.{end_of};
+ghost use Rattle.acpi_pack_lib.specs.Words.{contents, regions_left, regions, ArePlaced, aligned, place_at, placed_from, room, listed, OutOfMemory};
 
 use crate::error::Refusal;
 use crate::sources::{FileBytes, FileRole, bytes_of, of_role};
@@ -21,9 +17,9 @@ pub(crate) struct FilesAt<'a, 'f> {
 }
 
 impl<'a> Iterator for FilesAt<'a, '_> {
-    ghost use Rattle.std.specs.Iterator.{YieldsFirstBy, item_count};
-    ghost use Rattle.acpi_image.specs.Written.{placed_region};
-    ghost use Rattle.acpi_pack_lib.specs.Held.{regions_left};
+    ghost use Rattle.acpi_base.specs.FromStd.{YieldsFirstBy, item_count};
+    ghost use Rattle.acpi_image.specs.Words.{placed_region};
+    ghost use Rattle.acpi_pack_lib.specs.Words.{regions_left};
 
     type Item = PlacedTable<'a>;
 

@@ -1,9 +1,7 @@
 //! The program over any files, any storage and any writers.
 ghost use Rattle.std.specs.Prelude.{◌≡◌, IfOk, OnErr, map, option_map};
 ghost use Rattle.acpi_cli.specs.Reads.{AsksFront};
-ghost use Rattle.acpi_pack_lib.specs.Held.{contents};
-ghost use Rattle.acpi_pack_lib.specs.Program.{Follows, Packs, Runs, Saves, files_for};
-ghost use Rattle.acpi_pack_lib.specs.Arguments.{request_in, request_of};
+ghost use Rattle.acpi_pack_lib.specs.Words.{contents, Follows, Packs, Runs, Saves, files_for, request_in, request_of};
 
 use crate::arguments::{Command, parse_command};
 use crate::help::told;

@@ -1,6 +1,5 @@
 //! The files that a command names, as they are read.
-ghost use Rattle.std.specs.Prelude.{◌≡◌, IfOk, OnErr, OnOk, drop, map};
-ghost use Rattle.std.specs.Option.{option_copied};
+ghost use Rattle.std.specs.Prelude.{◌≡◌, IfOk, OnErr, OnOk, drop, map, option_copied};
 ghost use Rattle.acpi_cli.specs.Reads.{Asks, AsksFront, contents_of, read_of};
 
 use acpi_cli::files::{Files, Reading};

@@ -1,10 +1,6 @@
 //! The program over files that are read, and over any writer.
 ghost use Rattle.std.specs.Prelude.{◌≡◌, ◌++◌, IfErr, IfOk, OnOk, Some, Ok, map, option_map, string_bytes};
-ghost use Rattle.acpi_pack_lib.specs.Held.{contents, entries_left};
-ghost use Rattle.acpi_pack_lib.specs.Pack.{RefusesOrRunsOut, file_of};
-ghost use Rattle.acpi_pack_lib.specs.Run.{IsReport, left_out_by, left_out_lines, packed_by};
-ghost use Rattle.acpi_pack_lib.specs.Run.{Ends, refused_line, refused_name, usage_line};
-ghost use Rattle.acpi_pack_lib.specs.Arguments.{addresses_of, request_of};
+ghost use Rattle.acpi_pack_lib.specs.Words.{contents, entries_left, RefusesOrRunsOut, file_of, IsReport, left_out_by, left_out_lines, packed_by, Ends, refused_line, refused_name, usage_line, addresses_of, request_of};
 
 use crate::arguments::{Command, Form};
 use crate::error::Refusal;

@@ -1,9 +1,7 @@
 //! The bytes of files, their roles as tables, and the refusals of each file by itself.
 ghost use Rattle.std.specs.Prelude.{◌≡◌, ◌≤◌, length};
-ghost use Rattle.acpi_pack_lib.specs.Held.{content, contents, entries_left};
+ghost use Rattle.acpi_pack_lib.specs.Words.{content, contents, entries_left, bytes_in, is_of, is_unlisted, is_dsdt, Listed};
 ghost use Rattle.acpi_pack_lib.specs.Sources as sources;
-ghost use Rattle.acpi_pack_lib.specs.Sources.{bytes_in, is_of, is_unlisted, is_dsdt};
-ghost use Rattle.acpi_pack_lib.specs.declared.sources.FileRole.TheVariants.{Listed};
 
 use crate::error::{FileError, Refusal};
 use acpi_base::bytes::field;
@@ -79,8 +77,8 @@ pub(crate) struct FilesOfRole<'a, 'f> {
 }
 
 impl<'a> Iterator for FilesOfRole<'a, '_> {
-    ghost use Rattle.std.specs.Iterator.{YieldsFirstBy, item_count};
-    ghost use Rattle.acpi_pack_lib.specs.Held.{entries_left, entry_of};
+    ghost use Rattle.acpi_base.specs.FromStd.{YieldsFirstBy, item_count};
+    ghost use Rattle.acpi_pack_lib.specs.Words.{entries_left, entry_of};
 
     type Item = IndexedFile<'a>;
 

@@ -1,5 +1,5 @@
 //! What calls print, and what their handler is asked for and told meanwhile.
-ghost use Rattle.std.specs.Iterator.{IsFinite};
+ghost use Rattle.acpi_base.specs.FromStd.{IsFinite};
 
 use crate::numbers::add_in_hex;
 use acpi::{AcpiHandler, PhysicalMapping, PhysicalRecord};

@@ -20,7 +20,7 @@ impl Watched {
 }
 
 impl PhysicalRecord for Watched {
-    ghost use Rattle.acpi_base.specs.Header.{header_at};
+    ghost use Rattle.acpi_base.specs.Words.{header_at};
 
     const MIN_LENGTH: usize = 36;
 
@@ -37,9 +37,10 @@ impl PhysicalRecord for Watched {
 }
 
 impl AcpiTable for Watched {
-    ghost use Rattle.std.proofs.Common.{lit≤, refl};
-    ghost use Rattle.acpi_base.specs.Table.{sdt_kind};
-    ghost use Rattle.acpi_base.specs.declared.table.signature.TheConstants.Signature.{BGRT};
+    ghost use Rattle.std.proofs.Common.{lit≤};
+    ghost use Rattle.std.specs.Prelude.{refl};
+    ghost use Rattle.acpi_base.specs.Words.{sdt_kind};
+    ghost use Rattle.acpi.specs.Types.{BGRT};
 
     const SIGNATURE: Signature = Signature::BGRT;
 

@@ -10,7 +10,7 @@ pub(crate) struct Wsmt {
 }
 
 impl PhysicalRecord for Wsmt {
-    ghost use Rattle.acpi_base.specs.Header.{header_at};
+    ghost use Rattle.acpi_base.specs.Words.{header_at};
 
     const MIN_LENGTH: usize = 40;
 
@@ -26,9 +26,10 @@ impl PhysicalRecord for Wsmt {
 }
 
 impl AcpiTable for Wsmt {
-    ghost use Rattle.std.proofs.Common.{lit≤, refl};
-    ghost use Rattle.acpi_base.specs.Table.{sdt_kind};
-    ghost use Rattle.acpi_base.specs.declared.table.signature.TheConstants.Signature.{WSMT};
+    ghost use Rattle.std.proofs.Common.{lit≤};
+    ghost use Rattle.std.specs.Prelude.{refl};
+    ghost use Rattle.acpi_base.specs.Words.{sdt_kind};
+    ghost use Rattle.acpi.specs.Types.{WSMT};
 
     const SIGNATURE: Signature = Signature::WSMT;
 

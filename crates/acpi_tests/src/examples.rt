@@ -1,6 +1,6 @@
 //! The examples: the tables that they find and write.
 ghost use Rattle.std.specs.Prelude.{◌≡◌, true};
-ghost use Rattle.acpi_base.specs.Ranges.{is_listed};
+ghost use Rattle.acpi_base.specs.Words.{is_listed};
 
 use crate::checks::{check, check_same};
 use crate::image::{FILE, graphic, memory};

@@ -99,7 +99,7 @@ struct Closed<'a> {
 
 impl<'a> Mailbox for Closed<'a> {
     ghost use Rattle.std.specs.Prelude.{Err};
-    ghost use Rattle.acpi_base.specs.declared.error.AcpiError.TheVariants.{MapFailed};
+    ghost use Rattle.acpi.specs.Types.{MapFailed};
 
     ghost open_answer = { λ _ _. Err MapFailed };
 

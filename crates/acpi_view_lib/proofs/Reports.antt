@@ -1,10 +1,7 @@
 -- What a run is to end with, and how far it gets.
-use Rattle.std.proofs.Common.{◌≡◌, ◌∙◌, ◌≤◌, ◌-◌, ℕ, List, [], ◌++◌, ap, append_assoc, arith, drop, inl, inr, length, refl, subst, sym, take, take-append-drop}
-use Rattle.std.proofs.KnownBytes.{Appends-kept, Appends-nil, Appends-trans}
-use Rattle.std.proofs.lemmas.List.{length-drop, length-take, take-take, take_all}
-use Rattle.std.specs.Io.KnownBytes.{Appends, Keeps}
-use Rattle.std.specs.Prelude.{Option, Ok, Err}
-use Rattle.std.specs.Global.{Global}
+use Rattle.std.proofs.Common.{◌≡◌, ◌∙◌, ◌≤◌, ◌-◌, ℕ, List, [], ◌++◌, ap, append_assoc, arith, drop, inl, inr, length, refl, subst, sym, take, take-append-drop, Option, Ok, Err}
+use Rattle.acpi_base.proofs.FromStd.{Appends-kept, Appends-nil, Appends-trans, length-drop, length-take, take-take, take_all}
+use Rattle.acpi_base.specs.FromStd.{Appends, Keeps, Global}
 use Rattle.acpi_cli.specs.declared.root.Root.{Root}
 use Rattle.acpi_view_lib.specs.Command.{root_for}
 use Rattle.acpi_view_lib.specs.Lines.{pci_lines}

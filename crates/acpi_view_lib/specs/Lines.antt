@@ -1,26 +1,10 @@
 -- The lines that are printed: their words, and the values between. A text is a list of bytes.
 use Rattle.std.specs.Prelude.{◌≡◌, ◌⊎◌, ℕ, ◌*◌, Bool, false, List, [], ◌∷◌, ◌++◌, flat_map, codes, decimal, Option, Some, None, Result, Ok, Err, if◌then◌else◌}
-use Rattle.std.specs.Fmt.{digits}
-use Rattle.acpi_base.specs.Bits.{bits_of, has_bit}
-use Rattle.acpi_base.specs.ErrorText.{error_text}
-use Rattle.acpi_base.specs.Header.{check_table}
-use Rattle.acpi_base.specs.Memory.{Memory}
-use Rattle.acpi_base.specs.Spcr.{baud_of, interrupt_of, irq_of, spcr_at}
-use Rattle.acpi_base.specs.Table.{Kind, kind}
-use Rattle.acpi_base.specs.Text.{signature_text}
-use Rattle.acpi_base.specs.declared.error.AcpiError.{AcpiError}
-use Rattle.acpi_base.specs.declared.error.AcpiError.TheVariants.{AllocError}
-use Rattle.acpi_base.specs.declared.tables.mcfg.McfgEntry.{McfgEntry}
-use Rattle.acpi_base.specs.declared.table.header.SdtHeader.{SdtHeader}
-use Rattle.acpi_base.specs.declared.table.signature.Signature.{Signature}
-use Rattle.acpi_base.specs.declared.table.signature.TheConstants.Signature.{BGRT, SPCR}
-use Rattle.acpi_base.specs.declared.tables.spcr.Spcr.{Spcr}
-use Rattle.acpi_fixed.specs.Bgrt.{bgrt_at, offset_of, status_of}
-use Rattle.acpi_fixed.specs.declared.bgrt.Bgrt.{Bgrt}
-use Rattle.acpi.specs.Hpet.{hpet_of}
-use Rattle.acpi.specs.Lists.{dsdt_stream, faults_of, ssdt_streams, valid_headers}
-use Rattle.acpi.specs.Lookup.{lookup}
-use Rattle.acpi.specs.Pci.{RegionsAsk, found_regions}
+use Rattle.acpi_base.specs.FromStd.{digits}
+use Rattle.acpi_base.specs.Words.{bits_of, has_bit, error_text, check_table, Memory, baud_of, interrupt_of, irq_of, spcr_at, Kind, kind, signature_text}
+use Rattle.acpi.specs.Types.{AcpiError, AllocError, McfgEntry, SdtHeader, Signature, BGRT, SPCR, Spcr, Bgrt}
+use Rattle.acpi_fixed.specs.Words.{bgrt_at, offset_of, status_of}
+use Rattle.acpi.specs.Words.{hpet_of, dsdt_stream, faults_of, ssdt_streams, valid_headers, lookup, RegionsAsk, found_regions}
 use Rattle.acpi.specs.declared.hpet.HpetInfo.{HpetInfo}
 use Rattle.acpi.specs.declared.records.AmlTable.{AmlTable}
 use Rattle.acpi.specs.declared.records.TableFault.{TableFault}

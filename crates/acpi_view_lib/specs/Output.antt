@@ -1,18 +1,10 @@
 -- What a run prints, as the image's bytes define it.
 use Rattle.std.specs.Prelude.{◌≡◌, ◌⊎◌, ℕ, List, [], ◌∷◌, ◌++◌, drop, codes, Option, Some, None, Result, Ok, Err}
-use Rattle.std.specs.Global.{Global}
-use Rattle.std.specs.Io.KnownBytes.{Appends}
-use Rattle.acpi_base.specs.ErrorText.{error_text}
-use Rattle.acpi_base.specs.Memory.{Memory}
-use Rattle.acpi_base.specs.declared.error.AcpiError.{AcpiError}
-use Rattle.acpi.specs.Hpet.{hpet_kind}
-use Rattle.acpi.specs.Lists.{fadt_kind}
-use Rattle.acpi.specs.Opened.{Opened}
-use Rattle.acpi.specs.Pci.{mcfg_kind}
-use Rattle.acpi.specs.Platform.{madt_kind}
-use Rattle.acpi.specs.Root.{pointers, width_of}
-use Rattle.acpi_image_reader.specs.ErrorText.{image_error_text}
-use Rattle.acpi_image_reader.specs.Image.{records_in}
+use Rattle.acpi_base.specs.FromStd.{Global, Appends}
+use Rattle.acpi_base.specs.Words.{error_text, Memory}
+use Rattle.acpi.specs.Types.{AcpiError}
+use Rattle.acpi.specs.Words.{hpet_kind, fadt_kind, Opened, mcfg_kind, madt_kind, pointers, width_of}
+use Rattle.acpi_image_reader.specs.Words.{image_error_text, records_in}
 use Rattle.acpi_image_reader.specs.declared.error.ImageError.{ImageError}
 use Rattle.acpi_view_lib.specs.Command.{root_for}
 use Rattle.acpi_view_lib.specs.Lines.{IsPciText, bgrt_kind, bgrt_lines, dsdt_lines, header_lines, hpet_lines, line, revision_line, skipped_lines, spcr_kind, spcr_lines, ssdt_lines}

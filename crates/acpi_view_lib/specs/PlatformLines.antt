@@ -1,28 +1,12 @@
 -- The lines of the platform.
 use Rattle.std.specs.Prelude.{ℕ, List, [], ◌∷◌, ◌++◌, flat_map, codes, decimal, Option, Some, None, if◌then◌else◌}
-use Rattle.acpi_base.specs.Memory.{Memory}
-use Rattle.acpi_base.specs.declared.model.interrupt.Apic.{Apic}
-use Rattle.acpi_base.specs.declared.model.interrupt.InterruptModel.{InterruptModel}
+use Rattle.acpi_base.specs.Words.{Memory}
+use Rattle.acpi.specs.Types.{Apic, InterruptModel, InterruptSourceOverride, IoApic, LocalInterruptLine, Lint0, Lint1, NmiLine, NmiProcessor, All, ProcessorUid, NmiSource, Polarity, TriggerMode, Processor, ProcessorInfo, ProcessorState, Disabled, Running, WaitingForSipi, PowerProfile}
 use Rattle.acpi_base.specs.declared.model.interrupt.InterruptModel.TheVariants as model
-use Rattle.acpi_base.specs.declared.model.interrupt.InterruptSourceOverride.{InterruptSourceOverride}
-use Rattle.acpi_base.specs.declared.model.interrupt.IoApic.{IoApic}
-use Rattle.acpi_base.specs.declared.model.interrupt.LocalInterruptLine.{LocalInterruptLine}
-use Rattle.acpi_base.specs.declared.model.interrupt.LocalInterruptLine.TheVariants.{Lint0, Lint1}
-use Rattle.acpi_base.specs.declared.model.interrupt.NmiLine.{NmiLine}
-use Rattle.acpi_base.specs.declared.model.interrupt.NmiProcessor.{NmiProcessor}
-use Rattle.acpi_base.specs.declared.model.interrupt.NmiProcessor.TheVariants.{All, ProcessorUid}
-use Rattle.acpi_base.specs.declared.model.interrupt.NmiSource.{NmiSource}
-use Rattle.acpi_base.specs.declared.model.interrupt.Polarity.{Polarity}
 use Rattle.acpi_base.specs.declared.model.interrupt.Polarity.TheVariants as polarity
-use Rattle.acpi_base.specs.declared.model.interrupt.TriggerMode.{TriggerMode}
 use Rattle.acpi_base.specs.declared.model.interrupt.TriggerMode.TheVariants as trigger
-use Rattle.acpi_base.specs.declared.model.processor.Processor.{Processor}
-use Rattle.acpi_base.specs.declared.model.processor.ProcessorInfo.{ProcessorInfo}
-use Rattle.acpi_base.specs.declared.model.processor.ProcessorState.{ProcessorState}
-use Rattle.acpi_base.specs.declared.model.processor.ProcessorState.TheVariants.{Disabled, Running, WaitingForSipi}
-use Rattle.acpi_fixed.specs.declared.fadt.PowerProfile.{PowerProfile}
 use Rattle.acpi_fixed.specs.declared.fadt.PowerProfile.TheVariants as profiles
-use Rattle.acpi.specs.Platform.{PlatformAsks, platform_of}
+use Rattle.acpi.specs.Words.{PlatformAsks, platform_of}
 use Rattle.acpi.specs.declared.platform.PlatformInfo.{PlatformInfo}
 use Rattle.acpi.specs.declared.platform.timer.PmTimer.{PmTimer}
 use Rattle.acpi_view_lib.specs.Lines.{IsPartText, address_text, line, lines_or_refusal, yes_or_no}

@@ -1,7 +1,7 @@
 -- The status that a run ends with.
 use Rattle.std.specs.Prelude.{ℕ, List, Option, Some, None, Result, Ok, Err}
-use Rattle.acpi_base.specs.Memory.{Memory}
-use Rattle.acpi_image_reader.specs.Image.{RunsOut, records_in}
+use Rattle.acpi_base.specs.Words.{Memory}
+use Rattle.acpi_image_reader.specs.Words.{RunsOut, records_in}
 use Rattle.acpi_image_reader.specs.declared.error.ImageError.{ImageError}
 use Rattle.acpi_cli.specs.Root.{opened_for}
 use Rattle.acpi_cli.specs.declared.root.Root.{Root}

@@ -1,8 +1,6 @@
 //! The lines that the program prints. Each function puts its lines after those of a text.
 ghost use Rattle.std.specs.Prelude.{◌≡◌, ◌++◌, List, ℕ, OnOk, codes, flat_map, string_bytes};
-ghost use Rattle.acpi.specs.Lists.{faults_of};
-ghost use Rattle.acpi.specs.Opened.{opened_of};
-ghost use Rattle.acpi.specs.Tables.{memory_of, of_tables, pointers_of, revision_of};
+ghost use Rattle.acpi.specs.Words.{faults_of, opened_of, memory_of, of_tables, pointers_of, revision_of};
 ghost use Rattle.acpi_view_lib.specs.Lines.{IsPciText, bgrt_lines, console_line, dsdt_lines, graphic_line, header_lines, hpet_lines, lines_or_refusal, number_words, refused_line, region_lines, revision_line, skipped_line, spcr_lines, ssdt_lines, stream_line, yes_or_no};
 ghost use Rattle.acpi_view_lib.specs.Output.{IsLines, skipped_lines_of};
 

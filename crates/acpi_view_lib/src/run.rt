@@ -1,7 +1,6 @@
 //! The program over any writers.
-ghost use Rattle.std.specs.Prelude.{◌≡◌, ◌≤◌, [], true, IfNone, IfOk, IfSome, length, map, string_bytes, take};
-ghost use Rattle.std.specs.Io.KnownBytes.{Appends, Keeps};
-ghost use Rattle.std.specs.Option.{option_copied};
+ghost use Rattle.std.specs.Prelude.{◌≡◌, ◌≤◌, [], true, IfNone, IfOk, IfSome, length, map, string_bytes, take, option_copied};
+ghost use Rattle.acpi_base.specs.FromStd.{Appends, Keeps};
 ghost use Rattle.acpi_cli.specs.Root.{opened_for};
 ghost use Rattle.acpi_view_lib.specs.Output.{AppendsFront, IsOutput, IsReport, Runs, found_in, refusal_line, stderr_of};
 ghost use Rattle.acpi_view_lib.specs.Status.{status_of};

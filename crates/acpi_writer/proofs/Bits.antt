@@ -1,27 +1,14 @@
 -- Bytes and flags: single bytes, trigger modes and polarities as they are read, the bytes of numbers, flags in a
 -- number,
 -- and checks that were passed.
-use Rattle.std.proofs.Common.{◌≡◌, ℕ, Bool, true, false, List, [], ◌∷◌, Result, Ok, Err, refl, sym, ap, ◌∙◌, arith, ◌^◌, ◌<◌, w16, w32, w64, zero, suc, ◌+◌, ◌*◌, ◌%◌, ◌/◌, ◌≤◌, length, drop, add-one, drop-cons}
-use Rattle.std.specs.Prelude.{not, if◌then◌else◌, ◌==◌}
-use Rattle.std.specs.List.{AllByRecursion}
-use Rattle.acpi_base.specs.Bits.{has_bit}
-use Rattle.acpi_base.specs.Bytes.{number, spelling}
-use Rattle.acpi_base.specs.Steps.{◌>>=◌, holds}
-use Rattle.acpi_base.specs.declared.model.interrupt.Polarity.{Polarity}
-use Rattle.acpi_base.specs.declared.model.interrupt.TriggerMode.{TriggerMode}
-use Rattle.acpi_base.specs.declared.model.interrupt.TriggerMode.TheVariants.{Edge, Level, SameAsBus}
-use Rattle.acpi_writer.specs.Arm.{flags_of, has_polarity, has_trigger, is_edge, is_low}
-use Rattle.acpi_writer.specs.Checked.{all_checked}
-use Rattle.std.specs.Int.{to_le_bytes, from_le_bytes}
-use Rattle.std.proofs.lemmas.Nat.{le_bytes_2, le_bytes_4, le_bytes_8}
-use Rattle.acpi_base.proofs.Spelling.{length-spelling, number-spelling}
+use Rattle.std.proofs.Common.{◌≡◌, ℕ, Bool, true, false, List, [], ◌∷◌, Result, Ok, Err, refl, sym, ap, ◌∙◌, arith, ◌^◌, ◌<◌, w16, w32, w64, zero, suc, ◌+◌, ◌*◌, ◌%◌, ◌/◌, ◌≤◌, length, drop, add-one, drop-cons, not, if◌then◌else◌, ◌==◌}
+use Rattle.acpi_base.specs.FromStd.{AllByRecursion, to_le_bytes, from_le_bytes}
+use Rattle.acpi_base.specs.Words.{has_bit, number, spelling, ◌>>=◌, holds}
+use Rattle.acpi.specs.Types.{Polarity, TriggerMode, Edge, Level, SameAsBus}
+use Rattle.acpi_writer.specs.Words.{flags_of, has_polarity, has_trigger, is_edge, is_low, all_checked, FlagsAreRead, flag_number, bit_of}
+use Rattle.acpi_base.proofs.FromStd.{le_bytes_2, le_bytes_4, le_bytes_8, get_or, div-div-eq-div-mul, pow-succ', zero-div, pow_mono, length-drop}
+use Rattle.acpi_base.proofs.Words.{length-spelling, number-spelling}
 use Rattle.acpi_image.proofs.Written.{IsBytes-spelling}
-use Rattle.std.proofs.Math.ListN.{get_or}
-use Rattle.std.proofs.Math.Nat.{div-div-eq-div-mul, pow-succ', zero-div}
-use Rattle.std.proofs.Math.Pow.{pow_mono}
-use Rattle.std.proofs.lemmas.List.{length-drop}
-use Rattle.acpi_writer.specs.Flags.{FlagsAreRead, flag_number}
-use Rattle.acpi_writer.specs.Table.{bit_of}
 use Rattle.acpi_base.specs.declared.model.interrupt.Polarity.TheVariants as polarity
 
 pub one : (n : ℕ) → number (n ∷ []) ≡ n

@@ -1,49 +1,14 @@
 -- The tables that an XSDT lists, as they are written, and what a reader says of them where a lookup finds the first of
 -- each signature.
-use Rattle.std.proofs.Common.{◌≡◌, ℕ, ◌+◌, ◌*◌, ◌<◌, ◌≤◌, Bool, true, false, List, [], ◌∷◌, length, map, Option, Some, None, Ok, refl, sym, ap, subst, if◌then◌else◌, Result, arith, lit≤, length-append}
-use Rattle.std.specs.Prelude.{◌&&◌, slice_get}
-use Rattle.std.specs.List.{AllByRecursion}
-use Rattle.std.specs.Str.{bytes_eq, is_utf8}
-use Rattle.std.proofs.lemmas.Bool.{and_parts, le-leb}
-use Rattle.std.proofs.lemmas.Slice.Eq.{bytes_eq-Decides}
-use Rattle.acpi_base.proofs.Steps.{bind_ok}
-use Rattle.acpi_base.specs.Bytes.{part, spelling}
-use Rattle.acpi_base.specs.Header.{check_names, check_table, header_at}
-use Rattle.acpi_base.specs.Steps.{◌>>=◌, holds}
-use Rattle.acpi_base.specs.Text.{letters_of}
-use Rattle.acpi_base.specs.declared.table.signature.Signature.{Signature}
-use Rattle.acpi_base.specs.declared.table.signature.TheConstants.Signature.{BGRT, FADT, GTDT, HPET, MADT, MCFG, SLIT, SPCR, SRAT, SSDT}
-use Rattle.acpi_writer.specs.Bgrt.{IsBgrt, bgrt_body, SaysImage}
-use Rattle.acpi_writer.specs.Contents.{FitsContents, bytes_of, contents_written, most, or_none, placed, signature_of}
-use Rattle.acpi_writer.specs.FadtBytes.{fadt_body, fadt_checked, fadt_written, fixed_of}
-use Rattle.acpi_writer.specs.FadtLaws.{IsFadt}
-use Rattle.acpi_writer.specs.GicMadt.{IsGicMadt, gic_body, gic_checked, gic_written, gic_read}
-use Rattle.acpi_writer.specs.Gtdt.{IsGtdt, gtdt_body, gtdt_checked, gtdt_written, SaysTimers}
-use Rattle.acpi_writer.specs.HpetBytes.{hpet_body}
-use Rattle.acpi_writer.specs.HpetLaws.{IsHpet}
-use Rattle.acpi_writer.specs.ImageLaws.{is_named}
-use Rattle.acpi_writer.specs.Machine.{check_tables}
-use Rattle.acpi_writer.specs.MachineLaws.{AreValid, first_at, first_of, place_of, HasFadt, HasTable, Says, platform_read}
-use Rattle.acpi_writer.specs.MadtBytes.{madt_body, madt_checked, madt_entries, madt_fixed, madt_written}
-use Rattle.acpi_writer.specs.MadtLaws.{IsMadt, model_read}
-use Rattle.acpi_writer.specs.McfgBytes.{mcfg_body}
-use Rattle.acpi_writer.specs.McfgLaws.{IsMcfg}
-use Rattle.acpi_writer.specs.Slit.{IsSlit, slit_body, slit_checked, slit_written}
-use Rattle.acpi_writer.specs.Spcr.{spcr_body, spcr_checked, spcr_written}
-use Rattle.acpi_writer.specs.SpcrLaws.{IsSpcr, SaysConsole}
-use Rattle.acpi_writer.specs.Srat.{SratContents, srat_body, srat_checked_by, srat_entries, srat_reserved, srat_written_by}
-use Rattle.acpi_writer.specs.Table.{AreIds, IsTableOf, IsValid, table_written}
-use Rattle.acpi_writer.specs.declared.contents.TableContents.{TableContents}
-use Rattle.acpi_writer.specs.declared.contents.TableContents.TheVariants.{Bgrt, Fadt, GicMadt, Gtdt, Hpet, Madt, Mcfg, Slit, Spcr, Srat, Ssdt}
-use Rattle.acpi_writer.specs.declared.error.WriterError.{WriterError}
-use Rattle.acpi_writer.specs.declared.fadt.contents.FadtContents.{FadtContents}
-use Rattle.acpi_writer.specs.declared.gtdt.GtdtContents.{GtdtContents}
-use Rattle.acpi_writer.specs.declared.ids.TableIds.{TableIds}
-use Rattle.acpi_writer.specs.declared.madt.gic.GicContents.{GicContents}
-use Rattle.acpi_writer.specs.declared.madt.MadtContents.{MadtContents}
-use Rattle.acpi_writer.specs.declared.spcr.SpcrContents.{SpcrContents}
+use Rattle.std.proofs.Common.{◌≡◌, ℕ, ◌+◌, ◌*◌, ◌<◌, ◌≤◌, Bool, true, false, List, [], ◌∷◌, length, map, Option, Some, None, Ok, refl, sym, ap, subst, if◌then◌else◌, Result, arith, lit≤, length-append, ◌&&◌, slice_get, bytes_eq}
+use Rattle.acpi_base.specs.FromStd.{AllByRecursion, is_utf8}
+use Rattle.acpi_base.proofs.FromStd.{and_parts, le-leb, bytes_eq-Decides}
+use Rattle.acpi_base.proofs.Words.{bind_ok, length-spelling}
+use Rattle.acpi_base.specs.Words.{part, spelling, check_names, check_table, header_at, ◌>>=◌, holds, letters_of, Memory, sdt_kind}
+use Rattle.acpi.specs.Types.{Signature, BGRT, FADT, GTDT, HPET, MADT, MCFG, SLIT, SPCR, SRAT, SSDT, AcpiError}
+use Rattle.acpi_writer.specs.Words.{IsBgrt, bgrt_body, SaysImage, FitsContents, bytes_of, contents_written, most, or_none, placed, signature_of, fadt_body, fadt_checked, fadt_written, fixed_of, IsFadt, IsGicMadt, gic_body, gic_checked, gic_written, gic_read, IsGtdt, gtdt_body, gtdt_checked, gtdt_written, SaysTimers, hpet_body, IsHpet, is_named, check_tables, AreValid, first_at, first_of, place_of, HasFadt, HasTable, Says, platform_read, madt_body, madt_checked, madt_entries, madt_fixed, madt_written, IsMadt, model_read, mcfg_body, IsMcfg, IsSlit, slit_body, slit_checked, slit_written, spcr_body, spcr_checked, spcr_written, IsSpcr, SaysConsole, SratContents, srat_body, srat_checked_by, srat_entries, srat_reserved, srat_written_by, AreIds, IsTableOf, IsValid, table_written, TableContents, Bgrt, Fadt, GicMadt, Gtdt, Hpet, Madt, Mcfg, Slit, Spcr, Srat, Ssdt, WriterError, FadtContents, GtdtContents, TableIds, GicContents, MadtContents, SpcrContents, IsSrat, SaysDomains, BgrtContents, SlitContents}
 use Rattle.acpi_writer.proofs.ShortTables.{bgrt_long, bgrt_name, bgrt_read, bgrt_valid, hpet_long, hpet_name, hpet_read, hpet_valid, mcfg_name, mcfg_read, mcfg_valid, slit_is, slit_name, slit_read, slit_valid, ssdt_read}
-use Rattle.acpi_writer.proofs.FadtRead.{fadt_is, fadt_name, fadt_read, fadt_valid}
+use Rattle.acpi_writer.proofs.FadtRead.{fadt_is, fadt_name, fadt_read, fadt_valid, body_long}
 use Rattle.acpi_writer.proofs.GicRead.{gic_madt_is, gic_madt_valid, entry_bytes, gic_madt_read}
 use Rattle.acpi_writer.proofs.GtdtRead.{gtdt_valid}
 use Rattle.acpi_writer.proofs.LaidRead.{holds_only, platform_has}
@@ -51,24 +16,12 @@ use Rattle.acpi_writer.proofs.MadtRead.{fixed_long, madt_is, madt_name, madt_rea
 use Rattle.acpi_writer.proofs.Sized.{wrote}
 use Rattle.acpi_writer.proofs.SpcrRead.{spcr_valid}
 use Rattle.acpi_writer.proofs.SratRead.{srat_is, srat_name, srat_read, srat_valid}
-use Rattle.acpi_base.proofs.Spelling.{length-spelling}
-use Rattle.acpi_base.specs.Memory.{Memory}
-use Rattle.acpi_base.specs.Table.{sdt_kind}
-use Rattle.acpi_base.specs.declared.error.AcpiError.{AcpiError}
-use Rattle.acpi.specs.Hpet.{hpet_of}
-use Rattle.acpi.specs.Lookup.{lookup}
-use Rattle.acpi.specs.Pci.{found_regions}
-use Rattle.acpi.specs.Platform.{model_in, platform_of}
-use Rattle.acpi.specs.declared.hpet.HpetInfo.{HpetInfo}
+use Rattle.acpi.specs.Words.{hpet_of, lookup, found_regions, model_in, platform_of}
+use Rattle.acpi_writer.specs.Types.{HpetInfo}
 use Rattle.acpi_arm.specs.Gic.{found_gic}
 use Rattle.acpi_arm.specs.Gtdt.{gtdt_kind}
-use Rattle.acpi_fixed.specs.Bgrt.{bgrt_at}
-use Rattle.acpi_numa.specs.Affinities.{srat_kind}
-use Rattle.acpi_numa.specs.Slit.{distance_of}
-use Rattle.acpi_writer.specs.SratLaws.{IsSrat, SaysDomains}
-use Rattle.acpi_writer.specs.declared.bgrt.BgrtContents.{BgrtContents}
-use Rattle.acpi_writer.specs.declared.contents.SlitContents.{SlitContents}
-use Rattle.acpi_writer.proofs.FadtRead.{body_long}
+use Rattle.acpi_fixed.specs.Words.{bgrt_at}
+use Rattle.acpi_numa.specs.Words.{srat_kind, distance_of}
 use Rattle.acpi_writer.specs.SratLaws as srat
 use Rattle.acpi_writer.proofs.GtdtRead as gtdt
 use Rattle.acpi_writer.proofs.SpcrRead as spcr

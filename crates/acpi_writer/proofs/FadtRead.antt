@@ -1,43 +1,18 @@
 -- What a reader finds in a FADT that is written, and when one is.
-use Rattle.std.proofs.Common.{◌≡◌, ℕ, zero, suc, ◌+◌, ◌*◌, ◌<◌, true, false, List, [], ◌∷◌, ◌++◌, length, take, drop, get_or, Option, Some, None, Ok, refl, sym, ap, ◌∙◌, arith, lit<, append_assoc, length-append, Result, Err, subst}
-use Rattle.std.specs.Prelude.{◌==◌, nat_le, if◌then◌else◌, flat_map, replicate, IfOk}
-use Rattle.std.specs.List.{All}
-use Rattle.std.specs.Option.{ok_or, option_map}
-use Rattle.std.specs.Str.{chars, is_utf8}
-use Rattle.std.proofs.lemmas.Bool.{and_parts, ltb-true, ne_eqb}
-use Rattle.std.proofs.lemmas.List.{drop-drop, drop_at, take_at}
-use Rattle.acpi.specs.Timer.{timer_of}
-use Rattle.acpi_base.specs.Address.{generic_address_of}
-use Rattle.acpi_base.specs.Bits.{has_bit}
-use Rattle.acpi_base.specs.Bytes.{field_of, filled_part, part, spelling}
-use Rattle.acpi_base.specs.Header.{header_at}
-use Rattle.acpi_base.specs.declared.address.GenericAddress.{GenericAddress}
-use Rattle.acpi_base.specs.declared.error.AcpiError.{AcpiError}
-use Rattle.acpi_base.specs.declared.error.AcpiError.TheVariants.{InvalidDsdtAddress, InvalidFacsAddress}
-use Rattle.acpi_base.specs.declared.table.signature.TheConstants.Signature.{FADT}
-use Rattle.acpi_fixed.specs.Fadt.{fadt_at, pm_timer_of, profile_for}
-use Rattle.acpi_fixed.specs.Flags.{feature_bits}
-use Rattle.acpi_fixed.specs.Gpe.{gpe_of}
-use Rattle.acpi_fixed.specs.Registers.{address_or, block_at, extended_address, extended_number, has_extended, optional_block_of, register_of, timer_block_of}
-use Rattle.acpi_fixed.specs.declared.fadt.Fadt.{Fadt}
-use Rattle.acpi_fixed.specs.declared.fadt.PowerProfile.{PowerProfile}
-use Rattle.acpi_writer.specs.FadtBytes.{address_or_zero, are_blocks, are_placed, arm_flags, body_with, bytes_wide, fadt_body, fadt_checked, fadt_written, feature_flags, fixed_of, front_fields, gpe_length, gpe_register, has_address, has_length, is_given, is_profile, narrow, pc_flags, profile_code, registers, wide_fields}
-use Rattle.acpi_writer.specs.FadtLaws.{AreFitFor, FadtIsRead, FadtIsValid, HasFields, HasFlags, HasHardware, HasLegacy, HasNeededBlocks, IsFadt, IsReadAs}
-use Rattle.acpi_writer.specs.Fields.{FitsField, field_at, field_bytes, field_size, field_value, fields_bytes, offset_of}
-use Rattle.acpi_writer.specs.Generic.{FitsRegister, is_register, register_bytes}
-use Rattle.acpi_writer.specs.declared.fadt.contents.FadtContents.{FadtContents}
-use Rattle.acpi_writer.specs.declared.fadt.contents.FadtHardware.{FadtHardware}
-use Rattle.acpi_writer.specs.declared.fadt.contents.FadtHardware.TheVariants.{Fixed, Reduced}
-use Rattle.acpi_writer.specs.declared.fadt.contents.FixedHardware.{FixedHardware}
-use Rattle.acpi_writer.specs.declared.ids.TableIds.{TableIds}
-use Rattle.acpi_base.proofs.Steps.{holds_ok}
+use Rattle.std.proofs.Common.{◌≡◌, ℕ, zero, suc, ◌+◌, ◌*◌, ◌<◌, true, false, List, [], ◌∷◌, ◌++◌, length, take, drop, get_or, Option, Some, None, Ok, refl, sym, ap, ◌∙◌, arith, lit<, append_assoc, length-append, Result, Err, subst, ◌==◌, nat_le, if◌then◌else◌, flat_map, replicate, IfOk, All, ok_or, option_map}
+use Rattle.acpi_base.specs.FromStd.{chars, is_utf8}
+use Rattle.acpi_base.proofs.FromStd.{and_parts, ltb-true, ne_eqb, drop-drop, drop_at, take_at}
+use Rattle.acpi.specs.Words.{timer_of}
+use Rattle.acpi_base.specs.Words.{generic_address_of, has_bit, field_of, filled_part, part, spelling, header_at}
+use Rattle.acpi.specs.Types.{GenericAddress, AcpiError, InvalidDsdtAddress, InvalidFacsAddress, FADT, Fadt, PowerProfile}
+use Rattle.acpi_fixed.specs.Words.{fadt_at, pm_timer_of, profile_for, feature_bits, gpe_of, address_or, block_at, extended_address, extended_number, has_extended, optional_block_of, register_of, timer_block_of}
+use Rattle.acpi_writer.specs.Words.{address_or_zero, are_blocks, are_placed, arm_flags, body_with, bytes_wide, fadt_body, fadt_checked, fadt_written, feature_flags, fixed_of, front_fields, gpe_length, gpe_register, has_address, has_length, is_given, is_profile, narrow, pc_flags, profile_code, registers, wide_fields, AreFitFor, FadtIsRead, FadtIsValid, HasFields, HasFlags, HasHardware, HasLegacy, HasNeededBlocks, IsFadt, FitsField, field_at, field_bytes, field_size, field_value, fields_bytes, offset_of, FitsRegister, is_register, register_bytes, FadtContents, FadtHardware, Fixed, Reduced, FixedHardware, TableIds, IsTableOf, if_checked, table_written, WriterError, BadProfile, NoAddress}
+use Rattle.acpi_writer.specs.FadtLaws.{IsReadAs}
+use Rattle.acpi_base.proofs.Words.{holds_ok}
 use Rattle.acpi_writer.proofs.Bits.{flags_read, is_off, was_true}
 use Rattle.acpi_writer.proofs.FieldsRead.{part_in, part_of, read_in}
 use Rattle.acpi_writer.proofs.Tables.{ids_are_read}
 use Rattle.acpi_writer.proofs.RegisterRead.{block_is, block_read, filled_12, given_read, gpe_read, made, optional_read, register_long, register_read, timer_read}
-use Rattle.acpi_writer.specs.Table.{IsTableOf, if_checked, table_written}
-use Rattle.acpi_writer.specs.declared.error.WriterError.{WriterError}
-use Rattle.acpi_writer.specs.declared.error.WriterError.TheVariants.{BadProfile, NoAddress}
 use Rattle.acpi_fixed.specs.declared.fadt.PowerProfile.TheVariants as profiles
 use Rattle.acpi_writer.proofs.Tables as table
 

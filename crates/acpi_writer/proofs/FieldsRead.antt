@@ -1,13 +1,9 @@
 -- What is written field by field is read field by field.
-use Rattle.std.proofs.Common.{◌≡◌, ℕ, zero, suc, ◌+◌, ◌<◌, List, [], ◌∷◌, ◌++◌, length, take, drop, refl, sym, ap, ◌∙◌, arith, append_assoc}
-use Rattle.std.specs.Prelude.{replicate}
-use Rattle.std.specs.List.{All}
-use Rattle.std.proofs.lemmas.List.{append-nil, take_at, drop_at, drop-drop, length-replicate}
-use Rattle.acpi_base.proofs.Spelling.{length-spelling, number-spelling}
-use Rattle.acpi_base.specs.Bytes.{field_of, number, part}
-use Rattle.acpi_writer.specs.Fields.{field_at, offset_of, FitsField, field_bytes, field_size, field_value, fields_bytes}
-use Rattle.acpi_writer.specs.declared.fields.Field.{Field}
-use Rattle.acpi_writer.specs.declared.fields.Field.TheVariants.{U8, U16, U32, U64, Zeros}
+use Rattle.std.proofs.Common.{◌≡◌, ℕ, zero, suc, ◌+◌, ◌<◌, List, [], ◌∷◌, ◌++◌, length, take, drop, refl, sym, ap, ◌∙◌, arith, append_assoc, replicate, All}
+use Rattle.acpi_base.proofs.FromStd.{append-nil, take_at, drop_at, drop-drop, length-replicate}
+use Rattle.acpi_base.proofs.Words.{length-spelling, number-spelling}
+use Rattle.acpi_base.specs.Words.{field_of, number, part}
+use Rattle.acpi_writer.specs.Words.{field_at, offset_of, FitsField, field_bytes, field_size, field_value, fields_bytes, Field, U8, U16, U32, U64, Zeros}
 
 pub field_long : (f : Field) → length (field_bytes f) ≡ field_size f
 field_long (U8 n) = refl

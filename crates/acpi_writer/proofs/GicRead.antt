@@ -1,48 +1,17 @@
 -- What a reader finds in the MADT of an Arm machine that is written.
-use Rattle.std.proofs.Common.{◌≡◌, ℕ, ◌<◌, false, List, [], ◌∷◌, ◌++◌, map, drop, Option, Some, None, Result, Ok, refl, sym, ap, ◌∙◌, arith, lit≤, lit<}
-use Rattle.std.specs.Prelude.{flat_map, if◌then◌else◌, not, slice_get}
-use Rattle.std.specs.List.{All, cons_option, filter_map}
-use Rattle.std.specs.Option.{option_map}
-use Rattle.std.proofs.lemmas.Bool.{and_parts}
-use Rattle.std.proofs.lemmas.List.{append-nil, drop_at, drop-drop}
-use Rattle.std.proofs.lemmas.List.Elements.{recursion_from_All}
-use Rattle.acpi_base.proofs.Spelling.{number-spelling}
-use Rattle.acpi_base.specs.Bits.{has_bit}
-use Rattle.acpi_base.specs.Bytes.{field_of, spelling}
-use Rattle.acpi_base.specs.Entries.{IsEntry}
-use Rattle.acpi_base.specs.Extended.{shown_of}
-use Rattle.acpi_base.specs.Header.{header_at}
-use Rattle.acpi_base.specs.Madt.{cut_of, entries_of, entry_of, madt_grammar, madt_layout}
+use Rattle.std.proofs.Common.{◌≡◌, ℕ, ◌<◌, false, List, [], ◌∷◌, ◌++◌, map, drop, Option, Some, None, Result, Ok, refl, sym, ap, ◌∙◌, arith, lit≤, lit<, flat_map, if◌then◌else◌, not, slice_get, All, filter_map, option_map}
+use Rattle.acpi_base.specs.FromStd.{cons_option}
+use Rattle.acpi_base.proofs.FromStd.{and_parts, append-nil, drop_at, drop-drop, recursion_from_All}
+use Rattle.acpi_base.proofs.Words.{number-spelling, holds_ok}
+use Rattle.acpi_base.specs.Words.{has_bit, field_of, spelling, IsEntry, shown_of, header_at, cut_of, entries_of, entry_of, madt_grammar, madt_layout, is_left, ◌>>=◌, holds}
 use Rattle.acpi_base.specs.MadtEntries as entry
-use Rattle.acpi_base.specs.MadtWalk.{is_left}
-use Rattle.acpi_base.specs.Steps.{◌>>=◌, holds}
-use Rattle.acpi_base.specs.declared.error.AcpiError.{AcpiError}
-use Rattle.acpi_base.specs.declared.error.AcpiError.TheVariants.{InvalidMadt}
-use Rattle.acpi_base.specs.declared.error.MadtError.TheVariants.{InvalidEntryLength}
-use Rattle.acpi_base.specs.declared.table.signature.TheConstants.Signature.{MADT}
-use Rattle.acpi_base.specs.declared.tables.madt.entry.MadtEntry.{MadtEntry}
+use Rattle.acpi.specs.Types.{AcpiError, InvalidMadt, InvalidEntryLength, MADT, MadtEntry}
 use Rattle.acpi_base.specs.declared.tables.madt.entry.MadtEntry.TheVariants as kinds
 use Rattle.acpi_arm.specs.Gic as read
-use Rattle.acpi_arm.specs.declared.gic.GicModel.{GicModel}
-use Rattle.acpi_arm.specs.declared.gic.part.GicCpuInterface.{GicCpuInterface}
-use Rattle.acpi_arm.specs.declared.gic.part.GicDistributor.{GicDistributor}
-use Rattle.acpi_arm.specs.declared.gic.part.GicMsiFrame.{GicMsiFrame}
-use Rattle.acpi_arm.specs.declared.gic.part.GicRedistributors.{GicRedistributors}
-use Rattle.acpi_arm.specs.declared.gic.part.GicTranslationService.{GicTranslationService}
-use Rattle.acpi_arm.specs.declared.gic.part.SpiRange.{SpiRange}
-use Rattle.acpi_writer.specs.Arm.{is_edge}
-use Rattle.acpi_writer.specs.Checked.{all_checked}
-use Rattle.acpi_base.proofs.Steps.{holds_ok}
-use Rattle.acpi_writer.specs.Table.{IsTableOf, bit_of}
-use Rattle.acpi_writer.specs.declared.error.WriterError.TheVariants.{NoProcessor}
-use Rattle.acpi_writer.specs.declared.ids.TableIds.{TableIds}
-use Rattle.acpi_writer.specs.declared.madt.gic.GicContents.{GicContents}
-use Rattle.acpi_writer.specs.GicMadt.{AreGicFit, FitsInterface, GicMadtIsRead, GicMadtIsValid, IsGicMadt, gic_body, gic_checked, gic_read, gicc_entry, gicc_fields, gicc_list, trace_field, gicd_entry, gicd_fields, gicr_entry, gicr_fields, has_spis, interface_checked, its_entry, its_fields, msi_entry, msi_fields, spis_of}
-use Rattle.acpi_writer.specs.MadtBytes.{is_empty, madt_fixed}
+use Rattle.acpi_writer.specs.Types.{GicModel, GicCpuInterface, GicDistributor, GicMsiFrame, GicRedistributors, GicTranslationService, SpiRange}
+use Rattle.acpi_writer.specs.Words.{is_edge, all_checked, IsTableOf, bit_of, NoProcessor, TableIds, GicContents, AreGicFit, FitsInterface, GicMadtIsRead, GicMadtIsValid, IsGicMadt, gic_body, gic_checked, gic_read, gicc_entry, gicc_fields, gicc_list, trace_field, gicd_entry, gicd_fields, gicr_entry, gicr_fields, has_spis, interface_checked, its_entry, its_fields, msi_entry, msi_fields, spis_of, is_empty, madt_fixed, FitsField, fields_bytes, Zeros}
 use Rattle.acpi_writer.proofs.Bits.{each_good, flag_bits, mode_is, was_true}
 use Rattle.acpi_writer.proofs.FieldsRead.{read_at}
-use Rattle.acpi_writer.specs.Fields.{FitsField, fields_bytes}
-use Rattle.acpi_writer.specs.declared.fields.Field.TheVariants.{Zeros}
 use Rattle.acpi_writer.proofs.Tables.{ids_are_read}
 use Rattle.acpi_writer.proofs.MadtRead.{fixed_long, madt_name}
 use Rattle.acpi_writer.proofs.Rows.{AreRows, all_known, both_known, both_rows, each_of, each_row, five, none_of, one_row, rows_are_cut}

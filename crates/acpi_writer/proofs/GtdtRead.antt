@@ -1,26 +1,13 @@
 -- What a reader finds in a GTDT that is written.
-use Rattle.std.proofs.Common.{◌≡◌, ℕ, ◌+◌, ◌%◌, ◌^◌, ◌<◌, true, false, List, [], ◌∷◌, length, drop, Option, Some, Ok, refl, sym, ap, ◌∙◌, arith, lit<, if◌then◌else◌}
-use Rattle.std.specs.Prelude.{◌==◌, flat_map, nat_le, nat_lt}
-use Rattle.std.specs.List.{All, AllByRecursion}
-use Rattle.std.specs.Str.{chars, is_utf8}
-use Rattle.std.proofs.Math.Bool.{or-true}
-use Rattle.std.proofs.lemmas.Bool.{le-leb}
-use Rattle.std.proofs.lemmas.List.{drop-drop}
-use Rattle.std.proofs.lemmas.List.Elements.{All-from_recursion, recursion_from_All}
-use Rattle.acpi_base.specs.Bytes.{field_of, part, spelling}
-use Rattle.acpi_base.specs.declared.table.signature.TheConstants.Signature.{GTDT}
-use Rattle.acpi_base.specs.Header.{header_at}
+use Rattle.std.proofs.Common.{◌≡◌, ℕ, ◌+◌, ◌%◌, ◌^◌, ◌<◌, true, false, List, [], ◌∷◌, length, drop, Option, Some, Ok, refl, sym, ap, ◌∙◌, arith, lit<, if◌then◌else◌, ◌==◌, flat_map, nat_le, nat_lt, All}
+use Rattle.acpi_base.specs.FromStd.{AllByRecursion, chars, is_utf8}
+use Rattle.acpi_base.proofs.FromStd.{or-true, le-leb, drop-drop, All-from_recursion, recursion_from_All}
+use Rattle.acpi_base.specs.Words.{field_of, part, spelling, header_at}
+use Rattle.acpi.specs.Types.{GTDT}
 use Rattle.acpi_arm.specs.Gtdt.{arm_timer_at, gtdt_at, read_base_of, virtual_el2_of}
 use Rattle.acpi_arm.specs.Timers as read
-use Rattle.acpi_arm.specs.declared.gtdt.ArmTimer.{ArmTimer}
-use Rattle.acpi_writer.specs.Arm.{base_checked, is_edge, is_low}
-use Rattle.acpi_writer.specs.Checked.{all_checked}
-use Rattle.acpi_writer.specs.Gtdt.{FitsStructure, GtdtIsRead, GtdtIsValid, IsGtdt, SaysTimers, gtdt_body, gtdt_checked, gtdt_fields, structure_bytes, structure_checked, timer_checked, timer_flags}
-use Rattle.acpi_writer.specs.Fields.{FitsField, field_at, field_size, field_value, fields_bytes, offset_of}
-use Rattle.acpi_writer.specs.declared.fields.Field.{Field}
-use Rattle.acpi_writer.specs.declared.fields.Field.TheVariants.{U32, Zeros}
-use Rattle.acpi_writer.specs.declared.gtdt.GtdtContents.{GtdtContents}
-use Rattle.acpi_writer.specs.declared.ids.TableIds.{TableIds}
+use Rattle.acpi_writer.specs.Types.{ArmTimer}
+use Rattle.acpi_writer.specs.Words.{base_checked, is_edge, is_low, all_checked, FitsStructure, GtdtIsRead, GtdtIsValid, IsGtdt, SaysTimers, gtdt_body, gtdt_checked, gtdt_fields, structure_bytes, structure_checked, timer_checked, timer_flags, FitsField, field_at, field_size, field_value, fields_bytes, offset_of, Field, U32, Zeros, GtdtContents, TableIds}
 use Rattle.acpi_writer.proofs.GtdtStructures.{IsGood, base_is, modes_are, none_missing, structures_many, timers_are}
 use Rattle.acpi_writer.proofs.Tables.{ids_are_read}
 use Rattle.acpi_writer.proofs.Tables as table

@@ -1,27 +1,14 @@
 -- What a reader finds in the Platform Timer Structures of a GTDT that is written.
-use Rattle.std.proofs.Common.{◌≡◌, ℕ, ◌+◌, ◌*◌, ◌%◌, ◌^◌, ◌<◌, ◌≤◌, lit<, Bool, true, false, List, [], ◌∷◌, ◌++◌, length, map, drop, Option, Some, None, Result, Ok, refl, sym, ap, ◌∙◌, arith, lit≤, inl, inr, length-append}
-use Rattle.std.specs.Prelude.{◌-◌, ◌==◌, flat_map, nat_le}
-use Rattle.std.specs.List.{All, AllByRecursion, filter_map}
-use Rattle.std.proofs.Math.Bool.{or-true}
-use Rattle.std.proofs.lemmas.Bool.{and_parts, le-leb, leb-true, ltb-true, ne_eqb}
-use Rattle.std.proofs.lemmas.List.{drop_at, length-map}
-use Rattle.std.proofs.lemmas.List.Elements.{recursion_from_All}
-use Rattle.acpi_base.specs.Bytes.{field_of, spelling}
-use Rattle.acpi_base.specs.Entries.{IsEntry, IsFew, number_at}
-use Rattle.acpi_base.specs.Steps.{◌>>=◌, holds}
-use Rattle.acpi_base.specs.declared.model.interrupt.Polarity.{Polarity}
-use Rattle.acpi_base.specs.declared.model.interrupt.TriggerMode.{TriggerMode}
+use Rattle.std.proofs.Common.{◌≡◌, ℕ, ◌+◌, ◌*◌, ◌%◌, ◌^◌, ◌<◌, ◌≤◌, lit<, Bool, true, false, List, [], ◌∷◌, ◌++◌, length, map, drop, Option, Some, None, Result, Ok, refl, sym, ap, ◌∙◌, arith, lit≤, inl, inr, length-append, ◌-◌, ◌==◌, flat_map, nat_le, All, filter_map}
+use Rattle.acpi_base.specs.FromStd.{AllByRecursion}
+use Rattle.acpi_base.proofs.FromStd.{or-true, and_parts, le-leb, leb-true, ltb-true, ne_eqb, drop_at, length-map, recursion_from_All}
+use Rattle.acpi_base.specs.Words.{field_of, spelling, IsEntry, IsFew, number_at, ◌>>=◌, holds}
+use Rattle.acpi.specs.Types.{Polarity, TriggerMode}
 use Rattle.acpi_arm.specs.Gtdt.{polarity_in, trigger_in, unless_ones}
 use Rattle.acpi_arm.specs.Timers as read
-use Rattle.acpi_arm.specs.declared.frames.GtFrame.{GtFrame}
-use Rattle.acpi_arm.specs.declared.timers.SbsaWatchdog.{SbsaWatchdog}
-use Rattle.acpi_writer.specs.Arm.{base_checked, flags_of, is_edge, is_low, modes_checked}
-use Rattle.acpi_writer.specs.Fields.{FitsField, field_at, field_size, field_value, fields_bytes, offset_of}
+use Rattle.acpi_writer.specs.Types.{GtFrame, SbsaWatchdog}
+use Rattle.acpi_writer.specs.Words.{base_checked, flags_of, is_edge, is_low, modes_checked, FitsField, field_at, field_size, field_value, fields_bytes, offset_of, FitsFrame, FitsStructure, FitsWatchdog, base_of, block_fields, frame_bytes, frame_checked, frame_fields, structure_bytes, structure_checked, timer_read, watchdog_fields, WriterError, TooManyFrames, PlatformTimerContents}
 use Rattle.acpi_writer.proofs.FieldsRead.{read_at, read_front}
-use Rattle.acpi_writer.specs.Gtdt.{FitsFrame, FitsStructure, FitsWatchdog, base_of, block_fields, frame_bytes, frame_checked, frame_fields, structure_bytes, structure_checked, timer_read, watchdog_fields}
-use Rattle.acpi_writer.specs.declared.error.WriterError.{WriterError}
-use Rattle.acpi_writer.specs.declared.error.WriterError.TheVariants.{TooManyFrames}
-use Rattle.acpi_writer.specs.declared.gtdt.PlatformTimerContents.{PlatformTimerContents}
 use Rattle.acpi_writer.specs.declared.gtdt.PlatformTimerContents.TheVariants as kinds
 use Rattle.acpi_writer.proofs.Bits.{each_good, first_good, flag_bits, mode, mode_is, was_true, way, way_is}
 use Rattle.acpi_writer.proofs.Rows.{AreRows, each_known, each_row_known, rows_are_cut}

@@ -1,27 +1,14 @@
 -- What a reader finds in the structures that are written without the header of a table: an RSDP and a FACS.
-use Rattle.std.proofs.Common.{◌≡◌, ℕ, ◌^◌, ◌<◌, true, false, List, [], ◌∷◌, ◌++◌, length, take, Ok, refl, sym, ap, subst, ◌∙◌, arith, length-append, ◌+◌, ◌*◌, Some, ◌-◌, Option, None}
-use Rattle.std.specs.Prelude.{◌==◌, replicate}
-use Rattle.std.specs.Str.{is_utf8}
-use Rattle.std.proofs.lemmas.Bool.{and_parts}
-use Rattle.acpi_base.proofs.Spelling.{number-spelling}
-use Rattle.acpi_base.specs.Bytes.{field_of, spelling, sum_of}
-use Rattle.acpi.specs.Root.{root_pointer}
-use Rattle.acpi.specs.Rsdp.{check_first, check_rsdp, check_sum, checked_length, root_of_rsdp, rsd_ptr, rsdp_of}
-use Rattle.acpi.specs.declared.root.RootKind.TheVariants.{Xsdt}
+use Rattle.std.proofs.Common.{◌≡◌, ℕ, ◌^◌, ◌<◌, true, false, List, [], ◌∷◌, ◌++◌, length, take, Ok, refl, sym, ap, subst, ◌∙◌, arith, length-append, ◌+◌, ◌*◌, Some, ◌-◌, Option, None, ◌==◌, replicate}
+use Rattle.acpi_base.specs.FromStd.{is_utf8}
+use Rattle.acpi_base.proofs.FromStd.{and_parts, length-replicate}
+use Rattle.acpi_base.proofs.Words.{number-spelling, at-front}
+use Rattle.acpi_base.specs.Words.{field_of, spelling, sum_of, has_bit, header_at, Memory, at, IsMemory}
+use Rattle.acpi.specs.Words.{root_pointer, check_first, check_rsdp, check_sum, checked_length, root_of_rsdp, rsd_ptr, rsdp_of, facs_at, facs_length, facs_length_in, range}
+use Rattle.acpi_writer.specs.Types.{Xsdt}
 use Rattle.acpi_image.proofs.Written.{sum_is_set, length-with_first_sum, length-with_sum}
-use Rattle.acpi_image.specs.Written.{sum_byte, with_first_sum, with_sum}
-use Rattle.acpi_writer.specs.Rsdp.{Leads, RsdpIsRead, rsdp_bytes, rsdp_unsummed}
-use Rattle.acpi_writer.specs.Table.{bit_of}
-use Rattle.acpi.specs.Places.{facs_at, facs_length, facs_length_in, range}
-use Rattle.acpi_base.specs.Bits.{has_bit}
-use Rattle.acpi_base.specs.Header.{header_at}
-use Rattle.acpi_base.specs.Memory.{Memory, at, IsMemory}
-use Rattle.acpi_writer.specs.Facs.{FacsIsRead, FitsFacs, IsReadAs, facs_bytes}
-use Rattle.acpi_writer.specs.declared.facs.FacsContents.{FacsContents}
-use Rattle.std.proofs.lemmas.List.{length-replicate}
-use Rattle.acpi_base.proofs.LentRanges.{at-front}
-use Rattle.acpi_writer.specs.Machine.{facs_gap, facs_laid, facs_room}
-use Rattle.acpi_writer.specs.MachineLaws.{HasFacs}
+use Rattle.acpi_image.specs.Words.{sum_byte, with_first_sum, with_sum}
+use Rattle.acpi_writer.specs.Words.{Leads, RsdpIsRead, rsdp_bytes, rsdp_unsummed, bit_of, FacsIsRead, FitsFacs, IsReadAs, facs_bytes, FacsContents, facs_gap, facs_laid, facs_room, HasFacs}
 use Rattle.acpi_writer.proofs.Bits.{two_bits}
 use Rattle.acpi_writer.proofs.LaidRead.{front_lent, rest_lent}
 

@@ -1,55 +1,19 @@
 -- What a reader finds of tables that are laid one after the other, and in an image that has one.
-use Rattle.std.proofs.Common.{◌≡◌, ℕ, ◌+◌, ◌-◌, ◌≤◌, Bool, true, false, List, [], ◌∷◌, ◌++◌, length, take, drop, Some, None, Result, Ok, Err, refl, sym, ap, ◌∙◌, arith, if◌then◌else◌, length-append, Option, lit≤, map}
-use Rattle.std.specs.Prelude.{◌&&◌, ◌==◌, nat_le, replicate}
-use Rattle.std.specs.Result.{result_ok}
-use Rattle.std.proofs.lemmas.Bool.{eqb-true, le-leb}
-use Rattle.std.proofs.lemmas.List.{drop_at, drop-drop, drop-take, take_all, take_at, set-set}
-use Rattle.acpi_base.proofs.LentRanges.{at-front, lent_inside, lent_is_inside}
-use Rattle.acpi_base.proofs.OwnTable.{good_rest, header_front, own_table, own_table_is, passes, served, serves}
-use Rattle.acpi_base.proofs.Steps.{bind_ok, holds_ok}
-use Rattle.acpi_base.specs.Bytes.{field_of, part, sum_of}
-use Rattle.acpi_base.specs.Header.{check_names, check_table, header_at}
-use Rattle.acpi_base.specs.Memory.{Memory, HoldsRange, IsMemory, Region, at, rest_from}
-use Rattle.acpi_base.specs.Steps.{holds, lent, ◌>>=◌}
-use Rattle.acpi_base.specs.Table.{own_table_at, plain_kind, sdt_kind, table_at, kind}
-use Rattle.acpi_base.specs.Text.{letters_of}
-use Rattle.acpi_base.specs.declared.error.AcpiError.{AcpiError}
-use Rattle.acpi_base.specs.declared.error.AcpiError.TheVariants.{SdtInvalidChecksum, SdtInvalidLength}
-use Rattle.acpi_base.specs.declared.table.signature.Signature.{Signature}
+use Rattle.std.proofs.Common.{◌≡◌, ℕ, ◌+◌, ◌-◌, ◌≤◌, Bool, true, false, List, [], ◌∷◌, ◌++◌, length, take, drop, Some, None, Result, Ok, Err, refl, sym, ap, ◌∙◌, arith, if◌then◌else◌, length-append, Option, lit≤, map, ◌&&◌, ◌==◌, nat_le, replicate, bytes_eq}
+use Rattle.acpi_base.specs.FromStd.{result_ok, AllByRecursion}
+use Rattle.acpi_base.proofs.FromStd.{eqb-true, le-leb, drop_at, drop-drop, drop-take, take_all, take_at, set-set}
+use Rattle.acpi_base.proofs.Words.{at-front, lent_inside, lent_is_inside, good_rest, header_front, own_table, own_table_is, passes, served, serves, bind_ok, holds_ok}
+use Rattle.acpi_base.specs.Words.{field_of, part, sum_of, check_names, check_table, header_at, Memory, HoldsRange, IsMemory, Region, at, rest_from, holds, lent, ◌>>=◌, own_table_at, plain_kind, sdt_kind, table_at, kind, letters_of, mcfg_entries_of, Model, model_of}
+use Rattle.acpi.specs.Types.{AcpiError, SdtInvalidChecksum, SdtInvalidLength, Signature, Unknown, HPET, MADT, MCFG, McfgEntry, PowerProfile}
 use Rattle.acpi.proofs.First.{here}
-use Rattle.acpi.specs.Later.{or_later}
+use Rattle.acpi.specs.Words.{or_later, hpet_at, hpet_kind, info_of, fadt_kind, lookup, mcfg_kind, madt_kind, model_in, platform_of, bytes_found, timer_of}
 use Rattle.acpi_image.proofs.Written.{header_names, table_is, length-with_sum, part_front}
-use Rattle.acpi_writer.specs.ImageLaws.{is_named, HasFirst, HasPlatform, HpetInImage, MadtInImage, McfgInImage, PlatformInImage}
-use Rattle.acpi_writer.specs.Laid.{gap, laid, padded}
-use Rattle.acpi_writer.specs.MachineLaws.{LaidAreFound}
-use Rattle.acpi_writer.specs.Table.{IsValid, IsTableOf, table_bytes, unsummed}
-use Rattle.acpi_base.specs.Mcfg.{mcfg_entries_of}
-use Rattle.acpi_base.specs.Model.{Model, model_of}
-use Rattle.acpi_base.specs.declared.model.interrupt.InterruptModel.TheVariants.{Unknown}
-use Rattle.acpi_base.specs.declared.table.signature.TheConstants.Signature.{HPET, MADT, MCFG}
-use Rattle.acpi_base.specs.declared.tables.mcfg.McfgEntry.{McfgEntry}
-use Rattle.acpi_fixed.specs.Fadt.{fadt_at, profile_of}
-use Rattle.acpi_fixed.specs.declared.fadt.PowerProfile.{PowerProfile}
-use Rattle.acpi.specs.Hpet.{hpet_at, hpet_kind, info_of}
-use Rattle.acpi.specs.Lists.{fadt_kind}
-use Rattle.acpi.specs.Lookup.{lookup}
-use Rattle.acpi.specs.Pci.{mcfg_kind}
-use Rattle.acpi.specs.Platform.{madt_kind, model_in, platform_of}
-use Rattle.acpi.specs.Relocation.{bytes_found}
-use Rattle.acpi.specs.Timer.{timer_of}
-use Rattle.acpi.specs.declared.platform.PlatformInfo.{PlatformInfo}
-use Rattle.acpi.specs.declared.platform.timer.PmTimer.{PmTimer}
-use Rattle.acpi_image.specs.Written.{Plan, pointers_of, records_of, with_sum, sum_byte}
-use Rattle.acpi_writer.specs.HpetBytes.{hpet_body}
-use Rattle.acpi_writer.specs.MadtBytes.{madt_body, madt_entries, madt_fixed}
-use Rattle.acpi_writer.specs.MadtLaws.{model_read}
-use Rattle.acpi_writer.specs.McfgBytes.{mcfg_body}
-use Rattle.acpi_writer.specs.declared.ids.TableIds.{TableIds}
-use Rattle.acpi_writer.specs.declared.madt.MadtContents.{MadtContents}
+use Rattle.acpi_writer.specs.Words.{is_named, HasFirst, HasPlatform, HpetInImage, MadtInImage, McfgInImage, PlatformInImage, gap, laid, padded, LaidAreFound, IsValid, IsTableOf, table_bytes, unsummed, hpet_body, madt_body, madt_entries, madt_fixed, model_read, mcfg_body, TableIds, MadtContents}
+use Rattle.acpi_fixed.specs.Words.{fadt_at, profile_of}
+use Rattle.acpi_writer.specs.Types.{PlatformInfo, PmTimer}
+use Rattle.acpi_image.specs.Words.{Plan, pointers_of, records_of, with_sum, sum_byte}
 use Rattle.acpi_writer.proofs.ShortTables.{hpet_long, hpet_name, hpet_read, mcfg_name, mcfg_read}
 use Rattle.acpi_writer.proofs.MadtRead.{fixed_long, madt_name, madt_read}
-use Rattle.std.specs.List.{AllByRecursion}
-use Rattle.std.specs.Str.{bytes_eq}
 use Rattle.acpi.proofs.Moved.{first_of, lookup_is}
 use Rattle.acpi_image.proofs.WrittenLaws.{written_is_read}
 use Rattle.acpi_writer.proofs.Tables as table

@@ -1,42 +1,15 @@
 -- What a reader finds of a machine that is laid out in memory.
-use Rattle.std.proofs.Common.{◌≡◌, ℕ, ◌+◌, ◌%◌, ◌^◌, ◌<◌, ◌≤◌, true, false, List, [], ◌∷◌, ◌++◌, length, Option, Some, None, Result, Ok, Err, refl, sym, ap, subst, ◌∙◌, arith, lit≤, eq-eqb, length-append}
-use Rattle.std.specs.Prelude.{◌*◌, ◌&&◌, ◌==◌, nat_lt, not, replicate}
-use Rattle.std.specs.List.{AllByRecursion}
-use Rattle.std.specs.Result.{result_ok}
-use Rattle.std.specs.Str.{bytes_eq}
-use Rattle.std.proofs.lemmas.Bool.{and_from, and_parts, le-leb, lt-ltb, ltb-true}
-use Rattle.std.proofs.lemmas.List.Elements.{All-from_recursion, recursion_from_All}
-use Rattle.acpi_base.proofs.Steps.{bind_ok, holds_ok, same_ok}
-use Rattle.acpi_base.specs.Memory.{Memory, IsMemory, at}
-use Rattle.acpi_base.specs.Steps.{◌>>=◌, holds}
-use Rattle.acpi_base.specs.Table.{plain_kind, sdt_kind, table_at}
-use Rattle.acpi_base.specs.Text.{letters_of}
-use Rattle.acpi_base.specs.declared.error.AcpiError.{AcpiError}
-use Rattle.acpi_base.specs.declared.table.signature.Signature.{Signature}
-use Rattle.acpi_base.specs.declared.table.signature.TheConstants.Signature.{DSDT, FADT, XSDT}
+use Rattle.std.proofs.Common.{◌≡◌, ℕ, ◌+◌, ◌%◌, ◌^◌, ◌<◌, ◌≤◌, true, false, List, [], ◌∷◌, ◌++◌, length, Option, Some, None, Result, Ok, Err, refl, sym, ap, subst, ◌∙◌, arith, lit≤, eq-eqb, length-append, ◌*◌, ◌&&◌, ◌==◌, nat_lt, not, replicate, bytes_eq}
+use Rattle.acpi_base.specs.FromStd.{AllByRecursion, result_ok}
+use Rattle.acpi_base.proofs.FromStd.{and_from, and_parts, le-leb, lt-ltb, ltb-true, All-from_recursion, recursion_from_All}
+use Rattle.acpi_base.proofs.Words.{bind_ok, holds_ok, same_ok}
+use Rattle.acpi_base.specs.Words.{Memory, IsMemory, at, ◌>>=◌, holds, plain_kind, sdt_kind, table_at, letters_of}
+use Rattle.acpi.specs.Types.{AcpiError, Signature, DSDT, FADT, XSDT}
 use Rattle.acpi.proofs.Search.{whole_there}
-use Rattle.acpi.specs.Lists.{dsdt_stream, stream_at, stream_of}
-use Rattle.acpi.specs.Lookup.{lookup}
-use Rattle.acpi.specs.Places.{facs_place, led_by, range}
-use Rattle.acpi.specs.Rsdp.{at_hand, check_rsdp, check_whole, checked_length, rsdp_at}
-use Rattle.acpi.specs.declared.root.RootKind.TheVariants.{Xsdt}
+use Rattle.acpi.specs.Words.{dsdt_stream, stream_at, stream_of, lookup, facs_place, led_by, range, at_hand, check_rsdp, check_whole, checked_length, rsdp_at}
+use Rattle.acpi_writer.specs.Types.{Xsdt}
 use Rattle.acpi_image.proofs.Written.{table_is}
-use Rattle.acpi_writer.specs.Contents.{FitsContents, bytes_of, contents_written, most, or_none}
-use Rattle.acpi_writer.specs.Facs.{FitsFacs}
-use Rattle.acpi_writer.specs.ImageLaws.{is_named}
-use Rattle.acpi_writer.specs.Laid.{addresses, gap, laid, padded, rounded}
-use Rattle.acpi_writer.specs.Machine.{FacsFits, Machine, after_dsdt, check_by, check_tables, dsdt_address, dsdt_at, dsdt_end, dsdt_length, dsdt_of, dsdt_written, facs_address, facs_at, facs_from, facs_gap, facs_laid, facs_room, listed, machine_by, pointers_of, rest_bytes, size_by, tables_address, tree_by, tree_bytes, tree_size, xsdt_bytes, xsdt_length}
-use Rattle.acpi_writer.specs.MachineLaws.{HasFacs, IsOpened, IsWritable, MachineIsRead, TreeIsRead, first_at, first_of, place_of}
-use Rattle.acpi_writer.specs.Root.{IsRoot}
-use Rattle.acpi_writer.specs.Rsdp.{Leads, rsdp_bytes}
-use Rattle.acpi_writer.specs.Table.{AreIds, IsValid, are_texts}
-use Rattle.acpi_writer.specs.declared.contents.AmlContents.{AmlContents}
-use Rattle.acpi_writer.specs.declared.contents.TableContents.{TableContents}
-use Rattle.acpi_writer.specs.declared.contents.TableContents.TheVariants.{Fadt}
-use Rattle.acpi_writer.specs.declared.error.WriterError.TheVariants.{BadName, TooLong}
-use Rattle.acpi_writer.specs.declared.facs.FacsContents.{FacsContents}
-use Rattle.acpi_writer.specs.declared.fadt.contents.FadtContents.{FadtContents}
-use Rattle.acpi_writer.specs.declared.ids.TableIds.{TableIds}
+use Rattle.acpi_writer.specs.Words.{FitsContents, bytes_of, contents_written, most, or_none, FitsFacs, is_named, addresses, gap, laid, padded, rounded, FacsFits, Machine, after_dsdt, check_by, check_tables, dsdt_address, dsdt_at, dsdt_end, dsdt_length, dsdt_of, dsdt_written, facs_address, facs_at, facs_from, facs_gap, facs_laid, facs_room, listed, machine_by, pointers_of, rest_bytes, size_by, tables_address, tree_by, tree_bytes, tree_size, xsdt_bytes, xsdt_length, HasFacs, IsOpened, IsWritable, MachineIsRead, TreeIsRead, first_at, first_of, place_of, IsRoot, Leads, rsdp_bytes, AreIds, IsValid, are_texts, AmlContents, TableContents, Fadt, BadName, TooLong, FacsContents, FadtContents, TableIds}
 use Rattle.acpi_writer.proofs.Bits.{is_off}
 use Rattle.acpi_writer.proofs.ContentsRead.{IsContents, all_contents, all_valid, fadt_found, first_found, letters_are, says, table_of}
 use Rattle.acpi_writer.proofs.Headless.{has_facs, laid_long, rsdp_long, rsdp_read}

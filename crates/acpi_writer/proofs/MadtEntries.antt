@@ -1,42 +1,13 @@
 -- What each entry of a MADT that is written says, which mailbox it has, and what a reader finds in them all.
-use Rattle.std.proofs.Common.{◌≡◌, ℕ, List, [], ◌∷◌, ◌++◌, map, drop, Option, Some, None, Result, Ok, Err, refl, sym, ap, ◌∙◌, ◌^◌, ◌<◌, Bool, true, false, arith, lit≤, nat_eq}
-use Rattle.std.specs.Prelude.{flat_map, option_and_then, slice_get, nat_lt, if◌then◌else◌}
-use Rattle.std.specs.List.{AllByRecursion, cons_option, filter_map}
-use Rattle.std.specs.Option.{ok_or}
-use Rattle.std.specs.Result.{result_err, result_ok}
-use Rattle.std.proofs.lemmas.List.{map-append}
-use Rattle.std.proofs.lemmas.List.Elements.{filter_map-append}
-use Rattle.acpi_base.proofs.EntryLists.{said_faults, said_items}
-use Rattle.acpi_base.specs.Entries.{IsEntry, cut}
-use Rattle.acpi_base.specs.Items.{said_of}
-use Rattle.acpi_base.specs.Madt.{cut_of, entries_of, entry_of, madt_at, madt_grammar, madt_layout, mailbox_in, mailbox_of, no_mailbox}
-use Rattle.acpi_base.specs.Model.{Model, fault_in, fault_of, first_fault, items_of, model_from, model_of}
-use Rattle.acpi_base.specs.declared.error.AcpiError.{AcpiError}
-use Rattle.acpi_base.specs.declared.error.AcpiError.TheVariants.{InvalidMadt}
-use Rattle.acpi_base.specs.declared.error.MadtError.{MadtError}
-use Rattle.acpi_base.specs.declared.tables.madt.Madt.{Madt}
-use Rattle.acpi_base.specs.declared.tables.madt.entry.MadtEntry.{MadtEntry}
-use Rattle.acpi_base.specs.declared.model.item.MadtItem.{MadtItem}
+use Rattle.std.proofs.Common.{◌≡◌, ℕ, List, [], ◌∷◌, ◌++◌, map, drop, Option, Some, None, Result, Ok, Err, refl, sym, ap, ◌∙◌, ◌^◌, ◌<◌, Bool, true, false, arith, lit≤, nat_eq, flat_map, option_and_then, slice_get, nat_lt, if◌then◌else◌, filter_map, ok_or, All, lit<}
+use Rattle.acpi_base.specs.FromStd.{AllByRecursion, cons_option, result_err, result_ok}
+use Rattle.acpi_base.proofs.FromStd.{map-append, filter_map-append, ltb-true, ne_eqb}
+use Rattle.acpi_base.proofs.Words.{said_faults, said_items, number-spelling}
+use Rattle.acpi_base.specs.Words.{IsEntry, cut, said_of, cut_of, entries_of, entry_of, madt_at, madt_grammar, madt_layout, mailbox_in, mailbox_of, no_mailbox, Model, fault_in, fault_of, first_fault, items_of, model_from, model_of, field_of, number, spelling, item_of, line_code, polarity_of, trigger_mode_of}
+use Rattle.acpi.specs.Types.{AcpiError, InvalidMadt, MadtError, Madt, MadtEntry, MadtItem, InterruptSourceOverride, IoApic, LocalInterruptLine, Lint0, Lint1, NmiLine, NmiProcessor, NmiSource, Polarity, TriggerMode}
 use Rattle.acpi_writer.proofs.Rows.{AreRows, both_rows, no_rows, one_row, rows_are_cut}
-use Rattle.std.proofs.lemmas.Bool.{ltb-true, ne_eqb}
-use Rattle.acpi_base.proofs.Spelling.{number-spelling}
-use Rattle.acpi_base.specs.Bytes.{field_of, number, spelling}
-use Rattle.acpi_base.specs.Interrupts.{item_of, line_code, polarity_of, trigger_mode_of}
-use Rattle.acpi_base.specs.declared.model.interrupt.InterruptSourceOverride.{InterruptSourceOverride}
-use Rattle.acpi_base.specs.declared.model.interrupt.IoApic.{IoApic}
-use Rattle.acpi_base.specs.declared.model.interrupt.LocalInterruptLine.{LocalInterruptLine}
-use Rattle.acpi_base.specs.declared.model.interrupt.LocalInterruptLine.TheVariants.{Lint0, Lint1}
-use Rattle.acpi_base.specs.declared.model.interrupt.NmiLine.{NmiLine}
-use Rattle.acpi_base.specs.declared.model.interrupt.NmiProcessor.{NmiProcessor}
-use Rattle.acpi_base.specs.declared.model.interrupt.NmiSource.{NmiSource}
-use Rattle.acpi_base.specs.declared.model.interrupt.Polarity.{Polarity}
-use Rattle.acpi_base.specs.declared.model.interrupt.TriggerMode.{TriggerMode}
-use Rattle.acpi_writer.specs.declared.madt.MadtProcessor.{MadtProcessor}
-use Rattle.acpi_writer.specs.MadtBytes.{inti_flags, io_apic_fields, nmi_source_fields, override_fields, address_entries, apic_nmi_fields, io_apic_entry, is_small, local_apic_fields, local_x2apic_fields, long_uid, names_one, nmi_fields, nmi_line_entry, nmi_source_entry, override_address_fields, override_entry, processor_entry, short_uid, wakeup_entries, wakeup_fields, x2apic_nmi_fields}
-use Rattle.acpi_writer.specs.MadtLaws.{FitsAddress, FitsIoApic, FitsMailbox, FitsNmiSource, FitsOverride, FitsProcessor}
-use Rattle.std.specs.List.{All}
-use Rattle.std.proofs.Common.{lit<}
-use Rattle.acpi_writer.specs.Fields.{FitsField, fields_bytes}
+use Rattle.acpi_writer.specs.Words.{MadtProcessor, inti_flags, io_apic_fields, nmi_source_fields, override_fields, address_entries, apic_nmi_fields, io_apic_entry, is_small, local_apic_fields, local_x2apic_fields, long_uid, names_one, nmi_fields, nmi_line_entry, nmi_source_entry, override_address_fields, override_entry, processor_entry, short_uid, wakeup_entries, wakeup_fields, x2apic_nmi_fields, FitsIoApic, FitsMailbox, FitsNmiSource, FitsOverride, FitsProcessor, FitsField, fields_bytes}
+use Rattle.acpi_writer.specs.MadtLaws.{FitsAddress}
 use Rattle.acpi_writer.proofs.FieldsRead.{read_at}
 use Rattle.acpi_writer.proofs.Bits.{one, two_bits}
 use Rattle.acpi_base.specs.declared.model.item.MadtItem.TheVariants as item

@@ -1,36 +1,15 @@
 -- What a reader finds in a MADT that is written, and when one is.
-use Rattle.std.proofs.Common.{◌≡◌, ℕ, ◌^◌, Bool, true, false, List, [], ◌∷◌, ◌++◌, length, map, drop, Option, Some, None, Result, Ok, refl, sym, ap, ◌∙◌, arith}
-use Rattle.std.specs.Prelude.{not, if◌then◌else◌, nat_lt, slice_get}
-use Rattle.std.specs.List.{AllByRecursion, filter_map, list_all, list_any}
-use Rattle.std.specs.Option.{ok_or}
-use Rattle.std.proofs.lemmas.Bool.{and_parts, ltb-true}
-use Rattle.std.proofs.lemmas.List.{append-nil, drop_at, drop-drop}
-use Rattle.std.proofs.lemmas.List.Elements.{recursion_from_All}
-use Rattle.std.specs.Str.{chars, is_utf8}
+use Rattle.std.proofs.Common.{◌≡◌, ℕ, ◌^◌, Bool, true, false, List, [], ◌∷◌, ◌++◌, length, map, drop, Option, Some, None, Result, Ok, refl, sym, ap, ◌∙◌, arith, not, if◌then◌else◌, nat_lt, slice_get, filter_map, ok_or}
+use Rattle.acpi_base.specs.FromStd.{AllByRecursion, list_all, list_any, chars, is_utf8}
+use Rattle.acpi_base.proofs.FromStd.{and_parts, ltb-true, append-nil, drop_at, drop-drop, recursion_from_All}
 use Rattle.acpi_base.proofs.EntryLists.{processors_are as by_lists}
-use Rattle.acpi_base.proofs.Spelling.{number-spelling}
-use Rattle.acpi_base.specs.Bits.{has_bit}
-use Rattle.acpi_base.specs.Bytes.{field_of, number, part, spelling}
-use Rattle.acpi_base.specs.Madt.{madt_at, no_mailbox}
-use Rattle.acpi_base.specs.declared.error.AcpiError.{AcpiError}
-use Rattle.acpi_base.specs.declared.error.AcpiError.TheVariants.{InvalidMadt}
-use Rattle.acpi_base.specs.declared.error.MadtError.TheVariants.{UnexpectedEntry}
-use Rattle.acpi_base.specs.declared.model.interrupt.Apic.{Apic}
-use Rattle.acpi_base.specs.declared.model.interrupt.NmiLine.{NmiLine}
-use Rattle.acpi_base.specs.declared.model.item.MadtItem.{MadtItem}
-use Rattle.acpi_base.specs.declared.model.processor.ProcessorInfo.{ProcessorInfo}
-use Rattle.acpi_base.specs.declared.table.signature.TheConstants.Signature.{MADT}
-use Rattle.acpi_writer.specs.Table.{bit_of, IsTableOf}
-use Rattle.acpi_writer.specs.declared.ids.TableIds.{TableIds}
-use Rattle.acpi_writer.specs.declared.madt.MadtContents.{MadtContents}
-use Rattle.acpi_writer.specs.declared.madt.MadtProcessor.{MadtProcessor}
-use Rattle.acpi_writer.specs.MadtBytes.{io_apic_entry, is_empty, is_single, madt_body, madt_checked, madt_entries, madt_fields, madt_fixed, names_one, nmi_line_entry, nmi_source_entry, override_entry, processor_entry}
-use Rattle.acpi_writer.specs.MadtLaws.{AreFit, FitsIoApic, FitsNmiSource, FitsOverride, FitsProcessor, IsMadt, MadtIsRead, MadtIsValid, MailboxIsRead, apic_read, processor_read, processors_read}
-use Rattle.acpi_base.proofs.Steps.{holds_ok}
+use Rattle.acpi_base.proofs.Words.{number-spelling, holds_ok}
+use Rattle.acpi_base.specs.Words.{has_bit, field_of, number, part, spelling, madt_at, no_mailbox}
+use Rattle.acpi.specs.Types.{AcpiError, InvalidMadt, UnexpectedEntry, Apic, NmiLine, MadtItem, ProcessorInfo, MADT}
+use Rattle.acpi_writer.specs.Words.{bit_of, IsTableOf, TableIds, MadtContents, MadtProcessor, io_apic_entry, is_empty, is_single, madt_body, madt_checked, madt_entries, madt_fields, madt_fixed, names_one, nmi_line_entry, nmi_source_entry, override_entry, processor_entry, AreFit, FitsIoApic, FitsNmiSource, FitsOverride, FitsProcessor, IsMadt, MadtIsRead, MadtIsValid, MailboxIsRead, apic_read, processor_read, processors_read, IdOfAll, NoProcessor}
 use Rattle.acpi_writer.proofs.Bits.{is_off, was_true}
 use Rattle.acpi_writer.proofs.Rows.{all_of, both, each_of, none_of}
 use Rattle.acpi_writer.proofs.MadtEntries.{Speaks, address_items, address_says, boxes_read, io_apic_says, nmi_line_says, nmi_source_says, override_says, processor_item, processor_says, speaks_all, speaks_both, spoken_cut, spoken_mailbox, spoken_model, wakeup_items, wakeup_says}
-use Rattle.acpi_writer.specs.declared.error.WriterError.TheVariants.{IdOfAll, NoProcessor}
 use Rattle.acpi_base.specs.Model as read
 use Rattle.acpi_base.specs.declared.model.interrupt.InterruptModel.TheVariants as model
 use Rattle.acpi_base.specs.declared.model.item.MadtItem.TheVariants as item

@@ -1,22 +1,10 @@
 -- What a reader finds of a register that is written.
-use Rattle.std.proofs.Common.{◌≡◌, ℕ, ◌<◌, true, false, List, length, lit<, Option, Some, None, Ok, refl}
-use Rattle.std.specs.Prelude.{◌==◌, if◌then◌else◌}
-use Rattle.std.proofs.lemmas.Bool.{and_parts}
-use Rattle.std.proofs.lemmas.List.{append-nil}
-use Rattle.acpi_base.specs.Address.{access_size_of, generic_address_of, size_code, space_code, space_of}
-use Rattle.acpi_base.specs.Bytes.{field_of, filled_part, part, spelling}
-use Rattle.acpi_base.specs.declared.address.AccessSize.{AccessSize}
-use Rattle.acpi_base.specs.declared.address.AccessSize.TheVariants.{Undefined}
-use Rattle.acpi_base.specs.declared.address.AddressSpace.{AddressSpace}
-use Rattle.acpi_base.specs.declared.address.AddressSpace.TheVariants.{OemDefined}
-use Rattle.acpi_base.specs.declared.address.GenericAddress.{GenericAddress}
-use Rattle.acpi_fixed.specs.Gpe.{gpe_of}
-use Rattle.acpi_fixed.specs.Registers.{block_at, block_of, has_extended, optional_block_of, register_of, timer_block_of, usable_extended}
-use Rattle.acpi_fixed.specs.declared.fadt.registers.RegisterBlock.{RegisterBlock}
-use Rattle.acpi_fixed.specs.declared.fadt.registers.gpe.GpeBlock.{GpeBlock}
-use Rattle.acpi_writer.specs.FadtBytes.{gpe_length, gpe_register, has_length, is_given, port_of}
-use Rattle.acpi_writer.specs.Generic.{FitsAddress, FitsRegister, address_bytes, address_fields, is_named_space, is_register, register_bytes, register_or_zeros}
-use Rattle.acpi_writer.specs.Fields.{field_at, field_size, field_value, offset_of}
+use Rattle.std.proofs.Common.{◌≡◌, ℕ, ◌<◌, true, false, List, length, lit<, Option, Some, None, Ok, refl, ◌==◌, if◌then◌else◌}
+use Rattle.acpi_base.proofs.FromStd.{and_parts, append-nil}
+use Rattle.acpi_base.specs.Words.{access_size_of, generic_address_of, size_code, space_code, space_of, field_of, filled_part, part, spelling}
+use Rattle.acpi.specs.Types.{AccessSize, Undefined, AddressSpace, OemDefined, GenericAddress, RegisterBlock, GpeBlock}
+use Rattle.acpi_fixed.specs.Words.{gpe_of, block_at, block_of, has_extended, optional_block_of, register_of, timer_block_of, usable_extended}
+use Rattle.acpi_writer.specs.Words.{gpe_length, gpe_register, has_length, is_given, port_of, FitsAddress, FitsRegister, address_bytes, address_fields, is_named_space, is_register, register_bytes, register_or_zeros, field_at, field_size, field_value, offset_of}
 use Rattle.acpi_writer.proofs.Bits.{is_off}
 use Rattle.acpi_writer.proofs.FieldsRead.{read_at}
 

@@ -1,16 +1,10 @@
 -- Bytes that are entries, one after the other, and lists of sorts, which are picked apart again.
-use Rattle.std.proofs.Common.{◌≡◌, ℕ, ◌≤◌, List, [], ◌∷◌, ◌++◌, length, map, Option, Some, None, refl, sym, ap, ◌∙◌, arith, lit≤, length-append}
-use Rattle.std.specs.Prelude.{flat_map}
-use Rattle.std.specs.List.{AllByRecursion, concat, filter_map}
-use Rattle.std.proofs.lemmas.List.{append-nil, map-id}
-use Rattle.std.proofs.lemmas.List.Elements.{filter_map-append}
-use Rattle.std.proofs.lemmas.List.Folds.{concat-append}
-use Rattle.acpi_base.proofs.Cuts.{cut_is_cut, one_cut}
-use Rattle.acpi_base.specs.Entries.{IsCut, IsEntry, IsFew, cut, width_of}
-use Rattle.acpi_base.specs.declared.entries.EntryLayout.{EntryLayout}
-use Rattle.acpi_base.specs.declared.entries.Grammar.{Grammar}
-use Rattle.acpi_base.specs.declared.entries.Width.{Width}
-use Rattle.acpi_base.specs.declared.entries.Width.TheVariants.{One, Two}
+use Rattle.std.proofs.Common.{◌≡◌, ℕ, ◌≤◌, List, [], ◌∷◌, ◌++◌, length, map, Option, Some, None, refl, sym, ap, ◌∙◌, arith, lit≤, length-append, flat_map, filter_map}
+use Rattle.acpi_base.specs.FromStd.{AllByRecursion, concat}
+use Rattle.acpi_base.proofs.FromStd.{append-nil, map-id, filter_map-append, concat-append}
+use Rattle.acpi_base.proofs.Words.{cut_is_cut, one_cut}
+use Rattle.acpi_base.specs.Words.{IsCut, IsEntry, IsFew, cut, width_of}
+use Rattle.acpi.specs.Types.{EntryLayout, Grammar, Width, One, Two}
 
 -- ---- entries
 

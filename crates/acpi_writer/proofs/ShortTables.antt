@@ -1,46 +1,22 @@
 -- What a reader finds in the short tables that are written: an HPET, a BGRT, an MCFG, a SLIT, root tables, and tables
 -- of
 -- AML.
-use Rattle.std.proofs.Common.{◌≡◌, ℕ, ◌^◌, ◌<◌, Ok, refl, ap, ◌∙◌, arith, ◌+◌, ◌*◌, Bool, true, false, [], ◌∷◌, length, ◌/◌, List, ◌++◌, drop, sym, length-append, get_or, lit<}
-use Rattle.std.specs.Prelude.{flat_map, Option, Some, slice_get}
-use Rattle.std.specs.Str.{chars, is_utf8}
-use Rattle.acpi_base.proofs.Spelling.{number-spelling, length-spelling}
-use Rattle.acpi_base.specs.Bits.{bits_of, has_bit}
-use Rattle.acpi_base.specs.Bytes.{field_of, spelling}
-use Rattle.acpi_base.specs.declared.table.signature.TheConstants.Signature.{HPET, BGRT, MCFG, SLIT, DSDT, SSDT}
-use Rattle.acpi.specs.Hpet.{hpet_at, protection_of}
-use Rattle.acpi.specs.declared.hpet.HpetInfo.{HpetInfo}
-use Rattle.acpi.specs.declared.hpet.PageProtection.{PageProtection}
-use Rattle.acpi_writer.specs.HpetBytes.{hpet_body, hpet_fields, protection_code}
-use Rattle.acpi_writer.specs.HpetLaws.{HpetIsRead, HpetIsValid}
+use Rattle.std.proofs.Common.{◌≡◌, ℕ, ◌^◌, ◌<◌, Ok, refl, ap, ◌∙◌, arith, ◌+◌, ◌*◌, Bool, true, false, [], ◌∷◌, length, ◌/◌, List, ◌++◌, drop, sym, length-append, get_or, lit<, flat_map, Option, Some, slice_get}
+use Rattle.acpi_base.specs.FromStd.{chars, is_utf8, AllByRecursion}
+use Rattle.acpi_base.proofs.Words.{number-spelling, length-spelling}
+use Rattle.acpi_base.specs.Words.{bits_of, has_bit, field_of, spelling, mcfg_entries_in, mcfg_entry_at, whole_mcfg_entries}
+use Rattle.acpi.specs.Types.{HPET, BGRT, MCFG, SLIT, DSDT, SSDT, McfgEntry}
+use Rattle.acpi.specs.Words.{hpet_at, protection_of, pointers, signature_of, width_of}
+use Rattle.acpi_writer.specs.Types.{HpetInfo, PageProtection, RootKind, Rsdt, Xsdt}
+use Rattle.acpi_writer.specs.Words.{hpet_body, hpet_fields, protection_code, HpetIsRead, HpetIsValid, BgrtIsRead, BgrtIsValid, bgrt_body, bgrt_fields, degrees_of, orientation_code, bit_of, IsTableOf, BgrtContents, BgrtOrientation, mcfg_body, mcfg_entry, mcfg_fields, mcfg_reserved, FitsMcfg, McfgIsRead, McfgIsValid, IsSlit, SlitIsRead, SlitIsValid, slit_body, slit_checked, TableIds, DsdtIsRead, SsdtIsRead, RootIsRead, RootIsValid, root_body}
 use Rattle.acpi_writer.proofs.Bits.{was_true}
 use Rattle.acpi_writer.proofs.FieldsRead.{read_end, read_front}
-use Rattle.acpi_fixed.specs.Bgrt.{bgrt_at}
-use Rattle.acpi_writer.specs.Bgrt.{BgrtIsRead, BgrtIsValid, bgrt_body, bgrt_fields, degrees_of, orientation_code}
-use Rattle.acpi_writer.specs.Table.{bit_of, IsTableOf}
-use Rattle.acpi_writer.specs.declared.bgrt.BgrtContents.{BgrtContents}
-use Rattle.acpi_writer.specs.declared.bgrt.BgrtOrientation.{BgrtOrientation}
-use Rattle.std.specs.List.{AllByRecursion}
-use Rattle.std.proofs.lemmas.List.{drop_at, drop-drop, get_or-drop, drop-set-lt}
-use Rattle.std.proofs.lemmas.List.Elements.{recursion_from_All}
-use Rattle.acpi_base.specs.Mcfg.{mcfg_entries_in, mcfg_entry_at, whole_mcfg_entries}
-use Rattle.acpi_base.specs.declared.tables.mcfg.McfgEntry.{McfgEntry}
-use Rattle.acpi_writer.specs.McfgBytes.{mcfg_body, mcfg_entry, mcfg_fields, mcfg_reserved}
-use Rattle.acpi_writer.specs.McfgLaws.{FitsMcfg, McfgIsRead, McfgIsValid}
-use Rattle.std.proofs.lemmas.Bool.{eqb-true, lt-ltb}
-use Rattle.std.proofs.lemmas.Nat.{mul-add-lt}
-use Rattle.std.proofs.lemmas.Option.{slice_get-get_or}
-use Rattle.acpi_numa.specs.Slit.{distance_of, localities_of}
-use Rattle.acpi_writer.specs.Slit.{IsSlit, SlitIsRead, SlitIsValid, slit_body, slit_checked}
-use Rattle.acpi_writer.specs.declared.ids.TableIds.{TableIds}
-use Rattle.acpi.specs.Root.{pointers, signature_of, width_of}
-use Rattle.acpi.specs.declared.root.RootKind.{RootKind}
-use Rattle.acpi.specs.declared.root.RootKind.TheVariants.{Rsdt, Xsdt}
+use Rattle.acpi_fixed.specs.Words.{bgrt_at}
+use Rattle.acpi_base.proofs.FromStd.{drop_at, drop-drop, get_or-drop, drop-set-lt, recursion_from_All, eqb-true, lt-ltb, mul-add-lt, slice_get-get_or}
+use Rattle.acpi_numa.specs.Words.{distance_of, localities_of}
 use Rattle.acpi_image.proofs.Written.{length-root_header}
 use Rattle.acpi_image.proofs.WrittenRoot.{pointers_are}
-use Rattle.acpi_image.specs.Written.{root_header, root_length, root_to, root_unsummed, sum_byte, with_sum}
-use Rattle.acpi_writer.specs.Aml.{DsdtIsRead, SsdtIsRead}
-use Rattle.acpi_writer.specs.Root.{RootIsRead, RootIsValid, root_body}
+use Rattle.acpi_image.specs.Words.{root_header, root_length, root_to, root_unsummed, sum_byte, with_sum}
 use Rattle.acpi.specs.declared.hpet.PageProtection.TheVariants as protections
 use Rattle.acpi_writer.proofs.Tables as table
 use Rattle.acpi_writer.specs.declared.bgrt.BgrtOrientation.TheVariants as orientations

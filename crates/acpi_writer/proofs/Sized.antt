@@ -1,48 +1,15 @@
 -- How many bytes tables have, one by one and laid out, and that the room for one changes only whether it fits.
-use Rattle.std.proofs.Common.{◌≡◌, ℕ, ◌+◌, ◌^◌, ◌<◌, ◌≤◌, true, List, [], length, Result, Ok, Err, refl, sym, ap, ◌∙◌, arith, length-append, ◌-◌, ◌∷◌, ◌++◌, take, drop, get_or, map, subst, append_assoc, length-drop, Some}
-use Rattle.std.specs.Prelude.{nat_le, nat_lt, replicate, ◌*◌, flat_map}
-use Rattle.std.proofs.lemmas.Bool.{leb-true, ltb-true}
-use Rattle.acpi_base.proofs.Steps.{holds_ok, same_ok}
-use Rattle.acpi_base.specs.Steps.{◌>>=◌}
-use Rattle.acpi_base.specs.Text.{letters_of}
-use Rattle.acpi_base.specs.declared.table.signature.Signature.{Signature}
-use Rattle.acpi_base.specs.declared.table.signature.TheConstants.Signature.{BGRT, FADT, GTDT, HPET, MADT, MCFG, SLIT, SPCR, SRAT, SSDT, XSDT}
-use Rattle.acpi_numa.specs.declared.srat.affinities.MemoryRange.{MemoryRange}
+use Rattle.std.proofs.Common.{◌≡◌, ℕ, ◌+◌, ◌^◌, ◌<◌, ◌≤◌, true, List, [], length, Result, Ok, Err, refl, sym, ap, ◌∙◌, arith, length-append, ◌-◌, ◌∷◌, ◌++◌, take, drop, get_or, map, subst, append_assoc, length-drop, Some, nat_le, nat_lt, replicate, ◌*◌, flat_map, All}
+use Rattle.acpi_base.proofs.FromStd.{leb-true, ltb-true, All-more, take-put_mid, drop-drop, drop_more, length-map, append-nil, length-replicate, length-take-le, take_at, flat_map-append, take_at_read, length-flat_map-take}
+use Rattle.acpi_base.proofs.Words.{holds_ok, same_ok, length-spelling}
+use Rattle.acpi_base.specs.Words.{◌>>=◌, letters_of, spelling}
+use Rattle.acpi.specs.Types.{Signature, BGRT, FADT, GTDT, HPET, MADT, MCFG, SLIT, SPCR, SRAT, SSDT, XSDT}
+use Rattle.acpi_writer.specs.Types.{MemoryRange, Xsdt}
 use Rattle.acpi_image.proofs.Written.{length-with_sum}
-use Rattle.acpi_writer.specs.Bgrt.{bgrt_body}
-use Rattle.acpi_writer.specs.Contents.{Moves, contents_written, most, or_none, Written, bytes_by, placed_by, sized}
-use Rattle.acpi_writer.specs.FadtBytes.{fadt_body, fadt_checked, fadt_written}
-use Rattle.acpi_writer.specs.GicMadt.{gic_body, gic_checked, gic_written}
-use Rattle.acpi_writer.specs.Gtdt.{gtdt_body, gtdt_checked, gtdt_written}
-use Rattle.acpi_writer.specs.HpetBytes.{hpet_body}
-use Rattle.acpi_writer.specs.Laid.{gap, padded, addresses, laid, rounded}
-use Rattle.acpi_writer.specs.MadtBytes.{madt_body, madt_checked, madt_written}
-use Rattle.acpi_writer.specs.McfgBytes.{mcfg_body}
-use Rattle.acpi_writer.specs.Slit.{slit_body, slit_checked, slit_written}
-use Rattle.acpi_writer.specs.Spcr.{spcr_body, spcr_checked, spcr_written}
-use Rattle.acpi_writer.specs.Srat.{ContentsOf, srat_body_by, srat_checked_by, srat_written_by}
-use Rattle.acpi_writer.specs.Table.{AreIds, are_texts, table_bytes, table_head, table_written, unsummed}
-use Rattle.acpi_writer.specs.declared.contents.TableContents.{TableContents}
-use Rattle.acpi_writer.specs.declared.contents.TableContents.TheVariants.{Bgrt, Fadt, GicMadt, Gtdt, Hpet, Madt, Mcfg, Slit, Spcr, Srat, Ssdt}
-use Rattle.acpi_writer.specs.declared.error.WriterError.{WriterError}
-use Rattle.acpi_writer.specs.declared.fadt.contents.FadtContents.{FadtContents}
-use Rattle.acpi_writer.specs.declared.ids.TableIds.{TableIds}
-use Rattle.acpi_writer.specs.declared.spcr.SpcrContents.{SpcrContents}
+use Rattle.acpi_writer.specs.Words.{bgrt_body, Moves, contents_written, most, or_none, Written, bytes_by, placed_by, sized, fadt_body, fadt_checked, fadt_written, gic_body, gic_checked, gic_written, gtdt_body, gtdt_checked, gtdt_written, hpet_body, gap, padded, addresses, laid, rounded, madt_body, madt_checked, madt_written, mcfg_body, slit_body, slit_checked, slit_written, spcr_body, spcr_checked, spcr_written, ContentsOf, srat_body_by, srat_checked_by, srat_written_by, AreIds, are_texts, table_bytes, table_head, table_written, unsummed, TableContents, Bgrt, Fadt, GicMadt, Gtdt, Hpet, Madt, Mcfg, Slit, Spcr, Srat, Ssdt, WriterError, FadtContents, TableIds, SpcrContents, MachineOf, after_dsdt, check_each, dsdt_address, dsdt_end, dsdt_of, facs_laid, listed_by, rest_bytes, size_by, tables_address, tree_by, xsdt_by, xsdt_from, xsdt_length, root_body, Measures}
 use Rattle.acpi_writer.proofs.Tables.{head_length, it_fits}
-use Rattle.std.specs.List.{All}
 use borrow.Rule.Slice.PartMut.{post_of, put_mid}
-use Rattle.std.proofs.lemmas.List.Elements.{All-more}
-use Rattle.std.proofs.lemmas.Slice.{take-put_mid}
-use Rattle.std.proofs.lemmas.List.{drop-drop, drop_more, length-map, append-nil, length-replicate, length-take-le, take_at}
-use Rattle.acpi.specs.declared.root.RootKind.TheVariants.{Xsdt}
-use Rattle.acpi_base.proofs.Spelling.{length-spelling}
-use Rattle.acpi_base.specs.Bytes.{spelling}
-use Rattle.acpi_writer.specs.Machine.{MachineOf, after_dsdt, check_each, dsdt_address, dsdt_end, dsdt_of, facs_laid, listed_by, rest_bytes, size_by, tables_address, tree_by, xsdt_by, xsdt_from, xsdt_length}
-use Rattle.acpi_writer.specs.Root.{root_body}
 use Rattle.acpi_writer.proofs.Headless.{laid_long}
-use Rattle.std.proofs.lemmas.Grind.{flat_map-append, take_at_read}
-use Rattle.std.proofs.lemmas.List.Folds.{length-flat_map-take}
-use Rattle.acpi_writer.specs.Spelled.{Measures}
 
 pub table_length : (s : Signature) (revision : ℕ) (ids : TableIds) (body : List ℕ) → length (letters_of s) ≡ 4
     → AreIds ids → length (table_bytes s revision ids body) ≡ 36 + length body

@@ -1,37 +1,15 @@
 -- What a reader finds in an SPCR that is written, and when one is.
-use Rattle.std.proofs.Common.{◌≡◌, ℕ, ◌+◌, ◌-◌, ◌%◌, ◌^◌, ◌<◌, Bool, true, false, List, [], ◌∷◌, ◌++◌, length, take, drop, Option, Some, None, Result, Ok, Err, refl, sym, ap, ◌∙◌, arith, length-append, subst}
-use Rattle.std.specs.Prelude.{◌==◌, ◌&&◌, ◌||◌, IfOk, IsUtf8, if◌then◌else◌, nat_le, nat_lt, replicate}
-use Rattle.std.specs.Option.{option_map, option_or}
-use Rattle.std.specs.Str.{bytes_eq, chars, is_utf8}
-use Rattle.std.proofs.lemmas.Bool.{and_parts, eqb-true, le-leb, ltb-true}
-use Rattle.std.proofs.lemmas.List.{drop-drop, get_or_past, take_all}
-use Rattle.std.proofs.lemmas.Slice.Eq.{bytes_eq-Decides}
-use Rattle.std.proofs.lemmas.Str.{IsUtf8-append, IsUtf8-from_is_utf8, is_utf8-from_IsUtf8}
-use Rattle.acpi_base.specs.Address.{generic_address_of}
-use Rattle.acpi_base.specs.Bytes.{field_of, filled_part, part, spelling}
-use Rattle.acpi_base.specs.Header.{header_at}
-use Rattle.acpi_base.specs.Spcr.{configured_baud, interface_of, interfaces, namespace_of, spcr_at, unless}
-use Rattle.acpi_base.specs.declared.address.GenericAddress.{GenericAddress}
-use Rattle.acpi_base.specs.declared.error.AcpiError.{AcpiError}
-use Rattle.acpi_base.specs.declared.table.signature.TheConstants.Signature.{SPCR}
-use Rattle.acpi_base.specs.declared.tables.spcr.interface.SpcrInterfaceType.{SpcrInterfaceType}
+use Rattle.std.proofs.Common.{◌≡◌, ℕ, ◌+◌, ◌-◌, ◌%◌, ◌^◌, ◌<◌, Bool, true, false, List, [], ◌∷◌, ◌++◌, length, take, drop, Option, Some, None, Result, Ok, Err, refl, sym, ap, ◌∙◌, arith, length-append, subst, ◌==◌, ◌&&◌, ◌||◌, IfOk, IsUtf8, if◌then◌else◌, nat_le, nat_lt, replicate, option_map, bytes_eq, lit<}
+use Rattle.acpi_base.specs.FromStd.{option_or, chars, is_utf8}
+use Rattle.acpi_base.proofs.FromStd.{and_parts, eqb-true, le-leb, ltb-true, drop-drop, get_or_past, take_all, bytes_eq-Decides, IsUtf8-append, IsUtf8-from_is_utf8, is_utf8-from_IsUtf8, All-from_recursion}
+use Rattle.acpi_base.specs.Words.{generic_address_of, field_of, filled_part, part, spelling, header_at, configured_baud, interface_of, interfaces, namespace_of, spcr_at, unless}
+use Rattle.acpi.specs.Types.{GenericAddress, AcpiError, SPCR, SpcrInterfaceType}
 use Rattle.acpi_base.specs.declared.tables.spcr.interface.SpcrInterfaceType.TheVariants as interface
-use Rattle.acpi_writer.specs.Generic.{FitsAddress, FitsRegister, address_bytes, address_fields, register_or_zeros}
-use Rattle.acpi_writer.specs.Spcr.{baud_code, device_written, fixed_list, interface_code, is_base, is_interface, is_somewhere, spcr_body, spcr_checked, spcr_fields, spcr_written}
-use Rattle.acpi_writer.specs.SpcrLaws.{FitsSpcr, IsSpcr, SaysConsole, SaysDevice, SaysPort, SpcrIsRead, SpcrIsValid, readable}
-use Rattle.acpi_writer.specs.Table.{IsTableOf, if_checked, table_written}
-use Rattle.acpi_writer.specs.declared.error.WriterError.{WriterError}
-use Rattle.acpi_writer.specs.declared.error.WriterError.TheVariants.{BadCode, NoAddress}
-use Rattle.acpi_writer.specs.declared.ids.TableIds.{TableIds}
-use Rattle.acpi_writer.specs.declared.spcr.SpcrContents.{SpcrContents}
+use Rattle.acpi_writer.specs.Words.{FitsAddress, FitsRegister, address_bytes, address_fields, register_or_zeros, baud_code, device_written, fixed_list, interface_code, is_base, is_interface, is_somewhere, spcr_body, spcr_checked, spcr_fields, spcr_written, FitsSpcr, IsSpcr, SaysConsole, SaysDevice, SaysPort, SpcrIsRead, SpcrIsValid, readable, IsTableOf, if_checked, table_written, WriterError, BadCode, NoAddress, TableIds, SpcrContents, FitsField, field_at, field_size, field_value, offset_of, fields_bytes, Zeros}
 use Rattle.acpi_writer.proofs.Tables.{ids_are_read}
-use Rattle.acpi_base.proofs.Steps.{holds_ok}
+use Rattle.acpi_base.proofs.Words.{holds_ok}
 use Rattle.acpi_writer.proofs.Bits.{is_off, was_true}
 use Rattle.acpi_writer.proofs.FieldsRead.{read_front}
-use Rattle.std.proofs.lemmas.List.Elements.{All-from_recursion}
-use Rattle.acpi_writer.specs.Fields.{FitsField, field_at, field_size, field_value, offset_of, fields_bytes}
-use Rattle.acpi_writer.specs.declared.fields.Field.TheVariants.{Zeros}
-use Rattle.std.proofs.Common.{lit<}
 use Rattle.acpi_writer.proofs.RegisterRead.{address_field, address_read}
 use Rattle.acpi_writer.proofs.Tables as table
 

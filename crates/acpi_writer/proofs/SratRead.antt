@@ -1,30 +1,16 @@
 -- What a reader finds in a SRAT that is written, and when one is.
-use Rattle.std.proofs.Common.{◌≡◌, ℕ, ◌+◌, ◌*◌, ◌/◌, ◌%◌, ◌<◌, lit<, Bool, true, false, List, [], ◌∷◌, ◌++◌, map, drop, Option, Some, None, Ok, refl, sym, ap, ◌∙◌, arith, lit≤}
-use Rattle.std.specs.Prelude.{◌==◌, flat_map, if◌then◌else◌, nat_lt}
-use Rattle.std.specs.List.{All, AllByRecursion, filter_map, last_or, list_all}
-use Rattle.std.specs.Str.{chars, is_utf8}
-use Rattle.std.proofs.lemmas.Bool.{and_parts}
-use Rattle.std.proofs.lemmas.List.{append-nil, drop_at, drop-drop}
-use Rattle.std.proofs.lemmas.List.Elements.{recursion_from_All}
-use Rattle.acpi_base.specs.Bytes.{field_of, spelling}
-use Rattle.acpi_base.specs.Entries.{IsEntry, cut}
-use Rattle.acpi_base.specs.Header.{header_at}
-use Rattle.acpi_base.specs.declared.table.signature.TheConstants.Signature.{SRAT}
-use Rattle.acpi_numa.specs.Affinities.{affinities_of, ends_below, range_in, ranges_of}
-use Rattle.acpi_numa.specs.Srat.{apic_domain, cut_of, entries_of, entry_of, processor_domain, revision_of, srat_grammar, srat_layout}
-use Rattle.acpi_numa.specs.declared.srat.affinities.MemoryRange.{MemoryRange}
-use Rattle.acpi_numa.specs.declared.srat.entry.SratEntry.{SratEntry}
+use Rattle.std.proofs.Common.{◌≡◌, ℕ, ◌+◌, ◌*◌, ◌/◌, ◌%◌, ◌<◌, lit<, Bool, true, false, List, [], ◌∷◌, ◌++◌, map, drop, Option, Some, None, Ok, refl, sym, ap, ◌∙◌, arith, lit≤, ◌==◌, flat_map, if◌then◌else◌, nat_lt, All, filter_map}
+use Rattle.acpi_base.specs.FromStd.{AllByRecursion, last_or, list_all, chars, is_utf8}
+use Rattle.acpi_base.proofs.FromStd.{and_parts, append-nil, drop_at, drop-drop, recursion_from_All}
+use Rattle.acpi_base.specs.Words.{field_of, spelling, IsEntry, cut, header_at}
+use Rattle.acpi.specs.Types.{SRAT}
+use Rattle.acpi_numa.specs.Words.{affinities_of, ends_below, range_in, ranges_of, apic_domain, cut_of, entries_of, entry_of, processor_domain, revision_of, srat_grammar, srat_layout}
+use Rattle.acpi_writer.specs.Types.{MemoryRange, SratEntry}
 use Rattle.acpi_numa.specs.declared.srat.entry.SratEntry.TheVariants as kinds
-use Rattle.acpi_writer.specs.Srat.{ContentsOf, SratContents, apic_entry, gicc_entry, gicc_fields, is_one_apic, is_one_gicc, is_range, is_small, local_apic_fields, local_x2apic_fields, memory_entry, memory_fields, range_flags, srat_body, srat_body_by, srat_checked_by, srat_entries, srat_reserved}
-use Rattle.acpi_writer.specs.SratLaws.{AreFit, AreFitBy, FitsApic, FitsGicc, FitsRange, IsSrat, IsSratBy, SaysDomains, SratIsRead, SratIsValid}
-use Rattle.acpi_writer.specs.Table.{IsTableOf, bit_of}
-use Rattle.acpi_writer.specs.declared.error.WriterError.TheVariants.{IdOfAll}
-use Rattle.acpi_writer.specs.declared.ids.TableIds.{TableIds}
-use Rattle.acpi_writer.specs.declared.srat.ApicDomain.{ApicDomain}
-use Rattle.acpi_writer.specs.declared.srat.GiccDomain.{GiccDomain}
-use Rattle.acpi_base.proofs.Steps.{holds_ok}
-use Rattle.acpi_writer.specs.Fields.{FitsField, fields_bytes}
-use Rattle.acpi_writer.specs.declared.fields.Field.TheVariants.{Zeros}
+use Rattle.acpi_writer.specs.Words.{ContentsOf, SratContents, apic_entry, is_one_apic, is_one_gicc, is_range, memory_entry, memory_fields, range_flags, srat_body, srat_body_by, srat_checked_by, srat_entries, srat_reserved, AreFitBy, FitsApic, FitsGicc, FitsRange, IsSrat, IsSratBy, SaysDomains, SratIsRead, SratIsValid, IsTableOf, bit_of, IdOfAll, TableIds, ApicDomain, GiccDomain, FitsField, fields_bytes, Zeros}
+use Rattle.acpi_writer.specs.Srat.{gicc_entry, gicc_fields, is_small, local_apic_fields, local_x2apic_fields}
+use Rattle.acpi_writer.specs.SratLaws.{AreFit}
+use Rattle.acpi_base.proofs.Words.{holds_ok}
 use Rattle.acpi_numa.specs.SratEntries as read
 use Rattle.acpi_writer.proofs.FieldsRead.{read_at}
 use Rattle.acpi_writer.proofs.Bits.{was_true}

@@ -1,19 +1,13 @@
 -- What every table that is written has: that it is valid, and what its header says of its makers.
-use Rattle.std.proofs.Common.{◌≡◌, ℕ, ◌+◌, ◌^◌, ◌<◌, ◌≤◌, true, List, [], ◌∷◌, ◌++◌, length, take, drop, Ok, refl, sym, ap, ◌∙◌, arith, lit≤, lit<, eq-eqb, append_assoc, length-append, subst}
-use Rattle.std.specs.Str.{bytes_eq, is_utf8}
-use Rattle.std.proofs.lemmas.Bool.{and_from, and_parts, le-leb, lt-ltb}
-use Rattle.std.proofs.lemmas.List.{drop_at, drop-drop, drop-set-lt, take_all, take_at}
-use Rattle.acpi_base.proofs.Spelling.{length-spelling, number-spelling}
-use Rattle.acpi_base.specs.Bytes.{field_of, number, part, spelling, sum_of}
-use Rattle.acpi_base.specs.Header.{check_names, check_table, header_at}
-use Rattle.acpi_base.specs.Text.{letters_of}
-use Rattle.acpi_base.specs.declared.table.signature.Signature.{Signature}
+use Rattle.std.proofs.Common.{◌≡◌, ℕ, ◌+◌, ◌^◌, ◌<◌, ◌≤◌, true, List, [], ◌∷◌, ◌++◌, length, take, drop, Ok, refl, sym, ap, ◌∙◌, arith, lit≤, lit<, eq-eqb, append_assoc, length-append, subst, bytes_eq}
+use Rattle.acpi_base.specs.FromStd.{is_utf8}
+use Rattle.acpi_base.proofs.FromStd.{and_from, and_parts, le-leb, lt-ltb, drop_at, drop-drop, drop-set-lt, take_all, take_at}
+use Rattle.acpi_base.proofs.Words.{length-spelling, number-spelling}
+use Rattle.acpi_base.specs.Words.{field_of, number, part, spelling, sum_of, check_names, check_table, header_at, letters_of}
+use Rattle.acpi.specs.Types.{Signature}
 use Rattle.acpi_image.proofs.Written.{part_front, sum_is_set, part_before, part_past, length-with_sum, IsTable, still}
-use Rattle.acpi_image.specs.WriteChecks.{is_table}
-use Rattle.acpi_image.specs.Written.{sum_byte, with_sum}
-use Rattle.acpi_writer.specs.ImageLaws.{is_named}
-use Rattle.acpi_writer.specs.Table.{AreIds, IsTableOf, IsValid, are_texts, table_bytes, table_head, table_written, unsummed, HasIds, IdsAreRead}
-use Rattle.acpi_writer.specs.declared.ids.TableIds.{TableIds}
+use Rattle.acpi_image.specs.Words.{is_table, sum_byte, with_sum}
+use Rattle.acpi_writer.specs.Words.{is_named, AreIds, IsTableOf, IsValid, are_texts, table_bytes, table_head, table_written, unsummed, HasIds, IdsAreRead, TableIds}
 
 -- ---- whether it is written
 

@@ -1,9 +1,8 @@
 -- The tables of AML that are written (ACPI 6.4, section 5.2.11).
 use Rattle.std.specs.Prelude.{◌≡◌, ℕ, List, drop}
-use Rattle.acpi_base.specs.declared.table.signature.Signature.{Signature}
-use Rattle.acpi_base.specs.declared.table.signature.TheConstants.Signature.{DSDT, SSDT}
+use Rattle.acpi.specs.Types.{Signature, DSDT, SSDT}
 use Rattle.acpi_writer.specs.Table.{IsTableOf, IsValid}
-use Rattle.acpi_writer.specs.declared.ids.TableIds.{TableIds}
+use Rattle.acpi_writer.specs.Types.{TableIds}
 
 -- a table of AML is valid, and its AML, from 36 on, is what was given
 pub record IsAmlOf (s : Signature) (aml table : List ℕ) : Type 0 where

@@ -1,6 +1,6 @@
 -- What is asked of each thing in a list before a table is written.
 use Rattle.std.specs.Prelude.{List, [], ◌∷◌, Result, Ok}
-use Rattle.acpi_base.specs.Steps.{◌>>=◌}
+use Rattle.acpi_base.specs.Words.{◌>>=◌}
 
 -- the first error
 abbrev pub all_checked : {X E : Type 0} → (X → Result (Unit {0}) E) → List X → Result (Unit {0}) E

@@ -1,16 +1,10 @@
 -- The FACS that is written (ACPI 6.4, section 5.2.10).
 use Rattle.std.specs.Prelude.{◌≡◌, ℕ, ◌+◌, ◌*◌, ◌^◌, ◌<◌, List, ◌∷◌, ◌++◌, nat_le, replicate, take, Some, Result, Ok}
-use Rattle.acpi.specs.Places.{facs_at, range}
-use Rattle.acpi_base.specs.Bits.{has_bit}
-use Rattle.acpi_base.specs.Bytes.{field_of, spelling}
-use Rattle.acpi_base.specs.Memory.{Memory, at}
-use Rattle.acpi_base.specs.Steps.{◌>>=◌, holds}
-use Rattle.acpi_base.specs.Text.{letters_of}
-use Rattle.acpi_base.specs.declared.table.signature.TheConstants.Signature.{FACS}
+use Rattle.acpi.specs.Words.{facs_at, range}
+use Rattle.acpi_base.specs.Words.{has_bit, field_of, spelling, Memory, at, ◌>>=◌, holds, letters_of}
+use Rattle.acpi.specs.Types.{FACS}
 use Rattle.acpi_writer.specs.Table.{bit_of}
-use Rattle.acpi_writer.specs.declared.error.WriterError.{WriterError}
-use Rattle.acpi_writer.specs.declared.error.WriterError.TheVariants.{NoRoom}
-use Rattle.acpi_writer.specs.declared.facs.FacsContents.{FacsContents}
+use Rattle.acpi_writer.specs.Types.{WriterError, NoRoom, FacsContents}
 
 -- at 0 Signature, 4 a Length of 64, 8 Hardware Signature, 12 Firmware Waking Vector, 16 a Global Lock of 0, 20 Flags,
 -- of

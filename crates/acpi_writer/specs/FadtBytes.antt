@@ -1,31 +1,15 @@
 -- The bytes of a FADT that says what is given (ACPI 6.4, section 5.2.9).
-use Rattle.std.specs.Prelude.{ℕ, ◌*◌, ◌/◌, ◌^◌, ◌==◌, ◌&&◌, Bool, true, false, not, if◌then◌else◌}
-use Rattle.std.specs.Prelude.{List, [], ◌∷◌, ◌++◌, flat_map, nat_lt, replicate, Option, Some, None, Result}
-use Rattle.acpi_base.specs.Steps.{◌>>=◌, holds}
-use Rattle.acpi_base.specs.declared.address.AccessSize.TheVariants.{Undefined}
-use Rattle.acpi_base.specs.declared.address.AddressSpace.{AddressSpace}
-use Rattle.acpi_base.specs.declared.address.AddressSpace.TheVariants.{SystemIo}
-use Rattle.acpi_base.specs.declared.address.GenericAddress.{GenericAddress}
-use Rattle.acpi_base.specs.declared.table.signature.TheConstants.Signature.{FADT}
-use Rattle.acpi_fixed.specs.declared.fadt.PowerProfile.{PowerProfile}
+use Rattle.std.specs.Prelude.{ℕ, ◌*◌, ◌/◌, ◌^◌, ◌==◌, ◌&&◌, Bool, true, false, not, if◌then◌else◌, List, [], ◌∷◌, ◌++◌, flat_map, nat_lt, replicate, Option, Some, None, Result}
+use Rattle.acpi_base.specs.Words.{◌>>=◌, holds}
+use Rattle.acpi.specs.Types.{Undefined, AddressSpace, SystemIo, GenericAddress, FADT, PowerProfile, GpeBlock}
 use Rattle.acpi_fixed.specs.declared.fadt.PowerProfile.TheVariants as profiles
-use Rattle.acpi_fixed.specs.declared.fadt.registers.gpe.GpeBlock.{GpeBlock}
 use Rattle.acpi_writer.specs.Fields.{fields_bytes}
 use Rattle.acpi_writer.specs.Flags.{flag_number}
 use Rattle.acpi_writer.specs.Generic.{is_register, register_bytes, register_or_zeros}
 use Rattle.acpi_writer.specs.Table.{table_written}
-use Rattle.acpi_writer.specs.declared.error.WriterError.{WriterError}
-use Rattle.acpi_writer.specs.declared.error.WriterError.TheVariants.{BadProfile, BadRegister, NoAddress}
-use Rattle.acpi_writer.specs.declared.fadt.contents.FadtContents.{FadtContents}
-use Rattle.acpi_writer.specs.declared.fadt.contents.FadtHardware.{FadtHardware}
-use Rattle.acpi_writer.specs.declared.fadt.contents.FadtHardware.TheVariants.{Fixed, Reduced}
-use Rattle.acpi_writer.specs.declared.fadt.contents.FixedHardware.{FixedHardware}
-use Rattle.acpi_writer.specs.declared.fadt.features.ArmBootFeatures.{ArmBootFeatures}
-use Rattle.acpi_writer.specs.declared.fadt.features.FixedFeatures.{FixedFeatures}
-use Rattle.acpi_writer.specs.declared.fadt.features.PcBootFeatures.{PcBootFeatures}
+use Rattle.acpi_writer.specs.Types.{WriterError, BadProfile, BadRegister, NoAddress, FadtContents, FadtHardware, Fixed, Reduced, FixedHardware, ArmBootFeatures, FixedFeatures, PcBootFeatures, TableIds}
 use Rattle.acpi_writer.specs.declared.fields.Field.{Field}
 use Rattle.acpi_writer.specs.declared.fields.Field.TheVariants.{U8, U16, U32, U64, Zeros}
-use Rattle.acpi_writer.specs.declared.ids.TableIds.{TableIds}
 
 -- ---- the values of fields
 

@@ -1,29 +1,15 @@
 -- What holds of a FADT that is written: what was given is what is read.
-use Rattle.std.specs.Prelude.{◌≡◌, ℕ, true, List, Option, Some, Ok}
-use Rattle.std.specs.List.{All}
-use Rattle.std.specs.Option.{ok_or, option_map}
-use Rattle.acpi.specs.Timer.{timer_of}
-use Rattle.acpi.specs.declared.platform.timer.PmTimer.{PmTimer}
-use Rattle.acpi_base.specs.Address.{generic_address_of}
-use Rattle.acpi_base.specs.Bits.{has_bit}
-use Rattle.acpi_base.specs.declared.error.AcpiError.TheVariants.{InvalidFacsAddress}
-use Rattle.acpi_base.specs.declared.table.signature.TheConstants.Signature.{FADT}
-use Rattle.acpi_fixed.specs.Fadt.{dsdt_address_of, facs_address_of, fadt_at, pm_timer_of, profile_of, registers_of}
-use Rattle.acpi_fixed.specs.Flags.{arm_bits, feature_bits, pc_bits}
-use Rattle.acpi_fixed.specs.Gpe.{gpe_of}
-use Rattle.acpi_fixed.specs.Registers.{block_of, optional_block_of, register_of}
-use Rattle.acpi_fixed.specs.declared.fadt.Fadt.{Fadt}
+use Rattle.std.specs.Prelude.{◌≡◌, ℕ, true, List, Option, Some, Ok, All, ok_or, option_map}
+use Rattle.acpi.specs.Words.{timer_of}
+use Rattle.acpi_writer.specs.Types.{PmTimer, FadtContents, FadtHardware, Fixed, Reduced, FixedHardware, LegacyFields, TableIds}
+use Rattle.acpi_base.specs.Words.{generic_address_of, has_bit}
+use Rattle.acpi.specs.Types.{InvalidFacsAddress, FADT, Fadt}
+use Rattle.acpi_fixed.specs.Words.{dsdt_address_of, facs_address_of, fadt_at, pm_timer_of, profile_of, registers_of, arm_bits, feature_bits, pc_bits, gpe_of, block_of, optional_block_of, register_of}
 use Rattle.acpi_writer.specs.FadtBytes.{are_placed, are_registers, arm_flags, fadt_body, feature_flags, fixed_of, front_fields, is_profile, pc_flags, registers, wide_fields}
 use Rattle.acpi_writer.specs.Fields.{FitsField}
 use Rattle.acpi_writer.specs.Flags.{flag_at}
 use Rattle.acpi_writer.specs.Generic.{FitsRegister, register_or_zeros}
 use Rattle.acpi_writer.specs.Table.{IsTableOf, IsValid}
-use Rattle.acpi_writer.specs.declared.fadt.contents.FadtContents.{FadtContents}
-use Rattle.acpi_writer.specs.declared.fadt.contents.FadtHardware.{FadtHardware}
-use Rattle.acpi_writer.specs.declared.fadt.contents.FadtHardware.TheVariants.{Fixed, Reduced}
-use Rattle.acpi_writer.specs.declared.fadt.contents.FixedHardware.{FixedHardware}
-use Rattle.acpi_writer.specs.declared.fadt.contents.LegacyFields.{LegacyFields}
-use Rattle.acpi_writer.specs.declared.ids.TableIds.{TableIds}
 
 -- ---- the numbers have a place
 

@@ -1,6 +1,6 @@
 -- The bytes of fields, one after the other.
 use Rattle.std.specs.Prelude.{ℕ, zero, suc, get_or, ◌+◌, ◌^◌, ◌<◌, List, [], ◌∷◌, flat_map, replicate, Option, Some, None}
-use Rattle.acpi_base.specs.Bytes.{spelling}
+use Rattle.acpi_base.specs.Words.{spelling}
 use Rattle.acpi_writer.specs.declared.fields.Field.{Field}
 use Rattle.acpi_writer.specs.declared.fields.Field.TheVariants.{U8, U16, U32, U64, Zeros}
 

@@ -1,6 +1,6 @@
 -- Flags in a number.
 use Rattle.std.specs.Prelude.{◌≡◌, ℕ, zero, suc, ◌+◌, ◌*◌, Bool, false, List, [], ◌∷◌}
-use Rattle.acpi_base.specs.Bits.{has_bit}
+use Rattle.acpi_base.specs.Words.{has_bit}
 use Rattle.acpi_writer.specs.Table.{bit_of}
 
 -- the number whose bits these are, bit 0 first

@@ -1,11 +1,7 @@
 -- The bytes of registers, as generic addresses (ACPI 6.4, section 5.2.3.2).
-use Rattle.std.specs.Prelude.{ℕ, ◌==◌, ◌&&◌, Bool, true, not, List, [], ◌∷◌, nat_le, Option, Some, None}
-use Rattle.std.specs.List.{All}
-use Rattle.acpi_base.specs.Address.{size_code, space_code}
-use Rattle.acpi_base.specs.declared.address.AccessSize.TheVariants.{Undefined}
-use Rattle.acpi_base.specs.declared.address.AddressSpace.{AddressSpace}
-use Rattle.acpi_base.specs.declared.address.AddressSpace.TheVariants.{OemDefined, SystemMemory}
-use Rattle.acpi_base.specs.declared.address.GenericAddress.{GenericAddress}
+use Rattle.std.specs.Prelude.{ℕ, ◌==◌, ◌&&◌, Bool, true, not, List, [], ◌∷◌, nat_le, Option, Some, None, All}
+use Rattle.acpi_base.specs.Words.{size_code, space_code}
+use Rattle.acpi.specs.Types.{Undefined, AddressSpace, OemDefined, SystemMemory, GenericAddress}
 use Rattle.acpi_writer.specs.Fields.{FitsField, fields_bytes}
 use Rattle.acpi_writer.specs.declared.fields.Field.{Field}
 use Rattle.acpi_writer.specs.declared.fields.Field.TheVariants.{U8, U64}

@@ -1,27 +1,18 @@
 -- The GTDT that is written (ACPI 6.4, section 5.2.24), and that what was given is what is read.
-use Rattle.std.specs.Prelude.{◌≡◌, ℕ, ◌+◌, ◌*◌, ◌%◌, ◌^◌, false, List, [], ◌∷◌, ◌++◌, flat_map, length, map, nat_le, Option, Some, None, Result, Ok}
+use Rattle.std.specs.Prelude.{◌≡◌, ℕ, ◌+◌, ◌*◌, ◌%◌, ◌^◌, false, List, [], ◌∷◌, ◌++◌, flat_map, length, map, nat_le, Option, Some, None, Result, Ok, All}
 use Rattle.std.proofs.Common.{inl, inr}
-use Rattle.std.specs.List.{All}
-use Rattle.acpi_base.specs.Steps.{◌>>=◌, holds}
-use Rattle.acpi_base.specs.declared.table.signature.TheConstants.Signature.{GTDT}
+use Rattle.acpi_base.specs.Words.{◌>>=◌, holds}
+use Rattle.acpi.specs.Types.{GTDT}
 use Rattle.acpi_arm.specs.Gtdt.{control_base_of, gtdt_at, read_base_of, virtual_el2_of}
 use Rattle.acpi_arm.specs.Timers.{Timer, missing_of, timers_of}
-use Rattle.acpi_arm.specs.declared.frames.GtFrame.{GtFrame}
-use Rattle.acpi_arm.specs.declared.frames.TimerInterrupt.{TimerInterrupt}
-use Rattle.acpi_arm.specs.declared.gtdt.ArmTimer.{ArmTimer}
-use Rattle.acpi_arm.specs.declared.timers.SbsaWatchdog.{SbsaWatchdog}
+use Rattle.acpi_writer.specs.Types.{GtFrame, TimerInterrupt, ArmTimer, SbsaWatchdog, WriterError, TooManyFrames, GtdtContents, PlatformTimerContents, TableIds}
 use Rattle.acpi_writer.specs.Arm.{base_checked, flags_of, is_edge, is_low, modes_checked}
 use Rattle.acpi_writer.specs.Checked.{all_checked}
 use Rattle.acpi_writer.specs.Fields.{FitsField, fields_bytes}
 use Rattle.acpi_writer.specs.Table.{IsTableOf, IsValid, table_written}
-use Rattle.acpi_writer.specs.declared.error.WriterError.{WriterError}
-use Rattle.acpi_writer.specs.declared.error.WriterError.TheVariants.{TooManyFrames}
 use Rattle.acpi_writer.specs.declared.fields.Field.{Field}
 use Rattle.acpi_writer.specs.declared.fields.Field.TheVariants.{U8, U16, U32, U64, Zeros}
-use Rattle.acpi_writer.specs.declared.gtdt.GtdtContents.{GtdtContents}
-use Rattle.acpi_writer.specs.declared.gtdt.PlatformTimerContents.{PlatformTimerContents}
 use Rattle.acpi_writer.specs.declared.gtdt.PlatformTimerContents.TheVariants as kinds
-use Rattle.acpi_writer.specs.declared.ids.TableIds.{TableIds}
 
 -- ---- parts
 

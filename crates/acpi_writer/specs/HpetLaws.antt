@@ -1,13 +1,11 @@
 -- What holds of an HPET that is written: what was given is what is read.
-use Rattle.std.specs.Prelude.{◌≡◌, ℕ, List, Ok}
-use Rattle.std.specs.List.{All}
-use Rattle.acpi_base.specs.declared.table.signature.TheConstants.Signature.{HPET}
-use Rattle.acpi.specs.Hpet.{hpet_at, info_of}
-use Rattle.acpi.specs.declared.hpet.HpetInfo.{HpetInfo}
+use Rattle.std.specs.Prelude.{◌≡◌, ℕ, List, Ok, All}
+use Rattle.acpi.specs.Types.{HPET}
+use Rattle.acpi.specs.Words.{hpet_at, info_of}
+use Rattle.acpi_writer.specs.Types.{HpetInfo, TableIds}
 use Rattle.acpi_writer.specs.Fields.{FitsField}
 use Rattle.acpi_writer.specs.HpetBytes.{hpet_body, hpet_fields}
 use Rattle.acpi_writer.specs.Table.{IsTableOf, IsValid}
-use Rattle.acpi_writer.specs.declared.ids.TableIds.{TableIds}
 
 -- the numbers have a place
 abbrev pub FitsHpet : HpetInfo → Type 0

@@ -1,26 +1,15 @@
 -- What a reader finds in an image by `write_image` that has a table that was written.
-use Rattle.std.specs.Prelude.{◌≡◌, ℕ, Bool, false, List, ◌∷◌, ◌++◌, Ok}
-use Rattle.std.specs.List.{AllByRecursion}
-use Rattle.std.specs.Str.{bytes_eq}
-use Rattle.acpi_base.specs.Bytes.{IsBytes, part}
-use Rattle.acpi_base.specs.Memory.{Memory}
-use Rattle.acpi_base.specs.Text.{letters_of}
+use Rattle.std.specs.Prelude.{◌≡◌, ℕ, Bool, false, List, ◌∷◌, ◌++◌, Ok, bytes_eq}
+use Rattle.acpi_base.specs.FromStd.{AllByRecursion}
+use Rattle.acpi_base.specs.Words.{IsBytes, part, Memory, letters_of}
 use Rattle.acpi_base.specs.declared.model.interrupt.InterruptModel.TheVariants.{Apic}
-use Rattle.acpi_base.specs.declared.table.signature.Signature.{Signature}
-use Rattle.acpi_base.specs.declared.table.signature.TheConstants.Signature.{HPET, MADT, MCFG}
-use Rattle.acpi_base.specs.declared.tables.mcfg.McfgEntry.{McfgEntry}
-use Rattle.acpi.specs.Hpet.{hpet_of}
-use Rattle.acpi.specs.Pci.{found_regions}
-use Rattle.acpi.specs.Platform.{model_in, platform_of}
-use Rattle.acpi.specs.declared.hpet.HpetInfo.{HpetInfo}
-use Rattle.acpi.specs.declared.platform.PlatformInfo.{PlatformInfo}
-use Rattle.acpi_image.specs.WriteChecks.{written}
-use Rattle.acpi_image.specs.Written.{Plan, pointers_of, records_of}
+use Rattle.acpi.specs.Types.{Signature, HPET, MADT, MCFG, McfgEntry}
+use Rattle.acpi.specs.Words.{hpet_of, found_regions, model_in, platform_of}
+use Rattle.acpi_writer.specs.Types.{HpetInfo, PlatformInfo, TableIds, MadtContents}
+use Rattle.acpi_image.specs.Words.{written, Plan, pointers_of, records_of}
 use Rattle.acpi_writer.specs.HpetLaws.{IsHpet}
 use Rattle.acpi_writer.specs.MadtLaws.{IsMadt, apic_read, model_read, processors_read}
 use Rattle.acpi_writer.specs.McfgLaws.{IsMcfg}
-use Rattle.acpi_writer.specs.declared.ids.TableIds.{TableIds}
-use Rattle.acpi_writer.specs.declared.madt.MadtContents.{MadtContents}
 
 -- the bytes begin with this signature
 abbrev pub is_named : Signature → List ℕ → Bool

@@ -30,3 +30,5 @@ pub mod Laid
 pub mod Contents
 pub mod Machine
 pub mod MachineLaws
+pub mod Types
+pub mod Words

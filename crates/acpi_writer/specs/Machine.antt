@@ -1,23 +1,15 @@
 -- A whole machine in one region of memory: the RSDP, the XSDT, a DSDT, a FACS, and the tables that the XSDT lists,
 -- which are things that are written as tables.
-use Rattle.std.specs.Prelude.{◌≡◌, ℕ, ◌+◌, ◌-◌, ◌*◌, ◌^◌, ◌%◌, ◌<◌, ◌==◌, ◌&&◌, Bool, true, not, if◌then◌else◌, List, [], ◌∷◌, ◌++◌, length, map, nat_le, nat_lt, replicate}
-use Rattle.std.specs.Prelude.{Option, Some, None, Result, Ok}
-use Rattle.std.specs.List.{All}
-use Rattle.acpi.specs.declared.root.RootKind.TheVariants.{Xsdt}
-use Rattle.acpi_base.specs.Steps.{◌>>=◌, holds}
-use Rattle.acpi_base.specs.declared.table.signature.TheConstants.Signature.{DSDT, XSDT}
+use Rattle.std.specs.Prelude.{◌≡◌, ℕ, ◌+◌, ◌-◌, ◌*◌, ◌^◌, ◌%◌, ◌<◌, ◌==◌, ◌&&◌, Bool, true, not, if◌then◌else◌, List, [], ◌∷◌, ◌++◌, length, map, nat_le, nat_lt, replicate, Option, Some, None, Result, Ok, All}
+use Rattle.acpi_writer.specs.Types.{Xsdt, AmlContents, TableContents, WriterError, BadName, NoAddress, NoRoom, TooLong, FacsContents, TableIds}
+use Rattle.acpi_base.specs.Words.{◌>>=◌, holds}
+use Rattle.acpi.specs.Types.{DSDT, XSDT}
 use Rattle.acpi_writer.specs.Contents.{FitsContents, Written, bytes_by, contents_written, most, or_none}
 use Rattle.acpi_writer.specs.Facs.{FitsFacs, facs_bytes}
 use Rattle.acpi_writer.specs.Laid.{addresses, laid, padded, rounded}
 use Rattle.acpi_writer.specs.Root.{root_body}
 use Rattle.acpi_writer.specs.Rsdp.{rsdp_bytes}
 use Rattle.acpi_writer.specs.Table.{AreIds, are_texts, table_bytes, table_written}
-use Rattle.acpi_writer.specs.declared.contents.AmlContents.{AmlContents}
-use Rattle.acpi_writer.specs.declared.contents.TableContents.{TableContents}
-use Rattle.acpi_writer.specs.declared.error.WriterError.{WriterError}
-use Rattle.acpi_writer.specs.declared.error.WriterError.TheVariants.{BadName, NoAddress, NoRoom, TooLong}
-use Rattle.acpi_writer.specs.declared.facs.FacsContents.{FacsContents}
-use Rattle.acpi_writer.specs.declared.ids.TableIds.{TableIds}
 use Rattle.acpi_writer.specs.declared.machine.Machine as declared
 
 -- a machine of things of a type, and one of contents

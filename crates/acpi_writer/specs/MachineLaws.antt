@@ -9,37 +9,18 @@
 --   * so the platform with its interrupt model and its processors, the regions of the configuration space, the event
 --     timer block, the domains, the distances, the console's serial port, the boot image, the generic timers and the
 --     GIC are exactly those that were passed in; and the DSDT is valid at its address.
-use Rattle.std.specs.Prelude.{◌≡◌, ℕ, ◌+◌, ◌*◌, ◌%◌, ◌<◌, ◌≤◌, ◌&&◌, List, [], ◌∷◌, length, drop, nat_le, slice_get, if◌then◌else◌}
-use Rattle.std.specs.Prelude.{Option, Some, None, Result, Ok, Err}
-use Rattle.std.specs.List.{AllByRecursion}
-use Rattle.std.specs.Str.{bytes_eq}
-use Rattle.acpi.specs.Hpet.{hpet_of}
-use Rattle.acpi.specs.Lists.{dsdt_stream, fadt_kind, stream_of}
-use Rattle.acpi.specs.Lookup.{lookup}
-use Rattle.acpi.specs.Opened.{opened_by_rsdp}
-use Rattle.acpi.specs.Pci.{found_regions}
+use Rattle.std.specs.Prelude.{◌≡◌, ℕ, ◌+◌, ◌*◌, ◌%◌, ◌<◌, ◌≤◌, ◌&&◌, List, [], ◌∷◌, length, drop, nat_le, slice_get, if◌then◌else◌, Option, Some, None, Result, Ok, Err, bytes_eq}
+use Rattle.acpi_base.specs.FromStd.{AllByRecursion}
+use Rattle.acpi.specs.Words.{hpet_of, dsdt_stream, fadt_kind, stream_of, lookup, opened_by_rsdp, found_regions, facs_place, led_by, range, model_in, platform_of, pointers, rsdp_at}
 use Rattle.acpi.specs.Places as places
-use Rattle.acpi.specs.Places.{facs_place, led_by, range}
-use Rattle.acpi.specs.Platform.{model_in, platform_of}
-use Rattle.acpi.specs.Root.{pointers}
-use Rattle.acpi.specs.Rsdp.{rsdp_at}
-use Rattle.acpi.specs.declared.platform.PlatformInfo.{PlatformInfo}
-use Rattle.acpi.specs.declared.root.RootKind.TheVariants.{Xsdt}
-use Rattle.acpi_base.specs.Memory.{Memory, IsMemory, at}
-use Rattle.acpi_base.specs.Steps.{◌>>=◌}
-use Rattle.acpi_base.specs.Table.{Kind, plain_kind, sdt_kind, table_at}
-use Rattle.acpi_base.specs.Text.{letters_of}
-use Rattle.acpi_base.specs.declared.error.AcpiError.{AcpiError}
-use Rattle.acpi_base.specs.declared.error.AcpiError.TheVariants.{TableMissing}
+use Rattle.acpi_writer.specs.Types.{PlatformInfo, Xsdt, AmlContents, TableContents, Bgrt, Fadt, GicMadt, Gtdt, Hpet, Madt, Mcfg, Slit, Spcr, Srat, FacsContents, FadtContents, TableIds, MadtContents}
+use Rattle.acpi_base.specs.Words.{Memory, IsMemory, at, ◌>>=◌, Kind, plain_kind, sdt_kind, table_at, letters_of}
+use Rattle.acpi.specs.Types.{AcpiError, TableMissing, Signature, BGRT, DSDT, FADT, GTDT, HPET, MADT, MCFG, SLIT, SPCR, SRAT}
 use Rattle.acpi_base.specs.declared.model.interrupt.InterruptModel.TheVariants.{Apic}
-use Rattle.acpi_base.specs.declared.table.signature.Signature.{Signature}
-use Rattle.acpi_base.specs.declared.table.signature.TheConstants.Signature.{BGRT, DSDT, FADT, GTDT, HPET, MADT, MCFG, SLIT, SPCR, SRAT}
 use Rattle.acpi_arm.specs.Gic.{found_gic}
 use Rattle.acpi_arm.specs.Gtdt.{gtdt_kind}
-use Rattle.acpi_fixed.specs.Bgrt.{bgrt_at}
-use Rattle.acpi_fixed.specs.Fadt.{fadt_at}
-use Rattle.acpi_numa.specs.Affinities.{srat_kind}
-use Rattle.acpi_numa.specs.Slit.{distance_of}
+use Rattle.acpi_fixed.specs.Words.{bgrt_at, fadt_at}
+use Rattle.acpi_numa.specs.Words.{srat_kind, distance_of}
 use Rattle.acpi_writer.specs.Bgrt.{SaysImage}
 use Rattle.acpi_writer.specs.Contents.{FitsContents, bytes_of, contents_written, placed, signature_of}
 use Rattle.acpi_writer.specs.Facs as structure
@@ -55,13 +36,6 @@ use Rattle.acpi_writer.specs.Rsdp.{rsdp_bytes}
 use Rattle.acpi_writer.specs.SpcrLaws.{SaysConsole}
 use Rattle.acpi_writer.specs.SratLaws.{SaysDomains}
 use Rattle.acpi_writer.specs.Table.{IsValid}
-use Rattle.acpi_writer.specs.declared.contents.AmlContents.{AmlContents}
-use Rattle.acpi_writer.specs.declared.contents.TableContents.{TableContents}
-use Rattle.acpi_writer.specs.declared.contents.TableContents.TheVariants.{Bgrt, Fadt, GicMadt, Gtdt, Hpet, Madt, Mcfg, Slit, Spcr, Srat}
-use Rattle.acpi_writer.specs.declared.facs.FacsContents.{FacsContents}
-use Rattle.acpi_writer.specs.declared.fadt.contents.FadtContents.{FadtContents}
-use Rattle.acpi_writer.specs.declared.ids.TableIds.{TableIds}
-use Rattle.acpi_writer.specs.declared.madt.MadtContents.{MadtContents}
 
 -- ---- any valid tables, laid one after the other
 

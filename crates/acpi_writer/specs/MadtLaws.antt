@@ -1,25 +1,13 @@
 -- What holds of a MADT that is written: what was given is what is read.
-use Rattle.std.specs.Prelude.{◌≡◌, ℕ, Bool, true, false, List, [], ◌∷◌, map, Option, Some, None, Ok}
-use Rattle.std.specs.List.{All, list_all}
-use Rattle.std.specs.Option.{ok_or}
-use Rattle.acpi_base.specs.Madt.{mailbox_of}
-use Rattle.acpi_base.specs.Model.{Model, model_of, state_of}
-use Rattle.acpi_base.specs.declared.error.AcpiError.TheVariants.{InvalidMadt}
-use Rattle.acpi_base.specs.declared.error.MadtError.TheVariants.{UnexpectedEntry}
-use Rattle.acpi_base.specs.declared.table.signature.TheConstants.Signature.{MADT}
-use Rattle.acpi_base.specs.declared.model.interrupt.Apic.{Apic}
+use Rattle.std.specs.Prelude.{◌≡◌, ℕ, Bool, true, false, List, [], ◌∷◌, map, Option, Some, None, Ok, All, ok_or}
+use Rattle.acpi_base.specs.FromStd.{list_all}
+use Rattle.acpi_base.specs.Words.{mailbox_of, Model, model_of, state_of}
+use Rattle.acpi.specs.Types.{InvalidMadt, UnexpectedEntry, MADT, Apic, InterruptSourceOverride, IoApic, NmiSource, Processor, ProcessorInfo}
 use Rattle.acpi_base.specs.declared.model.interrupt.InterruptModel.TheVariants as model
-use Rattle.acpi_base.specs.declared.model.interrupt.InterruptSourceOverride.{InterruptSourceOverride}
-use Rattle.acpi_base.specs.declared.model.interrupt.IoApic.{IoApic}
-use Rattle.acpi_base.specs.declared.model.interrupt.NmiSource.{NmiSource}
-use Rattle.acpi_base.specs.declared.model.processor.Processor.{Processor}
-use Rattle.acpi_base.specs.declared.model.processor.ProcessorInfo.{ProcessorInfo}
 use Rattle.acpi_writer.specs.Fields.{FitsField}
 use Rattle.acpi_writer.specs.MadtBytes.{address_fields, mailbox_fields, io_apic_fields, is_empty, madt_body, names_one, nmi_source_fields, override_fields, processor_fields}
 use Rattle.acpi_writer.specs.Table.{IsTableOf, IsValid}
-use Rattle.acpi_writer.specs.declared.ids.TableIds.{TableIds}
-use Rattle.acpi_writer.specs.declared.madt.MadtContents.{MadtContents}
-use Rattle.acpi_writer.specs.declared.madt.MadtProcessor.{MadtProcessor}
+use Rattle.acpi_writer.specs.Types.{TableIds, MadtContents, MadtProcessor}
 
 -- ---- which numbers have a place in an entry
 

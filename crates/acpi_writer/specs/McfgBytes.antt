@@ -1,13 +1,11 @@
 -- The bytes of an MCFG that says what is given. The layout is that of the PCI Firmware Specification, section 4.1.2.
 use Rattle.std.specs.Prelude.{ℕ, List, [], ◌∷◌, ◌++◌, flat_map, replicate, Result}
-use Rattle.acpi_base.specs.declared.table.signature.TheConstants.Signature.{MCFG}
-use Rattle.acpi_base.specs.declared.tables.mcfg.McfgEntry.{McfgEntry}
+use Rattle.acpi.specs.Types.{MCFG, McfgEntry}
 use Rattle.acpi_writer.specs.Fields.{fields_bytes}
 use Rattle.acpi_writer.specs.Table.{table_written}
-use Rattle.acpi_writer.specs.declared.error.WriterError.{WriterError}
+use Rattle.acpi_writer.specs.Types.{WriterError, TableIds}
 use Rattle.acpi_writer.specs.declared.fields.Field.{Field}
 use Rattle.acpi_writer.specs.declared.fields.Field.TheVariants.{U8, U16, U64, Zeros}
-use Rattle.acpi_writer.specs.declared.ids.TableIds.{TableIds}
 
 -- a region
 unfoldable pub mcfg_fields : McfgEntry → List Field

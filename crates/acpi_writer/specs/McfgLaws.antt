@@ -1,13 +1,11 @@
 -- What holds of an MCFG that is written: what was given is what is read.
-use Rattle.std.specs.Prelude.{◌≡◌, ℕ, List}
-use Rattle.std.specs.List.{All}
-use Rattle.acpi_base.specs.Mcfg.{mcfg_entries_of}
-use Rattle.acpi_base.specs.declared.table.signature.TheConstants.Signature.{MCFG}
-use Rattle.acpi_base.specs.declared.tables.mcfg.McfgEntry.{McfgEntry}
+use Rattle.std.specs.Prelude.{◌≡◌, ℕ, List, All}
+use Rattle.acpi_base.specs.Words.{mcfg_entries_of}
+use Rattle.acpi.specs.Types.{MCFG, McfgEntry}
 use Rattle.acpi_writer.specs.Fields.{FitsField}
 use Rattle.acpi_writer.specs.McfgBytes.{mcfg_body, mcfg_fields}
 use Rattle.acpi_writer.specs.Table.{IsTableOf, IsValid}
-use Rattle.acpi_writer.specs.declared.ids.TableIds.{TableIds}
+use Rattle.acpi_writer.specs.Types.{TableIds}
 
 -- the numbers have a place
 abbrev pub FitsMcfg : McfgEntry → Type 0

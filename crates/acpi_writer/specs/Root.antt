@@ -1,12 +1,9 @@
 -- The root tables that are written: the RSDT and the XSDT (ACPI 6.4, sections 5.2.7 and 5.2.8).
-use Rattle.std.specs.Prelude.{◌≡◌, ℕ, ◌^◌, ◌<◌, List, drop, flat_map, Result}
-use Rattle.std.specs.List.{All}
-use Rattle.acpi.specs.Root.{pointers, signature_of, width_of}
-use Rattle.acpi.specs.declared.root.RootKind.{RootKind}
-use Rattle.acpi_base.specs.Bytes.{spelling}
+use Rattle.std.specs.Prelude.{◌≡◌, ℕ, ◌^◌, ◌<◌, List, drop, flat_map, Result, All}
+use Rattle.acpi.specs.Words.{pointers, signature_of, width_of}
+use Rattle.acpi_writer.specs.Types.{RootKind, WriterError, TableIds}
+use Rattle.acpi_base.specs.Words.{spelling}
 use Rattle.acpi_writer.specs.Table.{IsTableOf, IsValid, table_written}
-use Rattle.acpi_writer.specs.declared.error.WriterError.{WriterError}
-use Rattle.acpi_writer.specs.declared.ids.TableIds.{TableIds}
 
 -- after the header: Entry, the addresses in order
 abbrev pub root_body : RootKind → List ℕ → List ℕ

@@ -1,15 +1,10 @@
 -- The RSDP that is written (ACPI 6.4, section 5.2.5.3).
 use Rattle.std.specs.Prelude.{◌≡◌, ℕ, ◌^◌, ◌<◌, ◌==◌, false, true, not, List, ◌∷◌, ◌++◌, nat_le, replicate, Result, Ok}
-use Rattle.acpi.specs.Root.{root_pointer}
-use Rattle.acpi.specs.Rsdp.{check_rsdp, root_of_rsdp, rsd_ptr, rsdp_of}
-use Rattle.acpi.specs.declared.root.RootKind.TheVariants.{Xsdt}
-use Rattle.acpi_base.specs.Bytes.{spelling}
-use Rattle.acpi_base.specs.Steps.{◌>>=◌, holds}
-use Rattle.acpi_image.specs.Written.{with_first_sum, with_sum}
+use Rattle.acpi.specs.Words.{root_pointer, check_rsdp, root_of_rsdp, rsd_ptr, rsdp_of}
+use Rattle.acpi_writer.specs.Types.{Xsdt, WriterError, BadName, NoAddress, NoRoom, TableIds}
+use Rattle.acpi_base.specs.Words.{spelling, ◌>>=◌, holds}
+use Rattle.acpi_image.specs.Words.{with_first_sum, with_sum}
 use Rattle.acpi_writer.specs.Table.{AreIds, are_texts}
-use Rattle.acpi_writer.specs.declared.error.WriterError.{WriterError}
-use Rattle.acpi_writer.specs.declared.error.WriterError.TheVariants.{BadName, NoAddress, NoRoom}
-use Rattle.acpi_writer.specs.declared.ids.TableIds.{TableIds}
 
 -- at 0 Signature, 8 a Checksum of 0, 9 OEMID, 15 a Revision of 2, 16 a RsdtAddress of 0, 20 a Length of 36, 24
 -- XsdtAddress, 32 an Extended Checksum of 0, 33 Reserved

@@ -1,13 +1,10 @@
 -- The SLIT that is written (ACPI 6.4, section 5.2.17).
 use Rattle.std.specs.Prelude.{◌≡◌, ℕ, ◌+◌, ◌*◌, ◌^◌, ◌<◌, ◌==◌, List, ◌++◌, length, slice_get, Result}
-use Rattle.acpi_base.specs.Bytes.{spelling}
-use Rattle.acpi_base.specs.Steps.{◌>>=◌, holds}
-use Rattle.acpi_base.specs.declared.table.signature.TheConstants.Signature.{SLIT}
-use Rattle.acpi_numa.specs.Slit.{distance_of}
+use Rattle.acpi_base.specs.Words.{spelling, ◌>>=◌, holds}
+use Rattle.acpi.specs.Types.{SLIT}
+use Rattle.acpi_numa.specs.Words.{distance_of}
 use Rattle.acpi_writer.specs.Table.{IsTableOf, IsValid, table_written}
-use Rattle.acpi_writer.specs.declared.error.WriterError.{WriterError}
-use Rattle.acpi_writer.specs.declared.error.WriterError.TheVariants.{BadMatrix}
-use Rattle.acpi_writer.specs.declared.ids.TableIds.{TableIds}
+use Rattle.acpi_writer.specs.Types.{WriterError, BadMatrix, TableIds}
 
 -- after the header: at 36 Number of System Localities; from 44 on Entry, row by row
 abbrev pub slit_body : ℕ → List ℕ → List ℕ

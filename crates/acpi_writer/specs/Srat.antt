@@ -1,18 +1,14 @@
 -- The bytes of a SRAT that says what is given (ACPI 6.4, section 5.2.16).
-use Rattle.std.specs.Prelude.{ℕ, ◌+◌, ◌*◌, ◌/◌, ◌%◌, ◌^◌, ◌==◌, ◌&&◌, Bool, not, if◌then◌else◌}
-use Rattle.std.specs.Prelude.{List, [], ◌∷◌, ◌++◌, flat_map, nat_lt, Result}
-use Rattle.std.specs.List.{list_all}
-use Rattle.acpi_base.specs.Steps.{◌>>=◌, holds}
-use Rattle.acpi_base.specs.declared.table.signature.TheConstants.Signature.{SRAT}
-use Rattle.acpi_numa.specs.Affinities.{ends_below}
-use Rattle.acpi_numa.specs.declared.srat.affinities.MemoryRange.{MemoryRange}
+use Rattle.std.specs.Prelude.{ℕ, ◌+◌, ◌*◌, ◌/◌, ◌%◌, ◌^◌, ◌==◌, ◌&&◌, Bool, not, if◌then◌else◌, List, [], ◌∷◌, ◌++◌, flat_map, nat_lt, Result}
+use Rattle.acpi_base.specs.FromStd.{list_all}
+use Rattle.acpi_base.specs.Words.{◌>>=◌, holds}
+use Rattle.acpi.specs.Types.{SRAT}
+use Rattle.acpi_numa.specs.Words.{ends_below}
+use Rattle.acpi_writer.specs.Types.{MemoryRange, WriterError, BadRange, IdOfAll, TableIds}
 use Rattle.acpi_writer.specs.Fields.{fields_bytes}
 use Rattle.acpi_writer.specs.Table.{bit_of, table_written}
-use Rattle.acpi_writer.specs.declared.error.WriterError.{WriterError}
-use Rattle.acpi_writer.specs.declared.error.WriterError.TheVariants.{BadRange, IdOfAll}
 use Rattle.acpi_writer.specs.declared.fields.Field.{Field}
 use Rattle.acpi_writer.specs.declared.fields.Field.TheVariants.{U8, U16, U32, U64, Zeros}
-use Rattle.acpi_writer.specs.declared.ids.TableIds.{TableIds}
 use Rattle.acpi_writer.specs.declared.srat.ApicDomain.{ApicDomain}
 use Rattle.acpi_writer.specs.declared.srat.GiccDomain.{GiccDomain}
 use Rattle.acpi_writer.specs.declared.srat.SratContents as declared

@@ -1,14 +1,12 @@
 -- What holds of a SRAT that is written: what was given is what is read.
-use Rattle.std.specs.Prelude.{◌≡◌, ℕ, ◌==◌, true, List, Option, None, Some, Ok, if◌then◌else◌}
-use Rattle.std.specs.List.{All, filter_map, last_or, list_all}
-use Rattle.acpi_base.specs.declared.table.signature.TheConstants.Signature.{SRAT}
-use Rattle.acpi_numa.specs.Affinities.{affinities_of}
-use Rattle.acpi_numa.specs.Srat.{domain_of_apic, domain_of_processor}
-use Rattle.acpi_numa.specs.declared.srat.affinities.MemoryRange.{MemoryRange}
+use Rattle.std.specs.Prelude.{◌≡◌, ℕ, ◌==◌, true, List, Option, None, Some, Ok, if◌then◌else◌, All, filter_map}
+use Rattle.acpi_base.specs.FromStd.{last_or, list_all}
+use Rattle.acpi.specs.Types.{SRAT}
+use Rattle.acpi_numa.specs.Words.{affinities_of, domain_of_apic, domain_of_processor}
+use Rattle.acpi_writer.specs.Types.{MemoryRange, TableIds}
 use Rattle.acpi_writer.specs.Fields.{FitsField}
 use Rattle.acpi_writer.specs.Srat.{ContentsOf, SratContents, apic_fields, gicc_fields, is_range, memory_fields, srat_body_by}
 use Rattle.acpi_writer.specs.Table.{IsTableOf, IsValid}
-use Rattle.acpi_writer.specs.declared.ids.TableIds.{TableIds}
 use Rattle.acpi_writer.specs.declared.srat.ApicDomain.{ApicDomain}
 use Rattle.acpi_writer.specs.declared.srat.GiccDomain.{GiccDomain}
 

@@ -1,18 +1,10 @@
 -- What every table that is written has: a header (ACPI 6.4, section 5.2.6), a length that fits, and room.
-use Rattle.std.specs.Prelude.{◌≡◌, ℕ, ◌+◌, ◌^◌, ◌≤◌, ◌<◌, ◌&&◌, Bool, true, if◌then◌else◌}
-use Rattle.std.specs.Prelude.{List, [], ◌∷◌, ◌++◌, length, drop, nat_le, nat_lt, Result, Ok, Err}
-use Rattle.std.specs.Str.{is_utf8}
-use Rattle.acpi_base.specs.Bytes.{number, spelling}
-use Rattle.acpi_base.specs.Header.{check_table, header_at}
-use Rattle.acpi_base.specs.Steps.{◌>>=◌, holds}
-use Rattle.acpi_base.specs.Text.{letters_of}
-use Rattle.acpi_base.specs.declared.table.header.SdtHeader.{SdtHeader}
-use Rattle.acpi_base.specs.declared.table.signature.Signature.{Signature}
-use Rattle.acpi_image.specs.WriteChecks.{is_table}
-use Rattle.acpi_image.specs.Written.{with_sum}
-use Rattle.acpi_writer.specs.declared.error.WriterError.{WriterError}
-use Rattle.acpi_writer.specs.declared.error.WriterError.TheVariants.{BadName, NoRoom, TooLong}
-use Rattle.acpi_writer.specs.declared.ids.TableIds.{TableIds}
+use Rattle.std.specs.Prelude.{◌≡◌, ℕ, ◌+◌, ◌^◌, ◌≤◌, ◌<◌, ◌&&◌, Bool, true, if◌then◌else◌, List, [], ◌∷◌, ◌++◌, length, drop, nat_le, nat_lt, Result, Ok, Err}
+use Rattle.acpi_base.specs.FromStd.{is_utf8}
+use Rattle.acpi_base.specs.Words.{number, spelling, check_table, header_at, ◌>>=◌, holds, letters_of}
+use Rattle.acpi.specs.Types.{SdtHeader, Signature}
+use Rattle.acpi_image.specs.Words.{is_table, with_sum}
+use Rattle.acpi_writer.specs.Types.{WriterError, BadName, NoRoom, TooLong, TableIds}
 
 -- yes and no, as a bit
 abbrev pub bit_of : Bool → ℕ

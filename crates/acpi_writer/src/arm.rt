@@ -1,8 +1,7 @@
 //! What the tables of an Arm machine share: flags, the trigger mode and the polarity of an interrupt in them, and
 //! addresses that may be missing.
 ghost use Rattle.std.specs.Prelude.{◌≡◌};
-ghost use Rattle.acpi_writer.specs.Arm.{base_checked, flags_of, has_polarity, has_trigger};
-ghost use Rattle.acpi_writer.specs.Arm.{is_edge, is_low, modes_checked};
+ghost use Rattle.acpi_writer.specs.Words.{base_checked, flags_of, has_polarity, has_trigger, is_edge, is_low, modes_checked};
 
 use crate::checked::require;
 use crate::error::WriterError;

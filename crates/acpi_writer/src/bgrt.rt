@@ -1,8 +1,8 @@
 //! The Boot Graphics Resource Table (BGRT, section 5.2.22), from what it says of an image.
 ghost use Rattle.std.specs.Prelude.{◌≡◌, ◌≤◌, length, take, IfOk};
-ghost use Rattle.acpi_base.specs.Steps.{Gives};
+ghost use Rattle.acpi_base.specs.Words.{Gives};
 ghost use Rattle.acpi_writer.specs.Bgrt as bgrt;
-ghost use Rattle.acpi_writer.specs.Table.{Keeps};
+ghost use Rattle.acpi_writer.specs.Words.{Keeps};
 
 use crate::error::WriterError;
 use crate::fields::{Field, Record};

@@ -2,7 +2,7 @@
 ghost use Rattle.std.specs.Prelude.{◌≡◌, Result};
 ghost use Rattle.acpi_base.specs.Steps as steps;
 ghost use Rattle.acpi_writer.specs.Checked.{all_checked};
-ghost use Rattle.acpi_writer.specs.declared.error.WriterError.{WriterError};
+ghost use Rattle.acpi_writer.specs.Types.{WriterError};
 
 use crate::error::WriterError;
 

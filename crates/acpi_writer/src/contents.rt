@@ -1,7 +1,6 @@
 //! The tables that an XSDT can list, each from what it is to say.
 ghost use Rattle.std.specs.Prelude.{◌≡◌, ◌+◌, ◌^◌, ◌<◌, ◌≤◌, ◌++◌, length, take, drop, replicate};
-ghost use Rattle.acpi_writer.specs.Contents.{FitsContents, contents_written};
-ghost use Rattle.acpi_writer.specs.Laid.{gap, rounded};
+ghost use Rattle.acpi_writer.specs.Words.{FitsContents, contents_written, gap, rounded};
 
 use crate::aml::write_ssdt;
 use crate::bgrt::{BgrtContents, write_bgrt};

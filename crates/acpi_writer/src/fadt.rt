@@ -1,11 +1,9 @@
 //! The Fixed ACPI Description Table (FADT, section 5.2.9), from the hardware and the features that it is to say.
 ghost use Rattle.std.specs.Prelude.{◌≡◌, ◌^◌, ◌<◌, length, take, IfOk, Ok};
-ghost use Rattle.acpi_base.specs.Steps.{Gives};
-ghost use Rattle.acpi_base.specs.declared.table.signature.TheConstants.Signature.{FADT};
-ghost use Rattle.acpi_writer.specs.Contents.{most, sized};
+ghost use Rattle.acpi_base.specs.Words.{Gives};
+ghost use Rattle.acpi.specs.Types.{FADT};
+ghost use Rattle.acpi_writer.specs.Words.{most, sized, AreFitFor, IsFadt, IsTableOf, Keeps, if_checked, table_written};
 ghost use Rattle.acpi_writer.specs.FadtBytes as bytes;
-ghost use Rattle.acpi_writer.specs.FadtLaws.{AreFitFor, IsFadt};
-ghost use Rattle.acpi_writer.specs.Table.{IsTableOf, Keeps, if_checked, table_written};
 
 mod contents;
 mod features;

@@ -1,6 +1,5 @@
 //! Records that are fields in a row: one list of them is what is measured, written and read.
-ghost use Rattle.std.specs.Prelude.{◌≡◌, List, flat_map, length};
-ghost use Rattle.std.specs.List.{All};
+ghost use Rattle.std.specs.Prelude.{◌≡◌, List, flat_map, length, All};
 ghost use Rattle.acpi_writer.specs.Fields.{FitsField, field_bytes, fields_or_none};
 ghost use Rattle.acpi_writer.specs.declared.fields.Field.{Field};
 

@@ -1,6 +1,6 @@
 //! Numbers of flags.
 ghost use Rattle.std.specs.Prelude.{◌≡◌, ◌^◌, ◌<◌, length};
-ghost use Rattle.acpi_writer.specs.Flags.{flag_number};
+ghost use Rattle.acpi_writer.specs.Words.{flag_number};
 
 use crate::numbers::bit_of;
 

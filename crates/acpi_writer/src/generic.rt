@@ -1,6 +1,6 @@
 //! Generic addresses (GAS, section 5.2.3.2): registers, as tables give them.
 ghost use Rattle.std.specs.Prelude.{◌≡◌};
-ghost use Rattle.acpi_base.specs.Address.{size_code, space_code};
+ghost use Rattle.acpi_base.specs.Words.{size_code, space_code};
 ghost use Rattle.acpi_writer.specs.Generic as bytes;
 
 use crate::fields::{Field, Record};

@@ -1,10 +1,8 @@
 //! The Generic Timer Description Table (GTDT, section 5.2.24), from the timers of an Arm machine.
 ghost use Rattle.std.specs.Prelude.{◌≡◌, ◌^◌, ◌<◌, length, take, IfOk};
-ghost use Rattle.acpi_base.specs.Steps.{Gives};
-ghost use Rattle.acpi_base.specs.declared.table.signature.TheConstants.Signature.{GTDT};
-ghost use Rattle.acpi_writer.specs.Contents.{most, sized};
-ghost use Rattle.acpi_writer.specs.Gtdt.{AreTimersFit, IsGtdt, gtdt_body, gtdt_checked, gtdt_written};
-ghost use Rattle.acpi_writer.specs.Table.{IsTableOf, Keeps, table_written};
+ghost use Rattle.acpi_base.specs.Words.{Gives};
+ghost use Rattle.acpi.specs.Types.{GTDT};
+ghost use Rattle.acpi_writer.specs.Words.{most, sized, AreTimersFit, IsGtdt, gtdt_body, gtdt_checked, gtdt_written, IsTableOf, Keeps, table_written};
 
 mod structures;
 

@@ -1,9 +1,8 @@
 //! The High Precision Event Timer table (HPET), from what it says of its event timer block.
 ghost use Rattle.std.specs.Prelude.{◌≡◌, length, take, IfOk};
-ghost use Rattle.acpi_base.specs.Steps.{Gives};
+ghost use Rattle.acpi_base.specs.Words.{Gives};
 ghost use Rattle.acpi_writer.specs.HpetBytes as bytes;
-ghost use Rattle.acpi_writer.specs.HpetLaws.{IsHpet};
-ghost use Rattle.acpi_writer.specs.Table.{Keeps};
+ghost use Rattle.acpi_writer.specs.Words.{IsHpet, Keeps};
 
 use crate::error::WriterError;
 use crate::fields::{Field, Record};

@@ -1,6 +1,6 @@
 //! Who made a table, as its header says (section 5.2.6).
 ghost use Rattle.std.specs.Prelude.{◌≡◌};
-ghost use Rattle.acpi_writer.specs.Table.{AreIds, are_texts};
+ghost use Rattle.acpi_writer.specs.Words.{AreIds, are_texts};
 
 use acpi_base::bytes::is_text;
 

@@ -1,21 +1,5 @@
 //! Laws of the tables that are written: each is the contract of a function that does nothing.
-ghost use Rattle.acpi_writer.specs.Aml.{DsdtIsRead, SsdtIsRead};
-ghost use Rattle.acpi_writer.specs.Bgrt.{BgrtIsRead, BgrtIsValid};
-ghost use Rattle.acpi_writer.specs.Facs.{FacsIsRead};
-ghost use Rattle.acpi_writer.specs.FadtLaws.{FadtIsRead, FadtIsValid};
-ghost use Rattle.acpi_writer.specs.GicMadt.{GicMadtIsRead, GicMadtIsValid};
-ghost use Rattle.acpi_writer.specs.Gtdt.{GtdtIsRead, GtdtIsValid};
-ghost use Rattle.acpi_writer.specs.HpetLaws.{HpetIsRead, HpetIsValid};
-ghost use Rattle.acpi_writer.specs.ImageLaws.{HpetInImage, MadtInImage, McfgInImage, PlatformInImage};
-ghost use Rattle.acpi_writer.specs.MachineLaws.{LaidAreFound, MachineIsRead, TreeIsRead};
-ghost use Rattle.acpi_writer.specs.MadtLaws.{MadtIsRead, MadtIsValid, MailboxIsRead};
-ghost use Rattle.acpi_writer.specs.McfgLaws.{McfgIsRead, McfgIsValid};
-ghost use Rattle.acpi_writer.specs.Root.{RootIsRead, RootIsValid};
-ghost use Rattle.acpi_writer.specs.Rsdp.{RsdpIsRead};
-ghost use Rattle.acpi_writer.specs.Slit.{SlitIsRead, SlitIsValid};
-ghost use Rattle.acpi_writer.specs.SpcrLaws.{SpcrIsRead, SpcrIsValid};
-ghost use Rattle.acpi_writer.specs.SratLaws.{SratIsRead, SratIsValid};
-ghost use Rattle.acpi_writer.specs.Table.{IdsAreRead};
+ghost use Rattle.acpi_writer.specs.Words.{DsdtIsRead, SsdtIsRead, BgrtIsRead, BgrtIsValid, FacsIsRead, FadtIsRead, FadtIsValid, GicMadtIsRead, GicMadtIsValid, GtdtIsRead, GtdtIsValid, HpetIsRead, HpetIsValid, HpetInImage, MadtInImage, McfgInImage, PlatformInImage, LaidAreFound, MachineIsRead, TreeIsRead, MadtIsRead, MadtIsValid, MailboxIsRead, McfgIsRead, McfgIsValid, RootIsRead, RootIsValid, RsdpIsRead, SlitIsRead, SlitIsValid, SpcrIsRead, SpcrIsValid, SratIsRead, SratIsValid, IdsAreRead};
 
 use std::alloc::Allocator;
 

@@ -1,10 +1,9 @@
 //! A table that a machine can list, by what it is to say: as `TableContents` has it, or in records of a caller's own.
 ghost use Rattle.std.specs.Prelude.{◌≡◌, ℕ, ◌^◌, ◌<◌, ◌≤◌, ◌++◌, List, Result, length, take, drop, IfOk};
-ghost use Rattle.acpi_base.specs.Steps.{Gives};
+ghost use Rattle.acpi_base.specs.Words.{Gives};
 ghost use Rattle.acpi_writer.specs.Contents.{Moves, most, placed_by, sized};
 ghost use Rattle.acpi_writer.specs.Table.{Keeps};
-ghost use Rattle.acpi_writer.specs.declared.error.WriterError.{WriterError};
-ghost use Rattle.acpi_writer.specs.declared.ids.TableIds.{TableIds};
+ghost use Rattle.acpi_writer.specs.Types.{WriterError, TableIds};
 
 use crate::contents::{fill_up, rounded};
 use crate::error::WriterError;

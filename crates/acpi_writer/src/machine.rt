@@ -1,13 +1,8 @@
 //! A whole machine, laid out in one region of a guest's memory.
-ghost use Rattle.std.specs.Prelude.{◌≡◌, ◌+◌, ◌*◌, ◌^◌, ◌<◌, ◌≤◌, ◌++◌, flat_map, length, map, take, IfOk};
-ghost use Rattle.std.specs.List.{All};
-ghost use Rattle.acpi_base.specs.Bytes.{spelling};
-ghost use Rattle.acpi_base.specs.Steps.{Gives};
-ghost use Rattle.acpi_writer.specs.Contents.{bytes_by};
-ghost use Rattle.acpi_writer.specs.Laid.{addresses, laid, padded, rounded};
+ghost use Rattle.std.specs.Prelude.{◌≡◌, ◌+◌, ◌*◌, ◌^◌, ◌<◌, ◌≤◌, ◌++◌, flat_map, length, map, take, IfOk, All};
+ghost use Rattle.acpi_base.specs.Words.{spelling, Gives};
+ghost use Rattle.acpi_writer.specs.Words.{bytes_by, addresses, laid, padded, rounded, rsdp_bytes, Keeps};
 ghost use Rattle.acpi_writer.specs.Machine as whole;
-ghost use Rattle.acpi_writer.specs.Rsdp.{rsdp_bytes};
-ghost use Rattle.acpi_writer.specs.Table.{Keeps};
 
 use crate::aml::Dsdt;
 use crate::checked::require;

@@ -1,11 +1,10 @@
 //! The Multiple APIC Description Table (MADT, section 5.2.12), from lists of processors and interrupt controllers.
-ghost use Rattle.std.specs.Prelude.{◌≡◌, ◌^◌, ◌<◌, flat_map, length, not, take, IfOk};
-ghost use Rattle.std.specs.List.{All, list_all};
-ghost use Rattle.acpi_base.specs.Steps.{Gives};
-ghost use Rattle.acpi_writer.specs.Contents.{most, sized};
+ghost use Rattle.std.specs.Prelude.{◌≡◌, ◌^◌, ◌<◌, flat_map, length, not, take, IfOk, All};
+ghost use Rattle.acpi_base.specs.FromStd.{list_all};
+ghost use Rattle.acpi_base.specs.Words.{Gives};
+ghost use Rattle.acpi_writer.specs.Words.{most, sized, AreFit, FitsMailbox, IsMadt, Keeps};
 ghost use Rattle.acpi_writer.specs.MadtBytes as bytes;
-ghost use Rattle.acpi_writer.specs.MadtLaws.{AreFit, FitsAddress, FitsMailbox, IsMadt};
-ghost use Rattle.acpi_writer.specs.Table.{Keeps};
+ghost use Rattle.acpi_writer.specs.MadtLaws.{FitsAddress};
 
 mod entries;
 pub mod gic;

@@ -1,12 +1,9 @@
 //! The PCI Express memory mapped configuration space table (MCFG), from its regions.
-ghost use Rattle.std.specs.Prelude.{◌≡◌, ◌++◌, ◌^◌, ◌<◌, flat_map, length, take, IfOk};
-ghost use Rattle.std.specs.List.{All};
-ghost use Rattle.acpi_base.specs.Steps.{Gives};
-ghost use Rattle.acpi_writer.specs.Contents.{most, sized};
+ghost use Rattle.std.specs.Prelude.{◌≡◌, ◌++◌, ◌^◌, ◌<◌, flat_map, length, take, IfOk, All};
+ghost use Rattle.acpi_base.specs.Words.{Gives};
+ghost use Rattle.acpi_writer.specs.Words.{most, sized, IsMcfg, IsTableOf, Keeps};
 ghost use Rattle.acpi_writer.specs.McfgBytes as bytes;
-ghost use Rattle.acpi_writer.specs.McfgLaws.{IsMcfg};
-ghost use Rattle.acpi_base.specs.declared.table.signature.TheConstants.Signature.{MCFG};
-ghost use Rattle.acpi_writer.specs.Table.{IsTableOf, Keeps};
+ghost use Rattle.acpi.specs.Types.{MCFG};
 
 use crate::error::WriterError;
 use crate::fields::{Field, Record};

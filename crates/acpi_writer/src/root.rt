@@ -1,10 +1,8 @@
 //! The root tables: the RSDT (section 5.2.7) and the XSDT (section 5.2.8), from the addresses of the tables.
 ghost use Rattle.std.specs.Prelude.{◌≡◌, ◌^◌, ◌<◌, length, take, IfOk};
-ghost use Rattle.acpi.specs.declared.root.RootKind.TheVariants.{Rsdt, Xsdt};
-ghost use Rattle.acpi_base.specs.Bytes.{spelling};
-ghost use Rattle.acpi_base.specs.Steps.{Gives};
-ghost use Rattle.acpi_writer.specs.Root.{IsRoot, root_written};
-ghost use Rattle.acpi_writer.specs.Table.{Keeps};
+ghost use Rattle.acpi_writer.specs.Types.{Rsdt, Xsdt};
+ghost use Rattle.acpi_base.specs.Words.{spelling, Gives};
+ghost use Rattle.acpi_writer.specs.Words.{IsRoot, root_written, Keeps};
 
 use crate::error::WriterError;
 use crate::fields::Field;

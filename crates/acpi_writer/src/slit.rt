@@ -1,9 +1,7 @@
 //! The System Locality Information Table (SLIT, section 5.2.17), from the distances between localities.
 ghost use Rattle.std.specs.Prelude.{◌≡◌, ◌*◌, ◌==◌, ◌^◌, ◌<◌, length, take, IfOk};
-ghost use Rattle.acpi_base.specs.Steps.{Gives};
-ghost use Rattle.acpi_writer.specs.Contents.{most, sized};
-ghost use Rattle.acpi_writer.specs.Slit.{IsSlit, slit_checked, slit_written};
-ghost use Rattle.acpi_writer.specs.Table.{Keeps};
+ghost use Rattle.acpi_base.specs.Words.{Gives};
+ghost use Rattle.acpi_writer.specs.Words.{most, sized, IsSlit, slit_checked, slit_written, Keeps};
 
 use crate::checked::{Checked, require};
 use crate::contents::SlitContents;

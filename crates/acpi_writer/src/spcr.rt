@@ -1,11 +1,10 @@
 //! The Serial Port Console Redirection Table (SPCR, section 5.2.6), from what it says of a serial port. Its layout is
 //! Microsoft's.
 ghost use Rattle.std.specs.Prelude.{◌≡◌, ◌^◌, ◌<◌, ◌&&◌, length, take, IfOk, IsUtf8};
-ghost use Rattle.acpi_base.specs.Steps.{Gives};
-ghost use Rattle.acpi_writer.specs.Contents.{most, sized};
+ghost use Rattle.acpi_base.specs.Words.{Gives};
+ghost use Rattle.acpi_writer.specs.Words.{most, sized, Keeps};
 ghost use Rattle.acpi_writer.specs.Spcr as spcr;
 ghost use Rattle.acpi_writer.specs.SpcrLaws as laws;
-ghost use Rattle.acpi_writer.specs.Table.{Keeps};
 
 mod fields;
 

@@ -1,6 +1,5 @@
 //! What has bytes in a table: an entry, entries in a row, one part after another, and bytes that are given.
-ghost use Rattle.std.specs.Prelude.{◌≡◌, ℕ, List, ◌++◌, length, flat_map};
-ghost use Rattle.std.specs.List.{All};
+ghost use Rattle.std.specs.Prelude.{◌≡◌, ℕ, List, ◌++◌, length, flat_map, All};
 ghost use Rattle.acpi_writer.specs.Spelled.{Measures};
 
 /// Something that has bytes in a table.

@@ -1,9 +1,9 @@
 //! The System Resource Affinity Table (SRAT, section 5.2.16), from the domains of processors and of ranges of memory.
-ghost use Rattle.std.specs.Prelude.{◌≡◌, ◌^◌, ◌<◌, flat_map, length, take, IfOk};
-ghost use Rattle.std.specs.List.{All, list_all};
-ghost use Rattle.acpi_base.specs.Steps.{Gives};
-ghost use Rattle.acpi_base.specs.declared.table.signature.TheConstants.Signature.{SRAT};
-ghost use Rattle.acpi_numa.specs.declared.srat.affinities.MemoryRange.{MemoryRange};
+ghost use Rattle.std.specs.Prelude.{◌≡◌, ◌^◌, ◌<◌, flat_map, length, take, IfOk, All};
+ghost use Rattle.acpi_base.specs.FromStd.{list_all};
+ghost use Rattle.acpi_base.specs.Words.{Gives};
+ghost use Rattle.acpi.specs.Types.{SRAT};
+ghost use Rattle.acpi_writer.specs.Types.{MemoryRange};
 ghost use Rattle.acpi_writer.specs.Contents.{most, sized};
 ghost use Rattle.acpi_writer.specs.Srat as srat;
 ghost use Rattle.acpi_writer.specs.SratLaws as laws;

@@ -1,10 +1,8 @@
 //! A table from its header's fields and the bytes after its header (section 5.2.6).
 ghost use Rattle.std.specs.Prelude.{◌≡◌, ◌+◌, ◌^◌, ◌<◌, ◌≤◌, ◌++◌, drop, length, take, IfOk, Ok};
-ghost use Rattle.acpi_base.specs.Steps.{Gives};
-ghost use Rattle.acpi_base.specs.Text.{letters_of};
-ghost use Rattle.acpi_image.specs.Written.{with_sum};
-ghost use Rattle.acpi_writer.specs.Contents.{most, sized};
-ghost use Rattle.acpi_writer.specs.Table.{IsTableOf, Keeps, if_checked, table_bytes, table_head, table_written};
+ghost use Rattle.acpi_base.specs.Words.{Gives, letters_of};
+ghost use Rattle.acpi_image.specs.Words.{with_sum};
+ghost use Rattle.acpi_writer.specs.Words.{most, sized, IsTableOf, Keeps, if_checked, table_bytes, table_head, table_written};
 
 use crate::checked::Checked;
 use crate::error::WriterError;

@@ -1,9 +1,7 @@
 //! A handler over one region of physical memory that the caller has mapped.
 ghost use Rattle.std.specs.Prelude.{◌≡◌, ◌<◌, ◌≤◌, length, Some, None, IfOk, IfErr};
-ghost use Rattle.acpi_base.specs.Memory.{IsMemory, IsMemory-prop, at, rest_from};
-ghost use Rattle.acpi_base.specs.OneRegion.{one_region};
-ghost use Rattle.acpi_base.specs.Steps.{Gives};
-ghost use Rattle.acpi_base.specs.declared.error.AcpiError.TheVariants.{MapFailed};
+ghost use Rattle.acpi_base.specs.Words.{IsMemory, IsMemory-prop, at, rest_from, one_region, Gives};
+ghost use Rattle.acpi.specs.Types.{MapFailed};
 
 use acpi_base::{AcpiError, AcpiHandler, AcpiResult};
 use std::fmt;

@@ -1,8 +1,7 @@
 //! A handler over several regions of physical memory that the caller has mapped.
 ghost use Rattle.std.specs.Prelude.{◌≡◌, ◌<◌, ◌≤◌, [], length, Some, None, IfOk, IfErr, IfNone, IfSome};
-ghost use Rattle.acpi_base.specs.Memory.{IsMemory, IsMemory-prop, at, rest_from};
-ghost use Rattle.acpi_base.specs.Steps.{Gives};
-ghost use Rattle.acpi_base.specs.declared.error.AcpiError.TheVariants.{MapFailed};
+ghost use Rattle.acpi_base.specs.Words.{IsMemory, IsMemory-prop, at, rest_from, Gives};
+ghost use Rattle.acpi.specs.Types.{MapFailed};
 ghost use Rattle.acpi.specs.Regions.{IsAscending, IsAscending-prop, check_regions, region_memory, regions_of};
 
 use super::region::{MappedRegion, RegionError};

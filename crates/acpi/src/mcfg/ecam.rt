@@ -1,7 +1,7 @@
 //! The addresses of the configuration space of PCI functions, by the base of bus 0.
 ghost use Rattle.std.specs.Prelude.{◌≡◌, IfSome};
-ghost use Rattle.std.specs.Iterator.{YieldsFirst, item_count};
-ghost use Rattle.acpi.specs.Ecam.{IsBeside, ecam_address, spans_left, spans_of};
+ghost use Rattle.acpi_base.specs.FromStd.{YieldsFirst, item_count};
+ghost use Rattle.acpi.specs.Words.{IsBeside, ecam_address, spans_left, spans_of};
 
 use super::{McfgEntry, PciConfigRegions, region_for};
 use acpi_base::AddressRange;

@@ -1,6 +1,6 @@
 //! The Multiprocessor Wakeup Mailbox, by which the firmware wakes processors (section 5.2.12.19).
 ghost use Rattle.std.specs.Prelude.{◌≡◌, ◌+◌, ◌++◌, ◌<◌, ◌∷◌, ℕ, List, [], length, OnErr, OnOk, Option, Result, Some};
-ghost use Rattle.acpi_base.specs.declared.error.AcpiError.{AcpiError};
+ghost use Rattle.acpi.specs.Types.{AcpiError};
 ghost use Rattle.acpi.specs.declared.platform.mailbox.MailboxCall.{MailboxCall};
 ghost use Rattle.acpi.specs.declared.platform.mailbox.MailboxWrite.{MailboxWrite};
 

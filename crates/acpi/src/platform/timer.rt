@@ -1,7 +1,7 @@
 //! The Power Management Timer (section 4.8.3.3).
 ghost use Rattle.std.specs.Prelude.{◌≡◌};
-ghost use Rattle.acpi_fixed.specs.View.{viewed};
-ghost use Rattle.acpi.specs.Timer.{timer_from, timer_of};
+ghost use Rattle.acpi_fixed.specs.Words.{viewed};
+ghost use Rattle.acpi.specs.Words.{timer_from, timer_of};
 
 use acpi_base::address::GenericAddress;
 use acpi_base::{AcpiResult, Lender};

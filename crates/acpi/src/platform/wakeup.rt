@@ -1,10 +1,7 @@
 //! Waking a processor by the Multiprocessor Wakeup Mailbox (section 5.2.12.19).
 ghost use Rattle.std.specs.Prelude.{◌≡◌, ℕ, [], OnOk, MatchResult, Some, Ok, Err};
-ghost use Rattle.acpi_base.specs.declared.error.AcpiError.{AcpiError};
-ghost use Rattle.acpi.specs.Footprint.{AllowsBelow, FootprintBelow, lookup_ranges};
-ghost use Rattle.acpi.specs.Platform.{madt_kind};
-ghost use Rattle.acpi.specs.Tables.{of_tables};
-ghost use Rattle.acpi.specs.Wake.{Makes, MakesAndReads, MakesUntilWoken, WakesOrWaits, commands, mailbox_found, opening, reads, wakes_by};
+ghost use Rattle.acpi.specs.Types.{AcpiError};
+ghost use Rattle.acpi.specs.Words.{AllowsBelow, FootprintBelow, lookup_ranges, madt_kind, of_tables, Makes, MakesAndReads, MakesUntilWoken, WakesOrWaits, commands, mailbox_found, opening, reads, wakes_by};
 
 use super::mailbox::Mailbox;
 use crate::tables::AcpiTables;

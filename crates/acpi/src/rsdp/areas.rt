@@ -1,12 +1,7 @@
 //! The search for the RSDP in areas that a caller gives, if firmware lends less than whole areas.
 ghost use Rattle.std.specs.Prelude.{◌≡◌, ◌<◌, ◌≤◌, ◌^◌, ◌+◌, ◌*◌, ℕ, Ok, true, IfErr, IfOk, IfSome, option_map, IsOk};
-ghost use Rattle.acpi_base.specs.Mapping.{IsOfMemory, bytes_of, handler_of, start_of};
-ghost use Rattle.acpi_base.specs.Ranges.{Allows, Footprint};
-ghost use Rattle.acpi_base.specs.Steps.{Gives, lent};
-ghost use Rattle.acpi.specs.Areas.{areas_ranges, count_in, first_in, is_refused_in, walk_in, IsSearchedIn, found_in_areas};
-ghost use Rattle.acpi.specs.OpenedRanges.{rsdp_ranges, walk_ranges};
-ghost use Rattle.acpi.specs.Rsdp.{rsdp_at};
-ghost use Rattle.acpi.specs.Search.{IsRefused, placed, walk};
+ghost use Rattle.acpi_base.specs.Words.{IsOfMemory, bytes_of, handler_of, start_of, Allows, Footprint, Gives, lent};
+ghost use Rattle.acpi.specs.Words.{areas_ranges, count_in, first_in, is_refused_in, walk_in, IsSearchedIn, found_in_areas, rsdp_ranges, walk_ranges, rsdp_at, IsRefused, placed, walk};
 ghost use Rattle.acpi.specs.Areas as areas;
 
 use super::{Rsdp, check_mapped};

@@ -1,12 +1,7 @@
 //! The search for the RSDP in the firmware's areas, on systems that boot by a BIOS (section 5.2.5.1).
 ghost use Rattle.std.specs.Prelude.{◌≡◌, true, ◌<◌, ◌≤◌, ◌^◌, ◌+◌, length, Ok, IfOk, IfSome, option_map, bytes_eq, IsOk};
-ghost use Rattle.acpi_base.specs.Bytes.{part};
-ghost use Rattle.acpi_base.specs.Mapping.{IsOfMemory, handler_of, start_of};
-ghost use Rattle.acpi_base.specs.Steps.{Gives, lent};
-ghost use Rattle.acpi_base.specs.Ranges.{Allows, Footprint};
-ghost use Rattle.acpi.specs.OpenedRanges.{area_ranges, search_ranges};
-ghost use Rattle.acpi.specs.Rsdp.{rsd_ptr, rsdp_at};
-ghost use Rattle.acpi.specs.Search.{second_area, count_of, found_in, found_rsdp, last_in, placed, room_of, walk, word_in, IsSearched};
+ghost use Rattle.acpi_base.specs.Words.{part, IsOfMemory, handler_of, start_of, Gives, lent, Allows, Footprint};
+ghost use Rattle.acpi.specs.Words.{area_ranges, search_ranges, rsd_ptr, rsdp_at, second_area, count_of, found_in, found_rsdp, last_in, placed, room_of, walk, word_in, IsSearched};
 
 use super::{RawBytes, Rsdp, map_rsdp};
 use acpi_base::bytes::u16_in;

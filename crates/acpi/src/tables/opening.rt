@@ -1,14 +1,7 @@
 //! Opening the root table: by its address, by an RSDP, by the search for one.
 ghost use Rattle.std.specs.Prelude.{◌≡◌, IfOk, IsOk};
-ghost use Rattle.acpi_base.specs.Ranges.{Allows, Footprint};
-ghost use Rattle.acpi_base.specs.Mapping.{start_of, bytes_of};
-ghost use Rattle.acpi_base.specs.Steps.{Gives};
-ghost use Rattle.acpi.specs.Areas.{opened_in_areas, opened_in_areas_ranges};
-ghost use Rattle.acpi.specs.Opened.{opened_at, opened_from, opened_of, opened_by_rsdp, opened_by_search};
-ghost use Rattle.acpi.specs.OpenedRanges.{opened_by_rsdp_ranges, opened_by_search_ranges, opened_ranges};
-ghost use Rattle.acpi.specs.Root.{root_of_revision};
-ghost use Rattle.acpi.specs.Rsdp.{root_of_rsdp, rsdp_at};
-ghost use Rattle.acpi.specs.Tables.{SpellsPointers, lender_of};
+ghost use Rattle.acpi_base.specs.Words.{Allows, Footprint, start_of, bytes_of, Gives};
+ghost use Rattle.acpi.specs.Words.{opened_in_areas, opened_in_areas_ranges, opened_at, opened_from, opened_of, opened_by_rsdp, opened_by_search, opened_by_rsdp_ranges, opened_by_search_ranges, opened_ranges, root_of_revision, root_of_rsdp, rsdp_at, SpellsPointers, lender_of};
 
 use super::AcpiTables;
 use crate::root::{RootKind, RootPointer};

@@ -1,19 +1,9 @@
 //! The places of the tables, all tables of a type, and a lookup by a signature.
 ghost use Rattle.std.specs.Prelude.{◌≡◌, ◌^◌, ◌<◌, ◌≤◌, ◌+◌, List, Ok, IfOk, length, map};
-ghost use Rattle.std.specs.Result.{result_ok};
-ghost use Rattle.acpi_base.specs.Mapping.{IsOfMemory, bytes_of, handler_of, start_of};
-ghost use Rattle.acpi_base.specs.Ranges.{Allows};
-ghost use Rattle.acpi_base.specs.Steps.{Gives};
-ghost use Rattle.acpi_base.specs.Table.{plain_kind};
-ghost use Rattle.acpi_fixed.specs.View.{viewed};
-ghost use Rattle.acpi.specs.Footprint.{AllowsBelow, FootprintBelow, header_ranges, lookup_ranges};
-ghost use Rattle.acpi.specs.Lookup.{lookup};
-ghost use Rattle.acpi.specs.Members.{kind_ranges, members_of, tables_found};
-ghost use Rattle.acpi.specs.Placed.{found_left, members_left, places_left, root_place};
-ghost use Rattle.acpi.specs.Pointers.{pointers_left};
-ghost use Rattle.acpi.specs.Places.{dsdt_place, dsdt_place_ranges, facs_place, facs_place_ranges, led_by, led_by_ranges, led_ranges, place_ranges, places_of};
-ghost use Rattle.acpi.specs.Root.{signature_of};
-ghost use Rattle.acpi.specs.Tables.{kind_of, lender_of, may_of, memory_of, of_tables, pointers_of, root_address_of, root_of};
+ghost use Rattle.acpi_base.specs.FromStd.{result_ok};
+ghost use Rattle.acpi_base.specs.Words.{IsOfMemory, bytes_of, handler_of, start_of, Allows, Gives, plain_kind};
+ghost use Rattle.acpi_fixed.specs.Words.{viewed};
+ghost use Rattle.acpi.specs.Words.{AllowsBelow, FootprintBelow, header_ranges, lookup_ranges, lookup, kind_ranges, members_of, tables_found, found_left, members_left, places_left, root_place, pointers_left, dsdt_place, dsdt_place_ranges, facs_place, facs_place_ranges, led_by, led_by_ranges, led_ranges, place_ranges, places_of, signature_of, kind_of, lender_of, may_of, memory_of, of_tables, pointers_of, root_address_of, root_of};
 
 use super::AcpiTables;
 use crate::found::FoundTables;

@@ -126,7 +126,7 @@ pub(crate) fn distributor_in(entry: &MadtEntry) -> Option<GicDistributor>
 /// An item of a list of the model.
 pub trait GicPart: Drop {
     ghost use Rattle.std.specs.Prelude.{ℕ, Option};
-    ghost use Rattle.acpi_base.specs.declared.tables.madt.entry.MadtEntry.{MadtEntry};
+    ghost use Rattle.acpi.specs.Types.{MadtEntry};
 
     // What an entry of a table of a revision says.
     ghost said_in: { ℕ → MadtEntry → Option Self };

@@ -1,7 +1,6 @@
 //! A lender that may be asked for some ranges alone.
 ghost use Rattle.std.specs.Prelude.{◌&&◌, ◌≡◌};
-ghost use Rattle.acpi_base.specs.Ranges.{is_listed};
-ghost use Rattle.acpi_base.specs.Guarded.{guarded_by, listed_by};
+ghost use Rattle.acpi_base.specs.Words.{is_listed, guarded_by, listed_by};
 
 use crate::error::AcpiResult;
 use crate::memory::handler::Lender;

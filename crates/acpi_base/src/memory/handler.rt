@@ -1,7 +1,7 @@
 //! Handlers and lenders of physical memory, and records that are read from it.
 ghost use Rattle.std.specs.Prelude.{◌≡◌, ℕ, ◌<◌, ◌≤◌, Bool, true, List, length, Some, None, IfOk, IfErr};
 ghost use Rattle.acpi_base.specs.Memory.{Memory, IsMemory, at};
-ghost use Rattle.acpi_base.specs.declared.error.AcpiError.TheVariants.{MapFailed};
+ghost use Rattle.acpi_base.specs.Types.{MapFailed};
 
 use crate::bytes::field;
 use crate::error::AcpiResult;

@@ -1,6 +1,6 @@
 //! Records in lent memory.
 ghost use Rattle.std.specs.Prelude.{◌≡◌, ◌≤◌, length};
-ghost use Rattle.std.specs.Coded.{Coded-set};
+ghost use Rattle.acpi_base.specs.FromStd.{Coded-set};
 ghost use Rattle.acpi_base.specs.Claim.{shown_by};
 
 use crate::error::AcpiResult;

@@ -1,13 +1,8 @@
 //! A model that is being gathered.
 ghost use Rattle.std.specs.Prelude.{◌≡◌, [], vec_capacity, vec_len, IfOk, IfErr, List, ◌∷◌};
-ghost use Rattle.std.specs.List.{cons_option};
+ghost use Rattle.acpi_base.specs.FromStd.{cons_option};
 ghost use Rattle.acpi_base.specs.declared.error.AcpiError.TheVariants.{AllocError as NoMemory};
-ghost use Rattle.acpi_base.specs.ModelBuilder.{HasRoom, HoldsRoom, model_behind};
-ghost use Rattle.acpi_base.specs.Model.{gathered};
-ghost use Rattle.acpi_base.specs.Items.{counts_of, item_said};
-ghost use Rattle.acpi_base.specs.declared.model.item.MadtItem.{MadtItem};
-ghost use Rattle.acpi_base.specs.Entries.{IsEntry};
-ghost use Rattle.acpi_base.specs.Madt.{madt_layout};
+ghost use Rattle.acpi_base.specs.Words.{HasRoom, HoldsRoom, model_behind, gathered, counts_of, item_said, MadtItem, IsEntry, madt_layout};
 
 use super::ModelAndProcessors;
 use super::counts::Counts;

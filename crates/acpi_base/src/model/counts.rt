@@ -1,6 +1,6 @@
 //! The number of items to gather, or the refusal.
 ghost use Rattle.std.specs.Prelude.{◌≡◌};
-ghost use Rattle.acpi_base.specs.Items.{model_counts};
+ghost use Rattle.acpi_base.specs.Words.{model_counts};
 
 use super::item::MadtItem;
 use crate::bytes::skip;

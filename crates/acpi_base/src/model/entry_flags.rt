@@ -1,7 +1,6 @@
 //! The flags of a MADT's entries by name, so that no caller masks bits (section 5.2.12).
 ghost use Rattle.std.specs.Prelude.{◌≡◌};
-ghost use Rattle.acpi_base.specs.Bits.{has_bit};
-ghost use Rattle.acpi_base.specs.Interrupts.{polarity_of, trigger_mode_of};
+ghost use Rattle.acpi_base.specs.Words.{has_bit, polarity_of, trigger_mode_of};
 
 use super::interrupt::{Polarity, TriggerMode};
 use super::item::{polarity_of, trigger_mode_of};

@@ -1,9 +1,6 @@
 //! The walks along the entries: the first one counts, or finds a fault, and the second one gathers.
 ghost use Rattle.std.specs.Prelude.{◌≡◌, [], IfOk, IfErr};
-ghost use Rattle.acpi_base.specs.Model.{AsksMemory, gathered, model_with, items_of};
-ghost use Rattle.acpi_base.specs.Steps.{GivesOrFull};
-ghost use Rattle.acpi_base.specs.Items.{counts_of};
-ghost use Rattle.acpi_base.specs.Madt.{cut_of};
+ghost use Rattle.acpi_base.specs.Words.{AsksMemory, gathered, model_with, items_of, GivesOrFull, counts_of, cut_of};
 ghost use Rattle.acpi_base.specs.declared.error.AcpiError.TheVariants.{AllocError as NoMemory};
 
 use super::ModelAndProcessors;

@@ -1,8 +1,7 @@
 //! ISA interrupts, and the one that carries the machine's events, as Interrupt Source Overrides wire them
 //! (section 5.2.12.5).
 ghost use Rattle.std.specs.Prelude.{◌≡◌, IfSome};
-ghost use Rattle.acpi_base.specs.Isa.{straight, wired, SharedByOverrides, isa_interrupt, sci_interrupt};
-ghost use Rattle.acpi_base.specs.IsaOverrides.{IsGathered};
+ghost use Rattle.acpi_base.specs.Words.{straight, wired, SharedByOverrides, isa_interrupt, sci_interrupt, IsGathered};
 
 use super::interrupt::{Apic, InterruptSourceOverride, Polarity, TriggerMode};
 use super::isa_overrides::IsaOverrides;

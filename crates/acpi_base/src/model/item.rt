@@ -1,10 +1,7 @@
 //! One entry of a MADT as an item of the interrupt model (section 5.2.12).
 ghost use Rattle.std.specs.Prelude.{◌≡◌, Ok};
-ghost use Rattle.std.specs.Result.{result_map_both};
-ghost use Rattle.acpi_base.specs.Entries.{IsEntry};
-ghost use Rattle.acpi_base.specs.Interrupts.{io_apic_of, item_of, nmi_line_of, polarity_of, processor_for, trigger_mode_of};
-ghost use Rattle.acpi_base.specs.Madt.{madt_layout};
-ghost use Rattle.acpi_base.specs.Items.{said_of};
+ghost use Rattle.acpi_base.specs.FromStd.{result_map_both};
+ghost use Rattle.acpi_base.specs.Words.{IsEntry, io_apic_of, item_of, nmi_line_of, polarity_of, processor_for, trigger_mode_of, madt_layout, said_of};
 ghost use Rattle.acpi_base.specs.declared.model.item.MadtItem.TheVariants as item;
 ghost use Rattle.acpi_base.specs.declared.tables.madt.entry.MadtEntry.TheVariants as variants;
 

@@ -1,9 +1,7 @@
 //! What the entries of a MADT say, one after the other, with no memory for a list.
 ghost use Rattle.std.specs.Prelude.{◌≡◌, ◌-◌, ◌*◌, ◌≤◌, length, ◌+◌};
-ghost use Rattle.std.specs.Iterator.{YieldsFirst, item_count};
-ghost use Rattle.acpi_base.specs.Items.{items_left, model_counts};
-ghost use Rattle.acpi_base.specs.Model.{items_of};
-ghost use Rattle.acpi_base.specs.Mapping.{bytes_of};
+ghost use Rattle.acpi_base.specs.FromStd.{YieldsFirst, item_count};
+ghost use Rattle.acpi_base.specs.Words.{items_left, model_counts, items_of, bytes_of};
 
 use super::counts::Counts;
 use super::item::MadtItem;

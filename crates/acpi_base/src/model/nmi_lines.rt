@@ -1,7 +1,7 @@
 //! The LINT pins of one processor's local APIC that NMIs are connected to (sections 5.2.12.7 and 5.2.12.13).
 ghost use Rattle.std.specs.Prelude.{◌≡◌};
-ghost use Rattle.std.specs.Iterator.{YieldsFirst, item_count};
-ghost use Rattle.acpi_base.specs.NmiLines.{is_line_of, lines_for, lines_left};
+ghost use Rattle.acpi_base.specs.FromStd.{YieldsFirst, item_count};
+ghost use Rattle.acpi_base.specs.Words.{is_line_of, lines_for, lines_left};
 
 use super::interrupt::{Apic, NmiLine, NmiProcessor};
 use std::alloc::Allocator;

@@ -1,7 +1,6 @@
 //! The I/O APIC and its pin that a global system interrupt comes to (section 5.2.12.3).
-ghost use Rattle.std.specs.Prelude.{◌≡◌};
-ghost use Rattle.std.specs.Option.{option_map};
-ghost use Rattle.acpi_base.specs.Pin.{IsNearest, io_apic_for, pin_of};
+ghost use Rattle.std.specs.Prelude.{◌≡◌, option_map};
+ghost use Rattle.acpi_base.specs.Words.{IsNearest, io_apic_for, pin_of};
 
 use super::interrupt::{Apic, IoApic};
 use std::alloc::Allocator;

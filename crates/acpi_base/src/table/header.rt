@@ -1,9 +1,6 @@
 //! The header that every table begins with, and its checks (section 5.2.6).
 ghost use Rattle.std.specs.Prelude.{◌≡◌, ◌⊎◌, ◌^◌, ◌<◌, ◌≤◌, IfErr, IfOk, IsOk, Ok, Err};
-ghost use Rattle.acpi_base.specs.declared.error.AcpiError.TheVariants.{SdtInvalidLength};
-ghost use Rattle.acpi_base.specs.Header.{header_at, check_names, check_table};
-ghost use Rattle.acpi_base.specs.Laws.{DamageShows};
-ghost use Rattle.acpi_base.specs.Text.{IsTextOf};
+ghost use Rattle.acpi_base.specs.Words.{SdtInvalidLength, header_at, check_names, check_table, DamageShows, IsTextOf};
 
 use crate::bytes::{is_text, text_of, u8_in, u32_in};
 pub use crate::bytes::{byte_sum, field};

@@ -1,10 +1,6 @@
 //! The table at an address (section 5.2.6).
 ghost use Rattle.std.specs.Prelude.{◌≡◌, true, ◌+◌, ◌^◌, ◌<◌, ◌≤◌, length, IfErr, IfOk, Ok, Err};
-ghost use Rattle.acpi_base.specs.Claim.{IsLentOf, IsWholeClaim, claimed_at, claimed_from, shown_by, unchecked, all_of};
-ghost use Rattle.acpi_base.specs.Mapping.{IsOfMemory, start_of, bytes_of, handler_of, lent_of};
-ghost use Rattle.acpi_base.specs.Ranges.{Allows, own_table_ranges, table_ranges, whole_ranges};
-ghost use Rattle.acpi_base.specs.Steps.{Gives, lent};
-ghost use Rattle.acpi_base.specs.Table.{Kind, own_table_at, plain_kind, table_at};
+ghost use Rattle.acpi_base.specs.Words.{IsLentOf, IsWholeClaim, claimed_at, claimed_from, shown_by, unchecked, all_of, IsOfMemory, start_of, bytes_of, handler_of, lent_of, Allows, own_table_ranges, table_ranges, whole_ranges, Gives, lent, Kind, own_table_at, plain_kind, table_at};
 
 use super::AcpiTable;
 use super::header::SdtHeader;

@@ -1,8 +1,6 @@
 //! Signatures: the four bytes that name a table (section 5.2.6).
-ghost use Rattle.std.specs.Prelude.{◌≡◌, ◌<◌, ◌≤◌, length, Some, [], ◌∷◌};
-ghost use Rattle.std.specs.Str.{bytes_eq};
-ghost use Rattle.acpi_base.specs.Bytes.{part};
-ghost use Rattle.acpi_base.specs.Text.{IsTextOf, hex_digit, letters_of, signature_text, hex_text};
+ghost use Rattle.std.specs.Prelude.{◌≡◌, ◌<◌, ◌≤◌, length, Some, [], ◌∷◌, bytes_eq};
+ghost use Rattle.acpi_base.specs.Words.{part, IsTextOf, hex_digit, letters_of, signature_text, hex_text};
 
 use crate::bytes::text_of;
 use std::fmt;

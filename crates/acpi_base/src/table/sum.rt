@@ -1,8 +1,7 @@
 //! The sum of bytes modulo 256, in lanes: sixteen bytes are added at once, each to a sum of its own.
 ghost use Rattle.std.specs.Prelude.{◌≡◌, ◌⊎◌, ◌-◌, ◌+◌, ◌<◌, ◌≤◌, length, take, ℕ};
-ghost use Rattle.std.specs.Simd.Lanes.{chunk};
-ghost use Rattle.acpi_base.specs.Bytes.{sum_of};
-ghost use Rattle.acpi_base.specs.Sums.{AddsUp};
+ghost use Rattle.acpi_base.specs.FromStd.{chunk};
+ghost use Rattle.acpi_base.specs.Words.{sum_of, AddsUp};
 
 use std::simd::prelude::*;
 

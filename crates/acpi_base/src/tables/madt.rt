@@ -1,14 +1,7 @@
 //! The Multiple APIC Description Table (MADT): interrupt controllers and processors (section 5.2.12).
-ghost use Rattle.std.specs.Prelude.{◌≡◌, ◌+◌, ◌*◌, ◌≤◌, length, false};
-ghost use Rattle.std.proofs.Common.{lit≤, refl};
-ghost use Rattle.acpi_base.specs.Madt.{mailbox_of, madt_at, cut_of, entries_of};
-ghost use Rattle.acpi_base.specs.Table.{sdt_kind};
-ghost use Rattle.acpi_base.specs.declared.table.signature.TheConstants.Signature.{MADT};
-ghost use Rattle.acpi_base.specs.Bits.{has_bit};
-ghost use Rattle.acpi_base.specs.MadtWalk.{entries_left, has_ended, rest_left};
-ghost use Rattle.acpi_base.specs.Mapping.{bytes_of};
-ghost use Rattle.acpi_base.specs.Model.{AsksMemory, model_of};
-ghost use Rattle.acpi_base.specs.Steps.{GivesOrFull};
+ghost use Rattle.std.specs.Prelude.{◌≡◌, ◌+◌, ◌*◌, ◌≤◌, length, false, refl};
+ghost use Rattle.std.proofs.Common.{lit≤};
+ghost use Rattle.acpi_base.specs.Words.{mailbox_of, madt_at, cut_of, entries_of, sdt_kind, MADT, has_bit, entries_left, has_ended, rest_left, bytes_of, AsksMemory, model_of, GivesOrFull};
 
 mod apic;
 mod entry;

@@ -1,12 +1,9 @@
 //! The MCFG: the regions of memory that hold the configuration space of PCI functions (PCI Firmware
 //! Specification; ACPI 6.4, section 5.2.6, reserves the signature).
-ghost use Rattle.std.specs.Prelude.{◌≡◌, ◌-◌, ◌/◌, length};
-ghost use Rattle.std.proofs.Common.{lit≤, refl};
-ghost use Rattle.std.specs.Iterator.{YieldsFirst, item_count};
-ghost use Rattle.acpi_base.specs.Mcfg.{mcfg_at, mcfg_entry_at, mcfg_entries_left, mcfg_entries_of};
-ghost use Rattle.acpi_base.specs.Table.{sdt_kind};
-ghost use Rattle.acpi_base.specs.declared.table.signature.TheConstants.Signature.{MCFG};
-ghost use Rattle.acpi_base.specs.Mapping.{bytes_of};
+ghost use Rattle.std.specs.Prelude.{◌≡◌, ◌-◌, ◌/◌, length, refl};
+ghost use Rattle.std.proofs.Common.{lit≤};
+ghost use Rattle.acpi_base.specs.FromStd.{YieldsFirst, item_count};
+ghost use Rattle.acpi_base.specs.Words.{mcfg_at, mcfg_entry_at, mcfg_entries_left, mcfg_entries_of, sdt_kind, MCFG, bytes_of};
 
 mod ecam;
 

@@ -1,13 +1,9 @@
 //! The Serial Port Console Redirection Table (SPCR): the serial console that the firmware used.
-ghost use Rattle.std.specs.Prelude.{◌≡◌, Some, None, if◌then◌else◌};
-ghost use Rattle.std.proofs.Common.{lit≤, refl};
-ghost use Rattle.std.specs.Int.RustNames.{bit_and};
-ghost use Rattle.acpi_base.specs.Spcr.{name_of, namespace_in, spcr_at, base_of, baud_of, bus_of, clock_of, device_id_of, device_of, function_of, interface_in, interrupt_of, irq_of, vendor_id_of, flow_byte, interrupt_byte, terminal_byte, namespace_of};
-ghost use Rattle.acpi_base.specs.Text.{Shows};
-ghost use Rattle.acpi_base.specs.Table.{sdt_kind};
-ghost use Rattle.acpi_base.specs.declared.table.signature.TheConstants.Signature.{SPCR};
-ghost use Rattle.acpi_base.specs.SpcrFlags.{flow_bits, interrupt_bits, terminal_bits};
-ghost use Rattle.acpi_base.specs.Mapping.{bytes_of};
+ghost use Rattle.std.specs.Prelude.{◌≡◌, Some, None, if◌then◌else◌, refl};
+ghost use Rattle.std.proofs.Common.{lit≤};
+ghost use Rattle.acpi_base.specs.FromStd.{bit_and};
+ghost use Rattle.acpi_base.specs.Words.{name_of, namespace_in, spcr_at, baud_of, bus_of, clock_of, device_id_of, device_of, function_of, interface_in, interrupt_of, irq_of, vendor_id_of, flow_byte, interrupt_byte, terminal_byte, namespace_of, Shows, sdt_kind, SPCR, flow_bits, interrupt_bits, terminal_bits, bytes_of};
+ghost use Rattle.acpi_base.specs.Spcr.{base_of};
 
 mod flags;
 mod interface;

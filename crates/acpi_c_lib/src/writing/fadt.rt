@@ -1,6 +1,6 @@
 //! The FADT that is written for C (section 5.2.9), from the record as which C reads it, and the FACS (section 5.2.10).
 ghost use Rattle.std.specs.Prelude.{◌≡◌};
-ghost use Rattle.acpi_fixed.specs.Fadt.{profile_for};
+ghost use Rattle.acpi_fixed.specs.Words.{profile_for};
 ghost use Rattle.acpi_c_lib.specs.WrittenFadt as written;
 
 use crate::fixed_records::{FixedHardware, GpeBlock};

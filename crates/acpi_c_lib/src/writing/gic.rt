@@ -1,12 +1,11 @@
 //! The MADT of an Arm machine that is written for C (sections 5.2.12.14 to 5.2.12.18), from its records of the GIC.
 ghost use Rattle.std.specs.Prelude.{◌≡◌, ◌&&◌, ◌^◌, ◌<◌, length, take, IfOk};
-ghost use Rattle.std.specs.List.{list_all};
-ghost use Rattle.acpi_base.specs.Steps.{Gives};
-ghost use Rattle.acpi_c_lib.specs.Writing.{is_wiring};
+ghost use Rattle.acpi_base.specs.FromStd.{list_all};
+ghost use Rattle.acpi_base.specs.Words.{Gives};
+ghost use Rattle.acpi_c_lib.specs.Words.{is_wiring};
 ghost use Rattle.acpi_c_lib.specs.WrittenGic as written;
-ghost use Rattle.acpi_writer.specs.Contents.{most, sized};
+ghost use Rattle.acpi_writer.specs.Words.{most, sized, Keeps};
 ghost use Rattle.acpi_writer.specs.GicMadt as bytes;
-ghost use Rattle.acpi_writer.specs.Table.{Keeps};
 
 use super::madt::{is_wiring, trigger};
 use crate::arm_records::{GicCpuInterface, GicDistributor, GicMsiFrame, GicTranslationService};

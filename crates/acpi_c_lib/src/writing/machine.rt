@@ -1,7 +1,7 @@
 //! The tables of a whole machine that are written for C, from the records of each table.
 ghost use Rattle.std.specs.Prelude.{◌≡◌, length, take};
-ghost use Rattle.acpi_base.specs.Steps.{Gives};
-ghost use Rattle.acpi_c_lib.specs.Writing.{IsKeptOr};
+ghost use Rattle.acpi_base.specs.Words.{Gives};
+ghost use Rattle.acpi_c_lib.specs.Words.{IsKeptOr};
 ghost use Rattle.acpi_c_lib.specs.WrittenMachine as whole;
 
 use crate::arm_records::ArmTimers;

@@ -1,18 +1,15 @@
 //! The MADT that is written for C (section 5.2.12), from its records of processors and interrupt controllers.
 ghost use Rattle.std.specs.Prelude.{◌≡◌, ◌&&◌, ◌^◌, ◌<◌, nat_le, length, take, IfOk};
-ghost use Rattle.std.specs.List.{list_all};
-ghost use Rattle.acpi_base.specs.Steps.{Gives};
+ghost use Rattle.acpi_base.specs.FromStd.{list_all};
+ghost use Rattle.acpi_base.specs.Words.{Gives};
 ghost use Rattle.acpi_c_lib.specs.Writing as writing;
-ghost use Rattle.acpi_writer.specs.Contents.{most, sized};
+ghost use Rattle.acpi_writer.specs.Words.{most, sized, is_single, names_one, Keeps};
 ghost use Rattle.acpi_writer.specs.MadtBytes as bytes;
-ghost use Rattle.acpi_writer.specs.MadtBytes.{is_single, names_one};
-ghost use Rattle.acpi_writer.specs.Table.{Keeps};
 
 use crate::interrupt_records::{InterruptSourceOverride, IoApic, NmiLine, NmiSource, Processor};
 use crate::written_records::{MadtContents, TableIds};
-use acpi_base::Signature;
-use acpi_base::model;
 use acpi_base::model::{LocalInterruptLine, NmiProcessor, Polarity, TriggerMode};
+use acpi_base::{Signature, model};
 use acpi_writer::fields::{Field, Record};
 use acpi_writer::madt::MadtLists;
 use acpi_writer::{MadtProcessor, WriterError, require, table_size, write_table};

@@ -1,14 +1,7 @@
 -- Numbers that digits encode.
-use Rattle.std.proofs.Common.{◌≡◌, ℕ, ◌^◌, ◌<◌, ◌≤◌, List, [], ◌∷◌, length, refl, ap, ◌∙◌, sym, arith}
-use Rattle.std.specs.Prelude.{true, Result, Ok, Err}
-use Rattle.std.specs.Char.{is_digit, digit_value}
-use Rattle.std.specs.List.{list_all}
-use Rattle.std.specs.Result.{result_ok}
-use Rattle.std.specs.Str.Parse.{AllDigits, ParsesUnsigned, digits_value, without_leading_plus}
-use Rattle.std.proofs.lemmas.Bool.{ltb-true, and_parts, le-leb}
-use Rattle.std.proofs.lemmas.Int.Digits.{digits_value-lt}
-use Rattle.std.proofs.lemmas.Str.Parse.{without_leading_plus_none}
-use Rattle.std.proofs.Math.Nat.{pow-le-pow_right}
+use Rattle.std.proofs.Common.{◌≡◌, ℕ, ◌^◌, ◌<◌, ◌≤◌, List, [], ◌∷◌, length, refl, ap, ◌∙◌, sym, arith, true, Result, Ok, Err}
+use Rattle.acpi_base.specs.FromStd.{is_digit, digit_value, list_all, result_ok, AllDigits, ParsesUnsigned, digits_value, without_leading_plus}
+use Rattle.acpi_base.proofs.FromStd.{ltb-true, and_parts, le-leb, digits_value-lt, without_leading_plus_none, pow-le-pow_right}
 use Rattle.acpi_cli.specs.Numbers.{numeral}
 use Rattle.acpi_cli.proofs.number_of.Goals as goal
 

@@ -1,6 +1,6 @@
 //! Raw memory as an image.
 ghost use Rattle.std.specs.Prelude.{◌≡◌, IfOk};
-ghost use Rattle.acpi_image_reader.specs.Image.{record_spelling};
+ghost use Rattle.acpi_image_reader.specs.Words.{record_spelling};
 
 use std::alloc::{AllocError, Global};
 

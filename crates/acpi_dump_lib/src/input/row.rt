@@ -1,6 +1,6 @@
 //! A row of a table in the text of acpidump: its offset, a colon, and up to 16 pairs of hexadecimal digits.
 ghost use Rattle.std.specs.Prelude.{◌≡◌, ◌<◌, IfOk, IfSome, Some, None, if◌then◌else◌, length, option_map};
-ghost use Rattle.std.specs.Char.{digit_value, is_digit};
+ghost use Rattle.acpi_base.specs.FromStd.{digit_value, is_digit};
 ghost use Rattle.acpi_dump_lib.specs.DumpText.{begins_with_gap, byte_of as pair_byte, first_pair as pair_of, is_gap, row_of, with_pairs};
 
 use acpi_cli::number_of;

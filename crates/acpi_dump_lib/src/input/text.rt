@@ -1,7 +1,7 @@
 //! The text of acpidump: for each table a heading, `FACP @ 0x00000000BFFE0000`, and rows of its bytes,
 //! `    0010: 42 4F 43 48 ..`, up to a blank line.
 ghost use Rattle.std.specs.Prelude.{◌≡◌, ◌==◌, ◌<◌, ℕ, IfOk, Ok, Err, length};
-ghost use Rattle.std.specs.List.{after_first, before_first};
+ghost use Rattle.acpi_base.specs.FromStd.{after_first, before_first};
 ghost use Rattle.acpi_dump_lib.specs.DumpText.{heading_of, tables_of};
 ghost use Rattle.acpi_dump_lib.specs.declared.input.text.TextError.TheVariants.{Line};
 ghost use Rattle.acpi_dump_lib.specs.Held.{tables_in as spelled_in};

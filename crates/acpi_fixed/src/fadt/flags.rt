@@ -1,7 +1,7 @@
 //! The flags of the FADT (sections 5.2.9, 5.2.9.3 and 5.2.9.4).
 ghost use Rattle.std.specs.Prelude.{◌≡◌};
-ghost use Rattle.acpi_base.specs.Bits.{has_bit};
-ghost use Rattle.acpi_fixed.specs.Flags.{feature_bits, pc_bits, arm_bits};
+ghost use Rattle.acpi_base.specs.Words.{has_bit};
+ghost use Rattle.acpi_fixed.specs.Words.{feature_bits, pc_bits, arm_bits};
 
 use acpi_base::bytes::has_bit;
 

@@ -4,8 +4,8 @@
 //! Extended fields came with revision 2. Most tables have all the extended blocks: a reader that knows it says so
 //! (`whole`), and then nothing is tested.
 ghost use Rattle.std.specs.Prelude.{◌≡◌, ◌+◌, ◌≤◌, length, true};
-ghost use Rattle.acpi_base.specs.Bytes.{filled_part};
-ghost use Rattle.acpi_fixed.specs.Registers.{HasBlocks, address_or, extended_address, extended_bytes, extended_number, has_extended, register_of, block_at, block_of, port_of, usable_extended, optional_block_of, ports_at, timer_block_of, registers_at};
+ghost use Rattle.acpi_base.specs.Words.{filled_part};
+ghost use Rattle.acpi_fixed.specs.Words.{HasBlocks, address_or, extended_address, extended_bytes, extended_number, has_extended, register_of, block_at, block_of, port_of, usable_extended, optional_block_of, ports_at, timer_block_of, registers_at};
 
 mod gpe;
 

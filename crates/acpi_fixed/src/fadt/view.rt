@@ -41,13 +41,8 @@ pub struct FadtView<'h, H: Lender> {
 }
 
 impl<'h, H: Lender> FadtView<'h, H> {
-    ghost use Rattle.acpi_base.specs.Address.{generic_address_of};
-    ghost use Rattle.acpi_base.specs.Claim.{all_of, claimed_at, claimed_from, shown_by};
-    ghost use Rattle.acpi_base.specs.Mapping.{bytes_of, handler_of, lent_of, start_of};
-    ghost use Rattle.acpi_fixed.specs.Fadt.{dsdt_address_of, facs_address_of, pm_timer_of, profile_of, registers_of};
-    ghost use Rattle.acpi_fixed.specs.Gpe.{gpe1_base_of, gpe_of};
-    ghost use Rattle.acpi_fixed.specs.Registers.{block_at, block_of, optional_block_of, register_of};
-    ghost use Rattle.acpi_fixed.specs.View.{viewed};
+    ghost use Rattle.acpi_base.specs.Words.{generic_address_of, all_of, claimed_at, claimed_from, shown_by, bytes_of, handler_of, lent_of, start_of};
+    ghost use Rattle.acpi_fixed.specs.Words.{dsdt_address_of, facs_address_of, pm_timer_of, profile_of, registers_of, gpe1_base_of, gpe_of, block_at, block_of, optional_block_of, register_of, viewed};
 
     /// The view of a table that is valid for `Fadt`: its bytes stay lent.
     pub fn new(table: ValidTable<'h, H>) -> Self

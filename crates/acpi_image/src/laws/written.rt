@@ -1,10 +1,7 @@
 //! Laws of every image that is written: each is the contract of a function that does nothing.
 ghost use Rattle.std.specs.Prelude.{Ok};
-ghost use Rattle.acpi.specs.Hpet.{hpet_of};
-ghost use Rattle.acpi.specs.Lists.{valid_headers};
-ghost use Rattle.acpi.specs.Pci.{found_regions};
-ghost use Rattle.acpi.specs.Platform.{platform_of};
-ghost use Rattle.acpi_image.specs.WriteLaws.{SaysOfTables, SumIsSet, WrittenIsRead};
+ghost use Rattle.acpi.specs.Words.{hpet_of, valid_headers, found_regions, platform_of};
+ghost use Rattle.acpi_image.specs.Words.{SaysOfTables, SumIsSet, WrittenIsRead};
 
 use std::alloc::Allocator;
 

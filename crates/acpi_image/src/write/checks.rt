@@ -1,9 +1,9 @@
 //! The checks of an image that is to be written.
 ghost use Rattle.std.specs.Prelude.{◌≡◌, ◌^◌, ◌<◌, ◌∷◌, nat_lt, length};
-ghost use Rattle.std.specs.List.{list_all};
+ghost use Rattle.acpi_base.specs.FromStd.{list_all};
 ghost use Rattle.acpi_image.specs.WriteChecks as checks;
-ghost use Rattle.acpi_image.specs.Written.{placed, plan, root_length, starts_of};
-ghost use Rattle.acpi.specs.Root.{kind_of_revision, signature_of, width_of};
+ghost use Rattle.acpi_image.specs.Words.{placed, plan, root_length, starts_of};
+ghost use Rattle.acpi.specs.Words.{kind_of_revision, signature_of, width_of};
 
 use crate::error::WriteError;
 use crate::write::PlacedTable;

@@ -1,10 +1,9 @@
 //! The places that the records of a written image are to lie at.
 ghost use Rattle.std.specs.Prelude.{◌≡◌, ◌+◌, ◌^◌, ◌<◌, ◌∷◌, ◌++◌, [], true, false, nat_lt, length, IfOk, OnOk};
-ghost use Rattle.std.specs.List.{list_all, list_any};
-ghost use Rattle.acpi_base.specs.Memory.{Memory, end_of};
-ghost use Rattle.acpi_image_reader.specs.Image.{share, shares_any};
-ghost use Rattle.acpi_image_reader.specs.Regions.{region_in};
-ghost use Rattle.acpi_image.specs.Places.{IsPlaced, place_of, places_of};
+ghost use Rattle.acpi_base.specs.FromStd.{list_all, list_any};
+ghost use Rattle.acpi_base.specs.Words.{Memory, end_of};
+ghost use Rattle.acpi_image_reader.specs.Words.{share, shares_any, region_in};
+ghost use Rattle.acpi_image.specs.Words.{IsPlaced, place_of, places_of};
 ghost use Rattle.acpi_image.specs.WriteChecks as checks;
 
 use crate::error::WriteError;

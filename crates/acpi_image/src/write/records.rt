@@ -1,13 +1,9 @@
 //! The records of a written image, which are put into a file one after the other.
-ghost use Rattle.std.specs.Prelude.{◌≡◌, ◌^◌, ◌<◌, ◌≤◌, ◌++◌, length, flat_map, IfErr, OnOk};
-ghost use Rattle.std.specs.List.{All};
-ghost use Rattle.acpi.specs.Root.{kind_of_revision, signature_of, width_of};
-ghost use Rattle.acpi_base.specs.Bytes.{IsBytes, spelling};
-ghost use Rattle.acpi_image_reader.specs.Image.{record_spelling};
-ghost use Rattle.acpi_image.specs.Written.{placed, placed_region, plan, records_of, root_header};
-ghost use Rattle.acpi_image.specs.Written.{root_length, root_record, root_to, rsdp_record};
-ghost use Rattle.acpi_image.specs.Written.{rsdp_to, rsdp_unsummed, starts_of, summed, with_sum};
-ghost use Rattle.acpi_image.specs.declared.error.WriteError.TheVariants.{OutOfMemory};
+ghost use Rattle.std.specs.Prelude.{◌≡◌, ◌^◌, ◌<◌, ◌≤◌, ◌++◌, length, flat_map, IfErr, OnOk, All};
+ghost use Rattle.acpi.specs.Words.{kind_of_revision, signature_of, width_of};
+ghost use Rattle.acpi_base.specs.Words.{IsBytes, spelling};
+ghost use Rattle.acpi_image_reader.specs.Words.{record_spelling};
+ghost use Rattle.acpi_image.specs.Words.{placed, placed_region, plan, records_of, root_header, root_length, root_record, root_to, rsdp_record, rsdp_to, rsdp_unsummed, starts_of, summed, with_sum, OutOfMemory};
 
 use crate::error::WriteError;
 use crate::write::PlacedTable;

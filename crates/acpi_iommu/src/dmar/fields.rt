@@ -1,9 +1,7 @@
 //! What the structures of a DMAR say in their fixed bytes, by their types (sections 8.3 to 8.9).
 ghost use Rattle.std.specs.Prelude.{◌≡◌};
-ghost use Rattle.acpi_iommu.specs.Dmar.{andd_at, atsr_at, drhd_at, fields_of, includes_pci_all, is_range};
-ghost use Rattle.acpi_iommu.specs.Dmar.{kind_of, length_of, register_bytes, rhsa_at, rmrr_at, satc_at, segment_of};
-ghost use Rattle.acpi_iommu.specs.Dmar.{sidp_at};
-ghost use Rattle.acpi_base.specs.Bits.{has_bit};
+ghost use Rattle.acpi_iommu.specs.Words.{andd_at, atsr_at, drhd_at, fields_of, includes_pci_all, is_range, kind_of, length_of, register_bytes, rhsa_at, rmrr_at, satc_at, segment_of, sidp_at};
+ghost use Rattle.acpi_base.specs.Words.{has_bit};
 
 use acpi_base::bytes::{bits, field, has_bit};
 

@@ -15,8 +15,7 @@ pub struct ReservedIter<'a, 'b> {
 
 impl<'a, 'b> ReservedIter<'a, 'b> {
     ghost use Rattle.std.specs.Prelude.{◌≡◌};
-    ghost use Rattle.acpi_iommu.specs.Dmar.{structures_left};
-    ghost use Rattle.acpi_iommu.specs.DmarUnits.{reserved_in, reserved_left};
+    ghost use Rattle.acpi_iommu.specs.Words.{structures_left, reserved_in, reserved_left};
 
     /// The ranges among structures for the device that these hops reach from a bus of a segment.
     pub(super) fn over(
@@ -37,8 +36,8 @@ impl<'a, 'b> ReservedIter<'a, 'b> {
 }
 
 impl Iterator for ReservedIter<'_, '_> {
-    ghost use Rattle.std.specs.Iterator.{YieldsFirst, item_count};
-    ghost use Rattle.acpi_iommu.specs.DmarUnits.{reserved_left};
+    ghost use Rattle.acpi_base.specs.FromStd.{YieldsFirst, item_count};
+    ghost use Rattle.acpi_iommu.specs.Words.{reserved_left};
 
     type Item = Rmrr;
 

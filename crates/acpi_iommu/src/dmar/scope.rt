@@ -1,8 +1,6 @@
 //! Device scopes: which devices a structure of a DMAR names (section 8.3.1).
 ghost use Rattle.std.specs.Prelude.{◌≡◌, length, IfSome, IfNone, true, false};
-ghost use Rattle.acpi_iommu.specs.DmarScopes.{hops_left, is_front, is_same_hop, last_hop, path_of};
-ghost use Rattle.acpi_iommu.specs.DmarScopes.{bytes_of_scope, enumeration_id, is_numbered, names, reaches};
-ghost use Rattle.acpi_iommu.specs.DmarScopes.{scope_flags, scope_kind, start_bus};
+ghost use Rattle.acpi_iommu.specs.Words.{hops_left, is_front, is_same_hop, last_hop, path_of, bytes_of_scope, enumeration_id, is_numbered, names, reaches, scope_flags, scope_kind, start_bus};
 
 use crate::pieces::{PieceIter, PieceKind, said};
 use acpi_base::bytes::{field, skip};
@@ -33,8 +31,8 @@ pub struct HopIter<'a> {
 }
 
 impl Iterator for HopIter<'_> {
-    ghost use Rattle.std.specs.Iterator.{YieldsFirst, item_count};
-    ghost use Rattle.acpi_iommu.specs.DmarScopes.{hops_left};
+    ghost use Rattle.acpi_base.specs.FromStd.{YieldsFirst, item_count};
+    ghost use Rattle.acpi_iommu.specs.Words.{hops_left};
 
     type Item = Hop;
 
@@ -169,7 +167,7 @@ pub struct Scopes;
 
 impl<'a> PieceKind<'a> for Scopes {
     ghost use Rattle.std.specs.Prelude.{true};
-    ghost use Rattle.acpi_iommu.specs.DmarScopes.{bytes_of_scope, scope_size};
+    ghost use Rattle.acpi_iommu.specs.Words.{bytes_of_scope, scope_size};
 
     type Piece = DeviceScope<'a>;
 

@@ -1,10 +1,7 @@
 //! One structure of a DMAR (section 8.2).
 ghost use Rattle.std.specs.Prelude.{◌≡◌, false, Some, None, if◌then◌else◌};
-ghost use Rattle.acpi_base.specs.Text.{IsTextOf};
-ghost use Rattle.acpi_iommu.specs.Dmar.{drhd_at, fields_of, kind_of, least_of, name_of, rmrr_at, scope_bytes, structure_bytes};
-ghost use Rattle.acpi_iommu.specs.DmarScopes.{names_device, scopes_left, scopes_of, scopes_rest};
-ghost use Rattle.acpi_iommu.specs.DmarUnits.{is_reserved_for, is_unit_of, source_in};
-ghost use Rattle.acpi_iommu.specs.Pieces.{has_ended};
+ghost use Rattle.acpi_base.specs.Words.{IsTextOf};
+ghost use Rattle.acpi_iommu.specs.Words.{drhd_at, fields_of, kind_of, least_of, name_of, rmrr_at, scope_bytes, structure_bytes, names_device, scopes_left, scopes_of, scopes_rest, is_reserved_for, is_unit_of, source_in, has_ended};
 
 use super::Dmar;
 use super::fields::{DmarFields, Drhd, Rmrr, fields_of, kind_of, segment_of};
@@ -147,8 +144,7 @@ fn least_of(kind: u16) -> usize
 pub struct Structures;
 
 impl<'a> PieceKind<'a> for Structures {
-    ghost use Rattle.acpi_iommu.specs.Dmar.{structure_bytes, structure_size};
-    ghost use Rattle.acpi_iommu.specs.DmarUnits.{has_whole_scopes};
+    ghost use Rattle.acpi_iommu.specs.Words.{structure_bytes, structure_size, has_whole_scopes};
 
     type Piece = DmarStructure<'a>;
 
@@ -181,7 +177,7 @@ impl<'a> PieceKind<'a> for Structures {
 pub type DmarStructureIter<'a> = PieceIter<'a, Structures>;
 
 impl<'a> DmarStructureIter<'a> {
-    ghost use Rattle.acpi_iommu.specs.Dmar.{cut_of, rest_left, structures_left, structures_of};
+    ghost use Rattle.acpi_iommu.specs.Words.{cut_of, rest_left, structures_left, structures_of};
 
     /// The structures of a DMAR's bytes (section 8.2): those after its 48 fixed bytes. It needs no handler.
     pub fn over(table: &'a [u8]) -> Self

@@ -1,10 +1,7 @@
 //! Which unit remaps a device (section 8.3), and which memory is reserved for it (section 8.4).
 ghost use Rattle.std.specs.Prelude.{◌≡◌, false};
-ghost use Rattle.acpi_base.specs.Steps.{Gives};
-ghost use Rattle.acpi_iommu.specs.Dmar.{cut_of, rest_left, structures_left, structures_of};
-ghost use Rattle.acpi_iommu.specs.DmarUnits.{dmar_bytes, is_whole, reserved_for, reserved_left, source_of};
-ghost use Rattle.acpi_iommu.specs.DmarUnits.{unit_for, unit_of_hpet, unit_of_io_apic};
-ghost use Rattle.acpi_iommu.specs.Pieces.{has_ended};
+ghost use Rattle.acpi_base.specs.Words.{Gives};
+ghost use Rattle.acpi_iommu.specs.Words.{cut_of, rest_left, structures_left, structures_of, dmar_bytes, is_whole, reserved_for, reserved_left, source_of, unit_for, unit_of_hpet, unit_of_io_apic, has_ended};
 
 use super::fields::Drhd;
 use super::reserved::ReservedIter;

@@ -1,9 +1,7 @@
 //! The blocks of an IVRS, one at a time (section 5.2).
 ghost use Rattle.std.specs.Prelude.{◌≡◌, Some, None, false, if◌then◌else◌};
-ghost use Rattle.acpi_iommu.specs.Ivrs.{block_bytes, block_fields, block_kind};
-ghost use Rattle.acpi_iommu.specs.Ivrs.{is_ivhd, is_ivmd, ivhd_at, ivmd_at, least_of};
-ghost use Rattle.acpi_iommu.specs.IvrsUnits.{is_memory_for, unit_in};
-ghost use Rattle.acpi_iommu.specs.Pieces.{has_ended};
+ghost use Rattle.acpi_iommu.specs.Words.{block_bytes, block_fields, block_kind, is_ivhd, is_ivmd, ivhd_at, ivmd_at, is_memory_for, unit_in, has_ended};
+ghost use Rattle.acpi_iommu.specs.Ivrs.{least_of};
 
 use super::Ivrs;
 use super::blocks::DeviceUnit;
@@ -122,7 +120,7 @@ impl Ivhd {
 }
 
 impl Ivmd {
-    ghost use Rattle.acpi_iommu.specs.IvrsUnits.{ends_below};
+    ghost use Rattle.acpi_iommu.specs.Words.{ends_below};
 
     /// The fields in a block's bytes.
     fn read(bytes: &[u8]) -> Self
@@ -153,7 +151,8 @@ pub struct IvrsBlock<'a> {
 }
 
 impl<'a> IvrsBlock<'a> {
-    ghost use Rattle.acpi_iommu.specs.IvrsEntries.{entries_cut, entries_left, entries_of, rest_left};
+    ghost use Rattle.acpi_iommu.specs.Words.{entries_cut, entries_left, entries_of};
+    ghost use Rattle.acpi_iommu.specs.IvrsEntries.{rest_left};
 
     /// Type: 0x10, 0x11 and 0x40 IVHD, 0x20, 0x21 and 0x22 IVMD. Others are kept.
     pub fn kind(&self) -> u8
@@ -232,8 +231,7 @@ impl<'a> IvrsBlock<'a> {
 pub struct Blocks;
 
 impl<'a> PieceKind<'a> for Blocks {
-    ghost use Rattle.acpi_iommu.specs.Ivrs.{block_bytes, block_size};
-    ghost use Rattle.acpi_iommu.specs.IvrsUnits.{has_whole_entries};
+    ghost use Rattle.acpi_iommu.specs.Words.{block_bytes, block_size, has_whole_entries};
 
     type Piece = IvrsBlock<'a>;
 
@@ -266,7 +264,8 @@ impl<'a> PieceKind<'a> for Blocks {
 pub type IvrsBlockIter<'a> = PieceIter<'a, Blocks>;
 
 impl<'a> IvrsBlockIter<'a> {
-    ghost use Rattle.acpi_iommu.specs.Ivrs.{blocks_cut, blocks_left, blocks_of, rest_left};
+    ghost use Rattle.acpi_iommu.specs.Words.{blocks_cut, blocks_left, blocks_of};
+    ghost use Rattle.acpi_iommu.specs.Ivrs.{rest_left};
 
     /// The blocks of an IVRS' bytes (section 5.2): those after its 48 fixed bytes. It needs no handler.
     pub fn over(table: &'a [u8]) -> Self

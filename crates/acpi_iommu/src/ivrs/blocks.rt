@@ -1,11 +1,10 @@
 //! Which unit remaps a device, and which memory has its own rules for it (section 5.2).
 ghost use Rattle.std.specs.Prelude.{◌≡◌, false};
-ghost use Rattle.acpi_base.specs.Steps.{Gives};
-ghost use Rattle.acpi_iommu.specs.Ivrs.{blocks_cut, blocks_left, blocks_of, rest_left};
-ghost use Rattle.std.specs.List.{list_any};
-ghost use Rattle.acpi_iommu.specs.IvrsUnits.{best_kind, best_left, block_for, blocks_of_best_type, is_of_kind};
-ghost use Rattle.acpi_iommu.specs.IvrsUnits.{is_whole, ivrs_bytes, memory_for, memory_left};
-ghost use Rattle.acpi_iommu.specs.Pieces.{has_ended};
+ghost use Rattle.acpi_base.specs.Words.{Gives};
+ghost use Rattle.acpi_iommu.specs.Words.{blocks_cut, blocks_left, blocks_of, best_kind, best_left, block_for, blocks_of_best_type, is_of_kind, ivrs_bytes, memory_for, memory_left, has_ended};
+ghost use Rattle.acpi_iommu.specs.Ivrs.{rest_left};
+ghost use Rattle.acpi_base.specs.FromStd.{list_any};
+ghost use Rattle.acpi_iommu.specs.IvrsUnits.{is_whole};
 
 use super::block::{Ivhd, Ivmd, IvrsBlock, IvrsBlockIter};
 use crate::error::{IommuError, IommuResult};
@@ -29,8 +28,8 @@ pub struct BestBlockIter<'a> {
 }
 
 impl<'a> Iterator for BestBlockIter<'a> {
-    ghost use Rattle.std.specs.Iterator.{YieldsFirstBy, item_count};
-    ghost use Rattle.acpi_iommu.specs.Ivrs.{block_bytes};
+    ghost use Rattle.acpi_base.specs.FromStd.{YieldsFirstBy, item_count};
+    ghost use Rattle.acpi_iommu.specs.Words.{block_bytes};
 
     type Item = IvrsBlock<'a>;
 
@@ -56,7 +55,7 @@ pub struct MemoryIter<'a> {
 }
 
 impl Iterator for MemoryIter<'_> {
-    ghost use Rattle.std.specs.Iterator.{YieldsFirst, item_count};
+    ghost use Rattle.acpi_base.specs.FromStd.{YieldsFirst, item_count};
 
     type Item = Ivmd;
 

@@ -1,11 +1,7 @@
 //! The device entries of an IVHD, one at a time (section 5.2).
 ghost use Rattle.std.specs.Prelude.{◌≡◌, ◌<◌};
-ghost use Rattle.acpi_base.specs.Bytes.{part};
-ghost use Rattle.acpi_base.specs.Text.{IsTextOf};
-ghost use Rattle.acpi_iommu.specs.IvrsEntries.{alias_of, bytes_of_entry, compatible_id, covers, entry_kind};
-ghost use Rattle.acpi_iommu.specs.IvrsEntries.{extended_of, first_id, hardware_id, is_select, is_start, last_id};
-ghost use Rattle.acpi_iommu.specs.IvrsEntries.{own_size};
-ghost use Rattle.acpi_iommu.specs.IvrsEntries.{settings_of, source_for, special_of, unique_id, unique_id_format};
+ghost use Rattle.acpi_base.specs.Words.{part, IsTextOf};
+ghost use Rattle.acpi_iommu.specs.Words.{alias_of, bytes_of_entry, compatible_id, covers, entry_kind, extended_of, first_id, hardware_id, is_select, is_start, last_id, own_size, settings_of, source_for, special_of, unique_id, unique_id_format};
 
 use crate::pieces::{PieceIter, PieceKind};
 use crate::texts::up_to_zero;
@@ -210,7 +206,7 @@ pub struct Entries;
 
 impl<'a> PieceKind<'a> for Entries {
     ghost use Rattle.std.specs.Prelude.{true};
-    ghost use Rattle.acpi_iommu.specs.IvrsEntries.{bytes_of_entry, entry_size};
+    ghost use Rattle.acpi_iommu.specs.Words.{bytes_of_entry, entry_size};
 
     type Piece = DeviceEntry<'a>;
 

@@ -59,9 +59,7 @@ impl<A: Allocator> Model for MemoryAffinities<A> {
 }
 
 impl MemoryAffinities<Global> {
-    ghost use Rattle.acpi.specs.Footprint.{AllowsBelow, FootprintBelow, lookup_ranges};
-    ghost use Rattle.acpi.specs.Relocation.{Relocation};
-    ghost use Rattle.acpi.specs.Tables.{of_tables};
+    ghost use Rattle.acpi.specs.Words.{AllowsBelow, FootprintBelow, lookup_ranges, Relocation, of_tables};
     ghost use Rattle.acpi_numa.specs.Affinities.{AffinitiesAsk, found_affinities, srat_kind};
     ghost use Rattle.acpi_numa.specs.Answers.{AnswersOrFull, joined};
 
@@ -88,11 +86,8 @@ impl MemoryAffinities<Global> {
 }
 
 impl<A: Allocator> MemoryAffinities<A> {
-    ghost use Rattle.acpi.specs.Footprint.{AllowsBelow, FootprintBelow, lookup_ranges};
-    ghost use Rattle.acpi.specs.Relocation.{Relocation};
-    ghost use Rattle.acpi.specs.Tables.{of_tables};
-    ghost use Rattle.acpi_numa.specs.Affinities.{AffinitiesAsk, IsDomainOf, SomeRange};
-    ghost use Rattle.acpi_numa.specs.Affinities.{affinities_of, found_affinities, srat_kind};
+    ghost use Rattle.acpi.specs.Words.{AllowsBelow, FootprintBelow, lookup_ranges, Relocation, of_tables};
+    ghost use Rattle.acpi_numa.specs.Affinities.{AffinitiesAsk, IsDomainOf, SomeRange, affinities_of, found_affinities, srat_kind};
     ghost use Rattle.acpi_numa.specs.Answers.{AnswersOrFull, joined};
 
     /// The ranges of the first valid SRAT, in the order of the table, in memory of an allocator: those of

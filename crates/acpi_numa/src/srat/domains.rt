@@ -10,11 +10,9 @@ pub struct Domains<'a> {
 }
 
 impl<'a> Domains<'a> {
-    ghost use Rattle.std.specs.Prelude.{◌≡◌, ◌-◌, ◌≤◌, length, false, None};
-    ghost use Rattle.std.specs.List.{filter_map, last_or};
-    ghost use Rattle.acpi_numa.specs.Srat.{cut_of, domain_in, domain_of_apic, domain_of_processor, entries_of};
-    ghost use Rattle.acpi_numa.specs.Srat.{srat_bytes};
-    ghost use Rattle.acpi_numa.specs.SratWalk.{entries_left, has_ended, rest_left};
+    ghost use Rattle.std.specs.Prelude.{◌≡◌, ◌-◌, ◌≤◌, length, false, None, filter_map};
+    ghost use Rattle.acpi_base.specs.FromStd.{last_or};
+    ghost use Rattle.acpi_numa.specs.Words.{cut_of, domain_in, domain_of_apic, domain_of_processor, entries_of, srat_bytes, entries_left, has_ended, rest_left};
 
     /// The proximity domains in a SRAT's bytes (section 5.2.16), from the table's first byte on. In fewer
     /// than 50 bytes there is no entry.

@@ -1,6 +1,6 @@
 //! One entry of a SRAT (section 5.2.16).
 ghost use Rattle.std.specs.Prelude.{◌≡◌};
-ghost use Rattle.acpi_numa.specs.Srat.{given_by};
+ghost use Rattle.acpi_numa.specs.Words.{given_by};
 
 use super::affinities::MemoryRange;
 use super::kinds::{
@@ -62,10 +62,8 @@ pub const SRAT_GRAMMAR: Grammar<7> = Grammar {
 
 impl SratEntry {
     ghost use Rattle.std.specs.Prelude.{◌≡◌};
-    ghost use Rattle.acpi_base.specs.Entries.{IsEntry};
-    ghost use Rattle.acpi_numa.specs.Srat.{apic_domain, domain_in, entry_of, is_enabled, processor_domain};
-    ghost use Rattle.acpi_numa.specs.Srat.{srat_layout};
-    ghost use Rattle.acpi_numa.specs.Affinities.{range_in};
+    ghost use Rattle.acpi_base.specs.Words.{IsEntry};
+    ghost use Rattle.acpi_numa.specs.Words.{apic_domain, domain_in, entry_of, is_enabled, processor_domain, srat_layout, range_in};
 
     /// The entry that bytes mean in a table of a revision, or `None` if its type isn't one of 0 to 6.
     pub(super) fn read(revision: u8, entry: &[u8]) -> Option<SratEntry>

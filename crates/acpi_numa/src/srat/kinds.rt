@@ -4,7 +4,7 @@
 //! 0 and 1 it is its lowest byte alone, and the others are reserved. Bit 0 of the flags says whether an
 //! entry counts: `SratEntry::is_enabled` tells it.
 ghost use Rattle.std.specs.Prelude.{◌≡◌, ◌≤◌, length};
-ghost use Rattle.acpi_base.specs.Bits.{has_bit};
+ghost use Rattle.acpi_base.specs.Words.{has_bit};
 ghost use Rattle.acpi_numa.specs.SratEntries as entries;
 
 use acpi_base::bytes::{field_in, filled_in, has_bit};

@@ -19,8 +19,7 @@ pub struct SratEntryIter<'a> {
 
 impl<'a> SratEntryIter<'a> {
     ghost use Rattle.std.specs.Prelude.{◌≡◌, ◌-◌, ◌≤◌, length, false};
-    ghost use Rattle.acpi_numa.specs.Srat.{cut_of, entries_of};
-    ghost use Rattle.acpi_numa.specs.SratWalk.{entries_left, has_ended, is_malformed, rest_left};
+    ghost use Rattle.acpi_numa.specs.Words.{cut_of, entries_of, entries_left, has_ended, is_malformed, rest_left};
 
     /// The entries of a SRAT's bytes (section 5.2.16): those after its 48 fixed bytes. It needs no handler.
     #[tactic(auto, using(crate::proofs::Affinities::entries_few))]
@@ -50,8 +49,8 @@ impl<'a> SratEntryIter<'a> {
 }
 
 impl Iterator for SratEntryIter<'_> {
-    ghost use Rattle.std.specs.Iterator.{YieldsFirst, item_count};
-    ghost use Rattle.acpi_numa.specs.SratWalk.{EndsAtRest, entries_left};
+    ghost use Rattle.acpi_base.specs.FromStd.{YieldsFirst, item_count};
+    ghost use Rattle.acpi_numa.specs.Words.{EndsAtRest, entries_left};
 
     type Item = SratEntry;
 

@@ -1,7 +1,7 @@
 //! The lines of the platform.
 ghost use Rattle.std.specs.Prelude.{◌≡◌, ◌++◌, ℕ, List, OnOk, codes, flat_map, string_bytes};
-ghost use Rattle.acpi_fixed.specs.Fadt.{profile_for};
-ghost use Rattle.acpi.specs.Tables.{memory_of, pointers_of};
+ghost use Rattle.acpi_fixed.specs.Words.{profile_for};
+ghost use Rattle.acpi.specs.Words.{memory_of, pointers_of};
 ghost use Rattle.acpi_view_lib.specs.Lines.{lines_or_refusal};
 ghost use Rattle.acpi_view_lib.specs.PlatformLines.{IsPlatformText, apic_lines, info_lines, input_word, io_apic_line, model_lines, nmi_input_line, nmi_source_line, override_line, polarity_word, processor_line, processor_lines, profile_number, state_word, timer_line, trigger_word};
 

@@ -1,8 +1,8 @@
 //! The parts of a FADT, each with its bytes (section 5.2.9).
 ghost use Rattle.std.specs.Prelude.{◌≡◌, ◌<◌, ◌^◌};
-ghost use Rattle.acpi_base.specs.declared.address.AddressSpace.TheVariants.{SystemIo};
+ghost use Rattle.acpi.specs.Types.{SystemIo};
 ghost use Rattle.acpi_writer.specs.FadtBytes as bytes;
-ghost use Rattle.acpi_writer.specs.Flags.{flag_number};
+ghost use Rattle.acpi_writer.specs.Words.{flag_number};
 
 use super::contents::{FadtContents, FadtHardware, FixedHardware};
 use super::features::{ArmBootFeatures, PcBootFeatures};

@@ -1,6 +1,5 @@
 //! The parts of a GTDT, each with its bytes (section 5.2.24).
-ghost use Rattle.std.specs.Prelude.{◌≡◌, flat_map, length};
-ghost use Rattle.std.specs.List.{All};
+ghost use Rattle.std.specs.Prelude.{◌≡◌, flat_map, length, All};
 ghost use Rattle.acpi_writer.specs.Gtdt as gtdt;
 
 use super::{GtBlockContents, GtdtContents, PlatformTimerContents};

@@ -1,10 +1,8 @@
 //! The MADT of an Arm machine, from its Generic Interrupt Controller (GIC, sections 5.2.12.14 to 5.2.12.18).
 ghost use Rattle.std.specs.Prelude.{◌≡◌, ◌^◌, ◌<◌, length, take, IfOk};
-ghost use Rattle.std.specs.List.{list_all};
-ghost use Rattle.acpi_base.specs.Steps.{Gives};
-ghost use Rattle.acpi_writer.specs.Contents.{most, sized};
-ghost use Rattle.acpi_writer.specs.GicMadt.{AreGicFit, IsGicMadt, gic_checked, gic_written};
-ghost use Rattle.acpi_writer.specs.Table.{Keeps};
+ghost use Rattle.acpi_base.specs.FromStd.{list_all};
+ghost use Rattle.acpi_base.specs.Words.{Gives};
+ghost use Rattle.acpi_writer.specs.Words.{most, sized, AreGicFit, IsGicMadt, gic_checked, gic_written, Keeps};
 
 mod entries;
 

@@ -1,6 +1,6 @@
 //! The fixed fields of an SPCR, each with its bytes.
 ghost use Rattle.std.specs.Prelude.{◌≡◌};
-ghost use Rattle.acpi_base.specs.SpcrFlags.{flow_bits, interrupt_bits, terminal_bits};
+ghost use Rattle.acpi_base.specs.Words.{flow_bits, interrupt_bits, terminal_bits};
 ghost use Rattle.acpi_writer.specs.Spcr as spcr;
 
 use super::{SpcrContents, SpcrPciDevice};

@@ -1,6 +1,5 @@
-use Rattle.std.proofs.Common.{◌≡◌, ◌+◌, length}
-use Rattle.std.specs.Prelude.{vec_capacity, vec_len}
-use Rattle.acpi_base.specs.Mcfg.{mcfg_entries_left}
+use Rattle.std.proofs.Common.{◌≡◌, ◌+◌, length, vec_capacity, vec_len}
+use Rattle.acpi_base.specs.Words.{mcfg_entries_left}
 use Rattle.acpi.proofs.mcfg.collected.Given as goal
 
 -- what is kept is what came, and there is room for just what is left

@@ -1,5 +1,4 @@
-use Rattle.std.proofs.Common.{◌≡◌, true, take}
-use Rattle.std.specs.Str.{IsAscii}
+use Rattle.std.proofs.Common.{◌≡◌, true, take, IsAscii}
 use Rattle.acpi_base.proofs.bytes.are_plain.Given as goal
 
 abbrev pub invariant-loop-byte : goal.invariant-loop-byte

@@ -1,8 +1,7 @@
-use Rattle.std.proofs.Common.{arith}
-use Rattle.std.proofs.lemmas.Grind.{common_steps}
-use Rattle.std.proofs.Common.{take-take, take_all}
+use Rattle.std.proofs.Common.{arith, take-take, take_all}
+use Rattle.acpi_base.proofs.FromStd.{common_steps}
 use Rattle.acpi_base.proofs.Spelling.{field_fits}
-use Rattle.acpi_base.specs.Bytes.{field_of}
+use Rattle.acpi_base.specs.Words.{field_of}
 use Rattle.acpi_base.proofs.bytes.field.Goals as goal
 
 pub returns-then-n-rest-clause-fits : goal.returns-then-n-rest-clause-fits

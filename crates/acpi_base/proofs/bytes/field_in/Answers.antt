@@ -1,6 +1,6 @@
 use Rattle.std.proofs.Common.{length, ◌-◌, drop, take-take, arith}
 use Rattle.acpi_base.proofs.Spelling.{field_fits}
-use Rattle.acpi_base.specs.Bytes.{field_of}
+use Rattle.acpi_base.specs.Words.{field_of}
 use Rattle.acpi_base.proofs.bytes.field_in.Goals as goal
 
 pub returns-clause-fits : goal.returns-clause-fits

@@ -1,5 +1,5 @@
 //! Entries of the APIC model (ACPI 6.4, sections 5.2.12.2 to 5.2.12.8, 5.2.12.12 and 5.2.12.13).
-ghost use Rattle.acpi_base.specs.MadtEntries.{local_apic_at, io_apic_at, interrupt_source_override_at, nmi_source_at, local_apic_nmi_at, local_apic_address_override_at, local_x2apic_at, x2apic_nmi_at};
+ghost use Rattle.acpi_base.specs.Words.{local_apic_at, io_apic_at, interrupt_source_override_at, nmi_source_at, local_apic_nmi_at, local_apic_address_override_at, local_x2apic_at, x2apic_nmi_at};
 
 use super::entry::EntryHeader;
 use crate::bytes::{field_in, u8_in, u16_in, u32_in};

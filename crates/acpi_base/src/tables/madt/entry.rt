@@ -1,8 +1,6 @@
 //! One entry of a MADT (section 5.2.12).
 ghost use Rattle.std.specs.Prelude.{◌≡◌, ◌≤◌, Some, slice_index};
-ghost use Rattle.acpi_base.specs.MadtEntries.{entry_header_at};
-ghost use Rattle.acpi_base.specs.Entries.{IsEntry};
-ghost use Rattle.acpi_base.specs.Madt.{entry_of, madt_layout};
+ghost use Rattle.acpi_base.specs.Words.{entry_header_at, IsEntry, entry_of, madt_layout};
 
 use super::apic::{
     InterruptSourceOverrideEntry, IoApicEntry, LocalApicAddressOverrideEntry, LocalApicEntry,

@@ -1,5 +1,5 @@
 //! Entries of the GIC model (ACPI 6.4, sections 5.2.12.14 to 5.2.12.18).
-ghost use Rattle.acpi_base.specs.MadtEntries.{gicc_at, gicd_at, gic_msi_frame_at, gic_redistributor_at, gic_translation_service_at};
+ghost use Rattle.acpi_base.specs.Words.{gicc_at, gicd_at, gic_msi_frame_at, gic_redistributor_at, gic_translation_service_at};
 
 use super::entry::EntryHeader;
 use crate::bytes::{field, field_in, u8_in, u16_in, u32_in};

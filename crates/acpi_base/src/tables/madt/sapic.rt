@@ -1,5 +1,5 @@
 //! Entries of the SAPIC model (ACPI 6.4, sections 5.2.12.9 to 5.2.12.11).
-ghost use Rattle.acpi_base.specs.MadtEntries.{io_sapic_at, local_sapic_at, platform_interrupt_source_at};
+ghost use Rattle.acpi_base.specs.Words.{io_sapic_at, local_sapic_at, platform_interrupt_source_at};
 
 use super::entry::EntryHeader;
 use crate::bytes::{field_in, u8_in, u16_in, u32_in};

@@ -1,7 +1,6 @@
 //! The Multiprocessor Wakeup entry and its mailbox, by which processors are woken (section 5.2.12.19).
 ghost use Rattle.std.specs.Prelude.{◌≡◌};
-ghost use Rattle.acpi_base.specs.MadtEntries.{multiprocessor_wakeup_at};
-ghost use Rattle.acpi_base.specs.Wakeup.{command_of};
+ghost use Rattle.acpi_base.specs.Words.{multiprocessor_wakeup_at, command_of};
 
 use super::entry::EntryHeader;
 use crate::bytes::{field_in, u16_in};

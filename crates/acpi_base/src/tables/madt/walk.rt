@@ -1,9 +1,7 @@
 //! The entries of a MADT, one at a time (section 5.2.12).
 ghost use Rattle.std.specs.Prelude.{◌≡◌, ◌≤◌, ◌↔◌, length, slice_index, true, ◌*◌, ◌-◌, false, [], IfSome, IfNone};
-ghost use Rattle.std.specs.Iterator.{YieldsFirst, item_count};
-ghost use Rattle.acpi_base.specs.Entries.{cut, IsEntry, after_one, with_entry};
-ghost use Rattle.acpi_base.specs.Madt.{madt_grammar, cut_of, entries_of, madt_layout};
-ghost use Rattle.acpi_base.specs.MadtWalk.{BeginsDefined, entries_in, entries_left, has_ended, is_malformed, rest_left, EndsAtRest};
+ghost use Rattle.acpi_base.specs.FromStd.{YieldsFirst, item_count};
+ghost use Rattle.acpi_base.specs.Words.{cut, IsEntry, after_one, with_entry, madt_grammar, cut_of, entries_of, madt_layout, BeginsDefined, entries_in, entries_left, has_ended, is_malformed, rest_left, EndsAtRest};
 
 use super::Madt;
 use super::entry::{MADT_GRAMMAR, MadtEntry};

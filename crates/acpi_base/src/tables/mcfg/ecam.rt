@@ -1,6 +1,6 @@
 //! The addresses of the configuration space of a region's functions, by the base of bus 0.
 ghost use Rattle.std.specs.Prelude.{◌≡◌};
-ghost use Rattle.acpi_base.specs.Ecam.{ecam_in, ecam_range};
+ghost use Rattle.acpi_base.specs.Words.{ecam_in, ecam_range};
 
 use super::McfgEntry;
 use crate::range::AddressRange;

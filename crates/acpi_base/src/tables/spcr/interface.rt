@@ -1,6 +1,6 @@
 //! Interface Type of the SPCR: the interfaces of a serial port's registers.
 ghost use Rattle.std.specs.Prelude.{◌≡◌};
-ghost use Rattle.acpi_base.specs.Spcr.{interface_of};
+ghost use Rattle.acpi_base.specs.Words.{interface_of};
 
 /// Interface Type: the interface of a serial port's registers, by its code in the SPCR.
 #[derive(Clone, Copy, Debug, PartialEq, Eq)]

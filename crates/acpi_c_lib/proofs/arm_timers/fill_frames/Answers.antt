@@ -1,5 +1,5 @@
 use Rattle.std.proofs.Common.{arith}
-use Rattle.acpi_c_lib.specs.ArmTimers.{frames_shown}
+use Rattle.acpi_c_lib.specs.Words.{frames_shown}
 use Rattle.acpi_c_lib.proofs.Written.{block_first, block_written, frames_few}
 use Rattle.acpi_c_lib.proofs.arm_timers.fill_frames.Goals as goal
 
@@ -12,6 +12,7 @@ fill_from-count-requires-clause-few c =
 pub loop-timer-preserved-in-GtBlock : goal.loop-timer-preserved-in-GtBlock
 loop-timer-preserved-in-GtBlock c =
     let front = rw c.in-GtBlock.is at c.in-Some.ensures.steps.0 in (
-      rw (c.fill_from-count.ensures.items, c.fill_from-count.ensures.count) (block_written c.args.out.now _ (frames_shown c.args.table.now) _ _ _ _ _ front c.loop-timer.invariant.0),
+      rw (c.fill_from-count.ensures.items, c.fill_from-count.ensures.count)
+          (block_written c.args.out.now _ (frames_shown c.args.table.now) _ _ _ _ _ front c.loop-timer.invariant.0),
       rw c.fill_from-count.ensures.count (block_first _ _ _ _ _ _ front c.loop-timer.invariant.1),
     )

@@ -1,6 +1,5 @@
 use Rattle.std.proofs.Common.{◌≡◌, true, false, subst}
-use Rattle.acpi_c_lib.specs.Answers.{Writes}
-use Rattle.acpi_c_lib.specs.Missing.{areas_holes, candidate_holes}
+use Rattle.acpi_c_lib.specs.Words.{Writes, areas_holes, candidate_holes}
 use Rattle.acpi_c_lib.proofs.Unlent.{both_walked, first_found}
 use Rattle.acpi_c_lib.proofs.candidates.candidate_holes.Goals as goal
 
@@ -10,7 +9,8 @@ returns-then-is_found-clause-written g c =
     let m = g.H.AcpiHandler.memory c.args.handler.now in
     let w = c.walk-count.ensures in
     let found : c.walk-count.result.1 ≡ true = cc in
-    subst (λ a. Writes c.walk-count.result.0 c.args.out.now c.walk-count.new.out (areas_holes m a)) c.areas_of-areas.ensures.exact
+    subst (λ a. Writes c.walk-count.result.0 c.args.out.now c.walk-count.new.out (areas_holes m a))
+    c.areas_of-areas.ensures.exact
     (first_found m c.areas_of-areas.result _ _ _ _ w.written w.next w.found found)
 
 pub returns-clause-written : goal.returns-clause-written
@@ -20,4 +20,5 @@ returns-clause-written g c =
     let w = c.walk-count.ensures in
     let none : c.walk-count.result.1 ≡ false = cc in
     subst (λ a. Writes c.walk.result.0 c.args.out.now c.walk.new.out (areas_holes m a)) c.areas_of-areas.ensures.exact
-    (both_walked m c.areas_of-areas.result _ _ _ _ w.written w.next w.found _ _ none c.walk.ensures.written c.walk.ensures.next)
+    (both_walked m c.areas_of-areas.result _ _ _ _ w.written w.next w.found _ _ none c.walk.ensures.written
+    c.walk.ensures.next)

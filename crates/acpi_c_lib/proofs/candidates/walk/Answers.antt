@@ -5,19 +5,24 @@ use Rattle.acpi_c_lib.proofs.candidates.walk.Goals as goal
 pub loop-left-preserved : goal.loop-left-preserved
 loop-left-preserved g c =
     let o = c.in-Err.hole in (
-      rw (c.put_pair-next.ensures.items, c.put_pair-next.ensures.count) (walked_more _ _ _ _ _ o _ _ _ c.loop-left-test.true (sym c.in-Err.ensures.valid) c.in-Err.ensures.hole c.loop-left.invariant.0),
+      rw (c.put_pair-next.ensures.items, c.put_pair-next.ensures.count)
+          (walked_more _ _ _ _ _ o _ _ _ c.loop-left-test.true (sym c.in-Err.ensures.valid) c.in-Err.ensures.hole
+          c.loop-left.invariant.0),
       omega (arith, c.put_pair-next.ensures.count, few_holes o),
       omega arith,
     )
 
 pub returns-in-Ok-clause-written : goal.returns-in-Ok-clause-written
-returns-in-Ok-clause-written g c = (walked_to _ _ _ _ _ _ _ _ c.loop-left-test.true (sym c.in-Ok.ensures.valid) c.loop-left.invariant.0).0
+returns-in-Ok-clause-written g c = (walked_to _ _ _ _ _ _ _ _ c.loop-left-test.true (sym c.in-Ok.ensures.valid)
+    c.loop-left.invariant.0).0
 
 pub returns-in-Ok-clause-next : goal.returns-in-Ok-clause-next
-returns-in-Ok-clause-next g c = (walked_to _ _ _ _ _ _ _ _ c.loop-left-test.true (sym c.in-Ok.ensures.valid) c.loop-left.invariant.0).1
+returns-in-Ok-clause-next g c = (walked_to _ _ _ _ _ _ _ _ c.loop-left-test.true (sym c.in-Ok.ensures.valid)
+    c.loop-left.invariant.0).1
 
 pub returns-in-Ok-clause-found : goal.returns-in-Ok-clause-found
-returns-in-Ok-clause-found g c = (walked_to _ _ _ _ _ _ _ _ c.loop-left-test.true (sym c.in-Ok.ensures.valid) c.loop-left.invariant.0).2
+returns-in-Ok-clause-found g c = (walked_to _ _ _ _ _ _ _ _ c.loop-left-test.true (sym c.in-Ok.ensures.valid)
+    c.loop-left.invariant.0).2
 
 pub returns-clause-written : goal.returns-clause-written
 returns-clause-written g c = (walked_all _ _ _ _ _ _ _ _ c.loop-left-test.false c.loop-left.invariant.0).0

@@ -1,5 +1,5 @@
 use Rattle.std.proofs.Common.{◌≡◌, ◌-◌, ◌<◌, ◌≤◌, true}
-use Rattle.acpi_c_lib.specs.Clip.{wanted}
+use Rattle.acpi_c_lib.specs.Words.{wanted}
 use Rattle.acpi_c_lib.proofs.Clipping.{IsWriting}
 use Rattle.acpi_c_lib.proofs.clip.fill.Given as goal
 

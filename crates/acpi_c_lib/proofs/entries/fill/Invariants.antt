@@ -1,7 +1,6 @@
 use Rattle.std.proofs.Common.{◌≡◌, ◌+◌, ◌≤◌, length}
-use Rattle.acpi_base.specs.Entries.{cut}
-use Rattle.acpi_c_lib.specs.Answers.{put_from}
-use Rattle.acpi_c_lib.specs.Entries.{entries_from, plain_grammar}
+use Rattle.acpi_base.specs.Words.{cut}
+use Rattle.acpi_c_lib.specs.Words.{put_from, entries_from, plain_grammar}
 use Rattle.acpi_c_lib.proofs.entries.fill.Given as goal
 
 -- what is written and what is left are the whole, the address is that of what is left, and no more are counted than
@@ -10,7 +9,8 @@ abbrev pub invariant-loop-entry : goal.invariant-loop-entry
 invariant-loop-entry l =
     let left = cut (plain_grammar l.width) l.rest in
     let all = cut (plain_grammar l.width) l.bytes in
-    (put_from l.out l.count (entries_from l.width l.at left.0) ≡ put_from l.initial.out 0 (entries_from l.width l.address all.0))
+    (put_from l.out l.count (entries_from l.width l.at left.0) ≡ put_from l.initial.out 0
+    (entries_from l.width l.address all.0))
     × (l.count + length (entries_from l.width l.at left.0) ≡ length (entries_from l.width l.address all.0))
     × (left.1 ≡ all.1)
     × (l.grammar ≡ plain_grammar l.width)

@@ -1,8 +1,6 @@
 use Rattle.std.proofs.Common.{◌≡◌, ◌+◌, ◌≤◌, length, map}
-use Rattle.acpi.specs.Lists.{faults_of}
-use Rattle.acpi.specs.Pointers.{pointers_left}
-use Rattle.acpi_c_lib.specs.Answers.{put_from}
-use Rattle.acpi_c_lib.specs.Faults.{fault_record, kind_named}
+use Rattle.acpi.specs.Words.{faults_of, pointers_left}
+use Rattle.acpi_c_lib.specs.Words.{put_from, fault_record, kind_named}
 use Rattle.acpi_c_lib.proofs.faults.fill_faults.Given as goal
 
 -- what is written and what is left are the whole, and the count has room for what is left

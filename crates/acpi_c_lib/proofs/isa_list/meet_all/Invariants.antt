@@ -1,5 +1,5 @@
 use Rattle.std.proofs.Common.{◌≡◌, ℕ, ◌<◌, ◌≤◌, length, get_or}
-use Rattle.acpi_c_lib.specs.IsaList.{no_route}
+use Rattle.acpi_c_lib.specs.Words.{no_route}
 use Rattle.acpi_c_lib.proofs.IsaList.{MeetsAt}
 use Rattle.acpi_c_lib.proofs.isa_list.meet_all.Given as goal
 

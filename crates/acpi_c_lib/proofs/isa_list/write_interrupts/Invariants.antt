@@ -1,9 +1,6 @@
-use Rattle.std.proofs.Common.{◌≡◌, ℕ, ◌<◌, length, get_or, None}
-use Rattle.std.specs.List.{filter_map}
-use Rattle.acpi_base.specs.Isa.{isa_interrupt}
-use Rattle.acpi_base.specs.Mapping.{bytes_of}
-use Rattle.acpi_base.specs.Model.{items_of, override_in}
-use Rattle.acpi_c_lib.specs.IsaList.{no_route, route_of}
+use Rattle.std.proofs.Common.{◌≡◌, ℕ, ◌<◌, length, get_or, None, filter_map}
+use Rattle.acpi_base.specs.Words.{isa_interrupt, bytes_of, items_of, override_in}
+use Rattle.acpi_c_lib.specs.Words.{no_route, route_of}
 use Rattle.acpi_c_lib.proofs.isa_list.write_interrupts.Given as goal
 
 -- as many as there were; those before this one are written

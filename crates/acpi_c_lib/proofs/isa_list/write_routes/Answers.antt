@@ -1,10 +1,6 @@
-use Rattle.std.proofs.Common.{◌≡◌}
-use Rattle.std.specs.List.{filter_map}
-use Rattle.acpi_base.specs.Isa.{isa_interrupt}
-use Rattle.acpi_base.specs.Items.{items_left}
-use Rattle.acpi_base.specs.Mapping.{bytes_of}
-use Rattle.acpi_base.specs.Model.{io_apic_in, items_of, override_in}
-use Rattle.acpi_c_lib.specs.IsaList.{isa_route}
+use Rattle.std.proofs.Common.{◌≡◌, filter_map}
+use Rattle.acpi_base.specs.Words.{isa_interrupt, items_left, bytes_of, io_apic_in, items_of, override_in}
+use Rattle.acpi_c_lib.specs.Words.{isa_route}
 use Rattle.acpi_c_lib.proofs.IsaList.{all_met, none_more, one_met, same_answer}
 use Rattle.acpi_c_lib.proofs.isa_list.write_routes.Goals as goal
 
@@ -17,7 +13,11 @@ loop-item-preserved-in-IoApic g c =
 
 pub loop-item-preserved : goal.loop-item-preserved
 loop-item-preserved g c =
-    let routed = rw (c.in-Some.ensures.steps, none_more c.in-Some.item (items_left c.next.new.self) c.in_default.not-IoApic) at c.loop-item.invariant.1 in
+    let routed = rw (
+      c.in-Some.ensures.steps,
+      none_more c.in-Some.item (items_left c.next.new.self)
+          c.in_default.not-IoApic,
+    ) at c.loop-item.invariant.1 in
     (c.loop-item.invariant.0, routed)
 
 pub returns : goal.returns
@@ -27,4 +27,5 @@ returns g c =
     let io_apics = filter_map io_apic_in items in
     let first : items_left c.into_iter-item-iterator.result ≡ items = cc in
     all_met (isa_interrupt overrides) (isa_route overrides io_apics) c.loop-item.routes io_apics c.loop-item.invariant.0
-    (λ irq. same_answer io_apics (isa_interrupt overrides irq)) (rw (c.in-None.ensures.steps.0, first) at c.loop-item.invariant.1)
+    (λ irq. same_answer io_apics (isa_interrupt overrides irq))
+    (rw (c.in-None.ensures.steps.0, first) at c.loop-item.invariant.1)

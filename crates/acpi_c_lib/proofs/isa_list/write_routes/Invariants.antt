@@ -1,9 +1,5 @@
-use Rattle.std.proofs.Common.{◌≡◌, length}
-use Rattle.std.specs.List.{filter_map}
-use Rattle.acpi_base.specs.Isa.{isa_interrupt}
-use Rattle.acpi_base.specs.Items.{items_left}
-use Rattle.acpi_base.specs.Mapping.{bytes_of}
-use Rattle.acpi_base.specs.Model.{io_apic_in, items_of, override_in}
+use Rattle.std.proofs.Common.{◌≡◌, length, filter_map}
+use Rattle.acpi_base.specs.Words.{isa_interrupt, items_left, bytes_of, io_apic_in, items_of, override_in}
 use Rattle.acpi_c_lib.proofs.IsaList.{Routed}
 use Rattle.acpi_c_lib.proofs.isa_list.write_routes.Given as goal
 

@@ -1,5 +1,5 @@
 use Rattle.std.proofs.Common.{◌≡◌, ◌+◌, length}
-use Rattle.acpi_c_lib.specs.Answers.{put_from}
+use Rattle.acpi_c_lib.specs.Words.{put_from}
 use Rattle.acpi_c_lib.proofs.lists.fill_from.Given as goal
 
 -- what is written and what is left are the whole
@@ -8,5 +8,6 @@ invariant-loop-item g l =
     let left = λ (w : _). g.W.Listing.left l.known w in
     (goal.iterator-loop-item g).can_next l.item-iterator
     × (goal.iterator-loop-item g).is_finite l.item-iterator
-    × (put_from l.out l.count (left l.item-iterator) ≡ put_from l.initial.out l.initial.count (left l.initial.item-iterator))
+    × (put_from l.out l.count (left l.item-iterator) ≡ put_from l.initial.out l.initial.count
+    (left l.initial.item-iterator))
     × (l.count + length (left l.item-iterator) ≡ l.initial.count + length (left l.initial.item-iterator))

@@ -1,4 +1,4 @@
-use Rattle.acpi_c_lib.specs.Below.{opened_as_lent}
+use Rattle.acpi_c_lib.specs.Words.{opened_as_lent}
 use Rattle.acpi_c_lib.proofs.opening.search_as_lent.Goals as goal
 
 pub returns-clause-opened : goal.returns-clause-opened

@@ -1,8 +1,8 @@
-use Rattle.std.proofs.Common.{◌≡◌}
-use Rattle.std.specs.Prelude.{find}
-use Rattle.acpi_base.specs.Mcfg.{mcfg_entries_left}
-use Rattle.acpi.specs.Pci.{is_of}
+use Rattle.std.proofs.Common.{◌≡◌, find}
+use Rattle.acpi_base.specs.Words.{mcfg_entries_left}
+use Rattle.acpi.specs.Words.{is_of}
 use Rattle.acpi_c_lib.proofs.pci.region_for.Given as goal
 
 abbrev pub invariant-loop-entry : goal.invariant-loop-entry
-invariant-loop-entry l = find (is_of l.segment l.bus) (mcfg_entries_left l.entry-iterator) ≡ find (is_of l.segment l.bus) (mcfg_entries_left l.initial.entry-iterator)
+invariant-loop-entry l = find (is_of l.segment l.bus) (mcfg_entries_left l.entry-iterator)
+    ≡ find (is_of l.segment l.bus) (mcfg_entries_left l.initial.entry-iterator)

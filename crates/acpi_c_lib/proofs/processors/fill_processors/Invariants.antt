@@ -1,7 +1,6 @@
 use Rattle.std.proofs.Common.{◌≡◌, ◌+◌, ◌≤◌, length}
-use Rattle.acpi_base.specs.Items.{items_left}
-use Rattle.acpi_c_lib.specs.Answers.{put_from}
-use Rattle.acpi_c_lib.specs.Model.{left_after, processors_in}
+use Rattle.acpi_base.specs.Words.{items_left}
+use Rattle.acpi_c_lib.specs.Words.{put_from, left_after, processors_in}
 use Rattle.acpi_c_lib.proofs.processors.fill_processors.Given as goal
 
 -- what is written and what is left are the whole, and the count has room for what is left

@@ -1,7 +1,5 @@
-use Rattle.std.proofs.Common.{◌≡◌}
-use Rattle.std.specs.List.{filter_map}
-use Rattle.acpi_base.specs.Items.{items_left}
-use Rattle.acpi_base.specs.Model.{last_address, local_apic_address_in}
+use Rattle.std.proofs.Common.{◌≡◌, filter_map}
+use Rattle.acpi_base.specs.Words.{items_left, last_address, local_apic_address_in}
 use Rattle.acpi_c_lib.proofs.processors.local_apic_address.Given as goal
 
 -- the last one of those that are left, or else the one so far, is the last one of all

@@ -1,9 +1,6 @@
-use Rattle.std.proofs.Common.{◌≡◌, ◌≤◌, IfSome}
-use Rattle.std.specs.List.{filter_map}
-use Rattle.acpi_base.proofs.Pin.{or_nearer}
-use Rattle.acpi_base.specs.Items.{items_left}
-use Rattle.acpi_base.specs.Model.{io_apic_in}
-use Rattle.acpi_base.specs.Pin.{base_of, nearest}
+use Rattle.std.proofs.Common.{◌≡◌, ◌≤◌, IfSome, filter_map}
+use Rattle.acpi_base.proofs.Words.{or_nearer}
+use Rattle.acpi_base.specs.Words.{items_left, io_apic_in, base_of, nearest}
 use Rattle.acpi_c_lib.proofs.routes.nearest.Given as goal
 
 -- the nearer one of the one so far and of those that are left is the nearest of all, and

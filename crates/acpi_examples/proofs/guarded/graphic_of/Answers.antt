@@ -15,5 +15,6 @@ from_rsdt-requires g c =
 
 pub find_table-requires : goal.find_table-requires
 find_table-requires g c =
-    asked_below g.L.Lender.memory g.L.Lender.may (λ m. lookup_ranges m (kind BGRT 56 (check_table BGRT))) c.args.lender.now _ (root_of_revision 0 c.args.rsdt) _
+    asked_below g.L.Lender.memory g.L.Lender.may (λ m. lookup_ranges m (kind BGRT 56 (check_table BGRT)))
+    c.args.lender.now _ (root_of_revision 0 c.args.rsdt) _
     c.in_ok-tables.ensures.handler c.in_ok-tables.ensures.exact c.requires

@@ -1,7 +1,6 @@
 //! The blocks of registers of general purpose events, by their length in bytes (section 4.8.4.1).
 ghost use Rattle.std.specs.Prelude.{◌≡◌};
-ghost use Rattle.acpi_fixed.specs.Gpe.{base_beside, block_from, gpe_of, gpe1_base_of};
-ghost use Rattle.acpi_fixed.specs.Fadt.{registers_of};
+ghost use Rattle.acpi_fixed.specs.Words.{base_beside, block_from, gpe_of, gpe1_base_of, registers_of};
 
 use super::RegisterBlock;
 use crate::fadt::Fadt;

@@ -1,6 +1,5 @@
 use Rattle.std.proofs.Common.{arith, ◌<◌, length}
-use Rattle.std.proofs.lemmas.Grind.{common_steps}
-use Rattle.std.proofs.lemmas.List.{map-append}
+use Rattle.acpi_base.proofs.FromStd.{common_steps, map-append}
 use Rattle.acpi_image_reader.proofs.Images.{handed_on, reading_begins, reading_ends, reading_goes_on, reading_refuses, reading_runs_out}
 use Rattle.acpi_image_reader.proofs.reader.records_of.Goals as goal
 

@@ -1,5 +1,5 @@
 use Rattle.acpi_image_reader.proofs.Images.{IsReading}
-use Rattle.acpi_image_reader.specs.Regions.{regions_of}
+use Rattle.acpi_image_reader.specs.Words.{regions_of}
 use Rattle.std.proofs.Common.{length}
 use Rattle.acpi_image_reader.proofs.reader.records_of.Given as goal
 

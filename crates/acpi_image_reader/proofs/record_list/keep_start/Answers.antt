@@ -1,8 +1,7 @@
 use Rattle.std.proofs.Common.{◌≡◌, ◌<◌, length, arith}
-use Rattle.std.proofs.lemmas.Grind.{common_steps}
-use Rattle.std.proofs.lemmas.List.{map-append}
+use Rattle.acpi_base.proofs.FromStd.{common_steps, map-append}
 use Rattle.acpi_image_reader.proofs.Listing.{starts_same}
-use Rattle.acpi_image_reader.specs.Regions.{region_of, regions_of}
+use Rattle.acpi_image_reader.specs.Words.{region_of, regions_of}
 use Rattle.acpi_image_reader.proofs.record_list.keep_start.Goals as goal
 
 pub returns-then-is_empty-clause-kept : goal.returns-then-is_empty-clause-kept

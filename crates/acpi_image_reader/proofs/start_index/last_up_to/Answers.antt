@@ -1,6 +1,5 @@
 use Rattle.std.proofs.Common.{arith}
-use Rattle.std.proofs.lemmas.Bool.Decides.{nat_tests}
-use Rattle.std.proofs.lemmas.Map.Keys.{ge_from_not_lt}
+use Rattle.acpi_base.proofs.FromStd.{nat_tests, ge_from_not_lt}
 use Rattle.acpi_image_reader.proofs.start_index.last_up_to.Goals as goal
 
 pub returns-in-Some-clause-last : goal.returns-in-Some-clause-last

@@ -2,9 +2,7 @@ use Rattle.std.proofs.Common.{rules}
 use Rattle.acpi.proofs.First.{lookup_is_first, skips_invalid}
 use Rattle.acpi.proofs.Placing.{addresses_are}
 use Rattle.acpi.proofs.Spelled.{one_pointers}
-use Rattle.acpi_base.proofs.Cuts.{cut_is_cut, one_cut}
-use Rattle.acpi_base.proofs.LentRanges.{lent_is_inside}
-use Rattle.acpi_base.proofs.Spelling.{field_past_end}
+use Rattle.acpi_base.proofs.Words.{cut_is_cut, one_cut, lent_is_inside, field_past_end}
 use Rattle.acpi_laws.proofs.Placed.{first_is_found, found_by_signature, headers_of_members, root_lies_in_range, tables_lie_in_ranges}
 use Rattle.acpi_laws.proofs.Values.{registers_are, sizes_decode, spaces_decode}
 use Rattle.acpi_laws.proofs.definitions.definitions_hold.Goals as goal

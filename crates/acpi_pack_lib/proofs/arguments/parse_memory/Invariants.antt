@@ -1,9 +1,7 @@
 -- Pairs of arguments.
-use Rattle.std.proofs.Common.{◌≡◌, ℕ, ◌<◌, ◌≤◌, List, [], ◌∷◌, ◌++◌, None, length, map, refl, arith}
-use Rattle.std.specs.Prelude.{Option}
-use Rattle.std.specs.Borrow.{Bor}
-use Rattle.std.specs.Option.{option_map}
-use Rattle.acpi_pack_lib.specs.Arguments.{addresses_in, names_in}
+use Rattle.std.proofs.Common.{◌≡◌, ℕ, ◌<◌, ◌≤◌, List, [], ◌∷◌, ◌++◌, None, length, map, refl, arith, Option, option_map}
+use Rattle.acpi_base.specs.FromStd.{Bor}
+use Rattle.acpi_pack_lib.specs.Words.{addresses_in, names_in}
 use Rattle.acpi_pack_lib.proofs.arguments.parse_memory.Given as goal
 
 -- addresses, and those after them

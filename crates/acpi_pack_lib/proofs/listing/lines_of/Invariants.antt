@@ -1,7 +1,6 @@
-use Rattle.std.proofs.Common.{◌≡◌, ◌++◌, drop, map}
-use Rattle.std.specs.Prelude.{string_bytes}
-use Rattle.acpi_image_reader.specs.Regions.{regions_of}
-use Rattle.acpi_pack_lib.specs.Listing.{label_text, record_lines}
+use Rattle.std.proofs.Common.{◌≡◌, ◌++◌, drop, map, string_bytes}
+use Rattle.acpi_image_reader.specs.Words.{regions_of}
+use Rattle.acpi_pack_lib.specs.Words.{label_text, record_lines}
 use Rattle.acpi_pack_lib.proofs.listing.lines_of.Given as goal
 
 abbrev pub invariant-loop-index : goal.invariant-loop-index

@@ -1,6 +1,5 @@
 use Rattle.std.proofs.Common.{◌≡◌, ◌++◌, map}
-use Rattle.acpi_pack_lib.specs.Held.{entries_left}
-use Rattle.acpi_pack_lib.specs.Listing.{label_text, table_label}
+use Rattle.acpi_pack_lib.specs.Words.{entries_left, label_text, table_label}
 use Rattle.acpi_pack_lib.proofs.listing.put_labels.Given as goal
 
 abbrev pub invariant-loop-table : goal.invariant-loop-table

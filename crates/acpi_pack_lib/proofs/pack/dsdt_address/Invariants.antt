@@ -1,7 +1,6 @@
 use Rattle.std.proofs.Common.{◌≡◌}
-use Rattle.acpi_pack_lib.specs.Held.{contents, entries_left}
+use Rattle.acpi_pack_lib.specs.Words.{contents, entries_left, bytes_of, listed}
 use Rattle.acpi_pack_lib.specs.Pack as pack
-use Rattle.acpi_pack_lib.specs.Sources.{bytes_of, listed}
 use Rattle.acpi_pack_lib.proofs.pack.dsdt_address.Given as goal
 
 abbrev pub invariant-loop-table : goal.invariant-loop-table

@@ -1,18 +1,13 @@
 -- Why tables are not laid out.
-use Rattle.std.proofs.Common.{◌≡◌, ℕ, ◌+◌, ◌^◌, ◌<◌, true, List, length, Some, Result, Ok, Err, refl, sym, ◌∙◌, inl, inr, ap}
-use Rattle.std.specs.Prelude.{◌≢◌, IfErr, IsErrAnd, IsOk, Option, nat_lt}
-use Rattle.std.proofs.lemmas.Bool.{lt-ltb}
+use Rattle.std.proofs.Common.{◌≡◌, ℕ, ◌+◌, ◌^◌, ◌<◌, true, List, length, Some, Result, Ok, Err, refl, sym, ◌∙◌, inl, inr, ap, ◌≢◌, IfErr, IsErrAnd, IsOk, Option, nat_lt}
+use Rattle.acpi_base.proofs.FromStd.{lt-ltb}
 use Rattle.acpi.specs.declared.root.RootKind.TheVariants.{Xsdt}
-use Rattle.acpi_base.proofs.Steps.{bind_ok}
-use Rattle.acpi_base.specs.Memory.{Memory, Region}
-use Rattle.acpi_base.specs.Steps.{◌>>=◌}
-use Rattle.acpi_image.specs.Written.{root_length}
-use Rattle.acpi_pack_lib.specs.Pack.{RefusesOrRunsOut, all_regions, first_address, fixed_of, laid_out}
-use Rattle.acpi_pack_lib.specs.Place.{place_at, placed_from, room}
-use Rattle.acpi_pack_lib.specs.declared.error.Refusal.{Refusal}
+use Rattle.acpi_base.proofs.Words.{bind_ok}
+use Rattle.acpi_base.specs.Words.{Memory, Region, ◌>>=◌}
+use Rattle.acpi_image.specs.Words.{root_length}
+use Rattle.acpi_pack_lib.specs.Words.{RefusesOrRunsOut, all_regions, first_address, fixed_of, laid_out, place_at, placed_from, room, Refusal, contents}
 use Rattle.acpi_pack_lib.specs.declared.error.Refusal.TheVariants as refusal
 use Rattle.acpi_pack_lib.proofs.Placing.{listed_length}
-use Rattle.acpi_pack_lib.specs.Held.{contents}
 use Rattle.acpi_pack_lib.proofs.pack.lay_out.Goals as goal
 
 abbrev done : Memory → Result Memory Refusal
@@ -56,20 +51,20 @@ module _ (dsdt : Option Region) (fixed : Region) (tables : List (List ℕ)) (cou
   unfolding laid_out
   laid =
       let lies : place_at (fixed_of dsdt) first_address (root_length Xsdt (length tables)) ≡ Some root =
-          rw (fixed_is, count_is) at there in
+      rw (fixed_is, count_is) at there in
       rw (short, lies) refl
 
   no_room : (e : Refusal) → room fixed (root + count) tables ≡ Err e → RefusesOrRunsOut (laid_out dsdt tables) e
   no_room e fails =
       let why : placed_from (fixed_of dsdt) behind_root tables ≡ Err e =
-          room_fails _ e (rw (fixed_is, count_is) at fails) in
+      room_fails _ e (rw (fixed_is, count_is) at fails) in
       inl (laid ∙ rw why refl)
 
   module _ (x : Unit {0}) (passed : room fixed (root + count) tables ≡ Ok x) where
     all : (m : Memory) × (placed_from (fixed_of dsdt) behind_root tables ≡ Ok m)
     all =
         let parts = bind_ok (placed_from (fixed_of dsdt) behind_root tables) (λ _. checked) x
-            (rw (fixed_is, count_is) at passed) in
+        (rw (fixed_is, count_is) at passed) in
         (parts.0, parts.1)
 
     has_room : IsOk (laid_out dsdt tables)
@@ -82,33 +77,33 @@ module _ (dsdt : Option Region) (fixed : Region) (tables : List (List ℕ)) (cou
         → RefusesOrRunsOut (laid_out dsdt tables) e
     not_placed e named =
         out_of_memory e (only_memory e (placed_from (fixed_of dsdt) behind_root tables) all.0 all.1
-            (λ other. rw (fixed_is, count_is) at (named other)))
+        (λ other. rw (fixed_is, count_is) at (named other)))
 
 pub returns-in_err-check_room-clause-refused : goal.returns-in_err-check_room-clause-refused
 returns-in_err-check_room-clause-refused c =
     let long = c.in-Some.ensures.there ∙ ap (root_length Xsdt) (c.listed_count.ensures
-        ∙ sym (listed_length (contents c.args.files.now))) in
+    ∙ sym (listed_length (contents c.args.files.now))) in
     let there = sym c.place_one.ensures.value ∙ c.in-Some-place_one.is in
     refuses _ _ _ c.from_residual.ensures.1
-        (no_room _ _ _ _ _ c.fixed_of-fixed.ensures long c.in-Some.ensures.low there _
-        (sym c.check_room.ensures ∙ c.in_err-check_room.was))
+    (no_room _ _ _ _ _ c.fixed_of-fixed.ensures long c.in-Some.ensures.low there _
+    (sym c.check_room.ensures ∙ c.in_err-check_room.was))
 
 pub returns-in_err-tables-clause-refused : goal.returns-in_err-tables-clause-refused
 returns-in_err-tables-clause-refused c =
     let long = c.in-Some.ensures.there ∙ ap (root_length Xsdt) (c.listed_count.ensures
-        ∙ sym (listed_length (contents c.args.files.now))) in
+    ∙ sym (listed_length (contents c.args.files.now))) in
     let there = sym c.place_one.ensures.value ∙ c.in-Some-place_one.is in
     let room = sym c.check_room.ensures ∙ c.in_ok-check_room.was in
     refuses _ _ _ c.from_residual-in_err-tables.ensures.1
-        (not_placed _ _ _ _ _ c.fixed_of-fixed.ensures long c.in-Some.ensures.low there _ room _
-        c.in_err-tables.ensures.refused)
+    (not_placed _ _ _ _ _ c.fixed_of-fixed.ensures long c.in-Some.ensures.low there _ room _
+    c.in_err-tables.ensures.refused)
 
 pub returns-in_err-put_all-clause-refused : goal.returns-in_err-put_all-clause-refused
 returns-in_err-put_all-clause-refused c =
     let long = c.in-Some.ensures.there ∙ ap (root_length Xsdt) (c.listed_count.ensures
-        ∙ sym (listed_length (contents c.args.files.now))) in
+    ∙ sym (listed_length (contents c.args.files.now))) in
     let there = sym c.place_one.ensures.value ∙ c.in-Some-place_one.is in
     let room = sym c.check_room.ensures ∙ c.in_ok-check_room.was in
     refuses _ _ _ c.from_residual-in_err-put_all.ensures.1
-        (out_of_memory _ _ _ _ _ c.fixed_of-fixed.ensures long c.in-Some.ensures.low there _ room _
-        c.in_err-put_all.ensures.refused)
+    (out_of_memory _ _ _ _ _ c.fixed_of-fixed.ensures long c.in-Some.ensures.low there _ room _
+    c.in_err-put_all.ensures.refused)

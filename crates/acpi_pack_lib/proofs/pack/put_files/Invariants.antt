@@ -1,8 +1,6 @@
-use Rattle.std.proofs.Common.{◌≡◌, ◌++◌}
-use Rattle.std.specs.Prelude.{flat_map}
-use Rattle.acpi_image_reader.specs.Image.{record_spelling}
-use Rattle.acpi_pack_lib.specs.Held.{contents, regions_left}
-use Rattle.acpi_pack_lib.specs.Pack.{regions}
+use Rattle.std.proofs.Common.{◌≡◌, ◌++◌, flat_map}
+use Rattle.acpi_image_reader.specs.Words.{record_spelling}
+use Rattle.acpi_pack_lib.specs.Words.{contents, regions_left, regions}
 use Rattle.acpi_pack_lib.proofs.pack.put_files.Given as goal
 
 abbrev pub invariant-loop-table : goal.invariant-loop-table

@@ -1,7 +1,6 @@
-use Rattle.std.proofs.Common.{◌≡◌, ◌++◌, drop}
-use Rattle.std.specs.Prelude.{flat_map}
-use Rattle.acpi_image_reader.specs.Image.{record_spelling}
-use Rattle.acpi_image.specs.Written.{placed}
+use Rattle.std.proofs.Common.{◌≡◌, ◌++◌, drop, flat_map}
+use Rattle.acpi_image_reader.specs.Words.{record_spelling}
+use Rattle.acpi_image.specs.Words.{placed}
 use Rattle.acpi_pack_lib.proofs.pack.put_tables.Given as goal
 
 abbrev pub invariant-loop-table : goal.invariant-loop-table

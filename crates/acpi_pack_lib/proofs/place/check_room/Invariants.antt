@@ -1,8 +1,6 @@
 use Rattle.std.proofs.Common.{◌≡◌}
-use Rattle.acpi_image.specs.Written.{placed_region}
-use Rattle.acpi_pack_lib.specs.Held.{contents, entries_left}
-use Rattle.acpi_pack_lib.specs.Place.{room}
-use Rattle.acpi_pack_lib.specs.Sources.{bytes_of, listed}
+use Rattle.acpi_image.specs.Words.{placed_region}
+use Rattle.acpi_pack_lib.specs.Words.{contents, entries_left, room, bytes_of, listed}
 use Rattle.acpi_pack_lib.proofs.place.check_room.Given as goal
 
 abbrev pub invariant-loop-table : goal.invariant-loop-table

@@ -1,5 +1,5 @@
 use Rattle.std.proofs.Common.{◌∙◌, sym}
-use Rattle.acpi_image.specs.Written.{placed, placed_region}
+use Rattle.acpi_image.specs.Words.{placed, placed_region}
 use Rattle.acpi_pack_lib.proofs.Placing.{placed_all, placed_count, placed_law}
 use Rattle.acpi_pack_lib.proofs.place.place.Goals as goal
 

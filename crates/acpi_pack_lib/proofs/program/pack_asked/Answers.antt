@@ -1,15 +1,8 @@
 -- What follows of what is read.
-use Rattle.std.proofs.Common.{◌≡◌, ◌∙◌, ℕ, List, [], IfOk, OnErr, ap, drop, length, refl, subst, sym}
-use Rattle.std.proofs.Math.Seq.{drop-append_seam}
-use Rattle.std.proofs.lemmas.List.{append-nil}
-use Rattle.std.specs.Prelude.{Option, Result, Ok, Err, option_map}
+use Rattle.std.proofs.Common.{◌≡◌, ◌∙◌, ℕ, List, [], IfOk, OnErr, ap, drop, length, refl, subst, sym, Option, Result, Ok, Err, option_map}
+use Rattle.acpi_base.proofs.FromStd.{drop-append_seam, append-nil}
 use Rattle.acpi_cli.specs.Reads.{Asks, FileRead, contents_of}
-use Rattle.acpi_pack_lib.specs.Program.{Follows, Packs, files_for}
-use Rattle.acpi_pack_lib.specs.Run.{Ends}
-use Rattle.acpi_pack_lib.specs.Saves.{FileSaved}
-use Rattle.acpi_pack_lib.specs.Arguments.{Request, request_in, request_of}
-use Rattle.acpi_pack_lib.specs.declared.run.Outcome.{Outcome}
-use Rattle.acpi_pack_lib.specs.Held.{contents}
+use Rattle.acpi_pack_lib.specs.Words.{Follows, Packs, files_for, Ends, FileSaved, Request, request_in, request_of, Outcome, contents}
 use Rattle.acpi_pack_lib.proofs.program.pack_asked.Goals as goal
 
 on_err : {T E : Type 0} (r : Result T E) (P : Type 0) → P → OnErr r P
@@ -43,7 +36,7 @@ packed (Ok s) arguments asked names before after start contents shown kept said 
       follows = subst (λ a. Follows a (contents_of asks.reads) said saved saved_after s out out_after between err_after)
           is_asked
           (subst (λ cs. Follows asked cs said saved saved_after s out out_after between err_after) (are_kept ∙ read)
-              follows);
+          follows);
     }
 packed (Err e) arguments asked names before after start contents shown kept said saved saved_after
     out out_after err between err_after is_asked are_named asks at_start are_read are_shown ends are_kept follows = tt

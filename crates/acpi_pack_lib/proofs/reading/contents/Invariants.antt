@@ -1,5 +1,4 @@
-use Rattle.std.proofs.Common.{◌≡◌, ◌++◌, drop, map}
-use Rattle.std.specs.Option.{option_copied}
+use Rattle.std.proofs.Common.{◌≡◌, ◌++◌, drop, map, option_copied}
 use Rattle.acpi_cli.specs.Reads.{read_of}
 use Rattle.acpi_pack_lib.proofs.reading.contents.Given as goal
 

@@ -1,7 +1,5 @@
-use Rattle.std.proofs.Common.{◌≡◌, ◌++◌, map}
-use Rattle.std.specs.Prelude.{string_bytes}
-use Rattle.acpi_pack_lib.specs.Held.{entries_left}
-use Rattle.acpi_pack_lib.specs.Run.{left_out_lines}
+use Rattle.std.proofs.Common.{◌≡◌, ◌++◌, map, string_bytes}
+use Rattle.acpi_pack_lib.specs.Words.{entries_left, left_out_lines}
 use Rattle.acpi_pack_lib.proofs.run.put_left_out.Given as goal
 
 abbrev pub invariant-loop-file : goal.invariant-loop-file

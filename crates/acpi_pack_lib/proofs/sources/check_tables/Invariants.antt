@@ -1,5 +1,5 @@
 use Rattle.std.proofs.Common.{◌≡◌, drop}
-use Rattle.acpi_pack_lib.specs.Held.{contents}
+use Rattle.acpi_pack_lib.specs.Words.{contents}
 use Rattle.acpi_pack_lib.specs.Sources as sources
 use Rattle.acpi_pack_lib.proofs.sources.check_tables.Given as goal
 

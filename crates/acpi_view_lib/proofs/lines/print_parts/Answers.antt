@@ -1,6 +1,5 @@
 use Rattle.std.proofs.Common.{refl}
-use Rattle.acpi.specs.Opened.{opened_of}
-use Rattle.acpi.specs.Tables.{memory_of}
+use Rattle.acpi.specs.Words.{opened_of, memory_of}
 use Rattle.acpi_view_lib.specs.Output.{lines_of}
 use Rattle.acpi_view_lib.proofs.Reports.{more}
 use Rattle.acpi_view_lib.proofs.lines.print_parts.Goals as goal

@@ -1,5 +1,5 @@
-use Rattle.std.specs.Prelude.{◌≡◌, ◌++◌, flat_map, string_bytes}
-use Rattle.acpi.specs.Walks.{faults_left}
+use Rattle.std.proofs.Common.{◌≡◌, ◌++◌, flat_map, string_bytes}
+use Rattle.acpi.specs.Words.{faults_left}
 use Rattle.acpi_view_lib.specs.Lines.{skipped_line}
 use Rattle.acpi_view_lib.proofs.lines.print_skipped.Given as goal
 

@@ -1,5 +1,5 @@
-use Rattle.std.specs.Prelude.{◌≡◌, ◌++◌, codes, flat_map, string_bytes}
-use Rattle.acpi.specs.Walks.{ssdts_left}
+use Rattle.std.proofs.Common.{◌≡◌, ◌++◌, codes, flat_map, string_bytes}
+use Rattle.acpi.specs.Words.{ssdts_left}
 use Rattle.acpi_view_lib.specs.Lines.{stream_line}
 use Rattle.acpi_view_lib.proofs.lines.print_ssdts.Given as goal
 

@@ -1,5 +1,4 @@
-use Rattle.std.proofs.Common.{map}
-use Rattle.std.specs.Option.{option_copied}
+use Rattle.std.proofs.Common.{map, option_copied}
 use Rattle.acpi_view_lib.proofs.Reports.{front_kept, front_none, some_report, stopped}
 use Rattle.acpi_view_lib.proofs.run.run.Goals as goal
 

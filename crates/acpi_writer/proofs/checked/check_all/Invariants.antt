@@ -1,5 +1,5 @@
 use Rattle.std.proofs.Common.{◌≡◌, drop}
-use Rattle.acpi_writer.specs.Checked.{all_checked}
+use Rattle.acpi_writer.specs.Words.{all_checked}
 use Rattle.acpi_writer.proofs.checked.check_all.Given as goal
 
 abbrev pub invariant-loop-x : goal.invariant-loop-x

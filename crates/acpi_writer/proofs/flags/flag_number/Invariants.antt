@@ -1,5 +1,5 @@
 use Rattle.std.proofs.Common.{◌≡◌, ◌≤◌, length, drop}
-use Rattle.acpi_writer.specs.Flags.{flag_number}
+use Rattle.acpi_writer.specs.Words.{flag_number}
 use Rattle.acpi_writer.proofs.flags.flag_number.Given as goal
 
 -- the number of the flags from `i` on

@@ -1,7 +1,6 @@
 use Rattle.std.proofs.Common.{length, take, sym, ap, ◌∙◌, arith}
-use Rattle.std.proofs.lemmas.List.{length-take-le}
-use Rattle.acpi_writer.specs.Contents.{bytes_by}
-use Rattle.acpi_writer.specs.Laid.{padded, rounded}
+use Rattle.acpi_base.proofs.FromStd.{length-take-le}
+use Rattle.acpi_writer.specs.Words.{bytes_by, padded, rounded}
 use Rattle.acpi_writer.proofs.Sized.{unwritten, written_is, padded_long, put_bytes, put_none}
 use Rattle.acpi_writer.proofs.listed.put.Goals as goal
 

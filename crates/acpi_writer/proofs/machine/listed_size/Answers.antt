@@ -1,6 +1,5 @@
-use Rattle.std.proofs.Common.{subst, sym, ◌∙◌}
-use Rattle.std.specs.List.{All}
-use Rattle.std.proofs.lemmas.List.{take_all}
+use Rattle.std.proofs.Common.{subst, sym, ◌∙◌, All}
+use Rattle.acpi_base.proofs.FromStd.{take_all}
 use Rattle.acpi_writer.proofs.Sized.{listed_error, listed_step}
 use Rattle.acpi_writer.proofs.machine.listed_size.Goals as goal
 

@@ -1,6 +1,5 @@
-use Rattle.std.proofs.Common.{◌≡◌, ◌*◌, ◌^◌, ◌≤◌, drop, take}
-use Rattle.std.specs.List.{All}
-use Rattle.acpi_writer.specs.Machine.{listed_sized}
+use Rattle.std.proofs.Common.{◌≡◌, ◌*◌, ◌^◌, ◌≤◌, drop, take, All}
+use Rattle.acpi_writer.specs.Words.{listed_sized}
 use Rattle.acpi_writer.proofs.Sized.{listed_after}
 use Rattle.acpi_writer.proofs.machine.listed_size.Given as goal
 

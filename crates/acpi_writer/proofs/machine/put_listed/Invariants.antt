@@ -1,6 +1,5 @@
 use Rattle.std.proofs.Common.{◌≡◌, ◌+◌, ◌++◌, drop, take, length, map}
-use Rattle.acpi_writer.specs.Contents.{bytes_by}
-use Rattle.acpi_writer.specs.Laid.{laid}
+use Rattle.acpi_writer.specs.Words.{bytes_by, laid}
 use Rattle.acpi_writer.proofs.machine.put_listed.Given as goal
 
 -- what is put, and what is to come

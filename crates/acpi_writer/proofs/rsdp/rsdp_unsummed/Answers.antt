@@ -1,6 +1,6 @@
 use Rattle.std.proofs.Common.{refl}
-use Rattle.acpi_base.specs.Bytes.{spelling}
-use Rattle.acpi_writer.specs.Rsdp.{rsdp_unsummed}
+use Rattle.acpi_base.specs.Words.{spelling}
+use Rattle.acpi_writer.specs.Words.{rsdp_unsummed}
 use Rattle.acpi_writer.proofs.rsdp.rsdp_unsummed.Goals as goal
 
 pub returns : goal.returns

@@ -1,5 +1,5 @@
 use Rattle.std.proofs.Common.{ap, sym, ◌∙◌}
-use Rattle.acpi_writer.specs.Contents.{most, sized}
+use Rattle.acpi_writer.specs.Words.{most, sized}
 use Rattle.acpi_writer.proofs.SpcrRead.{written_by}
 use Rattle.acpi_writer.proofs.spcr.spcr_size.Goals as goal
 

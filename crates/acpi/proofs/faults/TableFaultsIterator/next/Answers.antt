@@ -1,7 +1,7 @@
 use Rattle.std.proofs.Common.{sym, refl, ◌∙◌}
-use Rattle.acpi_base.specs.Table.{table_at}
+use Rattle.acpi_base.specs.Words.{table_at}
 use Rattle.acpi.proofs.Asked.{asked_passed, asked_peeked, faults_peeked, no_faults, valid_last}
-use Rattle.acpi.specs.Pointers.{pointers_left}
+use Rattle.acpi.specs.Words.{pointers_left}
 use Rattle.acpi.proofs.faults.TableFaultsIterator.next.Goals as goal
 
 pub refusal_at-requires : goal.refusal_at-requires

@@ -1,6 +1,5 @@
 use Rattle.std.proofs.Common.{◌≡◌, length}
-use Rattle.acpi.specs.Pointers.{pointers_left}
-use Rattle.acpi.specs.Walks.{faults_left}
+use Rattle.acpi.specs.Words.{pointers_left, faults_left}
 use Rattle.acpi.proofs.faults.TableFaultsIterator.next.Given as goal
 
 -- what was passed over gives no item

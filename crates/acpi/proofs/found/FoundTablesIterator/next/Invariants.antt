@@ -1,6 +1,5 @@
 use Rattle.std.proofs.Common.{◌≡◌, length}
-use Rattle.acpi.specs.Placed.{found_left}
-use Rattle.acpi.specs.Pointers.{pointers_left}
+use Rattle.acpi.specs.Words.{found_left, pointers_left}
 use Rattle.acpi.proofs.found.FoundTablesIterator.next.Given as goal
 
 -- what was passed over gives no item

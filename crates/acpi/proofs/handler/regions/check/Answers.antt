@@ -1,5 +1,5 @@
 use Rattle.std.proofs.Common.{arith}
-use Rattle.std.proofs.lemmas.Grind.{common_steps}
+use Rattle.acpi_base.proofs.FromStd.{common_steps}
 use Rattle.acpi.proofs.Placing.{checked_more}
 use Rattle.acpi.proofs.handler.regions.check.Goals as goal
 

@@ -1,5 +1,5 @@
 use Rattle.std.proofs.Common.{leb, rules}
-use Rattle.std.proofs.lemmas.List.Sorted.{IsPartitionPoint-from_clause}
+use Rattle.acpi_base.proofs.FromStd.{IsPartitionPoint-from_clause}
 use Rattle.acpi.proofs.Placing.{decides, no_regions, passes_before}
 use Rattle.acpi.proofs.handler.regions.region_for.Goals as goal
 

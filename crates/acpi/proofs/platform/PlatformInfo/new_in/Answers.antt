@@ -2,9 +2,7 @@ use Rattle.std.proofs.Common.{rules}
 use Rattle.acpi.proofs.Agreed.{from_tables, same_platform}
 use Rattle.acpi.proofs.Asked.{asked_fadt, asked_place}
 use Rattle.acpi.proofs.Moved.{moved_tables, platform_follows}
-use Rattle.acpi.specs.Footprint.{lookup_ranges}
-use Rattle.acpi.specs.Platform.{madt_kind}
-use Rattle.acpi.specs.Tables.{may_of, memory_of, pointers_of}
+use Rattle.acpi.specs.Words.{lookup_ranges, madt_kind, may_of, memory_of, pointers_of}
 use Rattle.acpi.proofs.platform.PlatformInfo.new_in.Goals as goal
 
 pub find_fadt-requires : goal.find_fadt-requires

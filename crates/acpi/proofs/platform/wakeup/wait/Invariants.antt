@@ -1,6 +1,5 @@
-use Rattle.std.proofs.Common.{◌≡◌}
-use Rattle.std.specs.Prelude.{ℕ}
-use Rattle.acpi.specs.Wake.{AfterReads, Makes, NoneBelow, reads}
+use Rattle.std.proofs.Common.{◌≡◌, ℕ}
+use Rattle.acpi.specs.Words.{AfterReads, Makes, NoneBelow, reads}
 use Rattle.acpi.proofs.platform.wakeup.wait.Given as goal
 
 -- no answer so far was 0, and nothing was opened or written

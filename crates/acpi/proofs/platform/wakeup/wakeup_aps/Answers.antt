@@ -1,5 +1,5 @@
 use Rattle.std.proofs.Common.{arith, sym}
-use Rattle.std.proofs.lemmas.Grind.{common_steps}
+use Rattle.acpi_base.proofs.FromStd.{common_steps}
 use Rattle.acpi.proofs.Agreed.{mailbox_from_tables}
 use Rattle.acpi.proofs.platform.wakeup.wakeup_aps.Goals as goal
 

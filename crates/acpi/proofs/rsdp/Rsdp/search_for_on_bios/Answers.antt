@@ -1,10 +1,9 @@
 use Rattle.std.proofs.Common.{ℕ, List, Ok, Err, rules, subst, sym}
-use Rattle.acpi_base.specs.Ranges.{Allows}
-use Rattle.acpi.specs.OpenedRanges.{area_ranges}
+use Rattle.acpi_base.specs.Words.{Allows}
+use Rattle.acpi.specs.Words.{area_ranges, found_rsdp, placed}
 use Rattle.acpi.proofs.Agreed.{same_search}
 use Rattle.acpi.proofs.Asked.{asked_first_area, asked_second_area}
 use Rattle.acpi.proofs.Search.{found_valid, searched}
-use Rattle.acpi.specs.Search.{found_rsdp, placed}
 use Rattle.acpi.proofs.rsdp.Rsdp.search_for_on_bios.Goals as goal
 
 pub search_area-requires-clause-asked : goal.search_area-requires-clause-asked

@@ -1,8 +1,8 @@
 use Rattle.std.proofs.Common.{◌≡◌, ◌*◌, false, length, rules, Some, subst, sym, true}
-use Rattle.std.proofs.lemmas.Iterator.{first_from_Range}
-use Rattle.acpi_base.specs.Memory.{at}
+use Rattle.acpi_base.proofs.FromStd.{first_from_Range}
+use Rattle.acpi_base.specs.Words.{at}
 use Rattle.acpi.proofs.Among.{before_other, front_refused, only_this, unlent_refused}
-use Rattle.acpi.specs.Areas.{is_refused_in}
+use Rattle.acpi.specs.Words.{is_refused_in}
 use Rattle.acpi.proofs.rsdp.areas.candidate_at.Goals as goal
 
 pub returns-in-Ok-clause-refused : goal.returns-in-Ok-clause-refused

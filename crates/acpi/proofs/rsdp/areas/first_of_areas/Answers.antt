@@ -1,5 +1,5 @@
 use Rattle.std.proofs.Common.{◌<◌, ◌≤◌, length, refl, arith}
-use Rattle.acpi.specs.Areas.{found_in_areas}
+use Rattle.acpi.specs.Words.{found_in_areas}
 use Rattle.acpi.proofs.Among.{area_in_turn, found_in_turn, later_areas, no_area_left}
 use Rattle.acpi.proofs.rsdp.areas.first_of_areas.Goals as goal
 

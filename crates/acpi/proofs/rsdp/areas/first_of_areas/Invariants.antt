@@ -1,6 +1,6 @@
 use Rattle.std.proofs.Common.{◌≡◌, drop}
-use Rattle.acpi_base.specs.Ranges.{Allows}
-use Rattle.acpi.specs.Areas.{areas_ranges, found_among}
+use Rattle.acpi_base.specs.Words.{Allows}
+use Rattle.acpi.specs.Words.{areas_ranges, found_among}
 use Rattle.acpi.proofs.rsdp.areas.first_of_areas.Given as goal
 
 -- the areas that are left have the first valid one of all

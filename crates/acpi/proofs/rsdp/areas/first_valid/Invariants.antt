@@ -1,7 +1,6 @@
 use Rattle.std.proofs.Common.{◌≡◌, ◌+◌, ◌-◌, ◌*◌, ◌≤◌}
-use Rattle.acpi_base.specs.Ranges.{Allows}
-use Rattle.acpi.specs.OpenedRanges.{walk_ranges}
-use Rattle.acpi.specs.Search.{walk}
+use Rattle.acpi_base.specs.Words.{Allows}
+use Rattle.acpi.specs.Words.{walk_ranges, walk}
 use Rattle.acpi.proofs.rsdp.areas.first_valid.Given as goal
 
 -- those that are left have the first valid one of all

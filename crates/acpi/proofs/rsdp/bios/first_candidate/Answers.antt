@@ -1,7 +1,6 @@
 use Rattle.std.proofs.Common.{refl, ◌≡◌, ◌+◌, ◌*◌, ◌<◌, ◌≤◌, sym, arith, ◌∙◌, length}
-use Rattle.acpi_base.specs.Ranges.{Allows}
-use Rattle.acpi.specs.OpenedRanges.{walk_ranges}
-use Rattle.acpi.specs.Search.{count_of, room_of, walk}
+use Rattle.acpi_base.specs.Words.{Allows}
+use Rattle.acpi.specs.Words.{walk_ranges, count_of, room_of, walk}
 use Rattle.acpi.proofs.Asked.{asked_candidate, asked_next, asked_walk}
 use Rattle.acpi.proofs.Search.{not_begun, length_lent, unsigned_refused, walk_here, walk_later, walk_past}
 use Rattle.acpi.proofs.rsdp.bios.first_candidate.Goals as goal

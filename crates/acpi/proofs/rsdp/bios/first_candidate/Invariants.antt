@@ -1,7 +1,6 @@
 use Rattle.std.proofs.Common.{◌≡◌, ◌+◌, ◌-◌, ◌*◌}
-use Rattle.acpi_base.specs.Ranges.{Allows}
-use Rattle.acpi.specs.OpenedRanges.{walk_ranges}
-use Rattle.acpi.specs.Search.{count_of, walk}
+use Rattle.acpi_base.specs.Words.{Allows}
+use Rattle.acpi.specs.Words.{walk_ranges, count_of, walk}
 use Rattle.acpi.proofs.rsdp.bios.first_candidate.Given as goal
 
 abbrev pub invariant-loop-k : goal.invariant-loop-k

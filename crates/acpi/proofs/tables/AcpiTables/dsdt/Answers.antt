@@ -1,11 +1,9 @@
 use Rattle.std.proofs.Common.{rules, subst, sym}
-use Rattle.acpi_base.specs.Ranges.{Allows, table_ranges}
-use Rattle.acpi_base.specs.Table.{plain_kind}
-use Rattle.acpi_base.specs.declared.table.signature.TheConstants.Signature.{DSDT}
+use Rattle.acpi_base.specs.Words.{Allows, table_ranges, plain_kind}
+use Rattle.acpi.specs.Types.{DSDT}
 use Rattle.acpi.proofs.Agreed.{from_tables, same_dsdt}
 use Rattle.acpi.proofs.Asked.{asked_dsdt, asked_fadt}
-use Rattle.acpi.specs.Places.{dsdt_place_ranges}
-use Rattle.acpi.specs.Tables.{may_of, memory_of, pointers_of}
+use Rattle.acpi.specs.Words.{dsdt_place_ranges, may_of, memory_of, pointers_of}
 use Rattle.acpi.proofs.tables.AcpiTables.dsdt.Goals as goal
 
 pub find_fadt-requires : goal.find_fadt-requires

@@ -1,8 +1,7 @@
 use Rattle.std.proofs.Common.{rules}
 use Rattle.acpi.proofs.Agreed.{from_tables, same_facs}
 use Rattle.acpi.proofs.Asked.{asked_fadt, asked_place}
-use Rattle.acpi.specs.Places.{facs_place_ranges}
-use Rattle.acpi.specs.Tables.{may_of, memory_of, pointers_of}
+use Rattle.acpi.specs.Words.{facs_place_ranges, may_of, memory_of, pointers_of}
 use Rattle.acpi.proofs.tables.AcpiTables.facs.Goals as goal
 
 pub find_fadt-requires : goal.find_fadt-requires

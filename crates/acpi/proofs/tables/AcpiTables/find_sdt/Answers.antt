@@ -1,10 +1,9 @@
 use Rattle.std.proofs.Common.{arith, subst, sym, ◌∙◌}
-use Rattle.std.proofs.lemmas.Grind.{common_steps}
-use Rattle.acpi_base.specs.Ranges.{Allows, table_ranges}
-use Rattle.acpi_base.specs.Table.{plain_kind}
+use Rattle.acpi_base.proofs.FromStd.{common_steps}
+use Rattle.acpi_base.specs.Words.{Allows, table_ranges, plain_kind}
 use Rattle.acpi.proofs.Agreed.{from_tables, same_lookup}
 use Rattle.acpi.proofs.Asked.{asked_member, found_member, later_kept}
-use Rattle.acpi.specs.Tables.{may_of, memory_of}
+use Rattle.acpi.specs.Words.{may_of, memory_of}
 use Rattle.acpi.proofs.tables.AcpiTables.find_sdt.Goals as goal
 
 pub map_sdt-requires : goal.map_sdt-requires

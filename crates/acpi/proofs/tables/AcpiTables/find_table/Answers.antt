@@ -1,6 +1,6 @@
 use Rattle.std.proofs.Common.{ap, Ok, ◌∙◌}
-use Rattle.acpi_base.specs.Mapping.{bytes_of, start_of}
-use Rattle.acpi_base.specs.declared.error.AcpiError.TheVariants.{TableMissing}
+use Rattle.acpi_base.specs.Words.{bytes_of, start_of}
+use Rattle.acpi.specs.Types.{TableMissing}
 use Rattle.acpi.proofs.Agreed.{from_tables, same_lookup}
 use Rattle.acpi.proofs.First.{gives_absent, gives_first, gives_skipping, none_valid, skips_invalid}
 use Rattle.acpi.proofs.tables.AcpiTables.find_table.Goals as goal

@@ -1,8 +1,7 @@
 use Rattle.std.proofs.Common.{refl}
 use Rattle.acpi.proofs.Agreed.{from_tables, in_ok, same_found}
 use Rattle.acpi.proofs.First.{filter_map_few, fits_root}
-use Rattle.acpi.specs.Root.{width_of}
-use Rattle.acpi.specs.Tables.{kind_of, root_of}
+use Rattle.acpi.specs.Words.{width_of, kind_of, root_of}
 use Rattle.acpi.proofs.tables.AcpiTables.find_tables.Goals as goal
 
 pub new-requires : goal.new-requires

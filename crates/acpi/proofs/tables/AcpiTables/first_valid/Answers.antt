@@ -1,7 +1,7 @@
 use Rattle.std.proofs.Common.{subst, sym, ◌∙◌}
-use Rattle.acpi_base.specs.Ranges.{Allows, table_ranges}
+use Rattle.acpi_base.specs.Words.{Allows, table_ranges}
 use Rattle.acpi.proofs.Asked.{asked_member, found_member, later_kept}
-use Rattle.acpi.specs.Tables.{may_of, memory_of}
+use Rattle.acpi.specs.Words.{may_of, memory_of}
 use Rattle.acpi.proofs.tables.AcpiTables.first_valid.Goals as goal
 
 pub valid_at-requires : goal.valid_at-requires

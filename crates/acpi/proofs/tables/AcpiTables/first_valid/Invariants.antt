@@ -1,9 +1,6 @@
 use Rattle.std.proofs.Common.{◌≡◌}
-use Rattle.acpi_base.specs.Ranges.{Allows}
-use Rattle.acpi.specs.Footprint.{lookup_ranges}
-use Rattle.acpi.specs.Lookup.{lookup}
-use Rattle.acpi.specs.Pointers.{pointers_left}
-use Rattle.acpi.specs.Tables.{lender_of, may_of, pointers_of}
+use Rattle.acpi_base.specs.Words.{Allows}
+use Rattle.acpi.specs.Words.{lookup_ranges, lookup, pointers_left, lender_of, may_of, pointers_of}
 use Rattle.acpi.proofs.tables.AcpiTables.first_valid.Given as goal
 
 -- no pointer that was passed leads to a valid table

@@ -1,5 +1,5 @@
 use Rattle.std.proofs.Common.{refl, ◌∙◌}
-use Rattle.acpi_base.specs.Mapping.{start_of}
+use Rattle.acpi_base.specs.Words.{start_of}
 use Rattle.acpi.proofs.Agreed.{same_opened_by_rsdp}
 use Rattle.acpi.proofs.Asked.{asked_root}
 use Rattle.acpi.proofs.Search.{valid_lent}

@@ -1,6 +1,5 @@
 use Rattle.acpi.proofs.Asked.{asked_dsdt_place, asked_facs_place, asked_fadt}
-use Rattle.acpi.specs.Places.{both_place_ranges}
-use Rattle.acpi.specs.Tables.{may_of, memory_of, pointers_of}
+use Rattle.acpi.specs.Words.{both_place_ranges, may_of, memory_of, pointers_of}
 use Rattle.acpi.proofs.tables.AcpiTables.led.Goals as goal
 
 pub find_fadt-requires : goal.find_fadt-requires

@@ -2,9 +2,7 @@ use Rattle.std.proofs.Common.{refl, rules}
 use Rattle.acpi.proofs.Agreed.{from_tables, in_ok, same_places}
 use Rattle.acpi.proofs.Asked.{asked_led, asked_members}
 use Rattle.acpi.proofs.Placing.{fits_places, places_few}
-use Rattle.acpi.specs.Placed.{root_place}
-use Rattle.acpi.specs.Root.{width_of}
-use Rattle.acpi.specs.Tables.{kind_of, may_of, memory_of, pointers_of, root_of}
+use Rattle.acpi.specs.Words.{root_place, width_of, kind_of, may_of, memory_of, pointers_of, root_of}
 use Rattle.acpi.proofs.tables.AcpiTables.ranges.Goals as goal
 
 pub led-dsdt-requires : goal.led-dsdt-requires

@@ -1,7 +1,5 @@
-use Rattle.std.proofs.Common.{◌≡◌, ◌≤◌, ◌++◌, length, ◌+◌}
-use Rattle.std.specs.Prelude.{vec_capacity, vec_len}
-use Rattle.std.specs.List.{filter_map}
-use Rattle.acpi_base.specs.MadtWalk.{entries_left}
+use Rattle.std.proofs.Common.{◌≡◌, ◌≤◌, ◌++◌, length, ◌+◌, vec_capacity, vec_len, filter_map}
+use Rattle.acpi_base.specs.Words.{entries_left}
 use Rattle.acpi_arm.specs.Gic.{items_of}
 use Rattle.acpi_arm.proofs.gic.collect.collected.Given as goal
 
@@ -10,7 +8,7 @@ abbrev pub invariant-loop-entry : goal.invariant-loop-entry
 invariant-loop-entry g l =
     let left = filter_map (g.T.GicPart.said_in l.revision) (entries_left l.entries) in
     (l.items.items ++ left ≡ items_of g.T.GicPart.said_in l.table)
-        × (vec_len l.items + length left ≤ vec_capacity l.items)
+    × (vec_len l.items + length left ≤ vec_capacity l.items)
 
 abbrev pub decreases-loop-entry : goal.decreases-loop-entry
 decreases-loop-entry g l = length (entries_left l.entries)

@@ -1,6 +1,5 @@
-use Rattle.std.proofs.Common.{◌≡◌, ◌≤◌, length, ◌+◌}
-use Rattle.std.specs.List.{filter_map}
-use Rattle.acpi_base.specs.MadtWalk.{entries_left}
+use Rattle.std.proofs.Common.{◌≡◌, ◌≤◌, length, ◌+◌, filter_map}
+use Rattle.acpi_base.specs.Words.{entries_left}
 use Rattle.acpi_arm.specs.Gic.{items_of}
 use Rattle.acpi_arm.proofs.gic.collect.count_of.Given as goal
 
@@ -8,7 +7,7 @@ use Rattle.acpi_arm.proofs.gic.collect.count_of.Given as goal
 abbrev pub invariant-loop-entry : goal.invariant-loop-entry
 invariant-loop-entry g l =
     (l.count + length (filter_map (g.T.GicPart.said_in l.revision) (entries_left l.entries))
-        ≡ length (items_of g.T.GicPart.said_in l.table)) × (l.count + length (entries_left l.entries) ≤ length l.table)
+    ≡ length (items_of g.T.GicPart.said_in l.table)) × (l.count + length (entries_left l.entries) ≤ length l.table)
 
 abbrev pub decreases-loop-entry : goal.decreases-loop-entry
 decreases-loop-entry g l = length (entries_left l.entries)

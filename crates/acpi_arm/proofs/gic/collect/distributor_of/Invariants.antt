@@ -1,8 +1,5 @@
-use Rattle.std.proofs.Common.{◌≡◌, List, length, Option, Some, None}
-use Rattle.std.specs.Prelude.{slice_get}
-use Rattle.std.specs.List.{filter_map}
-use Rattle.acpi_base.specs.Madt.{cut_of, entries_of}
-use Rattle.acpi_base.specs.MadtWalk.{entries_left, rest_left}
+use Rattle.std.proofs.Common.{◌≡◌, List, length, Option, Some, None, slice_get, filter_map}
+use Rattle.acpi_base.specs.Words.{cut_of, entries_of, entries_left, rest_left}
 use Rattle.acpi_arm.specs.Gic.{distributor_in}
 use Rattle.acpi_arm.specs.declared.gic.part.GicDistributor.{GicDistributor}
 use Rattle.acpi_arm.proofs.gic.collect.distributor_of.Given as goal
@@ -16,7 +13,7 @@ first_of None more = slice_get more 0
 abbrev pub invariant-loop-entry : goal.invariant-loop-entry
 invariant-loop-entry l =
     (first_of l.distributor (filter_map distributor_in (entries_left l.entries))
-        ≡ slice_get (filter_map distributor_in (entries_of l.table)) 0) × (rest_left l.entries ≡ (cut_of l.table).1)
+    ≡ slice_get (filter_map distributor_in (entries_of l.table)) 0) × (rest_left l.entries ≡ (cut_of l.table).1)
 
 abbrev pub decreases-loop-entry : goal.decreases-loop-entry
 decreases-loop-entry l = length (entries_left l.entries)

@@ -6,7 +6,7 @@ use Rattle.acpi_arm.proofs.timers.PlatformTimerIterIterator.next.Given as goal
 abbrev pub invariant-loop-structure : goal.invariant-loop-structure
 invariant-loop-structure l =
     (timers_left l.self ≡ timers_left l.fn.self) × (missing_left l.self ≡ missing_left l.fn.self)
-        × (has_ended l.self ≡ has_ended l.fn.self)
+    × (has_ended l.self ≡ has_ended l.fn.self)
 
 abbrev pub decreases-loop-structure : goal.decreases-loop-structure
 decreases-loop-structure l = length l.self.rest.now

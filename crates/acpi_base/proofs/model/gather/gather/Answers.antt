@@ -1,13 +1,6 @@
-use Rattle.std.proofs.Common.{arith, ◌≡◌, ℕ, List, ap, subst, sym, ◌∙◌}
-use Rattle.std.specs.List.{cons_option, filter_map}
-use Rattle.std.specs.Result.{result_ok}
-use Rattle.acpi_base.specs.Entries.{cut, with_entry}
-use Rattle.acpi_base.specs.Items.{item_said, said_in}
-use Rattle.acpi_base.specs.Madt.{madt_grammar}
-use Rattle.acpi_base.specs.Model.{Model}
-use Rattle.acpi_base.specs.ModelBuilder.{HasRoom, model_behind}
-use Rattle.acpi_base.specs.declared.model.builder.ModelBuilder.{ModelBuilder}
-use Rattle.acpi_base.specs.declared.model.item.MadtItem.{MadtItem}
+use Rattle.std.proofs.Common.{arith, ◌≡◌, ℕ, List, ap, subst, sym, ◌∙◌, filter_map}
+use Rattle.acpi_base.specs.FromStd.{cons_option, result_ok}
+use Rattle.acpi_base.specs.Words.{cut, with_entry, item_said, said_in, madt_grammar, Model, HasRoom, model_behind, ModelBuilder, MadtItem}
 use Rattle.acpi_base.proofs.EntryLists.{said_items, said_more}
 use Rattle.acpi_base.proofs.model.gather.gather.Goals as goal
 

@@ -1,11 +1,6 @@
-use Rattle.std.proofs.Common.{◌≡◌, [], length}
-use Rattle.std.specs.List.{filter_map}
-use Rattle.std.specs.Result.{result_ok}
-use Rattle.acpi_base.specs.Entries.{cut}
-use Rattle.acpi_base.specs.Madt.{madt_grammar}
-use Rattle.acpi_base.specs.ModelBuilder.{HasRoom, model_behind}
-use Rattle.acpi_base.specs.Model.{gathered, items_of}
-use Rattle.acpi_base.specs.Items.{said_in}
+use Rattle.std.proofs.Common.{◌≡◌, [], length, filter_map}
+use Rattle.acpi_base.specs.FromStd.{result_ok}
+use Rattle.acpi_base.specs.Words.{cut, madt_grammar, HasRoom, model_behind, gathered, items_of, said_in}
 use Rattle.acpi_base.proofs.model.gather.gather.Given as goal
 
 -- what is gathered and what is left are the whole, there is room for what is left, and no bytes are after it

@@ -1,6 +1,6 @@
 use Rattle.std.proofs.Common.{subst, sym}
-use Rattle.std.proofs.lemmas.List.{take_all, take_more}
-use Rattle.acpi_base.specs.IsaOverrides.{IsGathered}
+use Rattle.acpi_base.proofs.FromStd.{take_all, take_more}
+use Rattle.acpi_base.specs.Words.{IsGathered}
 use Rattle.acpi_base.proofs.model.isa.gathered.Goals as goal
 
 pub loop-wiring-preserved : goal.loop-wiring-preserved

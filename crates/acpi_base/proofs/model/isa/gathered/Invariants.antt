@@ -1,5 +1,5 @@
 use Rattle.std.proofs.Common.{take}
-use Rattle.acpi_base.specs.IsaOverrides.{IsGathered}
+use Rattle.acpi_base.specs.Words.{IsGathered}
 use Rattle.acpi_base.proofs.model.isa.gathered.Given as goal
 
 -- those before the next one are gathered

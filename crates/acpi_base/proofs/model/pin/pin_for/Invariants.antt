@@ -1,7 +1,5 @@
-use Rattle.std.proofs.Common.{◌≡◌, ◌≤◌, drop}
-use Rattle.std.specs.Prelude.{IfSome}
-use Rattle.std.specs.Option.{option_map}
-use Rattle.acpi_base.specs.Pin.{base_of, nearest}
+use Rattle.std.proofs.Common.{◌≡◌, ◌≤◌, drop, IfSome, option_map}
+use Rattle.acpi_base.specs.Words.{base_of, nearest}
 use Rattle.acpi_base.proofs.Pin.{or_nearer}
 use Rattle.acpi_base.proofs.model.pin.pin_for.Given as goal
 

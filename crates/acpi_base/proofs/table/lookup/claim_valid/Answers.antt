@@ -1,5 +1,5 @@
 use Rattle.std.proofs.Common.{arith}
-use Rattle.std.proofs.lemmas.Grind.{common_steps}
+use Rattle.acpi_base.proofs.FromStd.{common_steps}
 use Rattle.acpi_base.proofs.OwnTable.{checked_last, length_there, names_there}
 use Rattle.acpi_base.proofs.table.lookup.claim_valid.Goals as goal
 

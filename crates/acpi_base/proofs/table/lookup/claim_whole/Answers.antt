@@ -1,13 +1,8 @@
 use Rattle.std.proofs.Common.{◌≡◌, ℕ, ◌+◌, ◌^◌, ◌<◌, ◌≤◌, length, IfOk, Result, Ok, Err, arith}
-use Rattle.std.proofs.lemmas.Grind.{common_steps}
+use Rattle.acpi_base.proofs.FromStd.{common_steps}
 use Rattle.acpi_base.proofs.AllowedRanges.{asked_length}
 use Rattle.acpi_base.proofs.LentRanges.{lent_ends, lent_shown}
-use Rattle.acpi_base.specs.Claim.{IsLentOf, IsWholeClaim, claimed_at, claimed_from, shown_by}
-use Rattle.acpi_base.specs.Memory.{Memory, IsMemory}
-use Rattle.acpi_base.specs.Steps.{Gives, lent}
-use Rattle.acpi_base.specs.Table.{table_at}
-use Rattle.acpi_base.specs.declared.memory.claim.Claim.{Claim}
-use Rattle.acpi_base.specs.declared.error.AcpiError.{AcpiError}
+use Rattle.acpi_base.specs.Words.{IsLentOf, IsWholeClaim, claimed_at, claimed_from, shown_by, Memory, IsMemory, Gives, lent, table_at, Claim, AcpiError}
 use Rattle.acpi_base.proofs.table.lookup.claim_whole.Goals as goal
 
 whole : {H h : _} (r : Result (Claim H h) AcpiError) (m : Memory) (head : Claim H h) (least n : ℕ) → IsMemory m → 0 < n

@@ -1,7 +1,6 @@
-use Rattle.std.proofs.Common.{◌≡◌, ◌-◌, arith, drop, length}
-use Rattle.std.specs.Prelude.{bit_and}
-use Rattle.std.specs.Simd.Lanes.{chunk, zip2}
-use Rattle.acpi_base.specs.Sums.{AddsUp}
+use Rattle.std.proofs.Common.{◌≡◌, ◌-◌, arith, drop, length, bit_and}
+use Rattle.acpi_base.specs.FromStd.{chunk, zip2}
+use Rattle.acpi_base.specs.Words.{AddsUp}
 use Rattle.acpi_base.proofs.Sums.{adds_up_last, adds_up_whole, masks}
 use Rattle.acpi_base.proofs.table.sum.finished.Goals as goal
 

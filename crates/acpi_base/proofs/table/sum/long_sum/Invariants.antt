@@ -1,5 +1,5 @@
 use Rattle.std.proofs.Common.{◌-◌, ◌≤◌, length, take}
-use Rattle.acpi_base.specs.Sums.{AddsUp}
+use Rattle.acpi_base.specs.Words.{AddsUp}
 use Rattle.acpi_base.proofs.table.sum.long_sum.Given as goal
 
 -- the lanes hold the sum of the blocks so far

@@ -1,7 +1,5 @@
-use Rattle.std.proofs.Common.{◌≡◌, length}
-use Rattle.std.specs.List.{filter_map}
-use Rattle.acpi_base.specs.Madt.{cut_of, entries_of, mailbox_in}
-use Rattle.acpi_base.specs.MadtWalk.{entries_left, rest_left}
+use Rattle.std.proofs.Common.{◌≡◌, length, filter_map}
+use Rattle.acpi_base.specs.Words.{cut_of, entries_of, mailbox_in, entries_left, rest_left}
 use Rattle.acpi_base.proofs.tables.madt.mailbox_address.Given as goal
 
 -- the entries so far gave no mailbox, and the rest is the same

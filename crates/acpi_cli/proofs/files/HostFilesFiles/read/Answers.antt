@@ -1,6 +1,5 @@
-use Rattle.std.proofs.Common.{◌≡◌, ◌∙◌, ◌++◌, ◌∷◌, ℕ, List, [], ap, map}
-use Rattle.std.specs.Prelude.{option_map, string_bytes}
-use Rattle.std.proofs.lemmas.List.{map-append}
+use Rattle.std.proofs.Common.{◌≡◌, ◌∙◌, ◌++◌, ◌∷◌, ℕ, List, [], ap, map, option_map, string_bytes}
+use Rattle.acpi_base.proofs.FromStd.{map-append}
 use Rattle.acpi_cli.specs.Reads.{read_of}
 use Rattle.acpi_cli.specs.declared.files.Reading.{Reading}
 use Rattle.acpi_cli.proofs.files.HostFilesFiles.read.Goals as goal

@@ -1,4 +1,4 @@
-use Rattle.std.specs.Prelude.{◌≡◌}
+use Rattle.std.proofs.Common.{◌≡◌}
 use Rattle.acpi_dump_lib.specs.DumpText.{with_pairs}
 use Rattle.acpi_dump_lib.proofs.input.row.push_pairs.Given as goal
 

@@ -1,6 +1,6 @@
 use denote.Shadow.{shadow}
 use denote.Text.{Utf8}
-use Rattle.std.specs.Prelude.{◌≡◌, ◌+◌, ◌≤◌, length}
+use Rattle.std.proofs.Common.{◌≡◌, ◌+◌, ◌≤◌, length}
 use Rattle.acpi_dump_lib.specs.DumpText.{lines_of, tables_from, tables_of}
 use Rattle.acpi_dump_lib.specs.Held.{reading_of}
 use Rattle.acpi_dump_lib.proofs.input.text.tables_in.Given as goal

@@ -1,8 +1,8 @@
 use Rattle.std.proofs.Common.{◌≡◌, ◌∙◌, ◌==◌, false, Ok, sym, refl, arith, ne_eqb}
-use Rattle.std.proofs.lemmas.Grind.{common_steps}
+use Rattle.acpi_base.proofs.FromStd.{common_steps}
 use Rattle.acpi_image.proofs.Checks.{places_left}
 use Rattle.acpi_image.specs.WriteChecks as checks
-use Rattle.acpi_image.specs.Written.{placed}
+use Rattle.acpi_image.specs.Words.{placed}
 use Rattle.acpi_image.proofs.write.checks.check_plan.Goals as goal
 
 pub returns : goal.returns

@@ -1,6 +1,6 @@
 use Rattle.std.proofs.Common.{◌≡◌, drop}
 use Rattle.acpi_image.specs.WriteChecks as checks
-use Rattle.acpi_image.specs.Written.{placed}
+use Rattle.acpi_image.specs.Words.{placed}
 use Rattle.acpi_image.proofs.write.checks.check_tables.Given as goal
 
 abbrev pub invariant-loop-index : goal.invariant-loop-index

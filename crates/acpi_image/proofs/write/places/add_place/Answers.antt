@@ -1,7 +1,7 @@
 use Rattle.std.proofs.Common.{ℕ, length, ◌≡◌, ◌<◌, ◌∙◌, replicate, arith}
-use Rattle.std.proofs.lemmas.List.{length-replicate}
+use Rattle.acpi_base.proofs.FromStd.{length-replicate}
 use Rattle.acpi_image_reader.proofs.Listing.{more_apart, starts_same}
-use Rattle.acpi_image_reader.specs.Regions.{region_in}
+use Rattle.acpi_image_reader.specs.Words.{region_in}
 use Rattle.acpi_image.proofs.write.places.add_place.Goals as goal
 
 pub returns-then-place-eq0 : goal.returns-then-place-eq0

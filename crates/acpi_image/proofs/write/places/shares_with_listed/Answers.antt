@@ -1,7 +1,7 @@
 use Rattle.std.proofs.Common.{ℕ, length, ◌≡◌, ◌∙◌, replicate, sym, arith}
-use Rattle.std.proofs.lemmas.List.{length-replicate}
+use Rattle.acpi_base.proofs.FromStd.{length-replicate}
 use Rattle.acpi_image_reader.proofs.Listing.{bytes_listed, none_listed, shares_by, shares_empty, shares_nothing, some_listed}
-use Rattle.acpi_image_reader.specs.Regions.{region_in}
+use Rattle.acpi_image_reader.specs.Words.{region_in}
 use Rattle.acpi_image.proofs.write.places.shares_with_listed.Goals as goal
 
 pub returns-then-place-eq0 : goal.returns-then-place-eq0

@@ -1,5 +1,5 @@
 use Rattle.std.proofs.Common.{◌≡◌, drop}
-use Rattle.acpi_image.specs.Places.{places_of}
+use Rattle.acpi_image.specs.Words.{places_of}
 use Rattle.acpi_image.specs.WriteChecks as checks
 use Rattle.acpi_image.proofs.write.places.some_share.Given as goal
 

@@ -1,8 +1,8 @@
 use Rattle.std.proofs.Common.{◌∷◌, []}
-use Rattle.std.proofs.lemmas.Result.{IfOk-weaker}
+use Rattle.acpi_base.proofs.FromStd.{IfOk-weaker}
 use Rattle.acpi_image.proofs.Checks.{two_placed, two_share}
-use Rattle.acpi_image.specs.Places.{places_of}
-use Rattle.acpi_image_reader.specs.Regions.{region_in}
+use Rattle.acpi_image.specs.Words.{places_of}
+use Rattle.acpi_image_reader.specs.Words.{region_in}
 use Rattle.acpi_image.proofs.write.places.some_share_by_starts.Goals as goal
 
 pub returns-then-shares_byte : goal.returns-then-shares_byte

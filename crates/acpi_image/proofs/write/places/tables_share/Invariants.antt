@@ -1,6 +1,6 @@
 use Rattle.std.proofs.Common.{◌++◌, take}
-use Rattle.acpi_base.specs.Memory.{Memory}
-use Rattle.acpi_image.specs.Places.{IsPlaced, places_of}
+use Rattle.acpi_base.specs.Words.{Memory}
+use Rattle.acpi_image.specs.Words.{IsPlaced, places_of}
 use Rattle.acpi_image.proofs.write.places.tables_share.Given as goal
 
 abbrev pub invariant-loop-table : goal.invariant-loop-table

@@ -1,7 +1,6 @@
-use Rattle.std.proofs.Common.{◌≡◌, ◌++◌, drop}
-use Rattle.std.specs.Prelude.{flat_map}
-use Rattle.acpi_base.specs.Bytes.{spelling}
-use Rattle.acpi_image.specs.Written.{placed, starts_of}
+use Rattle.std.proofs.Common.{◌≡◌, ◌++◌, drop, flat_map}
+use Rattle.acpi_base.specs.Words.{spelling}
+use Rattle.acpi_image.specs.Words.{placed, starts_of}
 use Rattle.acpi_image.proofs.write.records.put_pointers.Given as goal
 
 abbrev pub invariant-loop-table : goal.invariant-loop-table

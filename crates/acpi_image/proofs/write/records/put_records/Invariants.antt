@@ -1,7 +1,6 @@
-use Rattle.std.proofs.Common.{◌≡◌, ◌++◌, drop, map}
-use Rattle.std.specs.Prelude.{flat_map}
-use Rattle.acpi_image_reader.specs.Image.{record_spelling}
-use Rattle.acpi_image.specs.Written.{placed, plan, records_of, summed}
+use Rattle.std.proofs.Common.{◌≡◌, ◌++◌, drop, map, flat_map}
+use Rattle.acpi_image_reader.specs.Words.{record_spelling}
+use Rattle.acpi_image.specs.Words.{placed, plan, records_of, summed}
 use Rattle.acpi_image.proofs.write.records.put_records.Given as goal
 
 abbrev pub invariant-loop-table : goal.invariant-loop-table

@@ -1,5 +1,5 @@
 use Rattle.std.proofs.Common.{◌≡◌, ◌+◌, drop, length}
-use Rattle.acpi_iommu.specs.DmarScopes.{hops_left, is_front}
+use Rattle.acpi_iommu.specs.Words.{hops_left, is_front}
 use Rattle.acpi_iommu.proofs.dmar.scope.front_length.Given as goal
 
 -- the path is a front if the hops of it that are left are a front of the hops that are left

@@ -1,7 +1,6 @@
-use Rattle.std.proofs.Common.{◌≡◌, length}
-use Rattle.std.specs.Prelude.{◌&&◌}
-use Rattle.std.specs.List.{list_all}
-use Rattle.acpi_iommu.specs.Pieces.{left, rest_after}
+use Rattle.std.proofs.Common.{◌≡◌, length, ◌&&◌}
+use Rattle.acpi_base.specs.FromStd.{list_all}
+use Rattle.acpi_iommu.specs.Words.{left, rest_after}
 use Rattle.acpi_iommu.proofs.pieces.PieceIter.is_whole.Given as goal
 
 -- what is tested and what is left to test are the whole, and the rest is the same

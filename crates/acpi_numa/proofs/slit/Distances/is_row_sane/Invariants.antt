@@ -1,6 +1,5 @@
-use Rattle.std.proofs.Common.{ℕ, ◌<◌}
-use Rattle.std.specs.Prelude.{IsTrue}
-use Rattle.acpi_numa.specs.Slit.{distance_of, fits, slit_bytes}
+use Rattle.std.proofs.Common.{ℕ, ◌<◌, IsTrue}
+use Rattle.acpi_numa.specs.Words.{distance_of, fits, slit_bytes}
 use Rattle.acpi_numa.proofs.slit.Distances.is_row_sane.Given as goal
 
 -- the distances so far can be believed

@@ -1,5 +1,5 @@
 use Rattle.std.proofs.Common.{ℕ, ◌<◌}
-use Rattle.acpi_numa.specs.Slit.{IsRowSane, slit_bytes}
+use Rattle.acpi_numa.specs.Words.{IsRowSane, slit_bytes}
 use Rattle.acpi_numa.proofs.slit.Distances.is_sane.Given as goal
 
 -- the rows so far can be believed

@@ -1,9 +1,6 @@
-use Rattle.std.proofs.Common.{◌≡◌, ◌+◌, length}
-use Rattle.std.specs.Prelude.{◌&&◌}
-use Rattle.std.specs.List.{filter_map, list_all}
-use Rattle.acpi_numa.specs.Affinities.{ends_below, range_in, ranges_of}
-use Rattle.acpi_numa.specs.Srat.{cut_of}
-use Rattle.acpi_numa.specs.SratWalk.{entries_left, rest_left}
+use Rattle.std.proofs.Common.{◌≡◌, ◌+◌, length, ◌&&◌, filter_map}
+use Rattle.acpi_base.specs.FromStd.{list_all}
+use Rattle.acpi_numa.specs.Words.{ends_below, range_in, ranges_of, cut_of, entries_left, rest_left}
 use Rattle.acpi_numa.proofs.srat.affinities.counted.Given as goal
 
 -- what is counted and what is left are the whole, what is tested and what is left to test too, and the rest is the same

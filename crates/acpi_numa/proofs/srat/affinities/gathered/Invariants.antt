@@ -1,8 +1,5 @@
-use Rattle.std.proofs.Common.{◌≡◌, ◌+◌, ◌++◌, length}
-use Rattle.std.specs.Prelude.{vec_capacity, vec_len}
-use Rattle.std.specs.List.{filter_map}
-use Rattle.acpi_numa.specs.Affinities.{range_in, ranges_of}
-use Rattle.acpi_numa.specs.SratWalk.{entries_left}
+use Rattle.std.proofs.Common.{◌≡◌, ◌+◌, ◌++◌, length, vec_capacity, vec_len, filter_map}
+use Rattle.acpi_numa.specs.Words.{range_in, ranges_of, entries_left}
 use Rattle.acpi_numa.proofs.srat.affinities.gathered.Given as goal
 
 -- what is gathered and what is left are the whole, and there is room for just what is left

@@ -1,5 +1,5 @@
 use Rattle.std.proofs.Common.{◌≡◌, ◌-◌, length}
-use Rattle.acpi_pack_lib.specs.Held.{entries_left}
+use Rattle.acpi_pack_lib.specs.Words.{entries_left}
 use Rattle.acpi_pack_lib.proofs.sources.FilesOfRoleIterator.next.Given as goal
 
 -- what was passed over is not of the role

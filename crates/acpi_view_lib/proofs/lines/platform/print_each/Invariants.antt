@@ -1,5 +1,4 @@
-use Rattle.std.proofs.Common.{drop}
-use Rattle.std.specs.Prelude.{◌≡◌, ◌++◌, flat_map, string_bytes}
+use Rattle.std.proofs.Common.{drop, ◌≡◌, ◌++◌, flat_map, string_bytes}
 use Rattle.acpi_view_lib.proofs.lines.platform.print_each.Given as goal
 
 abbrev pub invariant-loop-item : goal.invariant-loop-item

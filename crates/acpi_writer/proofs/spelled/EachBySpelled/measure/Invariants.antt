@@ -1,7 +1,5 @@
-use Rattle.std.proofs.Common.{flat_map, take}
-use Rattle.std.specs.List.{All}
-use Rattle.std.specs.Prelude.{Some}
-use Rattle.acpi_writer.specs.Spelled.{Measures}
+use Rattle.std.proofs.Common.{flat_map, take, All, Some}
+use Rattle.acpi_writer.specs.Words.{Measures}
 use Rattle.acpi_writer.proofs.spelled.EachBySpelled.measure.Given as goal
 
 -- what is measured so far

@@ -1,5 +1,5 @@
 use Rattle.std.proofs.Common.{length, arith}
-use Rattle.std.proofs.lemmas.List.Folds.{length-flat_map-take}
+use Rattle.acpi_base.proofs.FromStd.{length-flat_map-take}
 use Rattle.acpi_writer.proofs.Sized.{not_whole}
 use Rattle.acpi_writer.proofs.spelled.EachBySpelled.put.Goals as goal
 

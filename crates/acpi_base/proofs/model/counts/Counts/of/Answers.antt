@@ -1,7 +1,6 @@
 use Rattle.std.proofs.Common.{◌≤◌, length, drop, refl, ap, arith}
-use Rattle.acpi_base.proofs.EntryLists.{counted_short, said_few}
-use Rattle.acpi_base.proofs.EntryLists.{said_faults, said_items}
-use Rattle.acpi_base.specs.Items.{counts_of, said_in}
+use Rattle.acpi_base.proofs.EntryLists.{counted_short, said_few, said_faults, said_items}
+use Rattle.acpi_base.specs.Words.{counts_of, said_in}
 use Rattle.acpi_base.proofs.model.counts.Counts.of.Goals as goal
 
 pub loop-entry-init : goal.loop-entry-init

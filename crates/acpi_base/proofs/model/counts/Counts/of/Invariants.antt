@@ -1,11 +1,6 @@
-use Rattle.std.proofs.Common.{◌≡◌, ℕ, ◌+◌, ◌≤◌, length}
-use Rattle.std.specs.List.{filter_map}
-use Rattle.std.specs.Result.{result_err, result_ok}
-use Rattle.acpi_base.specs.Entries.{cut}
-use Rattle.acpi_base.specs.Madt.{cut_of, entries_of, madt_grammar}
-use Rattle.acpi_base.specs.Model.{fault_in, items_of}
-use Rattle.acpi_base.specs.Items.{counted_behind, counts_of, said_in}
-use Rattle.acpi_base.specs.declared.model.counts.Counts.{Counts}
+use Rattle.std.proofs.Common.{◌≡◌, ℕ, ◌+◌, ◌≤◌, length, filter_map}
+use Rattle.acpi_base.specs.FromStd.{result_err, result_ok}
+use Rattle.acpi_base.specs.Words.{cut, cut_of, entries_of, madt_grammar, fault_in, items_of, counted_behind, counts_of, said_in, Counts}
 use Rattle.acpi_base.proofs.model.counts.Counts.of.Given as goal
 
 -- each count has room for all that is left

@@ -1,6 +1,6 @@
 use Rattle.std.proofs.Common.{◌≡◌, ◌<◌, ◌-◌, refl, length, get_or, subst, sym, arith}
-use Rattle.std.proofs.lemmas.List.{get_or_default}
-use Rattle.acpi_base.specs.IsaOverrides.{IsGathered}
+use Rattle.acpi_base.proofs.FromStd.{get_or_default}
+use Rattle.acpi_base.specs.Words.{IsGathered}
 use Rattle.acpi_base.proofs.Isa.{from_counted, one_counted, one_gathered, own_if_above, own_if_below, still_few}
 use Rattle.acpi_base.proofs.model.isa_overrides.IsaOverrides.add.Goals as goal
 

@@ -1,5 +1,5 @@
 use Rattle.std.proofs.Common.{◌≡◌, length}
-use Rattle.acpi_base.specs.Items.{items_left}
+use Rattle.acpi_base.specs.Words.{items_left}
 use Rattle.acpi_base.proofs.model.items.MadtItemsIterator.next.Given as goal
 
 -- what was passed over says nothing

@@ -1,5 +1,5 @@
 use Rattle.std.proofs.Common.{◌≡◌, length}
-use Rattle.acpi_base.specs.NmiLines.{lines_left}
+use Rattle.acpi_base.specs.Words.{lines_left}
 use Rattle.acpi_base.proofs.model.nmi_lines.LocalNmiLinesIterator.next.Given as goal
 
 -- what was passed over is not this processor's

@@ -1,7 +1,7 @@
 use Rattle.std.proofs.Common.{◌≡◌, Ok, arith}
-use Rattle.std.proofs.lemmas.Grind.{common_steps}
+use Rattle.acpi_base.proofs.FromStd.{common_steps}
 use Rattle.acpi_base.proofs.Sums.{damage_shows}
-use Rattle.acpi_base.specs.Header.{check_table, header_at}
+use Rattle.acpi_base.specs.Words.{check_table, header_at}
 use Rattle.acpi_base.proofs.table.header.SdtHeader.validate.Goals as goal
 
 pub returns-clause-damage : goal.returns-clause-damage

@@ -1,7 +1,7 @@
-use Rattle.std.proofs.Common.{◌≡◌, ℕ, List, [], ◌∷◌, Bool, true, false, length, get_or, refl, sym, arith}
-use Rattle.std.specs.Str.{is_utf8, IsUtf8}
-use Rattle.std.proofs.lemmas.Str.{is_utf8-from_IsUtf8, IsUtf8-from_is_utf8}
-use Rattle.acpi_base.specs.Text.{bytes_text, hex_text}
+use Rattle.std.proofs.Common.{◌≡◌, ℕ, List, [], ◌∷◌, Bool, true, false, length, get_or, refl, sym, arith, IsUtf8}
+use Rattle.acpi_base.specs.FromStd.{is_utf8}
+use Rattle.acpi_base.proofs.FromStd.{is_utf8-from_IsUtf8, IsUtf8-from_is_utf8}
+use Rattle.acpi_base.specs.Words.{bytes_text, hex_text}
 use Rattle.acpi_base.proofs.table.signature.SignatureDisplay.fmt.Goals as goal
 
 as_text : (bs : List ℕ) → IsUtf8 bs → bytes_text bs ≡ bs

@@ -1,7 +1,5 @@
 use Rattle.std.proofs.Common.{◌≡◌, length}
-use Rattle.acpi_base.specs.Entries.{cut}
-use Rattle.acpi_base.specs.Madt.{madt_grammar}
-use Rattle.acpi_base.specs.MadtWalk.{entries_in}
+use Rattle.acpi_base.specs.Words.{cut, madt_grammar, entries_in}
 use Rattle.acpi_base.proofs.tables.madt.walk.past_others.Given as goal
 
 -- what was passed over is of no defined type, and the rest is the same

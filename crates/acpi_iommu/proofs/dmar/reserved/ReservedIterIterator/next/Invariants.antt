@@ -1,6 +1,5 @@
 use Rattle.std.proofs.Common.{◌≡◌, length}
-use Rattle.acpi_iommu.specs.Dmar.{structures_left}
-use Rattle.acpi_iommu.specs.DmarUnits.{reserved_left}
+use Rattle.acpi_iommu.specs.Words.{structures_left, reserved_left}
 use Rattle.acpi_iommu.proofs.dmar.reserved.ReservedIterIterator.next.Given as goal
 
 -- what was passed over is not reserved for the device

@@ -1,6 +1,6 @@
 use Rattle.std.proofs.Common.{◌≡◌, length}
-use Rattle.std.specs.List.{last_or}
-use Rattle.acpi_iommu.specs.DmarScopes.{bytes_of_scope, hops_left, last_hop}
+use Rattle.acpi_base.specs.FromStd.{last_or}
+use Rattle.acpi_iommu.specs.Words.{bytes_of_scope, hops_left, last_hop}
 use Rattle.acpi_iommu.proofs.dmar.scope.DeviceScope.last_hop.Given as goal
 
 -- the last hop so far, or what is the last of those that are left

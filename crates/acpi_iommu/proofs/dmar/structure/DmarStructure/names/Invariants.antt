@@ -1,7 +1,6 @@
 use Rattle.std.proofs.Common.{◌≡◌, length}
-use Rattle.std.specs.List.{list_any}
-use Rattle.acpi_iommu.specs.Dmar.{structure_bytes}
-use Rattle.acpi_iommu.specs.DmarScopes.{names, names_device, scopes_left}
+use Rattle.acpi_base.specs.FromStd.{list_any}
+use Rattle.acpi_iommu.specs.Words.{structure_bytes, names, names_device, scopes_left}
 use Rattle.acpi_iommu.proofs.dmar.structure.DmarStructure.names.Given as goal
 
 -- those passed over don't name the device

@@ -1,7 +1,5 @@
-use Rattle.std.proofs.Common.{◌≡◌, length}
-use Rattle.std.specs.Prelude.{find}
-use Rattle.acpi_iommu.specs.Dmar.{structure_bytes}
-use Rattle.acpi_iommu.specs.DmarScopes.{is_numbered, scopes_left, scopes_of}
+use Rattle.std.proofs.Common.{◌≡◌, length, find}
+use Rattle.acpi_iommu.specs.Words.{structure_bytes, is_numbered, scopes_left, scopes_of}
 use Rattle.acpi_iommu.proofs.dmar.structure.DmarStructure.source.Given as goal
 
 -- those passed over have another type or Enumeration ID

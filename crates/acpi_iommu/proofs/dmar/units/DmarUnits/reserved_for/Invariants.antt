@@ -1,7 +1,6 @@
 use Rattle.std.proofs.Common.{◌≡◌, length}
-use Rattle.std.specs.List.{list_all}
-use Rattle.acpi_iommu.specs.Dmar.{is_range}
-use Rattle.acpi_iommu.specs.DmarUnits.{reserved_left}
+use Rattle.acpi_base.specs.FromStd.{list_all}
+use Rattle.acpi_iommu.specs.Words.{is_range, reserved_left}
 use Rattle.acpi_iommu.proofs.dmar.units.DmarUnits.reserved_for.Given as goal
 
 -- those passed over are ranges

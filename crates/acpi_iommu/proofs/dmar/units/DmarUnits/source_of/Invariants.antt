@@ -1,7 +1,5 @@
-use Rattle.std.proofs.Common.{◌≡◌, length}
-use Rattle.std.specs.List.{filter_map}
-use Rattle.acpi_iommu.specs.Dmar.{structures_left, structures_of}
-use Rattle.acpi_iommu.specs.DmarUnits.{dmar_bytes, source_in}
+use Rattle.std.proofs.Common.{◌≡◌, length, filter_map}
+use Rattle.acpi_iommu.specs.Words.{structures_left, structures_of, dmar_bytes, source_in}
 use Rattle.acpi_iommu.proofs.dmar.units.DmarUnits.source_of.Given as goal
 
 -- those passed over have no such scope

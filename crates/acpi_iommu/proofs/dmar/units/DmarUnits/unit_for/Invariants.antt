@@ -1,9 +1,6 @@
-use Rattle.std.proofs.Common.{◌≡◌, length}
-use Rattle.std.specs.Prelude.{◌&&◌, find}
-use Rattle.std.specs.Option.{option_map, option_or}
-use Rattle.acpi_iommu.specs.Dmar.{drhd_at, includes_pci_all, structures_left}
-use Rattle.acpi_iommu.specs.DmarScopes.{names_device}
-use Rattle.acpi_iommu.specs.DmarUnits.{dmar_bytes, is_unit_of, unit_of_others, unit_that_names}
+use Rattle.std.proofs.Common.{◌≡◌, length, ◌&&◌, find, option_map}
+use Rattle.acpi_base.specs.FromStd.{option_or}
+use Rattle.acpi_iommu.specs.Words.{drhd_at, includes_pci_all, structures_left, names_device, dmar_bytes, is_unit_of, unit_of_others, unit_that_names}
 use Rattle.acpi_iommu.proofs.dmar.units.DmarUnits.unit_for.Given as goal
 
 -- no unit that was passed over names the device, and the first of them with INCLUDE_PCI_ALL is kept

@@ -1,7 +1,5 @@
-use Rattle.std.proofs.Common.{◌≡◌}
-use Rattle.std.specs.Prelude.{find}
-use Rattle.acpi_iommu.specs.Ivrs.{block_bytes}
-use Rattle.acpi_iommu.specs.IvrsEntries.{covers, entries_left, entries_of}
+use Rattle.std.proofs.Common.{◌≡◌, find}
+use Rattle.acpi_iommu.specs.Words.{block_bytes, covers, entries_left, entries_of}
 use Rattle.acpi_iommu.proofs.ivrs.block.IvrsBlock.unit.Given as goal
 
 -- those passed over don't cover the device

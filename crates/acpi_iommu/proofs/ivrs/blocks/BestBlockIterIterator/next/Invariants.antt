@@ -1,6 +1,5 @@
 use Rattle.std.proofs.Common.{◌≡◌, length}
-use Rattle.acpi_iommu.specs.Ivrs.{blocks_left}
-use Rattle.acpi_iommu.specs.IvrsUnits.{best_left}
+use Rattle.acpi_iommu.specs.Words.{blocks_left, best_left}
 use Rattle.acpi_iommu.proofs.ivrs.blocks.BestBlockIterIterator.next.Given as goal
 
 -- what was passed over is of other types

@@ -1,7 +1,5 @@
-use Rattle.std.proofs.Common.{◌≡◌}
-use Rattle.std.specs.List.{filter_map}
-use Rattle.acpi_iommu.specs.Ivrs.{blocks_left, blocks_of}
-use Rattle.acpi_iommu.specs.IvrsUnits.{ivrs_bytes, unit_in}
+use Rattle.std.proofs.Common.{◌≡◌, filter_map}
+use Rattle.acpi_iommu.specs.Words.{blocks_left, blocks_of, ivrs_bytes, unit_in}
 use Rattle.acpi_iommu.proofs.ivrs.blocks.IvrsBlocks.block_for.Given as goal
 
 -- those passed over say nothing of the device

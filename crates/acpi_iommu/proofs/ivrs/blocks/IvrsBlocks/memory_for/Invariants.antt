@@ -1,6 +1,6 @@
 use Rattle.std.proofs.Common.{◌≡◌}
-use Rattle.std.specs.List.{list_all}
-use Rattle.acpi_iommu.specs.IvrsUnits.{ends_below, memory_left}
+use Rattle.acpi_base.specs.FromStd.{list_all}
+use Rattle.acpi_iommu.specs.Words.{ends_below, memory_left}
 use Rattle.acpi_iommu.proofs.ivrs.blocks.IvrsBlocks.memory_for.Given as goal
 
 -- those passed over end below 2^64

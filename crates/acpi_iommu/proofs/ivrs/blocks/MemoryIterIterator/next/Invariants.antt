@@ -1,6 +1,5 @@
 use Rattle.std.proofs.Common.{◌≡◌, length}
-use Rattle.acpi_iommu.specs.Ivrs.{blocks_left}
-use Rattle.acpi_iommu.specs.IvrsUnits.{memory_left}
+use Rattle.acpi_iommu.specs.Words.{blocks_left, memory_left}
 use Rattle.acpi_iommu.proofs.ivrs.blocks.MemoryIterIterator.next.Given as goal
 
 -- what was passed over is no memory for the device

@@ -1,7 +1,6 @@
-use Rattle.std.proofs.Common.{◌≡◌, None, length}
-use Rattle.std.specs.List.{filter_map, last_or}
-use Rattle.acpi_numa.specs.Srat.{domain_in, entries_of, srat_bytes}
-use Rattle.acpi_numa.specs.SratWalk.{entries_left}
+use Rattle.std.proofs.Common.{◌≡◌, None, length, filter_map}
+use Rattle.acpi_base.specs.FromStd.{last_or}
+use Rattle.acpi_numa.specs.Words.{domain_in, entries_of, srat_bytes, entries_left}
 use Rattle.acpi_numa.proofs.srat.domains.Domains.domain_of.Given as goal
 
 -- what is found so far, or what the entries left give last

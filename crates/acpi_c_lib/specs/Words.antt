@@ -1,0 +1,36 @@
+-- This crate's words: what proofs, contracts and the crates above bring in from its specs.
+pub use Rattle.acpi_c_lib.specs.Answers.{Answers, AnswersList, AnswersPlain, AnswersSome, Fills, GivesSome, Writes, items_said, name_or, put_from, result_map}
+pub use Rattle.acpi_c_lib.specs.Arm.{below_gic, cpu_interfaces_shown, distributor_shown, msi_frames_shown, redistributors_shown, translation_services_shown}
+pub use Rattle.acpi_c_lib.specs.ArmTimers.{GtFrame, arm_timer_or, arm_timer_record, frame_record, frames_in, frames_of, frames_shown, gtdt_below, or_ones, timers_record, timers_shown, watchdog_in, watchdogs_of, watchdogs_shown}
+pub use Rattle.acpi_c_lib.specs.Below.{AcpiError, Refusal, Source, ebda_in, opened_in, refused_as}
+unfoldable pub use Rattle.acpi_c_lib.specs.Below.{first_table, opened_as_lent}
+pub use Rattle.acpi_c_lib.specs.Clip.{AnswersClip, AreInOrder, FillsClipped, IsNext, Range, all_fit, any_holds, change_in, change_of, fits, holds, wanted}
+pub use Rattle.acpi_c_lib.specs.Console.{console_below, console_record}
+pub use Rattle.acpi_c_lib.specs.Devices.{generic_record, graphic_below, graphic_record, optional_register, register_if, required_register, timer_below, timer_record}
+pub use Rattle.acpi_c_lib.specs.Entries.{entries_below, entries_from, entries_said, entry_record, left_said, plain_grammar, plain_layout, width_of_bytes}
+pub use Rattle.acpi_c_lib.specs.Faults.{fault_record, faults_below, kind_named}
+pub use Rattle.acpi_c_lib.specs.Fixed.{fixed_below, fixed_record, gpe_record}
+pub use Rattle.acpi_c_lib.specs.Held.{mapped_memory}
+pub use Rattle.acpi_c_lib.specs.Iommu.{block_record, dmar_hpet_below, dmar_io_apic_below, dmar_reserved_below, dmar_unit_below, iommu_refusal, ivrs_memory_below, ivrs_unit_below, memory_record, reserved_record, source_record, unit_record}
+pub use Rattle.acpi_c_lib.specs.IsaList.{IsaInterrupts, IsaRoute, ItemsAreAnswers, isa_list, isa_list_below, isa_route, nearer_of, no_route, number_of, route_by, route_of}
+unfoldable pub use Rattle.acpi_c_lib.specs.IsaList.{isa_numbers}
+pub use Rattle.acpi_c_lib.specs.Listed.{lists_by, lists_each, lists_found, lists_some}
+pub use Rattle.acpi_c_lib.specs.Located.{LiesOnlyAt, Place, located, spot_from}
+pub use Rattle.acpi_c_lib.specs.Missing.{Areas, CandidatesHaveHoles, Fits, IsUnlent, LedHaveHoles, MembersHaveHoles, OpeningHasHole, areas_holes, areas_of, hole, last_range, member_hole, missing_below, missing_in, no_areas, opening_ranges, pieces, range_of, stretch}
+unfoldable pub use Rattle.acpi_c_lib.specs.Missing.{candidate_hole, candidate_holes, has_valid, opened_as_lent_ranges, walk_holes}
+pub use Rattle.acpi_c_lib.specs.Model.{MadtItem, apics_by, below_platform, counts_of, io_apic_record, io_apics_of, left_after, listed, model_by, nmi_line_record, nmi_lines_of, nmi_source_record, nmi_sources_of, override_record, overrides_of, processor_record, processors_in, processors_of, state_code}
+pub use Rattle.acpi_c_lib.specs.Numa.{IsLocalities, affinities_below, affinity_record, distance_below, domain_of_address_below, domain_of_apic_below, domain_of_processor_below, numa_refusal, slit_in}
+pub use Rattle.acpi_c_lib.specs.Regions.{Region, check_from, check_regions, memory_in, memory_of, region_of}
+pub use Rattle.acpi_c_lib.specs.Routes.{Interrupt, IoApicPin, below_apics, below_known, interrupt_or, interrupt_record, is_nearer, isa_below, pin_below, pin_or, sci_below}
+unfoldable pub use Rattle.acpi_c_lib.specs.Routes.{known_apics}
+pub use Rattle.acpi_c_lib.specs.Shown.{aml_record, dsdt_below, ecam_below, ecam_ranges_below, ecam_record, hpet_below, pci_record, pci_regions_below, root_below, signature_named, table_below, table_in, table_record, tables_below, tables_in}
+pub use Rattle.acpi_c_lib.specs.Types.{Acpi, ArmTimers, Bgrt, Fadt, Gic, Hpet, Madt, Mcfg, Nothing, Slit, Spcr, Srat, Ssdt, UnknownStart, Writer}
+pub use Rattle.acpi_c_lib.specs.Walked.{nth_below, nth_in, range_record, ranges_below, ssdts_below}
+pub use Rattle.acpi_c_lib.specs.Writing.{IsKeptOr, TableIds, WriterError, WritesTable, hpet_info_of, is_wiring, madt_body, writer_refused}
+unfoldable pub use Rattle.acpi_c_lib.specs.Writing.{check_lists}
+pub use Rattle.acpi_c_lib.specs.WrittenFadt.{facs_contents}
+pub use Rattle.acpi_c_lib.specs.WrittenGic.{gic_body}
+unfoldable pub use Rattle.acpi_c_lib.specs.WrittenGic.{gic_checked}
+pub use Rattle.acpi_c_lib.specs.WrittenMachine.{Contents, check_tables, dsdt_said, machine_said, size_said, table_said, tree_said, written_as}
+pub use Rattle.acpi_c_lib.specs.declared.interrupt_records.Processor.{Processor}
+pub use Rattle.acpi_c_lib.specs.declared.writing.machine.Contents.TheVariants.{Gtdt}

@@ -1,0 +1,10 @@
+-- This crate's words: what proofs, contracts and the crates above bring in from its specs.
+pub use Rattle.acpi_fixed.specs.Bgrt.{image_type_of, offset_of, rank_of, status_of}
+unfoldable pub use Rattle.acpi_fixed.specs.Bgrt.{bgrt_at}
+pub use Rattle.acpi_fixed.specs.Fadt.{dsdt_address_of, facs_address_of, pm_timer_of, profile_for, profile_of, registers_of}
+unfoldable pub use Rattle.acpi_fixed.specs.Fadt.{fadt_at}
+pub use Rattle.acpi_fixed.specs.Flags.{arm_bits, feature_bits, pc_bits}
+pub use Rattle.acpi_fixed.specs.Gpe.{base_beside, block_from, gpe1_base_of, gpe_of}
+pub use Rattle.acpi_fixed.specs.Registers.{HasBlocks, address_or, block_of, extended_address, extended_bytes, extended_number, has_extended, optional_block_of, port_of, ports_at, register_of, registers_at, timer_block_of, usable_extended}
+unfoldable pub use Rattle.acpi_fixed.specs.Registers.{block_at}
+pub use Rattle.acpi_fixed.specs.View.{viewed}
