@@ -1,5 +1,5 @@
 //! The IA-PC High Precision Event Timer Table (HPET).
-ghost use Rattle.std.specs.Prelude.{◌≡◌, refl, ◌+◌};
+ghost use Rattle.std.specs.Prelude.{◌≡◌, ◌+◌};
 ghost use Rattle.std.proofs.Common.{lit≤};
 ghost use Rattle.acpi_base.specs.Words.{bits_of, has_bit};
 ghost use Rattle.acpi.specs.Words.{protection_of, hpet_at, hpet_kind, hpet_of, info_of, AllowsBelow, FootprintBelow, lookup_ranges, Relocation, of_tables};
@@ -7,8 +7,7 @@ ghost use Rattle.acpi.specs.Words.{protection_of, hpet_at, hpet_kind, hpet_of, i
 use crate::tables::AcpiTables;
 use acpi_base::bytes::{bits, field_in, has_bit, u8_in, u16_in, u32_in};
 use acpi_base::sdt::SdtHeader;
-use acpi_base::table::sum_refusal;
-use acpi_base::{AcpiError, AcpiResult, AcpiTable, Lender, PhysicalRecord, Signature};
+use acpi_base::{AcpiError, AcpiResult, Lender, PhysicalRecord, SdtTable, Signature};
 
 /// The IA-PC High Precision Event Timer Table (HPET). Section 5.2.6 reserves its signature, and its layout
 /// is the IA-PC HPET Specification's. `HpetInfo` shows what it says.
@@ -44,31 +43,19 @@ impl PhysicalRecord for HpetTable {
     }
 }
 
-impl AcpiTable for HpetTable {
+impl SdtTable for HpetTable {
     ghost use Rattle.acpi.specs.Types.{HPET};
 
-    const SIGNATURE: Signature = Signature::HPET;
+    const NAME: Signature = Signature::HPET;
 
-    ghost SIGNATURE = { HPET };
-
-    ghost kind = { hpet_kind };
+    ghost NAME = { HPET };
 
     #[tactic(auto, unfolding(crate::specs::Hpet::hpet_at))]
-    fn header(&self) -> &SdtHeader {
+    fn sdt_header(&self) -> &SdtHeader {
         &self.header
     }
 
-    fn validate(&self, bytes: &[u8]) -> AcpiResult<()> {
-        self.header().validate(Self::SIGNATURE, bytes)
-    }
-
-    fn validate_rest(bytes: &[u8]) -> AcpiResult<()> {
-        sum_refusal(Self::SIGNATURE, bytes)
-    }
-
     ghost least = { lit≤ tt };
-
-    ghost agrees = { (refl, refl) };
 }
 
 /// Page Protection: whether accesses to the page of the timer's registers, after the registers, do no harm

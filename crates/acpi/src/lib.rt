@@ -24,7 +24,7 @@ mod tables;
 pub use acpi_base::managed_slice::ManagedSlice;
 pub use acpi_base::{
     AcpiError, AcpiHandler, AcpiResult, AcpiTable, AddressRange, Guarded, Lender, MadtError,
-    PhysicalMapping, PhysicalRecord, address, madt, sdt, spcr,
+    PhysicalMapping, PhysicalRecord, SdtTable, address, madt, sdt, spcr,
 };
 pub use acpi_fixed::fadt::PowerProfile;
 pub use acpi_fixed::{bgrt, fadt};

@@ -10,8 +10,7 @@ use acpi_base::bytes::{field_in, has_bit, u32_in};
 use acpi_base::extended::ExtendedField;
 use acpi_base::model::{Polarity, TriggerMode};
 use acpi_base::sdt::SdtHeader;
-use acpi_base::table::sum_refusal;
-use acpi_base::{AcpiResult, AcpiTable, PhysicalRecord, Signature};
+use acpi_base::{PhysicalRecord, SdtTable, Signature};
 
 /// A timer that every processor has, by its GSIV and its flags in a GTDT (section 5.2.24).
 #[derive(Clone, Copy, Debug, PartialEq, Eq)]
@@ -104,34 +103,20 @@ impl PhysicalRecord for Gtdt {
     }
 }
 
-impl AcpiTable for Gtdt {
+impl SdtTable for Gtdt {
     ghost use Rattle.std.proofs.Common.{lit≤};
-    ghost use Rattle.std.specs.Prelude.{refl};
-    ghost use Rattle.acpi_arm.specs.Gtdt.{gtdt_kind};
     ghost use Rattle.acpi.specs.Types.{GTDT};
 
-    const SIGNATURE: Signature = Signature::GTDT;
+    const NAME: Signature = Signature::GTDT;
 
-    ghost SIGNATURE = { GTDT };
-
-    ghost kind = { gtdt_kind };
+    ghost NAME = { GTDT };
 
     #[tactic(auto, unfolding(crate::specs::Gtdt::gtdt_at))]
-    fn header(&self) -> &SdtHeader {
+    fn sdt_header(&self) -> &SdtHeader {
         &self.header
     }
 
-    fn validate(&self, bytes: &[u8]) -> AcpiResult<()> {
-        self.header().validate(Self::SIGNATURE, bytes)
-    }
-
-    fn validate_rest(bytes: &[u8]) -> AcpiResult<()> {
-        sum_refusal(Self::SIGNATURE, bytes)
-    }
-
     ghost least = { lit≤ tt };
-
-    ghost agrees = { (refl, refl) };
 }
 
 impl Gtdt {

@@ -28,5 +28,5 @@ pub use memory::mapping::PhysicalMapping;
 pub use memory::{guarded, handler, mapping};
 pub use range::AddressRange;
 pub use table::signature::Signature;
-pub use table::{AcpiTable, header as sdt, signature};
+pub use table::{AcpiTable, SdtTable, header as sdt, signature};
 pub use tables::{madt, mcfg, spcr};

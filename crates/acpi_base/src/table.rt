@@ -1,7 +1,7 @@
 //! Types of tables: the signature and the least length of each, and how it is checked (section 5.2.6).
-ghost use Rattle.std.specs.Prelude.{◌≡◌, ℕ, ◌≤◌, List, length, Ok};
+ghost use Rattle.std.specs.Prelude.{◌≡◌, ℕ, ◌≤◌, List, length, Ok, refl};
 ghost use Rattle.acpi_base.specs.Header.{check_names, check_table, header_at};
-ghost use Rattle.acpi_base.specs.Table.{Kind};
+ghost use Rattle.acpi_base.specs.Table.{Kind, sdt_kind};
 ghost use Rattle.acpi_base.specs.Types.{Signature};
 
 pub mod header;
@@ -58,6 +58,46 @@ pub trait AcpiTable: PhysicalRecord {
 
     // The constants are those of the kind.
     ghost agrees: { (kind.signature ≡ SIGNATURE) × (kind.least ≡ Self.MIN_LENGTH) };
+}
+
+/// A type of table of which a lookup checks the header and the sum and no more, as most are. A lookup finds such tables
+/// as those of the `AcpiTable` that they are.
+pub trait SdtTable: PhysicalRecord {
+    /// Signature: the four letters that name the table (section 5.2.6).
+    const NAME: Signature;
+
+    ghost NAME: { Signature };
+
+    /// The header that the table begins with: that of any bytes that this value was read from.
+    fn sdt_header(&self) -> &SdtHeader
+        ensures { (b : List ℕ) → Self.MIN_LENGTH ≤ length b → self.now ≡ Self.reading b
+            → result.now ≡ header_at b };
+
+    ghost least: { 36 ≤ Self.MIN_LENGTH };
+}
+
+impl<T: SdtTable> AcpiTable for T {
+    const SIGNATURE: Signature = T::NAME;
+
+    ghost SIGNATURE = { T.NAME };
+
+    ghost kind = { sdt_kind T.NAME T.MIN_LENGTH };
+
+    fn header(&self) -> &SdtHeader {
+        self.sdt_header()
+    }
+
+    fn validate(&self, bytes: &[u8]) -> AcpiResult<()> {
+        self.sdt_header().validate(T::NAME, bytes)
+    }
+
+    fn validate_rest(bytes: &[u8]) -> AcpiResult<()> {
+        sum_refusal(T::NAME, bytes)
+    }
+
+    ghost least = { T.least };
+
+    ghost agrees = { (refl, refl) };
 }
 
 /// Checks what is left to check of a table whose header has the names, and a length that is the number of

@@ -2,7 +2,7 @@
 
 use acpi::bgrt::Bgrt;
 use acpi::sdt::{SdtHeader, Signature, field};
-use acpi::{AcpiHandler, AcpiResult, AcpiTable, AcpiTables, PhysicalRecord};
+use acpi::{AcpiHandler, AcpiResult, AcpiTables, PhysicalRecord, SdtTable};
 
 /// The Windows Security Mitigations Table (WSMT): what the firmware protects in system management mode.
 #[derive(Clone, Copy)]
@@ -31,28 +31,19 @@ impl PhysicalRecord for Wsmt {
     }
 }
 
-impl AcpiTable for Wsmt {
-    ghost use Rattle.std.proofs.Common.{lit≤, refl};
-    ghost use Rattle.acpi_base.specs.Table.{sdt_kind};
+impl SdtTable for Wsmt {
+    ghost use Rattle.std.proofs.Common.{lit≤};
     ghost use Rattle.acpi_base.specs.declared.table.signature.TheConstants.Signature.{WSMT};
 
-    const SIGNATURE: Signature = Signature::WSMT;
+    const NAME: Signature = Signature::WSMT;
 
-    ghost SIGNATURE = { WSMT };
+    ghost NAME = { WSMT };
 
-    ghost kind = { sdt_kind WSMT 40 };
-
-    fn header(&self) -> &SdtHeader {
+    fn sdt_header(&self) -> &SdtHeader {
         &self.header
     }
 
-    fn validate(&self, bytes: &[u8]) -> AcpiResult<()> {
-        self.header().validate(Self::SIGNATURE, bytes)
-    }
-
     ghost least = { lit≤ tt };
-
-    ghost agrees = { (refl, refl) };
 }
 
 /// The physical address of the boot graphic, and Protection Flags.

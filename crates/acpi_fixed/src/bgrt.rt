@@ -1,14 +1,13 @@
 //! The Boot Graphics Resource Table (BGRT): the image that the firmware showed while it started the machine
 //! (section 5.2.22).
-ghost use Rattle.std.specs.Prelude.{◌≡◌, ◌*◌, refl};
+ghost use Rattle.std.specs.Prelude.{◌≡◌, ◌*◌};
 ghost use Rattle.std.proofs.Common.{lit≤};
-ghost use Rattle.acpi_base.specs.Words.{sdt_kind, bits_of, has_bit};
+ghost use Rattle.acpi_base.specs.Words.{bits_of, has_bit};
 ghost use Rattle.acpi_fixed.specs.Words.{bgrt_at, image_type_of, offset_of, status_of};
 
 use acpi_base::bytes::{bits, field_in, has_bit, u8_in, u16_in, u32_in};
 use acpi_base::sdt::SdtHeader;
-use acpi_base::table::sum_refusal;
-use acpi_base::{AcpiResult, AcpiTable, PhysicalRecord, Signature};
+use acpi_base::{PhysicalRecord, SdtTable, Signature};
 
 /// The Boot Graphics Resource Table (BGRT, section 5.2.22): an image in memory, and its place on the
 /// screen.
@@ -47,31 +46,19 @@ impl PhysicalRecord for Bgrt {
     }
 }
 
-impl AcpiTable for Bgrt {
+impl SdtTable for Bgrt {
     ghost use Rattle.acpi_base.specs.declared.table.signature.TheConstants.Signature.{BGRT};
 
-    const SIGNATURE: Signature = Signature::BGRT;
+    const NAME: Signature = Signature::BGRT;
 
-    ghost SIGNATURE = { BGRT };
-
-    ghost kind = { sdt_kind BGRT 56 };
+    ghost NAME = { BGRT };
 
     #[tactic(auto, unfolding(crate::specs::Bgrt::bgrt_at))]
-    fn header(&self) -> &SdtHeader {
+    fn sdt_header(&self) -> &SdtHeader {
         &self.header
     }
 
-    fn validate(&self, bytes: &[u8]) -> AcpiResult<()> {
-        self.header().validate(Self::SIGNATURE, bytes)
-    }
-
-    fn validate_rest(bytes: &[u8]) -> AcpiResult<()> {
-        sum_refusal(Self::SIGNATURE, bytes)
-    }
-
     ghost least = { lit≤ tt };
-
-    ghost agrees = { (refl, refl) };
 }
 
 impl Bgrt {

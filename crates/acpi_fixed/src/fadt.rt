@@ -1,8 +1,8 @@
 //! The Fixed ACPI Description Table (FADT): the registers of the fixed hardware, and its features (section
 //! 5.2.9).
-ghost use Rattle.std.specs.Prelude.{◌≡◌, ◌≤◌, length, true, refl};
+ghost use Rattle.std.specs.Prelude.{◌≡◌, ◌≤◌, length, true};
 ghost use Rattle.std.proofs.Common.{lit≤};
-ghost use Rattle.acpi_base.specs.Words.{sdt_kind, generic_address_of};
+ghost use Rattle.acpi_base.specs.Words.{generic_address_of};
 ghost use Rattle.acpi_fixed.specs.Words.{fadt_at, profile_for, dsdt_address_of, facs_address_of, profile_of, pm_timer_of, registers_of, HasBlocks, block_of, optional_block_of, register_of};
 
 mod flags;
@@ -13,8 +13,7 @@ mod view;
 use acpi_base::address::GenericAddress;
 use acpi_base::bytes::{field, field_in, u8_in, u16_in, u32_in};
 use acpi_base::sdt::SdtHeader;
-use acpi_base::table::sum_refusal;
-use acpi_base::{AcpiError, AcpiResult, AcpiTable, PhysicalRecord, Signature};
+use acpi_base::{AcpiError, AcpiResult, PhysicalRecord, SdtTable, Signature};
 pub use flags::{ArmBootArchFlags, FixedFeatureFlags, IaPcBootArchFlags};
 pub use registers::GpeBlock;
 use registers::{Registers, address_from, extended_number_in, register_from};
@@ -191,31 +190,19 @@ impl Fadt {
     }
 }
 
-impl AcpiTable for Fadt {
+impl SdtTable for Fadt {
     ghost use Rattle.acpi_base.specs.declared.table.signature.TheConstants.Signature.{FADT};
 
-    const SIGNATURE: Signature = Signature::FADT;
+    const NAME: Signature = Signature::FADT;
 
-    ghost SIGNATURE = { FADT };
-
-    ghost kind = { sdt_kind FADT 116 };
+    ghost NAME = { FADT };
 
     #[tactic(auto, unfolding(crate::specs::Fadt::fadt_at))]
-    fn header(&self) -> &SdtHeader {
+    fn sdt_header(&self) -> &SdtHeader {
         &self.header
     }
 
-    fn validate(&self, bytes: &[u8]) -> AcpiResult<()> {
-        self.header().validate(Self::SIGNATURE, bytes)
-    }
-
-    fn validate_rest(bytes: &[u8]) -> AcpiResult<()> {
-        sum_refusal(Self::SIGNATURE, bytes)
-    }
-
     ghost least = { lit≤ tt };
-
-    ghost agrees = { (refl, refl) };
 }
 
 impl Fadt {

@@ -9,8 +9,7 @@ mod units;
 
 use acpi_base::bytes::{field_in, has_bit};
 use acpi_base::sdt::SdtHeader;
-use acpi_base::table::sum_refusal;
-use acpi_base::{AcpiResult, AcpiTable, PhysicalRecord, Signature};
+use acpi_base::{PhysicalRecord, SdtTable, Signature};
 pub use fields::{Andd, Atsr, DmarFields, Drhd, Rhsa, Rmrr, Satc, Sidp};
 pub use reserved::ReservedIter;
 pub use scope::{DeviceScope, DeviceScopeIter, Hop, HopIter};
@@ -48,34 +47,20 @@ impl PhysicalRecord for Dmar {
     }
 }
 
-impl AcpiTable for Dmar {
+impl SdtTable for Dmar {
     ghost use Rattle.std.proofs.Common.{lit≤};
-    ghost use Rattle.std.specs.Prelude.{refl};
-    ghost use Rattle.acpi_base.specs.Words.{sdt_kind};
     ghost use Rattle.acpi_base.specs.declared.table.signature.TheConstants.Signature.{DMAR};
 
-    const SIGNATURE: Signature = Signature::DMAR;
+    const NAME: Signature = Signature::DMAR;
 
-    ghost SIGNATURE = { DMAR };
-
-    ghost kind = { sdt_kind DMAR 48 };
+    ghost NAME = { DMAR };
 
     #[tactic(auto, unfolding(crate::specs::Dmar::dmar_at))]
-    fn header(&self) -> &SdtHeader {
+    fn sdt_header(&self) -> &SdtHeader {
         &self.header
     }
 
-    fn validate(&self, bytes: &[u8]) -> AcpiResult<()> {
-        self.header().validate(Self::SIGNATURE, bytes)
-    }
-
-    fn validate_rest(bytes: &[u8]) -> AcpiResult<()> {
-        sum_refusal(Self::SIGNATURE, bytes)
-    }
-
     ghost least = { lit≤ tt };
-
-    ghost agrees = { (refl, refl) };
 }
 
 impl Dmar {

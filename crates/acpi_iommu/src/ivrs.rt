@@ -7,8 +7,7 @@ mod entry;
 
 use acpi_base::bytes::field_in;
 use acpi_base::sdt::SdtHeader;
-use acpi_base::table::sum_refusal;
-use acpi_base::{AcpiResult, AcpiTable, PhysicalRecord, Signature};
+use acpi_base::{PhysicalRecord, SdtTable, Signature};
 pub use block::{Ivhd, Ivmd, IvrsBlock, IvrsBlockIter, IvrsFields};
 pub use blocks::{BestBlockIter, DeviceUnit, IvrsBlocks, MemoryIter};
 pub use entry::{DeviceEntry, DeviceEntryIter, SpecialDevice};
@@ -41,32 +40,18 @@ impl PhysicalRecord for Ivrs {
     }
 }
 
-impl AcpiTable for Ivrs {
+impl SdtTable for Ivrs {
     ghost use Rattle.std.proofs.Common.{lit≤};
-    ghost use Rattle.std.specs.Prelude.{refl};
-    ghost use Rattle.acpi_base.specs.Words.{sdt_kind};
     ghost use Rattle.acpi_base.specs.declared.table.signature.TheConstants.Signature.{IVRS};
 
-    const SIGNATURE: Signature = Signature::IVRS;
+    const NAME: Signature = Signature::IVRS;
 
-    ghost SIGNATURE = { IVRS };
-
-    ghost kind = { sdt_kind IVRS 48 };
+    ghost NAME = { IVRS };
 
     #[tactic(auto, unfolding(crate::specs::Ivrs::ivrs_at))]
-    fn header(&self) -> &SdtHeader {
+    fn sdt_header(&self) -> &SdtHeader {
         &self.header
     }
 
-    fn validate(&self, bytes: &[u8]) -> AcpiResult<()> {
-        self.header().validate(Self::SIGNATURE, bytes)
-    }
-
-    fn validate_rest(bytes: &[u8]) -> AcpiResult<()> {
-        sum_refusal(Self::SIGNATURE, bytes)
-    }
-
     ghost least = { lit≤ tt };
-
-    ghost agrees = { (refl, refl) };
 }

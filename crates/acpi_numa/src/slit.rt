@@ -4,8 +4,7 @@ ghost use Rattle.acpi_numa.specs.Words.{fits};
 
 use acpi_base::bytes::{field, field_in};
 use acpi_base::sdt::SdtHeader;
-use acpi_base::table::sum_refusal;
-use acpi_base::{AcpiResult, AcpiTable, PhysicalRecord, Signature};
+use acpi_base::{PhysicalRecord, SdtTable, Signature};
 
 /// The System Locality Information Table (SLIT, section 5.2.17). After these fields it has a byte for each
 /// pair of localities, which `Distances` reads.
@@ -36,34 +35,20 @@ impl PhysicalRecord for Slit {
     }
 }
 
-impl AcpiTable for Slit {
+impl SdtTable for Slit {
     ghost use Rattle.std.proofs.Common.{lit≤};
-    ghost use Rattle.std.specs.Prelude.{refl};
-    ghost use Rattle.acpi_base.specs.Words.{sdt_kind};
     ghost use Rattle.acpi.specs.Types.{SLIT};
 
-    const SIGNATURE: Signature = Signature::SLIT;
+    const NAME: Signature = Signature::SLIT;
 
-    ghost SIGNATURE = { SLIT };
-
-    ghost kind = { sdt_kind SLIT 44 };
+    ghost NAME = { SLIT };
 
     #[tactic(auto, unfolding(crate::specs::Slit::slit_at))]
-    fn header(&self) -> &SdtHeader {
+    fn sdt_header(&self) -> &SdtHeader {
         &self.header
     }
 
-    fn validate(&self, bytes: &[u8]) -> AcpiResult<()> {
-        self.header().validate(Self::SIGNATURE, bytes)
-    }
-
-    fn validate_rest(bytes: &[u8]) -> AcpiResult<()> {
-        sum_refusal(Self::SIGNATURE, bytes)
-    }
-
     ghost least = { lit≤ tt };
-
-    ghost agrees = { (refl, refl) };
 }
 
 /// The distances in a SLIT's bytes (section 5.2.17). It needs no handler.

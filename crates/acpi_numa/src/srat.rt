@@ -8,8 +8,7 @@ mod kinds;
 mod walk;
 
 use acpi_base::sdt::SdtHeader;
-use acpi_base::table::sum_refusal;
-use acpi_base::{AcpiResult, AcpiTable, PhysicalRecord, Signature};
+use acpi_base::{PhysicalRecord, SdtTable, Signature};
 pub use affinities::{MemoryAffinities, MemoryRange, counted as affinities_count};
 pub use domains::Domains;
 pub use entry::SratEntry;
@@ -44,32 +43,18 @@ impl PhysicalRecord for Srat {
     }
 }
 
-impl AcpiTable for Srat {
+impl SdtTable for Srat {
     ghost use Rattle.std.proofs.Common.{lit≤};
-    ghost use Rattle.std.specs.Prelude.{refl};
-    ghost use Rattle.acpi_base.specs.Words.{sdt_kind};
     ghost use Rattle.acpi.specs.Types.{SRAT};
 
-    const SIGNATURE: Signature = Signature::SRAT;
+    const NAME: Signature = Signature::SRAT;
 
-    ghost SIGNATURE = { SRAT };
-
-    ghost kind = { sdt_kind SRAT 48 };
+    ghost NAME = { SRAT };
 
     #[tactic(auto, unfolding(crate::specs::Srat::srat_at))]
-    fn header(&self) -> &SdtHeader {
+    fn sdt_header(&self) -> &SdtHeader {
         &self.header
     }
 
-    fn validate(&self, bytes: &[u8]) -> AcpiResult<()> {
-        self.header().validate(Self::SIGNATURE, bytes)
-    }
-
-    fn validate_rest(bytes: &[u8]) -> AcpiResult<()> {
-        sum_refusal(Self::SIGNATURE, bytes)
-    }
-
     ghost least = { lit≤ tt };
-
-    ghost agrees = { (refl, refl) };
 }

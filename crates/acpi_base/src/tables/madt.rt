@@ -1,7 +1,7 @@
 //! The Multiple APIC Description Table (MADT): interrupt controllers and processors (section 5.2.12).
-ghost use Rattle.std.specs.Prelude.{◌≡◌, ◌+◌, ◌*◌, ◌≤◌, length, false, refl};
+ghost use Rattle.std.specs.Prelude.{◌≡◌, ◌+◌, ◌*◌, ◌≤◌, length, false};
 ghost use Rattle.std.proofs.Common.{lit≤};
-ghost use Rattle.acpi_base.specs.Words.{mailbox_of, madt_at, cut_of, entries_of, sdt_kind, MADT, has_bit, entries_left, has_ended, rest_left, bytes_of, AsksMemory, model_of, GivesOrFull};
+ghost use Rattle.acpi_base.specs.Words.{mailbox_of, madt_at, cut_of, entries_of, MADT, has_bit, entries_left, has_ended, rest_left, bytes_of, AsksMemory, model_of, GivesOrFull};
 
 mod apic;
 mod entry;
@@ -16,9 +16,9 @@ use crate::error::{AcpiError, AcpiResult};
 use crate::memory::handler::{Lender, PhysicalRecord};
 use crate::memory::mapping::PhysicalMapping;
 use crate::model::{ModelAndProcessors, model_in};
+use crate::table::SdtTable;
 use crate::table::header::SdtHeader;
 use crate::table::signature::Signature;
-use crate::table::{AcpiTable, sum_refusal};
 pub use apic::{
     InterruptSourceOverrideEntry, IoApicEntry, LocalApicAddressOverrideEntry, LocalApicEntry,
     LocalApicNmiEntry, LocalX2ApicEntry, NmiSourceEntry, X2ApicNmiEntry,
@@ -66,29 +66,17 @@ impl PhysicalRecord for Madt {
     }
 }
 
-impl AcpiTable for Madt {
-    const SIGNATURE: Signature = Signature::MADT;
+impl SdtTable for Madt {
+    const NAME: Signature = Signature::MADT;
 
-    ghost SIGNATURE = { MADT };
-
-    ghost kind = { sdt_kind MADT 44 };
+    ghost NAME = { MADT };
 
     #[tactic(auto, unfolding(crate::specs::Madt::madt_at))]
-    fn header(&self) -> &SdtHeader {
+    fn sdt_header(&self) -> &SdtHeader {
         &self.header
     }
 
-    fn validate(&self, bytes: &[u8]) -> AcpiResult<()> {
-        self.header().validate(Self::SIGNATURE, bytes)
-    }
-
-    fn validate_rest(bytes: &[u8]) -> AcpiResult<()> {
-        sum_refusal(Self::SIGNATURE, bytes)
-    }
-
     ghost least = { lit≤ tt };
-
-    ghost agrees = { (refl, refl) };
 }
 
 impl Madt {

@@ -1,19 +1,18 @@
 //! The MCFG: the regions of memory that hold the configuration space of PCI functions (PCI Firmware
 //! Specification; ACPI 6.4, section 5.2.6, reserves the signature).
-ghost use Rattle.std.specs.Prelude.{◌≡◌, ◌-◌, ◌/◌, length, refl};
+ghost use Rattle.std.specs.Prelude.{◌≡◌, ◌-◌, ◌/◌, length};
 ghost use Rattle.std.proofs.Common.{lit≤};
 ghost use Rattle.acpi_base.specs.FromStd.{YieldsFirst, item_count};
-ghost use Rattle.acpi_base.specs.Words.{mcfg_at, mcfg_entry_at, mcfg_entries_left, mcfg_entries_of, sdt_kind, MCFG, bytes_of};
+ghost use Rattle.acpi_base.specs.Words.{mcfg_at, mcfg_entry_at, mcfg_entries_left, mcfg_entries_of, MCFG, bytes_of};
 
 mod ecam;
 
 use crate::bytes::{field_in, skip, u8_in, u16_in};
-use crate::error::AcpiResult;
 use crate::memory::handler::{Lender, PhysicalRecord};
 use crate::memory::mapping::PhysicalMapping;
+use crate::table::SdtTable;
 use crate::table::header::SdtHeader;
 use crate::table::signature::Signature;
-use crate::table::{AcpiTable, sum_refusal};
 
 /// The MCFG: regions of memory, each with the configuration space of some PCI buses. Section 5.2.6 reserves
 /// its signature, and its layout is the PCI Firmware Specification's (section 4.1.2). Its entries stand after
@@ -38,29 +37,17 @@ impl PhysicalRecord for Mcfg {
     }
 }
 
-impl AcpiTable for Mcfg {
-    const SIGNATURE: Signature = Signature::MCFG;
+impl SdtTable for Mcfg {
+    const NAME: Signature = Signature::MCFG;
 
-    ghost SIGNATURE = { MCFG };
-
-    ghost kind = { sdt_kind MCFG 44 };
+    ghost NAME = { MCFG };
 
     #[tactic(auto, unfolding(crate::specs::Mcfg::mcfg_at))]
-    fn header(&self) -> &SdtHeader {
+    fn sdt_header(&self) -> &SdtHeader {
         &self.header
     }
 
-    fn validate(&self, bytes: &[u8]) -> AcpiResult<()> {
-        self.header().validate(Self::SIGNATURE, bytes)
-    }
-
-    fn validate_rest(bytes: &[u8]) -> AcpiResult<()> {
-        sum_refusal(Self::SIGNATURE, bytes)
-    }
-
     ghost least = { lit≤ tt };
-
-    ghost agrees = { (refl, refl) };
 }
 
 /// An entry of an MCFG: a region of memory with the configuration space of the buses of one PCI segment

@@ -1,8 +1,8 @@
 //! The Serial Port Console Redirection Table (SPCR): the serial console that the firmware used.
-ghost use Rattle.std.specs.Prelude.{◌≡◌, Some, None, if◌then◌else◌, refl};
+ghost use Rattle.std.specs.Prelude.{◌≡◌, Some, None, if◌then◌else◌};
 ghost use Rattle.std.proofs.Common.{lit≤};
 ghost use Rattle.acpi_base.specs.FromStd.{bit_and};
-ghost use Rattle.acpi_base.specs.Words.{name_of, namespace_in, spcr_at, baud_of, bus_of, clock_of, device_id_of, device_of, function_of, interface_in, interrupt_of, irq_of, vendor_id_of, flow_byte, interrupt_byte, terminal_byte, namespace_of, Shows, sdt_kind, SPCR, flow_bits, interrupt_bits, terminal_bits, bytes_of};
+ghost use Rattle.acpi_base.specs.Words.{name_of, namespace_in, spcr_at, baud_of, bus_of, clock_of, device_id_of, device_of, function_of, interface_in, interrupt_of, irq_of, vendor_id_of, flow_byte, interrupt_byte, terminal_byte, namespace_of, Shows, SPCR, flow_bits, interrupt_bits, terminal_bits, bytes_of};
 ghost use Rattle.acpi_base.specs.Spcr.{base_of};
 
 mod flags;
@@ -13,9 +13,9 @@ use crate::bytes::{bits, field, filled, has_bit, text_of, u8_in, u16_in, u32_in}
 use crate::error::{AcpiError, AcpiResult};
 use crate::memory::handler::{Lender, PhysicalRecord};
 use crate::memory::mapping::PhysicalMapping;
+use crate::table::SdtTable;
 use crate::table::header::SdtHeader;
 use crate::table::signature::Signature;
-use crate::table::{AcpiTable, sum_refusal};
 use bitflags::Flags;
 pub use flags::{SpcrFlowControl, SpcrInterruptType, SpcrTerminalType};
 pub use interface::SpcrInterfaceType;
@@ -94,29 +94,17 @@ impl PhysicalRecord for Spcr {
     }
 }
 
-impl AcpiTable for Spcr {
-    const SIGNATURE: Signature = Signature::SPCR;
+impl SdtTable for Spcr {
+    const NAME: Signature = Signature::SPCR;
 
-    ghost SIGNATURE = { SPCR };
-
-    ghost kind = { sdt_kind SPCR 80 };
+    ghost NAME = { SPCR };
 
     #[tactic(auto, unfolding(crate::specs::Spcr::spcr_at))]
-    fn header(&self) -> &SdtHeader {
+    fn sdt_header(&self) -> &SdtHeader {
         &self.header
     }
 
-    fn validate(&self, bytes: &[u8]) -> AcpiResult<()> {
-        self.header().validate(Self::SIGNATURE, bytes)
-    }
-
-    fn validate_rest(bytes: &[u8]) -> AcpiResult<()> {
-        sum_refusal(Self::SIGNATURE, bytes)
-    }
-
     ghost least = { lit≤ tt };
-
-    ghost agrees = { (refl, refl) };
 }
 
 impl Spcr {
