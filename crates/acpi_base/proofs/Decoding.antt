@@ -11,7 +11,7 @@ use Rattle.acpi_base.specs.Codes.{InterfacesDecode, LinesDecode, PolaritiesDecod
 -- ---- values in a list
 
 -- the value is one, with this code
-abbrev Has : {A : Type 0} → (A → Bool) → (A → ℕ) → A → ℕ → Type 0
+abbrev pub Has : {A : Type 0} → (A → Bool) → (A → ℕ) → A → ℕ → Type 0
 Has is_value code_of x code = (is_value x ≡ true) × (code_of x ≡ code)
 
 first_found : {A : Type 0} {E : Type 0} (is_value : A → Bool) (code_of : A → ℕ) (refusal : E) (code : ℕ) (y : A)
@@ -34,6 +34,34 @@ found is_value code_of refusal code (y ∷ ys) x all e =
 refused_with : {A : Type 0} {E : Type 0} (o : Option A) (refusal : E) (e : E) → ok_or o refusal ≡ Err e → e ≡ refusal
 refused_with None refusal e h = cc
 refused_with (Some x) refusal e h = absurd cc
+
+-- each value in the list has its place, counted from n, as its code
+abbrev pub are_placed : {A : Type 0} → (A → Bool) → (A → ℕ) → List A → ℕ → Bool
+are_placed is_value code_of [] n = true
+are_placed is_value code_of (x ∷ xs) n =
+    (is_value x && (code_of x == n)) && are_placed is_value code_of xs (suc n)
+
+pub at_place : {A : Type 0} (is_value : A → Bool) (code_of : A → ℕ) (xs : List A) (n : ℕ) (i : ℕ) (d : A)
+    → are_placed is_value code_of xs n ≡ true → i < length xs → Has is_value code_of (get_or xs i d) (n + i)
+at_place is_value code_of [] n i d p h = absurd (omega (arith, h))
+at_place is_value code_of (x ∷ xs) n zero d p h =
+    let first = is_value x && (code_of x == n) in
+    let placed = and_parts first (are_placed is_value code_of xs (suc n)) p in
+    let here = and_parts (is_value x) (code_of x == n) placed.0 in
+    let same : n + zero ≡ n = omega arith in
+    rw same (here.0, eqb-true _ _ here.1)
+at_place is_value code_of (x ∷ xs) n (suc i) d p h =
+    let first = is_value x && (code_of x == n) in
+    let later = (and_parts first (are_placed is_value code_of xs (suc n)) p).1 in
+    let next : n + suc i ≡ suc n + i = omega arith in
+    rw next (at_place is_value code_of xs (suc n) i d later (omega (arith, h)))
+
+-- a code below the length of the list is that of the value at this place
+pub by_place : {A : Type 0} (is_value : A → Bool) (code_of : A → ℕ) (xs : List A) (code : ℕ) (d : A)
+    → are_placed is_value code_of xs 0 ≡ true → code < length xs → Has is_value code_of (get_or xs code d) code
+by_place is_value code_of xs code d p h =
+    let from_0 : 0 + code ≡ code = omega arith in
+    subst (Has is_value code_of (get_or xs code d)) from_0 (at_place is_value code_of xs 0 code d p h)
 
 -- ---- interrupts
 
@@ -121,35 +149,14 @@ pub interface_read : (i : SpcrInterfaceType) → is_interface i ≡ true → int
 interface_read (interface.Unknown code) h = unnamed code (code == 7) refl h
 interface_read _ h = refl
 
--- each value in the list has its place, counted from n, as its code
-abbrev are_placed : List SpcrInterfaceType → ℕ → Bool
-are_placed [] n = true
-are_placed (x ∷ xs) n = (is_interface x && (interface_code x == n)) && are_placed xs (suc n)
-
-at_place : (xs : List SpcrInterfaceType) (n : ℕ) (i : ℕ) (d : SpcrInterfaceType) → are_placed xs n ≡ true
-    → i < length xs → Has is_interface interface_code (get_or xs i d) (n + i)
-at_place [] n i d p h = absurd (omega (arith, h))
-at_place (x ∷ xs) n zero d p h =
-    let first = is_interface x && (interface_code x == n) in
-    let here = and_parts (is_interface x) (interface_code x == n) (and_parts first (are_placed xs (suc n)) p).0 in
-    let same : n + zero ≡ n = omega arith in
-    rw same (here.0, eqb-true _ _ here.1)
-at_place (x ∷ xs) n (suc i) d p h =
-    let first = is_interface x && (interface_code x == n) in
-    let later = (and_parts first (are_placed xs (suc n)) p).1 in
-    let next : n + suc i ≡ suc n + i = omega arith in
-    rw next (at_place xs (suc n) i d later (omega (arith, h)))
-
 only_interface : (code : ℕ) (b : Bool) → nat_lt 0x15 code ≡ b
     → Has is_interface interface_code (interface_of code) code
 only_interface code true past =
     rw (get_or_past interfaces code (interface.Unknown code) (omega (arith, ltb-true 0x15 code past)))
     (or_right (code == 7) (nat_lt 0x15 code) past, refl)
 only_interface code false named =
-    let less : code < length interfaces = omega (arith, ltb-false 0x15 code named) in
-    let from_0 : 0 + code ≡ code = omega arith in
-    subst (Has is_interface interface_code (interface_of code)) from_0
-    (at_place interfaces 0 code (interface.Unknown code) refl less)
+    by_place is_interface interface_code interfaces code (interface.Unknown code) refl
+    (omega (arith, ltb-false 0x15 code named))
 
 pub interfaces_decode : InterfacesDecode
 interfaces_decode = record { each = interface_read; only = λ code. only_interface code (nat_lt 0x15 code) refl }
