@@ -2,11 +2,11 @@
 use Rattle.std.proofs.Common.{◌≡◌, ℕ, zero, suc, ◌+◌, ◌<◌, Bool, true, false, List, [], ◌∷◌, length, get_or, Option, Some, None, Ok, Err, refl, subst, arith, cond, find, nat_le, nat_lt, ◌==◌, ◌&&◌, ◌||◌, ok_or}
 use Rattle.acpi_base.specs.FromStd.{AllByRecursion}
 use Rattle.acpi_base.proofs.FromStd.{and_parts, eqb-true, ltb-false, ltb-true, get_or_past, or_right}
-use Rattle.acpi_base.specs.Types.{AcpiError, InvalidGenericAddress, AccessSize, AddressSpace, OemDefined, LocalInterruptLine, Lint0, Lint1, Polarity, TriggerMode, SpcrInterfaceType, Undefined}
+use Rattle.acpi_base.specs.Types.{AcpiError, InvalidGenericAddress, InvalidLocalNmiLine, MpsIntiInvalidPolarity, MpsIntiInvalidTriggerMode, AccessSize, AddressSpace, OemDefined, LocalInterruptLine, Lint0, Lint1, Polarity, TriggerMode, SpcrInterfaceType, Undefined}
 use Rattle.acpi_base.specs.declared.model.interrupt.Polarity.TheVariants as polarity
 use Rattle.acpi_base.specs.declared.model.interrupt.TriggerMode.TheVariants as trigger
 use Rattle.acpi_base.specs.declared.tables.spcr.interface.SpcrInterfaceType.TheVariants as interface
-use Rattle.acpi_base.specs.Codes.{InterfacesDecode, LinesDecode, PolaritiesDecode, SizesDecode, SpacesDecode, TriggersDecode, access_sizes, access_size_of, decoded, interface_code, interface_of, interfaces, is_interface, is_named_space, line_code, line_of, local_lines, named_spaces, polarities, polarity_code, polarity_for, size_code, space_code, space_of, trigger_code, trigger_for, trigger_modes}
+use Rattle.acpi_base.specs.Codes.{CodesDecode, IsInverse, access_sizes, access_size_of, decoded, interface_code, interface_of, interfaces, is_interface, is_named_space, line_code, line_of, local_lines, named_spaces, polarities, polarity_code, polarity_for, size_code, space_code, space_of, trigger_code, trigger_for, trigger_modes}
 
 -- ---- values in a list
 
@@ -34,6 +34,20 @@ found is_value code_of refusal code (y ∷ ys) x all e =
 refused_with : {A : Type 0} {E : Type 0} (o : Option A) (refusal : E) (e : E) → ok_or o refusal ≡ Err e → e ≡ refusal
 refused_with None refusal e h = cc
 refused_with (Some x) refusal e h = absurd cc
+
+any_is : {A : Type 0} (xs : List A) → AllByRecursion (λ (x : A). true ≡ true) xs
+any_is [] = tt
+any_is (x ∷ xs) = (refl, any_is xs)
+
+-- where each value is in the list, it decodes
+by_list : {A : Type 0} {E : Type 0} (code_of : A → ℕ) (xs : List A) (refusal : E)
+    → ((x : A) → decoded code_of xs refusal (code_of x) ≡ Ok x)
+    → IsInverse (λ (x : A). true) code_of (decoded code_of xs refusal) refusal
+by_list code_of xs refusal reads = record {
+  each = λ x h. reads x;
+  only = λ code x e. found (λ y. true) code_of refusal code xs x (any_is xs) e;
+  refused = λ code e h. refused_with _ _ e h;
+}
 
 -- each value in the list has its place, counted from n, as its code
 abbrev pub are_placed : {A : Type 0} → (A → Bool) → (A → ℕ) → List A → ℕ → Bool
@@ -69,34 +83,13 @@ pub polarity_read : (p : Polarity) → polarity_for (polarity_code p) ≡ Ok p
 polarity_read polarity.SameAsBus = refl
 polarity_read _ = refl
 
-pub polarities_decode : PolaritiesDecode
-polarities_decode = record {
-  each = λ p h. polarity_read p;
-  only = λ code p e. found (λ x. true) polarity_code _ code polarities p (refl, (refl, (refl, tt))) e;
-  refused = λ code e h. refused_with _ _ e h;
-}
-
 pub trigger_read : (t : TriggerMode) → trigger_for (trigger_code t) ≡ Ok t
 trigger_read trigger.SameAsBus = refl
 trigger_read _ = refl
 
-pub triggers_decode : TriggersDecode
-triggers_decode = record {
-  each = λ t h. trigger_read t;
-  only = λ code t e. found (λ x. true) trigger_code _ code trigger_modes t (refl, (refl, (refl, tt))) e;
-  refused = λ code e h. refused_with _ _ e h;
-}
-
 pub line_read : (l : LocalInterruptLine) → line_of (line_code l) ≡ Ok l
 line_read Lint0 = refl
 line_read Lint1 = refl
-
-pub lines_decode : LinesDecode
-lines_decode = record {
-  each = λ l h. line_read l;
-  only = λ code l e. found (λ x. true) line_code _ code local_lines l (refl, (refl, tt)) e;
-  refused = λ code e h. refused_with _ _ e h;
-}
 
 -- ---- registers
 
@@ -120,7 +113,7 @@ space_refused : (code : ℕ) (e : AcpiError) (b : Bool)
 space_refused code e true h = absurd cc
 space_refused code e false h = refused_with _ _ e h
 
-pub spaces_decode : SpacesDecode
+spaces_decode : IsInverse is_named_space space_code space_of InvalidGenericAddress
 spaces_decode = record {
   each = space_read;
   only = λ code s e. only_space code s (nat_le 0xc0 code) refl e;
@@ -130,13 +123,6 @@ spaces_decode = record {
 pub size_read : (s : AccessSize) → access_size_of (size_code s) ≡ Ok s
 size_read Undefined = refl
 size_read _ = refl
-
-pub sizes_decode : SizesDecode
-sizes_decode = record {
-  each = λ s h. size_read s;
-  only = λ code s e. found (λ x. true) size_code _ code access_sizes s (refl, (refl, (refl, (refl, (refl, tt))))) e;
-  refused = λ code e h. refused_with _ _ e h;
-}
 
 -- ---- serial ports
 
@@ -158,5 +144,12 @@ only_interface code false named =
     by_place is_interface interface_code interfaces code (interface.Unknown code) refl
     (omega (arith, ltb-false 0x15 code named))
 
-pub interfaces_decode : InterfacesDecode
-interfaces_decode = record { each = interface_read; only = λ code. only_interface code (nat_lt 0x15 code) refl }
+pub codes_decode : CodesDecode
+codes_decode = record {
+  polarities = by_list polarity_code polarities MpsIntiInvalidPolarity polarity_read;
+  triggers = by_list trigger_code trigger_modes MpsIntiInvalidTriggerMode trigger_read;
+  lines = by_list line_code local_lines InvalidLocalNmiLine line_read;
+  spaces = spaces_decode;
+  sizes = by_list size_code access_sizes InvalidGenericAddress size_read;
+  interfaces = record { each = interface_read; only = λ code. only_interface code (nat_lt 0x15 code) refl };
+}

@@ -165,25 +165,15 @@ pub record IsInverse {A : Type 0} {E : Type 0} (is_value : A → Bool) (code_of 
   pub only : (code : ℕ) (x : A) → decode code ≡ Ok x → (is_value x ≡ true) × (code_of x ≡ code)
   pub refused : (code : ℕ) (e : E) → decode code ≡ Err e → e ≡ refusal
 
-abbrev pub PolaritiesDecode : Type 0
-PolaritiesDecode = IsInverse (λ p. true) polarity_code polarity_for MpsIntiInvalidPolarity
-
-abbrev pub TriggersDecode : Type 0
-TriggersDecode = IsInverse (λ t. true) trigger_code trigger_for MpsIntiInvalidTriggerMode
-
-abbrev pub LinesDecode : Type 0
-LinesDecode = IsInverse (λ l. true) line_code line_of InvalidLocalNmiLine
-
-abbrev pub SpacesDecode : Type 0
-SpacesDecode = IsInverse is_named_space space_code space_of InvalidGenericAddress
-
-abbrev pub SizesDecode : Type 0
-SizesDecode = IsInverse (λ s. true) size_code access_size_of InvalidGenericAddress
-
 -- where each code has a value: that value has the code, and no other has
 pub record IsNumbering {A : Type 0} (is_value : A → Bool) (code_of : A → ℕ) (decode : ℕ → A) : Type 0 where
   pub each : (x : A) → is_value x ≡ true → decode (code_of x) ≡ x
   pub only : (code : ℕ) → (is_value (decode code) ≡ true) × (code_of (decode code) ≡ code)
 
-abbrev pub InterfacesDecode : Type 0
-InterfacesDecode = IsNumbering is_interface interface_code interface_of
+pub record CodesDecode : Type 0 where
+  pub polarities : IsInverse (λ p. true) polarity_code polarity_for MpsIntiInvalidPolarity
+  pub triggers : IsInverse (λ t. true) trigger_code trigger_for MpsIntiInvalidTriggerMode
+  pub lines : IsInverse (λ l. true) line_code line_of InvalidLocalNmiLine
+  pub spaces : IsInverse is_named_space space_code space_of InvalidGenericAddress
+  pub sizes : IsInverse (λ s. true) size_code access_size_of InvalidGenericAddress
+  pub interfaces : IsNumbering is_interface interface_code interface_of

@@ -1,5 +1,5 @@
 //! Laws of the definitions of memory, numbers, codes, entries, pointers, lookups, the search, members and places.
-ghost use Rattle.acpi_base.specs.Words.{CutIsCut, OneCut, FieldPastEnd, InterfacesDecode, LentIsInside, LinesDecode, NamesAreSpelled, PolaritiesDecode, SizesDecode, SpacesDecode, TriggersDecode};
+ghost use Rattle.acpi_base.specs.Words.{CodesDecode, CutIsCut, OneCut, FieldPastEnd, LentIsInside, NamesAreSpelled};
 ghost use Rattle.acpi_fixed.specs.Words.{ProfilesDecode};
 ghost use Rattle.acpi.specs.Words.{LookupIsFirst, OnePointers, SecondAreas, SkipsInvalid};
 ghost use Rattle.acpi_laws.specs.PlatformLaws.{FirstBoots, ListedOnce, PlatformIsTheirs, RegistersAreTheTables};
@@ -14,16 +14,10 @@ pub fn definitions_hold()
     ensures lent { LentIsInside }
     // A number whose bytes reach past the end of a table is read as if zeros followed (section 5.2).
     ensures past_end { FieldPastEnd }
-    // A code is decoded to the one value that has it, and refused by one error if there is none: Address Space ID and
-    // Access Size (section 5.2.3.2), Polarity and Trigger Mode (section 5.2.12.5), LINT# (sections 5.2.12.7 and
-    // 5.2.12.13).
-    ensures spaces { SpacesDecode }
-    ensures sizes { SizesDecode }
-    ensures polarities { PolaritiesDecode }
-    ensures triggers { TriggersDecode }
-    ensures lines { LinesDecode }
-    // A code is decoded to the one value that has it: Interface Type of the SPCR, Preferred_PM_Profile (section 5.2.9.1).
-    ensures interfaces { InterfacesDecode }
+    // A code is decoded to the one value that has it, and refused by one error if there is none: in a generic address
+    // (section 5.2.3.2), in MPS INTI Flags (section 5.2.12.5), of a LINT pin (section 5.2.12.7), of an SPCR's interface,
+    // and Preferred_PM_Profile (section 5.2.9.1).
+    ensures codes { CodesDecode }
     ensures profiles { ProfilesDecode }
     // The registers in the record of a FADT are those that the table's bytes give (section 5.2.9).
     ensures registers { RegistersAreTheTables }

@@ -2,7 +2,7 @@ use Rattle.std.proofs.Common.{rules}
 use Rattle.acpi.proofs.First.{lookup_is_first, skips_invalid}
 use Rattle.acpi.proofs.Placing.{addresses_are}
 use Rattle.acpi.proofs.Spelled.{one_pointers}
-use Rattle.acpi_base.proofs.Words.{cut_is_cut, field_past_end, interfaces_decode, lent_is_inside, lines_decode, one_cut, polarities_decode, sizes_decode, spaces_decode, triggers_decode}
+use Rattle.acpi_base.proofs.Words.{codes_decode, cut_is_cut, field_past_end, lent_is_inside, one_cut}
 use Rattle.acpi_fixed.proofs.Profiles.{profiles_decode}
 use Rattle.acpi_laws.proofs.Placed.{first_is_found, found_by_signature, headers_of_members, root_lies_in_range, tables_lie_in_ranges}
 use Rattle.acpi_laws.proofs.Platforms.{first_boots, listed_once, platform_is_theirs, registers_are}
@@ -13,12 +13,7 @@ returns c = record {
   names = search rules;
   lent = lent_is_inside;
   past_end = field_past_end;
-  spaces = spaces_decode;
-  sizes = sizes_decode;
-  polarities = polarities_decode;
-  triggers = triggers_decode;
-  lines = lines_decode;
-  interfaces = interfaces_decode;
+  codes = codes_decode;
   profiles = profiles_decode;
   registers = registers_are;
   listed = listed_once;
