@@ -85,7 +85,8 @@ module _ (m : Memory) (ps : List ℕ) where
         model = model_by (lookup m madt_kind ps) said refl s;
       })
 
-  found_by : (found : Result (ℕ × List ℕ) AcpiError) (platform : PlatformInfo (Unit {0})) → lookup m fadt_kind ps ≡ found
+  found_by : (found : Result (ℕ × List ℕ) AcpiError) (platform : PlatformInfo (Unit {0}))
+      → lookup m fadt_kind ps ≡ found
       → (found >>= (λ f. model_in m ps >>= (λ s. timer_of (fadt_at f.1) >>= (λ t. Ok (platform_from f s t)))))
       ≡ Ok platform → IsPlatform m ps platform
   found_by (Err e) platform h is = absurd cc
