@@ -18,13 +18,19 @@ hpet_at b = record {
   page_protection_and_oem = field_of b 55 1;  -- Page Protection And OEM Attribute
 }
 
--- Page Protection, bits 0 to 3 of its byte: that of a code
+-- Page Protection, bits 0 to 3 of its byte: that of a code, and the code of each; of those that are reserved the first
 abbrev pub protection_of : ℕ → PageProtection
 protection_of code =
     if code == 0 then protections.None
     else if code == 1 then protections.Protected4K
     else if code == 2 then protections.Protected64K
     else protections.Other
+
+abbrev pub protection_code : PageProtection → ℕ
+protection_code protections.None = 0
+protection_code protections.Protected4K = 1
+protection_code protections.Protected64K = 2
+protection_code protections.Other = 3
 
 -- what a table says, if its registers lie in memory: Address Space ID is 0
 abbrev pub info_of : HpetTable → Result HpetInfo AcpiError

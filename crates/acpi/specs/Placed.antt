@@ -9,7 +9,7 @@ use Rattle.acpi.specs.Pointers.{pointers_left}
 use Rattle.acpi.specs.Tables.{root_address_of, root_of}
 use Rattle.acpi.specs.declared.members.TableMember.{TableMember}
 use Rattle.acpi.specs.declared.members.TableMembers.{TableMembers}
-use Rattle.acpi.specs.declared.found.FoundTables.{FoundTables}
+use Rattle.acpi.specs.declared.matches.FoundTables.{FoundTables}
 use Rattle.acpi.specs.declared.ranges.TableRanges.{TableRanges}
 use Rattle.acpi.specs.declared.tables.AcpiTables.{AcpiTables}
 

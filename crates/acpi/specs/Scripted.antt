@@ -3,7 +3,7 @@ use Rattle.std.specs.Prelude.{◌≡◌, ◌++◌, ◌∷◌, ℕ, List, [], Opt
 use Rattle.acpi.specs.declared.platform.mailbox.MailboxCall.{MailboxCall}
 use Rattle.acpi.specs.declared.platform.mailbox.MailboxCall.TheVariants.{Wrote}
 use Rattle.acpi.specs.declared.platform.mailbox.MailboxWrite.{MailboxWrite}
-use Rattle.acpi.specs.declared.platform.scripted.ScriptedMailbox.{ScriptedMailbox}
+use Rattle.acpi.specs.declared.platform.script.ScriptedMailbox.{ScriptedMailbox}
 
 -- the address that was opened
 abbrev pub opened_of : ScriptedMailbox → Option ℕ

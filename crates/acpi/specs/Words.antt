@@ -3,7 +3,7 @@ pub use Rattle.acpi.specs.Areas.{IsCandidateIn, IsFirstIn, IsSearchedIn, NoneIn,
 unfoldable pub use Rattle.acpi.specs.Areas.{found_in_areas}
 pub use Rattle.acpi.specs.Ecam.{IsBeside, ecam_address, spans_left, spans_of}
 pub use Rattle.acpi.specs.Footprint.{AllowsBelow, FootprintBelow, below, dsdt_ranges, header_ranges, lookup_ranges, platform_ranges, root_ranges, ssdt_ranges}
-pub use Rattle.acpi.specs.Hpet.{hpet_kind, hpet_of, info_of, protection_of}
+pub use Rattle.acpi.specs.Hpet.{hpet_kind, hpet_of, info_of, protection_code, protection_of}
 unfoldable pub use Rattle.acpi.specs.Hpet.{hpet_at}
 pub use Rattle.acpi.specs.Later.{or_later}
 pub use Rattle.acpi.specs.Laws.{LookupIsFirst, OnePointers, SecondAreas, SkipsInvalid, ValidEndsFaults}

@@ -6,9 +6,9 @@ ghost use Rattle.acpi_base.specs.Words.{Allows, own_table_ranges};
 ghost use Rattle.acpi.specs.Footprint.{header_ranges};
 ghost use Rattle.acpi.specs.Pointers.{pointers_left};
 
-use crate::listed::{Asked, Found, next_found};
 use crate::members::own_header;
 use crate::pointers::Pointers;
+use crate::walk::{Asked, Found, next_found};
 use acpi_base::Lender;
 use acpi_base::sdt::SdtHeader;
 

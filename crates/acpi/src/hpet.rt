@@ -2,7 +2,7 @@
 ghost use Rattle.std.specs.Prelude.{◌≡◌, ◌+◌};
 ghost use Rattle.std.proofs.Common.{lit≤};
 ghost use Rattle.acpi_base.specs.Words.{bits_of, has_bit};
-ghost use Rattle.acpi.specs.Words.{protection_of, hpet_at, hpet_kind, hpet_of, info_of, AllowsBelow, FootprintBelow, lookup_ranges, Relocation, of_tables};
+ghost use Rattle.acpi.specs.Words.{protection_code, protection_of, hpet_at, hpet_kind, hpet_of, info_of, AllowsBelow, FootprintBelow, lookup_ranges, Relocation, of_tables};
 
 use crate::tables::AcpiTables;
 use acpi_base::bytes::{bits, field_in, has_bit, u8_in, u16_in, u32_in};
@@ -62,14 +62,37 @@ impl SdtTable for HpetTable {
 /// (the lowest 4 bits of Page Protection And OEM Attribute).
 #[derive(Clone, Copy, Debug, PartialEq, Eq)]
 pub enum PageProtection {
-    /// Code 0: nothing is promised.
-    None,
-    /// Code 1: the 4 KiB page is protected. An access to the rest of it does no harm.
-    Protected4K,
-    /// Code 2: the 64 KiB page is protected. An access to the rest of it does no harm.
-    Protected64K,
+    /// Nothing is promised.
+    None = 0,
+    /// The 4 KiB page is protected. An access to the rest of it does no harm.
+    Protected4K = 1,
+    /// The 64 KiB page is protected. An access to the rest of it does no harm.
+    Protected64K = 2,
     /// Codes 3 to 15: reserved.
-    Other,
+    Other = 3,
+}
+
+impl PageProtection {
+    /// Its code: Page Protection, the lowest 4 bits of Page Protection And OEM Attribute. That of `Other` is 3.
+    pub fn code(self) -> u8
+        ensures { result ≡ protection_code self }
+    {
+        self as u8
+    }
+}
+
+impl From<u8> for PageProtection {
+    ghost from_gives = { λ code r. r ≡ protection_of code };
+
+    /// The page protection of a code.
+    fn from(code: u8) -> PageProtection {
+        match code {
+            0 => PageProtection::None,
+            1 => PageProtection::Protected4K,
+            2 => PageProtection::Protected64K,
+            _ => PageProtection::Other,
+        }
+    }
 }
 
 /// An event timer block, as an HPET describes it (IA-PC HPET Specification; ACPI 6.4, section 5.2.6,
@@ -120,7 +143,10 @@ impl HpetInfo {
             base_address: table.address,
             hpet_number: table.hpet_number,
             clock_tick_unit: table.clock_tick_unit,
-            page_protection: protection_of(table.page_protection_and_oem),
+            // The other 4 bits are the OEM's.
+            page_protection: PageProtection::from(
+                bits(table.page_protection_and_oem as u64, 0, 4) as u8,
+            ),
         })
     }
 
@@ -160,17 +186,5 @@ impl HpetInfo {
         ensures { result ≡ bits_of self.now.event_timer_block_id 16 16 }
     {
         bits(self.event_timer_block_id as u64, 16, 16) as u16 // PCI Vendor ID of 1st Timer Block
-    }
-}
-
-/// The page protection of the lowest 4 bits of Page Protection And OEM Attribute; the other 4 are the OEM's.
-fn protection_of(number: u8) -> PageProtection
-    ensures { result ≡ protection_of (bits_of number 0 4) }
-{
-    match bits(number as u64, 0, 4) {
-        0 => PageProtection::None,
-        1 => PageProtection::Protected4K,
-        2 => PageProtection::Protected64K,
-        _ => PageProtection::Other,
     }
 }

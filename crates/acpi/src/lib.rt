@@ -5,11 +5,10 @@
 #![tactic(auto)]
 
 mod faults;
-mod found;
 pub mod handler;
 mod headers;
 pub mod hpet;
-mod listed;
+mod matches;
 pub mod mcfg;
 mod members;
 pub mod platform;
@@ -20,6 +19,7 @@ pub mod root;
 pub mod rsdp;
 mod ssdts;
 mod tables;
+mod walk;
 
 pub use acpi_base::managed_slice::ManagedSlice;
 pub use acpi_base::{
@@ -29,9 +29,9 @@ pub use acpi_base::{
 pub use acpi_fixed::fadt::PowerProfile;
 pub use acpi_fixed::{bgrt, fadt};
 pub use faults::TableFaults;
-pub use found::FoundTables;
 pub use headers::SdtHeaderIterator;
 pub use hpet::HpetInfo;
+pub use matches::FoundTables;
 pub use mcfg::PciConfigRegions;
 pub use members::{TableMember, TableMembers};
 pub use platform::PlatformInfo;

@@ -7,8 +7,8 @@ ghost use Rattle.acpi.specs.Footprint.{header_ranges};
 ghost use Rattle.acpi.specs.Pointers.{pointers_left};
 ghost use Rattle.acpi.specs.Lists.{own_header_at};
 
-use crate::listed::{Asked, next_asked};
 use crate::pointers::Pointers;
+use crate::walk::{Asked, next_asked};
 use acpi_base::sdt::{SdtHeader, map_own_sdt};
 use acpi_base::{AcpiResult, Lender};
 

@@ -5,7 +5,7 @@ ghost use Rattle.acpi.specs.Words.{AllowsBelow, lookup_ranges, platform_ranges, 
 
 pub mod interrupt;
 mod mailbox;
-mod scripted;
+mod script;
 mod timer;
 mod wakeup;
 
@@ -16,7 +16,7 @@ use acpi_base::{AcpiResult, Lender};
 use acpi_fixed::fadt::PowerProfile;
 use interrupt::InterruptModel;
 pub use mailbox::{Mailbox, MailboxCall, MailboxWrite};
-pub use scripted::ScriptedMailbox;
+pub use script::ScriptedMailbox;
 use std::alloc::{AllocError, Allocator, Global};
 pub use timer::PmTimer;
 pub use wakeup::wakeup_aps;

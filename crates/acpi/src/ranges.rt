@@ -7,8 +7,8 @@ ghost use Rattle.acpi.specs.Footprint.{header_ranges};
 ghost use Rattle.acpi.specs.Places.{facs_at, facs_length, facs_ranges, place_at};
 ghost use Rattle.acpi.specs.Pointers.{pointers_left};
 
-use crate::listed::{Asked, Found, next_found};
 use crate::pointers::Pointers;
+use crate::walk::{Asked, Found, next_found};
 use acpi_base::sdt::{SdtHeader, map_own_sdt};
 use acpi_base::{
     AcpiError, AcpiResult, AddressRange, Lender, PhysicalMapping, PhysicalRecord, Signature,

@@ -6,9 +6,9 @@ ghost use Rattle.acpi_base.specs.Words.{Allows, table_ranges, plain_kind};
 ghost use Rattle.acpi.specs.Footprint.{ssdt_ranges};
 ghost use Rattle.acpi.specs.Pointers.{pointers_left};
 
-use crate::listed::{Asked, Found, next_found};
 use crate::pointers::Pointers;
 use crate::records::{AmlTable, stream_at};
+use crate::walk::{Asked, Found, next_found};
 use acpi_base::Lender;
 use acpi_base::sdt::Signature;
 

@@ -1,6 +1,7 @@
 pub mod AllowedRanges
 pub mod Clones
 pub mod Cuts
+pub mod Decoding
 pub mod EntryLists
 pub mod FromStd
 pub mod Isa

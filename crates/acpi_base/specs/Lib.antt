@@ -2,6 +2,7 @@ pub mod Address
 pub mod Bits
 pub mod Bytes
 pub mod Claim
+pub mod Codes
 pub mod Ecam
 pub mod FromStd
 pub mod ModelBuilder

@@ -1,13 +1,13 @@
 -- The Serial Port Console Redirection table (signature SPCR; ACPI 6.4, section 5.2.6). The layout is Microsoft's.
-use Rattle.std.specs.Prelude.{ℕ, ◌+◌, ◌==◌, nat_le, nat_lt, List, [], ◌∷◌, length, replicate, slice_index_or, Option, Some, None, Result, Ok, Err, if◌then◌else◌, bytes_eq}
+use Rattle.std.specs.Prelude.{ℕ, ◌+◌, ◌==◌, nat_le, nat_lt, List, length, replicate, Option, Some, None, Result, Ok, Err, if◌then◌else◌, bytes_eq}
 use Rattle.acpi_base.specs.FromStd.{option_or, is_utf8}
 use Rattle.acpi_base.specs.Address.{generic_address_of}
 use Rattle.acpi_base.specs.Bits.{bits_of, has_bit}
 use Rattle.acpi_base.specs.Bytes.{field_of, filled_part, part}
+use Rattle.acpi_base.specs.Codes.{interface_of}
 use Rattle.acpi_base.specs.Header.{header_at}
 use Rattle.acpi_base.specs.Steps.{◌>>=◌, holds}
 use Rattle.acpi_base.specs.Types.{GenericAddress, AcpiError, InvalidNamespaceString, Spcr, SpcrInterfaceType}
-use Rattle.acpi_base.specs.declared.tables.spcr.interface.SpcrInterfaceType.TheVariants as interface
 
 -- what a table's bytes mean; a field that reaches past the end is read as if zeros followed
 unfoldable pub spcr_at : List ℕ → Spcr
@@ -39,20 +39,7 @@ spcr_at b = record {
 
 -- ---- what calls answer
 
--- Interface Type: the interfaces in the order of their codes, from 0 on; 7 is none of them
-abbrev pub interfaces : List SpcrInterfaceType
-interfaces =
-    interface.Full16550 ∷ interface.Full16450 ∷ interface.MAX311xE ∷ interface.ArmPL011
-    ∷ interface.MSM8x60 ∷ interface.Nvidia16550 ∷ interface.TiOmap ∷ interface.Unknown 7
-    ∷ interface.APM88xxxx ∷ interface.Msm8974 ∷ interface.Sam5250 ∷ interface.IntelUSIF
-    ∷ interface.Imx6 ∷ interface.ArmSBSAGeneric32bit ∷ interface.ArmSBSAGeneric
-    ∷ interface.ArmDCC ∷ interface.Bcm2835 ∷ interface.Sdm845_18432 ∷ interface.Generic16550
-    ∷ interface.Sdm845_7372 ∷ interface.IntelLPSS ∷ interface.RiscVSbi ∷ []
-
--- the interface of a code
-abbrev pub interface_of : ℕ → SpcrInterfaceType
-interface_of code = slice_index_or interfaces code (interface.Unknown code)
-
+-- Interface Type
 abbrev pub interface_in : Spcr → SpcrInterfaceType
 interface_in t = interface_of t.interface_type
 

@@ -1,10 +1,10 @@
 -- This crate's words: what proofs, contracts and the crates above bring in from its specs.
-pub use Rattle.acpi_base.specs.Address.{access_size_of, access_sizes, named_spaces, size_code, space_code, space_of}
 unfoldable pub use Rattle.acpi_base.specs.Address.{generic_address_of}
 pub use Rattle.acpi_base.specs.Bits.{bits_of, has_bit}
 pub use Rattle.acpi_base.specs.Bytes.{IsBytes, filled_part, number, part}
 unfoldable pub use Rattle.acpi_base.specs.Bytes.{field_of, spelling, sum_of}
 pub use Rattle.acpi_base.specs.Claim.{IsLentOf, IsWholeClaim, all_of, claimed_at, claimed_from, shown_by, unchecked}
+pub use Rattle.acpi_base.specs.Codes.{CodesDecode, IsNumbering, access_size_of, all_apics, all_x2apics, interface_code, interface_of, interfaces, is_interface, is_named_space, line_code, line_of, polarity_code, polarity_for, processor_for, size_code, space_code, space_of, trigger_code, trigger_for, uid_code}
 pub use Rattle.acpi_base.specs.Ecam.{ecam_in, ecam_place, ecam_range}
 pub use Rattle.acpi_base.specs.Entries.{IsCut, IsEntry, IsFew, after_one, cut_within, is_full, least_length, number_at, number_in, width_of, with_entry}
 unfoldable pub use Rattle.acpi_base.specs.Entries.{cut, front, next_front}
@@ -13,7 +13,7 @@ pub use Rattle.acpi_base.specs.ErrorText.{error_text, madt_error_text}
 pub use Rattle.acpi_base.specs.Extended.{extended_at, held_of, shown_of}
 pub use Rattle.acpi_base.specs.Guarded.{guarded_by, listed_by}
 unfoldable pub use Rattle.acpi_base.specs.Header.{check_names, check_table, header_at}
-pub use Rattle.acpi_base.specs.Interrupts.{io_apic_of, line_code, nmi_line_of, polarity_code, polarity_of, processor_for, trigger_code, trigger_mode_of}
+pub use Rattle.acpi_base.specs.Interrupts.{io_apic_of, nmi_line_of, polarity_of, trigger_mode_of}
 unfoldable pub use Rattle.acpi_base.specs.Interrupts.{item_of}
 pub use Rattle.acpi_base.specs.Isa.{SharedByOverrides, goes_to, is_taken, isa_interrupt, leads_to, override_for, sci_interrupt, straight, wired}
 pub use Rattle.acpi_base.specs.IsaOverrides.{AreCounted, Gathered, IsGathered}
@@ -37,7 +37,7 @@ pub use Rattle.acpi_base.specs.OneRegion.{one_region}
 pub use Rattle.acpi_base.specs.Pin.{IsNearest, IsNoNearer, base_of, io_apic_for, nearer, nearest, pin_of}
 pub use Rattle.acpi_base.specs.Range.{range_fits, range_holds}
 pub use Rattle.acpi_base.specs.Ranges.{AgreesOn, Allows, DependsOn, Footprint, Ranges, is_listed, own_table_ranges, table_ranges, unless_found, whole_ranges}
-pub use Rattle.acpi_base.specs.Spcr.{baud_of, bus_of, clock_of, configured_baud, device_id_of, device_of, flow_byte, function_of, interface_in, interface_of, interfaces, interrupt_byte, interrupt_of, irq_of, name_of, namespace_in, namespace_of, terminal_byte, unless, vendor_id_of}
+pub use Rattle.acpi_base.specs.Spcr.{baud_of, bus_of, clock_of, configured_baud, device_id_of, device_of, flow_byte, function_of, interface_in, interrupt_byte, interrupt_of, irq_of, name_of, namespace_in, namespace_of, terminal_byte, unless, vendor_id_of}
 unfoldable pub use Rattle.acpi_base.specs.Spcr.{spcr_at}
 pub use Rattle.acpi_base.specs.SpcrFlags.{FlagsAreNumbered, flow_bits, interrupt_bits, terminal_bits}
 pub use Rattle.acpi_base.specs.Steps.{Gives, GivesOrFull, holds, lent, ◌>>=◌}

@@ -1,10 +1,10 @@
 //! The Generic Address Structure (GAS): a register, by a number in one of several address spaces (section
 //! 5.2.3.2).
 ghost use Rattle.std.specs.Prelude.{◌≡◌};
-ghost use Rattle.acpi_base.specs.Words.{generic_address_of, space_of, access_size_of, filled_part};
+ghost use Rattle.acpi_base.specs.Words.{generic_address_of, filled_part};
 
 use crate::bytes::{field_in, filled, u8_in};
-use crate::error::{AcpiError, AcpiResult};
+use crate::error::AcpiResult;
 use crate::memory::handler::PhysicalRecord;
 
 /// Address Space ID: the space in which the number of a generic address counts (section 5.2.3.2).
@@ -39,67 +39,19 @@ pub enum AddressSpace {
     OemDefined(u8),
 }
 
-impl TryFrom<u8> for AddressSpace {
-    type Error = AcpiError;
-
-    ghost try_from_gives = { λ code r. r ≡ space_of code };
-
-    /// The space of a code of Address Space ID (section 5.2.3.2).
-    ///
-    /// Fails for a reserved code with `InvalidGenericAddress`: those from 0x0b to 0xbf, but for 0x7f.
-    fn try_from(code: u8) -> AcpiResult<AddressSpace> {
-        match code {
-            0x00 => Ok(AddressSpace::SystemMemory),
-            0x01 => Ok(AddressSpace::SystemIo),
-            0x02 => Ok(AddressSpace::PciConfigSpace),
-            0x03 => Ok(AddressSpace::EmbeddedController),
-            0x04 => Ok(AddressSpace::SMBus),
-            0x05 => Ok(AddressSpace::SystemCmos),
-            0x06 => Ok(AddressSpace::PciBarTarget),
-            0x07 => Ok(AddressSpace::Ipmi),
-            0x08 => Ok(AddressSpace::GeneralIo),
-            0x09 => Ok(AddressSpace::GenericSerialBus),
-            0x0a => Ok(AddressSpace::PlatformCommunicationsChannel),
-            0x7f => Ok(AddressSpace::FunctionalFixedHardware),
-            0xc0..=0xff => Ok(AddressSpace::OemDefined(code)),
-            _ => Err(AcpiError::InvalidGenericAddress),
-        }
-    }
-}
-
 /// Access Size: how many bytes of a register are read and written at once (section 5.2.3.2).
 #[derive(Clone, Copy, Debug, PartialEq, Eq)]
 pub enum AccessSize {
-    /// Undefined, code 0: as many as the space and the register ask for.
-    Undefined,
-    /// Byte access, code 1: one byte.
-    ByteAccess,
-    /// Word access, code 2: two bytes.
-    WordAccess,
-    /// Dword access, code 3: four bytes.
-    DWordAccess,
-    /// QWord access, code 4: eight bytes.
-    QWordAccess,
-}
-
-impl TryFrom<u8> for AccessSize {
-    type Error = AcpiError;
-
-    ghost try_from_gives = { λ code r. r ≡ access_size_of code };
-
-    /// The access size of a code of Access Size (section 5.2.3.2).
-    ///
-    /// Fails for a reserved code with `InvalidGenericAddress`: those above 4.
-    fn try_from(code: u8) -> AcpiResult<AccessSize> {
-        match code {
-            0 => Ok(AccessSize::Undefined),
-            1 => Ok(AccessSize::ByteAccess),
-            2 => Ok(AccessSize::WordAccess),
-            3 => Ok(AccessSize::DWordAccess),
-            4 => Ok(AccessSize::QWordAccess),
-            _ => Err(AcpiError::InvalidGenericAddress),
-        }
-    }
+    /// Undefined: as many as the space and the register ask for.
+    Undefined = 0,
+    /// Byte access: one byte.
+    ByteAccess = 1,
+    /// Word access: two bytes.
+    WordAccess = 2,
+    /// Dword access: four bytes.
+    DWordAccess = 3,
+    /// QWord access: eight bytes.
+    QWordAccess = 4,
 }
 
 /// The twelve bytes of a Generic Address Structure, as a table has them (section 5.2.3.2).

@@ -11,6 +11,7 @@
 
 pub mod address;
 pub mod bytes;
+mod codes;
 pub mod entries;
 pub mod error;
 pub mod extended;

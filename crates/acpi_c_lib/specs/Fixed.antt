@@ -2,14 +2,13 @@
 use Rattle.std.specs.Prelude.{ℕ, Option, Some, None, Result, Ok, Err}
 use Rattle.acpi_base.specs.FromStd.{result_unwrap_or}
 use Rattle.acpi_base.specs.Words.{generic_address_of, space_code}
-use Rattle.acpi_fixed.specs.Words.{dsdt_address_of, facs_address_of, fadt_at, pm_timer_of, profile_of, registers_of, arm_bits, feature_bits, pc_bits, gpe_of, block_of, optional_block_of, register_of}
+use Rattle.acpi_fixed.specs.Words.{dsdt_address_of, facs_address_of, fadt_at, pm_timer_of, profile_code, profile_of, registers_of, arm_bits, feature_bits, pc_bits, gpe_of, block_of, optional_block_of, register_of}
 use Rattle.acpi.specs.Types.{Fadt, GpeBlock}
 use Rattle.acpi.specs.Words.{fadt_kind}
 use Rattle.acpi_c_lib.specs.Below.{AcpiError, Refusal, Source, below_first}
 use Rattle.acpi_c_lib.specs.Devices.{optional_register, required_register}
 use Rattle.acpi_c_lib.specs.Records as records
 use Rattle.acpi_c_lib.specs.Types.{FixedHardware}
-use Rattle.acpi_writer.specs.Words.{profile_code}
 
 -- no block of general purpose events: zeros, and 0 if there is none or 2 if its address is refused
 abbrev pub no_gpe : ℕ → records.GpeBlock

@@ -1,6 +1,6 @@
 -- The interrupt model (MADT, section 5.2.12) as C gets it.
 use Rattle.std.specs.Prelude.{ℕ, zero, suc, not, true, List, [], ◌∷◌, length, map, Option, Some, None, Result, filter_map}
-use Rattle.acpi_base.specs.Words.{line_code, polarity_code, trigger_code, madt_at, Memory}
+use Rattle.acpi_base.specs.Words.{line_code, polarity_code, trigger_code, uid_code, madt_at, Memory}
 use Rattle.acpi_base.specs.Model as base
 use Rattle.acpi.specs.Types.{Apic, InterruptSourceOverride, IoApic, NmiLine, NmiProcessor, All, ProcessorUid, NmiSource, Processor, ProcessorInfo, ProcessorState, Disabled, Running, WaitingForSipi}
 use Rattle.acpi_base.specs.declared.model.interrupt.InterruptModel.TheVariants as model
@@ -77,18 +77,13 @@ nmi_source_record x = record {
 abbrev pub nmi_sources_of : Apics → List records.NmiSource
 nmi_sources_of apic = map nmi_source_record apic.nmi_sources
 
--- the id of one processor
-abbrev pub uid_of : NmiProcessor → ℕ
-uid_of All = 0
-uid_of (ProcessorUid uid) = uid
-
 abbrev pub of_all : NmiProcessor → ℕ
 of_all All = 1
 of_all (ProcessorUid uid) = 0
 
 abbrev pub nmi_line_record : NmiLine → records.NmiLine
 nmi_line_record x = record {
-  processor_uid = uid_of x.processor;
+  processor_uid = uid_code 0 x.processor;
   of_all = of_all x.processor;
   lint = line_code x.line;
 }

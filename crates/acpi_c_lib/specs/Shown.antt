@@ -4,14 +4,13 @@ use Rattle.acpi_base.specs.FromStd.{is_some, result_ok}
 use Rattle.acpi_base.specs.Words.{ecam_range, header_at, mcfg_entries_of, Memory, ◌>>=◌, own_table_at, plain_kind, letters_of}
 pub use Rattle.acpi_base.specs.declared.table.signature.Signature.{Signature}
 use Rattle.acpi.specs.Types.{McfgEntry}
-use Rattle.acpi.specs.Words.{ecam_address, hpet_of, dsdt_stream, lookup, mcfg_kind, width_of}
+use Rattle.acpi.specs.Words.{ecam_address, hpet_of, dsdt_stream, lookup, mcfg_kind, protection_code, width_of}
 use Rattle.acpi_c_lib.specs.Types.{HpetInfo, AmlTable, EcamRange, PciRegion, Root, NoSuchFunction}
 use Rattle.acpi_c_lib.specs.Answers.{result_map}
 use Rattle.acpi_c_lib.specs.Below.{Refusal, Source, below_first, below_source, first_table, opened_below}
 use Rattle.acpi_c_lib.specs.Devices.{flag}
 use Rattle.acpi_c_lib.specs.Records as records
 pub use Rattle.acpi_c_lib.specs.declared.records.Table.{Table}
-use Rattle.acpi_writer.specs.Words.{protection_code}
 
 -- ---- the root table
 

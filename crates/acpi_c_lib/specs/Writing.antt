@@ -6,8 +6,8 @@ use Rattle.acpi.specs.Types.{InterruptSourceOverride, IoApic, Lint0, Lint1, NmiL
 use Rattle.acpi_base.specs.declared.model.interrupt.NmiProcessor.TheVariants as nmi
 use Rattle.acpi_base.specs.declared.model.interrupt.Polarity.TheVariants as polarity
 use Rattle.acpi_base.specs.declared.model.interrupt.TriggerMode.TheVariants as trigger
-use Rattle.acpi_c_lib.specs.Types.{HpetInfo, PageProtection, PciRegion, Writer, MadtContents, IdOfAll, NoProcessor, UidOfAll, MadtProcessor}
-use Rattle.acpi.specs.declared.hpet.PageProtection.TheVariants as protection
+use Rattle.acpi_c_lib.specs.Types.{HpetInfo, PciRegion, Writer, MadtContents, IdOfAll, NoProcessor, UidOfAll, MadtProcessor}
+use Rattle.acpi.specs.Words.{protection_of}
 use Rattle.acpi_c_lib.specs.Codes.{code_of}
 use Rattle.acpi_c_lib.specs.Records as records
 pub use Rattle.acpi_c_lib.specs.declared.refusal.Refusal.{Refusal}
@@ -39,13 +39,6 @@ WritesTable status old new old_length new_length (Err e) =
     (status ≡ code_of e) × (new_length ≡ old_length) × (new ≡ old)
 
 -- ---- records, as the writer has them
-
-abbrev pub protection_of : ℕ → PageProtection
-protection_of code =
-    if code == 0 then protection.None
-    else if code == 1 then protection.Protected4K
-    else if code == 2 then protection.Protected64K
-    else protection.Other
 
 abbrev pub hpet_info_of : records.HpetInfo → HpetInfo
 hpet_info_of i = record {

@@ -10,8 +10,6 @@ use acpi::address::GenericAddress;
 use acpi::bgrt::{Bgrt, ImageType};
 use acpi::platform::PmTimer;
 use acpi::{AcpiResult, HpetInfo};
-use acpi_writer::generic::{size_code, space_code};
-use acpi_writer::hpet::protection_code;
 
 /// The block of event timers that the first valid HPET describes.
 pub fn hpet(source: &Source<'_>) -> Result<records::HpetInfo, Refusal>
@@ -25,7 +23,7 @@ pub fn hpet(source: &Source<'_>) -> Result<records::HpetInfo, Refusal>
         event_timer_block_id: info.event_timer_block_id,
         clock_tick_unit: info.clock_tick_unit,
         number: info.hpet_number,
-        page_protection: protection_code(info.page_protection),
+        page_protection: info.page_protection.code(),
     })
 }
 
@@ -59,10 +57,10 @@ pub(crate) fn generic_record(address: &GenericAddress) -> records::GenericAddres
 {
     records::GenericAddress {
         address: address.address,
-        space: space_code(address.address_space),
+        space: address.address_space.code(),
         bit_width: address.bit_width,
         bit_offset: address.bit_offset,
-        access_size: size_code(address.access_size),
+        access_size: address.access_size.code(),
     }
 }
 

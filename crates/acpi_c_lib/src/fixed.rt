@@ -13,8 +13,6 @@ use crate::regions::Mapped;
 use acpi::AcpiResult;
 use acpi::fadt::{Fadt, GpeBlock};
 use acpi_base::bytes::{field, u16_in, u32_in};
-use acpi_writer::fadt::profile_code;
-use acpi_writer::generic::space_code;
 
 /// The fixed hardware of the first valid FADT.
 pub fn fixed(source: &Source<'_>) -> Result<FixedHardware, Refusal>
@@ -80,7 +78,7 @@ fn fixed_record(fadt: &Fadt, flags: RawFlags) -> FixedHardware
         c3_latency: fadt.worst_c3_latency,
         flush_size: fadt.flush_size,
         flush_stride: fadt.flush_stride,
-        power_profile: profile_code(fadt.power_profile()),
+        power_profile: fadt.power_profile().code(),
         acpi_enable: fadt.acpi_enable,
         acpi_disable: fadt.acpi_disable,
         s4bios_request: fadt.s4bios_req,
@@ -103,7 +101,7 @@ fn gpe_record(said: AcpiResult<Option<GpeBlock>>) -> records::GpeBlock
     match said {
         Ok(Some(block)) => records::GpeBlock {
             address: block.address,
-            space: space_code(block.space),
+            space: block.space.code(),
             byte_length: block.byte_length,
             present: 1,
         },

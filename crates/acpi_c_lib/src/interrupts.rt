@@ -20,7 +20,7 @@ use crate::regions::Mapped;
 use acpi::madt::Madt;
 use acpi::platform::PmTimer;
 use acpi::platform::interrupt::{
-    InterruptSourceOverride, IoApic, LocalInterruptLine, NmiLine, NmiProcessor, NmiSource,
+    InterruptSourceOverride, IoApic, NmiLine, NmiProcessor, NmiSource,
 };
 use acpi::{AcpiHandler, AcpiResult, AcpiTables, Lender, PhysicalMapping};
 use acpi_base::model::{Counts, MadtItem, MadtItems};
@@ -230,18 +230,10 @@ impl MadtRecord for records::NmiLine {
         let MadtItem::NmiLine(found) = item else {
             return None;
         };
-        let (processor_uid, of_all) = match found.processor {
-            NmiProcessor::All => (0, 1),
-            NmiProcessor::ProcessorUid(uid) => (uid, 0),
-        };
-        let lint = match found.line {
-            LocalInterruptLine::Lint0 => 0,
-            LocalInterruptLine::Lint1 => 1,
-        };
         Some(records::NmiLine {
-            processor_uid,
-            of_all,
-            lint,
+            processor_uid: found.processor.uid(0),
+            of_all: matches!(found.processor, NmiProcessor::All) as u8,
+            lint: found.line.code(),
         })
     }
 }

@@ -45,12 +45,7 @@ impl records::HpetInfo {
             base_address: self.base_address,
             hpet_number: self.number,
             clock_tick_unit: self.clock_tick_unit,
-            page_protection: match self.page_protection {
-                0 => PageProtection::None,
-                1 => PageProtection::Protected4K,
-                2 => PageProtection::Protected64K,
-                _ => PageProtection::Other,
-            },
+            page_protection: PageProtection::from(self.page_protection),
         }
     }
 }

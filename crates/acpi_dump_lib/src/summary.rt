@@ -3,7 +3,7 @@
 use crate::out::Out;
 use acpi::mcfg::PciConfigEntry;
 use acpi::platform::interrupt::{
-    Apic, InterruptModel, IoApic, LocalInterruptLine, NmiLine, NmiProcessor, NmiSource, Polarity,
+    Apic, InterruptModel, IoApic, NmiLine, NmiProcessor, NmiSource, Polarity,
     TriggerMode,
 };
 use acpi::platform::{PmTimer, Processor, ProcessorState};
@@ -203,13 +203,10 @@ fn add_nmi_source(facts: &mut Facts, source: &NmiSource) {
 
 /// Adds the pin of local APICs that such interrupts come to.
 fn add_nmi_line(facts: &mut Facts, nmi: &NmiLine) {
-    let line = match nmi.line {
-        LocalInterruptLine::Lint0 => "LINT0",
-        LocalInterruptLine::Lint1 => "LINT1",
-    };
+    let number = nmi.line.code();
     match nmi.processor {
-        NmiProcessor::All => writeln!(facts, "NMI\t{line} of every processor"),
-        NmiProcessor::ProcessorUid(uid) => writeln!(facts, "NMI\t{line} of processor {uid}"),
+        NmiProcessor::All => writeln!(facts, "NMI\tLINT{number} of every processor"),
+        NmiProcessor::ProcessorUid(uid) => writeln!(facts, "NMI\tLINT{number} of processor {uid}"),
     }
 }
 

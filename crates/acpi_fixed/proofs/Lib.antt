@@ -1,1 +1,2 @@
 pub mod ExtendedFields
+pub mod Profiles

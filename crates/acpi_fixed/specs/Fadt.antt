@@ -1,8 +1,8 @@
 -- The fixed hardware: the Fixed ACPI Description Table, FADT (ACPI 6.4, section 5.2.9).
-use Rattle.std.specs.Prelude.{ℕ, ◌==◌, List, Option, Result, if◌then◌else◌}
+use Rattle.std.specs.Prelude.{ℕ, Bool, true, nat_lt, List, [], ◌∷◌, slice_index_or, Option, Result}
 use Rattle.acpi_base.specs.declared.address.GenericAddress.{GenericAddress}
 use Rattle.acpi_base.specs.declared.error.AcpiError.{AcpiError}
-use Rattle.acpi_base.specs.Words.{field_of, header_at}
+use Rattle.acpi_base.specs.Words.{IsNumbering, field_of, header_at}
 use Rattle.acpi_fixed.specs.declared.fadt.Fadt.{Fadt}
 use Rattle.acpi_fixed.specs.declared.fadt.PowerProfile.{PowerProfile}
 use Rattle.acpi_fixed.specs.declared.fadt.registers.Registers.{Registers}
@@ -46,19 +46,36 @@ fadt_at b = record {
 
 -- ---- what calls answer
 
--- Preferred_PM_Profile: the profile of a code
+-- Preferred_PM_Profile: the profiles in the order of their codes, from 0 on, the profile of a code, and the code of one
+abbrev pub named_profiles : List PowerProfile
+named_profiles =
+    profiles.Unspecified ∷ profiles.Desktop ∷ profiles.Mobile ∷ profiles.Workstation
+    ∷ profiles.EnterpriseServer ∷ profiles.SohoServer ∷ profiles.AppliancePc
+    ∷ profiles.PerformanceServer ∷ profiles.Tablet ∷ []
+
 abbrev pub profile_for : ℕ → PowerProfile
-profile_for code =
-    if code == 0 then profiles.Unspecified
-    else if code == 1 then profiles.Desktop
-    else if code == 2 then profiles.Mobile
-    else if code == 3 then profiles.Workstation
-    else if code == 4 then profiles.EnterpriseServer
-    else if code == 5 then profiles.SohoServer
-    else if code == 6 then profiles.AppliancePc
-    else if code == 7 then profiles.PerformanceServer
-    else if code == 8 then profiles.Tablet
-    else profiles.Reserved code
+profile_for code = slice_index_or named_profiles code (profiles.Reserved code)
+
+abbrev pub profile_code : PowerProfile → ℕ
+profile_code profiles.Unspecified = 0
+profile_code profiles.Desktop = 1
+profile_code profiles.Mobile = 2
+profile_code profiles.Workstation = 3
+profile_code profiles.EnterpriseServer = 4
+profile_code profiles.SohoServer = 5
+profile_code profiles.AppliancePc = 6
+profile_code profiles.PerformanceServer = 7
+profile_code profiles.Tablet = 8
+profile_code (profiles.Reserved code) = code
+
+-- the code is no other profile's
+abbrev pub is_profile : PowerProfile → Bool
+is_profile (profiles.Reserved code) = nat_lt 8 code
+is_profile _ = true
+
+-- each code has one profile
+abbrev pub ProfilesDecode : Type 0
+ProfilesDecode = IsNumbering is_profile profile_code profile_for
 
 -- what the machine is for
 abbrev pub profile_of : Fadt → PowerProfile

@@ -1,7 +1,7 @@
 -- This crate's words: what proofs, contracts and the crates above bring in from its specs.
 pub use Rattle.acpi_fixed.specs.Bgrt.{image_type_of, offset_of, rank_of, status_of}
 unfoldable pub use Rattle.acpi_fixed.specs.Bgrt.{bgrt_at}
-pub use Rattle.acpi_fixed.specs.Fadt.{dsdt_address_of, facs_address_of, pm_timer_of, profile_for, profile_of, registers_of}
+pub use Rattle.acpi_fixed.specs.Fadt.{ProfilesDecode, dsdt_address_of, facs_address_of, is_profile, named_profiles, pm_timer_of, profile_code, profile_for, profile_of, registers_of}
 unfoldable pub use Rattle.acpi_fixed.specs.Fadt.{fadt_at}
 pub use Rattle.acpi_fixed.specs.Flags.{arm_bits, feature_bits, pc_bits}
 pub use Rattle.acpi_fixed.specs.Gpe.{base_beside, block_from, gpe1_base_of, gpe_of}

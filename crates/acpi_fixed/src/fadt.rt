@@ -1,9 +1,9 @@
 //! The Fixed ACPI Description Table (FADT): the registers of the fixed hardware, and its features (section
 //! 5.2.9).
-ghost use Rattle.std.specs.Prelude.{◌≡◌, ◌≤◌, length, true};
+ghost use Rattle.std.specs.Prelude.{◌≡◌, ℕ, ◌≤◌, length, true};
 ghost use Rattle.std.proofs.Common.{lit≤};
 ghost use Rattle.acpi_base.specs.Words.{generic_address_of};
-ghost use Rattle.acpi_fixed.specs.Words.{fadt_at, profile_for, dsdt_address_of, facs_address_of, profile_of, pm_timer_of, registers_of, HasBlocks, block_of, optional_block_of, register_of};
+ghost use Rattle.acpi_fixed.specs.Words.{fadt_at, profile_code, profile_for, dsdt_address_of, facs_address_of, profile_of, pm_timer_of, registers_of, HasBlocks, block_of, optional_block_of, register_of};
 
 mod flags;
 mod places;
@@ -42,6 +42,48 @@ pub enum PowerProfile {
     Tablet,
     /// Any other code, which is reserved, with that code.
     Reserved(u8),
+}
+
+impl PowerProfile {
+    /// Its code: Preferred_PM_Profile (ACPI 6.4, section 5.2.9.1).
+    pub fn code(self) -> u8
+        ensures value { result ≡ profile_code self }
+        // It is read from no other code.
+        ensures only { (code : ℕ) → profile_for code ≡ self → result ≡ code }
+    {
+        match self {
+            PowerProfile::Unspecified => 0,
+            PowerProfile::Desktop => 1,
+            PowerProfile::Mobile => 2,
+            PowerProfile::Workstation => 3,
+            PowerProfile::EnterpriseServer => 4,
+            PowerProfile::SohoServer => 5,
+            PowerProfile::AppliancePc => 6,
+            PowerProfile::PerformanceServer => 7,
+            PowerProfile::Tablet => 8,
+            PowerProfile::Reserved(code) => code,
+        }
+    }
+}
+
+impl From<u8> for PowerProfile {
+    ghost from_gives = { λ code r. r ≡ profile_for code };
+
+    /// The profile of a code of Preferred_PM_Profile.
+    fn from(code: u8) -> PowerProfile {
+        match code {
+            0 => PowerProfile::Unspecified,
+            1 => PowerProfile::Desktop,
+            2 => PowerProfile::Mobile,
+            3 => PowerProfile::Workstation,
+            4 => PowerProfile::EnterpriseServer,
+            5 => PowerProfile::SohoServer,
+            6 => PowerProfile::AppliancePc,
+            7 => PowerProfile::PerformanceServer,
+            8 => PowerProfile::Tablet,
+            other => PowerProfile::Reserved(other),
+        }
+    }
 }
 
 /// The Fixed ACPI Description Table, FADT (ACPI 6.4, section 5.2.9). A public field that reaches
@@ -105,24 +147,6 @@ pub struct Fadt {
     pub flags: FixedFeatureFlags,
     x_firmware_ctrl: u64,
     x_dsdt_address: u64,
-}
-
-/// The profile of a code.
-fn profile_from(code: u8) -> PowerProfile
-    ensures { result ≡ profile_for code }
-{
-    match code {
-        0 => PowerProfile::Unspecified,
-        1 => PowerProfile::Desktop,
-        2 => PowerProfile::Mobile,
-        3 => PowerProfile::Workstation,
-        4 => PowerProfile::EnterpriseServer,
-        5 => PowerProfile::SohoServer,
-        6 => PowerProfile::AppliancePc,
-        7 => PowerProfile::PerformanceServer,
-        8 => PowerProfile::Tablet,
-        other => PowerProfile::Reserved(other),
-    }
 }
 
 impl PhysicalRecord for Fadt {
@@ -210,7 +234,7 @@ impl Fadt {
     pub fn power_profile(&self) -> PowerProfile
         ensures { result ≡ profile_of self.now }
     {
-        profile_from(self.preferred_pm_profile)
+        PowerProfile::from(self.preferred_pm_profile)
     }
 
     /// X_FIRMWARE_CTRL or FIRMWARE_CTRL, the physical address of the FACS: the 64-bit field if it

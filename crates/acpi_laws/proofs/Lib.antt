@@ -1,3 +1,3 @@
 pub mod Instances
 pub mod Placed
-pub mod Values
+pub mod Platforms

@@ -1,4 +1,4 @@
-pub mod CodeLaws
+pub mod PlatformLaws
 pub mod ExampleLaws
 pub mod Examples
 pub mod PlaceLaws

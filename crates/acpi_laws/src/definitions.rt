@@ -1,7 +1,8 @@
 //! Laws of the definitions of memory, numbers, codes, entries, pointers, lookups, the search, members and places.
-ghost use Rattle.acpi_base.specs.Words.{CutIsCut, OneCut, FieldPastEnd, LentIsInside, NamesAreSpelled};
+ghost use Rattle.acpi_base.specs.Words.{CodesDecode, CutIsCut, OneCut, FieldPastEnd, LentIsInside, NamesAreSpelled};
+ghost use Rattle.acpi_fixed.specs.Words.{ProfilesDecode};
 ghost use Rattle.acpi.specs.Words.{LookupIsFirst, OnePointers, SecondAreas, SkipsInvalid};
-ghost use Rattle.acpi_laws.specs.CodeLaws.{RegistersAreTheTables, SizesDecode, SpacesDecode};
+ghost use Rattle.acpi_laws.specs.PlatformLaws.{FirstBoots, ListedOnce, PlatformIsTheirs, RegistersAreTheTables};
 ghost use Rattle.acpi_laws.specs.PlaceLaws.{FirstIsFound, FoundBySignature, HeadersOfMembers, OneForEach, RootLiesInRange, TablesLieInRanges};
 
 /// Proves that each of these laws holds.
@@ -13,12 +14,20 @@ pub fn definitions_hold()
     ensures lent { LentIsInside }
     // A number whose bytes reach past the end of a table is read as if zeros followed (section 5.2).
     ensures past_end { FieldPastEnd }
-    // A code in a generic address is decoded to the one value that has it, and refused with `InvalidGenericAddress` if
-    // there is none (section 5.2.3.2).
-    ensures spaces { SpacesDecode }
-    ensures sizes { SizesDecode }
+    // A code is decoded to the one value that has it, and refused by one error if there is none: in a generic address
+    // (section 5.2.3.2), in MPS INTI Flags (section 5.2.12.5), of a LINT pin (section 5.2.12.7), of the interface in an
+    // SPCR, and Preferred_PM_Profile (section 5.2.9.1).
+    ensures codes { CodesDecode }
+    ensures profiles { ProfilesDecode }
     // The registers in the record of a FADT are those that the table's bytes give (section 5.2.9).
     ensures registers { RegistersAreTheTables }
+    // The processors are those that the entries list, each once and in order. The first alone is the boot processor,
+    // and doesn't wait to be started; the others don't run yet (section 5.2.12).
+    ensures listed { ListedOnce }
+    ensures boots { FirstBoots }
+    // The platform is that of the first valid FADT, with the model of the first valid MADT, or an unknown one if no
+    // MADT is valid.
+    ensures platform { PlatformIsTheirs }
     // By a grammar, bytes are cut into entries and a remainder in one way at most.
     ensures one_cut { OneCut }
     // The cut into entries and a remainder that is computed is a cut of the bytes.

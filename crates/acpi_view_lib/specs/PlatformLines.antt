@@ -1,32 +1,19 @@
 -- The lines of the platform.
 use Rattle.std.specs.Prelude.{ℕ, List, [], ◌∷◌, ◌++◌, flat_map, codes, decimal, Option, Some, None, if◌then◌else◌}
-use Rattle.acpi_base.specs.Words.{Memory}
-use Rattle.acpi.specs.Types.{Apic, InterruptModel, InterruptSourceOverride, IoApic, LocalInterruptLine, Lint0, Lint1, NmiLine, NmiProcessor, All, ProcessorUid, NmiSource, Polarity, TriggerMode, Processor, ProcessorInfo, ProcessorState, Disabled, Running, WaitingForSipi, PowerProfile}
+use Rattle.acpi_base.specs.Words.{Memory, line_code}
+use Rattle.acpi.specs.Types.{Apic, InterruptModel, InterruptSourceOverride, IoApic, NmiLine, NmiProcessor, All, ProcessorUid, NmiSource, Polarity, TriggerMode, Processor, ProcessorInfo, ProcessorState, Disabled, Running, WaitingForSipi, PowerProfile}
 use Rattle.acpi_base.specs.declared.model.interrupt.InterruptModel.TheVariants as model
 use Rattle.acpi_base.specs.declared.model.interrupt.Polarity.TheVariants as polarity
 use Rattle.acpi_base.specs.declared.model.interrupt.TriggerMode.TheVariants as trigger
-use Rattle.acpi_fixed.specs.declared.fadt.PowerProfile.TheVariants as profiles
+use Rattle.acpi_fixed.specs.Words.{profile_code}
 use Rattle.acpi.specs.Words.{PlatformAsks, platform_of}
 use Rattle.acpi.specs.declared.platform.PlatformInfo.{PlatformInfo}
 use Rattle.acpi.specs.declared.platform.timer.PmTimer.{PmTimer}
 use Rattle.acpi_view_lib.specs.Lines.{IsPartText, address_text, line, lines_or_refusal, yes_or_no}
 
--- the number that a profile is read from
-abbrev pub profile_number : PowerProfile → ℕ
-profile_number profiles.Unspecified = 0
-profile_number profiles.Desktop = 1
-profile_number profiles.Mobile = 2
-profile_number profiles.Workstation = 3
-profile_number profiles.EnterpriseServer = 4
-profile_number profiles.SohoServer = 5
-profile_number profiles.AppliancePc = 6
-profile_number profiles.PerformanceServer = 7
-profile_number profiles.Tablet = 8
-profile_number (profiles.Reserved number) = number
-
 -- platform profile N
 unfoldable pub profile_line : PowerProfile → List ℕ
-profile_line profile = line (codes "platform profile " ∷ decimal (profile_number profile) ∷ [])
+profile_line profile = line (codes "platform profile " ∷ decimal (profile_code profile) ∷ [])
 
 -- ---- the interrupt model
 
@@ -61,10 +48,6 @@ nmi_source_line source = line (
     ∷ codes " " ∷ polarity_word source.polarity
     ∷ codes " " ∷ trigger_word source.trigger_mode ∷ [])
 
-abbrev pub input_word : LocalInterruptLine → List ℕ
-input_word Lint0 = codes "lint0"
-input_word Lint1 = codes "lint1"
-
 abbrev pub whose_word : NmiProcessor → List ℕ
 whose_word All = codes "all"
 whose_word (ProcessorUid uid) = decimal uid
@@ -72,7 +55,7 @@ whose_word (ProcessorUid uid) = decimal uid
 -- line all|UID lint0|lint1
 abbrev pub nmi_input_line : NmiLine → List ℕ
 nmi_input_line input = line (
-    codes "line " ∷ whose_word input.processor ∷ codes " " ∷ input_word input.line ∷ [])
+    codes "line " ∷ whose_word input.processor ∷ codes " lint" ∷ decimal (line_code input.line) ∷ [])
 
 -- model apic ADDRESS pics yes|no
 unfoldable pub apic_line : {A : Type 0} → Apic A → List ℕ

@@ -5,15 +5,15 @@ use Rattle.acpi_base.proofs.FromStd.{and_parts, ltb-true, ne_eqb, drop-drop, dro
 use Rattle.acpi.specs.Words.{timer_of}
 use Rattle.acpi_base.specs.Words.{generic_address_of, has_bit, field_of, filled_part, part, spelling, header_at}
 use Rattle.acpi.specs.Types.{GenericAddress, AcpiError, InvalidDsdtAddress, InvalidFacsAddress, FADT, Fadt, PowerProfile}
-use Rattle.acpi_fixed.specs.Words.{fadt_at, pm_timer_of, profile_for, feature_bits, gpe_of, address_or, block_at, extended_address, extended_number, has_extended, optional_block_of, register_of, timer_block_of}
-use Rattle.acpi_writer.specs.Words.{address_or_zero, are_blocks, are_placed, arm_flags, body_with, bytes_wide, fadt_body, fadt_checked, fadt_written, feature_flags, fixed_of, front_fields, gpe_length, gpe_register, has_address, has_length, is_given, is_profile, narrow, pc_flags, profile_code, registers, wide_fields, AreFitFor, FadtIsRead, FadtIsValid, HasFields, HasFlags, HasHardware, HasLegacy, HasNeededBlocks, IsFadt, FitsField, field_at, field_bytes, field_size, field_value, fields_bytes, offset_of, FitsRegister, is_register, register_bytes, FadtContents, FadtHardware, Fixed, Reduced, FixedHardware, TableIds, IsTableOf, if_checked, table_written, WriterError, BadProfile, NoAddress}
+use Rattle.acpi_fixed.proofs.Profiles.{profile_read}
+use Rattle.acpi_fixed.specs.Words.{fadt_at, is_profile, pm_timer_of, profile_for, feature_bits, gpe_of, address_or, block_at, extended_address, extended_number, has_extended, optional_block_of, register_of, timer_block_of}
+use Rattle.acpi_writer.specs.Words.{address_or_zero, are_blocks, are_placed, arm_flags, body_with, bytes_wide, fadt_body, fadt_checked, fadt_written, feature_flags, fixed_of, front_fields, gpe_length, gpe_register, has_address, has_length, is_given, narrow, pc_flags, registers, wide_fields, AreFitFor, FadtIsRead, FadtIsValid, HasFields, HasFlags, HasHardware, HasLegacy, HasNeededBlocks, IsFadt, FitsField, field_at, field_bytes, field_size, field_value, fields_bytes, offset_of, FitsRegister, is_register, register_bytes, FadtContents, FadtHardware, Fixed, Reduced, FixedHardware, TableIds, IsTableOf, if_checked, table_written, WriterError, BadProfile, NoAddress}
 use Rattle.acpi_writer.specs.FadtLaws.{IsReadAs}
 use Rattle.acpi_base.proofs.Words.{holds_ok}
 use Rattle.acpi_writer.proofs.Bits.{flags_read, is_off, was_true}
 use Rattle.acpi_writer.proofs.FieldsRead.{part_in, part_of, read_in}
 use Rattle.acpi_writer.proofs.Tables.{ids_are_read}
 use Rattle.acpi_writer.proofs.RegisterRead.{block_is, block_read, filled_12, given_read, gpe_read, made, optional_read, register_long, register_read, timer_read}
-use Rattle.acpi_fixed.specs.declared.fadt.PowerProfile.TheVariants as profiles
 use Rattle.acpi_writer.proofs.Tables as table
 
 pub fadt_name : table.IsName FADT
@@ -24,14 +24,6 @@ pub fadt_valid : FadtIsValid
 fadt_valid ids c t is = table.valid FADT fadt_name 6 ids (fadt_body c) t is.written
 
 -- ---- values
-
-profile_read : (p : PowerProfile) → is_profile p ≡ true → profile_for (profile_code p) ≡ p
-profile_read (profiles.Reserved code) h =
-    let large : 8 < code = ltb-true _ _ h in
-    rw (ne_eqb code 0 (omega arith), ne_eqb code 1 (omega arith), ne_eqb code 2 (omega arith))
-    (rw (ne_eqb code 3 (omega arith), ne_eqb code 4 (omega arith), ne_eqb code 5 (omega arith))
-    (rw (ne_eqb code 6 (omega arith), ne_eqb code 7 (omega arith), ne_eqb code 8 (omega arith)) refl))
-profile_read _ h = refl
 
 address_read : (e : AcpiError) (wide less : ℕ) → (wide == 0) ≡ false → address_or e wide less ≡ Ok wide
 address_read e wide less some = rw some (rw some refl)

@@ -1,20 +1,13 @@
 -- What a reader finds of a register that is written.
 use Rattle.std.proofs.Common.{◌≡◌, ℕ, ◌<◌, true, false, List, length, lit<, Option, Some, None, Ok, refl, ◌==◌, if◌then◌else◌}
 use Rattle.acpi_base.proofs.FromStd.{and_parts, append-nil}
-use Rattle.acpi_base.specs.Words.{access_size_of, generic_address_of, size_code, space_code, space_of, field_of, filled_part, part, spelling}
-use Rattle.acpi.specs.Types.{AccessSize, Undefined, AddressSpace, OemDefined, GenericAddress, RegisterBlock, GpeBlock}
+use Rattle.acpi_base.specs.Words.{generic_address_of, is_named_space, space_code, field_of, filled_part, part, spelling}
+use Rattle.acpi_base.proofs.Words.{size_read, space_read}
+use Rattle.acpi.specs.Types.{GenericAddress, RegisterBlock, GpeBlock}
 use Rattle.acpi_fixed.specs.Words.{gpe_of, block_at, block_of, has_extended, optional_block_of, register_of, timer_block_of, usable_extended}
-use Rattle.acpi_writer.specs.Words.{gpe_length, gpe_register, has_length, is_given, port_of, FitsAddress, FitsRegister, address_bytes, address_fields, is_named_space, is_register, register_bytes, register_or_zeros, field_at, field_size, field_value, offset_of}
+use Rattle.acpi_writer.specs.Words.{gpe_length, gpe_register, has_length, is_given, port_of, FitsAddress, FitsRegister, address_bytes, address_fields, is_register, register_bytes, register_or_zeros, field_at, field_size, field_value, offset_of}
 use Rattle.acpi_writer.proofs.Bits.{is_off}
 use Rattle.acpi_writer.proofs.FieldsRead.{read_at}
-
-each_space : (s : AddressSpace) → is_named_space s ≡ true → space_of (space_code s) ≡ Ok s
-each_space (OemDefined code) h = rw h refl
-each_space _ h = refl
-
-each_size : (s : AccessSize) → access_size_of (size_code s) ≡ Ok s
-each_size Undefined = refl
-each_size _ = refl
 
 -- ---- its bytes
 
@@ -36,7 +29,7 @@ module _ (g : GenericAddress) (fits : FitsAddress g) where
   unfolding generic_address_of address_fields
   address_read named =
       rw (field 0 (lit< tt), field 1 (lit< tt), field 2 (lit< tt), field 3 (lit< tt), field 4 (lit< tt))
-      (rw (each_space g.address_space named, each_size g.access_size) refl)
+      (rw (space_read g.address_space named, size_read g.access_size) refl)
 
   usable : (g.address == 0) ≡ false → usable_extended (address_bytes g) ≡ Some (address_bytes g)
   usable some = rw (address_field, some) refl
@@ -71,7 +64,7 @@ gpe_some : (b : GpeBlock) → FitsRegister (gpe_register (Some b)) → is_regist
 gpe_some b fits is long =
     let g = register_or_zeros (gpe_register (Some b)) in
     let p = and_parts _ _ is in
-    rw (is_off _ long, usable g fits (is_off _ p.0), space_field g, address_field g fits, each_space b.space p.1) refl
+    rw (is_off _ long, usable g fits (is_off _ p.0), space_field g, address_field g fits, space_read b.space p.1) refl
 
 pub gpe_read : (o : Option GpeBlock) → FitsRegister (gpe_register o) → is_register (gpe_register o) ≡ true
     → has_length o ≡ true → gpe_of (made (gpe_length o) (gpe_register o)) ≡ Ok o

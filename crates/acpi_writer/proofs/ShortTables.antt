@@ -6,9 +6,9 @@ use Rattle.acpi_base.specs.FromStd.{chars, is_utf8, AllByRecursion}
 use Rattle.acpi_base.proofs.Words.{number-spelling, length-spelling}
 use Rattle.acpi_base.specs.Words.{bits_of, has_bit, field_of, spelling, mcfg_entries_in, mcfg_entry_at, whole_mcfg_entries}
 use Rattle.acpi.specs.Types.{HPET, BGRT, MCFG, SLIT, DSDT, SSDT, McfgEntry}
-use Rattle.acpi.specs.Words.{hpet_at, protection_of, pointers, signature_of, width_of}
+use Rattle.acpi.specs.Words.{hpet_at, protection_code, protection_of, pointers, signature_of, width_of}
 use Rattle.acpi_writer.specs.Types.{HpetInfo, PageProtection, RootKind, Rsdt, Xsdt}
-use Rattle.acpi_writer.specs.Words.{hpet_body, hpet_fields, protection_code, HpetIsRead, HpetIsValid, BgrtIsRead, BgrtIsValid, bgrt_body, bgrt_fields, degrees_of, orientation_code, bit_of, IsTableOf, BgrtContents, BgrtOrientation, mcfg_body, mcfg_entry, mcfg_fields, mcfg_reserved, FitsMcfg, McfgIsRead, McfgIsValid, IsSlit, SlitIsRead, SlitIsValid, slit_body, slit_checked, TableIds, DsdtIsRead, SsdtIsRead, RootIsRead, RootIsValid, root_body}
+use Rattle.acpi_writer.specs.Words.{hpet_body, hpet_fields, HpetIsRead, HpetIsValid, BgrtIsRead, BgrtIsValid, bgrt_body, bgrt_fields, degrees_of, orientation_code, bit_of, IsTableOf, BgrtContents, BgrtOrientation, mcfg_body, mcfg_entry, mcfg_fields, mcfg_reserved, FitsMcfg, McfgIsRead, McfgIsValid, IsSlit, SlitIsRead, SlitIsValid, slit_body, slit_checked, TableIds, DsdtIsRead, SsdtIsRead, RootIsRead, RootIsValid, root_body}
 use Rattle.acpi_writer.proofs.Bits.{was_true}
 use Rattle.acpi_writer.proofs.FieldsRead.{read_end, read_front}
 use Rattle.acpi_fixed.specs.Words.{bgrt_at}

@@ -2,27 +2,18 @@
 use Rattle.std.proofs.Common.{◌≡◌, ℕ, ◌+◌, ◌-◌, ◌%◌, ◌^◌, ◌<◌, Bool, true, false, List, [], ◌∷◌, ◌++◌, length, take, drop, Option, Some, None, Result, Ok, Err, refl, sym, ap, ◌∙◌, arith, length-append, subst, ◌==◌, ◌&&◌, ◌||◌, IfOk, IsUtf8, if◌then◌else◌, nat_le, nat_lt, replicate, option_map, bytes_eq, lit<}
 use Rattle.acpi_base.specs.FromStd.{option_or, chars, is_utf8}
 use Rattle.acpi_base.proofs.FromStd.{and_parts, eqb-true, le-leb, ltb-true, drop-drop, get_or_past, take_all, bytes_eq-Decides, IsUtf8-append, IsUtf8-from_is_utf8, is_utf8-from_IsUtf8, All-from_recursion}
-use Rattle.acpi_base.specs.Words.{generic_address_of, field_of, filled_part, part, spelling, header_at, configured_baud, interface_of, interfaces, namespace_of, spcr_at, unless}
+use Rattle.acpi_base.specs.Words.{generic_address_of, field_of, filled_part, part, spelling, header_at, configured_baud, interface_of, is_interface, namespace_of, spcr_at, unless}
 use Rattle.acpi.specs.Types.{GenericAddress, AcpiError, SPCR, SpcrInterfaceType}
 use Rattle.acpi_base.specs.declared.tables.spcr.interface.SpcrInterfaceType.TheVariants as interface
-use Rattle.acpi_writer.specs.Words.{FitsAddress, FitsRegister, address_bytes, address_fields, register_or_zeros, baud_code, device_written, fixed_list, interface_code, is_base, is_interface, is_somewhere, spcr_body, spcr_checked, spcr_fields, spcr_written, FitsSpcr, IsSpcr, SaysConsole, SaysDevice, SaysPort, SpcrIsRead, SpcrIsValid, readable, IsTableOf, if_checked, table_written, WriterError, BadCode, NoAddress, TableIds, SpcrContents, FitsField, field_at, field_size, field_value, offset_of, fields_bytes, Zeros}
+use Rattle.acpi_writer.specs.Words.{FitsAddress, FitsRegister, address_bytes, address_fields, register_or_zeros, baud_code, device_written, fixed_list, is_base, is_somewhere, spcr_body, spcr_checked, spcr_fields, spcr_written, FitsSpcr, IsSpcr, SaysConsole, SaysDevice, SaysPort, SpcrIsRead, SpcrIsValid, readable, IsTableOf, if_checked, table_written, WriterError, BadCode, NoAddress, TableIds, SpcrContents, FitsField, field_at, field_size, field_value, offset_of, fields_bytes, Zeros}
 use Rattle.acpi_writer.proofs.Tables.{ids_are_read}
-use Rattle.acpi_base.proofs.Words.{holds_ok}
+use Rattle.acpi_base.proofs.Words.{holds_ok, interface_read}
 use Rattle.acpi_writer.proofs.Bits.{is_off, was_true}
 use Rattle.acpi_writer.proofs.FieldsRead.{read_front}
 use Rattle.acpi_writer.proofs.RegisterRead.{address_field, address_read}
 use Rattle.acpi_writer.proofs.Tables as table
 
--- ---- codes
-
-unknown_by : (code : ℕ) (seven : Bool) → (code == 7) ≡ seven → (seven || nat_lt 0x15 code) ≡ true
-    → interface_of code ≡ interface.Unknown code
-unknown_by code true e h = rw (eqb-true code 7 e) refl
-unknown_by code false e h = get_or_past interfaces code (interface.Unknown code) (omega (arith, ltb-true 0x15 code h))
-
-each_interface : (i : SpcrInterfaceType) → is_interface i ≡ true → interface_of (interface_code i) ≡ i
-each_interface (interface.Unknown code) h = unknown_by code (code == 7) refl h
-each_interface _ h = refl
+-- ---- the rate
 
 baud_by : (rate : ℕ) (none : Bool) → (rate == 0) ≡ none
     → option_or (unless 0 rate) (configured_baud (baud_code rate)) ≡ unless 0 rate
@@ -120,7 +111,7 @@ module _ (ids : TableIds) (c : SpcrContents) (t : List ℕ) (is : IsSpcr ids c t
   port =
       let kind = at_place 7 (lit< tt) in
       record {
-        interface_type = ap interface_of (at_place 0 (lit< tt)) ∙ each_interface c.interface_type is.interface;
+        interface_type = ap interface_of (at_place 0 (lit< tt)) ∙ interface_read c.interface_type is.interface;
         base_address = ap base_found raw ∙ base_by c.base_address address_fits is.base is.somewhere;
         interrupt_type = kind;
         irq = rw (kind, at_place 8 (lit< tt)) refl;

@@ -2,7 +2,7 @@
 use Rattle.std.specs.Prelude.{ℕ, ◌*◌, ◌/◌, ◌^◌, ◌==◌, ◌&&◌, Bool, true, false, not, if◌then◌else◌, List, [], ◌∷◌, ◌++◌, flat_map, nat_lt, replicate, Option, Some, None, Result}
 use Rattle.acpi_base.specs.Words.{◌>>=◌, holds}
 use Rattle.acpi.specs.Types.{Undefined, AddressSpace, SystemIo, GenericAddress, FADT, PowerProfile, GpeBlock}
-use Rattle.acpi_fixed.specs.declared.fadt.PowerProfile.TheVariants as profiles
+use Rattle.acpi_fixed.specs.Words.{is_profile, profile_code}
 use Rattle.acpi_writer.specs.Fields.{fields_bytes}
 use Rattle.acpi_writer.specs.Flags.{flag_number}
 use Rattle.acpi_writer.specs.Generic.{is_register, register_bytes, register_or_zeros}
@@ -12,19 +12,6 @@ use Rattle.acpi_writer.specs.declared.fields.Field.{Field}
 use Rattle.acpi_writer.specs.declared.fields.Field.TheVariants.{U8, U16, U32, U64, Zeros}
 
 -- ---- the values of fields
-
--- Preferred_PM_Profile: the code of each profile
-abbrev pub profile_code : PowerProfile → ℕ
-profile_code profiles.Unspecified = 0
-profile_code profiles.Desktop = 1
-profile_code profiles.Mobile = 2
-profile_code profiles.Workstation = 3
-profile_code profiles.EnterpriseServer = 4
-profile_code profiles.SohoServer = 5
-profile_code profiles.AppliancePc = 6
-profile_code profiles.PerformanceServer = 7
-profile_code profiles.Tablet = 8
-profile_code (profiles.Reserved code) = code
 
 -- the fixed hardware, with zeros throughout if there is none
 abbrev pub fixed_of : FadtHardware → FixedHardware
@@ -197,11 +184,6 @@ has_address None = true
 
 abbrev pub are_placed : FadtContents → Bool
 are_placed c = not (c.dsdt == 0) && has_address c.facs
-
--- a code that is reserved
-abbrev pub is_profile : PowerProfile → Bool
-is_profile (profiles.Reserved code) = nat_lt 8 code
-is_profile _ = true
 
 -- a block of events has bytes
 abbrev pub has_length : Option GpeBlock → Bool

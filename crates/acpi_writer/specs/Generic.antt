@@ -1,6 +1,6 @@
 -- The bytes of registers, as generic addresses (ACPI 6.4, section 5.2.3.2).
 use Rattle.std.specs.Prelude.{ℕ, ◌==◌, ◌&&◌, Bool, true, not, List, [], ◌∷◌, nat_le, Option, Some, None, All}
-use Rattle.acpi_base.specs.Words.{size_code, space_code}
+use Rattle.acpi_base.specs.Words.{is_named_space, size_code, space_code}
 use Rattle.acpi.specs.Types.{Undefined, AddressSpace, OemDefined, SystemMemory, GenericAddress}
 use Rattle.acpi_writer.specs.Fields.{FitsField, fields_bytes}
 use Rattle.acpi_writer.specs.declared.fields.Field.{Field}
@@ -31,11 +31,6 @@ address_bytes g = fields_bytes (address_fields g)
 -- twelve zeros if there is none
 abbrev pub register_bytes : Option GenericAddress → List ℕ
 register_bytes o = address_bytes (register_or_zeros o)
-
--- the code names the space: the makers' own begin at 0xc0
-abbrev pub is_named_space : AddressSpace → Bool
-is_named_space (OemDefined code) = nat_le 0xc0 code
-is_named_space _ = true
 
 -- a register is at an address other than 0 of such a space
 abbrev pub is_register : Option GenericAddress → Bool

@@ -1,19 +1,12 @@
 -- The bytes of an HPET that says what is given. The layout is that of the IA-PC HPET Specification 1.0a, section 3.2.4.
 use Rattle.std.specs.Prelude.{ℕ, List, [], ◌∷◌, Result}
 use Rattle.acpi.specs.Types.{HPET}
-use Rattle.acpi_writer.specs.Types.{HpetInfo, PageProtection, WriterError, TableIds}
-use Rattle.acpi.specs.declared.hpet.PageProtection.TheVariants as protections
+use Rattle.acpi_writer.specs.Types.{HpetInfo, WriterError, TableIds}
+use Rattle.acpi.specs.Words.{protection_code}
 use Rattle.acpi_writer.specs.Fields.{fields_bytes}
 use Rattle.acpi_writer.specs.Table.{table_written}
 use Rattle.acpi_writer.specs.declared.fields.Field.{Field}
 use Rattle.acpi_writer.specs.declared.fields.Field.TheVariants.{U8, U16, U32, U64, Zeros}
-
--- Page Protection: the code of each; of those that are reserved the first
-abbrev pub protection_code : PageProtection → ℕ
-protection_code protections.None = 0
-protection_code protections.Protected4K = 1
-protection_code protections.Protected64K = 2
-protection_code protections.Other = 3
 
 -- the fields after the header
 unfoldable pub hpet_fields : HpetInfo → List Field

@@ -1,39 +1,14 @@
 -- The bytes of an SPCR that says what is given (ACPI 6.4, section 5.2.6). The layout is Microsoft's.
 use Rattle.std.specs.Prelude.{ℕ, ◌+◌, ◌%◌, ◌^◌, ◌==◌, ◌&&◌, ◌||◌, Bool, true, not, if◌then◌else◌, List, [], ◌∷◌, ◌++◌, length, nat_lt, Option, Some, None, Result}
-use Rattle.acpi_base.specs.Words.{size_code, space_code, flow_bits, interrupt_bits, terminal_bits, ◌>>=◌, holds}
+use Rattle.acpi_base.specs.Words.{interface_code, is_interface, is_named_space, size_code, space_code, flow_bits, interrupt_bits, terminal_bits, ◌>>=◌, holds}
 use Rattle.acpi.specs.Types.{GenericAddress, SPCR, SpcrInterfaceType}
 use Rattle.acpi_base.specs.declared.tables.spcr.interface.SpcrInterfaceType.TheVariants as interface
 use Rattle.acpi_writer.specs.Fields.{fields_bytes}
-use Rattle.acpi_writer.specs.Generic.{is_named_space, register_or_zeros}
+use Rattle.acpi_writer.specs.Generic.{register_or_zeros}
 use Rattle.acpi_writer.specs.Table.{table_written}
 use Rattle.acpi_writer.specs.Types.{WriterError, BadCode, LongName, NoAddress, TableIds, SpcrContents, SpcrPciDevice}
 use Rattle.acpi_writer.specs.declared.fields.Field.{Field}
 use Rattle.acpi_writer.specs.declared.fields.Field.TheVariants.{U8, U16, U32, U64, Zeros}
-
--- Interface Type: the code of each
-abbrev pub interface_code : SpcrInterfaceType → ℕ
-interface_code interface.Full16550 = 0x00
-interface_code interface.Full16450 = 0x01
-interface_code interface.MAX311xE = 0x02
-interface_code interface.ArmPL011 = 0x03
-interface_code interface.MSM8x60 = 0x04
-interface_code interface.Nvidia16550 = 0x05
-interface_code interface.TiOmap = 0x06
-interface_code interface.APM88xxxx = 0x08
-interface_code interface.Msm8974 = 0x09
-interface_code interface.Sam5250 = 0x0a
-interface_code interface.IntelUSIF = 0x0b
-interface_code interface.Imx6 = 0x0c
-interface_code interface.ArmSBSAGeneric32bit = 0x0d
-interface_code interface.ArmSBSAGeneric = 0x0e
-interface_code interface.ArmDCC = 0x0f
-interface_code interface.Bcm2835 = 0x10
-interface_code interface.Sdm845_18432 = 0x11
-interface_code interface.Generic16550 = 0x12
-interface_code interface.Sdm845_7372 = 0x13
-interface_code interface.IntelLPSS = 0x14
-interface_code interface.RiscVSbi = 0x15
-interface_code (interface.Unknown code) = code
 
 -- the PCI device: if there is none, its ids are 0xffff, and its other numbers 0
 abbrev pub device_written : Option SpcrPciDevice → SpcrPciDevice
@@ -84,12 +59,7 @@ spcr_body c = fields_bytes (spcr_fields c) ++ (c.namespace_string.now ++ (0 ∷ 
 
 -- ---- errors
 
--- the code of an interface is no other's: 7 and those above 0x15 have no name
-abbrev pub is_interface : SpcrInterfaceType → Bool
-is_interface (interface.Unknown code) = code == 7 || nat_lt 0x15 code
-is_interface _ = true
-
--- and so is that of the base address's space, if there is one
+-- the code of the base address's space, if there is one, names it
 abbrev pub is_base : Option GenericAddress → Bool
 is_base (Some a) = is_named_space a.address_space
 is_base None = true

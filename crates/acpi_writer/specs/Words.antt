@@ -7,19 +7,19 @@ pub use Rattle.acpi_writer.specs.Checked.{all_checked}
 pub use Rattle.acpi_writer.specs.Contents.{FitsContents, Moves, Written, bytes_by, bytes_of, contents_written, most, or_none, placed, placed_by, signature_of, sized}
 pub use Rattle.acpi_writer.specs.Facs.{FacsIsRead, FitsFacs, IsReadAs}
 unfoldable pub use Rattle.acpi_writer.specs.Facs.{facs_bytes, facs_written}
-pub use Rattle.acpi_writer.specs.FadtBytes.{address_or_zero, are_blocks, are_placed, arm_flags, body_with, bytes_wide, fadt_body, fadt_checked, feature_flags, fixed_of, gpe_length, gpe_register, has_address, has_length, is_given, is_profile, narrow, pc_flags, port_of, profile_code, registers}
+pub use Rattle.acpi_writer.specs.FadtBytes.{address_or_zero, are_blocks, are_placed, arm_flags, body_with, bytes_wide, fadt_body, fadt_checked, feature_flags, fixed_of, gpe_length, gpe_register, has_address, has_length, is_given, narrow, pc_flags, port_of, registers}
 unfoldable pub use Rattle.acpi_writer.specs.FadtBytes.{fadt_written, front_fields, wide_fields}
 pub use Rattle.acpi_writer.specs.FadtLaws.{AreFitFor, FadtIsRead, FadtIsValid, HasFields, HasFlags, HasHardware, HasLegacy, HasNeededBlocks, IsFadt}
 pub use Rattle.acpi_writer.specs.Fields.{FitsField, field_at, field_bytes, field_size, field_value, fields_bytes, offset_of}
 pub use Rattle.acpi_writer.specs.Flags.{FlagsAreRead}
 unfoldable pub use Rattle.acpi_writer.specs.Flags.{flag_number}
-pub use Rattle.acpi_writer.specs.Generic.{FitsAddress, FitsRegister, address_bytes, is_named_space, is_register, register_bytes, register_or_zeros}
+pub use Rattle.acpi_writer.specs.Generic.{FitsAddress, FitsRegister, address_bytes, is_register, register_bytes, register_or_zeros}
 unfoldable pub use Rattle.acpi_writer.specs.Generic.{address_fields}
 pub use Rattle.acpi_writer.specs.GicMadt.{AreGicFit, FitsInterface, GicMadtIsRead, GicMadtIsValid, IsGicMadt, gic_body, gic_checked, gic_read, gicc_entry, gicc_fields, gicd_entry, gicr_entry, has_spis, interface_checked, its_entry, msi_entry, spis_of, trace_field}
 unfoldable pub use Rattle.acpi_writer.specs.GicMadt.{gic_written, gicc_list, gicd_fields, gicr_fields, its_fields, msi_fields}
 pub use Rattle.acpi_writer.specs.Gtdt.{AreTimersFit, FitsFrame, FitsStructure, FitsWatchdog, GtdtIsRead, GtdtIsValid, IsGtdt, SaysTimers, base_of, frame_bytes, frame_checked, gtdt_body, gtdt_checked, structure_bytes, structure_checked, timer_checked, timer_flags, timer_read}
 unfoldable pub use Rattle.acpi_writer.specs.Gtdt.{block_fields, frame_fields, gtdt_fields, gtdt_written, watchdog_fields}
-pub use Rattle.acpi_writer.specs.HpetBytes.{hpet_body, hpet_written, protection_code}
+pub use Rattle.acpi_writer.specs.HpetBytes.{hpet_body, hpet_written}
 unfoldable pub use Rattle.acpi_writer.specs.HpetBytes.{hpet_fields}
 pub use Rattle.acpi_writer.specs.HpetLaws.{HpetIsRead, HpetIsValid, IsHpet}
 pub use Rattle.acpi_writer.specs.ImageLaws.{HasFirst, HasPlatform, HpetInImage, MadtInImage, McfgInImage, PlatformInImage, is_named}
@@ -38,7 +38,7 @@ pub use Rattle.acpi_writer.specs.Rsdp.{Leads, RsdpIsRead}
 unfoldable pub use Rattle.acpi_writer.specs.Rsdp.{rsdp_bytes, rsdp_unsummed, rsdp_written}
 pub use Rattle.acpi_writer.specs.Slit.{IsSlit, SlitIsRead, SlitIsValid, slit_body, slit_checked}
 unfoldable pub use Rattle.acpi_writer.specs.Slit.{slit_written}
-pub use Rattle.acpi_writer.specs.Spcr.{baud_code, device_written, interface_code, is_base, is_interface, is_somewhere, spcr_body, spcr_checked, spcr_fields}
+pub use Rattle.acpi_writer.specs.Spcr.{baud_code, device_written, is_base, is_somewhere, spcr_body, spcr_checked, spcr_fields}
 unfoldable pub use Rattle.acpi_writer.specs.Spcr.{fixed_list, spcr_written}
 pub use Rattle.acpi_writer.specs.SpcrLaws.{FitsSpcr, IsSpcr, SaysConsole, SaysDevice, SaysPort, SpcrIsRead, SpcrIsValid, readable}
 pub use Rattle.acpi_writer.specs.Spelled.{Measures}

@@ -3,6 +3,7 @@ ghost use Rattle.std.specs.Prelude.{◌≡◌, ◌^◌, ◌<◌, length, take, I
 ghost use Rattle.acpi_base.specs.Words.{Gives};
 ghost use Rattle.acpi.specs.Types.{FADT};
 ghost use Rattle.acpi_writer.specs.Words.{most, sized, AreFitFor, IsFadt, IsTableOf, Keeps, if_checked, table_written};
+ghost use Rattle.acpi_fixed.specs.Words.{is_profile};
 ghost use Rattle.acpi_writer.specs.FadtBytes as bytes;
 
 mod contents;
@@ -20,7 +21,6 @@ use acpi_base::Signature;
 use acpi_fixed::fadt::{GpeBlock, PowerProfile};
 pub use contents::{FadtContents, FadtHardware, FixedHardware, LegacyFields};
 pub use features::{ArmBootFeatures, FixedFeatures, PcBootFeatures};
-pub use parts::profile_code;
 use parts::{Front, Wide, fixed_of, gpe_register, registers};
 
 /// Whether the DSDT, and the FACS if there is one, are at an address other than 0.
@@ -36,7 +36,7 @@ fn are_placed(contents: &FadtContents) -> bool
 
 /// Whether a profile is one that is named, or has a code that is reserved.
 fn is_profile(profile: PowerProfile) -> bool
-    ensures { result ≡ bytes.is_profile profile }
+    ensures { result ≡ is_profile profile }
 {
     match profile {
         PowerProfile::Reserved(code) => code > 8,

@@ -9,20 +9,7 @@ use crate::fields::{Field, Record};
 use crate::ids::TableIds;
 use crate::table::write_table;
 use acpi::HpetInfo;
-use acpi::hpet::PageProtection;
 use acpi_base::Signature;
-
-/// The number of a page protection (IA-PC HPET Specification): all reserved ones are 3.
-pub fn protection_code(protection: PageProtection) -> u8
-    ensures { result ≡ bytes.protection_code protection }
-{
-    match protection {
-        PageProtection::None => 0,
-        PageProtection::Protected4K => 1,
-        PageProtection::Protected64K => 2,
-        PageProtection::Other => 3,
-    }
-}
 
 impl Record for HpetInfo {
     type Fields = [Field; 7];
@@ -38,7 +25,7 @@ impl Record for HpetInfo {
             Field::U64(self.base_address),
             Field::U8(self.hpet_number),
             Field::U16(self.clock_tick_unit),
-            Field::U8(protection_code(self.page_protection)),
+            Field::U8(self.page_protection.code()),
         ]
     }
 }

@@ -1,7 +1,7 @@
 //! The Serial Port Console Redirection Table (SPCR, section 5.2.6), from what it says of a serial port. Its layout is
 //! Microsoft's.
 ghost use Rattle.std.specs.Prelude.{◌≡◌, ◌^◌, ◌<◌, ◌&&◌, length, take, IfOk, IsUtf8};
-ghost use Rattle.acpi_base.specs.Words.{Gives};
+ghost use Rattle.acpi_base.specs.Words.{Gives, is_interface};
 ghost use Rattle.acpi_writer.specs.Words.{most, sized, Keeps};
 ghost use Rattle.acpi_writer.specs.Spcr as spcr;
 ghost use Rattle.acpi_writer.specs.SpcrLaws as laws;
@@ -76,7 +76,7 @@ pub struct SpcrContents<'a> {
 
 /// Whether an interface's code is one of its own: `Unknown` has one that no other has.
 fn is_interface(interface: SpcrInterfaceType) -> bool
-    ensures { result ≡ spcr.is_interface interface }
+    ensures { result ≡ is_interface interface }
 {
     match interface {
         SpcrInterfaceType::Unknown(code) => code == 7 || code > 0x15,
@@ -96,7 +96,7 @@ fn is_base(address: Option<GenericAddress>) -> bool
 
 /// Whether the interface and the base address have codes of their own.
 fn has_codes(contents: &SpcrContents<'_>) -> bool
-    ensures { result ≡ (spcr.is_interface contents.now.interface_type && spcr.is_base contents.now.base_address) }
+    ensures { result ≡ (is_interface contents.now.interface_type && spcr.is_base contents.now.base_address) }
 {
     is_interface(contents.interface_type) && is_base(contents.base_address)
 }

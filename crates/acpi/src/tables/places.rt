@@ -6,7 +6,7 @@ ghost use Rattle.acpi_fixed.specs.Words.{viewed};
 ghost use Rattle.acpi.specs.Words.{AllowsBelow, FootprintBelow, header_ranges, lookup_ranges, lookup, kind_ranges, members_of, tables_found, found_left, members_left, places_left, root_place, pointers_left, dsdt_place, dsdt_place_ranges, facs_place, facs_place_ranges, led_by, led_by_ranges, led_ranges, place_ranges, places_of, signature_of, kind_of, lender_of, may_of, memory_of, of_tables, pointers_of, root_address_of, root_of};
 
 use super::AcpiTables;
-use crate::found::FoundTables;
+use crate::matches::FoundTables;
 use crate::members::TableMembers;
 use crate::pointers::Pointers;
 use crate::ranges::{TableRanges, facs_at};

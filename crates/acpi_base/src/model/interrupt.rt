@@ -1,6 +1,5 @@
 //! Interrupt controllers, and how interrupts come to them (section 5.2.12).
-ghost use Rattle.std.specs.Prelude.{◌≡◌, ◌≤◌};
-ghost use Rattle.acpi_base.specs.Interrupts as interrupts;
+ghost use Rattle.std.specs.Prelude.{◌≡◌};
 
 use crate::managed_slice::ManagedSlice;
 use std::alloc::{AllocError, Allocator};
@@ -29,10 +28,10 @@ pub struct NmiLine {
 /// LINT#: a pin of a local APIC (ACPI 6.4, sections 5.2.12.7 and 5.2.12.13).
 #[derive(Clone, Copy, Debug, PartialEq, Eq)]
 pub enum LocalInterruptLine {
-    /// LINT0, number 0.
-    Lint0,
-    /// LINT1, number 1.
-    Lint1,
+    /// LINT0.
+    Lint0 = 0,
+    /// LINT1.
+    Lint1 = 1,
 }
 
 /// ACPI Processor UID of a Local APIC NMI or a Local x2APIC NMI: the processor to whose local APIC the NMI
@@ -48,51 +47,23 @@ pub enum NmiProcessor {
 /// Polarity: the level at which an interrupt counts as raised (MPS INTI Flags; ACPI 6.4, section 5.2.12.5).
 #[derive(Clone, Copy, Debug, PartialEq, Eq)]
 pub enum Polarity {
-    /// Conforms to the bus, code 0: the level of the bus that the interrupt comes from.
-    SameAsBus,
-    /// Active high, code 1.
-    ActiveHigh,
-    /// Active low, code 3.
-    ActiveLow,
-}
-
-impl Polarity {
-    /// Its code: Polarity, bits 0 and 1 of MPS INTI Flags (ACPI 6.4, section 5.2.12.5).
-    pub fn code(self) -> u8
-        ensures value { result ≡ interrupts.polarity_code self }
-        ensures small { result ≤ 3 }
-    {
-        match self {
-            Polarity::SameAsBus => 0,
-            Polarity::ActiveHigh => 1,
-            Polarity::ActiveLow => 3,
-        }
-    }
+    /// Conforms to the bus: the level of the bus that the interrupt comes from.
+    SameAsBus = 0,
+    /// Active high.
+    ActiveHigh = 1,
+    /// Active low.
+    ActiveLow = 3,
 }
 
 /// Trigger Mode: what raises an interrupt (MPS INTI Flags; ACPI 6.4, section 5.2.12.5).
 #[derive(Clone, Copy, Debug, PartialEq, Eq)]
 pub enum TriggerMode {
-    /// Conforms to the bus, code 0: what raises an interrupt on the bus that it comes from.
-    SameAsBus,
-    /// Edge-triggered, code 1: by the change to the level of its polarity.
-    Edge,
-    /// Level-triggered, code 3: by the level of its polarity, for as long as it stays.
-    Level,
-}
-
-impl TriggerMode {
-    /// Its code: Trigger Mode, bits 2 and 3 of MPS INTI Flags (ACPI 6.4, section 5.2.12.5).
-    pub fn code(self) -> u8
-        ensures value { result ≡ interrupts.trigger_code self }
-        ensures small { result ≤ 3 }
-    {
-        match self {
-            TriggerMode::SameAsBus => 0,
-            TriggerMode::Edge => 1,
-            TriggerMode::Level => 3,
-        }
-    }
+    /// Conforms to the bus: what raises an interrupt on the bus that it comes from.
+    SameAsBus = 0,
+    /// Edge-triggered: by the change to the level of its polarity.
+    Edge = 1,
+    /// Level-triggered: by the level of its polarity, for as long as it stays.
+    Level = 3,
 }
 
 /// Interrupt Source Override: an ISA interrupt that is not wired to the global system interrupt of

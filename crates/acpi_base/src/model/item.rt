@@ -1,7 +1,7 @@
 //! One entry of a MADT as an item of the interrupt model (section 5.2.12).
 ghost use Rattle.std.specs.Prelude.{◌≡◌, Ok};
 ghost use Rattle.acpi_base.specs.FromStd.{result_map_both};
-ghost use Rattle.acpi_base.specs.Words.{IsEntry, io_apic_of, item_of, nmi_line_of, polarity_of, processor_for, trigger_mode_of, madt_layout, said_of};
+ghost use Rattle.acpi_base.specs.Words.{IsEntry, io_apic_of, item_of, nmi_line_of, polarity_of, trigger_mode_of, madt_layout, said_of};
 ghost use Rattle.acpi_base.specs.declared.model.item.MadtItem.TheVariants as item;
 ghost use Rattle.acpi_base.specs.declared.tables.madt.entry.MadtEntry.TheVariants as variants;
 
@@ -115,7 +115,7 @@ pub(super) fn x2apic_processor_of(entry: &LocalX2ApicEntry) -> MadtItem
 fn nmi_line_item(entry: &LocalApicNmiEntry) -> Result<MadtItem, MadtError>
     ensures { result ≡ item_of (variants.LocalApicNmi entry.now) }
 {
-    let processor = processor_for(0xff, entry.processor_id as u32);
+    let processor = NmiProcessor::from_uid(entry.processor_id as u32, NmiProcessor::ALL_APICS);
     nmi_line_for(processor, entry.nmi_line)
 }
 
@@ -125,7 +125,7 @@ fn nmi_line_item(entry: &LocalApicNmiEntry) -> Result<MadtItem, MadtError>
 fn x2apic_nmi_line_item(entry: &X2ApicNmiEntry) -> Result<MadtItem, MadtError>
     ensures { result ≡ item_of (variants.X2ApicNmi entry.now) }
 {
-    let processor = processor_for(0xffffffff, entry.processor_uid);
+    let processor = NmiProcessor::from_uid(entry.processor_uid, NmiProcessor::ALL_X2APICS);
     nmi_line_for(processor, entry.nmi_line)
 }
 
@@ -165,45 +165,20 @@ fn nmi_source_item(entry: &NmiSourceEntry) -> Result<MadtItem, MadtError>
 pub(super) fn polarity_of(flags: u16) -> Result<Polarity, MadtError>
     ensures { result ≡ polarity_of flags }
 {
-    match bits(flags as u64, 0, 2) {
-        0 => Ok(Polarity::SameAsBus),
-        1 => Ok(Polarity::ActiveHigh),
-        3 => Ok(Polarity::ActiveLow),
-        _ => Err(MadtError::MpsIntiInvalidPolarity),
-    }
+    Polarity::try_from(bits(flags as u64, 0, 2) as u8)
 }
 
 /// Trigger Mode: bits 2 and 3 of an interrupt's MPS INTI Flags (section 5.2.12.5).
 pub(super) fn trigger_mode_of(flags: u16) -> Result<TriggerMode, MadtError>
     ensures { result ≡ trigger_mode_of flags }
 {
-    match bits(flags as u64, 2, 2) {
-        0 => Ok(TriggerMode::SameAsBus),
-        1 => Ok(TriggerMode::Edge),
-        3 => Ok(TriggerMode::Level),
-        _ => Err(MadtError::MpsIntiInvalidTriggerMode),
-    }
-}
-
-/// The processor that an id means, if one id stands for all processors.
-fn processor_for(all: u32, processor_uid: u32) -> NmiProcessor
-    ensures { result ≡ processor_for all processor_uid }
-{
-    if processor_uid == all {
-        NmiProcessor::All
-    } else {
-        NmiProcessor::ProcessorUid(processor_uid)
-    }
+    TriggerMode::try_from(bits(flags as u64, 2, 2) as u8)
 }
 
 /// The LINT pin of that number, 0 or 1, for these processors' local APICs.
 fn nmi_line_for(processor: NmiProcessor, number: u8) -> Result<MadtItem, MadtError>
     ensures { result ≡ result_map_both item.NmiLine (λ e. e) (nmi_line_of processor number) }
 {
-    let line = match number {
-        0 => LocalInterruptLine::Lint0,
-        1 => LocalInterruptLine::Lint1,
-        _ => return Err(MadtError::InvalidLocalNmiLine),
-    };
+    let line = LocalInterruptLine::try_from(number)?;
     Ok(MadtItem::NmiLine(NmiLine { processor, line }))
 }

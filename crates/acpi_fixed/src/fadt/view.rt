@@ -9,7 +9,6 @@ use super::registers::{
 };
 use super::{
     ArmBootArchFlags, Fadt, FixedFeatureFlags, GpeBlock, IaPcBootArchFlags, PowerProfile, places,
-    profile_from,
 };
 use acpi_base::address::GenericAddress;
 use acpi_base::bytes::{field, filled, u8_in, u16_in, u32_in};
@@ -94,7 +93,7 @@ impl<'h, H: Lender> FadtView<'h, H> {
     pub fn power_profile(&self) -> PowerProfile
         ensures { result ≡ profile_of (viewed self.now) }
     {
-        profile_from(u8_in(self.bytes(), places::PREFERRED_PM_PROFILE))
+        PowerProfile::from(u8_in(self.bytes(), places::PREFERRED_PM_PROFILE))
     }
 
     /// SCI_INT: the interrupt that carries the machine's events.

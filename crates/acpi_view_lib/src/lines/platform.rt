@@ -1,17 +1,16 @@
 //! The lines of the platform.
 ghost use Rattle.std.specs.Prelude.{◌≡◌, ◌++◌, ℕ, List, OnOk, codes, flat_map, string_bytes};
-ghost use Rattle.acpi_fixed.specs.Words.{profile_for};
 ghost use Rattle.acpi.specs.Words.{memory_of, pointers_of};
 ghost use Rattle.acpi_view_lib.specs.Lines.{lines_or_refusal};
-ghost use Rattle.acpi_view_lib.specs.PlatformLines.{IsPlatformText, apic_lines, info_lines, input_word, io_apic_line, model_lines, nmi_input_line, nmi_source_line, override_line, polarity_word, processor_line, processor_lines, profile_number, state_word, timer_line, trigger_word};
+ghost use Rattle.acpi_view_lib.specs.PlatformLines.{IsPlatformText, apic_lines, info_lines, io_apic_line, model_lines, nmi_input_line, nmi_source_line, override_line, polarity_word, processor_line, processor_lines, state_word, timer_line, trigger_word};
 
 use super::{print_refusal, yes_or_no};
 use acpi::platform::interrupt::{
-    Apic, InterruptModel, InterruptSourceOverride, IoApic, LocalInterruptLine, NmiLine,
-    NmiProcessor, NmiSource, Polarity, TriggerMode,
+    Apic, InterruptModel, InterruptSourceOverride, IoApic, NmiLine, NmiProcessor, NmiSource,
+    Polarity, TriggerMode,
 };
 use acpi::platform::{PmTimer, Processor, ProcessorInfo, ProcessorState};
-use acpi::{AcpiHandler, AcpiResult, AcpiTables, PlatformInfo, PowerProfile};
+use acpi::{AcpiHandler, AcpiResult, AcpiTables, PlatformInfo};
 use std::alloc::{AllocError, Allocator};
 use std::fmt::Write;
 
@@ -50,34 +49,10 @@ fn print_found<A: Allocator>(
 fn print_info<A: Allocator>(platform: &PlatformInfo<A>, text: &mut String) -> Result<(), AllocError>
     ensures { OnOk result (string_bytes text.new ≡ string_bytes text.old ++ info_lines platform.now) }
 {
-    writeln!(
-        text,
-        "platform profile {}",
-        profile_number(platform.power_profile)
-    )?;
+    writeln!(text, "platform profile {}", platform.power_profile.code())?;
     print_model(&platform.interrupt_model, text)?;
     print_processors(&platform.processor_info, text)?;
     print_timer(platform.pm_timer, text)
-}
-
-/// The code of Preferred_PM_Profile that stands for a profile.
-fn profile_number(profile: PowerProfile) -> u8
-    ensures value { result ≡ profile_number profile }
-    // A profile is read from no other number.
-    ensures code { (code : ℕ) → profile_for code ≡ profile → result ≡ code }
-{
-    match profile {
-        PowerProfile::Unspecified => 0,
-        PowerProfile::Desktop => 1,
-        PowerProfile::Mobile => 2,
-        PowerProfile::Workstation => 3,
-        PowerProfile::EnterpriseServer => 4,
-        PowerProfile::SohoServer => 5,
-        PowerProfile::AppliancePc => 6,
-        PowerProfile::PerformanceServer => 7,
-        PowerProfile::Tablet => 8,
-        PowerProfile::Reserved(number) => number,
-    }
 }
 
 /// `model unknown`, or the lines of the APICs.
@@ -198,22 +173,12 @@ impl Line for NmiLine {
     ghost item_line = { nmi_input_line };
 
     fn print(&self, text: &mut String) -> Result<(), AllocError> {
-        let line = input_word(self.line);
+        let number = self.line.code();
         match self.processor {
-            NmiProcessor::All => writeln!(text, "line all {line}")?,
-            NmiProcessor::ProcessorUid(uid) => writeln!(text, "line {uid} {line}")?,
+            NmiProcessor::All => writeln!(text, "line all lint{number}")?,
+            NmiProcessor::ProcessorUid(uid) => writeln!(text, "line {uid} lint{number}")?,
         }
         Ok(())
-    }
-}
-
-/// The word of a LINT pin: `lint0` or `lint1`.
-fn input_word(input: LocalInterruptLine) -> &'static str
-    ensures { result.now ≡ input_word input }
-{
-    match input {
-        LocalInterruptLine::Lint0 => "lint0",
-        LocalInterruptLine::Lint1 => "lint1",
     }
 }
 

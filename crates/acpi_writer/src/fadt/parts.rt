@@ -10,25 +10,7 @@ use crate::fields::{Field, Record};
 use crate::flags::flag_number;
 use crate::generic::register_or_zeros;
 use acpi_base::address::{AccessSize, AddressSpace, GenericAddress};
-use acpi_fixed::fadt::{GpeBlock, PowerProfile};
-
-/// The code of a profile: Preferred_PM_Profile (section 5.2.9.1).
-pub fn profile_code(profile: PowerProfile) -> u8
-    ensures { result ≡ bytes.profile_code profile }
-{
-    match profile {
-        PowerProfile::Unspecified => 0,
-        PowerProfile::Desktop => 1,
-        PowerProfile::Mobile => 2,
-        PowerProfile::Workstation => 3,
-        PowerProfile::EnterpriseServer => 4,
-        PowerProfile::SohoServer => 5,
-        PowerProfile::AppliancePc => 6,
-        PowerProfile::PerformanceServer => 7,
-        PowerProfile::Tablet => 8,
-        PowerProfile::Reserved(code) => code,
-    }
-}
+use acpi_fixed::fadt::GpeBlock;
 
 /// The fixed hardware, with zeros throughout if there is none.
 pub(super) fn fixed_of(hardware: &FadtHardware) -> FixedHardware
@@ -205,7 +187,7 @@ impl Record for Front<'_> {
             Field::U32(narrow(address_or_zero(c.facs))),
             Field::U32(narrow(c.dsdt)),
             Field::Zeros(1),
-            Field::U8(profile_code(c.power_profile)),
+            Field::U8(c.power_profile.code()),
             Field::U16(c.sci_interrupt),
             Field::U32(h.smi_cmd_port),
             Field::U8(h.acpi_enable),

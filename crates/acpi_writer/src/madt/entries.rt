@@ -1,6 +1,5 @@
 //! The parts of a MADT, each with its bytes (section 5.2.12).
 ghost use Rattle.std.specs.Prelude.{◌≡◌, ◌≤◌};
-ghost use Rattle.acpi_base.specs.Interrupts as interrupts;
 ghost use Rattle.acpi_writer.specs.MadtBytes as bytes;
 
 use super::MadtProcessor;
@@ -169,16 +168,6 @@ impl Record for NmiSource {
     }
 }
 
-/// The number of a LINT pin.
-fn line_code(line: LocalInterruptLine) -> u8
-    ensures { result ≡ interrupts.line_code line }
-{
-    match line {
-        LocalInterruptLine::Lint0 => 0,
-        LocalInterruptLine::Lint1 => 1,
-    }
-}
-
 /// The uid in a Local APIC NMI, of which 255 stands for all processors, or `None` if it has no place there.
 fn short_uid(processor: NmiProcessor) -> Option<u8>
     ensures { result ≡ bytes.short_uid processor }
@@ -206,7 +195,7 @@ impl Record for NmiLine {
 
     #[tactic(auto, unfolding(crate::specs::MadtBytes::apic_nmi_fields, crate::specs::MadtBytes::x2apic_nmi_fields))]
     fn fields(&self) -> [Field; 6] {
-        let line = line_code(self.line);
+        let line = self.line.code();
         match short_uid(self.processor) {
             Some(uid) => [
                 Field::U8(4),

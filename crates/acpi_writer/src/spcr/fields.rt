@@ -5,39 +5,9 @@ ghost use Rattle.acpi_writer.specs.Spcr as spcr;
 
 use super::{SpcrContents, SpcrPciDevice};
 use crate::fields::{Field, Record};
-use crate::generic::{register_or_zeros, size_code, space_code};
-use acpi_base::spcr::{SpcrFlowControl, SpcrInterfaceType, SpcrInterruptType, SpcrTerminalType};
+use crate::generic::register_or_zeros;
+use acpi_base::spcr::{SpcrFlowControl, SpcrInterruptType, SpcrTerminalType};
 use bitflags::Flags;
-
-/// The code of an interface.
-fn interface_code(interface: SpcrInterfaceType) -> u8
-    ensures { result ≡ spcr.interface_code interface }
-{
-    match interface {
-        SpcrInterfaceType::Full16550 => 0x00,
-        SpcrInterfaceType::Full16450 => 0x01,
-        SpcrInterfaceType::MAX311xE => 0x02,
-        SpcrInterfaceType::ArmPL011 => 0x03,
-        SpcrInterfaceType::MSM8x60 => 0x04,
-        SpcrInterfaceType::Nvidia16550 => 0x05,
-        SpcrInterfaceType::TiOmap => 0x06,
-        SpcrInterfaceType::APM88xxxx => 0x08,
-        SpcrInterfaceType::Msm8974 => 0x09,
-        SpcrInterfaceType::Sam5250 => 0x0a,
-        SpcrInterfaceType::IntelUSIF => 0x0b,
-        SpcrInterfaceType::Imx6 => 0x0c,
-        SpcrInterfaceType::ArmSBSAGeneric32bit => 0x0d,
-        SpcrInterfaceType::ArmSBSAGeneric => 0x0e,
-        SpcrInterfaceType::ArmDCC => 0x0f,
-        SpcrInterfaceType::Bcm2835 => 0x10,
-        SpcrInterfaceType::Sdm845_18432 => 0x11,
-        SpcrInterfaceType::Generic16550 => 0x12,
-        SpcrInterfaceType::Sdm845_7372 => 0x13,
-        SpcrInterfaceType::IntelLPSS => 0x14,
-        SpcrInterfaceType::RiscVSbi => 0x15,
-        SpcrInterfaceType::Unknown(code) => code,
-    }
-}
 
 /// The PCI device, or the numbers that say that the port is none.
 fn device_of(device: Option<SpcrPciDevice>) -> SpcrPciDevice
@@ -108,12 +78,12 @@ impl Record for SpcrContents<'_> {
         // With the zero that ends it.
         let name_length = self.namespace_string.len() as u64 + 1;
         [
-            Field::U8(interface_code(self.interface_type)),
+            Field::U8(self.interface_type.code()),
             Field::Zeros(3),
-            Field::U8(space_code(base.address_space)),
+            Field::U8(base.address_space.code()),
             Field::U8(base.bit_width),
             Field::U8(base.bit_offset),
-            Field::U8(size_code(base.access_size)),
+            Field::U8(base.access_size.code()),
             Field::U64(base.address),
             Field::U8(interrupt_byte(self.interrupt_type)),
             Field::U8(self.irq),

@@ -1,6 +1,4 @@
 //! Interface Type of the SPCR: the interfaces of a serial port's registers.
-ghost use Rattle.std.specs.Prelude.{◌≡◌};
-ghost use Rattle.acpi_base.specs.Words.{interface_of};
 
 /// Interface Type: the interface of a serial port's registers, by its code in the SPCR.
 #[derive(Clone, Copy, Debug, PartialEq, Eq)]
@@ -49,36 +47,4 @@ pub enum SpcrInterfaceType {
     RiscVSbi,
     /// Any other code, which has no meaning here: code 7, and those from 0x16 on.
     Unknown(u8),
-}
-
-impl From<u8> for SpcrInterfaceType {
-    ghost from_gives = { λ code r. r ≡ interface_of code };
-
-    /// The interface of a code of Interface Type.
-    fn from(code: u8) -> SpcrInterfaceType {
-        match code {
-            0x00 => SpcrInterfaceType::Full16550,
-            0x01 => SpcrInterfaceType::Full16450,
-            0x02 => SpcrInterfaceType::MAX311xE,
-            0x03 => SpcrInterfaceType::ArmPL011,
-            0x04 => SpcrInterfaceType::MSM8x60,
-            0x05 => SpcrInterfaceType::Nvidia16550,
-            0x06 => SpcrInterfaceType::TiOmap,
-            0x08 => SpcrInterfaceType::APM88xxxx,
-            0x09 => SpcrInterfaceType::Msm8974,
-            0x0A => SpcrInterfaceType::Sam5250,
-            0x0B => SpcrInterfaceType::IntelUSIF,
-            0x0C => SpcrInterfaceType::Imx6,
-            0x0D => SpcrInterfaceType::ArmSBSAGeneric32bit,
-            0x0E => SpcrInterfaceType::ArmSBSAGeneric,
-            0x0F => SpcrInterfaceType::ArmDCC,
-            0x10 => SpcrInterfaceType::Bcm2835,
-            0x11 => SpcrInterfaceType::Sdm845_18432,
-            0x12 => SpcrInterfaceType::Generic16550,
-            0x13 => SpcrInterfaceType::Sdm845_7372,
-            0x14 => SpcrInterfaceType::IntelLPSS,
-            0x15 => SpcrInterfaceType::RiscVSbi,
-            other => SpcrInterfaceType::Unknown(other),
-        }
-    }
 }

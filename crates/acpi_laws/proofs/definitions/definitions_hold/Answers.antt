@@ -2,9 +2,10 @@ use Rattle.std.proofs.Common.{rules}
 use Rattle.acpi.proofs.First.{lookup_is_first, skips_invalid}
 use Rattle.acpi.proofs.Placing.{addresses_are}
 use Rattle.acpi.proofs.Spelled.{one_pointers}
-use Rattle.acpi_base.proofs.Words.{cut_is_cut, one_cut, lent_is_inside, field_past_end}
+use Rattle.acpi_base.proofs.Words.{codes_decode, cut_is_cut, field_past_end, lent_is_inside, one_cut}
+use Rattle.acpi_fixed.proofs.Profiles.{profiles_decode}
 use Rattle.acpi_laws.proofs.Placed.{first_is_found, found_by_signature, headers_of_members, root_lies_in_range, tables_lie_in_ranges}
-use Rattle.acpi_laws.proofs.Values.{registers_are, sizes_decode, spaces_decode}
+use Rattle.acpi_laws.proofs.Platforms.{first_boots, listed_once, platform_is_theirs, registers_are}
 use Rattle.acpi_laws.proofs.definitions.definitions_hold.Goals as goal
 
 pub returns : goal.returns
@@ -12,9 +13,12 @@ returns c = record {
   names = search rules;
   lent = lent_is_inside;
   past_end = field_past_end;
-  spaces = spaces_decode;
-  sizes = sizes_decode;
+  codes = codes_decode;
+  profiles = profiles_decode;
   registers = registers_are;
+  listed = listed_once;
+  boots = first_boots;
+  platform = platform_is_theirs;
   one_cut = one_cut;
   cut = cut_is_cut;
   pointers = one_pointers;

@@ -6,8 +6,8 @@ ghost use Rattle.acpi_base.specs.Words.{Allows, table_ranges, bytes_of, start_of
 ghost use Rattle.acpi.specs.Members.{kind_ranges};
 ghost use Rattle.acpi.specs.Pointers.{pointers_left};
 
-use crate::listed::{Asked, next_asked};
 use crate::pointers::Pointers;
+use crate::walk::{Asked, next_asked};
 use acpi_base::sdt::map_table;
 use acpi_base::{AcpiTable, Lender, PhysicalMapping};
 use std::marker::PhantomData;

@@ -1,6 +1,6 @@
 use Rattle.acpi.proofs.Asked.{asked_kept, asked_now}
 use Rattle.acpi.specs.Words.{pointers_left}
-use Rattle.acpi.proofs.listed.next_asked.Goals as goal
+use Rattle.acpi.proofs.walk.next_asked.Goals as goal
 
 pub returns-clause-here : goal.returns-clause-here
 returns-clause-here g c =

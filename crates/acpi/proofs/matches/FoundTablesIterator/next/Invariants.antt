@@ -1,6 +1,6 @@
 use Rattle.std.proofs.Common.{◌≡◌, length}
 use Rattle.acpi.specs.Words.{found_left, pointers_left}
-use Rattle.acpi.proofs.found.FoundTablesIterator.next.Given as goal
+use Rattle.acpi.proofs.matches.FoundTablesIterator.next.Given as goal
 
 -- what was passed over gives no item
 abbrev pub invariant-loop-address : goal.invariant-loop-address

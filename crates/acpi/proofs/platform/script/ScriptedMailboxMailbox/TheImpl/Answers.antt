@@ -1,5 +1,5 @@
 use Rattle.std.proofs.Common.{rules}
-use Rattle.acpi.proofs.platform.scripted.ScriptedMailboxMailbox.TheImpl.Goals as goal
+use Rattle.acpi.proofs.platform.script.ScriptedMailboxMailbox.TheImpl.Goals as goal
 
 -- it never refuses
 pub open-tells : goal.open-tells

@@ -1,7 +1,7 @@
 use Rattle.std.proofs.Common.{◌≡◌, filter_map, flat_map, length}
 use Rattle.acpi_base.specs.Words.{Allows}
 use Rattle.acpi.specs.Words.{pointers_left}
-use Rattle.acpi.proofs.listed.next_found.Given as goal
+use Rattle.acpi.proofs.walk.next_found.Given as goal
 
 -- what was passed over gives no item, and the others may be asked for
 abbrev pub invariant-loop-address : goal.invariant-loop-address

@@ -1,0 +1,179 @@
+-- Codes: the number by which a table gives each value of an enumeration, and the value of a number (ACPI 6.4).
+use Rattle.std.specs.Prelude.{◌≡◌, ℕ, ◌==◌, ◌||◌, Bool, true, nat_le, nat_lt, List, [], ◌∷◌, find, slice_index_or, Result, Ok, Err, if◌then◌else◌, ok_or}
+use Rattle.acpi_base.specs.Types.{AcpiError, InvalidGenericAddress, MadtError, InvalidLocalNmiLine, MpsIntiInvalidPolarity, MpsIntiInvalidTriggerMode, AddressSpace, SystemMemory, SystemIo, PciConfigSpace, EmbeddedController, SMBus, SystemCmos, PciBarTarget, Ipmi, GeneralIo, GenericSerialBus, PlatformCommunicationsChannel, FunctionalFixedHardware, OemDefined, AccessSize, Undefined, ByteAccess, WordAccess, DWordAccess, QWordAccess, LocalInterruptLine, Lint0, Lint1, NmiProcessor, All, ProcessorUid, Polarity, TriggerMode, SpcrInterfaceType}
+use Rattle.acpi_base.specs.declared.model.interrupt.Polarity.TheVariants as polarity
+use Rattle.acpi_base.specs.declared.model.interrupt.TriggerMode.TheVariants as trigger
+use Rattle.acpi_base.specs.declared.tables.spcr.interface.SpcrInterfaceType.TheVariants as interface
+
+-- the first of these values that has a code, or the error of a code that none has
+abbrev pub decoded : {A : Type 0} {E : Type 0} → (A → ℕ) → List A → E → ℕ → Result A E
+decoded code_of values refusal code = ok_or (find (λ x. code_of x == code) values) refusal
+
+-- ---- interrupts
+
+-- Polarity, two bits of MPS INTI Flags; 2 is reserved (section 5.2.12.5)
+abbrev pub polarity_code : Polarity → ℕ
+polarity_code polarity.SameAsBus = 0
+polarity_code polarity.ActiveHigh = 1
+polarity_code polarity.ActiveLow = 3
+
+abbrev pub polarities : List Polarity
+polarities = polarity.SameAsBus ∷ polarity.ActiveHigh ∷ polarity.ActiveLow ∷ []
+
+abbrev pub polarity_for : ℕ → Result Polarity MadtError
+polarity_for code = decoded polarity_code polarities MpsIntiInvalidPolarity code
+
+-- Trigger Mode, two bits of MPS INTI Flags; 2 is reserved (section 5.2.12.5)
+abbrev pub trigger_code : TriggerMode → ℕ
+trigger_code trigger.SameAsBus = 0
+trigger_code trigger.Edge = 1
+trigger_code trigger.Level = 3
+
+abbrev pub trigger_modes : List TriggerMode
+trigger_modes = trigger.SameAsBus ∷ trigger.Edge ∷ trigger.Level ∷ []
+
+abbrev pub trigger_for : ℕ → Result TriggerMode MadtError
+trigger_for code = decoded trigger_code trigger_modes MpsIntiInvalidTriggerMode code
+
+-- LINT#, a pin of a local APIC (sections 5.2.12.7 and 5.2.12.13)
+abbrev pub line_code : LocalInterruptLine → ℕ
+line_code Lint0 = 0
+line_code Lint1 = 1
+
+abbrev pub local_lines : List LocalInterruptLine
+local_lines = Lint0 ∷ Lint1 ∷ []
+
+abbrev pub line_of : ℕ → Result LocalInterruptLine MadtError
+line_of code = decoded line_code local_lines InvalidLocalNmiLine code
+
+-- ACPI Processor UID: the one that stands for all processors in a Local APIC NMI, and in a Local x2APIC NMI
+abbrev pub all_apics : ℕ
+all_apics = 0xff
+
+abbrev pub all_x2apics : ℕ
+all_x2apics = 0xffffffff
+
+-- the UID of a processor, and the processor of a UID, if `all` stands for all of them
+abbrev pub uid_code : ℕ → NmiProcessor → ℕ
+uid_code all All = all
+uid_code all (ProcessorUid uid) = uid
+
+abbrev pub processor_for : ℕ → ℕ → NmiProcessor
+processor_for all uid = if uid == all then All else ProcessorUid uid
+
+-- ---- registers (section 5.2.3.2)
+
+-- Address Space ID
+abbrev pub space_code : AddressSpace → ℕ
+space_code SystemMemory = 0x00
+space_code SystemIo = 0x01
+space_code PciConfigSpace = 0x02
+space_code EmbeddedController = 0x03
+space_code SMBus = 0x04
+space_code SystemCmos = 0x05
+space_code PciBarTarget = 0x06
+space_code Ipmi = 0x07
+space_code GeneralIo = 0x08
+space_code GenericSerialBus = 0x09
+space_code PlatformCommunicationsChannel = 0x0a
+space_code FunctionalFixedHardware = 0x7f
+space_code (OemDefined code) = code
+
+-- the spaces that have a name
+abbrev pub named_spaces : List AddressSpace
+named_spaces =
+    SystemMemory ∷ SystemIo ∷ PciConfigSpace ∷ EmbeddedController ∷ SMBus ∷ SystemCmos
+    ∷ PciBarTarget ∷ Ipmi ∷ GeneralIo ∷ GenericSerialBus ∷ PlatformCommunicationsChannel
+    ∷ FunctionalFixedHardware ∷ []
+
+-- the space of a code: from 0xc0 on they are the makers' own
+abbrev pub space_of : ℕ → Result AddressSpace AcpiError
+space_of code =
+    if nat_le 0xc0 code then Ok (OemDefined code)
+    else decoded space_code named_spaces InvalidGenericAddress code
+
+-- the code names the space: it is not one below 0xc0 as a maker's own
+abbrev pub is_named_space : AddressSpace → Bool
+is_named_space (OemDefined code) = nat_le 0xc0 code
+is_named_space _ = true
+
+-- Access Size
+abbrev pub size_code : AccessSize → ℕ
+size_code Undefined = 0
+size_code ByteAccess = 1
+size_code WordAccess = 2
+size_code DWordAccess = 3
+size_code QWordAccess = 4
+
+abbrev pub access_sizes : List AccessSize
+access_sizes = Undefined ∷ ByteAccess ∷ WordAccess ∷ DWordAccess ∷ QWordAccess ∷ []
+
+abbrev pub access_size_of : ℕ → Result AccessSize AcpiError
+access_size_of code = decoded size_code access_sizes InvalidGenericAddress code
+
+-- ---- serial ports: Interface Type of the SPCR, whose layout is Microsoft's
+
+-- the interfaces in the order of their codes, from 0 on; 7 is none of them
+abbrev pub interfaces : List SpcrInterfaceType
+interfaces =
+    interface.Full16550 ∷ interface.Full16450 ∷ interface.MAX311xE ∷ interface.ArmPL011
+    ∷ interface.MSM8x60 ∷ interface.Nvidia16550 ∷ interface.TiOmap ∷ interface.Unknown 7
+    ∷ interface.APM88xxxx ∷ interface.Msm8974 ∷ interface.Sam5250 ∷ interface.IntelUSIF
+    ∷ interface.Imx6 ∷ interface.ArmSBSAGeneric32bit ∷ interface.ArmSBSAGeneric
+    ∷ interface.ArmDCC ∷ interface.Bcm2835 ∷ interface.Sdm845_18432 ∷ interface.Generic16550
+    ∷ interface.Sdm845_7372 ∷ interface.IntelLPSS ∷ interface.RiscVSbi ∷ []
+
+abbrev pub interface_of : ℕ → SpcrInterfaceType
+interface_of code = slice_index_or interfaces code (interface.Unknown code)
+
+abbrev pub interface_code : SpcrInterfaceType → ℕ
+interface_code interface.Full16550 = 0x00
+interface_code interface.Full16450 = 0x01
+interface_code interface.MAX311xE = 0x02
+interface_code interface.ArmPL011 = 0x03
+interface_code interface.MSM8x60 = 0x04
+interface_code interface.Nvidia16550 = 0x05
+interface_code interface.TiOmap = 0x06
+interface_code interface.APM88xxxx = 0x08
+interface_code interface.Msm8974 = 0x09
+interface_code interface.Sam5250 = 0x0a
+interface_code interface.IntelUSIF = 0x0b
+interface_code interface.Imx6 = 0x0c
+interface_code interface.ArmSBSAGeneric32bit = 0x0d
+interface_code interface.ArmSBSAGeneric = 0x0e
+interface_code interface.ArmDCC = 0x0f
+interface_code interface.Bcm2835 = 0x10
+interface_code interface.Sdm845_18432 = 0x11
+interface_code interface.Generic16550 = 0x12
+interface_code interface.Sdm845_7372 = 0x13
+interface_code interface.IntelLPSS = 0x14
+interface_code interface.RiscVSbi = 0x15
+interface_code (interface.Unknown code) = code
+
+-- the code is no other interface's: 7 and those above 0x15 have no name
+abbrev pub is_interface : SpcrInterfaceType → Bool
+is_interface (interface.Unknown code) = code == 7 || nat_lt 0x15 code
+is_interface _ = true
+
+-- ---- laws
+
+-- a code is decoded to the one value that has it, or refused with this error if none has; `is_value` leaves out values
+-- whose code is another's
+pub record IsInverse {A : Type 0} {E : Type 0} (is_value : A → Bool) (code_of : A → ℕ) (decode : ℕ → Result A E)
+    (refusal : E) : Type 0 where
+  pub each : (x : A) → is_value x ≡ true → decode (code_of x) ≡ Ok x
+  pub only : (code : ℕ) (x : A) → decode code ≡ Ok x → (is_value x ≡ true) × (code_of x ≡ code)
+  pub refused : (code : ℕ) (e : E) → decode code ≡ Err e → e ≡ refusal
+
+-- where each code has a value: that value has the code, and no other has
+pub record IsNumbering {A : Type 0} (is_value : A → Bool) (code_of : A → ℕ) (decode : ℕ → A) : Type 0 where
+  pub each : (x : A) → is_value x ≡ true → decode (code_of x) ≡ x
+  pub only : (code : ℕ) → (is_value (decode code) ≡ true) × (code_of (decode code) ≡ code)
+
+pub record CodesDecode : Type 0 where
+  pub polarities : IsInverse (λ p. true) polarity_code polarity_for MpsIntiInvalidPolarity
+  pub triggers : IsInverse (λ t. true) trigger_code trigger_for MpsIntiInvalidTriggerMode
+  pub lines : IsInverse (λ l. true) line_code line_of InvalidLocalNmiLine
+  pub spaces : IsInverse is_named_space space_code space_of InvalidGenericAddress
+  pub sizes : IsInverse (λ s. true) size_code access_size_of InvalidGenericAddress
+  pub interfaces : IsNumbering is_interface interface_code interface_of
