@@ -1,5 +1,5 @@
 -- When regions share a byte.
-use Rattle.std.proofs.Common.{◌≡◌, ℕ, ◌<◌, ◌≤◌, Bool, true, false, ◌||◌, sym, List, [], ◌∷◌, ◌++◌, length, refl, arith, inl, inr, ◌∙◌, ◌↔◌}
+use Rattle.std.proofs.Common.{◌≡◌, ℕ, ◌<◌, ◌≤◌, Bool, true, false, ◌||◌, not, sym, List, [], ◌∷◌, ◌++◌, length, refl, arith, inl, inr, ◌∙◌, ◌↔◌}
 use Rattle.acpi_base.proofs.FromStd.{and_parts, and_from, or_cases, or_parts, or_from, or_left, or_right, false_from_ne_true, leb-true, le-leb, ltb-true, lt-ltb, cases_lt, length-replicate}
 use Rattle.acpi_base.specs.FromStd.{AllByRecursion}
 use Rattle.acpi_base.specs.Words.{Memory, Region, AreApart, IsMemory, IsRegion, end_of, lies_in}
@@ -53,6 +53,10 @@ share_is r s h = false_from_ne_true _ (not_shared r s h)
 -- whatever says whether they do says whether an address lies in both
 pub share_law : (r s : Region) (b : Bool) → b ≡ share r s → (b ≡ false) ↔ AreApart r s
 share_law r s b e = (λ no. apart_is r s (sym e ∙ no), λ apart. e ∙ share_is r s apart)
+
+pub not_true : (b : Bool) → not b ≡ true → b ≡ false
+not_true true e = absurd cc
+not_true false e = refl
 
 -- ---- it depends on starts and lengths alone
 
