@@ -61,7 +61,7 @@ planned_places rsdp root revision tables few many =
       record {
         start = refl;
         count = length-replicate rsdp.length 0 ∙ few
-            ∙ sym (length-rsdp_to revision root.address);
+            ∙ sym (length-rsdp_to (replicate 6 32) revision root.address refl);
       },
       (
         record {

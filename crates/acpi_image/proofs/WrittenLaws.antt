@@ -9,12 +9,12 @@ use Rattle.acpi.specs.Words.{width_of, pointers, root_at, hpet_of, valid_headers
 use Rattle.acpi.specs.declared.root.RootKind.TheVariants.{Rsdt, Xsdt}
 use Rattle.acpi_image_reader.proofs.Sharing.{all_apart}
 use Rattle.acpi_image_reader.specs.Words.{record_spelling}
-use Rattle.acpi_image.specs.Words.{check_places, some_share, WritesOrRunsOut, check_plan, written, starts_of, summed, Plan, kind_of, pointers_of, records_of, root_length, root_to, rsdp_record, rsdp_to, tables_of, WriteError, Overlap, IsWritten, SaysOfTables, WrittenIsRead, opened_of, said_of}
+use Rattle.acpi_image.specs.Words.{check_places, some_share, WritesOrRunsOut, check_plan, written, starts_of, summed, Plan, kind_of, pointers_of, records_of, root_length, root_to, rsdp_record, rsdp_to, spaces, tables_of, WriteError, Overlap, IsWritten, SaysOfTables, WrittenIsRead, opened_of, said_of}
 use Rattle.acpi.specs.Types.{AcpiError}
 use Rattle.acpi.proofs.Moved.{headers_follow, hpet_follows, in_ok_follows, platform_follows, regions_follow}
 use Rattle.acpi_image_reader.proofs.Images.{image_again}
 use Rattle.acpi_image.proofs.Written.{length-rsdp_to, every_in, record_bytes, sums_are_set, tables_there}
-use Rattle.acpi_image.proofs.WrittenRoot.{IsRsdp, is_rsdp, pointers_are, root_there, rsdp_there}
+use Rattle.acpi_image.proofs.WrittenRoot.{IsRsdp, is_rsdp, pointers_are, root_there, rsdp_there, spaces_text}
 use Rattle.acpi_image.proofs.Checks.{Passed, are_tables, passed}
 
 -- ---- places
@@ -133,13 +133,13 @@ module _ (p : Plan) (ok : Passed p) (memory : IsMemory (records_of p)) where
   pointers_there = pointers_are (kind_of p) (pointers_of p)
       (pointers_narrow (p.revision == 0) p.tables ends.1.1 (λ first. (low first).1))
 
-  rsdp_tested : IsRsdp p.revision p.root (rsdp_to p.revision p.root)
-  rsdp_tested = is_rsdp p.revision p.root (not_true (p.root == 0) ok.some) (omega (arith, ends.1.0))
-      (λ first. (low first).0)
+  rsdp_tested : IsRsdp (spaces 6) p.revision p.root (rsdp_to (spaces 6) p.revision p.root)
+  rsdp_tested = is_rsdp (spaces 6) p.revision p.root refl spaces_text (not_true (p.root == 0) ok.some)
+      (omega (arith, ends.1.0)) (λ first. (low first).0)
 
-  rsdp_is : rsdp_at (records_of p) p.rsdp ≡ Ok (rsdp_to p.revision p.root)
+  rsdp_is : rsdp_at (records_of p) p.rsdp ≡ Ok (rsdp_to (spaces 6) p.revision p.root)
   rsdp_is = rsdp_there (records_of p) (rsdp_record p.rsdp p.revision p.root) memory (every_in (records_of p)).0
-      (length-rsdp_to p.revision p.root) p.revision p.root rsdp_tested
+      (length-rsdp_to (spaces 6) p.revision p.root refl) (spaces 6) p.revision p.root rsdp_tested
 
   opened_is : opened_by_rsdp (records_of p) p.rsdp ≡ Ok (opened_of p)
   opened_is = rw (rsdp_is, rsdp_tested.leads_to, root_is) refl
