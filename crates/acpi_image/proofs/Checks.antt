@@ -2,12 +2,12 @@
 -- alone, and is decided place by place.
 use Rattle.std.proofs.Common.{◌≡◌, ◌≢◌, ℕ, ◌^◌, ◌==◌, nat_lt, true, false, Ok, List, [], ◌∷◌, length, map, refl, sym, ap, ◌∙◌, zero, suc, ◌+◌, ◌<◌, ◌≤◌, Bool, ◌++◌, take, drop, get_or, subst, arith, inl, inr, add-one, append_assoc, replicate, slice_index_or, Result, Err, ◌||◌, IsErrAnd, not}
 use Rattle.acpi_base.specs.FromStd.{list_all, list_any, AllByRecursion, BTreeMap}
-use Rattle.acpi_base.proofs.FromStd.{length-replicate, length-map, map-append, take_all, take_more, take-append-drop, and_parts, ltb-true, or_cases, or_from, or_left, or_right, leb-true, drop-cons}
-use Rattle.acpi_base.specs.Words.{Memory, Region, end_of, AreApart, range_fits, ◌>>=◌, holds}
+use Rattle.acpi_base.proofs.FromStd.{length-replicate, length-map, map-append, take_all, take_more, take-append-drop, and_parts, ltb-true, or_cases, or_from, or_left, or_right, drop-cons}
+use Rattle.acpi_base.specs.Words.{Memory, Region, end_of, AreApart, range_fits}
 use Rattle.acpi_image_reader.specs.Words.{share, shares_any, region_in, AreAllApart}
 use Rattle.acpi_image.specs.Words.{IsPlaced, place_of, places_of, check_places, check_plan, check_tables, pointers_fit, some_share, WritesOrRunsOut, is_table, written, placed, placed_region, plan, records_of, root_length, starts_of, summed, Plan, kind_of, pointers_of, PlacedTable, WriteError}
 use Rattle.acpi_image_reader.proofs.Sharing.{SamePlace, ranges_share, same_share, apart_is, share_is, shares_none}
-use Rattle.acpi_image.proofs.Written.{length-root_to, length-rsdp_to, length-with_sum}
+use Rattle.acpi_image.proofs.Written.{length-root_to, length-rsdp_to, length-with_sum, table_is}
 use Rattle.acpi.specs.Types.{AddressRange}
 use Rattle.acpi.specs.Words.{kind_of_revision}
 use Rattle.acpi_image_reader.proofs.Listing.{flipped, starts_none}
@@ -264,15 +264,11 @@ are_tables n (t ∷ ts) x e =
     let a = holds_ok _ _ _ x e in
     (a.0, are_tables (n + 1) ts x a.1)
 
-is_long : (bytes : List ℕ) → is_table bytes ≡ true → 36 ≤ length bytes
-unfolding is_table
-is_long bytes e = leb-true _ _ (and_parts _ _ e).0
-
 each_long : (ts : List PlacedTable) (k : ℕ) (d : PlacedTable)
     → AllByRecursion (λ t. is_table t.bytes ≡ true) (placed ts) → k < length ts
     → 36 ≤ length (slice_index_or ts k d).bytes.now
 each_long [] k d all less = absurd (omega arith)
-each_long (t ∷ ts) zero d all less = is_long t.bytes.now all.0
+each_long (t ∷ ts) zero d all less = (table_is t.bytes.now all.0).long
 each_long (t ∷ ts) (suc k) d all less = each_long ts k d all.1 (omega arith)
 
 module _ (rsdp root revision : ℕ) (tables : List PlacedTable) (x : Unit {0})

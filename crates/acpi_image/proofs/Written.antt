@@ -1,6 +1,6 @@
 -- What is written: how long it is, how numbers are encoded, sums, and the tables, which are found at the start of their
 -- regions.
-use Rattle.std.proofs.Common.{◌≡◌, ℕ, zero, suc, ◌==◌, ◌+◌, ◌-◌, ◌*◌, ◌/◌, ◌%◌, ◌^◌, ◌<◌, ◌≤◌, Bool, true, false, List, [], ◌∷◌, ◌++◌, length, take, drop, refl, sym, ap, ◌∙◌, arith, if◌then◌else◌, w64, get_or, inl, inr, set, sum, subst, Some, Ok, lit≤, map, lit<, eq-eqb, flat_map, Contains, bytes_eq}
+use Rattle.std.proofs.Common.{◌≡◌, ℕ, zero, suc, ◌==◌, ◌+◌, ◌-◌, ◌*◌, ◌/◌, ◌%◌, ◌^◌, ◌<◌, ◌≤◌, true, false, List, [], ◌∷◌, ◌++◌, length, take, drop, refl, sym, ap, ◌∙◌, arith, if◌then◌else◌, w64, get_or, inl, inr, set, sum, subst, Some, Ok, lit≤, map, lit<, eq-eqb, flat_map, Contains, bytes_eq}
 use Rattle.acpi_image_reader.specs.Words.{record_spelling}
 use Rattle.acpi_base.specs.FromStd.{from_le_bytes, to_le_bytes, AllByRecursion, is_utf8}
 use Rattle.acpi_base.proofs.FromStd.{le_bytes_8, length-append, length-map, length-set, append-nil, take-append-drop, take_all, get_or_past, drop-set-add, drop-set-lt, take-set-le, cases_lt, le-leb, and_from, and_parts, eqb-true, leb-true, sum_by-set}

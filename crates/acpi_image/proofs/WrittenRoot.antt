@@ -2,9 +2,9 @@
 -- tables.
 use Rattle.std.proofs.Common.{◌≡◌, ℕ, ◌^◌, ◌<◌, Bool, true, false, List, ◌∷◌, ◌++◌, length, take, Some, None, Result, Ok, refl, sym, ap, subst, ◌∙◌, arith, lit≤, lit<, if◌then◌else◌, zero, suc, [], drop, set, ◌==◌, ◌||◌, replicate, flat_map, Contains}
 use Rattle.acpi_base.specs.FromStd.{AllByRecursion, chars, is_utf8}
-use Rattle.acpi_base.proofs.FromStd.{length-take-le, take_all, append-nil, drop-set-lt, drop_at, get_or_past}
+use Rattle.acpi_base.proofs.FromStd.{take_all, append-nil, drop-set-lt, drop_at, get_or_past}
 use Rattle.acpi_base.proofs.Words.{number-spelling}
-use Rattle.acpi_base.specs.Words.{field_of, number, part, spelling, sum_of, IsBytes, Memory, Region, IsMemory, lent, check_names, header_at}
+use Rattle.acpi_base.specs.Words.{field_of, number, spelling, sum_of, IsBytes, Memory, Region, IsMemory, lent, check_names, header_at}
 use Rattle.acpi.specs.Types.{AcpiError}
 use Rattle.acpi.specs.Words.{root_of_revision, root_pointer, IsPointers, pointers, root_at, signature_of, width_of, check_first, check_length, check_sum, checked_length, root_of_rsdp, rsd_ptr, rsdp_at, rsdp_of}
 use Rattle.acpi.specs.declared.root.RootKind.TheVariants.{Rsdt, Xsdt}

@@ -91,7 +91,7 @@ all_apart (s ∷ m) r h =
 
 -- ---- a region after a memory
 
-all_with : {X : Type 0} (P : X → Type 0) (xs : List X) (y : X) → AllByRecursion P xs → P y
+pub all_with : {X : Type 0} (P : X → Type 0) (xs : List X) (y : X) → AllByRecursion P xs → P y
     → AllByRecursion P (xs ++ (y ∷ []))
 all_with P [] y h hy = (hy, tt)
 all_with P (x ∷ xs) y h hy = (h.0, all_with P xs y h.1 hy)
