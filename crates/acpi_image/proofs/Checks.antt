@@ -1,13 +1,13 @@
 -- The checks of what is to be written. Whether records can lie where they are placed depends on starts and lengths
 -- alone, and is decided place by place.
-use Rattle.std.proofs.Common.{◌≡◌, ℕ, ◌^◌, ◌==◌, nat_lt, true, false, Ok, List, [], ◌∷◌, length, map, refl, sym, ap, ◌∙◌, zero, suc, ◌+◌, ◌<◌, ◌≤◌, Bool, ◌++◌, take, drop, get_or, subst, arith, inl, inr, add-one, append_assoc, replicate, slice_index_or, Result, Err, ◌||◌, IsErrAnd, not}
+use Rattle.std.proofs.Common.{◌≡◌, ◌≢◌, ℕ, ◌^◌, ◌==◌, nat_lt, true, false, Ok, List, [], ◌∷◌, length, map, refl, sym, ap, ◌∙◌, zero, suc, ◌+◌, ◌<◌, ◌≤◌, Bool, ◌++◌, take, drop, get_or, subst, arith, inl, inr, add-one, append_assoc, replicate, slice_index_or, Result, Err, ◌||◌, IsErrAnd, not}
 use Rattle.acpi_base.specs.FromStd.{list_all, list_any, AllByRecursion, BTreeMap}
-use Rattle.acpi_base.proofs.FromStd.{length-replicate, length-map, map-append, take_all, take_more, take-append-drop, and_parts, ltb-true, or_cases, or_from, or_left, or_right, leb-true, drop-cons}
-use Rattle.acpi_base.specs.Words.{Memory, Region, end_of, AreApart, ◌>>=◌, holds}
+use Rattle.acpi_base.proofs.FromStd.{length-replicate, length-map, map-append, take_all, take_more, take-append-drop, and_parts, ltb-true, or_cases, or_from, or_left, or_right, drop-cons}
+use Rattle.acpi_base.specs.Words.{Memory, Region, end_of, AreApart, range_fits}
 use Rattle.acpi_image_reader.specs.Words.{share, shares_any, region_in, AreAllApart}
 use Rattle.acpi_image.specs.Words.{IsPlaced, place_of, places_of, check_places, check_plan, check_tables, pointers_fit, some_share, WritesOrRunsOut, is_table, written, placed, placed_region, plan, records_of, root_length, starts_of, summed, Plan, kind_of, pointers_of, PlacedTable, WriteError}
 use Rattle.acpi_image_reader.proofs.Sharing.{SamePlace, ranges_share, same_share, apart_is, share_is, shares_none}
-use Rattle.acpi_image.proofs.Written.{length-root_to, length-rsdp_to, length-with_sum}
+use Rattle.acpi_image.proofs.Written.{length-root_to, length-rsdp_to, length-with_sum, table_is}
 use Rattle.acpi.specs.Types.{AddressRange}
 use Rattle.acpi.specs.Words.{kind_of_revision}
 use Rattle.acpi_image_reader.proofs.Listing.{flipped, starts_none}
@@ -61,7 +61,7 @@ planned_places rsdp root revision tables few many =
       record {
         start = refl;
         count = length-replicate rsdp.length 0 ∙ few
-            ∙ sym (length-rsdp_to revision root.address);
+            ∙ sym (length-rsdp_to (replicate 6 32) revision root.address refl);
       },
       (
         record {
@@ -203,9 +203,12 @@ any_shares (t ∷ tables) r = ap (λ b. share (place_of t) r || b) (any_shares t
 
 pub all_fit : (tables : List PlacedTable)
     → list_all (λ r. nat_lt (end_of r) (2 ^ 64)) (places_of tables)
-    ≡ list_all (λ t. nat_lt (end_of (place_of t)) (2 ^ 64)) tables
+    ≡ list_all (λ t. range_fits t.address (length t.bytes.now)) tables
 all_fit [] = refl
-all_fit (t ∷ tables) = rw (all_fit tables) refl
+all_fit (t ∷ tables) = rw (length-replicate {A = ℕ} (length t.bytes.now) 0, all_fit tables) refl
+
+pub region_fits : (r : AddressRange) → nat_lt (end_of (region_in r)) (2 ^ 64) ≡ range_fits r.address r.length
+region_fits r = rw (length-replicate {A = ℕ} r.length 0) refl
 
 pub all_low : (tables : List PlacedTable)
     → list_all (λ a. nat_lt a (2 ^ 32)) (starts_of (placed tables)) ≡ list_all (λ t. nat_lt t.address (2 ^ 32)) tables
@@ -217,90 +220,23 @@ two_share r s rest e = sym (some_found (r ∷ []) s rest (or_left _ _ (sym e)))
 
 -- ---- what passed all checks, and what a refusal is
 
--- no check is out of memory
-
-abbrev NotMemory : {A : Type 0} → Result A WriteError → Type 0
-NotMemory (Ok x) = Unit {0}
-NotMemory (Err refusal.OutOfMemory) = ⊥
-NotMemory (Err refusal.ZeroRoot) = Unit {0}
-NotMemory (Err (refusal.BadTable n)) = Unit {0}
-NotMemory (Err refusal.TooMany) = Unit {0}
-NotMemory (Err refusal.PointerTooLarge) = Unit {0}
-NotMemory (Err refusal.EndTooLarge) = Unit {0}
-NotMemory (Err refusal.Overlap) = Unit {0}
-
-held : {A : Type 0} (b : Bool) (d : WriteError) (f : Unit {0} → Result A WriteError) → NotMemory {A = A} (Err d)
-    → ((x : Unit {0}) → NotMemory (f x)) → NotMemory (holds b d >>= f)
-held true d f n more = more tt
-held false d f n more = n
-
-then_held : {A B : Type 0} (r : Result A WriteError) (f : A → Result B WriteError) → NotMemory r
-    → ((x : A) → NotMemory (f x)) → NotMemory (r >>= f)
-then_held (Ok x) f n more = more x
-then_held (Err refusal.OutOfMemory) f n more = n
-then_held (Err refusal.ZeroRoot) f n more = tt
-then_held (Err (refusal.BadTable i)) f n more = tt
-then_held (Err refusal.TooMany) f n more = tt
-then_held (Err refusal.PointerTooLarge) f n more = tt
-then_held (Err refusal.EndTooLarge) f n more = tt
-then_held (Err refusal.Overlap) f n more = tt
-
-last : (b : Bool) (d : WriteError) → NotMemory {A = Unit {0}} (Err d) → NotMemory (holds b d)
-last true d n = tt
-last false d n = n
-
-tables_held : (n : ℕ) (ts : Memory) → NotMemory (check_tables n ts)
-tables_held n [] = tt
-tables_held n (t ∷ ts) = held {A = Unit {0}} (is_table t.bytes) (refusal.BadTable n) (λ _. check_tables (n + 1) ts) tt
-    (λ _. tables_held (n + 1) ts)
-
-places_held : (m : Memory) → NotMemory (check_places m)
-unfolding check_places
-places_held m =
-    held {A = Unit {0}} (list_all (λ r. nat_lt (end_of r) (2 ^ 64)) m) refusal.EndTooLarge
-    (λ _. holds (not (some_share m)) refusal.Overlap) tt (λ _. last (not (some_share m)) refusal.Overlap tt)
-
--- the checks after those of the tables
-later_checks : Plan → Result (Unit {0}) WriteError
-later_checks p =
-    holds (nat_lt (root_length (kind_of p) (length p.tables)) (2 ^ 32)) refusal.TooMany
-    >>= λ _. holds (pointers_fit p.revision (p.root ∷ pointers_of p)) refusal.PointerTooLarge >>= λ _.
-    check_places (records_of p)
-
-later_held : (p : Plan) → NotMemory (later_checks p)
-unfolding later_checks
-later_held p =
-    held {A = Unit {0}} (nat_lt (root_length (kind_of p) (length p.tables)) (2 ^ 32)) refusal.TooMany
-    (λ _. holds (pointers_fit p.revision (p.root ∷ pointers_of p)) refusal.PointerTooLarge >>= λ _.
-    check_places (records_of p)) tt
-    (λ _. held {A = Unit {0}} (pointers_fit p.revision (p.root ∷ pointers_of p)) refusal.PointerTooLarge
-    (λ _. check_places (records_of p)) tt (λ _. places_held (records_of p)))
-
-plan_held : (p : Plan) → NotMemory (check_plan p)
-unfolding check_plan later_checks
-plan_held p =
-    held {A = Unit {0}} (not (p.root == 0)) refusal.ZeroRoot (λ _. check_tables 0 p.tables >>= λ _. later_checks p) tt
-    (λ _. then_held {A = Unit {0}} {B = Unit {0}} (check_tables 0 p.tables) (λ _. later_checks p)
-    (tables_held 0 p.tables) (λ _. later_held p))
-
 -- a refusal of the checks is the one that is defined
-pub refused : {X : Type 0} (view : X → List ℕ) (p : Plan) (e : WriteError) → check_plan p ≡ Err e
+refused : {X : Type 0} (view : X → List ℕ) (p : Plan) (e : WriteError) → e ≢ refusal.OutOfMemory → check_plan p ≡ Err e
     → WritesOrRunsOut view (Err e) (written p)
 unfolding written
-refused view p refusal.OutOfMemory h = absurd
-    (subst (λ (r : Result (Unit {0}) WriteError). NotMemory r) h (plan_held p))
-refused view p refusal.ZeroRoot h = rw h refl
-refused view p (refusal.BadTable n) h = rw h refl
-refused view p refusal.TooMany h = rw h refl
-refused view p refusal.PointerTooLarge h = rw h refl
-refused view p refusal.EndTooLarge h = rw h refl
-refused view p refusal.Overlap h = rw h refl
+refused view p refusal.OutOfMemory other h = absurd (other refl)
+refused view p refusal.ZeroRoot other h = rw h refl
+refused view p (refusal.BadTable n) other h = rw h refl
+refused view p refusal.TooMany other h = rw h refl
+refused view p refusal.PointerTooLarge other h = rw h refl
+refused view p refusal.EndTooLarge other h = rw h refl
+refused view p refusal.Overlap other h = rw h refl
 
 -- an answer that hands a refusal on
 pub handed_on : {X : Type 0} (view : X → List ℕ) (r : Result X WriteError) (e : WriteError) (p : Plan)
-    → IsErrAnd r (λ x. x ≡ e) → check_plan p ≡ Err e → WritesOrRunsOut view r (written p)
-handed_on view (Ok x) e p h k = absurd h
-handed_on view (Err x) e p h k = refused view p x (k ∙ ap (λ y. Err y) (sym h))
+    → IsErrAnd r (λ x. x ≡ e) → e ≢ refusal.OutOfMemory → check_plan p ≡ Err e → WritesOrRunsOut view r (written p)
+handed_on view (Ok x) e p h other k = absurd h
+handed_on view (Err x) e p h other k = rw h (refused view p e other k)
 
 -- what passed
 
@@ -312,12 +248,6 @@ pub record Passed (p : Plan) : Type 0 where
   pub fit : pointers_fit p.revision (p.root ∷ pointers_of p) ≡ true
   pub places : check_places (records_of p) ≡ Ok tt
 
-abbrev done : Unit {0} → Result (Unit {0}) WriteError
-done x = Ok x
-
-ok_is : (x : Unit {0}) → done x ≡ done tt
-ok_is tt = refl
-
 pub passed : (p : Plan) (x : Unit {0}) → check_plan p ≡ Ok x → Passed p
 unfolding check_plan
 passed p x e =
@@ -325,7 +255,7 @@ passed p x e =
     let b = bind_ok (check_tables 0 p.tables) _ x a.1 in
     let c = holds_ok _ _ _ x b.2 in
     let d = holds_ok _ _ _ x c.1 in
-    record { some = a.0; tables = b.1 ∙ ok_is b.0; short = c.0; fit = d.0; places = d.1 ∙ ok_is x }
+    record { some = a.0; tables = b.1; short = c.0; fit = d.0; places = d.1 }
 
 pub are_tables : (n : ℕ) (ts : Memory) (x : Unit {0}) → check_tables n ts ≡ Ok x
     → AllByRecursion (λ t. is_table t.bytes ≡ true) ts
@@ -334,15 +264,11 @@ are_tables n (t ∷ ts) x e =
     let a = holds_ok _ _ _ x e in
     (a.0, are_tables (n + 1) ts x a.1)
 
-is_long : (bytes : List ℕ) → is_table bytes ≡ true → 36 ≤ length bytes
-unfolding is_table
-is_long bytes e = leb-true _ _ (and_parts _ _ e).0
-
 each_long : (ts : List PlacedTable) (k : ℕ) (d : PlacedTable)
     → AllByRecursion (λ t. is_table t.bytes ≡ true) (placed ts) → k < length ts
     → 36 ≤ length (slice_index_or ts k d).bytes.now
 each_long [] k d all less = absurd (omega arith)
-each_long (t ∷ ts) zero d all less = is_long t.bytes.now all.0
+each_long (t ∷ ts) zero d all less = (table_is t.bytes.now all.0).long
 each_long (t ∷ ts) (suc k) d all less = each_long ts k d all.1 (omega arith)
 
 module _ (rsdp root revision : ℕ) (tables : List PlacedTable) (x : Unit {0})

@@ -1,6 +1,6 @@
 -- What is written: how long it is, how numbers are encoded, sums, and the tables, which are found at the start of their
 -- regions.
-use Rattle.std.proofs.Common.{◌≡◌, ℕ, zero, suc, ◌+◌, ◌-◌, ◌*◌, ◌/◌, ◌%◌, ◌^◌, ◌<◌, ◌≤◌, Bool, true, false, List, [], ◌∷◌, ◌++◌, length, take, drop, refl, sym, ap, ◌∙◌, arith, if◌then◌else◌, w64, get_or, inl, inr, set, sum, subst, Some, Ok, lit≤, map, lit<, eq-eqb, flat_map, Contains, bytes_eq}
+use Rattle.std.proofs.Common.{◌≡◌, ℕ, zero, suc, ◌==◌, ◌+◌, ◌-◌, ◌*◌, ◌/◌, ◌%◌, ◌^◌, ◌<◌, ◌≤◌, true, false, List, [], ◌∷◌, ◌++◌, length, take, drop, refl, sym, ap, ◌∙◌, arith, if◌then◌else◌, w64, get_or, inl, inr, set, sum, subst, Some, Ok, lit≤, map, lit<, eq-eqb, flat_map, Contains, bytes_eq}
 use Rattle.acpi_image_reader.specs.Words.{record_spelling}
 use Rattle.acpi_base.specs.FromStd.{from_le_bytes, to_le_bytes, AllByRecursion, is_utf8}
 use Rattle.acpi_base.proofs.FromStd.{le_bytes_8, length-append, length-map, length-set, append-nil, take-append-drop, take_all, get_or_past, drop-set-add, drop-set-lt, take-set-le, cases_lt, le-leb, and_from, and_parts, eqb-true, leb-true, sum_by-set}
@@ -16,10 +16,6 @@ pub length-with_sum : (offset : ℕ) (bytes : List ℕ) → length (with_sum off
 unfolding with_sum
 length-with_sum offset bytes = length-set bytes offset (sum_byte offset bytes)
 
-pub length-rsdp_unsummed : (revision rsdt count xsdt : ℕ) → length (rsdp_unsummed revision rsdt count xsdt) ≡ 36
-unfolding rsdp_unsummed spelling
-length-rsdp_unsummed revision rsdt count xsdt = refl
-
 pub length-with_first_sum : (bytes : List ℕ) → length (with_first_sum bytes) ≡ length bytes
 unfolding with_first_sum
 length-with_first_sum bytes =
@@ -27,18 +23,20 @@ length-with_first_sum bytes =
     (length-with_sum 8 (take 20 bytes))
     ∙ sym (length-append (take 20 bytes) (drop 20 bytes)) ∙ ap length (take-append-drop 20 bytes)
 
-length_by : (first : Bool) (revision root : ℕ)
-    → length (if first then with_first_sum (rsdp_unsummed revision root 0 0)
-    else with_sum 32 (with_first_sum (rsdp_unsummed revision 0 36 root))) ≡ 36
-length_by true revision root = length-with_first_sum (rsdp_unsummed revision root 0 0)
-    ∙ length-rsdp_unsummed revision root 0 0
-length_by false revision root =
-    length-with_sum 32 (with_first_sum (rsdp_unsummed revision 0 36 root))
-    ∙ length-with_first_sum (rsdp_unsummed revision 0 36 root) ∙ length-rsdp_unsummed revision 0 36 root
+pub length-rsdp_unsummed : (oem_id : List ℕ) (revision rsdt count xsdt : ℕ) → length oem_id ≡ 6
+    → length (rsdp_unsummed oem_id revision rsdt count xsdt) ≡ 36
+unfolding rsdp_unsummed spelling
+length-rsdp_unsummed oem_id revision rsdt count xsdt long = simp length-append (omega (arith, long))
 
-pub length-rsdp_to : (revision root : ℕ) → length (rsdp_to revision root) ≡ 36
+pub length-rsdp_to : (oem_id : List ℕ) (revision root : ℕ) → length oem_id ≡ 6
+    → length (rsdp_to oem_id revision root) ≡ 36
 unfolding rsdp_to
-length-rsdp_to revision root = length_by _ revision root
+length-rsdp_to oem_id revision root long = (elim (revision == 0) as (λ first. length (if first
+    then with_first_sum (rsdp_unsummed oem_id revision root 0 0)
+    else with_sum 32 (with_first_sum (rsdp_unsummed oem_id revision 0 36 root))) ≡ 36) [
+      | true ↦ length-with_first_sum _ ∙ length-rsdp_unsummed oem_id revision root 0 0 long
+      | false ↦ length-with_sum 32 _ ∙ length-with_first_sum _ ∙ length-rsdp_unsummed oem_id revision 0 36 root long
+    ])
 
 length-spelled : (width : ℕ) (ps : List ℕ) → length (flat_map (spelling width) ps) ≡ width * length ps
 length-spelled width [] = omega arith

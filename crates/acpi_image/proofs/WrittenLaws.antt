@@ -3,18 +3,18 @@
 use Rattle.std.proofs.Common.{◌≡◌, ℕ, ◌^◌, ◌<◌, Bool, true, false, List, [], ◌∷◌, length, map, Result, Ok, refl, arith, drop, Err, sym, subst, ◌∙◌, ◌||◌, flat_map, if◌then◌else◌, nat_lt, not, ◌==◌, IfOk}
 use Rattle.acpi_base.specs.FromStd.{AllByRecursion, list_all}
 use Rattle.acpi_base.proofs.FromStd.{and_parts, ltb-true, or_parts, length-map}
-use Rattle.acpi_base.proofs.Words.{holds_ok, bind_ok}
+use Rattle.acpi_base.proofs.Words.{holds_ok, bind_ok, same_ok}
 use Rattle.acpi_base.specs.Words.{IsBytes, Memory, Region, AreApart, IsMemory, end_of, holds, ◌>>=◌}
 use Rattle.acpi.specs.Words.{width_of, pointers, root_at, hpet_of, valid_headers, valid_tables, found_regions, platform_of, FollowsTables, opened_by_rsdp, rsdp_at}
 use Rattle.acpi.specs.declared.root.RootKind.TheVariants.{Rsdt, Xsdt}
-use Rattle.acpi_image_reader.proofs.Sharing.{all_apart}
+use Rattle.acpi_image_reader.proofs.Sharing.{all_apart, not_true}
 use Rattle.acpi_image_reader.specs.Words.{record_spelling}
-use Rattle.acpi_image.specs.Words.{check_places, some_share, WritesOrRunsOut, check_plan, written, starts_of, summed, Plan, kind_of, pointers_of, records_of, root_length, root_to, rsdp_record, rsdp_to, tables_of, WriteError, Overlap, IsWritten, SaysOfTables, WrittenIsRead, opened_of, said_of}
+use Rattle.acpi_image.specs.Words.{check_places, some_share, WritesOrRunsOut, check_plan, written, starts_of, summed, Plan, kind_of, pointers_of, records_of, root_length, root_to, rsdp_record, rsdp_to, spaces, tables_of, WriteError, Overlap, IsWritten, SaysOfTables, WrittenIsRead, opened_of, said_of}
 use Rattle.acpi.specs.Types.{AcpiError}
 use Rattle.acpi.proofs.Moved.{headers_follow, hpet_follows, in_ok_follows, platform_follows, regions_follow}
 use Rattle.acpi_image_reader.proofs.Images.{image_again}
 use Rattle.acpi_image.proofs.Written.{length-rsdp_to, every_in, record_bytes, sums_are_set, tables_there}
-use Rattle.acpi_image.proofs.WrittenRoot.{IsRsdp, is_rsdp, pointers_are, root_there, rsdp_there}
+use Rattle.acpi_image.proofs.WrittenRoot.{IsRsdp, is_rsdp, pointers_are, root_there, rsdp_there, spaces_text}
 use Rattle.acpi_image.proofs.Checks.{Passed, are_tables, passed}
 
 -- ---- places
@@ -38,13 +38,10 @@ memory_is (r ∷ m) ends apart bytes =
     let p = or_parts _ _ apart in
     ((ends.0, bytes.0), (turned m r (all_apart m r p.0), memory_is m ends.1 p.1 bytes.1))
 
-not_true : (b : Bool) → not b ≡ true → b ≡ false
-not_true true e = absurd cc
-not_true false e = refl
-
-last_holds : (b : Bool) (d : WriteError) (x : Unit {0}) → holds b d ≡ Ok x → b ≡ true
-last_holds true d x e = refl
-last_holds false d x e = absurd cc
+-- the last check of a chain, which is passed unless b holds
+pub last_not : {E : Type 0} (b : Bool) (d : E) (x : Unit {0}) → holds (not b) d ≡ Ok x → b ≡ false
+last_not true d x e = absurd cc
+last_not false d x e = refl
 
 abbrev passes : Unit {0} → Result (Unit {0}) WriteError
 passes x = Ok x
@@ -58,7 +55,7 @@ module _ (m : Memory) (e : check_places m ≡ Ok tt) where
   places_end = ends_are m parts.0
 
   pub places_are : IsBytes (flat_map record_spelling m) → IsMemory m
-  places_are bytes = memory_is m places_end (not_true _ (last_holds _ _ tt parts.1)) (record_bytes m bytes)
+  places_are bytes = memory_is m places_end (last_not _ _ tt parts.1) (record_bytes m bytes)
 
 -- ---- pointers
 
@@ -96,23 +93,14 @@ record Facts (p : Plan) (file : List ℕ) : Type 0 where
   pub ok : Passed p
   pub image : flat_map record_spelling (records_of p) ≡ file
 
-abbrev done : List ℕ → Result (List ℕ) WriteError
-done x = Ok x
-
 abbrev lists : List (List ℕ) → Result (List (List ℕ)) AcpiError
 lists x = Ok x
-
-same_lists : (x y : List (List ℕ)) → lists x ≡ lists y → x ≡ y
-same_lists x y e = cc
-
-same_file : (x y : List ℕ) → done x ≡ done y → x ≡ y
-same_file x y e = cc
 
 facts : (p : Plan) (file : List ℕ) → written p ≡ Ok file → Facts p file
 unfolding written
 facts p file e =
     let parts = bind_ok (check_plan p) _ file e in
-    record { ok = passed p parts.0 parts.1; image = same_file _ _ parts.2 }
+    record { ok = passed p parts.0 parts.1; image = same_ok _ _ parts.2 }
 
 module _ (p : Plan) (ok : Passed p) (memory : IsMemory (records_of p)) where
   ends : Ends (records_of p)
@@ -133,13 +121,13 @@ module _ (p : Plan) (ok : Passed p) (memory : IsMemory (records_of p)) where
   pointers_there = pointers_are (kind_of p) (pointers_of p)
       (pointers_narrow (p.revision == 0) p.tables ends.1.1 (λ first. (low first).1))
 
-  rsdp_tested : IsRsdp p.revision p.root (rsdp_to p.revision p.root)
-  rsdp_tested = is_rsdp p.revision p.root (not_true (p.root == 0) ok.some) (omega (arith, ends.1.0))
-      (λ first. (low first).0)
+  rsdp_tested : IsRsdp (spaces 6) p.revision p.root (rsdp_to (spaces 6) p.revision p.root)
+  rsdp_tested = is_rsdp (spaces 6) p.revision p.root refl spaces_text (not_true (p.root == 0) ok.some)
+      (omega (arith, ends.1.0)) (λ first. (low first).0)
 
-  rsdp_is : rsdp_at (records_of p) p.rsdp ≡ Ok (rsdp_to p.revision p.root)
+  rsdp_is : rsdp_at (records_of p) p.rsdp ≡ Ok (rsdp_to (spaces 6) p.revision p.root)
   rsdp_is = rsdp_there (records_of p) (rsdp_record p.rsdp p.revision p.root) memory (every_in (records_of p)).0
-      (length-rsdp_to p.revision p.root) p.revision p.root rsdp_tested
+      (length-rsdp_to (spaces 6) p.revision p.root refl) (spaces 6) p.revision p.root rsdp_tested
 
   opened_is : opened_by_rsdp (records_of p) p.rsdp ≡ Ok (opened_of p)
   opened_is = rw (rsdp_is, rsdp_tested.leads_to, root_is) refl
@@ -173,7 +161,7 @@ moved_by : {A : Type 0} (n : Memory) (r : Result (List ℕ) AcpiError) (pointers
     → ((qs : List ℕ) → valid_tables n qs ≡ ts → defined n qs ≡ said)
     → (r >>= λ root. lists (valid_tables n (pointers_in root))) ≡ Ok ts
     → (r >>= λ root. defined n (pointers_in root)) ≡ said
-moved_by n (Ok root) pointers_in ts defined said each e = each (pointers_in root) (same_lists _ _ e)
+moved_by n (Ok root) pointers_in ts defined said each e = each (pointers_in root) (same_ok _ _ e)
 moved_by n (Err d) pointers_in ts defined said each e = absurd cc
 
 -- what follows the valid tables says the same of the image

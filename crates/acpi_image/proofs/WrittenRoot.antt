@@ -2,9 +2,9 @@
 -- tables.
 use Rattle.std.proofs.Common.{◌≡◌, ℕ, ◌^◌, ◌<◌, Bool, true, false, List, ◌∷◌, ◌++◌, length, take, Some, None, Result, Ok, refl, sym, ap, subst, ◌∙◌, arith, lit≤, lit<, if◌then◌else◌, zero, suc, [], drop, set, ◌==◌, ◌||◌, replicate, flat_map, Contains}
 use Rattle.acpi_base.specs.FromStd.{AllByRecursion, chars, is_utf8}
-use Rattle.acpi_base.proofs.FromStd.{length-take-le, take_all, append-nil, drop-set-lt, drop_at, get_or_past}
+use Rattle.acpi_base.proofs.FromStd.{take_all, append-nil, drop-set-lt, drop_at, get_or_past}
 use Rattle.acpi_base.proofs.Words.{number-spelling}
-use Rattle.acpi_base.specs.Words.{field_of, number, part, spelling, sum_of, IsBytes, Memory, Region, IsMemory, lent, check_names, header_at}
+use Rattle.acpi_base.specs.Words.{field_of, number, spelling, sum_of, IsBytes, Memory, Region, IsMemory, lent, check_names, header_at}
 use Rattle.acpi.specs.Types.{AcpiError}
 use Rattle.acpi.specs.Words.{root_of_revision, root_pointer, IsPointers, pointers, root_at, signature_of, width_of, check_first, check_length, check_sum, checked_length, root_of_rsdp, rsd_ptr, rsdp_at, rsdp_of}
 use Rattle.acpi.specs.declared.root.RootKind.TheVariants.{Rsdt, Xsdt}
@@ -13,128 +13,6 @@ use Rattle.acpi_image.specs.Words.{rsdp_to, rsdp_unsummed, spaces, sum_byte, wit
 use Rattle.acpi.proofs.Spelled.{one_pointers}
 use Rattle.acpi.specs.declared.root.RootKind.{RootKind}
 
--- an RSDP with these fields and checksums
-abbrev shape : (revision rsdt count xsdt x y : ℕ) → List ℕ
-shape revision rsdt count xsdt x y =
-    rsd_ptr ++ x ∷ spaces 6 ++ revision ∷ spelling 4 rsdt ++ spelling 4 count ++ spelling 8 xsdt ++ y ∷ replicate 3 0
-
-abbrev first_byte : (revision rsdt count xsdt : ℕ) → ℕ
-first_byte revision rsdt count xsdt = sum_byte 8 (take 20 (rsdp_unsummed revision rsdt count xsdt))
-
-first_is : (revision rsdt count xsdt : ℕ)
-    → with_first_sum (rsdp_unsummed revision rsdt count xsdt) ≡ shape revision rsdt count xsdt
-    (first_byte revision rsdt count xsdt) 0
-unfolding with_first_sum with_sum rsdp_unsummed spelling
-first_is revision rsdt count xsdt = refl
-
-second_is : (revision rsdt count xsdt x : ℕ)
-    → with_sum 32 (shape revision rsdt count xsdt x 0) ≡ shape revision rsdt count xsdt x
-    (sum_byte 32 (shape revision rsdt count xsdt x 0))
-unfolding with_sum spelling
-second_is revision rsdt count xsdt x = refl
-
-front_is : (revision rsdt count xsdt y : ℕ)
-    → take 20 (shape revision rsdt count xsdt (first_byte revision rsdt count xsdt) y)
-    ≡ with_sum 8 (take 20 (rsdp_unsummed revision rsdt count xsdt))
-unfolding with_sum rsdp_unsummed spelling
-front_is revision rsdt count xsdt y = refl
-
--- the first 20 bytes sum to 0
-front_sum : (revision rsdt count xsdt y : ℕ)
-    → sum_of (take 20 (shape revision rsdt count xsdt (first_byte revision rsdt count xsdt) y)) ≡ 0
-front_sum revision rsdt count xsdt y =
-    ap sum_of (front_is revision rsdt count xsdt y)
-    ∙ sum_is_set 8 (take 20 (rsdp_unsummed revision rsdt count xsdt))
-    (omega (
-      arith,
-      length-take-le 20 (rsdp_unsummed revision rsdt count xsdt)
-          (omega (arith, length-rsdp_unsummed revision rsdt count xsdt)),
-    ))
-
--- fields of what an RSDP is read as
-rsdp_signature : (b : List ℕ) → (rsdp_of b).signature ≡ part b 0 8
-unfolding rsdp_of
-rsdp_signature b = refl
-
-rsdp_id : (b : List ℕ) → (rsdp_of b).oem_id ≡ part b 9 6
-unfolding rsdp_of
-rsdp_id b = refl
-
-rsdp_revision : (b : List ℕ) → (rsdp_of b).revision ≡ field_of b 15 1
-unfolding rsdp_of
-rsdp_revision b = refl
-
-rsdp_rsdt : (b : List ℕ) → (rsdp_of b).rsdt_address ≡ field_of b 16 4
-unfolding rsdp_of
-rsdp_rsdt b = refl
-
-rsdp_length : (b : List ℕ) → (rsdp_of b).length ≡ field_of b 20 4
-unfolding rsdp_of
-rsdp_length b = refl
-
-rsdp_xsdt : (b : List ℕ) → (rsdp_of b).xsdt_address ≡ field_of b 24 8
-unfolding rsdp_of
-rsdp_xsdt b = refl
-
-module _ (revision rsdt count xsdt x y : ℕ) where
-  abbrev bytes : List ℕ
-  bytes = shape revision rsdt count xsdt x y
-
-  signature_is : part bytes 0 8 ≡ rsd_ptr
-  unfolding spelling
-  signature_is = refl
-
-  id_is : part bytes 9 6 ≡ spaces 6
-  unfolding spelling
-  id_is = refl
-
-  revision_is : field_of bytes 15 1 ≡ revision
-  unfolding spelling field_of
-  revision_is = omega arith
-
-  rsdt_is : field_of bytes 16 4 ≡ number (spelling 4 rsdt)
-  unfolding spelling field_of
-  rsdt_is = refl
-
-  count_is : field_of bytes 20 4 ≡ number (spelling 4 count)
-  unfolding spelling field_of
-  count_is = refl
-
-  xsdt_is : field_of bytes 24 8 ≡ number (spelling 8 xsdt)
-  unfolding spelling field_of
-  xsdt_is = refl
-
-  is_text : is_utf8 (spaces 6) ≡ true
-  unfolding is_utf8 chars lib.Utf8.encode
-  is_text = refl
-
-  first_passes : sum_of (take 20 bytes) ≡ 0 → check_first bytes ≡ Ok tt
-  unfolding check_first check_sum
-  first_passes zero_sum =
-      let signature : (rsdp_of bytes).signature ≡ rsd_ptr = rsdp_signature bytes ∙ signature_is in
-      let id : (rsdp_of bytes).oem_id ≡ spaces 6 = rsdp_id bytes ∙ id_is in
-      rw (signature, id, is_text, zero_sum) refl
-
-  revision_of : (rsdp_of bytes).revision ≡ revision
-  revision_of = rsdp_revision bytes ∙ revision_is
-
-  lengths : sum_of (take 20 bytes) ≡ 0 → checked_length bytes ≡ check_length
-      (if revision == 0 then None else Some (number (spelling 4 count)))
-  unfolding checked_length
-  lengths zero_sum =
-      let many : (rsdp_of bytes).length ≡ number (spelling 4 count) = rsdp_length bytes ∙ count_is in
-      rw (first_passes zero_sum, revision_of, many) refl
-
-  leads : root_of_rsdp bytes ≡ (if revision == 0 || number (spelling 8 xsdt) == 0
-      then root_pointer revision Rsdt (number (spelling 4 rsdt)) else root_pointer revision Xsdt
-      (number (spelling 8 xsdt)))
-  leads =
-      let first : (rsdp_of bytes).rsdt_address ≡ number (spelling 4 rsdt) = rsdp_rsdt bytes ∙ rsdt_is in
-      let second : (rsdp_of bytes).xsdt_address ≡ number (spelling 8 xsdt) = rsdp_xsdt bytes ∙ xsdt_is in
-      rw (revision_of, first, second) refl
-
--- ---- the two forms
-
 never : {b : Bool} → b ≡ true → b ≡ false → ⊥
 never e f = absurd cc
 
@@ -142,52 +20,129 @@ abbrev done : List ℕ → Result (List ℕ) AcpiError
 done x = Ok x
 
 -- what is tested of an RSDP, and what it leads to
-pub record IsRsdp (revision root : ℕ) (b : List ℕ) : Type 0 where
+pub record IsRsdp (oem_id : List ℕ) (revision root : ℕ) (b : List ℕ) : Type 0 where
   pub many : checked_length b ≡ check_length (if revision == 0 then None else Some 36)
   pub whole : (revision == 0) ≡ false → sum_of b ≡ 0
+  pub id_is : (rsdp_of b).oem_id ≡ oem_id
   pub leads_to : root_of_rsdp b ≡ root_of_revision revision root
 
-first_form : (revision root : ℕ) → (revision == 0) ≡ true → root < 2 ^ 32
-    → IsRsdp revision root (with_first_sum (rsdp_unsummed revision root 0 0))
-first_form revision root first small =
-    let x = first_byte revision root 0 0 in
-    subst (λ (b : List ℕ). IsRsdp revision root b) (sym (first_is revision root 0 0)) (record {
-      many = lengths revision root 0 0 x 0 (front_sum revision root 0 0 0) ∙ rw first refl;
-      whole = λ other. absurd (never first other);
-      leads_to = leads revision root 0 0 x 0 ∙ rw (first, number-spelling 4 root small) refl;
-    })
+-- an OEMID of six bytes that are a text
+module _ (a b c d e f : ℕ) where
+  abbrev id : List ℕ
+  id = a ∷ b ∷ c ∷ d ∷ e ∷ f ∷ []
 
-second_form : (revision root : ℕ) → (revision == 0) ≡ false → (root == 0) ≡ false → root < 2 ^ 64
-    → IsRsdp revision root (with_sum 32 (with_first_sum (rsdp_unsummed revision 0 36 root)))
-second_form revision root later some small =
-    let x = first_byte revision 0 36 root in
-    let y = sum_byte 32 (shape revision 0 36 root x 0) in
-    let same : with_sum 32 (with_first_sum (rsdp_unsummed revision 0 36 root)) ≡ shape revision 0 36 root x y =
-    ap (with_sum 32) (first_is revision 0 36 root) ∙ second_is revision 0 36 root x in
-    let summed = sum_is_set 32 (with_first_sum (rsdp_unsummed revision 0 36 root))
-    (omega (
-      arith,
-      length-with_first_sum (rsdp_unsummed revision 0 36 root),
-      length-rsdp_unsummed revision 0 36 root,
-    )) in
-    subst (λ (b : List ℕ). IsRsdp revision root b) (sym same) (record {
-      many = lengths revision 0 36 root x y (front_sum revision 0 36 root y)
-          ∙ rw (later, number-spelling 4 36 (lit< tt)) refl;
-      whole = λ other. rw same at summed;
-      leads_to = leads revision 0 36 root x y ∙ rw (later, number-spelling 8 root small, some) refl;
-    })
+  module _ (text : is_utf8 id ≡ true) (revision rsdt count xsdt : ℕ) where
+    abbrev first_byte : ℕ
+    first_byte = sum_byte 8 (take 20 (rsdp_unsummed id revision rsdt count xsdt))
 
-by_form : (first : Bool) (revision root : ℕ) → (revision == 0) ≡ first → (root == 0) ≡ false → root < 2 ^ 64
-    → (first ≡ true → root < 2 ^ 32)
-    → IsRsdp revision root (if first then with_first_sum (rsdp_unsummed revision root 0 0)
-    else with_sum 32 (with_first_sum (rsdp_unsummed revision 0 36 root)))
-by_form true revision root e some small less = first_form revision root e (less refl)
-by_form false revision root e some small less = second_form revision root e some small
+    -- an RSDP with these fields, whose first 20 bytes sum to 0
+    abbrev shape : ℕ → List ℕ
+    shape y = rsd_ptr ++ first_byte ∷ id ++ revision ∷ spelling 4 rsdt ++ spelling 4 count ++ spelling 8 xsdt
+        ++ y ∷ replicate 3 0
 
-pub is_rsdp : (revision root : ℕ) → (root == 0) ≡ false → root < 2 ^ 64 → ((revision == 0) ≡ true → root < 2 ^ 32)
-    → IsRsdp revision root (rsdp_to revision root)
+    first_is : with_first_sum (rsdp_unsummed id revision rsdt count xsdt) ≡ shape 0
+    unfolding with_first_sum with_sum rsdp_unsummed spelling
+    first_is = refl
+
+    second_is : with_sum 32 (shape 0) ≡ shape (sum_byte 32 (shape 0))
+    unfolding with_sum spelling
+    second_is = refl
+
+    front_is : (y : ℕ) → take 20 (shape y) ≡ with_sum 8 (take 20 (rsdp_unsummed id revision rsdt count xsdt))
+    unfolding with_sum rsdp_unsummed spelling
+    front_is y = refl
+
+    front_long : length (take 20 (rsdp_unsummed id revision rsdt count xsdt)) ≡ 20
+    unfolding rsdp_unsummed spelling
+    front_long = refl
+
+    front_sum : (y : ℕ) → sum_of (take 20 (shape y)) ≡ 0
+    front_sum y = ap sum_of (front_is y) ∙ sum_is_set 8 _ (omega (arith, front_long))
+
+    module _ (y : ℕ) where
+      signature_is : (rsdp_of (shape y)).signature ≡ rsd_ptr
+      unfolding rsdp_of spelling
+      signature_is = refl
+
+      id_is : (rsdp_of (shape y)).oem_id ≡ id
+      unfolding rsdp_of spelling
+      id_is = refl
+
+      revision_is : (rsdp_of (shape y)).revision ≡ revision
+      unfolding rsdp_of spelling field_of
+      revision_is = omega arith
+
+      rsdt_is : (rsdp_of (shape y)).rsdt_address ≡ number (spelling 4 rsdt)
+      unfolding rsdp_of spelling field_of
+      rsdt_is = refl
+
+      count_is : (rsdp_of (shape y)).length ≡ number (spelling 4 count)
+      unfolding rsdp_of spelling field_of
+      count_is = refl
+
+      xsdt_is : (rsdp_of (shape y)).xsdt_address ≡ number (spelling 8 xsdt)
+      unfolding rsdp_of spelling field_of
+      xsdt_is = refl
+
+      lengths : checked_length (shape y) ≡ check_length (if revision == 0 then None else Some (number (spelling 4 count)))
+      unfolding checked_length check_first check_sum
+      lengths = rw (signature_is, id_is, text, front_sum y, revision_is, count_is) refl
+
+      leads : root_of_rsdp (shape y) ≡ (if revision == 0 || number (spelling 8 xsdt) == 0
+          then root_pointer revision Rsdt (number (spelling 4 rsdt))
+          else root_pointer revision Xsdt (number (spelling 8 xsdt)))
+      leads = rw (revision_is, rsdt_is, xsdt_is) refl
+
+  module _ (text : is_utf8 id ≡ true) (revision root : ℕ) where
+    -- ---- the two forms
+
+    first_form : (revision == 0) ≡ true → root < 2 ^ 32
+        → IsRsdp id revision root (with_first_sum (rsdp_unsummed id revision root 0 0))
+    first_form first small =
+        subst (IsRsdp id revision root) (sym (first_is text revision root 0 0)) (record {
+          many = lengths text revision root 0 0 0 ∙ rw first refl;
+          whole = λ other. absurd (never first other);
+          id_is = id_is text revision root 0 0 0;
+          leads_to = leads text revision root 0 0 0 ∙ rw (first, number-spelling 4 root small) refl;
+        })
+
+    second_form : (revision == 0) ≡ false → (root == 0) ≡ false → root < 2 ^ 64
+        → IsRsdp id revision root (with_sum 32 (with_first_sum (rsdp_unsummed id revision 0 36 root)))
+    second_form later some small =
+        let y = sum_byte 32 (shape text revision 0 36 root 0) in
+        let same : with_sum 32 (with_first_sum (rsdp_unsummed id revision 0 36 root)) ≡ shape text revision 0 36 root y =
+        ap (with_sum 32) (first_is text revision 0 36 root) ∙ second_is text revision 0 36 root in
+        let summed = sum_is_set 32 (with_first_sum (rsdp_unsummed id revision 0 36 root)) (omega (
+          arith,
+          length-with_first_sum (rsdp_unsummed id revision 0 36 root),
+          length-rsdp_unsummed id revision 0 36 root refl,
+        )) in
+        subst (IsRsdp id revision root) (sym same) (record {
+          many = lengths text revision 0 36 root y ∙ rw (later, number-spelling 4 36 (lit< tt)) refl;
+          whole = λ other. rw same at summed;
+          id_is = id_is text revision 0 36 root y;
+          leads_to = leads text revision 0 36 root y ∙ rw (later, number-spelling 8 root small, some) refl;
+        })
+
+    by_form : (first : Bool) → (revision == 0) ≡ first → (root == 0) ≡ false → root < 2 ^ 64
+        → (first ≡ true → root < 2 ^ 32)
+        → IsRsdp id revision root (if first then with_first_sum (rsdp_unsummed id revision root 0 0)
+        else with_sum 32 (with_first_sum (rsdp_unsummed id revision 0 36 root)))
+    by_form true e some small less = first_form e (less refl)
+    by_form false e some small less = second_form e some small
+
+pub is_rsdp : (oem_id : List ℕ) (revision root : ℕ) → length oem_id ≡ 6 → is_utf8 oem_id ≡ true → (root == 0) ≡ false
+    → root < 2 ^ 64 → ((revision == 0) ≡ true → root < 2 ^ 32)
+    → IsRsdp oem_id revision root (rsdp_to oem_id revision root)
 unfolding rsdp_to
-is_rsdp revision root some small less = by_form (revision == 0) revision root refl some small less
+is_rsdp (a ∷ b ∷ c ∷ d ∷ e ∷ f ∷ []) revision root long text some small less =
+    by_form a b c d e f text revision root (revision == 0) refl some small less
+is_rsdp _ revision root long text some small less = absurd (omega (arith, long))
+
+-- that of an image
+pub spaces_text : is_utf8 (spaces 6) ≡ true
+unfolding is_utf8 chars lib.Utf8.encode
+spaces_text = refl
 
 -- ---- at its address
 
@@ -202,8 +157,9 @@ module _ (m : Memory) (r : Region) (h : IsMemory m) (c : Contains m r) (long : l
   there_by false many whole = rw (lent_whole, many, lent_whole, whole refl) refl
 
   -- the RSDP that fills a region is valid at its address
-  pub rsdp_there : (revision root : ℕ) → IsRsdp revision root r.bytes → rsdp_at m r.start ≡ Ok r.bytes
-  rsdp_there revision root is = there_by (revision == 0) is.many is.whole
+  pub rsdp_there : (oem_id : List ℕ) (revision root : ℕ) → IsRsdp oem_id revision root r.bytes
+      → rsdp_at m r.start ≡ Ok r.bytes
+  rsdp_there oem_id revision root is = there_by (revision == 0) is.many is.whole
 
 -- ---- the root table is valid, and its pointers are the addresses of the tables
 

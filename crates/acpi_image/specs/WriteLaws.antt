@@ -8,7 +8,7 @@ use Rattle.acpi.specs.Words.{below, valid_tables, Opened, opened_by_rsdp, pointe
 use Rattle.acpi.specs.declared.root.RootKind.{RootKind}
 use Rattle.acpi_image_reader.specs.Words.{IsImage, records_in}
 use Rattle.acpi_image.specs.WriteChecks.{written}
-use Rattle.acpi_image.specs.Written.{Plan, kind_of, pointers_of, records_of, root_to, rsdp_to, tables_of, with_sum}
+use Rattle.acpi_image.specs.Written.{Plan, kind_of, pointers_of, records_of, root_to, rsdp_to, spaces, tables_of, with_sum}
 
 -- the byte that is set makes the sum 0
 abbrev pub SumIsSet : Type 0
@@ -37,7 +37,7 @@ pub record IsWritten (p : Plan) (file : List ℕ) : Type 0 where
   pub image : IsImage file (records_of p)
   pub memory : IsMemory (records_of p)
   pub read : records_in file ≡ Ok (records_of p)
-  pub rsdp : rsdp_at (records_of p) p.rsdp ≡ Ok (rsdp_to p.revision p.root)
+  pub rsdp : rsdp_at (records_of p) p.rsdp ≡ Ok (rsdp_to (spaces 6) p.revision p.root)
   pub opened : opened_by_rsdp (records_of p) p.rsdp ≡ Ok (opened_of p)
   pub root : root_at (records_of p) (kind_of p) p.root ≡ Ok (opened_of p).root
   pub listed : pointers (width_of (kind_of p)) (drop 36 (opened_of p).root) ≡ pointers_of p

@@ -41,23 +41,23 @@ spaces n = replicate n 32
 
 -- ---- the RSDP
 
--- its fields in order (section 5.2.5.3): Signature, a Checksum of 0, an OEMID of six spaces, Revision, RsdtAddress,
--- Length, XsdtAddress, an Extended Checksum of 0 and three bytes that are Reserved
-unfoldable pub rsdp_unsummed : ℕ → ℕ → ℕ → ℕ → List ℕ
-rsdp_unsummed revision rsdt count xsdt =
-    rsd_ptr ++ 0 ∷ spaces 6 ++ revision ∷ spelling 4 rsdt
-    ++ spelling 4 count ++ spelling 8 xsdt ++ replicate 4 0
+-- its fields in order (section 5.2.5.3): Signature, a Checksum of 0, OEMID, Revision, RsdtAddress, Length, XsdtAddress,
+-- an Extended Checksum of 0 and three bytes that are Reserved
+unfoldable pub rsdp_unsummed : List ℕ → ℕ → ℕ → ℕ → ℕ → List ℕ
+rsdp_unsummed oem_id revision rsdt count xsdt =
+    rsd_ptr ++ (0 ∷ (oem_id ++ (revision ∷ (spelling 4 rsdt
+    ++ (spelling 4 count ++ (spelling 8 xsdt ++ replicate 4 0))))))
 
 -- Checksum, byte 8, makes the first 20 bytes sum to 0
 unfoldable pub with_first_sum : List ℕ → List ℕ
 with_first_sum bytes = with_sum 8 (take 20 bytes) ++ drop 20 bytes
 
--- the RSDP of a revision that leads to the root table at an address: the RSDT for revision 0, with zeros after the
+-- the RSDP of an OEMID and a revision that leads to the root table at an address: the RSDT for revision 0, with zeros after the
 -- first 20 bytes, else the XSDT, and Extended Checksum, byte 32, makes all 36 bytes sum to 0
-unfoldable pub rsdp_to : ℕ → ℕ → List ℕ
-rsdp_to revision root =
-    if revision == 0 then with_first_sum (rsdp_unsummed revision root 0 0)
-    else with_sum 32 (with_first_sum (rsdp_unsummed revision 0 36 root))
+unfoldable pub rsdp_to : List ℕ → ℕ → ℕ → List ℕ
+rsdp_to oem_id revision root =
+    if revision == 0 then with_first_sum (rsdp_unsummed oem_id revision root 0 0)
+    else with_sum 32 (with_first_sum (rsdp_unsummed oem_id revision 0 36 root))
 
 -- ---- the root table
 
@@ -102,8 +102,9 @@ summed t = record { start = t.start; bytes = with_sum 9 t.bytes }
 abbrev pub tables_of : Plan → List (List ℕ)
 tables_of p = map (λ t. with_sum 9 t.bytes) p.tables
 
+-- the OEMID of an image's RSDP is six spaces
 abbrev pub rsdp_record : ℕ → ℕ → ℕ → Region
-rsdp_record address revision root = record { start = address; bytes = rsdp_to revision root }
+rsdp_record address revision root = record { start = address; bytes = rsdp_to (spaces 6) revision root }
 
 abbrev pub root_record : RootKind → ℕ → List ℕ → Region
 root_record kind address pointers = record { start = address; bytes = root_to kind pointers }

@@ -1,101 +1,20 @@
 -- A file is read one record at a time, as the regions whose records it is, and as no others.
-use Rattle.std.proofs.Common.{◌≡◌, ℕ, zero, suc, ◌<◌, ◌≤◌, Bool, true, false, nat_lt, List, [], ◌∷◌, ◌++◌, ◌+◌, length, Result, Ok, Err, refl, sym, ◌∙◌, arith, ◌^◌, not, take, drop, ap, subst, drop-drop, append_assoc, IsErrAnd, IfOk, ◌↔◌, flat_map}
-use Rattle.acpi_base.proofs.FromStd.{le-ltb, lt-ltb, leb-true, le-leb, ltb-true, length-append, nil_from_length, length-take, length-take-le, length-drop, take-append-drop, append-nil, take-append_seam, drop-append_seam}
-use Rattle.acpi_base.specs.Words.{Memory, Region, IsMemory, IsRegion, end_of, ◌>>=◌, holds, IsBytes, number, spelling, field_of}
-use Rattle.acpi_image_reader.specs.Words.{next_at, records_from, records_in, records_with, ample, GivesOrRunsOut, Refuses, RunsOut, IsImage, record_at, record_spelling, shares_any, ImageError, memory_of, MemoryImage}
-use Rattle.acpi_base.proofs.Words.{bind_ok, holds_ok, IsBytes-drop, IsBytes-take, length-spelling, number-spelling, spelling-number}
-use Rattle.acpi_image_reader.proofs.Sharing.{all_apart, memory_at, memory_with, shares_none}
+use Rattle.std.proofs.Common.{◌≡◌, ◌≢◌, ℕ, zero, suc, ◌<◌, ◌≤◌, false, List, [], ◌∷◌, ◌++◌, ◌+◌, length, Result, Ok, Err, refl, sym, ◌∙◌, arith, ◌^◌, take, drop, ap, subst, drop-drop, append_assoc, IsErrAnd, IfOk, ◌↔◌, flat_map}
+use Rattle.acpi_base.proofs.FromStd.{lt-ltb, leb-true, le-leb, ltb-true, length-append, nil_from_length, length-take, length-take-le, length-drop, take-append-drop, append-nil, flat_map-append, take-append_seam, drop-append_seam}
+use Rattle.acpi_base.specs.Words.{Memory, Region, IsMemory, IsRegion, end_of, ◌>>=◌, IsBytes, number, spelling, field_of}
+use Rattle.acpi_image_reader.specs.Words.{next_at, records_from, records_in, GivesOrRunsOut, Refuses, RunsOut, IsImage, record_at, record_spelling, shares_any, ImageError, memory_of, MemoryImage}
+use Rattle.acpi_base.proofs.Words.{bind_ok, holds_ok, same_ok, IsBytes-drop, IsBytes-take, length-spelling, number-spelling, spelling-number}
+use Rattle.acpi_image_reader.proofs.Sharing.{all_apart, memory_at, memory_with, not_true, shares_none}
 use Rattle.acpi_image_reader.specs.declared.error.ImageError.TheVariants as refusal
 
--- the next record, and those after it
-abbrev pub step_from : (ℕ → Bool) → ℕ → Memory → List ℕ → Result Memory ImageError
-step_from granted n kept left = next_at kept left >>= λ found.
-    (holds (granted (length kept)) refusal.OutOfMemory >>= λ _. records_from granted n (kept ++ (found.0 ∷ [])) found.1)
+records_nil : (n : ℕ) (kept : Memory) → records_from n kept [] ≡ Ok kept
+records_nil zero kept = refl
+records_nil (suc n) kept = refl
 
-pub records_step : (granted : ℕ → Bool) (n : ℕ) (kept : Memory) (left : List ℕ) → 0 < length left
-    → records_from granted (suc n) kept left ≡ step_from granted n kept left
-records_step granted n kept [] some = absurd (omega arith)
-records_step granted n kept (b ∷ bs) some = refl
-
-pub records_nil : (granted : ℕ → Bool) (n : ℕ) (kept : Memory) → records_from granted n kept [] ≡ Ok kept
-records_nil granted zero kept = refl
-records_nil granted (suc n) kept = refl
-
--- memory is granted for each of the first k regions
-abbrev pub Grants : (ℕ → Bool) → ℕ → Type 0
-Grants granted k = (i : ℕ) → i < k → granted i ≡ true
-
--- these lead to what the file leads to, wherever there was memory for the regions that are kept
-abbrev pub Leads : ((ℕ → Bool) → Result Memory ImageError) → Memory → List ℕ → Type 0
-Leads goes kept file = (granted : ℕ → Bool) → Grants granted (length kept) → goes granted ≡ records_with granted file
-
--- the regions that are kept and the bytes that are left lead to what the file leads to
-pub record IsReading (kept : Memory) (left file : List ℕ) : Type 0 where
-  pub most : ℕ
-  pub room : length left ≤ most
-  pub same : Leads (λ granted. records_from granted most kept left) kept file
-
-pub reading_begins : (file : List ℕ) → IsReading [] file file
-unfolding records_with
-reading_begins file = record { most = length file; room = omega arith; same = λ granted h. refl }
-
--- the regions that are kept and the bytes that are left, of which there are some, lead to what the file leads to
-record IsStep (kept : Memory) (left file : List ℕ) : Type 0 where
-  pub more : ℕ
-  pub room : length left ≤ suc more
-  pub same : Leads (λ granted. step_from granted more kept left) kept file
-
-step_of : (most : ℕ) (kept : Memory) (left file : List ℕ) → 0 < length left → length left ≤ most
-    → Leads (λ granted. records_from granted most kept left) kept file → IsStep kept left file
-step_of zero kept left file some room same = absurd (omega arith)
-step_of (suc n) kept left file some room same = record {
-  more = n;
-  room = room;
-  same = λ granted h. rw (records_step granted n kept left some) at (same granted h);
-}
-
--- a refusal that is defined is one that a call may answer
-refuses : (file : List ℕ) (x : ImageError) → records_in file ≡ Err x → Refuses file x (records_in file)
-refuses file refusal.Truncated e = e
-refuses file refusal.EndTooLarge e = e
-refuses file refusal.Overlap e = e
-refuses file refusal.OutOfMemory e = (ample, e)
-
-module _ (kept : Memory) (left file : List ℕ) (so_far : IsReading kept left file) where
-  -- no byte is left
-  pub reading_ends : length left ≡ 0 → records_in file ≡ Ok kept
-  reading_ends none =
-      let empty : left ≡ [] = nil_from_length left none in
-      sym (so_far.same ample (λ i less. refl)) ∙ rw empty (records_nil ample so_far.most kept)
-
-  module _ (some : 0 < length left) where
-    step : IsStep kept left file
-    step = step_of so_far.most kept left file some so_far.room so_far.same
-
-    -- the next record is read
-    pub reading_goes_on : (found : Region × List ℕ) → length found.1 < length left → next_at kept left ≡ Ok found
-        → IsReading (kept ++ (found.0 ∷ [])) found.1 file
-    reading_goes_on found less next = record {
-      most = step.more;
-      room = omega (arith, step.room);
-      same = λ granted h.
-          let all : length (kept ++ (found.0 ∷ [])) ≡ length kept + 1 = length-append kept (found.0 ∷ []) in
-          rw (next, h (length kept) (omega arith)) at (step.same granted (λ i less. h i (omega arith)));
-    }
-
-    -- the next record is refused
-    refused : (x : ImageError) → next_at kept left ≡ Err x → records_in file ≡ Err x
-    refused x next = sym (rw next at (step.same ample (λ i less. refl)))
-
-    pub reading_refuses : (x : ImageError) → next_at kept left ≡ Err x → Refuses file x (records_in file)
-    reading_refuses x next = refuses file x (refused x next)
-
-    -- there is no memory for the next record
-    pub reading_runs_out : (found : Region × List ℕ) → next_at kept left ≡ Ok found → RunsOut file
-    reading_runs_out found next =
-        let granted = λ (i : ℕ). nat_lt i (length kept) in
-        let past : granted (length kept) ≡ false = le-ltb (length kept) (length kept) (omega arith) in
-        (granted, sym (rw (next, past) at (step.same granted (λ i less. lt-ltb i (length kept) less))))
+records_step : (n : ℕ) (kept : Memory) (left : List ℕ) → 0 < length left → records_from (suc n) kept left
+    ≡ (next_at kept left >>= λ found. records_from n (kept ++ (found.0 ∷ [])) found.1)
+records_step n kept [] some = absurd (omega arith)
+records_step n kept (b ∷ bs) some = refl
 
 -- an answer that hands a refusal on
 pub handed_on : {X : Type 0} (file : List ℕ) (view : X → Memory) (r : Result X ImageError) (x : ImageError)
@@ -103,19 +22,12 @@ pub handed_on : {X : Type 0} (file : List ℕ) (view : X → Memory) (r : Result
 handed_on file view (Ok y) x said h k = absurd h
 handed_on file view (Err e) x said h k = rw h k
 
--- ---- the regions whose records a file is
-
--- ---- a step that was passed
-
-abbrev done : {A : Type 0} → A → Result A ImageError
-done x = Ok x
-
-ok_is : {A : Type 0} (x y : A) → done x ≡ done y → x ≡ y
-ok_is x y e = cc
-
-not_true : (b : Bool) → not b ≡ true → b ≡ false
-not_true true e = absurd cc
-not_true false e = refl
+refuses : (file : List ℕ) (x : ImageError) (said : Result Memory ImageError) → x ≢ refusal.OutOfMemory → said ≡ Err x
+    → Refuses file x said
+refuses file refusal.Truncated said other e = e
+refuses file refusal.EndTooLarge said other e = e
+refuses file refusal.Overlap said other e = e
+refuses file refusal.OutOfMemory said other e = absurd (other refl)
 
 -- ---- one record
 
@@ -168,7 +80,7 @@ record_is b found h e =
     let low : field_of b 0 8 + field_of b 8 8 < 2 ^ 64 = ltb-true _ _ s.0 in
     let many : length (take (field_of b 8 8) (drop 16 b)) ≡ field_of b 8 8 =
     length-take-le (field_of b 8 8) (drop 16 b) fits in
-    let same : front_of b ≡ found = ok_is _ _ s.1 in
+    let same : front_of b ≡ found = same_ok _ _ s.1 in
     subst (λ (f : Region × List ℕ). IsRead b f) same (record {
       parts = front_is b h room fits;
       region = (omega arith, IsBytes-take (field_of b 8 8) (drop 16 b) (IsBytes-drop 16 b h));
@@ -237,7 +149,7 @@ unfolding next_at
 next_is m b found e =
     let p = bind_ok _ _ _ e in
     let q = holds_ok _ _ _ _ p.2 in
-    let same : p.0 ≡ found = ok_is _ _ q.1 in
+    let same : p.0 ≡ found = same_ok _ _ q.1 in
     subst (λ (f : Region × List ℕ). (record_at b ≡ Ok f) × (shares_any m f.0 ≡ false)) same (p.1, not_true _ q.0)
 
 next_again : (m : Memory) (b : List ℕ) (found : Region × List ℕ) → record_at b ≡ Ok found → shares_any m found.0 ≡ false
@@ -247,48 +159,80 @@ next_again m b found e none = rw (e, none) refl
 
 -- ---- all records
 
--- what was read is the earlier regions, and those whose records the bytes are
-record AreRead (m : Memory) (b : List ℕ) (all : Memory) : Type 0 where
-  pub later : Memory
-  pub parts : b ≡ flat_map record_spelling later
-  pub joined : all ≡ m ++ later
-  pub memory : IsMemory all
+-- the regions that are kept are those of the file's front, and with at most n records of the bytes that are left they
+-- lead to what the file leads to
+pub record IsReading (n : ℕ) (kept : Memory) (left file : List ℕ) : Type 0 where
+  pub room : length left ≤ n
+  pub same : records_from n kept left ≡ records_in file
+  pub front : file ≡ flat_map record_spelling kept ++ left
+  pub memory : IsMemory kept
+  pub bytes : IsBytes left
 
-none_left : (m all : Memory) → IsMemory m → done m ≡ done all → AreRead m [] all
-none_left m all h e =
-    let same : m ≡ all = ok_is _ _ e in
-    record {
-      later = [];
-      parts = refl;
-      joined = sym same ∙ sym (append-nil m);
-      memory =
-          subst (λ (x : Memory). IsMemory x) same h;
-    }
+abbrev pub Reads : Memory → List ℕ → List ℕ → Type 0
+Reads kept left file = (n : ℕ) × IsReading n kept left file
 
-records_are : (n : ℕ) (m : Memory) (b : List ℕ) (all : Memory) → length b ≤ n → IsBytes b → IsMemory m
-    → records_from ample n m b ≡ Ok all → AreRead m b all
-records_are zero m [] all room h hm e = none_left m all hm e
-records_are zero m (b ∷ bs) all room h hm e = absurd (omega arith)
-records_are (suc n) m [] all room h hm e = none_left m all hm e
-records_are (suc n) m (b ∷ bs) all room h hm e =
-    let t = bind_ok _ _ _ e in
-    let one = next_is m (b ∷ bs) t.0 t.1 in
-    let front = record_is (b ∷ bs) t.0 h one.0 in
-    let more = memory_with m t.0.0 hm front.region (all_apart m t.0.0 one.1) in
-    let rest = records_are n (m ++ (t.0.0 ∷ [])) t.0.1 all (omega (arith, front.less)) front.rest more t.2 in
-    record {
-      later = t.0.0 ∷ rest.later;
-      parts = front.parts ∙ ap (λ (x : List ℕ). record_spelling t.0.0 ++ x) rest.parts;
-      joined = rest.joined ∙ append_assoc m (t.0.0 ∷ []) rest.later;
-      memory = rest.memory;
-    }
+pub reading_begins : (file : List ℕ) → IsBytes file → Reads [] file file
+unfolding records_in
+reading_begins file h =
+    (length file, record { room = omega arith; same = refl; front = refl; memory = tt; bytes = h })
+
+module _ (kept : Memory) (left file : List ℕ) where
+  -- no byte is left
+  pub reading_ends : length left ≡ 0 → Reads kept left file → records_in file ≡ Ok kept
+  reading_ends none r =
+      let empty : left ≡ [] = nil_from_length left none in
+      sym r.1.same ∙ rw empty (records_nil r.0 kept)
+
+  module _ (some : 0 < length left) where
+    one_more : (n : ℕ) (found : Region × List ℕ) → next_at kept left ≡ Ok found → IsReading (suc n) kept left file
+        → IsReading n (kept ++ (found.0 ∷ [])) found.1 file
+    one_more n found next r =
+        let one = next_is kept left found next in
+        let is = record_is left found r.bytes one.0 in
+        record {
+          room = omega (arith, is.less, r.room);
+          same = rw (records_step n kept left some, next) at r.same;
+          front = r.front ∙ ap (λ (x : List ℕ). flat_map record_spelling kept ++ x) is.parts
+              ∙ simp (flat_map-append, append_assoc, append-nil);
+          memory = memory_with kept found.0 r.memory is.region (all_apart kept found.0 one.1);
+          bytes = is.rest;
+        }
+
+    -- the next record is read
+    pub reading_goes_on : (found : Region × List ℕ) → next_at kept left ≡ Ok found → Reads kept left file
+        → Reads (kept ++ (found.0 ∷ [])) found.1 file
+    reading_goes_on found next (zero, r) = absurd (omega (arith, some, r.room))
+    reading_goes_on found next (suc n, r) = (n, one_more n found next r)
+
+    -- it is refused
+    pub reading_refuses : (x : ImageError) → x ≢ refusal.OutOfMemory → next_at kept left ≡ Err x → Reads kept left file
+        → Refuses file x (records_in file)
+    reading_refuses x other next (zero, r) = absurd (omega (arith, some, r.room))
+    reading_refuses x other next (suc n, r) =
+        refuses file x _ other (sym (rw (records_step n kept left some, next) at r.same))
+
+    -- there is no memory for it
+    pub reading_runs_out : (found : Region × List ℕ) → next_at kept left ≡ Ok found → Reads kept left file → RunsOut file
+    reading_runs_out found next r =
+        let more = (reading_goes_on found next r).1 in
+        record { earlier = kept; last = found.0; rest = found.1; front = more.front; memory = more.memory }
+
+all_read : (n : ℕ) (kept : Memory) (left file : List ℕ) (all : Memory) → IsReading n kept left file
+    → records_in file ≡ Ok all → IsImage file all × IsMemory all
+all_read n kept [] file all r e =
+    let same : kept ≡ all = same_ok _ _ (sym (records_nil n kept) ∙ r.same ∙ e) in
+    subst (λ (m : Memory). IsImage file m × IsMemory m) same (r.front ∙ append-nil _, r.memory)
+all_read zero kept (b ∷ bs) file all r e = absurd (omega (arith, r.room))
+all_read (suc n) kept (b ∷ bs) file all r e =
+    let t = bind_ok _ _ _ (r.same ∙ e) in
+    all_read n (kept ++ (t.0.0 ∷ [])) t.0.1 file all (one_more kept (b ∷ bs) file (omega arith) n t.0 t.1 r) e
 
 record_long : (r : Region) (rest : List ℕ) → 16 + length rest ≤ length (record_spelling r ++ rest)
 record_long r rest = simp (length-append, length-spelling) (omega arith)
 
 records_again : (n : ℕ) (m rs : Memory) → length (flat_map record_spelling rs) ≤ n → IsMemory (m ++ rs)
-    → records_from ample n m (flat_map record_spelling rs) ≡ Ok (m ++ rs)
-records_again n m [] room h = rw append-nil (records_nil ample n m)
+    → records_from n m (flat_map record_spelling rs) ≡ Ok (m ++ rs)
+records_again n m [] room h = rw append-nil (records_nil n m)
 records_again zero m (r ∷ rs) room h =
     let long = record_long r (flat_map record_spelling rs) in
     absurd (omega arith)
@@ -298,17 +242,14 @@ records_again (suc n) m (r ∷ rs) room h =
     let next = next_again m (record_spelling r ++ flat_map record_spelling rs) (r, flat_map record_spelling rs)
     (record_again r (flat_map record_spelling rs) here.0) (shares_none m r here.1) in
     let rest = records_again n (m ++ (r ∷ [])) rs (omega arith) (rw append_assoc h) in
-    records_step ample n m (record_spelling r ++ flat_map record_spelling rs) (omega arith)
-    ∙ rw next (rest ∙ ap (λ (x : Memory). done x) (append_assoc m (r ∷ []) rs))
+    records_step n m (record_spelling r ++ flat_map record_spelling rs) (omega arith)
+    ∙ rw next (rw append_assoc at rest)
 
 pub image_is : (file : List ℕ) (rs : Memory) → IsBytes file → records_in file ≡ Ok rs → IsImage file rs × IsMemory rs
-unfolding records_with
-image_is file rs h e =
-    let read = records_are (length file) [] file rs (omega arith) h tt e in
-    (read.parts ∙ ap (flat_map record_spelling) (sym read.joined), read.memory)
+image_is file rs h e = let begun = reading_begins file h in all_read begun.0 [] file file rs begun.1 e
 
 pub image_again : (file : List ℕ) (rs : Memory) → IsMemory rs → IsImage file rs → records_in file ≡ Ok rs
-unfolding records_with
+unfolding records_in
 image_again file rs h e = rw e (records_again (length (flat_map record_spelling rs)) [] rs (omega arith) h)
 
 -- the regions that a file is read as are a memory

@@ -3,13 +3,9 @@
 use Rattle.std.proofs.Common.{Option, ◌≡◌, ℕ, zero, suc, ◌-◌, ◌<◌, ◌≤◌, ◌==◌, ◌&&◌, nat_lt, Bool, true, false, List, [], ◌∷◌, ◌++◌, length, drop, slice_index_or, Some, None, IsSome, refl, sym, ap, subst, ◌∙◌, arith, inl, inr, ◌⊎◌, eq-eqb, ne_eqb, cond, take, option_map, Contains}
 use Rattle.acpi_base.proofs.FromStd.{and_parts, and_from, ltb-true, lt-ltb, eqb-true, cases_lt, or_right, and_right, cases_eq, le-ltb, le-leb, lt-leb, and_left, nat_tests, All-from_recursion, All-contains, recursion_from_All, Contains-get_or, take-length, map-append}
 use Rattle.acpi_base.specs.FromStd.{BTreeMap, get, is_eq, nat_cmp, AllByRecursion}
-use Rattle.acpi_base.specs.Words.{Memory, Region, AreApart, IsMemory, end_of, lies_in, rest_from, at}
+use Rattle.acpi_base.specs.Words.{Memory, Region, AreApart, end_of, lies_in, rest_from, at}
 use Rattle.acpi_image_reader.specs.Words.{share, shares_any, AreAllApart, ListsStarts, bytes_at, region_of, regions_of, Record}
-use Rattle.acpi_image_reader.proofs.Sharing.{all_apart, apart_is, inside, shares_none, within}
-
-pub all_apart_in : (m : Memory) → IsMemory m → AreAllApart m
-all_apart_in [] h = tt
-all_apart_in (r ∷ m) h = (h.1.0, all_apart_in m h.1.1)
+use Rattle.acpi_image_reader.proofs.Sharing.{all_apart, all_with, apart_is, inside, shares_none, within}
 
 pub flipped : (r s : Region) → AreApart r s → AreApart s r
 flipped r s h a hs hr = h a hr hs
@@ -294,15 +290,10 @@ starts_with view old new m start value now none some was a =
 
 -- ---- one more region that is apart from the others
 
-all_with : (r s : Region) (m : Memory) → AllByRecursion (AreApart r) m → AreApart r s
-    → AllByRecursion (AreApart r) (m ++ (s ∷ []))
-all_with r s [] h last = (last, tt)
-all_with r s (t ∷ m) h last = (h.0, all_with r s m h.1 last)
-
 apart_with : (m : Memory) (r : Region) → AreAllApart m → AllByRecursion (λ s. AreApart s r) m
     → AreAllApart (m ++ (r ∷ []))
 apart_with [] r h last = (tt, tt)
-apart_with (s ∷ m) r h last = (all_with s r m h.0 last.0, apart_with m r h.1 last.1)
+apart_with (s ∷ m) r h last = (all_with (AreApart s) m r h.0 last.0, apart_with m r h.1 last.1)
 
 pub more_apart : (m : Memory) (r : Region) → AreAllApart m → shares_any m r ≡ false → AreAllApart (m ++ (r ∷ []))
 more_apart m r h none = apart_with m r h (all_apart m r none)

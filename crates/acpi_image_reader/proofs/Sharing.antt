@@ -1,5 +1,5 @@
 -- When regions share a byte.
-use Rattle.std.proofs.Common.{◌≡◌, ℕ, ◌<◌, ◌≤◌, Bool, true, false, ◌||◌, sym, List, [], ◌∷◌, ◌++◌, length, refl, arith, inl, inr, ◌∙◌, ◌↔◌}
+use Rattle.std.proofs.Common.{◌≡◌, ℕ, ◌<◌, ◌≤◌, Bool, true, false, ◌||◌, not, sym, List, [], ◌∷◌, ◌++◌, length, refl, arith, inl, inr, ◌∙◌, ◌↔◌}
 use Rattle.acpi_base.proofs.FromStd.{and_parts, and_from, or_cases, or_parts, or_from, or_left, or_right, false_from_ne_true, leb-true, le-leb, ltb-true, lt-ltb, cases_lt, length-replicate}
 use Rattle.acpi_base.specs.FromStd.{AllByRecursion}
 use Rattle.acpi_base.specs.Words.{Memory, Region, AreApart, IsMemory, IsRegion, end_of, lies_in}
@@ -54,6 +54,10 @@ share_is r s h = false_from_ne_true _ (not_shared r s h)
 pub share_law : (r s : Region) (b : Bool) → b ≡ share r s → (b ≡ false) ↔ AreApart r s
 share_law r s b e = (λ no. apart_is r s (sym e ∙ no), λ apart. e ∙ share_is r s apart)
 
+pub not_true : (b : Bool) → not b ≡ true → b ≡ false
+not_true true e = absurd cc
+not_true false e = refl
+
 -- ---- it depends on starts and lengths alone
 
 pub record SamePlace (r s : Region) : Type 0 where
@@ -87,7 +91,7 @@ all_apart (s ∷ m) r h =
 
 -- ---- a region after a memory
 
-all_with : {X : Type 0} (P : X → Type 0) (xs : List X) (y : X) → AllByRecursion P xs → P y
+pub all_with : {X : Type 0} (P : X → Type 0) (xs : List X) (y : X) → AllByRecursion P xs → P y
     → AllByRecursion P (xs ++ (y ∷ []))
 all_with P [] y h hy = (hy, tt)
 all_with P (x ∷ xs) y h hy = (h.0, all_with P xs y h.1 hy)

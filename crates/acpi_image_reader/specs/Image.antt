@@ -1,6 +1,6 @@
 -- A file of memory is its records, one after the other, and nothing else.
-use Rattle.std.specs.Prelude.{◌≡◌, ℕ, ◌+◌, ◌^◌, zero, suc, nat_le, nat_lt, Result, Ok, Err, Bool, true, false, not, ◌&&◌, ◌||◌, List, [], ◌∷◌, ◌++◌, length, take, drop, flat_map}
-use Rattle.acpi_base.specs.Words.{spelling, field_of, Memory, Region, lies_in, ◌>>=◌, holds}
+use Rattle.std.specs.Prelude.{◌≡◌, ℕ, ◌+◌, ◌^◌, zero, suc, nat_le, nat_lt, Result, Ok, Err, Bool, false, not, ◌&&◌, ◌||◌, List, [], ◌∷◌, ◌++◌, length, take, drop, flat_map}
+use Rattle.acpi_base.specs.Words.{spelling, field_of, Memory, Region, IsMemory, lies_in, ◌>>=◌, holds}
 use Rattle.acpi_image_reader.specs.declared.error.ImageError.{ImageError}
 use Rattle.acpi_image_reader.specs.declared.error.ImageError.TheVariants as refusal
 
@@ -40,33 +40,27 @@ next_at earlier bytes = do
   _ ← holds (not (shares_any earlier found.0)) refusal.Overlap
   Ok found
 
--- ---- OutOfMemory in its place among the refusals: granted says, for each number of regions that are kept, whether
--- there is memory for one more
-
 -- the earlier regions, and then those of the bytes, at most n
-abbrev pub records_from : (ℕ → Bool) → ℕ → Memory → List ℕ → Result Memory ImageError
-records_from granted zero earlier bytes = Ok earlier
-records_from granted (suc n) earlier [] = Ok earlier
-records_from granted (suc n) earlier (b ∷ bs) = do
+abbrev pub records_from : ℕ → Memory → List ℕ → Result Memory ImageError
+records_from zero earlier bytes = Ok earlier
+records_from (suc n) earlier [] = Ok earlier
+records_from (suc n) earlier (b ∷ bs) = do
   found ← next_at earlier (b ∷ bs)
-  _ ← holds (granted (length earlier)) refusal.OutOfMemory
-  records_from granted n (earlier ++ (found.0 ∷ [])) found.1
+  records_from n (earlier ++ (found.0 ∷ [])) found.1
 
--- the regions of a file, or the first refusal; a file has fewer records than bytes
-unfoldable pub records_with : (ℕ → Bool) → List ℕ → Result Memory ImageError
-records_with granted file = records_from granted (length file) [] file
-
-abbrev pub ample : ℕ → Bool
-ample kept = true
-
--- the regions of a file, if there is memory for all of them, or the first error in the order of the records. What to
+-- the regions of a file, which has fewer records than bytes, or the first error in the order of the records. What to
 -- believe is `IsImage`: `MemoryImage::from_bytes` says that these are the one memory that the file encodes
-abbrev pub records_in : List ℕ → Result Memory ImageError
-records_in file = records_with ample file
+unfoldable pub records_in : List ℕ → Result Memory ImageError
+records_in file = records_from (length file) [] file
 
--- somewhere memory can run out, after a record that passed its checks and before any refusal
-abbrev pub RunsOut : List ℕ → Type 0
-RunsOut file = (granted : ℕ → Bool) × (records_with granted file ≡ Err refusal.OutOfMemory)
+-- memory can run out for a record that passed its checks, before any refusal: the file begins with the records of a
+-- memory, of which it is the last
+pub record RunsOut (file : List ℕ) : Type 0 where
+  pub earlier : Memory
+  pub last : Region
+  pub rest : List ℕ
+  pub front : file ≡ flat_map record_spelling (earlier ++ (last ∷ [])) ++ rest
+  pub memory : IsMemory (earlier ++ (last ∷ []))
 
 -- a refusal is the one that is defined; OutOfMemory comes only if memory can run out
 abbrev pub Refuses : {Y : Type 0} → List ℕ → ImageError → Result Y ImageError → Type 0

@@ -1,5 +1,6 @@
 //! Reading the records of a file, in order.
-ghost use Rattle.std.specs.Prelude.{◌≡◌, ◌<◌, false, length, IfOk};
+ghost use Rattle.std.specs.Prelude.{◌≡◌, ◌≢◌, ◌<◌, false, length, IfErr, IfOk};
+ghost use Rattle.acpi_image_reader.specs.declared.error.ImageError.TheVariants.{OutOfMemory};
 ghost use Rattle.acpi_base.specs.Words.{Gives};
 ghost use Rattle.acpi_image_reader.specs.Words.{GivesOrRunsOut, next_at, records_in, shares_any, region_of, regions_of};
 
@@ -18,6 +19,7 @@ fn next_record<'a, A: Allocator>(
     bytes: &'a [u8],
 ) -> Result<(Record<'a>, &'a [u8]), ImageError>
     ensures shorter { IfOk result (λ x. length x.1.now < length bytes.now) }
+    ensures named { IfErr result (λ e. e ≢ OutOfMemory) }
     ensures apart { IfOk result
         (λ x. shares_any (regions_of earlier.now.list.items) (region_of x.0) ≡ false) }
     ensures exact { Gives (λ x. (region_of x.0, x.1.now)) result

@@ -1,5 +1,6 @@
 //! One record of a file.
-ghost use Rattle.std.specs.Prelude.{◌^◌, ◌<◌, length, IfOk};
+ghost use Rattle.std.specs.Prelude.{◌≢◌, ◌^◌, ◌<◌, length, IfErr, IfOk};
+ghost use Rattle.acpi_image_reader.specs.declared.error.ImageError.TheVariants.{OutOfMemory};
 ghost use Rattle.acpi_base.specs.Words.{end_of, Gives};
 ghost use Rattle.acpi_image_reader.specs.Words.{record_at, region_of};
 
@@ -46,10 +47,7 @@ impl<'a> Record<'a> {
         ensures address { result.address ≡ self.now.start }
         ensures length { result.length ≡ length self.now.bytes.now }
     {
-        AddressRange {
-            address: self.start,
-            length: self.bytes.len() as u64,
-        }
+        AddressRange::new(self.start, self.bytes.len() as u64)
     }
 
     /// Whether some byte lies in this record and in another. One without bytes shares none.
@@ -69,6 +67,7 @@ impl<'a> Record<'a> {
 #[tactic(auto, unfolding(crate::specs::Image::record_at))]
 pub(crate) fn first_record(bytes: &[u8]) -> Result<(Record<'_>, &[u8]), ImageError>
     ensures shorter { IfOk result (λ x. length x.1.now < length bytes.now) }
+    ensures named { IfErr result (λ e. e ≢ OutOfMemory) }
     ensures fits { IfOk result (λ x. end_of (region_of x.0) < 2 ^ 64) }
     ensures exact { Gives (λ x. (region_of x.0, x.1.now)) result (record_at bytes.now) }
 {
@@ -81,7 +80,7 @@ pub(crate) fn first_record(bytes: &[u8]) -> Result<(Record<'_>, &[u8]), ImageErr
     if behind.len() < length {
         return Err(ImageError::Truncated);
     }
-    if length as u64 > u64::MAX - start {
+    if !AddressRange::new(start, length as u64).fits() {
         return Err(ImageError::EndTooLarge);
     }
     let record = Record {

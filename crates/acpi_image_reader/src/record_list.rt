@@ -1,6 +1,6 @@
 //! The records of a file, in its order and by their starts.
 ghost use Rattle.std.proofs.Props.{props};
-ghost use Rattle.std.specs.Prelude.{◌≡◌, ◌<◌, [], ◌∷◌, ◌++◌, false, IfErr, IsOk, OnOk, vec_capacity, vec_len};
+ghost use Rattle.std.specs.Prelude.{◌≡◌, ◌<◌, [], ◌∷◌, ◌++◌, false, IfErr, OnOk};
 ghost use Rattle.acpi_base.specs.Words.{Memory};
 ghost use Rattle.acpi_image_reader.specs.Image.{shares_any};
 ghost use Rattle.acpi_image_reader.specs.Regions.{region_of, regions_of};
@@ -12,23 +12,6 @@ use crate::record::Record;
 use crate::start_index::{add_start, last_up_to};
 use std::alloc::Allocator;
 use std::collections::BTreeMap;
-
-/// Keeps one more record, after the others.
-///
-/// Fails with `OutOfMemory` if memory for it is refused.
-fn keep<'a, A: Allocator>(
-    records: &mut Vec<Record<'a>, A>,
-    added: Record<'a>,
-) -> Result<(), ImageError>
-    ensures kept { OnOk result (records.new.items ≡ records.old.items ++ (added.entry ∷ [])) }
-    ensures refused { IfErr result (λ e. e ≡ OutOfMemory) }
-    ensures room { vec_len records.old < vec_capacity records.old → IsOk result }
-{
-    match records.push(added) {
-        Ok(()) => Ok(()),
-        Err(_) => Err(ImageError::OutOfMemory),
-    }
-}
 
 /// Keeps the start of one more record, which shares no byte with those of the list, if it has bytes.
 ///
@@ -99,7 +82,9 @@ impl<'a, A: Allocator> Records<'a, A> {
             mut starts,
         } = self;
         keep_start(&mut starts, &list, added)?;
-        keep(&mut list, added)?;
+        let Ok(()) = list.push(added) else {
+            return Err(ImageError::OutOfMemory);
+        };
         Ok(Records { list, starts })
     }
 

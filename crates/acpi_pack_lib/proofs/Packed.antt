@@ -3,16 +3,16 @@
 use Rattle.std.proofs.Common.{◌≡◌, ℕ, ◌+◌, ◌^◌, ◌<◌, ◌≤◌, false, List, [], ◌∷◌, ◌++◌, length, map, drop, Some, None, Result, Ok, refl, sym, ap, subst, ◌∙◌, arith, ne_eqb, ◌==◌, Option, Contains, ok_or}
 use Rattle.acpi_base.specs.FromStd.{AllByRecursion, Bor}
 use Rattle.acpi_base.proofs.FromStd.{ltb-true, append-nil, length-map, length-replicate, append_assoc, map-append}
-use Rattle.acpi_base.proofs.Words.{bind_ok, holds_ok}
+use Rattle.acpi_base.proofs.Words.{bind_ok, each_back, each_front, holds_ok, same_ok}
 use Rattle.acpi_base.specs.Words.{IsBytes, Memory, Region, AreApart, IsMemory, end_of, ◌>>=◌}
 use Rattle.acpi.specs.Words.{valid_tables, opened_by_rsdp, pointers, root_at, width_of, rsdp_at}
 use Rattle.acpi.specs.declared.root.RootKind.TheVariants.{Xsdt}
 use Rattle.acpi_image.proofs.Written.{every_in, length-root_to, length-rsdp_to}
 use Rattle.acpi_image_reader.proofs.Sharing.{memory_with}
-use Rattle.acpi_image.proofs.WrittenRoot.{pointers_are, root_there, IsRsdp, is_rsdp, rsdp_there}
+use Rattle.acpi_image.proofs.WrittenRoot.{pointers_are, root_there, IsRsdp, is_rsdp, rsdp_there, spaces_text}
 use Rattle.acpi_image_reader.specs.Words.{IsImage}
-use Rattle.acpi_image.specs.Words.{root_length, root_record, root_to, rsdp_record, rsdp_to, starts_of}
-use Rattle.acpi_pack_lib.proofs.Placing.{HasPlace, file_is, has_place, is_file, placed_apart, placed_behind, placed_memory, same_regions, tables_valid, is_placed, placed_bytes, placed_law}
+use Rattle.acpi_image.specs.Words.{root_length, root_record, root_to, rsdp_record, rsdp_to, spaces, starts_of}
+use Rattle.acpi_pack_lib.proofs.Placing.{HasPlace, file_is, has_place, is_file, placed_apart, placed_behind, placed_memory, tables_valid, is_placed, placed_bytes, placed_law}
 use Rattle.acpi_pack_lib.specs.Words.{all_regions, check_place, dsdt_address, dsdt_at, file_of, first_address, fixed_of, laid_out, listed_or, packed_tables, rsdp_address, rsdp_place, unless_second, check_places, packed_files, regions, IsPacked, IsRight, opened_with, ArePlaced, place_at, placed_from, bytes_of, check_tables, entries, bytes_in, check_contents, Refusal, NoRoom, Dsdt, Listed, AreNamed, label_text, packed_by}
 use Rattle.acpi_pack_lib.specs.declared.listing.Label.TheVariants as label
 
@@ -20,14 +20,6 @@ abbrev AllBytes : Memory → Type 0
 AllBytes m = AllByRecursion (λ r. IsBytes r.bytes) m
 
 -- ---- lists
-
-all_front : {X : Type 0} (P : X → Type 0) (xs ys : List X) → AllByRecursion P (xs ++ ys) → AllByRecursion P xs
-all_front P [] ys h = tt
-all_front P (x ∷ xs) ys h = (h.0, all_front P xs ys h.1)
-
-all_rest : {X : Type 0} (P : X → Type 0) (xs ys : List X) → AllByRecursion P (xs ++ ys) → AllByRecursion P ys
-all_rest P [] ys h = h
-all_rest P (x ∷ xs) ys h = all_rest P xs ys h.1
 
 all_both : {X : Type 0} (P : X → Type 0) (xs ys : List X) → AllByRecursion P xs → AllByRecursion P ys
     → AllByRecursion P (xs ++ ys)
@@ -51,20 +43,14 @@ abbrev DsdtIs : Option Region → Type 0
 DsdtIs None = Unit {0}
 DsdtIs (Some r) = HasPlace (rsdp_place ∷ []) r
 
-abbrev dsdt_done : Option Region → Result (Option Region) Refusal
-dsdt_done d = Ok d
-
-same_dsdt : (x y : Option Region) → dsdt_done x ≡ dsdt_done y → x ≡ y
-same_dsdt x y e = cc
-
 only_one : (r : Region) (others : List (ℕ × List ℕ)) (d : Option Region) → unless_second r others ≡ Ok d → Some r ≡ d
-only_one r [] d e = same_dsdt _ _ e
+only_one r [] d e = same_ok _ _ e
 only_one r (x ∷ others) d e = absurd cc
 
 dsdt_known : (address : Option ℕ) (found : List (ℕ × List ℕ)) (d : Option Region)
     → dsdt_at address found ≡ Ok d → DsdtIs d
-dsdt_known address [] d e = subst (λ (o : Option Region). DsdtIs o) (same_dsdt _ _ e) tt
-dsdt_known None (first ∷ others) d e = subst (λ (o : Option Region). DsdtIs o) (same_dsdt _ _ e) tt
+dsdt_known address [] d e = subst (λ (o : Option Region). DsdtIs o) (same_ok _ _ e) tt
+dsdt_known None (first ∷ others) d e = subst (λ (o : Option Region). DsdtIs o) (same_ok _ _ e) tt
 dsdt_known (Some a) (first ∷ others) d e =
     let parts = bind_ok (check_place first.0 (rsdp_place ∷ []) (record { start = a; bytes = first.1 })) _ d e in
     let place = has_place first.0 (rsdp_place ∷ []) (record { start = a; bytes = first.1 }) parts.0 parts.1 in
@@ -100,7 +86,7 @@ laid_is dsdt listed m e =
       short = ltb-true _ _ first.0;
       root_is = some_is _ _ second.1;
       tables_are = third.1;
-      all = same_regions _ _ third.2;
+      all = same_ok _ _ third.2;
     }
 
 module _ (dsdt : Option Region) (listed : List (List ℕ)) (m : Memory) (laid : IsLaid dsdt listed m) where
@@ -108,7 +94,7 @@ module _ (dsdt : Option Region) (listed : List (List ℕ)) (m : Memory) (laid : 
   root_region = root_record Xsdt laid.root (starts_of laid.tables)
 
   bytes_are : map (λ t. t.bytes) laid.tables ≡ listed
-  bytes_are = placed_bytes (fixed_of dsdt) _ listed laid.tables laid.tables_are
+  bytes_are = placed_bytes (fixed_of dsdt) listed _ laid.tables laid.tables_are
 
   as_many : length (starts_of laid.tables) ≡ length listed
   as_many = length-map laid.tables (λ t. t.start) ∙ sym (length-map laid.tables (λ t. t.bytes)) ∙ ap length bytes_are
@@ -123,7 +109,7 @@ module _ (dsdt : Option Region) (listed : List (List ℕ)) (m : Memory) (laid : 
       let behind : placed_from (fixed_of dsdt) (end_of root_region) listed ≡ Ok laid.tables =
       rw root_long laid.tables_are in (
         is_placed (fixed_of dsdt) first_address root_region.bytes laid.root there,
-        placed_law (fixed_of dsdt) (end_of root_region) listed laid.tables behind,
+        placed_law (fixed_of dsdt) listed (end_of root_region) laid.tables behind,
       )
 
   module _ (known : DsdtIs dsdt) (bytes : AllBytes (all_regions laid.root laid.tables dsdt)) where
@@ -133,10 +119,10 @@ module _ (dsdt : Option Region) (listed : List (List ℕ)) (m : Memory) (laid : 
     placed_ones : IsMemory (root_region ∷ laid.tables)
     placed_ones =
         placed_memory (fixed_of dsdt) first_address (root_region ∷ laid.tables) all_placed
-        (bytes.1.0, all_front (λ r. IsBytes r.bytes) laid.tables (listed_or dsdt) bytes.1.1)
+        (bytes.1.0, each_front (λ r. IsBytes r.bytes) laid.tables (listed_or dsdt) bytes.1.1)
 
     first_ends : end_of first_region ≤ first_address
-    first_ends = let few = length-rsdp_to 2 laid.root in omega (arith, few)
+    first_ends = let few = length-rsdp_to (spaces 6) 2 laid.root refl in omega (arith, few)
 
     first_apart : AllByRecursion (AreApart first_region) (root_region ∷ laid.tables)
     first_apart = placed_behind (fixed_of dsdt) first_region first_address (root_region ∷ laid.tables) first_ends
@@ -145,8 +131,8 @@ module _ (dsdt : Option Region) (listed : List (List ℕ)) (m : Memory) (laid : 
 -- a region that keeps away from the RSDP's place keeps away from the RSDP
 from_place : (root : ℕ) (d : Region) → AreApart rsdp_place d → AreApart (rsdp_record rsdp_address 2 root) d
 from_place root d h a here there =
-    let same : length (rsdp_to 2 root) ≡ length rsdp_place.bytes =
-    length-rsdp_to 2 root ∙ sym (length-replicate {A = ℕ} 36 0) in
+    let same : length (rsdp_to (spaces 6) 2 root) ≡ length rsdp_place.bytes =
+    length-rsdp_to (spaces 6) 2 root refl ∙ sym (length-replicate {A = ℕ} 36 0) in
     h a (rw same at here) there
 
 with_dsdt : (dsdt : Option Region) (root : ℕ) (ms : Memory) → DsdtIs dsdt → AllBytes (listed_or dsdt) → IsMemory ms
@@ -164,9 +150,9 @@ all_memory : (dsdt : Option Region) (listed : List (List ℕ)) (m : Memory) (lai
     (known : DsdtIs dsdt) → AllBytes (all_regions laid.root laid.tables dsdt)
     → IsMemory (all_regions laid.root laid.tables dsdt)
 all_memory dsdt listed m laid known bytes =
-    let few = length-rsdp_to 2 laid.root in
+    let few = length-rsdp_to (spaces 6) 2 laid.root refl in
     let placed = placed_ones dsdt listed m laid known bytes in
-    let last = all_rest (λ r. IsBytes r.bytes) laid.tables (listed_or dsdt) bytes.1.1 in
+    let last = each_back (λ r. IsBytes r.bytes) laid.tables (listed_or dsdt) bytes.1.1 in
     let front = root_record Xsdt laid.root (starts_of laid.tables) ∷ laid.tables in
     let behind : IsMemory (front ++ listed_or dsdt) =
     with_dsdt dsdt laid.root front known last placed
@@ -193,11 +179,11 @@ module _ (dsdt : Option Region) (listed : List (List ℕ)) (m : Memory) (laid : 
   some : (laid.root == 0) ≡ false
   some = ne_eqb _ _ (λ e. absurd (omega (arith, high, e)))
 
-  rsdp_tested : IsRsdp 2 laid.root (rsdp_to 2 laid.root)
-  rsdp_tested = is_rsdp 2 laid.root some (omega (arith, low)) (λ e. absurd cc)
+  rsdp_tested : IsRsdp (spaces 6) 2 laid.root (rsdp_to (spaces 6) 2 laid.root)
+  rsdp_tested = is_rsdp (spaces 6) 2 laid.root refl spaces_text some (omega (arith, low)) (λ e. absurd cc)
 
-  rsdp_is : rsdp_at all rsdp_address ≡ Ok (rsdp_to 2 laid.root)
-  rsdp_is = rsdp_there all (rsdp_record rsdp_address 2 laid.root) memory (every_in all).0 (length-rsdp_to 2 laid.root) 2
+  rsdp_is : rsdp_at all rsdp_address ≡ Ok (rsdp_to (spaces 6) 2 laid.root)
+  rsdp_is = rsdp_there all (rsdp_record rsdp_address 2 laid.root) memory (every_in all).0 (length-rsdp_to (spaces 6) 2 laid.root refl) (spaces 6) 2
       laid.root rsdp_tested
 
   root_is : root_at all Xsdt laid.root ≡ Ok (root_to Xsdt ps)
@@ -212,7 +198,7 @@ module _ (dsdt : Option Region) (listed : List (List ℕ)) (m : Memory) (laid : 
   valid_are : AllByRecursion IsRight listed → valid_tables all ps ≡ listed
   valid_are right =
       let same = bytes_are dsdt listed m laid in
-      let there = all_front (Contains all) laid.tables (listed_or dsdt) (every_in all).1.1 in
+      let there = each_front (Contains all) laid.tables (listed_or dsdt) (every_in all).1.1 in
       tables_valid all laid.tables memory there (of_bytes laid.tables (rw same right)) ∙ same
 
 -- ---- what a call packs
@@ -289,7 +275,7 @@ unfolding packed_files
 files_named addresses files m e =
     let first = bind_ok (check_contents 0 files) _ m e in
     let second = bind_ok (check_places 0 [] (regions addresses files)) _ m first.2 in
-    subst (λ (k : Memory). AreNamed (Some addresses) files k) (same_regions _ _ second.2) (ranges_named addresses files)
+    subst (λ (k : Memory). AreNamed (Some addresses) files k) (same_ok _ _ second.2) (ranges_named addresses files)
 
 -- tables
 
@@ -297,14 +283,14 @@ one_named : (a : ℕ) (first : ℕ × List ℕ) (others : List (ℕ × List ℕ)
     → unless_second (record { start = a; bytes = first.1 }) others ≡ Ok d
     → Begin (bytes_of (first ∷ others)) (listed_or d)
 one_named a first [] d e = subst (λ (o : Option Region). Begin (bytes_of (first ∷ [])) (listed_or o))
-    (same_dsdt _ _ e) ([], refl)
+    (same_ok _ _ e) ([], refl)
 one_named a first (x ∷ others) d e = absurd cc
 
 dsdt_named : (address : Option ℕ) (found : List (ℕ × List ℕ)) (d : Option Region) → dsdt_at address found ≡ Ok d
     → Begin (bytes_of found) (listed_or d)
-dsdt_named address [] d e = subst (λ (o : Option Region). Begin [] (listed_or o)) (same_dsdt _ _ e) ([], refl)
+dsdt_named address [] d e = subst (λ (o : Option Region). Begin [] (listed_or o)) (same_ok _ _ e) ([], refl)
 dsdt_named None (first ∷ others) d e =
-    subst (λ (o : Option Region). Begin (bytes_of (first ∷ others)) (listed_or o)) (same_dsdt _ _ e)
+    subst (λ (o : Option Region). Begin (bytes_of (first ∷ others)) (listed_or o)) (same_ok _ _ e)
     (bytes_of (first ∷ others), refl)
 dsdt_named (Some a) (first ∷ others) d e =
     let parts = bind_ok (check_place first.0 (rsdp_place ∷ []) (record { start = a; bytes = first.1 })) _ d e in

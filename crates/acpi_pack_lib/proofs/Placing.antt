@@ -1,18 +1,20 @@
 -- Where files are placed, how many are of a role, and that what is packed is a memory whose valid tables they are.
-use Rattle.std.proofs.Common.{◌-◌, ◌≡◌, ℕ, zero, suc, ◌+◌, ◌<◌, ◌≤◌, List, [], ◌∷◌, ◌++◌, length, drop, take, get_or, drop-cons, add-one, Ok, refl, ap, arith, inl, inr, Bool, true, false, if◌then◌else◌, ◌%◌, ◌^◌, map, Some, None, Result, sym, ◌∙◌, subst, Option, min, ◌⊎◌, nat_le, nat_lt, ◌||◌, not, flat_map, zip, Contains}
+use Rattle.std.proofs.Common.{◌-◌, ◌≡◌, ℕ, zero, suc, ◌+◌, ◌<◌, ◌≤◌, List, [], ◌∷◌, ◌++◌, length, drop, take, get_or, drop-cons, add-one, Ok, refl, ap, arith, inl, inr, Bool, true, false, if◌then◌else◌, ◌%◌, ◌^◌, map, Some, None, Result, sym, ◌∙◌, subst, Option, min, ◌⊎◌, nat_le, nat_lt, ◌||◌, flat_map, zip, Contains}
 use Rattle.acpi_base.specs.FromStd.{Bor, list_any, AllByRecursion}
 use Rattle.acpi_base.proofs.FromStd.{drop_of_length-le, cases_lt, leb-false, leb-true, ltb-true, or_cases, or_parts, and_parts, drop-map, take_rest, length-map, append-nil, append_assoc}
 use Rattle.acpi_image_reader.specs.Words.{share, shares_any, IsImage, record_spelling}
-use Rattle.acpi_base.specs.Words.{Memory, Region, end_of, AreApart, IsMemory, ◌>>=◌, holds, IsBytes, own_table_at}
-use Rattle.acpi_pack_lib.specs.Words.{content, contents, region_at, check_place, check_places, regions, file_of, packed_files, bytes_in, entries, is_of, listed, check_contents, FileRole, Listed, ArePlaced, IsPlaced, aligned, place_at, place_or, placed_from, start_at, Refusal, IsMemoryFile, IsRight}
+use Rattle.acpi_base.specs.Words.{Memory, Region, end_of, AreApart, IsMemory, ◌>>=◌, IsBytes, own_table_at}
+use Rattle.acpi_pack_lib.specs.Words.{content, contents, region_at, check_place, check_places, regions, file_of, bytes_in, entries, is_of, listed, FileRole, Listed, ArePlaced, IsPlaced, aligned, place_at, place_or, placed_from, start_at, Refusal, IsMemoryFile, IsRight}
 use Rattle.acpi_cli.specs.Reads.{contents_of, read_of}
 use Rattle.acpi_cli.specs.declared.files.Reading.{Reading}
-use Rattle.acpi_base.proofs.Words.{bind_ok, holds_ok}
+use Rattle.acpi_base.proofs.Words.{bind_ok, holds_ok, same_ok}
 use Rattle.acpi_image.specs.Words.{placed, placed_region, starts_of}
 use Rattle.acpi_image.specs.declared.write.PlacedTable.{PlacedTable}
 use Rattle.acpi.specs.Words.{valid_tables}
 use Rattle.acpi_image_reader.proofs.Images.{image_again}
+use Rattle.acpi_image.proofs.WrittenLaws.{last_not}
 use Rattle.acpi_image.proofs.Written.{own_table_there, record_bytes, header_names, table_is}
+use Rattle.acpi_image_reader.proofs.Listing.{flipped}
 use Rattle.acpi_image_reader.proofs.Sharing.{all_apart, memory_with}
 
 -- ---- how many are of a role
@@ -158,18 +160,12 @@ given : (fixed : Region) (from count : ℕ) → IsGiven fixed from count (start_
 unfolding start_at
 given fixed from count = given_by fixed from count _ refl
 
-abbrev some : ℕ → Option ℕ
-some x = Some x
-
-same : (x y : ℕ) → some x ≡ some y → x ≡ y
-same x y e = cc
-
 placed_by : (fixed : Region) (from : ℕ) (table : List ℕ) (a : ℕ) (b : Bool)
     → nat_lt (start_at fixed from (length table) + length table) (2 ^ 64) ≡ b
     → (if b then Some (start_at fixed from (length table)) else None) ≡ Some a
     → IsPlaced fixed from (record { start = a; bytes = table })
 placed_by fixed from table a true e is =
-    let start : start_at fixed from (length table) ≡ a = same _ _ is in
+    let start : start_at fixed from (length table) ≡ a = cc in
     let known = given fixed from (length table) in
     let ends = ltb-true _ _ e in
     let is_there : IsPlaced fixed from (record { start = start_at fixed from (length table); bytes = table }) =
@@ -183,9 +179,6 @@ pub is_placed : (fixed : Region) (from : ℕ) (table : List ℕ) (a : ℕ) → p
 unfolding place_at
 is_placed fixed from table a e = placed_by fixed from table a _ refl e
 
-all_placed : (m k : Memory) → done m ≡ done k → m ≡ k
-all_placed m k e = cc
-
 abbrev IsLaw : Region → List (List ℕ) → Type 0
 IsLaw fixed ts = (from : ℕ) (m : Memory) → placed_from fixed from ts ≡ Ok m → ArePlaced fixed from m
 
@@ -196,17 +189,13 @@ law_by fixed from t ts m None each o e = absurd cc
 law_by fixed from t ts m (Some a) each o e =
     let parts = bind_ok (placed_from fixed (a + length t) ts) _ m e in
     let rest = each (a + length t) parts.0 parts.1 in
-    let all = all_placed _ m parts.2 in
+    let all = same_ok _ m parts.2 in
     rw (← all) (is_placed fixed from t a o, rest)
 
-law_all : (fixed : Region) (ts : List (List ℕ)) → IsLaw fixed ts
-law_all fixed [] from m e = rw (← all_placed [] m e) tt
-law_all fixed (t ∷ ts) from m e = law_by fixed from t ts m _ (law_all fixed ts) refl e
-
 -- tables that are placed lie as they are to
-pub placed_law : (fixed : Region) (from : ℕ) (ts : List (List ℕ)) (m : Memory) → placed_from fixed from ts ≡ Ok m
-    → ArePlaced fixed from m
-placed_law fixed from ts m e = law_all fixed ts from m e
+pub placed_law : (fixed : Region) (ts : List (List ℕ)) → IsLaw fixed ts
+placed_law fixed [] from m e = rw (← same_ok [] m e) tt
+placed_law fixed (t ∷ ts) from m e = law_by fixed from t ts m _ (placed_law fixed ts) refl e
 
 abbrev KeepsBytes : Region → List (List ℕ) → Type 0
 KeepsBytes fixed ts = (from : ℕ) (m : Memory) → placed_from fixed from ts ≡ Ok m → map (λ r. r.bytes) m ≡ ts
@@ -218,24 +207,20 @@ bytes_by fixed from t ts m None each e = absurd cc
 bytes_by fixed from t ts m (Some a) each e =
     let parts = bind_ok (placed_from fixed (a + length t) ts) _ m e in
     let rest = each (a + length t) parts.0 parts.1 in
-    let all = all_placed _ m parts.2 in
+    let all = same_ok _ m parts.2 in
     rw (← all) (ap (λ (xs : List (List ℕ)). t ∷ xs) rest)
 
-bytes_all : (fixed : Region) (ts : List (List ℕ)) → KeepsBytes fixed ts
-bytes_all fixed [] from m e = rw (← all_placed [] m e) refl
-bytes_all fixed (t ∷ ts) from m e = bytes_by fixed from t ts m _ (bytes_all fixed ts) e
-
 -- tables are placed as they are, in order
-pub placed_bytes : (fixed : Region) (from : ℕ) (ts : List (List ℕ)) (m : Memory) → placed_from fixed from ts ≡ Ok m
-    → map (λ r. r.bytes) m ≡ ts
-placed_bytes fixed from ts m e = bytes_all fixed ts from m e
+pub placed_bytes : (fixed : Region) (ts : List (List ℕ)) → KeepsBytes fixed ts
+placed_bytes fixed [] from m e = rw (← same_ok [] m e) refl
+placed_bytes fixed (t ∷ ts) from m e = bytes_by fixed from t ts m _ (placed_bytes fixed ts) e
 
 -- as many as were to be placed
 pub placed_count : (fixed : Region) (from : ℕ) (ts : List (List ℕ)) (tables : List PlacedTable)
     → placed_from fixed from ts ≡ Ok (placed tables) → length tables ≡ length ts
 placed_count fixed from ts tables e =
     sym (length-map tables placed_region) ∙ sym (length-map (placed tables) (λ r. r.bytes))
-    ∙ ap length (placed_bytes fixed from ts (placed tables) e)
+    ∙ ap length (placed_bytes fixed ts from (placed tables) e)
 
 -- no table is left
 pub placed_all : (fixed : Region) (from : ℕ) (before : Memory) → behind before (placed_from fixed from []) ≡ Ok before
@@ -251,9 +236,6 @@ before_is_apart r s h a hr hs =
     let low : s.start ≤ a = leb-true _ _ q.0 in
     let high : a < end_of r = ltb-true _ _ p.1 in
     absurd (omega arith)
-
-turned : (r s : Region) → AreApart r s → AreApart s r
-turned r s h a hs hr = h a hr hs
 
 -- ---- regions that are placed
 
@@ -280,7 +262,7 @@ placed_memory fixed from (r ∷ rs) placed bytes = (
 
 apart_by : (fixed r : Region) → (end_of r ≤ fixed.start) ⊎ (end_of fixed ≤ r.start) → AreApart r fixed
 apart_by fixed r (inl before) = before_is_apart r fixed before
-apart_by fixed r (inr behind) = turned fixed r (before_is_apart fixed r behind)
+apart_by fixed r (inr behind) = flipped fixed r (before_is_apart fixed r behind)
 
 pub placed_apart : (fixed : Region) (from : ℕ) (rs : Memory) → ArePlaced fixed from rs
     → AllByRecursion (λ r. AreApart r fixed) rs
@@ -288,14 +270,6 @@ placed_apart fixed from [] placed = tt
 placed_apart fixed from (r ∷ rs) placed = (apart_by fixed r placed.0.apart, placed_apart fixed (end_of r) rs placed.1)
 
 -- ---- files at addresses
-
-not_true : (b : Bool) → not b ≡ true → b ≡ false
-not_true true e = absurd cc
-not_true false e = refl
-
-last_holds : (b : Bool) (d : Refusal) (x : Unit {0}) → holds b d ≡ Ok x → b ≡ true
-last_holds true d x e = refl
-last_holds false d x e = absurd cc
 
 -- what passed
 pub record HasPlace (earlier : Memory) (r : Region) : Type 0 where
@@ -307,7 +281,7 @@ pub has_place : (n : ℕ) (earlier : Memory) (r : Region) (x : Unit {0}) → che
 unfolding check_place
 has_place n earlier r x e =
     let p = holds_ok _ _ _ x e in
-    record { ends = ltb-true _ _ p.0; apart = all_apart earlier r (not_true _ (last_holds _ _ x p.1)) }
+    record { ends = ltb-true _ _ p.0; apart = all_apart earlier r (last_not _ _ x p.1) }
 
 checked_memory : (n : ℕ) (earlier rs : Memory) (x : Unit {0}) → IsMemory earlier → AllBytes rs
     → check_places n earlier rs ≡ Ok x → IsMemory (earlier ++ rs)
@@ -323,18 +297,6 @@ checked_memory n earlier (r ∷ rs) x h bytes e =
 pub is_file : (rs : Memory) (file : List ℕ) → IsMemory rs → IsImage file rs → IsMemoryFile rs file
 is_file rs file h e = record { image = e; memory = h; read = image_again file rs h e }
 
-abbrev bytes_done : List ℕ → Result (List ℕ) Refusal
-bytes_done x = Ok x
-
-abbrev regions_done : Memory → Result Memory Refusal
-regions_done x = Ok x
-
-pub same_file : (x y : List ℕ) → bytes_done x ≡ bytes_done y → x ≡ y
-same_file x y e = cc
-
-pub same_regions : (x y : Memory) → regions_done x ≡ regions_done y → x ≡ y
-same_regions x y e = cc
-
 -- the file of regions, in bytes
 pub record IsFileOf (packed : Result Memory Refusal) (file : List ℕ) : Type 0 where
   pub all : Memory
@@ -346,7 +308,7 @@ pub file_is : (packed : Result Memory Refusal) (file : List ℕ) → IsBytes fil
     → IsFileOf packed file
 file_is packed file bytes e =
     let parts = bind_ok packed _ file e in
-    let image : flat_map record_spelling parts.0 ≡ file = same_file _ _ parts.2 in
+    let image : flat_map record_spelling parts.0 ≡ file = same_ok _ _ parts.2 in
     record {
       all = parts.0;
       packed_is = parts.1;
@@ -355,32 +317,13 @@ file_is packed file bytes e =
           record_bytes parts.0 (subst (λ (b : List ℕ). IsBytes b) (sym image) bytes);
     }
 
--- the regions, if each has its place
-abbrev placed_or : List ℕ → List (Option (List ℕ)) → Result Memory Refusal
-placed_or addresses files = check_places 0 [] (regions addresses files) >>= λ _. regions_done (regions addresses files)
-
-files_by : (addresses : List ℕ) (files : List (Option (List ℕ))) (m : Memory) → AllBytes m
-    → packed_files addresses files ≡ Ok m → (m ≡ regions addresses files) × IsMemory m
-unfolding packed_files
-files_by addresses files m bytes e =
-    let first = bind_ok (check_contents 0 files) (λ _. placed_or addresses files) m e in
-    let second = bind_ok (check_places 0 [] (regions addresses files)) (λ _. regions_done (regions addresses files)) m
-    first.2 in
-    let same : m ≡ regions addresses files = sym (same_regions _ _ second.2) in
-    let there = subst (λ (k : Memory). AllBytes k) same bytes in (
-      same,
-      subst (λ (k : Memory). IsMemory k) (sym same)
-          (checked_memory 0 [] (regions addresses files) second.0 tt there second.1),
-    )
-
 -- files at addresses are packed as the memory of them
-pub files_packed : (addresses : List ℕ) (files : List (Option (List ℕ))) (file : List ℕ) → IsBytes file
-    → file_of (packed_files addresses files) ≡ Ok file
+pub files_packed : (addresses : List ℕ) (files : List (Option (List ℕ))) (file : List ℕ) (x : Unit {0}) → IsBytes file
+    → check_places 0 [] (regions addresses files) ≡ Ok x → IsImage file (regions addresses files)
     → IsMemoryFile (regions addresses files) file
-files_packed addresses files file bytes e =
-    let known = file_is (packed_files addresses files) file bytes e in
-    let both = files_by addresses files known.all known.bytes known.packed_is in
-    subst (λ (k : Memory). IsMemoryFile k file) both.0 (is_file known.all file both.1 known.image)
+files_packed addresses files file x bytes placed image =
+    let each = record_bytes (regions addresses files) (subst (λ (b : List ℕ). IsBytes b) image bytes) in
+    is_file (regions addresses files) file (checked_memory 0 [] (regions addresses files) x tt each placed) image
 
 -- ---- valid tables
 

@@ -148,28 +148,6 @@ fn lines_of(
     Ok(text)
 }
 
-/// What `record_lines` answers: it reads the image, and makes a line of each of its records.
-fn record_lines_exact(
-    alloc: Global,
-    command: &Command<'_>,
-    files: &[FileBytes<'_>],
-    image: &[u8],
-) -> Result<String, ImageError>
-    ensures exact { IfOk result (λ t. listing.listing
-        (labels_of (addresses_of command.now.form) (map (λ n. n.now) command.now.names.items)
-        (contents files.now)) image.now ≡ Ok (string_bytes t)) }
-    ensures refused { IfErr result (λ e. e ≢ OutOfMemory → records_in image.now ≡ Err e) }
-{
-    let memory = MemoryImage::from_bytes(alloc, image)?;
-    let Ok(labels) = labels_of(alloc, command, files) else {
-        return Err(ImageError::OutOfMemory);
-    };
-    match lines_of(alloc, &labels, memory.records()) {
-        Ok(text) => Ok(text),
-        Err(_) => Err(ImageError::OutOfMemory),
-    }
-}
-
 /// The lines of the records of an image that a command packed of these files, one for each, in order: the
 /// physical address, in hexadecimal digits, and the label. For files at addresses that is the file's name;
 /// for tables it is `RSDP`, `XSDT`, or the signature and the file's name.
@@ -192,5 +170,12 @@ pub fn record_lines(
         → packed_by (addresses_of command.now.form) (contents files.now) ≡ Ok m
         → AreNamed (addresses_of command.now.form) (contents files.now) m }
 {
-    record_lines_exact(alloc, command, files, image)
+    let memory = MemoryImage::from_bytes(alloc, image)?;
+    let Ok(labels) = labels_of(alloc, command, files) else {
+        return Err(ImageError::OutOfMemory);
+    };
+    match lines_of(alloc, &labels, memory.records()) {
+        Ok(text) => Ok(text),
+        Err(_) => Err(ImageError::OutOfMemory),
+    }
 }

@@ -63,7 +63,7 @@ fn check_place(
         (placed_region table.now) }
     ensures ends { OnOk result (end_of (placed_region table.now) < 2 ^ 64) }
 {
-    if table.bytes.len() as u64 > u64::MAX - table.address {
+    if !range_of(table).fits() {
         return Err(Refusal::File(index, FileError::EndTooLarge));
     }
     if shares_byte(addresses, files, table) {
@@ -105,33 +105,13 @@ fn put_files(file: &mut Vec<u8>, addresses: &[u64], files: &[FileBytes<'_>]) -> 
     Ok(())
 }
 
-/// What `pack_files` answers: it tests the files, and then puts them into the image.
-#[tactic(auto, unfolding(crate::specs::Pack::packed_files))]
-fn pack_files_exact(
-    alloc: Global,
-    addresses: &[u64],
-    files: &[FileBytes<'_>],
-) -> Result<Vec<u8>, Refusal>
-    ensures exact { IfOk result (λ v.
-        file_of (packed_files addresses.now (contents files.now)) ≡ Ok v.items) }
-    ensures refused { IfErr result (λ e.
-        RefusesOrRunsOut (packed_files addresses.now (contents files.now)) e) }
-    ensures bytes { IfOk result (λ v. IsBytes v.items) }
-{
-    check_contents(files)?;
-    check_places(addresses, files)?;
-    let mut file = Vec::new(alloc);
-    put_files(&mut file, addresses, files)?;
-    Ok(file)
-}
-
 /// A file of memory that has each of these files at its physical address, as it is.
 ///
 /// Fails with the first of these that holds: of a file, in order, `Unreadable` if it can't be read or
 /// `Empty` if it has no bytes; then of a file, in order, `EndTooLarge` if its address and the number of its
 /// bytes add up to more than 2^64 - 1, or `Overlap` if it shares a byte with an earlier one; and if no file
 /// is refused, `OutOfMemory` if memory runs out.
-#[tactic(auto, using(crate::proofs::Placing::files_packed))]
+#[tactic(auto, unfolding(crate::specs::Pack::packed_files))]
 pub fn pack_files(
     alloc: Global,
     addresses: &[u64],
@@ -149,7 +129,11 @@ pub fn pack_files(
     // Each number in the file is a byte.
     ensures bytes { IfOk result (λ v. IsBytes v.items) }
 {
-    pack_files_exact(alloc, addresses, files)
+    check_contents(files)?;
+    check_places(addresses, files)?;
+    let mut file = Vec::new(alloc);
+    put_files(&mut file, addresses, files)?;
+    Ok(file)
 }
 
 /// The address that a FADT gives for the DSDT, its 64-bit field first, or `None` if it isn't as long as a
@@ -301,18 +285,6 @@ fn lay_out(
     Ok(file)
 }
 
-/// What `pack_tables` answers: it tests the files, places the tables, and then puts them into the image.
-#[tactic(auto, unfolding(crate::specs::Pack::packed_tables))]
-fn pack_tables_exact(alloc: Global, files: &[FileBytes<'_>]) -> Result<Vec<u8>, Refusal>
-    ensures exact { IfOk result (λ v. file_of (packed_tables (contents files.now)) ≡ Ok v.items) }
-    ensures refused { IfErr result (λ e. RefusesOrRunsOut (packed_tables (contents files.now)) e) }
-    ensures bytes { IfOk result (λ v. IsBytes v.items) }
-{
-    check_tables(files)?;
-    let dsdt = dsdt_at(dsdt_address(files), files)?;
-    lay_out(alloc, files, dsdt)
-}
-
 /// A file of memory that has an RSDP of revision 2 at 0xe0000 (section 5.2.5.3), an XSDT (section 5.2.8) that
 /// lists these tables in order, each at a multiple of 16 from 0x100000 on and away from all others, and the
 /// DSDT at the address that the first FADT gives (section 5.2.9). The bytes of tables are kept as they are.
@@ -324,7 +296,7 @@ fn pack_tables_exact(alloc: Global, files: &[FileBytes<'_>]) -> Result<Vec<u8>, 
 /// its length field says, or `Long` if it has more; of the DSDT `EndTooLarge` or `Overlap`; `NoRoom` if the
 /// tables can't all be listed and placed; and if nothing of this is refused, `OutOfMemory` if memory is
 /// refused.
-#[tactic(auto, using(crate::proofs::Packed::tables_packed))]
+#[tactic(auto, using(crate::proofs::Packed::tables_packed), unfolding(crate::specs::Pack::packed_tables))]
 pub fn pack_tables(alloc: Global, files: &[FileBytes<'_>]) -> Result<Vec<u8>, Refusal>
     // The file, or the first refusal, is the one that is defined; memory runs out only if nothing
     // is refused.
@@ -336,5 +308,7 @@ pub fn pack_tables(alloc: Global, files: &[FileBytes<'_>]) -> Result<Vec<u8>, Re
     // Each number in the file is a byte.
     ensures bytes { IfOk result (λ v. IsBytes v.items) }
 {
-    pack_tables_exact(alloc, files)
+    check_tables(files)?;
+    let dsdt = dsdt_at(dsdt_address(files), files)?;
+    lay_out(alloc, files, dsdt)
 }

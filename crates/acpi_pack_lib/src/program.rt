@@ -118,7 +118,8 @@ fn pack_asked<F: Files, S: Storage, W: Write, E: Write>(
 /// made of them is saved; then the lines of its records are printed on the output. The status is 0 if the
 /// image is saved, 1 if something is refused, and 2 if the arguments are not a command.
 ///
-/// Fails if a write fails, or memory for anything but the image itself.
+/// Fails if a write fails, or memory for anything but the image itself. The image is saved by then if its lines can't
+/// be printed; after any other error it isn't.
 pub fn pack<F: Files, S: Storage, W: Write, E: Write>(
     alloc: Global,
     arguments: &[&str],

@@ -1,20 +1,14 @@
 -- The RSDP that is written (ACPI 6.4, section 5.2.5.3).
-use Rattle.std.specs.Prelude.{◌≡◌, ℕ, ◌^◌, ◌<◌, ◌==◌, false, true, not, List, ◌∷◌, ◌++◌, nat_le, replicate, Result, Ok}
-use Rattle.acpi.specs.Words.{root_pointer, check_rsdp, root_of_rsdp, rsd_ptr, rsdp_of}
+use Rattle.std.specs.Prelude.{◌≡◌, ℕ, ◌^◌, ◌<◌, ◌==◌, false, true, not, List, nat_le, Result, Ok}
+use Rattle.acpi.specs.Words.{root_pointer, check_rsdp, root_of_rsdp, rsdp_of}
 use Rattle.acpi_writer.specs.Types.{Xsdt, WriterError, BadName, NoAddress, NoRoom, TableIds}
-use Rattle.acpi_base.specs.Words.{spelling, ◌>>=◌, holds}
-use Rattle.acpi_image.specs.Words.{with_first_sum, with_sum}
+use Rattle.acpi_base.specs.Words.{◌>>=◌, holds}
+use Rattle.acpi_image.specs.Words.{rsdp_to}
 use Rattle.acpi_writer.specs.Table.{AreIds, are_texts}
 
--- at 0 Signature, 8 a Checksum of 0, 9 OEMID, 15 a Revision of 2, 16 a RsdtAddress of 0, 20 a Length of 36, 24
--- XsdtAddress, 32 an Extended Checksum of 0, 33 Reserved
-unfoldable pub rsdp_unsummed : List ℕ → ℕ → List ℕ
-rsdp_unsummed oem_id xsdt =
-    rsd_ptr ++ (0 ∷ (oem_id ++ (2 ∷ (spelling 4 0 ++ (spelling 4 36 ++ (spelling 8 xsdt ++ replicate 4 0))))))
-
--- Checksum, byte 8, makes the first 20 bytes sum to 0, and Extended Checksum, byte 32, all 36
+-- the RSDP of revision 2 that leads to the XSDT at an address
 unfoldable pub rsdp_bytes : List ℕ → ℕ → List ℕ
-rsdp_bytes oem_id xsdt = with_sum 32 (with_first_sum (rsdp_unsummed oem_id xsdt))
+rsdp_bytes oem_id xsdt = rsdp_to oem_id 2 xsdt
 
 -- the RSDP in so much room, or the first error
 unfoldable pub rsdp_written : ℕ → TableIds → ℕ → Result (List ℕ) WriterError

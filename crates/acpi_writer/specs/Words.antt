@@ -35,7 +35,7 @@ unfoldable pub use Rattle.acpi_writer.specs.McfgBytes.{mcfg_fields}
 pub use Rattle.acpi_writer.specs.McfgLaws.{FitsMcfg, IsMcfg, McfgIsRead, McfgIsValid}
 pub use Rattle.acpi_writer.specs.Root.{IsRoot, RootIsRead, RootIsValid, root_body, root_written}
 pub use Rattle.acpi_writer.specs.Rsdp.{Leads, RsdpIsRead}
-unfoldable pub use Rattle.acpi_writer.specs.Rsdp.{rsdp_bytes, rsdp_unsummed, rsdp_written}
+unfoldable pub use Rattle.acpi_writer.specs.Rsdp.{rsdp_bytes, rsdp_written}
 pub use Rattle.acpi_writer.specs.Slit.{IsSlit, SlitIsRead, SlitIsValid, slit_body, slit_checked}
 unfoldable pub use Rattle.acpi_writer.specs.Slit.{slit_written}
 pub use Rattle.acpi_writer.specs.Spcr.{baud_code, device_written, is_base, is_somewhere, spcr_body, spcr_checked, spcr_fields}

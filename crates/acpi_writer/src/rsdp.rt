@@ -6,32 +6,14 @@ ghost use Rattle.acpi_writer.specs.Words.{Keeps, front_written};
 
 use crate::error::WriterError;
 use crate::ids::TableIds;
-use crate::numbers::{dword, qword};
-use acpi_image::write::set_sum;
-
-/// An RSDP of revision 2 whose checksums are 0.
-#[tactic(auto, unfolding(crate::specs::Rsdp::rsdp_unsummed, acpi_base::specs::Bytes::spelling))]
-fn rsdp_unsummed(ids: &TableIds, xsdt: u64) -> [u8; 36]
-    ensures { result ≡ rsdp.rsdp_unsummed ids.now.oem_id xsdt }
-{
-    let mut rsdp = [0; 36];
-    rsdp[24..32].copy_from_slice(&qword(xsdt)); // XsdtAddress
-    rsdp[20..24].copy_from_slice(&dword(36)); // Length
-    rsdp[15] = 2; // Revision
-    rsdp[9..15].copy_from_slice(&ids.oem_id); // OEMID
-    rsdp[..8].copy_from_slice(b"RSD PTR "); // Signature
-    rsdp
-}
+use acpi_image::write::rsdp_to;
 
 /// An RSDP of revision 2.
-#[tactic(auto, unfolding(crate::specs::Rsdp::rsdp_bytes, acpi_image::specs::Written::with_first_sum))]
+#[tactic(auto, unfolding(crate::specs::Rsdp::rsdp_bytes))]
 pub(crate) fn rsdp_bytes(ids: &TableIds, xsdt: u64) -> [u8; 36]
     ensures { result ≡ rsdp.rsdp_bytes ids.now.oem_id xsdt }
 {
-    let mut rsdp = rsdp_unsummed(ids, xsdt);
-    set_sum(&mut rsdp[..20], 8); // Checksum
-    set_sum(&mut rsdp, 32); // Extended Checksum
-    rsdp
+    rsdp_to(ids.oem_id, 2, xsdt)
 }
 
 /// Writes an RSDP of revision 2 that leads to an XSDT at a physical address to the front of a slice, and returns how

@@ -1,8 +1,8 @@
 //! The checks of an image that is to be written.
-ghost use Rattle.std.specs.Prelude.{◌≡◌, ◌^◌, ◌<◌, ◌∷◌, nat_lt, length};
+ghost use Rattle.std.specs.Prelude.{◌≡◌, ◌≢◌, ◌^◌, ◌<◌, ◌∷◌, nat_lt, length, IfErr};
 ghost use Rattle.acpi_base.specs.FromStd.{list_all};
 ghost use Rattle.acpi_image.specs.WriteChecks as checks;
-ghost use Rattle.acpi_image.specs.Words.{placed, plan, root_length, starts_of};
+ghost use Rattle.acpi_image.specs.Words.{placed, plan, root_length, starts_of, OutOfMemory};
 ghost use Rattle.acpi.specs.Words.{kind_of_revision, signature_of, width_of};
 
 use crate::error::WriteError;
@@ -29,7 +29,8 @@ fn is_table(bytes: &[u8]) -> bool
 ///
 /// Fails with `BadTable` for the first whose bytes are not a table.
 fn check_tables(tables: &[PlacedTable<'_>]) -> Result<(), WriteError>
-    ensures { result ≡ checks.check_tables 0 (placed tables.now) }
+    ensures exact { result ≡ checks.check_tables 0 (placed tables.now) }
+    ensures named { IfErr result (λ e. e ≢ OutOfMemory) }
 {
     for (index, table) in tables.iter().enumerate() {
         if !is_table(table.bytes) {
@@ -95,7 +96,8 @@ pub(super) fn check_plan<A: Allocator + Clone>(
     revision: u8,
     tables: &[PlacedTable<'_>],
 ) -> Result<(), WriteError>
-    ensures { result ≡ checks.check_plan (plan rsdp_address root_address revision tables.now) }
+    ensures exact { result ≡ checks.check_plan (plan rsdp_address root_address revision tables.now) }
+    ensures named { IfErr result (λ e. e ≢ OutOfMemory) }
 {
     if root_address == 0 {
         return Err(WriteError::ZeroRoot);

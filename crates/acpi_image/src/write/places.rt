@@ -1,15 +1,15 @@
 //! The places that the records of a written image are to lie at.
-ghost use Rattle.std.specs.Prelude.{◌≡◌, ◌+◌, ◌^◌, ◌<◌, ◌∷◌, ◌++◌, [], true, false, nat_lt, length, IfOk, OnOk};
+ghost use Rattle.std.specs.Prelude.{◌≡◌, ◌≢◌, ◌+◌, ◌^◌, ◌<◌, ◌∷◌, ◌++◌, [], true, false, nat_lt, length, IfErr, IfOk, OnOk};
 ghost use Rattle.acpi_base.specs.FromStd.{list_all, list_any};
-ghost use Rattle.acpi_base.specs.Words.{Memory, end_of};
+ghost use Rattle.acpi_base.specs.Words.{Memory, end_of, range_fits};
 ghost use Rattle.acpi_image_reader.specs.Words.{share, shares_any, region_in};
-ghost use Rattle.acpi_image.specs.Words.{IsPlaced, place_of, places_of};
+ghost use Rattle.acpi_image.specs.Words.{IsPlaced, place_of, places_of, OutOfMemory};
 ghost use Rattle.acpi_image.specs.WriteChecks as checks;
 
 use crate::error::WriteError;
 use crate::write::PlacedTable;
 use acpi_base::AddressRange;
-use acpi_image_reader::range::{fits, shares_byte};
+use acpi_image_reader::range::shares_byte;
 use acpi_image_reader::start_index::{add_start, last_up_to};
 use std::alloc::{AllocError, Allocator};
 use std::collections::BTreeMap;
@@ -19,10 +19,7 @@ pub fn range_of(table: &PlacedTable<'_>) -> AddressRange
     ensures address { result.address ≡ table.now.address }
     ensures length { result.length ≡ length table.now.bytes.now }
 {
-    AddressRange {
-        address: table.address,
-        length: table.bytes.len() as u64,
-    }
+    AddressRange::new(table.address, table.bytes.len() as u64)
 }
 
 /// Whether some byte lies in a place and in one of the tables.
@@ -143,25 +140,26 @@ fn some_share_by_pairs(rsdp: AddressRange, root: AddressRange, tables: &[PlacedT
 
 /// Whether each of the tables ends below 2^64.
 fn all_fit(tables: &[PlacedTable<'_>]) -> bool
-    ensures { result ≡ list_all (λ t. nat_lt (end_of (place_of t)) (2 ^ 64)) tables.now }
+    ensures { result ≡ list_all (λ t. range_fits t.address (length t.bytes.now)) tables.now }
 {
-    tables.iter().all(|table| fits(range_of(table)))
+    tables.iter().all(|table| range_of(table).fits())
 }
 
 /// Tests the places that the records are to lie at.
 ///
 /// Fails, in this order, with `EndTooLarge` and `Overlap`.
-#[tactic(auto, using(crate::proofs::Checks::all_fit), unfolding(crate::specs::WriteChecks::check_places))]
+#[tactic(auto, using(crate::proofs::Checks::all_fit, crate::proofs::Checks::region_fits), unfolding(crate::specs::WriteChecks::check_places))]
 pub(super) fn check_places<A: Allocator + Clone>(
     alloc: A,
     rsdp: AddressRange,
     root: AddressRange,
     tables: &[PlacedTable<'_>],
 ) -> Result<(), WriteError>
-    ensures { result ≡ checks.check_places
+    ensures exact { result ≡ checks.check_places
         (region_in rsdp ∷ region_in root ∷ places_of tables.now) }
+    ensures named { IfErr result (λ e. e ≢ OutOfMemory) }
 {
-    if !fits(rsdp) || !fits(root) || !all_fit(tables) {
+    if !rsdp.fits() || !root.fits() || !all_fit(tables) {
         return Err(WriteError::EndTooLarge);
     }
     let some_share = match some_share_by_starts(alloc, rsdp, root, tables) {

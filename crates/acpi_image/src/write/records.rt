@@ -41,8 +41,8 @@ fn qword(number: u64) -> [u8; 8]
 
 /// An RSDP whose checksums are 0 (section 5.2.5.3).
 #[tactic(auto, unfolding(crate::specs::Written::rsdp_unsummed, acpi_base::specs::Bytes::spelling))]
-fn rsdp_unsummed(revision: u8, rsdt: u64, count: u64, xsdt: u64) -> [u8; 36]
-    ensures { result ≡ rsdp_unsummed revision rsdt count xsdt }
+fn rsdp_unsummed(oem_id: [u8; 6], revision: u8, rsdt: u64, count: u64, xsdt: u64) -> [u8; 36]
+    ensures { result ≡ rsdp_unsummed oem_id revision rsdt count xsdt }
 {
     // From the last field to the first: what is set is always put before what is set already, as the definition joins them.
     let mut rsdp = [0; 36];
@@ -50,22 +50,23 @@ fn rsdp_unsummed(revision: u8, rsdt: u64, count: u64, xsdt: u64) -> [u8; 36]
     rsdp[20..24].copy_from_slice(&dword(count)); // Length
     rsdp[16..20].copy_from_slice(&dword(rsdt)); // RsdtAddress
     rsdp[15] = revision; // Revision
-    rsdp[9..15].copy_from_slice(b"      "); // OEMID
+    rsdp[9..15].copy_from_slice(&oem_id); // OEMID
     rsdp[..8].copy_from_slice(b"RSD PTR "); // Signature
     rsdp
 }
 
-/// The RSDP of a revision that leads to the root table at an address.
+/// The RSDP of an OEMID and a revision that leads to the root table at an address (section 5.2.5.3): the RSDT for
+/// revision 0, otherwise the XSDT.
 #[tactic(auto, unfolding(crate::specs::Written::rsdp_to, crate::specs::Written::with_first_sum))]
-fn rsdp_to(revision: u8, root: u64) -> [u8; 36]
-    ensures { result ≡ rsdp_to revision root }
+pub fn rsdp_to(oem_id: [u8; 6], revision: u8, root: u64) -> [u8; 36]
+    ensures { result ≡ rsdp_to oem_id revision root }
 {
     if revision == 0 {
-        let mut rsdp = rsdp_unsummed(0, root, 0, 0);
+        let mut rsdp = rsdp_unsummed(oem_id, 0, root, 0, 0);
         set_sum(&mut rsdp[..20], 8); // Checksum
         rsdp
     } else {
-        let mut rsdp = rsdp_unsummed(revision, 0, 36, root);
+        let mut rsdp = rsdp_unsummed(oem_id, revision, 0, 36, root);
         set_sum(&mut rsdp[..20], 8); // Checksum
         set_sum(&mut rsdp, 32); // Extended Checksum
         rsdp
@@ -128,7 +129,7 @@ pub fn put_rsdp<A: Allocator>(
     ensures refused { IfErr result (λ e. e ≡ OutOfMemory) }
 {
     put_head(file, address, 36)?;
-    put(file, &rsdp_to(revision, root))
+    put(file, &rsdp_to(*b"      ", revision, root))
 }
 
 /// A root table's header, whose checksum is 0 (section 5.2.6): an RSDT's for revision 0, otherwise
