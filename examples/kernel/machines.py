@@ -102,8 +102,9 @@ def spans(lines):
 def boot(args, folder, writes=None, words='hold', kernel=KERNEL, more=()):
     """What the kernel prints, the dumps, with those of more memory, and QEMU's status."""
     monitor, gdb = os.path.join(folder, 'monitor'), os.path.join(folder, 'gdb')
+    # By one thread: 255 processors, each of which the firmware wakes, take twice as long with a thread each.
     command = ['qemu-system-x86_64', '-nodefaults', '-no-user-config', '-display', 'none', '-no-reboot',
-               '-accel', 'tcg', '-serial', 'stdio', '-monitor', 'unix:%s,server=on,wait=off' % monitor,
+               '-accel', 'tcg,thread=single', '-serial', 'stdio', '-monitor', 'unix:%s,server=on,wait=off' % monitor,
                '-device', 'isa-debug-exit,iobase=0xf4,iosize=4', '-kernel', kernel, '-append', words] + args
     if writes is not None:
         command += ['-S', '-gdb', 'unix:%s,server=on,wait=off' % gdb]

@@ -1,6 +1,6 @@
 //! What differs between two inputs.
 
-use super::{Output, entries_in, load, strict_status};
+use super::{Loaded, Output, entries_in, load, strict_status};
 use crate::compare::{DifferenceLines, compare};
 use crate::entries::Entry;
 use crate::input::gather::Input;
@@ -20,12 +20,34 @@ pub(crate) fn print_compared<W: Write, E: Write>(
 ) -> Result<u8, AllocError> {
     let first = load(output, 0, first, err);
     let second = load(output, 1, second, err);
-    let (Some(first), Some(second)) = (&first, &second) else {
-        return Ok(1);
-    };
-    let Some(old) = &entries_in(output, 0, first, err)? else {
-        return Ok(1);
-    };
+    match (&first, &second) {
+        (Some(first), Some(second)) => compare_loaded(output, first, second, out, err),
+        _ => Ok(1),
+    }
+}
+
+/// Prints what differs between two memories or lists of tables.
+fn compare_loaded<W: Write, E: Write>(
+    output: Output<'_, '_>,
+    first: &Loaded<'_>,
+    second: &Loaded<'_>,
+    out: &mut Out<W>,
+    err: &mut Out<E>,
+) -> Result<u8, AllocError> {
+    match &entries_in(output, 0, first, err)? {
+        Some(old) => compare_with(output, old, second, out, err),
+        None => Ok(1),
+    }
+}
+
+/// Prints what differs between these tables and those of a second input.
+fn compare_with<W: Write, E: Write>(
+    output: Output<'_, '_>,
+    old: &[Entry<'_>],
+    second: &Loaded<'_>,
+    out: &mut Out<W>,
+    err: &mut Out<E>,
+) -> Result<u8, AllocError> {
     match &entries_in(output, 1, second, err)? {
         Some(new) => compare_entries(output, old, new, out),
         None => Ok(1),
