@@ -51,7 +51,7 @@ written_as room ids (Ssdt c) = table_written room SSDT c.revision ids c.aml.now
 written_as room ids (Srat c) = srat_written_by srat.range_of room ids (srat.contents c)
 written_as room ids (Bgrt g) = bgrt_written room ids (bgrt.contents g)
 written_as room ids (Spcr c) = spcr.spcr_laid room ids c
-written_as room ids (Gtdt t) = gtdt.gtdt_laid room ids t
+written_as room ids (Gtdt c) = gtdt.gtdt_laid room ids c
 written_as room ids (Gic c) = gic.gic_laid room ids c
 written_as room ids Nothing = Err BadCode
 
@@ -75,7 +75,7 @@ check_contents (Fadt h) = holds (fadt.has_codes h) UnknownCode
 check_contents (Madt c) = holds (writing.has_codes c) UnknownCode
 check_contents (Bgrt g) = holds (bgrt.has_codes g) UnknownCode
 check_contents (Spcr c) = holds (spcr.has_codes c) UnknownCode
-check_contents (Gtdt t) = holds (gtdt.has_codes t) UnknownCode
+check_contents (Gtdt c) = holds (gtdt.has_codes c) UnknownCode
 check_contents (Gic c) = holds (gic.has_codes c) UnknownCode
 check_contents _ = Ok tt
 

@@ -90,7 +90,7 @@ module _ (ids : TableIds) (c : GtdtContents) (t : List ℕ) (is : IsGtdt ids c t
   field : (i : ℕ) → i < length (gtdt_fields c)
       → field_of t (36 + offset_of (gtdt_fields c) i) (field_size (field_at (gtdt_fields c) i))
       ≡ field_value (field_at (gtdt_fields c) i)
-  field i less = read_in t (flat_map structure_bytes c.platform_timers.now) 36 (gtdt_fields c) rest is.fit.fields i less
+  field i less = read_in t (flat_map structure_bytes c.platform_timers.now) 36 (gtdt_fields c) rest is.fit.0 i less
 
   revision_is : field_of t 8 1 ≡ 3
   unfolding header_at
@@ -98,7 +98,7 @@ module _ (ids : TableIds) (c : GtdtContents) (t : List ℕ) (is : IsGtdt ids c t
 
   all : AllByRecursion IsGood c.platform_timers.now
   all = both_known FitsStructure (λ x. structure_checked x ≡ Ok tt) c.platform_timers.now
-      (recursion_from_All FitsStructure c.platform_timers.now is.fit.platform)
+      (recursion_from_All FitsStructure c.platform_timers.now is.fit.1)
       (each_good structure_checked c.platform_timers.now good.platform)
 
   count_is : field_of t 88 4 ≡ length c.platform_timers.now
@@ -135,7 +135,7 @@ module _ (ids : TableIds) (c : GtdtContents) (t : List ℕ) (is : IsGtdt ids c t
   el2_fit : All FitsField (el2_fields c.virtual_el2_timer)
   unfolding gtdt_fields
   el2_fit = All-from_recursion FitsField (el2_fields c.virtual_el2_timer)
-      (is.fit.fields 13 (Zeros 0) (lit< tt), (is.fit.fields 14 (Zeros 0) (lit< tt), tt))
+      (is.fit.0 13 (Zeros 0) (lit< tt), (is.fit.0 14 (Zeros 0) (lit< tt), tt))
 
   shows_el2 : virtual_el2_of (gtdt_at t) ≡ Some c.virtual_el2_timer
   unfolding gtdt_at header_at

@@ -6,7 +6,7 @@ use Rattle.acpi_base.specs.Words.{◌>>=◌, letters_of, spelling}
 use Rattle.acpi.specs.Types.{Signature, BGRT, FADT, GTDT, HPET, MADT, MCFG, SLIT, SPCR, SRAT, SSDT, XSDT}
 use Rattle.acpi_writer.specs.Types.{MemoryRange, Xsdt}
 use Rattle.acpi_image.proofs.Written.{length-with_sum}
-use Rattle.acpi_writer.specs.Words.{bgrt_body, Moves, contents_written, most, or_none, Written, bytes_by, placed_by, sized, fadt_body, fadt_checked, fadt_written, gic_body, gic_checked, gic_written, gtdt_body, gtdt_checked, gtdt_written, hpet_body, gap, padded, addresses, laid, rounded, madt_body, madt_checked, madt_written, mcfg_body, slit_body, slit_checked, slit_written, spcr_body, spcr_checked, spcr_written, ContentsOf, srat_body_by, srat_checked_by, srat_written_by, AreIds, are_texts, table_bytes, table_head, table_written, unsummed, TableContents, Bgrt, Fadt, GicMadt, Gtdt, Hpet, Madt, Mcfg, Slit, Spcr, Srat, Ssdt, WriterError, FadtContents, TableIds, SpcrContents, MachineOf, after_dsdt, check_each, dsdt_address, dsdt_end, dsdt_of, facs_laid, listed_by, rest_bytes, size_by, tables_address, tree_by, xsdt_by, xsdt_from, xsdt_length, root_body, Measures}
+use Rattle.acpi_writer.specs.Words.{bgrt_body, Moves, contents_written, most, or_none, Written, bytes_by, placed_by, sized, fadt_body, fadt_checked, fadt_written, gic_body, gic_checked, gic_written, gtdt_body, gtdt_checked, gtdt_written_by, hpet_body, gap, padded, addresses, laid, rounded, madt_body, madt_checked, madt_written, mcfg_body, slit_body, slit_checked, slit_written, spcr_body, spcr_checked, spcr_written, ContentsOf, srat_body_by, srat_checked_by, srat_written_by, AreIds, are_texts, table_bytes, table_head, table_written, unsummed, TableContents, Bgrt, Fadt, GicMadt, Gtdt, Hpet, Madt, Mcfg, Slit, Spcr, Srat, Ssdt, WriterError, FadtContents, TableIds, SpcrContents, MachineOf, after_dsdt, check_each, dsdt_address, dsdt_end, dsdt_of, facs_laid, listed_by, rest_bytes, size_by, tables_address, tree_by, xsdt_by, xsdt_from, xsdt_length, root_body, Measures}
 use Rattle.acpi_writer.proofs.Tables.{head_length, it_fits}
 use borrow.Rule.Slice.PartMut.{post_of, put_mid}
 use Rattle.acpi_writer.proofs.Headless.{laid_long}
@@ -92,7 +92,7 @@ unfolding spcr_written
 moved_spcr ids c are = moved_checked (spcr_checked c) SPCR 4 ids (spcr_body c) refl are
 
 pub moved_contents : (ids : TableIds) (c : TableContents) → AreIds ids → Moves (λ room. contents_written room ids c)
-unfolding gic_written gtdt_written madt_written
+unfolding gic_written gtdt_written_by madt_written
 moved_contents ids (Madt c) are = moved_checked (madt_checked c) MADT 5 ids (madt_body c) refl are
 moved_contents ids (Mcfg regions) are = moved_table MCFG 1 ids (mcfg_body regions.now) refl are
 moved_contents ids (Hpet info) are = moved_table HPET 1 ids (hpet_body info) refl are

@@ -34,11 +34,24 @@ pub use Rattle.acpi_writer.specs.declared.fadt.contents.LegacyFields.{LegacyFiel
 pub use Rattle.acpi_writer.specs.declared.fadt.features.ArmBootFeatures.{ArmBootFeatures}
 pub use Rattle.acpi_writer.specs.declared.fadt.features.FixedFeatures.{FixedFeatures}
 pub use Rattle.acpi_writer.specs.declared.fadt.features.PcBootFeatures.{PcBootFeatures}
-pub use Rattle.acpi_writer.specs.declared.gtdt.GtdtContents.{GtdtContents}
-pub use Rattle.acpi_writer.specs.declared.gtdt.PlatformTimerContents.{PlatformTimerContents}
+use Rattle.acpi_writer.specs.declared.gtdt.GtdtContents as gtdt
+use Rattle.acpi_writer.specs.declared.gtdt.PlatformTimerContents as timers
 pub use Rattle.acpi_writer.specs.declared.ids.TableIds.{TableIds}
 pub use Rattle.acpi_writer.specs.declared.madt.MadtContents.{MadtContents}
 pub use Rattle.acpi_writer.specs.declared.madt.MadtProcessor.{MadtProcessor}
 pub use Rattle.acpi_writer.specs.declared.madt.gic.GicContents.{GicContents}
 pub use Rattle.acpi_writer.specs.declared.spcr.SpcrContents.{SpcrContents}
 pub use Rattle.acpi_writer.specs.declared.spcr.SpcrPciDevice.{SpcrPciDevice}
+
+-- contents whose timers and frames are things of a type that stands for these, and those of the timers themselves
+abbrev pub GtdtOf : Type 0 → Type 0
+GtdtOf T = gtdt.GtdtContents T
+
+abbrev pub TimerOf : Type 0 → Type 0
+TimerOf F = timers.PlatformTimerContents F
+
+abbrev pub PlatformTimerContents : Type 0
+PlatformTimerContents = TimerOf GtFrame
+
+abbrev pub GtdtContents : Type 0
+GtdtContents = GtdtOf PlatformTimerContents

@@ -7,9 +7,9 @@ pub use Rattle.acpi_writer.specs.Checked.{all_checked}
 pub use Rattle.acpi_writer.specs.Contents.{FitsContents, Moves, Written, bytes_by, bytes_of, contents_written, most, or_none, placed, placed_by, signature_of, sized}
 pub use Rattle.acpi_writer.specs.Facs.{FacsIsRead, FitsFacs, IsReadAs}
 unfoldable pub use Rattle.acpi_writer.specs.Facs.{facs_bytes, facs_written}
-pub use Rattle.acpi_writer.specs.FadtBytes.{address_or_zero, are_blocks, are_placed, arm_flags, body_with, bytes_wide, fadt_body, fadt_checked, feature_flags, fixed_of, gpe_length, gpe_register, has_address, has_length, is_given, is_profile, narrow, pc_flags, port_of, profile_code, registers}
+pub use Rattle.acpi_writer.specs.FadtBytes.{address_or_zero, are_blocks, are_placed, are_registers, arm_flags, body_with, bytes_wide, fadt_body, fadt_checked, feature_flags, fixed_of, gpe_length, gpe_register, has_address, is_block, is_given, is_profile, narrow, optional_blocks, pc_flags, port_of, profile_code, registers}
 unfoldable pub use Rattle.acpi_writer.specs.FadtBytes.{fadt_written, front_fields, wide_fields}
-pub use Rattle.acpi_writer.specs.FadtLaws.{AreFitFor, FadtIsRead, FadtIsValid, HasFields, HasFlags, HasHardware, HasLegacy, HasNeededBlocks, IsFadt}
+pub use Rattle.acpi_writer.specs.FadtLaws.{AreFitFor, FitsFadt, FadtIsRead, FadtIsValid, HasFields, HasFlags, HasHardware, HasLegacy, HasNeededBlocks, IsFadt}
 pub use Rattle.acpi_writer.specs.Fields.{FitsField, field_at, field_bytes, field_size, field_value, fields_bytes, offset_of}
 pub use Rattle.acpi_writer.specs.Flags.{FlagsAreRead}
 unfoldable pub use Rattle.acpi_writer.specs.Flags.{flag_number}
@@ -17,8 +17,8 @@ pub use Rattle.acpi_writer.specs.Generic.{FitsAddress, FitsRegister, address_byt
 unfoldable pub use Rattle.acpi_writer.specs.Generic.{address_fields}
 pub use Rattle.acpi_writer.specs.GicMadt.{AreGicFit, FitsInterface, GicMadtIsRead, GicMadtIsValid, IsGicMadt, gic_body, gic_checked, gic_read, gicc_entry, gicc_fields, gicd_entry, gicr_entry, has_spis, interface_checked, its_entry, msi_entry, spis_of, trace_field}
 unfoldable pub use Rattle.acpi_writer.specs.GicMadt.{gic_written, gicc_list, gicd_fields, gicr_fields, its_fields, msi_fields}
-pub use Rattle.acpi_writer.specs.Gtdt.{AreTimersFit, FitsFrame, FitsStructure, FitsWatchdog, GtdtIsRead, GtdtIsValid, IsGtdt, SaysTimers, base_of, frame_bytes, frame_checked, gtdt_body, gtdt_checked, structure_bytes, structure_checked, timer_checked, timer_flags, timer_read}
-unfoldable pub use Rattle.acpi_writer.specs.Gtdt.{block_fields, frame_fields, gtdt_fields, gtdt_written, watchdog_fields}
+pub use Rattle.acpi_writer.specs.Gtdt.{AreTimersFit, AreTimersFitBy, FitsFrame, FitsStructure, FitsWatchdog, IsGtdtBy, GtdtIsRead, GtdtIsValid, IsGtdt, SaysTimers, base_of, frame_bytes, frame_checked, gtdt_body, gtdt_body_by, gtdt_checked, gtdt_checked_by, gtdt_written, structure_bytes, structure_bytes_by, structure_checked, structure_checked_by, timer_checked, timer_flags, timer_read}
+unfoldable pub use Rattle.acpi_writer.specs.Gtdt.{block_fields, frame_fields, gtdt_fields, gtdt_written_by, watchdog_fields}
 pub use Rattle.acpi_writer.specs.HpetBytes.{hpet_body, hpet_written, protection_code}
 unfoldable pub use Rattle.acpi_writer.specs.HpetBytes.{hpet_fields}
 pub use Rattle.acpi_writer.specs.HpetLaws.{HpetIsRead, HpetIsValid, IsHpet}
@@ -47,7 +47,7 @@ unfoldable pub use Rattle.acpi_writer.specs.Srat.{memory_fields, srat_written_by
 pub use Rattle.acpi_writer.specs.SratLaws.{AreFitBy, FitsApic, FitsGicc, FitsRange, IsSrat, IsSratBy, SaysDomains, SratIsRead, SratIsValid}
 pub use Rattle.acpi_writer.specs.Table.{AreIds, HasIds, IdsAreRead, IsTableOf, IsValid, Keeps, are_texts, bit_of, front_written, if_checked, unsummed}
 unfoldable pub use Rattle.acpi_writer.specs.Table.{table_bytes, table_head, table_written}
-pub use Rattle.acpi_writer.specs.Types.{AmlContents, BadCode, BadName, BadProfile, Bgrt, BgrtContents, BgrtOrientation, FacsContents, Fadt, FadtContents, FadtHardware, Fixed, FixedHardware, GicContents, GicMadt, Gtdt, GtdtContents, Hpet, IdOfAll, Madt, MadtContents, MadtProcessor, Mcfg, NoAddress, NoProcessor, PlatformTimerContents, Reduced, Slit, Spcr, SpcrContents, Srat, Ssdt, TableContents, TableIds, TooLong, TooManyFrames, WriterError}
+pub use Rattle.acpi_writer.specs.Types.{AmlContents, BadCode, BadName, BadProfile, Bgrt, BgrtContents, BgrtOrientation, FacsContents, Fadt, FadtContents, FadtHardware, Fixed, FixedHardware, GicContents, GicMadt, Gtdt, GtdtContents, GtdtOf, Hpet, IdOfAll, Madt, MadtContents, MadtProcessor, Mcfg, NoAddress, NoProcessor, PlatformTimerContents, Reduced, Slit, Spcr, SpcrContents, Srat, Ssdt, TableContents, TableIds, TimerOf, TooLong, TooManyFrames, WriterError}
 pub use Rattle.acpi_writer.specs.declared.contents.SlitContents.{SlitContents}
 pub use Rattle.acpi_writer.specs.declared.fields.Field.{Field}
 pub use Rattle.acpi_writer.specs.declared.fields.Field.TheVariants.{U16, U32, U64, U8, Zeros}

@@ -4,17 +4,17 @@ ghost use Rattle.acpi_base.specs.Words.{Gives};
 ghost use Rattle.acpi_c_lib.specs.Words.{IsKeptOr};
 ghost use Rattle.acpi_c_lib.specs.WrittenMachine as whole;
 
-use crate::arm_records::ArmTimers;
 use crate::fixed_records::FixedHardware;
 use crate::records::{BootGraphic, HpetInfo, PciRegion};
 use crate::refusal::Refusal;
 use crate::writing::{bgrt, fadt, gic, gtdt, madt, spcr};
 use crate::written_records::{
-    AmlContents, GicContents, ListedTable, Machine, MadtContents, SlitContents, SpcrContents,
-    SratContents,
+    AmlContents, GicContents, GtdtContents, ListedTable, Machine, MadtContents, SlitContents,
+    SpcrContents, SratContents,
 };
 use acpi_base::Signature;
 use acpi_writer::fadt::fadt_size;
+use acpi_writer::gtdt::gtdt_size;
 use acpi_writer::mcfg::{mcfg_size, write_mcfg_of};
 use acpi_writer::slit::slit_size;
 use acpi_writer::spelled::Bytes;
@@ -36,7 +36,7 @@ pub enum Contents<'a> {
     Srat(SratContents<'a>),
     Bgrt(BootGraphic),
     Spcr(SpcrContents),
-    Gtdt(ArmTimers),
+    Gtdt(GtdtContents<'a>),
     Gic(GicContents<'a>),
     Nothing,
 }
@@ -65,7 +65,7 @@ impl Listed for Contents<'_> {
 
     ghost fits = { λ _. Unit {0} };
 
-    #[tactic(auto, using(crate::proofs::WrittenTables::named, crate::proofs::WrittenTables::untimed), unfolding(acpi_writer::specs::Spcr::spcr_written, acpi_writer::specs::Spcr::fixed_list, acpi_writer::specs::Gtdt::gtdt_fields, acpi_writer::specs::Gtdt::gtdt_written))]
+    #[tactic(auto, using(crate::proofs::WrittenTables::named), unfolding(acpi_writer::specs::Spcr::spcr_written, acpi_writer::specs::Spcr::fixed_list))]
     fn size(&self, ids: &TableIds) -> Result<usize, WriterError> {
         match self {
             Contents::Fadt(hardware) => fadt_size(ids, &fadt::contents(hardware)),
@@ -81,13 +81,13 @@ impl Listed for Contents<'_> {
                 table_size(Signature::BGRT, 1, ids, &bgrt::contents(graphic))
             }
             Contents::Spcr(console) => TableContents::Spcr(spcr::contents(console)).size(ids),
-            Contents::Gtdt(timers) => TableContents::Gtdt(gtdt::contents(timers)).size(ids),
+            Contents::Gtdt(timers) => gtdt_size(ids, &gtdt::contents(timers)),
             Contents::Gic(parts) => gic::laid_size(ids, parts),
             Contents::Nothing => Err(WriterError::BadCode),
         }
     }
 
-    #[tactic(auto, using(crate::proofs::WrittenTables::named, crate::proofs::WrittenTables::untimed), unfolding(acpi_writer::specs::Spcr::spcr_written, acpi_writer::specs::Spcr::fixed_list, acpi_writer::specs::Gtdt::gtdt_fields, acpi_writer::specs::Gtdt::gtdt_written))]
+    #[tactic(auto, using(crate::proofs::WrittenTables::named), unfolding(acpi_writer::specs::Spcr::spcr_written, acpi_writer::specs::Spcr::fixed_list))]
     fn write(&self, out: &mut [u8], ids: &TableIds) -> Result<usize, WriterError> {
         match self {
             Contents::Fadt(hardware) => write_fadt(out, ids, &fadt::contents(hardware)),
