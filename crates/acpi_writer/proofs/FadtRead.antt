@@ -1,12 +1,12 @@
 -- What a reader finds in a FADT that is written, and when one is.
-use Rattle.std.proofs.Common.{◌≡◌, ℕ, zero, suc, ◌+◌, ◌*◌, ◌<◌, true, false, List, [], ◌∷◌, ◌++◌, length, take, drop, get_or, Option, Some, None, Ok, refl, sym, ap, ◌∙◌, arith, lit<, append_assoc, length-append, Result, Err, subst, ◌==◌, nat_le, if◌then◌else◌, flat_map, replicate, IfOk, All, ok_or, option_map}
+use Rattle.std.proofs.Common.{◌≡◌, ℕ, zero, suc, ◌+◌, ◌*◌, ◌<◌, true, false, List, [], ◌∷◌, ◌++◌, length, take, drop, get_or, Option, Some, None, Ok, refl, sym, ap, ◌∙◌, arith, lit<, append_assoc, length-append, ◌==◌, nat_le, if◌then◌else◌, flat_map, replicate, ok_or, option_map}
 use Rattle.acpi_base.specs.FromStd.{AllByRecursion, chars, is_utf8, list_all}
 use Rattle.acpi_base.proofs.FromStd.{and_parts, ltb-true, ne_eqb, drop-drop, drop_at, take_at}
 use Rattle.acpi.specs.Words.{timer_of}
 use Rattle.acpi_base.specs.Words.{generic_address_of, has_bit, field_of, filled_part, part, spelling, header_at}
 use Rattle.acpi.specs.Types.{GenericAddress, AcpiError, InvalidDsdtAddress, InvalidFacsAddress, FADT, Fadt, PowerProfile}
 use Rattle.acpi_fixed.specs.Words.{fadt_at, pm_timer_of, profile_for, feature_bits, gpe_of, address_or, block_at, extended_address, extended_number, has_extended, optional_block_of, register_of, timer_block_of}
-use Rattle.acpi_writer.specs.Words.{address_or_zero, are_blocks, are_placed, are_registers, arm_flags, body_with, bytes_wide, fadt_body, feature_flags, fixed_of, front_fields, gpe_length, gpe_register, has_address, is_block, is_given, is_profile, narrow, optional_blocks, pc_flags, profile_code, registers, wide_fields, AreFitFor, FadtIsRead, FadtIsValid, HasFields, HasFlags, HasHardware, HasLegacy, HasNeededBlocks, IsFadt, FitsField, field_at, field_bytes, field_size, field_value, fields_bytes, offset_of, FitsRegister, is_register, register_bytes, FadtContents, FadtHardware, Fixed, Reduced, FixedHardware, TableIds, BadProfile, NoAddress}
+use Rattle.acpi_writer.specs.Words.{address_or_zero, are_blocks, are_placed, are_registers, arm_flags, body_with, bytes_wide, fadt_body, feature_flags, fixed_of, front_fields, gpe_register, has_address, is_block, is_profile, narrow, optional_blocks, pc_flags, profile_code, registers, wide_fields, AreFitFor, FadtIsRead, FadtIsValid, HasFields, HasFlags, HasHardware, HasLegacy, HasNeededBlocks, IsFadt, field_at, field_bytes, field_size, field_value, fields_bytes, offset_of, FitsRegister, is_register, register_bytes, FadtContents, FadtHardware, Fixed, Reduced, FixedHardware, TableIds, BadProfile, NoAddress}
 use Rattle.acpi_writer.specs.FadtLaws.{IsReadAs}
 use Rattle.acpi_base.proofs.Words.{holds_ok}
 use Rattle.acpi_writer.proofs.Bits.{flags_read, is_off, was_true}
@@ -184,40 +184,10 @@ module _ (c : FadtContents) (h : FixedHardware) (t : List ℕ) (from36 : drop 36
   pm1a_event_is = block_is t 56 88 148 _ (Some h.pm1a_event) (front 18 (lit< tt)) (port 10 (lit< tt)) (has 148 12 refl)
       (register 0 (lit< tt))
 
-  pm1b_event_is : block_at t 60 88 160 ≡ made (bytes_wide (Some h.pm1a_event)) h.pm1b_event
-  unfolding front_fields
-  pm1b_event_is = block_is t 60 88 160 _ h.pm1b_event (front 18 (lit< tt)) (port 11 (lit< tt)) (has 160 12 refl)
-      (register 1 (lit< tt))
-
   pm1a_control_is : block_at t 64 89 172 ≡ made (bytes_wide (Some h.pm1a_control)) (Some h.pm1a_control)
   unfolding front_fields
   pm1a_control_is = block_is t 64 89 172 _ (Some h.pm1a_control) (front 19 (lit< tt)) (port 12 (lit< tt))
       (has 172 12 refl) (register 2 (lit< tt))
-
-  pm1b_control_is : block_at t 68 89 184 ≡ made (bytes_wide (Some h.pm1a_control)) h.pm1b_control
-  unfolding front_fields
-  pm1b_control_is = block_is t 68 89 184 _ h.pm1b_control (front 19 (lit< tt)) (port 13 (lit< tt)) (has 184 12 refl)
-      (register 3 (lit< tt))
-
-  pm2_control_is : block_at t 72 90 196 ≡ made (bytes_wide h.pm2_control) h.pm2_control
-  unfolding front_fields
-  pm2_control_is = block_is t 72 90 196 _ h.pm2_control (front 20 (lit< tt)) (port 14 (lit< tt)) (has 196 12 refl)
-      (register 4 (lit< tt))
-
-  pm_timer_is : block_at t 76 91 208 ≡ made (if is_given h.pm_timer then 4 else 0) h.pm_timer
-  unfolding front_fields
-  pm_timer_is = block_is t 76 91 208 _ h.pm_timer (front 21 (lit< tt)) (port 15 (lit< tt)) (has 208 12 refl)
-      (register 5 (lit< tt))
-
-  gpe0_is : block_at t 80 92 220 ≡ made (gpe_length h.gpe0) (gpe_register h.gpe0)
-  unfolding front_fields
-  gpe0_is = block_is t 80 92 220 _ (gpe_register h.gpe0) (front 22 (lit< tt)) (port 16 (lit< tt)) (has 220 12 refl)
-      (register 6 (lit< tt))
-
-  gpe1_is : block_at t 84 93 232 ≡ made (gpe_length h.gpe1) (gpe_register h.gpe1)
-  unfolding front_fields
-  gpe1_is = block_is t 84 93 232 _ (gpe_register h.gpe1) (front 23 (lit< tt)) (port 17 (lit< tt)) (has 232 12 refl)
-      (register 7 (lit< tt))
 
   reset_is : filled_part t 116 12 ≡ register_bytes c.reset_register
   reset_is =
@@ -284,12 +254,24 @@ module _ (c : FadtContents) (h : FixedHardware) (t : List ℕ) (from36 : drop 36
         s4 = front 8 (lit< tt);
         performance = front 9 (lit< tt);
         c_state = front 25 (lit< tt);
-        pm1b_event = ap optional_block_of pm1b_event_is ∙ optional_read _ h.pm1b_event (fits 1 (lit< tt)) are.0;
-        pm1b_control = ap optional_block_of pm1b_control_is ∙ optional_read _ h.pm1b_control (fits 3 (lit< tt)) are.1.0;
-        pm2_control = ap optional_block_of pm2_control_is ∙ optional_read _ h.pm2_control (fits 4 (lit< tt)) are.1.1.0;
-        pm_timer = ap timer_block_of pm_timer_is ∙ timer_read h.pm_timer (fits 5 (lit< tt)) are.1.1.1.0;
-        gpe0 = ap gpe_of gpe0_is ∙ gpe_read h.gpe0 (fits 6 (lit< tt)) are.1.1.1.1.0;
-        gpe1 = ap gpe_of gpe1_is ∙ gpe_read h.gpe1 (fits 7 (lit< tt)) are.1.1.1.1.1.0;
+        pm1b_event =
+            ap optional_block_of (block_is t 60 88 160 _ h.pm1b_event (front 18 (lit< tt)) (port 11 (lit< tt))
+            (has 160 12 refl) (register 1 (lit< tt))) ∙ optional_read _ h.pm1b_event (fits 1 (lit< tt)) are.0;
+        pm1b_control =
+            ap optional_block_of (block_is t 68 89 184 _ h.pm1b_control (front 19 (lit< tt)) (port 13 (lit< tt))
+            (has 184 12 refl) (register 3 (lit< tt))) ∙ optional_read _ h.pm1b_control (fits 3 (lit< tt)) are.1.0;
+        pm2_control =
+            ap optional_block_of (block_is t 72 90 196 _ h.pm2_control (front 20 (lit< tt)) (port 14 (lit< tt))
+            (has 196 12 refl) (register 4 (lit< tt))) ∙ optional_read _ h.pm2_control (fits 4 (lit< tt)) are.1.1.0;
+        pm_timer =
+            ap timer_block_of (block_is t 76 91 208 _ h.pm_timer (front 21 (lit< tt)) (port 15 (lit< tt))
+            (has 208 12 refl) (register 5 (lit< tt))) ∙ timer_read h.pm_timer (fits 5 (lit< tt)) are.1.1.1.0;
+        gpe0 =
+            ap gpe_of (block_is t 80 92 220 _ (gpe_register h.gpe0) (front 22 (lit< tt)) (port 16 (lit< tt))
+            (has 220 12 refl) (register 6 (lit< tt))) ∙ gpe_read h.gpe0 (fits 6 (lit< tt)) are.1.1.1.1.0;
+        gpe1 =
+            ap gpe_of (block_is t 84 93 232 _ (gpe_register h.gpe1) (front 23 (lit< tt)) (port 17 (lit< tt))
+            (has 232 12 refl) (register 7 (lit< tt))) ∙ gpe_read h.gpe1 (fits 7 (lit< tt)) are.1.1.1.1.1.0;
         gpe1_base = front 24 (lit< tt);
       }
 

@@ -1,11 +1,11 @@
 -- What a reader finds in an SPCR that is written, and when one is.
-use Rattle.std.proofs.Common.{◌≡◌, ℕ, ◌+◌, ◌-◌, ◌%◌, ◌^◌, ◌<◌, Bool, true, false, List, [], ◌∷◌, ◌++◌, length, take, drop, Option, Some, None, Result, Ok, Err, refl, sym, ap, ◌∙◌, arith, length-append, subst, ◌==◌, ◌&&◌, ◌||◌, IfOk, IsUtf8, if◌then◌else◌, nat_le, nat_lt, replicate, option_map, bytes_eq, lit<}
+use Rattle.std.proofs.Common.{◌≡◌, ℕ, ◌+◌, ◌-◌, ◌%◌, ◌^◌, ◌<◌, Bool, true, false, List, [], ◌∷◌, ◌++◌, length, take, drop, Option, Some, None, Result, Ok, refl, sym, ap, ◌∙◌, arith, length-append, ◌==◌, ◌&&◌, ◌||◌, if◌then◌else◌, nat_le, nat_lt, replicate, option_map, bytes_eq, lit<}
 use Rattle.acpi_base.specs.FromStd.{option_or, chars, is_utf8}
 use Rattle.acpi_base.proofs.FromStd.{and_parts, eqb-true, le-leb, ltb-true, drop-drop, get_or_past, take_all, bytes_eq-Decides, IsUtf8-append, IsUtf8-from_is_utf8, is_utf8-from_IsUtf8, All-from_recursion}
 use Rattle.acpi_base.specs.Words.{bits_of, generic_address_of, has_bit, interrupt_bits, field_of, filled_part, part, spelling, header_at, configured_baud, interface_of, interfaces, namespace_of, spcr_at, unless}
 use Rattle.acpi.specs.Types.{GenericAddress, AcpiError, SPCR, SpcrInterfaceType}
 use Rattle.acpi_base.specs.declared.tables.spcr.interface.SpcrInterfaceType.TheVariants as interface
-use Rattle.acpi_writer.specs.Words.{FitsAddress, FitsRegister, address_bytes, address_fields, register_or_zeros, baud_code, device_written, fixed_list, interface_code, is_base, is_interface, is_somewhere, spcr_body, spcr_checked, spcr_fields, IsSpcr, SaysConsole, SaysDevice, SaysPort, SpcrIsRead, SpcrIsValid, readable, BadCode, NoAddress, TableIds, SpcrContents, FitsField, field_at, field_size, field_value, offset_of, Zeros}
+use Rattle.acpi_writer.specs.Words.{FitsAddress, FitsRegister, address_bytes, address_fields, register_or_zeros, baud_code, device_written, fixed_list, interface_code, is_base, is_interface, is_somewhere, spcr_body, spcr_fields, IsSpcr, SaysConsole, SaysDevice, SaysPort, SpcrIsRead, SpcrIsValid, readable, BadCode, NoAddress, TableIds, SpcrContents, FitsField, field_at, field_size, field_value, offset_of, Zeros}
 use Rattle.acpi_writer.proofs.Tables.{ids_are_read}
 use Rattle.acpi_base.proofs.Words.{holds_ok}
 use Rattle.acpi_writer.proofs.Bits.{is_off, was_true}
@@ -100,28 +100,14 @@ zero_ends : is_utf8 (0 ∷ []) ≡ true
 unfolding is_utf8 chars lib.Utf8.encode
 zero_ends = refl
 
--- what each check says
-record Passed (c : SpcrContents) : Type 0 where
-  interface : is_interface c.interface_type ≡ true
-  base : is_base c.base_address ≡ true
-  somewhere : is_somewhere c.base_address ≡ true
-  short : length c.namespace_string.now < 0xffff
-
-passed_by : (c : SpcrContents) → spcr_checked c ≡ Ok tt → Passed c
-passed_by c good =
-    let one = holds_ok (is_interface c.interface_type && is_base c.base_address) BadCode _ tt good in
-    let two = holds_ok (is_somewhere c.base_address) NoAddress _ tt one.1 in
-    let codes = and_parts (is_interface c.interface_type) (is_base c.base_address) one.0 in
-    record {
-      interface = codes.0;
-      base = codes.1;
-      somewhere = two.0;
-      short = ltb-true (length c.namespace_string.now) 0xffff (was_true _ _ two.1);
-    }
-
 module _ (ids : TableIds) (c : SpcrContents) (t : List ℕ) (is : IsSpcr ids c t) where
-  passed : Passed c
-  passed = passed_by c is.checked
+  passed : (is_interface c.interface_type ≡ true) × (is_base c.base_address ≡ true)
+      × (is_somewhere c.base_address ≡ true) × (length c.namespace_string.now < 0xffff)
+  passed =
+      let one = holds_ok (is_interface c.interface_type && is_base c.base_address) BadCode _ tt is.checked in
+      let two = holds_ok (is_somewhere c.base_address) NoAddress _ tt one.1 in
+      let codes = and_parts (is_interface c.interface_type) (is_base c.base_address) one.0 in
+      (codes.0, codes.1, two.0, ltb-true (length c.namespace_string.now) 0xffff (was_true _ _ two.1))
 
   field : (k n : ℕ) → field_of t (36 + k) n ≡ field_of (spcr_body c) k n
   field = table.field SPCR spcr_name 4 ids (spcr_body c) t is.written
@@ -157,8 +143,8 @@ module _ (ids : TableIds) (c : SpcrContents) (t : List ℕ) (is : IsSpcr ids c t
   port =
       let kind = at_place 7 (lit< tt) in
       record {
-        interface_type = ap interface_of (at_place 0 (lit< tt)) ∙ each_interface c.interface_type passed.interface;
-        base_address = ap base_found raw ∙ base_by c.base_address address_fits passed.base passed.somewhere;
+        interface_type = ap interface_of (at_place 0 (lit< tt)) ∙ each_interface c.interface_type passed.0;
+        base_address = ap base_found raw ∙ base_by c.base_address address_fits passed.1 passed.2;
         interrupt_type = kind;
         irq = rw (kind, at_place 8 (lit< tt)) (irq_kept (has_bit (interrupt_bits c.interrupt_type) 0) c.irq);
         global_system_interrupt =
@@ -204,7 +190,7 @@ module _ (ids : TableIds) (c : SpcrContents) (t : List ℕ) (is : IsSpcr ids c t
   unfolding spcr_at fixed_list
   named =
       let short : (length c.namespace_string.now + 1) % 2 ^ 16 ≡ length c.namespace_string.now + 1 =
-      omega (arith, passed.short) in
+      omega (arith, passed.3) in
       rw (at_place 26 (lit< tt), at_place 25 (lit< tt), short, within, name_in, name_text) refl
 
   says : SaysConsole c t
