@@ -10,10 +10,11 @@ use Rattle.acpi_c_lib.specs.WrittenSpcr as spcr
 use Rattle.acpi_c_lib.specs.WrittenSrat as srat
 use Rattle.acpi_c_lib.specs.Writing as writing
 use Rattle.acpi_c_lib.specs.Writing.{Refusal, TableIds, WriterError, hpet_info_of, region_of, writer_refused}
-use Rattle.acpi_c_lib.specs.Types.{UnknownCode, UnknownTable, Writer, Bgrt, Fadt, Gic, Hpet, Madt, Mcfg, Nothing, Slit, Spcr, Srat, Ssdt, ListedTable, AmlContents, BadCode, NoAddress}
+use Rattle.acpi_c_lib.specs.Types.{UnknownCode, UnknownTable, Writer, Bgrt, Fadt, Gic, Hpet, Madt, Mcfg, Nothing, Slit, Spcr, Srat, Ssdt, ListedTable, AmlContents, FacsContents, BadCode, NoAddress}
 pub use Rattle.acpi_c_lib.specs.declared.writing.machine.Contents.{Contents}
 use Rattle.acpi_c_lib.specs.declared.writing.machine.Contents.TheVariants.{Gtdt}
 use Rattle.acpi_c_lib.specs.declared.written_records.AmlContents as aml
+use Rattle.acpi_c_lib.specs.declared.written_records.FacsContents as facs
 use Rattle.acpi_c_lib.specs.declared.written_records.Machine as record_of
 use Rattle.acpi_writer.specs.Words.{bgrt_written, fadt_written, hpet_written, MachineOf, dsdt_at, machine_size, machine_written, tree_written, madt_written, mcfg_written, slit_written, srat_written, table_written}
 
@@ -64,8 +65,12 @@ abbrev pub dsdt_in : List aml.AmlContents → Option AmlContents
 dsdt_in [] = None
 dsdt_in (c ∷ cs) = Some (record { revision = c.revision; bytes = c.aml })
 
+abbrev pub facs_in : List facs.FacsContents → Option FacsContents
+facs_in [] = None
+facs_in (c ∷ cs) = Some (fadt.facs_contents c)
+
 abbrev pub machine_of : record_of.Machine → MachineOf ListedTable
-machine_of m = record { ids = m.ids; dsdt = dsdt_in m.dsdts.now; facs = None; tables = m.tables }
+machine_of m = record { ids = m.ids; dsdt = dsdt_in m.dsdts.now; facs = facs_in m.facs.now; tables = m.tables }
 
 -- ---- codes
 

@@ -187,7 +187,7 @@ impl Listed for ListedTable<'_> {
 }
 
 impl<'a> Machine<'a> {
-    /// The machine, as the writer has it. Of several DSDTs the first counts.
+    /// The machine, as the writer has it. Of several DSDTs, and of several FACS, the first counts.
     pub fn whole(&self) -> acpi_writer::Machine<'a, ListedTable<'a>>
         ensures { result ≡ whole.machine_of self.now }
     {
@@ -200,7 +200,10 @@ impl<'a> Machine<'a> {
                 }),
                 [] => None,
             },
-            facs: None,
+            facs: match self.facs {
+                [first, ..] => Some(first.contents()),
+                [] => None,
+            },
             tables: self.tables,
         }
     }
