@@ -1057,7 +1057,7 @@ struct zacpi_madt_contents {
     size_t nmi_sources_length;
     const struct zacpi_nmi_line *nmi_lines; /* processor_uid isn't looked at if of_all isn't 0 */
     size_t nmi_lines_length;
-    uint64_t local_apic_address; /* of 2^32 or above it has an entry of its own */
+    uint64_t local_apic_address;
     uint64_t wakeup_mailbox;     /* MailBoxAddress (section 5.2.12.19); isn't looked at unless
                                   * has_wakeup_mailbox */
     uint8_t also_has_8259;       /* PCAT_COMPAT */
@@ -1138,16 +1138,19 @@ zacpi_status zacpi_write_dsdt(const struct zacpi_table_ids *ids, uint8_t revisio
 zacpi_status zacpi_write_ssdt(const struct zacpi_table_ids *ids, uint8_t revision,
                               const uint8_t *aml, size_t aml_length, uint8_t *out, size_t room,
                               size_t *length);
-/* A MADT of revision 5 (section 5.2.12). A processor whose uid and id are below 255 is a Processor
- * Local APIC, any other a Processor Local x2APIC; a line of a uid of 255 or above is a Local x2APIC
- * NMI, any other a Local APIC NMI. Errors before the last ones: ZACPI_UNKNOWN_CODE,
- * ZACPI_NO_PROCESSOR, ZACPI_ID_OF_ALL, ZACPI_UID_OF_ALL. */
+/* A MADT of revision 5 (section 5.2.12), with its entries sort by sort in the order of the lists, and
+ * the mailbox last. An address of 2^32 or above stands in a Local APIC Address Override after the
+ * processors, and Local Interrupt Controller Address is then 0. A processor whose uid and id are
+ * below 255 is a Processor Local APIC, any other a Processor Local x2APIC; a line of a uid of 255 or
+ * above is a Local x2APIC NMI, any other a Local APIC NMI. Errors before the last ones:
+ * ZACPI_UNKNOWN_CODE, ZACPI_NO_PROCESSOR, ZACPI_ID_OF_ALL, ZACPI_UID_OF_ALL. */
 zacpi_status zacpi_write_madt(const struct zacpi_table_ids *ids,
                               const struct zacpi_madt_contents *contents, uint8_t *out,
                               size_t room, size_t *length);
 /* A MADT of revision 6 of an Arm machine (sections 5.2.12.14 to 5.2.12.18), with its entries sort by
- * sort. A GICC has 82 bytes, or 80 if trace_buffer_interrupt is 0. Errors before the last ones:
- * ZACPI_UNKNOWN_CODE, ZACPI_NO_PROCESSOR, ZACPI_SAME_AS_BUS if a trigger is 0, ZACPI_BAD_RANGE. */
+ * sort: the distributor, and the lists in their order. A GICC has 82 bytes, or 80 if
+ * trace_buffer_interrupt is 0. Errors before the last ones: ZACPI_UNKNOWN_CODE, ZACPI_NO_PROCESSOR,
+ * ZACPI_SAME_AS_BUS if a trigger is 0, ZACPI_BAD_RANGE. */
 zacpi_status zacpi_write_gic_madt(const struct zacpi_table_ids *ids,
                                   const struct zacpi_gic_contents *contents, uint8_t *out,
                                   size_t room, size_t *length);
@@ -1266,6 +1269,8 @@ struct zacpi_machine {
     size_t tables_length;
     const struct zacpi_aml_contents *dsdts; /* the DSDT, if there is one: the first of them */
     size_t dsdts_length;
+    const struct zacpi_facs_contents *facs; /* the FACS, if there is one: the first of them */
+    size_t facs_length;
 };
 
 static inline struct zacpi_listed_table zacpi_table_of(uint32_t kind) {
@@ -1373,11 +1378,12 @@ static inline struct zacpi_srat_contents zacpi_srat_of(const struct zacpi_apic_d
 }
 
 /* All tables of a machine, for memory that begins at `address`: the RSDP there, and 48 bytes on the
- * XSDT, the DSDT, and the listed tables in order, each at a multiple of 16 and filled up with zeros
- * to the next. Errors, in this order: ZACPI_UNKNOWN_TABLE and ZACPI_UNKNOWN_CODE of the tables,
- * table by table; ZACPI_BAD_NAME; ZACPI_TOO_LONG if the XSDT is; those of the DSDT and of each
- * table, as its own call has them but for ZACPI_NO_ROOM; ZACPI_NO_ROOM; ZACPI_NO_ADDRESS if the
- * address is 0 or no multiple of 16, or the address after the last byte is above 2^64 - 1. */
+ * XSDT, the DSDT, 128 bytes with the FACS at their first multiple of 64, and the listed tables in
+ * order, each table at a multiple of 16 and filled up with zeros to the next. Errors, in this order:
+ * ZACPI_UNKNOWN_TABLE and ZACPI_UNKNOWN_CODE of the tables, table by table; ZACPI_BAD_NAME;
+ * ZACPI_TOO_LONG if the XSDT is; those of the DSDT and of each table, as its own call has them but
+ * for ZACPI_NO_ROOM; ZACPI_NO_ROOM; ZACPI_NO_ADDRESS if the address is 0 or no multiple of 16, or
+ * the address after the last byte is above 2^64 - 1. */
 zacpi_status zacpi_write_tables(const struct zacpi_machine *machine, uint64_t address,
                                 uint8_t *out, size_t room, size_t *length);
 /* The same without the RSDP and its 48 bytes: the XSDT lies at `address`. */

@@ -114,7 +114,7 @@ static void lay_arm_machine(void) {
 }
 static zacpi_status on_arm(uint8_t *to, size_t room, size_t *length) {
     const struct zacpi_listed_table tables[] = {zacpi_table_gtdt(&all_timers), zacpi_table_gic_madt(&whole_gic)};
-    return on_machine(LISTED(tables), 0, 0x7fe00000, 1, to, room, length);
+    return on_machine(LISTED(tables), 0, 0, 0x7fe00000, 1, to, room, length);
 }
 MACHINE(an_arm_machine, on_arm(to, room, length))
 MACHINE(bus_timers_listed, on_two(zacpi_table_gtdt(&timers_as_bus), zacpi_table_slit(&no_matrix), to, room, length))

@@ -128,6 +128,8 @@ static const uint8_t tree_xsdt[] = {HEAD('X', 'S', 'D', 'T', 92, 1, 0x0c), LISTE
 static const uint8_t empty_machine_bytes[96] = {'R', 'S', 'D', ' ', 'P', 'T', 'R', ' ', 0x37, 'G', 'U', 'E', 'S', 'T',
     ' ', 2, 0, 0, 0, 0, 36, 0, 0, 0, 0x30, 0, 0xe0, 0x7f, 0, 0, 0, 0, 0x4d, 0, 0, 0, ZEROS_12,
     HEAD('X', 'S', 'D', 'T', 36, 1, 0x67)};
+/* With a FACS and no table: the FACS 0x80 on, in the 128 bytes that begin 0x60 on. */
+static uint8_t facs_machine_bytes[0xe0];
 /* Without a DSDT: the XSDT 0x30 on, the BGRT 0x70 on, the SPCR 0xb0 on. */
 static uint8_t firmware_machine_bytes[0x110];
 static const uint8_t firmware_xsdt[] = {HEAD('X', 'S', 'D', 'T', 52, 1, 0x79), LISTED_AT(0x70, 0), LISTED_AT(0xb0, 0)};
@@ -152,6 +154,8 @@ static void lay_machines(void) {
     to = lay(to, firmware_xsdt, sizeof firmware_xsdt);
     to = lay(to, bgrt_bytes, sizeof bgrt_bytes);
     lay(to, spcr_bytes, sizeof spcr_bytes);
+    memcpy(facs_machine_bytes, empty_machine_bytes, sizeof empty_machine_bytes);
+    memcpy(facs_machine_bytes + 0x80, facs_bytes, sizeof facs_bytes);
     lay_tree(lay(machine_bytes, machine_rsdp, sizeof machine_rsdp), machine_xsdt);
     lay_tree(tree_bytes, tree_xsdt);
 }
@@ -161,9 +165,9 @@ static const struct zacpi_listed_table not_listed;
 static const struct zacpi_aml_contents some_aml = {LISTED(code), 2}, no_aml = {NONE(code), 1};
 
 /* What a call of machines gives for these tables, and the machine's size. */
-static zacpi_status on_machine(const struct zacpi_listed_table *tables, size_t count, size_t dsdts, uint64_t address,
-                               int has_rsdp, uint8_t *to, size_t room, size_t *length) {
-    const struct zacpi_machine machine = {*ids, tables, count, &some_aml, dsdts};
+static zacpi_status on_machine(const struct zacpi_listed_table *tables, size_t count, size_t dsdts, size_t facs_count,
+                               uint64_t address, int has_rsdp, uint8_t *to, size_t room, size_t *length) {
+    const struct zacpi_machine machine = {*ids, tables, count, &some_aml, dsdts, &facs, facs_count};
     size_t size = UNCOUNTED;
     zacpi_status got;
     if (!has_rsdp) return zacpi_write_tables_without_rsdp(&machine, address, to, room, length);
@@ -176,21 +180,22 @@ static zacpi_status on_seven(uint64_t address, int has_rsdp, uint8_t *to, size_t
     const struct zacpi_listed_table tables[] = {zacpi_table_fadt(&pc_fadt), zacpi_table_madt(&small_madt),
         zacpi_table_mcfg(LISTED(buses)), zacpi_table_hpet(&timers_block), zacpi_table_slit(&matrix),
         zacpi_table_ssdt(&no_aml), zacpi_table_srat(&srat)};
-    return on_machine(LISTED(tables), 1, address, has_rsdp, to, room, length);
+    return on_machine(LISTED(tables), 1, 0, address, has_rsdp, to, room, length);
 }
 static zacpi_status on_two(struct zacpi_listed_table a, struct zacpi_listed_table b, uint8_t *to, size_t room,
                            size_t *length) {
     const struct zacpi_listed_table tables[] = {a, b};
-    return on_machine(LISTED(tables), 0, 0x7fe00000, 1, to, room, length);
+    return on_machine(LISTED(tables), 0, 0, 0x7fe00000, 1, to, room, length);
 }
 #define MACHINE(verb, answer) static zacpi_status verb(uint8_t *to, size_t room, size_t *length) { return answer; }
 static zacpi_status on_firmware(uint8_t *to, size_t room, size_t *length) {
     const struct zacpi_listed_table tables[] = {zacpi_table_bgrt(&image), zacpi_table_spcr(&gic_console)};
-    return on_machine(LISTED(tables), 0, 0x7fe00000, 1, to, room, length);
+    return on_machine(LISTED(tables), 0, 0, 0x7fe00000, 1, to, room, length);
 }
 MACHINE(a_machine, on_seven(0x7fe00000, 1, to, room, length))
 MACHINE(a_tree, on_seven(0x7fe00000, 0, to, room, length))
-MACHINE(an_empty_machine, on_machine(&not_listed, 0, 0, 0x7fe00000, 1, to, room, length))
+MACHINE(an_empty_machine, on_machine(&not_listed, 0, 0, 0, 0x7fe00000, 1, to, room, length))
+MACHINE(a_machine_of_a_facs, on_machine(&not_listed, 0, 0, 1, 0x7fe00000, 1, to, room, length))
 MACHINE(no_matrix_listed, on_two(zacpi_table_slit(&no_matrix), zacpi_table_madt(&no_madt_processor), to, room, length))
 MACHINE(no_processor_listed, on_two(zacpi_table_hpet(&timers_block), zacpi_table_madt(&no_madt_processor), to, room,
                                     length))
@@ -207,7 +212,7 @@ MACHINE(bad_45_listed, on_two(zacpi_table_bgrt(&image_at_45), zacpi_table_slit(&
 
 /* Whether a call refuses and writes nothing, and so does the call for the size. */
 static void check_machine(const char *name, int row, const struct zacpi_listed_table *table, zacpi_status status) {
-    const struct zacpi_machine machine = {*ids, table, 1, &some_aml, 0};
+    const struct zacpi_machine machine = {*ids, table, 1, &some_aml, 0, &facs, 0};
     size_t length = UNCOUNTED;
     zacpi_status got = zacpi_tables_size(&machine, &length);
     result(got == status && length == UNCOUNTED, name, row, 0, got);

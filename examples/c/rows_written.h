@@ -340,6 +340,7 @@ static const struct written_row {
     NOT_WRITTEN(a_fadt_without_events, ZACPI_BAD_REGISTER), WRITTEN(a_fadt_events_at_0, small_fadt_bytes),
     NOT_WRITTEN(a_fadt_of_7_event_bits, ZACPI_BAD_REGISTER), NOT_WRITTEN(a_fadt_of_7_control_bits, ZACPI_BAD_REGISTER),
     WRITTEN(a_machine, machine_bytes), WRITTEN(a_tree, tree_bytes), WRITTEN(an_empty_machine, empty_machine_bytes),
+    WRITTEN(a_machine_of_a_facs, facs_machine_bytes),
     NOT_LISTED(no_matrix_listed, ZACPI_BAD_MATRIX), NOT_LISTED(no_processor_listed, ZACPI_NO_PROCESSOR),
     NOT_LISTED(no_dsdt_listed, ZACPI_NO_ADDRESS), NOT_LISTED(no_range_listed, ZACPI_BAD_RANGE),
     NOT_LISTED(all_ids_listed, ZACPI_ID_OF_ALL), NOT_WRITTEN(code_before_kind, ZACPI_UNKNOWN_CODE),

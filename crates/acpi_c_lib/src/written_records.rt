@@ -115,6 +115,7 @@ pub struct Machine<'a> {
     pub ids: TableIds,
     pub tables: &'a [ListedTable<'a>],
     pub dsdts: &'a [AmlContents<'a>],
+    pub facs: &'a [FacsContents],
 }
 
 /// What a FACS is to say (section 5.2.10).

@@ -105,7 +105,7 @@ impl<T: Checked> Checked for GtdtContents<'_, T> {
 
 /// How many bytes the GTDT has, or the first error of `write_gtdt` in a slice of any length.
 #[tactic(auto, unfolding(crate::specs::Gtdt::gtdt_written_by))]
-pub fn gtdt_size<T: Checked + Spelled>(
+pub fn gtdt_size<T: Checked + Copy + Spelled>(
     ids: &TableIds,
     contents: &GtdtContents<'_, T>,
 ) -> Result<usize, WriterError>
@@ -127,7 +127,7 @@ pub fn gtdt_size<T: Checked + Spelled>(
 /// returns, in this order, `BadName` if a name of the ids is not valid UTF-8, `NoRoom` if the slice is shorter than the
 /// table, and `TooLong` if the table has 2^32 bytes or more.
 #[tactic(auto, unfolding(crate::specs::Gtdt::gtdt_written_by))]
-pub fn write_gtdt<T: Checked + Spelled>(
+pub fn write_gtdt<T: Checked + Copy + Spelled>(
     out: &mut [u8],
     ids: &TableIds,
     contents: &GtdtContents<'_, T>,

@@ -184,7 +184,7 @@ impl<F: Checked> Checked for PlatformTimerContents<'_, F> {
     }
 }
 
-impl<F: Spelled> Spelled for PlatformTimerContents<'_, F> {
+impl<F: Copy + Spelled> Spelled for PlatformTimerContents<'_, F> {
     ghost spelled = { gtdt.structure_bytes_by F.spelled };
 
     ghost fits = { gtdt.FitsStructureBy F.fits };
