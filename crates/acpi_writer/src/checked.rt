@@ -17,7 +17,7 @@ pub trait Checked {
 }
 
 /// Returns the first error.
-pub fn check_all<T: Checked>(xs: &[T]) -> Result<(), WriterError>
+pub(crate) fn check_all<T: Checked>(xs: &[T]) -> Result<(), WriterError>
     ensures { result ≡ all_checked T.checked xs.now }
 {
     for x in xs {
