@@ -188,9 +188,9 @@ enum zacpi_refusal {
     ZACPI_NO_IOMMU = 40,                   /* the table has no unit for the device */
     /* From 41 on: why a table isn't written. */
     ZACPI_UNKNOWN_CODE = 41,  /* a polarity, a trigger mode, a LINT pin, an image's orientation or
-                               * type, a console's interrupt_controllers, or in a register an
-                               * address space, an access size or `present` by a number that isn't
-                               * one */
+                               * type, a console's interrupt_controllers, a timer's kind, or in a
+                               * register an address space, an access size or `present` by a number
+                               * that isn't one */
     ZACPI_NO_PROCESSOR = 42,  /* a MADT without a processor */
     ZACPI_ID_OF_ALL = 43,     /* a processor whose uid or id is 0xffffffff, which stands for all */
     ZACPI_UID_OF_ALL = 44,    /* an NMI line of the processor whose uid is 0xffffffff */
@@ -201,10 +201,10 @@ enum zacpi_refusal {
     ZACPI_NO_ROOM = 48,       /* the buffer is shorter than the table */
     ZACPI_TOO_LONG = 49,      /* the table has 2^32 bytes or more, which Length can't say */
     ZACPI_BAD_PROFILE = 50,   /* no call of this header returns it: a profile is its code */
-    ZACPI_BAD_REGISTER = 51,  /* a register of a FADT at address 0, or events without bytes */
+    ZACPI_BAD_REGISTER = 51,  /* a register of a FADT at address 0, or a block without bytes */
     ZACPI_BAD_RANGE = 52,     /* a range of memory that has no byte, or ends above 2^64 - 1; one of
                                * redistributors that has 2^32 bytes or more */
-    /* 53, 54 and 56: no call of this header returns them: no table has them that C can ask for. */
+    /* 53 and 54: no call of this header returns them: no table has them that C can ask for. */
     ZACPI_BAD_CODE = 53,      /* an interface or an address space with a code of another one */
     ZACPI_LONG_NAME = 54,     /* a name in the namespace of 65535 bytes or more */
     ZACPI_SAME_AS_BUS = 55,   /* a trigger mode or a polarity of an Arm machine as the bus has it */
@@ -1031,8 +1031,9 @@ zacpi_status zacpi_list_ivrs_memory(const struct zacpi_source *source, uint16_t 
 
 /* Each call writes one table, from what it is to say, to the front of `out`, which has `room`
  * bytes, and its length into `length`; the rest of `out` is as it was. The calls above then read
- * what was passed. The last errors of each are ZACPI_BAD_NAME, ZACPI_NO_ROOM and ZACPI_TOO_LONG, in
- * this order; those before them stand at the call. */
+ * what was passed, but for what a call says that it writes otherwise. The last errors of each are
+ * ZACPI_BAD_NAME, ZACPI_NO_ROOM and ZACPI_TOO_LONG, in this order; those before them stand at the
+ * call. */
 
 struct zacpi_table_ids { /* who made the table, as its header says (section 5.2.6). Each name is
                           * filled up with spaces or zeros */
@@ -1056,7 +1057,7 @@ struct zacpi_madt_contents {
     size_t nmi_sources_length;
     const struct zacpi_nmi_line *nmi_lines; /* processor_uid isn't looked at if of_all isn't 0 */
     size_t nmi_lines_length;
-    uint64_t local_apic_address; /* of 2^32 or above it has an entry of its own */
+    uint64_t local_apic_address;
     uint64_t wakeup_mailbox;     /* MailBoxAddress (section 5.2.12.19); isn't looked at unless
                                   * has_wakeup_mailbox */
     uint8_t also_has_8259;       /* PCAT_COMPAT */
@@ -1099,6 +1100,18 @@ struct zacpi_spcr_contents {
     uint8_t flow_control;          /* Flow Control, as it is */
     uint8_t terminal_type;         /* Terminal Type, as it is */
 };
+struct zacpi_platform_timer { /* section 5.2.24.1: a GT Block or a watchdog */
+    uint32_t kind;               /* 0: the block. 1: the watchdog. The other one isn't looked at */
+    uint64_t block_address;      /* GT Block Physical Address */
+    const struct zacpi_gt_frame *frames; /* their block_address isn't looked at */
+    size_t frames_length;
+    struct zacpi_watchdog watchdog;
+};
+struct zacpi_gtdt_contents {
+    struct zacpi_arm_timers timers;
+    const struct zacpi_platform_timer *platform_timers;
+    size_t platform_timers_length;
+};
 struct zacpi_facs_contents { /* section 5.2.10 */
     uint64_t waking_vector_64;    /* X_Firmware_Waking_Vector */
     uint32_t hardware_signature;  /* Hardware Signature */
@@ -1125,16 +1138,19 @@ zacpi_status zacpi_write_dsdt(const struct zacpi_table_ids *ids, uint8_t revisio
 zacpi_status zacpi_write_ssdt(const struct zacpi_table_ids *ids, uint8_t revision,
                               const uint8_t *aml, size_t aml_length, uint8_t *out, size_t room,
                               size_t *length);
-/* A MADT of revision 5 (section 5.2.12). A processor whose uid and id are below 255 is a Processor
- * Local APIC, any other a Processor Local x2APIC; a line of a uid of 255 or above is a Local x2APIC
- * NMI, any other a Local APIC NMI. Errors before the last ones: ZACPI_UNKNOWN_CODE,
- * ZACPI_NO_PROCESSOR, ZACPI_ID_OF_ALL, ZACPI_UID_OF_ALL. */
+/* A MADT of revision 5 (section 5.2.12), with its entries sort by sort in the order of the lists, and
+ * the mailbox last. An address of 2^32 or above stands in a Local APIC Address Override after the
+ * processors, and Local Interrupt Controller Address is then 0. A processor whose uid and id are
+ * below 255 is a Processor Local APIC, any other a Processor Local x2APIC; a line of a uid of 255 or
+ * above is a Local x2APIC NMI, any other a Local APIC NMI. Errors before the last ones:
+ * ZACPI_UNKNOWN_CODE, ZACPI_NO_PROCESSOR, ZACPI_ID_OF_ALL, ZACPI_UID_OF_ALL. */
 zacpi_status zacpi_write_madt(const struct zacpi_table_ids *ids,
                               const struct zacpi_madt_contents *contents, uint8_t *out,
                               size_t room, size_t *length);
 /* A MADT of revision 6 of an Arm machine (sections 5.2.12.14 to 5.2.12.18), with its entries sort by
- * sort. A GICC has 82 bytes, or 80 if trace_buffer_interrupt is 0. Errors before the last ones:
- * ZACPI_UNKNOWN_CODE, ZACPI_NO_PROCESSOR, ZACPI_SAME_AS_BUS if a trigger is 0, ZACPI_BAD_RANGE. */
+ * sort: the distributor, and the lists in their order. A GICC has 82 bytes, or 80 if
+ * trace_buffer_interrupt is 0. Errors before the last ones: ZACPI_UNKNOWN_CODE, ZACPI_NO_PROCESSOR,
+ * ZACPI_SAME_AS_BUS if a trigger is 0, ZACPI_BAD_RANGE. */
 zacpi_status zacpi_write_gic_madt(const struct zacpi_table_ids *ids,
                                   const struct zacpi_gic_contents *contents, uint8_t *out,
                                   size_t room, size_t *length);
@@ -1142,7 +1158,8 @@ zacpi_status zacpi_write_gic_madt(const struct zacpi_table_ids *ids,
 zacpi_status zacpi_write_mcfg(const struct zacpi_table_ids *ids,
                               const struct zacpi_pci_region *regions, size_t regions_length,
                               uint8_t *out, size_t room, size_t *length);
-/* An HPET of revision 1 (IA-PC HPET Specification). A page protection above 3 is written as 3. */
+/* An HPET of revision 1 (IA-PC HPET Specification). A page protection above 3 is written as 3. The
+ * registers are in memory, of a Register Bit Width of 0. */
 zacpi_status zacpi_write_hpet(const struct zacpi_table_ids *ids,
                               const struct zacpi_hpet_info *info, uint8_t *out, size_t room,
                               size_t *length);
@@ -1166,27 +1183,34 @@ zacpi_status zacpi_write_bgrt(const struct zacpi_table_ids *ids,
                               size_t *length);
 /* An SPCR of revision 4, 90 bytes, from the record as which zacpi_console reads it, and what that
  * doesn't say; the layout is Microsoft's. Language is 0 and NamespaceString is ".", that of a port
- * with no object in the namespace. A code of `interface`, `parity` or stop_bits that is reserved is
- * written too. Errors before the last ones: ZACPI_UNKNOWN_CODE, ZACPI_NO_ADDRESS if `base` is
- * present at address 0. */
+ * with no object in the namespace; Configured Baud Rate is the rate's code, or 0 if it has none. A
+ * base, an interrupt or a rate that isn't there is written as 0 and not looked at; a code of
+ * `interface`, `parity` or stop_bits that is reserved is written too. Errors before the last ones:
+ * ZACPI_UNKNOWN_CODE, ZACPI_NO_ADDRESS if `base` is present at address 0. */
 zacpi_status zacpi_write_spcr(const struct zacpi_table_ids *ids,
                               const struct zacpi_spcr_contents *contents, uint8_t *out,
                               size_t room, size_t *length);
-/* A GTDT of revision 3, 104 bytes, from the record as which zacpi_arm_timers reads it, without timers
- * of the platform (section 5.2.24). A virtual_el2 whose `present` is 0 is written as zeros; of the
- * other timers `present` isn't looked at, nor is platform_timers_malformed. Errors before the last
- * ones: ZACPI_UNKNOWN_CODE, ZACPI_SAME_AS_BUS if a polarity or a trigger of a timer is 0. */
+/* A GTDT of revision 3, from the record as which zacpi_arm_timers reads it and those of the timers of
+ * the platform, in order (section 5.2.24): 104 bytes, which Platform Timer Offset says also if no
+ * timer of the platform stands there, 28 for each watchdog, 20 for each GT Block, and 40 for each
+ * frame. A virtual_el2 whose `present` is 0 is written as zeros, and read as present; of the other
+ * timers `present` isn't looked at, nor is platform_timers_malformed. Errors before the last ones:
+ * ZACPI_UNKNOWN_CODE, and of timer after timer ZACPI_SAME_AS_BUS if a polarity or a trigger is 0, and
+ * ZACPI_TOO_MANY_FRAMES if a block has more than 1637. */
 zacpi_status zacpi_write_gtdt(const struct zacpi_table_ids *ids,
-                              const struct zacpi_arm_timers *timers, uint8_t *out, size_t room,
-                              size_t *length);
+                              const struct zacpi_gtdt_contents *contents, uint8_t *out,
+                              size_t room, size_t *length);
 /* A FADT of version 6.4, 276 bytes, from the record as which zacpi_fixed_hardware reads it (section
  * 5.2.9). Each address and block stands in its X_ field, and if it fits in its field of 32 bits, a
  * block if it is one of ports; PM1_EVT_LEN, PM1_CNT_LEN and PM2_CNT_LEN are the whole bytes of
- * bit_width. gpe0 and gpe1 aren't looked at (the blocks are), nor is `present` of pm1a and reset: by
- * bit 10 of `flags` (RESET_REG_SUP) there is a reset, and by bit 20 (HW_REDUCED_ACPI) no fixed
- * hardware. Any other register is there if `present` is 1 and its address isn't 0. Reserved flags
- * are 0. Errors before the last ones: ZACPI_UNKNOWN_CODE, ZACPI_NO_ADDRESS if dsdt_address is 0,
- * ZACPI_BAD_REGISTER. */
+ * bit_width, which must have one, and X_GPEn_BLK of 32 bytes or more has a width of 255. gpe0 and
+ * gpe1 aren't looked at (the blocks are), nor is `present` of pm1a and reset: by bit 10 of `flags`
+ * (RESET_REG_SUP) there is a reset, and by bit 20 (HW_REDUCED_ACPI) no fixed hardware. Any other
+ * register or block is there if `present` is 1 and its address isn't 0. What isn't there is written
+ * as 0 and not looked at, and reserved flags are 0: so `reset` without RESET_REG_SUP and, of reduced
+ * hardware, what is fixed is read as 0. sleep_control and sleep_status are read as present, whatever
+ * they were below revision 2. Errors before the last ones: ZACPI_UNKNOWN_CODE, ZACPI_NO_ADDRESS if
+ * dsdt_address is 0, ZACPI_BAD_REGISTER. */
 zacpi_status zacpi_write_fadt(const struct zacpi_table_ids *ids,
                               const struct zacpi_fixed_hardware *fadt, uint8_t *out, size_t room,
                               size_t *length);
@@ -1234,7 +1258,7 @@ struct zacpi_listed_table {
     size_t bgrts_length;
     const struct zacpi_spcr_contents *spcrs;
     size_t spcrs_length;
-    const struct zacpi_arm_timers *gtdts;
+    const struct zacpi_gtdt_contents *gtdts;
     size_t gtdts_length;
     const struct zacpi_gic_contents *gics;
     size_t gics_length;
@@ -1245,6 +1269,8 @@ struct zacpi_machine {
     size_t tables_length;
     const struct zacpi_aml_contents *dsdts; /* the DSDT, if there is one: the first of them */
     size_t dsdts_length;
+    const struct zacpi_facs_contents *facs; /* the FACS, if there is one: the first of them */
+    size_t facs_length;
 };
 
 static inline struct zacpi_listed_table zacpi_table_of(uint32_t kind) {
@@ -1261,7 +1287,7 @@ static inline struct zacpi_listed_table zacpi_table_of(uint32_t kind) {
     table.srats = (const struct zacpi_srat_contents *)none, table.srats_length = 0;
     table.bgrts = (const struct zacpi_boot_graphic *)none, table.bgrts_length = 0;
     table.spcrs = (const struct zacpi_spcr_contents *)none, table.spcrs_length = 0;
-    table.gtdts = (const struct zacpi_arm_timers *)none, table.gtdts_length = 0;
+    table.gtdts = (const struct zacpi_gtdt_contents *)none, table.gtdts_length = 0;
     table.gics = (const struct zacpi_gic_contents *)none, table.gics_length = 0;
     return table;
 }
@@ -1311,9 +1337,9 @@ static inline struct zacpi_listed_table zacpi_table_spcr(const struct zacpi_spcr
     table.spcrs = spcr, table.spcrs_length = 1;
     return table;
 }
-static inline struct zacpi_listed_table zacpi_table_gtdt(const struct zacpi_arm_timers *timers) {
+static inline struct zacpi_listed_table zacpi_table_gtdt(const struct zacpi_gtdt_contents *gtdt) {
     struct zacpi_listed_table table = zacpi_table_of(ZACPI_KIND_GTDT);
-    table.gtdts = timers, table.gtdts_length = 1;
+    table.gtdts = gtdt, table.gtdts_length = 1;
     return table;
 }
 static inline struct zacpi_listed_table zacpi_table_gic_madt(const struct zacpi_gic_contents *gic) {
@@ -1352,11 +1378,12 @@ static inline struct zacpi_srat_contents zacpi_srat_of(const struct zacpi_apic_d
 }
 
 /* All tables of a machine, for memory that begins at `address`: the RSDP there, and 48 bytes on the
- * XSDT, the DSDT, and the listed tables in order, each at a multiple of 16 and filled up with zeros
- * to the next. Errors, in this order: ZACPI_UNKNOWN_TABLE and ZACPI_UNKNOWN_CODE of the tables,
- * table by table; ZACPI_BAD_NAME; ZACPI_TOO_LONG if the XSDT is; those of the DSDT and of each
- * table, as its own call has them but for ZACPI_NO_ROOM; ZACPI_NO_ROOM; ZACPI_NO_ADDRESS if the
- * address is 0 or no multiple of 16, or the address after the last byte is above 2^64 - 1. */
+ * XSDT, the DSDT, 128 bytes with the FACS at their first multiple of 64, and the listed tables in
+ * order, each table at a multiple of 16 and filled up with zeros to the next. Errors, in this order:
+ * ZACPI_UNKNOWN_TABLE and ZACPI_UNKNOWN_CODE of the tables, table by table; ZACPI_BAD_NAME;
+ * ZACPI_TOO_LONG if the XSDT is; those of the DSDT and of each table, as its own call has them but
+ * for ZACPI_NO_ROOM; ZACPI_NO_ROOM; ZACPI_NO_ADDRESS if the address is 0 or no multiple of 16, or
+ * the address after the last byte is above 2^64 - 1. */
 zacpi_status zacpi_write_tables(const struct zacpi_machine *machine, uint64_t address,
                                 uint8_t *out, size_t room, size_t *length);
 /* The same without the RSDP and its 48 bytes: the XSDT lies at `address`. */

@@ -9,14 +9,32 @@
 #define EL1_TIMERS {29, ZACPI_POLARITY_LOW, ZACPI_TRIGGER_LEVEL, 0, 0}, \
     {30, ZACPI_POLARITY_HIGH, ZACPI_TRIGGER_EDGE, 1, 1}, \
     {0x04030201, ZACPI_POLARITY_LOW, ZACPI_TRIGGER_EDGE, 255, 7}
-static const struct zacpi_arm_timers all_timers = {0x0102030405060708, 0xf1f2f3f4f5f6f7f8, EL1_TIMERS,
-    {26, ZACPI_POLARITY_HIGH, ZACPI_TRIGGER_LEVEL, 0, 1}, {28, ZACPI_POLARITY_LOW, ZACPI_TRIGGER_LEVEL, 1, 255}, 9};
-static const struct zacpi_arm_timers no_virtual_el2 = {0xffffffffffffffff, 0xffffffffffffffff, EL1_TIMERS,
-    {26, ZACPI_POLARITY_HIGH, ZACPI_TRIGGER_LEVEL, 0, 1}, {9, ZACPI_POLARITY_LOW, ZACPI_TRIGGER_EDGE, 1, 0}, 0};
-static const struct zacpi_arm_timers virtual_el2_of_zeros = {0xffffffffffffffff, 0xffffffffffffffff, EL1_TIMERS,
-    {26, ZACPI_POLARITY_HIGH, ZACPI_TRIGGER_LEVEL, 0, 1}, {0, 0, 0, 0, 0}, 0};
-static const struct zacpi_arm_timers timers_as_bus = {0, 0, EL1_TIMERS,
-    {26, ZACPI_POLARITY_BUS, ZACPI_TRIGGER_LEVEL, 0, 1}, {9, ZACPI_POLARITY_LOW, ZACPI_TRIGGER_EDGE, 1, 1}, 0};
+#define EDGE_LOW ZACPI_POLARITY_LOW, ZACPI_TRIGGER_EDGE
+#define EDGE_HIGH ZACPI_POLARITY_HIGH, ZACPI_TRIGGER_EDGE
+#define LEVEL_LOW ZACPI_POLARITY_LOW, ZACPI_TRIGGER_LEVEL
+#define LEVEL_HIGH ZACPI_POLARITY_HIGH, ZACPI_TRIGGER_LEVEL
+/* A frame of secure software, which EL0 doesn't see; no block has 1638. */
+static const struct zacpi_gt_frame gt_frames[] = {
+    {9, 0x2a830000, 0x2a840000, 313, 570, 1, EDGE_HIGH, LEVEL_LOW, 0, 255},
+    {9, 0x12a850000, 0xffffffffffffffff, 315, 572, 2, EDGE_LOW, LEVEL_HIGH, 1, 0}};
+static const struct zacpi_gt_frame many_frames[1638];
+/* Of a block the watchdog isn't looked at, and of a watchdog the block isn't. */
+#define NO_WATCHDOG {9, 9, 9, 9, 9, 9}
+#define WATCHDOG_OF(polarity, trigger) {0x2a450000, 0x12a440000, 829, polarity, trigger, 255}
+static const struct zacpi_platform_timer platform_timers[] = {
+    {1, 9, many_frames, 1638, WATCHDOG_OF(ZACPI_POLARITY_LOW, ZACPI_TRIGGER_LEVEL)},
+    {0, 0x2a810000, gt_frames, 2, NO_WATCHDOG}, {0, 0x100, gt_frames, 0, NO_WATCHDOG}};
+#define EL2(...) {26, LEVEL_HIGH, 0, 1}, __VA_ARGS__
+static const struct zacpi_gtdt_contents all_timers = {
+    {0x0102030405060708, 0xf1f2f3f4f5f6f7f8, EL1_TIMERS, EL2({28, LEVEL_LOW, 1, 255}), 9}, platform_timers, 0};
+static const struct zacpi_gtdt_contents with_platform_timers = {
+    {0x0102030405060708, 0xf1f2f3f4f5f6f7f8, EL1_TIMERS, EL2({28, LEVEL_LOW, 1, 255}), 9}, LISTED(platform_timers)};
+static const struct zacpi_gtdt_contents no_virtual_el2 = {
+    {0xffffffffffffffff, 0xffffffffffffffff, EL1_TIMERS, EL2({9, EDGE_LOW, 1, 0}), 0}, platform_timers, 0};
+static const struct zacpi_gtdt_contents virtual_el2_of_zeros = {
+    {0xffffffffffffffff, 0xffffffffffffffff, EL1_TIMERS, EL2({0, 0, 0, 0, 0}), 0}, platform_timers, 0};
+static const struct zacpi_gtdt_contents timers_as_bus = {{0, 0, EL1_TIMERS,
+    {26, ZACPI_POLARITY_BUS, ZACPI_TRIGGER_LEVEL, 0, 1}, {9, EDGE_LOW, 1, 1}, 0}, platform_timers, 0};
 
 /* Secure EL1 Timer: active low, level. Non-Secure EL1 Timer: active high, edge, always on. Virtual EL1 Timer: active
  * low, edge, always on. EL2 Timer: active high, level. */
@@ -27,6 +45,17 @@ static const uint8_t gtdt_bytes[] = {HEAD('G', 'T', 'D', 'T', 104, 3, 0x72),
     0xf8, 0xf7, 0xf6, 0xf5, 0xf4, 0xf3, 0xf2, 0xf1,                       /* CntReadBase */
     0, 0, 0, 0, 104, 0, 0, 0,                                             /* Platform Timer Count and Offset */
     28, 0, 0, 0, 6, 0, 0, 0};                                             /* Virtual EL2 Timer: low, level, always on */
+static const uint8_t platform_gtdt_bytes[] = {HEAD('G', 'T', 'D', 'T', 252, 3, 0x4d),
+    8, 7, 6, 5, 4, 3, 2, 1, 0, 0, 0, 0, TIMERS, 0xf8, 0xf7, 0xf6, 0xf5, 0xf4, 0xf3, 0xf2, 0xf1,
+    3, 0, 0, 0, 104, 0, 0, 0, 28, 0, 0, 0, 6, 0, 0, 0,
+    1, 28, 0, 0, 0, 0, 0x45, 0x2a, 0, 0, 0, 0, 0, 0, 0x44, 0x2a, 1, 0, 0, 0, /* Watchdog: its two frames */
+    61, 3, 0, 0, 6, 0, 0, 0,                                              /* GSIV, Flags: low, level, secure */
+    0, 100, 0, 0, 0, 0, 0x81, 0x2a, 0, 0, 0, 0, 2, 0, 0, 0, 20, 0, 0, 0,  /* GT Block: address, Timer Count, Offset */
+    1, 0, 0, 0, 0, 0, 0x83, 0x2a, 0, 0, 0, 0, 0, 0, 0x84, 0x2a, 0, 0, 0, 0, /* GTx: Number, CntBaseX, CntEL0BaseX */
+    57, 1, 0, 0, 1, 0, 0, 0, 58, 2, 0, 0, 2, 0, 0, 0, 2, 0, 0, 0,         /* physical, virtual: GSIV, Flags; Common */
+    2, 0, 0, 0, 0, 0, 0x85, 0x2a, 1, 0, 0, 0, NO_ADDRESS,
+    59, 1, 0, 0, 3, 0, 0, 0, 60, 2, 0, 0, 0, 0, 0, 0, 1, 0, 0, 0,
+    0, 20, 0, 0, 0, 1, 0, 0, 0, 0, 0, 0, 0, 0, 0, 0, 20, 0, 0, 0};
 static const uint8_t gtdt_without_virtual_el2[] = {HEAD('G', 'T', 'D', 'T', 104, 3, 0x6c),
     NO_ADDRESS, 0, 0, 0, 0, TIMERS, NO_ADDRESS, 0, 0, 0, 0, 104, 0, 0, 0, 0, 0, 0, 0, 0, 0, 0, 0};
 
@@ -85,7 +114,7 @@ static void lay_arm_machine(void) {
 }
 static zacpi_status on_arm(uint8_t *to, size_t room, size_t *length) {
     const struct zacpi_listed_table tables[] = {zacpi_table_gtdt(&all_timers), zacpi_table_gic_madt(&whole_gic)};
-    return on_machine(LISTED(tables), 0, 0x7fe00000, 1, to, room, length);
+    return on_machine(LISTED(tables), 0, 0, 0x7fe00000, 1, to, room, length);
 }
 MACHINE(an_arm_machine, on_arm(to, room, length))
 MACHINE(bus_timers_listed, on_two(zacpi_table_gtdt(&timers_as_bus), zacpi_table_slit(&no_matrix), to, room, length))
@@ -95,7 +124,7 @@ MACHINE(long_range_listed, on_two(zacpi_table_gic_madt(&gic_of_long_range), zacp
                                   length))
 
 /* Whether these timers are refused alone and in a machine. */
-static void check_timers(int row, const struct zacpi_arm_timers *timers, zacpi_status status) {
+static void check_timers(int row, const struct zacpi_gtdt_contents *timers, zacpi_status status) {
     const struct zacpi_listed_table table = zacpi_table_gtdt(timers);
     size_t length = UNCOUNTED;
     zacpi_status got = zacpi_write_gtdt(ids, timers, out.bytes, sizeof out.bytes, &length);
@@ -124,21 +153,36 @@ static void check_gic_codes(void) {
         check_gic(i, &gic, ZACPI_UNKNOWN_CODE);
     }
 }
-/* Each polarity and trigger with a number that is no code, and with that of the bus. A number that is none comes before
- * an earlier timer that is as the bus has it. */
+/* Each polarity and trigger with a number that is no code, and with that of the bus, of processors, of the second frame
+ * of the second timer, and of a watchdog after it. A number that is none comes before an earlier timer that is as the
+ * bus has it. The last are a kind that is none, and a block of too many frames. */
 static void check_arm_codes(void) {
     int i;
-    for (i = 0; i < 10; i++) {
-        struct zacpi_arm_timers timers = all_timers;
-        struct zacpi_arm_timer *all[] = {
-            &timers.secure_el1, &timers.non_secure_el1, &timers.virtual_el1, &timers.el2, &timers.virtual_el2};
-        uint8_t *at = i % 2 ? &all[i / 2]->polarity : &all[i / 2]->trigger;
-        *at = 0;
-        check_timers(i, &timers, ZACPI_SAME_AS_BUS);
-        *at = i < 5 ? 2 : 4;
-        check_timers(i, &timers, ZACPI_UNKNOWN_CODE);
-        if (i > 1) timers.secure_el1.polarity = 0;
-        check_timers(i, &timers, ZACPI_UNKNOWN_CODE);
+    for (i = 0; i < 18; i++) {
+        struct zacpi_gtdt_contents gtdt = with_platform_timers;
+        struct zacpi_arm_timers *t = &gtdt.timers;
+        struct zacpi_gt_frame two[] = {gt_frames[0], gt_frames[1]};
+        struct zacpi_platform_timer of[] = {platform_timers[0], platform_timers[1], platform_timers[0]};
+        uint8_t *codes[] = {&t->secure_el1.trigger, &t->secure_el1.polarity, &t->non_secure_el1.trigger,
+            &t->non_secure_el1.polarity, &t->virtual_el1.trigger, &t->virtual_el1.polarity, &t->el2.trigger,
+            &t->el2.polarity, &t->virtual_el2.trigger, &t->virtual_el2.polarity, &two[1].physical_trigger,
+            &two[1].physical_polarity, &two[1].virtual_trigger, &two[1].virtual_polarity, &of[2].watchdog.trigger,
+            &of[2].watchdog.polarity, 0, 0};
+        of[1].frames = two, gtdt.platform_timers = of, gtdt.platform_timers_length = 3;
+        if (i < 16) {
+            *codes[i] = 0;
+            check_timers(i, &gtdt, ZACPI_SAME_AS_BUS);
+            *codes[i] = i < 5 ? 2 : 4;
+        } else if (i == 16) {
+            of[2].kind = 2;
+        } else {
+            of[1].frames = many_frames, of[1].frames_length = 1638;
+            check_timers(i, &gtdt, ZACPI_TOO_MANY_FRAMES);
+            continue;
+        }
+        check_timers(i, &gtdt, ZACPI_UNKNOWN_CODE);
+        if (i > 1) t->secure_el1.polarity = 0;
+        check_timers(i, &gtdt, ZACPI_UNKNOWN_CODE);
     }
 }
 #endif

@@ -5,24 +5,26 @@
 
 /* ---- The FADT and the FACS (sections 5.2.9 and 5.2.10) --------------------------------------------------- */
 
-/* With every other flag, and reserved ones. gpe0 and gpe1, and `present` of pm1a and reset, aren't looked at; pm1b has
- * no control block, since that is at address 0. */
+/* With every other flag, and reserved ones. gpe0 and gpe1, and `present` of pm1a and reset, aren't looked at; nor are
+ * the codes of pm1b_control, which isn't there, since it is at address 0. */
 #define PORT(address, width, access) {{address, 1, width, 0, access}, 1}
 #define PC(...) { \
     .facs_address = 0x7ff00040, .dsdt_address = 0x7fe00090, .pm1a_event = {{0x600, 1, 32, 0, 2}, 0}, \
-    .pm1b_event = {{0x610, 1, 32, 0, 2}, 0}, .pm1a_control = PORT(0x604, 16, 2), .pm1b_control = PORT(0, 16, 2), \
+    .pm1b_event = {{0x610, 1, 32, 0, 2}, 0}, .pm1a_control = {{0x604, 1, 16, 0, 2}, 2}, \
+    .pm1b_control = {{0, 0x0b, 16, 0, 5}, 1}, \
     .pm2_control = PORT(0x650, 8, 1), .pm_timer = PORT(0x608, 32, 3), .gpe0 = {{1, 0x0b, 1, 1, 9}, 7}, \
-    .gpe1 = {{1, 0x0b, 1, 1, 9}, 7}, .reset = {{0xcf9, 1, 8, 0, 1}, 0}, .gpe0_block = {0x620, 1, 16, 1}, \
+    .gpe1 = {{1, 0x0b, 1, 1, 9}, 7}, .reset = {{0xcf9, 1, 8, 0, 1}, 2}, .gpe0_block = {0x620, 1, 16, 1}, \
     .gpe1_block = {0x100000000, 0, 40, 1}, .smi_command = 0xb2, .flags = 0xffe55555, .sci_interrupt = 0x1409, \
     .x86_boot_flags = 0xffd5, .arm_boot_flags = 0xfffd, .c2_latency = 101, .c3_latency = 1001, .flush_size = 0x400, \
     .flush_stride = 0x40, .power_profile = 2, .acpi_enable = 0xa0, .acpi_disable = 0xa1, .s4bios_request = 0xa2, \
     .pstate_control = 0xa3, .c_state_control = 0xa4, .gpe1_base = 0x20, .duty_offset = 1, .duty_width = 3, \
     .day_alarm = 13, .month_alarm = 14, .century = 0x32, .reset_value = 6}
 static const struct zacpi_fixed_hardware pc_fadt = PC();
-/* With every other of the other flags. Its fixed hardware isn't written, nor is the register that resets. */
+/* With every other of the other flags. Its fixed hardware isn't looked at, nor is the register that resets. */
 static const struct zacpi_fixed_hardware reduced_fadt = {
-    .dsdt_address = 0x100000010, .facs_address = 0x200000040, .pm1b_event = PORT(0x610, 32, 2),
-    .gpe0_block = {0x620, 1, 16, 1}, .reset = PORT(0xcf9, 8, 1), .sleep_control = {{0xfed00000, 0, 8, 0, 1}, 1},
+    .dsdt_address = 0x100000010, .facs_address = 0x200000040, .pm1a_control = {{0x604, 0x0b, 16, 0, 5}, 2},
+    .pm1b_event = {{0x610, 0x0b, 32, 0, 5}, 2}, .gpe0_block = {0x620, 0x0b, 16, 2}, .gpe1_block = {0x630, 0x0b, 0, 1},
+    .reset = {{0xcf9, 0x0b, 8, 0, 5}, 2}, .sleep_control = {{0xfed00000, 0, 8, 0, 1}, 1},
     .sleep_status = {{0x0807060504030201, 0x7f, 64, 3, 4}, 1}, .smi_command = 0xb2, .flags = 0x001aaaaa,
     .sci_interrupt = 9, .x86_boot_flags = 0x2a, .arm_boot_flags = 2, .power_profile = 200, .acpi_enable = 1,
     .reset_value = 0x77};
@@ -78,22 +80,38 @@ static const uint8_t reset_fadt_bytes[] = {LONG_HEAD('F', 'A', 'C', 'P', 0x14, 1
     0xc0, 16, 1, 4, 0x34, 0x12, 0, 0, 0, 0, 0, 0,   /* SLEEP_CONTROL_REG */
     1, 32, 0, 2, 0, 6, 0, 0, 0, 0, 0, 0,            /* SLEEP_STATUS_REG */
     0, 0, 0, 0, 0, 0, 0, 0};
+/* Of ports alone; a block of events at 0 isn't there, whatever its space and length. */
+static const uint8_t small_fadt_bytes[] = {LONG_HEAD('F', 'A', 'C', 'P', 0x14, 1, 6, 0x1a),
+    0, 0, 0, 0, 16, 0, 0, 0, 0, 0, 0, 0,            /* FIRMWARE_CTRL to SCI_INT */
+    0, 0, 0, 0, 0, 0, 0, 0, 0, 6, 0, 0, 0, 0, 0, 0, 4, 6, 0, 0, 0, 0, 0, 0, /* SMI_CMD to PM1b_CNT_BLK */
+    0, 0, 0, 0, 0, 0, 0, 0, 0, 0, 0, 0, 0, 0, 0, 0, /* PM2_CNT_BLK to GPE1_BLK */
+    4, 2, 0, 0, 0, 0, 0, 0, 0, 0, 0, 0, 0, 0, 0, 0, /* PM1_EVT_LEN to FLUSH_STRIDE */
+    0, 0, 0, 0, 0, 0, 0, 0, 0, 0, 0, 0,             /* DUTY_OFFSET to Flags */
+    ZEROS_12, 0, 0, 0, 4,                           /* RESET_REG, RESET_VALUE, ARM_BOOT_ARCH, FADT Minor Version */
+    0, 0, 0, 0, 0, 0, 0, 0, 16, 0, 0, 0, 0, 0, 0, 0, /* X_FIRMWARE_CTRL, X_DSDT */
+    1, 32, 0, 2, 0, 6, 0, 0, 0, 0, 0, 0, ZEROS_12,  /* X_PM1a_EVT_BLK, X_PM1b_EVT_BLK */
+    1, 16, 0, 2, 4, 6, 0, 0, 0, 0, 0, 0, ZEROS_12,  /* X_PM1a_CNT_BLK, X_PM1b_CNT_BLK */
+    ZEROS_12, ZEROS_12, ZEROS_12, ZEROS_12, ZEROS_12, ZEROS_12, /* X_PM2_CNT_BLK to SLEEP_STATUS_REG */
+    0, 0, 0, 0, 0, 0, 0, 0};
 static const uint8_t facs_bytes[64] = {'F', 'A', 'C', 'S', 64, 0, 0, 0, 0x14, 0x13, 0x12, 0x11, /* Hardware Signature */
     0x24, 0x23, 0x22, 0x21, 0, 0, 0, 0, 3, 0, 0, 0, /* Firmware_Waking_Vector, Global_Lock, Flags */
     0x38, 0x37, 0x36, 0x35, 0x34, 0x33, 0x32, 0x31, 2}; /* X_Firmware_Waking_Vector, Version */
 
 /* Without what a FADT has to have. */
-#define REGISTERS(name, dsdt, event, control, flag_bits, reset_at, events) \
-    static const struct zacpi_fixed_hardware name = {.dsdt_address = dsdt, .pm1a_event = PORT(event, 32, 2), \
-        .pm1a_control = PORT(control, 16, 2), .flags = flag_bits, .reset = PORT(reset_at, 8, 1), \
-        .gpe0_block = events};
+#define REGISTERS(name, dsdt, event, control, flag_bits, reset_at, events) WIDE(name, dsdt, PORT(event, 32, 2), \
+        PORT(control, 16, 2), flag_bits, reset_at, events)
+#define WIDE(name, dsdt, event, control, flag_bits, reset_at, ...) static const struct zacpi_fixed_hardware name = { \
+        .dsdt_address = dsdt, .pm1a_event = event, .pm1a_control = control, .flags = flag_bits, \
+        .reset = PORT(reset_at, 8, 1), .gpe0_block = __VA_ARGS__};
 #define EVENTS(address, length) {address, 1, length, 1}
 REGISTERS(fadt_without_dsdt, 0, 0, 0x604, 0, 0, EVENTS(0x620, 16))
 REGISTERS(fadt_without_pm1a, 16, 0, 0x604, 0, 0, EVENTS(0x620, 16))
 REGISTERS(fadt_without_control, 16, 0x600, 0, 0, 0, EVENTS(0x620, 16))
 REGISTERS(fadt_without_reset, 16, 0x600, 0x604, 1 << 10, 0, EVENTS(0x620, 16))
 REGISTERS(fadt_without_events, 16, 0x600, 0x604, 0, 0, EVENTS(0x620, 0))
-REGISTERS(fadt_events_at_0, 16, 0x600, 0x604, 0, 0, EVENTS(0, 16))
+REGISTERS(fadt_events_at_0, 16, 0x600, 0x604, 0, 0, EVENTS(0, 0))
+WIDE(fadt_of_7_event_bits, 16, PORT(0x600, 7, 1), PORT(0x604, 16, 2), 0, 0, EVENTS(0x620, 16))
+WIDE(fadt_of_7_control_bits, 16, PORT(0x600, 32, 2), PORT(0x604, 7, 1), 0, 0, EVENTS(0x620, 16))
 
 /* ---- Whole machines -------------------------------------------------------------------------------------- */
 
@@ -110,6 +128,8 @@ static const uint8_t tree_xsdt[] = {HEAD('X', 'S', 'D', 'T', 92, 1, 0x0c), LISTE
 static const uint8_t empty_machine_bytes[96] = {'R', 'S', 'D', ' ', 'P', 'T', 'R', ' ', 0x37, 'G', 'U', 'E', 'S', 'T',
     ' ', 2, 0, 0, 0, 0, 36, 0, 0, 0, 0x30, 0, 0xe0, 0x7f, 0, 0, 0, 0, 0x4d, 0, 0, 0, ZEROS_12,
     HEAD('X', 'S', 'D', 'T', 36, 1, 0x67)};
+/* With a FACS and no table: the FACS 0x80 on, in the 128 bytes that begin 0x60 on. */
+static uint8_t facs_machine_bytes[0xe0];
 /* Without a DSDT: the XSDT 0x30 on, the BGRT 0x70 on, the SPCR 0xb0 on. */
 static uint8_t firmware_machine_bytes[0x110];
 static const uint8_t firmware_xsdt[] = {HEAD('X', 'S', 'D', 'T', 52, 1, 0x79), LISTED_AT(0x70, 0), LISTED_AT(0xb0, 0)};
@@ -134,6 +154,8 @@ static void lay_machines(void) {
     to = lay(to, firmware_xsdt, sizeof firmware_xsdt);
     to = lay(to, bgrt_bytes, sizeof bgrt_bytes);
     lay(to, spcr_bytes, sizeof spcr_bytes);
+    memcpy(facs_machine_bytes, empty_machine_bytes, sizeof empty_machine_bytes);
+    memcpy(facs_machine_bytes + 0x80, facs_bytes, sizeof facs_bytes);
     lay_tree(lay(machine_bytes, machine_rsdp, sizeof machine_rsdp), machine_xsdt);
     lay_tree(tree_bytes, tree_xsdt);
 }
@@ -143,9 +165,9 @@ static const struct zacpi_listed_table not_listed;
 static const struct zacpi_aml_contents some_aml = {LISTED(code), 2}, no_aml = {NONE(code), 1};
 
 /* What a call of machines gives for these tables, and the machine's size. */
-static zacpi_status on_machine(const struct zacpi_listed_table *tables, size_t count, size_t dsdts, uint64_t address,
-                               int has_rsdp, uint8_t *to, size_t room, size_t *length) {
-    const struct zacpi_machine machine = {*ids, tables, count, &some_aml, dsdts};
+static zacpi_status on_machine(const struct zacpi_listed_table *tables, size_t count, size_t dsdts, size_t facs_count,
+                               uint64_t address, int has_rsdp, uint8_t *to, size_t room, size_t *length) {
+    const struct zacpi_machine machine = {*ids, tables, count, &some_aml, dsdts, &facs, facs_count};
     size_t size = UNCOUNTED;
     zacpi_status got;
     if (!has_rsdp) return zacpi_write_tables_without_rsdp(&machine, address, to, room, length);
@@ -158,21 +180,22 @@ static zacpi_status on_seven(uint64_t address, int has_rsdp, uint8_t *to, size_t
     const struct zacpi_listed_table tables[] = {zacpi_table_fadt(&pc_fadt), zacpi_table_madt(&small_madt),
         zacpi_table_mcfg(LISTED(buses)), zacpi_table_hpet(&timers_block), zacpi_table_slit(&matrix),
         zacpi_table_ssdt(&no_aml), zacpi_table_srat(&srat)};
-    return on_machine(LISTED(tables), 1, address, has_rsdp, to, room, length);
+    return on_machine(LISTED(tables), 1, 0, address, has_rsdp, to, room, length);
 }
 static zacpi_status on_two(struct zacpi_listed_table a, struct zacpi_listed_table b, uint8_t *to, size_t room,
                            size_t *length) {
     const struct zacpi_listed_table tables[] = {a, b};
-    return on_machine(LISTED(tables), 0, 0x7fe00000, 1, to, room, length);
+    return on_machine(LISTED(tables), 0, 0, 0x7fe00000, 1, to, room, length);
 }
 #define MACHINE(verb, answer) static zacpi_status verb(uint8_t *to, size_t room, size_t *length) { return answer; }
 static zacpi_status on_firmware(uint8_t *to, size_t room, size_t *length) {
     const struct zacpi_listed_table tables[] = {zacpi_table_bgrt(&image), zacpi_table_spcr(&gic_console)};
-    return on_machine(LISTED(tables), 0, 0x7fe00000, 1, to, room, length);
+    return on_machine(LISTED(tables), 0, 0, 0x7fe00000, 1, to, room, length);
 }
 MACHINE(a_machine, on_seven(0x7fe00000, 1, to, room, length))
 MACHINE(a_tree, on_seven(0x7fe00000, 0, to, room, length))
-MACHINE(an_empty_machine, on_machine(&not_listed, 0, 0, 0x7fe00000, 1, to, room, length))
+MACHINE(an_empty_machine, on_machine(&not_listed, 0, 0, 0, 0x7fe00000, 1, to, room, length))
+MACHINE(a_machine_of_a_facs, on_machine(&not_listed, 0, 0, 1, 0x7fe00000, 1, to, room, length))
 MACHINE(no_matrix_listed, on_two(zacpi_table_slit(&no_matrix), zacpi_table_madt(&no_madt_processor), to, room, length))
 MACHINE(no_processor_listed, on_two(zacpi_table_hpet(&timers_block), zacpi_table_madt(&no_madt_processor), to, room,
                                     length))
@@ -189,7 +212,7 @@ MACHINE(bad_45_listed, on_two(zacpi_table_bgrt(&image_at_45), zacpi_table_slit(&
 
 /* Whether a call refuses and writes nothing, and so does the call for the size. */
 static void check_machine(const char *name, int row, const struct zacpi_listed_table *table, zacpi_status status) {
-    const struct zacpi_machine machine = {*ids, table, 1, &some_aml, 0};
+    const struct zacpi_machine machine = {*ids, table, 1, &some_aml, 0, &facs, 0};
     size_t length = UNCOUNTED;
     zacpi_status got = zacpi_tables_size(&machine, &length);
     result(got == status && length == UNCOUNTED, name, row, 0, got);
@@ -214,17 +237,17 @@ static void check_codes(void) {
         fadt = no_codes[i];
         switch (i) {
         case 0: fadt.pm1a_event.at.space = 0x0b; break;
-        case 1: fadt.pm1b_event.at.space = 0xbf; break;
+        case 1: fadt.pm1b_event.at.space = 0xbf, fadt.pm1b_event.present = 1; break;
         case 2: fadt.pm1a_control.at.access_size = 5; break;
         case 3: fadt.pm1b_control.present = 2; break;
         case 4: fadt.pm2_control.at.space = 0x7e; break;
         case 5: fadt.pm_timer.at.access_size = 255; break;
         case 6: fadt.reset.at.space = 0x80; break;
-        case 7: fadt.sleep_control.at.space = 0x0b; break;
+        case 7: fadt.sleep_control = (struct zacpi_register){{1, 0x0b, 8, 0, 1}, 1}; break;
         case 8: fadt.sleep_status.present = 255; break;
         case 9: fadt.gpe0_block.space = 0x0b; break;
         case 10: fadt.gpe1_block.present = 2; break;
-        case 11: fadt.pm1a_event.present = 2; break;
+        case 11: fadt.pm2_control.present = 2; break;
         case 12: fadt.gpe1_block.space = 0xbf; break;
         default: fadt.reset.at.access_size = 5; break;
         }

@@ -75,7 +75,7 @@ static const struct zacpi_spcr_contents gic_console = {
      .interface = 3, .irq = 4, .has_irq = 255, .has_global_system_interrupt = 255, .has_baud_rate = 255, .stop_bits = 1,
      .pci_segment = 0x51, .pci_bus = 0x41, .pci_device = 0x1f, .pci_function = 7}, 8, 2, 3};
 static const struct zacpi_spcr_contents no_console = {
-    {.base = {{0x3f8, 1, 8, 0, 1}, 0}, .baud_rate = 9600, .global_system_interrupt = 6, .pci_device_id = 0xffff,
+    {.base = {{0x3f8, 0x0b, 8, 0, 5}, 0}, .baud_rate = 9600, .global_system_interrupt = 6, .pci_device_id = 0xffff,
      .pci_vendor_id = 0xffff, .interface = 0x16, .irq = 5, .parity = 0xfe, .stop_bits = 0xfd}, 255, 255, 255};
 static const struct zacpi_spcr_contents pc_console = {
     {.base = {{0x3f8, 1, 8, 0, 1}, 1}, .baud_rate = 9600, .global_system_interrupt = 4, .clock_frequency = 1843200,
@@ -205,8 +205,8 @@ static const uint8_t spcr_bytes[] = {HEAD('S', 'P', 'C', 'R', 90, 4, 0x4e), 3, 0
     0, 32, 0, 3, 1, 2, 3, 4, 5, 6, 7, 8, 9, 4, 0x11, 0x12, 0x13, 0x14, 7, 0, 1, 2, 3, 0,
     0x21, 0x22, 0x31, 0x32, 0x41, 0x1f, 7, 0x81, 0x82, 0x83, 0x84, 0x51,
     0x61, 0x62, 0x63, 0x64, 0, 0xc2, 1, 0, 2, 0, 88, 0, '.', 0};
-static const uint8_t no_spcr_bytes[] = {HEAD('S', 'P', 'C', 'R', 90, 4, 0x9b), 0x16, 0, 0, 0,
-    0, 0, 0, 0, 0, 0, 0, 0, 0, 0, 0, 0, 0, 5, 6, 0, 0, 0, 0, 0xfe, 0xfd, 255, 255, 0,
+static const uint8_t no_spcr_bytes[] = {HEAD('S', 'P', 'C', 'R', 90, 4, 0xa6), 0x16, 0, 0, 0,
+    0, 0, 0, 0, 0, 0, 0, 0, 0, 0, 0, 0, 0, 0, 0, 0, 0, 0, 0, 0xfe, 0xfd, 255, 255, 0,
     255, 255, 255, 255, 0, 0, 0, 0, 0, 0, 0, 0,
     0, 0, 0, 0, 0, 0, 0, 0, 2, 0, 88, 0, '.', 0};
 static const uint8_t pc_spcr_bytes[] = {HEAD('S', 'P', 'C', 'R', 90, 4, 0xa4), 0, 0, 0, 0,
@@ -273,6 +273,7 @@ WRITE(bad_no_controller, spcr, &console_no_controller)
 WRITE(bad_8259, spcr, &console_of_8259)
 WRITE(bad_bit_5, spcr, &console_of_bit_5)
 WRITE(a_gtdt, gtdt, &all_timers)
+WRITE(a_gtdt_of_the_platform, gtdt, &with_platform_timers)
 WRITE(a_gtdt_without_virtual_el2, gtdt, &no_virtual_el2)
 WRITE(a_gtdt_of_zeros, gtdt, &virtual_el2_of_zeros)
 WRITE(a_gtdt_as_the_bus, gtdt, &timers_as_bus)
@@ -289,6 +290,8 @@ WRITE(a_fadt_without_control, fadt, &fadt_without_control)
 WRITE(a_fadt_without_reset, fadt, &fadt_without_reset)
 WRITE(a_fadt_without_events, fadt, &fadt_without_events)
 WRITE(a_fadt_events_at_0, fadt, &fadt_events_at_0)
+WRITE(a_fadt_of_7_event_bits, fadt, &fadt_of_7_event_bits)
+WRITE(a_fadt_of_7_control_bits, fadt, &fadt_of_7_control_bits)
 static zacpi_status a_facs(uint8_t *to, size_t room, size_t *length) {
     return zacpi_write_facs(&facs, to, room, length);
 }
@@ -334,8 +337,10 @@ static const struct written_row {
     {"a_facs", a_facs, facs_bytes, sizeof facs_bytes, ZACPI_OK, ZACPI_OK},
     NOT_WRITTEN(a_fadt_without_dsdt, ZACPI_NO_ADDRESS), NOT_WRITTEN(a_fadt_without_pm1a, ZACPI_BAD_REGISTER),
     NOT_WRITTEN(a_fadt_without_control, ZACPI_BAD_REGISTER), NOT_WRITTEN(a_fadt_without_reset, ZACPI_BAD_REGISTER),
-    NOT_WRITTEN(a_fadt_without_events, ZACPI_BAD_REGISTER), NOT_WRITTEN(a_fadt_events_at_0, ZACPI_BAD_REGISTER),
+    NOT_WRITTEN(a_fadt_without_events, ZACPI_BAD_REGISTER), WRITTEN(a_fadt_events_at_0, small_fadt_bytes),
+    NOT_WRITTEN(a_fadt_of_7_event_bits, ZACPI_BAD_REGISTER), NOT_WRITTEN(a_fadt_of_7_control_bits, ZACPI_BAD_REGISTER),
     WRITTEN(a_machine, machine_bytes), WRITTEN(a_tree, tree_bytes), WRITTEN(an_empty_machine, empty_machine_bytes),
+    WRITTEN(a_machine_of_a_facs, facs_machine_bytes),
     NOT_LISTED(no_matrix_listed, ZACPI_BAD_MATRIX), NOT_LISTED(no_processor_listed, ZACPI_NO_PROCESSOR),
     NOT_LISTED(no_dsdt_listed, ZACPI_NO_ADDRESS), NOT_LISTED(no_range_listed, ZACPI_BAD_RANGE),
     NOT_LISTED(all_ids_listed, ZACPI_ID_OF_ALL), NOT_WRITTEN(code_before_kind, ZACPI_UNKNOWN_CODE),
@@ -343,6 +348,7 @@ static const struct written_row {
     WRITTEN(a_machine_of_firmware, firmware_machine_bytes), NOT_WRITTEN(bad_45_listed, ZACPI_UNKNOWN_CODE),
     NOT_WRITTEN(no_controller_listed, ZACPI_UNKNOWN_CODE), NOT_LISTED(console_at_0_listed, ZACPI_NO_ADDRESS),
     WRITTEN(a_gtdt, gtdt_bytes), WRITTEN(a_gtdt_without_virtual_el2, gtdt_without_virtual_el2),
+    WRITTEN(a_gtdt_of_the_platform, platform_gtdt_bytes),
     WRITTEN(a_gtdt_of_zeros, gtdt_without_virtual_el2), WRITTEN(an_arm_machine, arm_machine_bytes),
     NOT_WRITTEN(a_gtdt_as_the_bus, ZACPI_SAME_AS_BUS), NOT_LISTED(bus_timers_listed, ZACPI_SAME_AS_BUS),
     WRITTEN(a_gic, gic_bytes), WRITTEN(a_small_gic, small_gic_bytes),

@@ -50,7 +50,9 @@ static zacpi_status write_machine(size_t count, size_t *length) {
     struct zacpi_madt_contents madt = zacpi_madt_of(processors, count, 0xfee00000);
     struct zacpi_fixed_hardware fadt = hardware();
     struct zacpi_listed_table tables[6];
-    const struct zacpi_machine machine = {{"ZACPI", "GUEST", 1, {'Z', 'F', 'I', 'R'}, 1}, tables, 6, &dsdt, 1};
+    const struct zacpi_facs_contents no_facs = {0}; /* the place of an empty list */
+    const struct zacpi_machine machine = {{"ZACPI", "GUEST", 1, {'Z', 'F', 'I', 'R'}, 1}, tables, 6, &dsdt, 1,
+                                          &no_facs, 0};
     zacpi_status refused = zacpi_dsdt_address(TABLES, 6, &fadt.dsdt_address);
     if (refused) return refused;
     madt.io_apics = &io_apic, madt.io_apics_length = 1, madt.overrides = overrides, madt.overrides_length = 2;

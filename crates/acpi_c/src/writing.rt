@@ -7,7 +7,6 @@ ghost use Rattle.acpi_c_lib.specs.declared.writing.machine.Contents.TheVariants.
 ghost use Rattle.acpi_writer.specs.Words.{facs_written, root_written, rsdp_written, slit_written, table_written};
 
 use acpi_c_lib::answer::answer_plain;
-use acpi_c_lib::arm_records::ArmTimers;
 use acpi_c_lib::fixed_records::FixedHardware;
 use acpi_c_lib::records::{BootGraphic, HpetInfo, PciRegion};
 use acpi_c_lib::writing::{
@@ -16,7 +15,8 @@ use acpi_c_lib::writing::{
     written,
 };
 use acpi_c_lib::written_records::{
-    FacsContents, GicContents, Machine, MadtContents, SpcrContents, SratContents, TableIds,
+    FacsContents, GicContents, GtdtContents, Machine, MadtContents, SpcrContents, SratContents,
+    TableIds,
 };
 
 /// An RSDP of revision 2 that leads to an XSDT (section 5.2.5.3).
@@ -204,18 +204,18 @@ pub extern "C" fn zacpi_write_spcr(
     answer_plain(write_contents(out, ids, &Contents::Spcr(*spcr)), count)
 }
 
-/// A GTDT of the timers of every processor (section 5.2.24).
+/// A GTDT of the timers of every processor and of the platform (section 5.2.24).
 #[unsafe(no_mangle)]
 pub extern "C" fn zacpi_write_gtdt(
     ids: &TableIds,
-    timers: &ArmTimers,
+    gtdt: &GtdtContents<'_>,
     out: &mut [u8],
     count: &mut usize,
 ) -> u32
     ensures { WritesTable result out.old out.new count.old count.new
-        (table_said (length out.old) ids.now (Gtdt timers.now)) }
+        (table_said (length out.old) ids.now (Gtdt gtdt.now)) }
 {
-    answer_plain(write_contents(out, ids, &Contents::Gtdt(*timers)), count)
+    answer_plain(write_contents(out, ids, &Contents::Gtdt(*gtdt)), count)
 }
 
 /// A FADT (section 5.2.9).

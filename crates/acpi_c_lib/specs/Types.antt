@@ -70,8 +70,6 @@ pub use Rattle.acpi_writer.specs.declared.fadt.contents.LegacyFields.{LegacyFiel
 pub use Rattle.acpi_writer.specs.declared.fadt.features.ArmBootFeatures.{ArmBootFeatures}
 pub use Rattle.acpi_writer.specs.declared.fadt.features.FixedFeatures.{FixedFeatures}
 pub use Rattle.acpi_writer.specs.declared.fadt.features.PcBootFeatures.{PcBootFeatures}
-pub use Rattle.acpi_writer.specs.declared.gtdt.GtdtContents.{GtdtContents}
-pub use Rattle.acpi_writer.specs.declared.gtdt.PlatformTimerContents.{PlatformTimerContents}
 pub use Rattle.acpi_writer.specs.declared.ids.TableIds.{TableIds}
 pub use Rattle.acpi_writer.specs.declared.madt.MadtProcessor.{MadtProcessor}
 pub use Rattle.acpi_writer.specs.declared.spcr.SpcrContents.{SpcrContents}

@@ -10,8 +10,9 @@ use Rattle.acpi_c_lib.specs.Types.{HpetInfo, PciRegion, Writer, MadtContents, Id
 use Rattle.acpi.specs.Words.{protection_of}
 use Rattle.acpi_c_lib.specs.Codes.{code_of}
 use Rattle.acpi_c_lib.specs.Records as records
+use Rattle.acpi_writer.specs.declared.madt.MadtContents as writer
 pub use Rattle.acpi_c_lib.specs.declared.refusal.Refusal.{Refusal}
-use Rattle.acpi_writer.specs.Words.{MadtSorts, io_apic_entry, is_single, madt_body_of, names_one, nmi_line_entry, nmi_source_entry, override_entry, processor_entry, table_written}
+use Rattle.acpi_writer.specs.Words.{madt_meant, MadtContents as WriterMadt}
 pub use Rattle.acpi_writer.specs.declared.error.WriterError.{WriterError}
 pub use Rattle.acpi_writer.specs.declared.ids.TableIds.{TableIds}
 
@@ -114,31 +115,22 @@ has_codes c =
     && (list_all (λ x. is_wiring x.polarity && is_wiring x.trigger) c.nmi_sources.now
     && list_all (λ x. nat_le x.lint 1) c.nmi_lines.now)
 
-abbrev pub sorts_of : MadtContents → MadtSorts
-sorts_of c = record {
-  processors = flat_map (λ p. processor_entry (processor_of p)) c.processors.now;
-  io_apics = flat_map (λ x. io_apic_entry (io_apic_of x)) c.io_apics.now;
-  overrides = flat_map (λ x. override_entry (override_of x)) c.overrides.now;
-  nmi_sources = flat_map (λ x. nmi_source_entry (nmi_source_of x)) c.nmi_sources.now;
-  nmi_lines = flat_map (λ x. nmi_line_entry (nmi_line_of x)) c.nmi_lines.now;
-}
-
 abbrev pub mailbox_of : MadtContents → Option ℕ
 mailbox_of c = if c.has_wakeup_mailbox == 0 then None else Some c.wakeup_mailbox
 
--- the checks of its lists
-unfoldable pub check_lists : MadtContents → Result (Unit {0}) WriterError
-check_lists c = do
-  _ ← holds (nat_lt 0 (length c.processors.now)) NoProcessor
-  _ ← holds (list_all (λ p. is_single (processor_of p)) c.processors.now) IdOfAll
-  holds (list_all (λ x. names_one (nmi_line_of x).processor) c.nmi_lines.now) UidOfAll
+-- the contents, as the writer has them
+abbrev pub contents_of : MadtContents
+    → writer.MadtContents records.Processor records.IoApic records.InterruptSourceOverride records.NmiSource records.NmiLine
+contents_of c = record {
+  local_apic_address = c.local_apic_address;
+  also_has_legacy_pics = not (c.also_has_8259 == 0);
+  processors = c.processors;
+  io_apics = c.io_apics;
+  interrupt_source_overrides = c.overrides;
+  nmi_sources = c.nmi_sources;
+  local_apic_nmi_lines = c.nmi_lines;
+  wakeup_mailbox = mailbox_of c;
+}
 
--- after the header
-abbrev pub madt_body : MadtContents → List ℕ
-madt_body c = madt_body_of c.local_apic_address (not (c.also_has_8259 == 0)) (mailbox_of c) (sorts_of c)
-
--- the MADT of records whose codes there are, in so much room, or the first error
-abbrev pub madt_laid : ℕ → TableIds → MadtContents → Result (List ℕ) WriterError
-madt_laid room i c = do
-  _ ← check_lists c
-  table_written room MADT 5 i (madt_body c)
+abbrev pub madt_of : MadtContents → WriterMadt
+madt_of c = madt_meant processor_of io_apic_of override_of nmi_source_of nmi_line_of (contents_of c)

@@ -25,17 +25,18 @@ register g = record {
   address = g.address;
 }
 
--- one that may not be there: none is at address 0
+-- of registers and blocks that may not be there, none is at address 0
+abbrev pub is_there : ℕ → ℕ → Bool
+is_there present address = not (present == 0) && not (address == 0)
+
 abbrev pub optional : Register → Option GenericAddress
-optional r = if r.present == 0 || r.at.address == 0 then None else Some (register r.at)
+optional r = if is_there r.present r.at.address then Some (register r.at) else None
 
 abbrev pub gpe : records.GpeBlock → Option GpeBlock
-gpe b = if b.present == 0 then None else Some (record {
-  space = space b.space;
-  address = b.address;
-  byte_length =
-      b.byte_length;
-})
+gpe b =
+    if is_there b.present b.address
+    then Some (record { space = space b.space; address = b.address; byte_length = b.byte_length })
+    else None
 
 -- ---- flags, by name
 
@@ -140,20 +141,28 @@ contents h = record {
 
 -- ---- codes
 
--- a register is there or isn't, and its codes are none that are reserved
-abbrev pub has_codes_at : Register → Bool
-has_codes_at r = nat_le r.present 1 && (is_space r.at.space && is_ok (access_size_of r.at.access_size))
+-- the codes of a register are none that are reserved
+abbrev pub has_codes_at : records.GenericAddress → Bool
+has_codes_at a = is_space a.space && is_ok (access_size_of a.access_size)
+
+-- `present` is 0 or 1, and so are the codes of a register that is there
+abbrev pub has_optional_codes : Register → Bool
+has_optional_codes r = nat_le r.present 1 && (not (is_there r.present r.at.address) || has_codes_at r.at)
 
 abbrev pub has_gpe_codes : records.GpeBlock → Bool
-has_gpe_codes b = nat_le b.present 1 && is_space b.space
+has_gpe_codes b = nat_le b.present 1 && (not (is_there b.present b.address) || is_space b.space)
 
--- and so are all, also those that aren't written; gpe0 and gpe1 aren't looked at
+abbrev pub has_block_codes : FixedHardware → Bool
+has_block_codes h =
+    has_codes_at h.pm1a_event.at && (has_codes_at h.pm1a_control.at && (has_optional_codes h.pm1b_event
+    && (has_optional_codes h.pm1b_control && (has_optional_codes h.pm2_control && (has_optional_codes h.pm_timer
+    && (has_gpe_codes h.gpe0_block && has_gpe_codes h.gpe1_block))))))
+
+-- of what is written: no block of reduced hardware, and no `reset` without RESET_REG_SUP
 abbrev pub has_codes : FixedHardware → Bool
 has_codes h =
-    has_codes_at h.pm1a_event && (has_codes_at h.pm1b_event && (has_codes_at h.pm1a_control
-    && (has_codes_at h.pm1b_control && (has_codes_at h.pm2_control && (has_codes_at h.pm_timer
-    && (has_codes_at h.reset && (has_codes_at h.sleep_control && (has_codes_at h.sleep_status
-    && (has_gpe_codes h.gpe0_block && has_gpe_codes h.gpe1_block)))))))))
+    (has_bit h.flags 20 || has_block_codes h) && ((not (has_bit h.flags 10) || has_codes_at h.reset.at)
+    && (has_optional_codes h.sleep_control && has_optional_codes h.sleep_status))
 
 -- ---- the FACS
 

@@ -6,7 +6,8 @@ use Rattle.acpi.specs.Types.{MADT}
 use Rattle.acpi_c_lib.specs.Types.{GicCpuInterface, GicDistributor, GicMsiFrame, GicRedistributors, GicTranslationService, Range, GicContents, BadRange, NoProcessor, SameAsBus}
 use Rattle.acpi_c_lib.specs.Records as records
 use Rattle.acpi_c_lib.specs.Writing.{TableIds, WriterError, is_wiring, trigger_of}
-use Rattle.acpi_writer.specs.Words.{gicc_entry, gicd_entry, gicr_entry, its_entry, msi_entry, madt_fixed, table_written}
+use Rattle.acpi_writer.specs.Words.{gic_checked, gic_meant, gic_written, GicContents as WriterGic}
+use Rattle.acpi_writer.specs.declared.madt.gic.GicContents as writer
 
 -- ---- records, as the writer has them
 
@@ -68,28 +69,28 @@ msi_frame_of f = record {
 abbrev pub has_codes : GicContents → Bool
 has_codes c = list_all (λ x. is_wiring x.performance_trigger && is_wiring x.maintenance_trigger) c.cpu_interfaces.now
 
--- flags have to say both trigger modes
-abbrev pub has_modes : records.GicCpuInterface → Bool
-has_modes x = not (x.performance_trigger == 0) && not (x.maintenance_trigger == 0)
+-- the contents, as the writer has them
+abbrev pub contents_of : GicContents
+    → writer.GicContents records.GicCpuInterface Range records.GicTranslationService records.GicMsiFrame
+contents_of c = record {
+  distributor = distributor_of c.distributor;
+  cpu_interfaces = c.cpu_interfaces;
+  redistributors = c.redistributors;
+  translation_services = c.translation_services;
+  msi_frames = c.msi_frames;
+}
 
-unfoldable pub gic_checked : GicContents → Result (Unit {0}) WriterError
-gic_checked c = do
-  _ ← holds (nat_lt 0 (length c.cpu_interfaces.now)) NoProcessor
-  _ ← holds (list_all has_modes c.cpu_interfaces.now) SameAsBus
+abbrev pub gic_of : GicContents → WriterGic
+gic_of c = gic_meant cpu_interface_of redistributors_of translation_service_of msi_frame_of (contents_of c)
+
+-- the first error of the contents
+abbrev pub checked : GicContents → Result (Unit {0}) WriterError
+checked c = do
+  _ ← gic_checked (gic_of c)
   holds (list_all is_short c.redistributors.now) BadRange
-
--- after the header: the fields of APICs, which are 0, and the entries, sort by sort
-abbrev pub gic_body : GicContents → List ℕ
-gic_body c =
-    madt_fixed 0 false
-    ++ (gicd_entry (distributor_of c.distributor)
-    ++ (flat_map (λ x. gicc_entry (cpu_interface_of x)) c.cpu_interfaces.now
-    ++ (flat_map (λ r. gicr_entry (redistributors_of r)) c.redistributors.now
-    ++ (flat_map (λ t. its_entry (translation_service_of t)) c.translation_services.now
-    ++ flat_map (λ f. msi_entry (msi_frame_of f)) c.msi_frames.now))))
 
 -- the MADT of records whose codes there are, in so much room, or the first error
 abbrev pub gic_laid : ℕ → TableIds → GicContents → Result (List ℕ) WriterError
 gic_laid room i c = do
-  _ ← gic_checked c
-  table_written room MADT 6 i (gic_body c)
+  _ ← checked c
+  gic_written room i (gic_of c)

@@ -1,5 +1,5 @@
 -- The tables of a whole machine that are written for C.
-use Rattle.std.specs.Prelude.{ℕ, ◌==◌, List, [], ◌∷◌, flat_map, Option, Some, None, Result, Ok, Err, if◌then◌else◌, ok_or}
+use Rattle.std.specs.Prelude.{ℕ, ◌==◌, List, [], ◌∷◌, map, Option, Some, None, Result, Ok, Err, if◌then◌else◌, ok_or}
 use Rattle.acpi_base.specs.Words.{◌>>=◌, holds}
 use Rattle.acpi.specs.Types.{SSDT}
 use Rattle.acpi_c_lib.specs.WrittenBgrt as bgrt
@@ -9,13 +9,14 @@ use Rattle.acpi_c_lib.specs.WrittenGtdt as gtdt
 use Rattle.acpi_c_lib.specs.WrittenSpcr as spcr
 use Rattle.acpi_c_lib.specs.WrittenSrat as srat
 use Rattle.acpi_c_lib.specs.Writing as writing
-use Rattle.acpi_c_lib.specs.Writing.{Refusal, TableIds, WriterError, hpet_info_of, madt_laid, region_of, writer_refused}
-use Rattle.acpi_c_lib.specs.Types.{UnknownCode, UnknownTable, Writer, Bgrt, Fadt, Gic, Hpet, Madt, Mcfg, Nothing, Slit, Spcr, Srat, Ssdt, ListedTable, AmlContents, BadCode, NoAddress}
+use Rattle.acpi_c_lib.specs.Writing.{Refusal, TableIds, WriterError, hpet_info_of, region_of, writer_refused}
+use Rattle.acpi_c_lib.specs.Types.{UnknownCode, UnknownTable, Writer, Bgrt, Fadt, Gic, Hpet, Madt, Mcfg, Nothing, Slit, Spcr, Srat, Ssdt, ListedTable, AmlContents, FacsContents, BadCode, NoAddress}
 pub use Rattle.acpi_c_lib.specs.declared.writing.machine.Contents.{Contents}
 use Rattle.acpi_c_lib.specs.declared.writing.machine.Contents.TheVariants.{Gtdt}
 use Rattle.acpi_c_lib.specs.declared.written_records.AmlContents as aml
+use Rattle.acpi_c_lib.specs.declared.written_records.FacsContents as facs
 use Rattle.acpi_c_lib.specs.declared.written_records.Machine as record_of
-use Rattle.acpi_writer.specs.Words.{bgrt_written, fadt_written, hpet_written, MachineOf, dsdt_at, machine_size, machine_written, tree_written, mcfg_entry, mcfg_written_of, slit_written, srat_written_by, table_written}
+use Rattle.acpi_writer.specs.Words.{bgrt_written, fadt_written, hpet_written, MachineOf, dsdt_at, machine_size, machine_written, tree_written, madt_written, mcfg_written, slit_written, srat_written, table_written}
 
 -- ---- a table
 
@@ -43,15 +44,15 @@ contents_of t =
 -- the table in so much room, or the first error; one of no kind is refused before
 abbrev pub written_as : ℕ → TableIds → Contents → Result (List ℕ) WriterError
 written_as room ids (Fadt h) = fadt_written room ids (fadt.contents h)
-written_as room ids (Madt c) = madt_laid room ids c
-written_as room ids (Mcfg rs) = mcfg_written_of room ids (flat_map (λ r. mcfg_entry (region_of r)) rs.now)
+written_as room ids (Madt c) = madt_written room ids (writing.madt_of c)
+written_as room ids (Mcfg rs) = mcfg_written room ids (map region_of rs.now)
 written_as room ids (Hpet i) = hpet_written room ids (hpet_info_of i)
 written_as room ids (Slit c) = slit_written room ids c.localities c.distances.now
 written_as room ids (Ssdt c) = table_written room SSDT c.revision ids c.aml.now
-written_as room ids (Srat c) = srat_written_by srat.range_of room ids (srat.contents c)
+written_as room ids (Srat c) = srat_written room ids (srat.srat_of c)
 written_as room ids (Bgrt g) = bgrt_written room ids (bgrt.contents g)
 written_as room ids (Spcr c) = spcr.spcr_laid room ids c
-written_as room ids (Gtdt t) = gtdt.gtdt_laid room ids t
+written_as room ids (Gtdt c) = gtdt.gtdt_laid room ids c
 written_as room ids (Gic c) = gic.gic_laid room ids c
 written_as room ids Nothing = Err BadCode
 
@@ -64,8 +65,12 @@ abbrev pub dsdt_in : List aml.AmlContents → Option AmlContents
 dsdt_in [] = None
 dsdt_in (c ∷ cs) = Some (record { revision = c.revision; bytes = c.aml })
 
+abbrev pub facs_in : List facs.FacsContents → Option FacsContents
+facs_in [] = None
+facs_in (c ∷ cs) = Some (fadt.facs_contents c)
+
 abbrev pub machine_of : record_of.Machine → MachineOf ListedTable
-machine_of m = record { ids = m.ids; dsdt = dsdt_in m.dsdts.now; facs = None; tables = m.tables }
+machine_of m = record { ids = m.ids; dsdt = dsdt_in m.dsdts.now; facs = facs_in m.facs.now; tables = m.tables }
 
 -- ---- codes
 
@@ -75,7 +80,7 @@ check_contents (Fadt h) = holds (fadt.has_codes h) UnknownCode
 check_contents (Madt c) = holds (writing.has_codes c) UnknownCode
 check_contents (Bgrt g) = holds (bgrt.has_codes g) UnknownCode
 check_contents (Spcr c) = holds (spcr.has_codes c) UnknownCode
-check_contents (Gtdt t) = holds (gtdt.has_codes t) UnknownCode
+check_contents (Gtdt c) = holds (gtdt.has_codes c) UnknownCode
 check_contents (Gic c) = holds (gic.has_codes c) UnknownCode
 check_contents _ = Ok tt
 

@@ -1,5 +1,5 @@
 -- The SPCR that is written for C, from the record as which it is read. The layout is Microsoft's.
-use Rattle.std.specs.Prelude.{ℕ, ◌==◌, ◌&&◌, ◌||◌, Bool, not, bit_or, codes, nat_lt, List, Option, Some, None, Result, if◌then◌else◌}
+use Rattle.std.specs.Prelude.{ℕ, ◌==◌, ◌&&◌, ◌||◌, Bool, not, bit_or, codes, nat_le, nat_lt, List, Option, Some, None, Result, if◌then◌else◌}
 use Rattle.acpi_base.specs.FromStd.{Bor}
 use Rattle.acpi_base.specs.Words.{has_bit, interface_of}
 use Rattle.acpi.specs.Types.{GenericAddress}
@@ -24,8 +24,8 @@ interrupt_type c = if c.console.has_irq == 0 then controllers c else bit_or (con
 
 abbrev pub has_codes : spcr_record.SpcrContents → Bool
 has_codes c =
-    has_codes_at c.console.base
-    && (c.console.has_global_system_interrupt == 0 || is_controllers c.interrupt_controllers)
+    nat_le c.console.base.present 1 && ((c.console.base.present == 0 || has_codes_at c.console.base.at)
+    && (c.console.has_global_system_interrupt == 0 || is_controllers c.interrupt_controllers))
 
 abbrev pub device : Console → SpcrPciDevice
 device c = record {

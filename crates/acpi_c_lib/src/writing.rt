@@ -2,7 +2,6 @@
 ghost use Rattle.std.specs.Prelude.{◌≡◌};
 ghost use Rattle.acpi_c_lib.specs.Words.{AnswersPlain};
 ghost use Rattle.acpi_c_lib.specs.Writing as writing;
-ghost use Rattle.acpi_writer.specs.Words.{mcfg_entry, FitsMcfg};
 
 mod bgrt;
 mod fadt;
@@ -20,7 +19,7 @@ use acpi::HpetInfo;
 use acpi::hpet::PageProtection;
 use acpi_base::mcfg::McfgEntry;
 use acpi_writer::WriterError;
-use acpi_writer::spelled::Spelled;
+use acpi_writer::spelled::StandsFor;
 pub use acpi_writer::{
     write_dsdt, write_facs, write_rsdp, write_rsdt, write_slit, write_ssdt, write_xsdt,
 };
@@ -50,30 +49,15 @@ impl records::HpetInfo {
     }
 }
 
-impl PciRegion {
-    /// The region, as the writer has it.
-    fn region(&self) -> McfgEntry
-        ensures { result ≡ writing.region_of self.now }
-    {
+impl StandsFor<McfgEntry> for PciRegion {
+    ghost meant = { writing.region_of };
+
+    fn item(&self) -> McfgEntry {
         McfgEntry {
             base_address: self.base_address,
             pci_segment_group: self.segment_group,
             bus_number_start: self.first_bus,
             bus_number_end: self.last_bus,
         }
-    }
-}
-
-impl Spelled for PciRegion {
-    ghost spelled = { λ r. mcfg_entry (writing.region_of r) };
-
-    ghost fits = { λ r. FitsMcfg (writing.region_of r) };
-
-    fn measure(&self, room: usize) -> Option<usize> {
-        self.region().measure(room)
-    }
-
-    fn put(&self, out: &mut [u8]) {
-        self.region().put(out);
     }
 }

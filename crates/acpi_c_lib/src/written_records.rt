@@ -1,7 +1,8 @@
 //! What C says of the tables that are to be written. What each field holds is said once, in `include/zacpi.h`.
 
 use crate::arm_records::{
-    ArmTimers, GicCpuInterface, GicDistributor, GicMsiFrame, GicTranslationService,
+    ArmTimers, GicCpuInterface, GicDistributor, GicMsiFrame, GicTranslationService, GtFrame,
+    Watchdog,
 };
 use crate::fixed_records::{Console, FixedHardware};
 use crate::interrupt_records::{InterruptSourceOverride, IoApic, NmiLine, NmiSource, Processor};
@@ -62,6 +63,24 @@ pub struct SpcrContents {
     pub terminal_type: u8,
 }
 
+/// A timer of the platform that a GTDT is to say (section 5.2.24.1).
+#[repr(C)]
+#[derive(Clone, Copy)]
+pub struct PlatformTimer<'a> {
+    pub kind: u32,
+    pub block_address: u64,
+    pub frames: &'a [GtFrame],
+    pub watchdog: Watchdog,
+}
+
+/// What a GTDT is to say (section 5.2.24).
+#[repr(C)]
+#[derive(Clone, Copy)]
+pub struct GtdtContents<'a> {
+    pub timers: ArmTimers,
+    pub platform_timers: &'a [PlatformTimer<'a>],
+}
+
 /// What a table of AML is to have after its header (section 5.2.11).
 #[repr(C)]
 #[derive(Clone, Copy)]
@@ -85,7 +104,7 @@ pub struct ListedTable<'a> {
     pub srats: &'a [SratContents<'a>],
     pub bgrts: &'a [BootGraphic],
     pub spcrs: &'a [SpcrContents],
-    pub gtdts: &'a [ArmTimers],
+    pub gtdts: &'a [GtdtContents<'a>],
     pub gics: &'a [GicContents<'a>],
 }
 
@@ -96,6 +115,7 @@ pub struct Machine<'a> {
     pub ids: TableIds,
     pub tables: &'a [ListedTable<'a>],
     pub dsdts: &'a [AmlContents<'a>],
+    pub facs: &'a [FacsContents],
 }
 
 /// What a FACS is to say (section 5.2.10).

@@ -15,7 +15,7 @@ pub fn write_processors(
 ) -> Result<usize, WriterError>
     ensures { IfOk result (λ n. IsValid MADT (take n out.new)) }
 {
-    let machine = MadtContents {
+    let machine: MadtContents<'_> = MadtContents {
         local_apic_address: 0xfee00000,
         also_has_legacy_pics: false,
         processors,

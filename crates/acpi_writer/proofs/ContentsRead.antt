@@ -6,9 +6,9 @@ use Rattle.acpi_base.proofs.FromStd.{and_parts, le-leb, bytes_eq-Decides}
 use Rattle.acpi_base.proofs.Words.{bind_ok, length-spelling}
 use Rattle.acpi_base.specs.Words.{part, spelling, check_names, check_table, header_at, ◌>>=◌, holds, letters_of, Memory, sdt_kind}
 use Rattle.acpi.specs.Types.{Signature, BGRT, FADT, GTDT, HPET, MADT, MCFG, SLIT, SPCR, SRAT, SSDT, AcpiError}
-use Rattle.acpi_writer.specs.Words.{IsBgrt, bgrt_body, SaysImage, FitsContents, bytes_of, contents_written, most, or_none, placed, signature_of, fadt_body, fadt_checked, fadt_written, fixed_of, IsFadt, IsGicMadt, gic_body, gic_checked, gic_written, gic_read, IsGtdt, gtdt_body, gtdt_checked, gtdt_written, SaysTimers, hpet_body, IsHpet, is_named, check_tables, AreValid, first_at, first_of, place_of, HasFadt, HasTable, Says, platform_read, madt_body, madt_checked, madt_entries, madt_fixed, madt_written, IsMadt, model_read, mcfg_body, IsMcfg, IsSlit, slit_body, slit_checked, slit_written, spcr_body, spcr_checked, spcr_written, IsSpcr, SaysConsole, SratContents, srat_body, srat_checked_by, srat_entries, srat_reserved, srat_written_by, AreIds, IsTableOf, IsValid, table_written, TableContents, Bgrt, Fadt, GicMadt, Gtdt, Hpet, Madt, Mcfg, Slit, Spcr, Srat, Ssdt, WriterError, FadtContents, GtdtContents, TableIds, GicContents, MadtContents, SpcrContents, IsSrat, SaysDomains, BgrtContents, SlitContents}
+use Rattle.acpi_writer.specs.Words.{IsBgrt, bgrt_body, SaysImage, FitsContents, bytes_of, contents_written, most, or_none, placed, signature_of, fadt_body, fadt_checked, fadt_written, fixed_of, IsFadt, IsGicMadt, gic_body, gic_checked, gic_written, gic_read, IsGtdt, gtdt_body, gtdt_checked, SaysTimers, hpet_body, IsHpet, is_named, check_tables, AreValid, first_at, first_of, place_of, HasFadt, HasTable, Says, platform_read, madt_body, madt_checked, madt_entries, madt_fixed, madt_written, IsMadt, model_read, mcfg_body, IsMcfg, IsSlit, slit_body, slit_checked, slit_written, spcr_body, spcr_checked, spcr_written, IsSpcr, SaysConsole, SratContents, srat_body, srat_checked, srat_entries, srat_reserved, srat_written, AreIds, IsTableOf, IsValid, table_written, TableContents, Bgrt, Fadt, GicMadt, Gtdt, Hpet, Madt, Mcfg, Slit, Spcr, Srat, Ssdt, WriterError, FadtContents, GtdtContents, TableIds, GicContents, MadtContents, SpcrContents, IsSrat, SaysDomains, BgrtContents, SlitContents, gtdt_written_by}
 use Rattle.acpi_writer.proofs.ShortTables.{bgrt_long, bgrt_name, bgrt_read, bgrt_valid, hpet_long, hpet_name, hpet_read, hpet_valid, mcfg_name, mcfg_read, mcfg_valid, slit_is, slit_name, slit_read, slit_valid, ssdt_read}
-use Rattle.acpi_writer.proofs.FadtRead.{fadt_is, fadt_name, fadt_read, fadt_valid, body_long}
+use Rattle.acpi_writer.proofs.FadtRead.{fadt_name, fadt_read, fadt_valid, body_long}
 use Rattle.acpi_writer.proofs.GicRead.{gic_madt_is, gic_madt_valid, entry_bytes, gic_madt_read}
 use Rattle.acpi_writer.proofs.GtdtRead.{gtdt_valid}
 use Rattle.acpi_writer.proofs.LaidRead.{holds_only, platform_has}
@@ -68,7 +68,7 @@ checked_table checked s revision ids body t are e =
 
 contents_of : (ids : TableIds) (c : TableContents) (t : List ℕ) → AreIds ids → FitsContents c
     → contents_written most ids c ≡ Ok t → IsContents ids c t
-unfolding fadt_written gic_written gtdt_written madt_written slit_written spcr_written srat_written_by
+unfolding fadt_written gic_written gtdt_written_by madt_written slit_written spcr_written srat_written
 contents_of ids (Madt c) t are fit e =
     let both = checked_table (madt_checked c) MADT 5 ids (madt_body c) t are e in
     madt_is ids c t both.0 fit both.1
@@ -83,13 +83,13 @@ contents_of ids (Slit c) t are fit e =
 contents_of ids (Ssdt c) t are fit e = table_of SSDT c.revision ids c.bytes.now t are e
 contents_of ids (Fadt c) t are fit e =
     let both = checked_table (fadt_checked c) FADT 6 ids (fadt_body c) t are e in
-    fadt_is ids c t both.0 fit both.1
+    record { written = both.0; fit = fit; checked = both.1 }
 contents_of ids (Srat c) t are fit e =
-    let both = checked_table (srat_checked_by (λ r. r) c) SRAT 3 ids (srat_body c) t are e in
-    srat_is (λ r. r) ids c t both.0 fit both.1
+    let both = checked_table (srat_checked c) SRAT 3 ids (srat_body c) t are e in
+    srat_is ids c t both.0 fit both.1
 contents_of ids (Spcr c) t are fit e =
     let both = checked_table (spcr_checked c) SPCR 4 ids (spcr_body c) t are e in
-    spcr.spcr_is ids c t both.0 fit.0 fit.1 both.1
+    record { written = both.0; fit = fit; checked = both.1 }
 contents_of ids (Bgrt c) t are fit e = record { written = table_of BGRT 1 ids (bgrt_body c) t are e; fit = fit }
 contents_of ids (Gtdt c) t are fit e =
     let both = checked_table (gtdt_checked c) GTDT 3 ids (gtdt_body c) t are e in

@@ -1,13 +1,13 @@
 -- What a reader finds in a FADT that is written, and when one is.
-use Rattle.std.proofs.Common.{◌≡◌, ℕ, zero, suc, ◌+◌, ◌*◌, ◌<◌, true, false, List, [], ◌∷◌, ◌++◌, length, take, drop, get_or, Option, Some, None, Ok, refl, sym, ap, ◌∙◌, arith, lit<, append_assoc, length-append, Result, Err, subst, ◌==◌, nat_le, if◌then◌else◌, flat_map, replicate, IfOk, All, ok_or, option_map}
-use Rattle.acpi_base.specs.FromStd.{chars, is_utf8}
+use Rattle.std.proofs.Common.{◌≡◌, ℕ, zero, suc, ◌+◌, ◌*◌, ◌<◌, true, false, List, [], ◌∷◌, ◌++◌, length, take, drop, get_or, Option, Some, None, Ok, refl, sym, ap, ◌∙◌, arith, lit<, append_assoc, length-append, ◌==◌, nat_le, if◌then◌else◌, flat_map, replicate, ok_or, option_map}
+use Rattle.acpi_base.specs.FromStd.{AllByRecursion, chars, is_utf8, list_all}
 use Rattle.acpi_base.proofs.FromStd.{and_parts, ltb-true, ne_eqb, drop-drop, drop_at, take_at}
 use Rattle.acpi.specs.Words.{timer_of}
 use Rattle.acpi_base.specs.Words.{generic_address_of, has_bit, field_of, filled_part, part, spelling, header_at}
 use Rattle.acpi.specs.Types.{GenericAddress, AcpiError, InvalidDsdtAddress, InvalidFacsAddress, FADT, Fadt, PowerProfile}
 use Rattle.acpi_fixed.proofs.Profiles.{profile_read}
 use Rattle.acpi_fixed.specs.Words.{fadt_at, is_profile, pm_timer_of, profile_for, feature_bits, gpe_of, address_or, block_at, extended_address, extended_number, has_extended, optional_block_of, register_of, timer_block_of}
-use Rattle.acpi_writer.specs.Words.{address_or_zero, are_blocks, are_placed, arm_flags, body_with, bytes_wide, fadt_body, fadt_checked, fadt_written, feature_flags, fixed_of, front_fields, gpe_length, gpe_register, has_address, has_length, is_given, narrow, pc_flags, registers, wide_fields, AreFitFor, FadtIsRead, FadtIsValid, HasFields, HasFlags, HasHardware, HasLegacy, HasNeededBlocks, IsFadt, FitsField, field_at, field_bytes, field_size, field_value, fields_bytes, offset_of, FitsRegister, is_register, register_bytes, FadtContents, FadtHardware, Fixed, Reduced, FixedHardware, TableIds, IsTableOf, if_checked, table_written, WriterError, BadProfile, NoAddress}
+use Rattle.acpi_writer.specs.Words.{address_or_zero, are_blocks, are_placed, arm_flags, body_with, bytes_wide, fadt_body, feature_flags, fixed_of, front_fields, gpe_register, has_address, narrow, pc_flags, registers, wide_fields, AreFitFor, FadtIsRead, FadtIsValid, HasFields, HasFlags, HasHardware, HasLegacy, HasNeededBlocks, IsFadt, field_at, field_bytes, field_size, field_value, fields_bytes, offset_of, FitsRegister, is_register, register_bytes, FadtContents, FadtHardware, Fixed, Reduced, FixedHardware, TableIds, BadProfile, NoAddress, are_registers, is_block, optional_blocks}
 use Rattle.acpi_writer.specs.FadtLaws.{IsReadAs}
 use Rattle.acpi_base.proofs.Words.{holds_ok}
 use Rattle.acpi_writer.proofs.Bits.{flags_read, is_off, was_true}
@@ -34,49 +34,18 @@ facs_read None is = refl
 facs_read (Some a) is = address_read InvalidFacsAddress a (narrow a) (is_off _ is)
 
 -- the blocks that a machine need not have
-record AreBlocks (h : FixedHardware) : Type 0 where
-  pm1b_event : is_register h.pm1b_event ≡ true
-  pm1b_control : is_register h.pm1b_control ≡ true
-  pm2_control : is_register h.pm2_control ≡ true
-  pm_timer : is_register h.pm_timer ≡ true
-  gpe0 : is_register (gpe_register h.gpe0) ≡ true
-  gpe0_long : has_length h.gpe0 ≡ true
-  gpe1 : is_register (gpe_register h.gpe1) ≡ true
-  gpe1_long : has_length h.gpe1 ≡ true
+abbrev AreBlocks : List (Option GenericAddress) → Type 0
+AreBlocks blocks = AllByRecursion (λ block. is_block block ≡ true) blocks
 
-blocks_of : (hardware : FadtHardware) → are_blocks hardware ≡ true → AreBlocks (fixed_of hardware)
-blocks_of Reduced is = record {
-  pm1b_event = refl;
-  pm1b_control = refl;
-  pm2_control = refl;
-  pm_timer = refl;
-  gpe0 =
-      refl;
-  gpe0_long = refl;
-  gpe1 = refl;
-  gpe1_long = refl;
-}
-blocks_of (Fixed h) is =
-    let p = and_parts _ _ is in
-    let q = and_parts _ _ p.1 in
-    let r = and_parts _ _ q.1 in
-    let s = and_parts _ _ r.1 in
-    let u = and_parts _ _ s.1 in
-    let v = and_parts _ _ u.1 in
-    let w = and_parts _ _ v.1 in
-    let x = and_parts _ _ w.1 in
-    let y = and_parts _ _ x.1 in
-    record {
-      pm1b_event = q.0;
-      pm1b_control = s.0;
-      pm2_control = u.0;
-      pm_timer = v.0;
-      gpe0 = w.0;
-      gpe0_long =
-          x.0;
-      gpe1 = y.0;
-      gpe1_long = y.1;
-    }
+each_block : (blocks : List (Option GenericAddress)) → list_all is_block blocks ≡ true → AreBlocks blocks
+each_block [] all = tt
+each_block (block ∷ blocks) all =
+    let p = and_parts (is_block block) (list_all is_block blocks) all in
+    (p.0, each_block blocks p.1)
+
+blocks_of : (hardware : FadtHardware) → are_blocks hardware ≡ true → AreBlocks (optional_blocks (fixed_of hardware))
+blocks_of Reduced is = each_block (optional_blocks (fixed_of Reduced)) refl
+blocks_of (Fixed h) is = (each_block (Some h.pm1a_event ∷ Some h.pm1a_control ∷ optional_blocks h) is).1.1
 
 -- the blocks that fixed hardware has
 needed_of : (hardware : FadtHardware) (f : Fadt) → are_blocks hardware ≡ true
@@ -88,12 +57,10 @@ needed_of : (hardware : FadtHardware) (f : Fadt) → are_blocks hardware ≡ tru
     → HasNeededBlocks hardware f
 needed_of Reduced f is event control e k = tt
 needed_of (Fixed h) f is event control e k =
-    let p = and_parts _ _ is in
-    let q = and_parts _ _ p.1 in
-    let r = and_parts _ _ q.1 in
+    let are = each_block (Some h.pm1a_event ∷ Some h.pm1a_control ∷ optional_blocks h) is in
     record {
-      pm1a_event = rw e (block_read (bytes_wide (Some h.pm1a_event)) h.pm1a_event event p.0);
-      pm1a_control = rw k (block_read (bytes_wide (Some h.pm1a_control)) h.pm1a_control control r.0);
+      pm1a_event = rw e (block_read (bytes_wide (Some h.pm1a_event)) h.pm1a_event event are.0);
+      pm1a_control = rw k (block_read (bytes_wide (Some h.pm1a_control)) h.pm1a_control control are.1.0);
     }
 
 timer_by : (f : Fadt) (c : FadtContents) (o : Option GenericAddress) → pm_timer_of f ≡ Ok o
@@ -188,7 +155,7 @@ module _ (c : FadtContents) (h : FixedHardware) (t : List ℕ) (from36 : drop 36
   front : (i : ℕ) → i < length (front_fields c h)
       → field_of t (36 + offset_of (front_fields c h) i) (field_size (field_at (front_fields c h) i))
       ≡ field_value (field_at (front_fields c h) i)
-  front i less = read_in t (after_front c h) 36 (front_fields c h) from36 fit.front i less
+  front i less = read_in t (after_front c h) 36 (front_fields c h) from36 fit.0 i less
 
   port : (i : ℕ) → i < length (front_fields c h)
       → part t (36 + offset_of (front_fields c h) i) (field_size (field_at (front_fields c h) i))
@@ -198,7 +165,7 @@ module _ (c : FadtContents) (h : FixedHardware) (t : List ℕ) (from36 : drop 36
   wide : (i : ℕ) → i < length (wide_fields c)
       → field_of t (128 + offset_of (wide_fields c) i) (field_size (field_at (wide_fields c) i))
       ≡ field_value (field_at (wide_fields c) i)
-  wide i less = read_in t (last c h) 128 (wide_fields c) from128 fit.wide i less
+  wide i less = read_in t (last c h) 128 (wide_fields c) from128 fit.1.1.0 i less
 
   register : (i : ℕ) → i < 10 → part t (148 + 12 * i) 12 ≡ register_bytes (get_or (registers c h) i None)
   register i less = part_in t (last c h) 148 from148 (12 * i) 12 ∙ register_in (registers c h) (replicate 8 0) i less
@@ -209,40 +176,10 @@ module _ (c : FadtContents) (h : FixedHardware) (t : List ℕ) (from36 : drop 36
   pm1a_event_is = block_is t 56 88 148 _ (Some h.pm1a_event) (front 18 (lit< tt)) (port 10 (lit< tt)) (has 148 12 refl)
       (register 0 (lit< tt))
 
-  pm1b_event_is : block_at t 60 88 160 ≡ made (bytes_wide (Some h.pm1a_event)) h.pm1b_event
-  unfolding front_fields
-  pm1b_event_is = block_is t 60 88 160 _ h.pm1b_event (front 18 (lit< tt)) (port 11 (lit< tt)) (has 160 12 refl)
-      (register 1 (lit< tt))
-
   pm1a_control_is : block_at t 64 89 172 ≡ made (bytes_wide (Some h.pm1a_control)) (Some h.pm1a_control)
   unfolding front_fields
   pm1a_control_is = block_is t 64 89 172 _ (Some h.pm1a_control) (front 19 (lit< tt)) (port 12 (lit< tt))
       (has 172 12 refl) (register 2 (lit< tt))
-
-  pm1b_control_is : block_at t 68 89 184 ≡ made (bytes_wide (Some h.pm1a_control)) h.pm1b_control
-  unfolding front_fields
-  pm1b_control_is = block_is t 68 89 184 _ h.pm1b_control (front 19 (lit< tt)) (port 13 (lit< tt)) (has 184 12 refl)
-      (register 3 (lit< tt))
-
-  pm2_control_is : block_at t 72 90 196 ≡ made (bytes_wide h.pm2_control) h.pm2_control
-  unfolding front_fields
-  pm2_control_is = block_is t 72 90 196 _ h.pm2_control (front 20 (lit< tt)) (port 14 (lit< tt)) (has 196 12 refl)
-      (register 4 (lit< tt))
-
-  pm_timer_is : block_at t 76 91 208 ≡ made (if is_given h.pm_timer then 4 else 0) h.pm_timer
-  unfolding front_fields
-  pm_timer_is = block_is t 76 91 208 _ h.pm_timer (front 21 (lit< tt)) (port 15 (lit< tt)) (has 208 12 refl)
-      (register 5 (lit< tt))
-
-  gpe0_is : block_at t 80 92 220 ≡ made (gpe_length h.gpe0) (gpe_register h.gpe0)
-  unfolding front_fields
-  gpe0_is = block_is t 80 92 220 _ (gpe_register h.gpe0) (front 22 (lit< tt)) (port 16 (lit< tt)) (has 220 12 refl)
-      (register 6 (lit< tt))
-
-  gpe1_is : block_at t 84 93 232 ≡ made (gpe_length h.gpe1) (gpe_register h.gpe1)
-  unfolding front_fields
-  gpe1_is = block_is t 84 93 232 _ (gpe_register h.gpe1) (front 23 (lit< tt)) (port 17 (lit< tt)) (has 232 12 refl)
-      (register 7 (lit< tt))
 
   reset_is : filled_part t 116 12 ≡ register_bytes c.reset_register
   reset_is =
@@ -292,16 +229,16 @@ module _ (c : FadtContents) (h : FixedHardware) (t : List ℕ) (from36 : drop 36
         facs = rw (number_has 132 refl, wide 3 (lit< tt), front 0 (lit< tt)) (facs_read c.facs p.1);
         profile = ap profile_for (front 3 (lit< tt)) ∙ profile_read c.power_profile profile;
         sci = front 4 (lit< tt);
-        reset_register = ap generic_address_of reset_is ∙ given_read c.reset_register fit.reset reset;
+        reset_register = ap generic_address_of reset_is ∙ given_read c.reset_register fit.1.0 reset;
         reset_value = wide 0 (lit< tt);
         sleep_control = ap register_of (sleep 8 (lit< tt) refl) ∙ register_read c.sleep_control u control;
         sleep_status = ap register_of (sleep 9 (lit< tt) refl) ∙ register_read c.sleep_status v status;
       }
 
-  hardware_is : AreBlocks h → HasHardware h (fadt_at t)
+  hardware_is : AreBlocks (optional_blocks h) → HasHardware h (fadt_at t)
   unfolding fadt_at front_fields
   hardware_is are =
-      let fits = λ (i : ℕ) (less : i < 10). fit.registers i None less in
+      let fits = λ (i : ℕ) (less : i < 10). fit.1.1.1.0 i None less in
       record {
         smi = front 5 (lit< tt);
         enable = front 6 (lit< tt);
@@ -309,19 +246,34 @@ module _ (c : FadtContents) (h : FixedHardware) (t : List ℕ) (from36 : drop 36
         s4 = front 8 (lit< tt);
         performance = front 9 (lit< tt);
         c_state = front 25 (lit< tt);
-        pm1b_event = ap optional_block_of pm1b_event_is ∙ optional_read _ h.pm1b_event (fits 1 (lit< tt))
-            are.pm1b_event;
+        pm1b_event =
+            ap optional_block_of (block_is t 60 88 160 _ h.pm1b_event (front 18 (lit< tt)) (port 11 (lit< tt))
+            (has 160 12 refl) (register 1 (lit< tt))) ∙ optional_read _ h.pm1b_event (fits 1 (lit< tt)) are.0;
         pm1b_control =
-            ap optional_block_of pm1b_control_is ∙ optional_read _ h.pm1b_control (fits 3 (lit< tt)) are.pm1b_control;
-        pm2_control = ap optional_block_of pm2_control_is ∙ optional_read _ h.pm2_control (fits 4 (lit< tt))
-            are.pm2_control;
-        pm_timer = ap timer_block_of pm_timer_is ∙ timer_read h.pm_timer (fits 5 (lit< tt)) are.pm_timer;
-        gpe0 = ap gpe_of gpe0_is ∙ gpe_read h.gpe0 (fits 6 (lit< tt)) are.gpe0 are.gpe0_long;
-        gpe1 = ap gpe_of gpe1_is ∙ gpe_read h.gpe1 (fits 7 (lit< tt)) are.gpe1 are.gpe1_long;
+            ap optional_block_of (block_is t 68 89 184 _ h.pm1b_control (front 19 (lit< tt)) (port 13 (lit< tt))
+            (has 184 12 refl) (register 3 (lit< tt))) ∙ optional_read _ h.pm1b_control (fits 3 (lit< tt)) are.1.0;
+        pm2_control =
+            ap optional_block_of (block_is t 72 90 196 _ h.pm2_control (front 20 (lit< tt)) (port 14 (lit< tt))
+            (has 196 12 refl) (register 4 (lit< tt))) ∙ optional_read _ h.pm2_control (fits 4 (lit< tt)) are.1.1.0;
+        pm_timer =
+            ap timer_block_of (block_is t 76 91 208 _ h.pm_timer (front 21 (lit< tt)) (port 15 (lit< tt))
+            (has 208 12 refl) (register 5 (lit< tt))) ∙ timer_read h.pm_timer (fits 5 (lit< tt)) are.1.1.1.0;
+        gpe0 =
+            ap gpe_of (block_is t 80 92 220 _ (gpe_register h.gpe0) (front 22 (lit< tt)) (port 16 (lit< tt))
+            (has 220 12 refl) (register 6 (lit< tt))) ∙ gpe_read h.gpe0 (fits 6 (lit< tt)) are.1.1.1.1.0;
+        gpe1 =
+            ap gpe_of (block_is t 84 93 232 _ (gpe_register h.gpe1) (front 23 (lit< tt)) (port 17 (lit< tt))
+            (has 232 12 refl) (register 7 (lit< tt))) ∙ gpe_read h.gpe1 (fits 7 (lit< tt)) are.1.1.1.1.1.0;
         gpe1_base = front 24 (lit< tt);
       }
 
 module _ (ids : TableIds) (c : FadtContents) (t : List ℕ) (is : IsFadt ids c t) where
+  passed : (are_placed c ≡ true) × (is_profile c.power_profile ≡ true) × (are_registers c ≡ true)
+  passed =
+      let one = holds_ok (are_placed c) NoAddress _ tt is.checked in
+      let two = holds_ok (is_profile c.power_profile) BadProfile _ tt one.1 in
+      (one.0, two.0, was_true _ _ two.1)
+
   abbrev from36 : drop 36 t ≡ fadt_body c
   from36 = table.rest FADT fadt_name 6 ids (fadt_body c) t is.written
 
@@ -338,20 +290,20 @@ module _ (ids : TableIds) (c : FadtContents) (t : List ℕ) (is : IsFadt ids c t
   unfolding fadt_at
   blocks_are =
       let h = fixed_of c.hardware in
-      let p = and_parts _ _ is.registers in
-      needed_of c.hardware (fadt_at t) p.0 (is.fit.registers 0 None (lit< tt)) (is.fit.registers 2 None (lit< tt))
+      let p = and_parts _ _ passed.2 in
+      needed_of c.hardware (fadt_at t) p.0 (is.fit.1.1.1.0 0 None (lit< tt)) (is.fit.1.1.1.0 2 None (lit< tt))
       (pm1a_event_is c h t from36 long_is revision_is is.fit)
       (pm1a_control_is c h t from36 long_is revision_is is.fit)
 
   read_is : IsReadAs c (fadt_at t)
   read_is =
       let h = fixed_of c.hardware in
-      let p = and_parts _ _ is.registers in
+      let p = and_parts _ _ passed.2 in
       let q = and_parts _ _ p.1 in
       let r = and_parts _ _ q.1 in
       record {
-        fields = fields_are c h t from36 long_is revision_is is.fit is.placed is.profile q.0 r.0 r.1
-            (is.fit.registers 8 None (lit< tt)) (is.fit.registers 9 None (lit< tt));
+        fields = fields_are c h t from36 long_is revision_is is.fit passed.0 passed.1 q.0 r.0 r.1
+            (is.fit.1.1.1.0 8 None (lit< tt)) (is.fit.1.1.1.0 9 None (lit< tt));
         flags = flags_are c h t from36 long_is revision_is is.fit;
         legacy = legacy_is c h t from36 long_is revision_is is.fit;
         hardware = hardware_is c h t from36 long_is revision_is is.fit (blocks_of c.hardware p.0);
@@ -363,43 +315,3 @@ module _ (ids : TableIds) (c : FadtContents) (t : List ℕ) (is : IsFadt ids c t
 
 pub fadt_read : FadtIsRead
 fadt_read ids c t is = read_is ids c t is
-
--- ---- whether it is written
-
--- with this hardware
-pub by_hardware : (room : ℕ) (ids : TableIds) (c : FadtContents) (h : FixedHardware) → h ≡ fixed_of c.hardware
-    → if_checked (fadt_checked c) (table_written room FADT 6 ids (body_with c h)) ≡ fadt_written room ids c
-unfolding fadt_written
-by_hardware room ids c h e = ap (λ x. if_checked (fadt_checked c) (table_written room FADT 6 ids (body_with c x))) e
-
-pub fadt_is : (ids : TableIds) (c : FadtContents) (t : List ℕ) → IsTableOf FADT 6 ids (fadt_body c) t
-    → AreFitFor c (fixed_of c.hardware) → fadt_checked c ≡ Ok tt → IsFadt ids c t
-fadt_is ids c t written fit good =
-    let one = holds_ok (are_placed c) NoAddress _ tt good in
-    let two = holds_ok (is_profile c.power_profile) BadProfile _ tt one.1 in
-    record { written = written; fit = fit; placed = one.0; profile = two.0; registers = was_true _ _ two.1 }
-
--- the numbers of a body with these registers have a place
-pub fits_for : (r : Result ℕ WriterError) (c : FadtContents) (h : FixedHardware) (rs : List (Option GenericAddress))
-    → rs ≡ registers c h
-    → IfOk r (λ n. All FitsField (front_fields c h) × (FitsRegister c.reset_register × (All FitsField (wide_fields c)
-    × (All FitsRegister rs × Unit {0}))))
-    → IfOk r (λ n. AreFitFor c h)
-fits_for (Ok n) c h rs same fits =
-    record {
-      front = fits.0;
-      reset = fits.1.0;
-      wide = fits.1.1.0;
-      registers =
-          subst (All FitsRegister) same fits.1.1.1.0;
-    }
-fits_for (Err e) c h rs same fits = tt
-
-pub answer_is : (r : Result ℕ WriterError) (ids : TableIds) (c : FadtContents) (h : FixedHardware) (new : List ℕ)
-    → h ≡ fixed_of c.hardware
-    → IfOk r (λ n. IsTableOf FADT 6 ids (body_with c h) (take n new)) → IfOk r (λ n. AreFitFor c h)
-    → IfOk r (λ n. fadt_checked c ≡ Ok tt) → IfOk r (λ n. IsFadt ids c (take n new))
-answer_is (Ok n) ids c h new e written fit good =
-    fadt_is ids c (take n new) (subst (λ x. IsTableOf FADT 6 ids (body_with c x) (take n new)) e written)
-    (subst (AreFitFor c) e fit) good
-answer_is (Err d) ids c h new e written fit good = tt

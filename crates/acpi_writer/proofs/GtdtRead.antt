@@ -7,7 +7,7 @@ use Rattle.acpi.specs.Types.{GTDT}
 use Rattle.acpi_arm.specs.Gtdt.{arm_timer_at, gtdt_at, read_base_of, virtual_el2_of}
 use Rattle.acpi_arm.specs.Timers as read
 use Rattle.acpi_writer.specs.Types.{ArmTimer}
-use Rattle.acpi_writer.specs.Words.{base_checked, is_edge, is_low, all_checked, FitsStructure, GtdtIsRead, GtdtIsValid, IsGtdt, SaysTimers, gtdt_body, gtdt_checked, gtdt_fields, structure_bytes, structure_checked, timer_checked, timer_flags, FitsField, field_at, field_size, field_value, fields_bytes, offset_of, Field, U32, Zeros, GtdtContents, TableIds}
+use Rattle.acpi_writer.specs.Words.{base_checked, is_edge, is_low, all_checked, FitsStructure, GtdtIsRead, GtdtIsValid, IsGtdt, SaysTimers, gtdt_body, gtdt_fields, structure_bytes, structure_checked, timer_checked, timer_flags, FitsField, field_at, field_size, field_value, fields_bytes, offset_of, Field, U32, Zeros, GtdtContents, TableIds}
 use Rattle.acpi_writer.proofs.GtdtStructures.{IsGood, base_is, modes_are, none_missing, structures_many, timers_are}
 use Rattle.acpi_writer.proofs.Tables.{ids_are_read}
 use Rattle.acpi_writer.proofs.Tables as table
@@ -48,41 +48,21 @@ module _ (c : GtdtContents) where
   unfolding gtdt_fields spelling
   body_long = omega arith
 
--- what each check says
-record AreGood (c : GtdtContents) : Type 0 where
-  control : base_checked c.counter_control_base ≡ Ok tt
-  secure_el1 : timer_checked c.secure_el1_timer ≡ Ok tt
-  non_secure_el1 : timer_checked c.non_secure_el1_timer ≡ Ok tt
-  virtual_el1 : timer_checked c.virtual_el1_timer ≡ Ok tt
-  el2 : timer_checked c.el2_timer ≡ Ok tt
-  read : base_checked c.counter_read_base ≡ Ok tt
-  virtual_el2 : timer_checked c.virtual_el2_timer ≡ Ok tt
-  platform : all_checked structure_checked c.platform_timers.now ≡ Ok tt
-
-are_good : (c : GtdtContents) → gtdt_checked c ≡ Ok tt → AreGood c
-are_good c good =
-    let a = first_good (base_checked c.counter_control_base) _ good in
-    let b = first_good (timer_checked c.secure_el1_timer) _ a.1 in
-    let d = first_good (timer_checked c.non_secure_el1_timer) _ b.1 in
-    let e = first_good (timer_checked c.virtual_el1_timer) _ d.1 in
-    let f = first_good (timer_checked c.el2_timer) _ e.1 in
-    let g = first_good (base_checked c.counter_read_base) _ f.1 in
-    let h = first_good (timer_checked c.virtual_el2_timer) _ g.1 in
-    record {
-      control = a.0;
-      secure_el1 = b.0;
-      non_secure_el1 = d.0;
-      virtual_el1 = e.0;
-      el2 = f.0;
-      read =
-          g.0;
-      virtual_el2 = h.0;
-      platform = h.1;
-    }
-
 module _ (ids : TableIds) (c : GtdtContents) (t : List ℕ) (is : IsGtdt ids c t) where
-  good : AreGood c
-  good = are_good c is.checked
+  -- what each check says
+  good : (base_checked c.counter_control_base ≡ Ok tt) × (timer_checked c.secure_el1_timer ≡ Ok tt)
+      × (timer_checked c.non_secure_el1_timer ≡ Ok tt) × (timer_checked c.virtual_el1_timer ≡ Ok tt)
+      × (timer_checked c.el2_timer ≡ Ok tt) × (base_checked c.counter_read_base ≡ Ok tt)
+      × (timer_checked c.virtual_el2_timer ≡ Ok tt) × (all_checked structure_checked c.platform_timers.now ≡ Ok tt)
+  good =
+      let control = first_good (base_checked c.counter_control_base) _ is.checked in
+      let secure = first_good (timer_checked c.secure_el1_timer) _ control.1 in
+      let non_secure = first_good (timer_checked c.non_secure_el1_timer) _ secure.1 in
+      let virtual = first_good (timer_checked c.virtual_el1_timer) _ non_secure.1 in
+      let el2 = first_good (timer_checked c.el2_timer) _ virtual.1 in
+      let read = first_good (base_checked c.counter_read_base) _ el2.1 in
+      let virtual_el2 = first_good (timer_checked c.virtual_el2_timer) _ read.1 in
+      (control.0, secure.0, non_secure.0, virtual.0, el2.0, read.0, virtual_el2.0, virtual_el2.1)
 
   rest : drop 36 t ≡ gtdt_body c
   rest = table.rest GTDT gtdt_name 3 ids (gtdt_body c) t is.written
@@ -90,7 +70,7 @@ module _ (ids : TableIds) (c : GtdtContents) (t : List ℕ) (is : IsGtdt ids c t
   field : (i : ℕ) → i < length (gtdt_fields c)
       → field_of t (36 + offset_of (gtdt_fields c) i) (field_size (field_at (gtdt_fields c) i))
       ≡ field_value (field_at (gtdt_fields c) i)
-  field i less = read_in t (flat_map structure_bytes c.platform_timers.now) 36 (gtdt_fields c) rest is.fit.fields i less
+  field i less = read_in t (flat_map structure_bytes c.platform_timers.now) 36 (gtdt_fields c) rest is.fit.0 i less
 
   revision_is : field_of t 8 1 ≡ 3
   unfolding header_at
@@ -98,8 +78,8 @@ module _ (ids : TableIds) (c : GtdtContents) (t : List ℕ) (is : IsGtdt ids c t
 
   all : AllByRecursion IsGood c.platform_timers.now
   all = both_known FitsStructure (λ x. structure_checked x ≡ Ok tt) c.platform_timers.now
-      (recursion_from_All FitsStructure c.platform_timers.now is.fit.platform)
-      (each_good structure_checked c.platform_timers.now good.platform)
+      (recursion_from_All FitsStructure c.platform_timers.now is.fit.1)
+      (each_good structure_checked c.platform_timers.now good.7)
 
   count_is : field_of t 88 4 ≡ length c.platform_timers.now
   unfolding gtdt_fields
@@ -130,28 +110,28 @@ module _ (ids : TableIds) (c : GtdtContents) (t : List ℕ) (is : IsGtdt ids c t
 
   shows_read : read_base_of (gtdt_at t) ≡ c.counter_read_base
   unfolding gtdt_at header_at gtdt_fields
-  shows_read = rw (revision_is, field 10 (lit< tt)) (base_is c.counter_read_base good.read)
+  shows_read = rw (revision_is, field 10 (lit< tt)) (base_is c.counter_read_base good.5)
 
   el2_fit : All FitsField (el2_fields c.virtual_el2_timer)
   unfolding gtdt_fields
   el2_fit = All-from_recursion FitsField (el2_fields c.virtual_el2_timer)
-      (is.fit.fields 13 (Zeros 0) (lit< tt), (is.fit.fields 14 (Zeros 0) (lit< tt), tt))
+      (is.fit.0 13 (Zeros 0) (lit< tt), (is.fit.0 14 (Zeros 0) (lit< tt), tt))
 
   shows_el2 : virtual_el2_of (gtdt_at t) ≡ Some c.virtual_el2_timer
   unfolding gtdt_at header_at
   shows_el2 =
       let at = read_at (el2_fields c.virtual_el2_timer) el2_fit in
       rw (offset_is, or-true (field_of t 88 4 == 0), revision_is, el2_within, el2_part)
-      (ap some_timer (timer_is _ 0 c.virtual_el2_timer good.virtual_el2 (at 0 (lit< tt)) (at 1 (lit< tt))))
+      (ap some_timer (timer_is _ 0 c.virtual_el2_timer good.6 (at 0 (lit< tt)) (at 1 (lit< tt))))
 
   says : SaysTimers c t
   unfolding gtdt_at gtdt_fields
   says = record {
-    control = rw (field 0 (lit< tt)) (base_is c.counter_control_base good.control);
-    secure_el1 = timer_is t 48 c.secure_el1_timer good.secure_el1 (field 2 (lit< tt)) (field 3 (lit< tt));
-    non_secure_el1 = timer_is t 56 c.non_secure_el1_timer good.non_secure_el1 (field 4 (lit< tt)) (field 5 (lit< tt));
-    virtual_el1 = timer_is t 64 c.virtual_el1_timer good.virtual_el1 (field 6 (lit< tt)) (field 7 (lit< tt));
-    el2 = timer_is t 72 c.el2_timer good.el2 (field 8 (lit< tt)) (field 9 (lit< tt));
+    control = rw (field 0 (lit< tt)) (base_is c.counter_control_base good.0);
+    secure_el1 = timer_is t 48 c.secure_el1_timer good.1 (field 2 (lit< tt)) (field 3 (lit< tt));
+    non_secure_el1 = timer_is t 56 c.non_secure_el1_timer good.2 (field 4 (lit< tt)) (field 5 (lit< tt));
+    virtual_el1 = timer_is t 64 c.virtual_el1_timer good.3 (field 6 (lit< tt)) (field 7 (lit< tt));
+    el2 = timer_is t 72 c.el2_timer good.4 (field 8 (lit< tt)) (field 9 (lit< tt));
     read = shows_read;
     virtual_el2 = shows_el2;
     platform = ap (λ n. read.timers_in n (read.timer_bytes t)) counted

@@ -1,11 +1,11 @@
 -- What a reader finds of a register that is written.
-use Rattle.std.proofs.Common.{◌≡◌, ℕ, ◌<◌, true, false, List, length, lit<, Option, Some, None, Ok, refl, ◌==◌, if◌then◌else◌}
-use Rattle.acpi_base.proofs.FromStd.{and_parts, append-nil}
+use Rattle.std.proofs.Common.{◌≡◌, ℕ, ◌<◌, true, false, List, length, lit<, Option, Some, None, Ok, refl, ◌==◌, if◌then◌else◌, zero, suc, arith, ◌*◌, nat_le, nat_lt}
+use Rattle.acpi_base.proofs.FromStd.{and_parts, append-nil, ne_eqb}
 use Rattle.acpi_base.specs.Words.{generic_address_of, is_named_space, space_code, field_of, filled_part, part, spelling}
 use Rattle.acpi_base.proofs.Words.{size_read, space_read}
 use Rattle.acpi.specs.Types.{GenericAddress, RegisterBlock, GpeBlock}
 use Rattle.acpi_fixed.specs.Words.{gpe_of, block_at, block_of, has_extended, optional_block_of, register_of, timer_block_of, usable_extended}
-use Rattle.acpi_writer.specs.Words.{gpe_length, gpe_register, has_length, is_given, port_of, FitsAddress, FitsRegister, address_bytes, address_fields, is_register, register_bytes, register_or_zeros, field_at, field_size, field_value, offset_of}
+use Rattle.acpi_writer.specs.Words.{gpe_length, gpe_register, is_given, port_of, FitsAddress, FitsRegister, address_bytes, address_fields, is_register, register_bytes, register_or_zeros, field_at, field_size, field_value, offset_of, is_block}
 use Rattle.acpi_writer.proofs.Bits.{is_off}
 use Rattle.acpi_writer.proofs.FieldsRead.{read_at}
 
@@ -40,36 +40,38 @@ module _ (g : GenericAddress) (fits : FitsAddress g) where
 abbrev pub made : ℕ → Option GenericAddress → RegisterBlock
 made size o = record { size = size; port = spelling 4 (port_of o); extended = register_bytes o }
 
-pub block_read : (size : ℕ) (g : GenericAddress) → FitsAddress g → is_register (Some g) ≡ true
+pub block_read : (size : ℕ) (g : GenericAddress) → FitsAddress g → is_block (Some g) ≡ true
     → block_of (made size (Some g)) ≡ Ok g
 block_read size g fits is =
-    let p = and_parts _ _ is in
+    let p = and_parts _ _ (and_parts _ _ is).0 in
     rw (usable g fits (is_off _ p.0)) (address_read g fits p.1)
 
-pub optional_read : (size : ℕ) (o : Option GenericAddress) → FitsRegister o → is_register o ≡ true
+pub optional_read : (size : ℕ) (o : Option GenericAddress) → FitsRegister o → is_block o ≡ true
     → optional_block_of (made size o) ≡ Ok o
 unfolding address_fields field_of spelling
 optional_read size None fits is = refl
 optional_read size (Some g) fits is =
-    let p = and_parts _ _ is in
+    let p = and_parts _ _ (and_parts _ _ is).0 in
     rw (usable g fits (is_off _ p.0), address_read g fits p.1) refl
 
-pub timer_read : (o : Option GenericAddress) → FitsRegister o → is_register o ≡ true
+pub timer_read : (o : Option GenericAddress) → FitsRegister o → is_block o ≡ true
     → timer_block_of (made (if is_given o then 4 else 0) o) ≡ Ok o
 timer_read None fits is = refl
 timer_read (Some g) fits is = optional_read 4 (Some g) fits is
 
-gpe_some : (b : GpeBlock) → FitsRegister (gpe_register (Some b)) → is_register (gpe_register (Some b)) ≡ true
-    → has_length (Some b) ≡ true → gpe_of (made (gpe_length (Some b)) (gpe_register (Some b))) ≡ Ok (Some b)
-gpe_some b fits is long =
-    let g = register_or_zeros (gpe_register (Some b)) in
-    let p = and_parts _ _ is in
-    rw (is_off _ long, usable g fits (is_off _ p.0), space_field g, address_field g fits, space_read b.space p.1) refl
+some_bytes : (n : ℕ) → nat_le 8 (if nat_lt n 32 then 8 * n else 255) ≡ true → (n == 0) ≡ false
+some_bytes zero h = absurd cc
+some_bytes (suc n) h = ne_eqb (suc n) 0 (omega arith)
 
-pub gpe_read : (o : Option GpeBlock) → FitsRegister (gpe_register o) → is_register (gpe_register o) ≡ true
-    → has_length o ≡ true → gpe_of (made (gpe_length o) (gpe_register o)) ≡ Ok o
-gpe_read None fits is long = refl
-gpe_read (Some b) fits is long = gpe_some b fits is long
+pub gpe_read : (o : Option GpeBlock) → FitsRegister (gpe_register o) → is_block (gpe_register o) ≡ true
+    → gpe_of (made (gpe_length o) (gpe_register o)) ≡ Ok o
+gpe_read None fits is = refl
+gpe_read (Some b) fits is =
+    let g = register_or_zeros (gpe_register (Some b)) in
+    let both = and_parts _ _ is in
+    let p = and_parts _ _ both.0 in
+    rw (some_bytes b.byte_length both.1, usable g fits (is_off _ p.0), space_field g)
+    (rw (address_field g fits, space_read b.space p.1) refl)
 
 pub given_read : (o : Option GenericAddress) → FitsRegister o → is_register o ≡ true
     → generic_address_of (register_bytes o) ≡ Ok (register_or_zeros o)

@@ -1,12 +1,14 @@
 -- How many bytes tables have, one by one and laid out, and that the room for one changes only whether it fits.
 use Rattle.std.proofs.Common.{◌≡◌, ℕ, ◌+◌, ◌^◌, ◌<◌, ◌≤◌, true, List, [], length, Result, Ok, Err, refl, sym, ap, ◌∙◌, arith, length-append, ◌-◌, ◌∷◌, ◌++◌, take, drop, get_or, map, subst, append_assoc, length-drop, Some, nat_le, nat_lt, replicate, ◌*◌, flat_map, All}
 use Rattle.acpi_base.proofs.FromStd.{leb-true, ltb-true, All-more, take-put_mid, drop-drop, drop_more, length-map, append-nil, length-replicate, length-take-le, take_at, flat_map-append, take_at_read, length-flat_map-take}
+use Rattle.std.proofs.lemmas.List.{get_or-map}
 use Rattle.acpi_base.proofs.Words.{holds_ok, same_ok, length-spelling}
+use Rattle.acpi_base.specs.FromStd.{Bor}
 use Rattle.acpi_base.specs.Words.{◌>>=◌, letters_of, spelling}
 use Rattle.acpi.specs.Types.{Signature, BGRT, FADT, GTDT, HPET, MADT, MCFG, SLIT, SPCR, SRAT, SSDT, XSDT}
-use Rattle.acpi_writer.specs.Types.{MemoryRange, Xsdt}
+use Rattle.acpi_writer.specs.Types.{Xsdt}
 use Rattle.acpi_image.proofs.Written.{length-with_sum}
-use Rattle.acpi_writer.specs.Words.{bgrt_body, Moves, contents_written, most, or_none, Written, bytes_by, placed_by, sized, fadt_body, fadt_checked, fadt_written, gic_body, gic_checked, gic_written, gtdt_body, gtdt_checked, gtdt_written, hpet_body, gap, padded, addresses, laid, rounded, madt_body, madt_checked, madt_written, mcfg_body, slit_body, slit_checked, slit_written, spcr_body, spcr_checked, spcr_written, ContentsOf, srat_body_by, srat_checked_by, srat_written_by, AreIds, are_texts, table_bytes, table_head, table_written, unsummed, TableContents, Bgrt, Fadt, GicMadt, Gtdt, Hpet, Madt, Mcfg, Slit, Spcr, Srat, Ssdt, WriterError, FadtContents, TableIds, SpcrContents, MachineOf, after_dsdt, check_each, dsdt_address, dsdt_end, dsdt_of, facs_laid, listed_by, rest_bytes, size_by, tables_address, tree_by, xsdt_by, xsdt_from, xsdt_length, root_body, Measures}
+use Rattle.acpi_writer.specs.Words.{bgrt_body, Moves, contents_written, most, or_none, Written, bytes_by, placed_by, sized, fadt_body, fadt_checked, fadt_written, gic_body, gic_checked, gic_written, gtdt_body, gtdt_checked, hpet_body, is_empty, gap, padded, addresses, laid, rounded, madt_body, madt_checked, madt_written, mcfg_body, slit_body, slit_checked, slit_written, spcr_body, spcr_checked, spcr_written, srat_body, srat_checked, srat_written, AreIds, are_texts, table_bytes, table_head, table_written, unsummed, TableContents, Bgrt, Fadt, GicMadt, Gtdt, Hpet, Madt, Mcfg, Slit, Spcr, Srat, Ssdt, WriterError, FadtContents, TableIds, SpcrContents, SratContents, GicContents, MadtContents, gic_meant, items_of, madt_meant, srat_meant, MachineOf, after_dsdt, check_each, dsdt_address, dsdt_end, dsdt_of, facs_laid, listed_by, rest_bytes, size_by, tables_address, tree_by, xsdt_by, xsdt_from, xsdt_length, root_body, Measures, gtdt_written_by}
 use Rattle.acpi_writer.proofs.Tables.{head_length, it_fits}
 use borrow.Rule.Slice.PartMut.{post_of, put_mid}
 use Rattle.acpi_writer.proofs.Headless.{laid_long}
@@ -82,24 +84,23 @@ pub moved_fadt : (ids : TableIds) (c : FadtContents) → AreIds ids → Moves (�
 unfolding fadt_written
 moved_fadt ids c are = moved_checked (fadt_checked c) FADT 6 ids (fadt_body c) refl are
 
-pub moved_srat : {R : Type 0} (range : R → MemoryRange) (ids : TableIds) (c : ContentsOf R) → AreIds ids
-    → Moves (λ room. srat_written_by range room ids c)
-unfolding srat_written_by
-moved_srat range ids c are = moved_checked (srat_checked_by range c) SRAT 3 ids (srat_body_by range c) refl are
+pub moved_srat : (ids : TableIds) (c : SratContents) → AreIds ids → Moves (λ room. srat_written room ids c)
+unfolding srat_written
+moved_srat ids c are = moved_checked (srat_checked c) SRAT 3 ids (srat_body c) refl are
 
 pub moved_spcr : (ids : TableIds) (c : SpcrContents) → AreIds ids → Moves (λ room. spcr_written room ids c)
 unfolding spcr_written
 moved_spcr ids c are = moved_checked (spcr_checked c) SPCR 4 ids (spcr_body c) refl are
 
 pub moved_contents : (ids : TableIds) (c : TableContents) → AreIds ids → Moves (λ room. contents_written room ids c)
-unfolding gic_written gtdt_written madt_written
+unfolding gic_written gtdt_written_by madt_written
 moved_contents ids (Madt c) are = moved_checked (madt_checked c) MADT 5 ids (madt_body c) refl are
 moved_contents ids (Mcfg regions) are = moved_table MCFG 1 ids (mcfg_body regions.now) refl are
 moved_contents ids (Hpet info) are = moved_table HPET 1 ids (hpet_body info) refl are
 moved_contents ids (Slit c) are = moved_slit ids c.localities c.distances.now are
 moved_contents ids (Ssdt c) are = moved_table SSDT c.revision ids c.bytes.now refl are
 moved_contents ids (Fadt c) are = moved_fadt ids c are
-moved_contents ids (Srat c) are = moved_srat (λ r. r) ids c are
+moved_contents ids (Srat c) are = moved_srat ids c are
 moved_contents ids (Spcr c) are = moved_spcr ids c are
 moved_contents ids (Bgrt c) are = moved_table BGRT 1 ids (bgrt_body c) refl are
 moved_contents ids (Gtdt c) are = moved_checked (gtdt_checked c) GTDT 3 ids (gtdt_body c) refl are
@@ -374,3 +375,66 @@ pub not_whole : {X : Type 0} (f : X → List ℕ) (xs : List X) (i size room : �
     → room < length (flat_map f xs)
 not_whole f xs i size room x is less before within this =
     omega (arith, before, within, this, ap (λ y. length (f y)) is, length-flat_map-take f xs i x less)
+
+-- one more is put
+pub put_more : {X : Type 0} (f : X → List ℕ) (xs : List X) (i at size total : ℕ) (x : X) (out new : List ℕ)
+    → x ≡ get_or xs i x → i < length xs → new ≡ f x → (size ≡ length (f x)) × (size ≤ length out - at)
+    → total ≡ length (flat_map f xs)
+    → (take at out ≡ flat_map f (take i xs)) × (at ≡ length (flat_map f (take i xs))) × (length out ≡ total)
+    → (take (at + size) (put_mid at (at + size - at) out new) ≡ flat_map f (take (i + 1) xs))
+    × (at + size ≡ length (flat_map f (take (i + 1) xs)))
+    × (length (put_mid at (at + size - at) out new) ≡ total)
+put_more f xs i at size total x out new is less put this whole before =
+    let more = spelled_more f xs i x less in
+    let one : f (get_or xs i x) ≡ f x = ap f (sym is) in
+    let there = length-flat_map-take f xs i x less in
+    let within : at + size ≤ length out =
+    omega (arith, there, whole, before.1, before.2, this.0, ap length one) in
+    let long : length new ≡ size = ap length put ∙ sym this.0 in (
+      take-put_mid at (at + size - at) out new (at + size) (omega (arith, long)) (omega (arith, within))
+          ∙ ap (λ z. z ++ new) before.0 ∙ ap (λ z. flat_map f (take i xs) ++ z) (put ∙ sym one) ∙ sym more,
+      omega (arith, this.0, before.1, ap length more, length-append (flat_map f (take i xs)) (f (get_or xs i x)), ap length one),
+      put_long at (at + size - at) out new (omega (arith, within)) (omega (arith, long)) ∙ before.2,
+    )
+
+-- what is at a place of a list stands for what is there in the list of items
+pub meant_at : {X Y : Type 0} (f : X → Y) (xs : List X) (i : ℕ) (x : X) (y : Y) → y ≡ f x → x ≡ get_or xs i x
+    → i < length xs → (y ≡ get_or (map f xs) i y) × (i < length (map f xs))
+meant_at f xs i x y item is less = (
+  item ∙ ap f is ∙ sym (get_or-map f xs i x y less),
+  omega (arith, less, length-map xs f),
+)
+
+-- what stands for itself
+pub map_same : {X : Type 0} (xs : List X) → map (λ x. x) xs ≡ xs
+map_same [] = refl
+map_same (x ∷ xs) = ap (λ l. x ∷ l) (map_same xs)
+
+-- and there is one if there is an item
+pub some_meant : {R T : Type 0} (f : R → T) (things : List R) → is_empty (map f things) ≡ is_empty things
+some_meant f [] = refl
+some_meant f (x ∷ xs) = refl
+
+-- contents of items themselves
+itself : {X : Type 0} (things : Bor (List X)) → items_of (λ x. x) things ≡ things
+itself things = ap (λ xs. record { ref_ptr = things.ref_ptr; now = xs }) (map_same things.now)
+
+pub madt_itself : (c : MadtContents) → madt_meant (λ x. x) (λ x. x) (λ x. x) (λ x. x) (λ x. x) c ≡ c
+madt_itself c = rw (
+  itself c.processors,
+  itself c.io_apics,
+  itself c.interrupt_source_overrides,
+  itself c.nmi_sources,
+  itself c.local_apic_nmi_lines,
+) refl
+
+pub gic_itself : (c : GicContents) → gic_meant (λ x. x) (λ x. x) (λ x. x) (λ x. x) c ≡ c
+gic_itself c = rw (
+  itself c.cpu_interfaces,
+  itself c.redistributors,
+  itself c.translation_services,
+  itself c.msi_frames,
+) refl
+
+pub srat_itself : (c : SratContents) → srat_meant (λ x. x) c ≡ c
+srat_itself c = rw (itself c.ranges) refl

@@ -1,11 +1,11 @@
 -- What a reader finds in an SPCR that is written, and when one is.
-use Rattle.std.proofs.Common.{◌≡◌, ℕ, ◌+◌, ◌-◌, ◌%◌, ◌^◌, ◌<◌, Bool, true, false, List, [], ◌∷◌, ◌++◌, length, take, drop, Option, Some, None, Result, Ok, Err, refl, sym, ap, ◌∙◌, arith, length-append, subst, ◌==◌, ◌&&◌, ◌||◌, IfOk, IsUtf8, if◌then◌else◌, nat_le, nat_lt, replicate, option_map, bytes_eq, lit<}
+use Rattle.std.proofs.Common.{◌≡◌, ℕ, ◌+◌, ◌-◌, ◌%◌, ◌^◌, ◌<◌, Bool, true, false, List, [], ◌∷◌, ◌++◌, length, take, drop, Option, Some, None, Result, Ok, refl, sym, ap, ◌∙◌, arith, length-append, ◌==◌, ◌&&◌, ◌||◌, if◌then◌else◌, nat_le, nat_lt, replicate, option_map, bytes_eq, lit<}
 use Rattle.acpi_base.specs.FromStd.{option_or, chars, is_utf8}
 use Rattle.acpi_base.proofs.FromStd.{and_parts, eqb-true, le-leb, ltb-true, drop-drop, get_or_past, take_all, bytes_eq-Decides, IsUtf8-append, IsUtf8-from_is_utf8, is_utf8-from_IsUtf8, All-from_recursion}
-use Rattle.acpi_base.specs.Words.{generic_address_of, field_of, filled_part, part, spelling, header_at, configured_baud, interface_of, is_interface, namespace_of, spcr_at, unless}
+use Rattle.acpi_base.specs.Words.{generic_address_of, field_of, filled_part, part, spelling, header_at, configured_baud, interface_of, is_interface, namespace_of, spcr_at, unless, bits_of, has_bit, interrupt_bits}
 use Rattle.acpi.specs.Types.{GenericAddress, AcpiError, SPCR, SpcrInterfaceType}
 use Rattle.acpi_base.specs.declared.tables.spcr.interface.SpcrInterfaceType.TheVariants as interface
-use Rattle.acpi_writer.specs.Words.{FitsAddress, FitsRegister, address_bytes, address_fields, register_or_zeros, baud_code, device_written, fixed_list, is_base, is_somewhere, spcr_body, spcr_checked, spcr_fields, spcr_written, FitsSpcr, IsSpcr, SaysConsole, SaysDevice, SaysPort, SpcrIsRead, SpcrIsValid, readable, IsTableOf, if_checked, table_written, WriterError, BadCode, NoAddress, TableIds, SpcrContents, FitsField, field_at, field_size, field_value, offset_of, fields_bytes, Zeros}
+use Rattle.acpi_writer.specs.Words.{FitsAddress, FitsRegister, address_bytes, address_fields, register_or_zeros, baud_code, device_written, fixed_list, is_base, is_somewhere, spcr_body, spcr_fields, IsSpcr, SaysConsole, SaysDevice, SaysPort, SpcrIsRead, SpcrIsValid, readable, BadCode, NoAddress, TableIds, SpcrContents, FitsField, field_at, field_size, field_value, offset_of, Zeros}
 use Rattle.acpi_writer.proofs.Tables.{ids_are_read}
 use Rattle.acpi_base.proofs.Words.{holds_ok, interface_read}
 use Rattle.acpi_writer.proofs.Bits.{is_off, was_true}
@@ -19,6 +19,21 @@ baud_by : (rate : ℕ) (none : Bool) → (rate == 0) ≡ none
     → option_or (unless 0 rate) (configured_baud (baud_code rate)) ≡ unless 0 rate
 baud_by rate true e = rw (eqb-true rate 0 e) refl
 baud_by rate false e = rw e refl
+
+-- ---- interrupts
+
+abbrev some_number : ℕ → Option ℕ
+some_number n = Some n
+
+irq_kept : (has : Bool) (n : ℕ) → (if has then some_number (if has then n else 0) else None)
+    ≡ (if has then Some n else None)
+irq_kept true n = refl
+irq_kept false n = refl
+
+interrupt_kept : (none : Bool) (n : ℕ) → (if none then None else some_number (if none then 0 else n))
+    ≡ (if none then None else Some n)
+interrupt_kept true n = refl
+interrupt_kept false n = refl
 
 -- ---- the base address
 
@@ -77,6 +92,14 @@ unfolding is_utf8 chars lib.Utf8.encode
 zero_ends = refl
 
 module _ (ids : TableIds) (c : SpcrContents) (t : List ℕ) (is : IsSpcr ids c t) where
+  passed : (is_interface c.interface_type ≡ true) × (is_base c.base_address ≡ true)
+      × (is_somewhere c.base_address ≡ true) × (length c.namespace_string.now < 0xffff)
+  passed =
+      let one = holds_ok (is_interface c.interface_type && is_base c.base_address) BadCode _ tt is.checked in
+      let two = holds_ok (is_somewhere c.base_address) NoAddress _ tt one.1 in
+      let codes = and_parts (is_interface c.interface_type) (is_base c.base_address) one.0 in
+      (codes.0, codes.1, two.0, ltb-true (length c.namespace_string.now) 0xffff (was_true _ _ two.1))
+
   field : (k n : ℕ) → field_of t (36 + k) n ≡ field_of (spcr_body c) k n
   field = table.field SPCR spcr_name 4 ids (spcr_body c) t is.written
 
@@ -97,12 +120,12 @@ module _ (ids : TableIds) (c : SpcrContents) (t : List ℕ) (is : IsSpcr ids c t
       → field_of t (36 + offset_of (spcr_fields c) i) (field_size (field_at (spcr_fields c) i))
       ≡ field_value (field_at (spcr_fields c) i)
   at_place i less = field (offset_of (spcr_fields c) i) (field_size (field_at (spcr_fields c) i))
-      ∙ read_front (spcr_fields c) (c.namespace_string.now ++ (0 ∷ [])) is.fit i less
+      ∙ read_front (spcr_fields c) (c.namespace_string.now ++ (0 ∷ [])) is.fit.0 i less
 
   address_fits : FitsRegister c.base_address
   unfolding fixed_list address_fields
   address_fits =
-      let fits = λ (i : ℕ) (less : i < 27). is.fit i (Zeros 0) less in
+      let fits = λ (i : ℕ) (less : i < 27). is.fit.0 i (Zeros 0) less in
       All-from_recursion FitsField (address_fields (register_or_zeros c.base_address))
       (fits 2 (lit< tt), (fits 3 (lit< tt), (fits 4 (lit< tt), (fits 5 (lit< tt), (fits 6 (lit< tt), tt)))))
 
@@ -111,11 +134,13 @@ module _ (ids : TableIds) (c : SpcrContents) (t : List ℕ) (is : IsSpcr ids c t
   port =
       let kind = at_place 7 (lit< tt) in
       record {
-        interface_type = ap interface_of (at_place 0 (lit< tt)) ∙ interface_read c.interface_type is.interface;
-        base_address = ap base_found raw ∙ base_by c.base_address address_fits is.base is.somewhere;
+        interface_type = ap interface_of (at_place 0 (lit< tt)) ∙ interface_read c.interface_type passed.0;
+        base_address = ap base_found raw ∙ base_by c.base_address address_fits passed.1 passed.2;
         interrupt_type = kind;
-        irq = rw (kind, at_place 8 (lit< tt)) refl;
-        global_system_interrupt = rw (kind, at_place 9 (lit< tt)) refl;
+        irq = rw (kind, at_place 8 (lit< tt)) (irq_kept (has_bit (interrupt_bits c.interrupt_type) 0) c.irq);
+        global_system_interrupt =
+            rw (kind, at_place 9 (lit< tt))
+            (interrupt_kept (bits_of (interrupt_bits c.interrupt_type) 1 4 == 0) c.global_system_interrupt);
         baud_rate = rw (at_place 24 (lit< tt), at_place 10 (lit< tt)) (baud_by c.baud_rate (c.baud_rate == 0) refl);
         parity = at_place 11 (lit< tt);
         stop_bits = at_place 12 (lit< tt);
@@ -141,7 +166,7 @@ module _ (ids : TableIds) (c : SpcrContents) (t : List ℕ) (is : IsSpcr ids c t
   name = c.namespace_string.now ++ (0 ∷ [])
 
   name_text : is_utf8 name ≡ true
-  name_text = is_utf8-from_IsUtf8 name (IsUtf8-append c.namespace_string.now (0 ∷ []) is.text
+  name_text = is_utf8-from_IsUtf8 name (IsUtf8-append c.namespace_string.now (0 ∷ []) is.fit.1
       (IsUtf8-from_is_utf8 (0 ∷ []) zero_ends))
 
   name_in : part t 88 (length c.namespace_string.now + 1) ≡ name
@@ -156,7 +181,7 @@ module _ (ids : TableIds) (c : SpcrContents) (t : List ℕ) (is : IsSpcr ids c t
   unfolding spcr_at fixed_list
   named =
       let short : (length c.namespace_string.now + 1) % 2 ^ 16 ≡ length c.namespace_string.now + 1 =
-      omega (arith, is.short) in
+      omega (arith, passed.3) in
       rw (at_place 26 (lit< tt), at_place 25 (lit< tt), short, within, name_in, name_text) refl
 
   says : SaysConsole c t
@@ -167,45 +192,3 @@ spcr_read ids c t is = says ids c t is
 
 pub spcr_valid : SpcrIsValid
 spcr_valid ids c t is = table.valid SPCR spcr_name 4 ids (spcr_body c) t is.written
-
--- ---- whether it is written
-
-pub spcr_is : (ids : TableIds) (c : SpcrContents) (t : List ℕ) → IsTableOf SPCR 4 ids (spcr_body c) t → FitsSpcr c
-    → IsUtf8 c.namespace_string.now → spcr_checked c ≡ Ok tt → IsSpcr ids c t
-spcr_is ids c t written fit text good =
-    let one = holds_ok (is_interface c.interface_type && is_base c.base_address) BadCode _ tt good in
-    let two = holds_ok (is_somewhere c.base_address) NoAddress _ tt one.1 in
-    let codes = and_parts (is_interface c.interface_type) (is_base c.base_address) one.0 in
-    record {
-      written = written;
-      fit = fit;
-      interface = codes.0;
-      base = codes.1;
-      somewhere = two.0;
-      short =
-          ltb-true (length c.namespace_string.now) 0xffff (was_true _ _ two.1);
-      text = text;
-    }
-
--- with this name
-abbrev named_body : SpcrContents → List ℕ → List ℕ
-named_body c name = fields_bytes (spcr_fields c) ++ (name ++ (0 ∷ []))
-
-pub written_by : (room : ℕ) (ids : TableIds) (c : SpcrContents) (name : List ℕ) → name ≡ c.namespace_string.now
-    → spcr_written room ids c ≡ if_checked (spcr_checked c) (table_written room SPCR 4 ids (named_body c name))
-unfolding spcr_written
-written_by room ids c name same = rw same refl
-
-pub answer_is : (r : Result ℕ WriterError) (ids : TableIds) (c : SpcrContents) (new name : List ℕ)
-    → name ≡ c.namespace_string.now → IsUtf8 name
-    → IfOk r (λ n. IsTableOf SPCR 4 ids (named_body c name) (take n new)) → IfOk r (λ n. FitsSpcr c)
-    → IfOk r (λ n. spcr_checked c ≡ Ok tt) → IfOk r (λ n. IsSpcr ids c (take n new))
-answer_is (Ok n) ids c new name same text written fit good =
-    spcr_is ids c (take n new)
-    (subst (λ x. IsTableOf SPCR 4 ids (named_body c x) (take n new)) same written) fit (subst IsUtf8 same text) good
-answer_is (Err e) ids c new name same text written fit good = tt
-
-pub fits_by : (r : Result ℕ WriterError) (c : SpcrContents) (P : Type 0) → IfOk r (λ n. FitsSpcr c × P)
-    → IfOk r (λ n. FitsSpcr c)
-fits_by (Ok n) c P fit = fit.0
-fits_by (Err e) c P fit = tt

@@ -7,7 +7,7 @@ use Rattle.acpi.specs.Types.{SRAT}
 use Rattle.acpi_numa.specs.Words.{affinities_of, ends_below, range_in, ranges_of, apic_domain, cut_of, entries_of, entry_of, processor_domain, revision_of, srat_grammar, srat_layout}
 use Rattle.acpi_writer.specs.Types.{MemoryRange, SratEntry}
 use Rattle.acpi_numa.specs.declared.srat.entry.SratEntry.TheVariants as kinds
-use Rattle.acpi_writer.specs.Words.{ContentsOf, SratContents, apic_entry, is_one_apic, is_one_gicc, is_range, memory_entry, memory_fields, range_flags, srat_body, srat_body_by, srat_checked_by, srat_entries, srat_reserved, AreFitBy, FitsApic, FitsGicc, FitsRange, IsSrat, IsSratBy, SaysDomains, SratIsRead, SratIsValid, IsTableOf, bit_of, IdOfAll, TableIds, ApicDomain, GiccDomain, FitsField, fields_bytes, Zeros}
+use Rattle.acpi_writer.specs.Words.{SratContents, apic_entry, is_one_apic, is_one_gicc, is_range, memory_entry, memory_fields, range_flags, srat_body, srat_checked, srat_entries, srat_reserved, FitsApic, FitsGicc, FitsRange, IsSrat, SaysDomains, SratIsRead, SratIsValid, IsTableOf, bit_of, IdOfAll, TableIds, ApicDomain, GiccDomain, FitsField, fields_bytes, Zeros}
 use Rattle.acpi_writer.specs.Srat.{gicc_entry, gicc_fields, is_small, local_apic_fields, local_x2apic_fields}
 use Rattle.acpi_writer.specs.SratLaws.{AreFit}
 use Rattle.acpi_base.proofs.Words.{holds_ok}
@@ -280,10 +280,9 @@ srat_valid ids c t is = table.valid SRAT srat_name 3 ids (srat_body c) t is.writ
 
 -- ---- whether it is written
 
-pub srat_is : {R : Type 0} (range : R → MemoryRange) (ids : TableIds) (c : ContentsOf R) (t : List ℕ)
-    → IsTableOf SRAT 3 ids (srat_body_by range c) t → AreFitBy range c → srat_checked_by range c ≡ Ok tt
-    → IsSratBy range ids c t
-srat_is range ids c t written fit good =
+pub srat_is : (ids : TableIds) (c : SratContents) (t : List ℕ) → IsTableOf SRAT 3 ids (srat_body c) t → AreFit c
+    → srat_checked c ≡ Ok tt → IsSrat ids c t
+srat_is ids c t written fit good =
     let one = holds_ok (list_all is_one_apic c.apics.now) IdOfAll _ tt good in
     let two = holds_ok (list_all is_one_gicc c.giccs.now) IdOfAll _ tt one.1 in
     record { written = written; fit = fit; ranges = was_true _ _ two.1 }

@@ -1,9 +1,9 @@
 -- The bytes of a table that an XSDT can list, by what it is to say.
-use Rattle.std.specs.Prelude.{◌≡◌, ℕ, ◌-◌, ◌^◌, ◌<◌, ◌≤◌, List, [], length, IsUtf8, Result, Ok, Err, All}
+use Rattle.std.specs.Prelude.{◌≡◌, ℕ, ◌-◌, ◌^◌, ◌<◌, ◌≤◌, List, [], length, Result, Ok, Err, All}
 use Rattle.acpi.specs.Types.{Signature, BGRT, FADT, GTDT, HPET, MADT, MCFG, SLIT, SPCR, SRAT, SSDT}
 use Rattle.acpi_writer.specs.Bgrt.{FitsBgrt, bgrt_written}
-use Rattle.acpi_writer.specs.FadtBytes.{fadt_written, fixed_of}
-use Rattle.acpi_writer.specs.FadtLaws.{AreFitFor}
+use Rattle.acpi_writer.specs.FadtBytes.{fadt_written}
+use Rattle.acpi_writer.specs.FadtLaws.{FitsFadt}
 use Rattle.acpi_writer.specs.GicMadt.{AreGicFit, gic_written}
 use Rattle.acpi_writer.specs.Gtdt.{AreTimersFit, gtdt_written}
 use Rattle.acpi_writer.specs.HpetBytes.{hpet_written}
@@ -42,9 +42,9 @@ FitsContents (Mcfg regions) = All FitsMcfg regions.now
 FitsContents (Hpet info) = FitsHpet info
 FitsContents (Slit c) = c.localities < 2 ^ 64
 FitsContents (Ssdt c) = Unit {0}
-FitsContents (Fadt c) = AreFitFor c (fixed_of c.hardware)
+FitsContents (Fadt c) = FitsFadt c
 FitsContents (Srat c) = srat.AreFit c
-FitsContents (Spcr c) = FitsSpcr c × IsUtf8 c.namespace_string.now
+FitsContents (Spcr c) = FitsSpcr c
 FitsContents (Bgrt c) = FitsBgrt c
 FitsContents (Gtdt c) = AreTimersFit c
 FitsContents (GicMadt c) = AreGicFit c

@@ -1,5 +1,6 @@
 -- The bytes of a FADT that says what is given (ACPI 6.4, section 5.2.9).
-use Rattle.std.specs.Prelude.{ℕ, ◌*◌, ◌/◌, ◌^◌, ◌==◌, ◌&&◌, Bool, true, false, not, if◌then◌else◌, List, [], ◌∷◌, ◌++◌, flat_map, nat_lt, replicate, Option, Some, None, Result}
+use Rattle.std.specs.Prelude.{ℕ, ◌*◌, ◌/◌, ◌^◌, ◌==◌, ◌&&◌, Bool, true, false, not, if◌then◌else◌, List, [], ◌∷◌, ◌++◌, flat_map, nat_le, nat_lt, replicate, Option, Some, None, Result}
+use Rattle.acpi_base.specs.FromStd.{list_all}
 use Rattle.acpi_base.specs.Words.{◌>>=◌, holds}
 use Rattle.acpi.specs.Types.{Undefined, AddressSpace, SystemIo, GenericAddress, FADT, PowerProfile, GpeBlock}
 use Rattle.acpi_fixed.specs.Words.{is_profile, profile_code}
@@ -185,19 +186,22 @@ has_address None = true
 abbrev pub are_placed : FadtContents → Bool
 are_placed c = not (c.dsdt == 0) && has_address c.facs
 
--- a block of events has bytes
-abbrev pub has_length : Option GpeBlock → Bool
-has_length (Some b) = not (b.byte_length == 0)
-has_length None = true
+-- a register of fixed hardware, if there is one, has bytes
+abbrev pub has_bytes : Option GenericAddress → Bool
+has_bytes (Some g) = nat_le 8 g.bit_width
+has_bytes None = true
 
--- the blocks of the fixed hardware
+abbrev pub is_block : Option GenericAddress → Bool
+is_block o = is_register o && has_bytes o
+
+-- the blocks that fixed hardware need not have
+abbrev pub optional_blocks : FixedHardware → List (Option GenericAddress)
+optional_blocks h =
+    h.pm1b_event ∷ h.pm1b_control ∷ h.pm2_control ∷ h.pm_timer ∷ gpe_register h.gpe0 ∷ gpe_register h.gpe1 ∷ []
+
 abbrev pub are_blocks : FadtHardware → Bool
 are_blocks Reduced = true
-are_blocks (Fixed h) =
-    is_register (Some h.pm1a_event) && (is_register h.pm1b_event && (is_register (Some h.pm1a_control)
-    && (is_register h.pm1b_control && (is_register h.pm2_control && (is_register h.pm_timer
-    && (is_register (gpe_register h.gpe0) && (has_length h.gpe0
-    && (is_register (gpe_register h.gpe1) && has_length h.gpe1))))))))
+are_blocks (Fixed h) = list_all is_block (Some h.pm1a_event ∷ Some h.pm1a_control ∷ optional_blocks h)
 
 -- and of the registers that any hardware may have
 abbrev pub are_registers : FadtContents → Bool

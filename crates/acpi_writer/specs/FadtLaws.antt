@@ -1,11 +1,11 @@
 -- What holds of a FADT that is written: what was given is what is read.
-use Rattle.std.specs.Prelude.{◌≡◌, ℕ, true, List, Option, Some, Ok, All, ok_or, option_map}
+use Rattle.std.specs.Prelude.{◌≡◌, ℕ, List, Option, Some, Ok, All, ok_or, option_map}
 use Rattle.acpi.specs.Words.{timer_of}
 use Rattle.acpi_writer.specs.Types.{PmTimer, FadtContents, FadtHardware, Fixed, Reduced, FixedHardware, LegacyFields, TableIds}
 use Rattle.acpi_base.specs.Words.{generic_address_of, has_bit}
 use Rattle.acpi.specs.Types.{InvalidFacsAddress, FADT, Fadt}
 use Rattle.acpi_fixed.specs.Words.{dsdt_address_of, facs_address_of, fadt_at, is_profile, pm_timer_of, profile_of, registers_of, arm_bits, feature_bits, pc_bits, gpe_of, block_of, optional_block_of, register_of}
-use Rattle.acpi_writer.specs.FadtBytes.{are_placed, are_registers, arm_flags, fadt_body, feature_flags, fixed_of, front_fields, pc_flags, registers, wide_fields}
+use Rattle.acpi_writer.specs.FadtBytes.{arm_flags, fadt_body, feature_flags, fixed_of, front_fields, pc_flags, registers, wide_fields, fadt_checked}
 use Rattle.acpi_writer.specs.Fields.{FitsField}
 use Rattle.acpi_writer.specs.Flags.{flag_at}
 use Rattle.acpi_writer.specs.Generic.{FitsRegister, register_or_zeros}
@@ -13,19 +13,19 @@ use Rattle.acpi_writer.specs.Table.{IsTableOf, IsValid}
 
 -- ---- the numbers have a place
 
-pub record AreFitFor (c : FadtContents) (h : FixedHardware) : Type 0 where
-  pub front : All FitsField (front_fields c h)
-  pub reset : FitsRegister c.reset_register
-  pub wide : All FitsField (wide_fields c)
-  pub registers : All FitsRegister (registers c h)
+abbrev pub AreFitFor : FadtContents → FixedHardware → Type 0
+AreFitFor c h =
+    All FitsField (front_fields c h) × (FitsRegister c.reset_register × (All FitsField (wide_fields c)
+    × (All FitsRegister (registers c h) × Unit {0})))
+
+abbrev pub FitsFadt : FadtContents → Type 0
+FitsFadt c = AreFitFor c (fixed_of c.hardware)
 
 -- the bytes are the table of contents whose numbers have a place, and that no error is for
 pub record IsFadt (ids : TableIds) (c : FadtContents) (table : List ℕ) : Type 0 where
   pub written : IsTableOf FADT 6 ids (fadt_body c) table
-  pub fit : AreFitFor c (fixed_of c.hardware)
-  pub placed : are_placed c ≡ true
-  pub profile : is_profile c.power_profile ≡ true
-  pub registers : are_registers c ≡ true
+  pub fit : FitsFadt c
+  pub checked : fadt_checked c ≡ Ok tt
 
 -- ---- what is to be read
 

@@ -9,9 +9,11 @@ use Rattle.acpi_writer.specs.Checked.{all_checked}
 use Rattle.acpi_writer.specs.Arm.{flags_of, has_trigger, is_edge}
 use Rattle.acpi_writer.specs.Fields.{FitsField, fields_bytes}
 use Rattle.acpi_writer.specs.MadtBytes.{is_empty, madt_fixed}
+use Rattle.acpi_writer.specs.Spelled.{items_of}
 use Rattle.acpi_writer.specs.Table.{IsTableOf, IsValid, bit_of, table_written}
 use Rattle.acpi_writer.specs.declared.fields.Field.{Field}
 use Rattle.acpi_writer.specs.declared.fields.Field.TheVariants.{U8, U16, U32, U64, Zeros}
+use Rattle.acpi_writer.specs.declared.madt.gic.GicContents as declared
 
 -- ---- entries
 
@@ -102,6 +104,17 @@ abbrev pub msi_entry : GicMsiFrame → List ℕ
 msi_entry x = fields_bytes (msi_fields x)
 
 -- ---- the table
+
+-- the contents that those with things that stand for items stand for
+abbrev pub gic_meant : {C R T F : Type 0} → (C → GicCpuInterface) → (R → GicRedistributors) → (T → GicTranslationService)
+    → (F → GicMsiFrame) → declared.GicContents C R T F → GicContents
+gic_meant interface redistributors service frame c = record {
+  distributor = c.distributor;
+  cpu_interfaces = items_of interface c.cpu_interfaces;
+  redistributors = items_of redistributors c.redistributors;
+  translation_services = items_of service c.translation_services;
+  msi_frames = items_of frame c.msi_frames;
+}
 
 -- after the header: the fields of APICs, which are 0, and the entries, sort by sort
 abbrev pub gic_body : GicContents → List ℕ

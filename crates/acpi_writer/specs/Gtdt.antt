@@ -5,7 +5,7 @@ use Rattle.acpi_base.specs.Words.{◌>>=◌, holds}
 use Rattle.acpi.specs.Types.{GTDT}
 use Rattle.acpi_arm.specs.Gtdt.{control_base_of, gtdt_at, read_base_of, virtual_el2_of}
 use Rattle.acpi_arm.specs.Timers.{Timer, missing_of, timers_of}
-use Rattle.acpi_writer.specs.Types.{GtFrame, TimerInterrupt, ArmTimer, SbsaWatchdog, WriterError, TooManyFrames, GtdtContents, PlatformTimerContents, TableIds}
+use Rattle.acpi_writer.specs.Types.{GtFrame, TimerInterrupt, ArmTimer, SbsaWatchdog, WriterError, TooManyFrames, GtdtContents, GtdtOf, PlatformTimerContents, TableIds, TimerOf}
 use Rattle.acpi_writer.specs.Arm.{base_checked, flags_of, is_edge, is_low, modes_checked}
 use Rattle.acpi_writer.specs.Checked.{all_checked}
 use Rattle.acpi_writer.specs.Fields.{FitsField, fields_bytes}
@@ -65,15 +65,18 @@ watchdog_fields w =
     ∷ U32 w.interrupt ∷ U32 (watchdog_flags w)  -- 20: Watchdog Timer GSIV, 24: Watchdog Timer Flags
     ∷ []
 
+abbrev pub structure_bytes_by : {F : Type 0} → (F → List ℕ) → TimerOf F → List ℕ
+structure_bytes_by frame (kinds.GtBlock b) =
+    fields_bytes (block_fields b.address (length b.frames.now)) ++ flat_map frame b.frames.now
+structure_bytes_by frame (kinds.SbsaWatchdog w) = fields_bytes (watchdog_fields w)
+
 abbrev pub structure_bytes : PlatformTimerContents → List ℕ
-structure_bytes (kinds.GtBlock b) =
-    fields_bytes (block_fields b.address (length b.frames.now)) ++ flat_map frame_bytes b.frames.now
-structure_bytes (kinds.SbsaWatchdog w) = fields_bytes (watchdog_fields w)
+structure_bytes x = structure_bytes_by frame_bytes x
 
 -- ---- the table
 
 -- the fields after the header
-unfoldable pub gtdt_fields : GtdtContents → List Field
+unfoldable pub gtdt_fields : {T : Type 0} → GtdtOf T → List Field
 gtdt_fields c =
     U64 (base_of c.counter_control_base) ∷ Zeros 4  -- 36: CntControlBase Physical Address, 44: Reserved
     ∷ U32 c.secure_el1_timer.interrupt  -- 48: Secure EL1 Timer GSIV
@@ -90,8 +93,11 @@ gtdt_fields c =
     ∷ []
 
 -- after the header: the fields, and from 104 on the Platform Timer Structures
+abbrev pub gtdt_body_by : {T : Type 0} → (T → List ℕ) → GtdtOf T → List ℕ
+gtdt_body_by structure c = fields_bytes (gtdt_fields c) ++ flat_map structure c.platform_timers.now
+
 abbrev pub gtdt_body : GtdtContents → List ℕ
-gtdt_body c = fields_bytes (gtdt_fields c) ++ flat_map structure_bytes c.platform_timers.now
+gtdt_body c = gtdt_body_by structure_bytes c
 
 -- ---- errors
 
@@ -105,14 +111,19 @@ frame_checked f = do
   modes_checked f.virtual_timer.trigger_mode f.virtual_timer.polarity
 
 -- Length of a GT Block, two bytes, has no place for more frames: 20 + 40 * 1637 is 65500
-abbrev pub structure_checked : PlatformTimerContents → Result (Unit {0}) WriterError
-structure_checked (kinds.GtBlock b) = do
+abbrev pub structure_checked_by : {F : Type 0} → (F → Result (Unit {0}) WriterError) → TimerOf F
+    → Result (Unit {0}) WriterError
+structure_checked_by frame (kinds.GtBlock b) = do
   _ ← holds (nat_le (length b.frames.now) 1637) TooManyFrames
-  all_checked frame_checked b.frames.now
-structure_checked (kinds.SbsaWatchdog w) = modes_checked w.trigger_mode w.polarity
+  all_checked frame b.frames.now
+structure_checked_by frame (kinds.SbsaWatchdog w) = modes_checked w.trigger_mode w.polarity
 
-abbrev pub gtdt_checked : GtdtContents → Result (Unit {0}) WriterError
-gtdt_checked c = do
+abbrev pub structure_checked : PlatformTimerContents → Result (Unit {0}) WriterError
+structure_checked x = structure_checked_by frame_checked x
+
+abbrev pub gtdt_checked_by : {T : Type 0} → (T → Result (Unit {0}) WriterError) → GtdtOf T
+    → Result (Unit {0}) WriterError
+gtdt_checked_by structure c = do
   _ ← base_checked c.counter_control_base
   _ ← timer_checked c.secure_el1_timer
   _ ← timer_checked c.non_secure_el1_timer
@@ -120,13 +131,20 @@ gtdt_checked c = do
   _ ← timer_checked c.el2_timer
   _ ← base_checked c.counter_read_base
   _ ← timer_checked c.virtual_el2_timer
-  all_checked structure_checked c.platform_timers.now
+  all_checked structure c.platform_timers.now
+
+abbrev pub gtdt_checked : GtdtContents → Result (Unit {0}) WriterError
+gtdt_checked c = gtdt_checked_by structure_checked c
 
 -- the table, of revision 3, in so much room, or the first error
-unfoldable pub gtdt_written : ℕ → TableIds → GtdtContents → Result (List ℕ) WriterError
-gtdt_written room ids c = do
-  _ ← gtdt_checked c
-  table_written room GTDT 3 ids (gtdt_body c)
+unfoldable pub gtdt_written_by : {T : Type 0} → (T → List ℕ) → (T → Result (Unit {0}) WriterError) → ℕ → TableIds
+    → GtdtOf T → Result (List ℕ) WriterError
+gtdt_written_by structure checked room ids c = do
+  _ ← gtdt_checked_by checked c
+  table_written room GTDT 3 ids (gtdt_body_by structure c)
+
+abbrev pub gtdt_written : ℕ → TableIds → GtdtContents → Result (List ℕ) WriterError
+gtdt_written room ids c = gtdt_written_by structure_bytes structure_checked room ids c
 
 -- ---- which numbers have a place
 
@@ -136,20 +154,29 @@ FitsFrame f = All FitsField (frame_fields f)
 abbrev pub FitsWatchdog : SbsaWatchdog → Type 0
 FitsWatchdog w = All FitsField (watchdog_fields w)
 
-abbrev pub FitsStructure : PlatformTimerContents → Type 0
-FitsStructure (kinds.GtBlock b) = All FitsField (block_fields b.address (length b.frames.now))
-    × All FitsFrame b.frames.now
-FitsStructure (kinds.SbsaWatchdog w) = FitsWatchdog w
+abbrev pub FitsStructureBy : {F : Type 0} → (F → Type 0) → TimerOf F → Type 0
+FitsStructureBy FitsOne (kinds.GtBlock b) = All FitsField (block_fields b.address (length b.frames.now))
+    × All FitsOne b.frames.now
+FitsStructureBy FitsOne (kinds.SbsaWatchdog w) = FitsWatchdog w
 
-pub record AreTimersFit (c : GtdtContents) : Type 0 where
-  pub fields : All FitsField (gtdt_fields c)
-  pub platform : All FitsStructure c.platform_timers.now
+abbrev pub FitsStructure : PlatformTimerContents → Type 0
+FitsStructure x = FitsStructureBy FitsFrame x
+
+abbrev pub AreTimersFitBy : {T : Type 0} → (T → Type 0) → GtdtOf T → Type 0
+AreTimersFitBy FitsOne c = All FitsField (gtdt_fields c) × All FitsOne c.platform_timers.now
+
+abbrev pub AreTimersFit : GtdtContents → Type 0
+AreTimersFit c = AreTimersFitBy FitsStructure c
 
 -- the bytes are the table of contents that have a place
-pub record IsGtdt (ids : TableIds) (c : GtdtContents) (table : List ℕ) : Type 0 where
-  pub written : IsTableOf GTDT 3 ids (gtdt_body c) table
-  pub fit : AreTimersFit c
-  pub checked : gtdt_checked c ≡ Ok tt
+pub record IsGtdtBy {T : Type 0} (structure : T → List ℕ) (passed : T → Result (Unit {0}) WriterError)
+    (FitsOne : T → Type 0) (ids : TableIds) (c : GtdtOf T) (table : List ℕ) : Type 0 where
+  pub written : IsTableOf GTDT 3 ids (gtdt_body_by structure c) table
+  pub fit : AreTimersFitBy FitsOne c
+  pub checked : gtdt_checked_by passed c ≡ Ok tt
+
+abbrev pub IsGtdt : TableIds → GtdtContents → List ℕ → Type 0
+IsGtdt ids c table = IsGtdtBy structure_bytes structure_checked FitsStructure ids c table
 
 -- ---- laws
 

@@ -5,10 +5,12 @@ use Rattle.acpi_base.specs.Words.{line_code, polarity_code, trigger_code, ◌>>=
 use Rattle.acpi.specs.Types.{MADT, InterruptSourceOverride, IoApic, NmiLine, NmiProcessor, NmiSource, Polarity, TriggerMode}
 use Rattle.acpi_base.specs.declared.model.interrupt.NmiProcessor.TheVariants as nmi
 use Rattle.acpi_writer.specs.Fields.{fields_bytes}
+use Rattle.acpi_writer.specs.Spelled.{items_of}
 use Rattle.acpi_writer.specs.Table.{bit_of, table_written}
 use Rattle.acpi_writer.specs.Types.{WriterError, IdOfAll, NoProcessor, UidOfAll, TableIds, MadtContents, MadtProcessor}
 use Rattle.acpi_writer.specs.declared.fields.Field.{Field}
 use Rattle.acpi_writer.specs.declared.fields.Field.TheVariants.{U8, U16, U32, U64, Zeros}
+use Rattle.acpi_writer.specs.declared.madt.MadtContents as declared
 
 -- ---- entries
 
@@ -137,32 +139,29 @@ wakeup_entries o = fields_bytes (mailbox_fields o)
 
 -- ---- the table
 
--- the bytes of the entries of a MADT, sort by sort
-pub record MadtSorts : Type 0 where
-  pub processors : List ℕ
-  pub io_apics : List ℕ
-  pub overrides : List ℕ
-  pub nmi_sources : List ℕ
-  pub nmi_lines : List ℕ
-
--- all entries, with the address of the local APICs after the processors, and the mailbox last
-abbrev pub madt_entries_of : ℕ → Option ℕ → MadtSorts → List ℕ
-madt_entries_of address mailbox s =
-    s.processors
-    ++ (address_entries address
-    ++ (s.io_apics ++ (s.overrides ++ (s.nmi_sources ++ (s.nmi_lines ++ wakeup_entries mailbox)))))
-
-abbrev pub madt_sorts : MadtContents → MadtSorts
-madt_sorts c = record {
-  processors = flat_map processor_entry c.processors.now;
-  io_apics = flat_map io_apic_entry c.io_apics.now;
-  overrides = flat_map override_entry c.interrupt_source_overrides.now;
-  nmi_sources = flat_map nmi_source_entry c.nmi_sources.now;
-  nmi_lines = flat_map nmi_line_entry c.local_apic_nmi_lines.now;
+-- the contents that those with things that stand for items stand for
+abbrev pub madt_meant : {P I O S L : Type 0} → (P → MadtProcessor) → (I → IoApic) → (O → InterruptSourceOverride)
+    → (S → NmiSource) → (L → NmiLine) → declared.MadtContents P I O S L → MadtContents
+madt_meant processor io_apic override source line c = record {
+  local_apic_address = c.local_apic_address;
+  also_has_legacy_pics = c.also_has_legacy_pics;
+  processors = items_of processor c.processors;
+  io_apics = items_of io_apic c.io_apics;
+  interrupt_source_overrides = items_of override c.interrupt_source_overrides;
+  nmi_sources = items_of source c.nmi_sources;
+  local_apic_nmi_lines = items_of line c.local_apic_nmi_lines;
+  wakeup_mailbox = c.wakeup_mailbox;
 }
 
+-- all entries, sort by sort, with the address of the local APICs after the processors, and the mailbox last
 abbrev pub madt_entries : MadtContents → List ℕ
-madt_entries c = madt_entries_of c.local_apic_address c.wakeup_mailbox (madt_sorts c)
+madt_entries c =
+    flat_map processor_entry c.processors.now
+    ++ (address_entries c.local_apic_address
+    ++ (flat_map io_apic_entry c.io_apics.now
+    ++ (flat_map override_entry c.interrupt_source_overrides.now
+    ++ (flat_map nmi_source_entry c.nmi_sources.now
+    ++ (flat_map nmi_line_entry c.local_apic_nmi_lines.now ++ wakeup_entries c.wakeup_mailbox)))))
 
 -- the fields after the header: the address is 0 if it has no place
 unfoldable pub madt_fields : ℕ → Bool → List Field
@@ -175,11 +174,8 @@ abbrev pub madt_fixed : ℕ → Bool → List ℕ
 madt_fixed a pics = fields_bytes (madt_fields a pics)
 
 -- after the header
-abbrev pub madt_body_of : ℕ → Bool → Option ℕ → MadtSorts → List ℕ
-madt_body_of address pics mailbox s = madt_fixed address pics ++ madt_entries_of address mailbox s
-
 abbrev pub madt_body : MadtContents → List ℕ
-madt_body c = madt_body_of c.local_apic_address c.also_has_legacy_pics c.wakeup_mailbox (madt_sorts c)
+madt_body c = madt_fixed c.local_apic_address c.also_has_legacy_pics ++ madt_entries c
 
 -- ---- errors
 

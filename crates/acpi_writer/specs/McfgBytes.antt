@@ -25,10 +25,6 @@ mcfg_reserved = replicate 8 0
 abbrev pub mcfg_body : List McfgEntry → List ℕ
 mcfg_body es = mcfg_reserved ++ flat_map mcfg_entry es
 
--- the table, of revision 1, of these bytes of regions, in so much room, or the first error
-abbrev pub mcfg_written_of : ℕ → TableIds → List ℕ → Result (List ℕ) WriterError
-mcfg_written_of room ids regions = table_written room MCFG 1 ids (mcfg_reserved ++ regions)
-
--- of these regions
+-- the table, of revision 1, in so much room, or the first error
 abbrev pub mcfg_written : ℕ → TableIds → List McfgEntry → Result (List ℕ) WriterError
-mcfg_written room ids es = mcfg_written_of room ids (flat_map mcfg_entry es)
+mcfg_written room ids es = table_written room MCFG 1 ids (mcfg_body es)

@@ -1,6 +1,6 @@
 -- The bytes of an SPCR that says what is given (ACPI 6.4, section 5.2.6). The layout is Microsoft's.
 use Rattle.std.specs.Prelude.{ℕ, ◌+◌, ◌%◌, ◌^◌, ◌==◌, ◌&&◌, ◌||◌, Bool, true, not, if◌then◌else◌, List, [], ◌∷◌, ◌++◌, length, nat_lt, Option, Some, None, Result}
-use Rattle.acpi_base.specs.Words.{interface_code, is_interface, is_named_space, size_code, space_code, flow_bits, interrupt_bits, terminal_bits, ◌>>=◌, holds}
+use Rattle.acpi_base.specs.Words.{interface_code, is_interface, is_named_space, size_code, space_code, flow_bits, interrupt_bits, terminal_bits, ◌>>=◌, holds, bits_of, has_bit}
 use Rattle.acpi.specs.Types.{GenericAddress, SPCR, SpcrInterfaceType}
 use Rattle.acpi_base.specs.declared.tables.spcr.interface.SpcrInterfaceType.TheVariants as interface
 use Rattle.acpi_writer.specs.Fields.{fields_bytes}
@@ -32,14 +32,21 @@ baud_code rate =
     else if rate == 115200 then 7
     else 0
 
+-- IRQ and Global System Interrupt: 0 unless Interrupt Type has them
+abbrev pub irq_written : SpcrContents → ℕ
+irq_written c = if has_bit (interrupt_bits c.interrupt_type) 0 then c.irq else 0
+
+abbrev pub interrupt_written : SpcrContents → ℕ
+interrupt_written c = if bits_of (interrupt_bits c.interrupt_type) 1 4 == 0 then 0 else c.global_system_interrupt
+
 -- the fixed fields, with this base address and PCI device
 unfoldable pub fixed_list : SpcrContents → GenericAddress → SpcrPciDevice → List Field
 fixed_list c a d =
     U8 (interface_code c.interface_type) ∷ Zeros 3  -- 36: Interface Type, 37: Reserved
     ∷ U8 (space_code a.address_space) ∷ U8 a.bit_width ∷ U8 a.bit_offset ∷ U8 (size_code a.access_size)
     ∷ U64 a.address  -- 40: Base Address
-    ∷ U8 (interrupt_bits c.interrupt_type) ∷ U8 c.irq  -- 52: Interrupt Type, 53: IRQ
-    ∷ U32 c.global_system_interrupt  -- 54: Global System Interrupt
+    ∷ U8 (interrupt_bits c.interrupt_type) ∷ U8 (irq_written c)  -- 52: Interrupt Type, 53: IRQ
+    ∷ U32 (interrupt_written c)  -- 54: Global System Interrupt
     ∷ U8 (baud_code c.baud_rate) ∷ U8 c.parity ∷ U8 c.stop_bits  -- 58: Configured Baud Rate, 59: Parity, 60: Stop Bits
     ∷ U8 (flow_bits c.flow_control) ∷ U8 (terminal_bits c.terminal_type)  -- 61: Flow Control, 62: Terminal Type
     ∷ U8 c.language ∷ U16 d.device_id ∷ U16 d.vendor_id  -- 63: Language, 64: PCI Device ID, 66: PCI Vendor ID

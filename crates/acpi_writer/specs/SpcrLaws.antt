@@ -1,27 +1,23 @@
 -- What holds of an SPCR that is written: what was given is what is read.
-use Rattle.std.specs.Prelude.{◌≡◌, ℕ, ◌<◌, ◌==◌, true, List, [], ◌∷◌, ◌++◌, length, IsUtf8, None, Some, Result, Ok, if◌then◌else◌, All, option_map}
+use Rattle.std.specs.Prelude.{◌≡◌, ℕ, ◌==◌, List, [], ◌∷◌, ◌++◌, IsUtf8, None, Some, Result, Ok, if◌then◌else◌, All, option_map}
 use Rattle.acpi_base.specs.Words.{bits_of, has_bit, baud_of, bus_of, clock_of, device_id_of, device_of, flow_byte, function_of, interface_in, is_interface, interrupt_byte, interrupt_of, irq_of, namespace_of, spcr_at, terminal_byte, unless, vendor_id_of, flow_bits, interrupt_bits, terminal_bits}
 use Rattle.acpi_base.specs.Spcr.{base_of}
 use Rattle.acpi.specs.Types.{GenericAddress, AcpiError, SPCR, Spcr}
 use Rattle.acpi_writer.specs.Fields.{FitsField}
-use Rattle.acpi_writer.specs.Spcr.{spcr_fields, device_written, is_base, is_somewhere, spcr_body}
+use Rattle.acpi_writer.specs.Spcr.{spcr_fields, device_written, spcr_body, spcr_checked}
 use Rattle.acpi_writer.specs.Table.{IsTableOf, IsValid}
 use Rattle.acpi_writer.specs.Types.{TableIds, SpcrContents, SpcrPciDevice}
 
 -- ---- which numbers have a place
 
 abbrev pub FitsSpcr : SpcrContents → Type 0
-FitsSpcr c = All FitsField (spcr_fields c)
+FitsSpcr c = All FitsField (spcr_fields c) × IsUtf8 c.namespace_string.now
 
--- the bytes are the table of contents whose numbers and name have a place, and whose codes are their own
+-- the bytes are the table of contents whose numbers and name have a place, and that no error is for
 pub record IsSpcr (ids : TableIds) (c : SpcrContents) (table : List ℕ) : Type 0 where
   pub written : IsTableOf SPCR 4 ids (spcr_body c) table
   pub fit : FitsSpcr c
-  pub interface : is_interface c.interface_type ≡ true
-  pub base : is_base c.base_address ≡ true
-  pub somewhere : is_somewhere c.base_address ≡ true
-  pub short : length c.namespace_string.now < 0xffff
-  pub text : IsUtf8 c.namespace_string.now
+  pub checked : spcr_checked c ≡ Ok tt
 
 -- ---- what is to be read
 

@@ -4,8 +4,9 @@ use Rattle.acpi_base.specs.FromStd.{list_all}
 use Rattle.acpi_base.specs.Words.{◌>>=◌, holds}
 use Rattle.acpi.specs.Types.{SRAT}
 use Rattle.acpi_numa.specs.Words.{ends_below}
-use Rattle.acpi_writer.specs.Types.{MemoryRange, WriterError, BadRange, IdOfAll, TableIds}
+use Rattle.acpi_writer.specs.Types.{MemoryRange, WriterError, BadRange, IdOfAll, SratContents, TableIds}
 use Rattle.acpi_writer.specs.Fields.{fields_bytes}
+use Rattle.acpi_writer.specs.Spelled.{items_of}
 use Rattle.acpi_writer.specs.Table.{bit_of, table_written}
 use Rattle.acpi_writer.specs.declared.fields.Field.{Field}
 use Rattle.acpi_writer.specs.declared.fields.Field.TheVariants.{U8, U16, U32, U64, Zeros}
@@ -13,13 +14,9 @@ use Rattle.acpi_writer.specs.declared.srat.ApicDomain.{ApicDomain}
 use Rattle.acpi_writer.specs.declared.srat.GiccDomain.{GiccDomain}
 use Rattle.acpi_writer.specs.declared.srat.SratContents as declared
 
--- ---- contents: with ranges themselves, and with things of a type that stand for ranges
-
-abbrev pub ContentsOf : Type 0 → Type 0
-ContentsOf R = declared.SratContents R
-
-abbrev pub SratContents : Type 0
-SratContents = ContentsOf MemoryRange
+-- the contents that those with things that stand for ranges stand for
+abbrev pub srat_meant : {R : Type 0} → (R → MemoryRange) → declared.SratContents R → SratContents
+srat_meant range c = record { apics = c.apics; giccs = c.giccs; ranges = items_of range c.ranges }
 
 -- ---- entries, each of which has bit 0 of Flags set: Enabled
 
@@ -83,20 +80,13 @@ abbrev pub srat_reserved : List ℕ
 srat_reserved = 1 ∷ 0 ∷ 0 ∷ 0 ∷ 0 ∷ 0 ∷ 0 ∷ 0 ∷ 0 ∷ 0 ∷ 0 ∷ 0 ∷ []
 
 -- all entries, sort by sort
-abbrev pub srat_entries_by : {R : Type 0} → (R → MemoryRange) → ContentsOf R → List ℕ
-srat_entries_by range c =
-    flat_map apic_entry c.apics.now
-    ++ (flat_map gicc_entry c.giccs.now ++ flat_map (λ r. memory_entry (range r)) c.ranges.now)
-
 abbrev pub srat_entries : SratContents → List ℕ
-srat_entries c = srat_entries_by (λ r. r) c
+srat_entries c =
+    flat_map apic_entry c.apics.now ++ (flat_map gicc_entry c.giccs.now ++ flat_map memory_entry c.ranges.now)
 
 -- after the header
-abbrev pub srat_body_by : {R : Type 0} → (R → MemoryRange) → ContentsOf R → List ℕ
-srat_body_by range c = srat_reserved ++ srat_entries_by range c
-
 abbrev pub srat_body : SratContents → List ℕ
-srat_body c = srat_body_by (λ r. r) c
+srat_body c = srat_reserved ++ srat_entries c
 
 -- ---- errors
 
@@ -112,18 +102,14 @@ abbrev pub is_range : MemoryRange → Bool
 is_range r = nat_lt 0 r.length && ends_below r
 
 -- the first error of the contents
-abbrev pub srat_checked_by : {R : Type 0} → (R → MemoryRange) → ContentsOf R → Result (Unit {0}) WriterError
-srat_checked_by range c = do
+abbrev pub srat_checked : SratContents → Result (Unit {0}) WriterError
+srat_checked c = do
   _ ← holds (list_all is_one_apic c.apics.now) IdOfAll
   _ ← holds (list_all is_one_gicc c.giccs.now) IdOfAll
-  holds (list_all (λ r. is_range (range r)) c.ranges.now) BadRange
+  holds (list_all is_range c.ranges.now) BadRange
 
 -- the table, of revision 3, in so much room, or the first error
-unfoldable pub srat_written_by : {R : Type 0} → (R → MemoryRange) → ℕ → TableIds → ContentsOf R
-    → Result (List ℕ) WriterError
-srat_written_by range room ids c = do
-  _ ← srat_checked_by range c
-  table_written room SRAT 3 ids (srat_body_by range c)
-
-abbrev pub srat_written : ℕ → TableIds → SratContents → Result (List ℕ) WriterError
-srat_written room ids c = srat_written_by (λ r. r) room ids c
+unfoldable pub srat_written : ℕ → TableIds → SratContents → Result (List ℕ) WriterError
+srat_written room ids c = do
+  _ ← srat_checked c
+  table_written room SRAT 3 ids (srat_body c)

@@ -3,9 +3,9 @@ use Rattle.std.specs.Prelude.{◌≡◌, ℕ, ◌==◌, true, List, Option, None
 use Rattle.acpi_base.specs.FromStd.{last_or, list_all}
 use Rattle.acpi.specs.Types.{SRAT}
 use Rattle.acpi_numa.specs.Words.{affinities_of, domain_of_apic, domain_of_processor}
-use Rattle.acpi_writer.specs.Types.{MemoryRange, TableIds}
+use Rattle.acpi_writer.specs.Types.{MemoryRange, SratContents, TableIds}
 use Rattle.acpi_writer.specs.Fields.{FitsField}
-use Rattle.acpi_writer.specs.Srat.{ContentsOf, SratContents, apic_fields, gicc_fields, is_range, memory_fields, srat_body_by}
+use Rattle.acpi_writer.specs.Srat.{apic_fields, gicc_fields, is_range, memory_fields, srat_body}
 use Rattle.acpi_writer.specs.Table.{IsTableOf, IsValid}
 use Rattle.acpi_writer.specs.declared.srat.ApicDomain.{ApicDomain}
 use Rattle.acpi_writer.specs.declared.srat.GiccDomain.{GiccDomain}
@@ -21,23 +21,16 @@ FitsGicc p = All FitsField (gicc_fields p)
 abbrev pub FitsRange : MemoryRange → Type 0
 FitsRange r = All FitsField (memory_fields r)
 
-pub record AreFitBy {R : Type 0} (range : R → MemoryRange) (c : ContentsOf R) : Type 0 where
+pub record AreFit (c : SratContents) : Type 0 where
   pub apics : All FitsApic c.apics.now
   pub giccs : All FitsGicc c.giccs.now
-  pub ranges : All (λ r. FitsRange (range r)) c.ranges.now
-
-abbrev pub AreFit : SratContents → Type 0
-AreFit c = AreFitBy (λ r. r) c
+  pub ranges : All FitsRange c.ranges.now
 
 -- the bytes are the table of contents whose numbers have a place, and whose ranges are some
-pub record IsSratBy {R : Type 0} (range : R → MemoryRange) (ids : TableIds) (c : ContentsOf R) (table : List ℕ)
-    : Type 0 where
-  pub written : IsTableOf SRAT 3 ids (srat_body_by range c) table
-  pub fit : AreFitBy range c
-  pub ranges : list_all (λ r. is_range (range r)) c.ranges.now ≡ true
-
-abbrev pub IsSrat : TableIds → SratContents → List ℕ → Type 0
-IsSrat ids c table = IsSratBy (λ r. r) ids c table
+pub record IsSrat (ids : TableIds) (c : SratContents) (table : List ℕ) : Type 0 where
+  pub written : IsTableOf SRAT 3 ids (srat_body c) table
+  pub fit : AreFit c
+  pub ranges : list_all is_range c.ranges.now ≡ true
 
 -- ---- what is to be read
 

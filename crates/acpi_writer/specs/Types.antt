@@ -1,4 +1,5 @@
 -- The types and constants of the crates below, for the files of this one.
+use Rattle.acpi.specs.Types.{InterruptSourceOverride, IoApic, NmiLine, NmiSource}
 pub use Rattle.acpi.specs.declared.hpet.HpetInfo.{HpetInfo}
 pub use Rattle.acpi.specs.declared.hpet.PageProtection.{PageProtection}
 pub use Rattle.acpi.specs.declared.platform.PlatformInfo.{PlatformInfo}
@@ -34,11 +35,35 @@ pub use Rattle.acpi_writer.specs.declared.fadt.contents.LegacyFields.{LegacyFiel
 pub use Rattle.acpi_writer.specs.declared.fadt.features.ArmBootFeatures.{ArmBootFeatures}
 pub use Rattle.acpi_writer.specs.declared.fadt.features.FixedFeatures.{FixedFeatures}
 pub use Rattle.acpi_writer.specs.declared.fadt.features.PcBootFeatures.{PcBootFeatures}
-pub use Rattle.acpi_writer.specs.declared.gtdt.GtdtContents.{GtdtContents}
-pub use Rattle.acpi_writer.specs.declared.gtdt.PlatformTimerContents.{PlatformTimerContents}
+use Rattle.acpi_writer.specs.declared.gtdt.GtdtContents as gtdt
+use Rattle.acpi_writer.specs.declared.gtdt.PlatformTimerContents as timers
 pub use Rattle.acpi_writer.specs.declared.ids.TableIds.{TableIds}
-pub use Rattle.acpi_writer.specs.declared.madt.MadtContents.{MadtContents}
 pub use Rattle.acpi_writer.specs.declared.madt.MadtProcessor.{MadtProcessor}
-pub use Rattle.acpi_writer.specs.declared.madt.gic.GicContents.{GicContents}
+use Rattle.acpi_writer.specs.declared.madt.MadtContents as madt
+use Rattle.acpi_writer.specs.declared.madt.gic.GicContents as gic
 pub use Rattle.acpi_writer.specs.declared.spcr.SpcrContents.{SpcrContents}
 pub use Rattle.acpi_writer.specs.declared.spcr.SpcrPciDevice.{SpcrPciDevice}
+use Rattle.acpi_writer.specs.declared.srat.SratContents as srat
+
+-- contents whose items are the items themselves
+abbrev pub MadtContents : Type 0
+MadtContents = madt.MadtContents MadtProcessor IoApic InterruptSourceOverride NmiSource NmiLine
+
+abbrev pub GicContents : Type 0
+GicContents = gic.GicContents GicCpuInterface GicRedistributors GicTranslationService GicMsiFrame
+
+abbrev pub SratContents : Type 0
+SratContents = srat.SratContents MemoryRange
+
+-- contents whose timers and frames are things of a type that stands for these, and those of the timers themselves
+abbrev pub GtdtOf : Type 0 → Type 0
+GtdtOf T = gtdt.GtdtContents T
+
+abbrev pub TimerOf : Type 0 → Type 0
+TimerOf F = timers.PlatformTimerContents F
+
+abbrev pub PlatformTimerContents : Type 0
+PlatformTimerContents = TimerOf GtFrame
+
+abbrev pub GtdtContents : Type 0
+GtdtContents = GtdtOf PlatformTimerContents

@@ -7,7 +7,7 @@ ghost use Rattle.acpi_writer.specs.Types.{WriterError};
 use crate::error::WriterError;
 
 /// Something that a table may have no place for.
-pub(crate) trait Checked {
+pub trait Checked {
     // The error, if a table has none.
     ghost checked: { Self → Result (Unit {0}) WriterError };
 

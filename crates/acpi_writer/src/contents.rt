@@ -91,6 +91,7 @@ impl Listed for TableContents<'_> {
 
     ghost fits = { FitsContents };
 
+    #[tactic(auto, using(crate::proofs::Sized::madt_itself, crate::proofs::Sized::gic_itself, crate::proofs::Sized::srat_itself, crate::proofs::Sized::map_same))]
     fn size(&self, ids: &TableIds) -> Result<usize, WriterError> {
         match self {
             TableContents::Madt(contents) => madt_size(ids, contents),
@@ -109,6 +110,7 @@ impl Listed for TableContents<'_> {
         }
     }
 
+    #[tactic(auto, using(crate::proofs::Sized::madt_itself, crate::proofs::Sized::gic_itself, crate::proofs::Sized::srat_itself, crate::proofs::Sized::map_same))]
     fn write(&self, out: &mut [u8], ids: &TableIds) -> Result<usize, WriterError> {
         match self {
             TableContents::Madt(contents) => write_madt(out, ids, contents),

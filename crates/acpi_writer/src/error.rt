@@ -16,7 +16,7 @@ pub enum WriterError {
     NoAddress,
     /// A FADT with a `Reserved` profile whose code is that of one that has a name.
     BadProfile,
-    /// A register at address 0 or in an `OemDefined` space below 0xc0, or a block of events without bytes.
+    /// A register at address 0 or in an `OemDefined` space below 0xc0, or a block of fixed hardware without bytes.
     BadRegister,
     /// OEMID, OEM Table ID or Creator ID is not valid UTF-8.
     BadName,

@@ -1,8 +1,8 @@
 //! The Fixed ACPI Description Table (FADT, section 5.2.9), from the hardware and the features that it is to say.
-ghost use Rattle.std.specs.Prelude.{◌≡◌, ◌^◌, ◌<◌, length, take, IfOk, Ok};
+ghost use Rattle.std.specs.Prelude.{◌≡◌, ◌^◌, ◌<◌, length, take, IfOk};
+ghost use Rattle.acpi_base.specs.FromStd.{list_all};
 ghost use Rattle.acpi_base.specs.Words.{Gives};
-ghost use Rattle.acpi.specs.Types.{FADT};
-ghost use Rattle.acpi_writer.specs.Words.{most, sized, AreFitFor, IsFadt, IsTableOf, Keeps, if_checked, table_written};
+ghost use Rattle.acpi_writer.specs.Words.{most, sized, IsFadt, Keeps, FitsFadt};
 ghost use Rattle.acpi_fixed.specs.Words.{is_profile};
 ghost use Rattle.acpi_writer.specs.FadtBytes as bytes;
 
@@ -15,13 +15,14 @@ use crate::error::WriterError;
 use crate::fields::Field;
 use crate::generic::is_register;
 use crate::ids::TableIds;
-use crate::spelled::{Each, Then};
+use crate::spelled::{Spelled, Then};
 use crate::table::{checked_size, write_checked};
 use acpi_base::Signature;
-use acpi_fixed::fadt::{GpeBlock, PowerProfile};
+use acpi_base::address::GenericAddress;
+use acpi_fixed::fadt::PowerProfile;
 pub use contents::{FadtContents, FadtHardware, FixedHardware, LegacyFields};
 pub use features::{ArmBootFeatures, FixedFeatures, PcBootFeatures};
-use parts::{Front, Wide, fixed_of, gpe_register, registers};
+use parts::{Front, Wide, WideRegisters, gpe_register};
 
 /// Whether the DSDT, and the FACS if there is one, are at an address other than 0.
 fn are_placed(contents: &FadtContents) -> bool
@@ -44,34 +45,40 @@ fn is_profile(profile: PowerProfile) -> bool
     }
 }
 
-/// Whether a block of events, if there is one, has bytes.
-fn has_length(block: Option<GpeBlock>) -> bool
-    ensures { result ≡ bytes.has_length block }
+/// Whether a block of fixed hardware, if there is one, has bytes, and can be read again.
+fn is_block(block: Option<GenericAddress>) -> bool
+    ensures { result ≡ bytes.is_block block }
 {
-    match block {
-        Some(given) => given.byte_length != 0,
+    let has_bytes = match block {
+        Some(given) => given.bit_width >= 8,
         None => true,
-    }
+    };
+    is_register(block) && has_bytes
 }
 
-/// Whether each block of fixed hardware can be read again.
+/// Whether each of these blocks does.
+fn are_all(blocks: &[Option<GenericAddress>]) -> bool
+    ensures { result ≡ list_all bytes.is_block blocks.now }
+{
+    blocks.iter().all(|block| is_block(*block))
+}
+
+/// Whether each block of fixed hardware does.
 fn are_blocks(hardware: &FadtHardware) -> bool
     ensures { result ≡ bytes.are_blocks hardware.now }
 {
     match *hardware {
         FadtHardware::Reduced => true,
-        FadtHardware::Fixed(h) => {
-            is_register(Some(h.pm1a_event))
-                && is_register(h.pm1b_event)
-                && is_register(Some(h.pm1a_control))
-                && is_register(h.pm1b_control)
-                && is_register(h.pm2_control)
-                && is_register(h.pm_timer)
-                && is_register(gpe_register(h.gpe0))
-                && has_length(h.gpe0)
-                && is_register(gpe_register(h.gpe1))
-                && has_length(h.gpe1)
-        }
+        FadtHardware::Fixed(h) => are_all(&[
+            Some(h.pm1a_event),
+            Some(h.pm1a_control),
+            h.pm1b_event,
+            h.pm1b_control,
+            h.pm2_control,
+            h.pm_timer,
+            gpe_register(h.gpe0),
+            gpe_register(h.gpe1),
+        ]),
     }
 }
 
@@ -96,59 +103,38 @@ impl Checked for FadtContents {
 }
 
 /// All after the header of a FADT.
-macro_rules! body_of {
-    ($contents:expr, $hardware:expr, $registers:expr) => {{
-        let last = Then(Each($registers), Field::Zeros(8));
-        let wide = Then($contents.reset_register, Then(Wide($contents), last));
-        Then(Front($contents, $hardware), wide)
-    }};
-}
+impl Spelled for FadtContents {
+    ghost spelled = { bytes.fadt_body };
 
-/// Writes a FADT of this hardware, with the errors of `write_fadt`.
-fn write_contents(
-    out: &mut [u8],
-    ids: &TableIds,
-    contents: &FadtContents,
-    hardware: &FixedHardware,
-) -> Result<usize, WriterError>
-    ensures exact { Gives (λ n. take n out.new) result
-        (if_checked (bytes.fadt_checked contents.now)
-        (table_written (length out.old) FADT 6 ids.now (bytes.body_with contents.now hardware.now))) }
-    ensures keeps { Keeps result out.old out.new }
-    ensures table { IfOk result (λ n.
-        IsTableOf FADT 6 ids.now (bytes.body_with contents.now hardware.now) (take n out.new)) }
-    ensures fits { IfOk result (λ n. AreFitFor contents.now hardware.now) }
-    ensures checked { IfOk result (λ n. bytes.fadt_checked contents.now ≡ Ok tt) }
-{
-    let registers = registers(contents, hardware);
-    let body = body_of!(contents, hardware, &registers);
-    write_checked(out, Signature::FADT, 6, ids, contents, &body)
-}
+    ghost fits = { FitsFadt };
 
-/// How many bytes the FADT of this hardware has, or the first error.
-fn contents_size(
-    ids: &TableIds,
-    contents: &FadtContents,
-    hardware: &FixedHardware,
-) -> Result<usize, WriterError>
-    ensures exact { result ≡ sized (if_checked (bytes.fadt_checked contents.now)
-        (table_written most FADT 6 ids.now (bytes.body_with contents.now hardware.now))) }
-    ensures short { IfOk result (λ n. n < 2 ^ 32) }
-    ensures fits { IfOk result (λ n. AreFitFor contents.now hardware.now) }
-{
-    let registers = registers(contents, hardware);
-    let body = body_of!(contents, hardware, &registers);
-    checked_size(Signature::FADT, 6, ids, contents, &body)
+    fn measure(&self, room: usize) -> Option<usize> {
+        let last = Then(WideRegisters(self), Field::Zeros(8));
+        Then(
+            Front(self),
+            Then(self.reset_register, Then(Wide(self), last)),
+        )
+        .measure(room)
+    }
+
+    fn put(&self, out: &mut [u8]) {
+        let last = Then(WideRegisters(self), Field::Zeros(8));
+        Then(
+            Front(self),
+            Then(self.reset_register, Then(Wide(self), last)),
+        )
+        .put(out);
+    }
 }
 
 /// How many bytes the FADT has, or the first error of `write_fadt` in a slice of any length.
-#[tactic(auto, using(crate::proofs::FadtRead::by_hardware), unfolding(crate::specs::FadtBytes::fadt_written))]
+#[tactic(auto, unfolding(crate::specs::FadtBytes::fadt_written))]
 pub fn fadt_size(ids: &TableIds, contents: &FadtContents) -> Result<usize, WriterError>
     ensures exact { result ≡ sized (bytes.fadt_written most ids.now contents.now) }
     ensures short { IfOk result (λ n. n < 2 ^ 32) }
-    ensures fits { IfOk result (λ n. AreFitFor contents.now (bytes.fixed_of contents.now.hardware)) }
+    ensures fits { IfOk result (λ n. FitsFadt contents.now) }
 {
-    contents_size(ids, contents, &fixed_of(&contents.hardware))
+    checked_size(Signature::FADT, 6, ids, contents, contents)
 }
 
 /// Writes a FADT of version 6.4, 276 bytes, to the front of a slice, and returns how many bytes it has. Each address
@@ -160,9 +146,9 @@ pub fn fadt_size(ids: &TableIds, contents: &FadtContents) -> Result<usize, Write
 ///
 /// Returns, in this order, `NoAddress` if the DSDT or the FACS is at address 0, `BadProfile` if a `Reserved` profile
 /// has the code of one that has a name, `BadRegister` if a register is at address 0 or in an `OemDefined` space below
-/// 0xc0, or if a block of general purpose events has no bytes, `BadName` if a name of the ids is not valid UTF-8, and
+/// 0xc0, or if a block of fixed hardware has no whole byte, `BadName` if a name of the ids is not valid UTF-8, and
 /// `NoRoom` if the slice is shorter than the table.
-#[tactic(auto, using(crate::proofs::FadtRead::by_hardware), unfolding(crate::specs::FadtBytes::fadt_written))]
+#[tactic(auto, unfolding(crate::specs::FadtBytes::fadt_written))]
 pub fn write_fadt(
     out: &mut [u8],
     ids: &TableIds,
@@ -176,5 +162,5 @@ pub fn write_fadt(
     // The numbers that were given fit, so that what was given is what is read (`tables_are_read`).
     ensures fits { IfOk result (λ n. IsFadt ids.now contents.now (take n out.new)) }
 {
-    write_contents(out, ids, contents, &fixed_of(&contents.hardware))
+    write_checked(out, Signature::FADT, 6, ids, contents, contents)
 }

@@ -1,8 +1,7 @@
 //! The Generic Timer Description Table (GTDT, section 5.2.24), from the timers of an Arm machine.
 ghost use Rattle.std.specs.Prelude.{◌≡◌, ◌^◌, ◌<◌, length, take, IfOk};
 ghost use Rattle.acpi_base.specs.Words.{Gives};
-ghost use Rattle.acpi.specs.Types.{GTDT};
-ghost use Rattle.acpi_writer.specs.Words.{most, sized, AreTimersFit, IsGtdt, gtdt_body, gtdt_checked, gtdt_written, IsTableOf, Keeps, table_written};
+ghost use Rattle.acpi_writer.specs.Words.{most, sized, AreTimersFitBy, IsGtdtBy, gtdt_checked_by, gtdt_written_by, Keeps};
 
 mod structures;
 
@@ -10,33 +9,30 @@ use crate::arm::check_base;
 use crate::checked::{Checked, check_all};
 use crate::error::WriterError;
 use crate::ids::TableIds;
-use crate::spelled::Then;
+use crate::spelled::{Each, Spelled, Then};
 use crate::table::{checked_size, write_checked};
 use acpi_arm::gtdt::{ArmTimer, GtFrame, SbsaWatchdog};
 use acpi_base::Signature;
-use structures::Structures;
+use std::alloc::AllocError;
 
-/// A GT Block (section 5.2.24.1.1), in the words of `GtBlock`, as which it is read.
-#[derive(Clone, Copy)]
-pub struct GtBlockContents<'a> {
+/// A GT Block (section 5.2.24.1.1), in the words of `GtBlock`, as which it is read, or with what stands for its frames.
+pub struct GtBlockContents<'a, F = GtFrame> {
     /// GT Block Physical address: that of the block's control frame.
     pub address: u64,
     /// The block's frames, of which the specification allows 8.
-    pub frames: &'a [GtFrame],
+    pub frames: &'a [F],
 }
 
 /// A timer of the platform (section 5.2.24.1), in the words of `PlatformTimer`, as which it is read.
-#[derive(Clone, Copy)]
-pub enum PlatformTimerContents<'a> {
+pub enum PlatformTimerContents<'a, F = GtFrame> {
     /// GT Block.
-    GtBlock(GtBlockContents<'a>),
+    GtBlock(GtBlockContents<'a, F>),
     /// Arm Generic Watchdog.
     SbsaWatchdog(SbsaWatchdog),
 }
 
-/// What a GTDT is to say, in the words of `Gtdt`, as which it is read.
-#[derive(Clone, Copy)]
-pub struct GtdtContents<'a> {
+/// What a GTDT is to say, in the words of `Gtdt`, as which it is read, or with what stands for its timers.
+pub struct GtdtContents<'a, T = PlatformTimerContents<'a>> {
     /// CntControlBase Physical Address, if there is one.
     pub counter_control_base: Option<u64>,
     /// Secure EL1 Timer GSIV and Flags.
@@ -52,11 +48,48 @@ pub struct GtdtContents<'a> {
     /// Virtual EL2 Timer GSIV and Flags.
     pub virtual_el2_timer: ArmTimer,
     /// Platform Timer Structures.
-    pub platform_timers: &'a [PlatformTimerContents<'a>],
+    pub platform_timers: &'a [T],
 }
 
-impl Checked for GtdtContents<'_> {
-    ghost checked = { gtdt_checked };
+// By hand, since a derived `Clone` clones field by field, which takes long to prove.
+impl<F> Copy for GtBlockContents<'_, F> {}
+
+impl<F> Clone for GtBlockContents<'_, F> {
+    ghost is_clone = { λ x y. y ≡ x };
+
+    ghost is_infallible = { λ _. Unit {0} };
+
+    fn clone(&self) -> Result<Self, AllocError> {
+        Ok(*self)
+    }
+}
+
+impl<F> Copy for PlatformTimerContents<'_, F> {}
+
+impl<F> Clone for PlatformTimerContents<'_, F> {
+    ghost is_clone = { λ x y. y ≡ x };
+
+    ghost is_infallible = { λ _. Unit {0} };
+
+    fn clone(&self) -> Result<Self, AllocError> {
+        Ok(*self)
+    }
+}
+
+impl<T> Copy for GtdtContents<'_, T> {}
+
+impl<T> Clone for GtdtContents<'_, T> {
+    ghost is_clone = { λ x y. y ≡ x };
+
+    ghost is_infallible = { λ _. Unit {0} };
+
+    fn clone(&self) -> Result<Self, AllocError> {
+        Ok(*self)
+    }
+}
+
+impl<T: Checked> Checked for GtdtContents<'_, T> {
+    ghost checked = { gtdt_checked_by T.checked };
 
     fn check(&self) -> Result<(), WriterError> {
         check_base(self.counter_control_base)?;
@@ -70,46 +103,44 @@ impl Checked for GtdtContents<'_> {
     }
 }
 
-/// All after the header of a GTDT.
-macro_rules! body_of {
-    ($contents:expr) => {{
-        Then(*$contents, Structures($contents.platform_timers))
-    }};
-}
-
 /// How many bytes the GTDT has, or the first error of `write_gtdt` in a slice of any length.
-#[tactic(auto, unfolding(crate::specs::Gtdt::gtdt_written))]
-pub(crate) fn gtdt_size(ids: &TableIds, contents: &GtdtContents<'_>) -> Result<usize, WriterError>
-    ensures exact { result ≡ sized (gtdt_written most ids.now contents.now) }
+#[tactic(auto, unfolding(crate::specs::Gtdt::gtdt_written_by))]
+pub fn gtdt_size<T: Checked + Copy + Spelled>(
+    ids: &TableIds,
+    contents: &GtdtContents<'_, T>,
+) -> Result<usize, WriterError>
+    ensures exact { result ≡ sized (gtdt_written_by T.spelled T.checked most ids.now contents.now) }
     ensures short { IfOk result (λ n. n < 2 ^ 32) }
-    ensures fits { IfOk result (λ n. AreTimersFit contents.now) }
+    ensures fits { IfOk result (λ n. AreTimersFitBy T.fits contents.now) }
 {
-    let body = body_of!(contents);
+    let body = Then(*contents, Each(contents.platform_timers));
     checked_size(Signature::GTDT, 3, ids, contents, &body)
 }
 
 /// Writes a GTDT of revision 3 to the front of a slice, and returns how many bytes it has: 104, and 28 for each
 /// watchdog, 20 for each GT Block, and 40 for each frame of it. An address that is `None` is written as all ones.
+/// Platform Timer Offset is 104, also if there is no timer of the platform.
 ///
 /// Returns the first error in the order of the fields: `NoAddress` if a base address is `Some` of all ones, and
 /// `SameAsBus` if a trigger mode or a polarity is that of a bus. Of a GT Block it returns first `TooManyFrames` if it
 /// has more than 1637, and then the first error of a frame, of which CntEL0BaseX comes before the timers. Then it
 /// returns, in this order, `BadName` if a name of the ids is not valid UTF-8, `NoRoom` if the slice is shorter than the
 /// table, and `TooLong` if the table has 2^32 bytes or more.
-#[tactic(auto, unfolding(crate::specs::Gtdt::gtdt_written))]
-pub fn write_gtdt(
+#[tactic(auto, unfolding(crate::specs::Gtdt::gtdt_written_by))]
+pub fn write_gtdt<T: Checked + Copy + Spelled>(
     out: &mut [u8],
     ids: &TableIds,
-    contents: &GtdtContents<'_>,
+    contents: &GtdtContents<'_, T>,
 ) -> Result<usize, WriterError>
     // The bytes, or the first error, are those that are defined.
     ensures exact { Gives (λ n. take n out.new) result
-        (gtdt_written (length out.old) ids.now contents.now) }
+        (gtdt_written_by T.spelled T.checked (length out.old) ids.now contents.now) }
     // What stands after the table is unchanged, and after an error the whole slice is.
     ensures keeps { Keeps result out.old out.new }
     // The numbers that were given fit, so that what was given is what is read (`tables_are_read`).
-    ensures fits { IfOk result (λ n. IsGtdt ids.now contents.now (take n out.new)) }
+    ensures fits { IfOk result (λ n.
+        IsGtdtBy T.spelled T.checked T.fits ids.now contents.now (take n out.new)) }
 {
-    let body = body_of!(contents);
+    let body = Then(*contents, Each(contents.platform_timers));
     write_checked(out, Signature::GTDT, 3, ids, contents, &body)
 }

@@ -32,7 +32,7 @@ impl Record for HpetInfo {
 
 /// Writes an HPET of revision 1, 56 bytes, to the front of a slice, and returns how many bytes it has. A page
 /// protection of `Other` is written as 3. OEM Attribute is 0, and so is all of BASE_ADDRESS but its address, which is
-/// one in memory.
+/// one in memory: Register Bit Width too.
 ///
 /// Returns, in this order, `BadName` if a name of the ids is not valid UTF-8, and `NoRoom` if the slice is shorter
 /// than the table.

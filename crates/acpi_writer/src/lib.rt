@@ -33,7 +33,7 @@ mod table;
 
 pub use aml::{write_dsdt, write_ssdt};
 pub use bgrt::{BgrtContents, BgrtOrientation, write_bgrt};
-pub use checked::require;
+pub use checked::{Checked, require};
 pub use contents::{AmlContents, SlitContents, TableContents};
 pub use error::WriterError;
 pub use facs::{FacsContents, write_facs};

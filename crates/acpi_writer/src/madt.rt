@@ -1,10 +1,9 @@
 //! The Multiple APIC Description Table (MADT, section 5.2.12), from lists of processors and interrupt controllers.
-ghost use Rattle.std.specs.Prelude.{◌≡◌, ◌^◌, ◌<◌, flat_map, length, not, take, IfOk, All};
+ghost use Rattle.std.specs.Prelude.{◌≡◌, ◌^◌, ◌<◌, length, map, not, take, IfOk};
 ghost use Rattle.acpi_base.specs.FromStd.{list_all};
 ghost use Rattle.acpi_base.specs.Words.{Gives};
-ghost use Rattle.acpi_writer.specs.Words.{most, sized, AreFit, FitsMailbox, IsMadt, Keeps};
+ghost use Rattle.acpi_writer.specs.Words.{most, sized, AreFit, IsMadt, Keeps};
 ghost use Rattle.acpi_writer.specs.MadtBytes as bytes;
-ghost use Rattle.acpi_writer.specs.MadtLaws.{FitsAddress};
 
 mod entries;
 pub mod gic;
@@ -12,13 +11,14 @@ pub mod gic;
 use crate::checked::{Checked, require};
 use crate::error::WriterError;
 use crate::ids::TableIds;
-use crate::spelled::{Each, Spelled, Then};
+use crate::spelled::{EachItem, StandsFor, Then};
 use crate::table::{checked_size, write_checked};
 use acpi_base::Signature;
 use acpi_base::model::{InterruptSourceOverride, IoApic, NmiLine, NmiProcessor, NmiSource};
 pub use entries::Fixed;
 use entries::{AddressOverride, Wakeup};
 use std::alloc::AllocError;
+use std::marker::PhantomData;
 
 /// A processor that a MADT is to list (sections 5.2.12.2 and 5.2.12.12).
 #[derive(Clone, Copy, Debug)]
@@ -34,26 +34,46 @@ pub struct MadtProcessor {
     pub is_online_capable: bool,
 }
 
-/// What a MADT is to say, in the words of `InterruptModel` and `ProcessorInfo`, as which it is read.
-#[derive(Clone, Copy)]
-pub struct MadtContents<'a> {
+/// What a MADT is to say, in the words of `InterruptModel` and `ProcessorInfo`, as which it is read; or of what stands
+/// for them.
+pub struct MadtContents<
+    'a,
+    P = MadtProcessor,
+    I = IoApic,
+    O = InterruptSourceOverride,
+    S = NmiSource,
+    L = NmiLine,
+> {
     /// The physical address of each processor's local APIC.
     pub local_apic_address: u64,
     /// PCAT_COMPAT: the machine has a pair of 8259 controllers too.
     pub also_has_legacy_pics: bool,
     /// The processors, of which the first is the boot processor.
-    pub processors: &'a [MadtProcessor],
+    pub processors: &'a [P],
     /// I/O APICs.
-    pub io_apics: &'a [IoApic],
+    pub io_apics: &'a [I],
     /// Interrupt Source Overrides.
-    pub interrupt_source_overrides: &'a [InterruptSourceOverride],
+    pub interrupt_source_overrides: &'a [O],
     /// NMI Sources.
-    pub nmi_sources: &'a [NmiSource],
+    pub nmi_sources: &'a [S],
     /// Local APIC NMIs and Local x2APIC NMIs.
-    pub local_apic_nmi_lines: &'a [NmiLine],
+    pub local_apic_nmi_lines: &'a [L],
     /// MailBoxAddress: the physical address of the mailbox by which the firmware's processors are woken, if they are
     /// woken so (section 5.2.12.19).
     pub wakeup_mailbox: Option<u64>,
+}
+
+// By hand, since a derived `Clone` clones field by field, which takes long to prove.
+impl<P, I, O, S, L> Copy for MadtContents<'_, P, I, O, S, L> {}
+
+impl<P, I, O, S, L> Clone for MadtContents<'_, P, I, O, S, L> {
+    ghost is_clone = { λ x y. y ≡ x };
+
+    ghost is_infallible = { λ _. Unit {0} };
+
+    fn clone(&self) -> Result<Self, AllocError> {
+        Ok(*self)
+    }
 }
 
 /// Whether neither the uid nor the id is the one that stands for all processors.
@@ -64,10 +84,15 @@ fn is_single(processor: MadtProcessor) -> bool
 }
 
 /// Whether no processor has a number that stands for all.
-fn processors_fit(processors: &[MadtProcessor]) -> bool
-    ensures { result ≡ list_all bytes.is_single processors.now }
+fn processors_fit<P: StandsFor<MadtProcessor>>(processors: &[P]) -> bool
+    ensures { result ≡ list_all bytes.is_single (map P.meant processors.now) }
 {
-    processors.iter().all(|processor| is_single(*processor))
+    for processor in processors {
+        if !is_single(processor.item()) {
+            return false;
+        }
+    }
+    true
 }
 
 /// Whether this isn't the uid that stands for all processors.
@@ -81,42 +106,42 @@ fn names_one(processor: NmiProcessor) -> bool
 }
 
 /// Whether no line is of the uid that stands for all processors.
-fn lines_fit(lines: &[NmiLine]) -> bool
-    ensures { result ≡ list_all (λ x. bytes.names_one x.processor) lines.now }
+fn lines_fit<L: StandsFor<NmiLine>>(lines: &[L]) -> bool
+    ensures { result ≡ list_all (λ x. bytes.names_one x.processor) (map L.meant lines.now) }
 {
-    lines.iter().all(|line| names_one(line.processor))
+    for line in lines {
+        if !names_one(line.item().processor) {
+            return false;
+        }
+    }
+    true
 }
 
-/// The lists of a MADT, as in `MadtContents`, of anything that is spelled as its entries are.
-pub struct MadtLists<'a, P, I, O, S, L> {
-    /// The physical address of each processor's local APIC.
-    pub local_apic_address: u64,
-    /// PCAT_COMPAT: the machine has a pair of 8259 controllers too.
-    pub also_has_legacy_pics: bool,
-    /// The processors.
-    pub processors: &'a [P],
-    /// I/O APICs.
-    pub io_apics: &'a [I],
-    /// Interrupt Source Overrides.
-    pub interrupt_source_overrides: &'a [O],
-    /// NMI Sources.
-    pub nmi_sources: &'a [S],
-    /// Local APIC NMIs and Local x2APIC NMIs.
-    pub local_apic_nmi_lines: &'a [L],
-    /// MailBoxAddress, if there is a mailbox.
-    pub wakeup_mailbox: Option<u64>,
+/// Whether there is one.
+pub(crate) fn has_some<T>(xs: &[T]) -> bool
+    ensures { result ≡ not (bytes.is_empty xs.now) }
+{
+    match xs {
+        [] => false,
+        [_, ..] => true,
+    }
 }
 
-// By hand, since a derived `Clone` clones field by field, which takes long to prove.
-impl<P, I, O, S, L> Copy for MadtLists<'_, P, I, O, S, L> {}
+impl<P, I, O, S, L> Checked for MadtContents<'_, P, I, O, S, L>
+where
+    P: StandsFor<MadtProcessor>,
+    I: StandsFor<IoApic>,
+    O: StandsFor<InterruptSourceOverride>,
+    S: StandsFor<NmiSource>,
+    L: StandsFor<NmiLine>,
+{
+    ghost checked = { λ c. bytes.madt_checked (bytes.madt_meant P.meant I.meant O.meant S.meant L.meant c) };
 
-impl<P, I, O, S, L> Clone for MadtLists<'_, P, I, O, S, L> {
-    ghost is_clone = { λ x y. y ≡ x };
-
-    ghost is_infallible = { λ _. Unit {0} };
-
-    fn clone(&self) -> Result<Self, AllocError> {
-        Ok(*self)
+    #[tactic(auto, using(crate::proofs::Sized::some_meant))]
+    fn check(&self) -> Result<(), WriterError> {
+        require(has_some(self.processors), WriterError::NoProcessor)?;
+        require(processors_fit(self.processors), WriterError::IdOfAll)?;
+        require(lines_fit(self.local_apic_nmi_lines), WriterError::UidOfAll)
     }
 }
 
@@ -128,68 +153,32 @@ macro_rules! body_of {
             also_has_legacy_pics: $contents.also_has_legacy_pics,
         };
         let wakeup = Wakeup($contents.wakeup_mailbox);
-        let nmis = Then(
-            Each($contents.nmi_sources),
-            Then(Each($contents.local_apic_nmi_lines), wakeup),
-        );
-        let wirings = Then(Each($contents.interrupt_source_overrides), nmis);
-        let controllers = Then(Each($contents.io_apics), wirings);
-        let address = AddressOverride($contents.local_apic_address);
-        let entries = Then(Each($contents.processors), Then(address, controllers));
-        Then(fixed, entries)
+        let lines = Then(EachItem($contents.local_apic_nmi_lines, PhantomData), wakeup);
+        let nmis = Then(EachItem($contents.nmi_sources, PhantomData), lines);
+        let wirings = Then(EachItem($contents.interrupt_source_overrides, PhantomData), nmis);
+        let controllers = Then(EachItem($contents.io_apics, PhantomData), wirings);
+        let address = Then(AddressOverride($contents.local_apic_address), controllers);
+        Then(fixed, Then(EachItem($contents.processors, PhantomData), address))
     }};
-}
-
-impl<P: Spelled, I: Spelled, O: Spelled, S: Spelled, L: Spelled> Spelled
-    for MadtLists<'_, P, I, O, S, L> {
-    ghost spelled = { λ x. bytes.madt_body_of x.local_apic_address x.also_has_legacy_pics x.wakeup_mailbox (record {
-      processors = flat_map P.spelled x.processors.now;
-      io_apics = flat_map I.spelled x.io_apics.now;
-      overrides = flat_map O.spelled x.interrupt_source_overrides.now;
-      nmi_sources = flat_map S.spelled x.nmi_sources.now;
-      nmi_lines = flat_map L.spelled x.local_apic_nmi_lines.now;
-    }) };
-
-    ghost fits = { λ x. FitsAddress x.local_apic_address × All P.fits x.processors.now × All I.fits x.io_apics.now
-        × All O.fits x.interrupt_source_overrides.now × All S.fits x.nmi_sources.now × FitsMailbox x.wakeup_mailbox };
-
-    fn measure(&self, room: usize) -> Option<usize> {
-        let body = body_of!(self);
-        body.measure(room)
-    }
-
-    fn put(&self, out: &mut [u8]) {
-        let body = body_of!(self);
-        body.put(out);
-    }
-}
-
-/// Whether there is one.
-fn has_some<T>(xs: &[T]) -> bool
-    ensures { result ≡ not (bytes.is_empty xs.now) }
-{
-    match xs {
-        [] => false,
-        [_, ..] => true,
-    }
-}
-
-impl Checked for MadtContents<'_> {
-    ghost checked = { bytes.madt_checked };
-
-    fn check(&self) -> Result<(), WriterError> {
-        require(has_some(self.processors), WriterError::NoProcessor)?;
-        require(processors_fit(self.processors), WriterError::IdOfAll)?;
-        require(lines_fit(self.local_apic_nmi_lines), WriterError::UidOfAll)
-    }
 }
 
 /// How many bytes the MADT has, or the first error of `write_madt` in a slice of any length.
 #[tactic(auto, unfolding(crate::specs::MadtBytes::madt_written))]
-pub(crate) fn madt_size(ids: &TableIds, contents: &MadtContents<'_>) -> Result<usize, WriterError>
-    ensures exact { result ≡ sized (bytes.madt_written most ids.now contents.now) }
+pub fn madt_size<P, I, O, S, L>(
+    ids: &TableIds,
+    contents: &MadtContents<'_, P, I, O, S, L>,
+) -> Result<usize, WriterError>
+where
+    P: StandsFor<MadtProcessor>,
+    I: StandsFor<IoApic>,
+    O: StandsFor<InterruptSourceOverride>,
+    S: StandsFor<NmiSource>,
+    L: StandsFor<NmiLine>,
+    ensures exact { result ≡ sized (bytes.madt_written most ids.now
+        (bytes.madt_meant P.meant I.meant O.meant S.meant L.meant contents.now)) }
     ensures short { IfOk result (λ n. n < 2 ^ 32) }
-    ensures fits { IfOk result (λ n. AreFit contents.now) }
+    ensures fits { IfOk result (λ n.
+        AreFit (bytes.madt_meant P.meant I.meant O.meant S.meant L.meant contents.now)) }
 {
     let body = body_of!(contents);
     checked_size(Signature::MADT, 5, ids, contents, &body)
@@ -206,18 +195,25 @@ pub(crate) fn madt_size(ids: &TableIds, contents: &MadtContents<'_>) -> Result<u
 /// `UidOfAll` if an NMI line is of the processor 0xffffffff, `BadName` if a name of the ids is not valid UTF-8,
 /// `NoRoom` if the slice is shorter than the table, and `TooLong` if the table has 2^32 bytes or more.
 #[tactic(auto, unfolding(crate::specs::MadtBytes::madt_written))]
-pub fn write_madt(
+pub fn write_madt<P, I, O, S, L>(
     out: &mut [u8],
     ids: &TableIds,
-    contents: &MadtContents<'_>,
+    contents: &MadtContents<'_, P, I, O, S, L>,
 ) -> Result<usize, WriterError>
+where
+    P: StandsFor<MadtProcessor>,
+    I: StandsFor<IoApic>,
+    O: StandsFor<InterruptSourceOverride>,
+    S: StandsFor<NmiSource>,
+    L: StandsFor<NmiLine>,
     // The bytes, or the first error, are those that are defined.
-    ensures exact { Gives (λ n. take n out.new) result
-        (bytes.madt_written (length out.old) ids.now contents.now) }
+    ensures exact { Gives (λ n. take n out.new) result (bytes.madt_written (length out.old) ids.now
+        (bytes.madt_meant P.meant I.meant O.meant S.meant L.meant contents.now)) }
     // What stands after the table is unchanged, and after an error the whole slice is.
     ensures keeps { Keeps result out.old out.new }
     // The numbers that were given fit, so that what was given is what is read (`tables_are_read`).
-    ensures fits { IfOk result (λ n. IsMadt ids.now contents.now (take n out.new)) }
+    ensures fits { IfOk result (λ n. IsMadt ids.now
+        (bytes.madt_meant P.meant I.meant O.meant S.meant L.meant contents.now) (take n out.new)) }
 {
     let body = body_of!(contents);
     write_checked(out, Signature::MADT, 5, ids, contents, &body)

@@ -1,17 +1,17 @@
 //! The PCI Express memory mapped configuration space table (MCFG), from its regions.
-ghost use Rattle.std.specs.Prelude.{◌≡◌, ◌++◌, ◌^◌, ◌<◌, flat_map, length, take, IfOk, All};
+ghost use Rattle.std.specs.Prelude.{◌≡◌, ◌^◌, ◌<◌, length, map, take, IfOk, All};
 ghost use Rattle.acpi_base.specs.Words.{Gives};
-ghost use Rattle.acpi_writer.specs.Words.{most, sized, IsMcfg, IsTableOf, Keeps};
+ghost use Rattle.acpi_writer.specs.Words.{most, sized, FitsMcfg, IsMcfg, Keeps};
 ghost use Rattle.acpi_writer.specs.McfgBytes as bytes;
-ghost use Rattle.acpi.specs.Types.{MCFG};
 
 use crate::error::WriterError;
 use crate::fields::{Field, Record};
 use crate::ids::TableIds;
-use crate::spelled::{Each, Spelled, Then};
+use crate::spelled::{EachItem, StandsFor, Then};
 use crate::table::{table_size, write_table};
 use acpi_base::Signature;
 use acpi_base::mcfg::McfgEntry;
+use std::marker::PhantomData;
 
 impl Record for McfgEntry {
     type Fields = [Field; 5];
@@ -30,40 +30,23 @@ impl Record for McfgEntry {
     }
 }
 
-/// Writes an MCFG, as `write_mcfg` does, whose regions are anything that is spelled as one.
-pub fn write_mcfg_of<E: Spelled>(
-    out: &mut [u8],
+/// All after the header of an MCFG: Reserved, and the regions.
+macro_rules! body_of {
+    ($regions:expr) => {
+        Then(Field::Zeros(8), EachItem($regions, PhantomData))
+    };
+}
+
+/// How many bytes the MCFG has, or the first error of `write_mcfg` in a slice of any length.
+pub fn mcfg_size<E: StandsFor<McfgEntry>>(
     ids: &TableIds,
     regions: &[E],
 ) -> Result<usize, WriterError>
-    ensures exact { Gives (λ n. take n out.new) result
-        (bytes.mcfg_written_of (length out.old) ids.now (flat_map E.spelled regions.now)) }
-    ensures keeps { Keeps result out.old out.new }
-    ensures table { IfOk result (λ n.
-        IsTableOf MCFG 1 ids.now (bytes.mcfg_reserved ++ flat_map E.spelled regions.now) (take n out.new)) }
-    ensures fits { IfOk result (λ n. All E.fits regions.now) }
-{
-    write_table(
-        out,
-        Signature::MCFG,
-        1,
-        ids,
-        &Then(Field::Zeros(8), Each(regions)),
-    )
-}
-
-/// How many bytes the MCFG has, or the first error of `write_mcfg_of` in a slice of any length.
-pub fn mcfg_size<E: Spelled>(ids: &TableIds, regions: &[E]) -> Result<usize, WriterError>
-    ensures exact { result ≡ sized (bytes.mcfg_written_of most ids.now (flat_map E.spelled regions.now)) }
+    ensures exact { result ≡ sized (bytes.mcfg_written most ids.now (map E.meant regions.now)) }
     ensures short { IfOk result (λ n. n < 2 ^ 32) }
-    ensures fits { IfOk result (λ n. All E.fits regions.now) }
+    ensures fits { IfOk result (λ n. All FitsMcfg (map E.meant regions.now)) }
 {
-    table_size(
-        Signature::MCFG,
-        1,
-        ids,
-        &Then(Field::Zeros(8), Each(regions)),
-    )
+    table_size(Signature::MCFG, 1, ids, &body_of!(regions))
 }
 
 /// Writes an MCFG of revision 1 to the front of a slice, and returns how many bytes it has: 44, and 16 for each region.
@@ -71,18 +54,18 @@ pub fn mcfg_size<E: Spelled>(ids: &TableIds, regions: &[E]) -> Result<usize, Wri
 ///
 /// Returns, in this order, `BadName` if a name of the ids is not valid UTF-8, `NoRoom` if the slice is shorter than
 /// the table, and `TooLong` if the table has 2^32 bytes or more.
-pub fn write_mcfg(
+pub fn write_mcfg<E: StandsFor<McfgEntry>>(
     out: &mut [u8],
     ids: &TableIds,
-    regions: &[McfgEntry],
+    regions: &[E],
 ) -> Result<usize, WriterError>
     // The bytes, or the first error, are those that are defined.
     ensures exact { Gives (λ n. take n out.new) result
-        (bytes.mcfg_written (length out.old) ids.now regions.now) }
+        (bytes.mcfg_written (length out.old) ids.now (map E.meant regions.now)) }
     // What stands after the table is unchanged, and after an error the whole slice is.
     ensures keeps { Keeps result out.old out.new }
     // The numbers that were given fit, so that what was given is what is read (`tables_are_read`).
-    ensures fits { IfOk result (λ n. IsMcfg ids.now regions.now (take n out.new)) }
+    ensures fits { IfOk result (λ n. IsMcfg ids.now (map E.meant regions.now) (take n out.new)) }
 {
-    write_mcfg_of(out, ids, regions)
+    write_table(out, Signature::MCFG, 1, ids, &body_of!(regions))
 }

@@ -1,6 +1,6 @@
 //! The Serial Port Console Redirection Table (SPCR, section 5.2.6), from what it says of a serial port. Its layout is
 //! Microsoft's.
-ghost use Rattle.std.specs.Prelude.{◌≡◌, ◌^◌, ◌<◌, ◌&&◌, length, take, IfOk, IsUtf8};
+ghost use Rattle.std.specs.Prelude.{◌≡◌, ◌^◌, ◌<◌, ◌&&◌, length, take, IfOk, IsUtf8, ◌++◌, [], ◌∷◌};
 ghost use Rattle.acpi_base.specs.Words.{Gives, is_interface};
 ghost use Rattle.acpi_writer.specs.Words.{most, sized, Keeps};
 ghost use Rattle.acpi_writer.specs.Spcr as spcr;
@@ -13,7 +13,7 @@ use crate::error::WriterError;
 use crate::fields::Field;
 use crate::generic::is_named_space;
 use crate::ids::TableIds;
-use crate::spelled::{Bytes, Then};
+use crate::spelled::{Bytes, Spelled, Then};
 use crate::table::{checked_size, write_checked};
 use acpi_base::Signature;
 use acpi_base::address::GenericAddress;
@@ -48,9 +48,9 @@ pub struct SpcrContents<'a> {
     pub base_address: Option<GenericAddress>,
     /// Interrupt Type: the controllers that the port's interrupt comes to.
     pub interrupt_type: SpcrInterruptType,
-    /// IRQ: the interrupt on the 8259s. It counts if Interrupt Type has them.
+    /// IRQ: the interrupt on the 8259s. It is written as 0 unless Interrupt Type has them.
     pub irq: u8,
-    /// Global System Interrupt. It counts if Interrupt Type has another controller than the 8259s.
+    /// Global System Interrupt. It is written as 0 unless Interrupt Type has another controller than the 8259s.
     pub global_system_interrupt: u32,
     /// Precise Baud Rate: the rate in bits per second, or 0 if it is to stay as it is. Configured Baud Rate has its
     /// code too, if it has one.
@@ -121,14 +121,24 @@ impl Checked for SpcrContents<'_> {
     }
 }
 
-/// All after the header of an SPCR, whose name ends with a zero.
-macro_rules! body_of {
-    ($contents:expr) => {
-        Then(
-            *$contents,
-            Then(Bytes($contents.namespace_string.as_bytes()), Field::U8(0)),
-        )
-    };
+/// NamespaceString, which a zero ends.
+#[derive(Clone, Copy)]
+struct Name<'a>(&'a str);
+
+impl Spelled for Name<'_> {
+    ghost spelled = { λ s. s.0.now ++ (0 ∷ []) };
+
+    ghost fits = { λ s. IsUtf8 s.0.now };
+
+    fn measure(&self, room: usize) -> Option<usize> {
+        let text = self.0.as_bytes();
+        let size = text.len() + 1;
+        if room < size { None } else { Some(size) }
+    }
+
+    fn put(&self, out: &mut [u8]) {
+        Then(Bytes(self.0.as_bytes()), Field::U8(0)).put(out);
+    }
 }
 
 /// How many bytes the SPCR has, or the first error of `write_spcr` in a slice of any length.
@@ -136,9 +146,9 @@ macro_rules! body_of {
 pub(crate) fn spcr_size(ids: &TableIds, contents: &SpcrContents<'_>) -> Result<usize, WriterError>
     ensures exact { result ≡ sized (spcr.spcr_written most ids.now contents.now) }
     ensures short { IfOk result (λ n. n < 2 ^ 32) }
-    ensures fits { IfOk result (λ n. laws.FitsSpcr contents.now × IsUtf8 contents.now.namespace_string.now) }
+    ensures fits { IfOk result (λ n. laws.FitsSpcr contents.now) }
 {
-    let body = body_of!(contents);
+    let body = Then(*contents, Name(contents.namespace_string));
     checked_size(Signature::SPCR, 4, ids, contents, &body)
 }
 
@@ -162,6 +172,6 @@ pub fn write_spcr(
     // The numbers that were given fit, so that what was given is what is read (`tables_are_read`).
     ensures fits { IfOk result (λ n. laws.IsSpcr ids.now contents.now (take n out.new)) }
 {
-    let body = body_of!(contents);
+    let body = Then(*contents, Name(contents.namespace_string));
     write_checked(out, Signature::SPCR, 4, ids, contents, &body)
 }

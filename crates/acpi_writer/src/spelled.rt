@@ -1,6 +1,8 @@
 //! What has bytes in a table: an entry, entries in a row, one part after another, and bytes that are given.
-ghost use Rattle.std.specs.Prelude.{◌≡◌, ℕ, List, ◌++◌, length, flat_map, All};
+ghost use Rattle.std.specs.Prelude.{◌≡◌, ℕ, List, ◌++◌, length, flat_map, map, All};
 ghost use Rattle.acpi_writer.specs.Spelled.{Measures};
+
+use std::marker::PhantomData;
 
 /// Something that has bytes in a table.
 pub trait Spelled {
@@ -20,38 +22,38 @@ pub trait Spelled {
         ensures { out.new ≡ spelled self.now };
 }
 
-/// A way to spell the things of a type.
-pub(crate) trait Way<T> {
-    // The bytes of a thing.
-    ghost bytes: { Self → T → List ℕ };
+/// What stands for an item of a table: the item itself, or a record of a caller's own.
+pub trait StandsFor<T: Copy>: Copy {
+    // The item.
+    ghost meant: { Self → T };
 
-    // Each of its numbers has a place there.
-    ghost has_place: { Self → T → Type 0 };
-
-    /// How many bytes a thing has, or `None` if these are more than there is room for.
-    fn measure_one(&self, x: &T, room: usize) -> Option<usize>
-        ensures { Measures result room (bytes self.now x.now) (has_place self.now x.now) };
-
-    /// Puts the bytes of a thing in place of all those of a slice that is as long.
-    fn put_one(&self, x: &T, out: &mut [u8])
-        requires { length out.old ≡ length (bytes self.now x.now) }
-        ensures { out.new ≡ bytes self.now x.now };
+    /// The item.
+    fn item(&self) -> T
+        ensures { result ≡ meant self.now };
 }
 
-/// The things of a list, one after the other, spelled in one way.
+impl<T: Copy> StandsFor<T> for T {
+    ghost meant = { λ x. x };
+
+    fn item(&self) -> T {
+        *self
+    }
+}
+
+/// The items that the things of a list stand for, one after the other.
 #[derive(Clone, Copy)]
-pub(crate) struct EachBy<'a, W, T>(pub(crate) W, pub(crate) &'a [T]);
+pub struct EachItem<'a, T, R>(pub &'a [R], pub PhantomData<T>);
 
-impl<'a, T, W: Way<T>> Spelled for EachBy<'a, W, T> {
-    ghost spelled = { λ s. flat_map (W.bytes s.0) s.1.now };
+impl<T: Spelled + Copy, R: StandsFor<T>> Spelled for EachItem<'_, T, R> {
+    ghost spelled = { λ s. flat_map T.spelled (map R.meant s.0.now) };
 
-    ghost fits = { λ s. All (W.has_place s.0) s.1.now };
+    ghost fits = { λ s. All T.fits (map R.meant s.0.now) };
 
     fn measure(&self, room: usize) -> Option<usize> {
-        let xs = self.1;
+        let things = self.0;
         let mut size = 0;
-        for x in xs {
-            match self.0.measure_one(x, room - size) {
+        for x in things {
+            match x.item().measure(room - size) {
                 Some(more) => size += more,
                 None => return None,
             }
@@ -60,12 +62,13 @@ impl<'a, T, W: Way<T>> Spelled for EachBy<'a, W, T> {
     }
 
     fn put(&self, out: &mut [u8]) {
-        let xs = self.1;
+        let things = self.0;
         let mut at = 0;
-        for x in xs {
-            match self.0.measure_one(x, out.len() - at) {
+        for x in things {
+            let item = x.item();
+            match item.measure(out.len() - at) {
                 Some(size) => {
-                    self.0.put_one(x, &mut out[at..at + size]);
+                    item.put(&mut out[at..at + size]);
                     at += size;
                 }
                 None => return,
@@ -74,39 +77,23 @@ impl<'a, T, W: Way<T>> Spelled for EachBy<'a, W, T> {
     }
 }
 
-/// As a thing is spelled itself.
-#[derive(Clone, Copy)]
-struct Itself;
-
-impl<T: Spelled> Way<T> for Itself {
-    ghost bytes = { λ _ x. T.spelled x };
-
-    ghost has_place = { λ _ x. T.fits x };
-
-    fn measure_one(&self, x: &T, room: usize) -> Option<usize> {
-        x.measure(room)
-    }
-
-    fn put_one(&self, x: &T, out: &mut [u8]) {
-        x.put(out);
-    }
-}
-
 /// The things of a list, one after the other.
 #[derive(Clone, Copy)]
 pub struct Each<'a, T>(pub &'a [T]);
 
-impl<'a, T: Spelled> Spelled for Each<'a, T> {
+impl<T: Spelled + Copy> Spelled for Each<'_, T> {
     ghost spelled = { λ s. flat_map T.spelled s.0.now };
 
     ghost fits = { λ s. All T.fits s.0.now };
 
+    #[tactic(auto, using(crate::proofs::Sized::map_same))]
     fn measure(&self, room: usize) -> Option<usize> {
-        EachBy(Itself, self.0).measure(room)
+        EachItem::<T, T>(self.0, PhantomData).measure(room)
     }
 
+    #[tactic(auto, using(crate::proofs::Sized::map_same))]
     fn put(&self, out: &mut [u8]) {
-        EachBy(Itself, self.0).put(out);
+        EachItem::<T, T>(self.0, PhantomData).put(out);
     }
 }
 

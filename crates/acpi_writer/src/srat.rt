@@ -1,24 +1,23 @@
 //! The System Resource Affinity Table (SRAT, section 5.2.16), from the domains of processors and of ranges of memory.
-ghost use Rattle.std.specs.Prelude.{◌≡◌, ◌^◌, ◌<◌, flat_map, length, take, IfOk, All};
+ghost use Rattle.std.specs.Prelude.{◌≡◌, ◌^◌, ◌<◌, length, map, take, IfOk};
 ghost use Rattle.acpi_base.specs.FromStd.{list_all};
 ghost use Rattle.acpi_base.specs.Words.{Gives};
-ghost use Rattle.acpi.specs.Types.{SRAT};
-ghost use Rattle.acpi_writer.specs.Types.{MemoryRange};
 ghost use Rattle.acpi_writer.specs.Contents.{most, sized};
 ghost use Rattle.acpi_writer.specs.Srat as srat;
 ghost use Rattle.acpi_writer.specs.SratLaws as laws;
-ghost use Rattle.acpi_writer.specs.Table.{IsTableOf, Keeps, table_written};
+ghost use Rattle.acpi_writer.specs.Table.{Keeps};
 
 use crate::checked::{Checked, require};
 use crate::error::WriterError;
 use crate::fields::{Field, Record};
 use crate::ids::TableIds;
 use crate::numbers::bit_of;
-use crate::spelled::{Bytes, Each, EachBy, Spelled, Then, Way};
+use crate::spelled::{Bytes, Each, EachItem, StandsFor, Then};
 use crate::table::{checked_size, write_checked};
 use acpi_base::Signature;
 use acpi_numa::MemoryRange;
 use std::alloc::AllocError;
+use std::marker::PhantomData;
 
 /// A processor with a local APIC, and the proximity domain that it is in (sections 5.2.16.1 and 5.2.16.3).
 #[repr(C)]
@@ -60,24 +59,6 @@ impl<R> Clone for SratContents<'_, R> {
 
     fn clone(&self) -> Result<Self, AllocError> {
         Ok(*self)
-    }
-}
-
-/// What stands for a range of memory: the range itself, or a record of a caller's own.
-pub trait StandsForRange {
-    // The range.
-    ghost range_of: { Self → MemoryRange };
-
-    /// The range.
-    fn range(&self) -> MemoryRange
-        ensures { result ≡ range_of self.now };
-}
-
-impl StandsForRange for MemoryRange {
-    ghost range_of = { λ r. r };
-
-    fn range(&self) -> MemoryRange {
-        *self
     }
 }
 
@@ -170,24 +151,6 @@ impl Record for MemoryRange {
     }
 }
 
-/// As the range that a thing stands for.
-#[derive(Clone, Copy)]
-struct AsRange;
-
-impl<R: StandsForRange> Way<R> for AsRange {
-    ghost bytes = { λ _ r. srat.memory_entry (R.range_of r) };
-
-    ghost has_place = { λ _ r. laws.FitsRange (R.range_of r) };
-
-    fn measure_one(&self, x: &R, room: usize) -> Option<usize> {
-        x.range().measure(room)
-    }
-
-    fn put_one(&self, x: &R, out: &mut [u8]) {
-        x.range().put(out);
-    }
-}
-
 /// Whether no processor has the id that stands for all.
 fn apics_fit(apics: &[ApicDomain]) -> bool
     ensures { result ≡ list_all srat.is_one_apic apics.now }
@@ -210,25 +173,19 @@ fn is_range(range: &MemoryRange) -> bool
 }
 
 /// Whether each range does.
-fn ranges_fit<R: StandsForRange>(ranges: &[R]) -> bool
-    ensures { result ≡ list_all (λ r. srat.is_range (R.range_of r)) ranges.now }
+fn ranges_fit<R: StandsFor<MemoryRange>>(ranges: &[R]) -> bool
+    ensures { result ≡ list_all srat.is_range (map R.meant ranges.now) }
 {
-    ranges.iter().all(|range| is_range(&range.range()))
+    for range in ranges {
+        if !is_range(&range.item()) {
+            return false;
+        }
+    }
+    true
 }
 
-/// All after the header of a SRAT.
-macro_rules! body_of {
-    ($contents:expr) => {{
-        let others = Then(Each($contents.giccs), EachBy(AsRange, $contents.ranges));
-        let entries = Then(Each($contents.apics), others);
-        // Reserved, of which the first is 1.
-        let reserved = Bytes(&[1, 0, 0, 0, 0, 0, 0, 0, 0, 0, 0, 0]);
-        Then(reserved, entries)
-    }};
-}
-
-impl<R: StandsForRange> Checked for SratContents<'_, R> {
-    ghost checked = { λ c. srat.srat_checked_by R.range_of c };
+impl<R: StandsFor<MemoryRange>> Checked for SratContents<'_, R> {
+    ghost checked = { λ c. srat.srat_checked (srat.srat_meant R.meant c) };
 
     fn check(&self) -> Result<(), WriterError> {
         require(apics_fit(self.apics), WriterError::IdOfAll)?;
@@ -237,43 +194,29 @@ impl<R: StandsForRange> Checked for SratContents<'_, R> {
     }
 }
 
-/// How many bytes the SRAT has, or the first error of `write_srat_of` in a slice of any length.
-#[tactic(auto, unfolding(crate::specs::Srat::srat_written_by))]
-pub fn srat_size_of<R: StandsForRange>(
-    ids: &TableIds,
-    contents: &SratContents<'_, R>,
-) -> Result<usize, WriterError>
-    ensures exact { result ≡ sized (srat.srat_written_by R.range_of most ids.now contents.now) }
-    ensures short { IfOk result (λ n. n < 2 ^ 32) }
-    ensures fits { IfOk result (λ n. laws.AreFitBy R.range_of contents.now) }
-{
-    let body = body_of!(contents);
-    checked_size(Signature::SRAT, 3, ids, contents, &body)
+/// All after the header of a SRAT.
+macro_rules! body_of {
+    ($contents:expr) => {{
+        let others = Then(Each($contents.giccs), EachItem($contents.ranges, PhantomData));
+        let entries = Then(Each($contents.apics), others);
+        // Reserved, of which the first is 1.
+        let reserved = Bytes(&[1, 0, 0, 0, 0, 0, 0, 0, 0, 0, 0, 0]);
+        Then(reserved, entries)
+    }};
 }
 
 /// How many bytes the SRAT has, or the first error of `write_srat` in a slice of any length.
-pub(crate) fn srat_size(ids: &TableIds, contents: &SratContents<'_>) -> Result<usize, WriterError>
-    ensures exact { result ≡ sized (srat.srat_written most ids.now contents.now) }
-    ensures short { IfOk result (λ n. n < 2 ^ 32) }
-    ensures fits { IfOk result (λ n. laws.AreFit contents.now) }
-{
-    srat_size_of(ids, contents)
-}
-
-/// Writes a SRAT, as `write_srat` does, of the ranges that these things stand for.
-#[tactic(auto, unfolding(crate::specs::Srat::srat_written_by))]
-pub fn write_srat_of<R: StandsForRange>(
-    out: &mut [u8],
+#[tactic(auto, unfolding(crate::specs::Srat::srat_written))]
+pub fn srat_size<R: StandsFor<MemoryRange>>(
     ids: &TableIds,
     contents: &SratContents<'_, R>,
 ) -> Result<usize, WriterError>
-    ensures exact { Gives (λ n. take n out.new) result
-        (srat.srat_written_by R.range_of (length out.old) ids.now contents.now) }
-    ensures keeps { Keeps result out.old out.new }
-    ensures fits { IfOk result (λ n. laws.IsSratBy R.range_of ids.now contents.now (take n out.new)) }
+    ensures exact { result ≡ sized (srat.srat_written most ids.now (srat.srat_meant R.meant contents.now)) }
+    ensures short { IfOk result (λ n. n < 2 ^ 32) }
+    ensures fits { IfOk result (λ n. laws.AreFit (srat.srat_meant R.meant contents.now)) }
 {
     let body = body_of!(contents);
-    write_checked(out, Signature::SRAT, 3, ids, contents, &body)
+    checked_size(Signature::SRAT, 3, ids, contents, &body)
 }
 
 /// Writes a SRAT of revision 3 to the front of a slice, and returns how many bytes it has: 48, and those of its
@@ -285,18 +228,21 @@ pub fn write_srat_of<R: StandsForRange>(
 /// Returns, in this order, `IdOfAll` if a processor's id or uid is 0xffffffff, `BadRange` if a range has no byte or
 /// ends above 2^64 - 1, `BadName` if a name of the ids is not valid UTF-8, `NoRoom` if the slice is shorter than the
 /// table, and `TooLong` if the table has 2^32 bytes or more.
-pub fn write_srat(
+#[tactic(auto, unfolding(crate::specs::Srat::srat_written))]
+pub fn write_srat<R: StandsFor<MemoryRange>>(
     out: &mut [u8],
     ids: &TableIds,
-    contents: &SratContents<'_>,
+    contents: &SratContents<'_, R>,
 ) -> Result<usize, WriterError>
     // The bytes, or the first error, are those that are defined.
     ensures exact { Gives (λ n. take n out.new) result
-        (srat.srat_written (length out.old) ids.now contents.now) }
+        (srat.srat_written (length out.old) ids.now (srat.srat_meant R.meant contents.now)) }
     // What stands after the table is unchanged, and after an error the whole slice is.
     ensures keeps { Keeps result out.old out.new }
     // The numbers that were given fit, so that what was given is what is read (`tables_are_read`).
-    ensures fits { IfOk result (λ n. laws.IsSrat ids.now contents.now (take n out.new)) }
+    ensures fits { IfOk result (λ n.
+        laws.IsSrat ids.now (srat.srat_meant R.meant contents.now) (take n out.new)) }
 {
-    write_srat_of(out, ids, contents)
+    let body = body_of!(contents);
+    write_checked(out, Signature::SRAT, 3, ids, contents, &body)
 }

@@ -41,18 +41,25 @@ pub(crate) fn register(at: records::GenericAddress) -> GenericAddress
     }
 }
 
-/// A register that may not be there: it isn't at address 0.
+/// Whether a register, or a block of general purpose events, is there: it isn't at address 0.
+fn is_there(present: u8, address: u64) -> bool
+    ensures { result ≡ written.is_there present address }
+{
+    present != 0 && address != 0
+}
+
+/// A register, if it is there.
 fn optional(given: Register) -> Option<GenericAddress>
     ensures { result ≡ written.optional given }
 {
-    (given.present != 0 && given.at.address != 0).then_some(register(given.at))
+    is_there(given.present, given.at.address).then_some(register(given.at))
 }
 
-/// A block of general purpose events, if there is one.
+/// A block of general purpose events, if it is there.
 fn gpe(given: GpeBlock) -> Option<acpi::fadt::GpeBlock>
     ensures { result ≡ written.gpe given }
 {
-    (given.present != 0).then_some(acpi::fadt::GpeBlock {
+    is_there(given.present, given.address).then_some(acpi::fadt::GpeBlock {
         space: space(given.space),
         address: given.address,
         byte_length: given.byte_length,
@@ -189,37 +196,49 @@ pub(crate) fn contents(h: &FixedHardware) -> FadtContents
     }
 }
 
-/// Whether a register is there or isn't, and its codes are none that are reserved.
-pub(crate) fn has_codes_at(given: Register) -> bool
-    ensures { result ≡ written.has_codes_at given }
+/// Whether the codes of a register are none that are reserved.
+pub(crate) fn has_codes_at(at: records::GenericAddress) -> bool
+    ensures { result ≡ written.has_codes_at at }
 {
-    given.present <= 1
-        && is_space(given.at.space)
-        && AccessSize::try_from(given.at.access_size).is_ok()
+    is_space(at.space) && AccessSize::try_from(at.access_size).is_ok()
 }
 
-/// Whether so is a block of general purpose events.
+/// Whether `present` is 0 or 1, and so are the codes of a register that is there.
+fn has_optional_codes(given: Register) -> bool
+    ensures { result ≡ written.has_optional_codes given }
+{
+    given.present <= 1 && (!is_there(given.present, given.at.address) || has_codes_at(given.at))
+}
+
+/// The same of a block of general purpose events.
 fn has_gpe_codes(given: GpeBlock) -> bool
     ensures { result ≡ written.has_gpe_codes given }
 {
-    given.present <= 1 && is_space(given.space)
+    given.present <= 1 && (!is_there(given.present, given.address) || is_space(given.space))
 }
 
-/// Whether no register has a code that is reserved.
+/// Whether no block of fixed hardware has a code that is reserved.
+fn has_block_codes(h: &FixedHardware) -> bool
+    ensures { result ≡ written.has_block_codes h.now }
+{
+    has_codes_at(h.pm1a_event.at)
+        && has_codes_at(h.pm1a_control.at)
+        && has_optional_codes(h.pm1b_event)
+        && has_optional_codes(h.pm1b_control)
+        && has_optional_codes(h.pm2_control)
+        && has_optional_codes(h.pm_timer)
+        && has_gpe_codes(h.gpe0_block)
+        && has_gpe_codes(h.gpe1_block)
+}
+
+/// Whether no register that is written has.
 pub(crate) fn has_codes(h: &FixedHardware) -> bool
     ensures { result ≡ written.has_codes h.now }
 {
-    has_codes_at(h.pm1a_event)
-        && has_codes_at(h.pm1b_event)
-        && has_codes_at(h.pm1a_control)
-        && has_codes_at(h.pm1b_control)
-        && has_codes_at(h.pm2_control)
-        && has_codes_at(h.pm_timer)
-        && has_codes_at(h.reset)
-        && has_codes_at(h.sleep_control)
-        && has_codes_at(h.sleep_status)
-        && has_gpe_codes(h.gpe0_block)
-        && has_gpe_codes(h.gpe1_block)
+    (has_bit(h.flags as u64, 20) || has_block_codes(h))
+        && (!has_bit(h.flags as u64, 10) || has_codes_at(h.reset.at))
+        && has_optional_codes(h.sleep_control)
+        && has_optional_codes(h.sleep_status)
 }
 
 impl FacsContents {

@@ -1,12 +1,18 @@
-//! The GTDT that is written for C (section 5.2.24), from the record as which C reads it.
-ghost use Rattle.std.specs.Prelude.{◌≡◌, []};
+//! The GTDT that is written for C (section 5.2.24), from the records as which C reads it.
+ghost use Rattle.std.specs.Prelude.{◌≡◌};
+ghost use Rattle.acpi_base.specs.FromStd.{list_all};
+ghost use Rattle.acpi_writer.specs.Gtdt.{FitsStructureBy};
+ghost use Rattle.acpi_writer.specs.Words.{FitsFrame, frame_bytes, frame_checked};
 ghost use Rattle.acpi_c_lib.specs.WrittenGtdt as written;
 
 use super::madt::{is_wiring, polarity, trigger};
-use crate::arm_records::{ArmTimer, ArmTimers};
+use crate::arm_records::{ArmTimer, GtFrame, Watchdog};
+use crate::written_records::{GtdtContents, PlatformTimer};
 use acpi_arm::gtdt;
+use acpi_arm::gtdt::{SbsaWatchdog, TimerInterrupt};
 use acpi_base::model::{Polarity, TriggerMode};
-use acpi_writer::GtdtContents;
+use acpi_writer::spelled::Spelled;
+use acpi_writer::{Checked, GtBlockContents, PlatformTimerContents, WriterError};
 
 /// An address, of which all ones stand for none.
 fn base(address: u64) -> Option<u64>
@@ -43,12 +49,111 @@ fn virtual_el2(given: &ArmTimer) -> gtdt::ArmTimer
     }
 }
 
-/// The timers, as the writer has them.
-pub(crate) fn contents<'a>(timers: &ArmTimers) -> GtdtContents<'a>
-    ensures said { result ≡ written.contents result.platform_timers timers.now }
-    ensures none { result.platform_timers.now ≡ [] }
+/// A frame, as the writer has it.
+fn frame(given: &GtFrame) -> gtdt::GtFrame
+    ensures { result ≡ written.frame_of given.now }
 {
-    GtdtContents {
+    gtdt::GtFrame {
+        number: given.number,
+        base: given.address,
+        el0_base: base(given.el0_address),
+        physical_timer: TimerInterrupt {
+            interrupt: given.physical_interrupt,
+            trigger_mode: trigger(given.physical_trigger),
+            polarity: polarity(given.physical_polarity),
+        },
+        virtual_timer: TimerInterrupt {
+            interrupt: given.virtual_interrupt,
+            trigger_mode: trigger(given.virtual_trigger),
+            polarity: polarity(given.virtual_polarity),
+        },
+        is_secure: given.is_secure != 0,
+        is_always_on: given.is_always_on != 0,
+    }
+}
+
+impl Checked for GtFrame {
+    ghost checked = { λ f. frame_checked (written.frame_of f) };
+
+    fn check(&self) -> Result<(), WriterError> {
+        frame(self).check()
+    }
+}
+
+impl Spelled for GtFrame {
+    ghost spelled = { λ f. frame_bytes (written.frame_of f) };
+
+    ghost fits = { λ f. FitsFrame (written.frame_of f) };
+
+    fn measure(&self, room: usize) -> Option<usize> {
+        frame(self).measure(room)
+    }
+
+    fn put(&self, out: &mut [u8]) {
+        frame(self).put(out);
+    }
+}
+
+/// A watchdog, as the writer has it.
+fn watchdog(given: &Watchdog) -> SbsaWatchdog
+    ensures { result ≡ written.watchdog_of given.now }
+{
+    SbsaWatchdog {
+        refresh_frame: given.refresh_frame,
+        control_frame: given.control_frame,
+        interrupt: given.interrupt,
+        trigger_mode: trigger(given.trigger),
+        polarity: polarity(given.polarity),
+        is_secure: given.is_secure != 0,
+    }
+}
+
+impl<'a> PlatformTimer<'a> {
+    /// The timer of the platform, as the writer has it.
+    fn contents(&self) -> PlatformTimerContents<'a, GtFrame>
+        ensures { result ≡ written.platform_of self.now }
+    {
+        if self.kind == 0 {
+            PlatformTimerContents::GtBlock(GtBlockContents {
+                address: self.block_address,
+                frames: self.frames,
+            })
+        } else {
+            PlatformTimerContents::SbsaWatchdog(watchdog(&self.watchdog))
+        }
+    }
+}
+
+impl Checked for PlatformTimer<'_> {
+    ghost checked = { written.platform_checked };
+
+    fn check(&self) -> Result<(), WriterError> {
+        self.contents().check()
+    }
+}
+
+impl Spelled for PlatformTimer<'_> {
+    ghost spelled = { written.platform_bytes };
+
+    ghost fits = { λ t. FitsStructureBy (λ f. FitsFrame (written.frame_of f)) (written.platform_of t) };
+
+    fn measure(&self, room: usize) -> Option<usize> {
+        self.contents().measure(room)
+    }
+
+    fn put(&self, out: &mut [u8]) {
+        self.contents().put(out);
+    }
+}
+
+/// What the GTDT is to say, as the writer has it.
+pub(crate) fn contents<'a>(
+    given: &GtdtContents<'a>,
+) -> acpi_writer::GtdtContents<'a, PlatformTimer<'a>>
+    ensures { result ≡ written.contents given.now }
+{
+    let timers = &given.timers;
+    acpi_writer::GtdtContents {
         counter_control_base: base(timers.control_base),
         secure_el1_timer: timer(&timers.secure_el1),
         non_secure_el1_timer: timer(&timers.non_secure_el1),
@@ -56,7 +161,7 @@ pub(crate) fn contents<'a>(timers: &ArmTimers) -> GtdtContents<'a>
         el2_timer: timer(&timers.el2),
         counter_read_base: base(timers.read_base),
         virtual_el2_timer: virtual_el2(&timers.virtual_el2),
-        platform_timers: &[],
+        platform_timers: given.platform_timers,
     }
 }
 
@@ -66,13 +171,46 @@ fn is_wired(timer: &ArmTimer) -> bool
     is_wiring(timer.polarity) && is_wiring(timer.trigger)
 }
 
-/// Whether each polarity and trigger mode is one that there is.
-pub(crate) fn has_codes(timers: &ArmTimers) -> bool
-    ensures { result ≡ written.has_codes timers.now }
+fn is_frame_wired(frame: &GtFrame) -> bool
+    ensures { result ≡ written.is_frame_wired frame.now }
 {
-    is_wired(&timers.secure_el1)
-        && is_wired(&timers.non_secure_el1)
-        && is_wired(&timers.virtual_el1)
-        && is_wired(&timers.el2)
-        && is_wired(&timers.virtual_el2)
+    is_wiring(frame.physical_polarity)
+        && is_wiring(frame.physical_trigger)
+        && is_wiring(frame.virtual_polarity)
+        && is_wiring(frame.virtual_trigger)
+}
+
+fn are_frames_wired(frames: &[GtFrame]) -> bool
+    ensures { result ≡ list_all written.is_frame_wired frames.now }
+{
+    frames.iter().all(|frame| is_frame_wired(frame))
+}
+
+/// Whether the kind of a timer of the platform is one that there is, and so is each polarity and trigger mode.
+fn is_platform_wired(timer: &PlatformTimer<'_>) -> bool
+    ensures { result ≡ written.is_platform_wired timer.now }
+{
+    if timer.kind == 0 {
+        are_frames_wired(timer.frames)
+    } else {
+        timer.kind == 1 && is_wiring(timer.watchdog.polarity) && is_wiring(timer.watchdog.trigger)
+    }
+}
+
+fn are_platform_wired(timers: &[PlatformTimer<'_>]) -> bool
+    ensures { result ≡ list_all written.is_platform_wired timers.now }
+{
+    timers.iter().all(|timer| is_platform_wired(timer))
+}
+
+/// Whether each kind, polarity and trigger mode is one that there is.
+pub(crate) fn has_codes(given: &GtdtContents<'_>) -> bool
+    ensures { result ≡ written.has_codes given.now }
+{
+    is_wired(&given.timers.secure_el1)
+        && is_wired(&given.timers.non_secure_el1)
+        && is_wired(&given.timers.virtual_el1)
+        && is_wired(&given.timers.el2)
+        && is_wired(&given.timers.virtual_el2)
+        && are_platform_wired(given.platform_timers)
 }

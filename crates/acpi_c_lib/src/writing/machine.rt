@@ -4,24 +4,27 @@ ghost use Rattle.acpi_base.specs.Words.{Gives};
 ghost use Rattle.acpi_c_lib.specs.Words.{IsKeptOr};
 ghost use Rattle.acpi_c_lib.specs.WrittenMachine as whole;
 
-use crate::arm_records::ArmTimers;
 use crate::fixed_records::FixedHardware;
 use crate::records::{BootGraphic, HpetInfo, PciRegion};
 use crate::refusal::Refusal;
 use crate::writing::{bgrt, fadt, gic, gtdt, madt, spcr};
 use crate::written_records::{
-    AmlContents, GicContents, ListedTable, Machine, MadtContents, SlitContents, SpcrContents,
-    SratContents,
+    AmlContents, GicContents, GtdtContents, ListedTable, Machine, MadtContents, SlitContents,
+    SpcrContents, SratContents,
 };
 use acpi_base::Signature;
 use acpi_writer::fadt::fadt_size;
-use acpi_writer::mcfg::{mcfg_size, write_mcfg_of};
+use acpi_writer::gtdt::gtdt_size;
+use acpi_writer::madt::gic::gic_size;
+use acpi_writer::madt::madt_size;
+use acpi_writer::mcfg::mcfg_size;
 use acpi_writer::slit::slit_size;
 use acpi_writer::spelled::Bytes;
-use acpi_writer::srat::{srat_size_of, write_srat_of};
+use acpi_writer::srat::srat_size;
 use acpi_writer::{
     Listed, TableContents, TableIds, WriterError, dsdt_address, require, table_size, write_bgrt,
-    write_fadt, write_gtdt, write_hpet, write_slit, write_spcr, write_ssdt,
+    write_fadt, write_gic_madt, write_gtdt, write_hpet, write_madt, write_mcfg, write_slit,
+    write_spcr, write_srat, write_ssdt,
 };
 
 /// What a table is to say, or `Nothing` if there is no such kind, or its list is empty.
@@ -36,7 +39,7 @@ pub enum Contents<'a> {
     Srat(SratContents<'a>),
     Bgrt(BootGraphic),
     Spcr(SpcrContents),
-    Gtdt(ArmTimers),
+    Gtdt(GtdtContents<'a>),
     Gic(GicContents<'a>),
     Nothing,
 }
@@ -65,42 +68,48 @@ impl Listed for Contents<'_> {
 
     ghost fits = { λ _. Unit {0} };
 
-    #[tactic(auto, using(crate::proofs::WrittenTables::named, crate::proofs::WrittenTables::untimed), unfolding(acpi_writer::specs::Spcr::spcr_written, acpi_writer::specs::Spcr::fixed_list, acpi_writer::specs::Gtdt::gtdt_fields, acpi_writer::specs::Gtdt::gtdt_written))]
+    #[tactic(auto, using(crate::proofs::WrittenTables::named), unfolding(acpi_writer::specs::Spcr::spcr_written, acpi_writer::specs::Spcr::fixed_list))]
     fn size(&self, ids: &TableIds) -> Result<usize, WriterError> {
         match self {
             Contents::Fadt(hardware) => fadt_size(ids, &fadt::contents(hardware)),
-            Contents::Madt(lists) => madt::laid_size(ids, lists),
+            Contents::Madt(lists) => madt_size(ids, &lists.contents()),
             Contents::Mcfg(regions) => mcfg_size(ids, regions),
             Contents::Hpet(info) => table_size(Signature::HPET, 1, ids, &info.info()),
             Contents::Slit(slit) => slit_size(ids, slit.localities, slit.distances),
             Contents::Ssdt(aml) => {
                 table_size(Signature::SSDT, aml.revision, ids, &Bytes(aml.aml))
             }
-            Contents::Srat(domains) => srat_size_of(ids, &domains.contents()),
+            Contents::Srat(domains) => srat_size(ids, &domains.contents()),
             Contents::Bgrt(graphic) => {
                 table_size(Signature::BGRT, 1, ids, &bgrt::contents(graphic))
             }
             Contents::Spcr(console) => TableContents::Spcr(spcr::contents(console)).size(ids),
-            Contents::Gtdt(timers) => TableContents::Gtdt(gtdt::contents(timers)).size(ids),
-            Contents::Gic(parts) => gic::laid_size(ids, parts),
+            Contents::Gtdt(timers) => gtdt_size(ids, &gtdt::contents(timers)),
+            Contents::Gic(parts) => {
+                parts.check()?;
+                gic_size(ids, &parts.contents())
+            }
             Contents::Nothing => Err(WriterError::BadCode),
         }
     }
 
-    #[tactic(auto, using(crate::proofs::WrittenTables::named, crate::proofs::WrittenTables::untimed), unfolding(acpi_writer::specs::Spcr::spcr_written, acpi_writer::specs::Spcr::fixed_list, acpi_writer::specs::Gtdt::gtdt_fields, acpi_writer::specs::Gtdt::gtdt_written))]
+    #[tactic(auto, using(crate::proofs::WrittenTables::named), unfolding(acpi_writer::specs::Spcr::spcr_written, acpi_writer::specs::Spcr::fixed_list))]
     fn write(&self, out: &mut [u8], ids: &TableIds) -> Result<usize, WriterError> {
         match self {
             Contents::Fadt(hardware) => write_fadt(out, ids, &fadt::contents(hardware)),
-            Contents::Madt(lists) => madt::write_laid(out, ids, lists),
-            Contents::Mcfg(regions) => write_mcfg_of(out, ids, regions),
+            Contents::Madt(lists) => write_madt(out, ids, &lists.contents()),
+            Contents::Mcfg(regions) => write_mcfg(out, ids, regions),
             Contents::Hpet(info) => write_hpet(out, ids, &info.info()),
             Contents::Slit(slit) => write_slit(out, ids, slit.localities, slit.distances),
             Contents::Ssdt(aml) => write_ssdt(out, ids, aml.revision, aml.aml),
-            Contents::Srat(domains) => write_srat_of(out, ids, &domains.contents()),
+            Contents::Srat(domains) => write_srat(out, ids, &domains.contents()),
             Contents::Bgrt(graphic) => write_bgrt(out, ids, &bgrt::contents(graphic)),
             Contents::Spcr(console) => write_spcr(out, ids, &spcr::contents(console)),
             Contents::Gtdt(timers) => write_gtdt(out, ids, &gtdt::contents(timers)),
-            Contents::Gic(parts) => gic::write_laid(out, ids, parts),
+            Contents::Gic(parts) => {
+                parts.check()?;
+                write_gic_madt(out, ids, &parts.contents())
+            }
             Contents::Nothing => Err(WriterError::BadCode),
         }
     }
@@ -178,7 +187,7 @@ impl Listed for ListedTable<'_> {
 }
 
 impl<'a> Machine<'a> {
-    /// The machine, as the writer has it. Of several DSDTs the first counts.
+    /// The machine, as the writer has it. Of several DSDTs, and of several FACS, the first counts.
     pub fn whole(&self) -> acpi_writer::Machine<'a, ListedTable<'a>>
         ensures { result ≡ whole.machine_of self.now }
     {
@@ -191,7 +200,10 @@ impl<'a> Machine<'a> {
                 }),
                 [] => None,
             },
-            facs: None,
+            facs: match self.facs {
+                [first, ..] => Some(first.contents()),
+                [] => None,
+            },
             tables: self.tables,
         }
     }

@@ -41,11 +41,12 @@ fn interrupt_type(given: &SpcrContents) -> u8
     }
 }
 
-/// Whether no register has a code that is reserved, and a global system interrupt has a controller.
+/// Whether registers that there are have no code that is reserved, and a global system interrupt has a controller.
 pub(crate) fn has_codes(given: &SpcrContents) -> bool
     ensures { result ≡ written.has_codes given.now }
 {
-    has_codes_at(given.console.base)
+    given.console.base.present <= 1
+        && (given.console.base.present == 0 || has_codes_at(given.console.base.at))
         && (given.console.has_global_system_interrupt == 0
             || is_controllers(given.interrupt_controllers))
 }

@@ -5,12 +5,12 @@ ghost use Rattle.acpi_c_lib.specs.WrittenSrat as srat;
 use crate::numa_records::MemoryAffinity;
 use crate::written_records::SratContents;
 use acpi_numa::MemoryRange;
-use acpi_writer::srat::StandsForRange;
+use acpi_writer::spelled::StandsFor;
 
-impl StandsForRange for MemoryAffinity {
-    ghost range_of = { srat.range_of };
+impl StandsFor<MemoryRange> for MemoryAffinity {
+    ghost meant = { srat.range_of };
 
-    fn range(&self) -> MemoryRange {
+    fn item(&self) -> MemoryRange {
         MemoryRange {
             domain: self.domain,
             base: self.address,

@@ -46,7 +46,7 @@ macro_rules! frames {
 
 /// What is written with which ids into eight bytes, and the error: contents come before names, and names before room.
 #[rattlefmt::skip]
-static REFUSED: [(&TableIds, TableContents<'static>, WriterError); 12] = [
+static REFUSED: [(&TableIds, TableContents<'static>, WriterError); 13] = [
     // a FACS at 0, a reserved profile that has a name, and registers without an address or a space, in order
     (&BAD, TableContents::Fadt(FadtContents {
         facs: Some(0), power_profile: PowerProfile::Reserved(8), sleep_status: NOWHERE, ..FADT
@@ -58,6 +58,10 @@ static REFUSED: [(&TableIds, TableContents<'static>, WriterError); 12] = [
     (&BAD, TableContents::Fadt(FadtContents { reset_register: UNNAMED, ..FADT }), WriterError::BadRegister),
     (&BAD, TableContents::Fadt(FadtContents {
         hardware: FadtHardware::Fixed(FixedHardware { pm_timer: NOWHERE, ..HARDWARE }), ..FADT
+    }), WriterError::BadRegister),
+    (&BAD, TableContents::Fadt(FadtContents {
+        hardware: FadtHardware::Fixed(FixedHardware { pm1a_event: GenericAddress { bit_width: 7, ..PORT }, ..HARDWARE }),
+        ..FADT
     }), WriterError::BadRegister),
     // an interface and a space without a name, and then an address
     (&BAD, TableContents::Spcr(SpcrContents {

@@ -266,9 +266,9 @@ pub(super) const SPCR: SpcrContents<'static> = SpcrContents {
 };
 
 #[rattlefmt::skip]
-const SPCR_BYTES: [u8; 98] = table!(b'S', b'P', b'C', b'R', 98, 0, 4, 0x99,
+const SPCR_BYTES: [u8; 98] = table!(b'S', b'P', b'C', b'R', 98, 0, 4, 0x9d,
     0x12, 0, 0, 0, 1, 8, 0, 1, 0xf8, 3, 0, 0, 0, 0, 0, 0, // Interface Type, Reserved, Base Address
-    2, 4, 5, 6, 7, 8, // Interrupt Type, IRQ, Global System Interrupt
+    2, 0, 5, 6, 7, 8, // Interrupt Type, IRQ (of no 8259), Global System Interrupt
     7, 0, 1, 2, 8, 0, // Configured Baud Rate, Parity, Stop Bits, Flow Control, Terminal Type, Language
     0x34, 0x12, 0x86, 0x80, 1, 2, 3, 4, 3, 2, 1, 5, // PCI: ids, bus, device, function, flags, segment
     0, 0x20, 0x1c, 0, 0, 0xc2, 1, 0, 10, 0, 88, 0, // UART Clock Frequency, Precise Baud Rate, length and offset

@@ -1,19 +1,20 @@
 //! The parts of a FADT, each with its bytes (section 5.2.9).
-ghost use Rattle.std.specs.Prelude.{◌≡◌, ◌<◌, ◌^◌};
+ghost use Rattle.std.specs.Prelude.{◌≡◌, ◌<◌, ◌^◌, flat_map, All};
 ghost use Rattle.acpi.specs.Types.{SystemIo};
 ghost use Rattle.acpi_writer.specs.FadtBytes as bytes;
-ghost use Rattle.acpi_writer.specs.Words.{flag_number};
+ghost use Rattle.acpi_writer.specs.Words.{FitsRegister, flag_number, register_bytes};
 
 use super::contents::{FadtContents, FadtHardware, FixedHardware};
 use super::features::{ArmBootFeatures, PcBootFeatures};
 use crate::fields::{Field, Record};
 use crate::flags::flag_number;
 use crate::generic::register_or_zeros;
+use crate::spelled::{Each, Spelled};
 use acpi_base::address::{AccessSize, AddressSpace, GenericAddress};
 use acpi_fixed::fadt::GpeBlock;
 
 /// The fixed hardware, with zeros throughout if there is none.
-pub(super) fn fixed_of(hardware: &FadtHardware) -> FixedHardware
+fn fixed_of(hardware: &FadtHardware) -> FixedHardware
     ensures { result ≡ bytes.fixed_of hardware.now }
 {
     match *hardware {
@@ -173,16 +174,17 @@ fn feature_number(contents: &FadtContents) -> u32
 
 /// The fields before RESET_REG.
 #[derive(Clone, Copy)]
-pub(super) struct Front<'a>(pub(super) &'a FadtContents, pub(super) &'a FixedHardware);
+pub(super) struct Front<'a>(pub(super) &'a FadtContents);
 
 impl Record for Front<'_> {
     type Fields = [Field; 38];
 
-    ghost fields_of = { λ s. bytes.front_fields s.0.now s.1.now };
+    ghost fields_of = { λ s. bytes.front_fields s.0.now (bytes.fixed_of s.0.now.hardware) };
 
     #[tactic(auto, unfolding(crate::specs::FadtBytes::front_fields))]
     fn fields(&self) -> [Field; 38] {
-        let Front(c, h) = *self;
+        let c = self.0;
+        let h = fixed_of(&c.hardware);
         [
             Field::U32(narrow(address_or_zero(c.facs))),
             Field::U32(narrow(c.dsdt)),
@@ -249,9 +251,10 @@ impl Record for Wide<'_> {
 }
 
 /// The registers from X_PM1a_EVT_BLK to SLEEP_STATUS_REG.
-pub(super) fn registers(c: &FadtContents, h: &FixedHardware) -> [Option<GenericAddress>; 10]
-    ensures { result ≡ bytes.registers c.now h.now }
+fn registers(c: &FadtContents) -> [Option<GenericAddress>; 10]
+    ensures { result ≡ bytes.registers c.now (bytes.fixed_of c.now.hardware) }
 {
+    let h = fixed_of(&c.hardware);
     [
         Some(h.pm1a_event),
         h.pm1b_event,
@@ -264,4 +267,22 @@ pub(super) fn registers(c: &FadtContents, h: &FixedHardware) -> [Option<GenericA
         c.sleep_control,
         c.sleep_status,
     ]
+}
+
+/// Those registers, each with its bytes.
+#[derive(Clone, Copy)]
+pub(super) struct WideRegisters<'a>(pub(super) &'a FadtContents);
+
+impl Spelled for WideRegisters<'_> {
+    ghost spelled = { λ s. flat_map register_bytes (bytes.registers s.0.now (bytes.fixed_of s.0.now.hardware)) };
+
+    ghost fits = { λ s. All FitsRegister (bytes.registers s.0.now (bytes.fixed_of s.0.now.hardware)) };
+
+    fn measure(&self, room: usize) -> Option<usize> {
+        Each(&registers(self.0)).measure(room)
+    }
+
+    fn put(&self, out: &mut [u8]) {
+        Each(&registers(self.0)).put(out);
+    }
 }

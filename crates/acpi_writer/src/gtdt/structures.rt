@@ -1,5 +1,5 @@
 //! The parts of a GTDT, each with its bytes (section 5.2.24).
-ghost use Rattle.std.specs.Prelude.{◌≡◌, flat_map, length, All};
+ghost use Rattle.std.specs.Prelude.{◌≡◌, length};
 ghost use Rattle.acpi_writer.specs.Gtdt as gtdt;
 
 use super::{GtBlockContents, GtdtContents, PlatformTimerContents};
@@ -41,7 +41,7 @@ impl Checked for ArmTimer {
 }
 
 /// The fields of a GTDT.
-impl Record for GtdtContents<'_> {
+impl<T> Record for GtdtContents<'_, T> {
     type Fields = [Field; 15];
 
     ghost fields_of = { gtdt.gtdt_fields };
@@ -116,7 +116,7 @@ impl Record for GtFrame {
 }
 
 /// A GT Block before its frames.
-impl Record for GtBlockContents<'_> {
+impl<F> Record for GtBlockContents<'_, F> {
     type Fields = [Field; 6];
 
     ghost fields_of = { λ b. gtdt.block_fields b.address (length b.frames.now) };
@@ -124,9 +124,11 @@ impl Record for GtBlockContents<'_> {
     #[tactic(auto, unfolding(crate::specs::Gtdt::block_fields))]
     fn fields(&self) -> [Field; 6] {
         let count = self.frames.len() as u64;
+        // What stands for a frame may have no bytes, so that there may be any number of them.
+        let length = 20 + 40 * (count % 0x10000);
         [
             Field::U8(0),
-            Field::U16(((20 + 40 * count) % 0x10000) as u16),
+            Field::U16((length % 0x10000) as u16),
             Field::Zeros(1),
             Field::U64(self.address),
             Field::U32((count % 0x100000000) as u32),
@@ -166,8 +168,8 @@ impl Record for SbsaWatchdog {
     }
 }
 
-impl<'a> Checked for PlatformTimerContents<'a> {
-    ghost checked = { gtdt.structure_checked };
+impl<F: Checked> Checked for PlatformTimerContents<'_, F> {
+    ghost checked = { gtdt.structure_checked_by F.checked };
 
     fn check(&self) -> Result<(), WriterError> {
         match self {
@@ -182,10 +184,10 @@ impl<'a> Checked for PlatformTimerContents<'a> {
     }
 }
 
-impl<'a> Spelled for PlatformTimerContents<'a> {
-    ghost spelled = { gtdt.structure_bytes };
+impl<F: Copy + Spelled> Spelled for PlatformTimerContents<'_, F> {
+    ghost spelled = { gtdt.structure_bytes_by F.spelled };
 
-    ghost fits = { gtdt.FitsStructure };
+    ghost fits = { gtdt.FitsStructureBy F.fits };
 
     fn measure(&self, room: usize) -> Option<usize> {
         match self {
@@ -199,24 +201,5 @@ impl<'a> Spelled for PlatformTimerContents<'a> {
             PlatformTimerContents::GtBlock(block) => Then(*block, Each(block.frames)).put(out),
             PlatformTimerContents::SbsaWatchdog(watchdog) => watchdog.put(out),
         }
-    }
-}
-
-/// The Platform Timer Structures. It is a type of one lifetime, since of an `Each` the prover isn't told that its items
-/// outlive it.
-#[derive(Clone, Copy)]
-pub(super) struct Structures<'a>(pub(super) &'a [PlatformTimerContents<'a>]);
-
-impl<'a> Spelled for Structures<'a> {
-    ghost spelled = { λ s. flat_map gtdt.structure_bytes s.0.now };
-
-    ghost fits = { λ s. All gtdt.FitsStructure s.0.now };
-
-    fn measure(&self, room: usize) -> Option<usize> {
-        Each(self.0).measure(room)
-    }
-
-    fn put(&self, out: &mut [u8]) {
-        Each(self.0).put(out)
     }
 }

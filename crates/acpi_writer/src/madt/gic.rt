@@ -1,36 +1,82 @@
 //! The MADT of an Arm machine, from its Generic Interrupt Controller (GIC, sections 5.2.12.14 to 5.2.12.18).
-ghost use Rattle.std.specs.Prelude.{◌≡◌, ◌^◌, ◌<◌, length, take, IfOk};
-ghost use Rattle.acpi_base.specs.FromStd.{list_all};
+ghost use Rattle.std.specs.Prelude.{◌≡◌, ◌^◌, ◌<◌, length, map, take, IfOk};
 ghost use Rattle.acpi_base.specs.Words.{Gives};
-ghost use Rattle.acpi_writer.specs.Words.{most, sized, AreGicFit, IsGicMadt, gic_checked, gic_written, Keeps};
+ghost use Rattle.acpi_writer.specs.Words.{most, sized, all_checked, AreGicFit, IsGicMadt, gic_checked, gic_meant, gic_written, interface_checked, Keeps};
 
 mod entries;
 
 use super::entries::Fixed;
 use super::has_some;
-use crate::checked::{Checked, check_all, require};
+use crate::checked::{Checked, require};
 use crate::error::WriterError;
 use crate::ids::TableIds;
-use crate::spelled::{Each, Then};
+use crate::spelled::{EachItem, StandsFor, Then};
 use crate::table::{checked_size, write_checked};
 use acpi_arm::gic::{
     GicCpuInterface, GicDistributor, GicMsiFrame, GicRedistributors, GicTranslationService,
 };
 use acpi_base::Signature;
+use std::alloc::AllocError;
+use std::marker::PhantomData;
 
-/// What the MADT of an Arm machine is to say, in the fields of `GicModel`, as which it is read.
-#[derive(Clone, Copy)]
-pub struct GicContents<'a> {
+/// What the MADT of an Arm machine is to say, in the fields of `GicModel`, as which it is read; or of what stands for
+/// them.
+pub struct GicContents<
+    'a,
+    C = GicCpuInterface,
+    R = GicRedistributors,
+    T = GicTranslationService,
+    F = GicMsiFrame,
+> {
     /// GIC Distributor (GICD).
     pub distributor: GicDistributor,
     /// GIC CPU Interfaces (GICC): the processors, of which the first is the boot processor.
-    pub cpu_interfaces: &'a [GicCpuInterface],
+    pub cpu_interfaces: &'a [C],
     /// GIC Redistributors (GICR).
-    pub redistributors: &'a [GicRedistributors],
+    pub redistributors: &'a [R],
     /// GIC Interrupt Translation Services (ITS).
-    pub translation_services: &'a [GicTranslationService],
+    pub translation_services: &'a [T],
     /// GIC MSI Frames.
-    pub msi_frames: &'a [GicMsiFrame],
+    pub msi_frames: &'a [F],
+}
+
+// By hand, since a derived `Clone` clones field by field, which takes long to prove.
+impl<C, R, T, F> Copy for GicContents<'_, C, R, T, F> {}
+
+impl<C, R, T, F> Clone for GicContents<'_, C, R, T, F> {
+    ghost is_clone = { λ x y. y ≡ x };
+
+    ghost is_infallible = { λ _. Unit {0} };
+
+    fn clone(&self) -> Result<Self, AllocError> {
+        Ok(*self)
+    }
+}
+
+/// Returns the first error of an interface.
+fn check_interfaces<C: StandsFor<GicCpuInterface>>(interfaces: &[C]) -> Result<(), WriterError>
+    ensures { result ≡ all_checked interface_checked (map C.meant interfaces.now) }
+{
+    for interface in interfaces {
+        interface.item().check()?;
+    }
+    Ok(())
+}
+
+impl<C, R, T, F> Checked for GicContents<'_, C, R, T, F>
+where
+    C: StandsFor<GicCpuInterface>,
+    R: StandsFor<GicRedistributors>,
+    T: StandsFor<GicTranslationService>,
+    F: StandsFor<GicMsiFrame>,
+{
+    ghost checked = { λ c. gic_checked (gic_meant C.meant R.meant T.meant F.meant c) };
+
+    #[tactic(auto, using(crate::proofs::Sized::some_meant))]
+    fn check(&self) -> Result<(), WriterError> {
+        require(has_some(self.cpu_interfaces), WriterError::NoProcessor)?;
+        check_interfaces(self.cpu_interfaces)
+    }
 }
 
 /// All after the header of such a MADT.
@@ -40,34 +86,30 @@ macro_rules! body_of {
             local_apic_address: 0,
             also_has_legacy_pics: false,
         };
-        let messages = Then(
-            Each($contents.translation_services),
-            Each($contents.msi_frames),
-        );
-        let redistributors = Then(Each($contents.redistributors), messages);
-        let entries = Then(
-            $contents.distributor,
-            Then(Each($contents.cpu_interfaces), redistributors),
-        );
-        Then(fixed, entries)
+        let services = EachItem($contents.translation_services, PhantomData);
+        let messages = Then(services, EachItem($contents.msi_frames, PhantomData));
+        let redistributors = Then(EachItem($contents.redistributors, PhantomData), messages);
+        let interfaces = Then(EachItem($contents.cpu_interfaces, PhantomData), redistributors);
+        Then(fixed, Then($contents.distributor, interfaces))
     }};
-}
-
-impl Checked for GicContents<'_> {
-    ghost checked = { gic_checked };
-
-    fn check(&self) -> Result<(), WriterError> {
-        require(has_some(self.cpu_interfaces), WriterError::NoProcessor)?;
-        check_all(self.cpu_interfaces)
-    }
 }
 
 /// How many bytes the MADT has, or the first error of `write_gic_madt` in a slice of any length.
 #[tactic(auto, unfolding(crate::specs::GicMadt::gic_written))]
-pub(crate) fn gic_size(ids: &TableIds, contents: &GicContents<'_>) -> Result<usize, WriterError>
-    ensures exact { result ≡ sized (gic_written most ids.now contents.now) }
+pub fn gic_size<C, R, T, F>(
+    ids: &TableIds,
+    contents: &GicContents<'_, C, R, T, F>,
+) -> Result<usize, WriterError>
+where
+    C: StandsFor<GicCpuInterface>,
+    R: StandsFor<GicRedistributors>,
+    T: StandsFor<GicTranslationService>,
+    F: StandsFor<GicMsiFrame>,
+    ensures exact { result ≡ sized (gic_written most ids.now
+        (gic_meant C.meant R.meant T.meant F.meant contents.now)) }
     ensures short { IfOk result (λ n. n < 2 ^ 32) }
-    ensures fits { IfOk result (λ n. AreGicFit contents.now) }
+    ensures fits { IfOk result (λ n.
+        AreGicFit (gic_meant C.meant R.meant T.meant F.meant contents.now)) }
 {
     let body = body_of!(contents);
     checked_size(Signature::MADT, 6, ids, contents, &body)
@@ -82,18 +124,24 @@ pub(crate) fn gic_size(ids: &TableIds, contents: &GicContents<'_>) -> Result<usi
 /// `BadName` if a name of the ids is not valid UTF-8, `NoRoom` if the slice is shorter than the table, and `TooLong` if
 /// the table has 2^32 bytes or more.
 #[tactic(auto, unfolding(crate::specs::GicMadt::gic_written), using(crate::proofs::GicRead::gic_madt_is))]
-pub fn write_gic_madt(
+pub fn write_gic_madt<C, R, T, F>(
     out: &mut [u8],
     ids: &TableIds,
-    contents: &GicContents<'_>,
+    contents: &GicContents<'_, C, R, T, F>,
 ) -> Result<usize, WriterError>
+where
+    C: StandsFor<GicCpuInterface>,
+    R: StandsFor<GicRedistributors>,
+    T: StandsFor<GicTranslationService>,
+    F: StandsFor<GicMsiFrame>,
     // The bytes, or the first error, are those that are defined.
-    ensures exact { Gives (λ n. take n out.new) result
-        (gic_written (length out.old) ids.now contents.now) }
+    ensures exact { Gives (λ n. take n out.new) result (gic_written (length out.old) ids.now
+        (gic_meant C.meant R.meant T.meant F.meant contents.now)) }
     // What stands after the table is unchanged, and after an error the whole slice is.
     ensures keeps { Keeps result out.old out.new }
     // The numbers that were given fit, so that what was given is what is read (`tables_are_read`).
-    ensures fits { IfOk result (λ n. IsGicMadt ids.now contents.now (take n out.new)) }
+    ensures fits { IfOk result (λ n. IsGicMadt ids.now
+        (gic_meant C.meant R.meant T.meant F.meant contents.now) (take n out.new)) }
 {
     let body = body_of!(contents);
     write_checked(out, Signature::MADT, 6, ids, contents, &body)

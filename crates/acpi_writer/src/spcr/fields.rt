@@ -7,6 +7,7 @@ use super::{SpcrContents, SpcrPciDevice};
 use crate::fields::{Field, Record};
 use crate::generic::register_or_zeros;
 use acpi_base::spcr::{SpcrFlowControl, SpcrInterruptType, SpcrTerminalType};
+use acpi_base::bytes::{bits, has_bit};
 use bitflags::Flags;
 
 /// The PCI device, or the numbers that say that the port is none.
@@ -51,6 +52,28 @@ fn interrupt_byte(interrupt_type: SpcrInterruptType) -> u8
     interrupt_type.bits()
 }
 
+/// IRQ, or 0 if the port has none on the 8259s.
+fn irq_of(contents: &SpcrContents<'_>) -> u8
+    ensures { result ≡ spcr.irq_written contents.now }
+{
+    if has_bit(interrupt_byte(contents.interrupt_type) as u64, 0) {
+        contents.irq
+    } else {
+        0
+    }
+}
+
+/// Global System Interrupt, or 0 if the port has none on another controller.
+fn interrupt_of(contents: &SpcrContents<'_>) -> u32
+    ensures { result ≡ spcr.interrupt_written contents.now }
+{
+    if bits(interrupt_byte(contents.interrupt_type) as u64, 1, 4) == 0 {
+        0
+    } else {
+        contents.global_system_interrupt
+    }
+}
+
 /// The byte Flow Control.
 fn flow_byte(flow_control: SpcrFlowControl) -> u8
     ensures { result ≡ flow_bits flow_control }
@@ -86,8 +109,8 @@ impl Record for SpcrContents<'_> {
             Field::U8(base.access_size.code()),
             Field::U64(base.address),
             Field::U8(interrupt_byte(self.interrupt_type)),
-            Field::U8(self.irq),
-            Field::U32(self.global_system_interrupt),
+            Field::U8(irq_of(self)),
+            Field::U32(interrupt_of(self)),
             Field::U8(baud_code(self.baud_rate)),
             Field::U8(self.parity),
             Field::U8(self.stop_bits),

@@ -1,0 +1,9 @@
+use Rattle.std.proofs.Common.{◌≡◌, drop, map}
+use Rattle.acpi_base.specs.FromStd.{list_all}
+use Rattle.acpi_writer.specs.Words.{is_single}
+use Rattle.acpi_writer.proofs.madt.processors_fit.Given as goal
+
+abbrev pub invariant-loop-processor : goal.invariant-loop-processor
+invariant-loop-processor g l =
+    list_all is_single (map g.P.StandsFor.meant (drop l.processor-index l.processors))
+    ≡ list_all is_single (map g.P.StandsFor.meant l.processors)
