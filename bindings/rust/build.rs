@@ -1,55 +1,150 @@
-//! Links the archive of the target that is compiled for: `libzacpi.a`, from `$ZACPI_LIB_DIR`, or from `lib/TARGET` of
-//! this package or of the release folder that it stands in. If it isn't there, one line says which, and where it comes
-//! from.
+//! Links the library. It is assembled from its source form, `dist/TARGET/zacpi.s` of this package or of the clone that
+//! it stands in, by the C compiler that `CC_TRIPLE`, `TARGET_CC` (or `HOST_CC` and `CC`, if the host is compiled for)
+//! names, or else by the first that takes it of those that are usual for the target. If none does, one line says what
+//! was tried.
 //!
-//! If `ZACPI_LIB_DIR` is empty nothing is linked, which is enough for `cargo check` and `cargo doc`.
+//! `ZACPI_LIB_DIR` names a folder in which `libzacpi.a` stands already. If it is empty nothing is linked, which is
+//! enough for `cargo check` and `cargo doc`, and needs no C compiler for the target.
 use std::env::var;
-use std::path::PathBuf;
+use std::path::{Path, PathBuf};
+use std::process::Command;
 
-/// The archive's target, as `scripts/archive` names it.
-fn target(arch: &str, os: &str) -> Option<String> {
-    if !matches!(arch, "x86_64" | "aarch64") || matches!(os, "windows" | "uefi" | "macos" | "ios") {
-        return None;
-    }
-    Some(if os == "none" { format!("{arch}-kernel") } else { arch.to_string() })
+/// What is compiled for, as cargo says.
+struct Wanted {
+    triple: String,
+    arch: String,
+    os: String,
+    is_host: bool,
 }
 
-/// The folders that may have the archive, in order.
-fn folders(target: &str) -> Vec<PathBuf> {
-    match var("ZACPI_LIB_DIR") {
-        Ok(named) => vec![PathBuf::from(&named), PathBuf::from(&named).join(target)],
-        Err(_) => {
-            let package = PathBuf::from(var("CARGO_MANIFEST_DIR").unwrap_or_default());
-            vec![package.join("lib").join(target), package.join("../lib").join(target)]
+impl Wanted {
+    fn read() -> Wanted {
+        let cfg = |name: &str| var(format!("CARGO_CFG_TARGET_{name}")).unwrap_or_default();
+        let triple = var("TARGET").unwrap_or_default();
+        let is_host = var("HOST").is_ok_and(|host| host == triple);
+        Wanted { arch: cfg("ARCH"), os: cfg("OS"), is_host, triple }
+    }
+
+    fn is_coff(&self) -> bool {
+        matches!(self.os.as_str(), "uefi" | "windows")
+    }
+
+    /// The folder of `dist`, if there is one.
+    fn folder(&self) -> Option<String> {
+        let is_there = matches!(self.arch.as_str(), "x86_64" | "aarch64") || self.arch == "riscv64" && !self.is_coff();
+        if !is_there || matches!(self.os.as_str(), "macos" | "ios") {
+            return None;
+        }
+        let kind = match self.os.as_str() {
+            "uefi" | "windows" => "-uefi",
+            "none" => "-kernel",
+            _ => "",
+        };
+        Some(format!("{}{kind}", self.arch))
+    }
+
+    /// Which ABI the object is marked with. The code is the same, as it has no floating-point register; rustc tells of
+    /// no feature `d`.
+    fn flags(&self) -> &'static [&'static str] {
+        match (self.arch.as_str(), self.triple.starts_with("riscv64gc")) {
+            ("riscv64", true) => &["-march=rv64gc", "-mabi=lp64d"],
+            ("riscv64", false) => &["-march=rv64imac", "-mabi=lp64"],
+            _ => &[],
         }
     }
+
+    fn named_by(&self) -> String {
+        format!("CC_{}", self.triple.replace(['-', '.'], "_"))
+    }
+
+    /// The compiler that is named, or those that may be there, in the order in which they are tried.
+    fn compilers(&self) -> Vec<String> {
+        let named_by = self.named_by();
+        let variables: &[&str] = if self.is_host { &[&named_by, "HOST_CC", "CC"] } else { &[&named_by, "TARGET_CC"] };
+        for name in variables {
+            println!("cargo::rerun-if-env-changed={name}");
+        }
+        if let Some(named) = variables.iter().find_map(|name| var(name).ok().filter(|named| !named.is_empty())) {
+            return vec![named];
+        }
+        let arch = &self.arch;
+        if self.is_coff() {
+            return vec![format!("{arch}-w64-mingw32-gcc"), format!("clang --target={arch}-unknown-windows-gnu")];
+        }
+        let host = var("HOST").unwrap_or_default();
+        let mut all = Vec::new();
+        if host.starts_with(&format!("{arch}-")) && host.contains("linux") {
+            all.extend(["cc", "gcc", "clang"].map(String::from));
+        }
+        let systems = ["linux-gnu", "unknown-linux-gnu", "linux-musl", "none-elf", "unknown-elf", "elf"];
+        all.extend(systems.map(|system| format!("{arch}-{system}-gcc")));
+        all.push(format!("clang --target={arch}-unknown-none-elf"));
+        all
+    }
+}
+
+/// Runs one compiler over the assembly; what it said, if it failed.
+fn assemble(compiler: &str, flags: &[&str], from: &Path, to: &Path) -> Result<(), String> {
+    let mut words = compiler.split_whitespace();
+    let mut command = Command::new(words.next().unwrap_or("cc"));
+    match command.args(words).args(flags).arg("-c").arg(from).arg("-o").arg(to).output() {
+        Ok(output) if output.status.success() => Ok(()),
+        Ok(output) => Err(String::from_utf8_lossy(&output.stderr).lines().next().unwrap_or("it failed").to_string()),
+        Err(error) => Err(error.to_string()),
+    }
+}
+
+/// An archive of one object: rustc reads its members, and needs no index of their names.
+fn archive(object: &Path, to: &Path) -> std::io::Result<()> {
+    let mut bytes = std::fs::read(object)?;
+    let header = format!("{:<16}{:<12}{:<6}{:<6}{:<8}{:<10}`\n", "zacpi.o/", 0, 0, 0, 644, bytes.len());
+    if bytes.len() % 2 == 1 {
+        bytes.push(b'\n');
+    }
+    std::fs::write(to, [b"!<arch>\n", header.as_bytes(), &bytes].concat())
+}
+
+/// The folder in which `libzacpi.a` was made, or why there is none.
+fn made(wanted: &Wanted) -> Result<PathBuf, String> {
+    let target = wanted.folder().ok_or_else(|| format!("there is no assembly for {}", wanted.triple))?;
+    let package = PathBuf::from(var("CARGO_MANIFEST_DIR").unwrap_or_default());
+    let sources = ["dist", "../../dist"].map(|dist| package.join(dist).join(&target).join("zacpi.s"));
+    let source = sources.iter().find(|source| source.is_file());
+    let source = source.ok_or_else(|| format!("neither this package nor its clone has dist/{target}/zacpi.s"))?;
+    println!("cargo::rerun-if-changed={}", source.display());
+    let out = PathBuf::from(var("OUT_DIR").unwrap_or_default());
+    let object = out.join("zacpi.o");
+    let mut tried = Vec::new();
+    for compiler in wanted.compilers() {
+        match assemble(&compiler, wanted.flags(), source, &object) {
+            Ok(()) => {
+                archive(&object, &out.join("libzacpi.a")).map_err(|error| error.to_string())?;
+                return Ok(out);
+            }
+            Err(said) => tried.push(format!("{compiler}: {said}")),
+        }
+    }
+    let tried = tried.join("; ");
+    Err(format!("no C compiler assembles dist/{target}/zacpi.s; {} names one. Tried {tried}", wanted.named_by()))
 }
 
 fn main() {
     println!("cargo::rerun-if-env-changed=ZACPI_LIB_DIR");
-    if var("DOCS_RS").is_ok() || var("ZACPI_LIB_DIR").is_ok_and(|named| named.is_empty()) {
+    println!("cargo::rerun-if-changed=build.rs");
+    let named = var("ZACPI_LIB_DIR");
+    if var("DOCS_RS").is_ok() || named.as_ref().is_ok_and(|named| named.is_empty()) {
         return;
     }
-    let cfg = |name: &str| var(format!("CARGO_CFG_TARGET_{name}")).unwrap_or_default();
-    let Some(target) = target(&cfg("ARCH"), &cfg("OS")) else {
-        let triple = var("TARGET").unwrap_or_default();
-        println!("cargo::error=no libzacpi.a is made for {triple}: it is ELF code for x86_64 and aarch64");
-        return;
+    let folder = match named {
+        Ok(named) if Path::new(&named).join("libzacpi.a").is_file() => Ok(PathBuf::from(named)),
+        Ok(named) => Err(format!("no libzacpi.a in {named}, which ZACPI_LIB_DIR names")),
+        Err(_) => made(&Wanted::read()),
     };
-    let folders = folders(&target);
-    for folder in &folders {
-        println!("cargo::rerun-if-changed={}", folder.join("libzacpi.a").display());
-    }
-    match folders.iter().find(|folder| folder.join("libzacpi.a").is_file()) {
-        Some(folder) => {
+    match folder {
+        Ok(folder) => {
             println!("cargo::rustc-link-search=native={}", folder.display());
             println!("cargo::rustc-link-lib=static=zacpi");
         }
-        None => println!(
-            "cargo::error=libzacpi.a for {target} is neither in {} nor in {}: it is in lib/{target} of a release of \
-             Zugzwangfir, or scripts/archive builds it; ZACPI_LIB_DIR names its folder",
-            folders[0].display(),
-            folders[1].display()
-        ),
+        Err(why) => println!("cargo::error={why}"),
     }
 }
