@@ -1,5 +1,5 @@
 -- The tables that are written for C: room changes only whether one fits, and where a name lies not even that.
-use Rattle.std.proofs.Common.{◌≡◌, ◌∙◌, ℕ, List, [], ap, refl, Result, Ok, Err, codes}
+use Rattle.std.proofs.Common.{◌≡◌, ◌∙◌, ℕ, List, ap, refl, Result, Ok, Err, codes}
 use Rattle.acpi_base.specs.FromStd.{Bor}
 use Rattle.acpi.specs.Types.{BGRT, GTDT, HPET, SSDT}
 use Rattle.acpi_c_lib.specs.WrittenBgrt as bgrt
@@ -33,7 +33,8 @@ moved_listed ids (Spcr c) are = moved_spcr ids (spcr.contents spcr.no_name c) ar
 moved_listed ids (Gtdt c) are = moved_checked (gtdt_checked_by gtdt.platform_checked (gtdt.contents c)) GTDT 3 ids
     (gtdt_body_by gtdt.platform_bytes (gtdt.contents c)) refl are
 moved_listed ids (Gic c) are = λ room other t e fits. through (gic.checked c) (gic_written room ids (gic_of c))
-    (gic_written other ids (gic_of c)) t (λ p. moved_contents ids (contents.GicMadt (gic_of c)) are room other t p fits) e
+    (gic_written other ids (gic_of c)) t
+    (λ p. moved_contents ids (contents.GicMadt (gic_of c)) are room other t p fits) e
 moved_listed ids Nothing are = λ room other t e fits. never _ t _ e
 
 -- ---- where the name of a console lies doesn't matter to its SPCR

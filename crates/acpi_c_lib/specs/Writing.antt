@@ -1,12 +1,11 @@
 -- Tables that are written for C.
-use Rattle.std.specs.Prelude.{◌≡◌, ℕ, ◌≤◌, ◌&&◌, ◌||◌, ◌==◌, Bool, false, not, nat_le, nat_lt, List, flat_map, length, take, drop, Option, Some, None, Result, Ok, Err, if◌then◌else◌}
+use Rattle.std.specs.Prelude.{◌≡◌, ℕ, ◌≤◌, ◌&&◌, ◌||◌, ◌==◌, Bool, false, not, nat_le, List, length, take, drop, Option, Some, None, Result, Ok, Err, if◌then◌else◌}
 use Rattle.acpi_base.specs.FromStd.{list_all}
-use Rattle.acpi_base.specs.Words.{◌>>=◌, holds}
-use Rattle.acpi.specs.Types.{InterruptSourceOverride, IoApic, Lint0, Lint1, NmiLine, NmiSource, Polarity, TriggerMode, MADT, McfgEntry}
+use Rattle.acpi.specs.Types.{InterruptSourceOverride, IoApic, Lint0, Lint1, NmiLine, NmiSource, Polarity, TriggerMode, McfgEntry}
 use Rattle.acpi_base.specs.declared.model.interrupt.NmiProcessor.TheVariants as nmi
 use Rattle.acpi_base.specs.declared.model.interrupt.Polarity.TheVariants as polarity
 use Rattle.acpi_base.specs.declared.model.interrupt.TriggerMode.TheVariants as trigger
-use Rattle.acpi_c_lib.specs.Types.{HpetInfo, PciRegion, Writer, MadtContents, IdOfAll, NoProcessor, UidOfAll, MadtProcessor}
+use Rattle.acpi_c_lib.specs.Types.{HpetInfo, PciRegion, Writer, MadtContents, MadtProcessor}
 use Rattle.acpi.specs.Words.{protection_of}
 use Rattle.acpi_c_lib.specs.Codes.{code_of}
 use Rattle.acpi_c_lib.specs.Records as records
@@ -120,7 +119,8 @@ mailbox_of c = if c.has_wakeup_mailbox == 0 then None else Some c.wakeup_mailbox
 
 -- the contents, as the writer has them
 abbrev pub contents_of : MadtContents
-    → writer.MadtContents records.Processor records.IoApic records.InterruptSourceOverride records.NmiSource records.NmiLine
+    → writer.MadtContents records.Processor records.IoApic records.InterruptSourceOverride
+    records.NmiSource records.NmiLine
 contents_of c = record {
   local_apic_address = c.local_apic_address;
   also_has_legacy_pics = not (c.also_has_8259 == 0);

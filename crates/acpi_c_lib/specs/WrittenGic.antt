@@ -1,9 +1,8 @@
 -- The MADT of an Arm machine that is written for C (sections 5.2.12.14 to 5.2.12.18).
-use Rattle.std.specs.Prelude.{ℕ, ◌&&◌, ◌==◌, ◌^◌, Bool, false, not, nat_lt, List, ◌++◌, flat_map, length, Option, Some, None, Result, if◌then◌else◌}
+use Rattle.std.specs.Prelude.{ℕ, ◌&&◌, ◌==◌, ◌^◌, Bool, not, nat_lt, List, Option, Some, None, Result, if◌then◌else◌}
 use Rattle.acpi_base.specs.FromStd.{list_all}
 use Rattle.acpi_base.specs.Words.{◌>>=◌, holds}
-use Rattle.acpi.specs.Types.{MADT}
-use Rattle.acpi_c_lib.specs.Types.{GicCpuInterface, GicDistributor, GicMsiFrame, GicRedistributors, GicTranslationService, Range, GicContents, BadRange, NoProcessor, SameAsBus}
+use Rattle.acpi_c_lib.specs.Types.{GicCpuInterface, GicDistributor, GicMsiFrame, GicRedistributors, GicTranslationService, Range, GicContents, BadRange}
 use Rattle.acpi_c_lib.specs.Records as records
 use Rattle.acpi_c_lib.specs.Writing.{TableIds, WriterError, is_wiring, trigger_of}
 use Rattle.acpi_writer.specs.Words.{gic_checked, gic_meant, gic_written, GicContents as WriterGic}

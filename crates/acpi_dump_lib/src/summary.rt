@@ -3,8 +3,7 @@
 use crate::out::Out;
 use acpi::mcfg::PciConfigEntry;
 use acpi::platform::interrupt::{
-    Apic, InterruptModel, IoApic, NmiLine, NmiProcessor, NmiSource, Polarity,
-    TriggerMode,
+    Apic, InterruptModel, IoApic, NmiLine, NmiProcessor, NmiSource, Polarity, TriggerMode,
 };
 use acpi::platform::{PmTimer, Processor, ProcessorState};
 use acpi::spcr::Spcr;

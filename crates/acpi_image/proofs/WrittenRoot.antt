@@ -84,7 +84,8 @@ module _ (a b c d e f : ℕ) where
       unfolding rsdp_of spelling field_of
       xsdt_is = refl
 
-      lengths : checked_length (shape y) ≡ check_length (if revision == 0 then None else Some (number (spelling 4 count)))
+      lengths : checked_length (shape y)
+          ≡ check_length (if revision == 0 then None else Some (number (spelling 4 count)))
       unfolding checked_length check_first check_sum
       lengths = rw (signature_is, id_is, text, front_sum y, revision_is, count_is) refl
 
@@ -110,7 +111,8 @@ module _ (a b c d e f : ℕ) where
         → IsRsdp id revision root (with_sum 32 (with_first_sum (rsdp_unsummed id revision 0 36 root)))
     second_form later some small =
         let y = sum_byte 32 (shape text revision 0 36 root 0) in
-        let same : with_sum 32 (with_first_sum (rsdp_unsummed id revision 0 36 root)) ≡ shape text revision 0 36 root y =
+        let same : with_sum 32 (with_first_sum (rsdp_unsummed id revision 0 36 root))
+        ≡ shape text revision 0 36 root y =
         ap (with_sum 32) (first_is text revision 0 36 root) ∙ second_is text revision 0 36 root in
         let summed = sum_is_set 32 (with_first_sum (rsdp_unsummed id revision 0 36 root)) (omega (
           arith,

@@ -52,8 +52,8 @@ rsdp_unsummed oem_id revision rsdt count xsdt =
 unfoldable pub with_first_sum : List ℕ → List ℕ
 with_first_sum bytes = with_sum 8 (take 20 bytes) ++ drop 20 bytes
 
--- the RSDP of an OEMID and a revision that leads to the root table at an address: the RSDT for revision 0, with zeros after the
--- first 20 bytes, else the XSDT, and Extended Checksum, byte 32, makes all 36 bytes sum to 0
+-- the RSDP of an OEMID and a revision that leads to the root table at an address: the RSDT for revision 0, with zeros
+-- after the first 20 bytes, else the XSDT, and Extended Checksum, byte 32, makes all 36 bytes sum to 0
 unfoldable pub rsdp_to : List ℕ → ℕ → ℕ → List ℕ
 rsdp_to oem_id revision root =
     if revision == 0 then with_first_sum (rsdp_unsummed oem_id revision root 0 0)

@@ -212,7 +212,8 @@ module _ (kept : Memory) (left file : List ℕ) where
         refuses file x _ other (sym (rw (records_step n kept left some, next) at r.same))
 
     -- there is no memory for it
-    pub reading_runs_out : (found : Region × List ℕ) → next_at kept left ≡ Ok found → Reads kept left file → RunsOut file
+    pub reading_runs_out : (found : Region × List ℕ) → next_at kept left ≡ Ok found → Reads kept left file
+        → RunsOut file
     reading_runs_out found next r =
         let more = (reading_goes_on found next r).1 in
         record { earlier = kept; last = found.0; rest = found.1; front = more.front; memory = more.memory }

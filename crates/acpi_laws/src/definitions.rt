@@ -38,8 +38,8 @@ pub fn definitions_hold()
     ensures lookup { LookupIsFirst }
     // A member that isn't valid, put anywhere into the list of pointers, changes nothing in a lookup.
     ensures skips { SkipsInvalid }
-    // The area that is searched second for the RSDP, for four words at 0x40e (section 5.2.5.1): the first KiB of an EBDA
-    // in its place, 0x80000..0xa0000 for none and for one out of range, and the highest EBDA that is taken.
+    // The area that is searched second for the RSDP, for four words at 0x40e (section 5.2.5.1): the first KiB of an
+    // EBDA in its place, 0x80000..0xa0000 for none and for one out of range, and the highest EBDA that is taken.
     ensures second_areas { SecondAreas }
     // `members` gives exactly one item for each pointer of the root table, in order.
     ensures one_for_each { OneForEach }

@@ -183,8 +183,8 @@ module _ (dsdt : Option Region) (listed : List (List ℕ)) (m : Memory) (laid : 
   rsdp_tested = is_rsdp (spaces 6) 2 laid.root refl spaces_text some (omega (arith, low)) (λ e. absurd cc)
 
   rsdp_is : rsdp_at all rsdp_address ≡ Ok (rsdp_to (spaces 6) 2 laid.root)
-  rsdp_is = rsdp_there all (rsdp_record rsdp_address 2 laid.root) memory (every_in all).0 (length-rsdp_to (spaces 6) 2 laid.root refl) (spaces 6) 2
-      laid.root rsdp_tested
+  rsdp_is = rsdp_there all (rsdp_record rsdp_address 2 laid.root) memory (every_in all).0
+      (length-rsdp_to (spaces 6) 2 laid.root refl) (spaces 6) 2 laid.root rsdp_tested
 
   root_is : root_at all Xsdt laid.root ≡ Ok (root_to Xsdt ps)
   root_is = root_there all Xsdt laid.root ps memory (every_in all).1.0 (rw (as_many dsdt listed m laid) laid.short)

@@ -393,7 +393,14 @@ put_more f xs i at size total x out new is less put this whole before =
     let long : length new ≡ size = ap length put ∙ sym this.0 in (
       take-put_mid at (at + size - at) out new (at + size) (omega (arith, long)) (omega (arith, within))
           ∙ ap (λ z. z ++ new) before.0 ∙ ap (λ z. flat_map f (take i xs) ++ z) (put ∙ sym one) ∙ sym more,
-      omega (arith, this.0, before.1, ap length more, length-append (flat_map f (take i xs)) (f (get_or xs i x)), ap length one),
+      omega (
+        arith,
+        this.0,
+        before.1,
+        ap length more,
+        length-append (flat_map f (take i xs)) (f (get_or xs i x)),
+        ap length one,
+      ),
       put_long at (at + size - at) out new (omega (arith, within)) (omega (arith, long)) ∙ before.2,
     )
 

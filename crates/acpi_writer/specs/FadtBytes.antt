@@ -2,7 +2,7 @@
 use Rattle.std.specs.Prelude.{ℕ, ◌*◌, ◌/◌, ◌^◌, ◌==◌, ◌&&◌, Bool, true, false, not, if◌then◌else◌, List, [], ◌∷◌, ◌++◌, flat_map, nat_le, nat_lt, replicate, Option, Some, None, Result}
 use Rattle.acpi_base.specs.FromStd.{list_all}
 use Rattle.acpi_base.specs.Words.{◌>>=◌, holds}
-use Rattle.acpi.specs.Types.{Undefined, AddressSpace, SystemIo, GenericAddress, FADT, PowerProfile, GpeBlock}
+use Rattle.acpi.specs.Types.{Undefined, AddressSpace, SystemIo, GenericAddress, FADT, GpeBlock}
 use Rattle.acpi_fixed.specs.Words.{is_profile, profile_code}
 use Rattle.acpi_writer.specs.Fields.{fields_bytes}
 use Rattle.acpi_writer.specs.Flags.{flag_number}

@@ -4,7 +4,7 @@ use Rattle.acpi.specs.Words.{timer_of}
 use Rattle.acpi_writer.specs.Types.{PmTimer, FadtContents, FadtHardware, Fixed, Reduced, FixedHardware, LegacyFields, TableIds}
 use Rattle.acpi_base.specs.Words.{generic_address_of, has_bit}
 use Rattle.acpi.specs.Types.{InvalidFacsAddress, FADT, Fadt}
-use Rattle.acpi_fixed.specs.Words.{dsdt_address_of, facs_address_of, fadt_at, is_profile, pm_timer_of, profile_of, registers_of, arm_bits, feature_bits, pc_bits, gpe_of, block_of, optional_block_of, register_of}
+use Rattle.acpi_fixed.specs.Words.{dsdt_address_of, facs_address_of, fadt_at, pm_timer_of, profile_of, registers_of, arm_bits, feature_bits, pc_bits, gpe_of, block_of, optional_block_of, register_of}
 use Rattle.acpi_writer.specs.FadtBytes.{arm_flags, fadt_body, feature_flags, fixed_of, front_fields, pc_flags, registers, wide_fields, fadt_checked}
 use Rattle.acpi_writer.specs.Fields.{FitsField}
 use Rattle.acpi_writer.specs.Flags.{flag_at}

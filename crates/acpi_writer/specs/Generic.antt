@@ -1,7 +1,7 @@
 -- The bytes of registers, as generic addresses (ACPI 6.4, section 5.2.3.2).
-use Rattle.std.specs.Prelude.{ℕ, ◌==◌, ◌&&◌, Bool, true, not, List, [], ◌∷◌, nat_le, Option, Some, None, All}
+use Rattle.std.specs.Prelude.{ℕ, ◌==◌, ◌&&◌, Bool, true, not, List, [], ◌∷◌, Option, Some, None, All}
 use Rattle.acpi_base.specs.Words.{is_named_space, size_code, space_code}
-use Rattle.acpi.specs.Types.{Undefined, AddressSpace, OemDefined, SystemMemory, GenericAddress}
+use Rattle.acpi.specs.Types.{Undefined, SystemMemory, GenericAddress}
 use Rattle.acpi_writer.specs.Fields.{FitsField, fields_bytes}
 use Rattle.acpi_writer.specs.declared.fields.Field.{Field}
 use Rattle.acpi_writer.specs.declared.fields.Field.TheVariants.{U8, U64}

@@ -106,8 +106,8 @@ msi_entry x = fields_bytes (msi_fields x)
 -- ---- the table
 
 -- the contents that those with things that stand for items stand for
-abbrev pub gic_meant : {C R T F : Type 0} → (C → GicCpuInterface) → (R → GicRedistributors) → (T → GicTranslationService)
-    → (F → GicMsiFrame) → declared.GicContents C R T F → GicContents
+abbrev pub gic_meant : {C R T F : Type 0} → (C → GicCpuInterface) → (R → GicRedistributors)
+    → (T → GicTranslationService) → (F → GicMsiFrame) → declared.GicContents C R T F → GicContents
 gic_meant interface redistributors service frame c = record {
   distributor = c.distributor;
   cpu_interfaces = items_of interface c.cpu_interfaces;

@@ -1,8 +1,7 @@
 -- The bytes of an SPCR that says what is given (ACPI 6.4, section 5.2.6). The layout is Microsoft's.
-use Rattle.std.specs.Prelude.{ℕ, ◌+◌, ◌%◌, ◌^◌, ◌==◌, ◌&&◌, ◌||◌, Bool, true, not, if◌then◌else◌, List, [], ◌∷◌, ◌++◌, length, nat_lt, Option, Some, None, Result}
+use Rattle.std.specs.Prelude.{ℕ, ◌+◌, ◌%◌, ◌^◌, ◌==◌, ◌&&◌, Bool, true, not, if◌then◌else◌, List, [], ◌∷◌, ◌++◌, length, nat_lt, Option, Some, None, Result}
 use Rattle.acpi_base.specs.Words.{interface_code, is_interface, is_named_space, size_code, space_code, flow_bits, interrupt_bits, terminal_bits, ◌>>=◌, holds, bits_of, has_bit}
-use Rattle.acpi.specs.Types.{GenericAddress, SPCR, SpcrInterfaceType}
-use Rattle.acpi_base.specs.declared.tables.spcr.interface.SpcrInterfaceType.TheVariants as interface
+use Rattle.acpi.specs.Types.{GenericAddress, SPCR}
 use Rattle.acpi_writer.specs.Fields.{fields_bytes}
 use Rattle.acpi_writer.specs.Generic.{register_or_zeros}
 use Rattle.acpi_writer.specs.Table.{table_written}

@@ -1,6 +1,6 @@
 -- What holds of an SPCR that is written: what was given is what is read.
 use Rattle.std.specs.Prelude.{◌≡◌, ℕ, ◌==◌, List, [], ◌∷◌, ◌++◌, IsUtf8, None, Some, Result, Ok, if◌then◌else◌, All, option_map}
-use Rattle.acpi_base.specs.Words.{bits_of, has_bit, baud_of, bus_of, clock_of, device_id_of, device_of, flow_byte, function_of, interface_in, is_interface, interrupt_byte, interrupt_of, irq_of, namespace_of, spcr_at, terminal_byte, unless, vendor_id_of, flow_bits, interrupt_bits, terminal_bits}
+use Rattle.acpi_base.specs.Words.{bits_of, has_bit, baud_of, bus_of, clock_of, device_id_of, device_of, flow_byte, function_of, interface_in, interrupt_byte, interrupt_of, irq_of, namespace_of, spcr_at, terminal_byte, unless, vendor_id_of, flow_bits, interrupt_bits, terminal_bits}
 use Rattle.acpi_base.specs.Spcr.{base_of}
 use Rattle.acpi.specs.Types.{GenericAddress, AcpiError, SPCR, Spcr}
 use Rattle.acpi_writer.specs.Fields.{FitsField}

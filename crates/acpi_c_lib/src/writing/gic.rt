@@ -125,7 +125,8 @@ impl<'a> GicContents<'a> {
         }
     }
 
-    /// Returns the first error of the contents, which is `BadRange` if a range of redistributors has 2^32 bytes or more.
+    /// Returns the first error of the contents, which is `BadRange` if a range of redistributors has 2^32 bytes or
+    /// more.
     pub(crate) fn check(&self) -> Result<(), WriterError>
         ensures { result ≡ written.checked self.now }
     {

@@ -44,7 +44,8 @@ fn qword(number: u64) -> [u8; 8]
 fn rsdp_unsummed(oem_id: [u8; 6], revision: u8, rsdt: u64, count: u64, xsdt: u64) -> [u8; 36]
     ensures { result ≡ rsdp_unsummed oem_id revision rsdt count xsdt }
 {
-    // From the last field to the first: what is set is always put before what is set already, as the definition joins them.
+    // From the last field to the first: what is set is always put before what is set already, as the definition joins
+    // them.
     let mut rsdp = [0; 36];
     rsdp[24..32].copy_from_slice(&qword(xsdt)); // XsdtAddress
     rsdp[20..24].copy_from_slice(&dword(count)); // Length

@@ -6,8 +6,8 @@ ghost use Rattle.acpi_writer.specs.Spcr as spcr;
 use super::{SpcrContents, SpcrPciDevice};
 use crate::fields::{Field, Record};
 use crate::generic::register_or_zeros;
-use acpi_base::spcr::{SpcrFlowControl, SpcrInterruptType, SpcrTerminalType};
 use acpi_base::bytes::{bits, has_bit};
+use acpi_base::spcr::{SpcrFlowControl, SpcrInterruptType, SpcrTerminalType};
 use bitflags::Flags;
 
 /// The PCI device, or the numbers that say that the port is none.

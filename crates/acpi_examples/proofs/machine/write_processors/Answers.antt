@@ -4,7 +4,7 @@ use Rattle.acpi_writer.specs.MadtLaws.{IsMadt, MadtIsValid}
 use Rattle.acpi_writer.specs.Table.{IsValid}
 use Rattle.acpi_writer.specs.declared.error.WriterError.{WriterError}
 use Rattle.acpi_writer.specs.declared.ids.TableIds.{TableIds}
-use Rattle.acpi_writer.specs.declared.madt.MadtContents.{MadtContents}
+use Rattle.acpi_writer.specs.Types.{MadtContents}
 use Rattle.acpi_examples.proofs.machine.write_processors.Goals as goal
 
 -- the law of the tables that are written, for one that was
