@@ -1,6 +1,7 @@
 -- Tables that are written for C.
-use Rattle.std.specs.Prelude.{◌≡◌, ℕ, ◌≤◌, ◌&&◌, ◌||◌, ◌==◌, Bool, false, not, nat_le, List, length, take, drop, Option, Some, None, Result, Ok, Err, if◌then◌else◌}
-use Rattle.acpi_base.specs.FromStd.{list_all}
+use Rattle.std.specs.Prelude.{◌≡◌, ℕ, ◌≤◌, ◌&&◌, ◌==◌, Bool, false, is_ok, not, nat_le, List, length, take, drop, Option, Some, None, Result, Ok, Err, if◌then◌else◌}
+use Rattle.acpi_base.specs.FromStd.{list_all, result_unwrap_or}
+use Rattle.acpi_base.specs.Words.{polarity_for, trigger_for}
 use Rattle.acpi.specs.Types.{InterruptSourceOverride, IoApic, Lint0, Lint1, NmiLine, NmiSource, Polarity, TriggerMode, McfgEntry}
 use Rattle.acpi_base.specs.declared.model.interrupt.NmiProcessor.TheVariants as nmi
 use Rattle.acpi_base.specs.declared.model.interrupt.Polarity.TheVariants as polarity
@@ -75,16 +76,15 @@ io_apic_of x = record {
   global_system_interrupt_base = x.global_system_interrupt_base;
 }
 
--- Polarity and Trigger Mode: 0 as the bus has it, 1 and 3
+-- a code that is not reserved: Polarity and Trigger Mode have the same ones
 abbrev pub is_wiring : ℕ → Bool
-is_wiring code = code == 0 || (code == 1 || code == 3)
+is_wiring code = is_ok (polarity_for code)
 
 abbrev pub polarity_of : ℕ → Polarity
-polarity_of code = if code == 1 then polarity.ActiveHigh else if code == 3 then polarity.ActiveLow
-    else polarity.SameAsBus
+polarity_of code = result_unwrap_or (polarity_for code) polarity.SameAsBus
 
 abbrev pub trigger_of : ℕ → TriggerMode
-trigger_of code = if code == 1 then trigger.Edge else if code == 3 then trigger.Level else trigger.SameAsBus
+trigger_of code = result_unwrap_or (trigger_for code) trigger.SameAsBus
 
 abbrev pub override_of : records.InterruptSourceOverride → InterruptSourceOverride
 override_of x = record {

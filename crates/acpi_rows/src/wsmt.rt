@@ -1,7 +1,7 @@
 //! A type of table that the library doesn't have.
 
 use acpi::sdt::{SdtHeader, Signature};
-use acpi::{AcpiResult, AcpiTable, PhysicalRecord};
+use acpi::{PhysicalRecord, SdtTable};
 
 /// The Windows Security Mitigations Table (WSMT): what the firmware protects in system management mode.
 #[derive(Clone, Copy)]
@@ -25,27 +25,17 @@ impl PhysicalRecord for Wsmt {
     }
 }
 
-impl AcpiTable for Wsmt {
+impl SdtTable for Wsmt {
     ghost use Rattle.std.proofs.Common.{lit≤};
-    ghost use Rattle.std.specs.Prelude.{refl};
-    ghost use Rattle.acpi_base.specs.Words.{sdt_kind};
     ghost use Rattle.acpi.specs.Types.{WSMT};
 
-    const SIGNATURE: Signature = Signature::WSMT;
+    const NAME: Signature = Signature::WSMT;
 
-    ghost SIGNATURE = { WSMT };
+    ghost NAME = { WSMT };
 
-    ghost kind = { sdt_kind WSMT 40 };
-
-    fn header(&self) -> &SdtHeader {
+    fn sdt_header(&self) -> &SdtHeader {
         &self.header
     }
 
-    fn validate(&self, bytes: &[u8]) -> AcpiResult<()> {
-        self.header().validate(Self::SIGNATURE, bytes)
-    }
-
     ghost least = { lit≤ tt };
-
-    ghost agrees = { (refl, refl) };
 }

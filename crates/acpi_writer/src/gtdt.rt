@@ -13,9 +13,9 @@ use crate::spelled::{Each, Spelled, Then};
 use crate::table::{checked_size, write_checked};
 use acpi_arm::gtdt::{ArmTimer, GtFrame, SbsaWatchdog};
 use acpi_base::Signature;
-use std::alloc::AllocError;
 
 /// A GT Block (section 5.2.24.1.1), in the words of `GtBlock`, as which it is read, or with what stands for its frames.
+#[derive(Clone, Copy)]
 pub struct GtBlockContents<'a, F = GtFrame> {
     /// GT Block Physical address: that of the block's control frame.
     pub address: u64,
@@ -24,6 +24,7 @@ pub struct GtBlockContents<'a, F = GtFrame> {
 }
 
 /// A timer of the platform (section 5.2.24.1), in the words of `PlatformTimer`, as which it is read.
+#[derive(Clone, Copy)]
 pub enum PlatformTimerContents<'a, F = GtFrame> {
     /// GT Block.
     GtBlock(GtBlockContents<'a, F>),
@@ -32,6 +33,7 @@ pub enum PlatformTimerContents<'a, F = GtFrame> {
 }
 
 /// What a GTDT is to say, in the words of `Gtdt`, as which it is read, or with what stands for its timers.
+#[derive(Clone, Copy)]
 pub struct GtdtContents<'a, T = PlatformTimerContents<'a>> {
     /// CntControlBase Physical Address, if there is one.
     pub counter_control_base: Option<u64>,
@@ -49,43 +51,6 @@ pub struct GtdtContents<'a, T = PlatformTimerContents<'a>> {
     pub virtual_el2_timer: ArmTimer,
     /// Platform Timer Structures.
     pub platform_timers: &'a [T],
-}
-
-// By hand, since a derived `Clone` clones field by field, which takes long to prove.
-impl<F> Copy for GtBlockContents<'_, F> {}
-
-impl<F> Clone for GtBlockContents<'_, F> {
-    ghost is_clone = { λ x y. y ≡ x };
-
-    ghost is_infallible = { λ _. Unit {0} };
-
-    fn clone(&self) -> Result<Self, AllocError> {
-        Ok(*self)
-    }
-}
-
-impl<F> Copy for PlatformTimerContents<'_, F> {}
-
-impl<F> Clone for PlatformTimerContents<'_, F> {
-    ghost is_clone = { λ x y. y ≡ x };
-
-    ghost is_infallible = { λ _. Unit {0} };
-
-    fn clone(&self) -> Result<Self, AllocError> {
-        Ok(*self)
-    }
-}
-
-impl<T> Copy for GtdtContents<'_, T> {}
-
-impl<T> Clone for GtdtContents<'_, T> {
-    ghost is_clone = { λ x y. y ≡ x };
-
-    ghost is_infallible = { λ _. Unit {0} };
-
-    fn clone(&self) -> Result<Self, AllocError> {
-        Ok(*self)
-    }
 }
 
 impl<T: Checked> Checked for GtdtContents<'_, T> {

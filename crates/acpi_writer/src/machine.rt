@@ -16,9 +16,9 @@ use crate::rsdp::{put_front, rsdp_bytes};
 use crate::table::table_head;
 use acpi_base::Signature;
 use acpi_image::write::set_sum;
-use std::alloc::AllocError;
 
 /// A machine, as its tables describe it.
+#[derive(Clone, Copy)]
 pub struct Machine<'a, T = TableContents<'a>> {
     /// Who made the tables. Each table has them, and the RSDP has OEMID.
     pub ids: TableIds,
@@ -28,19 +28,6 @@ pub struct Machine<'a, T = TableContents<'a>> {
     pub facs: Option<FacsContents>,
     /// The tables that the XSDT lists, in this order. Of two tables of one signature a reader finds the first.
     pub tables: &'a [T],
-}
-
-// By hand, since a derived `Clone` clones field by field, which takes long to prove.
-impl<T> Copy for Machine<'_, T> {}
-
-impl<T> Clone for Machine<'_, T> {
-    ghost is_clone = { λ x y. y ≡ x };
-
-    ghost is_infallible = { λ _. Unit {0} };
-
-    fn clone(&self) -> Result<Self, AllocError> {
-        Ok(*self)
-    }
 }
 
 /// The physical address at which `write_tables` lays the DSDT of a machine that lists so many tables, if it is passed

@@ -17,7 +17,6 @@ use acpi_base::Signature;
 use acpi_base::model::{InterruptSourceOverride, IoApic, NmiLine, NmiProcessor, NmiSource};
 pub use entries::Fixed;
 use entries::{AddressOverride, Wakeup};
-use std::alloc::AllocError;
 use std::marker::PhantomData;
 
 /// A processor that a MADT is to list (sections 5.2.12.2 and 5.2.12.12).
@@ -36,6 +35,7 @@ pub struct MadtProcessor {
 
 /// What a MADT is to say, in the words of `InterruptModel` and `ProcessorInfo`, as which it is read; or of what stands
 /// for them.
+#[derive(Clone, Copy)]
 pub struct MadtContents<
     'a,
     P = MadtProcessor,
@@ -61,19 +61,6 @@ pub struct MadtContents<
     /// MailBoxAddress: the physical address of the mailbox by which the firmware's processors are woken, if they are
     /// woken so (section 5.2.12.19).
     pub wakeup_mailbox: Option<u64>,
-}
-
-// By hand, since a derived `Clone` clones field by field, which takes long to prove.
-impl<P, I, O, S, L> Copy for MadtContents<'_, P, I, O, S, L> {}
-
-impl<P, I, O, S, L> Clone for MadtContents<'_, P, I, O, S, L> {
-    ghost is_clone = { λ x y. y ≡ x };
-
-    ghost is_infallible = { λ _. Unit {0} };
-
-    fn clone(&self) -> Result<Self, AllocError> {
-        Ok(*self)
-    }
 }
 
 /// Whether neither the uid nor the id is the one that stands for all processors.

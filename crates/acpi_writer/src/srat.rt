@@ -16,7 +16,6 @@ use crate::spelled::{Bytes, Each, EachItem, StandsFor, Then};
 use crate::table::{checked_size, write_checked};
 use acpi_base::Signature;
 use acpi_numa::MemoryRange;
-use std::alloc::AllocError;
 use std::marker::PhantomData;
 
 /// A processor with a local APIC, and the proximity domain that it is in (sections 5.2.16.1 and 5.2.16.3).
@@ -40,6 +39,7 @@ pub struct GiccDomain {
 }
 
 /// What a SRAT is to say, in the words of `Domains` and `MemoryAffinities`, as which it is read.
+#[derive(Clone, Copy)]
 pub struct SratContents<'a, R = MemoryRange> {
     /// The domains of processors with a local APIC.
     pub apics: &'a [ApicDomain],
@@ -47,19 +47,6 @@ pub struct SratContents<'a, R = MemoryRange> {
     pub giccs: &'a [GiccDomain],
     /// The ranges of memory, with their domains, or what stands for them.
     pub ranges: &'a [R],
-}
-
-// By hand, since a derived `Clone` clones field by field, which takes long to prove.
-impl<R> Copy for SratContents<'_, R> {}
-
-impl<R> Clone for SratContents<'_, R> {
-    ghost is_clone = { λ x y. y ≡ x };
-
-    ghost is_infallible = { λ _. Unit {0} };
-
-    fn clone(&self) -> Result<Self, AllocError> {
-        Ok(*self)
-    }
 }
 
 /// Whether the id has a place in a Processor Local APIC/SAPIC Affinity.

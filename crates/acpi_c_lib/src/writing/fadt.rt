@@ -1,6 +1,5 @@
 //! The FADT that is written for C (section 5.2.9), from the record as which C reads it, and the FACS (section 5.2.10).
 ghost use Rattle.std.specs.Prelude.{◌≡◌};
-ghost use Rattle.acpi_fixed.specs.Words.{profile_for};
 ghost use Rattle.acpi_c_lib.specs.WrittenFadt as written;
 
 use crate::fixed_records::{FixedHardware, GpeBlock};
@@ -64,23 +63,6 @@ fn gpe(given: GpeBlock) -> Option<acpi::fadt::GpeBlock>
         address: given.address,
         byte_length: given.byte_length,
     })
-}
-
-fn profile(code: u8) -> PowerProfile
-    ensures { result ≡ profile_for code }
-{
-    match code {
-        0 => PowerProfile::Unspecified,
-        1 => PowerProfile::Desktop,
-        2 => PowerProfile::Mobile,
-        3 => PowerProfile::Workstation,
-        4 => PowerProfile::EnterpriseServer,
-        5 => PowerProfile::SohoServer,
-        6 => PowerProfile::AppliancePc,
-        7 => PowerProfile::PerformanceServer,
-        8 => PowerProfile::Tablet,
-        _ => PowerProfile::Reserved(code),
-    }
 }
 
 /// Flags, by name.
@@ -171,7 +153,7 @@ pub(crate) fn contents(h: &FixedHardware) -> FadtContents
     FadtContents {
         dsdt: h.dsdt_address,
         facs: (h.facs_address != 0).then_some(h.facs_address),
-        power_profile: profile(h.power_profile),
+        power_profile: PowerProfile::from(h.power_profile),
         sci_interrupt: h.sci_interrupt,
         hardware: hardware(h),
         // RESET_REG_SUP says that there is one.

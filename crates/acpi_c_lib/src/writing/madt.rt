@@ -10,31 +10,23 @@ use acpi_base::model::{LocalInterruptLine, NmiProcessor, Polarity, TriggerMode};
 use acpi_writer::MadtProcessor;
 use acpi_writer::spelled::StandsFor;
 
-/// Whether a number is one of a polarity, and of a trigger mode.
+/// Whether a number is the code of a polarity, which is one of a trigger mode too.
 pub(super) fn is_wiring(code: u8) -> bool
     ensures { result ≡ writing.is_wiring code }
 {
-    code == 0 || code == 1 || code == 3
+    Polarity::try_from(code).is_ok()
 }
 
 pub(super) fn polarity(code: u8) -> Polarity
     ensures { result ≡ writing.polarity_of code }
 {
-    match code {
-        1 => Polarity::ActiveHigh,
-        3 => Polarity::ActiveLow,
-        _ => Polarity::SameAsBus,
-    }
+    Polarity::try_from(code).unwrap_or(Polarity::SameAsBus)
 }
 
 pub(super) fn trigger(code: u8) -> TriggerMode
     ensures { result ≡ writing.trigger_of code }
 {
-    match code {
-        1 => TriggerMode::Edge,
-        3 => TriggerMode::Level,
-        _ => TriggerMode::SameAsBus,
-    }
+    TriggerMode::try_from(code).unwrap_or(TriggerMode::SameAsBus)
 }
 
 impl StandsFor<MadtProcessor> for Processor {

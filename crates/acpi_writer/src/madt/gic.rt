@@ -16,11 +16,11 @@ use acpi_arm::gic::{
     GicCpuInterface, GicDistributor, GicMsiFrame, GicRedistributors, GicTranslationService,
 };
 use acpi_base::Signature;
-use std::alloc::AllocError;
 use std::marker::PhantomData;
 
 /// What the MADT of an Arm machine is to say, in the fields of `GicModel`, as which it is read; or of what stands for
 /// them.
+#[derive(Clone, Copy)]
 pub struct GicContents<
     'a,
     C = GicCpuInterface,
@@ -38,19 +38,6 @@ pub struct GicContents<
     pub translation_services: &'a [T],
     /// GIC MSI Frames.
     pub msi_frames: &'a [F],
-}
-
-// By hand, since a derived `Clone` clones field by field, which takes long to prove.
-impl<C, R, T, F> Copy for GicContents<'_, C, R, T, F> {}
-
-impl<C, R, T, F> Clone for GicContents<'_, C, R, T, F> {
-    ghost is_clone = { λ x y. y ≡ x };
-
-    ghost is_infallible = { λ _. Unit {0} };
-
-    fn clone(&self) -> Result<Self, AllocError> {
-        Ok(*self)
-    }
 }
 
 /// Returns the first error of an interface.
