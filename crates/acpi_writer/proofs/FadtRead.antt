@@ -43,9 +43,12 @@ each_block (block ∷ blocks) all =
     let p = and_parts (is_block block) (list_all is_block blocks) all in
     (p.0, each_block blocks p.1)
 
-blocks_of : (hardware : FadtHardware) → are_blocks hardware ≡ true → AreBlocks (optional_blocks (fixed_of hardware))
-blocks_of Reduced is = each_block (optional_blocks (fixed_of Reduced)) refl
-blocks_of (Fixed h) is = (each_block (Some h.pm1a_event ∷ Some h.pm1a_control ∷ optional_blocks h) is).1.1
+blocks_of : (hardware : FadtHardware) → are_blocks hardware ≡ true
+    → AreBlocks (optional_blocks (fixed_of hardware)) × (is_register (fixed_of hardware).pm_timer ≡ true)
+blocks_of Reduced is = (each_block (optional_blocks (fixed_of Reduced)) refl, refl)
+blocks_of (Fixed h) is =
+    let p = and_parts _ _ is in
+    ((each_block (Some h.pm1a_event ∷ Some h.pm1a_control ∷ optional_blocks h) p.1).1.1, p.0)
 
 -- the blocks that fixed hardware has
 needed_of : (hardware : FadtHardware) (f : Fadt) → are_blocks hardware ≡ true
@@ -57,7 +60,7 @@ needed_of : (hardware : FadtHardware) (f : Fadt) → are_blocks hardware ≡ tru
     → HasNeededBlocks hardware f
 needed_of Reduced f is event control e k = tt
 needed_of (Fixed h) f is event control e k =
-    let are = each_block (Some h.pm1a_event ∷ Some h.pm1a_control ∷ optional_blocks h) is in
+    let are = each_block (Some h.pm1a_event ∷ Some h.pm1a_control ∷ optional_blocks h) (and_parts _ _ is).1 in
     record {
       pm1a_event = rw e (block_read (bytes_wide (Some h.pm1a_event)) h.pm1a_event event are.0);
       pm1a_control = rw k (block_read (bytes_wide (Some h.pm1a_control)) h.pm1a_control control are.1.0);
@@ -235,7 +238,7 @@ module _ (c : FadtContents) (h : FixedHardware) (t : List ℕ) (from36 : drop 36
         sleep_status = ap register_of (sleep 9 (lit< tt) refl) ∙ register_read c.sleep_status v status;
       }
 
-  hardware_is : AreBlocks (optional_blocks h) → HasHardware h (fadt_at t)
+  hardware_is : AreBlocks (optional_blocks h) × (is_register h.pm_timer ≡ true) → HasHardware h (fadt_at t)
   unfolding fadt_at front_fields
   hardware_is are =
       let fits = λ (i : ℕ) (less : i < 10). fit.1.1.1.0 i None less in
@@ -248,22 +251,22 @@ module _ (c : FadtContents) (h : FixedHardware) (t : List ℕ) (from36 : drop 36
         c_state = front 25 (lit< tt);
         pm1b_event =
             ap optional_block_of (block_is t 60 88 160 _ h.pm1b_event (front 18 (lit< tt)) (port 11 (lit< tt))
-            (has 160 12 refl) (register 1 (lit< tt))) ∙ optional_read _ h.pm1b_event (fits 1 (lit< tt)) are.0;
+            (has 160 12 refl) (register 1 (lit< tt))) ∙ optional_read _ h.pm1b_event (fits 1 (lit< tt)) are.0.0;
         pm1b_control =
             ap optional_block_of (block_is t 68 89 184 _ h.pm1b_control (front 19 (lit< tt)) (port 13 (lit< tt))
-            (has 184 12 refl) (register 3 (lit< tt))) ∙ optional_read _ h.pm1b_control (fits 3 (lit< tt)) are.1.0;
+            (has 184 12 refl) (register 3 (lit< tt))) ∙ optional_read _ h.pm1b_control (fits 3 (lit< tt)) are.0.1.0;
         pm2_control =
             ap optional_block_of (block_is t 72 90 196 _ h.pm2_control (front 20 (lit< tt)) (port 14 (lit< tt))
-            (has 196 12 refl) (register 4 (lit< tt))) ∙ optional_read _ h.pm2_control (fits 4 (lit< tt)) are.1.1.0;
+            (has 196 12 refl) (register 4 (lit< tt))) ∙ optional_read _ h.pm2_control (fits 4 (lit< tt)) are.0.1.1.0;
         pm_timer =
             ap timer_block_of (block_is t 76 91 208 _ h.pm_timer (front 21 (lit< tt)) (port 15 (lit< tt))
-            (has 208 12 refl) (register 5 (lit< tt))) ∙ timer_read h.pm_timer (fits 5 (lit< tt)) are.1.1.1.0;
+            (has 208 12 refl) (register 5 (lit< tt))) ∙ timer_read h.pm_timer (fits 5 (lit< tt)) are.1;
         gpe0 =
             ap gpe_of (block_is t 80 92 220 _ (gpe_register h.gpe0) (front 22 (lit< tt)) (port 16 (lit< tt))
-            (has 220 12 refl) (register 6 (lit< tt))) ∙ gpe_read h.gpe0 (fits 6 (lit< tt)) are.1.1.1.1.0;
+            (has 220 12 refl) (register 6 (lit< tt))) ∙ gpe_read h.gpe0 (fits 6 (lit< tt)) are.0.1.1.1.0;
         gpe1 =
             ap gpe_of (block_is t 84 93 232 _ (gpe_register h.gpe1) (front 23 (lit< tt)) (port 17 (lit< tt))
-            (has 232 12 refl) (register 7 (lit< tt))) ∙ gpe_read h.gpe1 (fits 7 (lit< tt)) are.1.1.1.1.1.0;
+            (has 232 12 refl) (register 7 (lit< tt))) ∙ gpe_read h.gpe1 (fits 7 (lit< tt)) are.0.1.1.1.1.0;
         gpe1_base = front 24 (lit< tt);
       }
 

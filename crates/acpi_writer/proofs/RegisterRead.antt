@@ -46,18 +46,24 @@ block_read size g fits is =
     let p = and_parts _ _ (and_parts _ _ is).0 in
     rw (usable g fits (is_off _ p.0)) (address_read g fits p.1)
 
+given_block : (size : ℕ) (g : GenericAddress) → FitsAddress g → is_register (Some g) ≡ true
+    → optional_block_of (made size (Some g)) ≡ Ok (Some g)
+unfolding address_fields field_of spelling
+given_block size g fits is =
+    let p = and_parts _ _ is in
+    rw (usable g fits (is_off _ p.0), address_read g fits p.1) refl
+
 pub optional_read : (size : ℕ) (o : Option GenericAddress) → FitsRegister o → is_block o ≡ true
     → optional_block_of (made size o) ≡ Ok o
 unfolding address_fields field_of spelling
 optional_read size None fits is = refl
-optional_read size (Some g) fits is =
-    let p = and_parts _ _ (and_parts _ _ is).0 in
-    rw (usable g fits (is_off _ p.0), address_read g fits p.1) refl
+optional_read size (Some g) fits is = given_block size g fits (and_parts _ _ is).0
 
-pub timer_read : (o : Option GenericAddress) → FitsRegister o → is_block o ≡ true
+pub timer_read : (o : Option GenericAddress) → FitsRegister o → is_register o ≡ true
     → timer_block_of (made (if is_given o then 4 else 0) o) ≡ Ok o
+unfolding address_fields field_of spelling
 timer_read None fits is = refl
-timer_read (Some g) fits is = optional_read 4 (Some g) fits is
+timer_read (Some g) fits is = given_block 4 g fits is
 
 some_bytes : (n : ℕ) → nat_le 8 (if nat_lt n 32 then 8 * n else 255) ≡ true → (n == 0) ≡ false
 some_bytes zero h = absurd cc

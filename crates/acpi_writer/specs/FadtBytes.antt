@@ -194,14 +194,15 @@ has_bytes None = true
 abbrev pub is_block : Option GenericAddress → Bool
 is_block o = is_register o && has_bytes o
 
--- the blocks that fixed hardware need not have
+-- the blocks that fixed hardware need not have, but for the timer, of which PM_TMR_LEN is 4 whatever its width is
 abbrev pub optional_blocks : FixedHardware → List (Option GenericAddress)
 optional_blocks h =
-    h.pm1b_event ∷ h.pm1b_control ∷ h.pm2_control ∷ h.pm_timer ∷ gpe_register h.gpe0 ∷ gpe_register h.gpe1 ∷ []
+    h.pm1b_event ∷ h.pm1b_control ∷ h.pm2_control ∷ gpe_register h.gpe0 ∷ gpe_register h.gpe1 ∷ []
 
 abbrev pub are_blocks : FadtHardware → Bool
 are_blocks Reduced = true
-are_blocks (Fixed h) = list_all is_block (Some h.pm1a_event ∷ Some h.pm1a_control ∷ optional_blocks h)
+are_blocks (Fixed h) = is_register h.pm_timer
+    && list_all is_block (Some h.pm1a_event ∷ Some h.pm1a_control ∷ optional_blocks h)
 
 -- and of the registers that any hardware may have
 abbrev pub are_registers : FadtContents → Bool

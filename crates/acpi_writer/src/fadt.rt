@@ -69,16 +69,18 @@ fn are_blocks(hardware: &FadtHardware) -> bool
 {
     match *hardware {
         FadtHardware::Reduced => true,
-        FadtHardware::Fixed(h) => are_all(&[
-            Some(h.pm1a_event),
-            Some(h.pm1a_control),
-            h.pm1b_event,
-            h.pm1b_control,
-            h.pm2_control,
-            h.pm_timer,
-            gpe_register(h.gpe0),
-            gpe_register(h.gpe1),
-        ]),
+        FadtHardware::Fixed(h) => {
+            is_register(h.pm_timer)
+                && are_all(&[
+                    Some(h.pm1a_event),
+                    Some(h.pm1a_control),
+                    h.pm1b_event,
+                    h.pm1b_control,
+                    h.pm2_control,
+                    gpe_register(h.gpe0),
+                    gpe_register(h.gpe1),
+                ])
+        }
     }
 }
 
@@ -146,8 +148,8 @@ pub fn fadt_size(ids: &TableIds, contents: &FadtContents) -> Result<usize, Write
 ///
 /// Returns, in this order, `NoAddress` if the DSDT or the FACS is at address 0, `BadProfile` if a `Reserved` profile
 /// has the code of one that has a name, `BadRegister` if a register is at address 0 or in an `OemDefined` space below
-/// 0xc0, or if a block of fixed hardware has no whole byte, `BadName` if a name of the ids is not valid UTF-8, and
-/// `NoRoom` if the slice is shorter than the table.
+/// 0xc0, or if a block of fixed hardware but the timer's has no whole byte, `BadName` if a name of the ids is not valid
+/// UTF-8, and `NoRoom` if the slice is shorter than the table.
 #[tactic(auto, unfolding(crate::specs::FadtBytes::fadt_written))]
 pub fn write_fadt(
     out: &mut [u8],
