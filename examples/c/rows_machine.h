@@ -93,6 +93,20 @@ static const uint8_t small_fadt_bytes[] = {LONG_HEAD('F', 'A', 'C', 'P', 0x14, 1
     1, 16, 0, 2, 4, 6, 0, 0, 0, 0, 0, 0, ZEROS_12,  /* X_PM1a_CNT_BLK, X_PM1b_CNT_BLK */
     ZEROS_12, ZEROS_12, ZEROS_12, ZEROS_12, ZEROS_12, ZEROS_12, /* X_PM2_CNT_BLK to SLEEP_STATUS_REG */
     0, 0, 0, 0, 0, 0, 0, 0};
+/* The same with a timer whose width isn't said: PM_TMR_LEN is 4 all the same. */
+static const uint8_t timer_fadt_bytes[] = {LONG_HEAD('F', 'A', 'C', 'P', 0x14, 1, 6, 0xf6),
+    0, 0, 0, 0, 16, 0, 0, 0, 0, 0, 0, 0,            /* FIRMWARE_CTRL to SCI_INT */
+    0, 0, 0, 0, 0, 0, 0, 0, 0, 6, 0, 0, 0, 0, 0, 0, 4, 6, 0, 0, 0, 0, 0, 0, /* SMI_CMD to PM1b_CNT_BLK */
+    0, 0, 0, 0, 8, 6, 0, 0, 0, 0, 0, 0, 0, 0, 0, 0, /* PM2_CNT_BLK to GPE1_BLK */
+    4, 2, 0, 4, 0, 0, 0, 0, 0, 0, 0, 0, 0, 0, 0, 0, /* PM1_EVT_LEN to FLUSH_STRIDE */
+    0, 0, 0, 0, 0, 0, 0, 0, 0, 0, 0, 0,             /* DUTY_OFFSET to Flags */
+    ZEROS_12, 0, 0, 0, 4,                           /* RESET_REG, RESET_VALUE, ARM_BOOT_ARCH, FADT Minor Version */
+    0, 0, 0, 0, 0, 0, 0, 0, 16, 0, 0, 0, 0, 0, 0, 0, /* X_FIRMWARE_CTRL, X_DSDT */
+    1, 32, 0, 2, 0, 6, 0, 0, 0, 0, 0, 0, ZEROS_12,  /* X_PM1a_EVT_BLK, X_PM1b_EVT_BLK */
+    1, 16, 0, 2, 4, 6, 0, 0, 0, 0, 0, 0, ZEROS_12,  /* X_PM1a_CNT_BLK, X_PM1b_CNT_BLK */
+    ZEROS_12, 1, 0, 0, 3, 8, 6, 0, 0, 0, 0, 0, 0,   /* X_PM2_CNT_BLK, X_PM_TMR_BLK */
+    ZEROS_12, ZEROS_12, ZEROS_12, ZEROS_12,         /* X_GPE0_BLK to SLEEP_STATUS_REG */
+    0, 0, 0, 0, 0, 0, 0, 0};
 static const uint8_t facs_bytes[64] = {'F', 'A', 'C', 'S', 64, 0, 0, 0, 0x14, 0x13, 0x12, 0x11, /* Hardware Signature */
     0x24, 0x23, 0x22, 0x21, 0, 0, 0, 0, 3, 0, 0, 0, /* Firmware_Waking_Vector, Global_Lock, Flags */
     0x38, 0x37, 0x36, 0x35, 0x34, 0x33, 0x32, 0x31, 2}; /* X_Firmware_Waking_Vector, Version */
@@ -110,6 +124,7 @@ REGISTERS(fadt_without_control, 16, 0x600, 0, 0, 0, EVENTS(0x620, 16))
 REGISTERS(fadt_without_reset, 16, 0x600, 0x604, 1 << 10, 0, EVENTS(0x620, 16))
 REGISTERS(fadt_without_events, 16, 0x600, 0x604, 0, 0, EVENTS(0x620, 0))
 REGISTERS(fadt_events_at_0, 16, 0x600, 0x604, 0, 0, EVENTS(0, 0))
+WIDE(fadt_of_a_timer, 16, PORT(0x600, 32, 2), PORT(0x604, 16, 2), 0, 0, EVENTS(0, 0), .pm_timer = PORT(0x608, 0, 3))
 WIDE(fadt_of_7_event_bits, 16, PORT(0x600, 7, 1), PORT(0x604, 16, 2), 0, 0, EVENTS(0x620, 16))
 WIDE(fadt_of_7_control_bits, 16, PORT(0x600, 32, 2), PORT(0x604, 7, 1), 0, 0, EVENTS(0x620, 16))
 

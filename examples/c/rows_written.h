@@ -290,6 +290,7 @@ WRITE(a_fadt_without_control, fadt, &fadt_without_control)
 WRITE(a_fadt_without_reset, fadt, &fadt_without_reset)
 WRITE(a_fadt_without_events, fadt, &fadt_without_events)
 WRITE(a_fadt_events_at_0, fadt, &fadt_events_at_0)
+WRITE(a_fadt_of_a_timer, fadt, &fadt_of_a_timer)
 WRITE(a_fadt_of_7_event_bits, fadt, &fadt_of_7_event_bits)
 WRITE(a_fadt_of_7_control_bits, fadt, &fadt_of_7_control_bits)
 static zacpi_status a_facs(uint8_t *to, size_t room, size_t *length) {
@@ -338,6 +339,7 @@ static const struct written_row {
     NOT_WRITTEN(a_fadt_without_dsdt, ZACPI_NO_ADDRESS), NOT_WRITTEN(a_fadt_without_pm1a, ZACPI_BAD_REGISTER),
     NOT_WRITTEN(a_fadt_without_control, ZACPI_BAD_REGISTER), NOT_WRITTEN(a_fadt_without_reset, ZACPI_BAD_REGISTER),
     NOT_WRITTEN(a_fadt_without_events, ZACPI_BAD_REGISTER), WRITTEN(a_fadt_events_at_0, small_fadt_bytes),
+    WRITTEN(a_fadt_of_a_timer, timer_fadt_bytes),
     NOT_WRITTEN(a_fadt_of_7_event_bits, ZACPI_BAD_REGISTER), NOT_WRITTEN(a_fadt_of_7_control_bits, ZACPI_BAD_REGISTER),
     WRITTEN(a_machine, machine_bytes), WRITTEN(a_tree, tree_bytes), WRITTEN(an_empty_machine, empty_machine_bytes),
     WRITTEN(a_machine_of_a_facs, facs_machine_bytes),
