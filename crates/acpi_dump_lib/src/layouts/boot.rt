@@ -1,10 +1,10 @@
 //! What firmware tells of the boot, and of licences.
 
-/// The BGRT, the FPDT with the S3PT and the FBPT that it points to, the RGRT (ACPI 6.5, sections 5.2.23, 5.2.24 and
-/// 5.2.35), the UEFI table (UEFI 2.10, appendix O), the BOOT, the MSDM, the SLIC, the WPBT and the WSMT (Microsoft:
-/// Simple Boot Flag Specification 2.1, Software Licensing Tables, Windows Platform Binary Table, Windows SMM Security
-/// Mitigations Table), the STAO and the XENV (Xen Project), the PHAT (ACPI 6.5, section 5.2.32) and the PRMT (Platform
-/// Runtime Mechanism 1.0).
+/// The BGRT (ACPI 6.5, section 5.2.23), the FPDT with the S3PT and the FBPT that it points to (section
+/// 5.2.24), the RGRT (section 5.2.35), the UEFI table (UEFI 2.10, appendix O), the BOOT (Microsoft: Simple Boot
+/// Flag Specification 2.1), the MSDM and the SLIC (Microsoft: Software Licensing Tables), the WPBT (Microsoft:
+/// Windows Platform Binary Table), the WSMT (Microsoft: Windows SMM Security Mitigations Table), the STAO and
+/// the XENV (Xen Project), the PHAT (ACPI 6.5, section 5.2.32) and the PRMT (Platform Runtime Mechanism 1.0).
 pub(crate) const BOOT: &str = "
 = BGRT * - Boot Graphics Resource Table
 36 2 - Version

@@ -1,8 +1,8 @@
 //! Buses, timers, consoles and graphics.
 
 /// PCI configuration space, consoles and debug ports: the MCFG (PCI Firmware Specification 3.3, tables 4-2
-/// and 4-3), the SPCR, the DBG2 and the DBGP (Microsoft: Serial Port Console Redirection Table,
-/// Microsoft Debug Port Table 2, Debug Port Specification).
+/// and 4-3), the SPCR (Microsoft: Serial Port Console Redirection Table), the DBG2 (Microsoft Debug Port
+/// Table 2) and the DBGP (Microsoft: Debug Port Specification).
 pub(crate) const PORTS: &str = "
 = MCFG * - PCI Express memory mapped configuration space base address description table
 36 8 - Reserved
@@ -109,10 +109,10 @@ if 12:2 0x8003 0xffff DBG2-other
 40 12 gas Base Address
 ";
 
-/// Timers and watchdogs: the HPET (IA-PC HPET Specification 1.0a, section 3.2.4), the WAET, the WDRT and the
-/// WDAT (Microsoft: Windows ACPI Emulated Devices Table, Watchdog Timer Hardware Requirements, Hardware
-/// Watchdog Timers Design Specification), the WDDT (Intel: Watchdog Descriptor Table), the VRTC and
-/// the MTMR (Intel: Simple Firmware Interface's tables under ACPI).
+/// Timers and watchdogs: the HPET (IA-PC HPET Specification 1.0a, section 3.2.4), the WAET (Microsoft: Windows
+/// ACPI Emulated Devices Table), the WDRT (Microsoft: Watchdog Timer Hardware Requirements), the WDAT
+/// (Microsoft: Hardware Watchdog Timers Design Specification), the WDDT (Intel: Watchdog Descriptor Table), the
+/// VRTC and the MTMR (Intel: Simple Firmware Interface's tables under ACPI).
 pub(crate) const TIMERS: &str = "
 = HPET * - IA-PC High Precision Event Timer Table
 36 4 - Event Timer Block ID

@@ -1,6 +1,6 @@
-//! Errors of the hardware (ACPI 6.5, chapter 18; the CPEP: section 5.2.18).
+//! Errors of the hardware (ACPI 6.5, chapter 18).
 
-/// The BERT (table 18.16), the CPEP, the EINJ (18.25), the ERST (18.17) and the HEST (18.3).
+/// The BERT (table 18.16), the CPEP (section 5.2.18), the EINJ (table 18.25), the ERST (18.17) and the HEST (18.3).
 pub(crate) const ERRORS: &str = "
 = BERT * - Boot Error Record Table
 36 4 dec Boot Error Region Length

@@ -190,9 +190,9 @@ if 20:4 29 0xffffffff CSRT-shared
 8 4 text UID
 ";
 
-/// Tables of Arm machines: the AEST (Arm DEN0085, revision 1), the AGDI (DEN0093), the APMT (DEN0117), the MPAM
-/// (DEN0065, 2.0) and the SDEI (DEN0054, which has no fields); and the RHCT of RISC-V (RISC-V
-/// Hart Capabilities Table, ACPI 6.6).
+/// Tables of Arm machines: the AEST (Arm DEN0085, revision 1), the AGDI (Arm DEN0093), the APMT (Arm DEN0117), the
+/// MPAM (Arm DEN0065, 2.0) and the SDEI (Arm DEN0054, which has no fields); and the RHCT of RISC-V (RISC-V Hart
+/// Capabilities Table, ACPI 6.6).
 pub(crate) const MACHINES: &str = "
 = SDEI * - Software Delegated Exceptions Interface Table
 
