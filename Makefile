@@ -47,7 +47,7 @@ check: $(CHECKED)
 install: $(OUT)/$(TARGET)/libzacpi.a $(OUT)/$(KERNEL)/libzacpi.a
 	mkdir -p $(DESTDIR)$(PREFIX)/include $(DESTDIR)$(LIBDIR)/pkgconfig $(DESTDIR)$(LIBDIR)/cmake/zacpi \
 	    $(SHARE)/doc/zacpi/examples
-	$(INSTALL) include/zacpi.h $(DESTDIR)$(PREFIX)/include/zacpi.h
+	$(INSTALL) include/*.h $(DESTDIR)$(PREFIX)/include
 	$(INSTALL) $(OUT)/$(TARGET)/libzacpi.a $(DESTDIR)$(LIBDIR)/libzacpi.a
 	$(INSTALL) $(OUT)/$(KERNEL)/libzacpi.a $(DESTDIR)$(LIBDIR)/libzacpi-kernel.a
 	for name in zacpi zacpi-kernel; do sed "s|@NAME@|$$name|; s|@VERSION@|$(VERSION)|; s|@PREFIX@|$(PREFIX)|; \
@@ -66,7 +66,7 @@ install-programs:
 uninstall:
 	rm -rf $(DESTDIR)$(LIBDIR)/cmake/zacpi $(SHARE)/doc/zacpi
 	rm -f $(addprefix $(DESTDIR)$(LIBDIR)/,libzacpi.a libzacpi-kernel.a pkgconfig/zacpi.pc pkgconfig/zacpi-kernel.pc) \
-	    $(DESTDIR)$(PREFIX)/include/zacpi.h
+	    $(addprefix $(DESTDIR)$(PREFIX)/,$(wildcard include/*.h))
 clean:
 	rm -rf $(OUT)
 .PHONY: all check install install-programs uninstall clean

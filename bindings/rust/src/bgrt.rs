@@ -3,7 +3,7 @@
 use crate::error::AcpiResult;
 use crate::raw::{self, records};
 use crate::sdt::Signature;
-use crate::tables::{read::Read, AcpiTable, AcpiTables};
+use crate::acpi_tables::{read::Read, AcpiTable, AcpiTables};
 
 /// Image Type.
 #[derive(Clone, Copy, Debug, PartialEq, Eq)]

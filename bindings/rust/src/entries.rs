@@ -2,7 +2,7 @@
 
 use crate::error::AcpiResult;
 use crate::raw::{self, records};
-use crate::tables::{AcpiTables, Table};
+use crate::acpi_tables::{AcpiTables, Table};
 
 /// How many bytes Type has, and Length has, at the front of each entry.
 #[derive(Clone, Copy, Debug, PartialEq, Eq)]

@@ -5,7 +5,7 @@ use crate::list::{items, Listing};
 use crate::platform::interrupt::TriggerMode;
 pub use crate::raw::records::GicTranslationService;
 use crate::raw::{self, records, records::Range};
-use crate::tables::AcpiTables;
+use crate::acpi_tables::AcpiTables;
 
 /// The distributor (GICD, section 5.2.12.15).
 #[derive(Clone, Copy, Debug, PartialEq, Eq)]

@@ -5,7 +5,7 @@ use crate::list::{items, Listing};
 use crate::platform::interrupt::{Polarity, TriggerMode};
 use crate::raw::{self, records};
 use crate::sdt::Signature;
-use crate::tables::{read::Read, AcpiTable, AcpiTables};
+use crate::acpi_tables::{read::Read, AcpiTable, AcpiTables};
 
 /// How a timer interrupts.
 #[derive(Clone, Copy, Debug, PartialEq, Eq)]

@@ -6,7 +6,7 @@ use crate::error::{AcpiError, AcpiResult};
 use crate::list::{List, Slot};
 use crate::raw::{self, records, records_of};
 use crate::sdt::Signature;
-use crate::tables::{read::Read, AcpiTable, AcpiTables, Table};
+use crate::acpi_tables::{read::Read, AcpiTable, AcpiTables, Table};
 
 pub use records::{DmarReserved, Hop, IvrsMemory};
 

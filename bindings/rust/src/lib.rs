@@ -5,6 +5,7 @@
 #[cfg(feature = "alloc")]
 extern crate alloc;
 
+mod acpi_tables;
 pub mod address;
 pub mod bgrt;
 pub mod entries;
@@ -24,8 +25,9 @@ pub mod sdt;
 pub mod slit;
 pub mod spcr;
 pub mod srat;
-mod tables;
+pub mod tables;
 
+pub use acpi_tables::{AcpiTable, AcpiTables, Fault, Root, Table, Tables};
 pub use error::{AcpiError, AcpiResult, MadtError};
 pub use fadt::PowerProfile;
 pub use gic::GicModel;
@@ -36,4 +38,3 @@ pub use memory::{clip_ranges, map_missing, missing_ranges, Mapped, Region, Start
 pub use platform::{interrupt::InterruptModel, PlatformInfo, PlatformRoom};
 pub use raw::records::{AmlTable, Range};
 pub use sdt::Signature;
-pub use tables::{AcpiTable, AcpiTables, Fault, Root, Table, Tables};

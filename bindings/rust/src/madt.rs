@@ -5,7 +5,7 @@ use crate::entries::{Entries, Entry, EntryWidth};
 pub use crate::error::MadtError;
 use crate::error::{AcpiError, AcpiResult};
 use crate::sdt::Signature;
-use crate::tables::{read::Read, AcpiTable, AcpiTables, Table};
+use crate::acpi_tables::{read::Read, AcpiTable, AcpiTables, Table};
 
 /// The least length of a MADT: its entries begin there.
 const ENTRIES_AT: u32 = 44;

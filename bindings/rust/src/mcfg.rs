@@ -4,7 +4,7 @@ use crate::error::AcpiResult;
 use crate::list::{items, Listing};
 use crate::raw::{self, records};
 use crate::sdt::Signature;
-use crate::tables::{read::Read, AcpiTable, AcpiTables};
+use crate::acpi_tables::{read::Read, AcpiTable, AcpiTables};
 use core::ops::RangeInclusive;
 
 /// A region of configuration space: an allocation of the MCFG.

@@ -3,7 +3,7 @@
 use crate::error::AcpiResult;
 use crate::raw;
 use crate::sdt::Signature;
-use crate::tables::{read::Read, AcpiTable, AcpiTables};
+use crate::acpi_tables::{read::Read, AcpiTable, AcpiTables};
 
 /// The distances of the first valid SLIT.
 #[derive(Clone, Copy, Debug)]

@@ -4,7 +4,7 @@ use crate::address::{register, GenericAddress};
 use crate::error::AcpiResult;
 use crate::raw::{self, records};
 use crate::sdt::Signature;
-use crate::tables::{read::Read, AcpiTable, AcpiTables};
+use crate::acpi_tables::{read::Read, AcpiTable, AcpiTables};
 
 macro_rules! interfaces {
     ($($(#[$doc:meta])* $code:literal = $name:ident,)*) => {

@@ -4,7 +4,7 @@ use crate::error::{AcpiError, AcpiResult};
 use crate::list::{items, Listing};
 use crate::raw::{self, records};
 use crate::sdt::Signature;
-use crate::tables::{read::Read, AcpiTable, AcpiTables, Table};
+use crate::acpi_tables::{read::Read, AcpiTable, AcpiTables, Table};
 
 /// The least length of an SRAT: its entries begin there.
 const LEAST: u32 = 48;

@@ -4,7 +4,7 @@ use crate::error::{AcpiError, AcpiResult};
 use crate::list::{items, List, Listing};
 pub use crate::raw::records::{IoApic, IoApicPin};
 use crate::raw::{self, records};
-use crate::tables::AcpiTables;
+use crate::acpi_tables::AcpiTables;
 
 /// At which level an interrupt is active: Polarity, bits 0 and 1 of MPS INTI Flags (table 5.26).
 #[derive(Clone, Copy, Debug, PartialEq, Eq)]

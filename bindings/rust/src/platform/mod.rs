@@ -8,7 +8,7 @@ use crate::fadt::{Fadt, PowerProfile};
 use crate::list::{items, List, Listing, Slot};
 use crate::raw::{self, records, records_of};
 use crate::sdt::Signature;
-use crate::tables::AcpiTables;
+use crate::acpi_tables::AcpiTables;
 use interrupt::{Apic, InterruptModel, InterruptSourceOverride, IoApic, NmiLine, NmiSource};
 
 /// What a processor does.
