@@ -226,19 +226,33 @@ pub in_ok : {X A : Type 0} (ranges_of : Memory → X → Ranges) (defined : Memo
     → DependsOn ranges_of (λ m x. done (defined m x))
 in_ok ranges_of defined same m n x h = ap done (same m n x h)
 
-pub fadt_from_tables : {H : Type 0} {h : _} (t : AcpiTables H h)
-    → result_ok (root_at (memory_of t) (kind_of t) (root_address_of t)) ≡ Some (root_of t)
-    → FootprintBelow t (λ m. lookup_ranges m fadt_kind) (λ m. lookup m fadt_kind)
-    (λ said. lookup (memory_of t) fadt_kind (pointers_of t) ≡ said)
-fadt_from_tables t valid n h = rw (from_tables t (λ m. lookup_ranges m fadt_kind) (λ m. lookup m fadt_kind)
-    (same_lookup fadt_kind) valid n h) refl
+-- over each memory that agrees with that of some tables the definition says the same below their root table
+abbrev pub IsSameBelow : {H A : Type 0} {h : _} → AcpiTables H h → (Memory → List ℕ → Ranges)
+    → (Memory → List ℕ → Result A AcpiError) → Type 0
+IsSameBelow t ranges_of defined = result_ok (root_at (memory_of t) (kind_of t) (root_address_of t)) ≡ Some (root_of t)
+    → FootprintBelow t ranges_of defined (λ said. said ≡ defined (memory_of t) (pointers_of t))
 
-pub mailbox_from_tables : {H : Type 0} {h : _} (t : AcpiTables H h)
-    → result_ok (root_at (memory_of t) (kind_of t) (root_address_of t)) ≡ Some (root_of t)
-    → FootprintBelow t (λ m. lookup_ranges m madt_kind) mailbox_found
-    (λ said. mailbox_found (memory_of t) (pointers_of t) ≡ said)
-mailbox_from_tables t valid n h = rw (from_tables t (λ m. lookup_ranges m madt_kind) mailbox_found same_mailbox
-    valid n h) refl
+module _ {H : Type 0} {h : _} (t : AcpiTables H h) where
+  pub fadt_from_tables : IsSameBelow t (λ m. lookup_ranges m fadt_kind) (λ m. lookup m fadt_kind)
+  fadt_from_tables = from_tables t _ _ (same_lookup fadt_kind)
+
+  pub mailbox_from_tables : IsSameBelow t (λ m. lookup_ranges m madt_kind) mailbox_found
+  mailbox_from_tables = from_tables t _ _ same_mailbox
+
+  pub hpet_from_tables : IsSameBelow t (λ m. lookup_ranges m hpet_kind) hpet_of
+  hpet_from_tables = from_tables t _ _ same_hpet
+
+  pub regions_from_tables : IsSameBelow t (λ m. lookup_ranges m mcfg_kind) found_regions
+  regions_from_tables = from_tables t _ _ same_regions
+
+  pub platform_from_tables : {A : Type 0} → IsSameBelow t platform_ranges (platform_of {A = A})
+  platform_from_tables {A = A} = from_tables t _ _ (same_platform {A = A})
+
+  pub dsdt_from_tables : IsSameBelow t dsdt_ranges dsdt_stream
+  dsdt_from_tables = from_tables t _ _ same_dsdt
+
+  pub facs_from_tables : IsSameBelow t (led_by_ranges facs_place_ranges) (led_by facs_place)
+  facs_from_tables = from_tables t _ _ same_facs
 
 -- ---- one RSDP
 

@@ -119,6 +119,7 @@ impl HpetInfo {
     ///
     /// Fails, in this order, with `TableMissing` if no valid HPET is listed, and with
     /// `InvalidGenericAddress` if the address space of its registers isn't 0, system memory.
+    #[tactic(auto, using(crate::proofs::Agreed::hpet_from_tables))]
     pub fn new<H: Lender>(tables: &AcpiTables<'_, H>) -> AcpiResult<HpetInfo>
         requires { AllowsBelow tables.now (λ m. lookup_ranges m hpet_kind) }
         ensures exact { result ≡ of_tables tables.now hpet_of }

@@ -61,6 +61,7 @@ impl<A: Allocator> PciConfigRegions<A> {
     ///
     /// Fails, in this order, with `TableMissing` if no valid MCFG is listed, and with `AllocError` if
     /// memory is refused, and that only if the table has regions.
+    #[tactic(auto, using(crate::proofs::Agreed::regions_from_tables))]
     pub fn new_in<H: Lender>(tables: &AcpiTables<'_, H>, allocator: A) -> AcpiResult<Self>
         requires { AllowsBelow tables.now (λ m. lookup_ranges m mcfg_kind) }
         ensures exact { GivesOrFull (of_tables tables.now RegionsAsk)

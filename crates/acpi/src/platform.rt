@@ -84,6 +84,7 @@ impl<A: Allocator + Clone> PlatformInfo<A> {
     /// `parse_interrupt_model_in` refuses of the MADT, and with what `PmTimer::new` refuses. Memory is
     /// asked for only if the MADT describes APICs; `AllocError` then comes before any error of the
     /// timer.
+    #[tactic(auto, using(crate::proofs::Agreed::platform_from_tables))]
     pub fn new_in<H: Lender>(tables: &AcpiTables<'_, H>, allocator: A) -> AcpiResult<Self>
         requires { AllowsBelow tables.now platform_ranges }
         ensures exact { GivesPlatform tables.now result }

@@ -173,6 +173,7 @@ impl<'h, H: Lender> AcpiTables<'h, H> {
     /// Fails, in this order, with `TableMissing` if no valid FADT is listed, `InvalidDsdtAddress` if
     /// that FADT gives no address, and with the error of the table there: `MapFailed`,
     /// `SdtInvalidSignature` and so on, carrying the DSDT's signature.
+    #[tactic(auto, using(crate::proofs::Agreed::dsdt_from_tables))]
     pub fn dsdt(&self) -> AcpiResult<AmlTable>
         requires { AllowsBelow self.now dsdt_ranges }
         ensures exact { result ≡ of_tables self.now dsdt_stream }

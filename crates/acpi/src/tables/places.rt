@@ -119,6 +119,7 @@ impl<'h, H: Lender> AcpiTables<'h, H> {
     /// Fails, in this order, with `TableMissing` if no valid FADT is listed, `InvalidFacsAddress` if that FADT gives no
     /// address, `MapFailed` if 36 bytes aren't lent there, as `facs_length` does, and with `MapFailed` if as many bytes
     /// as the length says aren't lent.
+    #[tactic(auto, using(crate::proofs::Agreed::facs_from_tables))]
     pub fn facs(&self) -> AcpiResult<AddressRange>
         requires { AllowsBelow self.now (led_by_ranges facs_place_ranges) }
         ensures exact { result ≡ of_tables self.now (led_by facs_place) }

@@ -1,7 +1,6 @@
-use Rattle.std.proofs.Common.{rules, subst, sym}
+use Rattle.std.proofs.Common.{subst, sym}
 use Rattle.acpi_base.specs.Words.{Allows, table_ranges, plain_kind}
 use Rattle.acpi.specs.Types.{DSDT}
-use Rattle.acpi.proofs.Agreed.{from_tables, same_dsdt}
 use Rattle.acpi.proofs.Asked.{asked_dsdt, asked_fadt}
 use Rattle.acpi.specs.Words.{dsdt_place_ranges, may_of, memory_of, pointers_of}
 use Rattle.acpi.proofs.tables.AcpiTables.dsdt.Goals as goal
@@ -18,26 +17,3 @@ stream_at-requires g c =
     (table_ranges (g.H.Lender.memory h) (plain_kind DSDT) c.in_ok-dsdt_address.field-0)) (sym c.handler.ensures)
     (asked_dsdt (may_of t) (memory_of t) (pointers_of t) _ _ c.requires c.in_ok-fadt.ensures.exact
     (sym c.in_ok-dsdt_address.ensures))
-
-pub returns-in_err-dsdt_address-clause-exact : goal.returns-in_err-dsdt_address-clause-exact
-returns-in_err-dsdt_address-clause-exact g c = search rules
-
-pub returns-in_err-dsdt_address-clause-footprint : goal.returns-in_err-dsdt_address-clause-footprint
-returns-in_err-dsdt_address-clause-footprint g c =
-    λ n h. rw (from_tables c.args.self.now _ _ same_dsdt c.args.self.now.valid n h)
-    (returns-in_err-dsdt_address-clause-exact g c)
-
-pub returns-clause-exact : goal.returns-clause-exact
-returns-clause-exact g c = search rules
-
-pub returns-clause-footprint : goal.returns-clause-footprint
-returns-clause-footprint g c = λ n h. rw (from_tables c.args.self.now _ _ same_dsdt c.args.self.now.valid n h)
-    (returns-clause-exact g c)
-
-pub returns-in_err-fadt-clause-exact : goal.returns-in_err-fadt-clause-exact
-returns-in_err-fadt-clause-exact g c = search rules
-
-pub returns-in_err-fadt-clause-footprint : goal.returns-in_err-fadt-clause-footprint
-returns-in_err-fadt-clause-footprint g c =
-    λ n h. rw (from_tables c.args.self.now _ _ same_dsdt c.args.self.now.valid n h)
-    (returns-in_err-fadt-clause-exact g c)

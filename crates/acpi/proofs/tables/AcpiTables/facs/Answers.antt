@@ -1,5 +1,3 @@
-use Rattle.std.proofs.Common.{rules}
-use Rattle.acpi.proofs.Agreed.{from_tables, same_facs}
 use Rattle.acpi.proofs.Asked.{asked_fadt, asked_place}
 use Rattle.acpi.specs.Words.{facs_place_ranges, may_of, memory_of, pointers_of}
 use Rattle.acpi.proofs.tables.AcpiTables.facs.Goals as goal
@@ -13,18 +11,3 @@ pub facs_place-requires : goal.facs_place-requires
 facs_place-requires g c =
     let t = c.args.self.now in
     asked_place (may_of t) facs_place_ranges (memory_of t) (pointers_of t) _ c.requires c.in_ok-find_fadt.ensures.exact
-
-pub returns-clause-exact : goal.returns-clause-exact
-returns-clause-exact g c = search rules
-
-pub returns-clause-footprint : goal.returns-clause-footprint
-returns-clause-footprint g c = λ n h. rw (from_tables c.args.self.now _ _ same_facs c.args.self.now.valid n h)
-    (returns-clause-exact g c)
-
-pub returns-in_err-find_fadt-clause-exact : goal.returns-in_err-find_fadt-clause-exact
-returns-in_err-find_fadt-clause-exact g c = search rules
-
-pub returns-in_err-find_fadt-clause-footprint : goal.returns-in_err-find_fadt-clause-footprint
-returns-in_err-find_fadt-clause-footprint g c =
-    λ n h. rw (from_tables c.args.self.now _ _ same_facs c.args.self.now.valid n h)
-    (returns-in_err-find_fadt-clause-exact g c)

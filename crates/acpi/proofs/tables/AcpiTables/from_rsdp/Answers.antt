@@ -1,6 +1,6 @@
 use Rattle.std.proofs.Common.{rules}
-use Rattle.acpi.proofs.Agreed.{same_opened_by_rsdp}
 use Rattle.acpi.proofs.Asked.{asked_first, asked_root}
+use Rattle.acpi.proofs.Agreed.{same_opened_by_rsdp}
 use Rattle.acpi.proofs.tables.AcpiTables.from_rsdp.Goals as goal
 
 pub map_rsdp-requires : goal.map_rsdp-requires
@@ -13,15 +13,8 @@ from_root-requires g c =
     let h = c.args.handler.now in
     asked_root (g.H.Lender.may h) (g.H.Lender.memory h) c.args.address _ c.requires c.in_ok-map_rsdp.ensures.rsdp
 
-pub returns-clause-exact : goal.returns-clause-exact
-returns-clause-exact g c = rw c.in_ok-map_rsdp.ensures.rsdp c.from_root.ensures.exact
-
 pub returns-clause-footprint : goal.returns-clause-footprint
-returns-clause-footprint g c = λ n h. rw (same_opened_by_rsdp _ n _ h) (returns-clause-exact g c)
-
-pub returns-in_err-map_rsdp-clause-exact : goal.returns-in_err-map_rsdp-clause-exact
-returns-in_err-map_rsdp-clause-exact g c = search rules
+returns-clause-footprint g c n h = rw (same_opened_by_rsdp _ n _ h) (search rules)
 
 pub returns-in_err-map_rsdp-clause-footprint : goal.returns-in_err-map_rsdp-clause-footprint
-returns-in_err-map_rsdp-clause-footprint g c =
-    λ n h. rw (same_opened_by_rsdp _ n _ h) (returns-in_err-map_rsdp-clause-exact g c)
+returns-in_err-map_rsdp-clause-footprint g c n h = rw (same_opened_by_rsdp _ n _ h) (search rules)

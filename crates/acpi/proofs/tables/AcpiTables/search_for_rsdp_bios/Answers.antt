@@ -1,6 +1,6 @@
 use Rattle.std.proofs.Common.{rules}
-use Rattle.acpi.proofs.Agreed.{same_opened_by_search}
 use Rattle.acpi.proofs.Asked.{asked_found, asked_search}
+use Rattle.acpi.proofs.Agreed.{same_opened_by_search}
 use Rattle.acpi.proofs.tables.AcpiTables.search_for_rsdp_bios.Goals as goal
 
 pub search_for_on_bios-requires : goal.search_for_on_bios-requires
@@ -13,15 +13,8 @@ from_root-requires g c =
     let h = c.args.handler.now in
     asked_found (g.H.Lender.may h) (g.H.Lender.memory h) _ c.requires c.in_ok-search_for_on_bios.ensures.exact
 
-pub returns-clause-exact : goal.returns-clause-exact
-returns-clause-exact g c = rw c.in_ok-search_for_on_bios.ensures.exact c.from_root.ensures.exact
-
 pub returns-clause-footprint : goal.returns-clause-footprint
-returns-clause-footprint g c = λ n h. rw (same_opened_by_search _ n h) (returns-clause-exact g c)
-
-pub returns-in_err-search_for_on_bios-clause-exact : goal.returns-in_err-search_for_on_bios-clause-exact
-returns-in_err-search_for_on_bios-clause-exact g c = search rules
+returns-clause-footprint g c n h = rw (same_opened_by_search _ n h) (search rules)
 
 pub returns-in_err-search_for_on_bios-clause-footprint : goal.returns-in_err-search_for_on_bios-clause-footprint
-returns-in_err-search_for_on_bios-clause-footprint g c =
-    λ n h. rw (same_opened_by_search _ n h) (returns-in_err-search_for_on_bios-clause-exact g c)
+returns-in_err-search_for_on_bios-clause-footprint g c n h = rw (same_opened_by_search _ n h) (search rules)

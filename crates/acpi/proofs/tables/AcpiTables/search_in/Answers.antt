@@ -1,6 +1,6 @@
 use Rattle.std.proofs.Common.{rules}
-use Rattle.acpi.proofs.Agreed.{same_opened_in_areas}
 use Rattle.acpi.proofs.Among.{asked_found_in, asked_search_in}
+use Rattle.acpi.proofs.Agreed.{same_opened_in_areas}
 use Rattle.acpi.proofs.tables.AcpiTables.search_in.Goals as goal
 
 pub search_in-requires : goal.search_in-requires
@@ -14,15 +14,8 @@ from_root-requires g c =
     asked_found_in (g.H.Lender.may h) (g.H.Lender.memory h) c.args.areas.now _ c.requires
     c.in_ok-search_in.ensures.exact
 
-pub returns-clause-exact : goal.returns-clause-exact
-returns-clause-exact g c = rw c.in_ok-search_in.ensures.exact c.from_root.ensures.exact
-
 pub returns-clause-footprint : goal.returns-clause-footprint
-returns-clause-footprint g c = λ n h. rw (same_opened_in_areas _ n _ h) (returns-clause-exact g c)
-
-pub returns-in_err-search_in-clause-exact : goal.returns-in_err-search_in-clause-exact
-returns-in_err-search_in-clause-exact g c = search rules
+returns-clause-footprint g c n h = rw (same_opened_in_areas _ n _ h) (search rules)
 
 pub returns-in_err-search_in-clause-footprint : goal.returns-in_err-search_in-clause-footprint
-returns-in_err-search_in-clause-footprint g c =
-    λ n h. rw (same_opened_in_areas _ n _ h) (returns-in_err-search_in-clause-exact g c)
+returns-in_err-search_in-clause-footprint g c n h = rw (same_opened_in_areas _ n _ h) (search rules)
