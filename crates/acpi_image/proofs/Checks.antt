@@ -1,54 +1,47 @@
 -- The checks of what is to be written. Whether records can lie where they are placed depends on starts and lengths
 -- alone, and is decided place by place.
-use Rattle.std.proofs.Common.{◌≡◌, ◌≢◌, ℕ, ◌^◌, ◌==◌, nat_lt, true, false, Ok, List, [], ◌∷◌, length, map, refl, sym, ap, ◌∙◌, zero, suc, ◌+◌, ◌<◌, ◌≤◌, Bool, ◌++◌, take, drop, get_or, subst, arith, inl, inr, add-one, append_assoc, replicate, slice_index_or, Result, Err, ◌||◌, IsErrAnd, not}
+use Rattle.std.proofs.Common.{◌≡◌, ◌≢◌, ℕ, ◌^◌, ◌==◌, nat_lt, true, false, Ok, List, [], ◌∷◌, length, map, refl, sym, ap, ◌∙◌, zero, suc, ◌+◌, ◌<◌, ◌≤◌, ◌++◌, take, drop, get_or, subst, arith, inl, inr, add-one, append_assoc, replicate, slice_index_or, Result, Err, ◌||◌, IsErrAnd, not}
 use Rattle.acpi_base.specs.FromStd.{list_all, list_any, AllByRecursion, BTreeMap}
-use Rattle.acpi_base.proofs.FromStd.{length-replicate, length-map, map-append, take_all, take_more, take-append-drop, and_parts, ltb-true, or_cases, or_from, or_left, or_right, drop-cons}
-use Rattle.acpi_base.specs.Words.{Memory, Region, end_of, AreApart, range_fits}
+use Rattle.acpi_base.proofs.FromStd.{length-replicate, length-map, map-append, take_all, take_more, take-append-drop, and_parts, ltb-true, or_cases, or_from, or_left, or_right, drop-cons, nat_tests}
+use Rattle.acpi_base.specs.Words.{Memory, Region, end_of, range_fits}
 use Rattle.acpi_image_reader.specs.Words.{share, shares_any, region_in, AreAllApart}
 use Rattle.acpi_image.specs.Words.{IsPlaced, place_of, places_of, check_places, check_plan, check_tables, pointers_fit, some_share, WritesOrRunsOut, is_table, written, placed, placed_region, plan, records_of, root_length, starts_of, summed, Plan, kind_of, pointers_of, PlacedTable, WriteError}
-use Rattle.acpi_image_reader.proofs.Sharing.{SamePlace, ranges_share, same_share, apart_is, share_is, shares_none}
-use Rattle.acpi_image.proofs.Written.{length-root_to, length-rsdp_to, length-with_sum, table_is}
+use Rattle.acpi_image_reader.proofs.Sharing.{SamePlace, ranges_share, same_share, shares_none}
+use Rattle.acpi_image.proofs.Written.{length-rsdp_to, length-with_sum, root_long, table_is}
+use Rattle.std.proofs.lemmas.Bool.{false≢true}
 use Rattle.acpi.specs.Types.{AddressRange}
 use Rattle.acpi.specs.Words.{kind_of_revision}
 use Rattle.acpi_image_reader.proofs.Listing.{flipped, starts_none}
 use Rattle.acpi_base.proofs.Words.{bind_ok, holds_ok}
 use Rattle.acpi_image.specs.declared.error.WriteError.TheVariants as refusal
 
-abbrev SamePlaces : Memory → Memory → Type 0
-SamePlaces [] [] = Unit {0}
-SamePlaces [] (s ∷ n) = ⊥
-SamePlaces (r ∷ m) [] = ⊥
-SamePlaces (r ∷ m) (s ∷ n) = SamePlace r s × SamePlaces m n
+-- a region that lies there too, of zeros
+abbrev emptied : Region → Region
+emptied r = record { start = r.start; bytes = replicate (length r.bytes) 0 }
 
-same_shares : (m n : Memory) (r s : Region) → SamePlaces m n → SamePlace r s → shares_any m r ≡ shares_any n s
-same_shares [] [] r s all one = refl
-same_shares [] (y ∷ n) r s all one = absurd all
-same_shares (x ∷ m) [] r s all one = absurd all
-same_shares (x ∷ m) (y ∷ n) r s all one = rw (same_share x y r s all.0 one, same_shares m n r s all.1 one) refl
+same_place : (r : Region) → SamePlace (emptied r) r
+same_place r = record { start = refl; count = length-replicate (length r.bytes) 0 }
 
-same_some : (m n : Memory) → SamePlaces m n → some_share m ≡ some_share n
-same_some [] [] all = refl
-same_some [] (y ∷ n) all = absurd all
-same_some (x ∷ m) [] all = absurd all
-same_some (x ∷ m) (y ∷ n) all = rw (same_shares m n x y all.1 all.0, same_some m n all.1) refl
+same_shares : (m : Memory) (r : Region) → shares_any (map emptied m) (emptied r) ≡ shares_any m r
+same_shares [] r = refl
+same_shares (s ∷ m) r = rw (same_share (emptied s) s (emptied r) r (same_place s) (same_place r), same_shares m r) refl
 
-same_ends : (m n : Memory) → SamePlaces m n
-    → list_all (λ r. nat_lt (end_of r) (2 ^ 64)) m ≡ list_all (λ r. nat_lt (end_of r) (2 ^ 64)) n
-same_ends [] [] all = refl
-same_ends [] (y ∷ n) all = absurd all
-same_ends (x ∷ m) [] all = absurd all
-same_ends (x ∷ m) (y ∷ n) all = rw (all.0.start, all.0.count, same_ends m n all.1) refl
+same_some : (m : Memory) → some_share (map emptied m) ≡ some_share m
+same_some [] = refl
+same_some (r ∷ m) = rw (same_shares m r, same_some m) refl
 
-same_places : (m n : Memory) → SamePlaces m n → check_places m ≡ check_places n
+same_ends : (m : Memory)
+    → list_all (λ r. nat_lt (end_of r) (2 ^ 64)) (map emptied m) ≡ list_all (λ r. nat_lt (end_of r) (2 ^ 64)) m
+same_ends [] = refl
+same_ends (r ∷ m) = rw ((same_place r).count, same_ends m) refl
+
+same_places : (m : Memory) → check_places (map emptied m) ≡ check_places m
 unfolding check_places
-same_places m n all = rw (same_ends m n all, same_some m n all) refl
+same_places m = rw (same_ends m, same_some m) refl
 
-tables_there : (tables : List PlacedTable) → SamePlaces (places_of tables) (map summed (placed tables))
-tables_there [] = tt
-tables_there (t ∷ ts) = (
-  record { start = refl; count = length-replicate (length t.bytes.now) 0 ∙ sym (length-with_sum 9 t.bytes.now) },
-  tables_there ts,
-)
+tables_there : (tables : List PlacedTable) → places_of tables ≡ map emptied (map summed (placed tables))
+tables_there [] = refl
+tables_there (t ∷ ts) = rw (length-with_sum 9 t.bytes.now, tables_there ts) refl
 
 -- the records lie where they were looked for
 planned_places : (rsdp root : AddressRange) (revision : ℕ) (tables : List PlacedTable)
@@ -56,23 +49,11 @@ planned_places : (rsdp root : AddressRange) (revision : ℕ) (tables : List Plac
     → check_places (region_in rsdp ∷ region_in root ∷ places_of tables)
     ≡ check_places (records_of (plan rsdp.address root.address revision tables))
 planned_places rsdp root revision tables few many =
-    same_places (region_in rsdp ∷ region_in root ∷ places_of tables)
-    (records_of (plan rsdp.address root.address revision tables)) (
-      record {
-        start = refl;
-        count = length-replicate rsdp.length 0 ∙ few
-            ∙ sym (length-rsdp_to (replicate 6 32) revision root.address refl);
-      },
-      (
-        record {
-          start = refl;
-          count = length-replicate root.length 0 ∙ many
-              ∙ sym (length-root_to _ _ ∙ ap (root_length (kind_of_revision revision))
-              (length-map _ _ ∙ length-map _ _));
-        },
-        tables_there tables,
-      ),
-    )
+    let rsdp_long = length-rsdp_to (replicate 6 32) revision root.address refl in
+    let same : region_in rsdp ∷ region_in root ∷ places_of tables
+    ≡ map emptied (records_of (plan rsdp.address root.address revision tables)) =
+    rw (few, many, rsdp_long, root_long (kind_of_revision revision) tables, tables_there tables) refl in
+    ap check_places same ∙ same_places (records_of (plan rsdp.address root.address revision tables))
 
 -- what is left to check once the other checks hold
 pub places_left : (rsdp root : AddressRange) (revision : ℕ) (tables : List PlacedTable) → rsdp.length ≡ 36
@@ -95,15 +76,9 @@ tables_share p q t u p_start p_count q_start q_count =
 
 -- ---- decided place by place
 
-differ : false ≡ true → ⊥
-differ e = absurd cc
-
-share_back_by : (b : Bool) (r s : Region) → share s r ≡ b → share r s ≡ true → share s r ≡ true
-share_back_by true r s h e = h
-share_back_by false r s h e = absurd (differ (sym (share_is r s (flipped s r (apart_is s r h))) ∙ e))
-
 share_back : (r s : Region) → share r s ≡ true → share s r ≡ true
-share_back r s e = share_back_by (share s r) r s refl e
+unfolding share
+share_back r s e = grind (arith, nat_tests)
 
 shares_within : (m : Memory) (r s : Region) (rest : Memory) → share r s ≡ true → shares_any (m ++ (r ∷ rest)) s ≡ true
 shares_within [] r s rest e = or_left _ _ e
@@ -111,21 +86,22 @@ shares_within (t ∷ m) r s rest e = or_right _ _ (shares_within m r s rest e)
 
 -- one that shares a byte with one before it
 pub some_found : (m : Memory) (r : Region) (rest : Memory) → shares_any m r ≡ true → some_share (m ++ (r ∷ rest)) ≡ true
-some_found [] r rest e = absurd (differ e)
+some_found [] r rest e = absurd (false≢true e)
 some_found (s ∷ m) r rest e =
     elim (or_cases (share s r) (shares_any m r) e) [
       | inl first ↦ or_left _ _ (shares_within m r s rest (share_back s r first))
       | inr more ↦ or_right _ _ (some_found m r rest more)
     ]
 
-flipped_all : (r : Region) (m : Memory) → AllByRecursion (AreApart r) m → AllByRecursion (λ s. AreApart s r) m
-flipped_all r [] h = tt
-flipped_all r (s ∷ m) h = (flipped r s h.0, flipped_all r m h.1)
+pub each_also : {X : Type 0} (P Q : X → Type 0) → ((x : X) → P x → Q x) → (xs : List X) → AllByRecursion P xs
+    → AllByRecursion Q xs
+each_also P Q also [] h = tt
+each_also P Q also (x ∷ xs) h = (also x h.0, each_also P Q also xs h.1)
 
 -- places that are apart
 pub none_found : (m : Memory) → AreAllApart m → some_share m ≡ false
 none_found [] h = refl
-none_found (r ∷ m) h = or_from _ _ (shares_none m r (flipped_all r m h.0)) (none_found m h.1)
+none_found (r ∷ m) h = or_from _ _ (shares_none m r (each_also _ _ (λ s. flipped r s) m h.0)) (none_found m h.1)
 
 -- ---- the table in turn
 

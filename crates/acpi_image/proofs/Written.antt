@@ -1,12 +1,14 @@
 -- What is written: how long it is, how numbers are encoded, sums, and the tables, which are found at the start of their
 -- regions.
-use Rattle.std.proofs.Common.{◌≡◌, ℕ, zero, suc, ◌==◌, ◌+◌, ◌-◌, ◌*◌, ◌/◌, ◌%◌, ◌^◌, ◌<◌, ◌≤◌, true, false, List, [], ◌∷◌, ◌++◌, length, take, drop, refl, sym, ap, ◌∙◌, arith, if◌then◌else◌, w64, get_or, inl, inr, set, sum, subst, Some, Ok, lit≤, map, lit<, eq-eqb, flat_map, Contains, bytes_eq}
+use Rattle.std.proofs.Common.{◌≡◌, ℕ, zero, suc, ◌==◌, ◌+◌, ◌-◌, ◌*◌, ◌/◌, ◌%◌, ◌^◌, ◌<◌, ◌≤◌, true, List, [], ◌∷◌, ◌++◌, length, take, drop, refl, sym, ap, ◌∙◌, arith, w64, get_or, inl, inr, set, sum, subst, Some, Ok, lit≤, map, lit<, eq-eqb, flat_map, Contains, bytes_eq}
+use Rattle.std.proofs.lemmas.Bool.{cond_both}
+use Rattle.std.proofs.lemmas.List.Elements.{All-contains_itself}
 use Rattle.acpi_image_reader.specs.Words.{record_spelling}
 use Rattle.acpi_base.specs.FromStd.{from_le_bytes, to_le_bytes, AllByRecursion, is_utf8}
-use Rattle.acpi_base.proofs.FromStd.{le_bytes_8, length-append, length-map, length-set, append-nil, take-append-drop, take_all, get_or_past, drop-set-add, drop-set-lt, take-set-le, cases_lt, le-leb, and_from, and_parts, eqb-true, leb-true, sum_by-set}
+use Rattle.acpi_base.proofs.FromStd.{drop_at, length-drop, length-take, recursion_from_All, take_at, le_bytes_8, length-append, length-map, length-set, append-nil, take_all, get_or_past, drop-set-add, drop-set-lt, take-set-le, cases_lt, le-leb, and_from, and_parts, eqb-true, leb-true, sum_by-set}
 use Rattle.acpi_base.specs.Words.{IsBytes, filled_part, spelling, part, sum_of, field_of, number, Memory, Region, IsMemory, at, check_names, check_table, header_at, lent, own_table_at, plain_kind, table_at}
 use Rattle.acpi.specs.Types.{Signature, SdtHeader}
-use Rattle.acpi_base.proofs.Words.{length-spelling, number-spelling, number_filled, lent_is_inside, header_front}
+use Rattle.acpi_base.proofs.Words.{IsBytes-drop, IsBytes-take, length-spelling, number-spelling, number_filled, lent_is_inside, header_front}
 use Rattle.acpi.specs.Words.{signature_of, width_of, valid_tables}
 use Rattle.acpi.specs.declared.root.RootKind.{RootKind}
 use Rattle.acpi.specs.declared.root.RootKind.TheVariants.{Rsdt, Xsdt}
@@ -18,10 +20,7 @@ length-with_sum offset bytes = length-set bytes offset (sum_byte offset bytes)
 
 pub length-with_first_sum : (bytes : List ℕ) → length (with_first_sum bytes) ≡ length bytes
 unfolding with_first_sum
-length-with_first_sum bytes =
-    length-append (with_sum 8 (take 20 bytes)) (drop 20 bytes) ∙ ap (λ n. n + length (drop 20 bytes))
-    (length-with_sum 8 (take 20 bytes))
-    ∙ sym (length-append (take 20 bytes) (drop 20 bytes)) ∙ ap length (take-append-drop 20 bytes)
+length-with_first_sum bytes = simp (length-append, length-with_sum, length-take, length-drop) (omega arith)
 
 pub length-rsdp_unsummed : (oem_id : List ℕ) (revision rsdt count xsdt : ℕ) → length oem_id ≡ 6
     → length (rsdp_unsummed oem_id revision rsdt count xsdt) ≡ 36
@@ -31,12 +30,10 @@ length-rsdp_unsummed oem_id revision rsdt count xsdt long = simp length-append (
 pub length-rsdp_to : (oem_id : List ℕ) (revision root : ℕ) → length oem_id ≡ 6
     → length (rsdp_to oem_id revision root) ≡ 36
 unfolding rsdp_to
-length-rsdp_to oem_id revision root long = (elim (revision == 0) as (λ first. length (if first
-    then with_first_sum (rsdp_unsummed oem_id revision root 0 0)
-    else with_sum 32 (with_first_sum (rsdp_unsummed oem_id revision 0 36 root))) ≡ 36) [
-      | true ↦ length-with_first_sum _ ∙ length-rsdp_unsummed oem_id revision root 0 0 long
-      | false ↦ length-with_sum 32 _ ∙ length-with_first_sum _ ∙ length-rsdp_unsummed oem_id revision 0 36 root long
-    ])
+length-rsdp_to oem_id revision root long =
+    cond_both (revision == 0) _ _ (λ (b : List ℕ). length b ≡ 36)
+    (λ first. length-with_first_sum _ ∙ length-rsdp_unsummed oem_id revision root 0 0 long)
+    (λ later. length-with_sum 32 _ ∙ length-with_first_sum _ ∙ length-rsdp_unsummed oem_id revision 0 36 root long)
 
 length-spelled : (width : ℕ) (ps : List ℕ) → length (flat_map (spelling width) ps) ≡ width * length ps
 length-spelled width [] = omega arith
@@ -120,13 +117,10 @@ each_fits xs h i =
     ]
 
 front_bytes : (xs ys : List ℕ) → IsBytes (xs ++ ys) → IsBytes xs
-front_bytes [] ys h i = let none = get_or_past {X = ℕ} [] i 0 (omega arith) in omega (arith, none)
-front_bytes (x ∷ xs) ys h zero = h 0
-front_bytes (x ∷ xs) ys h (suc i) = front_bytes xs ys (λ j. h (suc j)) i
+front_bytes xs ys h = rw (take_at xs ys (length xs) refl) at (IsBytes-take (length xs) (xs ++ ys) h)
 
 rest_bytes : (xs ys : List ℕ) → IsBytes (xs ++ ys) → IsBytes ys
-rest_bytes [] ys h = h
-rest_bytes (x ∷ xs) ys h = rest_bytes xs ys (λ j. h (suc j))
+rest_bytes xs ys h = rw (drop_at xs ys (length xs) refl) at (IsBytes-drop (length xs) (xs ++ ys) h)
 
 pub record_bytes : (rs : Memory) → IsBytes (flat_map record_spelling rs) → AllByRecursion (λ r. IsBytes r.bytes) rs
 record_bytes [] h = tt
@@ -165,13 +159,8 @@ part_before bytes k x o n le =
 
 -- ---- members of a memory
 
-shifted : (r : Region) (m rs : Memory) → AllByRecursion (Contains m) rs → AllByRecursion (Contains (r ∷ m)) rs
-shifted r m [] all = tt
-shifted r m (x ∷ rs) all = ((suc all.0.0, omega (arith, all.0.1), all.0.2), shifted r m rs all.1)
-
 pub every_in : (m : Memory) → AllByRecursion (Contains m) m
-every_in [] = tt
-every_in (r ∷ m) = ((0, omega arith, refl), shifted r m m (every_in m))
+every_in m = recursion_from_All (Contains m) m (All-contains_itself m)
 
 length_is : (bytes : List ℕ) → (header_at bytes).length ≡ field_of bytes 4 4
 unfolding header_at

@@ -4,10 +4,12 @@ use Rattle.std.proofs.Common.{◌≡◌, ℕ, ◌^◌, ◌<◌, Bool, true, fals
 use Rattle.acpi_base.specs.FromStd.{AllByRecursion, list_all}
 use Rattle.acpi_base.proofs.FromStd.{and_parts, ltb-true, or_parts, length-map}
 use Rattle.acpi_base.proofs.Words.{holds_ok, bind_ok, same_ok}
-use Rattle.acpi_base.specs.Words.{IsBytes, Memory, Region, AreApart, IsMemory, end_of, holds, ◌>>=◌}
+use Rattle.acpi_base.specs.Words.{IsBytes, Memory, IsMemory, end_of, holds, ◌>>=◌}
 use Rattle.acpi.specs.Words.{width_of, pointers, root_at, hpet_of, valid_headers, valid_tables, found_regions, platform_of, FollowsTables, opened_by_rsdp, rsdp_at}
 use Rattle.acpi.specs.declared.root.RootKind.TheVariants.{Rsdt, Xsdt}
-use Rattle.acpi_image_reader.proofs.Sharing.{all_apart, not_true}
+use Rattle.acpi_image_reader.proofs.Listing.{flipped}
+use Rattle.acpi_image_reader.proofs.Sharing.{all_apart}
+use Rattle.std.proofs.lemmas.Bool.{not-true}
 use Rattle.acpi_image_reader.specs.Words.{record_spelling}
 use Rattle.acpi_image.specs.Words.{check_places, some_share, WritesOrRunsOut, check_plan, written, starts_of, summed, Plan, kind_of, pointers_of, records_of, root_length, root_to, rsdp_record, rsdp_to, spaces, tables_of, WriteError, Overlap, IsWritten, SaysOfTables, WrittenIsRead, opened_of, said_of}
 use Rattle.acpi.specs.Types.{AcpiError}
@@ -15,28 +17,26 @@ use Rattle.acpi.proofs.Moved.{headers_follow, hpet_follows, in_ok_follows, platf
 use Rattle.acpi_image_reader.proofs.Images.{image_again}
 use Rattle.acpi_image.proofs.Written.{length-rsdp_to, every_in, record_bytes, sums_are_set, tables_there}
 use Rattle.acpi_image.proofs.WrittenRoot.{IsRsdp, is_rsdp, pointers_are, root_there, rsdp_there, spaces_text}
-use Rattle.acpi_image.proofs.Checks.{Passed, are_tables, passed}
+use Rattle.acpi_image.proofs.Checks.{Passed, are_tables, each_also, passed}
 
 -- ---- places
 
 abbrev pub Ends : Memory → Type 0
 Ends m = AllByRecursion (λ r. end_of r < 2 ^ 64) m
 
-ends_are : (m : Memory) → list_all (λ r. nat_lt (end_of r) (2 ^ 64)) m ≡ true → Ends m
-ends_are [] e = tt
-ends_are (r ∷ m) e =
+-- a test that each passes says something of each
+each_passes : {X : Type 0} (test : X → Bool) (P : X → Type 0) → ((x : X) → test x ≡ true → P x) → (xs : List X)
+    → list_all test xs ≡ true → AllByRecursion P xs
+each_passes test P says [] e = tt
+each_passes test P says (x ∷ xs) e =
     let p = and_parts _ _ e in
-    (ltb-true _ _ p.0, ends_are m p.1)
-
-turned : (m : Memory) (r : Region) → AllByRecursion (λ s. AreApart s r) m → AllByRecursion (AreApart r) m
-turned [] r h = tt
-turned (s ∷ m) r h = (λ a x y. h.0 a y x, turned m r h.1)
+    (says x p.0, each_passes test P says xs p.1)
 
 memory_is : (m : Memory) → Ends m → some_share m ≡ false → AllByRecursion (λ r. IsBytes r.bytes) m → IsMemory m
 memory_is [] ends apart bytes = tt
 memory_is (r ∷ m) ends apart bytes =
     let p = or_parts _ _ apart in
-    ((ends.0, bytes.0), (turned m r (all_apart m r p.0), memory_is m ends.1 p.1 bytes.1))
+    ((ends.0, bytes.0), (each_also _ _ (λ s. flipped s r) m (all_apart m r p.0), memory_is m ends.1 p.1 bytes.1))
 
 -- the last check of a chain, which is passed unless b holds
 pub last_not : {E : Type 0} (b : Bool) (d : E) (x : Unit {0}) → holds (not b) d ≡ Ok x → b ≡ false
@@ -52,7 +52,7 @@ module _ (m : Memory) (e : check_places m ≡ Ok tt) where
   parts = holds_ok _ _ _ tt e
 
   pub places_end : Ends m
-  places_end = ends_are m parts.0
+  places_end = each_passes _ _ (λ r. ltb-true _ _) m parts.0
 
   pub places_are : IsBytes (flat_map record_spelling m) → IsMemory m
   places_are bytes = memory_is m places_end (last_not _ _ tt parts.1) (record_bytes m bytes)
@@ -63,28 +63,17 @@ starts_below : (ts : Memory) → Ends (map summed ts) → AllByRecursion (λ a. 
 starts_below [] ends = tt
 starts_below (t ∷ ts) ends = (omega (arith, ends.0), starts_below ts ends.1)
 
-all_below : (limit : ℕ) (ps : List ℕ) → list_all (λ a. nat_lt a limit) ps ≡ true → AllByRecursion (λ a. a < limit) ps
-all_below limit [] e = tt
-all_below limit (a ∷ ps) e =
-    let p = and_parts _ _ e in
-    (ltb-true _ _ p.0, all_below limit ps p.1)
-
 -- for revision 0 they are below 2^32
-pub low_ones : (first : Bool) (ps : List ℕ) → (not first || list_all (λ a. nat_lt a (2 ^ 32)) ps) ≡ true → first ≡ true
+low_ones : (first : Bool) (ps : List ℕ) → (not first || list_all (λ a. nat_lt a (2 ^ 32)) ps) ≡ true → first ≡ true
     → AllByRecursion (λ a. a < 2 ^ 32) ps
-low_ones true ps e f = all_below (2 ^ 32) ps e
+low_ones true ps e f = each_passes _ _ (λ a. ltb-true _ _) ps e
 low_ones false ps e f = absurd cc
 
-wide_by : (first : Bool) (ps : List ℕ) → AllByRecursion (λ a. a < 2 ^ 64) ps
-    → (first ≡ true → AllByRecursion (λ a. a < 2 ^ 32) ps)
-    → AllByRecursion (λ a. a < 256 ^ width_of (if first then Rsdt else Xsdt)) ps
-wide_by true ps wide low = low refl
-wide_by false ps wide low = wide
-
-pub pointers_narrow : (first : Bool) (ts : Memory) → Ends (map summed ts)
+pointers_narrow : (first : Bool) (ts : Memory) → Ends (map summed ts)
     → (first ≡ true → AllByRecursion (λ a. a < 2 ^ 32) (starts_of ts))
     → AllByRecursion (λ a. a < 256 ^ width_of (if first then Rsdt else Xsdt)) (starts_of ts)
-pointers_narrow first ts ends low = wide_by first (starts_of ts) (starts_below ts ends) low
+pointers_narrow true ts ends low = low refl
+pointers_narrow false ts ends low = starts_below ts ends
 
 -- ---- what is written is read back, opened, and has the tables that were placed
 
@@ -122,7 +111,7 @@ module _ (p : Plan) (ok : Passed p) (memory : IsMemory (records_of p)) where
       (pointers_narrow (p.revision == 0) p.tables ends.1.1 (λ first. (low first).1))
 
   rsdp_tested : IsRsdp (spaces 6) p.revision p.root (rsdp_to (spaces 6) p.revision p.root)
-  rsdp_tested = is_rsdp (spaces 6) p.revision p.root refl spaces_text (not_true (p.root == 0) ok.some)
+  rsdp_tested = is_rsdp (spaces 6) p.revision p.root refl spaces_text (not-true (p.root == 0) ok.some)
       (omega (arith, ends.1.0)) (λ first. (low first).0)
 
   rsdp_is : rsdp_at (records_of p) p.rsdp ≡ Ok (rsdp_to (spaces 6) p.revision p.root)

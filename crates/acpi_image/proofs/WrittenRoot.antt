@@ -2,7 +2,7 @@
 -- tables.
 use Rattle.std.proofs.Common.{◌≡◌, ℕ, ◌^◌, ◌<◌, Bool, true, false, List, ◌∷◌, ◌++◌, length, take, Some, None, Result, Ok, refl, sym, ap, subst, ◌∙◌, arith, lit≤, lit<, if◌then◌else◌, zero, suc, [], drop, set, ◌==◌, ◌||◌, replicate, flat_map, Contains}
 use Rattle.acpi_base.specs.FromStd.{AllByRecursion, chars, is_utf8}
-use Rattle.acpi_base.proofs.FromStd.{take_all, append-nil, drop-set-lt, drop_at, get_or_past}
+use Rattle.acpi_base.proofs.FromStd.{both_ways, take_all, append-nil, drop-set-lt, drop_at, get_or_past}
 use Rattle.acpi_base.proofs.Words.{number-spelling}
 use Rattle.acpi_base.specs.Words.{field_of, number, spelling, sum_of, IsBytes, Memory, Region, IsMemory, lent, check_names, header_at}
 use Rattle.acpi.specs.Types.{AcpiError}
@@ -12,9 +12,6 @@ use Rattle.acpi_image.proofs.Written.{length-rsdp_unsummed, length-with_first_su
 use Rattle.acpi_image.specs.Words.{rsdp_to, rsdp_unsummed, spaces, sum_byte, with_first_sum, with_sum, root_header, root_length, root_record, root_to, root_unsummed}
 use Rattle.acpi.proofs.Spelled.{one_pointers}
 use Rattle.acpi.specs.declared.root.RootKind.{RootKind}
-
-never : {b : Bool} → b ≡ true → b ≡ false → ⊥
-never e f = absurd cc
 
 abbrev done : List ℕ → Result (List ℕ) AcpiError
 done x = Ok x
@@ -102,7 +99,7 @@ module _ (a b c d e f : ℕ) where
     first_form first small =
         subst (IsRsdp id revision root) (sym (first_is text revision root 0 0)) (record {
           many = lengths text revision root 0 0 0 ∙ rw first refl;
-          whole = λ other. absurd (never first other);
+          whole = λ other. absurd (both_ways _ other first);
           id_is = id_is text revision root 0 0 0;
           leads_to = leads text revision root 0 0 0 ∙ rw (first, number-spelling 4 root small) refl;
         })

@@ -1,10 +1,11 @@
 -- A file is read one record at a time, as the regions whose records it is, and as no others.
 use Rattle.std.proofs.Common.{◌≡◌, ◌≢◌, ℕ, zero, suc, ◌<◌, ◌≤◌, false, List, [], ◌∷◌, ◌++◌, ◌+◌, length, Result, Ok, Err, refl, sym, ◌∙◌, arith, ◌^◌, take, drop, ap, subst, drop-drop, append_assoc, IsErrAnd, IfOk, ◌↔◌, flat_map}
 use Rattle.acpi_base.proofs.FromStd.{lt-ltb, leb-true, le-leb, ltb-true, length-append, nil_from_length, length-take, length-take-le, length-drop, take-append-drop, append-nil, flat_map-append, take-append_seam, drop-append_seam}
-use Rattle.acpi_base.specs.Words.{Memory, Region, IsMemory, IsRegion, end_of, ◌>>=◌, IsBytes, number, spelling, field_of}
+use Rattle.acpi_base.specs.Words.{Memory, Region, IsMemory, IsRegion, ◌>>=◌, IsBytes, number, spelling, field_of}
 use Rattle.acpi_image_reader.specs.Words.{next_at, records_from, records_in, GivesOrRunsOut, Refuses, RunsOut, IsImage, record_at, record_spelling, shares_any, ImageError, memory_of, MemoryImage}
 use Rattle.acpi_base.proofs.Words.{bind_ok, holds_ok, same_ok, IsBytes-drop, IsBytes-take, length-spelling, number-spelling, spelling-number}
-use Rattle.acpi_image_reader.proofs.Sharing.{all_apart, memory_at, memory_with, not_true, shares_none}
+use Rattle.acpi_image_reader.proofs.Sharing.{all_apart, memory_at, memory_with, shares_none}
+use Rattle.std.proofs.lemmas.Bool.{not-true}
 use Rattle.acpi_image_reader.specs.declared.error.ImageError.TheVariants as refusal
 
 records_nil : (n : ℕ) (kept : Memory) → records_from n kept [] ≡ Ok kept
@@ -88,58 +89,31 @@ record_is b found h e =
       less = simp (length-drop) (omega arith);
     })
 
-record_from : (b : List ℕ) (r : Region) (rest : List ℕ) → 16 ≤ length b → field_of b 0 8 ≡ r.start
-    → field_of b 8 8 ≡ length r.bytes → drop 16 b ≡ r.bytes ++ rest → end_of r < 2 ^ 64 → record_at b ≡ Ok (r, rest)
-unfolding record_at
-record_from b r rest room start count behind low =
-    let fits : length r.bytes ≤ length (r.bytes ++ rest) = omega (arith, length-append r.bytes rest) in
-    rw (
-      le-leb _ _ room,
-      start,
-      count,
-      behind,
-      le-leb _ _ fits,
-      lt-ltb _ _ low,
-      take-append_seam r.bytes rest,
-      drop-append_seam r.bytes rest,
-    ) refl
+start_at : (r : Region) (rest : List ℕ) → field_of (record_spelling r ++ rest) 0 8 ≡ number (spelling 8 r.start)
+unfolding field_of spelling
+start_at r rest = refl
 
--- three parts, the first two of eight bytes
-module _ (s l x rest : List ℕ) (first : length s ≡ 8) (second : length l ≡ 8) where
-  abbrev text : List ℕ
-  text = (s ++ (l ++ x)) ++ rest
+count_at : (r : Region) (rest : List ℕ)
+    → field_of (record_spelling r ++ rest) 8 8 ≡ number (spelling 8 (length r.bytes))
+unfolding field_of spelling
+count_at r rest = refl
 
-  regrouped : text ≡ s ++ (l ++ (x ++ rest))
-  regrouped = simp append_assoc
+behind_at : (r : Region) (rest : List ℕ) → drop 16 (record_spelling r ++ rest) ≡ r.bytes ++ rest
+unfolding spelling
+behind_at r rest = refl
 
-  after : drop 8 text ≡ l ++ (x ++ rest)
-  after = rw regrouped (rw (← first) (drop-append_seam s (l ++ (x ++ rest))))
-
-  start_at : field_of text 0 8 ≡ number s
-  unfolding field_of
-  start_at = ap number (rw regrouped (rw (← first) (take-append_seam s (l ++ (x ++ rest)))))
-
-  count_at : field_of text 8 8 ≡ number l
-  unfolding field_of
-  count_at = ap number (rw after (rw (← second) (take-append_seam l (x ++ rest))))
-
-  behind_at : drop 16 text ≡ x ++ rest
-  behind_at = sym (drop-drop 8 8 text) ∙ rw after (rw (← second) (drop-append_seam l (x ++ rest)))
-
-  long : 16 ≤ length text
-  long = simp length-append (omega arith)
+record_long : (r : Region) (rest : List ℕ) → 16 + length rest ≤ length (record_spelling r ++ rest)
+record_long r rest = simp (length-append, length-spelling) (omega arith)
 
 record_again : (r : Region) (rest : List ℕ) → IsRegion r → record_at (record_spelling r ++ rest) ≡ Ok (r, rest)
+unfolding record_at
 record_again r rest h =
-    let first = length-spelling 8 r.start in
-    let second = length-spelling 8 (length r.bytes) in
-    let start = start_at (spelling 8 r.start) (spelling 8 (length r.bytes)) r.bytes rest first second
-    ∙ number-spelling 8 r.start (omega arith) in
-    let count = count_at (spelling 8 r.start) (spelling 8 (length r.bytes)) r.bytes rest first second
-    ∙ number-spelling 8 (length r.bytes) (omega arith) in
-    record_from (record_spelling r ++ rest) r rest
-    (long (spelling 8 r.start) (spelling 8 (length r.bytes)) r.bytes rest first second) start count
-    (behind_at (spelling 8 r.start) (spelling 8 (length r.bytes)) r.bytes rest first second) h.0
+    let start = start_at r rest ∙ number-spelling 8 r.start (omega arith) in
+    let count = count_at r rest ∙ number-spelling 8 (length r.bytes) (omega arith) in
+    let long : 16 ≤ length (record_spelling r ++ rest) = omega (arith, record_long r rest) in
+    let fits : length r.bytes ≤ length (r.bytes ++ rest) = omega (arith, length-append r.bytes rest) in
+    rw (le-leb _ _ long, start, count, behind_at r rest, le-leb _ _ fits, lt-ltb _ _ h.0)
+    (rw (take-append_seam r.bytes rest, drop-append_seam r.bytes rest) refl)
 
 -- ---- the next record
 
@@ -150,7 +124,7 @@ next_is m b found e =
     let p = bind_ok _ _ _ e in
     let q = holds_ok _ _ _ _ p.2 in
     let same : p.0 ≡ found = same_ok _ _ q.1 in
-    subst (λ (f : Region × List ℕ). (record_at b ≡ Ok f) × (shares_any m f.0 ≡ false)) same (p.1, not_true _ q.0)
+    subst (λ (f : Region × List ℕ). (record_at b ≡ Ok f) × (shares_any m f.0 ≡ false)) same (p.1, not-true _ q.0)
 
 next_again : (m : Memory) (b : List ℕ) (found : Region × List ℕ) → record_at b ≡ Ok found → shares_any m found.0 ≡ false
     → next_at m b ≡ Ok found
@@ -227,9 +201,6 @@ all_read zero kept (b ∷ bs) file all r e = absurd (omega (arith, r.room))
 all_read (suc n) kept (b ∷ bs) file all r e =
     let t = bind_ok _ _ _ (r.same ∙ e) in
     all_read n (kept ++ (t.0.0 ∷ [])) t.0.1 file all (one_more kept (b ∷ bs) file (omega arith) n t.0 t.1 r) e
-
-record_long : (r : Region) (rest : List ℕ) → 16 + length rest ≤ length (record_spelling r ++ rest)
-record_long r rest = simp (length-append, length-spelling) (omega arith)
 
 records_again : (n : ℕ) (m rs : Memory) → length (flat_map record_spelling rs) ≤ n → IsMemory (m ++ rs)
     → records_from n m (flat_map record_spelling rs) ≡ Ok (m ++ rs)

@@ -1,51 +1,24 @@
 -- When regions share a byte.
-use Rattle.std.proofs.Common.{◌≡◌, ℕ, ◌<◌, ◌≤◌, Bool, true, false, ◌||◌, not, sym, List, [], ◌∷◌, ◌++◌, length, refl, arith, inl, inr, ◌∙◌, ◌↔◌}
-use Rattle.acpi_base.proofs.FromStd.{and_parts, and_from, or_cases, or_parts, or_from, or_left, or_right, false_from_ne_true, leb-true, le-leb, ltb-true, lt-ltb, cases_lt, length-replicate}
+use Rattle.std.proofs.Common.{◌≡◌, ℕ, ◌<◌, ◌≤◌, Bool, true, false, sym, List, [], ◌∷◌, ◌++◌, length, refl, arith, ◌∙◌, ◌↔◌}
+use Rattle.acpi_base.proofs.FromStd.{and_from, or_parts, or_from, false_from_ne_true, le-leb, lt-ltb, nat_tests, length-replicate}
 use Rattle.acpi_base.specs.FromStd.{AllByRecursion}
 use Rattle.acpi_base.specs.Words.{Memory, Region, AreApart, IsMemory, IsRegion, end_of, lies_in}
 use Rattle.acpi_base.specs.declared.range.AddressRange.{AddressRange}
 use Rattle.acpi_image_reader.specs.Words.{share, shares_any, region_in}
 
 pub inside : (r : Region) (a : ℕ) → lies_in r a ≡ true → (r.start ≤ a) × (a < end_of r)
-inside r a h =
-    let p = and_parts _ _ h in
-    (leb-true _ _ p.0, ltb-true _ _ p.1)
+inside r a h = grind (arith, nat_tests)
 
 pub within : (r : Region) (a : ℕ) → r.start ≤ a → a < end_of r → lies_in r a ≡ true
 within r a low high = and_from _ _ (le-leb _ _ low) (lt-ltb _ _ high)
 
-share_at : (r s : Region) (a : ℕ) → lies_in r a ≡ true → lies_in s a ≡ true → share r s ≡ true
-unfolding share
-share_at r s a hr hs =
-    let p = inside r a hr in
-    let q = inside s a hs in
-    let some : 0 < length r.bytes = omega arith in
-    let more : 0 < length s.bytes = omega arith in
-    let met : (lies_in r s.start || lies_in s r.start) ≡ true =
-    elim (cases_lt s.start r.start) [
-      | inl lt ↦ or_right _ _ (within s r.start (omega arith) (omega arith))
-      | inr le ↦ or_left _ _ (within r s.start (omega arith) (omega arith))
-    ] in
-    and_from _ _ (lt-ltb _ _ some) (and_from _ _ (lt-ltb _ _ more) met)
-
 pub apart_is : (r s : Region) → share r s ≡ false → AreApart r s
-apart_is r s h a hr hs =
-    let both = share_at r s a hr hs in
-    absurd cc
-
-not_shared : (r s : Region) → AreApart r s → share r s ≡ true → ⊥
 unfolding share
-not_shared r s h t =
-    let p = and_parts _ _ t in
-    let q = and_parts _ _ p.1 in
-    let some : 0 < length r.bytes = ltb-true _ _ p.0 in
-    let more : 0 < length s.bytes = ltb-true _ _ q.0 in
-    let mine : lies_in r r.start ≡ true = within r r.start (omega arith) (omega arith) in
-    let other : lies_in s s.start ≡ true = within s s.start (omega arith) (omega arith) in
-    elim (or_cases _ _ q.1) [
-      | inl x ↦ h s.start x other
-      | inr y ↦ h r.start mine y
-    ]
+apart_is r s h a hr hs = grind (arith, nat_tests)
+
+pub not_shared : (r s : Region) → AreApart r s → share r s ≡ true → ⊥
+unfolding share
+not_shared r s h t = grind (arith, nat_tests, h s.start, h r.start)
 
 pub share_is : (r s : Region) → AreApart r s → share r s ≡ false
 share_is r s h = false_from_ne_true _ (not_shared r s h)
@@ -53,10 +26,6 @@ share_is r s h = false_from_ne_true _ (not_shared r s h)
 -- whatever says whether they do says whether an address lies in both
 pub share_law : (r s : Region) (b : Bool) → b ≡ share r s → (b ≡ false) ↔ AreApart r s
 share_law r s b e = (λ no. apart_is r s (sym e ∙ no), λ apart. e ∙ share_is r s apart)
-
-pub not_true : (b : Bool) → not b ≡ true → b ≡ false
-not_true true e = absurd cc
-not_true false e = refl
 
 -- ---- it depends on starts and lengths alone
 
@@ -91,10 +60,10 @@ all_apart (s ∷ m) r h =
 
 -- ---- a region after a memory
 
-pub all_with : {X : Type 0} (P : X → Type 0) (xs : List X) (y : X) → AllByRecursion P xs → P y
-    → AllByRecursion P (xs ++ (y ∷ []))
-all_with P [] y h hy = (hy, tt)
-all_with P (x ∷ xs) y h hy = (h.0, all_with P xs y h.1 hy)
+pub all_both : {X : Type 0} (P : X → Type 0) (xs ys : List X) → AllByRecursion P xs → AllByRecursion P ys
+    → AllByRecursion P (xs ++ ys)
+all_both P [] ys h k = k
+all_both P (x ∷ xs) ys h k = (h.0, all_both P xs ys h.1 k)
 
 all_at : {X : Type 0} (P : X → Type 0) (xs : List X) (y : X) (ys : List X) → AllByRecursion P (xs ++ (y ∷ ys)) → P y
 all_at P [] y ys h = h.0
@@ -103,7 +72,10 @@ all_at P (x ∷ xs) y ys h = all_at P xs y ys h.1
 pub memory_with : (m : Memory) (r : Region) → IsMemory m → IsRegion r → AllByRecursion (λ s. AreApart s r) m
     → IsMemory (m ++ (r ∷ []))
 memory_with [] r h hr apart = (hr, (tt, tt))
-memory_with (s ∷ m) r h hr apart = (h.0, (all_with (AreApart s) m r h.1.0 apart.0, memory_with m r h.1.1 hr apart.1))
+memory_with (s ∷ m) r h hr apart = (
+  h.0,
+  (all_both (AreApart s) m (r ∷ []) h.1.0 (apart.0, tt), memory_with m r h.1.1 hr apart.1),
+)
 
 pub memory_at : (m : Memory) (r : Region) (rs : Memory) → IsMemory (m ++ (r ∷ rs))
     → IsRegion r × AllByRecursion (λ s. AreApart s r) m

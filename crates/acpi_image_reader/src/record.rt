@@ -24,7 +24,7 @@ impl<'a> Record<'a> {
     ghost use Rattle.acpi_image_reader.specs.Words.{share};
 
     /// The bytes from an address on, or `None` if it doesn't lie in this record.
-    #[tactic(auto, using(crate::proofs::Listing::is_inside, crate::proofs::Listing::is_above, crate::proofs::Listing::is_below))]
+    #[tactic(auto, using(std::proofs::lemmas::Bool::Decides::nat_tests))]
     pub(crate) fn rest(&self, address: u64) -> Option<&'a [u8]>
         ensures inside { IfSome result (λ s. lies_in (region_of self.now) address ≡ true) }
         ensures bytes { IfSome result
