@@ -1,18 +1,13 @@
 -- Pieces say their own lengths, and bytes are cut into them in one way; hops are cut into a path and others after it.
-use Rattle.std.proofs.Common.{◌≡◌, ℕ, zero, suc, ◌≤◌, Bool, true, false, cond, List, [], ◌∷◌, ◌++◌, length, take, drop, Option, Some, None, refl, sym, ap, ◌∙◌, subst, arith, append_assoc, length-append, length-drop, leb, ◌+◌, ◌==◌, ◌&&◌, ◌||◌, nat_lt, filter, is_some, slice_get}
-use Rattle.acpi_base.proofs.FromStd.{and_parts, and_from, eqb-true, leb-true, le-leb, nat_tests, take_all, take_at, drop_at, take-append-drop, length-take-le, append-nil, take-append-le, drop-append-le}
+use Rattle.std.proofs.Common.{◌≡◌, ℕ, zero, suc, ◌-◌, ◌≤◌, Bool, true, cond, List, [], ◌∷◌, ◌++◌, length, take, drop, Option, Some, None, refl, sym, ap, ◌∙◌, subst, arith, append_assoc, length-append, length-drop, leb, ◌+◌, ◌&&◌, filter, is_some, slice_get}
+use Rattle.acpi_base.proofs.FromStd.{cond_some, and_parts, and_from, eqb-true, leb-true, le-leb, nat_tests, take_all, drop-take, take-take, take_at, drop_at, take-append-drop, length-take-le, append-nil, take-append-le, drop-append-le}
 use Rattle.acpi_base.specs.FromStd.{concat, AllByRecursion, list_all, list_any, prefix_len}
-use Rattle.acpi_base.specs.Words.{with_entry, field_of, number, part}
-use Rattle.acpi_iommu.specs.Words.{FrontIsFront, is_front, is_same_hop, scope_size, IsCut, IsPiece, OneCut, SaysItself, front, pieces, pieces_within, said, Hop, kind_of, structure_size, block_kind, block_size, is_ivhd, is_ivmd, entry_kind, entry_size, own_size}
+use Rattle.acpi_base.specs.Words.{with_entry, field_of}
+use Rattle.acpi_iommu.specs.Words.{FrontIsFront, is_front, is_same_hop, scope_size, IsCut, IsPiece, OneCut, SaysItself, front, pieces, pieces_within, said, Hop, kind_of, structure_size, block_kind, block_size, entry_kind, entry_size, own_size}
 use Rattle.acpi_iommu.specs.Dmar as dmar
 use Rattle.acpi_iommu.specs.Ivrs as ivrs
 
 -- ---- the piece with which bytes begin
-
--- what the test of a length says
-tested : (b : Bool) (m n : ℕ) → cond b (Some m) None ≡ Some n → (b ≡ true) × (m ≡ n)
-tested true m n e = (refl, cc)
-tested false m n e = absurd cc
 
 checked : ℕ → Option ℕ → Option ℕ
 checked len o = elim o [ Some n ↦ cond (leb 1 n && leb n len) (Some n) None | None ↦ None ]
@@ -21,7 +16,7 @@ checked_is : (len n : ℕ) (o : Option ℕ) → checked len o ≡ Some n → (o 
 unfolding checked
 checked_is len n None e = absurd cc
 checked_is len n (Some m) e =
-    let t = tested (leb 1 m && leb m len) m n e in
+    let t = cond_some (leb 1 m && leb m len) m n e in
     let p = and_parts (leb 1 m) (leb m len) t.0 in
     (ap Some t.1, omega (arith, leb-true 1 m p.0, t.1), omega (arith, leb-true m len p.1, t.1))
 
@@ -176,22 +171,18 @@ one_cut size says bytes ps rest = (
 
 -- ---- fields in the front of bytes
 
-part_append : (p more : List ℕ) (at width : ℕ) → at + width ≤ length p → part (p ++ more) at width ≡ part p at width
-part_append p more at width inside =
-    ap (take width) (drop-append-le at p more (omega (arith, inside)))
-    ∙ take-append-le width (drop at p) more (omega (arith, inside, length-drop at p))
-
 -- a field among the first n bytes is the same whatever comes after them
 kept : (bytes more : List ℕ) (n at width : ℕ) → n ≤ length bytes → at + width ≤ n
     → field_of (take n bytes ++ more) at width ≡ field_of bytes at width
 unfolding field_of
 kept bytes more n at width within inside =
-    let long : length (take n bytes) ≡ n = length-take-le n bytes within in
-    let after : part (take n bytes ++ more) at width ≡ part (take n bytes) at width =
-    part_append (take n bytes) more at width (omega (arith, inside, long)) in
-    let before : part (take n bytes ++ drop n bytes) at width ≡ part (take n bytes) at width =
-    part_append (take n bytes) (drop n bytes) at width (omega (arith, inside, long)) in
-    ap number (after ∙ sym before ∙ ap (λ b. part b at width) (take-append-drop n bytes))
+    let long = length-take-le n bytes within in
+    let some : width ≤ length (drop at (take n bytes)) = omega (arith, inside, long, length-drop at (take n bytes)) in
+    let room : at + (n - at) ≡ n = omega arith in
+    let cut : drop at (take n bytes) ≡ take (n - at) (drop at bytes) = rw room at (drop-take at (n - at) bytes) in
+    rw (drop-append-le at (take n bytes) more (omega (arith, inside, long)))
+    (rw (take-append-le width (drop at (take n bytes)) more some, cut, take-take width (n - at) (drop at bytes) (omega arith))
+    refl)
 
 -- ---- a length that a piece says
 
@@ -201,20 +192,13 @@ said_size : (least size : List ℕ → ℕ) (header : ℕ) → ((bytes : List �
     → (least (take n bytes ++ more) ≡ least bytes) × (size (take n bytes ++ more) ≡ size bytes))
     → SaysItself (λ b. said (least b) (size b))
 said_size least size header has same bytes more n e within =
-    let is = tested (leb (least bytes) (size bytes)) (size bytes) n e in
+    let is = cond_some (leb (least bytes) (size bytes)) (size bytes) n e in
     let again = same bytes more n within (omega (arith, has bytes, leb-true (least bytes) (size bytes) is.0, is.1)) in
     ap (λ l. said l (size (take n bytes ++ more))) again.0 ∙ ap (λ s. said (least bytes) s) again.1 ∙ e
 
-four_structure : (a b c d : Bool) → 4 ≤ cond a 16 (cond b 24 (cond c 20 (cond d 8 4)))
-four_structure true b c d = omega arith
-four_structure false true c d = omega arith
-four_structure false false true d = omega arith
-four_structure false false false true = omega arith
-four_structure false false false false = omega arith
-
 pub structure_is : SaysItself structure_size
 structure_is =
-    said_size (λ b. dmar.least_of (kind_of b)) (λ b. field_of b 2 2) 4 (λ b. four_structure _ _ _ _)
+    said_size (λ b. dmar.least_of (kind_of b)) (λ b. field_of b 2 2) 4 (λ b. grind (arith, nat_tests))
     (λ bytes more n within four. (
       ap dmar.least_of (kept bytes more n 0 2 within (omega (arith, four))),
       kept bytes more n 2 2 within (omega (arith, four)),
@@ -225,15 +209,9 @@ scope_is =
     said_size (λ b. 6) (λ b. field_of b 1 1) 6 (λ b. omega arith) (λ bytes more n within six.
     (refl, kept bytes more n 1 1 within (omega (arith, six))))
 
-four_block : (a b c : Bool) → 4 ≤ cond a 24 (cond b 40 (cond c 32 4))
-four_block true b c = omega arith
-four_block false true c = omega arith
-four_block false false true = omega arith
-four_block false false false = omega arith
-
 pub block_is : SaysItself block_size
 block_is =
-    said_size (λ b. ivrs.least_of (block_kind b)) (λ b. field_of b 2 2) 4 (λ b. four_block _ _ _)
+    said_size (λ b. ivrs.least_of (block_kind b)) (λ b. field_of b 2 2) 4 (λ b. grind (arith, nat_tests))
     (λ bytes more n within four. (
       ap ivrs.least_of (kept bytes more n 0 1 within (omega (arith, four))),
       kept bytes more n 2 2 within (omega (arith, four)),
@@ -241,78 +219,28 @@ block_is =
 
 -- ---- device entries
 
--- an entry's own size by its type and the length of its unique id
-own_by : (a b c d : Bool) → ℕ → ℕ
-own_by a b c d l = cond a (22 + l) (cond b 4 (cond c 8 (cond d 16 32)))
+own_some : (e : List ℕ) → 4 ≤ own_size e
+own_some e = grind (arith, nat_tests)
 
-own_some : (a b c d : Bool) (l : ℕ) → 4 ≤ own_by a b c d l
-unfolding own_by
-own_some true b c d l = omega arith
-own_some false true c d l = omega arith
-own_some false false true d l = omega arith
-own_some false false false true l = omega arith
-own_some false false false false l = omega arith
+own_least : (e : List ℕ) (n : ℕ) → entry_size e ≡ Some n → own_size e ≤ n
+own_least e n is = grind (arith, nat_tests)
 
-own_same : (a b c d : Bool) (l m n : ℕ) → own_by a b c d l ≤ n → (22 ≤ n → m ≡ l) → own_by a b c d m ≡ own_by a b c d l
-unfolding own_by
-own_same true b c d l m n long same = ap (λ u. 22 + u) (same (omega (arith, long)))
-own_same false b c d l m n long same = refl
+own_same : (a b : List ℕ) (n : ℕ) → own_size b ≤ n → entry_kind a ≡ entry_kind b
+    → (22 ≤ n → field_of a 21 1 ≡ field_of b 21 1) → own_size a ≡ own_size b
+own_same a b n least kind id = grind (arith, nat_tests)
 
--- its size: of a start with its end, if one follows, and of no end
-size_by : (start marked end_ : Bool) → ℕ → Option ℕ
-size_by start marked end_ own = cond start (cond marked (Some (own + 4)) None) (cond end_ None (Some own))
-
-own_least : (start marked end_ : Bool) (own n : ℕ) → size_by start marked end_ own ≡ Some n → own ≤ n
-unfolding size_by
-own_least true true end_ own n e =
-    let is : own + 4 ≡ n = cc in
-    omega (arith, is)
-own_least true false end_ own n e = absurd cc
-own_least false marked true own n e = absurd cc
-own_least false marked false own n e =
-    let is : own ≡ n = cc in
-    omega (arith, is)
-
--- what follows counts only for a start, and is among its bytes
-size_again : (start marked end_ marks : Bool) (own n : ℕ) → size_by start marked end_ own ≡ Some n
-    → (own + 4 ≤ n → marks ≡ marked) → size_by start marks end_ own ≡ Some n
-unfolding size_by
-size_again true true end_ marks own n e same =
-    let is : own + 4 ≡ n = cc in
-    let now : marks ≡ true = same (omega (arith, is)) in
-    cc
-size_again true false end_ marks own n e same = absurd cc
-size_again false marked end_ marks own n e same = e
-
-starts : ℕ → Bool
-starts kind = (kind == 3) || (kind == 0x43) || (kind == 0x47)
-
-own_of : ℕ → ℕ → ℕ
-own_of kind l = own_by (kind == 0xf0) (nat_lt kind 0x40) (nat_lt kind 0x80) (nat_lt kind 0xc0) l
-
--- the size of an entry by its type, its own size, and the type of what follows it
-size_of : ℕ → ℕ → ℕ → Option ℕ
-size_of kind own next = size_by (starts kind) (next == 4) (kind == 4) own
+size_same : (a b : List ℕ) (n : ℕ) → entry_size b ≡ Some n → entry_kind a ≡ entry_kind b → own_size a ≡ own_size b
+    → (own_size b + 4 ≤ n → field_of a (own_size b) 1 ≡ field_of b (own_size b) 1) → entry_size a ≡ Some n
+size_same a b n is kind own marked = grind (arith, nat_tests)
 
 pub entry_is : SaysItself entry_size
-unfolding size_by starts size_of own_of own_by
 entry_is bytes more n e within =
-    let kind = entry_kind bytes in
-    let own = own_size bytes in
+    let least = own_least bytes n e in
+    let some = own_some bytes in
     let all = take n bytes ++ more in
-    let least : own ≤ n = own_least (starts kind) (field_of bytes own 1 == 4) (kind == 4) own n e in
-    let some : 4 ≤ own = own_some (kind == 0xf0) (nat_lt kind 0x40) (nat_lt kind 0x80) (nat_lt kind 0xc0)
-    (field_of bytes 21 1) in
-    let kind_same : entry_kind all ≡ kind = kept bytes more n 0 1 within (omega (arith, some, least)) in
-    let id_same : own_of kind (field_of all 21 1) ≡ own =
-    own_same (kind == 0xf0) (nat_lt kind 0x40) (nat_lt kind 0x80) (nat_lt kind 0xc0) (field_of bytes 21 1)
-    (field_of all 21 1) n least (λ far. kept bytes more n 21 1 within (omega (arith, far))) in
-    let own_is : own_size all ≡ own = ap (λ k. own_of k (field_of all 21 1)) kind_same ∙ id_same in
-    let as_was : entry_size all ≡ size_of kind own (field_of all own 1) =
-    ap (λ k. size_of k (own_size all) (field_of all (own_size all) 1)) kind_same
-    ∙ ap (λ o. size_of kind o (field_of all o 1)) own_is in
-    as_was ∙ size_again (starts kind) (field_of bytes own 1 == 4) (kind == 4) (field_of all own 1 == 4) own n e
-    (λ far. ap (λ x. x == 4) (kept bytes more n own 1 within (omega (arith, far))))
+    let kind = kept bytes more n 0 1 within (omega (arith, some, least)) in
+    let own = own_same all bytes n least kind (λ far. kept bytes more n 21 1 within (omega (arith, far))) in
+    size_same all bytes n e kind own (λ far. kept bytes more n (own_size bytes) 1 within (omega (arith, far)))
 
 -- ---- what walks make of lists
 
@@ -321,44 +249,26 @@ pub all_pass : {X : Type 0} (xs : List X) → list_all (λ x. true) xs ≡ true
 all_pass [] = refl
 all_pass (x ∷ xs) = all_pass xs
 
-some_by : {X : Type 0} (b : Bool) (x : X) (xs : List X) (a : Bool) → a ≡ is_some (slice_get xs 0)
-    → (b || a) ≡ is_some (slice_get (cond b (x ∷ xs) xs) 0)
-some_by true x xs a e = refl
-some_by false x xs a e = e
-
 -- some piece passes if one is left of those that do
 pub some_passes : {X : Type 0} (test : X → Bool) (xs : List X)
     → list_any test xs ≡ is_some (slice_get (filter test xs) 0)
 some_passes test [] = refl
-some_passes test (x ∷ xs) = some_by (test x) x (filter test xs) (list_any test xs) (some_passes test xs)
-
-few_by : (b : Bool) (m n : ℕ) → m ≤ n → cond b (1 + m) 0 ≤ suc n
-few_by true m n few = omega arith
-few_by false m n few = omega arith
+some_passes test (x ∷ xs) = grind (arith, nat_tests, some_passes test xs)
 
 -- no more pass from the front on than there are
 pub prefix_few : {X : Type 0} (p : X → Bool) (xs : List X) → prefix_len p xs ≤ length xs
 prefix_few p [] = omega arith
-prefix_few p (x ∷ xs) = few_by (p x) (prefix_len p xs) (length xs) (prefix_few p xs)
+prefix_few p (x ∷ xs) = grind (arith, nat_tests, prefix_few p xs)
 
 -- ---- a path and others
 
-hop : ℕ → ℕ → Hop
-hop device function = record { device = device; function = function }
-
 same_is : (a b : Hop) → is_same_hop a b ≡ true → a ≡ b
-unfolding hop
 same_is a b e =
-    let parts = and_parts (a.device == b.device) (a.function == b.function) e in
-    let device : a.device ≡ b.device = eqb-true a.device b.device parts.0 in
-    let function : a.function ≡ b.function = eqb-true a.function b.function parts.1 in
-    ap (λ d. hop d a.function) device ∙ ap (λ f. hop b.device f) function
-
-number_same : (n : ℕ) → (n == n) ≡ true
-number_same n = grind (arith, nat_tests)
+    let p = and_parts _ _ e in
+    rw (eqb-true a.device b.device p.0, eqb-true a.function b.function p.1) refl
 
 same_self : (a : Hop) → is_same_hop a a ≡ true
-same_self a = and_from (a.device == a.device) (a.function == a.function) (number_same a.device) (number_same a.function)
+same_self a = grind (arith, nat_tests)
 
 others : (path hops : List Hop) → is_front path hops ≡ true → (rest : List Hop) × (hops ≡ path ++ rest)
 others [] hops e = (hops, refl)

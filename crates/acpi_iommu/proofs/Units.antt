@@ -1,9 +1,10 @@
 -- Which unit remaps a device, and which memory has its own rules for it, in a reader's words.
-use Rattle.std.proofs.Common.{◌≡◌, ◌⊎◌, inl, inr, ℕ, ◌+◌, ◌<◌, ◌≤◌, Bool, true, false, cond, List, [], ◌∷◌, Option, Some, None, Result, Ok, refl, ap, subst, ◌==◌, ◌&&◌, ◌||◌, ◌^◌, nat_le, find, filter, map, slice_get, filter_map, option_map}
+use Rattle.std.proofs.Common.{◌≡◌, ◌⊎◌, inl, inr, ℕ, ◌+◌, ◌<◌, Bool, true, cond, List, [], ◌∷◌, Option, Some, None, Result, Ok, refl, ap, subst, arith, ◌==◌, ◌&&◌, ◌||◌, ◌^◌, find, filter, map, slice_get, filter_map, option_map}
 use Rattle.acpi_base.specs.FromStd.{AllByRecursion, cons_option, list_all, option_or}
-use Rattle.acpi_base.proofs.FromStd.{and_parts, eqb-true, leb-true, ltb-true}
+use Rattle.std.proofs.lemmas.Bool.{cond_both}
+use Rattle.acpi_base.proofs.FromStd.{and_parts, nat_tests, or_cases, eqb-true, ltb-true}
 use Rattle.acpi_base.proofs.Words.{holds_ok, same_ok}
-use Rattle.acpi_iommu.specs.Words.{drhd_at, includes_pci_all, structures_of, names_device, is_unit_of, source_in, Drhd, IommuError, InvalidMemoryRange, InvalidStructureLength, blocks_of, ivmd_at, best_kind, ends_below, is_memory_for, is_of_kind, memory_in, unit_in, BlockIsFirst, FirstSays, IsMeantFor, MemoryIsMeant, SourceIsFirst, UnitIsFirst, of_others}
+use Rattle.acpi_iommu.specs.Words.{drhd_at, includes_pci_all, structures_of, names_device, is_unit_of, source_in, Drhd, IommuError, InvalidMemoryRange, InvalidStructureLength, blocks_of, ivmd_at, best_kind, ends_below, is_memory_for, memory_in, unit_in, BlockIsFirst, FirstSays, IsMeantFor, MemoryIsMeant, SourceIsFirst, UnitIsFirst, of_others}
 use Rattle.acpi_iommu.specs.DmarUnits as dmar
 use Rattle.acpi_iommu.specs.IvrsUnits as ivrs
 use Rattle.acpi_base.specs.Words.{◌>>=◌, holds}
@@ -38,23 +39,21 @@ first_says : {X Y : Type 0} (said : X → Option Y) (xs : List X) → FirstSays 
 first_says said [] = tt
 first_says said (x ∷ xs) = first_by said x xs (said x) (filter_map said xs) refl (first_says said xs)
 
-found_by : {X Y : Type 0} (test : X → Bool) (show : X → Y) (x : X) (xs : List X) (b : Bool) → test x ≡ b
-    → FirstSays (λ z. cond (test z) (Some (show z)) None) xs (option_map show (find test xs))
-    → FirstSays (λ z. cond (test z) (Some (show z)) None) (x ∷ xs) (option_map show (cond b (Some x) (find test xs)))
-found_by test show x xs true e first = record {
-  before = [];
-  x = x;
-  after = xs;
-  listed = refl;
-  none_before = tt;
-  says = ap (λ b. cond b (Some (show x)) None) e;
-}
-found_by test show x xs false e first = later _ x xs _ (ap (λ b. cond b (Some (show x)) None) e) first
-
 first_found : {X Y : Type 0} (test : X → Bool) (show : X → Y) (xs : List X)
     → FirstSays (λ z. cond (test z) (Some (show z)) None) xs (option_map show (find test xs))
 first_found test show [] = tt
-first_found test show (x ∷ xs) = found_by test show x xs (test x) refl (first_found test show xs)
+first_found {Y = Y} test show (x ∷ xs) =
+    let Says : Option Y → Type 0 = λ o. FirstSays (λ z. cond (test z) (Some (show z)) None) (x ∷ xs) o in
+    cond_both (test x) (Some x) (find test xs) (λ o. Says (option_map show o))
+    (λ is. record {
+      before = [];
+      x = x;
+      after = xs;
+      listed = refl;
+      none_before = tt;
+      says = ap (λ b. cond b (Some (show x)) None) is;
+    })
+    (λ is. later _ x xs _ (ap (λ b. cond b (Some (show x)) None) is) (first_found test show xs))
 
 -- ---- units
 
@@ -97,47 +96,27 @@ block_is_first table segment id answer e =
 
 -- ---- memory
 
-meant_by : (a b c d : Bool) {A B C D : Type 0} → (a ≡ true → A) → (b ≡ true → B) → (c ≡ true → C) → (d ≡ true → D)
-    → (a || (b && c) || d) ≡ true → A ⊎ ((B × C) ⊎ D)
-meant_by true b c d p q r s e = inl (p refl)
-meant_by false true true d p q r s e = inr (inl (q refl, r refl))
-meant_by false true false true p q r s e = inr (inr (s refl))
-meant_by false true false false p q r s e = absurd cc
-meant_by false false c true p q r s e = inr (inr (s refl))
-meant_by false false c false p q r s e = absurd cc
-
-in_range : (id kind first last : ℕ) → ((kind == 0x22) && nat_le first id && nat_le id last) ≡ true
-    → (kind ≡ 0x22) × (first ≤ id) × (id ≤ last)
-in_range id kind first last e =
-    let p = and_parts ((kind == 0x22) && nat_le first id) (nat_le id last) e in
-    let q = and_parts (kind == 0x22) (nat_le first id) p.0 in
-    (eqb-true kind 0x22 q.0, leb-true first id q.1, leb-true id last p.1)
-
 meant : (id : ℕ) (b : List ℕ) → is_memory_for id b ≡ true → IsMeantFor id (ivmd_at b)
 meant id b e =
     let m = ivmd_at b in
-    meant_by (m.kind == 0x20) (m.kind == 0x21) (m.device_id == id)
-    ((m.kind == 0x22) && nat_le m.device_id id && nat_le id m.auxiliary)
-    (eqb-true m.kind 0x20) (eqb-true m.kind 0x21) (eqb-true m.device_id id)
-    (in_range id m.kind m.device_id m.auxiliary) e
-
-each_by : (id : ℕ) (b : List ℕ) (bs : List (List ℕ)) (t : Bool) → is_memory_for id b ≡ t
-    → (list_all ends_below (map ivmd_at (filter (is_memory_for id) bs)) ≡ true
-    → AllByRecursion (λ m. IsMeantFor id m × (m.start + m.length < 2 ^ 64))
-    (map ivmd_at (filter (is_memory_for id) bs)))
-    → list_all ends_below (map ivmd_at (cond t (b ∷ filter (is_memory_for id) bs) (filter (is_memory_for id) bs)))
-    ≡ true
-    → AllByRecursion (λ m. IsMeantFor id m × (m.start + m.length < 2 ^ 64))
-    (map ivmd_at (cond t (b ∷ filter (is_memory_for id) bs) (filter (is_memory_for id) bs)))
-each_by id b bs true is others e =
-    let p = and_parts _ _ e in
-    ((meant id b is, ltb-true _ _ p.0), others p.1)
-each_by id b bs false is others e = others e
+    elim (or_cases ((m.kind == 0x20) || ((m.kind == 0x21) && (m.device_id == id))) _ e) [
+      | inl some ↦ elim (or_cases (m.kind == 0x20) _ some) [
+        | inl all ↦ inl (eqb-true m.kind 0x20 all)
+        | inr one ↦ inr (inl (grind (arith, nat_tests), grind (arith, nat_tests)))
+      ]
+      | inr range ↦ inr (inr (grind (arith, nat_tests), grind (arith, nat_tests), grind (arith, nat_tests)))
+    ]
 
 each_meant : (id : ℕ) (bs : List (List ℕ)) → list_all ends_below (map ivmd_at (filter (is_memory_for id) bs)) ≡ true
     → AllByRecursion (λ m. IsMeantFor id m × (m.start + m.length < 2 ^ 64)) (map ivmd_at (filter (is_memory_for id) bs))
 each_meant id [] e = tt
-each_meant id (b ∷ bs) e = each_by id b bs (is_memory_for id b) refl (each_meant id bs) e
+each_meant id (b ∷ bs) e =
+    let others = filter (is_memory_for id) bs in
+    let All = AllByRecursion (λ m. IsMeantFor id m × (m.start + m.length < 2 ^ 64)) in
+    cond_both (is_memory_for id b) (b ∷ others) others (λ xs. list_all ends_below (map ivmd_at xs) ≡ true
+    → All (map ivmd_at xs))
+    (λ is f. let p = and_parts _ _ f in ((meant id b is, ltb-true _ _ p.0), each_meant id bs p.1))
+    (λ is f. each_meant id bs f) e
 
 pub memory_is_meant : MemoryIsMeant
 memory_is_meant table id answer e =

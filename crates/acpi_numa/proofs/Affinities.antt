@@ -8,6 +8,7 @@ use Rattle.acpi.proofs.Moved.{said_follows}
 use Rattle.acpi.specs.Words.{lookup_ranges, FollowsTables}
 use Rattle.acpi_numa.specs.Words.{affinities_of, found_affinities, srat_kind, IsDomainOf, LiesIn, domain_at, lies_in, range_in, ranges_of, MemoryRange, entries_of, entry_of, revision_of, srat_grammar, srat_layout}
 use Rattle.acpi_base.proofs.FromStd.{nat_tests}
+use Rattle.std.proofs.lemmas.Bool.{cond_both}
 use Rattle.acpi_base.specs.FromStd.{concat, AllByRecursion, cons_option}
 use Rattle.acpi_base.proofs.Words.{cut_is_cut}
 
@@ -42,23 +43,21 @@ before_others r ranges a (Some d) out first = record {
   domain_is = first.domain_is;
 }
 
-by_test : (b : Bool) (r : MemoryRange) (ranges : List MemoryRange) (a : ℕ) → lies_in a r ≡ b
-    → IsDomainOf ranges a (domain_at ranges a)
-    → IsDomainOf (r ∷ ranges) a (option_map (λ r. r.domain) (if b then Some r else find (lies_in a) ranges))
-by_test true r ranges a is others = record {
-  before = [];
-  range = r;
-  after = ranges;
-  listed = refl;
-  none_before = tt;
-  lies = lies r a is;
-  domain_is = refl;
-}
-by_test false r ranges a is others = before_others r ranges a (domain_at ranges a) (lies_not r a is) others
-
 first_of_all : (ranges : List MemoryRange) (a : ℕ) → IsDomainOf ranges a (domain_at ranges a)
 first_of_all [] a = tt
-first_of_all (r ∷ ranges) a = by_test (lies_in a r) r ranges a refl (first_of_all ranges a)
+first_of_all (r ∷ ranges) a =
+    cond_both (lies_in a r) (Some r) (find (lies_in a) ranges)
+    (λ o. IsDomainOf (r ∷ ranges) a (option_map (λ r. r.domain) o))
+    (λ is. record {
+      before = [];
+      range = r;
+      after = ranges;
+      listed = refl;
+      none_before = tt;
+      lies = lies r a is;
+      domain_is = refl;
+    })
+    (λ is. before_others r ranges a (domain_at ranges a) (lies_not r a is) (first_of_all ranges a))
 
 pub domain_first : (o : Option ℕ) (ranges : List MemoryRange) (a : ℕ) → o ≡ domain_at ranges a → IsDomainOf ranges a o
 domain_first o ranges a is = rw is (first_of_all ranges a)

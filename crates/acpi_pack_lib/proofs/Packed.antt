@@ -8,7 +8,7 @@ use Rattle.acpi_base.specs.Words.{IsBytes, Memory, Region, AreApart, IsMemory, e
 use Rattle.acpi.specs.Words.{valid_tables, opened_by_rsdp, pointers, root_at, width_of, rsdp_at}
 use Rattle.acpi.specs.declared.root.RootKind.TheVariants.{Xsdt}
 use Rattle.acpi_image.proofs.Written.{every_in, length-root_to, length-rsdp_to}
-use Rattle.acpi_image_reader.proofs.Sharing.{memory_with}
+use Rattle.acpi_image_reader.proofs.Sharing.{all_both, memory_with}
 use Rattle.acpi_image.proofs.WrittenRoot.{pointers_are, root_there, IsRsdp, is_rsdp, rsdp_there, spaces_text}
 use Rattle.acpi_image_reader.specs.Words.{IsImage}
 use Rattle.acpi_image.specs.Words.{root_length, root_record, root_to, rsdp_record, rsdp_to, spaces, starts_of}
@@ -20,11 +20,6 @@ abbrev AllBytes : Memory → Type 0
 AllBytes m = AllByRecursion (λ r. IsBytes r.bytes) m
 
 -- ---- lists
-
-all_both : {X : Type 0} (P : X → Type 0) (xs ys : List X) → AllByRecursion P xs → AllByRecursion P ys
-    → AllByRecursion P (xs ++ ys)
-all_both P [] ys h k = k
-all_both P (x ∷ xs) ys h k = (h.0, all_both P xs ys h.1 k)
 
 of_bytes : (ts : Memory) → AllByRecursion IsRight (map (λ t. t.bytes) ts) → AllByRecursion (λ t. IsRight t.bytes) ts
 of_bytes [] h = tt

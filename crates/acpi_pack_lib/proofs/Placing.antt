@@ -1,7 +1,9 @@
 -- Where files are placed, how many are of a role, and that what is packed is a memory whose valid tables they are.
+use Rattle.std.proofs.lemmas.Bool.{cond_both}
+use Rattle.std.proofs.lemmas.Option.{cond_some}
 use Rattle.std.proofs.Common.{◌-◌, ◌≡◌, ℕ, zero, suc, ◌+◌, ◌<◌, ◌≤◌, List, [], ◌∷◌, ◌++◌, length, drop, take, get_or, drop-cons, add-one, Ok, refl, ap, arith, inl, inr, Bool, true, false, if◌then◌else◌, ◌%◌, ◌^◌, map, Some, None, Result, sym, ◌∙◌, subst, Option, min, ◌⊎◌, nat_le, nat_lt, ◌||◌, flat_map, zip, Contains}
 use Rattle.acpi_base.specs.FromStd.{Bor, list_any, AllByRecursion}
-use Rattle.acpi_base.proofs.FromStd.{drop_of_length-le, cases_lt, leb-false, leb-true, ltb-true, or_cases, or_parts, and_parts, drop-map, take_rest, length-map, append-nil, append_assoc}
+use Rattle.acpi_base.proofs.FromStd.{drop_of_length-le, cases_lt, nat_tests, leb-false, leb-true, ltb-true, or_cases, or_parts, and_parts, drop-map, take_rest, length-map, append-nil, append_assoc}
 use Rattle.acpi_image_reader.specs.Words.{share, shares_any, IsImage, record_spelling}
 use Rattle.acpi_base.specs.Words.{Memory, Region, end_of, AreApart, IsMemory, ◌>>=◌, IsBytes, own_table_at}
 use Rattle.acpi_pack_lib.specs.Words.{content, contents, region_at, check_place, check_places, regions, file_of, bytes_in, entries, is_of, listed, FileRole, Listed, ArePlaced, IsPlaced, aligned, place_at, place_or, placed_from, start_at, Refusal, IsMemoryFile, IsRight}
@@ -19,15 +21,9 @@ use Rattle.acpi_image_reader.proofs.Sharing.{all_apart, memory_with}
 
 -- ---- how many are of a role
 
-few_by : (b : Bool) (e : ℕ × List ℕ) (es : List (ℕ × List ℕ)) (n : ℕ) → length es ≤ n
-    → length (if b then e ∷ es else es) ≤ suc n
-few_by true e es n few = omega (arith, few)
-few_by false e es n few = omega (arith, few)
-
 few : (role : FileRole) (n : ℕ) (files : List (Option (List ℕ))) → length (entries role n files) ≤ length files
 few role n [] = omega arith
-few role n (file ∷ files) = few_by (is_of role (bytes_in file)) (n, bytes_in file) (entries role (n + 1) files)
-    (length files) (few role (n + 1) files)
+few role n (file ∷ files) = grind (arith, nat_tests, few role (n + 1) files)
 
 -- no more than there are files
 pub entries_few : (role : FileRole) (files : List (Option (Bor (List ℕ))))
@@ -136,84 +132,74 @@ record IsGiven (fixed : Region) (from count a : ℕ) : Type 0 where
   pub even : a % 16 ≡ 0
   pub apart : (a + count ≤ fixed.start) ⊎ (end_of fixed ≤ a)
 
-given_by : (fixed : Region) (from count : ℕ) (b : Bool)
-    → (nat_le (aligned from + count) fixed.start || nat_le (end_of fixed) (aligned from)) ≡ b
-    → IsGiven fixed from count (if b then aligned from else aligned (end_of fixed))
-given_by fixed from count true e = record {
-  behind = above from;
-  even = even from;
-  apart =
-      elim (or_cases _ _ e) [
-        | inl before ↦ inl (leb-true _ _ before)
-        | inr after ↦ inr (leb-true _ _ after)
-      ];
-}
-given_by fixed from count false e =
-    let short : aligned from < end_of fixed = leb-false _ _ (or_parts _ _ e).1 in
-    record {
-      behind = omega (arith, above from, above (end_of fixed));
-      even = even (end_of fixed);
-      apart = inr (above (end_of fixed));
-    }
-
 given : (fixed : Region) (from count : ℕ) → IsGiven fixed from count (start_at fixed from count)
 unfolding start_at
-given fixed from count = given_by fixed from count _ refl
+given fixed from count =
+    cond_both (nat_le (aligned from + count) fixed.start || nat_le (end_of fixed) (aligned from)) (aligned from) _
+    (IsGiven fixed from count)
+    (λ fits. record {
+      behind = above from;
+      even = even from;
+      apart =
+          elim (or_cases _ _ fits) [
+            | inl before ↦ inl (leb-true _ _ before)
+            | inr after ↦ inr (leb-true _ _ after)
+          ];
+    })
+    (λ taken. record {
+      behind =
+          let short = leb-false _ _ (or_parts _ _ taken).1 in
+          omega (arith, above from, above (end_of fixed));
+      even = even (end_of fixed);
+      apart = inr (above (end_of fixed));
+    })
 
-placed_by : (fixed : Region) (from : ℕ) (table : List ℕ) (a : ℕ) (b : Bool)
-    → nat_lt (start_at fixed from (length table) + length table) (2 ^ 64) ≡ b
-    → (if b then Some (start_at fixed from (length table)) else None) ≡ Some a
-    → IsPlaced fixed from (record { start = a; bytes = table })
-placed_by fixed from table a true e is =
-    let start : start_at fixed from (length table) ≡ a = cc in
-    let known = given fixed from (length table) in
-    let ends = ltb-true _ _ e in
-    let is_there : IsPlaced fixed from (record { start = start_at fixed from (length table); bytes = table }) =
-    record { behind = known.behind; even = known.even; apart = known.apart; ends = ends } in
-    rw start at is_there
-placed_by fixed from table a false e is = absurd cc
+is_at : (fixed : Region) (from : ℕ) (table : List ℕ) → IsGiven fixed from (length table) (start_at fixed from (length table))
+    → start_at fixed from (length table) + length table < 2 ^ 64
+    → IsPlaced fixed from (record { start = start_at fixed from (length table); bytes = table })
+is_at fixed from table is ends = record { behind = is.behind; even = is.even; apart = is.apart; ends = ends }
 
 -- what has an address lies there as it is to
 pub is_placed : (fixed : Region) (from : ℕ) (table : List ℕ) (a : ℕ) → place_at fixed from (length table) ≡ Some a
     → IsPlaced fixed from (record { start = a; bytes = table })
 unfolding place_at
-is_placed fixed from table a e = placed_by fixed from table a _ refl e
+is_placed fixed from table a e =
+    let known = cond_some _ _ a e in
+    let lies = given fixed from (length table) in
+    rw known.1 at (is_at fixed from table lies (ltb-true _ _ known.0))
 
-abbrev IsLaw : Region → List (List ℕ) → Type 0
-IsLaw fixed ts = (from : ℕ) (m : Memory) → placed_from fixed from ts ≡ Ok m → ArePlaced fixed from m
+-- what was placed is the tables as they are, in order, each where it is to lie
+record IsLaid (fixed : Region) (from : ℕ) (ts : List (List ℕ)) (m : Memory) : Type 0 where
+  pub placed : ArePlaced fixed from m
+  pub bytes : map (λ r. r.bytes) m ≡ ts
 
-law_by : (fixed : Region) (from : ℕ) (t : List ℕ) (ts : List (List ℕ)) (m : Memory) (o : Option ℕ) → IsLaw fixed ts
+laid_by : (fixed : Region) (from : ℕ) (t : List ℕ) (ts : List (List ℕ)) (m : Memory) (o : Option ℕ)
+    → ((next : ℕ) (m : Memory) → placed_from fixed next ts ≡ Ok m → IsLaid fixed next ts m)
     → place_at fixed from (length t) ≡ o
-    → place_or fixed o t (λ next. placed_from fixed next ts) ≡ Ok m → ArePlaced fixed from m
-law_by fixed from t ts m None each o e = absurd cc
-law_by fixed from t ts m (Some a) each o e =
+    → place_or fixed o t (λ next. placed_from fixed next ts) ≡ Ok m → IsLaid fixed from (t ∷ ts) m
+laid_by fixed from t ts m None each o e = absurd cc
+laid_by fixed from t ts m (Some a) each o e =
     let parts = bind_ok (placed_from fixed (a + length t) ts) _ m e in
     let rest = each (a + length t) parts.0 parts.1 in
-    let all = same_ok _ m parts.2 in
-    rw (← all) (is_placed fixed from t a o, rest)
+    rw (← same_ok _ m parts.2) (record {
+      placed = (is_placed fixed from t a o, rest.placed);
+      bytes = ap (λ (xs : List (List ℕ)). t ∷ xs) rest.bytes;
+    })
+
+laid : (fixed : Region) (ts : List (List ℕ)) (from : ℕ) (m : Memory) → placed_from fixed from ts ≡ Ok m
+    → IsLaid fixed from ts m
+laid fixed [] from m e = rw (← same_ok [] m e) (record { placed = tt; bytes = refl })
+laid fixed (t ∷ ts) from m e = laid_by fixed from t ts m _ (laid fixed ts) refl e
 
 -- tables that are placed lie as they are to
-pub placed_law : (fixed : Region) (ts : List (List ℕ)) → IsLaw fixed ts
-placed_law fixed [] from m e = rw (← same_ok [] m e) tt
-placed_law fixed (t ∷ ts) from m e = law_by fixed from t ts m _ (placed_law fixed ts) refl e
-
-abbrev KeepsBytes : Region → List (List ℕ) → Type 0
-KeepsBytes fixed ts = (from : ℕ) (m : Memory) → placed_from fixed from ts ≡ Ok m → map (λ r. r.bytes) m ≡ ts
-
-bytes_by : (fixed : Region) (from : ℕ) (t : List ℕ) (ts : List (List ℕ)) (m : Memory) (o : Option ℕ)
-    → KeepsBytes fixed ts
-    → place_or fixed o t (λ next. placed_from fixed next ts) ≡ Ok m → map (λ r. r.bytes) m ≡ t ∷ ts
-bytes_by fixed from t ts m None each e = absurd cc
-bytes_by fixed from t ts m (Some a) each e =
-    let parts = bind_ok (placed_from fixed (a + length t) ts) _ m e in
-    let rest = each (a + length t) parts.0 parts.1 in
-    let all = same_ok _ m parts.2 in
-    rw (← all) (ap (λ (xs : List (List ℕ)). t ∷ xs) rest)
+pub placed_law : (fixed : Region) (ts : List (List ℕ)) (from : ℕ) (m : Memory) → placed_from fixed from ts ≡ Ok m
+    → ArePlaced fixed from m
+placed_law fixed ts from m e = (laid fixed ts from m e).placed
 
 -- tables are placed as they are, in order
-pub placed_bytes : (fixed : Region) (ts : List (List ℕ)) → KeepsBytes fixed ts
-placed_bytes fixed [] from m e = rw (← same_ok [] m e) refl
-placed_bytes fixed (t ∷ ts) from m e = bytes_by fixed from t ts m _ (placed_bytes fixed ts) e
+pub placed_bytes : (fixed : Region) (ts : List (List ℕ)) (from : ℕ) (m : Memory) → placed_from fixed from ts ≡ Ok m
+    → map (λ r. r.bytes) m ≡ ts
+placed_bytes fixed ts from m e = (laid fixed ts from m e).bytes
 
 -- as many as were to be placed
 pub placed_count : (fixed : Region) (from : ℕ) (ts : List (List ℕ)) (tables : List PlacedTable)
@@ -230,12 +216,7 @@ placed_all fixed from before = ap done (append-nil before)
 
 -- one ends before the other
 pub before_is_apart : (r s : Region) → end_of r ≤ s.start → AreApart r s
-before_is_apart r s h a hr hs =
-    let p = and_parts _ _ hr in
-    let q = and_parts _ _ hs in
-    let low : s.start ≤ a = leb-true _ _ q.0 in
-    let high : a < end_of r = ltb-true _ _ p.1 in
-    absurd (omega arith)
+before_is_apart r s h a hr hs = grind (arith, nat_tests)
 
 -- ---- regions that are placed
 
