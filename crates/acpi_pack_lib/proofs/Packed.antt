@@ -21,10 +21,6 @@ AllBytes m = AllByRecursion (λ r. IsBytes r.bytes) m
 
 -- ---- lists
 
-of_bytes : (ts : Memory) → AllByRecursion IsRight (map (λ t. t.bytes) ts) → AllByRecursion (λ t. IsRight t.bytes) ts
-of_bytes [] h = tt
-of_bytes (t ∷ ts) h = (h.0, of_bytes ts h.1)
-
 low_starts : (fixed : Region) (from : ℕ) (ts : Memory) → ArePlaced fixed from ts
     → AllByRecursion (λ p. p < 2 ^ 64) (starts_of ts)
 low_starts fixed from [] h = tt
@@ -38,18 +34,30 @@ abbrev DsdtIs : Option Region → Type 0
 DsdtIs None = Unit {0}
 DsdtIs (Some r) = HasPlace (rsdp_place ∷ []) r
 
-only_one : (r : Region) (others : List (ℕ × List ℕ)) (d : Option Region) → unless_second r others ≡ Ok d → Some r ≡ d
-only_one r [] d e = same_ok _ _ e
-only_one r (x ∷ others) d e = absurd cc
+-- these bytes begin with those of the regions
+abbrev Begin : List (List ℕ) → Memory → Type 0
+Begin named m = (others : List (List ℕ)) × (named ≡ map (λ r. r.bytes) m ++ others)
+
+-- what is known of the DSDT that is placed: it has its place, and is the first of those that there are
+abbrev IsDsdtOf : List (ℕ × List ℕ) → Option Region → Type 0
+IsDsdtOf found d = DsdtIs d × Begin (bytes_of found) (listed_or d)
 
 dsdt_known : (address : Option ℕ) (found : List (ℕ × List ℕ)) (d : Option Region)
-    → dsdt_at address found ≡ Ok d → DsdtIs d
-dsdt_known address [] d e = subst (λ (o : Option Region). DsdtIs o) (same_ok _ _ e) tt
-dsdt_known None (first ∷ others) d e = subst (λ (o : Option Region). DsdtIs o) (same_ok _ _ e) tt
-dsdt_known (Some a) (first ∷ others) d e =
-    let parts = bind_ok (check_place first.0 (rsdp_place ∷ []) (record { start = a; bytes = first.1 })) _ d e in
-    let place = has_place first.0 (rsdp_place ∷ []) (record { start = a; bytes = first.1 }) parts.0 parts.1 in
-    subst (λ (o : Option Region). DsdtIs o) (only_one _ others d parts.2) place
+    → dsdt_at address found ≡ Ok d → IsDsdtOf found d
+dsdt_known address [] d e = subst (λ (o : Option Region). IsDsdtOf [] o) (same_ok _ _ e) (tt, ([], refl))
+dsdt_known None (first ∷ others) d e =
+    subst (λ (o : Option Region). IsDsdtOf (first ∷ others) o) (same_ok _ _ e)
+    (tt, (bytes_of (first ∷ others), refl))
+dsdt_known (Some a) (first ∷ []) d e =
+    let r : Region = record { start = a; bytes = first.1 } in
+    let parts = bind_ok (check_place first.0 (rsdp_place ∷ []) r) (λ _. unless_second r []) d e in
+    subst (λ (o : Option Region). IsDsdtOf (first ∷ []) o) (same_ok _ _ parts.2)
+    (has_place first.0 (rsdp_place ∷ []) r parts.0 parts.1, ([], refl))
+dsdt_known (Some a) (first ∷ second ∷ others) d e =
+    let r : Region = record { start = a; bytes = first.1 } in
+    let parts = bind_ok (check_place first.0 (rsdp_place ∷ []) r) (λ _. unless_second r (second ∷ others)) d e in
+    let refused : unless_second r (second ∷ others) ≡ Ok d = parts.2 in
+    absurd cc
 
 -- ---- where all lies
 
@@ -194,7 +202,7 @@ module _ (dsdt : Option Region) (listed : List (List ℕ)) (m : Memory) (laid : 
   valid_are right =
       let same = bytes_are dsdt listed m laid in
       let there = each_front (Contains all) laid.tables (listed_or dsdt) (every_in all).1.1 in
-      tables_valid all laid.tables memory there (of_bytes laid.tables (rw same right)) ∙ same
+      tables_valid all laid.tables memory there (rw same right) ∙ same
 
 -- ---- what a call packs
 
@@ -204,7 +212,7 @@ laid_for files = dsdt_at (dsdt_address (bytes_of (entries Listed 0 files))) (ent
 
 record Packs (files : List (Option (List ℕ))) (m : Memory) : Type 0 where
   pub dsdt : Option Region
-  pub known : DsdtIs dsdt
+  pub known : IsDsdtOf (entries Dsdt 0 files) dsdt
   pub laid : IsLaid dsdt (bytes_of (entries Listed 0 files)) m
 
 packs : (files : List (Option (List ℕ))) (m : Memory) → packed_tables files ≡ Ok m → Packs files m
@@ -226,7 +234,7 @@ tables_packed files file bytes e =
     let p = packs files known.all known.packed_is in
     let same = p.laid.all in
     let listed = bytes_of (entries Listed 0 files) in
-    let memory = all_memory p.dsdt listed known.all p.laid p.known
+    let memory = all_memory p.dsdt listed known.all p.laid p.known.0
     (subst (λ (k : Memory). AllBytes k) (sym same) known.bytes) in
     record {
       root = p.laid.root;
@@ -250,10 +258,6 @@ pub names_shown : (names : List (Bor (List ℕ)))
 names_shown [] = refl
 names_shown (n ∷ names) = ap (λ (ls : List (List ℕ)). n.now ∷ ls) (names_shown names)
 
--- these bytes begin with those of the regions
-abbrev Begin : List (List ℕ) → Memory → Type 0
-Begin named m = (others : List (List ℕ)) × (named ≡ map (λ r. r.bytes) m ++ others)
-
 -- files at addresses
 
 ranges_named : (addresses : List ℕ) (files : List (Option (List ℕ)))
@@ -274,23 +278,6 @@ files_named addresses files m e =
 
 -- tables
 
-one_named : (a : ℕ) (first : ℕ × List ℕ) (others : List (ℕ × List ℕ)) (d : Option Region)
-    → unless_second (record { start = a; bytes = first.1 }) others ≡ Ok d
-    → Begin (bytes_of (first ∷ others)) (listed_or d)
-one_named a first [] d e = subst (λ (o : Option Region). Begin (bytes_of (first ∷ [])) (listed_or o))
-    (same_ok _ _ e) ([], refl)
-one_named a first (x ∷ others) d e = absurd cc
-
-dsdt_named : (address : Option ℕ) (found : List (ℕ × List ℕ)) (d : Option Region) → dsdt_at address found ≡ Ok d
-    → Begin (bytes_of found) (listed_or d)
-dsdt_named address [] d e = subst (λ (o : Option Region). Begin [] (listed_or o)) (same_ok _ _ e) ([], refl)
-dsdt_named None (first ∷ others) d e =
-    subst (λ (o : Option Region). Begin (bytes_of (first ∷ others)) (listed_or o)) (same_ok _ _ e)
-    (bytes_of (first ∷ others), refl)
-dsdt_named (Some a) (first ∷ others) d e =
-    let parts = bind_ok (check_place first.0 (rsdp_place ∷ []) (record { start = a; bytes = first.1 })) _ d e in
-    one_named a first others d parts.2
-
 joined : (listed dsdts : List (ℕ × List ℕ)) (tables ds : Memory) → map (λ r. r.bytes) tables ≡ bytes_of listed
     → Begin (bytes_of dsdts) ds → Begin (bytes_of (listed ++ dsdts)) (tables ++ ds)
 joined listed dsdts tables ds same begun = (
@@ -303,16 +290,11 @@ joined listed dsdts tables ds same begun = (
 )
 
 tables_named : (files : List (Option (List ℕ))) (m : Memory) → packed_tables files ≡ Ok m → AreNamed None files m
-unfolding packed_tables
 tables_named files m e =
-    let first = bind_ok (check_tables 0 files) _ m e in
-    let second = bind_ok (dsdt_at (dsdt_address (bytes_of (entries Listed 0 files))) (entries Dsdt 0 files)) _ m
-    first.2 in
-    let laid = laid_is second.0 (bytes_of (entries Listed 0 files)) m second.2 in
-    let begun = dsdt_named _ (entries Dsdt 0 files) second.0 second.1 in
-    subst (λ (k : Memory). AreNamed None files k) laid.all
-    (joined (entries Listed 0 files) (entries Dsdt 0 files) laid.tables (listed_or second.0)
-    (bytes_are second.0 (bytes_of (entries Listed 0 files)) m laid) begun)
+    let p = packs files m e in
+    subst (λ (k : Memory). AreNamed None files k) p.laid.all
+    (joined (entries Listed 0 files) (entries Dsdt 0 files) p.laid.tables (listed_or p.dsdt)
+    (bytes_are p.dsdt (bytes_of (entries Listed 0 files)) m p.laid) p.known.1)
 
 pub are_named : (addresses : Option (List ℕ)) (files : List (Option (List ℕ))) (m : Memory)
     → packed_by addresses files ≡ Ok m → AreNamed addresses files m

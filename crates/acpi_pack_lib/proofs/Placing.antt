@@ -1,12 +1,12 @@
 -- Where files are placed, how many are of a role, and that what is packed is a memory whose valid tables they are.
 use Rattle.std.proofs.lemmas.Bool.{cond_both}
 use Rattle.std.proofs.lemmas.Option.{cond_some}
-use Rattle.std.proofs.Common.{◌-◌, ◌≡◌, ℕ, zero, suc, ◌+◌, ◌<◌, ◌≤◌, List, [], ◌∷◌, ◌++◌, length, drop, take, get_or, drop-cons, add-one, Ok, refl, ap, arith, inl, inr, Bool, true, false, if◌then◌else◌, ◌%◌, ◌^◌, map, Some, None, Result, sym, ◌∙◌, subst, Option, min, ◌⊎◌, nat_le, nat_lt, ◌||◌, flat_map, zip, Contains}
+use Rattle.std.proofs.Common.{◌-◌, ◌≡◌, ℕ, zero, suc, ◌+◌, ◌<◌, ◌≤◌, List, [], ◌∷◌, ◌++◌, length, drop, take, get_or, drop-cons, add-one, Ok, refl, ap, arith, inl, inr, ◌%◌, ◌^◌, map, Some, None, Result, sym, ◌∙◌, subst, Option, min, ◌⊎◌, nat_le, ◌||◌, flat_map, zip, Contains}
 use Rattle.acpi_base.specs.FromStd.{Bor, list_any, AllByRecursion}
-use Rattle.acpi_base.proofs.FromStd.{drop_of_length-le, cases_lt, nat_tests, leb-false, leb-true, ltb-true, or_cases, or_parts, and_parts, drop-map, take_rest, length-map, append-nil, append_assoc}
+use Rattle.acpi_base.proofs.FromStd.{drop_of_length-le, cases_lt, nat_tests, leb-false, leb-true, ltb-true, or_cases, or_parts, drop-map, take_rest, length-map, append-nil, append_assoc}
 use Rattle.acpi_image_reader.specs.Words.{share, shares_any, IsImage, record_spelling}
 use Rattle.acpi_base.specs.Words.{Memory, Region, end_of, AreApart, IsMemory, ◌>>=◌, IsBytes, own_table_at}
-use Rattle.acpi_pack_lib.specs.Words.{content, contents, region_at, check_place, check_places, regions, file_of, bytes_in, entries, is_of, listed, FileRole, Listed, ArePlaced, IsPlaced, aligned, place_at, place_or, placed_from, start_at, Refusal, IsMemoryFile, IsRight}
+use Rattle.acpi_pack_lib.specs.Words.{content, contents, region_at, check_place, check_places, regions, file_of, bytes_in, entries, listed, FileRole, Listed, ArePlaced, IsPlaced, aligned, place_at, place_or, placed_from, start_at, Refusal, IsMemoryFile, IsRight}
 use Rattle.acpi_cli.specs.Reads.{contents_of, read_of}
 use Rattle.acpi_cli.specs.declared.files.Reading.{Reading}
 use Rattle.acpi_base.proofs.Words.{bind_ok, holds_ok, same_ok}
@@ -148,7 +148,7 @@ given fixed from count =
     })
     (λ taken. record {
       behind =
-          let short = leb-false _ _ (or_parts _ _ taken).1 in
+          let short : aligned from < end_of fixed = leb-false _ _ (or_parts _ _ taken).1 in
           omega (arith, above from, above (end_of fixed));
       even = even (end_of fixed);
       apart = inr (above (end_of fixed));
@@ -309,7 +309,7 @@ files_packed addresses files file x bytes placed image =
 -- ---- valid tables
 
 pub tables_valid : (m ts : Memory) → IsMemory m → AllByRecursion (Contains m) ts
-    → AllByRecursion (λ t. IsRight t.bytes) ts
+    → AllByRecursion IsRight (map (λ t. t.bytes) ts)
     → valid_tables m (starts_of ts) ≡ map (λ t. t.bytes) ts
 tables_valid m [] h within all = refl
 tables_valid m (t ∷ ts) h within all =

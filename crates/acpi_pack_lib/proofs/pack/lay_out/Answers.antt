@@ -1,11 +1,11 @@
 -- Why tables are not laid out.
-use Rattle.std.proofs.Common.{◌≡◌, ℕ, ◌+◌, ◌^◌, ◌<◌, true, List, length, Some, Result, Ok, Err, refl, sym, ◌∙◌, inl, inr, ap, ◌≢◌, IfErr, IsErrAnd, IsOk, Option, nat_lt}
+use Rattle.std.proofs.Common.{◌≡◌, ℕ, ◌+◌, ◌^◌, ◌<◌, List, length, Some, Result, Ok, Err, refl, sym, ◌∙◌, inl, inr, ap, ◌≢◌, IfErr, IsErrAnd, IsOk, Option}
 use Rattle.acpi_base.proofs.FromStd.{lt-ltb}
 use Rattle.acpi.specs.declared.root.RootKind.TheVariants.{Xsdt}
 use Rattle.acpi_base.proofs.Words.{bind_ok}
 use Rattle.acpi_base.specs.Words.{Memory, Region, ◌>>=◌}
 use Rattle.acpi_image.specs.Words.{root_length}
-use Rattle.acpi_pack_lib.specs.Words.{RefusesOrRunsOut, all_regions, first_address, fixed_of, laid_out, place_at, placed_from, room, Refusal, contents}
+use Rattle.acpi_pack_lib.specs.Words.{RefusesOrRunsOut, all_regions, first_address, fixed_of, laid_out, place_at, placed_from, room, Refusal, contents, entries, listed, Listed}
 use Rattle.acpi_pack_lib.specs.declared.error.Refusal.TheVariants as refusal
 use Rattle.acpi_pack_lib.proofs.Placing.{listed_length}
 use Rattle.acpi_pack_lib.proofs.pack.lay_out.Goals as goal
@@ -37,34 +37,38 @@ room_fails : (r : Result Memory Refusal) (e : Refusal) → (r >>= λ _. checked)
 room_fails (Ok m) e fails = absurd cc
 room_fails (Err d) e fails = cc
 
-module _ (dsdt : Option Region) (fixed : Region) (tables : List (List ℕ)) (count root : ℕ)
-    (fixed_is : fixed ≡ fixed_of dsdt) (count_is : count ≡ root_length Xsdt (length tables))
-    (low : count < 2 ^ 32) (there : place_at fixed first_address count ≡ Some root) where
+module _ (dsdt : Option Region) (fixed : Region) (files : List (Option (List ℕ))) (n count root : ℕ) (found : Option ℕ)
+    (fixed_is : fixed ≡ fixed_of dsdt) (n_is : n ≡ length (entries Listed 0 files)) (count_is : count ≡ root_length Xsdt n)
+    (low : count < 2 ^ 32) (found_is : found ≡ place_at fixed first_address count) (there : found ≡ Some root) where
+  abbrev tables : List (List ℕ)
+  tables = listed files
+
   abbrev behind_root : ℕ
   behind_root = root + root_length Xsdt (length tables)
 
-  short : nat_lt (root_length Xsdt (length tables)) (2 ^ 32) ≡ true
-  short = lt-ltb _ _ (rw count_is at low)
+  counted : count ≡ root_length Xsdt (length tables)
+  counted = count_is ∙ ap (root_length Xsdt) (n_is ∙ sym (listed_length files))
 
   laid : laid_out dsdt tables ≡ (placed_from (fixed_of dsdt) behind_root tables >>= λ placed.
       done (all_regions root placed dsdt))
   unfolding laid_out
   laid =
+      let short = lt-ltb _ _ (rw counted at low) in
       let lies : place_at (fixed_of dsdt) first_address (root_length Xsdt (length tables)) ≡ Some root =
-      rw (fixed_is, count_is) at there in
+      rw (fixed_is, counted) at (sym found_is ∙ there) in
       rw (short, lies) refl
 
   no_room : (e : Refusal) → room fixed (root + count) tables ≡ Err e → RefusesOrRunsOut (laid_out dsdt tables) e
   no_room e fails =
       let why : placed_from (fixed_of dsdt) behind_root tables ≡ Err e =
-      room_fails _ e (rw (fixed_is, count_is) at fails) in
+      room_fails _ e (rw (fixed_is, counted) at fails) in
       inl (laid ∙ rw why refl)
 
   module _ (x : Unit {0}) (passed : room fixed (root + count) tables ≡ Ok x) where
     all : (m : Memory) × (placed_from (fixed_of dsdt) behind_root tables ≡ Ok m)
     all =
         let parts = bind_ok (placed_from (fixed_of dsdt) behind_root tables) (λ _. checked) x
-        (rw (fixed_is, count_is) at passed) in
+        (rw (fixed_is, counted) at passed) in
         (parts.0, parts.1)
 
     has_room : IsOk (laid_out dsdt tables)
@@ -77,33 +81,25 @@ module _ (dsdt : Option Region) (fixed : Region) (tables : List (List ℕ)) (cou
         → RefusesOrRunsOut (laid_out dsdt tables) e
     not_placed e named =
         out_of_memory e (only_memory e (placed_from (fixed_of dsdt) behind_root tables) all.0 all.1
-        (λ other. rw (fixed_is, count_is) at (named other)))
+        (λ other. rw (fixed_is, counted) at (named other)))
 
 pub returns-in_err-check_room-clause-refused : goal.returns-in_err-check_room-clause-refused
 returns-in_err-check_room-clause-refused c =
-    let long = c.in-Some.ensures.there ∙ ap (root_length Xsdt) (c.listed_count.ensures
-    ∙ sym (listed_length (contents c.args.files.now))) in
-    let there = sym c.place_one.ensures.value ∙ c.in-Some-place_one.is in
     refuses _ _ _ c.from_residual.ensures.1
-    (no_room _ _ _ _ _ c.fixed_of-fixed.ensures long c.in-Some.ensures.low there _
+    (no_room _ _ (contents c.args.files.now) _ _ _ _ c.fixed_of-fixed.ensures c.listed_count.ensures
+    c.in-Some.ensures.there c.in-Some.ensures.low c.place_one.ensures.value c.in-Some-place_one.is _
     (sym c.check_room.ensures ∙ c.in_err-check_room.was))
 
 pub returns-in_err-tables-clause-refused : goal.returns-in_err-tables-clause-refused
 returns-in_err-tables-clause-refused c =
-    let long = c.in-Some.ensures.there ∙ ap (root_length Xsdt) (c.listed_count.ensures
-    ∙ sym (listed_length (contents c.args.files.now))) in
-    let there = sym c.place_one.ensures.value ∙ c.in-Some-place_one.is in
-    let room = sym c.check_room.ensures ∙ c.in_ok-check_room.was in
     refuses _ _ _ c.from_residual-in_err-tables.ensures.1
-    (not_placed _ _ _ _ _ c.fixed_of-fixed.ensures long c.in-Some.ensures.low there _ room _
-    c.in_err-tables.ensures.refused)
+    (not_placed _ _ (contents c.args.files.now) _ _ _ _ c.fixed_of-fixed.ensures c.listed_count.ensures
+    c.in-Some.ensures.there c.in-Some.ensures.low c.place_one.ensures.value c.in-Some-place_one.is _
+    (sym c.check_room.ensures ∙ c.in_ok-check_room.was) _ c.in_err-tables.ensures.refused)
 
 pub returns-in_err-put_all-clause-refused : goal.returns-in_err-put_all-clause-refused
 returns-in_err-put_all-clause-refused c =
-    let long = c.in-Some.ensures.there ∙ ap (root_length Xsdt) (c.listed_count.ensures
-    ∙ sym (listed_length (contents c.args.files.now))) in
-    let there = sym c.place_one.ensures.value ∙ c.in-Some-place_one.is in
-    let room = sym c.check_room.ensures ∙ c.in_ok-check_room.was in
     refuses _ _ _ c.from_residual-in_err-put_all.ensures.1
-    (out_of_memory _ _ _ _ _ c.fixed_of-fixed.ensures long c.in-Some.ensures.low there _ room _
-    c.in_err-put_all.ensures.refused)
+    (out_of_memory _ _ (contents c.args.files.now) _ _ _ _ c.fixed_of-fixed.ensures c.listed_count.ensures
+    c.in-Some.ensures.there c.in-Some.ensures.low c.place_one.ensures.value c.in-Some-place_one.is _
+    (sym c.check_room.ensures ∙ c.in_ok-check_room.was) _ c.in_err-put_all.ensures.refused)

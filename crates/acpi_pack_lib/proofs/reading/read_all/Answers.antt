@@ -52,13 +52,6 @@ next_name names i n before now after inside until grown =
     (drop_more names i n inside) until)
     grown
 
-all_names : (names : List (Bor (List ℕ))) (i : ℕ) (before after : List FileRead)
-    → length names ≤ i → AsksUntil (map (λ n. n.now) (drop i names)) (map (λ n. n.now) names) before after
-    → Asks (map (λ n. n.now) names) before after
-all_names names i before after over until = all_asked (map (λ n. n.now) names) before after
-    (subst (λ left. AsksUntil (map (λ n. n.now) left) (map (λ n. n.now) names) before after)
-    (drop_of_length-le names over) until)
-
 pub loop-name-init : goal.loop-name-init
 loop-name-init g c = none_asked _ _
 
@@ -70,4 +63,5 @@ loop-name-preserved g c =
 pub returns-clause-asked : goal.returns-clause-asked
 returns-clause-asked g c =
     let over : length c.args.names.now ≤ c.loop-name.name-index = omega (arith, c.loop-name-test.false) in
-    all_names c.args.names.now c.loop-name.name-index _ _ over c.loop-name.invariant
+    all_asked (map (λ n. n.now) c.args.names.now) _ _
+    (rw (drop_of_length-le c.args.names.now over) at c.loop-name.invariant)
