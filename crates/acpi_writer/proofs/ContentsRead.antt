@@ -1,21 +1,21 @@
 -- The tables that an XSDT lists, as they are written, and what a reader says of them where a lookup finds the first of
 -- each signature.
-use Rattle.std.proofs.Common.{◌≡◌, ℕ, ◌+◌, ◌*◌, ◌<◌, ◌≤◌, Bool, true, false, List, [], ◌∷◌, length, map, Option, Some, None, Ok, refl, sym, ap, subst, if◌then◌else◌, Result, arith, lit≤, length-append, ◌&&◌, slice_get, bytes_eq}
-use Rattle.acpi_base.specs.FromStd.{AllByRecursion, is_utf8}
+use Rattle.std.proofs.Common.{◌≡◌, ℕ, ◌+◌, ◌*◌, ◌<◌, ◌≤◌, Bool, true, false, List, [], ◌∷◌, length, map, Option, Some, None, Ok, refl, sym, ap, subst, if◌then◌else◌, Result, arith, ◌&&◌, slice_get, bytes_eq}
+use Rattle.acpi_base.specs.FromStd.{AllByRecursion, chars, is_utf8}
 use Rattle.acpi_base.proofs.FromStd.{and_parts, le-leb, bytes_eq-Decides}
-use Rattle.acpi_base.proofs.Words.{bind_ok, length-spelling}
+use Rattle.acpi_base.proofs.Words.{bind_ok}
 use Rattle.acpi_base.specs.Words.{part, spelling, check_names, check_table, header_at, ◌>>=◌, holds, letters_of, Memory, sdt_kind}
 use Rattle.acpi.specs.Types.{Signature, BGRT, FADT, GTDT, HPET, MADT, MCFG, SLIT, SPCR, SRAT, SSDT, AcpiError}
-use Rattle.acpi_writer.specs.Words.{IsBgrt, bgrt_body, SaysImage, FitsContents, bytes_of, contents_written, most, or_none, placed, signature_of, fadt_body, fadt_checked, fadt_written, fixed_of, IsFadt, IsGicMadt, gic_body, gic_checked, gic_written, gic_read, IsGtdt, gtdt_body, gtdt_checked, SaysTimers, hpet_body, IsHpet, is_named, check_tables, AreValid, first_at, first_of, place_of, HasFadt, HasTable, Says, platform_read, madt_body, madt_checked, madt_entries, madt_fixed, madt_written, IsMadt, model_read, mcfg_body, IsMcfg, IsSlit, slit_body, slit_checked, slit_written, spcr_body, spcr_checked, spcr_written, IsSpcr, SaysConsole, SratContents, srat_body, srat_checked, srat_entries, srat_reserved, srat_written, AreIds, IsTableOf, IsValid, table_written, TableContents, Bgrt, Fadt, GicMadt, Gtdt, Hpet, Madt, Mcfg, Slit, Spcr, Srat, Ssdt, WriterError, FadtContents, GtdtContents, TableIds, GicContents, MadtContents, SpcrContents, IsSrat, SaysDomains, BgrtContents, SlitContents, gtdt_written_by}
-use Rattle.acpi_writer.proofs.ShortTables.{bgrt_long, bgrt_name, bgrt_read, bgrt_valid, hpet_long, hpet_name, hpet_read, hpet_valid, mcfg_name, mcfg_read, mcfg_valid, slit_is, slit_name, slit_read, slit_valid, ssdt_read}
-use Rattle.acpi_writer.proofs.FadtRead.{fadt_name, fadt_read, fadt_valid, body_long}
-use Rattle.acpi_writer.proofs.GicRead.{gic_madt_is, gic_madt_valid, entry_bytes, gic_madt_read}
-use Rattle.acpi_writer.proofs.GtdtRead.{gtdt_valid}
+use Rattle.acpi_writer.specs.Words.{IsBgrt, bgrt_body, SaysImage, FitsContents, bytes_of, contents_written, most, or_none, placed, signature_of, fadt_body, fadt_checked, fadt_written, IsFadt, IsGicMadt, gic_body, gic_checked, gic_written, gic_read, IsGtdt, gtdt_body, gtdt_checked, SaysTimers, hpet_body, IsHpet, is_named, check_tables, AreValid, first_at, first_of, place_of, HasFadt, HasTable, Says, platform_read, madt_body, madt_checked, madt_written, IsMadt, model_read, mcfg_body, IsMcfg, IsSlit, slit_body, slit_checked, slit_written, spcr_body, spcr_checked, spcr_written, IsSpcr, SaysConsole, SratContents, srat_body, srat_checked, srat_written, AreIds, IsTableOf, IsValid, table_written, TableContents, Bgrt, Fadt, GicMadt, Gtdt, Hpet, Madt, Mcfg, Slit, Spcr, Srat, Ssdt, WriterError, FadtContents, GtdtContents, TableIds, GicContents, MadtContents, SpcrContents, IsSrat, SaysDomains, BgrtContents, SlitContents, gtdt_written_by, madt_fields, hpet_fields, front_fields, fixed_list, bgrt_fields, gtdt_fields}
+use Rattle.acpi_writer.proofs.ShortTables.{bgrt_read, hpet_read, mcfg_read, slit_is, slit_read}
+use Rattle.acpi_writer.proofs.FadtRead.{fadt_read}
+use Rattle.acpi_writer.proofs.GicRead.{gic_madt_is, gic_madt_read}
+use Rattle.acpi_writer.proofs.GtdtRead.{gtdt_read}
 use Rattle.acpi_writer.proofs.LaidRead.{holds_only, platform_has}
-use Rattle.acpi_writer.proofs.MadtRead.{fixed_long, madt_is, madt_name, madt_read, madt_valid}
+use Rattle.acpi_writer.proofs.MadtRead.{madt_is, madt_read}
 use Rattle.acpi_writer.proofs.Sized.{wrote}
-use Rattle.acpi_writer.proofs.SpcrRead.{spcr_valid}
-use Rattle.acpi_writer.proofs.SratRead.{srat_is, srat_name, srat_read, srat_valid}
+use Rattle.acpi_writer.proofs.SpcrRead.{spcr_read}
+use Rattle.acpi_writer.proofs.SratRead.{srat_is, srat_read}
 use Rattle.acpi.specs.Words.{hpet_of, lookup, found_regions, model_in, platform_of}
 use Rattle.acpi_writer.specs.Types.{HpetInfo}
 use Rattle.acpi_arm.specs.Gic.{found_gic}
@@ -23,8 +23,6 @@ use Rattle.acpi_arm.specs.Gtdt.{gtdt_kind}
 use Rattle.acpi_fixed.specs.Words.{bgrt_at}
 use Rattle.acpi_numa.specs.Words.{srat_kind, distance_of}
 use Rattle.acpi_writer.specs.SratLaws as srat
-use Rattle.acpi_writer.proofs.GtdtRead as gtdt
-use Rattle.acpi_writer.proofs.SpcrRead as spcr
 use Rattle.acpi_writer.proofs.Tables as table
 
 abbrev some : TableContents → Option TableContents
@@ -99,17 +97,46 @@ contents_of ids (GicMadt c) t are fit e =
     gic_madt_is ids c t both.0 fit both.1
 
 valid_of : (ids : TableIds) (c : TableContents) (t : List ℕ) → IsContents ids c t → IsValid (signature_of c) t
-valid_of ids (Madt c) t is = madt_valid ids c t is
-valid_of ids (Mcfg regions) t is = mcfg_valid ids regions.now t is
-valid_of ids (Hpet info) t is = hpet_valid ids info t is
-valid_of ids (Slit c) t is = slit_valid ids c.localities c.distances.now t is
-valid_of ids (Ssdt c) t is = (ssdt_read c.revision ids c.bytes.now t is).valid
-valid_of ids (Fadt c) t is = fadt_valid ids c t is
-valid_of ids (Srat c) t is = srat_valid ids c t is
-valid_of ids (Spcr c) t is = spcr_valid ids c t is
-valid_of ids (Bgrt c) t is = bgrt_valid ids c t is
-valid_of ids (Gtdt c) t is = gtdt_valid ids c t is
-valid_of ids (GicMadt c) t is = gic_madt_valid ids c t is
+unfolding is_utf8 chars lib.Utf8.encode
+valid_of ids (Madt c) t is = table.valid refl is.written refl
+valid_of ids (Mcfg regions) t is = table.valid refl is.written refl
+valid_of ids (Hpet info) t is = table.valid refl is.written refl
+valid_of ids (Slit c) t is = table.valid refl is.written refl
+valid_of ids (Ssdt c) t is = table.valid refl is refl
+valid_of ids (Fadt c) t is = table.valid refl is.written refl
+valid_of ids (Srat c) t is = table.valid refl is.written refl
+valid_of ids (Spcr c) t is = table.valid refl is.written refl
+valid_of ids (Bgrt c) t is = table.valid refl is.written refl
+valid_of ids (Gtdt c) t is = table.valid refl is.written refl
+valid_of ids (GicMadt c) t is = table.valid refl is.written refl
+
+-- the bytes after a header that a reader asks for
+abbrev asked : TableContents → ℕ
+asked (Madt c) = 8
+asked (Mcfg regions) = 8
+asked (Hpet info) = 20
+asked (Slit c) = 8
+asked (Ssdt c) = 0
+asked (Fadt c) = 80
+asked (Srat c) = 12
+asked (Spcr c) = 44
+asked (Bgrt c) = 20
+asked (Gtdt c) = 60
+asked (GicMadt c) = 8
+
+long_enough : (ids : TableIds) (c : TableContents) (t : List ℕ) → IsContents ids c t → 36 + asked c ≤ length t
+unfolding madt_fields hpet_fields front_fields fixed_list bgrt_fields gtdt_fields spelling
+long_enough ids (Madt c) t is = omega (arith, table.long refl is.written)
+long_enough ids (Mcfg regions) t is = omega (arith, table.long refl is.written)
+long_enough ids (Hpet info) t is = omega (arith, table.long refl is.written)
+long_enough ids (Slit c) t is = omega (arith, table.long refl is.written)
+long_enough ids (Ssdt c) t is = omega (arith, table.long refl is)
+long_enough ids (Fadt c) t is = omega (arith, table.long refl is.written)
+long_enough ids (Srat c) t is = omega (arith, table.long refl is.written)
+long_enough ids (Spcr c) t is = omega (arith, table.long refl is.written)
+long_enough ids (Bgrt c) t is = omega (arith, table.long refl is.written)
+long_enough ids (Gtdt c) t is = omega (arith, table.long refl is.written)
+long_enough ids (GicMadt c) t is = omega (arith, table.long refl is.written)
 
 -- ---- all of them
 
@@ -186,55 +213,39 @@ module _
     (all : AllByRecursion (λ c. IsContents ids c (bytes_of ids c)) cs)
     (found : (s : Signature) (c : TableContents) (least : ℕ) → first_of s cs ≡ Some c → 36 ≤ least
     → least ≤ length (bytes_of ids c) → lookup m (sdt_kind s least) ps ≡ Ok (place s, bytes_of ids c)) where
-  abbrev written : (s : Signature) (c : TableContents) → first_of s cs ≡ Some c → IsContents ids c (bytes_of ids c)
-  written s c is_first = first_is ids s c cs all is_first
+  first_read : (s : Signature) (c : TableContents) → first_of s cs ≡ Some c
+      → (lookup m (sdt_kind s (36 + asked c)) ps ≡ Ok (place s, bytes_of ids c)) × IsContents ids c (bytes_of ids c)
+  first_read s c is_first =
+      let this = first_is ids s c cs all is_first in
+      (found s c (36 + asked c) is_first (omega arith) (long_enough ids c (bytes_of ids c) this), this)
 
   pub fadt_found : (c : FadtContents) → first_of FADT cs ≡ Some (Fadt c) → HasFadt m ps c
   fadt_found c is_first =
-      let t = bytes_of ids (Fadt c) in
-      let this : IsFadt ids c t = written FADT (Fadt c) is_first in
-      let long = table.long FADT fadt_name 6 ids (fadt_body c) t this.written in (
-        (place FADT, t),
-        found FADT (Fadt c) 116 is_first (lit≤ tt)
-            (omega (arith, long, body_long c (fixed_of c.hardware))),
-        fadt_read ids c t this,
-      )
+      let f = first_read FADT (Fadt c) is_first in
+      ((place FADT, bytes_of ids (Fadt c)), f.0, fadt_read ids c _ f.1)
 
   model : {A : Type 0} (c : MadtContents) → first_of MADT cs ≡ Some (Madt c) → model_in {A = A} m ps ≡ Ok (model_read c)
   model {A = A} c is_first =
-      let this : IsMadt ids c (bytes_of ids (Madt c)) = written MADT (Madt c) is_first in
-      let size = length-append (madt_fixed c.local_apic_address c.also_has_legacy_pics) (madt_entries c) in
-      let long = table.long MADT madt_name 5 ids (madt_body c) (bytes_of ids (Madt c)) this.written in
-      let there = found MADT (Madt c) 44 is_first (lit≤ tt)
-      (omega (arith, long, size, fixed_long c.local_apic_address c.also_has_legacy_pics)) in
-      rw there (madt_read {A = A} ids c (bytes_of ids (Madt c)) this)
+      let f = first_read MADT (Madt c) is_first in
+      rw f.0 (madt_read {A = A} ids c _ f.1)
 
   regions : (es : _) → first_of MCFG cs ≡ Some (Mcfg es) → found_regions m ps ≡ Ok es.now
   regions es is_first =
-      let this : IsMcfg ids es.now (bytes_of ids (Mcfg es)) = written MCFG (Mcfg es) is_first in
-      let long = table.long MCFG mcfg_name 1 ids (mcfg_body es.now) (bytes_of ids (Mcfg es)) this.written in
-      let there = found MCFG (Mcfg es) 44 is_first (lit≤ tt) (omega (arith, long)) in
-      rw (there, mcfg_read ids es.now (bytes_of ids (Mcfg es)) this) refl
+      let f = first_read MCFG (Mcfg es) is_first in
+      rw (f.0, mcfg_read ids es.now _ f.1) refl
 
   hpet : (i : HpetInfo) → first_of HPET cs ≡ Some (Hpet i) → hpet_of m ps ≡ Ok i
   hpet i is_first =
-      let this : IsHpet ids i (bytes_of ids (Hpet i)) = written HPET (Hpet i) is_first in
-      let long = table.long HPET hpet_name 1 ids (hpet_body i) (bytes_of ids (Hpet i)) this.written in
-      let there = found HPET (Hpet i) 56 is_first (lit≤ tt) (omega (arith, long, hpet_long i)) in
-      rw there (hpet_read ids i (bytes_of ids (Hpet i)) this)
+      let f = first_read HPET (Hpet i) is_first in
+      rw f.0 (hpet_read ids i _ f.1)
 
   distances : (c : SlitContents) (from to : ℕ) → first_of SLIT cs ≡ Some (Slit c) → from < c.localities
       → to < c.localities
       → (lookup m (sdt_kind SLIT 44) ps >>= λ found. one_distance (distance_of found.1 from to))
       ≡ Ok (slice_get c.distances.now (from * c.localities + to))
   distances c from to is_first less below =
-      let this : IsSlit ids c.localities c.distances.now (bytes_of ids (Slit c)) = written SLIT (Slit c) is_first in
-      let long = table.long SLIT slit_name 1 ids (slit_body c.localities c.distances.now) (bytes_of ids (Slit c))
-      this.written in
-      let size = length-append (spelling 8 c.localities) c.distances.now in
-      let there = found SLIT (Slit c) 44 is_first (lit≤ tt)
-      (omega (arith, long, size, length-spelling 8 c.localities)) in
-      rw (there, slit_read ids c.localities c.distances.now (bytes_of ids (Slit c)) this from to less below) refl
+      let f = first_read SLIT (Slit c) is_first in
+      rw (f.0, slit_read ids c.localities c.distances.now _ f.1 from to less below) refl
 
   platform_found : {A : Type 0} (c : FadtContents) (d : MadtContents) → first_of FADT cs ≡ Some (Fadt c)
       → first_of MADT cs ≡ Some (Madt d)
@@ -245,55 +256,30 @@ module _
 
   domains : (c : SratContents) → first_of SRAT cs ≡ Some (Srat c) → HasTable m ps srat_kind (SaysDomains c)
   domains c is_first =
-      let t = bytes_of ids (Srat c) in
-      let this : IsSrat ids c t = written SRAT (Srat c) is_first in
-      let long = table.long SRAT srat_name 3 ids (srat_body c) t this.written in (
-        (place SRAT, t),
-        found SRAT (Srat c) 48 is_first (lit≤ tt)
-            (omega (arith, long, length-append srat_reserved (srat_entries c))),
-        srat_read ids c t this,
-      )
+      let f = first_read SRAT (Srat c) is_first in
+      ((place SRAT, bytes_of ids (Srat c)), f.0, srat_read ids c _ f.1)
 
   console : (c : SpcrContents) → first_of SPCR cs ≡ Some (Spcr c) → HasTable m ps (sdt_kind SPCR 80) (SaysConsole c)
   console c is_first =
-      let t = bytes_of ids (Spcr c) in
-      let this : IsSpcr ids c t = written SPCR (Spcr c) is_first in
-      let long = table.long SPCR spcr.spcr_name 4 ids (spcr_body c) t this.written in (
-        (place SPCR, t),
-        found SPCR (Spcr c) 80 is_first (lit≤ tt) (omega (arith, long, spcr.body_long c)),
-        spcr.spcr_read ids c t this,
-      )
+      let f = first_read SPCR (Spcr c) is_first in
+      ((place SPCR, bytes_of ids (Spcr c)), f.0, spcr_read ids c _ f.1)
 
   image : (c : BgrtContents) → first_of BGRT cs ≡ Some (Bgrt c)
       → HasTable m ps (sdt_kind BGRT 56) (λ t. SaysImage c (bgrt_at t))
   image c is_first =
-      let t = bytes_of ids (Bgrt c) in
-      let this : IsBgrt ids c t = written BGRT (Bgrt c) is_first in
-      let long = table.long BGRT bgrt_name 1 ids (bgrt_body c) t this.written in (
-        (place BGRT, t),
-        found BGRT (Bgrt c) 56 is_first (lit≤ tt) (omega (arith, long, bgrt_long c)),
-        bgrt_read ids c t this,
-      )
+      let f = first_read BGRT (Bgrt c) is_first in
+      ((place BGRT, bytes_of ids (Bgrt c)), f.0, bgrt_read ids c _ f.1)
 
   timers : (c : GtdtContents) → first_of GTDT cs ≡ Some (Gtdt c) → HasTable m ps gtdt_kind (SaysTimers c)
   timers c is_first =
-      let t = bytes_of ids (Gtdt c) in
-      let this : IsGtdt ids c t = written GTDT (Gtdt c) is_first in
-      let long = table.long GTDT gtdt.gtdt_name 3 ids (gtdt_body c) t this.written in (
-        (place GTDT, t),
-        found GTDT (Gtdt c) 96 is_first (lit≤ tt) (omega (arith, long, gtdt.body_long c)),
-        gtdt.gtdt_read ids c t this,
-      )
+      let f = first_read GTDT (Gtdt c) is_first in
+      ((place GTDT, bytes_of ids (Gtdt c)), f.0, gtdt_read ids c _ f.1)
 
   gic : {A : Type 0} (c : GicContents) → first_of MADT cs ≡ Some (GicMadt c)
       → found_gic {A = A} m ps ≡ Ok (Some (gic_read c))
   gic {A = A} c is_first =
-      let t = bytes_of ids (GicMadt c) in
-      let this : IsGicMadt ids c t = written MADT (GicMadt c) is_first in
-      let size = length-append (madt_fixed 0 false) (entry_bytes c) in
-      let long = table.long MADT madt_name 6 ids (gic_body c) t this.written in
-      let there = found MADT (GicMadt c) 44 is_first (lit≤ tt) (omega (arith, long, size, fixed_long 0 false)) in
-      rw there (gic_madt_read {A = A} ids c t this)
+      let f = first_read MADT (GicMadt c) is_first in
+      rw f.0 (gic_madt_read {A = A} ids c _ f.1)
 
   pub says : {A : Type 0} → Says A m ps cs
   says {A = A} = record {

@@ -1,27 +1,19 @@
 -- What a reader finds in a FADT that is written, and when one is.
 use Rattle.std.proofs.Common.{◌≡◌, ℕ, zero, suc, ◌+◌, ◌*◌, ◌<◌, true, false, List, [], ◌∷◌, ◌++◌, length, take, drop, get_or, Option, Some, None, Ok, refl, sym, ap, ◌∙◌, arith, lit<, append_assoc, length-append, ◌==◌, nat_le, flat_map, replicate, ok_or, option_map}
-use Rattle.acpi_base.specs.FromStd.{AllByRecursion, chars, is_utf8, list_all}
+use Rattle.acpi_base.specs.FromStd.{AllByRecursion, list_all}
 use Rattle.acpi_base.proofs.FromStd.{and_parts, drop-drop, drop_at, take_at}
 use Rattle.acpi.specs.Words.{timer_of}
 use Rattle.acpi_base.specs.Words.{generic_address_of, has_bit, field_of, filled_part, part, spelling, header_at}
-use Rattle.acpi.specs.Types.{GenericAddress, AcpiError, InvalidDsdtAddress, InvalidFacsAddress, FADT, Fadt}
+use Rattle.acpi.specs.Types.{GenericAddress, AcpiError, InvalidDsdtAddress, InvalidFacsAddress, Fadt}
 use Rattle.acpi_fixed.proofs.Profiles.{profile_read}
 use Rattle.acpi_fixed.specs.Words.{fadt_at, is_profile, pm_timer_of, profile_for, feature_bits, gpe_of, address_or, block_at, extended_address, extended_number, has_extended, optional_block_of, register_of, timer_block_of}
-use Rattle.acpi_writer.specs.Words.{address_or_zero, are_blocks, are_placed, arm_flags, body_with, bytes_wide, fadt_body, feature_flags, fixed_of, front_fields, gpe_register, has_address, narrow, pc_flags, registers, wide_fields, AreFitFor, FadtIsRead, FadtIsValid, HasFields, HasFlags, HasHardware, HasLegacy, HasNeededBlocks, IsFadt, field_at, field_bytes, field_size, field_value, fields_bytes, offset_of, FitsRegister, is_register, register_bytes, FadtContents, FadtHardware, Fixed, Reduced, FixedHardware, TableIds, BadProfile, NoAddress, are_registers, is_block, optional_blocks}
+use Rattle.acpi_writer.specs.Words.{address_or_zero, are_blocks, are_placed, arm_flags, body_with, bytes_wide, fadt_body, feature_flags, fixed_of, front_fields, gpe_register, has_address, narrow, pc_flags, registers, wide_fields, AreFitFor, FadtIsRead, HasFields, HasFlags, HasHardware, HasLegacy, HasNeededBlocks, IsFadt, field_at, field_bytes, field_size, field_value, fields_bytes, offset_of, FitsRegister, is_register, register_bytes, FadtContents, FadtHardware, Fixed, Reduced, FixedHardware, TableIds, BadProfile, NoAddress, are_registers, is_block, optional_blocks}
 use Rattle.acpi_writer.specs.FadtLaws.{IsReadAs}
 use Rattle.acpi_base.proofs.Words.{holds_ok}
 use Rattle.acpi_writer.proofs.Bits.{flags_read, is_off, was_true}
 use Rattle.acpi_writer.proofs.FieldsRead.{part_in, part_of, read_in}
-use Rattle.acpi_writer.proofs.Tables.{ids_are_read}
 use Rattle.acpi_writer.proofs.RegisterRead.{block_is, block_read, filled_12, given_read, gpe_read, made, optional_read, register_long, register_read, timer_read}
 use Rattle.acpi_writer.proofs.Tables as table
-
-pub fadt_name : table.IsName FADT
-unfolding is_utf8 chars lib.Utf8.encode
-fadt_name = record { a = _; b = _; c = _; d = _; letters = refl; text = refl; same = refl }
-
-pub fadt_valid : FadtIsValid
-fadt_valid ids c t is = table.valid FADT fadt_name 6 ids (fadt_body c) t is.written
 
 -- ---- values
 
@@ -278,16 +270,14 @@ module _ (ids : TableIds) (c : FadtContents) (t : List ℕ) (is : IsFadt ids c t
       (one.0, two.0, was_true _ _ two.1)
 
   abbrev from36 : drop 36 t ≡ fadt_body c
-  from36 = table.rest FADT fadt_name 6 ids (fadt_body c) t is.written
+  from36 = table.rest refl is.written
 
   long_is : length t ≡ 276
-  long_is = table.long FADT fadt_name 6 ids (fadt_body c) t is.written
-      ∙ ap (λ n. 36 + n) (body_long c (fixed_of c.hardware))
+  long_is = table.long refl is.written ∙ ap (λ n. 36 + n) (body_long c (fixed_of c.hardware))
 
   revision_is : field_of t 8 1 ≡ 6
   unfolding header_at
-  revision_is = (ids_are_read FADT fadt_name.a fadt_name.b fadt_name.c fadt_name.d 6 ids (fadt_body c) t
-      fadt_name.letters is.written).revision_is
+  revision_is = (table.says refl is.written).revision_is
 
   blocks_are : HasNeededBlocks c.hardware (fadt_at t)
   unfolding fadt_at

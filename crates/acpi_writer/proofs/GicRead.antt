@@ -1,20 +1,18 @@
 -- What a reader finds in the MADT of an Arm machine that is written.
-use Rattle.std.proofs.Common.{◌≡◌, ℕ, ◌<◌, false, List, [], ◌∷◌, ◌++◌, map, drop, Option, Some, None, Result, Ok, refl, sym, ap, ◌∙◌, arith, lit≤, lit<, flat_map, if◌then◌else◌, not, slice_get, All, filter_map, option_map}
+use Rattle.std.proofs.Common.{◌≡◌, ℕ, ◌<◌, List, [], ◌∷◌, ◌++◌, map, drop, Option, Some, None, Result, Ok, refl, sym, ap, ◌∙◌, arith, lit≤, lit<, flat_map, if◌then◌else◌, not, slice_get, All, filter_map, option_map}
 use Rattle.acpi_base.specs.FromStd.{cons_option}
-use Rattle.acpi_base.proofs.FromStd.{and_parts, append-nil, drop_at, drop-drop, recursion_from_All}
+use Rattle.acpi_base.proofs.FromStd.{and_parts, drop-drop, recursion_from_All}
 use Rattle.acpi_base.proofs.Words.{number-spelling, holds_ok}
-use Rattle.acpi_base.specs.Words.{has_bit, field_of, spelling, IsEntry, shown_of, header_at, cut_of, entries_of, entry_of, madt_grammar, madt_layout, is_left, ◌>>=◌, holds}
+use Rattle.acpi_base.specs.Words.{has_bit, field_of, spelling, shown_of, header_at, cut_of, entries_of, entry_of, madt_grammar, madt_layout, is_left, ◌>>=◌, holds}
 use Rattle.acpi_base.specs.MadtEntries as entry
 use Rattle.acpi.specs.Types.{AcpiError, InvalidMadt, InvalidEntryLength, MADT, MadtEntry}
 use Rattle.acpi_base.specs.declared.tables.madt.entry.MadtEntry.TheVariants as kinds
 use Rattle.acpi_arm.specs.Gic as read
 use Rattle.acpi_writer.specs.Types.{GicModel, GicCpuInterface, GicDistributor, GicMsiFrame, GicRedistributors, GicTranslationService, SpiRange}
-use Rattle.acpi_writer.specs.Words.{is_edge, all_checked, IsTableOf, bit_of, NoProcessor, TableIds, GicContents, AreGicFit, FitsInterface, GicMadtIsRead, GicMadtIsValid, IsGicMadt, gic_body, gic_checked, gic_read, gicc_entry, gicc_fields, gicc_list, trace_field, gicd_entry, gicd_fields, gicr_entry, gicr_fields, has_spis, interface_checked, its_entry, its_fields, msi_entry, msi_fields, spis_of, is_empty, madt_fixed, FitsField, fields_bytes, Zeros}
+use Rattle.acpi_writer.specs.Words.{is_edge, all_checked, IsTableOf, bit_of, NoProcessor, TableIds, GicContents, AreGicFit, FitsInterface, GicMadtIsRead, IsGicMadt, gic_body, gic_checked, gic_read, gicc_entry, gicc_fields, gicc_list, trace_field, gicd_entry, gicd_fields, gicr_entry, gicr_fields, has_spis, interface_checked, its_entry, its_fields, msi_entry, msi_fields, spis_of, is_empty, madt_fields, FitsField, fields_bytes, Zeros}
 use Rattle.acpi_writer.proofs.Bits.{each_good, flag_bits, mode_is, was_true}
 use Rattle.acpi_writer.proofs.FieldsRead.{read_at}
-use Rattle.acpi_writer.proofs.Tables.{ids_are_read}
-use Rattle.acpi_writer.proofs.MadtRead.{fixed_long, madt_name}
-use Rattle.acpi_writer.proofs.Rows.{AreRows, all_known, both_known, both_rows, each_of, each_row, five, none_of, one_row, rows_are_cut}
+use Rattle.acpi_writer.proofs.Rows.{Speaks, both_known, in_same, known_same, sorts, speaks_both, speaks_each, speaks_row, spoken, spoken_cut}
 use Rattle.acpi_writer.proofs.Tables as table
 
 -- ---- entries as they are read
@@ -34,27 +32,30 @@ its_kind x = kinds.GicInterruptTranslationService (entry.gic_translation_service
 abbrev msi_kind : GicMsiFrame → MadtEntry
 msi_kind x = kinds.GicMsiFrame (entry.gic_msi_frame_at (msi_entry x))
 
-gicd_is : (x : GicDistributor) → IsEntry madt_layout (gicd_entry x) × (entry_of (gicd_entry x) ≡ Some (gicd_kind x))
+abbrev Tells : List ℕ → MadtEntry → Type 0
+Tells e x = entry_of e ≡ Some x
+
+gicd_entry_says : (x : GicDistributor) → Speaks madt_layout Tells (gicd_entry x) (gicd_kind x ∷ [])
 unfolding gicd_fields spelling
-gicd_is x = (record { entry_type = lit≤ tt; header = lit≤ tt; size = refl; least = lit≤ tt }, refl)
+gicd_entry_says x = speaks_row (lit≤ tt) (lit≤ tt) refl (lit≤ tt) refl
 
-gicc_is : (x : GicCpuInterface) (o : Option ℕ) → let e = fields_bytes (gicc_list x o) in
-    IsEntry madt_layout e × (entry_of e ≡ Some (kinds.Gicc (entry.gicc_at e)))
+gicc_by : (x : GicCpuInterface) (o : Option ℕ) → let e = fields_bytes (gicc_list x o) in
+    Speaks madt_layout Tells e (kinds.Gicc (entry.gicc_at e) ∷ [])
 unfolding gicc_list spelling
-gicc_is x (Some n) = (record { entry_type = lit≤ tt; header = lit≤ tt; size = refl; least = lit≤ tt }, refl)
-gicc_is x None = (record { entry_type = lit≤ tt; header = lit≤ tt; size = refl; least = lit≤ tt }, refl)
+gicc_by x (Some n) = speaks_row (lit≤ tt) (lit≤ tt) refl (lit≤ tt) refl
+gicc_by x None = speaks_row (lit≤ tt) (lit≤ tt) refl (lit≤ tt) refl
 
-gicr_is : (x : GicRedistributors) → IsEntry madt_layout (gicr_entry x) × (entry_of (gicr_entry x) ≡ Some (gicr_kind x))
+gicr_entry_says : (x : GicRedistributors) → Speaks madt_layout Tells (gicr_entry x) (gicr_kind x ∷ [])
 unfolding gicr_fields spelling
-gicr_is x = (record { entry_type = lit≤ tt; header = lit≤ tt; size = refl; least = lit≤ tt }, refl)
+gicr_entry_says x = speaks_row (lit≤ tt) (lit≤ tt) refl (lit≤ tt) refl
 
-its_is : (x : GicTranslationService) → IsEntry madt_layout (its_entry x) × (entry_of (its_entry x) ≡ Some (its_kind x))
+its_entry_says : (x : GicTranslationService) → Speaks madt_layout Tells (its_entry x) (its_kind x ∷ [])
 unfolding its_fields spelling
-its_is x = (record { entry_type = lit≤ tt; header = lit≤ tt; size = refl; least = lit≤ tt }, refl)
+its_entry_says x = speaks_row (lit≤ tt) (lit≤ tt) refl (lit≤ tt) refl
 
-msi_is : (x : GicMsiFrame) → IsEntry madt_layout (msi_entry x) × (entry_of (msi_entry x) ≡ Some (msi_kind x))
+msi_entry_says : (x : GicMsiFrame) → Speaks madt_layout Tells (msi_entry x) (msi_kind x ∷ [])
 unfolding msi_fields spelling
-msi_is x = (record { entry_type = lit≤ tt; header = lit≤ tt; size = refl; least = lit≤ tt }, refl)
+msi_entry_says x = speaks_row (lit≤ tt) (lit≤ tt) refl (lit≤ tt) refl
 
 -- ---- what each says
 
@@ -120,14 +121,6 @@ gicc_says x f has =
 -- ---- the table
 
 -- all entries, sort by sort
-abbrev rows : GicContents → List (List ℕ)
-rows c =
-    (gicd_entry c.distributor ∷ [])
-    ++ (map gicc_entry c.cpu_interfaces.now
-    ++ (map gicr_entry c.redistributors.now
-    ++ (map its_entry c.translation_services.now
-    ++ map msi_entry c.msi_frames.now)))
-
 abbrev entries_read : GicContents → List MadtEntry
 entries_read c =
     (gicd_kind c.distributor ∷ [])
@@ -144,85 +137,46 @@ entry_bytes c =
     ++ (flat_map its_entry c.translation_services.now
     ++ flat_map msi_entry c.msi_frames.now)))
 
-module _ (c : GicContents) where
-  rows_read : filter_map entry_of (rows c) ≡ entries_read c
-  rows_read =
-      five entry_of (gicd_entry c.distributor ∷ []) (map gicc_entry c.cpu_interfaces.now)
-      (map gicr_entry c.redistributors.now) (map its_entry c.translation_services.now)
-      (map msi_entry c.msi_frames.now) (gicd_kind c.distributor ∷ []) _ _ _ _
-      (ap (λ o. cons_option o []) (gicd_is c.distributor).1)
-      (each_of entry_of gicc_entry gicc_kind (λ x. (gicc_is x x.trace_buffer_interrupt).1) c.cpu_interfaces.now)
-      (each_of entry_of gicr_entry gicr_kind (λ x. (gicr_is x).1) c.redistributors.now)
-      (each_of entry_of its_entry its_kind (λ x. (its_is x).1) c.translation_services.now)
-      (each_of entry_of msi_entry msi_kind (λ x. (msi_is x).1) c.msi_frames.now)
+speak : (c : GicContents) → Speaks madt_layout Tells (entry_bytes c) (entries_read c)
+speak c =
+    speaks_both (gicd_entry_says c.distributor)
+    (speaks_both (speaks_each gicc_entry gicc_kind (λ x. gicc_by x x.trace_buffer_interrupt) c.cpu_interfaces.now)
+    (speaks_both (speaks_each gicr_entry gicr_kind gicr_entry_says c.redistributors.now)
+    (speaks_both (speaks_each its_entry its_kind its_entry_says c.translation_services.now)
+    (speaks_each msi_entry msi_kind msi_entry_says c.msi_frames.now))))
 
-  are_rows : AreRows madt_layout (entry_bytes c) (rows c)
-  are_rows =
-      both_rows madt_layout _ _ _ _ (one_row madt_layout (gicd_entry c.distributor) (gicd_is c.distributor).0)
-      (both_rows madt_layout _ _ _ _ (each_row madt_layout gicc_entry (λ x. (gicc_is x x.trace_buffer_interrupt).0)
-      c.cpu_interfaces.now)
-      (both_rows madt_layout _ _ _ _ (each_row madt_layout gicr_entry (λ x. (gicr_is x).0) c.redistributors.now)
-      (both_rows madt_layout _ _ _ _ (each_row madt_layout its_entry (λ x. (its_is x).0) c.translation_services.now)
-      (each_row madt_layout msi_entry (λ x. (msi_is x).0) c.msi_frames.now))))
+-- what each sort says
+module _ (c : GicContents) (f : AreGicFit c) where
+  distributors_are : filter_map read.distributor_in (entries_read c) ≡ c.distributor ∷ []
+  distributors_are = simp sorts (ap (λ o. cons_option o []) (gicd_says c.distributor f.distributor))
 
-  sorts : {X : Type 0} (h : MadtEntry → Option X) (v w x y z : List X)
-      → filter_map h (gicd_kind c.distributor ∷ []) ≡ v → filter_map h (map gicc_kind c.cpu_interfaces.now) ≡ w
-      → filter_map h (map gicr_kind c.redistributors.now) ≡ x
-      → filter_map h (map its_kind c.translation_services.now) ≡ y
-      → filter_map h (map msi_kind c.msi_frames.now) ≡ z → filter_map h (entries_read c) ≡ v ++ (w ++ (x ++ (y ++ z)))
-  sorts h = five h (gicd_kind c.distributor ∷ []) _ _ _ _
+  interfaces_are : all_checked interface_checked c.cpu_interfaces.now ≡ Ok tt
+      → filter_map (read.cpu_interface_in 6) (entries_read c) ≡ c.cpu_interfaces.now
+  interfaces_are good =
+      let is = c.cpu_interfaces.now in
+      let P = λ (x : GicCpuInterface). interface_checked x ≡ Ok tt in
+      let each = both_known FitsInterface P is (recursion_from_All FitsInterface is f.cpu_interfaces)
+      (each_good interface_checked is good) in
+      simp sorts (known_same (λ x. FitsInterface x × P x) (λ x. read.cpu_interface_in 6 (gicc_kind x))
+      (λ x g. gicc_says x g.0 g.1) is each)
 
-  module _ (f : AreGicFit c) where
-    distributors_are : filter_map read.distributor_in (entries_read c) ≡ c.distributor ∷ []
-    distributors_are =
-        let h = read.distributor_in in
-        sorts h (c.distributor ∷ []) [] [] [] [] (ap (λ o. cons_option o []) (gicd_says c.distributor f.distributor))
-        (none_of h gicc_kind (λ x. refl) c.cpu_interfaces.now) (none_of h gicr_kind (λ x. refl) c.redistributors.now)
-        (none_of h its_kind (λ x. refl) c.translation_services.now) (none_of h msi_kind (λ x. refl) c.msi_frames.now)
+  redistributors_are : filter_map (read.redistributors_in 6) (entries_read c) ≡ c.redistributors.now
+  redistributors_are =
+      let P = λ (x : GicRedistributors). All FitsField (gicr_fields x) in
+      simp sorts (known_same P (λ x. read.redistributors_in 6 (gicr_kind x)) gicr_says c.redistributors.now
+      (recursion_from_All P c.redistributors.now f.redistributors))
 
-    interfaces_are : all_checked interface_checked c.cpu_interfaces.now ≡ Ok tt
-        → filter_map (read.cpu_interface_in 6) (entries_read c) ≡ c.cpu_interfaces.now
-    interfaces_are good =
-        let h = read.cpu_interface_in 6 in
-        let is = c.cpu_interfaces.now in
-        let P = λ (x : GicCpuInterface). interface_checked x ≡ Ok tt in
-        let each = both_known FitsInterface P is (recursion_from_All FitsInterface is f.cpu_interfaces)
-        (each_good interface_checked is good) in
-        sorts h [] is [] [] [] refl (all_known (λ x. FitsInterface x
-        × P x) h gicc_kind (λ x g. gicc_says x g.0 g.1) is each)
-        (none_of h gicr_kind (λ x. refl) c.redistributors.now)
-        (none_of h its_kind (λ x. refl) c.translation_services.now)
-        (none_of h msi_kind (λ x. refl) c.msi_frames.now) ∙ append-nil is
+  services_are : filter_map (read.translation_service_in 6) (entries_read c) ≡ c.translation_services.now
+  services_are =
+      let P = λ (x : GicTranslationService). All FitsField (its_fields x) in
+      simp sorts (known_same P (λ x. read.translation_service_in 6 (its_kind x)) its_says c.translation_services.now
+      (recursion_from_All P c.translation_services.now f.translation_services))
 
-    redistributors_are : filter_map (read.redistributors_in 6) (entries_read c) ≡ c.redistributors.now
-    redistributors_are =
-        let h = read.redistributors_in 6 in
-        let rs = c.redistributors.now in
-        let P = λ (x : GicRedistributors). All FitsField (gicr_fields x) in
-        sorts h [] [] rs [] [] refl (none_of h gicc_kind (λ x. refl) c.cpu_interfaces.now)
-        (all_known P h gicr_kind gicr_says rs (recursion_from_All P rs f.redistributors))
-        (none_of h its_kind (λ x. refl) c.translation_services.now) (none_of h msi_kind (λ x. refl) c.msi_frames.now)
-        ∙ append-nil rs
-
-    services_are : filter_map (read.translation_service_in 6) (entries_read c) ≡ c.translation_services.now
-    services_are =
-        let h = read.translation_service_in 6 in
-        let ss = c.translation_services.now in
-        let P = λ (x : GicTranslationService). All FitsField (its_fields x) in
-        sorts h [] [] [] ss [] refl (none_of h gicc_kind (λ x. refl) c.cpu_interfaces.now)
-        (none_of h gicr_kind (λ x. refl) c.redistributors.now)
-        (all_known P h its_kind its_says ss (recursion_from_All P ss f.translation_services))
-        (none_of h msi_kind (λ x. refl) c.msi_frames.now) ∙ append-nil ss
-
-    frames_are : filter_map (read.msi_frame_in 6) (entries_read c) ≡ c.msi_frames.now
-    frames_are =
-        let h = read.msi_frame_in 6 in
-        let ms = c.msi_frames.now in
-        let P = λ (x : GicMsiFrame). All FitsField (msi_fields x) in
-        sorts h [] [] [] [] ms refl (none_of h gicc_kind (λ x. refl) c.cpu_interfaces.now)
-        (none_of h gicr_kind (λ x. refl) c.redistributors.now)
-        (none_of h its_kind (λ x. refl) c.translation_services.now)
-        (all_known P h msi_kind msi_says ms (recursion_from_All P ms f.msi_frames))
+  frames_are : filter_map (read.msi_frame_in 6) (entries_read c) ≡ c.msi_frames.now
+  frames_are =
+      let P = λ (x : GicMsiFrame). All FitsField (msi_fields x) in
+      simp sorts (known_same P (λ x. read.msi_frame_in 6 (msi_kind x)) msi_says c.msi_frames.now
+      (recursion_from_All P c.msi_frames.now f.msi_frames))
 
 abbrev pass : {A : Type 0} → A → Result A AcpiError
 pass x = Ok x
@@ -236,19 +190,22 @@ read_by t rest ds d m none found same = rw (none, found, same) refl
 
 module _ (ids : TableIds) (c : GicContents) (t : List ℕ) (is : IsGicMadt ids c t) where
   after_fixed : drop 44 t ≡ entry_bytes c
-  after_fixed =
-      sym (drop-drop 8 36 t) ∙ ap (drop 8) (table.rest MADT madt_name 6 ids (gic_body c) t is.written)
-      ∙ drop_at (madt_fixed 0 false) (entry_bytes c) 8 (fixed_long 0 false)
+  unfolding madt_fields spelling
+  after_fixed = sym (drop-drop 8 36 t) ∙ ap (drop 8) (table.rest refl is.written)
 
-  cut_is : ((cut_of t).0 ≡ rows c) × ((cut_of t).1 ≡ [])
-  cut_is = rows_are_cut madt_grammar (drop 44 t) (rows c) (λ bound same. cc) (rw after_fixed (are_rows c))
+  speaks : Speaks madt_layout Tells (drop 44 t) (entries_read c)
+  speaks = rw after_fixed (speak c)
+
+  no_rest : (cut_of t).1 ≡ []
+  no_rest = (spoken_cut madt_grammar speaks (λ bound same. cc)).1
 
   entries_are : entries_of t ≡ entries_read c
-  entries_are = ap (filter_map entry_of) cut_is.0 ∙ rows_read c
+  entries_are = spoken madt_grammar speaks (λ bound same. cc) entry_of (λ x. Some x) (λ e x same. same)
+      ∙ in_same (entries_read c)
 
   revision_is : field_of t 8 1 ≡ 6
   unfolding header_at
-  revision_is = (ids_are_read MADT _ _ _ _ 6 ids (gic_body c) t madt_name.letters is.written).revision_is
+  revision_is = (table.says refl is.written).revision_is
 
   items_are : {T : Type 0} (said : ℕ → MadtEntry → Option T)
       → read.items_of said t ≡ filter_map (said 6) (entries_read c)
@@ -267,10 +224,7 @@ module _ (ids : TableIds) (c : GicContents) (t : List ℕ) (is : IsGicMadt ids c
 
 pub gic_madt_read : {A : Type 0} → GicMadtIsRead A
 gic_madt_read {A = A} ids c t is = read_by {A = A} t (cut_of t).1 (filter_map read.distributor_in (entries_of t))
-    c.distributor (gic_read c) (cut_is ids c t is).1 (first_is ids c t is) (model_is ids c t is {A = A})
-
-pub gic_madt_valid : GicMadtIsValid
-gic_madt_valid ids c t is = table.valid MADT madt_name 6 ids (gic_body c) t is.written
+    c.distributor (gic_read c) (no_rest ids c t is) (first_is ids c t is) (model_is ids c t is {A = A})
 
 pub gic_madt_is : (ids : TableIds) (c : GicContents) (t : List ℕ) → IsTableOf MADT 6 ids (gic_body c) t → AreGicFit c
     → gic_checked c ≡ Ok tt → IsGicMadt ids c t

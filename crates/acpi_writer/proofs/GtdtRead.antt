@@ -1,25 +1,19 @@
 -- What a reader finds in a GTDT that is written.
 use Rattle.std.proofs.Common.{◌≡◌, ℕ, ◌+◌, ◌%◌, ◌^◌, ◌<◌, true, false, List, [], ◌∷◌, length, drop, Option, Some, Ok, refl, sym, ap, ◌∙◌, arith, lit<, if◌then◌else◌, ◌==◌, flat_map, nat_le, nat_lt, All}
-use Rattle.acpi_base.specs.FromStd.{AllByRecursion, chars, is_utf8}
+use Rattle.acpi_base.specs.FromStd.{AllByRecursion}
 use Rattle.acpi_base.proofs.FromStd.{or-true, le-leb, drop-drop, All-from_recursion, recursion_from_All}
 use Rattle.acpi_base.specs.Words.{field_of, part, spelling, header_at}
-use Rattle.acpi.specs.Types.{GTDT}
 use Rattle.acpi_arm.specs.Gtdt.{arm_timer_at, gtdt_at, read_base_of, virtual_el2_of}
 use Rattle.acpi_arm.specs.Timers as read
 use Rattle.acpi_writer.specs.Types.{ArmTimer}
-use Rattle.acpi_writer.specs.Words.{base_checked, is_edge, is_low, all_checked, FitsStructure, GtdtIsRead, GtdtIsValid, IsGtdt, SaysTimers, gtdt_body, gtdt_fields, structure_bytes, structure_checked, timer_checked, timer_flags, FitsField, field_at, field_size, field_value, fields_bytes, offset_of, Field, U32, Zeros, GtdtContents, TableIds}
+use Rattle.acpi_writer.specs.Words.{base_checked, is_edge, is_low, all_checked, FitsStructure, GtdtIsRead, IsGtdt, SaysTimers, gtdt_body, gtdt_fields, structure_bytes, structure_checked, timer_checked, timer_flags, FitsField, field_at, field_size, field_value, fields_bytes, offset_of, Field, U32, Zeros, GtdtContents, TableIds}
 use Rattle.acpi_writer.proofs.GtdtStructures.{IsGood, base_is, modes_are, none_missing, structures_many, timers_are}
-use Rattle.acpi_writer.proofs.Tables.{ids_are_read}
 use Rattle.acpi_writer.proofs.Tables as table
 use Rattle.acpi_writer.proofs.Bits.{each_good, first_good, flag_bits}
 use Rattle.acpi_writer.proofs.FieldsRead.{read_at, read_in}
 use Rattle.acpi_writer.proofs.Rows.{both_known}
 
 -- ---- the table
-
-pub gtdt_name : table.IsName GTDT
-unfolding is_utf8 chars lib.Utf8.encode
-gtdt_name = record { a = _; b = _; c = _; d = _; letters = refl; text = refl; same = refl }
 
 abbrev some_timer : ArmTimer → Option ArmTimer
 some_timer x = Some x
@@ -39,10 +33,6 @@ module _ (c : GtdtContents) where
   el2_in_body : part (gtdt_body c) 60 8 ≡ fields_bytes (el2_fields c.virtual_el2_timer)
   unfolding gtdt_fields spelling
   el2_in_body = refl
-
-  structures_in_body : drop 68 (gtdt_body c) ≡ flat_map structure_bytes c.platform_timers.now
-  unfolding gtdt_fields spelling
-  structures_in_body = refl
 
   pub body_long : length (gtdt_body c) ≡ 68 + length (flat_map structure_bytes c.platform_timers.now)
   unfolding gtdt_fields spelling
@@ -65,7 +55,7 @@ module _ (ids : TableIds) (c : GtdtContents) (t : List ℕ) (is : IsGtdt ids c t
       (control.0, secure.0, non_secure.0, virtual.0, el2.0, read.0, virtual_el2.0, virtual_el2.1)
 
   rest : drop 36 t ≡ gtdt_body c
-  rest = table.rest GTDT gtdt_name 3 ids (gtdt_body c) t is.written
+  rest = table.rest refl is.written
 
   field : (i : ℕ) → i < length (gtdt_fields c)
       → field_of t (36 + offset_of (gtdt_fields c) i) (field_size (field_at (gtdt_fields c) i))
@@ -74,7 +64,7 @@ module _ (ids : TableIds) (c : GtdtContents) (t : List ℕ) (is : IsGtdt ids c t
 
   revision_is : field_of t 8 1 ≡ 3
   unfolding header_at
-  revision_is = (ids_are_read GTDT _ _ _ _ 3 ids (gtdt_body c) t gtdt_name.letters is.written).revision_is
+  revision_is = (table.says refl is.written).revision_is
 
   all : AllByRecursion IsGood c.platform_timers.now
   all = both_known FitsStructure (λ x. structure_checked x ≡ Ok tt) c.platform_timers.now
@@ -96,17 +86,15 @@ module _ (ids : TableIds) (c : GtdtContents) (t : List ℕ) (is : IsGtdt ids c t
   counted = rw (revision_is) count_is
 
   from_array : read.timer_bytes t ≡ flat_map structure_bytes c.platform_timers.now
-  from_array =
-      ap (λ o. if nat_lt o 96 then [] else drop o t) offset_is
-      ∙ (sym (drop-drop 68 36 t) ∙ ap (drop 68) rest ∙ structures_in_body c)
+  unfolding gtdt_fields spelling
+  from_array = ap (λ o. if nat_lt o 96 then [] else drop o t) offset_is ∙ sym (drop-drop 68 36 t) ∙ ap (drop 68) rest
 
   el2_part : part t 96 8 ≡ fields_bytes (el2_fields c.virtual_el2_timer)
-  el2_part = table.part_of GTDT gtdt_name 3 ids (gtdt_body c) t is.written 60 8 ∙ el2_in_body c
+  el2_part = table.part_of refl is.written 60 8 ∙ el2_in_body c
 
   el2_within : nat_le 104 (length t) ≡ true
   el2_within =
-      le-leb 104 (length t)
-      (omega (arith, table.long GTDT gtdt_name 3 ids (gtdt_body c) t is.written, body_long c))
+      le-leb 104 (length t) (omega (arith, table.long refl is.written, body_long c))
 
   shows_read : read_base_of (gtdt_at t) ≡ c.counter_read_base
   unfolding gtdt_at header_at gtdt_fields
@@ -142,6 +130,3 @@ module _ (ids : TableIds) (c : GtdtContents) (t : List ℕ) (is : IsGtdt ids c t
 
 pub gtdt_read : GtdtIsRead
 gtdt_read ids c t is = says ids c t is
-
-pub gtdt_valid : GtdtIsValid
-gtdt_valid ids c t is = table.valid GTDT gtdt_name 3 ids (gtdt_body c) t is.written

@@ -1,7 +1,7 @@
 -- What a reader finds in the Platform Timer Structures of a GTDT that is written.
-use Rattle.std.proofs.Common.{◌≡◌, ℕ, ◌+◌, ◌*◌, ◌%◌, ◌^◌, ◌<◌, ◌≤◌, lit<, Bool, true, false, List, [], ◌∷◌, ◌++◌, length, map, drop, Option, Some, None, Result, Ok, refl, sym, ap, ◌∙◌, arith, lit≤, inl, inr, length-append, ◌-◌, ◌==◌, flat_map, nat_le, All, filter_map}
-use Rattle.acpi_base.specs.FromStd.{AllByRecursion}
-use Rattle.acpi_base.proofs.FromStd.{or-true, and_parts, le-leb, leb-true, ltb-true, ne_eqb, drop_at, length-map, recursion_from_All}
+use Rattle.std.proofs.Common.{◌≡◌, ℕ, ◌+◌, ◌*◌, ◌%◌, ◌^◌, ◌<◌, ◌≤◌, lit<, Bool, true, false, List, [], ◌∷◌, ◌++◌, length, map, drop, Option, Some, None, Result, Ok, refl, sym, ap, subst, ◌∙◌, arith, lit≤, inl, inr, length-append, ◌-◌, ◌==◌, flat_map, nat_le, All, filter_map}
+use Rattle.acpi_base.specs.FromStd.{AllByRecursion, concat}
+use Rattle.acpi_base.proofs.FromStd.{or-true, and_parts, le-leb, leb-true, ltb-true, ne_eqb, drop_at, length-map, map-id, recursion_from_All}
 use Rattle.acpi_base.specs.Words.{field_of, spelling, IsEntry, IsFew, number_at, ◌>>=◌, holds}
 use Rattle.acpi.specs.Types.{Polarity, TriggerMode}
 use Rattle.acpi_arm.specs.Gtdt.{polarity_in, trigger_in, unless_ones}
@@ -11,7 +11,7 @@ use Rattle.acpi_writer.specs.Words.{base_checked, flags_of, is_edge, is_low, mod
 use Rattle.acpi_writer.proofs.FieldsRead.{read_at, read_front}
 use Rattle.acpi_writer.specs.declared.gtdt.PlatformTimerContents.TheVariants as kinds
 use Rattle.acpi_writer.proofs.Bits.{each_good, first_good, flag_bits, mode, mode_is, was_true, way, way_is}
-use Rattle.acpi_writer.proofs.Rows.{AreRows, each_known, each_row_known, rows_are_cut}
+use Rattle.acpi_writer.proofs.Rows.{Row, Speaks, in_some, many_rows, row_bytes, speaks_all, speaks_one, spoken, spoken_cut}
 
 -- ---- addresses and interrupts
 
@@ -166,19 +166,20 @@ few_frames n r good =
     let p = first_good (holds (nat_le n 1637) TooManyFrames) (λ _. r) good in
     (leb-true n 1637 (was_true (nat_le n 1637) TooManyFrames p.0), p.1)
 
-structure_is : (x : PlatformTimerContents) → IsGood x → IsEntry read.timers_layout (structure_bytes x)
-    × (read.is_sound (structure_bytes x) ≡ true) × (read.timer_of (structure_bytes x) ≡ Some (timer_read x))
-    × (1 ≤ length (structure_bytes x))
-structure_is (kinds.GtBlock b) h =
+-- what a reader makes of a structure
+abbrev Tells : List ℕ → PlatformTimerContents → Type 0
+Tells e x = (read.is_sound e ≡ true) × (read.timer_of e ≡ Some (timer_read x))
+
+structure_says : (x : PlatformTimerContents) → IsGood x → Speaks read.timers_layout Tells (structure_bytes x) (x ∷ [])
+structure_says (kinds.GtBlock b) h =
     let p = few_frames (length b.frames.now) _ h.1 in
-    let fits = recursion_from_All FitsFrame b.frames.now h.0.1 in (
-      block_is b.address b.frames.now p.0 h.0.0,
+    let fits = recursion_from_All FitsFrame b.frames.now h.0.1 in
+    speaks_one _ _ (block_is b.address b.frames.now p.0 h.0.0) (
       block_sound b.address b.frames.now p.0 h.0.0,
       block_says b.address b.frames.now p.0 h.0.0 fits (each_good frame_checked b.frames.now p.1),
-      omega (arith, block_long b.address b.frames.now p.0 h.0.0),
     )
-structure_is (kinds.SbsaWatchdog w) h =
-    (watchdog_is w, (rw (watchdog_kind w) refl), watchdog_says w h.0 h.1, (watchdog_is w).entry_type)
+structure_says (kinds.SbsaWatchdog w) h =
+    speaks_one _ _ (watchdog_is w) (rw (watchdog_kind w) refl, watchdog_says w h.0 h.1)
 
 -- ---- all structures
 
@@ -188,44 +189,51 @@ some_count n = Some n
 same_some : (n m : ℕ) → some_count n ≡ some_count m → n ≡ m
 same_some n m e = cc
 
-minus_self : (n : ℕ) → n - n ≡ 0
-minus_self n = omega arith
+abbrev AreRows : List (Row PlatformTimerContents) → Type 0
+AreRows rows = AllByRecursion (λ r. IsEntry read.timers_layout r.0 × Tells r.0 r.1) rows
 
-each_sound : (xs : List PlatformTimerContents) → AllByRecursion IsGood xs
-    → read.sound_front (map structure_bytes xs) ≡ map structure_bytes xs
+each_sound : (rows : List (Row PlatformTimerContents)) → AreRows rows
+    → read.sound_front (row_bytes rows) ≡ row_bytes rows
 each_sound [] all = refl
-each_sound (x ∷ xs) all = rw ((structure_is x all.0).1) (ap (λ es. structure_bytes x ∷ es) (each_sound xs all.1))
+each_sound (r ∷ rows) all = rw all.0.1.0 (ap (λ es. r.0 ∷ es) (each_sound rows all.1))
 
-structures_rows : (xs : List PlatformTimerContents) → AllByRecursion IsGood xs
-    → AreRows read.timers_layout (flat_map structure_bytes xs) (map structure_bytes xs)
-structures_rows xs all = each_row_known read.timers_layout IsGood structure_bytes (λ x h. (structure_is x h).0) xs all
-
-pub structures_many : (xs : List PlatformTimerContents) → AllByRecursion IsGood xs
-    → length xs ≤ length (flat_map structure_bytes xs)
-structures_many [] all = lit≤ tt
-structures_many (x ∷ xs) all = omega (
-  arith,
-  length-append (structure_bytes x) (flat_map structure_bytes xs),
-  (structure_is x all.0).3,
-  structures_many xs all.1,
-)
+rows_many : (rows : List (Row PlatformTimerContents)) → AreRows rows → length rows ≤ length (concat (row_bytes rows))
+rows_many [] all = lit≤ tt
+rows_many (r ∷ rows) all =
+    let more = rows_many rows all.1 in
+    omega (arith, length-append r.0 (concat (row_bytes rows)), all.0.0.entry_type)
 
 module _ (xs : List PlatformTimerContents) (all : AllByRecursion IsGood xs) where
   abbrev count : ℕ
   count = length xs
 
-  few_rows : IsFew (Some count) (length (map structure_bytes xs))
-  few_rows bound same = omega (arith, length-map xs structure_bytes, same_some count bound same)
+  speaks : Speaks read.timers_layout Tells (flat_map structure_bytes xs) xs
+  speaks = subst (Speaks read.timers_layout Tells (flat_map structure_bytes xs)) (map-id xs)
+      (speaks_all IsGood structure_bytes (λ x. x) structure_says xs all)
 
-  structures_are : read.structures_in count (flat_map structure_bytes xs) ≡ map structure_bytes xs
-  structures_are =
-      ap read.sound_front (rows_are_cut (read.timers_grammar count) (flat_map structure_bytes xs)
-      (map structure_bytes xs) few_rows (structures_rows xs all)).0 ∙ each_sound xs all
+  pub structures_many : length xs ≤ length (flat_map structure_bytes xs)
+  structures_many = omega (
+    arith,
+    rows_many speaks.rows speaks.each,
+    ap length speaks.whole,
+    ap length speaks.said,
+    length-map speaks.rows (λ r. r.1),
+  )
+
+  few : IsFew (Some count) count
+  few bound same = omega (arith, same_some count bound same)
+
+  structures_are : read.structures_in count (flat_map structure_bytes xs) ≡ row_bytes speaks.rows
+  structures_are = ap read.sound_front (spoken_cut (read.timers_grammar count) speaks few).0
+      ∙ each_sound speaks.rows speaks.each
 
   pub timers_are : read.timers_in count (flat_map structure_bytes xs) ≡ map timer_read xs
-  timers_are = ap (filter_map read.timer_of) structures_are ∙ each_known IsGood read.timer_of structure_bytes timer_read
-      (λ x h. (structure_is x h).2) xs all
+  timers_are =
+      ap (filter_map read.timer_of) (structures_are ∙ sym (spoken_cut (read.timers_grammar count) speaks few).0)
+      ∙ spoken (read.timers_grammar count) speaks few read.timer_of (λ x. Some (timer_read x)) (λ e x tells. tells.1)
+      ∙ in_some timer_read xs
 
   pub none_missing : read.missing_in count (flat_map structure_bytes xs) ≡ 0
-  none_missing = ap (λ es. count - length es) structures_are ∙ ap (λ n. count - n) (length-map xs structure_bytes)
-      ∙ minus_self count
+  none_missing =
+      let none : count - length (row_bytes speaks.rows) ≡ 0 = omega (arith, many_rows speaks) in
+      ap (λ es. count - length es) structures_are ∙ none

@@ -3,17 +3,17 @@ use Rattle.std.proofs.Common.{◌≡◌, ℕ, ◌+◌, ◌-◌, ◌≤◌, Bool,
 use Rattle.acpi_base.specs.FromStd.{result_ok, AllByRecursion}
 use Rattle.acpi_base.proofs.FromStd.{eqb-true, le-leb, drop_at, drop-drop, drop-take, take_all, take_at, set-set}
 use Rattle.acpi_base.proofs.Words.{at-front, lent_inside, lent_is_inside, good_rest, header_front, own_table, own_table_is, passes, served, serves, bind_ok, holds_ok}
-use Rattle.acpi_base.specs.Words.{field_of, part, sum_of, check_names, check_table, header_at, Memory, HoldsRange, IsMemory, Region, at, rest_from, holds, lent, ◌>>=◌, own_table_at, plain_kind, sdt_kind, table_at, kind, letters_of, mcfg_entries_of, Model, model_of}
-use Rattle.acpi.specs.Types.{AcpiError, SdtInvalidChecksum, SdtInvalidLength, Signature, Unknown, HPET, MADT, MCFG, McfgEntry, PowerProfile}
+use Rattle.acpi_base.specs.Words.{spelling, field_of, part, sum_of, check_names, check_table, header_at, Memory, HoldsRange, IsMemory, Region, at, rest_from, holds, lent, ◌>>=◌, own_table_at, plain_kind, sdt_kind, table_at, kind, letters_of, Model}
+use Rattle.acpi.specs.Types.{AcpiError, SdtInvalidChecksum, SdtInvalidLength, Signature, PowerProfile}
 use Rattle.acpi.proofs.First.{here}
-use Rattle.acpi.specs.Words.{or_later, hpet_at, hpet_kind, info_of, fadt_kind, lookup, mcfg_kind, madt_kind, model_in, platform_of, bytes_found, timer_of}
+use Rattle.acpi.specs.Words.{or_later, fadt_kind, lookup, model_in, platform_of, bytes_found, timer_of}
 use Rattle.acpi_image.proofs.Written.{header_names, table_is, length-with_sum, part_front}
-use Rattle.acpi_writer.specs.Words.{is_named, HasFirst, HasPlatform, HpetInImage, MadtInImage, McfgInImage, PlatformInImage, gap, laid, padded, LaidAreFound, IsValid, IsTableOf, table_bytes, unsummed, hpet_body, madt_body, madt_entries, madt_fixed, model_read, mcfg_body, TableIds, MadtContents}
+use Rattle.acpi_writer.specs.Words.{is_named, HasFirst, HasPlatform, HpetInImage, MadtInImage, McfgInImage, PlatformInImage, gap, laid, padded, LaidAreFound, IsValid, IsTableOf, table_bytes, unsummed, hpet_fields, madt_fields, model_read, TableIds, MadtContents}
 use Rattle.acpi_fixed.specs.Words.{fadt_at, profile_of}
 use Rattle.acpi_writer.specs.Types.{PlatformInfo, PmTimer}
 use Rattle.acpi_image.specs.Words.{Plan, pointers_of, records_of, with_sum, sum_byte}
-use Rattle.acpi_writer.proofs.ShortTables.{hpet_long, hpet_name, hpet_read, mcfg_name, mcfg_read}
-use Rattle.acpi_writer.proofs.MadtRead.{fixed_long, madt_name, madt_read}
+use Rattle.acpi_writer.proofs.ShortTables.{hpet_read, mcfg_read}
+use Rattle.acpi_writer.proofs.MadtRead.{madt_read}
 use Rattle.acpi.proofs.Moved.{first_of, lookup_is}
 use Rattle.acpi_image.proofs.WrittenLaws.{written_is_read}
 use Rattle.acpi_writer.proofs.Tables as table
@@ -155,16 +155,7 @@ first_after s least a table (t ∷ before) after others named long =
     first_past s least t.bytes (map summed_bytes (before ++ record { start = a; bytes = table } ∷ after)) others.0
     ∙ first_after s least a table before after others.1 named long
 
--- what a lookup finds in the image
-pub found_in_image : (s : Signature) (least : ℕ) (p : Plan) (table : List ℕ) (first : HasFirst s p table)
-    → is_named s table ≡ true → 36 ≤ least → least ≤ length table
-    → bytes_found (lookup (records_of p) (kind s least (check_table s)) (pointers_of p)) ≡ Ok (with_sum 9 table)
-found_in_image s least p table first named enough long =
-    lookup_is (records_of p) s least (pointers_of p) enough ∙ ap (first_of s least)
-    ((written_is_read p first.file first.bytes first.is_written).tables ∙ ap (map summed_bytes) first.tables)
-    ∙ first_after s least first.address table first.before first.after first.others named long
-
--- ---- a table that is written
+-- ---- the first table of its signature in an image
 
 again : (s : Signature) (revision : ℕ) (ids : TableIds) (body t : List ℕ) → IsTableOf s revision ids body t
     → with_sum 9 t ≡ t
@@ -175,46 +166,54 @@ again s revision ids body t is = ap (with_sum 9) is.bytes ∙ with_sum_again 9 (
 abbrev fine : List ℕ → Result (List ℕ) AcpiError
 fine x = Ok x
 
--- the first table of its signature is found as it was written
-first_found : (s : Signature) (name : table.IsName s) (least revision : ℕ) (ids : TableIds) (body t : List ℕ) (p : Plan)
-    → IsTableOf s revision ids body t → HasFirst s p t → 36 ≤ least → least ≤ 36 + length body
-    → bytes_found (lookup (records_of p) (kind s least (check_table s)) (pointers_of p)) ≡ Ok t
-first_found s name least revision ids body t p is first enough long =
-    found_in_image s least p t first (table.named s name revision ids body t is) enough
-    (omega (arith, long, table.long s name revision ids body t is)) ∙ ap fine (again s revision ids body t is)
+abbrev platform : {A : Type 0} → PlatformInfo A → Result (PlatformInfo A) AcpiError
+platform x = Ok x
 
-same_found : (x y : List ℕ) → fine x ≡ fine y → x ≡ y
-same_found x y e = cc
+abbrev place_in : Result (ℕ × List ℕ) AcpiError → ℕ
+place_in (Ok found) = found.0
+place_in (Err e) = 0
 
--- ---- the MADT
+abbrev found_at : ℕ → List ℕ → Result (ℕ × List ℕ) AcpiError
+found_at p t = Ok (p, t)
 
-abbrev says : {A : Type 0} → Model A → Result (Model A) AcpiError
-says x = Ok x
+found_by : (r : Result (ℕ × List ℕ) AcpiError) (t : List ℕ) → bytes_found r ≡ Ok t → r ≡ Ok (place_in r, t)
+found_by (Ok found) t e =
+    let same : found.1 ≡ t = cc in
+    ap (λ b. found_at found.0 b) same
+found_by (Err d) t e = absurd cc
 
-model_by_bytes : {A : Type 0} (r : Result (ℕ × List ℕ) AcpiError) (b : List ℕ) → bytes_found r ≡ Ok b
-    → or_later (λ f. model_of f.1) r (says {A = A} (Unknown, None)) ≡ model_of b
-model_by_bytes (Ok found) b e = ap model_of (same_found found.1 b e)
-model_by_bytes (Err d) b e = absurd cc
+-- it is found as it was written
+module _ {s : Signature} {revision : ℕ} {ids : TableIds} {body t : List ℕ} (letters : length (letters_of s) ≡ 4)
+    (least : ℕ) (p : Plan) (is : IsTableOf s revision ids body t) (first : HasFirst s p t) where
+  found_first : 36 ≤ least → least ≤ 36 + length body → let found = lookup (records_of p)
+      (kind s least (check_table s)) (pointers_of p) in found ≡ Ok (place_in found, t)
+  found_first enough long =
+      let within : least ≤ length t = omega (arith, long, table.long letters is) in
+      found_by (lookup (records_of p) (kind s least (check_table s)) (pointers_of p)) t
+      (lookup_is (records_of p) s least (pointers_of p) enough ∙ ap (first_of s least)
+      ((written_is_read p first.file first.bytes first.is_written).tables ∙ ap (map summed_bytes) first.tables)
+      ∙ first_after s least first.address t first.before first.after first.others (table.named letters is) within
+      ∙ ap fine (again s revision ids body t is))
 
 pub madt_in_image : {A : Type 0} → MadtInImage A
+unfolding madt_fields spelling
 madt_in_image {A = A} p t ids c is first =
-    let size = length-append (madt_fixed c.local_apic_address c.also_has_legacy_pics) (madt_entries c) in
-    let found = first_found MADT madt_name 44 5 ids (madt_body c) t p is.written first (lit≤ tt)
-    (omega (arith, size, fixed_long c.local_apic_address c.also_has_legacy_pics)) in
-    model_by_bytes {A = A} (lookup (records_of p) madt_kind (pointers_of p)) t found ∙ madt_read {A = A} ids c t is
+    rw (found_first refl 44 p is.written first (lit≤ tt) (omega arith)) (madt_read {A = A} ids c t is)
 
-abbrev plat : {A : Type 0} → PlatformInfo A → Result (PlatformInfo A) AcpiError
-plat x = Ok x
+pub mcfg_in_image : McfgInImage
+mcfg_in_image p t ids es is first =
+    rw (found_first refl 44 p is.written first (lit≤ tt) (omega arith), mcfg_read ids es t is) refl
 
-same_platform : {A : Type 0} (x y : PlatformInfo A) → plat x ≡ plat y → x ≡ y
-same_platform x y e = cc
+pub hpet_in_image : HpetInImage
+unfolding hpet_fields spelling
+hpet_in_image p t ids i is first =
+    rw (found_first refl 56 p is.written first (lit≤ tt) (omega arith)) (hpet_read ids i t is)
 
-same_model : {A : Type 0} (x y : Model A) → says x ≡ says y → x ≡ y
-same_model x y e = cc
+-- ---- where the interrupt model is found, the platform has it
 
 timed : {A : Type 0} (c : MadtContents) (profile : PowerProfile) (q : PlatformInfo A)
     (said : Result (Model A) AcpiError) (timer : Result (Option PmTimer) AcpiError) → said ≡ Ok (model_read c)
-    → (said >>= λ s. timer >>= λ found. plat (record {
+    → (said >>= λ s. timer >>= λ found. platform (record {
       power_profile = profile;
       interrupt_model = s.0;
       processor_info =
@@ -223,15 +222,8 @@ timed : {A : Type 0} (c : MadtContents) (profile : PowerProfile) (q : PlatformIn
     })) ≡ Ok q → HasPlatform c q
 timed c profile q (Err e) timer same is = absurd cc
 timed c profile q (Ok s) (Err e) same is = absurd cc
-timed c profile q (Ok s) (Ok found) same is =
-    let s_is : s ≡ model_read c = same_model s (model_read c) same in
-    let q_is = same_platform _ q is in
-    record {
-      interrupt_model = sym (ap (λ z. z.interrupt_model) q_is) ∙ ap (λ z. z.0) s_is;
-      processor_info = sym (ap (λ z. z.processor_info) q_is) ∙ ap (λ z. z.1) s_is;
-    }
+timed c profile q (Ok s) (Ok found) same is = record { interrupt_model = cc; processor_info = cc }
 
--- where the interrupt model is found, the platform has it
 pub platform_has : {A : Type 0} (m : Memory) (ps : List ℕ) (c : MadtContents) (q : PlatformInfo A)
     → model_in {A = A} m ps ≡ Ok (model_read c) → platform_of m ps ≡ Ok q → HasPlatform c q
 platform_has m ps c q model answered =
@@ -241,31 +233,3 @@ platform_has m ps c q model answered =
 pub platform_in_image : {A : Type 0} → PlatformInImage A
 platform_in_image {A = A} p t ids c q is first answered =
     platform_has (records_of p) (pointers_of p) c q (madt_in_image p t ids c is first) answered
-
--- ---- the MCFG
-
-abbrev regions : List McfgEntry → Result (List McfgEntry) AcpiError
-regions x = Ok x
-
-regions_by : (r : Result (ℕ × List ℕ) AcpiError) (b : List ℕ) → bytes_found r ≡ Ok b
-    → (r >>= λ found. regions (mcfg_entries_of found.1)) ≡ regions (mcfg_entries_of b)
-regions_by (Ok found) b e = ap (λ z. regions (mcfg_entries_of z)) (same_found found.1 b e)
-regions_by (Err d) b e = absurd cc
-
-pub mcfg_in_image : McfgInImage
-mcfg_in_image p t ids es is first =
-    let found = first_found MCFG mcfg_name 44 1 ids (mcfg_body es) t p is.written first (lit≤ tt) (omega arith) in
-    regions_by (lookup (records_of p) mcfg_kind (pointers_of p)) t found ∙ ap regions (mcfg_read ids es t is)
-
--- ---- the HPET
-
-hpet_by : (r : Result (ℕ × List ℕ) AcpiError) (b : List ℕ) → bytes_found r ≡ Ok b
-    → (r >>= λ found. info_of (hpet_at found.1)) ≡ info_of (hpet_at b)
-hpet_by (Ok found) b e = ap (λ z. info_of (hpet_at z)) (same_found found.1 b e)
-hpet_by (Err d) b e = absurd cc
-
-pub hpet_in_image : HpetInImage
-hpet_in_image p t ids i is first =
-    let found = first_found HPET hpet_name 56 1 ids (hpet_body i) t p is.written first (lit≤ tt)
-    (omega (arith, hpet_long i)) in
-    hpet_by (lookup (records_of p) hpet_kind (pointers_of p)) t found ∙ hpet_read ids i t is

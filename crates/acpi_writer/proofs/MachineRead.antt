@@ -15,7 +15,8 @@ use Rattle.acpi_writer.proofs.ContentsRead.{IsContents, all_contents, all_valid,
 use Rattle.acpi_writer.proofs.Headless.{has_facs, laid_long, rsdp_long, rsdp_read}
 use Rattle.acpi_writer.proofs.LaidRead.{front_lent, laid_found, rest_lent, there}
 use Rattle.acpi_writer.proofs.ShortTables.{dsdt_read, root_read, root_valid}
-use Rattle.acpi_writer.proofs.Sized.{table_length, wrote, padded_long, root_long, tree_size_is, xsdt_long}
+use Rattle.acpi_writer.proofs.Tables.{table_length}
+use Rattle.acpi_writer.proofs.Sized.{wrote, padded_long, root_long, tree_size_is, xsdt_long}
 
 -- ---- an RSDP that is lent
 

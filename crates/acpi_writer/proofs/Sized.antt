@@ -7,22 +7,10 @@ use Rattle.acpi_base.specs.FromStd.{Bor}
 use Rattle.acpi_base.specs.Words.{◌>>=◌, letters_of, spelling}
 use Rattle.acpi.specs.Types.{Signature, BGRT, FADT, GTDT, HPET, MADT, MCFG, SLIT, SPCR, SRAT, SSDT, XSDT}
 use Rattle.acpi_writer.specs.Types.{Xsdt}
-use Rattle.acpi_image.proofs.Written.{length-with_sum}
-use Rattle.acpi_writer.specs.Words.{bgrt_body, Moves, contents_written, most, or_none, Written, bytes_by, placed_by, sized, fadt_body, fadt_checked, fadt_written, gic_body, gic_checked, gic_written, gtdt_body, gtdt_checked, hpet_body, is_empty, gap, padded, addresses, laid, rounded, madt_body, madt_checked, madt_written, mcfg_body, slit_body, slit_checked, slit_written, spcr_body, spcr_checked, spcr_written, srat_body, srat_checked, srat_written, AreIds, are_texts, table_bytes, table_head, table_written, unsummed, TableContents, Bgrt, Fadt, GicMadt, Gtdt, Hpet, Madt, Mcfg, Slit, Spcr, Srat, Ssdt, WriterError, FadtContents, TableIds, SpcrContents, SratContents, GicContents, MadtContents, gic_meant, items_of, madt_meant, srat_meant, MachineOf, after_dsdt, check_each, dsdt_address, dsdt_end, dsdt_of, facs_laid, listed_by, rest_bytes, size_by, tables_address, tree_by, xsdt_by, xsdt_from, xsdt_length, root_body, Measures, gtdt_written_by}
-use Rattle.acpi_writer.proofs.Tables.{head_length, it_fits}
+use Rattle.acpi_writer.specs.Words.{bgrt_body, Moves, contents_written, most, or_none, Written, bytes_by, placed_by, sized, fadt_body, fadt_checked, fadt_written, gic_body, gic_checked, gic_written, gtdt_body, gtdt_checked, hpet_body, is_empty, gap, padded, addresses, laid, rounded, madt_body, madt_checked, madt_written, mcfg_body, slit_body, slit_checked, slit_written, spcr_body, spcr_checked, spcr_written, srat_body, srat_checked, srat_written, AreIds, are_texts, table_bytes, table_written, TableContents, Bgrt, Fadt, GicMadt, Gtdt, Hpet, Madt, Mcfg, Slit, Spcr, Srat, Ssdt, WriterError, FadtContents, TableIds, SpcrContents, SratContents, GicContents, MadtContents, gic_meant, items_of, madt_meant, srat_meant, MachineOf, after_dsdt, check_each, dsdt_address, dsdt_end, dsdt_of, facs_laid, listed_by, rest_bytes, size_by, tables_address, tree_by, xsdt_by, xsdt_from, xsdt_length, root_body, Measures, gtdt_written_by}
+use Rattle.acpi_writer.proofs.Tables.{it_fits, table_length}
 use borrow.Rule.Slice.PartMut.{post_of, put_mid}
 use Rattle.acpi_writer.proofs.Headless.{laid_long}
-
-pub table_length : (s : Signature) (revision : ℕ) (ids : TableIds) (body : List ℕ) → length (letters_of s) ≡ 4
-    → AreIds ids → length (table_bytes s revision ids body) ≡ 36 + length body
-unfolding table_bytes
-table_length s revision ids body letters are =
-    length-with_sum 9 (unsummed s revision ids body)
-    ∙ omega (
-      arith,
-      length-append (table_head s revision ids (36 + length body)) body,
-      head_length s revision ids letters are (36 + length body),
-    )
 
 -- ---- more room, and less
 

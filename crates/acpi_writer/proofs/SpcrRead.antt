@@ -3,12 +3,11 @@ use Rattle.std.proofs.Common.{◌≡◌, ℕ, ◌+◌, ◌-◌, ◌%◌, ◌^◌
 use Rattle.acpi_base.specs.FromStd.{option_or, chars, is_utf8}
 use Rattle.acpi_base.proofs.FromStd.{and_parts, eqb-true, le-leb, ltb-true, drop-drop, take_all, bytes_eq-Decides, IsUtf8-append, IsUtf8-from_is_utf8, is_utf8-from_IsUtf8, All-from_recursion}
 use Rattle.acpi_base.specs.Words.{generic_address_of, field_of, filled_part, part, spelling, header_at, configured_baud, interface_of, is_interface, namespace_of, spcr_at, unless, bits_of, has_bit, interrupt_bits}
-use Rattle.acpi.specs.Types.{GenericAddress, AcpiError, SPCR}
-use Rattle.acpi_writer.specs.Words.{FitsAddress, FitsRegister, address_bytes, address_fields, register_or_zeros, baud_code, device_written, fixed_list, is_base, is_somewhere, spcr_body, spcr_fields, IsSpcr, SaysConsole, SaysDevice, SaysPort, SpcrIsRead, SpcrIsValid, readable, BadCode, NoAddress, TableIds, SpcrContents, FitsField, field_at, field_size, field_value, offset_of, Zeros}
-use Rattle.acpi_writer.proofs.Tables.{ids_are_read}
+use Rattle.acpi.specs.Types.{GenericAddress, AcpiError}
+use Rattle.acpi_writer.specs.Words.{FitsAddress, FitsRegister, address_bytes, address_fields, register_or_zeros, baud_code, device_written, fixed_list, is_base, is_somewhere, spcr_body, spcr_fields, IsSpcr, SaysConsole, SaysDevice, SaysPort, SpcrIsRead, readable, BadCode, NoAddress, TableIds, SpcrContents, FitsField, field_at, field_size, field_value, offset_of, Zeros}
 use Rattle.acpi_base.proofs.Words.{holds_ok, interface_read}
 use Rattle.acpi_writer.proofs.Bits.{is_off, was_true}
-use Rattle.acpi_writer.proofs.FieldsRead.{read_front}
+use Rattle.acpi_writer.proofs.FieldsRead.{read_in}
 use Rattle.acpi_writer.proofs.RegisterRead.{address_field, address_read}
 use Rattle.acpi_writer.proofs.Tables as table
 
@@ -69,10 +68,6 @@ filled a = refl
 
 -- ---- the table
 
-pub spcr_name : table.IsName SPCR
-unfolding is_utf8 chars lib.Utf8.encode
-spcr_name = record { a = _; b = _; c = _; d = _; letters = refl; text = refl; same = refl }
-
 module _ (c : SpcrContents) where
   base_in : part (spcr_body c) 4 12 ≡ address_bytes (register_or_zeros c.base_address)
   unfolding fixed_list address_fields spelling
@@ -99,27 +94,23 @@ module _ (ids : TableIds) (c : SpcrContents) (t : List ℕ) (is : IsSpcr ids c t
       let codes = and_parts (is_interface c.interface_type) (is_base c.base_address) one.0 in
       (codes.0, codes.1, two.0, ltb-true (length c.namespace_string.now) 0xffff (was_true _ _ two.1))
 
-  field : (k n : ℕ) → field_of t (36 + k) n ≡ field_of (spcr_body c) k n
-  field = table.field SPCR spcr_name 4 ids (spcr_body c) t is.written
-
   rest : drop 36 t ≡ spcr_body c
-  rest = table.rest SPCR spcr_name 4 ids (spcr_body c) t is.written
+  rest = table.rest refl is.written
 
   revision : (header_at t).revision ≡ 4
-  revision = (ids_are_read SPCR _ _ _ _ 4 ids (spcr_body c) t spcr_name.letters is.written).revision_is
+  revision = (table.says refl is.written).revision_is
 
   raw : filled_part t 40 12 ≡ address_bytes (register_or_zeros c.base_address)
   raw =
       let found : part t 40 12 ≡ address_bytes (register_or_zeros c.base_address) =
-      ap (take 12) (sym (drop-drop 4 36 t) ∙ ap (drop 4) rest) ∙ base_in c in
+      table.part_of refl is.written 4 12 ∙ base_in c in
       ap (λ p. p ++ replicate (12 - length p) 0) found ∙ filled (register_or_zeros c.base_address)
 
   -- a field, by its place among them
   at_place : (i : ℕ) → i < length (spcr_fields c)
       → field_of t (36 + offset_of (spcr_fields c) i) (field_size (field_at (spcr_fields c) i))
       ≡ field_value (field_at (spcr_fields c) i)
-  at_place i less = field (offset_of (spcr_fields c) i) (field_size (field_at (spcr_fields c) i))
-      ∙ read_front (spcr_fields c) (c.namespace_string.now ++ (0 ∷ [])) is.fit.0 i less
+  at_place i less = read_in t (c.namespace_string.now ++ (0 ∷ [])) 36 (spcr_fields c) rest is.fit.0 i less
 
   address_fits : FitsRegister c.base_address
   unfolding fixed_list address_fields
@@ -174,7 +165,7 @@ module _ (ids : TableIds) (c : SpcrContents) (t : List ℕ) (is : IsSpcr ids c t
       ∙ take_all (length c.namespace_string.now + 1) name (omega (arith, length-append c.namespace_string.now (0 ∷ [])))
 
   within : nat_le (88 + (length c.namespace_string.now + 1)) (length t) ≡ true
-  within = le-leb _ _ (omega (arith, table.long SPCR spcr_name 4 ids (spcr_body c) t is.written, body_long c))
+  within = le-leb _ _ (omega (arith, table.long refl is.written, body_long c))
 
   named : namespace_of t ≡ Ok name
   unfolding spcr_at fixed_list
@@ -188,6 +179,3 @@ module _ (ids : TableIds) (c : SpcrContents) (t : List ℕ) (is : IsSpcr ids c t
 
 pub spcr_read : SpcrIsRead
 spcr_read ids c t is = says ids c t is
-
-pub spcr_valid : SpcrIsValid
-spcr_valid ids c t is = table.valid SPCR spcr_name 4 ids (spcr_body c) t is.written

@@ -60,7 +60,7 @@ fn has_letters(signature: Signature)
 }
 
 /// How many bytes a table has, or the first error of `write_table` in a slice of any length.
-#[tactic(auto, using(crate::proofs::Sized::table_length), unfolding(crate::specs::Table::table_written))]
+#[tactic(auto, using(crate::proofs::Tables::table_length), unfolding(crate::specs::Table::table_written))]
 pub fn table_size<B: Spelled>(
     signature: Signature,
     revision: u8,
