@@ -8,7 +8,8 @@ use Rattle.acpi_image_reader.specs.Words.{share, shares_any, region_in, AreAllAp
 use Rattle.acpi_image.specs.Words.{IsPlaced, place_of, places_of, check_places, check_plan, check_tables, pointers_fit, some_share, WritesOrRunsOut, is_table, written, placed, placed_region, plan, records_of, root_length, starts_of, summed, Plan, kind_of, pointers_of, PlacedTable, WriteError}
 use Rattle.acpi_image_reader.proofs.Sharing.{SamePlace, ranges_share, same_share, shares_none}
 use Rattle.acpi_image.proofs.Written.{length-rsdp_to, length-with_sum, root_long, table_is}
-use Rattle.std.proofs.lemmas.Bool.{false≢true}
+use Rattle.std.proofs.lemmas.Bool.{both_ways, false≢true, true_from_ne_false}
+use Rattle.std.proofs.lemmas.List.Folds.{list_all_at}
 use Rattle.acpi.specs.Types.{AddressRange}
 use Rattle.acpi.specs.Words.{kind_of_revision}
 use Rattle.acpi_image_reader.proofs.Listing.{flipped, starts_none}
@@ -117,10 +118,7 @@ module _ (m : Memory) (tables : List PlacedTable) (i : ℕ) (d : PlacedTable) (l
 
   one_more : before ++ (region_in p ∷ []) ≡ m ++ places_of (take (i + 1) tables)
   one_more =
-      let front : places_of (take (i + 1) tables) ≡ places_of (take i tables) ++ (place_of (get_or tables i d) ∷ []) =
-      ap places_of (take_more tables i d less) ∙ map-append place_of (take i tables) (get_or tables i d ∷ []) in
-      rw (is_of p (get_or tables i d) start count, front)
-      (append_assoc m (places_of (take i tables)) (place_of (get_or tables i d) ∷ []))
+      rw (is_of p (get_or tables i d) start count, take_more tables i d less) (simp (map-append, append_assoc))
 
   all_of : before ++ (region_in p ∷ places_of (drop (i + 1) tables)) ≡ m ++ places_of tables
   all_of =
@@ -140,16 +138,21 @@ module _ (m : Memory) (tables : List PlacedTable) (i : ℕ) (d : PlacedTable) (l
       → IsPlaced starts (m ++ places_of (take (i + 1) tables))
   table_added starts h = subst (λ (n : Memory). IsPlaced starts n) one_more h
 
+pub all_fit : (tables : List PlacedTable)
+    → list_all (λ r. nat_lt (end_of r) (2 ^ 64)) (places_of tables)
+    ≡ list_all (λ t. range_fits t.address (length t.bytes.now)) tables
+all_fit [] = refl
+all_fit (t ∷ tables) = rw (length-replicate {A = ℕ} (length t.bytes.now) 0, all_fit tables) refl
+
 -- it ends below 2^64
 pub table_fits : (tables : List PlacedTable) (i : ℕ) (d : PlacedTable) (p : AddressRange) → i < length tables
     → p.address ≡ (get_or tables i d).address → p.length ≡ length (get_or tables i d).bytes.now
     → list_all (λ r. nat_lt (end_of r) (2 ^ 64)) (places_of tables) ≡ true → end_of (region_in p) < 2 ^ 64
-table_fits (t ∷ tables) zero d p less start count h =
-    let fits = ltb-true _ _ (and_parts _ _ h).0 in
-    subst (λ (r : Region). end_of r < 2 ^ 64) (sym (is_of p t start count)) fits
-table_fits (t ∷ tables) (suc i) d p less start count h =
-    table_fits tables i d p (omega arith) start count (and_parts _ _ h).1
-table_fits [] i d p less start count h = absurd (omega arith)
+table_fits tables i d p less start count h =
+    let fits = true_from_ne_false _ (λ e. both_ways _
+    (list_all_at (λ t. range_fits t.address (length t.bytes.now)) tables i d less e) (sym (all_fit tables) ∙ h)) in
+    let low = ltb-true _ _ fits in
+    omega (arith, low, start, count, length-replicate {A = ℕ} p.length 0)
 
 -- no table is left
 pub tables_end : (m : Memory) (tables : List PlacedTable) (i : ℕ) (starts : BTreeMap ℕ ℕ) → length tables ≤ i
@@ -176,12 +179,6 @@ pub any_shares : (tables : List PlacedTable) (r : Region)
     → shares_any (places_of tables) r ≡ list_any (λ t. share (place_of t) r) tables
 any_shares [] r = refl
 any_shares (t ∷ tables) r = ap (λ b. share (place_of t) r || b) (any_shares tables r)
-
-pub all_fit : (tables : List PlacedTable)
-    → list_all (λ r. nat_lt (end_of r) (2 ^ 64)) (places_of tables)
-    ≡ list_all (λ t. range_fits t.address (length t.bytes.now)) tables
-all_fit [] = refl
-all_fit (t ∷ tables) = rw (length-replicate {A = ℕ} (length t.bytes.now) 0, all_fit tables) refl
 
 pub region_fits : (r : AddressRange) → nat_lt (end_of (region_in r)) (2 ^ 64) ≡ range_fits r.address r.length
 region_fits r = rw (length-replicate {A = ℕ} r.length 0) refl

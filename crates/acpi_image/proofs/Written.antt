@@ -227,16 +227,11 @@ same_bytes : (xs : List ℕ) → bytes_eq xs xs ≡ true
 same_bytes [] = refl
 same_bytes (x ∷ xs) = and_from _ _ (eq-eqb x x refl) (same_bytes xs)
 
-names_hold : (h : SdtHeader) → is_utf8 h.signature.0 ≡ true → is_utf8 h.oem_id ≡ true → is_utf8 h.oem_table_id ≡ true
-    → check_names h.signature h ≡ Ok tt
-unfolding check_names
-names_hold h s o t = rw (same_bytes h.signature.0, s, o, t) refl
-
 -- the names of a header lie in parts of the bytes
 pub header_names : (b : List ℕ) → is_utf8 (part b 0 4) ≡ true → is_utf8 (part b 10 6) ≡ true
     → is_utf8 (part b 16 8) ≡ true → check_names (header_at b).signature (header_at b) ≡ Ok tt
-unfolding header_at
-header_names b s o t = names_hold _ s o t
+unfolding header_at check_names
+header_names b s o t = rw (same_bytes (part b 0 4), s, o, t) refl
 
 -- what is tested of a table's bytes, apart
 pub record IsTable (b : List ℕ) : Type 0 where

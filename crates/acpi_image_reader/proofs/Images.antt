@@ -39,10 +39,6 @@ record IsRead (b : List ℕ) (found : Region × List ℕ) : Type 0 where
   pub rest : IsBytes found.1
   pub less : length found.1 < length b
 
-cut_again : (b : List ℕ) (i j n : ℕ) → (take i b ++ (take j (drop i b) ++ take n (drop j (drop i b))))
-    ++ drop n (drop j (drop i b)) ≡ b
-cut_again b i j n = simp (append_assoc, take-append-drop)
-
 spelled_at : (b : List ℕ) (o : ℕ) → IsBytes b → o + 8 ≤ length b → spelling 8 (field_of b o 8) ≡ take 8 (drop o b)
 unfolding field_of
 spelled_at b o h room =
@@ -52,8 +48,8 @@ spelled_at b o h room =
 
 cut_at : (b : List ℕ) (n : ℕ) → (take 8 b ++ (take 8 (drop 8 b) ++ take n (drop 16 b))) ++ drop n (drop 16 b) ≡ b
 cut_at b n =
-    let two : drop 8 (drop 8 b) ≡ drop 16 b = drop-drop 8 8 b in
-    rw two at (cut_again b 8 8 n)
+    let two : drop 16 b ≡ drop 8 (drop 8 b) = sym (drop-drop 8 8 b) in
+    rw two (simp (append_assoc, take-append-drop))
 
 abbrev front_of : List ℕ → Region × List ℕ
 front_of b = (

@@ -22,79 +22,62 @@ files_for (Some r) = r.names
 abbrev pub unsaved_line : List ℕ → SaveError → List ℕ
 unsaved_line name e = codes "refused " ++ name ++ codes ": " ++ save_error_text e ++ codes "\n"
 
+-- what was saved, and what the outputs have
+pub record Effects : Type 0 where
+  pub saved : List FileSaved
+  pub out : Option (List ℕ)
+  pub err : Option (List ℕ)
+
 -- what lies where in the image is printed once it is saved, and else why it is not
-abbrev pub IsTold : Request → List (Option (List ℕ)) → List ℕ → Result (Unit {0}) SaveError → ℕ
-    → Option (List ℕ) → Option (List ℕ) → Option (List ℕ) → Option (List ℕ) → Type 0
-IsTold r files image (Ok saved) status out out_after err err_after =
-    (status ≡ 0) × (err_after ≡ err) × ((text : List ℕ)
-    × (listing (labels_of r.addresses r.names files) image ≡ Ok text) × Appends out out_after text)
-IsTold r files image (Err e) status out out_after err err_after =
-    (status ≡ 1) × (out_after ≡ out) × Appends err err_after (unsaved_line r.out e)
+abbrev pub IsTold : Request → List (Option (List ℕ)) → List ℕ → Result (Unit {0}) SaveError → ℕ → Effects → Effects
+    → Type 0
+IsTold r files image (Ok saved) status old new =
+    (status ≡ 0) × (new.err ≡ old.err) × ((text : List ℕ)
+    × (listing (labels_of r.addresses r.names files) image ≡ Ok text) × Appends old.out new.out text)
+IsTold r files image (Err e) status old new =
+    (status ≡ 1) × (new.out ≡ old.out) × Appends old.err new.err (unsaved_line r.out e)
 
 -- the image was to be saved once, under the name that is asked for, and nothing else was
-pub record Saves (r : Request) (files : List (Option (List ℕ))) (image : List ℕ)
-    (saved saved_after : List FileSaved) (status : ℕ)
-    (out out_after err err_after : Option (List ℕ)) : Type 0 where
+pub record Saves (r : Request) (files : List (Option (List ℕ))) (image : List ℕ) (status : ℕ) (old new : Effects)
+    : Type 0 where
   pub answer : Result (Unit {0}) SaveError
-  pub grown : saved_after ≡ saved
+  pub grown : new.saved ≡ old.saved
       ++ record { name = r.out; sources = r.names; bytes = image; answer = answer } ∷ []
-  pub told : IsTold r files image answer status out out_after err err_after
+  pub told : IsTold r files image answer status old new
 
--- nothing was to be saved, and nothing more is printed
-pub record SavesNothing (saved saved_after : List FileSaved)
-    (out out_after err err_after : Option (List ℕ)) : Type 0 where
-  pub same : saved_after ≡ saved
-  pub shown : out_after ≡ out
-  pub told : err_after ≡ err
-
--- an image is saved; a refusal gives 1, and no command 2
-abbrev pub Follows : Option Request → List (Option (List ℕ)) → Outcome → List FileSaved
-    → List FileSaved → ℕ → Option (List ℕ) → Option (List ℕ) → Option (List ℕ) → Option (List ℕ)
-    → Type 0
-Follows None files said saved saved_after status out out_after err err_after =
-    (status ≡ 2) × SavesNothing saved saved_after out out_after err err_after
-Follows (Some r) files (outcome.Image image) saved saved_after status out out_after err err_after =
-    Saves r files image.items saved saved_after status out out_after err err_after
-Follows (Some r) files said saved saved_after status out out_after err err_after =
-    (status ≡ 1) × SavesNothing saved saved_after out out_after err err_after
+-- an image is saved; a refusal gives 1, and no command 2, and then nothing was to be saved, nor is more printed
+abbrev pub Follows : Option Request → List (Option (List ℕ)) → Outcome → ℕ → Effects → Effects → Type 0
+Follows None files said status old new = (status ≡ 2) × (new ≡ old)
+Follows (Some r) files (outcome.Image image) status old new = Saves r files image.items status old new
+Follows (Some r) files said status old new = (status ≡ 1) × (new ≡ old)
 
 -- ---- all of it
 
 -- the files that the arguments name were asked for, in order, and for no command none; what is
 -- printed, saved and answered is what follows of the bytes that were read of them
-pub record Packs (arguments : List (List ℕ)) (asked asked_after : List FileRead)
-    (saved saved_after : List FileSaved) (status : ℕ)
-    (out out_after err err_after : Option (List ℕ)) : Type 0 where
+pub record Packs (arguments : List (List ℕ)) (asked asked_after : List FileRead) (status : ℕ) (old new : Effects)
+    : Type 0 where
   pub asks : Asks (files_for (request_in arguments)) asked asked_after
   pub outcome : Outcome
   pub between : Option (List ℕ)
-  pub ends : Ends (request_in arguments) (contents_of asks.reads) outcome err between
-  pub follows : Follows (request_in arguments) (contents_of asks.reads) outcome saved saved_after
-      status out out_after between err_after
+  pub ends : Ends (request_in arguments) (contents_of asks.reads) outcome old.err between
+  pub follows : Follows (request_in arguments) (contents_of asks.reads) outcome status
+      (record { saved = old.saved; out = old.out; err = between }) new
 
 -- ---- the program
 
 -- a text is printed on the output, and nothing else is done
-pub record Tells (text : List ℕ) (asked asked_after : List FileRead)
-    (saved saved_after : List FileSaved) (status : ℕ)
-    (out out_after err err_after : Option (List ℕ)) : Type 0 where
+pub record Tells (text : List ℕ) (asked asked_after : List FileRead) (status : ℕ) (old new : Effects) : Type 0 where
   pub done : status ≡ 0
   pub unasked : asked_after ≡ asked
-  pub unsaved : saved_after ≡ saved
-  pub shown : Appends out out_after text
-  pub told : err_after ≡ err
+  pub unsaved : new.saved ≡ old.saved
+  pub shown : Appends old.out new.out text
+  pub told : new.err ≡ old.err
 
-abbrev pub RunsBy : Option (List ℕ) → List (List ℕ) → List FileRead → List FileRead → List FileSaved
-    → List FileSaved → ℕ → Option (List ℕ) → Option (List ℕ) → Option (List ℕ) → Option (List ℕ)
-    → Type 0
-RunsBy (Some text) arguments asked asked_after saved saved_after status out out_after err err_after =
-    Tells text asked asked_after saved saved_after status out out_after err err_after
-RunsBy None arguments asked asked_after saved saved_after status out out_after err err_after =
-    Packs arguments asked asked_after saved saved_after status out out_after err err_after
+abbrev pub RunsBy : Option (List ℕ) → List (List ℕ) → List FileRead → List FileRead → ℕ → Effects → Effects → Type 0
+RunsBy (Some text) arguments asked asked_after status old new = Tells text asked asked_after status old new
+RunsBy None arguments asked asked_after status old new = Packs arguments asked asked_after status old new
 
 -- arguments that ask what the program tells of itself are told it, and all others are packed by
-abbrev pub Runs : List (List ℕ) → List FileRead → List FileRead → List FileSaved
-    → List FileSaved → ℕ → Option (List ℕ) → Option (List ℕ) → Option (List ℕ) → Option (List ℕ)
-    → Type 0
-Runs arguments asked asked_after saved saved_after status out out_after err err_after =
-    RunsBy (told_of arguments) arguments asked asked_after saved saved_after status out out_after err err_after
+abbrev pub Runs : List (List ℕ) → List FileRead → List FileRead → ℕ → Effects → Effects → Type 0
+Runs arguments asked asked_after status old new = RunsBy (told_of arguments) arguments asked asked_after status old new

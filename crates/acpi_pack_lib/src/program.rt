@@ -38,9 +38,9 @@ fn save_image<S: Storage, W: Write, E: Write>(
     out: &mut W,
     err: &mut E,
 ) -> io::Result<u8>
-    ensures { IfOk result (λ s. Saves (request_of command.now) (contents files.now) image.items
-        (S.saved storage.old) (S.saved storage.new) s
-        (W.contents out.old) (W.contents out.new) (E.contents err.old) (E.contents err.new)) }
+    ensures { IfOk result (λ s. Saves (request_of command.now) (contents files.now) image.items s
+        (record { saved = S.saved storage.old; out = W.contents out.old; err = E.contents err.old })
+        (record { saved = S.saved storage.new; out = W.contents out.new; err = E.contents err.new })) }
 {
     let Ok(lines) = record_lines(alloc, command, files, &image) else {
         return Err(io::Error::from(AllocError));
@@ -70,9 +70,9 @@ fn finish<S: Storage, W: Write, E: Write>(
     out: &mut W,
     err: &mut E,
 ) -> io::Result<u8>
-    ensures { IfOk result (λ s. Follows (option_map request_of asked.now) (contents files.now) outcome
-        (S.saved storage.old) (S.saved storage.new) s
-        (W.contents out.old) (W.contents out.new) (E.contents err.old) (E.contents err.new)) }
+    ensures { IfOk result (λ s. Follows (option_map request_of asked.now) (contents files.now) outcome s
+        (record { saved = S.saved storage.old; out = W.contents out.old; err = E.contents err.old })
+        (record { saved = S.saved storage.new; out = W.contents out.new; err = E.contents err.new })) }
 {
     match (asked, outcome) {
         (None, _) => Ok(2),
@@ -98,8 +98,9 @@ fn pack_asked<F: Files, S: Storage, W: Write, E: Write>(
     err: &mut E,
 ) -> io::Result<u8>
     ensures exact { IfOk result (λ s. Packs (map (λ w. w.now) arguments.now)
-        (F.asked files.old) (F.asked files.new) (S.saved storage.old) (S.saved storage.new) s
-        (W.contents out.old) (W.contents out.new) (E.contents err.old) (E.contents err.new)) }
+        (F.asked files.old) (F.asked files.new) s
+        (record { saved = S.saved storage.old; out = W.contents out.old; err = E.contents err.old })
+        (record { saved = S.saved storage.new; out = W.contents out.new; err = E.contents err.new })) }
     // No other file is asked for if it is refused.
     ensures refused { OnErr result (AsksFront (files_for (request_in (map (λ w. w.now) arguments.now)))
         (F.asked files.old) (F.asked files.new)) }
@@ -129,8 +130,9 @@ pub fn pack<F: Files, S: Storage, W: Write, E: Write>(
     err: &mut E,
 ) -> io::Result<u8>
     ensures exact { IfOk result (λ s. Runs (map (λ w. w.now) arguments.now)
-        (F.asked files.old) (F.asked files.new) (S.saved storage.old) (S.saved storage.new) s
-        (W.contents out.old) (W.contents out.new) (E.contents err.old) (E.contents err.new)) }
+        (F.asked files.old) (F.asked files.new) s
+        (record { saved = S.saved storage.old; out = W.contents out.old; err = E.contents err.old })
+        (record { saved = S.saved storage.new; out = W.contents out.new; err = E.contents err.new })) }
     // No other file is asked for if it is refused.
     ensures refused { OnErr result (AsksFront (files_for (request_in (map (λ w. w.now) arguments.now)))
         (F.asked files.old) (F.asked files.new)) }
