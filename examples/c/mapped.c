@@ -1,0 +1,275 @@
+/* mapped IMAGE rsdt REVISION ADDRESS N | rsdp ADDRESS N | bios N: whether zacpi_map_tables leads to the answers over
+ * the whole memory of an image, and of N copies of it of which some bytes are changed and a part is missing, the same
+ * each time.
+ *
+ * Its mapper counts what it maps. Pages without access stand before and after each range that it maps, and what it
+ * unmaps becomes such pages, so reading them ends the program. */
+#define _DEFAULT_SOURCE
+#include "image.h"
+#include "start.h"
+#include "zacpi_map.h"
+#include <sys/mman.h>
+
+enum { PAGE = 4096, MOST = 4096 };
+
+/* The memory: the pages of the image's records, zeros around the records, and those that touch as one. There is what of
+ * it isn't missing. */
+static struct zacpi_region records[MOST], memory[MOST], there[MOST + 1];
+static size_t records_count, memory_count, there_count;
+static uint8_t *bytes;
+/* The mapper's page: each range begins and ends at a multiple of it. */
+static uint64_t unit;
+
+/* What the mapper has mapped, also what it unmapped since, how many of these are mapped now, and how many were at most
+ * when one more was asked for or the run ended: as many regions there were. */
+static struct { uint64_t address, length; uint8_t *base; const void *at; int is_mapped; } mapped[MOST];
+static size_t mapped_count, mapped_now, mapped_most;
+/* Whether a range was unmapped that no other holds. */
+static int is_lost;
+/* The ranges that it refused. */
+static struct zacpi_range refused[MOST];
+static size_t refused_count;
+
+static int wrong(const char *what) {
+    fprintf(stderr, "%s\n", what);
+    return 0;
+}
+static void end(const char *what) {
+    wrong(what);
+    exit(1);
+}
+static int holds(uint64_t outer, uint64_t outer_length, uint64_t address, uint64_t length) {
+    return address >= outer && length <= outer_length && address - outer <= outer_length - length;
+}
+static size_t in_pages(uint64_t length) { return (size_t)(length + PAGE - 1) / PAGE * PAGE; }
+
+static const void *map(void *context, uint64_t address, uint64_t length) {
+    const size_t size = in_pages(length);
+    uint8_t *base, *at;
+    size_t i;
+    if (context != &mapped) end("map: another context");
+    if (address % unit || length % unit || !length) end("map: no whole pages");
+    for (i = 0; i < mapped_count; i++)
+        if (mapped[i].is_mapped && holds(mapped[i].address, mapped[i].length, address, length))
+            end("map: it is mapped");
+    if (mapped_now > mapped_most) mapped_most = mapped_now;
+    for (i = 0; i < refused_count; i++)
+        if (holds(address, length, refused[i].address, refused[i].length)) end("map: a refused range again");
+    for (i = 0; i < there_count && !holds(there[i].address, there[i].length, address, length); i++) continue;
+    if (refused_count == MOST || mapped_count == MOST) end("map: too many");
+    if (i == there_count) {
+        refused[refused_count].address = address;
+        refused[refused_count++].length = length;
+        return NULL;
+    }
+    base = (uint8_t *)mmap(NULL, size + 2 * PAGE, PROT_NONE, MAP_PRIVATE | MAP_ANONYMOUS, -1, 0);
+    if (base == MAP_FAILED || mprotect(base + PAGE, size, PROT_READ | PROT_WRITE)) end("map: no memory");
+    at = base + PAGE + (size - length);
+    memcpy(at, there[i].bytes + (address - there[i].address), (size_t)length);
+    if (mprotect(base + PAGE, size, PROT_READ)) end("map: no protection");
+    mapped[mapped_count].address = address;
+    mapped[mapped_count].length = length;
+    mapped[mapped_count].base = base;
+    mapped[mapped_count].at = at;
+    mapped[mapped_count++].is_mapped = 1;
+    mapped_now++;
+    return at;
+}
+/* The pages stay without access until the run ends, so that nothing else takes their place. */
+static void unmap(void *context, const void *at, uint64_t address, uint64_t length) {
+    size_t i;
+    if (context != &mapped) end("unmap: another context");
+    for (i = 0; i < mapped_count && mapped[i].at != at; i++) continue;
+    if (i == mapped_count || !mapped[i].is_mapped || mapped[i].address != address || mapped[i].length != length)
+        end("unmap: what isn't mapped");
+    if (mprotect(mapped[i].base + PAGE, in_pages(length), PROT_NONE)) end("unmap: no protection");
+    mapped[i].is_mapped = 0;
+    mapped_now--;
+    for (i = 0; i < mapped_count; i++)
+        if (mapped[i].is_mapped && holds(mapped[i].address, mapped[i].length, address, length)) return;
+    is_lost = 1;
+}
+static void forget(void) {
+    while (mapped_count) {
+        mapped_count--;
+        munmap(mapped[mapped_count].base, in_pages(mapped[mapped_count].length) + 2 * PAGE);
+    }
+    refused_count = 0;
+}
+
+/* What calls of the library say: of each its status, then what it wrote. */
+static struct said {
+    zacpi_status status[10];
+    struct zacpi_signature named[10];
+    size_t count[10];
+    struct zacpi_root root;
+    struct zacpi_aml_table dsdt, ssdts[16];
+    struct zacpi_hpet_info hpet;
+    struct zacpi_table tables[64], fadt;
+    struct zacpi_fault faults[64];
+    struct zacpi_range ranges[64], missing[64];
+    struct zacpi_processor processors[64];
+} over_all, over_mapped;
+
+static void ask(const struct zacpi_source *source, struct said *said) {
+    const struct zacpi_signature facp = {{'F', 'A', 'C', 'P'}};
+    memset(said, 0, sizeof *said);
+    said->status[0] = zacpi_open(source, &said->root, &said->named[0]);
+    said->status[1] = zacpi_dsdt(source, &said->dsdt, &said->named[1]);
+    said->status[2] = zacpi_hpet(source, &said->hpet, &said->named[2]);
+    said->status[3] = zacpi_find_table(source, facp, &said->fadt, &said->named[3]);
+    said->status[4] = zacpi_list_ssdts(source, said->ssdts, 16, &said->count[4], &said->named[4]);
+    said->status[5] = zacpi_list_tables(source, said->tables, 64, &said->count[5], &said->named[5]);
+    said->status[6] = zacpi_list_faults(source, facp, said->faults, 64, &said->count[6], &said->named[6]);
+    said->status[7] = zacpi_list_ranges(source, said->ranges, 64, &said->count[7], &said->named[7]);
+    said->status[8] = zacpi_list_missing_ranges(source, said->missing, 64, &said->count[8], &said->named[8]);
+    said->status[9] = zacpi_list_processors(source, said->processors, 64, &said->count[9], &said->named[9]);
+}
+static int same(void) { return memcmp(&over_all, &over_mapped, sizeof over_all) == 0; }
+
+static struct zacpi_region regions[MOST + 1];
+static struct zacpi_range ranges[MOST + 1];
+
+/* One run, with so much room. Nothing is mapped in the end, and nothing is written past the room. */
+static zacpi_status run(struct zacpi_source source, size_t capacity, size_t room) {
+    struct zacpi_mapper mapper = {&mapped, map, unmap, 0};
+    zacpi_status status;
+    size_t i;
+    if (unit != PAGE) mapper.page = unit;
+    mapped_most = 0;
+    is_lost = 0;
+    source.regions_length = 0;
+    regions[capacity].length = ranges[room].length = 12345;
+    status = zacpi_map_tables(&mapper, &source, regions, capacity, ranges, room);
+    if (regions[capacity].length != 12345 || ranges[room].length != 12345) end("something is written past the room");
+    if (mapped_now != source.regions_length) end("more is mapped than there are regions");
+    if (status != ZACPI_OK && mapped_now) end("an error, and something is mapped");
+    if (status == ZACPI_OK && is_lost) end("memory was unmapped that isn't in a region");
+    if (mapped_now > mapped_most) mapped_most = mapped_now;
+    for (i = 1; i < source.regions_length; i++)
+        if (regions[i - 1].address + regions[i - 1].length >= regions[i].address) end("two regions touch");
+    if (status == ZACPI_OK) ask(&source, &over_mapped);
+    zacpi_unmap_tables(&mapper, &source);
+    if (mapped_now || source.regions_length) end("something is mapped in the end");
+    forget();
+    return status;
+}
+static int agrees(const struct zacpi_source *over) {
+    size_t most, room;
+    ask(over, &over_all);
+    if (run(*over, MOST, MOST) != ZACPI_OK) return wrong("no answer");
+    if (!same()) return wrong("other answers than over the whole memory");
+    most = mapped_most;
+    if (run(*over, most, MOST) != ZACPI_OK || !same()) return wrong("as many regions as it takes");
+    if (most && run(*over, most - 1, MOST) != ZACPI_NO_ROOM) return wrong("one region less");
+    for (room = 0; room < 4; room++) {
+        const zacpi_status status = run(*over, MOST, room);
+        if (status != ZACPI_NO_ROOM && !(status == ZACPI_OK && same())) return wrong("few ranges");
+    }
+    return 1;
+}
+
+/* Numbers that are the same each time (Marsaglia's xorshift64). */
+static uint64_t seed = 88172645463325252u;
+static size_t below(size_t limit) {
+    seed ^= seed << 13;
+    seed ^= seed >> 7;
+    seed ^= seed << 17;
+    return (size_t)(seed % limit);
+}
+
+/* Changes one to four bytes of the records, and then as many bytes at the same places. */
+static void damage(uint8_t *places[4], uint8_t was[4], size_t count) {
+    size_t i;
+    for (i = 0; i < count; i++) {
+        const struct zacpi_region *record = &records[below(records_count)];
+        /* Most of it in the first bytes, where headers and pointers are. */
+        const size_t reach = below(2) && record->length > 64 ? 64 : record->length;
+        size_t k;
+        for (k = 0; k + 1 < memory_count && memory[k + 1].address <= record->address; k++) continue;
+        places[i] = (uint8_t *)memory[k].bytes + (record->address - memory[k].address) + below(reach);
+        was[i] = *places[i];
+        *places[i] = (uint8_t)below(256);
+    }
+}
+
+/* What is there, without the page at a place. */
+static void without(size_t region, uint64_t offset) {
+    size_t i;
+    there_count = 0;
+    for (i = 0; i < memory_count; i++) {
+        there[there_count] = memory[i];
+        if (i == region) {
+            there[there_count].length = (size_t)offset;
+            if (offset) there_count++;
+            offset += unit;
+            if (offset == memory[i].length) continue;
+            there[there_count].address = memory[i].address + offset;
+            there[there_count].bytes = memory[i].bytes + offset;
+            there[there_count].length = memory[i].length - (size_t)offset;
+        }
+        there_count++;
+    }
+}
+
+/* Lays the records out in pages. */
+static int lay_out(void) {
+    size_t i, size = 0;
+    for (i = 0; i < records_count; i++) {
+        const uint64_t low = records[i].address / PAGE * PAGE, last = records[i].address + records[i].length;
+        const uint64_t high = last + (PAGE - last % PAGE) % PAGE;
+        struct zacpi_region *before = memory_count ? &memory[memory_count - 1] : NULL;
+        if (high < last) return 0;
+        if (before && low <= before->address + before->length) before->length = (size_t)(high - before->address);
+        else {
+            memory[memory_count].address = low;
+            memory[memory_count++].length = (size_t)(high - low);
+        }
+    }
+    for (i = 0; i < memory_count; i++) size += memory[i].length;
+    bytes = (uint8_t *)calloc(size + 1, 1);
+    if (!bytes) return 0;
+    for (i = size = 0; i < memory_count; size += memory[i++].length) memory[i].bytes = bytes + size;
+    for (i = size = 0; i < records_count; i++) {
+        while (memory[size].address + memory[size].length <= records[i].address) size++;
+        memcpy((uint8_t *)memory[size].bytes + (records[i].address - memory[size].address), records[i].bytes,
+               records[i].length);
+    }
+    return 1;
+}
+
+int main(int argc, char **argv) {
+    struct zacpi_source whole = {0};
+    uint8_t revision, *image, *places[4], was[4];
+    size_t length, changed, i, runs;
+    const int taken = start_of(argc, argv, &whole, &revision);
+    if (!taken || argc != taken + 1) return wrong("IMAGE START N") + 2;
+    image = contents(argv[1], &length);
+    if (!image) return wrong("no such file") + 1;
+    if (regions_of(image, length, records, MOST, &records_count) || !lay_out()) {
+        puts("0 runs");
+        return 0;
+    }
+    whole.regions = there;
+    runs = 1 + (records_count ? strtoul(argv[taken], NULL, 10) : 0);
+    for (i = 0; i < runs; i++) {
+        changed = i ? 1 + below(4) : 0;
+        damage(places, was, changed);
+        unit = i % 2 ? 64 : PAGE;
+        without(MOST, 0);
+        if (i % 4 > 1) {
+            const size_t region = below(memory_count);
+            without(region, below(memory[region].length / unit) * unit);
+        }
+        whole.regions_length = there_count;
+        if (!agrees(&whole)) {
+            fprintf(stderr, "at run %lu\n", (unsigned long)i);
+            return 1;
+        }
+        while (changed--) *places[changed] = was[changed];
+    }
+    printf("%lu runs\n", (unsigned long)runs);
+    free(bytes);
+    free(image);
+    return 0;
+}
