@@ -1,12 +1,11 @@
 -- Bytes and flags: single bytes, trigger modes and polarities as they are read, the bytes of numbers, flags in a
--- number,
--- and checks that were passed.
-use Rattle.std.proofs.Common.{◌≡◌, ℕ, Bool, true, false, List, [], ◌∷◌, Result, Ok, Err, refl, sym, ap, ◌∙◌, arith, ◌^◌, ◌<◌, w16, w32, w64, zero, suc, ◌+◌, ◌*◌, ◌%◌, ◌/◌, ◌≤◌, length, drop, add-one, drop-cons, not, if◌then◌else◌, ◌==◌}
+-- number, and checks that were passed.
+use Rattle.std.proofs.Common.{◌≡◌, ℕ, Bool, true, false, List, [], ◌∷◌, Result, Ok, Err, refl, sym, ap, ◌∙◌, arith, ◌^◌, ◌<◌, w16, w32, zero, suc, ◌+◌, ◌*◌, ◌%◌, ◌/◌, ◌≤◌, length, drop, add-one, drop-cons, not, if◌then◌else◌, ◌==◌}
 use Rattle.acpi_base.specs.FromStd.{AllByRecursion, to_le_bytes, from_le_bytes}
 use Rattle.acpi_base.specs.Words.{has_bit, number, spelling, ◌>>=◌, holds}
 use Rattle.acpi.specs.Types.{Polarity, TriggerMode, Edge, Level, SameAsBus}
 use Rattle.acpi_writer.specs.Words.{flags_of, has_polarity, has_trigger, is_edge, is_low, all_checked, FlagsAreRead, flag_number, bit_of}
-use Rattle.acpi_base.proofs.FromStd.{le_bytes_2, le_bytes_4, le_bytes_8, get_or, div-div-eq-div-mul, pow-succ', zero-div, pow_mono, length-drop}
+use Rattle.acpi_base.proofs.FromStd.{le_bytes_2, le_bytes_4, get_or, div-div-eq-div-mul, pow-succ', zero-div, pow_mono, length-drop}
 use Rattle.acpi_base.proofs.Words.{length-spelling, number-spelling}
 use Rattle.acpi_image.proofs.Written.{IsBytes-spelling}
 use Rattle.acpi_base.specs.declared.model.interrupt.Polarity.TheVariants as polarity
@@ -65,12 +64,6 @@ unfolding spelling
 two_bytes n small =
     let value : n ≡ from_le_bytes w16 (spelling 2 n) = omega (arith, number-spelling 2 n (omega arith)) in
     le_bytes_2 (spelling 2 n) n (length-spelling 2 n) (IsBytes-spelling 2 n) value
-
-pub eight_bytes : (n : ℕ) → n < 2 ^ 64 → to_le_bytes w64 n ≡ spelling 8 n
-unfolding spelling
-eight_bytes n small =
-    let value : n ≡ from_le_bytes w64 (spelling 8 n) = omega (arith, number-spelling 8 n (omega arith)) in
-    le_bytes_8 (spelling 8 n) n (length-spelling 8 n) (IsBytes-spelling 8 n) value
 
 -- ---- flags in a number
 

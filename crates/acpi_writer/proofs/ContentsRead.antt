@@ -1,6 +1,6 @@
 -- The tables that an XSDT lists, as they are written, and what a reader says of them where a lookup finds the first of
 -- each signature.
-use Rattle.std.proofs.Common.{◌≡◌, ℕ, ◌+◌, ◌*◌, ◌<◌, ◌≤◌, Bool, true, false, List, [], ◌∷◌, length, map, Option, Some, None, Ok, refl, sym, ap, subst, if◌then◌else◌, Result, arith, ◌&&◌, slice_get, bytes_eq}
+use Rattle.std.proofs.Common.{◌≡◌, ℕ, ◌+◌, ◌*◌, ◌<◌, ◌≤◌, Bool, true, false, List, [], ◌∷◌, length, map, Option, Some, Ok, refl, sym, ap, subst, if◌then◌else◌, Result, arith, ◌&&◌, slice_get, bytes_eq}
 use Rattle.acpi_base.specs.FromStd.{AllByRecursion, chars, is_utf8}
 use Rattle.acpi_base.proofs.FromStd.{and_parts, le-leb, bytes_eq-Decides}
 use Rattle.acpi_base.proofs.Words.{bind_ok}
@@ -8,10 +8,11 @@ use Rattle.acpi_base.specs.Words.{part, spelling, check_names, check_table, head
 use Rattle.acpi.specs.Types.{Signature, BGRT, FADT, GTDT, HPET, MADT, MCFG, SLIT, SPCR, SRAT, SSDT, AcpiError}
 use Rattle.acpi_writer.specs.Words.{IsBgrt, bgrt_body, SaysImage, FitsContents, bytes_of, contents_written, most, or_none, placed, signature_of, fadt_body, fadt_checked, fadt_written, IsFadt, IsGicMadt, gic_body, gic_checked, gic_written, gic_read, IsGtdt, gtdt_body, gtdt_checked, SaysTimers, hpet_body, IsHpet, is_named, check_tables, AreValid, first_at, first_of, place_of, HasFadt, HasTable, Says, platform_read, madt_body, madt_checked, madt_written, IsMadt, model_read, mcfg_body, IsMcfg, IsSlit, slit_body, slit_checked, slit_written, spcr_body, spcr_checked, spcr_written, IsSpcr, SaysConsole, SratContents, srat_body, srat_checked, srat_written, AreIds, IsTableOf, IsValid, table_written, TableContents, Bgrt, Fadt, GicMadt, Gtdt, Hpet, Madt, Mcfg, Slit, Spcr, Srat, Ssdt, WriterError, FadtContents, GtdtContents, TableIds, GicContents, MadtContents, SpcrContents, IsSrat, SaysDomains, BgrtContents, SlitContents, gtdt_written_by, madt_fields, hpet_fields, front_fields, fixed_list, bgrt_fields, gtdt_fields}
 use Rattle.acpi_writer.proofs.ShortTables.{bgrt_read, hpet_read, mcfg_read, slit_is, slit_read}
+use Rattle.acpi_writer.proofs.Bits.{was_true}
 use Rattle.acpi_writer.proofs.FadtRead.{fadt_read}
 use Rattle.acpi_writer.proofs.GicRead.{gic_madt_is, gic_madt_read}
 use Rattle.acpi_writer.proofs.GtdtRead.{gtdt_read}
-use Rattle.acpi_writer.proofs.LaidRead.{holds_only, platform_has}
+use Rattle.acpi_writer.proofs.LaidRead.{platform_has}
 use Rattle.acpi_writer.proofs.MadtRead.{madt_is, madt_read}
 use Rattle.acpi_writer.proofs.Sized.{wrote}
 use Rattle.acpi_writer.proofs.SpcrRead.{spcr_read}
@@ -24,15 +25,6 @@ use Rattle.acpi_fixed.specs.Words.{bgrt_at}
 use Rattle.acpi_numa.specs.Words.{srat_kind, distance_of}
 use Rattle.acpi_writer.specs.SratLaws as srat
 use Rattle.acpi_writer.proofs.Tables as table
-
-abbrev some : TableContents → Option TableContents
-some x = Some x
-
-same_some : (c d : TableContents) → some c ≡ some d → c ≡ d
-same_some c d e = cc
-
-no_contents : (c : TableContents) → None ≡ some c → ⊥
-no_contents c e = cc
 
 -- ---- a table that is written
 
@@ -162,7 +154,7 @@ unfolding check_table check_names header_at
 letters_are s t valid =
     let names = bind_ok (check_names s (header_at t)) _ tt valid.checked in
     let first = bind_ok (holds (bytes_eq (part t 0 4) (letters_of s) && is_utf8 (part t 0 4)) _) _ tt names.1 in
-    let both = and_parts (bytes_eq (part t 0 4) (letters_of s)) (is_utf8 (part t 0 4)) (holds_only _ _ first.1) in
+    let both = and_parts (bytes_eq (part t 0 4) (letters_of s)) (is_utf8 (part t 0 4)) (was_true _ _ first.1) in
     (bytes_eq-Decides (part t 0 4) (letters_of s)).0 both.0
 
 pick : (b : Bool) (ids : TableIds) (s : Signature) (a least : ℕ) (d c : TableContents) (cs : List TableContents)
@@ -173,7 +165,7 @@ pick : (b : Bool) (ids : TableIds) (s : Signature) (a least : ℕ) (d c : TableC
     → first_at s least a (map (bytes_of ids) (d ∷ cs))
     ≡ Ok ((if b then a else place_of ids s (a + length (placed ids d)) cs), bytes_of ids c)
 pick true ids s a least d c cs named is long later =
-    let same : d ≡ c = same_some d c is in
+    let same : d ≡ c = cc in
     rw (named, same, le-leb least (length (bytes_of ids c)) long) refl
 pick false ids s a least d c cs named is long later = rw named (later is)
 
@@ -181,7 +173,7 @@ pub first_found : (ids : TableIds) (s : Signature) (a least : ℕ) (c : TableCon
     → AllByRecursion (λ d. IsContents ids d (bytes_of ids d)) cs
     → first_of s cs ≡ Some c → least ≤ length (bytes_of ids c)
     → first_at s least a (map (bytes_of ids) cs) ≡ Ok (place_of ids s a cs, bytes_of ids c)
-first_found ids s a least c [] all is long = absurd (no_contents c is)
+first_found ids s a least c [] all is long = absurd cc
 first_found ids s a least c (d ∷ cs) all is long =
     let named : is_named s (bytes_of ids d) ≡ bytes_eq (letters_of (signature_of d)) (letters_of s) =
     ap (λ l. bytes_eq l (letters_of s)) (letters_are (signature_of d) (bytes_of ids d)
@@ -192,14 +184,16 @@ first_found ids s a least c (d ∷ cs) all is long =
 first_by : (b : Bool) (ids : TableIds) (s : Signature) (c d : TableContents) (cs : List TableContents)
     → IsContents ids d (bytes_of ids d) → (if b then Some d else first_of s cs) ≡ Some c
     → (first_of s cs ≡ Some c → IsContents ids c (bytes_of ids c)) → IsContents ids c (bytes_of ids c)
-first_by true ids s c d cs this is later = subst (λ x. IsContents ids x (bytes_of ids x)) (same_some d c is) this
+first_by true ids s c d cs this is later =
+    let same : d ≡ c = cc in
+    subst (λ x. IsContents ids x (bytes_of ids x)) same this
 first_by false ids s c d cs this is later = later is
 
 -- the first one is written
 pub first_is : (ids : TableIds) (s : Signature) (c : TableContents) (cs : List TableContents)
     → AllByRecursion (λ d. IsContents ids d (bytes_of ids d)) cs → first_of s cs ≡ Some c
     → IsContents ids c (bytes_of ids c)
-first_is ids s c [] all is = absurd (no_contents c is)
+first_is ids s c [] all is = absurd cc
 first_is ids s c (d ∷ cs) all is = first_by (bytes_eq (letters_of (signature_of d)) (letters_of s)) ids s c d cs all.0
     is (λ later. first_is ids s c cs all.1 later)
 

@@ -7,12 +7,12 @@ use Rattle.acpi_base.specs.Words.{generic_address_of, has_bit, field_of, filled_
 use Rattle.acpi.specs.Types.{GenericAddress, AcpiError, InvalidDsdtAddress, InvalidFacsAddress, Fadt}
 use Rattle.acpi_fixed.proofs.Profiles.{profile_read}
 use Rattle.acpi_fixed.specs.Words.{fadt_at, is_profile, pm_timer_of, profile_for, feature_bits, gpe_of, address_or, block_at, extended_address, extended_number, has_extended, optional_block_of, register_of, timer_block_of}
-use Rattle.acpi_writer.specs.Words.{address_or_zero, are_blocks, are_placed, arm_flags, body_with, bytes_wide, fadt_body, feature_flags, fixed_of, front_fields, gpe_register, has_address, narrow, pc_flags, registers, wide_fields, AreFitFor, FadtIsRead, HasFields, HasFlags, HasHardware, HasLegacy, HasNeededBlocks, IsFadt, field_at, field_bytes, field_size, field_value, fields_bytes, offset_of, FitsRegister, is_register, register_bytes, FadtContents, FadtHardware, Fixed, Reduced, FixedHardware, TableIds, BadProfile, NoAddress, are_registers, is_block, optional_blocks}
+use Rattle.acpi_writer.specs.Words.{address_fields, address_or_zero, are_blocks, are_placed, arm_flags, body_with, bytes_wide, fadt_body, feature_flags, fixed_of, front_fields, gpe_register, has_address, narrow, pc_flags, registers, wide_fields, AreFitFor, FadtIsRead, HasFields, HasFlags, HasHardware, HasLegacy, HasNeededBlocks, IsFadt, field_at, field_bytes, field_size, field_value, fields_bytes, offset_of, FitsRegister, is_register, register_bytes, FadtContents, FadtHardware, Fixed, Reduced, FixedHardware, TableIds, BadProfile, NoAddress, are_registers, is_block, optional_blocks}
 use Rattle.acpi_writer.specs.FadtLaws.{IsReadAs}
 use Rattle.acpi_base.proofs.Words.{holds_ok}
 use Rattle.acpi_writer.proofs.Bits.{flags_read, is_off, was_true}
-use Rattle.acpi_writer.proofs.FieldsRead.{part_in, part_of, read_in}
-use Rattle.acpi_writer.proofs.RegisterRead.{block_is, block_read, filled_12, given_read, gpe_read, made, optional_read, register_long, register_read, timer_read}
+use Rattle.acpi_writer.proofs.FieldsRead.{each_long, part_in, part_of, read_in}
+use Rattle.acpi_writer.proofs.RegisterRead.{block_is, block_read, filled, given_read, gpe_read, made, optional_read, register_long, register_read, timer_read}
 use Rattle.acpi_writer.proofs.Tables as table
 
 -- ---- values
@@ -66,15 +66,6 @@ timer_by f c (Some b) e flag = rw (e, flag) refl
 
 -- ---- the registers at its end
 
-registers_long : (os : List (Option GenericAddress)) → length (flat_map register_bytes os) ≡ 12 * length os
-registers_long [] = refl
-registers_long (o ∷ os) = omega (
-  arith,
-  length-append (register_bytes o) (flat_map register_bytes os),
-  register_long o,
-  registers_long os,
-)
-
 register_in : (os : List (Option GenericAddress)) (rest : List ℕ) (i : ℕ) → i < length os
     → part (flat_map register_bytes os ++ rest) (12 * i) 12 ≡ register_bytes (get_or os i None)
 register_in [] rest i less = absurd (omega arith)
@@ -100,25 +91,12 @@ module _ (c : FadtContents) (h : FixedHardware) where
   abbrev after_front : List ℕ
   after_front = register_bytes c.reset_register ++ after_reset
 
-  front_long : length (fields_bytes (front_fields c h)) ≡ 80
-  unfolding front_fields spelling
-  front_long = refl
-
-  wide_long : length (fields_bytes (wide_fields c)) ≡ 20
-  unfolding wide_fields spelling
-  wide_long = refl
-
   pub body_long : length (body_with c h) ≡ 240
+  unfolding front_fields wide_fields address_fields spelling
   body_long = omega (
     arith,
-    length-append (fields_bytes (front_fields c h)) after_front,
-    front_long,
-    length-append (register_bytes c.reset_register) after_reset,
-    register_long c.reset_register,
-    length-append (fields_bytes (wide_fields c)) last,
-    wide_long,
     length-append (flat_map register_bytes (registers c h)) (replicate 8 0),
-    registers_long (registers c h),
+    each_long register_bytes 12 register_long (registers c h),
   )
 
 -- ---- a table with these bytes after its header
@@ -132,19 +110,16 @@ module _ (c : FadtContents) (h : FixedHardware) (t : List ℕ) (from36 : drop 36
   number_has o within = rw (has o 8 within) refl
 
   from116 : drop 116 t ≡ after_front c h
-  from116 =
-      sym (drop-drop 80 36 t) ∙ ap (drop 80) from36
-      ∙ drop_at (fields_bytes (front_fields c h)) (after_front c h) 80 (front_long c h)
+  unfolding front_fields spelling
+  from116 = sym (drop-drop 80 36 t) ∙ ap (drop 80) from36
 
   from128 : drop 128 t ≡ after_reset c h
-  from128 =
-      sym (drop-drop 12 116 t) ∙ ap (drop 12) from116
-      ∙ drop_at (register_bytes c.reset_register) (after_reset c h) 12 (register_long c.reset_register)
+  unfolding address_fields spelling
+  from128 = sym (drop-drop 12 116 t) ∙ ap (drop 12) from116
 
   from148 : drop 148 t ≡ last c h
-  from148 =
-      sym (drop-drop 20 128 t) ∙ ap (drop 20) from128
-      ∙ drop_at (fields_bytes (wide_fields c)) (last c h) 20 (wide_long c h)
+  unfolding wide_fields spelling
+  from148 = sym (drop-drop 20 128 t) ∙ ap (drop 20) from128
 
   -- a field before RESET_REG, and its bytes
   front : (i : ℕ) → i < length (front_fields c h)
@@ -178,7 +153,7 @@ module _ (c : FadtContents) (h : FixedHardware) (t : List ℕ) (from36 : drop 36
 
   reset_is : filled_part t 116 12 ≡ register_bytes c.reset_register
   reset_is =
-      filled_12 t (register_bytes c.reset_register) 116
+      filled 12 t (register_bytes c.reset_register) 116
       (ap (take 12) from116 ∙ take_at (register_bytes c.reset_register) (after_reset c h) 12
       (register_long c.reset_register))
       (register_long c.reset_register)
@@ -188,7 +163,7 @@ module _ (c : FadtContents) (h : FixedHardware) (t : List ℕ) (from36 : drop 36
       → extended_address t (148 + 12 * i) ≡ Some (register_bytes (get_or (registers c h) i None))
   sleep i less within =
       rw (has (148 + 12 * i) 12 within)
-      (rw (filled_12 t _ (148 + 12 * i) (register i less) (register_long (get_or (registers c h) i None))) refl)
+      (rw (filled 12 t _ (148 + 12 * i) (register i less) (register_long (get_or (registers c h) i None))) refl)
 
   flags_are : HasFlags c (fadt_at t)
   unfolding fadt_at front_fields wide_fields

@@ -1,5 +1,5 @@
 -- What is written field by field is read field by field.
-use Rattle.std.proofs.Common.{◌≡◌, ℕ, zero, suc, ◌+◌, ◌<◌, List, [], ◌∷◌, ◌++◌, length, take, drop, refl, sym, ap, ◌∙◌, arith, append_assoc, replicate, All}
+use Rattle.std.proofs.Common.{◌≡◌, ℕ, zero, suc, ◌+◌, ◌<◌, List, [], ◌∷◌, ◌++◌, length, take, drop, refl, sym, ap, ◌∙◌, arith, append_assoc, replicate, All, ◌*◌, flat_map, length-append}
 use Rattle.acpi_base.proofs.FromStd.{append-nil, take_at, drop_at, drop-drop, length-replicate}
 use Rattle.acpi_base.proofs.Words.{length-spelling, number-spelling}
 use Rattle.acpi_base.specs.Words.{field_of, number, part}
@@ -11,6 +11,12 @@ field_long (U16 n) = length-spelling 2 n
 field_long (U32 n) = length-spelling 4 n
 field_long (U64 n) = length-spelling 8 n
 field_long (Zeros n) = length-replicate {A = ℕ} n 0
+
+-- things of one size, one after the other
+pub each_long : {X : Type 0} (f : X → List ℕ) (k : ℕ) → ((x : X) → length (f x) ≡ k) → (xs : List X)
+    → length (flat_map f xs) ≡ k * length xs
+each_long f k long [] = omega arith
+each_long f k long (x ∷ xs) = omega (arith, length-append (f x) (flat_map f xs), long x, each_long f k long xs)
 
 zeros_are : (n : ℕ) → number (replicate n 0) ≡ 0
 zeros_are zero = refl

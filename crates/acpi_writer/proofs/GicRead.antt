@@ -1,5 +1,5 @@
 -- What a reader finds in the MADT of an Arm machine that is written.
-use Rattle.std.proofs.Common.{◌≡◌, ℕ, ◌<◌, List, [], ◌∷◌, ◌++◌, map, drop, Option, Some, None, Result, Ok, refl, sym, ap, ◌∙◌, arith, lit≤, lit<, flat_map, if◌then◌else◌, not, slice_get, All, filter_map, option_map}
+use Rattle.std.proofs.Common.{◌≡◌, ℕ, ◌<◌, List, [], ◌∷◌, ◌++◌, map, drop, Option, Some, None, Result, Ok, refl, sym, ap, ◌∙◌, arith, lit≤, lit<, flat_map, if◌then◌else◌, not, slice_get, filter_map, option_map}
 use Rattle.acpi_base.specs.FromStd.{cons_option}
 use Rattle.acpi_base.proofs.FromStd.{and_parts, drop-drop, recursion_from_All}
 use Rattle.acpi_base.proofs.Words.{number-spelling, holds_ok}
@@ -9,7 +9,8 @@ use Rattle.acpi.specs.Types.{AcpiError, InvalidMadt, InvalidEntryLength, MADT, M
 use Rattle.acpi_base.specs.declared.tables.madt.entry.MadtEntry.TheVariants as kinds
 use Rattle.acpi_arm.specs.Gic as read
 use Rattle.acpi_writer.specs.Types.{GicModel, GicCpuInterface, GicDistributor, GicMsiFrame, GicRedistributors, GicTranslationService, SpiRange}
-use Rattle.acpi_writer.specs.Words.{is_edge, all_checked, IsTableOf, bit_of, NoProcessor, TableIds, GicContents, AreGicFit, FitsInterface, GicMadtIsRead, IsGicMadt, gic_body, gic_checked, gic_read, gicc_entry, gicc_fields, gicc_list, trace_field, gicd_entry, gicd_fields, gicr_entry, gicr_fields, has_spis, interface_checked, its_entry, its_fields, msi_entry, msi_fields, spis_of, is_empty, madt_fields, FitsField, fields_bytes, Zeros}
+use Rattle.acpi_writer.specs.Words.{is_edge, all_checked, IsTableOf, bit_of, NoProcessor, TableIds, GicContents, AreGicFit, GicMadtIsRead, IsGicMadt, gic_body, gic_checked, gic_read, gicc_entry, gicc_fields, gicc_list, trace_field, gicd_entry, gicd_fields, gicr_entry, gicr_fields, has_spis, interface_checked, its_entry, its_fields, msi_entry, msi_fields, spis_of, is_empty, madt_fields, FitsField, fields_bytes, Zeros}
+use Rattle.acpi_writer.specs.Fields.{Fits}
 use Rattle.acpi_writer.proofs.Bits.{each_good, flag_bits, mode_is, was_true}
 use Rattle.acpi_writer.proofs.FieldsRead.{read_at}
 use Rattle.acpi_writer.proofs.Rows.{Speaks, both_known, in_same, known_same, sorts, speaks_both, speaks_each, speaks_row, spoken, spoken_cut}
@@ -62,19 +63,19 @@ msi_entry_says x = speaks_row (lit≤ tt) (lit≤ tt) refl (lit≤ tt) refl
 abbrev some : {X : Type 0} → X → Option X
 some x = Some x
 
-gicd_says : (x : GicDistributor) → All FitsField (gicd_fields x) → read.distributor_in (gicd_kind x) ≡ Some x
+gicd_says : (x : GicDistributor) → Fits gicd_fields x → read.distributor_in (gicd_kind x) ≡ Some x
 unfolding gicd_fields
 gicd_says x f =
     let r = λ (i : ℕ) (h : i < 8). read_at (gicd_fields x) f i h in
     rw (r 3 (lit< tt), r 4 (lit< tt), r 5 (lit< tt), r 6 (lit< tt)) refl
 
-gicr_says : (x : GicRedistributors) → All FitsField (gicr_fields x) → read.redistributors_in 6 (gicr_kind x) ≡ Some x
+gicr_says : (x : GicRedistributors) → Fits gicr_fields x → read.redistributors_in 6 (gicr_kind x) ≡ Some x
 unfolding gicr_fields
 gicr_says x f =
     let r = λ (i : ℕ) (h : i < 5). read_at (gicr_fields x) f i h in
     rw (r 3 (lit< tt), r 4 (lit< tt)) refl
 
-its_says : (x : GicTranslationService) → All FitsField (its_fields x)
+its_says : (x : GicTranslationService) → Fits its_fields x
     → read.translation_service_in 6 (its_kind x) ≡ Some x
 unfolding its_fields
 its_says x f =
@@ -89,7 +90,7 @@ spis_are : (o : Option SpiRange) → (if has_bit (bit_of (has_spis o)) 0
 spis_are (Some r) = refl
 spis_are None = refl
 
-msi_says : (x : GicMsiFrame) → All FitsField (msi_fields x) → read.msi_frame_in 6 (msi_kind x) ≡ Some x
+msi_says : (x : GicMsiFrame) → Fits msi_fields x → read.msi_frame_in 6 (msi_kind x) ≡ Some x
 unfolding msi_fields
 msi_says x f =
     let r = λ (i : ℕ) (h : i < 8). read_at (msi_fields x) f i h in
@@ -103,7 +104,7 @@ unfolding gicc_list spelling field_of
 trace_is x (Some n) h = ap some (number-spelling 2 n (omega (arith, h)))
 trace_is x None h = refl
 
-gicc_says : (x : GicCpuInterface) → FitsInterface x → interface_checked x ≡ Ok tt
+gicc_says : (x : GicCpuInterface) → Fits gicc_fields x → interface_checked x ≡ Ok tt
     → read.cpu_interface_in 6 (gicc_kind x) ≡ Some x
 unfolding gicc_list
 gicc_says x f has =
@@ -155,28 +156,26 @@ module _ (c : GicContents) (f : AreGicFit c) where
   interfaces_are good =
       let is = c.cpu_interfaces.now in
       let P = λ (x : GicCpuInterface). interface_checked x ≡ Ok tt in
-      let each = both_known FitsInterface P is (recursion_from_All FitsInterface is f.cpu_interfaces)
+      let each = both_known (Fits gicc_fields) P is (recursion_from_All (Fits gicc_fields) is f.cpu_interfaces)
       (each_good interface_checked is good) in
-      simp sorts (known_same (λ x. FitsInterface x × P x) (λ x. read.cpu_interface_in 6 (gicc_kind x))
+      simp sorts (known_same (λ x. Fits gicc_fields x × P x) (λ x. read.cpu_interface_in 6 (gicc_kind x))
       (λ x g. gicc_says x g.0 g.1) is each)
 
   redistributors_are : filter_map (read.redistributors_in 6) (entries_read c) ≡ c.redistributors.now
   redistributors_are =
-      let P = λ (x : GicRedistributors). All FitsField (gicr_fields x) in
-      simp sorts (known_same P (λ x. read.redistributors_in 6 (gicr_kind x)) gicr_says c.redistributors.now
-      (recursion_from_All P c.redistributors.now f.redistributors))
+      simp sorts (known_same (Fits gicr_fields) (λ x. read.redistributors_in 6 (gicr_kind x)) gicr_says
+      c.redistributors.now (recursion_from_All (Fits gicr_fields) c.redistributors.now f.redistributors))
 
   services_are : filter_map (read.translation_service_in 6) (entries_read c) ≡ c.translation_services.now
   services_are =
-      let P = λ (x : GicTranslationService). All FitsField (its_fields x) in
-      simp sorts (known_same P (λ x. read.translation_service_in 6 (its_kind x)) its_says c.translation_services.now
-      (recursion_from_All P c.translation_services.now f.translation_services))
+      simp sorts (known_same (Fits its_fields) (λ x. read.translation_service_in 6 (its_kind x)) its_says
+      c.translation_services.now
+      (recursion_from_All (Fits its_fields) c.translation_services.now f.translation_services))
 
   frames_are : filter_map (read.msi_frame_in 6) (entries_read c) ≡ c.msi_frames.now
   frames_are =
-      let P = λ (x : GicMsiFrame). All FitsField (msi_fields x) in
-      simp sorts (known_same P (λ x. read.msi_frame_in 6 (msi_kind x)) msi_says c.msi_frames.now
-      (recursion_from_All P c.msi_frames.now f.msi_frames))
+      simp sorts (known_same (Fits msi_fields) (λ x. read.msi_frame_in 6 (msi_kind x)) msi_says
+      c.msi_frames.now (recursion_from_All (Fits msi_fields) c.msi_frames.now f.msi_frames))
 
 abbrev pass : {A : Type 0} → A → Result A AcpiError
 pass x = Ok x

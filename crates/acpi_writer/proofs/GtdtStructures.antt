@@ -8,7 +8,7 @@ use Rattle.acpi_arm.specs.Gtdt.{polarity_in, trigger_in, unless_ones}
 use Rattle.acpi_arm.specs.Timers as read
 use Rattle.acpi_writer.specs.Types.{GtFrame, SbsaWatchdog}
 use Rattle.acpi_writer.specs.Words.{base_checked, flags_of, is_edge, is_low, modes_checked, FitsField, field_at, field_size, field_value, fields_bytes, offset_of, FitsFrame, FitsStructure, FitsWatchdog, base_of, block_fields, frame_bytes, frame_checked, frame_fields, structure_bytes, structure_checked, timer_read, watchdog_fields, WriterError, TooManyFrames, PlatformTimerContents}
-use Rattle.acpi_writer.proofs.FieldsRead.{read_at, read_front}
+use Rattle.acpi_writer.proofs.FieldsRead.{each_long, read_at, read_front}
 use Rattle.acpi_writer.specs.declared.gtdt.PlatformTimerContents.TheVariants as kinds
 use Rattle.acpi_writer.proofs.Bits.{each_good, first_good, flag_bits, mode, mode_is, was_true, way, way_is}
 use Rattle.acpi_writer.proofs.Rows.{Row, Speaks, in_some, many_rows, row_bytes, speaks_all, speaks_one, spoken, spoken_cut}
@@ -51,15 +51,6 @@ frame_long : (f : GtFrame) → length (frame_bytes f) ≡ 40
 unfolding frame_fields spelling
 frame_long f = refl
 
-frames_long : (fs : List GtFrame) → length (flat_map frame_bytes fs) ≡ 40 * length fs
-frames_long [] = refl
-frames_long (f ∷ fs) = omega (
-  arith,
-  length-append (frame_bytes f) (flat_map frame_bytes fs),
-  frame_long f,
-  frames_long fs,
-)
-
 frames_are : (fs : List GtFrame) → AllByRecursion FitsFrame fs → AllByRecursion (λ f. frame_checked f ≡ Ok tt) fs
     → read.frames_in (length fs) (flat_map frame_bytes fs) ≡ fs
 frames_are [] all good = refl
@@ -81,7 +72,7 @@ module _ (a : ℕ) (fs : List GtFrame) (few : length fs ≤ 1637) (fits : All Fi
 
   block_long : length block ≡ 20 + 40 * length fs
   unfolding block_fields spelling
-  block_long = omega (arith, frames_long fs)
+  block_long = omega (arith, each_long frame_bytes 40 frame_long fs)
 
   block_size : number_at read.timers_layout.length_place block ≡ 20 + 40 * length fs
   unfolding block_fields spelling
@@ -115,10 +106,6 @@ module _ (a : ℕ) (fs : List GtFrame) (few : length fs ≤ 1637) (fits : All Fi
   unfolding block_fields
   block_offset = block_field 5 (lit< tt)
 
-  head_long : length head ≡ 20
-  unfolding block_fields spelling
-  head_long = refl
-
   block_sound : read.is_sound block ≡ true
   block_sound =
       let within : nat_le (20 + 40 * length fs) (length block) ≡ true =
@@ -127,10 +114,10 @@ module _ (a : ℕ) (fs : List GtFrame) (few : length fs ≤ 1637) (fits : All Fi
 
   block_frames : AllByRecursion FitsFrame fs → AllByRecursion (λ f. frame_checked f ≡ Ok tt) fs
       → read.frames_of block ≡ fs
+  unfolding block_fields spelling
   block_frames all good =
       ap (λ n. read.frames_in n (drop (read.frames_offset block) block)) block_count
-      ∙ ap (λ o. read.frames_in (length fs) (drop o block)) block_offset
-      ∙ ap (read.frames_in (length fs)) (drop_at head (flat_map frame_bytes fs) 20 head_long) ∙ frames_are fs all good
+      ∙ ap (λ o. read.frames_in (length fs) (drop o block)) block_offset ∙ frames_are fs all good
 
   block_says : AllByRecursion FitsFrame fs → AllByRecursion (λ f. frame_checked f ≡ Ok tt) fs
       → read.timer_of block ≡ Some (inl (a, fs))
@@ -183,12 +170,6 @@ structure_says (kinds.SbsaWatchdog w) h =
 
 -- ---- all structures
 
-abbrev some_count : ℕ → Option ℕ
-some_count n = Some n
-
-same_some : (n m : ℕ) → some_count n ≡ some_count m → n ≡ m
-same_some n m e = cc
-
 abbrev AreRows : List (Row PlatformTimerContents) → Type 0
 AreRows rows = AllByRecursion (λ r. IsEntry read.timers_layout r.0 × Tells r.0 r.1) rows
 
@@ -221,7 +202,9 @@ module _ (xs : List PlatformTimerContents) (all : AllByRecursion IsGood xs) wher
   )
 
   few : IsFew (Some count) count
-  few bound same = omega (arith, same_some count bound same)
+  few bound same =
+      let whole : count ≡ bound = cc in
+      omega arith
 
   structures_are : read.structures_in count (flat_map structure_bytes xs) ≡ row_bytes speaks.rows
   structures_are = ap read.sound_front (spoken_cut (read.timers_grammar count) speaks few).0

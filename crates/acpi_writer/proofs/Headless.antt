@@ -39,23 +39,6 @@ pub facs_long : (c : FacsContents) → length (facs_bytes c) ≡ 64
 unfolding facs_bytes spelling
 facs_long c = refl
 
-module _ (c : FacsContents) (fits : FitsFacs c) where
-  hardware_is : field_of (facs_bytes c) 8 4 ≡ c.hardware_signature
-  unfolding facs_bytes spelling field_of
-  hardware_is = number-spelling 4 c.hardware_signature (omega (arith, fits.hardware_signature))
-
-  vector_is : field_of (facs_bytes c) 12 4 ≡ c.waking_vector
-  unfolding facs_bytes spelling field_of
-  vector_is = number-spelling 4 c.waking_vector (omega (arith, fits.waking_vector))
-
-  x_vector_is : field_of (facs_bytes c) 24 8 ≡ c.x_waking_vector
-  unfolding facs_bytes spelling field_of
-  x_vector_is = number-spelling 8 c.x_waking_vector (omega (arith, fits.x_waking_vector))
-
-  flags_are : field_of (facs_bytes c) 20 4 ≡ bit_of c.supports_s4bios + 2 * bit_of c.supports_64_bit_wake
-  unfolding facs_bytes spelling field_of
-  flags_are = omega arith
-
 facs_length_is : (c : FacsContents) → facs_length_in (take 36 (facs_bytes c)) ≡ Ok 64
 unfolding facs_bytes spelling field_of header_at facs_length
 facs_length_is c = refl
@@ -66,14 +49,19 @@ unfolding facs_at
 facs_found c m a head whole = rw (head, facs_length_is c, whole) refl
 
 facs_by : (c : FacsContents) → FitsFacs c → IsReadAs c (facs_bytes c)
-facs_by c fits = record {
-  hardware_signature = hardware_is c fits;
-  waking_vector = vector_is c fits;
-  s4bios = ap (λ n. has_bit n 0) (flags_are c fits) ∙ (two_bits c.supports_s4bios c.supports_64_bit_wake).0;
-  wake = ap (λ n. has_bit n 1) (flags_are c fits) ∙ (two_bits c.supports_s4bios c.supports_64_bit_wake).1;
-  x_waking_vector = x_vector_is c fits;
-  found = facs_found c;
-}
+unfolding facs_bytes spelling field_of
+facs_by c fits =
+    let flags : field_of (facs_bytes c) 20 4 ≡ bit_of c.supports_s4bios + 2 * bit_of c.supports_64_bit_wake =
+    omega arith in
+    let bits = two_bits c.supports_s4bios c.supports_64_bit_wake in
+    record {
+      hardware_signature = number-spelling 4 c.hardware_signature (omega (arith, fits.hardware_signature));
+      waking_vector = number-spelling 4 c.waking_vector (omega (arith, fits.waking_vector));
+      s4bios = ap (λ n. has_bit n 0) flags ∙ bits.0;
+      wake = ap (λ n. has_bit n 1) flags ∙ bits.1;
+      x_waking_vector = number-spelling 8 c.x_waking_vector (omega (arith, fits.x_waking_vector));
+      found = facs_found c;
+    }
 
 pub facs_read : FacsIsRead
 facs_read c facs is = subst (IsReadAs c) (sym is.bytes) (facs_by c is.fit)

@@ -12,6 +12,7 @@ use Rattle.acpi_writer.specs.Words.{is_named, HasFirst, HasPlatform, HpetInImage
 use Rattle.acpi_fixed.specs.Words.{fadt_at, profile_of}
 use Rattle.acpi_writer.specs.Types.{PlatformInfo, PmTimer}
 use Rattle.acpi_image.specs.Words.{Plan, pointers_of, records_of, with_sum, sum_byte}
+use Rattle.acpi_writer.proofs.Bits.{was_true}
 use Rattle.acpi_writer.proofs.ShortTables.{hpet_read, mcfg_read}
 use Rattle.acpi_writer.proofs.MadtRead.{madt_read}
 use Rattle.acpi.proofs.Moved.{first_of, lookup_is}
@@ -53,10 +54,6 @@ rest_lent m a xs (y ∷ ys) h e =
 
 -- ---- a valid table that is lent
 
-pub holds_only : (b : Bool) (e : AcpiError) → holds b e ≡ Ok tt → b ≡ true
-holds_only true e h = refl
-holds_only false e h = absurd cc
-
 summed : (s : Signature) (t : List ℕ) → field_of t 4 4 ≡ length t → check_table s t ≡ Ok tt → sum_of t ≡ 0
 unfolding check_table
 summed s t whole e =
@@ -65,7 +62,7 @@ summed s t whole e =
     (λ _. holds (sum_of (take (field_of t 4 4) t) == 0) (SdtInvalidChecksum s)) tt names.2 in
     let all : take (field_of t 4 4) t ≡ t = ap (λ n. take n t) whole ∙ take_all (length t) t (omega arith) in
     ap sum_of (sym all) ∙ eqb-true (sum_of (take (field_of t 4 4) t)) 0
-    (holds_only (sum_of (take (field_of t 4 4) t) == 0) (SdtInvalidChecksum s) long.1)
+    (was_true (sum_of (take (field_of t 4 4) t) == 0) (SdtInvalidChecksum s) long.1)
 
 header_length : (t : List ℕ) → (header_at t).length ≡ field_of t 4 4
 unfolding header_at
@@ -136,24 +133,15 @@ serves_named s least table =
 abbrev summed_bytes : Region → List ℕ
 summed_bytes t = with_sum 9 t.bytes
 
-first_here : (s : Signature) (least : ℕ) (table : List ℕ) (ts : List (List ℕ)) → is_named s table ≡ true
-    → least ≤ length table → first_of s least (with_sum 9 table ∷ ts) ≡ Ok (with_sum 9 table)
-unfolding first_of
-first_here s least table ts named long = rw (serves_named s least table, named, le-leb least (length table) long) refl
-
-first_past : (s : Signature) (least : ℕ) (table : List ℕ) (ts : List (List ℕ)) → is_named s table ≡ false
-    → first_of s least (with_sum 9 table ∷ ts) ≡ first_of s least ts
-unfolding first_of
-first_past s least table ts named = rw (serves_named s least table, named) refl
-
 first_after : (s : Signature) (least a : ℕ) (table : List ℕ) (before after : Memory)
     → AllByRecursion (λ t. is_named s t.bytes ≡ false) before → is_named s table ≡ true → least ≤ length table
     → first_of s least (map summed_bytes (before ++ record { start = a; bytes = table } ∷ after))
     ≡ Ok (with_sum 9 table)
-first_after s least a table [] after others named long = first_here s least table (map summed_bytes after) named long
+unfolding first_of
+first_after s least a table [] after others named long =
+    rw (serves_named s least table, named, le-leb least (length table) long) refl
 first_after s least a table (t ∷ before) after others named long =
-    first_past s least t.bytes (map summed_bytes (before ++ record { start = a; bytes = table } ∷ after)) others.0
-    ∙ first_after s least a table before after others.1 named long
+    rw (serves_named s least t.bytes, others.0) (first_after s least a table before after others.1 named long)
 
 -- ---- the first table of its signature in an image
 

@@ -1,15 +1,15 @@
 -- What a reader finds of a machine that is laid out in memory.
-use Rattle.std.proofs.Common.{◌≡◌, ℕ, ◌+◌, ◌%◌, ◌^◌, ◌<◌, ◌≤◌, true, false, List, [], ◌∷◌, ◌++◌, length, Option, Some, None, Result, Ok, Err, refl, sym, ap, subst, ◌∙◌, arith, lit≤, eq-eqb, length-append, ◌*◌, ◌&&◌, ◌==◌, nat_lt, not, replicate, bytes_eq}
+use Rattle.std.proofs.Common.{◌≡◌, ℕ, ◌+◌, ◌%◌, ◌^◌, ◌<◌, ◌≤◌, true, false, List, [], ◌∷◌, ◌++◌, length, Option, Some, None, Result, Ok, Err, refl, sym, ap, subst, ◌∙◌, arith, lit≤, length-append, ◌*◌, ◌&&◌, ◌==◌, nat_lt, not, replicate, bytes_eq}
 use Rattle.acpi_base.specs.FromStd.{AllByRecursion, result_ok}
-use Rattle.acpi_base.proofs.FromStd.{and_from, and_parts, le-leb, lt-ltb, ltb-true, All-from_recursion, recursion_from_All}
+use Rattle.acpi_base.proofs.FromStd.{bytes_eq-Decides, and_parts, le-leb, lt-ltb, ltb-true, All-from_recursion, recursion_from_All}
 use Rattle.acpi_base.proofs.Words.{bind_ok, holds_ok, same_ok}
-use Rattle.acpi_base.specs.Words.{Memory, IsMemory, at, ◌>>=◌, holds, plain_kind, sdt_kind, table_at, letters_of}
+use Rattle.acpi_base.specs.Words.{Memory, IsMemory, at, plain_kind, sdt_kind, table_at, letters_of}
 use Rattle.acpi.specs.Types.{AcpiError, Signature, DSDT, FADT, XSDT}
 use Rattle.acpi.proofs.Search.{whole_there}
 use Rattle.acpi.specs.Words.{dsdt_stream, stream_at, stream_of, lookup, facs_place, led_by, range, at_hand, check_rsdp, check_whole, checked_length, rsdp_at}
 use Rattle.acpi_writer.specs.Types.{Xsdt}
 use Rattle.acpi_image.proofs.Written.{table_is}
-use Rattle.acpi_writer.specs.Words.{FitsContents, bytes_of, contents_written, most, or_none, FitsFacs, is_named, addresses, gap, laid, padded, rounded, FacsFits, Machine, after_dsdt, check_by, check_tables, dsdt_address, dsdt_at, dsdt_end, dsdt_length, dsdt_of, dsdt_written, facs_address, facs_at, facs_from, facs_gap, facs_laid, facs_room, listed, machine_by, pointers_of, rest_bytes, size_by, tables_address, tree_by, tree_bytes, tree_size, xsdt_bytes, xsdt_length, HasFacs, IsOpened, IsWritable, MachineIsRead, TreeIsRead, first_at, first_of, place_of, IsRoot, Leads, rsdp_bytes, AreIds, IsValid, are_texts, AmlContents, TableContents, Fadt, BadName, TooLong, FacsContents, FadtContents, TableIds}
+use Rattle.acpi_writer.specs.Words.{FitsContents, bytes_of, contents_written, most, or_none, FitsFacs, is_named, addresses, gap, laid, padded, rounded, FacsFits, Machine, after_dsdt, check_by, dsdt_address, dsdt_at, dsdt_end, dsdt_length, dsdt_of, dsdt_written, facs_address, facs_at, facs_from, facs_gap, facs_laid, facs_room, listed, machine_by, pointers_of, rest_bytes, size_by, tables_address, tree_by, tree_bytes, tree_size, xsdt_bytes, xsdt_length, HasFacs, IsOpened, IsWritable, MachineIsRead, TreeIsRead, first_at, first_of, place_of, IsRoot, Leads, rsdp_bytes, AreIds, IsValid, are_texts, AmlContents, TableContents, Fadt, BadName, TooLong, FacsContents, FadtContents, TableIds}
 use Rattle.acpi_writer.proofs.Bits.{is_off}
 use Rattle.acpi_writer.proofs.ContentsRead.{IsContents, all_contents, all_valid, fadt_found, first_found, letters_are, says, table_of}
 use Rattle.acpi_writer.proofs.Headless.{has_facs, laid_long, rsdp_long, rsdp_read}
@@ -30,10 +30,6 @@ rsdp_there m p b long e checked =
 
 -- ---- a table that is lent
 
-same_bytes : (xs : List ℕ) → bytes_eq xs xs ≡ true
-same_bytes [] = refl
-same_bytes (x ∷ xs) = and_from _ _ (eq-eqb x x refl) (same_bytes xs)
-
 ok_from : (r : Result (List ℕ) AcpiError) (t : List ℕ) → result_ok r ≡ Some t → r ≡ Ok t
 ok_from (Ok x) t e = cc
 ok_from (Err d) t e = absurd cc
@@ -42,7 +38,7 @@ pub table_there : (m : Memory) (p : ℕ) (s : Signature) (t : List ℕ) → IsVa
     → table_at m (plain_kind s) p ≡ Ok t
 table_there m p s t valid e =
     let named : is_named s t ≡ true = ap (λ l. bytes_eq l (letters_of s)) (letters_are s t valid)
-    ∙ same_bytes (letters_of s) in
+    ∙ (bytes_eq-Decides (letters_of s) (letters_of s)).1 refl in
     ok_from (table_at m (plain_kind s) p) t (there m p s t valid e s 36 (lit≤ tt)
     ∙ rw (named, le-leb 36 (length t) (table_is t valid.taken).long) refl)
 
@@ -69,11 +65,9 @@ record Facts (a : ℕ) (x : Machine) : Type 0 where
 facts : (a : ℕ) (x : Machine) → IsWritable a x → Facts a x
 unfolding check_by
 facts a x is =
-    let one = holds_ok (are_texts x.ids) BadName (λ _. holds (nat_lt (xsdt_length x) (2 ^ 32)) TooLong >>= λ _.
-    dsdt_written x.ids x.dsdt >>= λ _. check_tables x.ids x.tables.now) tt is.checked in
-    let two = holds_ok (nat_lt (xsdt_length x) (2 ^ 32)) TooLong (λ _. dsdt_written x.ids x.dsdt >>= λ _.
-    check_tables x.ids x.tables.now) tt one.1 in
-    let three = bind_ok (dsdt_written x.ids x.dsdt) (λ _. check_tables x.ids x.tables.now) tt two.1 in
+    let one = holds_ok (are_texts x.ids) BadName _ tt is.checked in
+    let two = holds_ok (nat_lt (xsdt_length x) (2 ^ 32)) TooLong _ tt one.1 in
+    let three = bind_ok (dsdt_written x.ids x.dsdt) _ tt two.1 in
     let place = and_parts (not (a == 0)) ((a % 16 == 0) && nat_lt (a + tree_size x) (2 ^ 64)) is.place in
     record {
       texts = one.0;

@@ -6,8 +6,9 @@ use Rattle.acpi_base.proofs.Words.{said_faults, said_items, number-spelling}
 use Rattle.acpi_base.specs.Words.{said_of, cut_of, entries_of, entry_of, madt_at, madt_grammar, madt_layout, mailbox_in, Model, fault_in, fault_of, first_fault, items_of, model_from, model_of, field_of, number, spelling, item_of, line_code, polarity_of, trigger_mode_of}
 use Rattle.acpi.specs.Types.{AcpiError, InvalidMadt, MadtError, Madt, MadtEntry, MadtItem, InterruptSourceOverride, IoApic, LocalInterruptLine, Lint0, Lint1, NmiLine, NmiProcessor, NmiSource, Polarity, TriggerMode}
 use Rattle.acpi_writer.proofs.Rows.{Speaks, in_map, in_none, in_same, in_some, speaks_nothing, speaks_row, spoken, spoken_cut}
-use Rattle.acpi_writer.specs.Words.{MadtProcessor, inti_flags, io_apic_fields, nmi_source_fields, override_fields, address_entries, apic_nmi_fields, io_apic_entry, is_small, local_apic_fields, local_x2apic_fields, long_uid, names_one, nmi_fields, nmi_line_entry, nmi_source_entry, override_address_fields, override_entry, processor_entry, short_uid, wakeup_entries, wakeup_fields, x2apic_nmi_fields, FitsIoApic, FitsMailbox, FitsNmiSource, FitsOverride, FitsProcessor, FitsField, fields_bytes}
-use Rattle.acpi_writer.specs.MadtLaws.{FitsAddress}
+use Rattle.acpi_writer.specs.Words.{MadtProcessor, inti_flags, io_apic_fields, nmi_source_fields, override_fields, address_entries, apic_nmi_fields, io_apic_entry, is_small, local_apic_fields, local_x2apic_fields, long_uid, names_one, nmi_fields, nmi_line_entry, nmi_source_entry, override_address_fields, override_entry, processor_entry, short_uid, wakeup_entries, wakeup_fields, x2apic_nmi_fields, FitsField, fields_bytes}
+use Rattle.acpi_writer.specs.Fields.{Fits}
+use Rattle.acpi_writer.specs.MadtBytes.{address_fields, mailbox_fields, processor_fields}
 use Rattle.acpi_writer.proofs.FieldsRead.{read_at}
 use Rattle.acpi_writer.proofs.Bits.{one, two_bits}
 use Rattle.acpi_base.specs.declared.model.item.MadtItem.TheVariants as item
@@ -124,7 +125,8 @@ module _ (o : Option ℕ) where
       speaks_row (lit≤ tt) (lit≤ tt) refl (lit≤ tt)
       (rw (r 3 (lit< tt), r 4 (lit< tt), r 5 (lit< tt), bits.0) refl, refl)
 
-  pub processor_says : (p : MadtProcessor) → FitsProcessor p → Says o (processor_entry p) (processor_item p ∷ [])
+  pub processor_says : (p : MadtProcessor) → Fits processor_fields p
+      → Says o (processor_entry p) (processor_item p ∷ [])
   processor_says p f = processor_by (is_small p) p f
 
   address_by : (small : Bool) (a : ℕ) → let fs = if small then [] else override_address_fields a in
@@ -135,16 +137,17 @@ module _ (o : Option ℕ) where
       speaks_row (lit≤ tt) (lit≤ tt) refl (lit≤ tt)
       (rw (read_at (override_address_fields a) f 3 (lit< tt)) refl, refl)
 
-  pub address_says : (a : ℕ) → FitsAddress a → Says o (address_entries a) (address_items a)
+  pub address_says : (a : ℕ) → Fits address_fields a → Says o (address_entries a) (address_items a)
   address_says a f = address_by (nat_lt a (2 ^ 32)) a f
 
-  pub io_apic_says : (x : IoApic) → FitsIoApic x → Says o (io_apic_entry x) (item.IoApic x ∷ [])
+  pub io_apic_says : (x : IoApic) → Fits io_apic_fields x → Says o (io_apic_entry x) (item.IoApic x ∷ [])
   unfolding io_apic_fields said_of item_of spelling
   io_apic_says x f =
       let r = λ (i : ℕ) (h : i < 6). read_at (io_apic_fields x) f i h in
       speaks_row (lit≤ tt) (lit≤ tt) refl (lit≤ tt) (rw (r 2 (lit< tt), r 4 (lit< tt), r 5 (lit< tt)) refl, refl)
 
-  pub override_says : (x : InterruptSourceOverride) → FitsOverride x → Says o (override_entry x) (item.Override x ∷ [])
+  pub override_says : (x : InterruptSourceOverride) → Fits override_fields x
+      → Says o (override_entry x) (item.Override x ∷ [])
   unfolding override_fields said_of item_of spelling
   override_says x f =
       let r = λ (i : ℕ) (h : i < 6). read_at (override_fields x) f i h in
@@ -152,7 +155,7 @@ module _ (o : Option ℕ) where
       speaks_row (lit≤ tt) (lit≤ tt) refl (lit≤ tt)
       (rw (r 2 (lit< tt), r 3 (lit< tt), r 4 (lit< tt), r 5 (lit< tt), flags.0, flags.1) refl, refl)
 
-  pub nmi_source_says : (x : NmiSource) → FitsNmiSource x → Says o (nmi_source_entry x) (item.NmiSource x ∷ [])
+  pub nmi_source_says : (x : NmiSource) → Fits nmi_source_fields x → Says o (nmi_source_entry x) (item.NmiSource x ∷ [])
   unfolding nmi_source_fields said_of item_of spelling
   nmi_source_says x f =
       let r = λ (i : ℕ) (h : i < 4). read_at (nmi_source_fields x) f i h in
@@ -161,7 +164,7 @@ module _ (o : Option ℕ) where
 
 -- ---- the mailbox
 
-pub wakeup_says : (o : Option ℕ) → FitsMailbox o → Says o (wakeup_entries o) (wakeup_items o)
+pub wakeup_says : (o : Option ℕ) → Fits mailbox_fields o → Says o (wakeup_entries o) (wakeup_items o)
 unfolding wakeup_fields said_of item_of spelling
 wakeup_says (Some a) f =
     speaks_row (lit≤ tt) (lit≤ tt) refl (lit≤ tt)

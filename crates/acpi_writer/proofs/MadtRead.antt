@@ -1,17 +1,18 @@
 -- What a reader finds in a MADT that is written, and when one is.
-use Rattle.std.proofs.Common.{◌≡◌, ℕ, ◌^◌, Bool, true, false, List, [], ◌∷◌, ◌++◌, map, drop, Option, Some, None, Result, Ok, refl, sym, ap, ◌∙◌, arith, not, if◌then◌else◌, nat_lt, slice_get, filter_map, ok_or}
+use Rattle.std.proofs.Common.{◌≡◌, ℕ, ◌^◌, Bool, true, false, List, [], ◌∷◌, ◌++◌, map, drop, Option, Some, None, Ok, refl, sym, ap, ◌∙◌, arith, not, if◌then◌else◌, nat_lt, slice_get, filter_map, ok_or}
 use Rattle.acpi_base.specs.FromStd.{AllByRecursion, list_all, list_any}
 use Rattle.acpi_base.proofs.FromStd.{and_parts, ltb-true, drop-drop, recursion_from_All}
 use Rattle.acpi_base.proofs.EntryLists.{processors_are as by_lists}
 use Rattle.acpi_base.proofs.Words.{number-spelling, holds_ok}
 use Rattle.acpi_base.specs.Words.{has_bit, field_of, number, spelling, madt_at, no_mailbox}
-use Rattle.acpi.specs.Types.{AcpiError, InvalidMadt, UnexpectedEntry, Apic, NmiLine, MadtItem, ProcessorInfo, MADT}
-use Rattle.acpi_writer.specs.Words.{bit_of, IsTableOf, TableIds, MadtContents, MadtProcessor, io_apic_entry, is_empty, is_single, madt_body, madt_checked, madt_entries, madt_fields, names_one, nmi_line_entry, nmi_source_entry, override_entry, processor_entry, AreFit, FitsIoApic, FitsNmiSource, FitsOverride, FitsProcessor, IsMadt, MadtIsRead, MailboxIsRead, apic_read, processor_read, processors_read, IdOfAll, NoProcessor}
+use Rattle.acpi.specs.Types.{InvalidMadt, UnexpectedEntry, NmiLine, MadtItem, MADT}
+use Rattle.acpi_writer.specs.Words.{bit_of, IsTableOf, TableIds, MadtContents, MadtProcessor, io_apic_entry, is_empty, is_single, madt_body, madt_checked, madt_entries, madt_fields, names_one, nmi_line_entry, nmi_source_entry, override_entry, processor_entry, AreFit, IsMadt, MadtIsRead, MailboxIsRead, apic_read, processor_read, processors_read, IdOfAll, NoProcessor}
+use Rattle.acpi_writer.specs.Fields.{Fits}
+use Rattle.acpi_writer.specs.MadtBytes.{io_apic_fields, nmi_source_fields, override_fields, processor_fields}
 use Rattle.acpi_writer.proofs.Bits.{is_off, was_true}
 use Rattle.acpi_writer.proofs.Rows.{in_same, in_some, missing, sorts, speaks_all, speaks_both}
 use Rattle.acpi_writer.proofs.MadtEntries.{Says, address_items, address_says, box_in, boxes_are, boxes_read, io_apic_says, nmi_line_says, nmi_source_says, override_says, processor_item, processor_says, spoken_model, spoken_rest, wakeup_items, wakeup_says}
 use Rattle.acpi_base.specs.Model as read
-use Rattle.acpi_base.specs.declared.model.interrupt.InterruptModel.TheVariants as model
 use Rattle.acpi_base.specs.declared.model.item.MadtItem.TheVariants as item
 use Rattle.acpi_writer.proofs.Tables as table
 
@@ -61,16 +62,16 @@ module _ (c : MadtContents) (f : AreFit c) (lines : list_all (λ x. names_one x.
   entries_speak : Says c.wakeup_mailbox (madt_entries c) (madt_items c)
   entries_speak =
       let o = c.wakeup_mailbox in
-      speaks_both (speaks_all FitsProcessor processor_entry processor_item (processor_says o) c.processors.now
-      (recursion_from_All FitsProcessor c.processors.now f.processors))
+      speaks_both (speaks_all (Fits processor_fields) processor_entry processor_item (processor_says o) c.processors.now
+      (recursion_from_All (Fits processor_fields) c.processors.now f.processors))
       (speaks_both (address_says o c.local_apic_address f.local_apic_address)
-      (speaks_both (speaks_all FitsIoApic io_apic_entry item.IoApic (io_apic_says o) c.io_apics.now
-      (recursion_from_All FitsIoApic c.io_apics.now f.io_apics))
-      (speaks_both (speaks_all FitsOverride override_entry item.Override (override_says o)
+      (speaks_both (speaks_all (Fits io_apic_fields) io_apic_entry item.IoApic (io_apic_says o) c.io_apics.now
+      (recursion_from_All (Fits io_apic_fields) c.io_apics.now f.io_apics))
+      (speaks_both (speaks_all (Fits override_fields) override_entry item.Override (override_says o)
       c.interrupt_source_overrides.now
-      (recursion_from_All FitsOverride c.interrupt_source_overrides.now f.overrides))
-      (speaks_both (speaks_all FitsNmiSource nmi_source_entry item.NmiSource (nmi_source_says o) c.nmi_sources.now
-      (recursion_from_All FitsNmiSource c.nmi_sources.now f.nmi_sources))
+      (recursion_from_All (Fits override_fields) c.interrupt_source_overrides.now f.overrides))
+      (speaks_both (speaks_all (Fits nmi_source_fields) nmi_source_entry item.NmiSource (nmi_source_says o)
+      c.nmi_sources.now (recursion_from_All (Fits nmi_source_fields) c.nmi_sources.now f.nmi_sources))
       (speaks_both (speaks_all (λ x. names_one x.processor ≡ true) nmi_line_entry item.NmiLine (nmi_line_says o)
       c.local_apic_nmi_lines.now (all_lines c.local_apic_nmi_lines.now lines))
       (wakeup_says o f.wakeup))))))
@@ -108,15 +109,6 @@ module _ (ids : TableIds) (c : MadtContents) (t : List ℕ) (is : IsMadt ids c t
 
 -- ---- the model
 
-abbrev pass : {A : Type 0} → read.Model A → Result (read.Model A) AcpiError
-pass x = Ok x
-
-from_gathered : {A : Type 0} (some : Bool) (a : Apic A) (p : Option (ProcessorInfo A)) (a' : Apic A)
-    (p' : Option (ProcessorInfo A)) → some ≡ true → a ≡ a' → p ≡ p'
-    → pass (if some then (model.Apic a, p) else (model.Unknown, None)) ≡ pass (model.Apic a', p')
-from_gathered true a p a' p' s e h = ap (λ z. pass (model.Apic z, p)) e ∙ ap (λ z. pass (model.Apic a', z)) h
-from_gathered false a p a' p' s e h = absurd cc
-
 apic_is : {A : Type 0} (ids : TableIds) (c : MadtContents) (t : List ℕ) → IsMadt ids c t
     → read.apic_of {A = A} (madt_at t) (madt_items c) ≡ apic_read c
 apic_is ids c t is =
@@ -140,9 +132,8 @@ some_apic c (p ∷ ps) same some = rw same refl
 pub madt_read : {A : Type 0} → MadtIsRead A
 madt_read {A = A} ids c t is =
     spoken_model t (madt_items c) c.wakeup_mailbox (speaks ids c t is) {A = A}
-    ∙ from_gathered (list_any read.is_of_apic (madt_items c)) _ _ (apic_read c) (processors_read c.processors.now)
-    (some_apic c c.processors.now refl is.some) (apic_is {A = A} ids c t is)
-    (processors_of_are {A = A} (madt_items c) c.processors.now (processors_are c))
+    ∙ rw (some_apic c c.processors.now refl is.some, apic_is {A = A} ids c t is)
+    (rw (processors_of_are {A = A} (madt_items c) c.processors.now (processors_are c)) refl)
 
 boxed : (o : Option ℕ) → filter_map (λ (a : ℕ). o) (boxes_read o) ≡ boxes_read o
 boxed (Some a) = refl

@@ -1,5 +1,5 @@
 -- What a reader finds of a register that is written.
-use Rattle.std.proofs.Common.{◌≡◌, ℕ, ◌<◌, true, false, List, length, lit<, Option, Some, None, Ok, refl, ◌==◌, if◌then◌else◌, zero, suc, arith, ◌*◌, nat_le, nat_lt}
+use Rattle.std.proofs.Common.{◌≡◌, ℕ, ◌<◌, true, false, List, length, lit<, Option, Some, None, Ok, refl, ◌==◌, if◌then◌else◌, zero, suc, arith, ◌-◌, ◌*◌, nat_le, nat_lt}
 use Rattle.acpi_base.proofs.FromStd.{and_parts, append-nil, ne_eqb}
 use Rattle.acpi_base.specs.Words.{generic_address_of, is_named_space, space_code, field_of, filled_part, part, spelling}
 use Rattle.acpi_base.proofs.Words.{size_read, space_read}
@@ -92,11 +92,10 @@ register_read o fits is = rw (given_read o fits is) refl
 
 -- ---- where a table has them
 
-pub filled_4 : (t x : List ℕ) (o : ℕ) → part t o 4 ≡ x → length x ≡ 4 → filled_part t o 4 ≡ x
-filled_4 t x o e long = rw (e, long) (append-nil x)
-
-pub filled_12 : (t x : List ℕ) (o : ℕ) → part t o 12 ≡ x → length x ≡ 12 → filled_part t o 12 ≡ x
-filled_12 t x o e long = rw (e, long) (append-nil x)
+pub filled : (n : ℕ) (t x : List ℕ) (o : ℕ) → part t o n ≡ x → length x ≡ n → filled_part t o n ≡ x
+filled n t x o e long =
+    let none : n - n ≡ 0 = omega arith in
+    rw (e, long, none) (append-nil x)
 
 pub register_long : (o : Option GenericAddress) → length (register_bytes o) ≡ 12
 unfolding address_fields spelling
@@ -112,5 +111,5 @@ pub block_is : (t : List ℕ) (address size extended s : ℕ) (o : Option Generi
     → block_at t address size extended ≡ made s o
 unfolding block_at
 block_is t address size extended s o e p has x =
-    rw (e, filled_4 t (spelling 4 (port_of o)) address p (port_long (port_of o)), has)
-    (rw (filled_12 t (register_bytes o) extended x (register_long o)) refl)
+    rw (e, filled 4 t (spelling 4 (port_of o)) address p (port_long (port_of o)), has)
+    (rw (filled 12 t (register_bytes o) extended x (register_long o)) refl)

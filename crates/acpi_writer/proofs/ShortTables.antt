@@ -1,6 +1,6 @@
 -- What a reader finds in the short tables that are written: an HPET, a BGRT, an MCFG, a SLIT, root tables, and tables
 -- of AML.
-use Rattle.std.proofs.Common.{◌≡◌, ℕ, ◌^◌, ◌<◌, Ok, refl, ap, ◌∙◌, arith, ◌+◌, ◌*◌, Bool, true, false, [], ◌∷◌, length, ◌/◌, List, ◌++◌, drop, sym, length-append, get_or, lit<, flat_map, Option, Some, slice_get}
+use Rattle.std.proofs.Common.{◌≡◌, ℕ, ◌^◌, ◌<◌, Ok, refl, ap, ◌∙◌, arith, ◌+◌, ◌*◌, Bool, true, false, [], ◌∷◌, length, ◌/◌, List, ◌++◌, drop, sym, get_or, lit<, flat_map, Option, Some, slice_get}
 use Rattle.acpi_base.specs.FromStd.{chars, is_utf8, AllByRecursion}
 use Rattle.acpi_base.proofs.Words.{number-spelling}
 use Rattle.acpi_base.specs.Words.{letters_of, bits_of, has_bit, field_of, spelling, mcfg_entries_in, mcfg_entry_at, whole_mcfg_entries}
@@ -9,7 +9,7 @@ use Rattle.acpi.specs.Words.{hpet_at, protection_code, protection_of, pointers, 
 use Rattle.acpi_writer.specs.Types.{PageProtection, RootKind, Rsdt, Xsdt}
 use Rattle.acpi_writer.specs.Words.{hpet_fields, HpetIsRead, BgrtIsRead, bgrt_fields, degrees_of, orientation_code, bit_of, IsTableOf, BgrtOrientation, mcfg_entry, mcfg_fields, FitsMcfg, McfgIsRead, IsSlit, SlitIsRead, slit_body, slit_checked, TableIds, DsdtIsRead, SsdtIsRead, RootIsRead, RootIsValid, root_body}
 use Rattle.acpi_writer.proofs.Bits.{was_true}
-use Rattle.acpi_writer.proofs.FieldsRead.{read_end, read_front}
+use Rattle.acpi_writer.proofs.FieldsRead.{each_long, read_end, read_front}
 use Rattle.acpi_fixed.specs.Words.{bgrt_at}
 use Rattle.acpi_base.proofs.FromStd.{drop_at, drop-drop, get_or-drop, drop-set-lt, recursion_from_All, eqb-true, lt-ltb, mul-add-lt, slice_get-get_or}
 use Rattle.acpi_numa.specs.Words.{distance_of, localities_of}
@@ -77,15 +77,6 @@ entry_long e = refl
 after_entry : (e : McfgEntry) (more : List ℕ) → drop 16 (mcfg_entry e ++ more) ≡ more
 after_entry e more = drop_at (mcfg_entry e) more 16 (entry_long e)
 
-entries_long : (es : List McfgEntry) → length (flat_map mcfg_entry es) ≡ 16 * length es
-entries_long [] = refl
-entries_long (e ∷ es) = omega (
-  arith,
-  length-append (mcfg_entry e) (flat_map mcfg_entry es),
-  entry_long e,
-  entries_long es,
-)
-
 entries_in : (es : List McfgEntry) → AllByRecursion FitsMcfg es
     → mcfg_entries_in (length es) (flat_map mcfg_entry es) ≡ es
 entries_in [] all = refl
@@ -95,7 +86,8 @@ entries_in (e ∷ es) all =
 
 whole_entries : (es : List McfgEntry) → AllByRecursion FitsMcfg es → whole_mcfg_entries (flat_map mcfg_entry es) ≡ es
 whole_entries es all =
-    let count : length (flat_map mcfg_entry es) / 16 ≡ length es = omega (arith, entries_long es) in
+    let count : length (flat_map mcfg_entry es) / 16 ≡ length es =
+    omega (arith, each_long mcfg_entry 16 entry_long es) in
     ap (λ n. mcfg_entries_in n (flat_map mcfg_entry es)) count ∙ entries_in es all
 
 pub mcfg_read : McfgIsRead

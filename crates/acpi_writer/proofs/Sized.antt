@@ -3,12 +3,12 @@ use Rattle.std.proofs.Common.{◌≡◌, ℕ, ◌+◌, ◌^◌, ◌<◌, ◌≤�
 use Rattle.acpi_base.proofs.FromStd.{leb-true, ltb-true, All-more, take-put_mid, drop-drop, drop_more, length-map, append-nil, length-replicate, length-take-le, take_at, flat_map-append, take_at_read, length-flat_map-take}
 use Rattle.std.proofs.lemmas.List.{get_or-map}
 use Rattle.acpi_base.proofs.Words.{holds_ok, same_ok, length-spelling}
-use Rattle.acpi_base.specs.FromStd.{Bor}
 use Rattle.acpi_base.specs.Words.{◌>>=◌, letters_of, spelling}
 use Rattle.acpi.specs.Types.{Signature, BGRT, FADT, GTDT, HPET, MADT, MCFG, SLIT, SPCR, SRAT, SSDT, XSDT}
 use Rattle.acpi_writer.specs.Types.{Xsdt}
-use Rattle.acpi_writer.specs.Words.{bgrt_body, Moves, contents_written, most, or_none, Written, bytes_by, placed_by, sized, fadt_body, fadt_checked, fadt_written, gic_body, gic_checked, gic_written, gtdt_body, gtdt_checked, hpet_body, is_empty, gap, padded, addresses, laid, rounded, madt_body, madt_checked, madt_written, mcfg_body, slit_body, slit_checked, slit_written, spcr_body, spcr_checked, spcr_written, srat_body, srat_checked, srat_written, AreIds, are_texts, table_bytes, table_written, TableContents, Bgrt, Fadt, GicMadt, Gtdt, Hpet, Madt, Mcfg, Slit, Spcr, Srat, Ssdt, WriterError, FadtContents, TableIds, SpcrContents, SratContents, GicContents, MadtContents, gic_meant, items_of, madt_meant, srat_meant, MachineOf, after_dsdt, check_each, dsdt_address, dsdt_end, dsdt_of, facs_laid, listed_by, rest_bytes, size_by, tables_address, tree_by, xsdt_by, xsdt_from, xsdt_length, root_body, Measures, gtdt_written_by}
+use Rattle.acpi_writer.specs.Words.{bgrt_body, Moves, contents_written, most, or_none, Written, bytes_by, placed_by, sized, fadt_body, fadt_checked, fadt_written, gic_body, gic_checked, gic_written, gtdt_body, gtdt_checked, hpet_body, is_empty, gap, padded, addresses, laid, rounded, madt_body, madt_checked, madt_written, mcfg_body, slit_body, slit_checked, slit_written, spcr_body, spcr_checked, spcr_written, srat_body, srat_checked, srat_written, AreIds, are_texts, table_bytes, table_written, TableContents, Bgrt, Fadt, GicMadt, Gtdt, Hpet, Madt, Mcfg, Slit, Spcr, Srat, Ssdt, WriterError, FadtContents, TableIds, SpcrContents, SratContents, GicContents, MadtContents, gic_meant, madt_meant, srat_meant, MachineOf, after_dsdt, check_each, dsdt_address, dsdt_end, dsdt_of, facs_laid, listed_by, rest_bytes, size_by, tables_address, tree_by, xsdt_by, xsdt_from, xsdt_length, root_body, Measures, gtdt_written_by}
 use Rattle.acpi_writer.proofs.Tables.{it_fits, table_length}
+use Rattle.acpi_writer.proofs.FieldsRead.{each_long}
 use borrow.Rule.Slice.PartMut.{post_of, put_mid}
 use Rattle.acpi_writer.proofs.Headless.{laid_long}
 
@@ -37,9 +37,6 @@ wrote room s revision ids body t e =
       short = ltb-true (36 + length body) (2 ^ 32) short.0;
       bytes = sym (same_ok {E = WriterError} (table_bytes s revision ids body) t short.1);
     }
-
-different : (t : List ℕ) (e : WriterError) → done t ≡ Err e → ⊥
-different t e same = cc
 
 -- ---- in another room
 
@@ -72,33 +69,39 @@ pub moved_fadt : (ids : TableIds) (c : FadtContents) → AreIds ids → Moves (�
 unfolding fadt_written
 moved_fadt ids c are = moved_checked (fadt_checked c) FADT 6 ids (fadt_body c) refl are
 
-pub moved_srat : (ids : TableIds) (c : SratContents) → AreIds ids → Moves (λ room. srat_written room ids c)
-unfolding srat_written
-moved_srat ids c are = moved_checked (srat_checked c) SRAT 3 ids (srat_body c) refl are
-
 pub moved_spcr : (ids : TableIds) (c : SpcrContents) → AreIds ids → Moves (λ room. spcr_written room ids c)
 unfolding spcr_written
 moved_spcr ids c are = moved_checked (spcr_checked c) SPCR 4 ids (spcr_body c) refl are
 
 pub moved_contents : (ids : TableIds) (c : TableContents) → AreIds ids → Moves (λ room. contents_written room ids c)
-unfolding gic_written gtdt_written_by madt_written
+unfolding gic_written gtdt_written_by madt_written srat_written
 moved_contents ids (Madt c) are = moved_checked (madt_checked c) MADT 5 ids (madt_body c) refl are
 moved_contents ids (Mcfg regions) are = moved_table MCFG 1 ids (mcfg_body regions.now) refl are
 moved_contents ids (Hpet info) are = moved_table HPET 1 ids (hpet_body info) refl are
 moved_contents ids (Slit c) are = moved_slit ids c.localities c.distances.now are
 moved_contents ids (Ssdt c) are = moved_table SSDT c.revision ids c.bytes.now refl are
 moved_contents ids (Fadt c) are = moved_fadt ids c are
-moved_contents ids (Srat c) are = moved_srat ids c are
+moved_contents ids (Srat c) are = moved_checked (srat_checked c) SRAT 3 ids (srat_body c) refl are
 moved_contents ids (Spcr c) are = moved_spcr ids c are
 moved_contents ids (Bgrt c) are = moved_table BGRT 1 ids (bgrt_body c) refl are
 moved_contents ids (Gtdt c) are = moved_checked (gtdt_checked c) GTDT 3 ids (gtdt_body c) refl are
 moved_contents ids (GicMadt c) are = moved_checked (gic_checked c) MADT 6 ids (gic_body c) refl are
 
+-- ---- filled up
+
+pub padded_long : (t : List ℕ) → length (padded t) ≡ rounded (length t)
+padded_long t = simp (length-append, length-replicate) (omega arith)
+
 -- ---- what a call wrote, and what it didn't
 
-pub written_is : (written : ℕ → Result (List ℕ) WriterError) → Moves written → (room : ℕ) (t : List ℕ)
-    → written room ≡ Ok t → length t ≤ most → or_none (written most) ≡ t
-written_is written moves room t e fits = ap or_none (moves room most t e fits)
+pub put_is : (written : ℕ → Result (List ℕ) WriterError) → Moves written → (room size : ℕ) (new : List ℕ)
+    → written room ≡ Ok (take size new) → size ≤ room → room ≤ length new → room ≤ most
+    → (or_none (written most) ≡ take size new) × (rounded size ≡ length (padded (or_none (written most))))
+put_is written moves room size new e within long small =
+    let kept = length-take-le size new (omega (arith, within, long)) in
+    let is : or_none (written most) ≡ take size new =
+    ap or_none (moves room most (take size new) e (omega (arith, kept, within, small))) in
+    (is, sym (padded_long (or_none (written most)) ∙ ap rounded (ap length is ∙ kept)))
 
 unwritten_by : (written : ℕ → Result (List ℕ) WriterError) → Moves written
     → (room : ℕ) (e : WriterError) (w : Result (List ℕ) WriterError) → written most ≡ w → written room ≡ Err e
@@ -106,7 +109,7 @@ unwritten_by : (written : ℕ → Result (List ℕ) WriterError) → Moves writt
 unwritten_by written moves room e (Ok t) all none within =
     let there : written room ≡ Ok t = moves most room t all
     (omega (arith, within, length-append t (replicate (gap (length t)) 0))) in
-    absurd (different t e (sym there ∙ none))
+    absurd cc
 unwritten_by written moves room e (Err d) all none within = refl
 
 pub unwritten : (written : ℕ → Result (List ℕ) WriterError) → Moves written → (room : ℕ) (e : WriterError)
@@ -115,15 +118,6 @@ unwritten written moves room e none within = unwritten_by written moves room e (
 
 abbrev pub count : ℕ → Result ℕ WriterError
 count n = Ok n
-
--- ---- filled up
-
-pub padded_long : (t : List ℕ) → length (padded t) ≡ rounded (length t)
-padded_long t = omega (
-  arith,
-  length-append t (replicate (gap (length t)) 0),
-  length-replicate {A = ℕ} (gap (length t)) 0,
-)
 
 -- what `put` leaves: the table, filled up, and what stood after it
 pub put_bytes : (old new out t : List ℕ) (size : ℕ) → size ≤ length old → drop size new ≡ drop size old
@@ -149,15 +143,13 @@ put_none old new t none same = rw none same
 abbrev pub listed_after : {A : Type 0} → Written A → ℕ → TableIds → List A → Result ℕ WriterError
 listed_after w size ids cs = check_each w ids cs >>= λ _. count (size + length (laid (map (bytes_by w ids) cs)))
 
-same_count : (m n : ℕ) → count m ≡ count n → m ≡ n
-same_count m n e = cc
-
 after_one : (w : Result (List ℕ) WriterError) (size more : ℕ) (rest : Result (Unit {0}) WriterError) (others : List ℕ)
     → sized w ≡ Ok more
     → ((w >>= λ _. rest) >>= λ _. count (size + length (padded (or_none w) ++ others)))
     ≡ (rest >>= λ _. count (size + rounded more + length others))
 after_one (Ok t) size more rest others e =
-    let long : length (padded t) ≡ rounded more = padded_long t ∙ ap rounded (same_count (length t) more e) in
+    let same : length t ≡ more = cc in
+    let long : length (padded t) ≡ rounded more = padded_long t ∙ ap rounded same in
     ap (λ n. rest >>= λ _. count n) (omega (arith, length-append (padded t) others, long))
 after_one (Err d) size more rest others e = absurd cc
 
@@ -198,16 +190,7 @@ listed_step w Fits ids cs i size more r total x is less e fit short same before 
 put_long : {X : Type 0} (a k : ℕ) (xs ys : List X) → a + k ≤ length xs → length ys ≡ k
     → length (put_mid a k xs ys) ≡ length xs
 put_long a k xs ys within long =
-    omega (
-      arith,
-      length-append (take a xs) (ys ++ post_of a k xs),
-      length-append ys (post_of a k xs),
-      length-take-le a xs (omega (arith, within)),
-      length-drop a xs,
-      length-drop k (drop a xs),
-      within,
-      long,
-    )
+    simp (length-append, length-drop) (omega (arith, length-take-le a xs (omega (arith, within)), long))
 
 pub addresses_step : {A : Type 0} (w : Written A) (ids : TableIds) (cs : List A) (i place at p long sum : ℕ)
     (out new total : List ℕ) (x : A) → x ≡ get_or cs i x → i < length cs → long ≡ 8 * length cs
@@ -288,22 +271,13 @@ pub addresses_long : (a : ℕ) (ts : List (List ℕ)) → length (addresses a ts
 addresses_long a [] = refl
 addresses_long a (t ∷ ts) = omega (arith, addresses_long (a + length (padded t)) ts)
 
-pub spelled_long : (ps : List ℕ) → length (flat_map (spelling 8) ps) ≡ 8 * length ps
-spelled_long [] = refl
-spelled_long (p ∷ ps) = omega (
-  arith,
-  length-append (spelling 8 p) (flat_map (spelling 8) ps),
-  length-spelling 8 p,
-  spelled_long ps,
-)
-
 -- the XSDT's body
 pub root_long : {A : Type 0} (w : Written A) (start : ℕ) (ids : TableIds) (cs : List A)
     → 36 + length (flat_map (spelling 8) (addresses start (map (bytes_by w ids) cs))) ≡ 36 + 8 * length cs
 root_long w start ids cs =
     omega (
       arith,
-      spelled_long (addresses start (map (bytes_by w ids) cs)),
+      each_long (spelling 8) 8 (length-spelling 8) (addresses start (map (bytes_by w ids) cs)),
       addresses_long start (map (bytes_by w ids) cs),
       length-map cs (bytes_by w ids),
     )
@@ -411,25 +385,14 @@ some_meant f [] = refl
 some_meant f (x ∷ xs) = refl
 
 -- contents of items themselves
-itself : {X : Type 0} (things : Bor (List X)) → items_of (λ x. x) things ≡ things
-itself things = ap (λ xs. record { ref_ptr = things.ref_ptr; now = xs }) (map_same things.now)
 
 pub madt_itself : (c : MadtContents) → madt_meant (λ x. x) (λ x. x) (λ x. x) (λ x. x) (λ x. x) c ≡ c
-madt_itself c = rw (
-  itself c.processors,
-  itself c.io_apics,
-  itself c.interrupt_source_overrides,
-  itself c.nmi_sources,
-  itself c.local_apic_nmi_lines,
-) refl
+madt_itself c = simp map_same
 
 pub gic_itself : (c : GicContents) → gic_meant (λ x. x) (λ x. x) (λ x. x) (λ x. x) c ≡ c
-gic_itself c = rw (
-  itself c.cpu_interfaces,
-  itself c.redistributors,
-  itself c.translation_services,
-  itself c.msi_frames,
-) refl
+gic_itself c = simp map_same
 
 pub srat_itself : (c : SratContents) → srat_meant (λ x. x) c ≡ c
-srat_itself c = rw (itself c.ranges) refl
+srat_itself c = simp map_same
+
+pub ruleset itself = (madt_itself, gic_itself, srat_itself, map_same)

@@ -7,8 +7,9 @@ use Rattle.acpi.specs.Types.{SRAT}
 use Rattle.acpi_numa.specs.Words.{affinities_of, ends_below, range_in, ranges_of, apic_domain, cut_of, entries_of, entry_of, processor_domain, revision_of, srat_grammar, srat_layout}
 use Rattle.acpi_writer.specs.Types.{MemoryRange, SratEntry}
 use Rattle.acpi_numa.specs.declared.srat.entry.SratEntry.TheVariants as kinds
-use Rattle.acpi_writer.specs.Words.{SratContents, apic_entry, is_one_apic, is_one_gicc, is_range, memory_entry, memory_fields, range_flags, srat_body, srat_checked, srat_entries, FitsApic, FitsGicc, FitsRange, IsSrat, SaysDomains, SratIsRead, IsTableOf, bit_of, IdOfAll, TableIds, ApicDomain, GiccDomain, FitsField, fields_bytes, Zeros}
-use Rattle.acpi_writer.specs.Srat.{gicc_entry, gicc_fields, is_small, local_apic_fields, local_x2apic_fields}
+use Rattle.acpi_writer.specs.Words.{SratContents, apic_entry, is_one_apic, is_one_gicc, is_range, memory_entry, memory_fields, range_flags, srat_body, srat_checked, srat_entries, IsSrat, SaysDomains, SratIsRead, IsTableOf, bit_of, IdOfAll, TableIds, ApicDomain, GiccDomain, FitsField, fields_bytes, Zeros}
+use Rattle.acpi_writer.specs.Srat.{apic_fields, gicc_entry, gicc_fields, is_small, local_apic_fields, local_x2apic_fields}
+use Rattle.acpi_writer.specs.Fields.{Fits}
 use Rattle.acpi_writer.specs.SratLaws.{AreFit}
 use Rattle.acpi_base.proofs.Words.{holds_ok}
 use Rattle.acpi_writer.proofs.FieldsRead.{read_at}
@@ -64,17 +65,17 @@ apic_by false p fits =
     speaks_row (lit≤ tt) (lit≤ tt) refl (lit≤ tt)
     (rw (field 3 (lit< tt), field 4 (lit< tt), field 5 (lit< tt), field 6 (lit< tt)) refl)
 
-apic_says : (p : ApicDomain) → FitsApic p → Speaks srat_layout Tells (apic_entry p) (apic_item p ∷ [])
+apic_says : (p : ApicDomain) → Fits apic_fields p → Speaks srat_layout Tells (apic_entry p) (apic_item p ∷ [])
 apic_says p fits = apic_by (is_small p) p fits
 
-gicc_says : (p : GiccDomain) → FitsGicc p → Speaks srat_layout Tells (gicc_entry p) (gicc_item p ∷ [])
+gicc_says : (p : GiccDomain) → Fits gicc_fields p → Speaks srat_layout Tells (gicc_entry p) (gicc_item p ∷ [])
 unfolding gicc_fields spelling
 gicc_says p fits =
     let field = λ (i : ℕ) (less : i < 6). read_at (gicc_fields p) fits i less in
     speaks_row (lit≤ tt) (lit≤ tt) refl (lit≤ tt)
     (rw (field 2 (lit< tt), field 3 (lit< tt), field 4 (lit< tt), field 5 (lit< tt)) refl)
 
-memory_says : (r : MemoryRange) → FitsRange r → Speaks srat_layout Tells (memory_entry r) (memory_item r ∷ [])
+memory_says : (r : MemoryRange) → Fits memory_fields r → Speaks srat_layout Tells (memory_entry r) (memory_item r ∷ [])
 unfolding memory_fields spelling
 memory_says r fits =
     let field = λ (i : ℕ) (less : i < 9). read_at (memory_fields r) fits i less in
@@ -150,12 +151,12 @@ module _ (c : SratContents) where
 
 entries_speak : (c : SratContents) → AreFit c → Speaks srat_layout Tells (srat_entries c) (items c)
 entries_speak c f =
-    speaks_both (speaks_all FitsApic apic_entry apic_item apic_says c.apics.now
-    (recursion_from_All FitsApic c.apics.now f.apics))
-    (speaks_both (speaks_all FitsGicc gicc_entry gicc_item gicc_says c.giccs.now
-    (recursion_from_All FitsGicc c.giccs.now f.giccs))
-    (speaks_all FitsRange memory_entry memory_item memory_says c.ranges.now
-    (recursion_from_All FitsRange c.ranges.now f.ranges)))
+    speaks_both (speaks_all (Fits apic_fields) apic_entry apic_item apic_says c.apics.now
+    (recursion_from_All (Fits apic_fields) c.apics.now f.apics))
+    (speaks_both (speaks_all (Fits gicc_fields) gicc_entry gicc_item gicc_says c.giccs.now
+    (recursion_from_All (Fits gicc_fields) c.giccs.now f.giccs))
+    (speaks_all (Fits memory_fields) memory_entry memory_item memory_says c.ranges.now
+    (recursion_from_All (Fits memory_fields) c.ranges.now f.ranges)))
 
 told : (ranges : List MemoryRange) (t : List ℕ) → (cut_of t).1 ≡ [] → ranges_of t ≡ ranges
     → list_all ends_below ranges ≡ true → affinities_of t ≡ Ok ranges

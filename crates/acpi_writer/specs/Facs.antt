@@ -7,10 +7,8 @@ use Rattle.acpi_writer.specs.Table.{bit_of}
 use Rattle.acpi_writer.specs.Types.{WriterError, NoRoom, FacsContents}
 
 -- at 0 Signature, 4 a Length of 64, 8 Hardware Signature, 12 Firmware Waking Vector, 16 a Global Lock of 0, 20 Flags,
--- of
--- which bit 0 is S4BIOS_F and bit 1 64BIT_WAKE_SUPPORTED_F, 24 X_Firmware_Waking_Vector, 32 a Version of 2, 33
--- Reserved,
--- 36 OSPM Flags of 0, 40 Reserved
+-- of which bit 0 is S4BIOS_F and bit 1 64BIT_WAKE_SUPPORTED_F, 24 X_Firmware_Waking_Vector, 32 a Version of 2, 33
+-- Reserved, 36 OSPM Flags of 0, 40 Reserved
 unfoldable pub facs_bytes : FacsContents → List ℕ
 facs_bytes c =
     letters_of FACS ++ (spelling 4 64 ++ (spelling 4 c.hardware_signature

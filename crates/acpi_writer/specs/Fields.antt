@@ -1,5 +1,5 @@
 -- The bytes of fields, one after the other.
-use Rattle.std.specs.Prelude.{ℕ, zero, suc, get_or, ◌+◌, ◌^◌, ◌<◌, List, [], ◌∷◌, flat_map, replicate, Option, Some, None}
+use Rattle.std.specs.Prelude.{ℕ, zero, suc, get_or, ◌+◌, ◌^◌, ◌<◌, List, [], ◌∷◌, flat_map, replicate, Option, Some, None, All}
 use Rattle.acpi_base.specs.Words.{spelling}
 use Rattle.acpi_writer.specs.declared.fields.Field.{Field}
 use Rattle.acpi_writer.specs.declared.fields.Field.TheVariants.{U8, U16, U32, U64, Zeros}
@@ -18,6 +18,10 @@ FitsField (U16 n) = n < 2 ^ 16
 FitsField (U32 n) = n < 2 ^ 32
 FitsField (U64 n) = n < 2 ^ 64
 FitsField (Zeros n) = Unit {0}
+
+-- each number of a thing with these fields has one
+abbrev pub Fits : {X : Type 0} → (X → List Field) → X → Type 0
+Fits fields x = All FitsField (fields x)
 
 abbrev pub fields_bytes : List Field → List ℕ
 fields_bytes fields = flat_map field_bytes fields

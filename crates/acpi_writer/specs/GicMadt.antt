@@ -7,7 +7,7 @@ use Rattle.acpi_arm.specs.Gic.{gic_of}
 use Rattle.acpi_writer.specs.Types.{GicModel, GicCpuInterface, GicDistributor, GicMsiFrame, GicRedistributors, GicTranslationService, SpiRange, WriterError, NoProcessor, SameAsBus, TableIds, GicContents}
 use Rattle.acpi_writer.specs.Checked.{all_checked}
 use Rattle.acpi_writer.specs.Arm.{flags_of, has_trigger, is_edge}
-use Rattle.acpi_writer.specs.Fields.{FitsField, fields_bytes}
+use Rattle.acpi_writer.specs.Fields.{Fits, fields_bytes}
 use Rattle.acpi_writer.specs.MadtBytes.{is_empty, madt_fixed}
 use Rattle.acpi_writer.specs.Spelled.{items_of}
 use Rattle.acpi_writer.specs.Table.{IsTableOf, IsValid, bit_of, table_written}
@@ -144,15 +144,12 @@ gic_written room ids c = do
 
 -- ---- which numbers have a place in an entry
 
-abbrev pub FitsInterface : GicCpuInterface → Type 0
-FitsInterface x = All FitsField (gicc_fields x)
-
 pub record AreGicFit (c : GicContents) : Type 0 where
-  pub distributor : All FitsField (gicd_fields c.distributor)
-  pub cpu_interfaces : All FitsInterface c.cpu_interfaces.now
-  pub redistributors : All (λ x. All FitsField (gicr_fields x)) c.redistributors.now
-  pub translation_services : All (λ x. All FitsField (its_fields x)) c.translation_services.now
-  pub msi_frames : All (λ x. All FitsField (msi_fields x)) c.msi_frames.now
+  pub distributor : Fits gicd_fields c.distributor
+  pub cpu_interfaces : All (Fits gicc_fields) c.cpu_interfaces.now
+  pub redistributors : All (Fits gicr_fields) c.redistributors.now
+  pub translation_services : All (Fits its_fields) c.translation_services.now
+  pub msi_frames : All (Fits msi_fields) c.msi_frames.now
 
 -- the bytes are the table of contents whose numbers and trigger modes have a place
 pub record IsGicMadt (ids : TableIds) (c : GicContents) (table : List ℕ) : Type 0 where

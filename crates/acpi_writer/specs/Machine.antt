@@ -4,7 +4,7 @@ use Rattle.std.specs.Prelude.{◌≡◌, ℕ, ◌+◌, ◌-◌, ◌*◌, ◌^◌
 use Rattle.acpi_writer.specs.Types.{Xsdt, AmlContents, TableContents, WriterError, BadName, NoAddress, NoRoom, TooLong, FacsContents, TableIds}
 use Rattle.acpi_base.specs.Words.{◌>>=◌, holds}
 use Rattle.acpi.specs.Types.{DSDT, XSDT}
-use Rattle.acpi_writer.specs.Contents.{FitsContents, Written, bytes_by, contents_written, most, or_none}
+use Rattle.acpi_writer.specs.Contents.{Written, bytes_by, contents_written, most, or_none}
 use Rattle.acpi_writer.specs.Facs.{FitsFacs, facs_bytes}
 use Rattle.acpi_writer.specs.Laid.{addresses, laid, padded, rounded}
 use Rattle.acpi_writer.specs.Root.{root_body}
@@ -214,11 +214,5 @@ machine_bytes a m = machine_by contents_written a m
 abbrev pub tree_size : Machine → ℕ
 tree_size m = size_by contents_written m
 
-abbrev pub FitsMachine : Machine → Type 0
-FitsMachine m = Fit FitsContents m
-
 abbrev pub check_tables : TableIds → List TableContents → Result (Unit {0}) WriterError
 check_tables ids cs = check_each contents_written ids cs
-
-abbrev pub check_machine : Machine → Result (Unit {0}) WriterError
-check_machine m = check_by contents_written m

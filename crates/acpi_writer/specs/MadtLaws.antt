@@ -2,40 +2,22 @@
 use Rattle.std.specs.Prelude.{◌≡◌, ℕ, Bool, true, false, List, [], ◌∷◌, map, Option, Some, None, Ok, All, ok_or}
 use Rattle.acpi_base.specs.FromStd.{list_all}
 use Rattle.acpi_base.specs.Words.{mailbox_of, Model, model_of, state_of}
-use Rattle.acpi.specs.Types.{InvalidMadt, UnexpectedEntry, MADT, Apic, InterruptSourceOverride, IoApic, NmiSource, Processor, ProcessorInfo}
+use Rattle.acpi.specs.Types.{InvalidMadt, UnexpectedEntry, MADT, Apic, Processor, ProcessorInfo}
 use Rattle.acpi_base.specs.declared.model.interrupt.InterruptModel.TheVariants as model
-use Rattle.acpi_writer.specs.Fields.{FitsField}
+use Rattle.acpi_writer.specs.Fields.{Fits}
 use Rattle.acpi_writer.specs.MadtBytes.{address_fields, mailbox_fields, io_apic_fields, is_empty, madt_body, names_one, nmi_source_fields, override_fields, processor_fields}
 use Rattle.acpi_writer.specs.Table.{IsTableOf, IsValid}
 use Rattle.acpi_writer.specs.Types.{TableIds, MadtContents, MadtProcessor}
 
 -- ---- which numbers have a place in an entry
 
-abbrev pub FitsProcessor : MadtProcessor → Type 0
-FitsProcessor p = All FitsField (processor_fields p)
-
-abbrev pub FitsAddress : ℕ → Type 0
-FitsAddress a = All FitsField (address_fields a)
-
-abbrev pub FitsIoApic : IoApic → Type 0
-FitsIoApic x = All FitsField (io_apic_fields x)
-
-abbrev pub FitsOverride : InterruptSourceOverride → Type 0
-FitsOverride x = All FitsField (override_fields x)
-
-abbrev pub FitsNmiSource : NmiSource → Type 0
-FitsNmiSource x = All FitsField (nmi_source_fields x)
-
-abbrev pub FitsMailbox : Option ℕ → Type 0
-FitsMailbox o = All FitsField (mailbox_fields o)
-
 pub record AreFit (c : MadtContents) : Type 0 where
-  pub local_apic_address : FitsAddress c.local_apic_address
-  pub processors : All FitsProcessor c.processors.now
-  pub io_apics : All FitsIoApic c.io_apics.now
-  pub overrides : All FitsOverride c.interrupt_source_overrides.now
-  pub nmi_sources : All FitsNmiSource c.nmi_sources.now
-  pub wakeup : FitsMailbox c.wakeup_mailbox
+  pub local_apic_address : Fits address_fields c.local_apic_address
+  pub processors : All (Fits processor_fields) c.processors.now
+  pub io_apics : All (Fits io_apic_fields) c.io_apics.now
+  pub overrides : All (Fits override_fields) c.interrupt_source_overrides.now
+  pub nmi_sources : All (Fits nmi_source_fields) c.nmi_sources.now
+  pub wakeup : Fits mailbox_fields c.wakeup_mailbox
 
 -- the bytes are the table of contents whose numbers have a place, with a processor among them, and no NMI line of the
 -- uid that stands for all

@@ -3,8 +3,8 @@ use Rattle.std.specs.Prelude.{◌≡◌, ℕ, ◌==◌, true, List, Option, None
 use Rattle.acpi_base.specs.FromStd.{last_or, list_all}
 use Rattle.acpi.specs.Types.{SRAT}
 use Rattle.acpi_numa.specs.Words.{affinities_of, domain_of_apic, domain_of_processor}
-use Rattle.acpi_writer.specs.Types.{MemoryRange, SratContents, TableIds}
-use Rattle.acpi_writer.specs.Fields.{FitsField}
+use Rattle.acpi_writer.specs.Types.{SratContents, TableIds}
+use Rattle.acpi_writer.specs.Fields.{Fits}
 use Rattle.acpi_writer.specs.Srat.{apic_fields, gicc_fields, is_range, memory_fields, srat_body}
 use Rattle.acpi_writer.specs.Table.{IsTableOf, IsValid}
 use Rattle.acpi_writer.specs.declared.srat.ApicDomain.{ApicDomain}
@@ -12,19 +12,10 @@ use Rattle.acpi_writer.specs.declared.srat.GiccDomain.{GiccDomain}
 
 -- ---- which numbers have a place in an entry
 
-abbrev pub FitsApic : ApicDomain → Type 0
-FitsApic p = All FitsField (apic_fields p)
-
-abbrev pub FitsGicc : GiccDomain → Type 0
-FitsGicc p = All FitsField (gicc_fields p)
-
-abbrev pub FitsRange : MemoryRange → Type 0
-FitsRange r = All FitsField (memory_fields r)
-
 pub record AreFit (c : SratContents) : Type 0 where
-  pub apics : All FitsApic c.apics.now
-  pub giccs : All FitsGicc c.giccs.now
-  pub ranges : All FitsRange c.ranges.now
+  pub apics : All (Fits apic_fields) c.apics.now
+  pub giccs : All (Fits gicc_fields) c.giccs.now
+  pub ranges : All (Fits memory_fields) c.ranges.now
 
 -- the bytes are the table of contents whose numbers have a place, and whose ranges are some
 pub record IsSrat (ids : TableIds) (c : SratContents) (table : List ℕ) : Type 0 where

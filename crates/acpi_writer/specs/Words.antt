@@ -10,12 +10,12 @@ unfoldable pub use Rattle.acpi_writer.specs.Facs.{facs_bytes, facs_written}
 pub use Rattle.acpi_writer.specs.FadtBytes.{address_or_zero, are_blocks, are_placed, arm_flags, body_with, bytes_wide, fadt_body, fadt_checked, feature_flags, fixed_of, gpe_length, gpe_register, has_address, is_given, narrow, pc_flags, port_of, registers, are_registers, is_block, optional_blocks}
 unfoldable pub use Rattle.acpi_writer.specs.FadtBytes.{fadt_written, front_fields, wide_fields}
 pub use Rattle.acpi_writer.specs.FadtLaws.{AreFitFor, FitsFadt, FadtIsRead, FadtIsValid, HasFields, HasFlags, HasHardware, HasLegacy, HasNeededBlocks, IsFadt}
-pub use Rattle.acpi_writer.specs.Fields.{FitsField, field_at, field_bytes, field_size, field_value, fields_bytes, offset_of}
+pub use Rattle.acpi_writer.specs.Fields.{Fits, FitsField, field_at, field_bytes, field_size, field_value, fields_bytes, offset_of}
 pub use Rattle.acpi_writer.specs.Flags.{FlagsAreRead}
 unfoldable pub use Rattle.acpi_writer.specs.Flags.{flag_number}
 pub use Rattle.acpi_writer.specs.Generic.{FitsAddress, FitsRegister, address_bytes, is_register, register_bytes, register_or_zeros}
 unfoldable pub use Rattle.acpi_writer.specs.Generic.{address_fields}
-pub use Rattle.acpi_writer.specs.GicMadt.{AreGicFit, FitsInterface, GicMadtIsRead, GicMadtIsValid, IsGicMadt, gic_body, gic_checked, gic_meant, gic_read, gicc_entry, gicc_fields, gicd_entry, gicr_entry, has_spis, interface_checked, its_entry, msi_entry, spis_of, trace_field}
+pub use Rattle.acpi_writer.specs.GicMadt.{AreGicFit, GicMadtIsRead, GicMadtIsValid, IsGicMadt, gic_body, gic_checked, gic_meant, gic_read, gicc_entry, gicc_fields, gicd_entry, gicr_entry, has_spis, interface_checked, its_entry, msi_entry, spis_of, trace_field}
 unfoldable pub use Rattle.acpi_writer.specs.GicMadt.{gic_written, gicc_list, gicd_fields, gicr_fields, its_fields, msi_fields}
 pub use Rattle.acpi_writer.specs.Gtdt.{AreTimersFit, FitsFrame, FitsStructure, FitsWatchdog, GtdtIsRead, GtdtIsValid, IsGtdt, SaysTimers, base_of, frame_bytes, frame_checked, gtdt_body, gtdt_checked, structure_bytes, structure_checked, timer_checked, timer_flags, timer_read, AreTimersFitBy, IsGtdtBy, gtdt_body_by, gtdt_checked_by, gtdt_written, structure_bytes_by, structure_checked_by}
 unfoldable pub use Rattle.acpi_writer.specs.Gtdt.{block_fields, frame_fields, gtdt_fields, watchdog_fields, gtdt_written_by}
@@ -29,7 +29,7 @@ unfoldable pub use Rattle.acpi_writer.specs.Machine.{check_by, machine_by, size_
 pub use Rattle.acpi_writer.specs.MachineLaws.{AreValid, HasFacs, HasFadt, HasTable, IsOpened, IsWritable, LaidAreFound, MachineIsRead, Says, TreeIsRead, first_at, first_of, place_of, platform_read}
 pub use Rattle.acpi_writer.specs.MadtBytes.{address_entries, inti_flags, io_apic_entry, is_empty, is_single, is_small, long_uid, madt_body, madt_checked, madt_entries, madt_fixed, madt_meant, names_one, nmi_fields, nmi_line_entry, nmi_source_entry, override_entry, processor_entry, short_uid, wakeup_entries}
 unfoldable pub use Rattle.acpi_writer.specs.MadtBytes.{apic_nmi_fields, io_apic_fields, local_apic_fields, local_x2apic_fields, madt_fields, madt_written, nmi_source_fields, override_address_fields, override_fields, wakeup_fields, x2apic_nmi_fields}
-pub use Rattle.acpi_writer.specs.MadtLaws.{AreFit, FitsIoApic, FitsMailbox, FitsNmiSource, FitsOverride, FitsProcessor, IsMadt, MadtIsRead, MadtIsValid, MailboxIsRead, apic_read, model_read, processor_read, processors_read}
+pub use Rattle.acpi_writer.specs.MadtLaws.{AreFit, IsMadt, MadtIsRead, MadtIsValid, MailboxIsRead, apic_read, model_read, processor_read, processors_read}
 pub use Rattle.acpi_writer.specs.McfgBytes.{mcfg_body, mcfg_entry, mcfg_reserved, mcfg_written}
 unfoldable pub use Rattle.acpi_writer.specs.McfgBytes.{mcfg_fields}
 pub use Rattle.acpi_writer.specs.McfgLaws.{FitsMcfg, IsMcfg, McfgIsRead, McfgIsValid}
@@ -44,7 +44,7 @@ pub use Rattle.acpi_writer.specs.SpcrLaws.{FitsSpcr, IsSpcr, SaysConsole, SaysDe
 pub use Rattle.acpi_writer.specs.Spelled.{Measures, items_of}
 pub use Rattle.acpi_writer.specs.Srat.{apic_entry, is_one_apic, is_one_gicc, is_range, memory_entry, range_flags, srat_body, srat_checked, srat_entries, srat_meant, srat_reserved}
 unfoldable pub use Rattle.acpi_writer.specs.Srat.{memory_fields, srat_written}
-pub use Rattle.acpi_writer.specs.SratLaws.{FitsApic, FitsGicc, FitsRange, IsSrat, SaysDomains, SratIsRead, SratIsValid}
+pub use Rattle.acpi_writer.specs.SratLaws.{IsSrat, SaysDomains, SratIsRead, SratIsValid}
 pub use Rattle.acpi_writer.specs.Table.{AreIds, HasIds, IdsAreRead, IsTableOf, IsValid, Keeps, are_texts, bit_of, front_written, if_checked, unsummed}
 unfoldable pub use Rattle.acpi_writer.specs.Table.{table_bytes, table_head, table_written}
 pub use Rattle.acpi_writer.specs.Types.{AmlContents, BadCode, BadName, BadProfile, Bgrt, BgrtContents, BgrtOrientation, FacsContents, Fadt, FadtContents, FadtHardware, Fixed, FixedHardware, GicContents, GicMadt, Gtdt, GtdtContents, Hpet, IdOfAll, Madt, MadtContents, MadtProcessor, Mcfg, NoAddress, NoProcessor, PlatformTimerContents, Reduced, Slit, Spcr, SpcrContents, Srat, SratContents, Ssdt, TableContents, TableIds, TooLong, TooManyFrames, WriterError, GtdtOf, TimerOf}

@@ -91,7 +91,7 @@ impl Listed for TableContents<'_> {
 
     ghost fits = { FitsContents };
 
-    #[tactic(auto, using(crate::proofs::Sized::madt_itself, crate::proofs::Sized::gic_itself, crate::proofs::Sized::srat_itself, crate::proofs::Sized::map_same))]
+    #[tactic(auto, using(crate::proofs::Sized::itself))]
     fn size(&self, ids: &TableIds) -> Result<usize, WriterError> {
         match self {
             TableContents::Madt(contents) => madt_size(ids, contents),
@@ -110,7 +110,7 @@ impl Listed for TableContents<'_> {
         }
     }
 
-    #[tactic(auto, using(crate::proofs::Sized::madt_itself, crate::proofs::Sized::gic_itself, crate::proofs::Sized::srat_itself, crate::proofs::Sized::map_same))]
+    #[tactic(auto, using(crate::proofs::Sized::itself))]
     fn write(&self, out: &mut [u8], ids: &TableIds) -> Result<usize, WriterError> {
         match self {
             TableContents::Madt(contents) => write_madt(out, ids, contents),

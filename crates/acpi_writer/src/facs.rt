@@ -23,17 +23,6 @@ pub struct FacsContents {
     pub supports_64_bit_wake: bool,
 }
 
-impl FacsContents {
-    /// Its numbers have a place.
-    pub(crate) fn fit(&self)
-        ensures { facs.FitsFacs self.now }
-    {
-        let _signature = self.hardware_signature;
-        let _vector = self.waking_vector;
-        let _x_vector = self.x_waking_vector;
-    }
-}
-
 /// A FACS of version 2.
 #[tactic(auto, unfolding(crate::specs::Facs::facs_bytes, acpi_base::specs::Bytes::spelling))]
 pub(crate) fn facs_bytes(contents: &FacsContents) -> [u8; 64]
@@ -55,7 +44,7 @@ pub(crate) fn facs_bytes(contents: &FacsContents) -> [u8; 64]
 /// OSPM Flags are 0. It has no checksum, and no header by which its makers are known.
 ///
 /// Returns `NoRoom` if the slice is shorter than the FACS.
-#[tactic(auto, unfolding(crate::specs::Facs::facs_written, crate::specs::Facs::facs_bytes, acpi_base::specs::Bytes::spelling))]
+#[tactic(auto, using(crate::proofs::Headless::facs_long), unfolding(crate::specs::Facs::facs_written))]
 pub fn write_facs(out: &mut [u8], contents: &FacsContents) -> Result<usize, WriterError>
     // The bytes, or the error, are those that are defined.
     ensures exact { Gives (λ n. take n out.new) result

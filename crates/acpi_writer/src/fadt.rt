@@ -56,14 +56,14 @@ fn is_block(block: Option<GenericAddress>) -> bool
     is_register(block) && has_bytes
 }
 
-/// Whether each of these blocks does.
+/// Whether each of these blocks, if it is there, has bytes, and can be read again.
 fn are_all(blocks: &[Option<GenericAddress>]) -> bool
     ensures { result ≡ list_all bytes.is_block blocks.now }
 {
     blocks.iter().all(|block| is_block(*block))
 }
 
-/// Whether each block of fixed hardware does.
+/// Whether the blocks of fixed hardware that are there have bytes, and can be read again.
 fn are_blocks(hardware: &FadtHardware) -> bool
     ensures { result ≡ bytes.are_blocks hardware.now }
 {

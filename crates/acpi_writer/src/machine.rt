@@ -109,16 +109,13 @@ fn dsdt_place<T>(machine: &Machine<'_, T>) -> usize
 }
 
 /// How many bytes the FACS takes.
-fn facs_room(facs: &Option<FacsContents>) -> usize
-    ensures size { result ≡ whole.facs_room facs.now }
+fn facs_room(facs: Option<FacsContents>) -> usize
+    ensures size { result ≡ whole.facs_room facs }
     ensures short { result ≤ 128 }
-    ensures fits { whole.FacsFits facs.now }
+    ensures fits { whole.FacsFits facs }
 {
     match facs {
-        Some(contents) => {
-            contents.fit();
-            128
-        }
+        Some(_contents) => 128,
         None => 0,
     }
 }
@@ -136,7 +133,7 @@ fn tree_size<T: Listed>(machine: &Machine<'_, T>) -> Result<usize, WriterError>
     let dsdt = dsdt_size(machine)?;
     machine.ids.fit();
     let listed = listed_size(&machine.ids, machine.tables)?;
-    let facs = facs_room(&machine.facs);
+    let facs = facs_room(machine.facs);
     Ok(rounded(36 + 8 * count) + dsdt + facs + listed)
 }
 
@@ -237,7 +234,7 @@ fn put_after_dsdt<T: Listed>(out: &mut [u8], address: u64, machine: &Machine<'_,
         + length (laid (whole.listed_by T.written machine.now)) }
     ensures { out.new ≡ whole.after_dsdt T.written address machine.now }
 {
-    let facs = facs_room(&machine.facs);
+    let facs = facs_room(machine.facs);
     put_facs(&mut out[..facs], address, &machine.facs);
     put_listed(&mut out[facs..], &machine.ids, machine.tables);
 }
@@ -264,7 +261,7 @@ fn put_tree<T: Listed>(out: &mut [u8], address: u64, machine: &Machine<'_, T>)
 {
     let xsdt = rounded(36 + 8 * machine.tables.len());
     let dsdt = address + xsdt as u64;
-    let start = dsdt + dsdt_place(machine) as u64 + facs_room(&machine.facs) as u64;
+    let start = dsdt + dsdt_place(machine) as u64 + facs_room(machine.facs) as u64;
     put_xsdt(&mut out[..xsdt], start, machine);
     put_rest(&mut out[xsdt..], dsdt, machine);
 }

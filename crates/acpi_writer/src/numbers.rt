@@ -20,7 +20,7 @@ pub(crate) fn dword(number: u32) -> [u8; 4]
 }
 
 /// The eight bytes of a number, the lowest first.
-#[tactic(auto, using(crate::proofs::Bits::eight_bytes))]
+#[tactic(auto, using(acpi_image::proofs::Written::le_bytes))]
 pub(crate) fn qword(number: u64) -> [u8; 8]
     ensures { result ≡ spelling 8 number }
 {

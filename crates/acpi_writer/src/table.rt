@@ -52,13 +52,6 @@ fn fill<B: Spelled>(table: &mut [u8], signature: Signature, revision: u8, ids: &
     set_sum(table, 9); // Checksum
 }
 
-/// A signature has four letters.
-fn has_letters(signature: Signature)
-    ensures { length (letters_of signature) ≡ 4 }
-{
-    let _letters = signature.to_bytes();
-}
-
 /// How many bytes a table has, or the first error of `write_table` in a slice of any length.
 #[tactic(auto, using(crate::proofs::Tables::table_length), unfolding(crate::specs::Table::table_written))]
 pub fn table_size<B: Spelled>(
@@ -80,7 +73,6 @@ pub fn table_size<B: Spelled>(
             if end > u32::MAX as usize {
                 return Err(WriterError::TooLong);
             }
-            has_letters(signature);
             ids.fit();
             Ok(end)
         }

@@ -269,7 +269,7 @@ fn registers(c: &FadtContents) -> [Option<GenericAddress>; 10]
     ]
 }
 
-/// Those registers, each with its bytes.
+/// The registers from X_PM1a_EVT_BLK to SLEEP_STATUS_REG, each with its bytes.
 #[derive(Clone, Copy)]
 pub(super) struct WideRegisters<'a>(pub(super) &'a FadtContents);
 

@@ -1,52 +1,35 @@
-use Rattle.std.proofs.Common.{length, take, sym, ap, ◌∙◌, arith}
-use Rattle.acpi_base.proofs.FromStd.{length-take-le}
-use Rattle.acpi_writer.specs.Words.{bytes_by, padded, rounded}
-use Rattle.acpi_writer.proofs.Sized.{unwritten, written_is, padded_long, put_bytes, put_none}
+use Rattle.std.proofs.Common.{length, sym, ap, ◌∙◌, arith}
+use Rattle.acpi_writer.specs.Words.{bytes_by, padded}
+use Rattle.acpi_writer.proofs.Sized.{unwritten, put_bytes, put_is, put_none}
 use Rattle.acpi_writer.proofs.listed.put.Goals as goal
 
 pub fill_up-requires : goal.fill_up-requires
 fill_up-requires g c =
-    let long = length-take-le c.in-Ok.size c.write.new.out
-    (omega (arith, c.in-Ok.ensures.keeps.0, c.in-Ok.ensures.keeps.2)) in
-    let is = written_is (λ room. g.T.Listed.written room c.args.ids.now c.args.table.now) c.moves.ensures
-    (length c.args.out.now) (take c.in-Ok.size c.write.new.out) c.in-Ok.ensures.exact
-    (omega (arith, long, c.in-Ok.ensures.keeps.0)) in
-    omega (
-      arith,
-      c.requires,
-      c.in-Ok.ensures.keeps.2,
-      padded_long
-          (bytes_by g.T.Listed.written c.args.ids.now c.args.table.now) ∙ ap rounded (ap length is ∙ long),
-    )
+    let keeps = c.in-Ok.ensures.keeps in
+    let p = put_is (λ room. g.T.Listed.written room c.args.ids.now c.args.table.now) c.moves.ensures
+    (length c.args.out.now) c.in-Ok.size c.write.new.out c.in-Ok.ensures.exact keeps.0 (omega (arith, keeps.2))
+    (omega arith) in
+    omega (arith, c.requires, keeps.2, p.1)
 
-pub returns-in-Ok-clause-bytes : goal.returns-in-Ok-clause-bytes
-returns-in-Ok-clause-bytes g c =
-    let long = length-take-le c.in-Ok.size c.write.new.out
-    (omega (arith, c.in-Ok.ensures.keeps.0, c.in-Ok.ensures.keeps.2)) in
-    let is = written_is (λ room. g.T.Listed.written room c.args.ids.now c.args.table.now) c.moves.ensures
-    (length c.args.out.now) (take c.in-Ok.size c.write.new.out) c.in-Ok.ensures.exact
-    (omega (arith, long, c.in-Ok.ensures.keeps.0)) in
-    put_bytes c.args.out.now c.write.new.out c.fill_up.new.out
-    (bytes_by g.T.Listed.written c.args.ids.now c.args.table.now) c.in-Ok.size c.in-Ok.ensures.keeps.0
-    c.in-Ok.ensures.keeps.1 c.in-Ok.ensures.keeps.2 is c.fill_up.ensures.bytes
+pub returns-in-Ok : goal.returns-in-Ok
+returns-in-Ok g c =
+    let keeps = c.in-Ok.ensures.keeps in
+    let p = put_is (λ room. g.T.Listed.written room c.args.ids.now c.args.table.now) c.moves.ensures
+    (length c.args.out.now) c.in-Ok.size c.write.new.out c.in-Ok.ensures.exact keeps.0 (omega (arith, keeps.2))
+    (omega arith) in
+    record {
+      bytes = put_bytes c.args.out.now c.write.new.out c.fill_up.new.out
+          (bytes_by g.T.Listed.written c.args.ids.now c.args.table.now) c.in-Ok.size keeps.0 keeps.1 keeps.2 p.0
+          c.fill_up.ensures.bytes;
+      size = c.fill_up.ensures.size ∙ p.1;
+    }
 
-pub returns-in-Ok-clause-size : goal.returns-in-Ok-clause-size
-returns-in-Ok-clause-size g c =
-    let long = length-take-le c.in-Ok.size c.write.new.out
-    (omega (arith, c.in-Ok.ensures.keeps.0, c.in-Ok.ensures.keeps.2)) in
-    let is = written_is (λ room. g.T.Listed.written room c.args.ids.now c.args.table.now) c.moves.ensures
-    (length c.args.out.now) (take c.in-Ok.size c.write.new.out) c.in-Ok.ensures.exact
-    (omega (arith, long, c.in-Ok.ensures.keeps.0)) in
-    c.fill_up.ensures.size ∙ sym (padded_long (bytes_by g.T.Listed.written c.args.ids.now c.args.table.now)
-    ∙ ap rounded (ap length is ∙ long))
-
-pub returns-in-Err-clause-bytes : goal.returns-in-Err-clause-bytes
-returns-in-Err-clause-bytes g c =
-    put_none c.args.out.now c.write.new.out (bytes_by g.T.Listed.written c.args.ids.now c.args.table.now)
-    (unwritten (λ room. g.T.Listed.written room c.args.ids.now c.args.table.now) c.moves.ensures (length c.args.out.now)
-    c.in-Err.field-0 c.in-Err.ensures.exact c.requires) c.in-Err.ensures.keeps
-
-pub returns-in-Err-clause-size : goal.returns-in-Err-clause-size
-returns-in-Err-clause-size g c =
-    ap (λ t. length (padded t)) (sym (unwritten (λ room. g.T.Listed.written room c.args.ids.now c.args.table.now)
-    c.moves.ensures (length c.args.out.now) c.in-Err.field-0 c.in-Err.ensures.exact c.requires))
+pub returns-in-Err : goal.returns-in-Err
+returns-in-Err g c =
+    let none = unwritten (λ room. g.T.Listed.written room c.args.ids.now c.args.table.now) c.moves.ensures
+    (length c.args.out.now) c.in-Err.field-0 c.in-Err.ensures.exact c.requires in
+    record {
+      bytes = put_none c.args.out.now c.write.new.out (bytes_by g.T.Listed.written c.args.ids.now c.args.table.now) none
+          c.in-Err.ensures.keeps;
+      size = ap (λ t. length (padded t)) (sym none);
+    }
