@@ -23,7 +23,7 @@ use Rattle.acpi_arm.specs.Gic.{found_gic}
 use Rattle.acpi_arm.specs.Gtdt.{gtdt_kind}
 use Rattle.acpi_fixed.specs.Words.{bgrt_at}
 use Rattle.acpi_numa.specs.Words.{srat_kind, distance_of}
-use Rattle.acpi_writer.specs.SratLaws as srat
+use Rattle.acpi_writer.specs.Srat as srat
 use Rattle.acpi_writer.proofs.Tables as table
 
 -- ---- a table that is written

@@ -9,8 +9,7 @@ use Rattle.acpi.specs.Types.{AcpiError, InvalidMadt, InvalidEntryLength, MADT, M
 use Rattle.acpi_base.specs.declared.tables.madt.entry.MadtEntry.TheVariants as kinds
 use Rattle.acpi_arm.specs.Gic as read
 use Rattle.acpi_writer.specs.Types.{GicModel, GicCpuInterface, GicDistributor, GicMsiFrame, GicRedistributors, GicTranslationService, SpiRange}
-use Rattle.acpi_writer.specs.Words.{is_edge, all_checked, IsTableOf, bit_of, NoProcessor, TableIds, GicContents, AreGicFit, GicMadtIsRead, IsGicMadt, gic_body, gic_checked, gic_read, gicc_entry, gicc_fields, gicc_list, trace_field, gicd_entry, gicd_fields, gicr_entry, gicr_fields, has_spis, interface_checked, its_entry, its_fields, msi_entry, msi_fields, spis_of, is_empty, madt_fields, FitsField, fields_bytes, Zeros}
-use Rattle.acpi_writer.specs.Fields.{Fits}
+use Rattle.acpi_writer.specs.Words.{Fits, is_edge, all_checked, IsTableOf, bit_of, NoProcessor, TableIds, GicContents, AreGicFit, GicMadtIsRead, IsGicMadt, gic_body, gic_checked, gic_read, gicc_entry, gicc_fields, gicc_list, trace_field, gicd_entry, gicd_fields, gicr_entry, gicr_fields, has_spis, interface_checked, its_entry, its_fields, msi_entry, msi_fields, spis_of, is_empty, madt_fields, FitsField, fields_bytes, Zeros}
 use Rattle.acpi_writer.proofs.Bits.{each_good, flag_bits, mode_is, was_true}
 use Rattle.acpi_writer.proofs.FieldsRead.{read_at}
 use Rattle.acpi_writer.proofs.Rows.{Speaks, both_known, in_same, known_same, sorts, speaks_both, speaks_each, speaks_row, spoken, spoken_cut}

@@ -1,5 +1,5 @@
 -- What a reader finds in a GTDT that is written.
-use Rattle.std.proofs.Common.{◌≡◌, ℕ, ◌+◌, ◌%◌, ◌^◌, ◌<◌, true, false, List, [], ◌∷◌, length, drop, Option, Some, Ok, refl, sym, ap, ◌∙◌, arith, lit<, if◌then◌else◌, ◌==◌, flat_map, nat_le, nat_lt, All}
+use Rattle.std.proofs.Common.{◌≡◌, ℕ, ◌+◌, ◌%◌, ◌^◌, ◌<◌, true, false, List, [], ◌∷◌, length, drop, Some, Ok, refl, sym, ap, ◌∙◌, arith, lit<, if◌then◌else◌, ◌==◌, flat_map, nat_le, nat_lt, All}
 use Rattle.acpi_base.specs.FromStd.{AllByRecursion}
 use Rattle.acpi_base.proofs.FromStd.{or-true, le-leb, drop-drop, All-from_recursion, recursion_from_All}
 use Rattle.acpi_base.specs.Words.{field_of, part, spelling, header_at}
@@ -14,9 +14,6 @@ use Rattle.acpi_writer.proofs.FieldsRead.{read_at, read_in}
 use Rattle.acpi_writer.proofs.Rows.{both_known}
 
 -- ---- the table
-
-abbrev some_timer : ArmTimer → Option ArmTimer
-some_timer x = Some x
 
 -- the bytes have this timer's interrupt and flags at an offset
 timer_is : (b : List ℕ) (o : ℕ) (t : ArmTimer) → timer_checked t ≡ Ok tt
@@ -110,7 +107,7 @@ module _ (ids : TableIds) (c : GtdtContents) (t : List ℕ) (is : IsGtdt ids c t
   shows_el2 =
       let at = read_at (el2_fields c.virtual_el2_timer) el2_fit in
       rw (offset_is, or-true (field_of t 88 4 == 0), revision_is, el2_within, el2_part)
-      (ap some_timer (timer_is _ 0 c.virtual_el2_timer good.6 (at 0 (lit< tt)) (at 1 (lit< tt))))
+      (ap (λ (x : ArmTimer). Some x) (timer_is _ 0 c.virtual_el2_timer good.6 (at 0 (lit< tt)) (at 1 (lit< tt))))
 
   says : SaysTimers c t
   unfolding gtdt_at gtdt_fields

@@ -92,37 +92,30 @@ module _ (a : ℕ) (fs : List GtFrame) (few : length fs ≤ 1637) (fits : All Fi
       ≡ field_value (field_at (block_fields a (length fs)) i)
   block_field i less = read_front (block_fields a (length fs)) (flat_map frame_bytes fs) fits i less
 
-  block_kind : read.kind_of block ≡ 0
-  unfolding block_fields
-  block_kind = block_field 0 (lit< tt)
-
   block_count : read.frame_count block ≡ length fs
   unfolding block_fields
   block_count =
       let small : length fs % 2 ^ 32 ≡ length fs = omega (arith, few) in
       block_field 4 (lit< tt) ∙ small
 
-  block_offset : read.frames_offset block ≡ 20
-  unfolding block_fields
-  block_offset = block_field 5 (lit< tt)
-
   block_sound : read.is_sound block ≡ true
+  unfolding block_fields
   block_sound =
       let within : nat_le (20 + 40 * length fs) (length block) ≡ true =
       le-leb (20 + 40 * length fs) (length block) (omega (arith, block_long)) in
-      rw (block_kind, block_count, block_offset, within) (or-true (length fs == 0))
+      rw (block_field 0 (lit< tt), block_count, block_field 5 (lit< tt), within) (or-true (length fs == 0))
 
   block_frames : AllByRecursion FitsFrame fs → AllByRecursion (λ f. frame_checked f ≡ Ok tt) fs
       → read.frames_of block ≡ fs
   unfolding block_fields spelling
   block_frames all good =
       ap (λ n. read.frames_in n (drop (read.frames_offset block) block)) block_count
-      ∙ ap (λ o. read.frames_in (length fs) (drop o block)) block_offset ∙ frames_are fs all good
+      ∙ ap (λ o. read.frames_in (length fs) (drop o block)) (block_field 5 (lit< tt)) ∙ frames_are fs all good
 
   block_says : AllByRecursion FitsFrame fs → AllByRecursion (λ f. frame_checked f ≡ Ok tt) fs
       → read.timer_of block ≡ Some (inl (a, fs))
   unfolding block_fields
-  block_says all good = rw (block_kind, block_field 3 (lit< tt), block_frames all good) refl
+  block_says all good = rw (block_field 0 (lit< tt), block_field 3 (lit< tt), block_frames all good) refl
 
 module _ (w : SbsaWatchdog) where
   watchdog_is : IsEntry read.timers_layout (fields_bytes (watchdog_fields w))

@@ -234,9 +234,6 @@ tree_read {A = A} m rsdp a x h is first e = (
 
 -- ---- what is known before
 
-abbrev some_address : ℕ → Option ℕ
-some_address p = Some p
-
 dsdt_room : (ids : TableIds) (d : Option AmlContents) (t : List ℕ) → AreIds ids → dsdt_written ids d ≡ Ok t
     → (length (padded t) ≡ rounded (dsdt_length d)) × (dsdt_length d < 2 ^ 32)
 dsdt_room ids None t are e = (ap (λ b. length (padded b)) (sym (same_ok [] t e)), lit≤ tt)
@@ -270,7 +267,7 @@ module _ (a : ℕ) (x : Machine) (is : IsWritable (a + 48) x) where
         lt-ltb (a + (48 + rounded (36 + 8 * count))) (2 ^ 64)
             (omega (arith, facts_of.ends)),
       )
-      (ap some_address (omega arith))
+      (ap (λ (p : ℕ). Some p) (omega arith))
 
   facs_known : (f : FacsContents) → x.facs ≡ Some f → facs_at a count x.dsdt ≡ Some (facs_address (a + 48) x)
   unfolding size_by
@@ -279,7 +276,7 @@ module _ (a : ℕ) (x : Machine) (is : IsWritable (a + 48) x) where
       let within : ends_at + facs_gap ends_at < 2 ^ 64 = omega (arith, facts_of.ends, room, ends_is) in
       rw (lt-ltb (36 + 8 * count) (2 ^ 32) facts_of.short, lt-ltb (dsdt_length x.dsdt) (2 ^ 32) dsdt_is.1)
       (rw (lt-ltb (ends_at + facs_gap ends_at) (2 ^ 64) within)
-      (ap (λ p. some_address (p + facs_gap p)) ends_is))
+      (ap (λ (p : ℕ). Some (p + facs_gap p)) ends_is))
 
 pub machine_read : {A : Type 0} → MachineIsRead A
 unfolding machine_by

@@ -3,11 +3,10 @@ use Rattle.std.proofs.Common.{◌≡◌, ℕ, List, [], ◌∷◌, map, drop, Op
 use Rattle.acpi_base.specs.FromStd.{cons_option, result_err, result_ok}
 use Rattle.acpi_base.proofs.FromStd.{ltb-true, ne_eqb}
 use Rattle.acpi_base.proofs.Words.{said_faults, said_items, number-spelling}
-use Rattle.acpi_base.specs.Words.{said_of, cut_of, entries_of, entry_of, madt_at, madt_grammar, madt_layout, mailbox_in, Model, fault_in, fault_of, first_fault, items_of, model_from, model_of, field_of, number, spelling, item_of, line_code, polarity_of, trigger_mode_of}
+use Rattle.acpi_base.specs.Words.{said_of, cut_of, entries_of, entry_of, madt_at, madt_grammar, madt_layout, mailbox_in, Model, fault_in, fault_of, first_fault, items_of, model_from, model_of, field_of, spelling, item_of, line_code, polarity_of, trigger_mode_of}
 use Rattle.acpi.specs.Types.{AcpiError, InvalidMadt, MadtError, Madt, MadtEntry, MadtItem, InterruptSourceOverride, IoApic, LocalInterruptLine, Lint0, Lint1, NmiLine, NmiProcessor, NmiSource, Polarity, TriggerMode}
 use Rattle.acpi_writer.proofs.Rows.{Speaks, in_map, in_none, in_same, in_some, speaks_nothing, speaks_row, spoken, spoken_cut}
-use Rattle.acpi_writer.specs.Words.{MadtProcessor, inti_flags, io_apic_fields, nmi_source_fields, override_fields, address_entries, apic_nmi_fields, io_apic_entry, is_small, local_apic_fields, local_x2apic_fields, long_uid, names_one, nmi_fields, nmi_line_entry, nmi_source_entry, override_address_fields, override_entry, processor_entry, short_uid, wakeup_entries, wakeup_fields, x2apic_nmi_fields, FitsField, fields_bytes}
-use Rattle.acpi_writer.specs.Fields.{Fits}
+use Rattle.acpi_writer.specs.Words.{Fits, MadtProcessor, inti_flags, io_apic_fields, nmi_source_fields, override_fields, address_entries, apic_nmi_fields, io_apic_entry, is_small, local_apic_fields, local_x2apic_fields, long_uid, names_one, nmi_fields, nmi_line_entry, nmi_source_entry, override_address_fields, override_entry, processor_entry, short_uid, wakeup_entries, wakeup_fields, x2apic_nmi_fields, FitsField, fields_bytes}
 use Rattle.acpi_writer.specs.MadtBytes.{address_fields, mailbox_fields, processor_fields}
 use Rattle.acpi_writer.proofs.FieldsRead.{read_at}
 use Rattle.acpi_writer.proofs.Bits.{one, two_bits}
@@ -186,47 +185,35 @@ for_other all n uid l e less =
     let other : nat_eq uid all ≡ false = ne_eqb uid all (λ s. omega (arith, s, less)) in
     rw (e, other) refl
 
-apic_nmi_all : (l : LocalInterruptLine) → said_of (fields_bytes (apic_nmi_fields 255 (line_code l)))
-    ≡ tell (line_item nmi.All l)
+apic_nmi_all : (o : Option ℕ) (l : LocalInterruptLine)
+    → Says o (fields_bytes (apic_nmi_fields 255 (line_code l))) (line_item nmi.All l ∷ [])
 unfolding apic_nmi_fields said_of item_of field_of
-apic_nmi_all Lint0 = refl
-apic_nmi_all Lint1 = refl
+apic_nmi_all o Lint0 = speaks_row (lit≤ tt) (lit≤ tt) refl (lit≤ tt) (refl, refl)
+apic_nmi_all o Lint1 = speaks_row (lit≤ tt) (lit≤ tt) refl (lit≤ tt) (refl, refl)
 
-apic_nmi_one : (uid : ℕ) (l : LocalInterruptLine) → uid < 255
-    → said_of (fields_bytes (apic_nmi_fields uid (line_code l))) ≡ tell (line_item (nmi.ProcessorUid uid) l)
+apic_nmi_one : (o : Option ℕ) (uid : ℕ) (l : LocalInterruptLine) → uid < 255
+    → Says o (fields_bytes (apic_nmi_fields uid (line_code l))) (line_item (nmi.ProcessorUid uid) l ∷ [])
 unfolding apic_nmi_fields said_of item_of field_of
-apic_nmi_one uid Lint0 h = for_other 255 (number (uid ∷ [])) uid Lint0 (one uid) h
-apic_nmi_one uid Lint1 h = for_other 255 (number (uid ∷ [])) uid Lint1 (one uid) h
+apic_nmi_one o uid Lint0 h = speaks_row (lit≤ tt) (lit≤ tt) refl (lit≤ tt) (for_other 255 _ uid Lint0 (one uid) h, refl)
+apic_nmi_one o uid Lint1 h = speaks_row (lit≤ tt) (lit≤ tt) refl (lit≤ tt) (for_other 255 _ uid Lint1 (one uid) h, refl)
 
-x2apic_nmi_one : (uid : ℕ) (l : LocalInterruptLine) → uid < 0xffffffff
-    → said_of (fields_bytes (x2apic_nmi_fields uid (line_code l))) ≡ tell (line_item (nmi.ProcessorUid uid) l)
+x2apic_nmi_one : (o : Option ℕ) (uid : ℕ) (l : LocalInterruptLine) → uid < 0xffffffff
+    → Says o (fields_bytes (x2apic_nmi_fields uid (line_code l))) (line_item (nmi.ProcessorUid uid) l ∷ [])
 unfolding x2apic_nmi_fields said_of item_of field_of spelling
-x2apic_nmi_one uid Lint0 h =
-    for_other 0xffffffff (number (spelling 4 uid)) uid Lint0 (number-spelling 4 uid (omega (arith, h))) h
-x2apic_nmi_one uid Lint1 h =
-    for_other 0xffffffff (number (spelling 4 uid)) uid Lint1 (number-spelling 4 uid (omega (arith, h))) h
-
-apic_nmi_says : (o : Option ℕ) (uid line : ℕ) (x : NmiLine)
-    → said_of (fields_bytes (apic_nmi_fields uid line)) ≡ tell (item.NmiLine x)
-    → Says o (fields_bytes (apic_nmi_fields uid line)) (item.NmiLine x ∷ [])
-unfolding apic_nmi_fields
-apic_nmi_says o uid line x said = speaks_row (lit≤ tt) (lit≤ tt) refl (lit≤ tt) (said, refl)
-
-x2apic_nmi_says : (o : Option ℕ) (uid line : ℕ) (x : NmiLine)
-    → said_of (fields_bytes (x2apic_nmi_fields uid line)) ≡ tell (item.NmiLine x)
-    → Says o (fields_bytes (x2apic_nmi_fields uid line)) (item.NmiLine x ∷ [])
-unfolding x2apic_nmi_fields spelling
-x2apic_nmi_says o uid line x said = speaks_row (lit≤ tt) (lit≤ tt) refl (lit≤ tt) (said, refl)
+x2apic_nmi_one o uid Lint0 h = speaks_row (lit≤ tt) (lit≤ tt) refl (lit≤ tt)
+    (for_other 0xffffffff _ uid Lint0 (number-spelling 4 uid (omega (arith, h))) h, refl)
+x2apic_nmi_one o uid Lint1 h = speaks_row (lit≤ tt) (lit≤ tt) refl (lit≤ tt)
+    (for_other 0xffffffff _ uid Lint1 (number-spelling 4 uid (omega (arith, h))) h, refl)
 
 one_line_says : (o : Option ℕ) (small : Bool) (uid : ℕ) (l : LocalInterruptLine) → uid < 0xffffffff
     → nat_lt uid 255 ≡ small → Says o (fields_bytes (nmi_fields (if small then Some uid else None) uid (line_code l)))
     (line_item (nmi.ProcessorUid uid) l ∷ [])
-one_line_says o true uid l h e = apic_nmi_says o uid (line_code l) _ (apic_nmi_one uid l (ltb-true uid 255 e))
-one_line_says o false uid l h e = x2apic_nmi_says o uid (line_code l) _ (x2apic_nmi_one uid l h)
+one_line_says o true uid l h e = apic_nmi_one o uid l (ltb-true uid 255 e)
+one_line_says o false uid l h e = x2apic_nmi_one o uid l h
 
 line_by : (o : Option ℕ) (p : NmiProcessor) (l : LocalInterruptLine) → names_one p ≡ true
     → Says o (fields_bytes (nmi_fields (short_uid p) (long_uid p) (line_code l))) (line_item p l ∷ [])
-line_by o nmi.All l f = apic_nmi_says o 255 (line_code l) _ (apic_nmi_all l)
+line_by o nmi.All l f = apic_nmi_all o l
 line_by o (nmi.ProcessorUid uid) l f = one_line_says o (nat_lt uid 255) uid l (ltb-true uid 0xffffffff f) refl
 
 pub nmi_line_says : (o : Option ℕ) (x : NmiLine) → names_one x.processor ≡ true

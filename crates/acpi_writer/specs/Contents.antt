@@ -2,22 +2,18 @@
 use Rattle.std.specs.Prelude.{◌≡◌, ℕ, ◌-◌, ◌^◌, ◌<◌, ◌≤◌, List, [], length, Result, Ok, Err, All}
 use Rattle.acpi.specs.Types.{Signature, BGRT, FADT, GTDT, HPET, MADT, MCFG, SLIT, SPCR, SRAT, SSDT}
 use Rattle.acpi_writer.specs.Bgrt.{FitsBgrt, bgrt_written}
-use Rattle.acpi_writer.specs.FadtBytes.{fadt_written}
-use Rattle.acpi_writer.specs.FadtLaws.{FitsFadt}
+use Rattle.acpi_writer.specs.Fadt.{fadt_written, FitsFadt}
 use Rattle.acpi_writer.specs.GicMadt.{AreGicFit, gic_written}
 use Rattle.acpi_writer.specs.Gtdt.{AreTimersFit, gtdt_written}
-use Rattle.acpi_writer.specs.HpetBytes.{hpet_written}
-use Rattle.acpi_writer.specs.HpetLaws.{FitsHpet}
+use Rattle.acpi_writer.specs.Hpet.{hpet_written, FitsHpet}
 use Rattle.acpi_writer.specs.Laid.{padded}
 use Rattle.acpi_writer.specs.MadtBytes.{madt_written}
 use Rattle.acpi_writer.specs.MadtLaws.{AreFit}
-use Rattle.acpi_writer.specs.McfgBytes.{mcfg_written}
-use Rattle.acpi_writer.specs.McfgLaws.{FitsMcfg}
+use Rattle.acpi_writer.specs.Mcfg.{mcfg_written, FitsMcfg}
 use Rattle.acpi_writer.specs.Slit.{slit_written}
-use Rattle.acpi_writer.specs.Spcr.{spcr_written}
-use Rattle.acpi_writer.specs.SpcrLaws.{FitsSpcr}
+use Rattle.acpi_writer.specs.Spcr.{spcr_written, FitsSpcr}
 use Rattle.acpi_writer.specs.Srat.{srat_written}
-use Rattle.acpi_writer.specs.SratLaws as srat
+use Rattle.acpi_writer.specs.Srat as srat
 use Rattle.acpi_writer.specs.Table.{table_written}
 use Rattle.acpi_writer.specs.Types.{TableContents, Bgrt, Fadt, GicMadt, Gtdt, Hpet, Madt, Mcfg, Slit, Spcr, Srat, Ssdt, WriterError, TableIds}
 

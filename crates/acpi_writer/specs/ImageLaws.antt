@@ -7,9 +7,9 @@ use Rattle.acpi.specs.Types.{Signature, HPET, MADT, MCFG, McfgEntry}
 use Rattle.acpi.specs.Words.{hpet_of, found_regions, model_in, platform_of}
 use Rattle.acpi_writer.specs.Types.{HpetInfo, PlatformInfo, TableIds, MadtContents}
 use Rattle.acpi_image.specs.Words.{written, Plan, pointers_of, records_of}
-use Rattle.acpi_writer.specs.HpetLaws.{IsHpet}
+use Rattle.acpi_writer.specs.Hpet.{IsHpet}
 use Rattle.acpi_writer.specs.MadtLaws.{IsMadt, apic_read, model_read, processors_read}
-use Rattle.acpi_writer.specs.McfgLaws.{IsMcfg}
+use Rattle.acpi_writer.specs.Mcfg.{IsMcfg}
 
 -- the bytes begin with this signature
 abbrev pub is_named : Signature → List ℕ → Bool

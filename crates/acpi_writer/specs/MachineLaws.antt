@@ -25,7 +25,7 @@ use Rattle.acpi_writer.specs.Bgrt.{SaysImage}
 use Rattle.acpi_writer.specs.Contents.{FitsContents, bytes_of, contents_written, placed, signature_of}
 use Rattle.acpi_writer.specs.Facs as structure
 use Rattle.acpi_writer.specs.Facs.{facs_bytes}
-use Rattle.acpi_writer.specs.FadtLaws.{IsReadAs, timer_read}
+use Rattle.acpi_writer.specs.Fadt.{IsReadAs, timer_read}
 use Rattle.acpi_writer.specs.GicMadt.{gic_read}
 use Rattle.acpi_writer.specs.Gtdt.{SaysTimers}
 use Rattle.acpi_writer.specs.ImageLaws.{HasPlatform, is_named}
@@ -33,8 +33,8 @@ use Rattle.acpi_writer.specs.Laid.{addresses, laid, padded}
 use Rattle.acpi_writer.specs.Machine.{CanLie, Machine, dsdt_address, dsdt_at, dsdt_of, facs_address, facs_at, machine_bytes, pointers_of, tables_address, tree_bytes, tree_size, xsdt_bytes}
 use Rattle.acpi_writer.specs.MadtLaws.{apic_read, model_read, processors_read}
 use Rattle.acpi_writer.specs.Rsdp.{rsdp_bytes}
-use Rattle.acpi_writer.specs.SpcrLaws.{SaysConsole}
-use Rattle.acpi_writer.specs.SratLaws.{SaysDomains}
+use Rattle.acpi_writer.specs.Spcr.{SaysConsole}
+use Rattle.acpi_writer.specs.Srat.{SaysDomains}
 use Rattle.acpi_writer.specs.Table.{IsValid}
 
 -- ---- any valid tables, laid one after the other

@@ -1,13 +1,14 @@
 -- The bytes of an SPCR that says what is given (ACPI 6.4, section 5.2.6). The layout is Microsoft's.
-use Rattle.std.specs.Prelude.{ℕ, ◌+◌, ◌%◌, ◌^◌, ◌==◌, ◌&&◌, Bool, true, not, if◌then◌else◌, List, [], ◌∷◌, ◌++◌, length, nat_lt, Option, Some, None, Result}
-use Rattle.acpi_base.specs.Words.{interface_code, is_interface, is_named_space, size_code, space_code, flow_bits, interrupt_bits, terminal_bits, ◌>>=◌, holds, bits_of, has_bit}
-use Rattle.acpi.specs.Types.{GenericAddress, SPCR}
-use Rattle.acpi_writer.specs.Fields.{fields_bytes}
+use Rattle.std.specs.Prelude.{ℕ, ◌+◌, ◌%◌, ◌^◌, ◌==◌, ◌&&◌, Bool, true, not, if◌then◌else◌, List, [], ◌∷◌, ◌++◌, length, nat_lt, Option, Some, None, Result, ◌≡◌, IsUtf8, Ok, All, option_map}
+use Rattle.acpi_base.specs.Words.{interface_code, is_interface, is_named_space, size_code, space_code, flow_bits, interrupt_bits, terminal_bits, ◌>>=◌, holds, bits_of, has_bit, baud_of, bus_of, clock_of, device_id_of, device_of, flow_byte, function_of, interface_in, interrupt_byte, interrupt_of, irq_of, namespace_of, spcr_at, terminal_byte, unless, vendor_id_of}
+use Rattle.acpi.specs.Types.{GenericAddress, SPCR, AcpiError, Spcr}
+use Rattle.acpi_writer.specs.Fields.{fields_bytes, FitsField}
 use Rattle.acpi_writer.specs.Generic.{register_or_zeros}
-use Rattle.acpi_writer.specs.Table.{table_written}
+use Rattle.acpi_writer.specs.Table.{table_written, IsTableOf, IsValid}
 use Rattle.acpi_writer.specs.Types.{WriterError, BadCode, LongName, NoAddress, TableIds, SpcrContents, SpcrPciDevice}
 use Rattle.acpi_writer.specs.declared.fields.Field.{Field}
 use Rattle.acpi_writer.specs.declared.fields.Field.TheVariants.{U8, U16, U32, U64, Zeros}
+use Rattle.acpi_base.specs.Spcr.{base_of}
 
 -- the PCI device: if there is none, its ids are 0xffff, and its other numbers 0
 abbrev pub device_written : Option SpcrPciDevice → SpcrPciDevice
@@ -87,3 +88,61 @@ unfoldable pub spcr_written : ℕ → TableIds → SpcrContents → Result (List
 spcr_written room ids c = do
   _ ← spcr_checked c
   table_written room SPCR 4 ids (spcr_body c)
+
+-- ---- which numbers have a place
+
+abbrev pub FitsSpcr : SpcrContents → Type 0
+FitsSpcr c = All FitsField (spcr_fields c) × IsUtf8 c.namespace_string.now
+
+-- the bytes are the table of contents whose numbers and name have a place, and that no error is for
+pub record IsSpcr (ids : TableIds) (c : SpcrContents) (table : List ℕ) : Type 0 where
+  pub written : IsTableOf SPCR 4 ids (spcr_body c) table
+  pub fit : FitsSpcr c
+  pub checked : spcr_checked c ≡ Ok tt
+
+-- ---- what is to be read
+
+abbrev pub readable : GenericAddress → Result GenericAddress AcpiError
+readable a = Ok a
+
+-- the port is the one that was given
+pub record SaysPort (c : SpcrContents) (t : Spcr) : Type 0 where
+  pub interface_type : interface_in t ≡ c.interface_type
+  pub base_address : base_of t ≡ option_map readable c.base_address
+  pub interrupt_type : interrupt_byte t ≡ interrupt_bits c.interrupt_type
+  pub irq : irq_of t ≡ (if has_bit (interrupt_bits c.interrupt_type) 0 then Some c.irq else None)
+  pub global_system_interrupt : interrupt_of t
+      ≡ (if bits_of (interrupt_bits c.interrupt_type) 1 4 == 0 then None else Some c.global_system_interrupt)
+  pub baud_rate : baud_of t ≡ unless 0 c.baud_rate
+  pub parity : t.parity ≡ c.parity
+  pub stop_bits : t.stop_bits ≡ c.stop_bits
+  pub flow_control : flow_byte t ≡ flow_bits c.flow_control
+  pub terminal_type : terminal_byte t ≡ terminal_bits c.terminal_type
+  pub language : t.language ≡ c.language
+  pub uart_clock_frequency : clock_of t ≡ unless 0 c.uart_clock_frequency
+
+-- and so is the PCI device that it is
+pub record SaysDevice (d : SpcrPciDevice) (t : Spcr) : Type 0 where
+  pub device_id : device_id_of t ≡ unless 0xffff d.device_id
+  pub vendor_id : vendor_id_of t ≡ unless 0xffff d.vendor_id
+  pub bus : bus_of t ≡ unless 0 d.bus
+  pub device : device_of t ≡ unless 0 d.device
+  pub function : function_of t ≡ unless 0 d.function
+  pub flags : t.pci_flags ≡ d.flags
+  pub segment : t.pci_segment ≡ d.segment
+
+-- and so is all of the table; its name is read with the zero that ends it
+pub record SaysConsole (c : SpcrContents) (table : List ℕ) : Type 0 where
+  pub port : SaysPort c (spcr_at table)
+  pub device : SaysDevice (device_written c.pci_device) (spcr_at table)
+  pub name : namespace_of table ≡ Ok (c.namespace_string.now ++ (0 ∷ []))
+
+-- ---- laws
+
+-- such a table is valid
+abbrev pub SpcrIsValid : Type 0
+SpcrIsValid = (ids : TableIds) (c : SpcrContents) (table : List ℕ) → IsSpcr ids c table → IsValid SPCR table
+
+-- and says exactly what was given
+abbrev pub SpcrIsRead : Type 0
+SpcrIsRead = (ids : TableIds) (c : SpcrContents) (table : List ℕ) → IsSpcr ids c table → SaysConsole c table

@@ -1,13 +1,13 @@
 -- The bytes of a SRAT that says what is given (ACPI 6.4, section 5.2.16).
-use Rattle.std.specs.Prelude.{ℕ, ◌+◌, ◌*◌, ◌/◌, ◌%◌, ◌^◌, ◌==◌, ◌&&◌, Bool, not, if◌then◌else◌, List, [], ◌∷◌, ◌++◌, flat_map, nat_lt, Result}
-use Rattle.acpi_base.specs.FromStd.{list_all}
+use Rattle.std.specs.Prelude.{ℕ, ◌+◌, ◌*◌, ◌/◌, ◌%◌, ◌^◌, ◌==◌, ◌&&◌, Bool, not, if◌then◌else◌, List, [], ◌∷◌, ◌++◌, flat_map, nat_lt, Result, ◌≡◌, true, Option, None, Some, Ok, All, filter_map}
+use Rattle.acpi_base.specs.FromStd.{list_all, last_or}
 use Rattle.acpi_base.specs.Words.{◌>>=◌, holds}
 use Rattle.acpi.specs.Types.{SRAT}
-use Rattle.acpi_numa.specs.Words.{ends_below}
+use Rattle.acpi_numa.specs.Words.{ends_below, affinities_of, domain_of_apic, domain_of_processor}
 use Rattle.acpi_writer.specs.Types.{MemoryRange, WriterError, BadRange, IdOfAll, SratContents, TableIds}
-use Rattle.acpi_writer.specs.Fields.{fields_bytes}
+use Rattle.acpi_writer.specs.Fields.{fields_bytes, Fits}
 use Rattle.acpi_writer.specs.Spelled.{items_of}
-use Rattle.acpi_writer.specs.Table.{bit_of, table_written}
+use Rattle.acpi_writer.specs.Table.{bit_of, table_written, IsTableOf, IsValid}
 use Rattle.acpi_writer.specs.declared.fields.Field.{Field}
 use Rattle.acpi_writer.specs.declared.fields.Field.TheVariants.{U8, U16, U32, U64, Zeros}
 use Rattle.acpi_writer.specs.declared.srat.ApicDomain.{ApicDomain}
@@ -113,3 +113,42 @@ unfoldable pub srat_written : ℕ → TableIds → SratContents → Result (List
 srat_written room ids c = do
   _ ← srat_checked c
   table_written room SRAT 3 ids (srat_body c)
+
+-- ---- which numbers have a place in an entry
+
+pub record AreFit (c : SratContents) : Type 0 where
+  pub apics : All (Fits apic_fields) c.apics.now
+  pub giccs : All (Fits gicc_fields) c.giccs.now
+  pub ranges : All (Fits memory_fields) c.ranges.now
+
+-- the bytes are the table of contents whose numbers have a place, and whose ranges are some
+pub record IsSrat (ids : TableIds) (c : SratContents) (table : List ℕ) : Type 0 where
+  pub written : IsTableOf SRAT 3 ids (srat_body c) table
+  pub fit : AreFit c
+  pub ranges : list_all is_range c.ranges.now ≡ true
+
+-- ---- what is to be read
+
+-- the domain that is given last for a processor with this id, or with this uid
+abbrev pub apic_given : List ApicDomain → ℕ → Option ℕ
+apic_given ps id = last_or None (filter_map (λ p. if p.local_apic_id == id then Some p.domain else None) ps)
+
+abbrev pub gicc_given : List GiccDomain → ℕ → Option ℕ
+gicc_given ps uid = last_or None (filter_map (λ p. if p.processor_uid == uid then Some p.domain else None) ps)
+
+-- the table's ranges are exactly those that were given, in order, and a processor is in the domain that was given for
+-- it, or in none if none was
+pub record SaysDomains (c : SratContents) (table : List ℕ) : Type 0 where
+  pub ranges : affinities_of table ≡ Ok c.ranges.now
+  pub apics : (id : ℕ) → domain_of_apic table id ≡ apic_given c.apics.now id
+  pub giccs : (uid : ℕ) → domain_of_processor table uid ≡ gicc_given c.giccs.now uid
+
+-- ---- laws
+
+-- such a table is valid
+abbrev pub SratIsValid : Type 0
+SratIsValid = (ids : TableIds) (c : SratContents) (table : List ℕ) → IsSrat ids c table → IsValid SRAT table
+
+-- and says exactly what was given
+abbrev pub SratIsRead : Type 0
+SratIsRead = (ids : TableIds) (c : SratContents) (table : List ℕ) → IsSrat ids c table → SaysDomains c table

@@ -4,7 +4,7 @@ ghost use Rattle.acpi_base.specs.FromStd.{list_all};
 ghost use Rattle.acpi_base.specs.Words.{Gives};
 ghost use Rattle.acpi_writer.specs.Words.{most, sized, IsFadt, Keeps, FitsFadt};
 ghost use Rattle.acpi_fixed.specs.Words.{is_profile};
-ghost use Rattle.acpi_writer.specs.FadtBytes as bytes;
+ghost use Rattle.acpi_writer.specs.Fadt as bytes;
 
 mod contents;
 mod features;
@@ -130,7 +130,7 @@ impl Spelled for FadtContents {
 }
 
 /// How many bytes the FADT has, or the first error of `write_fadt` in a slice of any length.
-#[tactic(auto, unfolding(crate::specs::FadtBytes::fadt_written))]
+#[tactic(auto, unfolding(crate::specs::Fadt::fadt_written))]
 pub fn fadt_size(ids: &TableIds, contents: &FadtContents) -> Result<usize, WriterError>
     ensures exact { result ≡ sized (bytes.fadt_written most ids.now contents.now) }
     ensures short { IfOk result (λ n. n < 2 ^ 32) }
@@ -150,7 +150,7 @@ pub fn fadt_size(ids: &TableIds, contents: &FadtContents) -> Result<usize, Write
 /// has the code of one that has a name, `BadRegister` if a register is at address 0 or in an `OemDefined` space below
 /// 0xc0, or if a block of fixed hardware but the timer's has no whole byte, `BadName` if a name of the ids is not valid
 /// UTF-8, and `NoRoom` if the slice is shorter than the table.
-#[tactic(auto, unfolding(crate::specs::FadtBytes::fadt_written))]
+#[tactic(auto, unfolding(crate::specs::Fadt::fadt_written))]
 pub fn write_fadt(
     out: &mut [u8],
     ids: &TableIds,

@@ -1,7 +1,7 @@
 //! The High Precision Event Timer table (HPET), from what it says of its event timer block.
 ghost use Rattle.std.specs.Prelude.{◌≡◌, length, take, IfOk};
 ghost use Rattle.acpi_base.specs.Words.{Gives};
-ghost use Rattle.acpi_writer.specs.HpetBytes as bytes;
+ghost use Rattle.acpi_writer.specs.Hpet as bytes;
 ghost use Rattle.acpi_writer.specs.Words.{IsHpet, Keeps};
 
 use crate::error::WriterError;
@@ -16,7 +16,7 @@ impl Record for HpetInfo {
 
     ghost fields_of = { bytes.hpet_fields };
 
-    #[tactic(auto, unfolding(crate::specs::HpetBytes::hpet_fields))]
+    #[tactic(auto, unfolding(crate::specs::Hpet::hpet_fields))]
     fn fields(&self) -> [Field; 7] {
         [
             Field::U32(self.event_timer_block_id),

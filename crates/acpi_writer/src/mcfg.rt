@@ -2,7 +2,7 @@
 ghost use Rattle.std.specs.Prelude.{◌≡◌, ◌^◌, ◌<◌, length, map, take, IfOk, All};
 ghost use Rattle.acpi_base.specs.Words.{Gives};
 ghost use Rattle.acpi_writer.specs.Words.{most, sized, FitsMcfg, IsMcfg, Keeps};
-ghost use Rattle.acpi_writer.specs.McfgBytes as bytes;
+ghost use Rattle.acpi_writer.specs.Mcfg as bytes;
 
 use crate::error::WriterError;
 use crate::fields::{Field, Record};
@@ -18,7 +18,7 @@ impl Record for McfgEntry {
 
     ghost fields_of = { bytes.mcfg_fields };
 
-    #[tactic(auto, unfolding(crate::specs::McfgBytes::mcfg_fields))]
+    #[tactic(auto, unfolding(crate::specs::Mcfg::mcfg_fields))]
     fn fields(&self) -> [Field; 5] {
         [
             Field::U64(self.base_address),

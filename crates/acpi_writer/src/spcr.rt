@@ -4,7 +4,6 @@ ghost use Rattle.std.specs.Prelude.{◌≡◌, ◌^◌, ◌<◌, ◌&&◌, lengt
 ghost use Rattle.acpi_base.specs.Words.{Gives, is_interface};
 ghost use Rattle.acpi_writer.specs.Words.{most, sized, Keeps};
 ghost use Rattle.acpi_writer.specs.Spcr as spcr;
-ghost use Rattle.acpi_writer.specs.SpcrLaws as laws;
 
 mod fields;
 
@@ -146,7 +145,7 @@ impl Spelled for Name<'_> {
 pub(crate) fn spcr_size(ids: &TableIds, contents: &SpcrContents<'_>) -> Result<usize, WriterError>
     ensures exact { result ≡ sized (spcr.spcr_written most ids.now contents.now) }
     ensures short { IfOk result (λ n. n < 2 ^ 32) }
-    ensures fits { IfOk result (λ n. laws.FitsSpcr contents.now) }
+    ensures fits { IfOk result (λ n. spcr.FitsSpcr contents.now) }
 {
     let body = Then(*contents, Name(contents.namespace_string));
     checked_size(Signature::SPCR, 4, ids, contents, &body)
@@ -170,7 +169,7 @@ pub fn write_spcr(
     // What stands after the table is unchanged, and after an error the whole slice is.
     ensures keeps { Keeps result out.old out.new }
     // The numbers that were given fit, so that what was given is what is read (`tables_are_read`).
-    ensures fits { IfOk result (λ n. laws.IsSpcr ids.now contents.now (take n out.new)) }
+    ensures fits { IfOk result (λ n. spcr.IsSpcr ids.now contents.now (take n out.new)) }
 {
     let body = Then(*contents, Name(contents.namespace_string));
     write_checked(out, Signature::SPCR, 4, ids, contents, &body)

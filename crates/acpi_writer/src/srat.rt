@@ -4,7 +4,6 @@ ghost use Rattle.acpi_base.specs.FromStd.{list_all};
 ghost use Rattle.acpi_base.specs.Words.{Gives};
 ghost use Rattle.acpi_writer.specs.Contents.{most, sized};
 ghost use Rattle.acpi_writer.specs.Srat as srat;
-ghost use Rattle.acpi_writer.specs.SratLaws as laws;
 ghost use Rattle.acpi_writer.specs.Table.{Keeps};
 
 use crate::checked::{Checked, require};
@@ -200,7 +199,7 @@ pub fn srat_size<R: StandsFor<MemoryRange>>(
 ) -> Result<usize, WriterError>
     ensures exact { result ≡ sized (srat.srat_written most ids.now (srat.srat_meant R.meant contents.now)) }
     ensures short { IfOk result (λ n. n < 2 ^ 32) }
-    ensures fits { IfOk result (λ n. laws.AreFit (srat.srat_meant R.meant contents.now)) }
+    ensures fits { IfOk result (λ n. srat.AreFit (srat.srat_meant R.meant contents.now)) }
 {
     let body = body_of!(contents);
     checked_size(Signature::SRAT, 3, ids, contents, &body)
@@ -228,7 +227,7 @@ pub fn write_srat<R: StandsFor<MemoryRange>>(
     ensures keeps { Keeps result out.old out.new }
     // The numbers that were given fit, so that what was given is what is read (`tables_are_read`).
     ensures fits { IfOk result (λ n.
-        laws.IsSrat ids.now (srat.srat_meant R.meant contents.now) (take n out.new)) }
+        srat.IsSrat ids.now (srat.srat_meant R.meant contents.now) (take n out.new)) }
 {
     let body = body_of!(contents);
     write_checked(out, Signature::SRAT, 3, ids, contents, &body)

@@ -1,7 +1,7 @@
 //! The parts of a FADT, each with its bytes (section 5.2.9).
 ghost use Rattle.std.specs.Prelude.{◌≡◌, ◌<◌, ◌^◌, flat_map, All};
 ghost use Rattle.acpi.specs.Types.{SystemIo};
-ghost use Rattle.acpi_writer.specs.FadtBytes as bytes;
+ghost use Rattle.acpi_writer.specs.Fadt as bytes;
 ghost use Rattle.acpi_writer.specs.Words.{FitsRegister, flag_number, register_bytes};
 
 use super::contents::{FadtContents, FadtHardware, FixedHardware};
@@ -181,7 +181,7 @@ impl Record for Front<'_> {
 
     ghost fields_of = { λ s. bytes.front_fields s.0.now (bytes.fixed_of s.0.now.hardware) };
 
-    #[tactic(auto, unfolding(crate::specs::FadtBytes::front_fields))]
+    #[tactic(auto, unfolding(crate::specs::Fadt::front_fields))]
     fn fields(&self) -> [Field; 38] {
         let c = self.0;
         let h = fixed_of(&c.hardware);
@@ -237,7 +237,7 @@ impl Record for Wide<'_> {
 
     ghost fields_of = { λ s. bytes.wide_fields s.0.now };
 
-    #[tactic(auto, unfolding(crate::specs::FadtBytes::wide_fields))]
+    #[tactic(auto, unfolding(crate::specs::Fadt::wide_fields))]
     fn fields(&self) -> [Field; 5] {
         let c = self.0;
         [

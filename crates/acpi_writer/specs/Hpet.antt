@@ -1,10 +1,10 @@
 -- The bytes of an HPET that says what is given. The layout is that of the IA-PC HPET Specification 1.0a, section 3.2.4.
-use Rattle.std.specs.Prelude.{ℕ, List, [], ◌∷◌, Result}
+use Rattle.std.specs.Prelude.{ℕ, List, [], ◌∷◌, Result, ◌≡◌, Ok, All}
 use Rattle.acpi.specs.Types.{HPET}
 use Rattle.acpi_writer.specs.Types.{HpetInfo, WriterError, TableIds}
-use Rattle.acpi.specs.Words.{protection_code}
-use Rattle.acpi_writer.specs.Fields.{fields_bytes}
-use Rattle.acpi_writer.specs.Table.{table_written}
+use Rattle.acpi.specs.Words.{protection_code, hpet_at, info_of}
+use Rattle.acpi_writer.specs.Fields.{fields_bytes, FitsField}
+use Rattle.acpi_writer.specs.Table.{table_written, IsTableOf, IsValid}
 use Rattle.acpi_writer.specs.declared.fields.Field.{Field}
 use Rattle.acpi_writer.specs.declared.fields.Field.TheVariants.{U8, U16, U32, U64, Zeros}
 
@@ -24,3 +24,20 @@ hpet_body i = fields_bytes (hpet_fields i)
 -- the table, of revision 1, in so much room, or the error
 abbrev pub hpet_written : ℕ → TableIds → HpetInfo → Result (List ℕ) WriterError
 hpet_written room ids i = table_written room HPET 1 ids (hpet_body i)
+
+-- the numbers have a place
+abbrev pub FitsHpet : HpetInfo → Type 0
+FitsHpet i = All FitsField (hpet_fields i)
+
+-- the bytes are the table of a block whose numbers have a place
+pub record IsHpet (ids : TableIds) (i : HpetInfo) (table : List ℕ) : Type 0 where
+  pub written : IsTableOf HPET 1 ids (hpet_body i) table
+  pub fit : FitsHpet i
+
+-- such a table is valid
+abbrev pub HpetIsValid : Type 0
+HpetIsValid = (ids : TableIds) (i : HpetInfo) (table : List ℕ) → IsHpet ids i table → IsValid HPET table
+
+-- and says exactly what was given
+abbrev pub HpetIsRead : Type 0
+HpetIsRead = (ids : TableIds) (i : HpetInfo) (table : List ℕ) → IsHpet ids i table → info_of (hpet_at table) ≡ Ok i

@@ -1,11 +1,12 @@
 -- The bytes of an MCFG that says what is given. The layout is that of the PCI Firmware Specification, section 4.1.2.
-use Rattle.std.specs.Prelude.{ℕ, List, [], ◌∷◌, ◌++◌, flat_map, replicate, Result}
+use Rattle.std.specs.Prelude.{ℕ, List, [], ◌∷◌, ◌++◌, flat_map, replicate, Result, ◌≡◌, All}
 use Rattle.acpi.specs.Types.{MCFG, McfgEntry}
-use Rattle.acpi_writer.specs.Fields.{fields_bytes}
-use Rattle.acpi_writer.specs.Table.{table_written}
+use Rattle.acpi_writer.specs.Fields.{fields_bytes, FitsField}
+use Rattle.acpi_writer.specs.Table.{table_written, IsTableOf, IsValid}
 use Rattle.acpi_writer.specs.Types.{WriterError, TableIds}
 use Rattle.acpi_writer.specs.declared.fields.Field.{Field}
 use Rattle.acpi_writer.specs.declared.fields.Field.TheVariants.{U8, U16, U64, Zeros}
+use Rattle.acpi_base.specs.Words.{mcfg_entries_of}
 
 -- a region
 unfoldable pub mcfg_fields : McfgEntry → List Field
@@ -28,3 +29,20 @@ mcfg_body es = mcfg_reserved ++ flat_map mcfg_entry es
 -- the table, of revision 1, in so much room, or the first error
 abbrev pub mcfg_written : ℕ → TableIds → List McfgEntry → Result (List ℕ) WriterError
 mcfg_written room ids es = table_written room MCFG 1 ids (mcfg_body es)
+
+-- the numbers have a place
+abbrev pub FitsMcfg : McfgEntry → Type 0
+FitsMcfg e = All FitsField (mcfg_fields e)
+
+-- the bytes are the table of regions whose numbers have a place
+pub record IsMcfg (ids : TableIds) (es : List McfgEntry) (table : List ℕ) : Type 0 where
+  pub written : IsTableOf MCFG 1 ids (mcfg_body es) table
+  pub fit : All FitsMcfg es
+
+-- such a table is valid
+abbrev pub McfgIsValid : Type 0
+McfgIsValid = (ids : TableIds) (es : List McfgEntry) (table : List ℕ) → IsMcfg ids es table → IsValid MCFG table
+
+-- and its regions are exactly those that were given, in order
+abbrev pub McfgIsRead : Type 0
+McfgIsRead = (ids : TableIds) (es : List McfgEntry) (table : List ℕ) → IsMcfg ids es table → mcfg_entries_of table ≡ es
