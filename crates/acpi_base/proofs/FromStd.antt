@@ -20,7 +20,7 @@ pub use Rattle.std.proofs.lemmas.Map.Keys.{ge_from_not_lt}
 pub use Rattle.std.proofs.lemmas.Nat.{and_mask, le_bytes_2, le_bytes_4, le_bytes_8, mul-add-lt, pow-add}
 pub use Rattle.std.proofs.lemmas.Option.{cond_some, get_or_from_slice_get, slice_get-get_or}
 pub use Rattle.std.proofs.lemmas.Result.{IfOk-weaker}
-pub use Rattle.std.proofs.lemmas.Simd.{length-chunk, length-zip2}
+pub use Rattle.std.proofs.lemmas.Simd.{chunk-fits, length-chunk, length-zip2}
 pub use Rattle.std.proofs.lemmas.Slice.{take-put_mid}
 pub use Rattle.std.proofs.lemmas.Slice.Eq.{bytes_eq-Decides}
 pub use Rattle.std.proofs.lemmas.Str.{IsUtf8-append, IsUtf8-from_ascii, IsUtf8-from_is_utf8, is_utf8-from_IsUtf8}

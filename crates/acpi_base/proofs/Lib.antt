@@ -13,3 +13,4 @@ pub mod Spelling
 pub mod Steps
 pub mod Sums
 pub mod Words
+pub mod WordSums

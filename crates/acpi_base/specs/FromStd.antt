@@ -17,7 +17,7 @@ pub use Rattle.std.specs.Option.{is_some, option_map_or, option_or}
 pub use Rattle.std.specs.Ordering.{is_eq, nat_cmp}
 pub use Rattle.std.specs.Range.{range_inclusive_end, range_inclusive_exhausted, range_inclusive_start}
 pub use Rattle.std.specs.Result.{is_err, is_ok, result_err, result_map_both, result_ok, result_unwrap_or}
-pub use Rattle.std.specs.Simd.Lanes.{chunk, fold_l, zip2}
+pub use Rattle.std.specs.Simd.Lanes.{Each1, chunk, digits_l, fold_l, number_l, sum_l, zip2}
 pub use Rattle.std.specs.Str.{trim}
 unfoldable pub use Rattle.std.specs.Str.{chars, is_utf8, trim_start}
 pub use Rattle.std.specs.Str.Parse.{AllDigits, ParsesUnsigned, digits_value, without_leading_plus}

@@ -1,14 +1,14 @@
-//! The sum of bytes modulo 256, in lanes: sixteen bytes are added at once, each to a sum of its own.
-ghost use Rattle.std.specs.Prelude.{◌≡◌, ◌⊎◌, ◌-◌, ◌+◌, ◌<◌, ◌≤◌, length, take, ℕ};
+//! The sum of bytes modulo 256: in lanes, where sixteen bytes are added at once, each to a sum of its own, or in words
+//! of eight bytes.
+ghost use Rattle.std.specs.Prelude.{◌≡◌, ◌⊎◌, ◌-◌, ◌+◌, ◌%◌, ◌^◌, ◌<◌, ◌≤◌, length, take, ℕ};
 ghost use Rattle.acpi_base.specs.FromStd.{chunk};
-ghost use Rattle.acpi_base.specs.Words.{sum_of, AddsUp};
+ghost use Rattle.acpi_base.specs.Words.{sum_of, AddsUp, evens};
 
 use std::simd::prelude::*;
 
 const LANES: usize = 16;
 
-/// As many bytes as one turn of the loop adds, all of them to the same lanes: these nearly fit into the general
-/// registers of a kernel's code, which has no vectors, and the lanes of four vectors are far from it.
+/// As many bytes as one turn of a loop adds.
 const BLOCK: usize = 4 * LANES;
 
 /// From place `n` on, these are the lanes that keep the last `n` of sixteen.
@@ -17,13 +17,29 @@ static TAIL_MASKS: [u8; 32] = [
     255, 255, 255, 255, 255, 255, 255,
 ];
 
+/// Keeps the lower byte of each two.
+const LOWER: [u8; BLOCK] = [
+    255, 0, 255, 0, 255, 0, 255, 0, 255, 0, 255, 0, 255, 0, 255, 0, 255, 0, 255, 0, 255, 0, 255, 0,
+    255, 0, 255, 0, 255, 0, 255, 0, 255, 0, 255, 0, 255, 0, 255, 0, 255, 0, 255, 0, 255, 0, 255, 0,
+    255, 0, 255, 0, 255, 0, 255, 0, 255, 0, 255, 0, 255, 0, 255, 0,
+];
+
+/// Whether the processor has vectors to add lanes in. `scripts/dist` makes it false for code that may use none, and may
+/// read a word at any address. It has no contract, so its callers are proved for either answer.
+#[inline(always)]
+fn has_vectors() -> bool {
+    true
+}
+
 /// The sum of the bytes modulo 256, which is 0 over the whole of a valid table (section 5.2.6).
 #[inline]
 #[tactic(auto, using(crate::proofs::Sums::adds_up_nothing))]
 pub fn byte_sum(bytes: &[u8]) -> u8
     ensures { result ≡ sum_of bytes.now }
 {
-    if bytes.len() < LANES {
+    if !has_vectors() {
+        word_sum(bytes)
+    } else if bytes.len() < LANES {
         plain_sum(bytes)
     } else if bytes.len() < BLOCK {
         finished(u8x16::splat(0), bytes, 0)
@@ -117,4 +133,41 @@ fn vector_at(bytes: &[u8], at: usize) -> u8x16
     ensures { result ≡ chunk at LANES bytes.now }
 {
     u8x16::from_slice(&bytes[at..])
+}
+
+/// The sum of the bytes modulo 256, in words.
+#[inline(never)]
+#[tactic(auto, using(crate::proofs::WordSums::sum_next), unfolding(crate::specs::Bytes::sum_of))]
+fn word_sum(bytes: &[u8]) -> u8
+    ensures { result ≡ sum_of bytes.now }
+{
+    let mut total: u8 = 0;
+    let mut at = 0;
+    while bytes.len() - at > BLOCK {
+        total = total.wrapping_add(block_sum(bytes, at));
+        at += BLOCK;
+    }
+    total.wrapping_add(plain_sum(&bytes[at..]))
+}
+
+/// The sum of a block's bytes modulo 256.
+#[inline(always)]
+fn block_sum(bytes: &[u8], at: usize) -> u8
+    requires { at + BLOCK < length bytes.now }
+    ensures { result ≡ sum_of (chunk at BLOCK bytes.now) }
+{
+    let lanes = every_other(bytes, at) + every_other(bytes, at + 1);
+    // Modulo 65535 a lane's weight, a power of 65536, is 1, so the lanes add up.
+    (lanes % 65535 % 256) as u8
+}
+
+/// Every other byte of a block, the first among them, added up in a word's four lanes of 16 bits.
+#[inline(always)]
+fn every_other(bytes: &[u8], at: usize) -> u64
+    requires { at + BLOCK ≤ length bytes.now }
+    ensures lanes { result % 65535 ≡ evens (chunk at BLOCK bytes.now) }
+    ensures room { result < 2 ^ 60 }
+{
+    let kept = u8x64::from_slice(&bytes[at..]) & u8x64::from_array(LOWER);
+    u64x8::from_le_bytes(kept).reduce_sum()
 }
