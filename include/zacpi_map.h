@@ -94,7 +94,8 @@ static inline zacpi_status zacpi_map_joined(const struct zacpi_mapper *mapper, s
 
 /* Maps what the tables need (zacpi_list_missing_ranges) until no new range comes. The source leads to `regions` then,
  * in which the regions are. Its address and start are the caller's, and its regions_length says how many of `regions`
- * were mapped before, by pages: none, but for ZACPI_START_SEARCH, which finds an RSDP in these alone.
+ * were mapped before, by pages: none, but for ZACPI_START_SEARCH, which finds an RSDP in these alone, with the 16 bytes
+ * after the area that it is in.
  *
  * `ranges` is written: it has room for the ranges that are missing at a time, and those that `map` returned null for.
  * No range that holds one of the latter is asked for. A firmware may list an address that no memory is at, so some may

@@ -1,6 +1,6 @@
 /* mapped IMAGE rsdt REVISION ADDRESS N | rsdp ADDRESS N | bios N: whether zacpi_map_tables leads to the answers over
  * the whole memory of an image, and of N copies of it of which some bytes are changed and a part is missing, the same
- * each time.
+ * each time. `bios` tries both searches.
  *
  * Its mapper counts what it maps. Pages without access stand before and after each range that it maps, and what it
  * unmaps becomes such pages, so reading them ends the program. */
@@ -130,6 +130,23 @@ static int same(void) { return memcmp(&over_all, &over_mapped, sizeof over_all) 
 static struct zacpi_region regions[MOST + 1];
 static struct zacpi_range ranges[MOST + 1];
 
+/* Maps what there is below 1 MiB, and the page after it, into which an RSDP at the end may reach: for a search that
+ * looks at nothing else. Whether there is room for it. */
+static int map_low(struct zacpi_source *source, size_t capacity) {
+    const uint64_t limit = 0x101000;
+    size_t i;
+    source->regions = regions;
+    for (i = 0; i < there_count && there[i].address < limit; i++) {
+        const uint64_t left = limit - there[i].address;
+        if (i == capacity) return 0;
+        regions[i].address = there[i].address;
+        regions[i].length = there[i].length < left ? there[i].length : (size_t)left;
+        regions[i].bytes = (const uint8_t *)map(&mapped, regions[i].address, regions[i].length);
+        source->regions_length = i + 1;
+    }
+    return 1;
+}
+
 /* One run, with so much room. Nothing is mapped in the end, and nothing is written past the room. */
 static zacpi_status run(struct zacpi_source source, size_t capacity, size_t room) {
     struct zacpi_mapper mapper = {&mapped, map, unmap, 0};
@@ -140,6 +157,11 @@ static zacpi_status run(struct zacpi_source source, size_t capacity, size_t room
     is_lost = 0;
     source.regions_length = 0;
     regions[capacity].length = ranges[room].length = 12345;
+    if (source.start == ZACPI_START_SEARCH && !map_low(&source, capacity)) {
+        zacpi_unmap_tables(&mapper, &source);
+        forget();
+        return ZACPI_NO_ROOM;
+    }
     status = zacpi_map_tables(&mapper, &source, regions, capacity, ranges, room);
     if (regions[capacity].length != 12345 || ranges[room].length != 12345) end("something is written past the room");
     if (mapped_now != source.regions_length) end("more is mapped than there are regions");
@@ -243,6 +265,7 @@ int main(int argc, char **argv) {
     uint8_t revision, *image, *places[4], was[4];
     size_t length, changed, i, runs;
     const int taken = start_of(argc, argv, &whole, &revision);
+    int agreed;
     if (!taken || argc != taken + 1) return wrong("IMAGE START N") + 2;
     image = contents(argv[1], &length);
     if (!image) return wrong("no such file") + 1;
@@ -262,7 +285,13 @@ int main(int argc, char **argv) {
             without(region, below(memory[region].length / unit) * unit);
         }
         whole.regions_length = there_count;
-        if (!agrees(&whole)) {
+        agreed = agrees(&whole);
+        if (agreed && whole.start == ZACPI_START_BIOS_SEARCH) {
+            whole.start = ZACPI_START_SEARCH;
+            agreed = agrees(&whole);
+            whole.start = ZACPI_START_BIOS_SEARCH;
+        }
+        if (!agreed) {
             fprintf(stderr, "at run %lu\n", (unsigned long)i);
             return 1;
         }
