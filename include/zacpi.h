@@ -521,20 +521,20 @@ struct zacpi_console { /* SPCR, whose layout is Microsoft's, and so are these na
  * and reset are present at address 0 too, and those of sleep if the table is of revision 2 or above
  * and has all twelve bytes: 0 stands for none. On a machine of reduced hardware (HW_REDUCED_ACPI,
  * bit 20 of `flags`) those of pm1, pm2, gpe and the timer mean nothing. */
-zacpi_status zacpi_fixed_hardware(const struct zacpi_source *source,
+zacpi_status zacpi_get_fixed_hardware(const struct zacpi_source *source,
                                   struct zacpi_fixed_hardware *out, struct zacpi_signature *named);
 
 /* The serial console that the firmware used: the first valid SPCR, whose signature section 5.2.6
  * reserves and whose layout is Microsoft's. Further error: ZACPI_TABLE_MISSING "SPCR". An error of
  * the base's address isn't one of the call: its `present` is 2. */
-zacpi_status zacpi_console(const struct zacpi_source *source, struct zacpi_console *out,
+zacpi_status zacpi_get_console(const struct zacpi_source *source, struct zacpi_console *out,
                            struct zacpi_signature *named);
 
 /* The power management timer of the first valid FADT, which counts at 3.579545 MHz (sections
  * 4.8.3.3 and 5.2.9). Further errors: ZACPI_TABLE_MISSING "FACP", ZACPI_INVALID_GENERIC_ADDRESS if
  * PM_TMR_LEN is 4 and X_PM_TMR_BLK has an Address that isn't 0 and a reserved code. No timer is no
  * error: `present` is 0 if PM_TMR_LEN isn't 4, or no field gives an address. */
-zacpi_status zacpi_pm_timer(const struct zacpi_source *source, struct zacpi_pm_timer *out,
+zacpi_status zacpi_get_pm_timer(const struct zacpi_source *source, struct zacpi_pm_timer *out,
                             struct zacpi_signature *named);
 
 /* The block of event timers of the first valid HPET, whose signature section 5.2.6 reserves and
@@ -545,7 +545,7 @@ zacpi_status zacpi_hpet(const struct zacpi_source *source, struct zacpi_hpet_inf
 
 /* The image that the firmware showed: that of the first valid BGRT (section 5.2.22). Further error:
  * ZACPI_TABLE_MISSING "BGRT". */
-zacpi_status zacpi_boot_graphic(const struct zacpi_source *source, struct zacpi_boot_graphic *out,
+zacpi_status zacpi_get_boot_graphic(const struct zacpi_source *source, struct zacpi_boot_graphic *out,
                                 struct zacpi_signature *named);
 
 /* ---- PCI ------------------------------------------------------------------------------------- */
@@ -643,40 +643,40 @@ struct zacpi_processor { /* Processor Local APIC and Processor Local x2APIC, sec
  * to 5, 9 and 0xa, not 0x10), the model isn't known, and the calls below return ZACPI_NO_APICS.
  * Further errors: ZACPI_TABLE_MISSING "FACP", 25 to 31 of enum zacpi_refusal for the first entry of
  * the MADT at fault, of one entry's faults the least, and ZACPI_INVALID_GENERIC_ADDRESS if
- * zacpi_pm_timer returns it. */
-zacpi_status zacpi_interrupt_model(const struct zacpi_source *source,
+ * zacpi_get_pm_timer returns it. */
+zacpi_status zacpi_get_interrupt_model(const struct zacpi_source *source,
                                    struct zacpi_interrupt_model *out,
                                    struct zacpi_signature *named);
 /* The I/O APICs, in the order of the first valid MADT (section 5.2.12.3). Further errors: those of
- * zacpi_interrupt_model, and ZACPI_NO_APICS if the model isn't known. */
+ * zacpi_get_interrupt_model, and ZACPI_NO_APICS if the model isn't known. */
 zacpi_status zacpi_list_io_apics(const struct zacpi_source *source, struct zacpi_io_apic *out,
                                  size_t room, size_t *count, struct zacpi_signature *named);
 /* The Interrupt Source Override entries (section 5.2.12.5), in the order of the first valid MADT.
- * Further errors: those of zacpi_interrupt_model, and ZACPI_NO_APICS if the model isn't known. */
+ * Further errors: those of zacpi_get_interrupt_model, and ZACPI_NO_APICS if the model isn't known. */
 zacpi_status zacpi_list_overrides(const struct zacpi_source *source,
                                   struct zacpi_interrupt_source_override *out, size_t room,
                                   size_t *count, struct zacpi_signature *named);
 /* The NMI Source entries (section 5.2.12.6), which name the I/O APIC pins that are non-maskable, in
- * the order of the first valid MADT. Further errors: those of zacpi_interrupt_model, and
+ * the order of the first valid MADT. Further errors: those of zacpi_get_interrupt_model, and
  * ZACPI_NO_APICS if the model isn't known. */
 zacpi_status zacpi_list_nmi_sources(const struct zacpi_source *source,
                                     struct zacpi_nmi_source *out, size_t room, size_t *count,
                                     struct zacpi_signature *named);
 /* The Local APIC NMI and Local x2APIC NMI entries (sections 5.2.12.7 and 5.2.12.13), which name
  * LINT pins, in the order of the first valid MADT. Those of one processor are those with `of_all`,
- * and those with its uid. Further errors: those of zacpi_interrupt_model, and ZACPI_NO_APICS if the
+ * and those with its uid. Further errors: those of zacpi_get_interrupt_model, and ZACPI_NO_APICS if the
  * model isn't known. */
 zacpi_status zacpi_list_nmi_lines(const struct zacpi_source *source, struct zacpi_nmi_line *out,
                                   size_t room, size_t *count, struct zacpi_signature *named);
 /* The processors, in the order of the first valid MADT: the first is the boot processor, also if it
  * is disabled (sections 5.2.12.1, 5.2.12.2 and 5.2.12.12). Further errors: those of
- * zacpi_interrupt_model, and ZACPI_NO_APICS if the model isn't known. */
+ * zacpi_get_interrupt_model, and ZACPI_NO_APICS if the model isn't known. */
 zacpi_status zacpi_list_processors(const struct zacpi_source *source, struct zacpi_processor *out,
                                    size_t room, size_t *count, struct zacpi_signature *named);
 
-/* All of these at once, with the tables opened once: `out` gets what zacpi_interrupt_model returns,
+/* All of these at once, with the tables opened once: `out` gets what zacpi_get_interrupt_model returns,
  * with the numbers of all items, and each list as many items of its call above as there is room
- * for. Further errors: those of zacpi_interrupt_model, and ZACPI_NO_APICS if the model isn't
+ * for. Further errors: those of zacpi_get_interrupt_model, and ZACPI_NO_APICS if the model isn't
  * known. */
 zacpi_status zacpi_platform(const struct zacpi_source *source, struct zacpi_interrupt_model *out,
                             struct zacpi_processor *processors, size_t processors_room,
@@ -698,7 +698,7 @@ struct zacpi_io_apic_pin {
 
 /* How one of the 16 ISA interrupts comes to the I/O APICs: as its last override says, or as the
  * interrupt of the same number, active high and by edge (section 5.2.12.5). Further errors: those
- * of zacpi_interrupt_model, ZACPI_NO_APICS if the model isn't known, and ZACPI_NO_SUCH_INTERRUPT
+ * of zacpi_get_interrupt_model, ZACPI_NO_APICS if the model isn't known, and ZACPI_NO_SUCH_INTERRUPT
  * for an irq above 15 and for one without an override whose number another one's override has
  * taken. */
 zacpi_status zacpi_isa_interrupt(const struct zacpi_source *source, uint8_t irq,
@@ -706,7 +706,7 @@ zacpi_status zacpi_isa_interrupt(const struct zacpi_source *source, uint8_t irq,
 
 /* How the System Control Interrupt (SCI), SCI_INT of the first valid FADT, comes to the I/O APICs:
  * active low and by level, unless it is below 16 and its last override says otherwise (sections
- * 5.2.9 and 5.2.12.5). Further errors: those of zacpi_interrupt_model, and ZACPI_NO_APICS if the
+ * 5.2.9 and 5.2.12.5). Further errors: those of zacpi_get_interrupt_model, and ZACPI_NO_APICS if the
  * model isn't known. */
 zacpi_status zacpi_sci_interrupt(const struct zacpi_source *source, struct zacpi_interrupt *out,
                                  struct zacpi_signature *named);
@@ -714,16 +714,16 @@ zacpi_status zacpi_sci_interrupt(const struct zacpi_source *source, struct zacpi
 /* The I/O APIC that a global system interrupt comes to, and the pin there: the first one with the
  * greatest Global System Interrupt Base that is at most the interrupt (sections 5.2.12.3 and
  * 5.2.13). Only the I/O APIC itself can tell how many pins it has. Further errors: those of
- * zacpi_interrupt_model, ZACPI_NO_APICS if the model isn't known, and ZACPI_NO_SUCH_IO_APIC if each
+ * zacpi_get_interrupt_model, ZACPI_NO_APICS if the model isn't known, and ZACPI_NO_SUCH_IO_APIC if each
  * base is above the interrupt. */
-zacpi_status zacpi_io_apic_pin(const struct zacpi_source *source, uint32_t global_system_interrupt,
+zacpi_status zacpi_get_io_apic_pin(const struct zacpi_source *source, uint32_t global_system_interrupt,
                                struct zacpi_io_apic_pin *out, struct zacpi_signature *named);
 
 struct zacpi_isa_route {
     struct zacpi_interrupt interrupt; /* what zacpi_isa_interrupt returns, or zeros */
-    struct zacpi_io_apic_pin pin;     /* what zacpi_io_apic_pin returns for it, or zeros */
+    struct zacpi_io_apic_pin pin;     /* what zacpi_get_io_apic_pin returns for it, or zeros */
     uint8_t present;                  /* 0: zacpi_isa_interrupt returns ZACPI_NO_SUCH_INTERRUPT */
-    uint8_t has_pin;                  /* 0: it isn't present, or zacpi_io_apic_pin returns
+    uint8_t has_pin;                  /* 0: it isn't present, or zacpi_get_io_apic_pin returns
                                        * ZACPI_NO_SUCH_IO_APIC */
 };
 struct zacpi_isa_interrupts {
@@ -731,7 +731,7 @@ struct zacpi_isa_interrupts {
 };
 
 /* All 16 ISA interrupts at once, each with its pin (sections 5.2.12.3 and 5.2.12.5). Further
- * errors: those of zacpi_interrupt_model, and ZACPI_NO_APICS if the model isn't known. */
+ * errors: those of zacpi_get_interrupt_model, and ZACPI_NO_APICS if the model isn't known. */
 zacpi_status zacpi_list_isa_interrupts(const struct zacpi_source *source,
                                        struct zacpi_isa_interrupts *out,
                                        struct zacpi_signature *named);
@@ -787,28 +787,28 @@ struct zacpi_gic_msi_frame { /* GIC MSI Frame, section 5.2.12.16 */
  * Further errors: ZACPI_TABLE_MISSING "APIC", ZACPI_MADT_INVALID_ENTRY_LENGTH if bytes are left in
  * which no entry begins, and ZACPI_NO_GIC if no entry describes a distributor, as on a machine with
  * APICs. */
-zacpi_status zacpi_gic_distributor(const struct zacpi_source *source,
+zacpi_status zacpi_get_gic_distributor(const struct zacpi_source *source,
                                    struct zacpi_gic_distributor *out,
                                    struct zacpi_signature *named);
 /* The processors' interfaces, one for each GICC entry of the first valid MADT, in order (section
- * 5.2.12.14). Further errors: those of zacpi_gic_distributor. */
+ * 5.2.12.14). Further errors: those of zacpi_get_gic_distributor. */
 zacpi_status zacpi_list_gic_cpu_interfaces(const struct zacpi_source *source,
                                            struct zacpi_gic_cpu_interface *out, size_t room,
                                            size_t *count, struct zacpi_signature *named);
 /* The ranges of memory that hold redistributors, one for each GICR entry of the first valid MADT,
  * in order: Discovery Range Base Address and Discovery Range Length, which can be 0 (section
- * 5.2.12.17). Further errors: those of zacpi_gic_distributor. */
+ * 5.2.12.17). Further errors: those of zacpi_get_gic_distributor. */
 zacpi_status zacpi_list_gic_redistributors(const struct zacpi_source *source,
                                            struct zacpi_range *out, size_t room, size_t *count,
                                            struct zacpi_signature *named);
 /* The services that translate interrupts, one for each GIC ITS entry of the first valid MADT, in
- * order (section 5.2.12.18). Further errors: those of zacpi_gic_distributor. */
+ * order (section 5.2.12.18). Further errors: those of zacpi_get_gic_distributor. */
 zacpi_status zacpi_list_gic_translation_services(const struct zacpi_source *source,
                                                  struct zacpi_gic_translation_service *out,
                                                  size_t room, size_t *count,
                                                  struct zacpi_signature *named);
 /* The frames that turn messages into interrupts, one for each GIC MSI Frame entry of the first
- * valid MADT, in order (section 5.2.12.16). Further errors: those of zacpi_gic_distributor. */
+ * valid MADT, in order (section 5.2.12.16). Further errors: those of zacpi_get_gic_distributor. */
 zacpi_status zacpi_list_gic_msi_frames(const struct zacpi_source *source,
                                        struct zacpi_gic_msi_frame *out, size_t room, size_t *count,
                                        struct zacpi_signature *named);
@@ -862,7 +862,7 @@ struct zacpi_watchdog { /* Arm Generic Watchdog, section 5.2.24.1.2 */
 
 /* The timers of every processor, by the first valid GTDT (section 5.2.24). Further error:
  * ZACPI_TABLE_MISSING "GTDT". */
-zacpi_status zacpi_arm_timers(const struct zacpi_source *source, struct zacpi_arm_timers *out,
+zacpi_status zacpi_get_arm_timers(const struct zacpi_source *source, struct zacpi_arm_timers *out,
                               struct zacpi_signature *named);
 /* The frames of the blocks of timers of the first valid GTDT, block by block, in order (section
  * 5.2.24.1.1). None below revision 2 of the table. If Platform Timer Structures end malformed,
@@ -919,7 +919,7 @@ zacpi_status zacpi_domain_of_processor(const struct zacpi_source *source, uint32
                                        uint32_t *out, struct zacpi_signature *named);
 /* How many localities the first valid SLIT has distances of, and whether it can be believed
  * (section 5.2.17). Further error: ZACPI_TABLE_MISSING "SLIT". */
-zacpi_status zacpi_localities(const struct zacpi_source *source, struct zacpi_localities *out,
+zacpi_status zacpi_get_localities(const struct zacpi_source *source, struct zacpi_localities *out,
                               struct zacpi_signature *named);
 /* How far one locality is from another, by the first valid SLIT (section 5.2.17): in units of which
  * 10 are the distance of a locality from itself, and 255 stands for unreachable. Further errors:
@@ -959,19 +959,19 @@ struct zacpi_dmar_reserved { /* Reserved Memory Region Reporting (RMRR), section
  * INCLUDE_PCI_ALL. A scope whose Start Bus Number is the bus names it by Type 1 if its Path is the
  * hops, and by Type 2 if these begin with its Path, of a hop at least (section 8.3.1). Further
  * errors: ZACPI_TABLE_MISSING "DMAR", ZACPI_IOMMU_INVALID_STRUCTURE_LENGTH, ZACPI_NO_IOMMU. */
-zacpi_status zacpi_dmar_unit(const struct zacpi_source *source, uint16_t segment, uint8_t bus,
+zacpi_status zacpi_get_dmar_unit(const struct zacpi_source *source, uint16_t segment, uint8_t bus,
                              const struct zacpi_hop *hops, size_t hops_length,
                              struct zacpi_dmar_unit *out, struct zacpi_signature *named);
 /* The unit that remaps the interrupts of an I/O APIC, by its id, in the first valid DMAR: that of
  * the first DRHD with a device scope of Type 3 and this Enumeration ID. Further errors: those of
- * zacpi_dmar_unit. */
+ * zacpi_get_dmar_unit. */
 zacpi_status zacpi_dmar_io_apic(const struct zacpi_source *source, uint8_t id,
                                 struct zacpi_dmar_source *out, struct zacpi_signature *named);
 /* The same of an HPET, by its number: a device scope of Type 4. */
 zacpi_status zacpi_dmar_hpet(const struct zacpi_source *source, uint8_t number,
                              struct zacpi_dmar_source *out, struct zacpi_signature *named);
 /* The memory that is reserved for a device, by the first valid DMAR: each RMRR of the segment with
- * a device scope that names it, as for zacpi_dmar_unit, in order. Further errors:
+ * a device scope that names it, as for zacpi_get_dmar_unit, in order. Further errors:
  * ZACPI_TABLE_MISSING "DMAR", ZACPI_IOMMU_INVALID_STRUCTURE_LENGTH,
  * ZACPI_IOMMU_INVALID_MEMORY_RANGE of one of these. */
 zacpi_status zacpi_list_dmar_reserved(const struct zacpi_source *source, uint16_t segment,
@@ -1017,7 +1017,7 @@ struct zacpi_ivrs_memory { /* I/O Virtualization Memory Definition (IVMD) */
  * devices, for it or for a range that it lies in, or of a special device with it as Source
  * DeviceID. The block's first such entry counts. Further errors: ZACPI_TABLE_MISSING "IVRS",
  * ZACPI_IOMMU_INVALID_STRUCTURE_LENGTH, ZACPI_NO_IOMMU. */
-zacpi_status zacpi_ivrs_unit(const struct zacpi_source *source, uint16_t segment,
+zacpi_status zacpi_get_ivrs_unit(const struct zacpi_source *source, uint16_t segment,
                              uint16_t device_id, struct zacpi_ivrs_device *out,
                              struct zacpi_signature *named);
 /* The memory that has its own rules for a device, by the first valid IVRS: each IVMD for it, for
@@ -1175,13 +1175,13 @@ zacpi_status zacpi_write_slit(const struct zacpi_table_ids *ids, uint64_t locali
 zacpi_status zacpi_write_srat(const struct zacpi_table_ids *ids,
                               const struct zacpi_srat_contents *contents, uint8_t *out,
                               size_t room, size_t *length);
-/* A BGRT of revision 1, 56 bytes, from the record as which zacpi_boot_graphic reads it (section
+/* A BGRT of revision 1, 56 bytes, from the record as which zacpi_get_boot_graphic reads it (section
  * 5.2.22). Error before the last ones: ZACPI_UNKNOWN_CODE if `orientation` is none of its numbers,
  * or image_type isn't 0. */
 zacpi_status zacpi_write_bgrt(const struct zacpi_table_ids *ids,
                               const struct zacpi_boot_graphic *graphic, uint8_t *out, size_t room,
                               size_t *length);
-/* An SPCR of revision 4, 90 bytes, from the record as which zacpi_console reads it, and what that
+/* An SPCR of revision 4, 90 bytes, from the record as which zacpi_get_console reads it, and what that
  * doesn't say; the layout is Microsoft's. Language is 0 and NamespaceString is ".", that of a port
  * with no object in the namespace; Configured Baud Rate is the rate's code, or 0 if it has none. A
  * base, an interrupt or a rate that isn't there is written as 0 and not looked at; a code of
@@ -1190,7 +1190,7 @@ zacpi_status zacpi_write_bgrt(const struct zacpi_table_ids *ids,
 zacpi_status zacpi_write_spcr(const struct zacpi_table_ids *ids,
                               const struct zacpi_spcr_contents *contents, uint8_t *out,
                               size_t room, size_t *length);
-/* A GTDT of revision 3, from the record as which zacpi_arm_timers reads it and those of the timers of
+/* A GTDT of revision 3, from the record as which zacpi_get_arm_timers reads it and those of the timers of
  * the platform, in order (section 5.2.24): 104 bytes, which Platform Timer Offset says also if no
  * timer of the platform stands there, 28 for each watchdog, 20 for each GT Block, and 40 for each
  * frame. A virtual_el2 whose `present` is 0 is written as zeros, and read as present; of the other
@@ -1200,7 +1200,7 @@ zacpi_status zacpi_write_spcr(const struct zacpi_table_ids *ids,
 zacpi_status zacpi_write_gtdt(const struct zacpi_table_ids *ids,
                               const struct zacpi_gtdt_contents *contents, uint8_t *out,
                               size_t room, size_t *length);
-/* A FADT of version 6.4, 276 bytes, from the record as which zacpi_fixed_hardware reads it (section
+/* A FADT of version 6.4, 276 bytes, from the record as which zacpi_get_fixed_hardware reads it (section
  * 5.2.9). Each address and block stands in its X_ field, and if it fits in its field of 32 bits, a
  * block if it is one of ports; PM1_EVT_LEN, PM1_CNT_LEN and PM2_CNT_LEN are the whole bytes of
  * bit_width, which must have one, and X_GPEn_BLK of 32 bytes or more has a width of 255. gpe0 and

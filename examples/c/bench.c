@@ -43,7 +43,7 @@ static zacpi_status dsdt(size_t *count) {
 }
 static zacpi_status interrupt_model(size_t *count) {
     struct zacpi_interrupt_model model = {0};
-    zacpi_status refused = zacpi_interrupt_model(&source, &model, &named);
+    zacpi_status refused = zacpi_get_interrupt_model(&source, &model, &named);
     *count = model.io_apics + model.overrides + model.nmi_sources + model.nmi_lines + model.processors;
     return refused;
 }
@@ -77,7 +77,7 @@ static const struct call {
     {"zacpi_list_tables", "", "items", list_tables},
     {"zacpi_list_ssdts", "", "items", list_ssdts},
     {"zacpi_dsdt", "", "bytes", dsdt},
-    {"zacpi_interrupt_model", "", "items", interrupt_model},
+    {"zacpi_get_interrupt_model", "", "items", interrupt_model},
     {"zacpi_list_processors", "", "items", list_processors},
     {"zacpi_hpet", "", "items", hpet},
     {"zacpi_list_pci_regions", "", "items", list_pci_regions},

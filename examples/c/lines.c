@@ -187,9 +187,9 @@ static void platform(const struct zacpi_source *source, const struct printer *p)
     struct zacpi_interrupt_model model = {0};
     struct zacpi_pm_timer timer = {0};
     struct zacpi_fixed_hardware fixed = {0};
-    zacpi_status refused = zacpi_interrupt_model(source, &model, &named);
-    if (!refused) refused = zacpi_pm_timer(source, &timer, &named);
-    if (!refused) refused = zacpi_fixed_hardware(source, &fixed, &named);
+    zacpi_status refused = zacpi_get_interrupt_model(source, &model, &named);
+    if (!refused) refused = zacpi_get_pm_timer(source, &timer, &named);
+    if (!refused) refused = zacpi_get_fixed_hardware(source, &fixed, &named);
     if (refused) {
         say_refused(p, "platform", refused, &named);
         return;
@@ -246,7 +246,7 @@ static void devices(const struct zacpi_source *source, const struct printer *p) 
         say_address(p, list.pci_regions[i].base_address);
         newline(p);
     }
-    refused = zacpi_boot_graphic(source, &graphic, &named);
+    refused = zacpi_get_boot_graphic(source, &graphic, &named);
     if (refused) {
         say_refused(p, "bgrt", refused, &named);
     } else {
@@ -269,7 +269,7 @@ static void setting(const struct printer *p, const char *name, int is_there, uin
 static void console(const struct zacpi_source *source, const struct printer *p) {
     struct zacpi_signature named = {{0}};
     struct zacpi_console c = {0};
-    zacpi_status refused = zacpi_console(source, &c, &named);
+    zacpi_status refused = zacpi_get_console(source, &c, &named);
     if (refused) {
         say_refused(p, "spcr", refused, &named);
         return;

@@ -17,7 +17,7 @@
 /* The fixed hardware of an FADT that has a FACS, a DSDT and a power profile, and else zeros: PM1a is present at port 0,
  * and RESET_REG is past the end. */
 #define PROFILE(machine, facs, dsdt, profile) \
-    GOOD(fixed_hardware, machine, NULL, NO, 1, facs, dsdt, 0, 1, 0, 0, 0, 1, ABSENT, 0, 1, 0, 0, 0, 1, ABSENT, \
+    GOOD(get_fixed_hardware, machine, NULL, NO, 1, facs, dsdt, 0, 1, 0, 0, 0, 1, ABSENT, 0, 1, 0, 0, 0, 1, ABSENT, \
          ABSENT, ABSENT, ABSENT, ABSENT, 0, 0, 0, 0, 0, 1, ABSENT, ABSENT, 0, 0, 0, 0, 0, 0, 0, 0, \
          0, 0, 0, 0, 0, 0, 0, 0, 0, profile, 0, 0, 0, 0, 0, 0, 0, 0, 0, 0, 0, 0)
 /* An ISA interrupt that is active high and by edge: at PC's first I/O APIC, whose base is 0, and at none, since the
@@ -130,21 +130,21 @@ static const struct row rows[] = {
     GOOD(hpet, SERVER, NULL, NO, 1, 0xfed30000, 0x10de8204, 0x9abc, 5, 3), /* 11 is reserved too */
     GOOD(hpet, LEAST, NULL, NO, 1, 0, 0, 0, 0, 0),
     REFUSED(hpet, SOHO, NULL, NO, ZACPI_INVALID_GENERIC_ADDRESS, NULL),
-    GOOD(boot_graphic, DESKTOP, NULL, NO, 1, 0x2abcdef00, 800, 600, 90, 1, 0),
-    GOOD(boot_graphic, MOBILE, NULL, NO, 1, 0x7f000000, 1, 70000, 270, 0, 1),
-    GOOD(boot_graphic, WORKSTATION, NULL, NO, 1, ONES, 0xffffffff, 0, 180, 1, 1),
-    GOOD(boot_graphic, LEAST, NULL, NO, 1, 0, 0, 0, 0, 0, 0),
-    REFUSED(boot_graphic, EMPTY, NULL, NO, ZACPI_TABLE_MISSING, "BGRT"),
-    GOOD(console, DESKTOP, NULL, NO, 1, 0x3fe002000, 0, 32, 4, 3, 1, 230400, 0x12345, 48000000, 0x0a0b0c0d,
+    GOOD(get_boot_graphic, DESKTOP, NULL, NO, 1, 0x2abcdef00, 800, 600, 90, 1, 0),
+    GOOD(get_boot_graphic, MOBILE, NULL, NO, 1, 0x7f000000, 1, 70000, 270, 0, 1),
+    GOOD(get_boot_graphic, WORKSTATION, NULL, NO, 1, ONES, 0xffffffff, 0, 180, 1, 1),
+    GOOD(get_boot_graphic, LEAST, NULL, NO, 1, 0, 0, 0, 0, 0, 0),
+    REFUSED(get_boot_graphic, EMPTY, NULL, NO, ZACPI_TABLE_MISSING, "BGRT"),
+    GOOD(get_console, DESKTOP, NULL, NO, 1, 0x3fe002000, 0, 32, 4, 3, 1, 230400, 0x12345, 48000000, 0x0a0b0c0d,
          0x1a2b, 0x3c4d, 0x12, 11, 1, 1, 1, 5, 6, 0x31, 0x21, 0x1e, 4),
     /* In revision 2 no clock; an interrupt of a GIC or the like, and no IRQ. */
-    GOOD(console, MOBILE, NULL, NO, 1, REFUSED_REGISTER, 9600, 0x21, 0, 1, 0xffff, 0xffff, 1, 0, 0, 1, 1, 0, 1,
+    GOOD(get_console, MOBILE, NULL, NO, 1, REFUSED_REGISTER, 9600, 0x21, 0, 1, 0xffff, 0xffff, 1, 0, 0, 1, 1, 0, 1,
          0, 0, 0, 0),
     /* No base; an IRQ, and no global system interrupt; no baud rate. */
-    GOOD(console, WORKSTATION, NULL, NO, 1, ABSENT, 0, 0, 0, 0, 0, 0xffff, 0x15, 5, 1, 0, 0, 0, 0, 0, 0, 0, 0),
-    GOOD(console, HALF, NULL, NO, 1, ABSENT, 0x8400, 0, 48000000, 0, 0, 0, 0, 0, 0, 0, 1, 0, 0, 0, 0, 0, 0),
-    GOOD(console, LEAST, NULL, NO, 1, ABSENT, 0, 0, 0, 0, 0, 0, 0, 0, 0, 0, 0, 0, 0, 0, 0, 0, 0),
-    REFUSED(console, EMPTY, NULL, NO, ZACPI_TABLE_MISSING, "SPCR"),
+    GOOD(get_console, WORKSTATION, NULL, NO, 1, ABSENT, 0, 0, 0, 0, 0, 0xffff, 0x15, 5, 1, 0, 0, 0, 0, 0, 0, 0, 0),
+    GOOD(get_console, HALF, NULL, NO, 1, ABSENT, 0x8400, 0, 48000000, 0, 0, 0, 0, 0, 0, 0, 1, 0, 0, 0, 0, 0, 0),
+    GOOD(get_console, LEAST, NULL, NO, 1, ABSENT, 0, 0, 0, 0, 0, 0, 0, 0, 0, 0, 0, 0, 0, 0, 0, 0, 0),
+    REFUSED(get_console, EMPTY, NULL, NO, ZACPI_TABLE_MISSING, "SPCR"),
     REFUSED(find_table, ARM, "HPET", NO, ZACPI_TABLE_MISSING, "HPET"),
     REFUSED(find_table, HOLES, "OEM1", NO, ZACPI_TABLE_MISSING, "OEM1"),
     REFUSED(find_nth_table, PC, "HPET", A(2), ZACPI_TABLE_MISSING, "HPET"),
@@ -168,14 +168,14 @@ static const struct row rows[] = {
     GOOD(list_ranges, PERFORMANCE, NULL, NO, 2, AT(PERFORMANCE), 40, AT(FADT_PERFORMANCE), 116), /* FACS: 63 bytes */
     GOOD(list_ranges, SOHO, NULL, NO, 3, AT(SOHO), 44, AT(FADT_SOHO), 116, AT(HPET_PORT), 56), /* they are cut off */
 
-    GOOD(fixed_hardware, PC, NULL, NO, 1, 0x123456000, 0x8000,
+    GOOD(get_fixed_hardware, PC, NULL, NO, 1, 0x123456000, 0x8000,
          0x200000600, 0, 32, 0, 3, 1, 0x680, 1, 32, 0, 0, 1, REFUSED_REGISTER, ABSENT, /* PM1 */
          0x650, 1, 8, 0, 0, 1, 0x608, 1, 32, 0, 0, 1,                  /* PM2_CNT_BLK, PM_TMR_BLK */
          0x620, 1, 128, 0, 0, 1, REFUSED_REGISTER,                     /* GPE1_BLK: 32 bytes are too many bits */
          0xcf9, 1, 8, 0, 1, 1, 0x405, 1, 8, 2, 1, 1, 0, 0, 0, 0, 0, 1, /* SLEEP_STATUS_REG: there, and zeros */
          0x620, 1, 16, 1, 0x640, 1, 32, 1, 0xb2, 0x4a5, 9, 0x13, 3, 101, 1001, 1024, 16, 4, 0xa1, 0xa0, 0xf2, 0x80,
          0xe3, 0x40, 1, 3, 13, 14, 50, 6),
-    GOOD(fixed_hardware, HOLES, NULL, NO, 1, 0x400000, 0x300000,
+    GOOD(get_fixed_hardware, HOLES, NULL, NO, 1, 0x400000, 0x300000,
          0, 1, 0, 0, 0, 1, ABSENT, 0, 1, 0, 0, 0, 1, ABSENT, /* PM1a: present at port 0 */
          ABSENT, ABSENT, ABSENT, ABSENT, 0, 0, 0, 0, 0, 1,   /* RESET_REG is past the end */
          ABSENT, ABSENT, 0, 0, 0, 0, 0, 0, 0, 0, ABSENT, ABSENT, ABSENT, 0, 0, 0, 0),
@@ -183,7 +183,7 @@ static const struct row rows[] = {
     PROFILE(SOHO, CUT(0), CUT(1), 5), PROFILE(APPLIANCE, AT(FACS), AT(DSDT), 6),
     PROFILE(PERFORMANCE, AT(FACS_SHORT), AT(DSDT_OTHER), 7), PROFILE(TABLET, 0, 0, 8), PROFILE(RESERVED, 0, 0, 9),
     PROFILE(LEAST, 0, 0, 0),
-    GOOD(fixed_hardware, WIDE, NULL, NO, 1, 0x500001000, 0x500002000,
+    GOOD(get_fixed_hardware, WIDE, NULL, NO, 1, 0x500001000, 0x500002000,
          0x500003000, 0, 32, 0, 3, 1, 0x500004000, 0, 31, 1, 2, 1, /* PM1a_EVT, PM1b_EVT */
          0x500005000, 0, 30, 2, 1, 1, 0x500006000, 0, 29, 3, 4, 1, /* PM1a_CNT, PM1b_CNT */
          0x500007000, 0, 28, 4, 3, 1, 0x500008000, 0, 27, 5, 3, 1, /* PM2_CNT, PM_TMR */
@@ -191,26 +191,26 @@ static const struct row rows[] = {
          0x50000d000, 2, 22, 10, 1, 1, 0x50000b000, 0, 24, 8, 3, 1, 0x50000c000, 0, 23, 9, 4, 1, /* RESET, SLEEP */
          0x500000000, 0, 8, 1, 0x50000a000, 0, 16, 1, 0, 0x100, 0, 0, 0, 0, 0, 0, 0, 0, 0, 0, 0, 0, 0, 0, 0, 0, 0, 0,
          0, 0),
-    GOOD(fixed_hardware, OLD, NULL, NO, 1, 0, 0, REFUSED_REGISTER, REFUSED_REGISTER, /* PM1_EVT: 32 bytes */
+    GOOD(get_fixed_hardware, OLD, NULL, NO, 1, 0, 0, REFUSED_REGISTER, REFUSED_REGISTER, /* PM1_EVT: 32 bytes */
          0x620, 1, 248, 0, 0, 1, ABSENT, REFUSED_REGISTER, ABSENT,                   /* PM1_CNT, PM2_CNT, PM_TMR */
          0x660, 1, 0, 0, 0, 1, REFUSED_REGISTER, 0xcf9, 1, 8, 0, 1, 1, ABSENT, ABSENT, /* GPE0 has no bytes */
          0, 0, 0, 0, 0x670, 1, 33, 1, 0, 0x100, 0, 0, 0x203, 0, 0, 0, 0, 0, 0, 0, 0, 0, 0, 0, 0, 0, 0, 0, 0, 6),
     /* Of ARM_BOOT_ARCH there is one byte, and no X_ field. */
-    GOOD(fixed_hardware, HALF, NULL, NO, 1, 0, 0, 0, 1, 0, 0, 0, 1, ABSENT, 0, 1, 0, 0, 0, 1, ABSENT,
+    GOOD(get_fixed_hardware, HALF, NULL, NO, 1, 0, 0, 0, 1, 0, 0, 0, 1, ABSENT, 0, 1, 0, 0, 0, 1, ABSENT,
          ABSENT, ABSENT, ABSENT, ABSENT, 0, 0, 0, 0, 0, 1, ABSENT, ABSENT, 0, 0, 0, 0, 0, 0, 0, 0,
          0, 0, 0, 0, 3, 0, 0, 0, 0, 0, 0, 0, 0, 0, 0, 0, 0, 0, 0, 0, 0, 0),
     /* X_GPE1_BLK isn't there as a whole, so that GPE1_BLK counts. */
-    GOOD(fixed_hardware, HALF_X, NULL, NO, 1, 0, 0, 0, 1, 0, 0, 0, 1, ABSENT, 0, 1, 0, 0, 0, 1, ABSENT,
+    GOOD(get_fixed_hardware, HALF_X, NULL, NO, 1, 0, 0, 0, 1, 0, 0, 0, 1, ABSENT, 0, 1, 0, 0, 0, 1, ABSENT,
          ABSENT, ABSENT, 0x500000000, 0, 26, 6, 1, 1, 0x670, 1, 128, 0, 0, 1, 0, 0, 0, 0, 0, 1, ABSENT, ABSENT,
          0x500000000, 0, 8, 1, 0x670, 1, 16, 1,
          0, 0, 0, 0, 0, 0, 0, 0, 0, 0, 0, 0, 0, 0, 0, 0, 0, 0, 0, 0, 0, 0),
-    REFUSED(fixed_hardware, EMPTY, NULL, NO, ZACPI_TABLE_MISSING, "FACP"),
-    GOOD(pm_timer, PC, NULL, NO, 1, 0x608, 1, 32, 0, 0, 1, 0),
-    GOOD(pm_timer, WIDE, NULL, NO, 1, 0x500008000, 0, 27, 5, 3, 1, 1),
-    GOOD(pm_timer, HOLES, NULL, NO, 1, ABSENT, 0),
-    GOOD(pm_timer, OLD, NULL, NO, 1, ABSENT, 0), /* TMR_VAL_EXT is set */
-    REFUSED(pm_timer, TIMER_5, NULL, NO, ZACPI_INVALID_GENERIC_ADDRESS, NULL),
-    REFUSED(pm_timer, EMPTY, NULL, NO, ZACPI_TABLE_MISSING, "FACP"),
+    REFUSED(get_fixed_hardware, EMPTY, NULL, NO, ZACPI_TABLE_MISSING, "FACP"),
+    GOOD(get_pm_timer, PC, NULL, NO, 1, 0x608, 1, 32, 0, 0, 1, 0),
+    GOOD(get_pm_timer, WIDE, NULL, NO, 1, 0x500008000, 0, 27, 5, 3, 1, 1),
+    GOOD(get_pm_timer, HOLES, NULL, NO, 1, ABSENT, 0),
+    GOOD(get_pm_timer, OLD, NULL, NO, 1, ABSENT, 0), /* TMR_VAL_EXT is set */
+    REFUSED(get_pm_timer, TIMER_5, NULL, NO, ZACPI_INVALID_GENERIC_ADDRESS, NULL),
+    REFUSED(get_pm_timer, EMPTY, NULL, NO, ZACPI_TABLE_MISSING, "FACP"),
 
     GOOD(list_pci_regions, ARM, NULL, NO, 4, 0x140000000, 1, 0x10, 0x1f, 0x50000000, 2, 5, 4,
          0xfffffffffff00000, 3, 0, 1, 0xffffffffffe00000, 4, 0, 0),
@@ -232,14 +232,14 @@ static const struct row rows[] = {
     REFUSED(pci_ecam_address, EMPTY, NULL, A(1, 0x12, 3, 2), ZACPI_TABLE_MISSING, "MCFG"),
 
     /* The last address of the local APICs; one I/O APIC, two overrides, three sources, four lines, five processors. */
-    GOOD(interrupt_model, DESKTOP, NULL, NO, 1, 0x1fee02000, 1, 2, 3, 4, 5, 1, 1),
-    GOOD(interrupt_model, MOBILE, NULL, NO, 1, 0xfee03000, 0, 0, 0, 0, 2, 1, 0),
-    GOOD(interrupt_model, PC, NULL, NO, 1, 0, 2, 2, 0, 0, 1, 1, 0),
-    GOOD(interrupt_model, WORKSTATION, NULL, NO, 1, 0, 0, 0, 0, 0, 0, 0, 0),
-    GOOD(interrupt_model, HOLES, NULL, NO, 1, 0, 0, 0, 0, 0, 0, 0, 0), /* no MADT */
-    REFUSED(interrupt_model, SERVER, NULL, NO, ZACPI_MADT_UNEXPECTED_ENTRY, NULL),
-    REFUSED(interrupt_model, TIMER_5, NULL, NO, ZACPI_INVALID_GENERIC_ADDRESS, NULL),
-    REFUSED(interrupt_model, EMPTY, NULL, NO, ZACPI_TABLE_MISSING, "FACP"),
+    GOOD(get_interrupt_model, DESKTOP, NULL, NO, 1, 0x1fee02000, 1, 2, 3, 4, 5, 1, 1),
+    GOOD(get_interrupt_model, MOBILE, NULL, NO, 1, 0xfee03000, 0, 0, 0, 0, 2, 1, 0),
+    GOOD(get_interrupt_model, PC, NULL, NO, 1, 0, 2, 2, 0, 0, 1, 1, 0),
+    GOOD(get_interrupt_model, WORKSTATION, NULL, NO, 1, 0, 0, 0, 0, 0, 0, 0, 0),
+    GOOD(get_interrupt_model, HOLES, NULL, NO, 1, 0, 0, 0, 0, 0, 0, 0, 0), /* no MADT */
+    REFUSED(get_interrupt_model, SERVER, NULL, NO, ZACPI_MADT_UNEXPECTED_ENTRY, NULL),
+    REFUSED(get_interrupt_model, TIMER_5, NULL, NO, ZACPI_INVALID_GENERIC_ADDRESS, NULL),
+    REFUSED(get_interrupt_model, EMPTY, NULL, NO, ZACPI_TABLE_MISSING, "FACP"),
     /* All of these at once: what lies past an item is as it was. */
     GOOD(platform, DESKTOP, NULL, NO, 1, 0x1fee02000, 1, 2, 3, 4, 5, 1, 1, 0x21, 0x42, ZACPI_PROCESSOR_DISABLED, 1,
          0x22, 0x44, ZACPI_PROCESSOR_WAITING, 0, 0x567, 0x12345, ZACPI_PROCESSOR_WAITING, 0,
@@ -312,7 +312,7 @@ static const struct row rows[] = {
     GOOD(isa_interrupt, DESKTOP, NULL, A(12), 1, 38, ZACPI_POLARITY_HIGH, ZACPI_TRIGGER_EDGE),
     REFUSED(isa_interrupt, PC, NULL, A(2), ZACPI_NO_SUCH_INTERRUPT, NULL), /* 2 is taken by interrupt 0 */
     REFUSED(isa_interrupt, PC, NULL, A(16), ZACPI_NO_SUCH_INTERRUPT, NULL),
-    GOOD(io_apic_pin, PC, NULL, A(30), 1, 0xfec01000, 24, 3, 6),
+    GOOD(get_io_apic_pin, PC, NULL, A(30), 1, 0xfec01000, 24, 3, 6),
     GOOD(list_isa_interrupts, PC, NULL, NO, 16, PINNED(2), PINNED(1), NO_ROUTE, PINNED(3), PINNED(4), PINNED(5),
          PINNED(6), PINNED(7), PINNED(8), PINNED(20), PINNED(10), PINNED(11), PINNED(12), PINNED(13), PINNED(14),
          PINNED(15)),
@@ -323,7 +323,7 @@ static const struct row rows[] = {
     REFUSED(list_isa_interrupts, SERVER, NULL, NO, ZACPI_MADT_UNEXPECTED_ENTRY, NULL),
     REFUSED(list_isa_interrupts, EMPTY, NULL, NO, ZACPI_TABLE_MISSING, "FACP"),
 
-    GOOD(gic_distributor, ARM, NULL, NO, 1, 0x2f000000, 7, 5, 3),
+    GOOD(get_gic_distributor, ARM, NULL, NO, 1, 0x2f000000, 7, 5, 3),
     GOOD(list_gic_cpu_interfaces, ARM, NULL, NO, 2,
          0x100000002, 0x180001000, 0x12c000000, 0x12c010000, 0x12c020000, 0x12f100000, 3, 17, 23, 25, 1, 21, 22,
          1, 1, ZACPI_TRIGGER_EDGE, ZACPI_TRIGGER_LEVEL, 9,
@@ -336,10 +336,10 @@ static const struct row rows[] = {
     GOOD(list_gic_redistributors, ARM, NULL, NO, 2, 0x12f200000, 0x40000, 0x12f300000, 0),
     GOOD(list_gic_translation_services, ARM, NULL, NO, 2, 0x12f020000, 6, 0x12f050000, 10),
     GOOD(list_gic_msi_frames, ARM, NULL, NO, 2, 0x12f030000, 8, 64, 32, 1, 0x12f040000, 9, 0, 0, 0),
-    REFUSED(gic_distributor, PC, NULL, NO, ZACPI_NO_GIC, NULL),
-    REFUSED(gic_distributor, LEAST, NULL, NO, ZACPI_NO_GIC, NULL), /* a MADT without entries */
-    REFUSED(gic_distributor, ODD, NULL, NO, ZACPI_MADT_INVALID_ENTRY_LENGTH, NULL),
-    REFUSED(gic_distributor, EMPTY, NULL, NO, ZACPI_TABLE_MISSING, "APIC"),
+    REFUSED(get_gic_distributor, PC, NULL, NO, ZACPI_NO_GIC, NULL),
+    REFUSED(get_gic_distributor, LEAST, NULL, NO, ZACPI_NO_GIC, NULL), /* a MADT without entries */
+    REFUSED(get_gic_distributor, ODD, NULL, NO, ZACPI_MADT_INVALID_ENTRY_LENGTH, NULL),
+    REFUSED(get_gic_distributor, EMPTY, NULL, NO, ZACPI_TABLE_MISSING, "APIC"),
     REFUSED(list_gic_cpu_interfaces, PC, NULL, NO, ZACPI_NO_GIC, NULL),
     REFUSED(list_gic_cpu_interfaces, EMPTY, NULL, NO, ZACPI_TABLE_MISSING, "APIC"),
     REFUSED(list_gic_redistributors, ODD, NULL, NO, ZACPI_MADT_INVALID_ENTRY_LENGTH, NULL),
@@ -349,15 +349,15 @@ static const struct row rows[] = {
     REFUSED(list_gic_msi_frames, ODD, NULL, NO, ZACPI_MADT_INVALID_ENTRY_LENGTH, NULL),
     REFUSED(list_gic_msi_frames, EMPTY, NULL, NO, ZACPI_TABLE_MISSING, "APIC"),
 
-    GOOD(arm_timers, ARM, NULL, NO, 1, 0x12a430000, ONES, 29, 1, 3, 0, 1, 30, 3, 1, 1, 1, 27, 3, 3, 0, 1,
+    GOOD(get_arm_timers, ARM, NULL, NO, 1, 0x12a430000, ONES, 29, 1, 3, 0, 1, 30, 3, 1, 1, 1, 27, 3, 3, 0, 1,
          26, 1, 1, 1, 1, 28, 3, 1, 0, 1, 0),
-    GOOD(arm_timers, ODD, NULL, NO, 1, ONES, 0x1234000, 0, 1, 3, 0, 1, 0, 1, 3, 0, 1, 0, 1, 3, 0, 1,
+    GOOD(get_arm_timers, ODD, NULL, NO, 1, ONES, 0x1234000, 0, 1, 3, 0, 1, 0, 1, 3, 0, 1, 0, 1, 3, 0, 1,
          0, 1, 3, 0, 1, 0, 0, 0, 0, 0, 1),
-    GOOD(arm_timers, OLD, NULL, NO, 1, 0, ONES, 0, 1, 3, 0, 1, 0, 1, 3, 0, 1, 0, 1, 3, 0, 1,
+    GOOD(get_arm_timers, OLD, NULL, NO, 1, 0, ONES, 0, 1, 3, 0, 1, 0, 1, 3, 0, 1, 0, 1, 3, 0, 1,
          0, 1, 3, 0, 1, 0, 0, 0, 0, 0, 0),
-    GOOD(arm_timers, HALF, NULL, NO, 1, 0, 0x1234000, 0, 1, 3, 0, 1, 0, 1, 3, 0, 1, 0, 1, 3, 0, 1,
+    GOOD(get_arm_timers, HALF, NULL, NO, 1, 0, 0x1234000, 0, 1, 3, 0, 1, 0, 1, 3, 0, 1, 0, 1, 3, 0, 1,
          0, 1, 3, 0, 1, 0, 0, 0, 0, 0, 0),
-    REFUSED(arm_timers, EMPTY, NULL, NO, ZACPI_TABLE_MISSING, "GTDT"),
+    REFUSED(get_arm_timers, EMPTY, NULL, NO, ZACPI_TABLE_MISSING, "GTDT"),
     GOOD(list_gt_frames, ARM, NULL, NO, 2,
          0x12a810000, 0x12a820000, 0x12a830000, 92, 93, 1, 1, 1, 3, 3, 1, 0,
          0x12a810000, 0x12a840000, ONES, 94, 0, 2, 1, 3, 3, 1, 0, 1),
@@ -395,10 +395,10 @@ static const struct row rows[] = {
     REFUSED(domain_of_processor, ARM, NULL, A(9), ZACPI_NO_DOMAIN, NULL),
     REFUSED(domain_of_processor, EMPTY, NULL, A(17), ZACPI_TABLE_MISSING, "SRAT"),
 
-    GOOD(localities, ARM, NULL, NO, 1, 2, 1),
-    GOOD(localities, ODD, NULL, NO, 1, 3, 0),
-    GOOD(localities, LEAST, NULL, NO, 1, 0, 0),
-    REFUSED(localities, EMPTY, NULL, NO, ZACPI_TABLE_MISSING, "SLIT"),
+    GOOD(get_localities, ARM, NULL, NO, 1, 2, 1),
+    GOOD(get_localities, ODD, NULL, NO, 1, 3, 0),
+    GOOD(get_localities, LEAST, NULL, NO, 1, 0, 0),
+    REFUSED(get_localities, EMPTY, NULL, NO, ZACPI_TABLE_MISSING, "SLIT"),
     GOOD(distance, ARM, NULL, A(0, 1), 1, 20),
     GOOD(distance, ARM, NULL, A(1, 0), 1, 30),
     GOOD(distance, ODD, NULL, A(1, 0), 1, 255),

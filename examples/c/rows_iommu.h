@@ -33,11 +33,11 @@ static const struct zacpi_hop *hops(const struct row *row) {
     }
     return all;
 }
-ONE(dmar_unit, dmar_unit, of_dmar_unit, DEVICE)
+ONE(get_dmar_unit, dmar_unit, of_dmar_unit, DEVICE)
 ONE(dmar_io_apic, dmar_source, of_dmar_source, ARGUMENT(0, uint8_t))
 ONE(dmar_hpet, dmar_source, of_dmar_source, ARGUMENT(0, uint8_t))
 LIST(list_dmar_reserved, dmar_reserved, of_dmar_reserved, DEVICE)
-ONE(ivrs_unit, ivrs_device, of_ivrs_device, ARGUMENT(0, uint16_t) ARGUMENT(1, uint16_t))
+ONE(get_ivrs_unit, ivrs_device, of_ivrs_device, ARGUMENT(0, uint16_t) ARGUMENT(1, uint16_t))
 LIST(list_ivrs_memory, ivrs_memory, of_ivrs_memory, ARGUMENT(0, uint16_t))
 
 /* Hops of one byte for the device and one for the function, and 00.0 after them. */
@@ -51,20 +51,20 @@ LIST(list_ivrs_memory, ivrs_memory, of_ivrs_memory, ARGUMENT(0, uint16_t))
 #define MEMORY_OF_ALL 0x70000000, 0x1000, 0, 0, 0x20, 1
 
 static const struct row unit_rows[] = {
-    GOOD(dmar_unit, UNITS, NULL, A(0, 0, 1, HOP_2_0), 1, FIRST_UNIT),
-    GOOD(dmar_unit, UNITS, NULL, A(0, 0, 1, HOP_1_0), 1, FIRST_UNIT), /* the front of a sub-hierarchy */
-    GOOD(dmar_unit, UNITS, NULL, A(0, 0, 2, HOP_1_0), 1, FIRST_UNIT), /* and 00.0 below it */
-    GOOD(dmar_unit, UNITS, NULL, A(0, 0, 2, HOP_2_0), 1, UNIT_OF_ALL), /* 00.0 below an endpoint */
-    GOOD(dmar_unit, UNITS, NULL, A(0, 0, 1, 0x102), 1, UNIT_OF_ALL),   /* 02.1 */
-    GOOD(dmar_unit, UNITS, NULL, A(0, 1, 1, HOP_2_0), 1, UNIT_OF_ALL),
-    GOOD(dmar_unit, UNITS, NULL, A(0, 0, 0, 0), 1, UNIT_OF_ALL),
-    GOOD(dmar_unit, UNITS, NULL, A(3, 5, 1, HOP_4_1), 1, 0x12fed92000, 4096, 3, 0),
-    REFUSED(dmar_unit, UNITS, NULL, A(3, 5, 2, HOP_4_1), ZACPI_NO_IOMMU, NULL),
-    REFUSED(dmar_unit, UNITS, NULL, A(1, 0, 1, HOP_2_0), ZACPI_NO_IOMMU, NULL),
-    REFUSED(dmar_unit, LEAST, NULL, A(0, 0, 1, HOP_2_0), ZACPI_NO_IOMMU, NULL),
-    REFUSED(dmar_unit, UNITS_CUT, NULL, A(0, 0, 1, HOP_2_0), ZACPI_IOMMU_INVALID_STRUCTURE_LENGTH, NULL),
-    REFUSED(dmar_unit, UNITS_END, NULL, A(0, 0, 1, HOP_2_0), ZACPI_IOMMU_INVALID_STRUCTURE_LENGTH, NULL),
-    REFUSED(dmar_unit, EMPTY, NULL, A(0, 0, 1, HOP_2_0), ZACPI_TABLE_MISSING, "DMAR"),
+    GOOD(get_dmar_unit, UNITS, NULL, A(0, 0, 1, HOP_2_0), 1, FIRST_UNIT),
+    GOOD(get_dmar_unit, UNITS, NULL, A(0, 0, 1, HOP_1_0), 1, FIRST_UNIT), /* the front of a sub-hierarchy */
+    GOOD(get_dmar_unit, UNITS, NULL, A(0, 0, 2, HOP_1_0), 1, FIRST_UNIT), /* and 00.0 below it */
+    GOOD(get_dmar_unit, UNITS, NULL, A(0, 0, 2, HOP_2_0), 1, UNIT_OF_ALL), /* 00.0 below an endpoint */
+    GOOD(get_dmar_unit, UNITS, NULL, A(0, 0, 1, 0x102), 1, UNIT_OF_ALL),   /* 02.1 */
+    GOOD(get_dmar_unit, UNITS, NULL, A(0, 1, 1, HOP_2_0), 1, UNIT_OF_ALL),
+    GOOD(get_dmar_unit, UNITS, NULL, A(0, 0, 0, 0), 1, UNIT_OF_ALL),
+    GOOD(get_dmar_unit, UNITS, NULL, A(3, 5, 1, HOP_4_1), 1, 0x12fed92000, 4096, 3, 0),
+    REFUSED(get_dmar_unit, UNITS, NULL, A(3, 5, 2, HOP_4_1), ZACPI_NO_IOMMU, NULL),
+    REFUSED(get_dmar_unit, UNITS, NULL, A(1, 0, 1, HOP_2_0), ZACPI_NO_IOMMU, NULL),
+    REFUSED(get_dmar_unit, LEAST, NULL, A(0, 0, 1, HOP_2_0), ZACPI_NO_IOMMU, NULL),
+    REFUSED(get_dmar_unit, UNITS_CUT, NULL, A(0, 0, 1, HOP_2_0), ZACPI_IOMMU_INVALID_STRUCTURE_LENGTH, NULL),
+    REFUSED(get_dmar_unit, UNITS_END, NULL, A(0, 0, 1, HOP_2_0), ZACPI_IOMMU_INVALID_STRUCTURE_LENGTH, NULL),
+    REFUSED(get_dmar_unit, EMPTY, NULL, A(0, 0, 1, HOP_2_0), ZACPI_TABLE_MISSING, "DMAR"),
     GOOD(dmar_io_apic, UNITS, NULL, A(2), 1, UNIT_OF_ALL, 0xf0, 0x1f, 0, 1),
     GOOD(dmar_io_apic, UNITS, NULL, A(9), 1, UNIT_OF_ALL, 0xf2, 0, 0, 0),
     REFUSED(dmar_io_apic, UNITS, NULL, A(0), ZACPI_NO_IOMMU, NULL), /* an HPET has the id 0 */
@@ -83,25 +83,25 @@ static const struct row unit_rows[] = {
     REFUSED(list_dmar_reserved, UNITS_CUT, NULL, A(0, 0, 1, HOP_2_0), ZACPI_IOMMU_INVALID_STRUCTURE_LENGTH, NULL),
     REFUSED(list_dmar_reserved, EMPTY, NULL, A(0, 0, 1, HOP_2_0), ZACPI_TABLE_MISSING, "DMAR"),
 
-    GOOD(ivrs_unit, UNITS, NULL, A(0, 0x10), 1, BLOCK_11, 0x10, 0xd7),
-    GOOD(ivrs_unit, UNITS, NULL, A(0, 0x100), 1, BLOCK_11, 0x100, 1),
-    GOOD(ivrs_unit, UNITS, NULL, A(0, 0x1ff), 1, BLOCK_11, 0x1ff, 1),
-    GOOD(ivrs_unit, UNITS, NULL, A(0, 0x300), 1, BLOCK_11, 0x308, 2),
-    GOOD(ivrs_unit, UNITS, NULL, A(0, 0x4ff), 1, BLOCK_11, 0x410, 3),
-    GOOD(ivrs_unit, UNITS, NULL, A(0, 0x500), 1, BLOCK_11, 0x500, 4),
-    GOOD(ivrs_unit, UNITS, NULL, A(0, 0xa0), 1, BLOCK_11, 0xa0, 6),
-    GOOD(ivrs_unit, UNITS, NULL, A(0, 0x600), 1, BLOCK_11, 0x600, 5),
-    GOOD(ivrs_unit, UNITS, NULL, A(1, 0xffff), 1, 0x1fec00000, 0x55, 7, 1, 0x4002, 0x44, 0x206, 0x11, 0x31, 1,
+    GOOD(get_ivrs_unit, UNITS, NULL, A(0, 0x10), 1, BLOCK_11, 0x10, 0xd7),
+    GOOD(get_ivrs_unit, UNITS, NULL, A(0, 0x100), 1, BLOCK_11, 0x100, 1),
+    GOOD(get_ivrs_unit, UNITS, NULL, A(0, 0x1ff), 1, BLOCK_11, 0x1ff, 1),
+    GOOD(get_ivrs_unit, UNITS, NULL, A(0, 0x300), 1, BLOCK_11, 0x308, 2),
+    GOOD(get_ivrs_unit, UNITS, NULL, A(0, 0x4ff), 1, BLOCK_11, 0x410, 3),
+    GOOD(get_ivrs_unit, UNITS, NULL, A(0, 0x500), 1, BLOCK_11, 0x500, 4),
+    GOOD(get_ivrs_unit, UNITS, NULL, A(0, 0xa0), 1, BLOCK_11, 0xa0, 6),
+    GOOD(get_ivrs_unit, UNITS, NULL, A(0, 0x600), 1, BLOCK_11, 0x600, 5),
+    GOOD(get_ivrs_unit, UNITS, NULL, A(1, 0xffff), 1, 0x1fec00000, 0x55, 7, 1, 0x4002, 0x44, 0x206, 0x11, 0x31, 1,
          0xffff, 9),
-    GOOD(ivrs_unit, UNITS_10, NULL, A(0, 0x1234), 1, 0xfeb80000, 0, 0x11223344, 0, 2, 0x40, 3, 0x10, 1, 0,
+    GOOD(get_ivrs_unit, UNITS_10, NULL, A(0, 0x1234), 1, 0xfeb80000, 0, 0x11223344, 0, 2, 0x40, 3, 0x10, 1, 0,
          0x1234, 0xd7),
-    REFUSED(ivrs_unit, UNITS, NULL, A(0, 0), ZACPI_NO_IOMMU, NULL), /* in padding, and in a block of Type 0x10 */
-    REFUSED(ivrs_unit, UNITS, NULL, A(0, 0x200), ZACPI_NO_IOMMU, NULL),
-    REFUSED(ivrs_unit, UNITS, NULL, A(2, 0x10), ZACPI_NO_IOMMU, NULL),
-    REFUSED(ivrs_unit, LEAST, NULL, A(0, 0), ZACPI_NO_IOMMU, NULL),
-    REFUSED(ivrs_unit, UNITS_CUT, NULL, A(0, 2), ZACPI_IOMMU_INVALID_STRUCTURE_LENGTH, NULL),
-    REFUSED(ivrs_unit, UNITS_END, NULL, A(0, 2), ZACPI_IOMMU_INVALID_STRUCTURE_LENGTH, NULL),
-    REFUSED(ivrs_unit, EMPTY, NULL, A(0, 2), ZACPI_TABLE_MISSING, "IVRS"),
+    REFUSED(get_ivrs_unit, UNITS, NULL, A(0, 0), ZACPI_NO_IOMMU, NULL), /* in padding, and in a block of Type 0x10 */
+    REFUSED(get_ivrs_unit, UNITS, NULL, A(0, 0x200), ZACPI_NO_IOMMU, NULL),
+    REFUSED(get_ivrs_unit, UNITS, NULL, A(2, 0x10), ZACPI_NO_IOMMU, NULL),
+    REFUSED(get_ivrs_unit, LEAST, NULL, A(0, 0), ZACPI_NO_IOMMU, NULL),
+    REFUSED(get_ivrs_unit, UNITS_CUT, NULL, A(0, 2), ZACPI_IOMMU_INVALID_STRUCTURE_LENGTH, NULL),
+    REFUSED(get_ivrs_unit, UNITS_END, NULL, A(0, 2), ZACPI_IOMMU_INVALID_STRUCTURE_LENGTH, NULL),
+    REFUSED(get_ivrs_unit, EMPTY, NULL, A(0, 2), ZACPI_TABLE_MISSING, "IVRS"),
     GOOD(list_ivrs_memory, UNITS, NULL, A(0x1ff), 2, MEMORY_OF_ALL, 0x100000000, 0x20000, 0x100, 0x1ff, 0x22, 8),
     GOOD(list_ivrs_memory, UNITS, NULL, A(0x200), 1, MEMORY_OF_ALL),
     NOTHING(list_ivrs_memory, UNITS_10),

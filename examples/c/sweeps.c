@@ -63,12 +63,12 @@ static void paint(void) {
 typedef zacpi_status lookup(const struct zacpi_source *source);
 #define LOOKUP(name, call, ...) \
     static zacpi_status find_##name(const struct zacpi_source *s) { return zacpi_##call(s, __VA_ARGS__, &named); }
-LOOKUP(facp, fixed_hardware, &out.fixed_hardware)
-LOOKUP(apic, gic_distributor, &out.distributor)
+LOOKUP(facp, get_fixed_hardware, &out.fixed_hardware)
+LOOKUP(apic, get_gic_distributor, &out.distributor)
 LOOKUP(hpet, hpet, &out.hpet)
 LOOKUP(mcfg, list_pci_regions, &out.pci_region, 1, &count)
-LOOKUP(bgrt, boot_graphic, &out.graphic)
-LOOKUP(spcr, console, &out.console)
+LOOKUP(bgrt, get_boot_graphic, &out.graphic)
+LOOKUP(spcr, get_console, &out.console)
 
 /* A table that is swept over: region `index` of a memory. */
 static const struct swept {

@@ -139,10 +139,10 @@ static void first_unit(const struct zacpi_source *source) {
     struct zacpi_signature named = {{0}};
     struct zacpi_dmar_unit unit = {0};
     struct zacpi_ivrs_device device = {0};
-    zacpi_status refused = zacpi_dmar_unit(source, 0, 0, &function, 1, &unit, &named);
+    zacpi_status refused = zacpi_get_dmar_unit(source, 0, 0, &function, 1, &unit, &named);
     if (!refused) named_range("unit of 0:00.0 dmar ", unit.register_base, unit.register_bytes), line();
     else if (refused != ZACPI_TABLE_MISSING) say_refused(&serial, "unit of 0:00.0 dmar", refused, &named);
-    refused = zacpi_ivrs_unit(source, 0, 0, &device, &named);
+    refused = zacpi_get_ivrs_unit(source, 0, 0, &device, &named);
     if (!refused) named_range("unit of 0:00.0 ivrs ", device.unit.base, device.source_id), line();
     else if (refused != ZACPI_TABLE_MISSING) say_refused(&serial, "unit of 0:00.0 ivrs", refused, &named);
 }
@@ -180,7 +180,7 @@ static void figures(const struct zacpi_source *source, struct zacpi_source known
     FIGURE(zacpi_list_tables, &known, tables, 256, &count, &named);
     FIGURE(zacpi_dsdt, &known, &dsdt, &named);
     FIGURE(zacpi_hpet, &known, &hpet, &named);
-    FIGURE(zacpi_interrupt_model, &known, &model, &named);
+    FIGURE(zacpi_get_interrupt_model, &known, &model, &named);
     FIGURE(zacpi_list_io_apics, &known, io_apics, 64, &count, &named);
     FIGURE(zacpi_list_processors, &known, processors, 512, &count, &named);
     FIGURE(zacpi_pci_ecam_address, &known, 0, 0, 0, 0, &address, &named);

@@ -131,7 +131,7 @@ impl<'k> GicModel<'k> {
     /// Refuses with `TableMissing`, with `InvalidMadt` if bytes are left in which no entry begins, and with `NoGic` if
     /// no entry describes a distributor, as on a machine with APICs.
     pub fn new(tables: &AcpiTables<'k>) -> AcpiResult<Self> {
-        let distributor = raw::zacpi_gic_distributor(&tables.source())?.into();
+        let distributor = raw::zacpi_get_gic_distributor(&tables.source())?.into();
         Ok(GicModel { distributor, tables: *tables })
     }
 

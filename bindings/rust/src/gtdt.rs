@@ -144,7 +144,7 @@ impl<'k> Gtdt<'k> {
 
 impl<'k> Read<'k> for Gtdt<'k> {
     fn read(tables: &AcpiTables<'k>) -> AcpiResult<Self> {
-        let raw = raw::zacpi_arm_timers(&tables.source())?;
+        let raw = raw::zacpi_get_arm_timers(&tables.source())?;
         Ok(Gtdt {
             control_base: unless_ones(raw.control_base),
             read_base: unless_ones(raw.read_base),

@@ -195,7 +195,7 @@ impl Ivrs<'_> {
     ///
     /// Refuses with `InvalidStructureLength`.
     pub fn block_for(&self, segment: u16, device_id: u16) -> AcpiResult<Option<IvrsDevice>> {
-        found(raw::zacpi_ivrs_unit(&self.tables.source(), segment, device_id))
+        found(raw::zacpi_get_ivrs_unit(&self.tables.source(), segment, device_id))
     }
 
     /// The memory that has its own rules for a device, as far as there is room: each IVMD for it, for all devices or for

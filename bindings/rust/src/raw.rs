@@ -106,27 +106,27 @@ ones! {
     zacpi_find_table(signature: Signature) -> Table;
     zacpi_find_nth_table(signature: Signature, index: usize) -> Table;
     zacpi_dsdt() -> AmlTable;
-    zacpi_pm_timer() -> PmTimer;
+    zacpi_get_pm_timer() -> PmTimer;
     zacpi_hpet() -> HpetInfo;
-    zacpi_boot_graphic() -> BootGraphic;
-    zacpi_fixed_hardware() -> FixedHardware;
-    zacpi_console() -> Console;
-    zacpi_interrupt_model() -> InterruptModel;
+    zacpi_get_boot_graphic() -> BootGraphic;
+    zacpi_get_fixed_hardware() -> FixedHardware;
+    zacpi_get_console() -> Console;
+    zacpi_get_interrupt_model() -> InterruptModel;
     zacpi_pci_ecam_address(segment_group: u16, bus: u8, device: u8, function: u8) -> u64;
     zacpi_isa_interrupt(irq: u8) -> Interrupt;
     zacpi_sci_interrupt() -> Interrupt;
-    zacpi_io_apic_pin(global_system_interrupt: u32) -> IoApicPin;
+    zacpi_get_io_apic_pin(global_system_interrupt: u32) -> IoApicPin;
     zacpi_list_isa_interrupts() -> IsaInterrupts;
-    zacpi_gic_distributor() -> GicDistributor;
-    zacpi_arm_timers() -> ArmTimers;
+    zacpi_get_gic_distributor() -> GicDistributor;
+    zacpi_get_arm_timers() -> ArmTimers;
     zacpi_domain_of_address(address: u64) -> u32;
     zacpi_domain_of_apic(local_apic_id: u32) -> u32;
     zacpi_domain_of_processor(uid: u32) -> u32;
-    zacpi_localities() -> Localities;
+    zacpi_get_localities() -> Localities;
     zacpi_distance(from: u64, to: u64) -> u8;
     zacpi_dmar_io_apic(id: u8) -> DmarSource;
     zacpi_dmar_hpet(number: u8) -> DmarSource;
-    zacpi_ivrs_unit(segment: u16, device_id: u16) -> IvrsDevice;
+    zacpi_get_ivrs_unit(segment: u16, device_id: u16) -> IvrsDevice;
 }
 
 lists! {
@@ -186,7 +186,7 @@ unsafe extern "C" {
         nmi_lines_room: usize,
         named: *mut Signature,
     ) -> u32;
-    fn zacpi_dmar_unit(
+    fn zacpi_get_dmar_unit(
         source: *const Source<'_>,
         segment: u16,
         bus: u8,
@@ -297,7 +297,7 @@ pub(crate) fn platform(
 pub(crate) fn dmar_unit(source: &Source<'_>, segment: u16, bus: u8, hops: &[Hop]) -> AcpiResult<DmarUnit> {
     let (mut out, mut named) = (DmarUnit::default(), Signature::default());
     // SAFETY: the source and the hops are live slices of initialised items; the outputs are two live variables.
-    let status = unsafe { zacpi_dmar_unit(source, segment, bus, hops.as_ptr(), hops.len(), &mut out, &mut named) };
+    let status = unsafe { zacpi_get_dmar_unit(source, segment, bus, hops.as_ptr(), hops.len(), &mut out, &mut named) };
     answered(status, named).map(|()| out)
 }
 

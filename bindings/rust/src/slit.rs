@@ -26,7 +26,7 @@ impl Slit<'_> {
 
 impl<'k> Read<'k> for Slit<'k> {
     fn read(tables: &AcpiTables<'k>) -> AcpiResult<Self> {
-        let raw = raw::zacpi_localities(&tables.source())?;
+        let raw = raw::zacpi_get_localities(&tables.source())?;
         Ok(Slit { localities: raw.localities, is_sane: raw.is_sane != 0, tables: *tables })
     }
 }

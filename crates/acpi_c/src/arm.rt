@@ -12,7 +12,7 @@ use acpi_c_lib::records::{Range, Signature, Source};
 
 /// The distributor of the GIC (section 5.2.12.15).
 #[unsafe(no_mangle)]
-pub extern "C" fn zacpi_gic_distributor(
+pub extern "C" fn zacpi_get_gic_distributor(
     source: &Source<'_>,
     out: &mut GicDistributor,
     named: &mut Signature,
@@ -81,7 +81,7 @@ pub extern "C" fn zacpi_list_gic_msi_frames(
 
 /// The timers of every processor (section 5.2.24).
 #[unsafe(no_mangle)]
-pub extern "C" fn zacpi_arm_timers(
+pub extern "C" fn zacpi_get_arm_timers(
     source: &Source<'_>,
     out: &mut ArmTimers,
     named: &mut Signature,

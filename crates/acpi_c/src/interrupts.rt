@@ -16,7 +16,7 @@ use acpi_c_lib::routes::{isa, pin, sci};
 
 /// Which controllers interrupts come to, and how many of each sort there are (section 5.2.12).
 #[unsafe(no_mangle)]
-pub extern "C" fn zacpi_interrupt_model(
+pub extern "C" fn zacpi_get_interrupt_model(
     source: &Source<'_>,
     out: &mut InterruptModel,
     named: &mut Signature,
@@ -158,7 +158,7 @@ pub extern "C" fn zacpi_sci_interrupt(
 
 /// The I/O APIC that a global system interrupt comes to, and the pin there (section 5.2.12.3).
 #[unsafe(no_mangle)]
-pub extern "C" fn zacpi_io_apic_pin(
+pub extern "C" fn zacpi_get_io_apic_pin(
     source: &Source<'_>,
     interrupt: u32,
     out: &mut IoApicPin,
@@ -169,7 +169,7 @@ pub extern "C" fn zacpi_io_apic_pin(
     answer(pin(source, interrupt), out, named)
 }
 
-/// The 16 ISA interrupts, each as `zacpi_isa_interrupt` answers it, with what `zacpi_io_apic_pin` answers for it.
+/// The 16 ISA interrupts, each as `zacpi_isa_interrupt` answers it, with what `zacpi_get_io_apic_pin` answers for it.
 #[unsafe(no_mangle)]
 pub extern "C" fn zacpi_list_isa_interrupts(
     source: &Source<'_>,

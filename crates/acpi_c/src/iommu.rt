@@ -11,7 +11,7 @@ use acpi_c_lib::records::{Signature, Source};
 
 /// The unit that remaps a device (DMAR, section 8.3).
 #[unsafe(no_mangle)]
-pub extern "C" fn zacpi_dmar_unit(
+pub extern "C" fn zacpi_get_dmar_unit(
     source: &Source<'_>,
     segment: u16,
     bus: u8,
@@ -70,7 +70,7 @@ pub extern "C" fn zacpi_list_dmar_reserved(
 
 /// The unit that remaps a device, and how it treats it (IVRS, section 5.2).
 #[unsafe(no_mangle)]
-pub extern "C" fn zacpi_ivrs_unit(
+pub extern "C" fn zacpi_get_ivrs_unit(
     source: &Source<'_>,
     segment: u16,
     device_id: u16,

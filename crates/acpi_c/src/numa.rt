@@ -80,7 +80,7 @@ pub extern "C" fn zacpi_distance(
 
 /// How many localities the SLIT has distances of, and whether it can be believed (section 5.2.17).
 #[unsafe(no_mangle)]
-pub extern "C" fn zacpi_localities(
+pub extern "C" fn zacpi_get_localities(
     source: &Source<'_>,
     out: &mut Localities,
     named: &mut Signature,

@@ -258,7 +258,7 @@ impl<'k> AcpiTables<'k> {
     /// The I/O APIC that a global system interrupt comes to, and the pin there (sections 5.2.12.3 and 5.2.13). Only the
     /// I/O APIC itself can tell how many pins it has. `None` if each base is above the interrupt.
     pub fn io_apic_for(&self, global_system_interrupt: u32) -> AcpiResult<Option<IoApicPin>> {
-        match raw::zacpi_io_apic_pin(&self.source(), global_system_interrupt) {
+        match raw::zacpi_get_io_apic_pin(&self.source(), global_system_interrupt) {
             Err(AcpiError::NoSuchIoApic) => Ok(None),
             other => other.map(Some),
         }
