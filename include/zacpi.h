@@ -1,106 +1,63 @@
-/* zacpi.h: what a machine's ACPI tables say, for C and C++. Section and table numbers are those of
- * the ACPI Specification, version 6.4, unless another document is named. Names of fields, as Length
- * or SCI_INT, are those of the document that lays the table out.
+/* zacpi.h: what a machine's ACPI tables say, for C and C++. The least that a caller does:
  *
- * No call keeps a state, takes memory or calls back, so any number may run at once, each with
- * outputs of its own. All but zacpi_clip_ranges and zacpi_write_... are passed the regions of
- * memory that the caller has mapped, and check them; zacpi_locate and zacpi_list_entries are passed
- * the regions alone, and all others a struct zacpi_source, whose tables they open anew. Each can be
- * called with any numbers in its arguments and over any bytes.
+ *     #include "zacpi.h"
+ *     #include <stdio.h>
  *
- * What the caller keeps: no pointer is null, each is aligned for its type and points to as many
- * items as the length beside it says, all initialised; an output shares no byte with an input or
- * another output; and while a call runs nobody writes what it reads, nor touches what it writes.
- * For a length of 0 the pointer isn't null either. The stack is aligned as the ABI says. The
- * archives for kernels (C.md) use general registers alone, and no red zone. The others use vector
- * registers, which are enabled first (on x86-64 CR0.EM clear, CR4.OSFXSR set), may change every one
- * that the ABI lets a function change, and may use the red zone, the 128 bytes below the stack
- * pointer on x86-64.
+ *     // Counts the processors, by the tables in 64 KiB of memory from the RSDP at 0x70000000 on.
+ *     int main(void) {
+ *         static uint8_t bytes[65536]; // in a kernel: where it has mapped the firmware's tables
+ *         struct zacpi_region region = {0x70000000, bytes, fread(bytes, 1, sizeof bytes, stdin)};
+ *         struct zacpi_source source = {&region, 1, region.address, ZACPI_START_RSDP};
+ *         struct zacpi_processor processors[64];
+ *         struct zacpi_signature signature;
+ *         size_t count;
+ *         zacpi_status status = zacpi_list_processors(&source, processors, 64, &count, &signature);
+ *         if (status) return printf("%s\n", zacpi_status_name(status)), 1;
+ *         return printf("%zu processors\n", count), 0;
+ *     }
  *
- * A call returns ZACPI_OK, with all its outputs written, or the number of the first error, with
- * nothing written but `named`, which zacpi_clip_ranges, zacpi_locate and zacpi_write_... don't
- * have: if the error carries a signature (8 to 13 of enum zacpi_refusal), that is written there. In
- * every other case `named` is as it was.
+ * What the caller keeps. A pointer is aligned for its type and points to as many items as the
+ * length beside it says. It isn't null, but for a list of no items and for `signature`; the lists
+ * inside the items of a list (a region's bytes) aren't null either. An input is initialised; an
+ * output needn't be, and shares no byte with an input or another output. While a call runs nobody
+ * writes what it reads, nor touches what it writes. The stack is aligned as the ABI says. The
+ * archives for kernels (C.md) use general registers alone, and no red zone; the others use vector
+ * registers, which are enabled first (on x86-64 CR0.EM clear, CR4.OSFXSR set), and may use the red
+ * zone.
  *
- * A list (zacpi_list_... but for zacpi_list_isa_interrupts, and zacpi_clip_ranges) has `out` and
- * `room`, and writes the first `room` items there, and into `count` how many there are in all,
- * which can be more. Items of `out` from `count` on are as they were. With a room of 0 it only
- * counts. The lists of zacpi_platform have no `count` of their own.
+ * Each call can be passed any numbers, over any bytes. It keeps no state, takes no memory and calls
+ * nobody, so that any number of calls may run at once, each with outputs of its own.
  *
- * A physical address is a number of bytes, and so is a length, unless something else stands at the
- * field. A field that says whether something holds is 0 for no and 1 for yes.
+ * What a call returns is ZACPI_OK, with all its outputs written, or the number of the first error
+ * that stands at it, with no output written. Only if that error carries a signature (20 to 25 of
+ * enum zacpi_refusal) `signature` is written.
  *
- * Bytes are lent if one region holds all of them. A table is valid if it has none of the errors of
- * a table, in this order: ZACPI_MAP_FAILED if 36 bytes aren't lent at its address,
- * ZACPI_SDT_INVALID_SIGNATURE if it has another signature, or one that isn't UTF-8, ..._OEM_ID and
- * ..._TABLE_ID if its OEMID or OEM Table ID isn't, ..._LENGTH if its Length is under its least
- * length, ZACPI_MAP_FAILED if that many bytes aren't lent, and ZACPI_SDT_INVALID_CHECKSUM if they
- * don't sum to 0 modulo 256 (section 5.2.6). 8 to 12 carry the signature that it has to have.
+ * A list writes its first `capacity` items to `out`, and how many there are in all to `count`: with
+ * a capacity of 0 it only counts.
  *
- * The least length is where the fixed fields end: 116 for an FADT, 44 for a MADT, an MCFG or a
- * SLIT, 48 for an SRAT, a DMAR or an IVRS, 56 for an HPET or a BGRT, 80 for an SPCR, 96 for a GTDT,
- * and 36 for any other table. It is 36 for every listed table that zacpi_find_table,
- * zacpi_find_nth_table, zacpi_list_tables or zacpi_list_ranges returns, or that
- * zacpi_list_missing_ranges has a range of, and for the table that zacpi_list_entries is passed.
- * The signature that a table has to have is the one of the call; for the listed tables of the last
- * three calls, and for that of zacpi_list_entries, it is its own.
- *
- * Bytes of a field past the end of its table or entry are read as 0, and a field is read in every
- * Revision of its table, unless the field below says otherwise. A field X_... of an FADT is read as
- * 0 below revision 2, and if the table hasn't all its bytes.
- *
- * The errors of the regions are ZACPI_REGIONS_NOT_ASCENDING and ZACPI_REGION_TOO_HIGH, for the
- * regions one after the other. Each call below that has a source returns first, in this order,
- * those of the regions, ZACPI_UNKNOWN_START, and then, but for zacpi_list_missing_ranges, those of
- * opening the tables:
- *   start at an RSDP   ZACPI_MAP_FAILED if 36 bytes aren't lent there,
- *                      ZACPI_RSDP_INCORRECT_SIGNATURE, ZACPI_RSDP_INVALID_OEM_ID,
- *                      ZACPI_RSDP_INVALID_CHECKSUM for its first 20 bytes, or, above revision 0, if
- *                      its Length is under 36, then ZACPI_MAP_FAILED if that many bytes aren't
- *                      lent, ZACPI_RSDP_INVALID_CHECKSUM for them (section 5.2.5.3); then as a
- *                      start at the root table that it names: the XSDT if the revision is above 0
- *                      and XsdtAddress isn't 0, else the RSDT
- *   search             ZACPI_NO_VALID_RSDP (section 5.2.5.1); then as a start at the root table
- *                      that the RSDP names. The areas are the EBDA's first KiB as far as it lies
- *                      below 0xa0000, if the word at 0x40e (the segment of the EBDA) is lent and
- *                      the EBDA begins at 0x400 or above, and then 0xe0000 to 0xfffff. An RSDP
- *                      begins at a multiple of 16, with 20 bytes in the area. The first valid one
- *                      is taken, at which a start would have no error but the root table's. One
- *                      that isn't lent is passed over like any other that isn't valid, so that no
- *                      area has to be lent
- *   BIOS search        ZACPI_MAP_FAILED if the word at 0x40e, or an area that is asked for with the
- *                      16 bytes after it, isn't lent, ZACPI_NO_VALID_RSDP (section 5.2.5.1); then
- *                      as a start at the root table that the RSDP names. The areas are 0xe0000 to
- *                      0xfffff and, if no RSDP there is valid, the EBDA's first KiB, or 0x80000 to
- *                      0x9ffff if it doesn't begin in these. RSDPs begin and are passed over as
- *                      above
- *   RSDT or XSDT       the errors of a table, which carry "RSDT" or "XSDT" (sections 5.2.6 to
- *                      5.2.8)
- * Only the errors after these stand at the call, in order.
- *
- * The members of the root table are what its pointers lead to, from byte 36 on, of 4 bytes in an
- * RSDT and 8 in an XSDT. Fewer bytes at the end are a pointer too, as if zeros followed.
- *
- * Missing ranges (zacpi_list_missing_ranges): if the error of opening the tables is
- * ZACPI_MAP_FAILED, the one range that isn't lent. If the tables are opened, one for each member of
- * the root table, in order, that is passed over with ZACPI_MAP_FAILED: its 36 bytes of header
- * (section 5.2.6), or as many bytes as its header says. One for the DSDT and one for the FACS of
- * the first valid FADT come after these, for the same reason (sections 5.2.11.1 and 5.2.10; the
- * FACS needs its Signature and a Length of at least 64 before that many bytes are asked for).
- * Before all of these, also if opening has another error, either search has one for each RSDP that
- * it passes over because of its Length, in the order of the search, up to the one that it takes: an
- * RSDP whose 36 bytes are lent, and whose error is ZACPI_MAP_FAILED since as many bytes as its
- * Length says aren't; these are the range. A BIOS search has none of these if the word or the first
- * area isn't lent, and none of a second area that isn't. ZACPI_START_SEARCH needs nothing of the
- * areas to be lent, so neither the word at 0x40e nor an RSDP's 36 bytes are ever among its
- * ranges. */
+ * Section numbers are those of the ACPI Specification, version 6.4, unless another document is
+ * named, and names of fields (Length, SCI_INT) are those of the document that lays the table out. A
+ * physical address is a number of bytes, and so is a length, unless its field says something else.
+ * A field that says whether something holds is 0 for no and 1 for yes. Bytes of a field past the
+ * end of its table or entry are read as 0, and a field is read in every Revision of its table,
+ * unless the field says otherwise. */
 #ifndef ZACPI_H
 #define ZACPI_H
 #include <stddef.h>
 #include <stdint.h>
 
-#define ZACPI_VERSION "5.2.0"
-#define ZACPI_VERSION_NUMBER 0x050200 /* to compare: one byte for each part of the version */
+#define ZACPI_VERSION "1.0.0"
+#define ZACPI_VERSION_NUMBER 0x010000 /* to compare: one byte for each part of the version */
+#define ZACPI_ABI 1 /* stands in the symbols of the library: with another library nothing links */
+
+#if defined(__GNUC__)
+#define ZACPI_CHECKED __attribute__((__warn_unused_result__))
+#define ZACPI_NONNULL(places) __attribute__((__nonnull__ places))
+#else
+#define ZACPI_CHECKED
+#define ZACPI_NONNULL(places)
+#endif
+#define ZACPI_STATUS static inline ZACPI_CHECKED zacpi_status /* of each call: an inline, below */
 
 #ifdef __cplusplus
 extern "C" {
@@ -108,126 +65,119 @@ extern "C" {
 
 /* ---- Errors ---------------------------------------------------------------------------------- */
 
-typedef uint32_t zacpi_status; /* ZACPI_OK, or an error of enum zacpi_refusal. From 5.2.0 on no
-                                * number changes. */
+typedef uint32_t zacpi_status; /* ZACPI_OK, or an error of enum zacpi_refusal, whose number stays */
 
 enum zacpi_refusal {
     ZACPI_OK = 0,
-    ZACPI_REGIONS_NOT_ASCENDING = 1,    /* a region begins below the end of the one before it */
-    ZACPI_REGION_TOO_HIGH = 2,          /* the address after a region's last byte is above 2^64 -
-                                         * 1 */
-    ZACPI_MAP_FAILED = 3,               /* bytes are asked for that lie in no one region */
-    ZACPI_NO_VALID_RSDP = 4,            /* the BIOS areas hold no valid RSDP (section 5.2.5.1) */
-    ZACPI_RSDP_INCORRECT_SIGNATURE = 5, /* Signature of the RSDP isn't "RSD PTR " (section
-                                         * 5.2.5.3) */
-    ZACPI_RSDP_INVALID_OEM_ID = 6,      /* OEMID of the RSDP isn't UTF-8 */
-    ZACPI_RSDP_INVALID_CHECKSUM = 7,    /* the RSDP's bytes don't sum to 0, or its Length is under
-                                         * 36 */
-    /* 8 to 13 carry a signature: that of the table looked for (section 5.2.6). */
-    ZACPI_SDT_INVALID_SIGNATURE = 8,    /* another Signature stands there, or one that isn't
-                                         * UTF-8 */
-    ZACPI_SDT_INVALID_OEM_ID = 9,       /* OEMID isn't UTF-8 */
-    ZACPI_SDT_INVALID_TABLE_ID = 10,    /* OEM Table ID isn't UTF-8 */
-    ZACPI_SDT_INVALID_LENGTH = 11,      /* Length is less than the table's least length */
-    ZACPI_SDT_INVALID_CHECKSUM = 12,    /* the table's bytes don't sum to 0 */
-    ZACPI_TABLE_MISSING = 13,           /* no valid table of this signature is listed */
-    ZACPI_INVALID_FACS_ADDRESS = 14,    /* no call of this header returns it: a FACS at 0 is none */
-    ZACPI_INVALID_DSDT_ADDRESS = 15,    /* X_DSDT and DSDT of the FADT are 0 (section 5.2.9) */
-    ZACPI_INVALID_GENERIC_ADDRESS = 16, /* a reserved code in a register's address (section
-                                         * 5.2.3.2), or an HPET whose registers don't lie in
-                                         * memory */
-    ZACPI_INVALID_NAMESPACE_STRING = 17, /* no call of this header returns it: none reads
-                                          * NamespaceString */
-    ZACPI_ALLOC_ERROR = 18,             /* no call of this header returns it: none takes memory */
-    ZACPI_NO_SUCH_FUNCTION = 19,        /* no region of configuration space holds this PCI
-                                         * function */
-    ZACPI_UNKNOWN_START = 20,           /* zacpi_source.start isn't one of enum zacpi_start */
-    ZACPI_RANGE_TOO_HIGH = 21,          /* the address after a range's last byte is above 2^64 -
-                                         * 1 */
-    ZACPI_NO_APICS = 22,                /* there is no valid MADT, or the first has no entry of a
-                                         * machine with APICs: the interrupt model isn't known */
-    ZACPI_NO_SUCH_INTERRUPT = 23,       /* no ISA interrupt of this number comes to an I/O APIC */
-    ZACPI_NO_SUCH_IO_APIC = 24,         /* no I/O APIC has this global system interrupt */
-    /* 25 to 31: the entries of a valid MADT (section 5.2.12), one after the other from byte 44 on.
-     * One begins where its Length is at most the bytes left and at least 8, 12, 10, 8, 6, 12, 16,
-     * 16, 16, 16, 12, 76, 24, 24, 16, 20 and 16 for Types 0 to 0x10, and 2 for any other Type,
-     * whose entries are passed over. */
-    ZACPI_MADT_UNEXPECTED_ENTRY = 25,   /* its Type is of a SAPIC, a platform interrupt source (6 to
-                                         * 8) or a GIC (0xb to 0xf) */
-    /* Bus isn't 0, ISA (section 5.2.12.5) */
-    ZACPI_MADT_INTERRUPT_OVERRIDE_ENTRY_HAS_INVALID_BUS = 26,
-    ZACPI_MADT_INVALID_LOCAL_NMI_LINE = 27,        /* LINT# isn't 0 or 1 (sections 5.2.12.7 and
-                                                    * 5.2.12.13) */
-    ZACPI_MADT_MPS_INTI_INVALID_POLARITY = 28,     /* Polarity of the flags is 2, reserved (section
-                                                    * 5.2.12.5) */
-    ZACPI_MADT_MPS_INTI_INVALID_TRIGGER_MODE = 29, /* Trigger Mode of the flags is 2, reserved
-                                                    * (section 5.2.12.5) */
-    ZACPI_MADT_WAKEUP_APS_TIMEOUT = 30,   /* no call of this header returns it: none wakes
-                                           * processors */
-    ZACPI_MADT_INVALID_ENTRY_LENGTH = 31, /* bytes of the table are left in which no entry begins */
-    ZACPI_NUMA_INVALID_ENTRY_LENGTH = 32, /* bytes of the SRAT are left in which no entry begins
-                                           * (section 5.2.16): as in a MADT, but from byte 48 on,
-                                           * and with a Length of at least 16, 40, 24, 18, 12, 32
-                                           * and 32 for Types 0 to 6 */
-    ZACPI_NUMA_INVALID_MEMORY_RANGE = 33, /* the address after a range of memory in the SRAT is
-                                           * above 2^64 - 1 */
-    ZACPI_NO_GIC = 34,                    /* the MADT has no GICD entry (section 5.2.12.15) */
-    ZACPI_NO_DOMAIN = 35,                 /* the SRAT puts the address or processor into no
-                                           * domain */
-    ZACPI_NO_DISTANCE = 36,               /* the SLIT has no distance of these two localities
-                                           * (section 5.2.17) */
-    ZACPI_UNKNOWN_WIDTH = 37,             /* Type and Length of an entry have one byte or two each,
-                                           * and no other number */
-    /* 38 to 40: the DMAR and the IVRS. */
-    ZACPI_IOMMU_INVALID_STRUCTURE_LENGTH = 38, /* bytes of the table are left in which none of its
+
+    /* What is passed. */
+    ZACPI_REGIONS_NOT_ASCENDING = 1, /* a region begins below the end of the one before it */
+    ZACPI_REGION_TOO_HIGH = 2,       /* the address after a region's last byte is 2^64 or above */
+    ZACPI_UNKNOWN_START = 3,         /* zacpi_source.start isn't one of enum zacpi_start */
+    ZACPI_RANGE_TOO_HIGH = 4,        /* the address after a range's last byte is 2^64 or above */
+    ZACPI_UNKNOWN_WIDTH = 5,         /* Type and Length can have 1 or 2 bytes each */
+
+    /* Memory and the RSDP (section 5.2.5). */
+    ZACPI_MAP_FAILED = 10,               /* bytes are needed that lie in no one region */
+    ZACPI_NO_VALID_RSDP = 11,            /* the BIOS areas contain no valid RSDP */
+    ZACPI_RSDP_INCORRECT_SIGNATURE = 12, /* Signature of the RSDP isn't "RSD PTR " */
+    ZACPI_RSDP_INVALID_OEM_ID = 13,      /* OEMID of the RSDP isn't UTF-8 */
+    ZACPI_RSDP_INVALID_CHECKSUM = 14,    /* its bytes don't sum to 0, or its Length is below 36 */
+
+    /* A table (section 5.2.6). 20 to 25 carry the signature of the table that was looked for. */
+    ZACPI_SDT_INVALID_SIGNATURE = 20, /* another Signature stands there, or one that isn't UTF-8 */
+    ZACPI_SDT_INVALID_OEM_ID = 21,    /* OEMID isn't UTF-8 */
+    ZACPI_SDT_INVALID_TABLE_ID = 22,  /* OEM Table ID isn't UTF-8 */
+    ZACPI_SDT_INVALID_LENGTH = 23,    /* Length is less than the table's least length */
+    ZACPI_SDT_INVALID_CHECKSUM = 24,  /* the table's bytes don't sum to 0 */
+    ZACPI_TABLE_MISSING = 25,         /* no valid table of this signature is listed */
+
+    /* The FADT, the HPET and the MCFG. */
+    ZACPI_INVALID_DSDT_ADDRESS = 30,    /* X_DSDT and DSDT of the FADT are 0 (section 5.2.9) */
+    ZACPI_INVALID_GENERIC_ADDRESS = 31, /* a reserved code in a register's address (section
+                                         * 5.2.3.2), or an HPET that isn't in memory */
+    ZACPI_NO_SUCH_FUNCTION = 32,        /* no region of configuration space contains the function */
+
+    /* The MADT (section 5.2.12). Its entries follow one another from byte 44 on. One begins where
+     * its Length is at most the bytes left and at least 8, 12, 10, 8, 6, 12, 16, 16, 16, 16, 12,
+     * 76, 24, 24, 16, 20 and 16 for Types 0 to 0x10, and 2 for any other Type, which is skipped. */
+    ZACPI_NO_APICS = 40,            /* no MADT, or no entry of a machine with APICs in the first */
+    ZACPI_NO_GIC = 41,              /* the MADT has no GICD entry (section 5.2.12.15) */
+    ZACPI_NO_SUCH_INTERRUPT = 42,   /* no ISA interrupt of this number comes to an I/O APIC */
+    ZACPI_NO_SUCH_IO_APIC = 43,     /* no I/O APIC has this global system interrupt */
+    ZACPI_MADT_UNEXPECTED_ENTRY = 44, /* Type is of a SAPIC, a platform interrupt source (6 to 8) or
+                                       * a GIC (0xb to 0xf) */
+    /* Bus of an Interrupt Source Override isn't 0, ISA (section 5.2.12.5) */
+    ZACPI_MADT_INTERRUPT_OVERRIDE_ENTRY_HAS_INVALID_BUS = 45,
+    ZACPI_MADT_INVALID_LOCAL_NMI_LINE = 46,        /* LINT# isn't 0 or 1 (section 5.2.12.7) */
+    ZACPI_MADT_MPS_INTI_INVALID_POLARITY = 47,     /* Polarity is 2, reserved (section 5.2.12.5) */
+    ZACPI_MADT_MPS_INTI_INVALID_TRIGGER_MODE = 48, /* Trigger Mode is 2, reserved */
+    ZACPI_MADT_INVALID_ENTRY_LENGTH = 49, /* bytes of the table are left in which no entry begins */
+
+    /* The SRAT (section 5.2.16), with entries as in a MADT, but from byte 48 on, and of a Length of
+     * at least 16, 40, 24, 18, 12, 32 and 32 for Types 0 to 6; the SLIT, the DMAR and the IVRS. */
+    ZACPI_NUMA_INVALID_ENTRY_LENGTH = 50, /* bytes of the table are left in which no entry begins */
+    ZACPI_NUMA_INVALID_MEMORY_RANGE = 51, /* the address after a range of memory is 2^64 or above */
+    ZACPI_NO_DOMAIN = 52,                 /* the SRAT puts the address or processor in no domain */
+    ZACPI_NO_DISTANCE = 53,               /* the SLIT has no distance of these two localities */
+    ZACPI_IOMMU_INVALID_STRUCTURE_LENGTH = 54, /* bytes of the table are left in which none of its
                                                 * structures or blocks begins, or bytes of one in
                                                 * which no device scope or device entry begins */
-    ZACPI_IOMMU_INVALID_MEMORY_RANGE = 39, /* the last byte of an RMRR lies before its first, or
-                                            * start and length of an IVMD add up to more than
-                                            * 2^64 - 1 */
-    ZACPI_NO_IOMMU = 40,                   /* the table has no unit for the device */
-    /* From 41 on: why a table isn't written. */
-    ZACPI_UNKNOWN_CODE = 41,  /* a polarity, a trigger mode, a LINT pin, an image's orientation or
+    ZACPI_IOMMU_INVALID_MEMORY_RANGE = 55, /* the last byte of an RMRR is before its first, or the
+                                            * address after an IVMD's memory is 2^64 or above */
+    ZACPI_NO_IOMMU = 56,                   /* the table has no unit for the device */
+
+    /* A table that is written. */
+    ZACPI_UNKNOWN_CODE = 60,  /* a polarity, a trigger mode, a LINT pin, an image's orientation or
                                * type, a console's interrupt_controllers, a timer's kind, or in a
                                * register an address space, an access size or `present` by a number
                                * that isn't one */
-    ZACPI_NO_PROCESSOR = 42,  /* a MADT without a processor */
-    ZACPI_ID_OF_ALL = 43,     /* a processor whose uid or id is 0xffffffff, which stands for all */
-    ZACPI_UID_OF_ALL = 44,    /* an NMI line of the processor whose uid is 0xffffffff */
-    ZACPI_BAD_MATRIX = 45,    /* a SLIT without a distance for each pair of localities */
-    ZACPI_NO_ADDRESS = 46,    /* an RSDP or a FADT that leads to address 0; a console's registers
+    ZACPI_NO_PROCESSOR = 61,  /* a MADT without a processor */
+    ZACPI_ID_OF_ALL = 62,     /* a processor whose uid or id is 0xffffffff, which stands for all */
+    ZACPI_UID_OF_ALL = 63,    /* an NMI line of the processor whose uid is 0xffffffff */
+    ZACPI_BAD_MATRIX = 64,    /* a SLIT without a distance for each pair of localities */
+    ZACPI_NO_ADDRESS = 65,    /* an RSDP or a FADT that leads to address 0; a console's registers
                                * there; an address at which a machine's tables can't lie */
-    ZACPI_BAD_NAME = 47,      /* OEMID, OEM Table ID or Creator ID isn't UTF-8 */
-    ZACPI_NO_ROOM = 48,       /* the buffer is shorter than the table */
-    ZACPI_TOO_LONG = 49,      /* the table has 2^32 bytes or more, which Length can't say */
-    ZACPI_BAD_PROFILE = 50,   /* no call of this header returns it: a profile is its code */
-    ZACPI_BAD_REGISTER = 51,  /* a register of a FADT at address 0, or a block without bytes */
-    ZACPI_BAD_RANGE = 52,     /* a range of memory that has no byte, or ends above 2^64 - 1; one of
+    ZACPI_BAD_NAME = 66,      /* OEMID, OEM Table ID or Creator ID isn't UTF-8 */
+    ZACPI_NO_ROOM = 67,       /* the buffer is shorter than the table */
+    ZACPI_TOO_LONG = 68,      /* the table has 2^32 bytes or more, which Length can't say */
+    ZACPI_BAD_REGISTER = 69,  /* a register of a FADT at address 0, or a block without bytes */
+    ZACPI_BAD_RANGE = 70,     /* a range of memory that has no byte, or ends above 2^64 - 1; one of
                                * redistributors that has 2^32 bytes or more */
-    /* 53 and 54: no call of this header returns them: no table has them that C can ask for. */
-    ZACPI_BAD_CODE = 53,      /* an interface or an address space with a code of another one */
-    ZACPI_LONG_NAME = 54,     /* a name in the namespace of 65535 bytes or more */
-    ZACPI_SAME_AS_BUS = 55,   /* a trigger mode or a polarity of an Arm machine as the bus has it */
-    ZACPI_TOO_MANY_FRAMES = 56, /* a GT Block with more frames than its Length can say */
-    ZACPI_UNKNOWN_TABLE = 57  /* a listed table of a kind that isn't one, or without its record */
+    ZACPI_SAME_AS_BUS = 71,   /* a trigger mode or a polarity of an Arm machine as the bus has it */
+    ZACPI_TOO_MANY_FRAMES = 72, /* a GT Block with more frames than its Length can say */
+    ZACPI_BAD_TABLE = 73      /* a listed table whose bytes aren't one table */
 };
 
 /* The name of a status, as acpi_view prints it: "MapFailed". "Unknown" for any other number. */
 static inline const char *zacpi_status_name(zacpi_status status) {
-    static const char *const names[] = {
-        "Ok", "RegionsNotAscending", "RegionTooHigh", "MapFailed", "NoValidRsdp", "RsdpIncorrectSignature",
-        "RsdpInvalidOemId", "RsdpInvalidChecksum", "SdtInvalidSignature", "SdtInvalidOemId", "SdtInvalidTableId",
-        "SdtInvalidLength", "SdtInvalidChecksum", "TableMissing", "InvalidFacsAddress", "InvalidDsdtAddress",
-        "InvalidGenericAddress", "InvalidNamespaceString", "AllocError", "NoSuchFunction", "UnknownStart",
-        "RangeTooHigh", "NoApics", "NoSuchInterrupt", "NoSuchIoApic", "InvalidMadt UnexpectedEntry",
-        "InvalidMadt InterruptOverrideEntryHasInvalidBus", "InvalidMadt InvalidLocalNmiLine",
-        "InvalidMadt MpsIntiInvalidPolarity", "InvalidMadt MpsIntiInvalidTriggerMode", "InvalidMadt WakeupApsTimeout",
-        "InvalidMadt InvalidEntryLength", "InvalidSrat InvalidEntryLength", "InvalidSrat InvalidMemoryRange", "NoGic",
-        "NoDomain", "NoDistance", "UnknownWidth", "InvalidIommu InvalidStructureLength",
-        "InvalidIommu InvalidMemoryRange", "NoIommu", "UnknownCode", "NoProcessor", "IdOfAll", "UidOfAll",
-        "BadMatrix", "NoAddress", "BadName", "NoRoom", "TooLong", "BadProfile", "BadRegister", "BadRange", "BadCode",
-        "LongName", "SameAsBus", "TooManyFrames", "UnknownTable"};
-    return status < sizeof names / sizeof *names ? names[status] : "Unknown";
+    /* One text: a table of pointers would have to be relocated first. */
+    static const char names[] = "0:Ok\0"
+        "1:RegionsNotAscending\0" "2:RegionTooHigh\0" "3:UnknownStart\0" "4:RangeTooHigh\0"
+        "5:UnknownWidth\0" "10:MapFailed\0" "11:NoValidRsdp\0" "12:RsdpIncorrectSignature\0"
+        "13:RsdpInvalidOemId\0" "14:RsdpInvalidChecksum\0" "20:SdtInvalidSignature\0"
+        "21:SdtInvalidOemId\0" "22:SdtInvalidTableId\0" "23:SdtInvalidLength\0"
+        "24:SdtInvalidChecksum\0" "25:TableMissing\0" "30:InvalidDsdtAddress\0"
+        "31:InvalidGenericAddress\0" "32:NoSuchFunction\0" "40:NoApics\0" "41:NoGic\0"
+        "42:NoSuchInterrupt\0" "43:NoSuchIoApic\0" "44:InvalidMadt UnexpectedEntry\0"
+        "45:InvalidMadt InterruptOverrideEntryHasInvalidBus\0"
+        "46:InvalidMadt InvalidLocalNmiLine\0" "47:InvalidMadt MpsIntiInvalidPolarity\0"
+        "48:InvalidMadt MpsIntiInvalidTriggerMode\0" "49:InvalidMadt InvalidEntryLength\0"
+        "50:InvalidSrat InvalidEntryLength\0" "51:InvalidSrat InvalidMemoryRange\0" "52:NoDomain\0"
+        "53:NoDistance\0" "54:InvalidIommu InvalidStructureLength\0"
+        "55:InvalidIommu InvalidMemoryRange\0" "56:NoIommu\0" "60:UnknownCode\0" "61:NoProcessor\0"
+        "62:IdOfAll\0" "63:UidOfAll\0" "64:BadMatrix\0" "65:NoAddress\0" "66:BadName\0"
+        "67:NoRoom\0" "68:TooLong\0" "69:BadRegister\0" "70:BadRange\0" "71:SameAsBus\0"
+        "72:TooManyFrames\0" "73:BadTable\0";
+    const char *name = names;
+    while (*name) {
+        zacpi_status number = 0;
+        for (; *name != ':'; name++) number = 10 * number + (zacpi_status)(*name - '0');
+        name++;
+        if (number == status) return name;
+        while (*name++) {}
+    }
+    return "Unknown";
 }
 
 /* ---- Memory ---------------------------------------------------------------------------------- */
@@ -258,9 +208,8 @@ enum zacpi_start {
                                   * lent; `address` isn't looked at */
 };
 
-/* Where tables are looked for. The regions stand in ascending order and share no byte: each, also
- * one of no bytes, begins at the end of the one before it or above. A table has to lie in one
- * region: regions that touch aren't joined (zacpi_clip_ranges joins ranges). */
+/* Where tables are looked for. The regions ascend and share no byte; zacpi_clip_ranges makes such.
+ * Bytes are lent if one region contains all of them: regions that touch aren't joined. */
 struct zacpi_source {
     const struct zacpi_region *regions;
     size_t regions_length; /* how many regions there are */
@@ -268,28 +217,26 @@ struct zacpi_source {
     uint32_t start;        /* one of enum zacpi_start */
 };
 
-/* Of ranges in any order, as a firmware's memory map has them, those to make regions from: sorted,
- * those that overlap or touch joined, clipped to `window`, and without what lies in `without` (the
- * kernel's own image, and whatever is written while calls run). The result ascends, no two touch,
- * and none has no bytes. It has no source, and reads no memory. Error: ZACPI_RANGE_TOO_HIGH if the
- * address after the last byte of one of `ranges`, of one of `without` or of the window is above
- * 2^64 - 1. */
-zacpi_status zacpi_clip_ranges(const struct zacpi_range *ranges, size_t ranges_length,
+/* Lists the ranges to make regions of, from ranges in any order, as a firmware's memory map has
+ * them: sorted, joined where they overlap or touch, clipped to `window`, and without what lies in
+ * `without` (the kernel's own image, and whatever is written while calls run). None of them is
+ * empty. Reads no memory. Fails with ZACPI_RANGE_TOO_HIGH if a range that is passed ends at 2^64 or
+ * above. */
+ZACPI_STATUS zacpi_clip_ranges(const struct zacpi_range *ranges, size_t ranges_length,
                                const struct zacpi_range *without, size_t without_length,
                                const struct zacpi_range *window, struct zacpi_range *out,
-                               size_t room, size_t *count);
+                               size_t capacity, size_t *count);
 
 struct zacpi_place {
     size_t region; /* the index of the region */
     size_t offset; /* in bytes, from the region's first one on */
 };
 
-/* Where bytes of physical memory are in the caller's regions, so that a table of a type that has no
- * call here can be read: the byte at `address` is regions[region].bytes[offset], and `length` bytes
- * from there on lie in that region. It has no source, and reads no byte. Errors: those of the
- * regions, and ZACPI_MAP_FAILED if `address` lies in no region, also for a length of 0, or the
- * bytes reach past the end of the one that it lies in. */
-zacpi_status zacpi_locate(const struct zacpi_region *regions, size_t regions_length,
+/* Returns where physical memory is in the regions: the byte at `address` is
+ * regions[region].bytes[offset], and `length` bytes from there on lie in that region. Reads no
+ * memory. Fails with ZACPI_REGIONS_NOT_ASCENDING, ZACPI_REGION_TOO_HIGH, or ZACPI_MAP_FAILED if
+ * `address` lies in no region, also for a length of 0, or the bytes reach past the region's end. */
+ZACPI_STATUS zacpi_locate(const struct zacpi_region *regions, size_t regions_length,
                           uint64_t address, uint64_t length, struct zacpi_place *out);
 
 /* ---- Tables ---------------------------------------------------------------------------------- */
@@ -297,6 +244,15 @@ zacpi_status zacpi_locate(const struct zacpi_region *regions, size_t regions_len
 struct zacpi_signature {
     uint8_t letters[4]; /* Signature of a table, as "APIC", without a zero after it */
 };
+static inline struct zacpi_signature zacpi_signature_of(const char *letters) {
+    struct zacpi_signature made;
+    int i;
+    for (i = 0; i < 4; i++) made.letters[i] = (uint8_t)letters[i];
+    return made;
+}
+/* Of four letters, as ZACPI_SIGNATURE("TPM2"): of more or fewer it doesn't compile. */
+#define ZACPI_SIGNATURE(letters) \
+    zacpi_signature_of(&("" letters)[0 * sizeof(char[sizeof("" letters) == 5 ? 1 : -1])])
 struct zacpi_root {
     uint64_t address;      /* of the RSDT or XSDT */
     uint32_t length;       /* Length: with its header */
@@ -311,7 +267,7 @@ struct zacpi_table {
 };
 struct zacpi_fault {
     uint64_t address;   /* as the root table lists it */
-    zacpi_status status; /* why it is passed over: ZACPI_MAP_FAILED, or 9 to 12 of enum
+    zacpi_status status; /* why it is skipped: ZACPI_MAP_FAILED, or 21 to 24 of enum
                           * zacpi_refusal */
 };
 struct zacpi_entry { /* an entry of a table, which begins with Type and Length */
@@ -324,75 +280,90 @@ struct zacpi_aml_table {
     uint32_t length;  /* Length less 36 */
 };
 
-/* The root table (sections 5.2.7 and 5.2.8). No other errors. */
-zacpi_status zacpi_open(const struct zacpi_source *source, struct zacpi_root *out,
-                        struct zacpi_signature *named);
+/* Returns the root table (sections 5.2.7 and 5.2.8). Its errors, in this order, are the opening
+ * errors of each call that is passed a source, before those that stand there:
+ *   the regions        ZACPI_REGIONS_NOT_ASCENDING, ZACPI_REGION_TOO_HIGH; then ZACPI_UNKNOWN_START
+ *   a search           ZACPI_MAP_FAILED (a BIOS search), ZACPI_NO_VALID_RSDP
+ *   an RSDP at address ZACPI_MAP_FAILED, ZACPI_RSDP_INCORRECT_SIGNATURE, ..._OEM_ID, ..._CHECKSUM
+ *   the root table     the errors of a table, with "RSDT" or "XSDT"
+ * C.md says when each comes, what a search looks at, and which tables are valid: those with none of
+ * the errors of a table, which are ZACPI_MAP_FAILED and 20 to 24 of enum zacpi_refusal. */
+ZACPI_STATUS zacpi_open(const struct zacpi_source *source, struct zacpi_root *out,
+                        struct zacpi_signature *signature);
 
-/* The ranges of memory that the tables still need, and that lie in no one region; which these are
- * stands above ("Missing ranges"). A kernel maps those that it can, joins them with its regions'
- * ranges (zacpi_clip_ranges: a table has to lie in one region), and asks again, until no new range
- * comes. Each has at least two bytes. Errors: those of the regions, ZACPI_UNKNOWN_START, and no
- * others. */
-zacpi_status zacpi_list_missing_ranges(const struct zacpi_source *source, struct zacpi_range *out,
-                                       size_t room, size_t *count, struct zacpi_signature *named);
+/* Lists the ranges of memory that the tables still need and that no one region contains: of RSDPs
+ * that a search skipped, of what opening fails at, of the listed tables, the DSDT and the FACS
+ * (C.md). A kernel maps those that it can, joins them with its regions' ranges (zacpi_clip_ranges),
+ * and asks again, until no new range comes. Each has at least two bytes. Fails with
+ * ZACPI_REGIONS_NOT_ASCENDING, ZACPI_REGION_TOO_HIGH or ZACPI_UNKNOWN_START. */
+ZACPI_STATUS zacpi_list_missing_ranges(const struct zacpi_source *source, struct zacpi_range *out,
+                                       size_t capacity, size_t *count,
+                                       struct zacpi_signature *signature);
 
-/* All tables that are listed and valid under their own signatures, in the order of the root table,
- * repeats kept (sections 5.2.6 to 5.2.8). A member that isn't valid is passed over. No other
- * errors. */
-zacpi_status zacpi_list_tables(const struct zacpi_source *source, struct zacpi_table *out,
-                               size_t room, size_t *count, struct zacpi_signature *named);
+/* Lists the tables that are valid under their own signatures, in the order of the root table, with
+ * repeats (sections 5.2.6 to 5.2.8). Fails with an opening error. */
+ZACPI_STATUS zacpi_list_tables(const struct zacpi_source *source, struct zacpi_table *out,
+                               size_t capacity, size_t *count, struct zacpi_signature *signature);
 
-/* The first valid table with this signature (section 5.2.6). Its 36 bytes of header and its sum are
- * checked; the layout of its fields is the caller's to know. Further error: ZACPI_TABLE_MISSING
- * with the signature. */
-zacpi_status zacpi_find_table(const struct zacpi_source *source, struct zacpi_signature signature,
-                              struct zacpi_table *out, struct zacpi_signature *named);
+/* Returns the first valid table of the wanted signature (section 5.2.6): its header and its sum are
+ * checked, its fields are not. Fails with an opening error, or ZACPI_TABLE_MISSING with that
+ * signature. */
+ZACPI_STATUS zacpi_find_table(const struct zacpi_source *source, struct zacpi_signature wanted,
+                              struct zacpi_table *out, struct zacpi_signature *signature);
 
-/* The `index`-th valid table with this signature, counted from 0 in the order of the root table
- * (section 5.2.6): 0 is the one that zacpi_find_table returns. Further error: ZACPI_TABLE_MISSING
- * with the signature if there are no more than `index`. */
-zacpi_status zacpi_find_nth_table(const struct zacpi_source *source,
-                                  struct zacpi_signature signature, size_t index,
-                                  struct zacpi_table *out, struct zacpi_signature *named);
+/* Returns the pointer to a table's `length` bytes, or NULL if no one region contains them. */
+static inline const uint8_t *zacpi_table_bytes(const struct zacpi_region *regions,
+                                               size_t regions_length,
+                                               const struct zacpi_table *table) {
+    struct zacpi_place place;
+    if (zacpi_locate(regions, regions_length, table->address, table->length, &place)) return NULL;
+    return regions[place.region].bytes + place.offset;
+}
 
-/* The entries of any table from its byte `first` on, where its fixed fields end: each begins with
- * Type and Length, of `bytes_each` bytes each (1 in a MADT from byte 44 and an SRAT from 48, 2 in
- * an NFIT from 40 and a DMAR from 48; sections 5.2.12, 5.2.16 and 5.2.25, and Intel's layout). An
- * entry's Length is at least that of these two and at most the bytes left, and what its Type needs
- * besides is the caller's to know; `malformed` is 1 if bytes are left in which none begins. `table`
- * is an address, listed or not. Errors: those of the regions, ZACPI_UNKNOWN_WIDTH for another
- * `bytes_each`, those of a table, ZACPI_SDT_INVALID_LENGTH if its Length is under `first`. */
-zacpi_status zacpi_list_entries(const struct zacpi_region *regions, size_t regions_length,
+/* Returns the `index`-th valid table of the wanted signature, counted from 0 in the order of the
+ * root table (section 5.2.6): the 0th is that of zacpi_find_table. Fails with an opening error, or
+ * ZACPI_TABLE_MISSING with that signature if there are no more than `index`. */
+ZACPI_STATUS zacpi_find_nth_table(const struct zacpi_source *source, struct zacpi_signature wanted,
+                                  size_t index, struct zacpi_table *out,
+                                  struct zacpi_signature *signature);
+
+/* Lists the entries of the table at address `table`, listed or not, from its byte `first` on. Each
+ * begins with Type and Length, of `bytes_each` bytes each: 1 in a MADT (from byte 44) and an SRAT
+ * (48), 2 in an NFIT (40) and a DMAR (48). A Length is at least that of these two fields and at
+ * most the bytes left; `malformed` is 1 if bytes are left in which no entry begins. Fails with
+ * ZACPI_REGIONS_NOT_ASCENDING, ZACPI_REGION_TOO_HIGH, ZACPI_UNKNOWN_WIDTH for another `bytes_each`,
+ * an error of a table, with its own signature, or ZACPI_SDT_INVALID_LENGTH if its Length is below
+ * `first`. */
+ZACPI_STATUS zacpi_list_entries(const struct zacpi_region *regions, size_t regions_length,
                                 uint64_t table, uint32_t first, uint32_t bytes_each,
-                                struct zacpi_entry *out, size_t room, size_t *count,
-                                uint8_t *malformed, struct zacpi_signature *named);
+                                struct zacpi_entry *out, size_t capacity, size_t *count,
+                                uint8_t *malformed, struct zacpi_signature *signature);
 
-/* The members of the root table that a lookup of a signature passes over for another reason than
- * another Signature, or one that isn't UTF-8, in order, up to the first that it takes (section
- * 5.2.6). The lookup is that of the calls for this table: it asks for the table's least length. No
- * other errors. */
-zacpi_status zacpi_list_faults(const struct zacpi_source *source, struct zacpi_signature signature,
-                               struct zacpi_fault *out, size_t room, size_t *count,
-                               struct zacpi_signature *named);
+/* Lists the members of the root table that a lookup of the wanted signature skips for another
+ * reason than their Signature, in order, up to the one that it finds (section 5.2.6). The lookup is
+ * that of the calls for this table, which need its fixed fields. Fails with an opening error. */
+ZACPI_STATUS zacpi_list_faults(const struct zacpi_source *source, struct zacpi_signature wanted,
+                               struct zacpi_fault *out, size_t capacity, size_t *count,
+                               struct zacpi_signature *signature);
 
-/* The AML of the DSDT that the first valid FADT names (sections 5.2.9 and 5.2.11.1). Further
- * errors: ZACPI_TABLE_MISSING "FACP", ZACPI_INVALID_DSDT_ADDRESS, and those of a table, which carry
- * "DSDT". */
-zacpi_status zacpi_dsdt(const struct zacpi_source *source, struct zacpi_aml_table *out,
-                        struct zacpi_signature *named);
+/* Returns the AML of the DSDT that the first valid FADT names (sections 5.2.9 and 5.2.11.1). Fails
+ * with an opening error, ZACPI_TABLE_MISSING "FACP", ZACPI_INVALID_DSDT_ADDRESS, or an error of a
+ * table with "DSDT". */
+ZACPI_STATUS zacpi_dsdt(const struct zacpi_source *source, struct zacpi_aml_table *out,
+                        struct zacpi_signature *signature);
 
-/* The AML of each valid SSDT, in the order of the root table (section 5.2.11.2). No other
- * errors. */
-zacpi_status zacpi_list_ssdts(const struct zacpi_source *source, struct zacpi_aml_table *out,
-                              size_t room, size_t *count, struct zacpi_signature *named);
+/* Lists the AML of each valid SSDT, in the order of the root table (section 5.2.11.2). Fails with
+ * an opening error. */
+ZACPI_STATUS zacpi_list_ssdts(const struct zacpi_source *source, struct zacpi_aml_table *out,
+                              size_t capacity, size_t *count, struct zacpi_signature *signature);
 
-/* The memory that the tables take, and that isn't to be given away: the root table, each listed
- * table that is valid under its own signature, in order, then the DSDT of the first valid FADT if
- * it is valid, and that FADT's FACS if it is lent, has the signature "FACS" and a Length of at
- * least 64 (sections 5.2.6 to 5.2.11). The ranges may overlap. The RSDP isn't among them, nor are
- * the image of the boot graphic and the mailbox by which processors are woken. No other errors. */
-zacpi_status zacpi_list_ranges(const struct zacpi_source *source, struct zacpi_range *out,
-                               size_t room, size_t *count, struct zacpi_signature *named);
+/* Lists the memory of the tables, which isn't to be given away: of the root table, of each listed
+ * table that is valid under its own signature, of the DSDT of the first valid FADT if it is valid,
+ * and of that FADT's FACS if it is lent, has the signature "FACS" and a Length of at least 64
+ * (sections 5.2.6 to 5.2.11). The ranges may overlap. Not among them are the RSDP, the boot
+ * graphic's image and the mailbox that wakes processors. Fails with an opening error. */
+ZACPI_STATUS zacpi_list_ranges(const struct zacpi_source *source, struct zacpi_range *out,
+                               size_t capacity, size_t *count, struct zacpi_signature *signature);
 
 /* ---- Fixed hardware and devices -------------------------------------------------------------- */
 
@@ -403,6 +374,13 @@ struct zacpi_generic_address { /* Generic Address Structure, section 5.2.3.2 */
     uint8_t bit_width;   /* Register Bit Width */
     uint8_t bit_offset;  /* Register Bit Offset: bits before the register at `address` */
     uint8_t access_size; /* Access Size: 0 not said, 1 one byte, 2 two, 3 four, 4 eight */
+};
+enum zacpi_address_space { /* Address Space ID, section 5.2.3.2 */
+    ZACPI_SPACE_SYSTEM_MEMORY = 0, ZACPI_SPACE_SYSTEM_IO = 1, ZACPI_SPACE_PCI_CONFIGURATION = 2,
+    ZACPI_SPACE_EMBEDDED_CONTROLLER = 3, ZACPI_SPACE_SMBUS = 4, ZACPI_SPACE_SYSTEM_CMOS = 5,
+    ZACPI_SPACE_PCI_BAR_TARGET = 6, ZACPI_SPACE_IPMI = 7, ZACPI_SPACE_GENERAL_PURPOSE_IO = 8,
+    ZACPI_SPACE_GENERIC_SERIAL_BUS = 9, ZACPI_SPACE_PLATFORM_COMMUNICATIONS_CHANNEL = 0x0a,
+    ZACPI_SPACE_FUNCTIONAL_FIXED_HARDWARE = 0x7f
 };
 struct zacpi_register {
     struct zacpi_generic_address at; /* zeros unless it is present */
@@ -425,6 +403,12 @@ struct zacpi_hpet_info {
     uint8_t page_protection;  /* Page Protection, bits 0 to 3: 0 nothing is promised, 1 the 4 KiB
                                * may be accessed, 2 the 64 KiB, 3 a reserved code, 3 to 15 */
 };
+enum { /* of event_timer_block_id */
+    ZACPI_HPET_HARDWARE_REV_ID = 0xff,
+    ZACPI_HPET_NUMBER_OF_COMPARATORS = 0x1f << 8, /* less one */
+    ZACPI_HPET_COUNT_SIZE_CAP = 1 << 13,          /* the counter has 64 bits */
+    ZACPI_HPET_LEGACY_REPLACEMENT = 1 << 15       /* in bits 16 to 31 is the PCI Vendor ID */
+};
 struct zacpi_boot_graphic {
     uint64_t address;     /* Image Address: of the image */
     uint32_t x, y;        /* Image Offset X and Y: of its upper left corner on the screen, in
@@ -446,8 +430,9 @@ struct zacpi_gpe_block { /* general purpose events (sections 4.8.4.1 and 5.2.9),
                           * address is an error, for Address Space ID alone: Access Size isn't
                           * looked at */
 };
-/* FADT, section 5.2.9. An address is that of the X_ field if this isn't 0, and a block is that of
- * the X_ field if its Address isn't 0. Else a block is I/O ports at the other field, of eight bits
+/* FADT, section 5.2.9. An X_ field is read as 0 below revision 2, and if the table hasn't all its
+ * bytes. An address is that of the X_ field if this isn't 0, and a block is that of the X_ field if
+ * its Address isn't 0. Else a block is I/O ports at the other field, of eight bits
  * for each byte of its length (PM1_EVT_LEN to GPE1_BLK_LEN), which may be 0; from 32 bytes on it is
  * an error, but for gpe0_block and gpe1_block. */
 struct zacpi_fixed_hardware {
@@ -493,6 +478,30 @@ struct zacpi_fixed_hardware {
                                               * 0: none */
     uint8_t reset_value;                 /* RESET_VALUE: what to write to `reset` */
 };
+enum zacpi_fadt_flag { /* Flags, section 5.2.9 */
+    ZACPI_FADT_WBINVD = 1 << 0, ZACPI_FADT_WBINVD_FLUSH = 1 << 1, ZACPI_FADT_PROC_C1 = 1 << 2,
+    ZACPI_FADT_P_LVL2_UP = 1 << 3, ZACPI_FADT_PWR_BUTTON = 1 << 4, ZACPI_FADT_SLP_BUTTON = 1 << 5,
+    ZACPI_FADT_FIX_RTC = 1 << 6, ZACPI_FADT_RTC_S4 = 1 << 7, ZACPI_FADT_TMR_VAL_EXT = 1 << 8,
+    ZACPI_FADT_DCK_CAP = 1 << 9, ZACPI_FADT_RESET_REG_SUP = 1 << 10,
+    ZACPI_FADT_SEALED_CASE = 1 << 11, ZACPI_FADT_HEADLESS = 1 << 12,
+    ZACPI_FADT_CPU_SW_SLP = 1 << 13, ZACPI_FADT_PCI_EXP_WAK = 1 << 14,
+    ZACPI_FADT_USE_PLATFORM_CLOCK = 1 << 15, ZACPI_FADT_S4_RTC_STS_VALID = 1 << 16,
+    ZACPI_FADT_REMOTE_POWER_ON_CAPABLE = 1 << 17, ZACPI_FADT_FORCE_APIC_CLUSTER_MODEL = 1 << 18,
+    ZACPI_FADT_FORCE_APIC_PHYSICAL_DESTINATION_MODE = 1 << 19, ZACPI_FADT_HW_REDUCED_ACPI = 1 << 20,
+    ZACPI_FADT_LOW_POWER_S0_IDLE_CAPABLE = 1 << 21
+};
+enum zacpi_boot_flag { /* IAPC_BOOT_ARCH and ARM_BOOT_ARCH, sections 5.2.9.3 and 5.2.9.4 */
+    ZACPI_X86_LEGACY_DEVICES = 1 << 0, ZACPI_X86_8042 = 1 << 1, ZACPI_X86_VGA_NOT_PRESENT = 1 << 2,
+    ZACPI_X86_MSI_NOT_SUPPORTED = 1 << 3, ZACPI_X86_PCIE_ASPM_CONTROLS = 1 << 4,
+    ZACPI_X86_CMOS_RTC_NOT_PRESENT = 1 << 5,
+    ZACPI_ARM_PSCI_COMPLIANT = 1 << 0, ZACPI_ARM_PSCI_USE_HVC = 1 << 1
+};
+enum zacpi_power_profile { /* Preferred_PM_Profile, section 5.2.9.1 */
+    ZACPI_PROFILE_UNSPECIFIED = 0, ZACPI_PROFILE_DESKTOP = 1, ZACPI_PROFILE_MOBILE = 2,
+    ZACPI_PROFILE_WORKSTATION = 3, ZACPI_PROFILE_ENTERPRISE_SERVER = 4,
+    ZACPI_PROFILE_SOHO_SERVER = 5, ZACPI_PROFILE_APPLIANCE_PC = 6,
+    ZACPI_PROFILE_PERFORMANCE_SERVER = 7, ZACPI_PROFILE_TABLET = 8
+};
 struct zacpi_console { /* SPCR, whose layout is Microsoft's, and so are these names of its fields */
     struct zacpi_register base;           /* Base Address: of the registers. None if all its twelve
                                            * bytes are 0 */
@@ -516,37 +525,52 @@ struct zacpi_console { /* SPCR, whose layout is Microsoft's, and so are these na
     uint8_t pci_device, pci_function;    /* PCI Device Number, PCI Function Number */
 };
 
-/* The fixed hardware of the first valid FADT (section 5.2.9). Further error: ZACPI_TABLE_MISSING
- * "FACP". An error of a register's address isn't one of the call: its `present` is 2. Those of pm1a
- * and reset are present at address 0 too, and those of sleep if the table is of revision 2 or above
- * and has all twelve bytes: 0 stands for none. On a machine of reduced hardware (HW_REDUCED_ACPI,
- * bit 20 of `flags`) those of pm1, pm2, gpe and the timer mean nothing. */
-zacpi_status zacpi_get_fixed_hardware(const struct zacpi_source *source,
-                                  struct zacpi_fixed_hardware *out, struct zacpi_signature *named);
+enum zacpi_console_type { /* Interface Type */
+    ZACPI_CONSOLE_16550 = 0, ZACPI_CONSOLE_16450 = 1, ZACPI_CONSOLE_MAX311XE = 2,
+    ZACPI_CONSOLE_ARM_PL011 = 3, ZACPI_CONSOLE_MSM8X60 = 4, ZACPI_CONSOLE_NVIDIA_16550 = 5,
+    ZACPI_CONSOLE_TI_OMAP = 6, ZACPI_CONSOLE_APM88XXXX = 8, ZACPI_CONSOLE_MSM8974 = 9,
+    ZACPI_CONSOLE_SAM5250 = 0x0a, ZACPI_CONSOLE_INTEL_USIF = 0x0b, ZACPI_CONSOLE_IMX6 = 0x0c,
+    ZACPI_CONSOLE_ARM_SBSA_32_BIT = 0x0d, ZACPI_CONSOLE_ARM_SBSA = 0x0e,
+    ZACPI_CONSOLE_ARM_DCC = 0x0f, ZACPI_CONSOLE_BCM2835 = 0x10,
+    ZACPI_CONSOLE_SDM845_18432 = 0x11, ZACPI_CONSOLE_16550_ANY_ADDRESS = 0x12,
+    ZACPI_CONSOLE_SDM845_7372 = 0x13, ZACPI_CONSOLE_INTEL_LPSS = 0x14,
+    ZACPI_CONSOLE_RISCV_SBI = 0x15
+};
 
-/* The serial console that the firmware used: the first valid SPCR, whose signature section 5.2.6
- * reserves and whose layout is Microsoft's. Further error: ZACPI_TABLE_MISSING "SPCR". An error of
- * the base's address isn't one of the call: its `present` is 2. */
-zacpi_status zacpi_get_console(const struct zacpi_source *source, struct zacpi_console *out,
-                           struct zacpi_signature *named);
+/* Returns the fixed hardware of the first valid FADT (section 5.2.9). An error of a register's
+ * address isn't one of the call: its `present` is 2. The registers of pm1a and reset are present at
+ * address 0 too, and those of sleep if the table is of revision 2 or above and has all their bytes:
+ * 0 stands for none. If the hardware is reduced (ZACPI_FADT_HW_REDUCED_ACPI), those of pm1, pm2,
+ * gpe and the timer mean nothing. Fails with an opening error, or ZACPI_TABLE_MISSING "FACP". */
+ZACPI_STATUS zacpi_get_fixed_hardware(const struct zacpi_source *source,
+                                      struct zacpi_fixed_hardware *out,
+                                      struct zacpi_signature *signature);
 
-/* The power management timer of the first valid FADT, which counts at 3.579545 MHz (sections
- * 4.8.3.3 and 5.2.9). Further errors: ZACPI_TABLE_MISSING "FACP", ZACPI_INVALID_GENERIC_ADDRESS if
- * PM_TMR_LEN is 4 and X_PM_TMR_BLK has an Address that isn't 0 and a reserved code. No timer is no
- * error: `present` is 0 if PM_TMR_LEN isn't 4, or no field gives an address. */
-zacpi_status zacpi_get_pm_timer(const struct zacpi_source *source, struct zacpi_pm_timer *out,
-                            struct zacpi_signature *named);
+/* Returns the serial console that the firmware used, by the first valid SPCR, whose layout is
+ * Microsoft's. An error of the base's address isn't one of the call: its `present` is 2. Fails with
+ * an opening error, or ZACPI_TABLE_MISSING "SPCR". */
+ZACPI_STATUS zacpi_get_console(const struct zacpi_source *source, struct zacpi_console *out,
+                               struct zacpi_signature *signature);
 
-/* The block of event timers of the first valid HPET, whose signature section 5.2.6 reserves and
- * whose layout is the IA-PC HPET Specification's. Further errors: ZACPI_TABLE_MISSING "HPET",
- * ZACPI_INVALID_GENERIC_ADDRESS if Address Space ID of BASE_ADDRESS isn't 0, system memory. */
-zacpi_status zacpi_hpet(const struct zacpi_source *source, struct zacpi_hpet_info *out,
-                        struct zacpi_signature *named);
+/* Returns the power management timer of the first valid FADT, which counts at 3.579545 MHz
+ * (sections 4.8.3.3 and 5.2.9). No timer is no error: `present` is 0 if PM_TMR_LEN isn't 4, or no
+ * field gives an address. Fails with an opening error, ZACPI_TABLE_MISSING "FACP", or
+ * ZACPI_INVALID_GENERIC_ADDRESS if there is a timer, and X_PM_TMR_BLK has a reserved code and an
+ * Address that isn't 0. */
+ZACPI_STATUS zacpi_get_pm_timer(const struct zacpi_source *source, struct zacpi_pm_timer *out,
+                                struct zacpi_signature *signature);
 
-/* The image that the firmware showed: that of the first valid BGRT (section 5.2.22). Further error:
- * ZACPI_TABLE_MISSING "BGRT". */
-zacpi_status zacpi_get_boot_graphic(const struct zacpi_source *source, struct zacpi_boot_graphic *out,
-                                struct zacpi_signature *named);
+/* Returns the block of event timers of the first valid HPET (IA-PC HPET Specification). Fails with
+ * an opening error, ZACPI_TABLE_MISSING "HPET", or ZACPI_INVALID_GENERIC_ADDRESS if BASE_ADDRESS
+ * isn't in system memory. */
+ZACPI_STATUS zacpi_hpet(const struct zacpi_source *source, struct zacpi_hpet_info *out,
+                        struct zacpi_signature *signature);
+
+/* Returns the image that the firmware showed, by the first valid BGRT (section 5.2.22). Fails with
+ * an opening error, or ZACPI_TABLE_MISSING "BGRT". */
+ZACPI_STATUS zacpi_get_boot_graphic(const struct zacpi_source *source,
+                                    struct zacpi_boot_graphic *out,
+                                    struct zacpi_signature *signature);
 
 /* ---- PCI ------------------------------------------------------------------------------------- */
 
@@ -563,29 +587,27 @@ struct zacpi_ecam_range {
                                * above */
 };
 
-/* The regions of PCI configuration space, as the first valid MCFG has them, in its order: 16 bytes
- * for each from byte 44 on, and fewer at the end are none. Section 5.2.6 reserves the signature,
- * and the layout is that of the PCI Firmware Specification, section 4.1.2. Further error:
- * ZACPI_TABLE_MISSING "MCFG". */
-zacpi_status zacpi_list_pci_regions(const struct zacpi_source *source,
-                                    struct zacpi_pci_region *out, size_t room, size_t *count,
-                                    struct zacpi_signature *named);
+/* Lists the regions of PCI configuration space, as the first valid MCFG has them, in its order (PCI
+ * Firmware Specification, section 4.1.2): 16 bytes for each from byte 44 on; fewer at the end are
+ * none. Fails with an opening error, or ZACPI_TABLE_MISSING "MCFG". */
+ZACPI_STATUS zacpi_list_pci_regions(const struct zacpi_source *source, struct zacpi_pci_region *out,
+                                    size_t capacity, size_t *count,
+                                    struct zacpi_signature *signature);
 
-/* The memory that each region of configuration space takes, with its base taken as that of bus 0
- * (PCI Firmware Specification, section 4.1.2), in the order of the first valid MCFG: item N is of
- * item N of zacpi_list_pci_regions. Further error: ZACPI_TABLE_MISSING "MCFG". */
-zacpi_status zacpi_list_ecam_ranges(const struct zacpi_source *source,
-                                    struct zacpi_ecam_range *out, size_t room, size_t *count,
-                                    struct zacpi_signature *named);
+/* Lists the memory of each item of zacpi_list_pci_regions, in its order, with its base as that of
+ * bus 0. Fails with an opening error, or ZACPI_TABLE_MISSING "MCFG". */
+ZACPI_STATUS zacpi_list_ecam_ranges(const struct zacpi_source *source, struct zacpi_ecam_range *out,
+                                    size_t capacity, size_t *count,
+                                    struct zacpi_signature *signature);
 
-/* The physical address of a function's 4096 bytes of configuration space, with a region's base
- * taken as that of bus 0, as the PCI Firmware Specification, section 4.1.2, says: this is what a
- * kernel wants. Of several regions of the first valid MCFG that hold the bus the first counts.
- * Further errors: ZACPI_TABLE_MISSING "MCFG", ZACPI_NO_SUCH_FUNCTION if no region holds the bus,
- * for a device above 31, a function above 7, and a sum of 2^64 or more. */
-zacpi_status zacpi_pci_ecam_address(const struct zacpi_source *source, uint16_t segment_group,
+/* Returns the physical address of a function's 4096 bytes of configuration space, by the first
+ * region of the first valid MCFG that contains the bus, with its base as that of bus 0 (PCI
+ * Firmware Specification, section 4.1.2). Fails with an opening error, ZACPI_TABLE_MISSING "MCFG",
+ * or ZACPI_NO_SUCH_FUNCTION if no region contains the bus, the device is above 31, the function
+ * above 7, or the sum 2^64 or above. */
+ZACPI_STATUS zacpi_pci_ecam_address(const struct zacpi_source *source, uint16_t segment_group,
                                     uint8_t bus, uint8_t device, uint8_t function, uint64_t *out,
-                                    struct zacpi_signature *named);
+                                    struct zacpi_signature *signature);
 
 /* ---- Interrupts and processors of a PC (MADT, section 5.2.12) -------------------------------- */
 
@@ -596,7 +618,9 @@ enum zacpi_polarity { ZACPI_POLARITY_BUS = 0, ZACPI_POLARITY_HIGH = 1, ZACPI_POL
 enum zacpi_trigger { ZACPI_TRIGGER_BUS = 0, ZACPI_TRIGGER_EDGE = 1, ZACPI_TRIGGER_LEVEL = 3 };
 /* Disabled: Enabled, bit 0 of Flags, is 0. Waiting: an application processor, to be started.
  * Running: the boot one. */
-enum zacpi_processor_state { ZACPI_PROCESSOR_DISABLED = 0, ZACPI_PROCESSOR_WAITING = 1, ZACPI_PROCESSOR_RUNNING = 2 };
+enum zacpi_processor_state {
+    ZACPI_PROCESSOR_DISABLED = 0, ZACPI_PROCESSOR_WAITING = 1, ZACPI_PROCESSOR_RUNNING = 2
+};
 
 struct zacpi_interrupt_model {
     uint64_t local_apic_address; /* Local APIC Address of the last override of it (section
@@ -641,50 +665,53 @@ struct zacpi_processor { /* Processor Local APIC and Processor Local x2APIC, sec
 /* Which controllers interrupts come to, and how many items the five lists below have, by the first
  * valid MADT (section 5.2.12). Without one, or if it has no entry of a machine with APICs (Types 0
  * to 5, 9 and 0xa, not 0x10), the model isn't known, and the calls below return ZACPI_NO_APICS.
- * Further errors: ZACPI_TABLE_MISSING "FACP", 25 to 31 of enum zacpi_refusal for the first entry of
+ * Further errors: ZACPI_TABLE_MISSING "FACP", 44 to 49 of enum zacpi_refusal for the first entry of
  * the MADT at fault, of one entry's faults the least, and ZACPI_INVALID_GENERIC_ADDRESS if
  * zacpi_get_pm_timer returns it. */
-zacpi_status zacpi_get_interrupt_model(const struct zacpi_source *source,
-                                   struct zacpi_interrupt_model *out,
-                                   struct zacpi_signature *named);
+ZACPI_STATUS zacpi_get_interrupt_model(const struct zacpi_source *source,
+                                       struct zacpi_interrupt_model *out,
+                                       struct zacpi_signature *signature);
 /* The I/O APICs, in the order of the first valid MADT (section 5.2.12.3). Further errors: those of
  * zacpi_get_interrupt_model, and ZACPI_NO_APICS if the model isn't known. */
-zacpi_status zacpi_list_io_apics(const struct zacpi_source *source, struct zacpi_io_apic *out,
-                                 size_t room, size_t *count, struct zacpi_signature *named);
+ZACPI_STATUS zacpi_list_io_apics(const struct zacpi_source *source, struct zacpi_io_apic *out,
+                                 size_t capacity, size_t *count, struct zacpi_signature *signature);
 /* The Interrupt Source Override entries (section 5.2.12.5), in the order of the first valid MADT.
- * Further errors: those of zacpi_get_interrupt_model, and ZACPI_NO_APICS if the model isn't known. */
-zacpi_status zacpi_list_overrides(const struct zacpi_source *source,
-                                  struct zacpi_interrupt_source_override *out, size_t room,
-                                  size_t *count, struct zacpi_signature *named);
+ * Further errors: those of zacpi_get_interrupt_model, and ZACPI_NO_APICS if the model isn't known.
+ * */
+ZACPI_STATUS zacpi_list_overrides(const struct zacpi_source *source,
+                                  struct zacpi_interrupt_source_override *out, size_t capacity,
+                                  size_t *count, struct zacpi_signature *signature);
 /* The NMI Source entries (section 5.2.12.6), which name the I/O APIC pins that are non-maskable, in
  * the order of the first valid MADT. Further errors: those of zacpi_get_interrupt_model, and
  * ZACPI_NO_APICS if the model isn't known. */
-zacpi_status zacpi_list_nmi_sources(const struct zacpi_source *source,
-                                    struct zacpi_nmi_source *out, size_t room, size_t *count,
-                                    struct zacpi_signature *named);
+ZACPI_STATUS zacpi_list_nmi_sources(const struct zacpi_source *source, struct zacpi_nmi_source *out,
+                                    size_t capacity, size_t *count,
+                                    struct zacpi_signature *signature);
 /* The Local APIC NMI and Local x2APIC NMI entries (sections 5.2.12.7 and 5.2.12.13), which name
  * LINT pins, in the order of the first valid MADT. Those of one processor are those with `of_all`,
- * and those with its uid. Further errors: those of zacpi_get_interrupt_model, and ZACPI_NO_APICS if the
- * model isn't known. */
-zacpi_status zacpi_list_nmi_lines(const struct zacpi_source *source, struct zacpi_nmi_line *out,
-                                  size_t room, size_t *count, struct zacpi_signature *named);
+ * and those with its uid. Further errors: those of zacpi_get_interrupt_model, and ZACPI_NO_APICS if
+ * the model isn't known. */
+ZACPI_STATUS zacpi_list_nmi_lines(const struct zacpi_source *source, struct zacpi_nmi_line *out,
+                                  size_t capacity, size_t *count,
+                                  struct zacpi_signature *signature);
 /* The processors, in the order of the first valid MADT: the first is the boot processor, also if it
  * is disabled (sections 5.2.12.1, 5.2.12.2 and 5.2.12.12). Further errors: those of
  * zacpi_get_interrupt_model, and ZACPI_NO_APICS if the model isn't known. */
-zacpi_status zacpi_list_processors(const struct zacpi_source *source, struct zacpi_processor *out,
-                                   size_t room, size_t *count, struct zacpi_signature *named);
+ZACPI_STATUS zacpi_list_processors(const struct zacpi_source *source, struct zacpi_processor *out,
+                                   size_t capacity, size_t *count,
+                                   struct zacpi_signature *signature);
 
-/* All of these at once, with the tables opened once: `out` gets what zacpi_get_interrupt_model returns,
- * with the numbers of all items, and each list as many items of its call above as there is room
- * for. Further errors: those of zacpi_get_interrupt_model, and ZACPI_NO_APICS if the model isn't
- * known. */
-zacpi_status zacpi_platform(const struct zacpi_source *source, struct zacpi_interrupt_model *out,
-                            struct zacpi_processor *processors, size_t processors_room,
-                            struct zacpi_io_apic *io_apics, size_t io_apics_room,
+/* All of these at once, with the tables opened once: `out` gets what zacpi_get_interrupt_model
+ * returns, with the numbers of all items, and each list as many items of its call above as there is
+ * room for. Further errors: those of zacpi_get_interrupt_model, and ZACPI_NO_APICS if the model
+ * isn't known. */
+ZACPI_STATUS zacpi_platform(const struct zacpi_source *source, struct zacpi_interrupt_model *out,
+                            struct zacpi_processor *processors, size_t processors_capacity,
+                            struct zacpi_io_apic *io_apics, size_t io_apics_capacity,
                             struct zacpi_interrupt_source_override *overrides,
-                            size_t overrides_room, struct zacpi_nmi_source *nmi_sources,
-                            size_t nmi_sources_room, struct zacpi_nmi_line *nmi_lines,
-                            size_t nmi_lines_room, struct zacpi_signature *named);
+                            size_t overrides_capacity, struct zacpi_nmi_source *nmi_sources,
+                            size_t nmi_sources_capacity, struct zacpi_nmi_line *nmi_lines,
+                            size_t nmi_lines_capacity, struct zacpi_signature *signature);
 
 struct zacpi_interrupt {
     uint32_t global_system_interrupt;
@@ -698,26 +725,27 @@ struct zacpi_io_apic_pin {
 
 /* How one of the 16 ISA interrupts comes to the I/O APICs: as its last override says, or as the
  * interrupt of the same number, active high and by edge (section 5.2.12.5). Further errors: those
- * of zacpi_get_interrupt_model, ZACPI_NO_APICS if the model isn't known, and ZACPI_NO_SUCH_INTERRUPT
- * for an irq above 15 and for one without an override whose number another one's override has
- * taken. */
-zacpi_status zacpi_isa_interrupt(const struct zacpi_source *source, uint8_t irq,
-                                 struct zacpi_interrupt *out, struct zacpi_signature *named);
+ * of zacpi_get_interrupt_model, ZACPI_NO_APICS if the model isn't known, and
+ * ZACPI_NO_SUCH_INTERRUPT for an irq above 15 and for one without an override whose number another
+ * one's override has taken. */
+ZACPI_STATUS zacpi_isa_interrupt(const struct zacpi_source *source, uint8_t irq,
+                                 struct zacpi_interrupt *out, struct zacpi_signature *signature);
 
 /* How the System Control Interrupt (SCI), SCI_INT of the first valid FADT, comes to the I/O APICs:
  * active low and by level, unless it is below 16 and its last override says otherwise (sections
- * 5.2.9 and 5.2.12.5). Further errors: those of zacpi_get_interrupt_model, and ZACPI_NO_APICS if the
- * model isn't known. */
-zacpi_status zacpi_sci_interrupt(const struct zacpi_source *source, struct zacpi_interrupt *out,
-                                 struct zacpi_signature *named);
+ * 5.2.9 and 5.2.12.5). Further errors: those of zacpi_get_interrupt_model, and ZACPI_NO_APICS if
+ * the model isn't known. */
+ZACPI_STATUS zacpi_sci_interrupt(const struct zacpi_source *source, struct zacpi_interrupt *out,
+                                 struct zacpi_signature *signature);
 
 /* The I/O APIC that a global system interrupt comes to, and the pin there: the first one with the
  * greatest Global System Interrupt Base that is at most the interrupt (sections 5.2.12.3 and
  * 5.2.13). Only the I/O APIC itself can tell how many pins it has. Further errors: those of
- * zacpi_get_interrupt_model, ZACPI_NO_APICS if the model isn't known, and ZACPI_NO_SUCH_IO_APIC if each
- * base is above the interrupt. */
-zacpi_status zacpi_get_io_apic_pin(const struct zacpi_source *source, uint32_t global_system_interrupt,
-                               struct zacpi_io_apic_pin *out, struct zacpi_signature *named);
+ * zacpi_get_interrupt_model, ZACPI_NO_APICS if the model isn't known, and ZACPI_NO_SUCH_IO_APIC if
+ * each base is above the interrupt. */
+ZACPI_STATUS zacpi_get_io_apic_pin(const struct zacpi_source *source,
+                                   uint32_t global_system_interrupt, struct zacpi_io_apic_pin *out,
+                                   struct zacpi_signature *signature);
 
 struct zacpi_isa_route {
     struct zacpi_interrupt interrupt; /* what zacpi_isa_interrupt returns, or zeros */
@@ -732,9 +760,9 @@ struct zacpi_isa_interrupts {
 
 /* All 16 ISA interrupts at once, each with its pin (sections 5.2.12.3 and 5.2.12.5). Further
  * errors: those of zacpi_get_interrupt_model, and ZACPI_NO_APICS if the model isn't known. */
-zacpi_status zacpi_list_isa_interrupts(const struct zacpi_source *source,
+ZACPI_STATUS zacpi_list_isa_interrupts(const struct zacpi_source *source,
                                        struct zacpi_isa_interrupts *out,
-                                       struct zacpi_signature *named);
+                                       struct zacpi_signature *signature);
 
 /* ---- Arm: the generic interrupt controller (MADT, section 5.2.12) ---------------------------- */
 
@@ -787,31 +815,31 @@ struct zacpi_gic_msi_frame { /* GIC MSI Frame, section 5.2.12.16 */
  * Further errors: ZACPI_TABLE_MISSING "APIC", ZACPI_MADT_INVALID_ENTRY_LENGTH if bytes are left in
  * which no entry begins, and ZACPI_NO_GIC if no entry describes a distributor, as on a machine with
  * APICs. */
-zacpi_status zacpi_get_gic_distributor(const struct zacpi_source *source,
-                                   struct zacpi_gic_distributor *out,
-                                   struct zacpi_signature *named);
+ZACPI_STATUS zacpi_get_gic_distributor(const struct zacpi_source *source,
+                                       struct zacpi_gic_distributor *out,
+                                       struct zacpi_signature *signature);
 /* The processors' interfaces, one for each GICC entry of the first valid MADT, in order (section
  * 5.2.12.14). Further errors: those of zacpi_get_gic_distributor. */
-zacpi_status zacpi_list_gic_cpu_interfaces(const struct zacpi_source *source,
-                                           struct zacpi_gic_cpu_interface *out, size_t room,
-                                           size_t *count, struct zacpi_signature *named);
+ZACPI_STATUS zacpi_list_gic_cpu_interfaces(const struct zacpi_source *source,
+                                           struct zacpi_gic_cpu_interface *out, size_t capacity,
+                                           size_t *count, struct zacpi_signature *signature);
 /* The ranges of memory that hold redistributors, one for each GICR entry of the first valid MADT,
  * in order: Discovery Range Base Address and Discovery Range Length, which can be 0 (section
  * 5.2.12.17). Further errors: those of zacpi_get_gic_distributor. */
-zacpi_status zacpi_list_gic_redistributors(const struct zacpi_source *source,
-                                           struct zacpi_range *out, size_t room, size_t *count,
-                                           struct zacpi_signature *named);
+ZACPI_STATUS zacpi_list_gic_redistributors(const struct zacpi_source *source,
+                                           struct zacpi_range *out, size_t capacity, size_t *count,
+                                           struct zacpi_signature *signature);
 /* The services that translate interrupts, one for each GIC ITS entry of the first valid MADT, in
  * order (section 5.2.12.18). Further errors: those of zacpi_get_gic_distributor. */
-zacpi_status zacpi_list_gic_translation_services(const struct zacpi_source *source,
+ZACPI_STATUS zacpi_list_gic_translation_services(const struct zacpi_source *source,
                                                  struct zacpi_gic_translation_service *out,
-                                                 size_t room, size_t *count,
-                                                 struct zacpi_signature *named);
+                                                 size_t capacity, size_t *count,
+                                                 struct zacpi_signature *signature);
 /* The frames that turn messages into interrupts, one for each GIC MSI Frame entry of the first
  * valid MADT, in order (section 5.2.12.16). Further errors: those of zacpi_get_gic_distributor. */
-zacpi_status zacpi_list_gic_msi_frames(const struct zacpi_source *source,
-                                       struct zacpi_gic_msi_frame *out, size_t room, size_t *count,
-                                       struct zacpi_signature *named);
+ZACPI_STATUS zacpi_list_gic_msi_frames(const struct zacpi_source *source,
+                                       struct zacpi_gic_msi_frame *out, size_t capacity,
+                                       size_t *count, struct zacpi_signature *signature);
 
 /* ---- Arm: the generic timers (GTDT, section 5.2.24) ------------------------------------------ */
 
@@ -862,18 +890,20 @@ struct zacpi_watchdog { /* Arm Generic Watchdog, section 5.2.24.1.2 */
 
 /* The timers of every processor, by the first valid GTDT (section 5.2.24). Further error:
  * ZACPI_TABLE_MISSING "GTDT". */
-zacpi_status zacpi_get_arm_timers(const struct zacpi_source *source, struct zacpi_arm_timers *out,
-                              struct zacpi_signature *named);
+ZACPI_STATUS zacpi_get_arm_timers(const struct zacpi_source *source, struct zacpi_arm_timers *out,
+                                  struct zacpi_signature *signature);
 /* The frames of the blocks of timers of the first valid GTDT, block by block, in order (section
  * 5.2.24.1.1). None below revision 2 of the table. If Platform Timer Structures end malformed,
  * those before the first fault. Further error: ZACPI_TABLE_MISSING "GTDT". */
-zacpi_status zacpi_list_gt_frames(const struct zacpi_source *source, struct zacpi_gt_frame *out,
-                                  size_t room, size_t *count, struct zacpi_signature *named);
+ZACPI_STATUS zacpi_list_gt_frames(const struct zacpi_source *source, struct zacpi_gt_frame *out,
+                                  size_t capacity, size_t *count,
+                                  struct zacpi_signature *signature);
 /* The watchdogs of the Server Base System Architecture of the first valid GTDT, in order (section
  * 5.2.24.1.2). None below revision 2 of the table. If Platform Timer Structures end malformed,
  * those before the first fault. Further error: ZACPI_TABLE_MISSING "GTDT". */
-zacpi_status zacpi_list_watchdogs(const struct zacpi_source *source, struct zacpi_watchdog *out,
-                                  size_t room, size_t *count, struct zacpi_signature *named);
+ZACPI_STATUS zacpi_list_watchdogs(const struct zacpi_source *source, struct zacpi_watchdog *out,
+                                  size_t capacity, size_t *count,
+                                  struct zacpi_signature *signature);
 
 /* ---- NUMA: domains (SRAT, section 5.2.16) and distances (SLIT, section 5.2.17) --------------- */
 
@@ -896,43 +926,47 @@ struct zacpi_localities {
  * 5.2.16.2). They may overlap. Further errors: ZACPI_TABLE_MISSING "SRAT",
  * ZACPI_NUMA_INVALID_ENTRY_LENGTH if bytes are left in which no entry begins,
  * ZACPI_NUMA_INVALID_MEMORY_RANGE if the address after one of these ranges is above 2^64 - 1. */
-zacpi_status zacpi_list_memory_affinities(const struct zacpi_source *source,
-                                          struct zacpi_memory_affinity *out, size_t room,
-                                          size_t *count, struct zacpi_signature *named);
+ZACPI_STATUS zacpi_list_memory_affinities(const struct zacpi_source *source,
+                                          struct zacpi_memory_affinity *out, size_t capacity,
+                                          size_t *count, struct zacpi_signature *signature);
 /* The domain of the memory at a physical address: that of the first range of
  * zacpi_list_memory_affinities that holds it (section 5.2.16.2). Further errors: those of
  * zacpi_list_memory_affinities, and ZACPI_NO_DOMAIN if none holds it. */
-zacpi_status zacpi_domain_of_address(const struct zacpi_source *source, uint64_t address,
-                                     uint32_t *out, struct zacpi_signature *named);
+ZACPI_STATUS zacpi_domain_of_address(const struct zacpi_source *source, uint64_t address,
+                                     uint32_t *out, struct zacpi_signature *signature);
 /* The domain of the processor whose local APIC or x2APIC has an id (APIC ID or X2APIC ID): that of
  * the last enabled entry for it in the first valid SRAT (sections 5.2.16.1 and 5.2.16.3). That of a
  * local APIC is Proximity Domain [7:0] alone below revision 2 of the table. Entries after a
  * malformed one aren't looked at. Further errors: ZACPI_TABLE_MISSING "SRAT", ZACPI_NO_DOMAIN if
  * there is no such entry. */
-zacpi_status zacpi_domain_of_apic(const struct zacpi_source *source, uint32_t local_apic_id,
-                                  uint32_t *out, struct zacpi_signature *named);
+ZACPI_STATUS zacpi_domain_of_apic(const struct zacpi_source *source, uint32_t local_apic_id,
+                                  uint32_t *out, struct zacpi_signature *signature);
 /* The domain of the processor of an ACPI Processor UID on a machine with a GIC: that of the last
  * enabled GICC entry for it in the first valid SRAT (section 5.2.16.4). Entries after a malformed
  * one aren't looked at. Further errors: ZACPI_TABLE_MISSING "SRAT", ZACPI_NO_DOMAIN if there is no
  * such entry. */
-zacpi_status zacpi_domain_of_processor(const struct zacpi_source *source, uint32_t uid,
-                                       uint32_t *out, struct zacpi_signature *named);
+ZACPI_STATUS zacpi_domain_of_processor(const struct zacpi_source *source, uint32_t uid,
+                                       uint32_t *out, struct zacpi_signature *signature);
 /* How many localities the first valid SLIT has distances of, and whether it can be believed
  * (section 5.2.17). Further error: ZACPI_TABLE_MISSING "SLIT". */
-zacpi_status zacpi_get_localities(const struct zacpi_source *source, struct zacpi_localities *out,
-                              struct zacpi_signature *named);
+ZACPI_STATUS zacpi_get_localities(const struct zacpi_source *source, struct zacpi_localities *out,
+                                  struct zacpi_signature *signature);
 /* How far one locality is from another, by the first valid SLIT (section 5.2.17): in units of which
  * 10 are the distance of a locality from itself, and 255 stands for unreachable. Further errors:
  * ZACPI_TABLE_MISSING "SLIT", ZACPI_NO_DISTANCE if one of them isn't below Number of System
  * Localities, or if the table ends before the byte of the pair. */
-zacpi_status zacpi_distance(const struct zacpi_source *source, uint64_t from, uint64_t to,
-                            uint8_t *out, struct zacpi_signature *named);
+ZACPI_STATUS zacpi_distance(const struct zacpi_source *source, uint64_t from, uint64_t to,
+                            uint8_t *out, struct zacpi_signature *signature);
 
 /* ---- IOMMUs: units that remap what devices ask of memory ------------------------------------- */
 
 /* The units of the DMAR (Intel Virtualization Technology for Directed I/O 4.0, chapter 8). Its
  * structures stand from byte 48 on, each with a Length of at least 16, 24, 8, 20, 8, 8 and 8 for
  * Types 0 to 6, and 4 for others; device scopes have at least 6 bytes (section 8.3.1). */
+enum zacpi_dmar_flag { /* Flags of the DMAR, section 8.1 */
+    ZACPI_DMAR_INTR_REMAP = 1 << 0, ZACPI_DMAR_X2APIC_OPT_OUT = 1 << 1,
+    ZACPI_DMAR_DMA_CTRL_PLATFORM_OPT_IN_FLAG = 1 << 2
+};
 struct zacpi_hop { /* a step of Path, from a bus to a device on it */
     uint8_t device, function;
 };
@@ -959,25 +993,25 @@ struct zacpi_dmar_reserved { /* Reserved Memory Region Reporting (RMRR), section
  * INCLUDE_PCI_ALL. A scope whose Start Bus Number is the bus names it by Type 1 if its Path is the
  * hops, and by Type 2 if these begin with its Path, of a hop at least (section 8.3.1). Further
  * errors: ZACPI_TABLE_MISSING "DMAR", ZACPI_IOMMU_INVALID_STRUCTURE_LENGTH, ZACPI_NO_IOMMU. */
-zacpi_status zacpi_get_dmar_unit(const struct zacpi_source *source, uint16_t segment, uint8_t bus,
-                             const struct zacpi_hop *hops, size_t hops_length,
-                             struct zacpi_dmar_unit *out, struct zacpi_signature *named);
+ZACPI_STATUS zacpi_get_dmar_unit(const struct zacpi_source *source, uint16_t segment, uint8_t bus,
+                                 const struct zacpi_hop *hops, size_t hops_length,
+                                 struct zacpi_dmar_unit *out, struct zacpi_signature *signature);
 /* The unit that remaps the interrupts of an I/O APIC, by its id, in the first valid DMAR: that of
  * the first DRHD with a device scope of Type 3 and this Enumeration ID. Further errors: those of
  * zacpi_get_dmar_unit. */
-zacpi_status zacpi_dmar_io_apic(const struct zacpi_source *source, uint8_t id,
-                                struct zacpi_dmar_source *out, struct zacpi_signature *named);
+ZACPI_STATUS zacpi_dmar_io_apic(const struct zacpi_source *source, uint8_t id,
+                                struct zacpi_dmar_source *out, struct zacpi_signature *signature);
 /* The same of an HPET, by its number: a device scope of Type 4. */
-zacpi_status zacpi_dmar_hpet(const struct zacpi_source *source, uint8_t number,
-                             struct zacpi_dmar_source *out, struct zacpi_signature *named);
+ZACPI_STATUS zacpi_dmar_hpet(const struct zacpi_source *source, uint8_t number,
+                             struct zacpi_dmar_source *out, struct zacpi_signature *signature);
 /* The memory that is reserved for a device, by the first valid DMAR: each RMRR of the segment with
  * a device scope that names it, as for zacpi_get_dmar_unit, in order. Further errors:
  * ZACPI_TABLE_MISSING "DMAR", ZACPI_IOMMU_INVALID_STRUCTURE_LENGTH,
  * ZACPI_IOMMU_INVALID_MEMORY_RANGE of one of these. */
-zacpi_status zacpi_list_dmar_reserved(const struct zacpi_source *source, uint16_t segment,
-                                      uint8_t bus, const struct zacpi_hop *hops,
-                                      size_t hops_length, struct zacpi_dmar_reserved *out,
-                                      size_t room, size_t *count, struct zacpi_signature *named);
+ZACPI_STATUS zacpi_list_dmar_reserved(const struct zacpi_source *source, uint16_t segment,
+                                      uint8_t bus, const struct zacpi_hop *hops, size_t hops_length,
+                                      struct zacpi_dmar_reserved *out, size_t capacity,
+                                      size_t *count, struct zacpi_signature *signature);
 
 /* The units of the IVRS (AMD I/O Virtualization Technology (IOMMU) Specification 3.08, section
  * 5.2). Its blocks stand from byte 48 on, each with a Length of at least 24 for Type 0x10, 40 for
@@ -996,6 +1030,15 @@ struct zacpi_ivrs_unit { /* I/O Virtualization Hardware Definition (IVHD) */
     uint8_t block_type;            /* Type */
     uint8_t flags;                 /* Flags */
     uint8_t has_extended_features; /* 0 for Type 0x10 */
+};
+enum zacpi_ivhd_flag { /* Flags of an IVHD; the last two are of Type 0x10 alone */
+    ZACPI_IVHD_HT_TUN_EN = 1 << 0, ZACPI_IVHD_PASS_PW = 1 << 1, ZACPI_IVHD_RES_PASS_PW = 1 << 2,
+    ZACPI_IVHD_ISOC = 1 << 3, ZACPI_IVHD_IOTLB_SUP = 1 << 4, ZACPI_IVHD_COHERENT = 1 << 5,
+    ZACPI_IVHD_PREF_SUP = 1 << 6, ZACPI_IVHD_PPR_SUP = 1 << 7
+};
+enum zacpi_ivmd_flag { /* Flags of an IVMD */
+    ZACPI_IVMD_UNITY = 1 << 0, ZACPI_IVMD_IR = 1 << 1, ZACPI_IVMD_IW = 1 << 2,
+    ZACPI_IVMD_EXCLUSION_RANGE = 1 << 3
 };
 struct zacpi_ivrs_device {
     struct zacpi_ivrs_unit unit;
@@ -1017,23 +1060,21 @@ struct zacpi_ivrs_memory { /* I/O Virtualization Memory Definition (IVMD) */
  * devices, for it or for a range that it lies in, or of a special device with it as Source
  * DeviceID. The block's first such entry counts. Further errors: ZACPI_TABLE_MISSING "IVRS",
  * ZACPI_IOMMU_INVALID_STRUCTURE_LENGTH, ZACPI_NO_IOMMU. */
-zacpi_status zacpi_get_ivrs_unit(const struct zacpi_source *source, uint16_t segment,
-                             uint16_t device_id, struct zacpi_ivrs_device *out,
-                             struct zacpi_signature *named);
+ZACPI_STATUS zacpi_get_ivrs_unit(const struct zacpi_source *source, uint16_t segment,
+                                 uint16_t device_id, struct zacpi_ivrs_device *out,
+                                 struct zacpi_signature *signature);
 /* The memory that has its own rules for a device, by the first valid IVRS: each IVMD for it, for
  * all devices or for a range that it lies in, in order, whatever its segment. Further errors:
  * ZACPI_TABLE_MISSING "IVRS", ZACPI_IOMMU_INVALID_STRUCTURE_LENGTH,
  * ZACPI_IOMMU_INVALID_MEMORY_RANGE of one of these. */
-zacpi_status zacpi_list_ivrs_memory(const struct zacpi_source *source, uint16_t device_id,
-                                    struct zacpi_ivrs_memory *out, size_t room, size_t *count,
-                                    struct zacpi_signature *named);
+ZACPI_STATUS zacpi_list_ivrs_memory(const struct zacpi_source *source, uint16_t device_id,
+                                    struct zacpi_ivrs_memory *out, size_t capacity, size_t *count,
+                                    struct zacpi_signature *signature);
 /* ---- Tables that are written ----------------------------------------------------------------- */
 
-/* Each call writes one table, from what it is to say, to the front of `out`, which has `room`
- * bytes, and its length into `length`; the rest of `out` is as it was. The calls above then read
- * what was passed, but for what a call says that it writes otherwise. The last errors of each are
- * ZACPI_BAD_NAME, ZACPI_NO_ROOM and ZACPI_TOO_LONG, in this order; those before them stand at the
- * call. */
+/* Each call writes one table, from what it is to say, to the front of `out`, which has `capacity`
+ * bytes, and its length to `length`; the rest of `out` is left as it is. The calls above then read
+ * what was passed, but for what a call says that it writes otherwise. */
 
 struct zacpi_table_ids { /* who made the table, as its header says (section 5.2.6). Each name is
                           * filled up with spaces or zeros */
@@ -1121,147 +1162,132 @@ struct zacpi_facs_contents { /* section 5.2.10 */
 };
 
 /* An RSDP of revision 2 that leads to an XSDT (section 5.2.5.3): 36 bytes. Of `ids` it has OEMID
- * alone. Error before the last ones: ZACPI_NO_ADDRESS if `xsdt` is 0. */
-zacpi_status zacpi_write_rsdp(const struct zacpi_table_ids *ids, uint64_t xsdt, uint8_t *out,
-                              size_t room, size_t *length);
-/* An RSDT, and an XSDT, of these addresses, in order (sections 5.2.7 and 5.2.8). One of 0 is
- * written too. */
-zacpi_status zacpi_write_rsdt(const struct zacpi_table_ids *ids, const uint32_t *addresses,
-                              size_t addresses_length, uint8_t *out, size_t room, size_t *length);
-zacpi_status zacpi_write_xsdt(const struct zacpi_table_ids *ids, const uint64_t *addresses,
-                              size_t addresses_length, uint8_t *out, size_t room, size_t *length);
+ * alone. Fails with ZACPI_NO_ADDRESS if `xsdt` is 0, ZACPI_BAD_NAME or ZACPI_NO_ROOM. */
+ZACPI_STATUS zacpi_write_rsdp(const struct zacpi_table_ids *ids, uint64_t xsdt, uint8_t *out,
+                              size_t capacity, size_t *length);
+/* An RSDT, and an XSDT, of these addresses, in order, also of 0 (sections 5.2.7 and 5.2.8). Fail
+ * with ZACPI_BAD_NAME, ZACPI_NO_ROOM or ZACPI_TOO_LONG. */
+ZACPI_STATUS zacpi_write_rsdt(const struct zacpi_table_ids *ids, const uint32_t *addresses,
+                              size_t addresses_length, uint8_t *out, size_t capacity,
+                              size_t *length);
+ZACPI_STATUS zacpi_write_xsdt(const struct zacpi_table_ids *ids, const uint64_t *addresses,
+                              size_t addresses_length, uint8_t *out, size_t capacity,
+                              size_t *length);
 /* A DSDT, and an SSDT, of these bytes of AML (section 5.2.11). By a revision of 1 AML's integers
- * have 32 bits, by 2 they have 64. */
-zacpi_status zacpi_write_dsdt(const struct zacpi_table_ids *ids, uint8_t revision,
-                              const uint8_t *aml, size_t aml_length, uint8_t *out, size_t room,
+ * have 32 bits, by 2 they have 64. Fail with ZACPI_BAD_NAME, ZACPI_NO_ROOM or ZACPI_TOO_LONG. */
+ZACPI_STATUS zacpi_write_dsdt(const struct zacpi_table_ids *ids, uint8_t revision,
+                              const uint8_t *aml, size_t aml_length, uint8_t *out, size_t capacity,
                               size_t *length);
-zacpi_status zacpi_write_ssdt(const struct zacpi_table_ids *ids, uint8_t revision,
-                              const uint8_t *aml, size_t aml_length, uint8_t *out, size_t room,
+ZACPI_STATUS zacpi_write_ssdt(const struct zacpi_table_ids *ids, uint8_t revision,
+                              const uint8_t *aml, size_t aml_length, uint8_t *out, size_t capacity,
                               size_t *length);
-/* A MADT of revision 5 (section 5.2.12), with its entries sort by sort in the order of the lists, and
- * the mailbox last. An address of 2^32 or above stands in a Local APIC Address Override after the
- * processors, and Local Interrupt Controller Address is then 0. A processor whose uid and id are
- * below 255 is a Processor Local APIC, any other a Processor Local x2APIC; a line of a uid of 255 or
- * above is a Local x2APIC NMI, any other a Local APIC NMI. Errors before the last ones:
- * ZACPI_UNKNOWN_CODE, ZACPI_NO_PROCESSOR, ZACPI_ID_OF_ALL, ZACPI_UID_OF_ALL. */
-zacpi_status zacpi_write_madt(const struct zacpi_table_ids *ids,
+/* A table of any signature and revision: a header (section 5.2.6) and these bytes after it, all as
+ * they are passed. Fails with ZACPI_BAD_NAME, ZACPI_NO_ROOM or ZACPI_TOO_LONG. */
+ZACPI_STATUS zacpi_write_table(const struct zacpi_table_ids *ids, struct zacpi_signature wanted,
+                               uint8_t revision, const uint8_t *body, size_t body_length,
+                               uint8_t *out, size_t capacity, size_t *length);
+/* A MADT of revision 5 (section 5.2.12), with its entries sort by sort in the order of the lists,
+ * and the mailbox last. An address of 2^32 or above stands in a Local APIC Address Override after
+ * the processors, and Local Interrupt Controller Address is then 0. A processor whose uid and id
+ * are below 255 is a Processor Local APIC, any other a Processor Local x2APIC; a line of a uid of
+ * 255 or above is a Local x2APIC NMI, any other a Local APIC NMI. Fails with ZACPI_UNKNOWN_CODE,
+ * ZACPI_NO_PROCESSOR, ZACPI_ID_OF_ALL, ZACPI_UID_OF_ALL, ZACPI_BAD_NAME, ZACPI_NO_ROOM or
+ * ZACPI_TOO_LONG. */
+ZACPI_STATUS zacpi_write_madt(const struct zacpi_table_ids *ids,
                               const struct zacpi_madt_contents *contents, uint8_t *out,
-                              size_t room, size_t *length);
-/* A MADT of revision 6 of an Arm machine (sections 5.2.12.14 to 5.2.12.18), with its entries sort by
- * sort: the distributor, and the lists in their order. A GICC has 82 bytes, or 80 if
- * trace_buffer_interrupt is 0. Errors before the last ones: ZACPI_UNKNOWN_CODE, ZACPI_NO_PROCESSOR,
- * ZACPI_SAME_AS_BUS if a trigger is 0, ZACPI_BAD_RANGE. */
-zacpi_status zacpi_write_gic_madt(const struct zacpi_table_ids *ids,
+                              size_t capacity, size_t *length);
+/* A MADT of revision 6 of an Arm machine (sections 5.2.12.14 to 5.2.12.18), with its entries sort
+ * by sort: the distributor, and the lists in their order. A GICC has 82 bytes, or 80 if
+ * trace_buffer_interrupt is 0. Fails with ZACPI_UNKNOWN_CODE, ZACPI_BAD_RANGE, ZACPI_NO_PROCESSOR,
+ * ZACPI_SAME_AS_BUS if a trigger is 0, ZACPI_BAD_NAME, ZACPI_NO_ROOM or ZACPI_TOO_LONG. */
+ZACPI_STATUS zacpi_write_gic_madt(const struct zacpi_table_ids *ids,
                                   const struct zacpi_gic_contents *contents, uint8_t *out,
-                                  size_t room, size_t *length);
-/* An MCFG of these regions, in order (PCI Firmware Specification, section 4.1.2). */
-zacpi_status zacpi_write_mcfg(const struct zacpi_table_ids *ids,
+                                  size_t capacity, size_t *length);
+/* An MCFG of these regions, in order (PCI Firmware Specification, section 4.1.2). Fails with
+ * ZACPI_BAD_NAME, ZACPI_NO_ROOM or ZACPI_TOO_LONG. */
+ZACPI_STATUS zacpi_write_mcfg(const struct zacpi_table_ids *ids,
                               const struct zacpi_pci_region *regions, size_t regions_length,
-                              uint8_t *out, size_t room, size_t *length);
-/* An HPET of revision 1 (IA-PC HPET Specification). A page protection above 3 is written as 3. The
- * registers are in memory, of a Register Bit Width of 0. */
-zacpi_status zacpi_write_hpet(const struct zacpi_table_ids *ids,
-                              const struct zacpi_hpet_info *info, uint8_t *out, size_t room,
-                              size_t *length);
-/* A SLIT (section 5.2.17): of `localities` times `localities` distances, those from locality 0
- * first. Error before the last ones: ZACPI_BAD_MATRIX if there are more or fewer. */
-zacpi_status zacpi_write_slit(const struct zacpi_table_ids *ids, uint64_t localities,
+                              uint8_t *out, size_t capacity, size_t *length);
+/* An HPET of revision 1 (IA-PC HPET Specification), with registers in memory of a Register Bit
+ * Width of 0. A page protection above 3 is written as 3. Fails with ZACPI_BAD_NAME, ZACPI_NO_ROOM
+ * or ZACPI_TOO_LONG. */
+ZACPI_STATUS zacpi_write_hpet(const struct zacpi_table_ids *ids, const struct zacpi_hpet_info *info,
+                              uint8_t *out, size_t capacity, size_t *length);
+/* A SLIT (section 5.2.17) of `localities` times `localities` distances, those from locality 0
+ * first. Fails with ZACPI_BAD_MATRIX if there are more or fewer, ZACPI_BAD_NAME, ZACPI_NO_ROOM or
+ * ZACPI_TOO_LONG. */
+ZACPI_STATUS zacpi_write_slit(const struct zacpi_table_ids *ids, uint64_t localities,
                               const uint8_t *distances, size_t distances_length, uint8_t *out,
-                              size_t room, size_t *length);
-/* A SRAT of revision 3 (section 5.2.16), with its entries sort by sort, all enabled. A processor
- * whose APIC id is below 255 is a Processor Local APIC/SAPIC Affinity, any other a Processor Local
- * x2APIC Affinity. Each Clock Domain is 0. Errors before the last ones: ZACPI_ID_OF_ALL,
- * ZACPI_BAD_RANGE. */
-zacpi_status zacpi_write_srat(const struct zacpi_table_ids *ids,
+                              size_t capacity, size_t *length);
+/* A SRAT of revision 3 (section 5.2.16), with its entries sort by sort, all enabled, of a Clock
+ * Domain of 0. A processor whose APIC id is below 255 is a Processor Local APIC/SAPIC Affinity, any
+ * other a Processor Local x2APIC Affinity. Fails with ZACPI_ID_OF_ALL, ZACPI_BAD_RANGE,
+ * ZACPI_BAD_NAME, ZACPI_NO_ROOM or ZACPI_TOO_LONG. */
+ZACPI_STATUS zacpi_write_srat(const struct zacpi_table_ids *ids,
                               const struct zacpi_srat_contents *contents, uint8_t *out,
-                              size_t room, size_t *length);
+                              size_t capacity, size_t *length);
 /* A BGRT of revision 1, 56 bytes, from the record as which zacpi_get_boot_graphic reads it (section
- * 5.2.22). Error before the last ones: ZACPI_UNKNOWN_CODE if `orientation` is none of its numbers,
- * or image_type isn't 0. */
-zacpi_status zacpi_write_bgrt(const struct zacpi_table_ids *ids,
-                              const struct zacpi_boot_graphic *graphic, uint8_t *out, size_t room,
-                              size_t *length);
-/* An SPCR of revision 4, 90 bytes, from the record as which zacpi_get_console reads it, and what that
- * doesn't say; the layout is Microsoft's. Language is 0 and NamespaceString is ".", that of a port
- * with no object in the namespace; Configured Baud Rate is the rate's code, or 0 if it has none. A
- * base, an interrupt or a rate that isn't there is written as 0 and not looked at; a code of
- * `interface`, `parity` or stop_bits that is reserved is written too. Errors before the last ones:
- * ZACPI_UNKNOWN_CODE, ZACPI_NO_ADDRESS if `base` is present at address 0. */
-zacpi_status zacpi_write_spcr(const struct zacpi_table_ids *ids,
+ * 5.2.22). Fails with ZACPI_UNKNOWN_CODE if `orientation` is none of its numbers, or image_type
+ * isn't 0, ZACPI_BAD_NAME, ZACPI_NO_ROOM or ZACPI_TOO_LONG. */
+ZACPI_STATUS zacpi_write_bgrt(const struct zacpi_table_ids *ids,
+                              const struct zacpi_boot_graphic *graphic, uint8_t *out,
+                              size_t capacity, size_t *length);
+/* An SPCR of revision 4, 90 bytes, from the record as which zacpi_get_console reads it, and what
+ * that doesn't say; the layout is Microsoft's. Language is 0 and NamespaceString ".", that of a
+ * port with no object in the namespace; Configured Baud Rate is the rate's code, or 0 if it has
+ * none. A base, an interrupt or a rate that isn't there is written as 0 and not looked at; a
+ * reserved code of `interface`, `parity` or stop_bits is written too. Fails with
+ * ZACPI_UNKNOWN_CODE, ZACPI_NO_ADDRESS if `base` is present at address 0, ZACPI_BAD_NAME,
+ * ZACPI_NO_ROOM or ZACPI_TOO_LONG. */
+ZACPI_STATUS zacpi_write_spcr(const struct zacpi_table_ids *ids,
                               const struct zacpi_spcr_contents *contents, uint8_t *out,
-                              size_t room, size_t *length);
-/* A GTDT of revision 3, from the record as which zacpi_get_arm_timers reads it and those of the timers of
- * the platform, in order (section 5.2.24): 104 bytes, which Platform Timer Offset says also if no
- * timer of the platform stands there, 28 for each watchdog, 20 for each GT Block, and 40 for each
- * frame. A virtual_el2 whose `present` is 0 is written as zeros, and read as present; of the other
- * timers `present` isn't looked at, nor is platform_timers_malformed. Errors before the last ones:
- * ZACPI_UNKNOWN_CODE, and of timer after timer ZACPI_SAME_AS_BUS if a polarity or a trigger is 0, and
- * ZACPI_TOO_MANY_FRAMES if a block has more than 1637. */
-zacpi_status zacpi_write_gtdt(const struct zacpi_table_ids *ids,
+                              size_t capacity, size_t *length);
+/* A GTDT of revision 3 (section 5.2.24), from the record as which zacpi_get_arm_timers reads it and
+ * the timers of the platform, in order: 104 bytes, which Platform Timer Offset says too, 28 for
+ * each watchdog, 20 for each GT Block, and 40 for each frame. A virtual_el2 that isn't present is
+ * written as zeros, and read as present; `present` of the other timers and
+ * platform_timers_malformed aren't looked at. Fails with ZACPI_UNKNOWN_CODE, and of timer after
+ * timer ZACPI_SAME_AS_BUS if a polarity or a trigger is 0, and ZACPI_TOO_MANY_FRAMES if a block has
+ * more than 1637, ZACPI_BAD_NAME, ZACPI_NO_ROOM or ZACPI_TOO_LONG. */
+ZACPI_STATUS zacpi_write_gtdt(const struct zacpi_table_ids *ids,
                               const struct zacpi_gtdt_contents *contents, uint8_t *out,
-                              size_t room, size_t *length);
-/* A FADT of version 6.4, 276 bytes, from the record as which zacpi_get_fixed_hardware reads it (section
- * 5.2.9). Each address and block stands in its X_ field, and if it fits in its field of 32 bits, a
- * block if it is one of ports; PM1_EVT_LEN, PM1_CNT_LEN and PM2_CNT_LEN are the whole bytes of
- * bit_width, which must have one, and X_GPEn_BLK of 32 bytes or more has a width of 255. gpe0 and
- * gpe1 aren't looked at (the blocks are), nor is `present` of pm1a and reset: by bit 10 of `flags`
- * (RESET_REG_SUP) there is a reset, and by bit 20 (HW_REDUCED_ACPI) no fixed hardware. Any other
- * register or block is there if `present` is 1 and its address isn't 0. What isn't there is written
- * as 0 and not looked at, and reserved flags are 0: so `reset` without RESET_REG_SUP and, of reduced
- * hardware, what is fixed is read as 0. sleep_control and sleep_status are read as present, whatever
- * they were below revision 2. Errors before the last ones: ZACPI_UNKNOWN_CODE, ZACPI_NO_ADDRESS if
- * dsdt_address is 0, ZACPI_BAD_REGISTER. */
-zacpi_status zacpi_write_fadt(const struct zacpi_table_ids *ids,
-                              const struct zacpi_fixed_hardware *fadt, uint8_t *out, size_t room,
-                              size_t *length);
-/* A FACS of version 2, 64 bytes, with a Global Lock of 0 (section 5.2.10). Its one error is
+                              size_t capacity, size_t *length);
+/* What the FADT of a guest without fixed hardware says, but for dsdt_address. */
+static inline struct zacpi_fixed_hardware zacpi_fadt_reduced(void) {
+    struct zacpi_fixed_hardware fadt;
+    size_t i;
+    for (i = 0; i < sizeof fadt; i++) ((uint8_t *)&fadt)[i] = 0;
+    fadt.flags = ZACPI_FADT_HW_REDUCED_ACPI;
+    fadt.c2_latency = 101, fadt.c3_latency = 1001; /* neither C2 nor C3 */
+    return fadt;
+}
+/* A FADT of version 6.4, 276 bytes, from the record as which zacpi_get_fixed_hardware reads it
+ * (section 5.2.9). An address or a block stands in its X_ field, and in its field of 32 bits if it
+ * fits, a block if it is one of ports; a length in bytes is the whole bytes of bit_width, of which
+ * PM1 and PM2 have one at least, and X_GPEn_BLK of 32 bytes or more has a width of 255. A register
+ * is there by `present` 1 and an address that isn't 0, pm1a unless the hardware is reduced, and the
+ * reset by ZACPI_FADT_RESET_REG_SUP. What isn't there, gpe0, gpe1, fixed hardware that is reduced,
+ * and reserved flags aren't looked at and read as 0, sleep_control and sleep_status as present.
+ * Fails with ZACPI_UNKNOWN_CODE, ZACPI_NO_ADDRESS if dsdt_address is 0, ZACPI_BAD_REGISTER,
+ * ZACPI_BAD_NAME, ZACPI_NO_ROOM or ZACPI_TOO_LONG. */
+ZACPI_STATUS zacpi_write_fadt(const struct zacpi_table_ids *ids,
+                              const struct zacpi_fixed_hardware *fadt, uint8_t *out,
+                              size_t capacity, size_t *length);
+/* A FACS of version 2, 64 bytes, with a Global Lock of 0 (section 5.2.10). Fails with
  * ZACPI_NO_ROOM. */
-zacpi_status zacpi_write_facs(const struct zacpi_facs_contents *contents, uint8_t *out,
-                              size_t room, size_t *length);
+ZACPI_STATUS zacpi_write_facs(const struct zacpi_facs_contents *contents, uint8_t *out,
+                              size_t capacity, size_t *length);
 
 /* ---- A whole machine that is written --------------------------------------------------------- */
 
-struct zacpi_slit_contents { /* as zacpi_write_slit is passed them */
-    uint64_t localities;
-    const uint8_t *distances;
-    size_t distances_length;
-};
-struct zacpi_aml_contents { /* as zacpi_write_dsdt and zacpi_write_ssdt are passed them */
+struct zacpi_aml_contents { /* as zacpi_write_dsdt is passed them */
     const uint8_t *aml;
     size_t aml_length;
     uint8_t revision;
 };
-enum zacpi_table_kind {
-    ZACPI_KIND_FADT = 0, ZACPI_KIND_MADT = 1, ZACPI_KIND_MCFG = 2, ZACPI_KIND_HPET = 3, ZACPI_KIND_SLIT = 4,
-    ZACPI_KIND_SSDT = 5, ZACPI_KIND_SRAT = 6,
-    ZACPI_KIND_BGRT = 7, ZACPI_KIND_SPCR = 8, ZACPI_KIND_GTDT = 9, ZACPI_KIND_GIC_MADT = 10
-};
-/* A table that the XSDT lists: its kind, and its record, the first of the list for that kind (for
- * an MCFG that list itself). The functions zacpi_table_... make one, with the other lists empty. */
-struct zacpi_listed_table {
-    uint32_t kind; /* of enum zacpi_table_kind */
-    const struct zacpi_fixed_hardware *fadts;
-    size_t fadts_length;
-    const struct zacpi_madt_contents *madts;
-    size_t madts_length;
-    const struct zacpi_pci_region *regions;
-    size_t regions_length;
-    const struct zacpi_hpet_info *hpets;
-    size_t hpets_length;
-    const struct zacpi_slit_contents *slits;
-    size_t slits_length;
-    const struct zacpi_aml_contents *ssdts;
-    size_t ssdts_length;
-    const struct zacpi_srat_contents *srats;
-    size_t srats_length;
-    const struct zacpi_boot_graphic *bgrts;
-    size_t bgrts_length;
-    const struct zacpi_spcr_contents *spcrs;
-    size_t spcrs_length;
-    const struct zacpi_gtdt_contents *gtdts;
-    size_t gtdts_length;
-    const struct zacpi_gic_contents *gics;
-    size_t gics_length;
+struct zacpi_listed_table { /* a whole table, as its own call writes it, or of any other origin */
+    const uint8_t *bytes;
+    size_t length;
 };
 struct zacpi_machine {
     struct zacpi_table_ids ids;
@@ -1273,128 +1299,27 @@ struct zacpi_machine {
     size_t facs_length;
 };
 
-static inline struct zacpi_listed_table zacpi_table_of(uint32_t kind) {
-    static const uint64_t nothing = 0; /* an empty list isn't null */
-    const void *none = &nothing;
-    struct zacpi_listed_table table;
-    table.kind = kind;
-    table.fadts = (const struct zacpi_fixed_hardware *)none, table.fadts_length = 0;
-    table.madts = (const struct zacpi_madt_contents *)none, table.madts_length = 0;
-    table.regions = (const struct zacpi_pci_region *)none, table.regions_length = 0;
-    table.hpets = (const struct zacpi_hpet_info *)none, table.hpets_length = 0;
-    table.slits = (const struct zacpi_slit_contents *)none, table.slits_length = 0;
-    table.ssdts = (const struct zacpi_aml_contents *)none, table.ssdts_length = 0;
-    table.srats = (const struct zacpi_srat_contents *)none, table.srats_length = 0;
-    table.bgrts = (const struct zacpi_boot_graphic *)none, table.bgrts_length = 0;
-    table.spcrs = (const struct zacpi_spcr_contents *)none, table.spcrs_length = 0;
-    table.gtdts = (const struct zacpi_gtdt_contents *)none, table.gtdts_length = 0;
-    table.gics = (const struct zacpi_gic_contents *)none, table.gics_length = 0;
-    return table;
-}
-static inline struct zacpi_listed_table zacpi_table_fadt(const struct zacpi_fixed_hardware *fadt) {
-    struct zacpi_listed_table table = zacpi_table_of(ZACPI_KIND_FADT);
-    table.fadts = fadt, table.fadts_length = 1;
-    return table;
-}
-static inline struct zacpi_listed_table zacpi_table_madt(const struct zacpi_madt_contents *madt) {
-    struct zacpi_listed_table table = zacpi_table_of(ZACPI_KIND_MADT);
-    table.madts = madt, table.madts_length = 1;
-    return table;
-}
-static inline struct zacpi_listed_table zacpi_table_mcfg(const struct zacpi_pci_region *regions,
-                                                         size_t regions_length) {
-    struct zacpi_listed_table table = zacpi_table_of(ZACPI_KIND_MCFG);
-    table.regions = regions, table.regions_length = regions_length;
-    return table;
-}
-static inline struct zacpi_listed_table zacpi_table_hpet(const struct zacpi_hpet_info *hpet) {
-    struct zacpi_listed_table table = zacpi_table_of(ZACPI_KIND_HPET);
-    table.hpets = hpet, table.hpets_length = 1;
-    return table;
-}
-static inline struct zacpi_listed_table zacpi_table_slit(const struct zacpi_slit_contents *slit) {
-    struct zacpi_listed_table table = zacpi_table_of(ZACPI_KIND_SLIT);
-    table.slits = slit, table.slits_length = 1;
-    return table;
-}
-static inline struct zacpi_listed_table zacpi_table_ssdt(const struct zacpi_aml_contents *ssdt) {
-    struct zacpi_listed_table table = zacpi_table_of(ZACPI_KIND_SSDT);
-    table.ssdts = ssdt, table.ssdts_length = 1;
-    return table;
-}
-static inline struct zacpi_listed_table zacpi_table_srat(const struct zacpi_srat_contents *srat) {
-    struct zacpi_listed_table table = zacpi_table_of(ZACPI_KIND_SRAT);
-    table.srats = srat, table.srats_length = 1;
-    return table;
-}
-static inline struct zacpi_listed_table zacpi_table_bgrt(const struct zacpi_boot_graphic *bgrt) {
-    struct zacpi_listed_table table = zacpi_table_of(ZACPI_KIND_BGRT);
-    table.bgrts = bgrt, table.bgrts_length = 1;
-    return table;
-}
-static inline struct zacpi_listed_table zacpi_table_spcr(const struct zacpi_spcr_contents *spcr) {
-    struct zacpi_listed_table table = zacpi_table_of(ZACPI_KIND_SPCR);
-    table.spcrs = spcr, table.spcrs_length = 1;
-    return table;
-}
-static inline struct zacpi_listed_table zacpi_table_gtdt(const struct zacpi_gtdt_contents *gtdt) {
-    struct zacpi_listed_table table = zacpi_table_of(ZACPI_KIND_GTDT);
-    table.gtdts = gtdt, table.gtdts_length = 1;
-    return table;
-}
-static inline struct zacpi_listed_table zacpi_table_gic_madt(const struct zacpi_gic_contents *gic) {
-    struct zacpi_listed_table table = zacpi_table_of(ZACPI_KIND_GIC_MADT);
-    table.gics = gic, table.gics_length = 1;
-    return table;
-}
-/* A MADT of these processors, with its other lists empty and a pair of 8259s. */
-static inline struct zacpi_madt_contents zacpi_madt_of(const struct zacpi_processor *processors,
-                                                       size_t processors_length,
-                                                       uint64_t local_apic_address) {
-    static const uint64_t nothing = 0;
-    const void *none = &nothing;
-    struct zacpi_madt_contents madt;
-    madt.processors = processors, madt.processors_length = processors_length;
-    madt.io_apics = (const struct zacpi_io_apic *)none, madt.io_apics_length = 0;
-    madt.overrides = (const struct zacpi_interrupt_source_override *)none, madt.overrides_length = 0;
-    madt.nmi_sources = (const struct zacpi_nmi_source *)none, madt.nmi_sources_length = 0;
-    madt.nmi_lines = (const struct zacpi_nmi_line *)none, madt.nmi_lines_length = 0;
-    madt.local_apic_address = local_apic_address, madt.also_has_8259 = 1;
-    madt.wakeup_mailbox = 0, madt.has_wakeup_mailbox = 0;
-    return madt;
-}
-/* A SRAT of these processors with local APICs and these ranges of memory. */
-static inline struct zacpi_srat_contents zacpi_srat_of(const struct zacpi_apic_domain *apics,
-                                                       size_t apics_length,
-                                                       const struct zacpi_memory_affinity *ranges,
-                                                       size_t ranges_length) {
-    static const uint64_t nothing = 0;
-    const void *none = &nothing;
-    struct zacpi_srat_contents srat;
-    srat.apics = apics, srat.apics_length = apics_length;
-    srat.giccs = (const struct zacpi_gicc_domain *)none, srat.giccs_length = 0;
-    srat.ranges = ranges, srat.ranges_length = ranges_length;
-    return srat;
-}
-
 /* All tables of a machine, for memory that begins at `address`: the RSDP there, and 48 bytes on the
  * XSDT, the DSDT, 128 bytes with the FACS at their first multiple of 64, and the listed tables in
- * order, each table at a multiple of 16 and filled up with zeros to the next. Errors, in this order:
- * ZACPI_UNKNOWN_TABLE and ZACPI_UNKNOWN_CODE of the tables, table by table; ZACPI_BAD_NAME;
- * ZACPI_TOO_LONG if the XSDT is; those of the DSDT and of each table, as its own call has them but
- * for ZACPI_NO_ROOM; ZACPI_NO_ROOM; ZACPI_NO_ADDRESS if the address is 0 or no multiple of 16, or
- * the address after the last byte is above 2^64 - 1. */
-zacpi_status zacpi_write_tables(const struct zacpi_machine *machine, uint64_t address,
-                                uint8_t *out, size_t room, size_t *length);
-/* The same without the RSDP and its 48 bytes: the XSDT lies at `address`. */
-zacpi_status zacpi_write_tables_without_rsdp(const struct zacpi_machine *machine, uint64_t address,
-                                             uint8_t *out, size_t room, size_t *length);
-/* How many bytes zacpi_write_tables writes. Its errors but the last two. */
-zacpi_status zacpi_tables_size(const struct zacpi_machine *machine, size_t *length);
-/* Where zacpi_write_tables lays the DSDT for this address if the machine lists so many tables, as
- * the FADT has to say. Error: ZACPI_NO_ADDRESS if the sum is above 2^64 - 1, or an XSDT can't list
- * so many. */
-zacpi_status zacpi_dsdt_address(uint64_t address, size_t tables_length, uint64_t *out);
+ * order, each table at a multiple of 16 and filled up with zeros to the next. Fails with
+ * ZACPI_BAD_TABLE if a listed one has fewer than 36 bytes, another number of them than its Length,
+ * or a sum that isn't 0; ZACPI_BAD_NAME; ZACPI_TOO_LONG; ZACPI_NO_ROOM; ZACPI_NO_ADDRESS if the
+ * address is 0 or no multiple of 16, or the address after the last byte is 2^64 or above. */
+ZACPI_STATUS zacpi_write_tables(const struct zacpi_machine *machine, uint64_t address, uint8_t *out,
+                                size_t capacity, size_t *length);
+/* The tables of a machine as zacpi_write_tables lays them, but for the RSDP and its 48 bytes: the
+ * XSDT lies at `address`. Fails with the same errors. */
+ZACPI_STATUS zacpi_write_tables_without_rsdp(const struct zacpi_machine *machine, uint64_t address,
+                                             uint8_t *out, size_t capacity, size_t *length);
+/* Returns how many bytes zacpi_write_tables writes. Fails with ZACPI_BAD_TABLE, ZACPI_BAD_NAME or
+ * ZACPI_TOO_LONG. */
+ZACPI_STATUS zacpi_tables_size(const struct zacpi_machine *machine, size_t *length);
+/* Returns where zacpi_write_tables lays the DSDT for this address if the machine lists so many
+ * tables, as the FADT has to say. Fails with ZACPI_NO_ADDRESS if the sum is 2^64 or above, or an
+ * XSDT can't list so many. */
+ZACPI_STATUS zacpi_dsdt_address(uint64_t address, size_t tables_length, uint64_t *out);
+
+#include "zacpi_calls.h"
 
 #ifdef __cplusplus
 }

@@ -19,29 +19,30 @@ file == 1 && /^enum zacpi_refusal/ { inside = 1 }
 file == 1 && /^};/ { inside = 0 }
 file == 1 && inside && match($0, /^    ZACPI_[A-Z_]+ = [0-9]+/) {
     split(substr($0, 11, RLENGTH - 10), parts, " = ")
+    count++
     sub(/^(NUMA|IOMMU)_/, "", parts[1])
     if (parts[2] != 0) has(parts[2], rust_name(parts[1]))
 }
 file == 1 && /zacpi_status_name\(/ { shown = 1 }
 file == 1 && shown && /^}/ { shown = 0 }
-file == 1 && shown && /"Ok"/ { number = 0; listed = 1 }
-# The names that the header shows, in the order of their numbers.
-file == 1 && shown && listed {
+# The names that the header shows, each after its number.
+file == 1 && shown {
     text = $0
-    while (match(text, /"[A-Za-z ]+"/)) {
-        part = substr(text, RSTART + 1, RLENGTH - 2)
-        sub(/^InvalidMadt /, "Madt", part); sub(/^Invalid(Srat|Iommu) /, "", part)
-        shown_name[number++] = part
+    while (match(text, /"[0-9]+:[A-Za-z ]+/)) {
+        split(substr(text, RSTART + 1, RLENGTH - 1), parts, ":")
+        sub(/^InvalidMadt /, "Madt", parts[2]); sub(/^Invalid(Srat|Iommu) /, "", parts[2])
+        if (parts[1] in shown_name) complain("the header shows two names of " parts[1])
+        shown_name[parts[1]] = parts[2]
+        number++
         text = substr(text, RSTART + RLENGTH)
     }
-    if (/};/) listed = 0
 }
 file == 2 && match($0, /(Refusal|AcpiError|MadtError|WriterError)::[A-Za-z]+(\(_\))? => [0-9]+/) {
     text = substr($0, RSTART, RLENGTH)
     sub(/Invalid(Srat|Iommu)/, "Invalid", text); sub(/^MadtError::/, "Madt", text)
     sub(/^.*::/, "", text); sub(/\(_\)/, "", text)
     split(text, parts, " => ")
-    has(parts[2], parts[1])
+    if (parts[2] != 99) has(parts[2], parts[1])
 }
 file == 3 && match($0, /^ +[0-9]+ => [A-Za-z]+/) {
     text = $3
@@ -49,10 +50,10 @@ file == 3 && match($0, /^ +[0-9]+ => [A-Za-z]+/) {
     has($1, text)
 }
 END {
-    # The bindings don't know those that no call answers them: 17, 18 and 30, 20 as their starts are all known, and
-    # those of tables that are written, from 41 on.
-    split("17 18 20 30 41 42 43 44 45 46 47 48 49 50 51 52 53 54 55 56 57", n, " ")
-    for (i in n) unknown[n[i]] = 1
+    # The bindings don't know those that no call returns to them: that of a start, since they pass none but these, and
+    # those of tables that are written, from 60 on.
+    unknown[3] = 1
+    for (i = 60; i <= most; i++) unknown[i] = 1
     for (i = 1; i <= most; i++) {
         here = name_of[1, i]
         if (here != shown_name[i]) complain(i ": the header has '" here "', and shows '" shown_name[i] "'")
@@ -60,7 +61,7 @@ END {
         if (i in unknown) here = ""
         if (here != name_of[3, i]) complain(i ": the header has '" here "', and error.rs '" name_of[3, i] "'")
     }
-    if (number != most + 1) complain("the header shows " number " names for numbers up to " most)
+    if (number != count) complain("the header shows " number " names of " count " numbers")
     if (file != 3 || !found[1] || !found[2] || !found[3]) complain("numbers of one of the three files aren't found")
     exit differ
 }

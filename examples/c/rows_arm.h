@@ -76,9 +76,9 @@ static const struct zacpi_gic_contents whole_gic = {
 static const struct zacpi_gic_contents small_gic = {
     GICD, interfaces + 1, 1, NONE(redistributors), NONE(services), NONE(frames)};
 static const struct zacpi_gic_contents gic_without_processor = {
-    GICD, NONE(interfaces), LISTED(long_redistributors), NONE(services), NONE(frames)};
+    GICD, NONE(interfaces), LISTED(redistributors), NONE(services), NONE(frames)};
 static const struct zacpi_gic_contents gic_of_long_range = {
-    GICD, LISTED(interfaces), LISTED(long_redistributors), NONE(services), NONE(frames)};
+    GICD, NONE(interfaces), LISTED(long_redistributors), NONE(services), NONE(frames)};
 
 #define GICD_ENTRY 12, 24, 0, 0, 4, 3, 2, 1, 0, 0, 0, 8, 1, 0, 0, 0, 9, 0, 0, 0, 3, 0, 0, 0
 /* The 80 bytes of the second GICC, without TRBE Interrupt: not enabled; of Flags VGIC Maintenance Interrupt Mode. */
@@ -112,43 +112,34 @@ static void lay_arm_machine(void) {
     to = lay(to, gtdt_bytes, sizeof gtdt_bytes);
     lay(to, gic_bytes, sizeof gic_bytes);
 }
-static zacpi_status on_arm(uint8_t *to, size_t room, size_t *length) {
-    const struct zacpi_listed_table tables[] = {zacpi_table_gtdt(&all_timers), zacpi_table_gic_madt(&whole_gic)};
-    return on_machine(LISTED(tables), 0, 0, 0x7fe00000, 1, to, room, length);
-}
-MACHINE(an_arm_machine, on_arm(to, room, length))
-MACHINE(bus_timers_listed, on_two(zacpi_table_gtdt(&timers_as_bus), zacpi_table_slit(&no_matrix), to, room, length))
-MACHINE(no_interface_listed, on_two(zacpi_table_gic_madt(&gic_without_processor), zacpi_table_slit(&no_matrix), to,
-                                    room, length))
-MACHINE(long_range_listed, on_two(zacpi_table_gic_madt(&gic_of_long_range), zacpi_table_slit(&no_matrix), to, room,
-                                  length))
+MACHINE(an_arm_machine, on_two(LISTED(gtdt_bytes), LISTED(gic_bytes), to, room, length))
 
-/* Whether these timers are refused alone and in a machine. */
+/* Whether these timers are refused. */
 static void check_timers(int row, const struct zacpi_gtdt_contents *timers, zacpi_status status) {
-    const struct zacpi_listed_table table = zacpi_table_gtdt(timers);
     size_t length = UNCOUNTED;
     zacpi_status got = zacpi_write_gtdt(ids, timers, out.bytes, sizeof out.bytes, &length);
     result(got == status && length == UNCOUNTED, "a GTDT of bad codes", row, 0, got);
-    check_machine("a machine with a GTDT of bad codes", row, &table, status);
 }
 /* Whether the MADT of this GIC is. */
 static void check_gic(int row, const struct zacpi_gic_contents *gic, zacpi_status status) {
-    const struct zacpi_listed_table table = zacpi_table_gic_madt(gic);
     size_t length = UNCOUNTED;
     zacpi_status got = zacpi_write_gic_madt(ids, gic, out.bytes, sizeof out.bytes, &length);
     result(got == status && length == UNCOUNTED, "a GIC of bad codes", row, 0, got);
-    check_machine("a machine with a GIC of bad codes", row, &table, status);
 }
-/* Each trigger of a processor as the bus has it, and of a number that is no code; the ranges are too long. */
+/* Each trigger of a processor as the bus has it, and of a number that is no code, which comes before a range that is too
+ * long, and this before a trigger as the bus has it. */
 static void check_gic_codes(void) {
     int i;
     for (i = 0; i < 4; i++) {
         struct zacpi_gic_cpu_interface two[] = {interfaces[0], interfaces[1]};
-        struct zacpi_gic_contents gic = gic_of_long_range;
+        struct zacpi_gic_contents gic = whole_gic;
         uint8_t *at = i % 2 ? &two[i / 2].performance_trigger : &two[i / 2].maintenance_trigger;
         gic.cpu_interfaces = two;
         *at = 0;
         check_gic(i, &gic, ZACPI_SAME_AS_BUS);
+        gic.redistributors = long_redistributors;
+        gic.redistributors_length = sizeof long_redistributors / sizeof *long_redistributors;
+        check_gic(i, &gic, ZACPI_BAD_RANGE);
         *at = i < 2 ? 2 : 4;
         check_gic(i, &gic, ZACPI_UNKNOWN_CODE);
     }

@@ -20,6 +20,7 @@ static const struct zacpi_table_ids *ids = &makers;
 
 /* ---- What is passed ------------------------------------------------------------------------------------- */
 
+static const struct zacpi_signature tpm2 = {{'T', 'P', 'M', '2'}}, oem9 = {{'O', 'E', 'M', '9'}};
 static const uint32_t addresses_32[] = {0x7fe01000, 0};
 static const uint64_t addresses_64[] = {0x7fe01000, 0x0102030405060708};
 static const uint8_t code[] = {0xa4, 0x01, 0x02};
@@ -214,6 +215,12 @@ static const uint8_t pc_spcr_bytes[] = {HEAD('S', 'P', 'C', 'R', 90, 4, 0xa4), 0
     255, 255, 255, 255, 0, 0, 0, 0, 0, 0, 0, 0,
     0, 0x20, 0x1c, 0, 0x80, 0x25, 0, 0, 2, 0, 88, 0, '.', 0};
 
+/* A TPM2 of the TCG ACPI Specification: Platform Class, Reserved, Address of CRB Control Area, Start Method. */
+static const uint8_t tpm2_body[] = {0, 0, 0, 0, 0x40, 0, 0xd4, 0xfe, 0, 0, 0, 0, 7, 0, 0, 0};
+static const uint8_t tpm2_bytes[] = {HEAD('T', 'P', 'M', '2', 52, 4, 0x5b),
+    0, 0, 0, 0, 0x40, 0, 0xd4, 0xfe, 0, 0, 0, 0, 7, 0, 0, 0};
+static const uint8_t bodiless_bytes[] = {HEAD('O', 'E', 'M', '9', 36, 255, 0x92)};
+
 #include "rows_machine.h"
 #include "rows_arm.h"
 
@@ -228,6 +235,8 @@ WRITE(an_rsdt, rsdt, LISTED(addresses_32))
 WRITE(an_xsdt, xsdt, LISTED(addresses_64))
 WRITE(a_dsdt, dsdt, 2, LISTED(code))
 WRITE(an_ssdt, ssdt, 1, NONE(code))
+WRITE(a_tpm2, table, tpm2, 4, LISTED(tpm2_body))
+WRITE(a_bodiless_table, table, oem9, 255, NONE(tpm2_body))
 WRITE(an_mcfg, mcfg, LISTED(buses))
 WRITE(an_mcfg_of_none, mcfg, NONE(buses))
 WRITE(an_hpet, hpet, &timers_block)
@@ -298,7 +307,7 @@ static zacpi_status a_facs(uint8_t *to, size_t room, size_t *length) {
 }
 
 /* What is written, or the error, whatever room there is; and the status if a name isn't UTF-8: that error comes after
- * those of one table's contents, and in a machine before those of its tables. A FACS has no names. */
+ * those of what one table is to say, and of a machine after that of bytes that aren't a table. A FACS has no names. */
 static const struct written_row {
     const char *name;
     zacpi_status (*run)(uint8_t *to, size_t room, size_t *length);
@@ -308,9 +317,9 @@ static const struct written_row {
 } written[] = {
 #define WRITTEN(verb, bytes) {#verb, verb, bytes, sizeof bytes, ZACPI_OK, ZACPI_BAD_NAME}
 #define NOT_WRITTEN(verb, status) {#verb, verb, NULL, 0, status, status}
-#define NOT_LISTED(verb, status) {#verb, verb, NULL, 0, status, ZACPI_BAD_NAME}
     WRITTEN(an_rsdp, rsdp_bytes), WRITTEN(an_rsdt, rsdt_bytes), WRITTEN(an_xsdt, xsdt_bytes),
-    WRITTEN(a_dsdt, dsdt_bytes), WRITTEN(an_ssdt, ssdt_bytes), WRITTEN(an_mcfg, mcfg_bytes),
+    WRITTEN(a_dsdt, dsdt_bytes), WRITTEN(an_ssdt, ssdt_bytes), WRITTEN(a_tpm2, tpm2_bytes),
+    WRITTEN(a_bodiless_table, bodiless_bytes), WRITTEN(an_mcfg, mcfg_bytes),
     WRITTEN(an_mcfg_of_none, no_region_bytes), WRITTEN(an_hpet, hpet_bytes),
     WRITTEN(an_unprotected_hpet, unprotected_bytes), WRITTEN(an_hpet_of_64k, protected_64k_bytes),
     WRITTEN(a_reserved_hpet, reserved_hpet_bytes), WRITTEN(a_slit, slit_bytes), WRITTEN(a_madt, madt_bytes),
@@ -343,19 +352,17 @@ static const struct written_row {
     NOT_WRITTEN(a_fadt_of_7_event_bits, ZACPI_BAD_REGISTER), NOT_WRITTEN(a_fadt_of_7_control_bits, ZACPI_BAD_REGISTER),
     WRITTEN(a_machine, machine_bytes), WRITTEN(a_tree, tree_bytes), WRITTEN(an_empty_machine, empty_machine_bytes),
     WRITTEN(a_machine_of_a_facs, facs_machine_bytes),
-    NOT_LISTED(no_matrix_listed, ZACPI_BAD_MATRIX), NOT_LISTED(no_processor_listed, ZACPI_NO_PROCESSOR),
-    NOT_LISTED(no_dsdt_listed, ZACPI_NO_ADDRESS), NOT_LISTED(no_range_listed, ZACPI_BAD_RANGE),
-    NOT_LISTED(all_ids_listed, ZACPI_ID_OF_ALL), NOT_WRITTEN(code_before_kind, ZACPI_UNKNOWN_CODE),
-    NOT_WRITTEN(kind_before_code, ZACPI_UNKNOWN_TABLE),
-    WRITTEN(a_machine_of_firmware, firmware_machine_bytes), NOT_WRITTEN(bad_45_listed, ZACPI_UNKNOWN_CODE),
-    NOT_WRITTEN(no_controller_listed, ZACPI_UNKNOWN_CODE), NOT_LISTED(console_at_0_listed, ZACPI_NO_ADDRESS),
+    WRITTEN(a_machine_of_firmware, firmware_machine_bytes), WRITTEN(a_machine_of_an_oem, oem_machine_bytes),
+    NOT_WRITTEN(no_byte_listed, ZACPI_BAD_TABLE), NOT_WRITTEN(half_a_header_listed, ZACPI_BAD_TABLE),
+    NOT_WRITTEN(more_bytes_listed, ZACPI_BAD_TABLE), NOT_WRITTEN(fewer_bytes_listed, ZACPI_BAD_TABLE),
+    NOT_WRITTEN(a_long_length_listed, ZACPI_BAD_TABLE), NOT_WRITTEN(a_bad_sum_listed, ZACPI_BAD_TABLE),
+    NOT_WRITTEN(no_table_at_first, ZACPI_BAD_TABLE),
     WRITTEN(a_gtdt, gtdt_bytes), WRITTEN(a_gtdt_without_virtual_el2, gtdt_without_virtual_el2),
     WRITTEN(a_gtdt_of_the_platform, platform_gtdt_bytes),
     WRITTEN(a_gtdt_of_zeros, gtdt_without_virtual_el2), WRITTEN(an_arm_machine, arm_machine_bytes),
-    NOT_WRITTEN(a_gtdt_as_the_bus, ZACPI_SAME_AS_BUS), NOT_LISTED(bus_timers_listed, ZACPI_SAME_AS_BUS),
+    NOT_WRITTEN(a_gtdt_as_the_bus, ZACPI_SAME_AS_BUS),
     WRITTEN(a_gic, gic_bytes), WRITTEN(a_small_gic, small_gic_bytes),
-    NOT_WRITTEN(no_interface, ZACPI_NO_PROCESSOR), NOT_WRITTEN(long_range, ZACPI_BAD_RANGE),
-    NOT_LISTED(no_interface_listed, ZACPI_NO_PROCESSOR), NOT_LISTED(long_range_listed, ZACPI_BAD_RANGE)};
+    NOT_WRITTEN(no_interface, ZACPI_NO_PROCESSOR), NOT_WRITTEN(long_range, ZACPI_BAD_RANGE)};
 
 static void check_written(const struct written_row *row, size_t room, zacpi_status status) {
     size_t length = UNCOUNTED, i, size = status ? 0 : row->length;

@@ -8,7 +8,9 @@
 enum { TABLES = 0x7000000, ROOM = 1 << 20, MOST = 4096, HALF = 64 << 20 };
 /* What the tables say, but for the processors. */
 static const struct zacpi_io_apic io_apic = {0xfec00000, 0, 0};
-static const struct zacpi_interrupt_source_override overrides[] = {{2, 0, 0, 0}, {9, 9, 1, 3}}; /* timer, SCI */
+static const struct zacpi_interrupt_source_override overrides[] = {
+    {.isa_source = 0, .global_system_interrupt = 2}, /* the timer */
+    {.isa_source = 9, .global_system_interrupt = 9, .polarity = ZACPI_POLARITY_HIGH, .trigger = ZACPI_TRIGGER_LEVEL}};
 static const struct zacpi_pci_region pci = {0xb0000000, 0, 0, 255};
 static const struct zacpi_hpet_info hpet = {0xfed00000, 0x8086a201, 100, 0, 0};
 static const struct zacpi_memory_affinity halves[] = {{0, HALF, 0, 0, 0}, {HALF, HALF, 1, 0, 0}};
@@ -16,7 +18,7 @@ static const uint8_t distances[] = {10, 20, 20, 10};
 static const uint8_t soft_off[] = {0x08, '_', 'S', '5', '_', 0x12, 4, 2, 0, 0}; /* Name (_S5, Package {0, 0}) */
 static struct zacpi_processor processors[MOST];
 static struct zacpi_apic_domain domains[MOST];
-static uint8_t memory[ROOM];
+static uint8_t scratch[ROOM], memory[ROOM];
 
 /* The processors, of which the first half is in domain 0. */
 static void place(size_t count) {
@@ -27,38 +29,48 @@ static void place(size_t count) {
 }
 /* A register of so many bits among the I/O ports. */
 static struct zacpi_register port(uint64_t address, uint8_t bits) {
-    struct zacpi_register answer = {{address, 1, bits, 0, 0}, 1};
+    struct zacpi_register answer = {{address, ZACPI_SPACE_SYSTEM_IO, bits, 0, 0}, 1};
     return answer;
 }
 static struct zacpi_fixed_hardware hardware(void) {
     struct zacpi_fixed_hardware answer = {0};
-    answer.power_profile = 1; /* a desktop */
+    answer.power_profile = ZACPI_PROFILE_DESKTOP;
     answer.sci_interrupt = 9;
     answer.pm1a_event = port(0x600, 32), answer.pm1a_control = port(0x604, 16), answer.pm_timer = port(0x608, 32);
-    answer.gpe0_block.address = 0x620, answer.gpe0_block.space = 1, answer.gpe0_block.byte_length = 16;
-    answer.gpe0_block.present = 1, answer.c2_latency = 101, answer.c3_latency = 1001; /* neither C2 nor C3 */
+    answer.gpe0_block.address = 0x620, answer.gpe0_block.space = ZACPI_SPACE_SYSTEM_IO;
+    answer.gpe0_block.byte_length = 16, answer.gpe0_block.present = 1;
+    answer.c2_latency = 101, answer.c3_latency = 1001; /* neither C2 nor C3 */
     answer.reset = port(0xcf9, 8), answer.reset_value = 0xf;
-    answer.flags = 1 << 0 | 1 << 8 | 1 << 10; /* WBINVD, TMR_VAL_EXT, RESET_REG_SUP */
+    answer.flags = ZACPI_FADT_WBINVD | ZACPI_FADT_TMR_VAL_EXT | ZACPI_FADT_RESET_REG_SUP;
     return answer;
 }
 
 /* Writes the tables of a machine with so many processors into `memory`, and says how many bytes they have. */
 static zacpi_status write_machine(size_t count, size_t *length) {
-    const struct zacpi_slit_contents slit = {2, distances, sizeof distances};
-    const struct zacpi_srat_contents srat = zacpi_srat_of(domains, count, halves, 2);
+    const struct zacpi_table_ids ids = {"ZACPI", "GUEST", 1, {'Z', 'F', 'I', 'R'}, 1};
+    const struct zacpi_madt_contents madt = {
+        .processors = processors, .processors_length = count, .io_apics = &io_apic, .io_apics_length = 1,
+        .overrides = overrides, .overrides_length = 2, .local_apic_address = 0xfee00000, .also_has_8259 = 1};
+    const struct zacpi_srat_contents srat = {
+        .apics = domains, .apics_length = count, .ranges = halves, .ranges_length = 2};
     const struct zacpi_aml_contents dsdt = {soft_off, sizeof soft_off, 2};
-    struct zacpi_madt_contents madt = zacpi_madt_of(processors, count, 0xfee00000);
     struct zacpi_fixed_hardware fadt = hardware();
     struct zacpi_listed_table tables[6];
-    const struct zacpi_facs_contents no_facs = {0}; /* the place of an empty list */
-    const struct zacpi_machine machine = {{"ZACPI", "GUEST", 1, {'Z', 'F', 'I', 'R'}, 1}, tables, 6, &dsdt, 1,
-                                          &no_facs, 0};
+    const struct zacpi_machine machine = {
+        .ids = ids, .tables = tables, .tables_length = 6, .dsdts = &dsdt, .dsdts_length = 1};
+    size_t used = 0; /* of `scratch`, to which each table is written first */
     zacpi_status refused = zacpi_dsdt_address(TABLES, 6, &fadt.dsdt_address);
-    if (refused) return refused;
-    madt.io_apics = &io_apic, madt.io_apics_length = 1, madt.overrides = overrides, madt.overrides_length = 2;
-    tables[0] = zacpi_table_fadt(&fadt), tables[1] = zacpi_table_madt(&madt), tables[2] = zacpi_table_mcfg(&pci, 1);
-    tables[3] = zacpi_table_hpet(&hpet), tables[4] = zacpi_table_srat(&srat), tables[5] = zacpi_table_slit(&slit);
-    return zacpi_write_tables(&machine, TABLES, memory, sizeof memory, length);
+#define LIST(i, table, ...) \
+    tables[i].bytes = scratch + used; \
+    if (!refused) refused = zacpi_write_##table(&ids, __VA_ARGS__, scratch + used, ROOM - used, &tables[i].length); \
+    if (!refused) used += tables[i].length
+    LIST(0, fadt, &fadt);
+    LIST(1, madt, &madt);
+    LIST(2, mcfg, &pci, 1);
+    LIST(3, hpet, &hpet);
+    LIST(4, srat, &srat);
+    LIST(5, slit, 2, distances, sizeof distances);
+    return refused ? refused : zacpi_write_tables(&machine, TABLES, memory, ROOM, length);
 }
 
 int main(int argc, char **argv) {

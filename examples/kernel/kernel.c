@@ -110,7 +110,7 @@ static void places(const struct zacpi_source *source) {
 /* How the 16 ISA interrupts come to the I/O APICs. */
 static void pins(const struct zacpi_source *source) {
     struct zacpi_signature named = {{0}};
-    static struct zacpi_isa_interrupts isa; /* an output has to be initialised too */
+    struct zacpi_isa_interrupts isa;
     if (zacpi_list_isa_interrupts(source, &isa, &named)) return;
     for (size_t irq = 0; irq < 16; irq++) {
         const struct zacpi_isa_route *route = isa.routes + irq;
@@ -151,8 +151,8 @@ static void first_unit(const struct zacpi_source *source) {
     uint64_t began_, first_ = 0, best_ = UINT64_MAX, from_ = paint(), depth_; \
     for (int i_ = 0; i_ < 9; i_++) { \
         began_ = cycles(); \
-        (void)name(__VA_ARGS__); \
-        began_ = cycles() - began_; \
+        zacpi_status status_ = name(__VA_ARGS__); \
+        began_ = cycles() - began_, (void)status_; \
         if (!i_) first_ = began_; \
         if (began_ < best_) best_ = began_; \
     } \

@@ -125,7 +125,7 @@ impl<'k> AcpiTables<'k> {
     /// Refuses as the three calls above do; [`Start::Search`] as [`Start::BiosSearch`], but never because an area isn't
     /// mapped.
     pub fn open(regions: &'k [Region<'k>], start: Start) -> AcpiResult<Self> {
-        let root = Root::from(raw::zacpi_open(&start.source(regions))?);
+        let root = Root::from(raw::zacpi_1_open(&start.source(regions))?);
         Ok(AcpiTables { regions, root })
     }
 
@@ -167,7 +167,7 @@ impl<'k> AcpiTables<'k> {
 
     /// The first valid table of a signature (section 5.2.6), whatever its type. Refuses with `TableMissing`.
     pub fn find(&self, signature: Signature) -> AcpiResult<Table> {
-        raw::zacpi_find_table(&self.source(), signature).map(Table::from)
+        raw::zacpi_1_find_table(&self.source(), signature).map(Table::from)
     }
 
     /// The valid tables of a signature, one after the other: each step asks for one more (section 5.2.6).
@@ -177,30 +177,30 @@ impl<'k> AcpiTables<'k> {
 
     /// All valid tables, in the order of the root table, repeats kept (section 5.2.6).
     pub fn headers(&self) -> Listing<'k, Table> {
-        self.list(raw::zacpi_list_tables)
+        self.list(raw::zacpi_1_list_tables)
     }
 
     /// The members of the root table that a lookup of a signature passes over for another reason than another
     /// signature, in order, up to the first valid one (section 5.2.6).
     pub fn faults(&self, signature: Signature) -> Listing<'k, Fault> {
-        Listing::new(self.source(), signature, raw::zacpi_list_faults)
+        Listing::new(self.source(), signature, raw::zacpi_1_list_faults)
     }
 
     /// The AML of the DSDT that the first valid FADT names (section 5.2.11.1). Refuses with `TableMissing` for the
     /// FADT, with `InvalidDsdtAddress`, and as the table at that address is refused.
     pub fn dsdt(&self) -> AcpiResult<AmlTable> {
-        raw::zacpi_dsdt(&self.source())
+        raw::zacpi_1_dsdt(&self.source())
     }
 
     /// The AML of each valid SSDT, in the order of the root table (section 5.2.11.2).
     pub fn ssdts(&self) -> Listing<'k, AmlTable> {
-        self.list(raw::zacpi_list_ssdts)
+        self.list(raw::zacpi_1_list_ssdts)
     }
 
     /// The memory that the tables take, and that isn't to be given away: the root table, the listed tables, the DSDT
     /// and the FACS. The ranges may overlap (sections 5.2.6 to 5.2.11).
     pub fn ranges(&self) -> Listing<'k, Range> {
-        self.list(raw::zacpi_list_ranges)
+        self.list(raw::zacpi_1_list_ranges)
     }
 
     /// The bytes of a table, with its header, if they lie in one region: those of a table from these tables do.
@@ -243,7 +243,7 @@ impl Iterator for Tables<'_> {
     type Item = Table;
 
     fn next(&mut self) -> Option<Table> {
-        let table = raw::zacpi_find_nth_table(&self.tables.source(), self.signature, self.index).ok()?;
+        let table = raw::zacpi_1_find_nth_table(&self.tables.source(), self.signature, self.index).ok()?;
         self.index += 1;
         Some(table.into())
     }

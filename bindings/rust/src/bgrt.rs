@@ -61,7 +61,7 @@ impl From<records::BootGraphic> for Bgrt {
 
 impl Read<'_> for Bgrt {
     fn read(tables: &AcpiTables<'_>) -> AcpiResult<Self> {
-        raw::zacpi_get_boot_graphic(&tables.source()).map(Bgrt::from)
+        raw::zacpi_1_get_boot_graphic(&tables.source()).map(Bgrt::from)
     }
 }
 impl AcpiTable<'_> for Bgrt {

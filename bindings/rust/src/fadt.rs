@@ -358,7 +358,7 @@ impl From<records::FixedHardware> for Fadt {
 
 impl Read<'_> for Fadt {
     fn read(tables: &AcpiTables<'_>) -> AcpiResult<Self> {
-        raw::zacpi_get_fixed_hardware(&tables.source()).map(Fadt::from)
+        raw::zacpi_1_get_fixed_hardware(&tables.source()).map(Fadt::from)
     }
 }
 impl AcpiTable<'_> for Fadt {

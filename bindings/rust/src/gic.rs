@@ -131,27 +131,27 @@ impl<'k> GicModel<'k> {
     /// Refuses with `TableMissing`, with `InvalidMadt` if bytes are left in which no entry begins, and with `NoGic` if
     /// no entry describes a distributor, as on a machine with APICs.
     pub fn new(tables: &AcpiTables<'k>) -> AcpiResult<Self> {
-        let distributor = raw::zacpi_get_gic_distributor(&tables.source())?.into();
+        let distributor = raw::zacpi_1_get_gic_distributor(&tables.source())?.into();
         Ok(GicModel { distributor, tables: *tables })
     }
 
     /// The processors' interfaces, one for each GICC entry.
     pub fn cpu_interfaces(&self) -> Listing<'k, GicCpuInterface> {
-        self.tables.list(raw::zacpi_list_gic_cpu_interfaces)
+        self.tables.list(raw::zacpi_1_list_gic_cpu_interfaces)
     }
 
     /// The ranges of memory that hold redistributors, one for each GICR entry (section 5.2.12.17).
     pub fn redistributors(&self) -> Listing<'k, Range> {
-        self.tables.list(raw::zacpi_list_gic_redistributors)
+        self.tables.list(raw::zacpi_1_list_gic_redistributors)
     }
 
     /// The services that translate interrupts, one for each ITS entry (section 5.2.12.18).
     pub fn translation_services(&self) -> Listing<'k, GicTranslationService> {
-        self.tables.list(raw::zacpi_list_gic_translation_services)
+        self.tables.list(raw::zacpi_1_list_gic_translation_services)
     }
 
     /// The frames that turn messages into interrupts, one for each MSI frame entry.
     pub fn msi_frames(&self) -> Listing<'k, GicMsiFrame> {
-        self.tables.list(raw::zacpi_list_gic_msi_frames)
+        self.tables.list(raw::zacpi_1_list_gic_msi_frames)
     }
 }

@@ -133,18 +133,18 @@ impl<'k> Gtdt<'k> {
     /// The frames of the blocks of timers, block by block, in order (section 5.2.24.1.1). None below revision 2 of the
     /// table. Refuses with `TableMissing`.
     pub fn frames(&self) -> Listing<'k, GtFrame> {
-        self.tables.list(raw::zacpi_list_gt_frames)
+        self.tables.list(raw::zacpi_1_list_gt_frames)
     }
 
     /// The watchdogs, in order (section 5.2.24.1.2). None below revision 2 of the table. Refuses with `TableMissing`.
     pub fn watchdogs(&self) -> Listing<'k, Watchdog> {
-        self.tables.list(raw::zacpi_list_watchdogs)
+        self.tables.list(raw::zacpi_1_list_watchdogs)
     }
 }
 
 impl<'k> Read<'k> for Gtdt<'k> {
     fn read(tables: &AcpiTables<'k>) -> AcpiResult<Self> {
-        let raw = raw::zacpi_get_arm_timers(&tables.source())?;
+        let raw = raw::zacpi_1_get_arm_timers(&tables.source())?;
         Ok(Gtdt {
             control_base: unless_ones(raw.control_base),
             read_base: unless_ones(raw.read_base),

@@ -145,13 +145,13 @@ impl Dmar<'_> {
     /// The unit that remaps the interrupts of the I/O APIC of an id (section 8.3.1). Refuses with
     /// `InvalidStructureLength`.
     pub fn unit_of_io_apic(&self, id: u8) -> AcpiResult<Option<DmarSource>> {
-        found(raw::zacpi_dmar_io_apic(&self.tables.source(), id))
+        found(raw::zacpi_1_dmar_io_apic(&self.tables.source(), id))
     }
 
     /// The unit that remaps the interrupts of the HPET of a number (section 8.3.1). Refuses with
     /// `InvalidStructureLength`.
     pub fn unit_of_hpet(&self, number: u8) -> AcpiResult<Option<DmarSource>> {
-        found(raw::zacpi_dmar_hpet(&self.tables.source(), number))
+        found(raw::zacpi_1_dmar_hpet(&self.tables.source(), number))
     }
 
     /// The memory that is reserved for a device, as far as there is room: each RMRR of the segment with a device scope
@@ -195,7 +195,7 @@ impl Ivrs<'_> {
     ///
     /// Refuses with `InvalidStructureLength`.
     pub fn block_for(&self, segment: u16, device_id: u16) -> AcpiResult<Option<IvrsDevice>> {
-        found(raw::zacpi_get_ivrs_unit(&self.tables.source(), segment, device_id))
+        found(raw::zacpi_1_get_ivrs_unit(&self.tables.source(), segment, device_id))
     }
 
     /// The memory that has its own rules for a device, as far as there is room: each IVMD for it, for all devices or for

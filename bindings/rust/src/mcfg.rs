@@ -64,17 +64,17 @@ impl<'k> PciConfigRegions<'k> {
     /// as the specification says. Of several regions that hold the bus the first counts. `None` if none holds it, for a
     /// device above 31 and a function above 7, and if the address is 2^64 or above.
     pub fn ecam_address(&self, segment_group: u16, bus: u8, device: u8, function: u8) -> Option<u64> {
-        raw::zacpi_pci_ecam_address(&self.tables.source(), segment_group, bus, device, function).ok()
+        raw::zacpi_1_pci_ecam_address(&self.tables.source(), segment_group, bus, device, function).ok()
     }
 
     /// The regions, in the order of the table; fewer than 16 bytes at its end are none. Refuses with `TableMissing`.
     pub fn entries(&self) -> Listing<'k, PciConfigEntry> {
-        self.tables.list(raw::zacpi_list_pci_regions)
+        self.tables.list(raw::zacpi_1_list_pci_regions)
     }
 
     /// The memory that each region takes, in the same order. Refuses with `TableMissing`.
     pub fn ecam_ranges(&self) -> Listing<'k, EcamRange> {
-        self.tables.list(raw::zacpi_list_ecam_ranges)
+        self.tables.list(raw::zacpi_1_list_ecam_ranges)
     }
 }
 

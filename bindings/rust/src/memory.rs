@@ -56,7 +56,7 @@ pub fn clip_ranges<'b>(
 ///
 /// The list refuses with [`AcpiError::RegionsNotAscending`] and [`AcpiError::RegionTooHigh`], and with nothing else.
 pub fn missing_ranges<'k>(regions: &'k [Region<'k>], start: Start) -> Listing<'k, Range> {
-    Listing::new(start.source(regions), Signature::default(), raw::zacpi_list_missing_ranges)
+    Listing::new(start.source(regions), Signature::default(), raw::zacpi_1_list_missing_ranges)
 }
 
 /// What [`map_missing`] leaves.

@@ -102,64 +102,64 @@ macro_rules! lists {
 }
 
 ones! {
-    zacpi_open() -> Root;
-    zacpi_find_table(signature: Signature) -> Table;
-    zacpi_find_nth_table(signature: Signature, index: usize) -> Table;
-    zacpi_dsdt() -> AmlTable;
-    zacpi_get_pm_timer() -> PmTimer;
-    zacpi_hpet() -> HpetInfo;
-    zacpi_get_boot_graphic() -> BootGraphic;
-    zacpi_get_fixed_hardware() -> FixedHardware;
-    zacpi_get_console() -> Console;
-    zacpi_get_interrupt_model() -> InterruptModel;
-    zacpi_pci_ecam_address(segment_group: u16, bus: u8, device: u8, function: u8) -> u64;
-    zacpi_isa_interrupt(irq: u8) -> Interrupt;
-    zacpi_sci_interrupt() -> Interrupt;
-    zacpi_get_io_apic_pin(global_system_interrupt: u32) -> IoApicPin;
-    zacpi_list_isa_interrupts() -> IsaInterrupts;
-    zacpi_get_gic_distributor() -> GicDistributor;
-    zacpi_get_arm_timers() -> ArmTimers;
-    zacpi_domain_of_address(address: u64) -> u32;
-    zacpi_domain_of_apic(local_apic_id: u32) -> u32;
-    zacpi_domain_of_processor(uid: u32) -> u32;
-    zacpi_get_localities() -> Localities;
-    zacpi_distance(from: u64, to: u64) -> u8;
-    zacpi_dmar_io_apic(id: u8) -> DmarSource;
-    zacpi_dmar_hpet(number: u8) -> DmarSource;
-    zacpi_get_ivrs_unit(segment: u16, device_id: u16) -> IvrsDevice;
+    zacpi_1_open() -> Root;
+    zacpi_1_find_table(signature: Signature) -> Table;
+    zacpi_1_find_nth_table(signature: Signature, index: usize) -> Table;
+    zacpi_1_dsdt() -> AmlTable;
+    zacpi_1_get_pm_timer() -> PmTimer;
+    zacpi_1_hpet() -> HpetInfo;
+    zacpi_1_get_boot_graphic() -> BootGraphic;
+    zacpi_1_get_fixed_hardware() -> FixedHardware;
+    zacpi_1_get_console() -> Console;
+    zacpi_1_get_interrupt_model() -> InterruptModel;
+    zacpi_1_pci_ecam_address(segment_group: u16, bus: u8, device: u8, function: u8) -> u64;
+    zacpi_1_isa_interrupt(irq: u8) -> Interrupt;
+    zacpi_1_sci_interrupt() -> Interrupt;
+    zacpi_1_get_io_apic_pin(global_system_interrupt: u32) -> IoApicPin;
+    zacpi_1_list_isa_interrupts() -> IsaInterrupts;
+    zacpi_1_get_gic_distributor() -> GicDistributor;
+    zacpi_1_get_arm_timers() -> ArmTimers;
+    zacpi_1_domain_of_address(address: u64) -> u32;
+    zacpi_1_domain_of_apic(local_apic_id: u32) -> u32;
+    zacpi_1_domain_of_processor(uid: u32) -> u32;
+    zacpi_1_get_localities() -> Localities;
+    zacpi_1_distance(from: u64, to: u64) -> u8;
+    zacpi_1_dmar_io_apic(id: u8) -> DmarSource;
+    zacpi_1_dmar_hpet(number: u8) -> DmarSource;
+    zacpi_1_get_ivrs_unit(segment: u16, device_id: u16) -> IvrsDevice;
 }
 
 lists! {
-    zacpi_list_tables() -> Table;
-    zacpi_list_faults(signature: Signature) -> Fault;
-    zacpi_list_ssdts() -> AmlTable;
-    zacpi_list_ranges() -> Range;
-    zacpi_list_missing_ranges() -> Range;
-    zacpi_list_pci_regions() -> PciRegion;
-    zacpi_list_ecam_ranges() -> EcamRange;
-    zacpi_list_io_apics() -> IoApic;
-    zacpi_list_overrides() -> InterruptSourceOverride;
-    zacpi_list_nmi_sources() -> NmiSource;
-    zacpi_list_nmi_lines() -> NmiLine;
-    zacpi_list_processors() -> Processor;
-    zacpi_list_gic_cpu_interfaces() -> GicCpuInterface;
-    zacpi_list_gic_redistributors() -> Range;
-    zacpi_list_gic_translation_services() -> GicTranslationService;
-    zacpi_list_gic_msi_frames() -> GicMsiFrame;
-    zacpi_list_gt_frames() -> GtFrame;
-    zacpi_list_watchdogs() -> Watchdog;
-    zacpi_list_memory_affinities() -> MemoryAffinity;
+    zacpi_1_list_tables() -> Table;
+    zacpi_1_list_faults(signature: Signature) -> Fault;
+    zacpi_1_list_ssdts() -> AmlTable;
+    zacpi_1_list_ranges() -> Range;
+    zacpi_1_list_missing_ranges() -> Range;
+    zacpi_1_list_pci_regions() -> PciRegion;
+    zacpi_1_list_ecam_ranges() -> EcamRange;
+    zacpi_1_list_io_apics() -> IoApic;
+    zacpi_1_list_overrides() -> InterruptSourceOverride;
+    zacpi_1_list_nmi_sources() -> NmiSource;
+    zacpi_1_list_nmi_lines() -> NmiLine;
+    zacpi_1_list_processors() -> Processor;
+    zacpi_1_list_gic_cpu_interfaces() -> GicCpuInterface;
+    zacpi_1_list_gic_redistributors() -> Range;
+    zacpi_1_list_gic_translation_services() -> GicTranslationService;
+    zacpi_1_list_gic_msi_frames() -> GicMsiFrame;
+    zacpi_1_list_gt_frames() -> GtFrame;
+    zacpi_1_list_watchdogs() -> Watchdog;
+    zacpi_1_list_memory_affinities() -> MemoryAffinity;
 }
 
 unsafe extern "C" {
-    fn zacpi_locate(
+    fn zacpi_1_locate(
         regions: *const Region<'_>,
         regions_length: usize,
         address: u64,
         length: u64,
         out: *mut Place,
     ) -> u32;
-    fn zacpi_list_entries(
+    fn zacpi_1_list_entries(
         regions: *const Region<'_>,
         regions_length: usize,
         table: u64,
@@ -171,7 +171,7 @@ unsafe extern "C" {
         malformed: *mut u8,
         named: *mut Signature,
     ) -> u32;
-    fn zacpi_platform(
+    fn zacpi_1_platform(
         source: *const Source<'_>,
         out: *mut InterruptModel,
         processors: *mut Processor,
@@ -186,7 +186,7 @@ unsafe extern "C" {
         nmi_lines_room: usize,
         named: *mut Signature,
     ) -> u32;
-    fn zacpi_get_dmar_unit(
+    fn zacpi_1_get_dmar_unit(
         source: *const Source<'_>,
         segment: u16,
         bus: u8,
@@ -195,7 +195,7 @@ unsafe extern "C" {
         out: *mut DmarUnit,
         named: *mut Signature,
     ) -> u32;
-    fn zacpi_list_dmar_reserved(
+    fn zacpi_1_list_dmar_reserved(
         source: *const Source<'_>,
         segment: u16,
         bus: u8,
@@ -206,7 +206,7 @@ unsafe extern "C" {
         count: *mut usize,
         named: *mut Signature,
     ) -> u32;
-    fn zacpi_list_ivrs_memory(
+    fn zacpi_1_list_ivrs_memory(
         source: *const Source<'_>,
         device_id: u16,
         out: *mut IvrsMemory,
@@ -214,7 +214,7 @@ unsafe extern "C" {
         count: *mut usize,
         named: *mut Signature,
     ) -> u32;
-    fn zacpi_clip_ranges(
+    fn zacpi_1_clip_ranges(
         ranges: *const Range,
         ranges_length: usize,
         without: *const Range,
@@ -230,7 +230,7 @@ unsafe extern "C" {
 pub(crate) fn locate(regions: &[Region<'_>], address: u64, length: u64) -> AcpiResult<Place> {
     let mut place = Place::default();
     // SAFETY: the regions are a live slice, and the output is a live variable.
-    let status = unsafe { zacpi_locate(regions.as_ptr(), regions.len(), address, length, &mut place) };
+    let status = unsafe { zacpi_1_locate(regions.as_ptr(), regions.len(), address, length, &mut place) };
     answered(status, Signature::default()).map(|()| place)
 }
 
@@ -245,7 +245,7 @@ pub(crate) fn list_entries(
     let (mut count, mut malformed, mut named) = (0, 0, Signature::default());
     // SAFETY: the regions are a live slice; the outputs are a live slice with its length, and three live variables.
     let status = unsafe {
-        zacpi_list_entries(
+        zacpi_1_list_entries(
             regions.as_ptr(),
             regions.len(),
             table,
@@ -274,7 +274,7 @@ pub(crate) fn platform(
     // SAFETY: the source holds live slices of initialised items; the outputs are live slices, each with its length, and
     // two live variables.
     let status = unsafe {
-        zacpi_platform(
+        zacpi_1_platform(
             source,
             &mut model,
             processors.as_mut_ptr(),
@@ -297,7 +297,7 @@ pub(crate) fn platform(
 pub(crate) fn dmar_unit(source: &Source<'_>, segment: u16, bus: u8, hops: &[Hop]) -> AcpiResult<DmarUnit> {
     let (mut out, mut named) = (DmarUnit::default(), Signature::default());
     // SAFETY: the source and the hops are live slices of initialised items; the outputs are two live variables.
-    let status = unsafe { zacpi_get_dmar_unit(source, segment, bus, hops.as_ptr(), hops.len(), &mut out, &mut named) };
+    let status = unsafe { zacpi_1_get_dmar_unit(source, segment, bus, hops.as_ptr(), hops.len(), &mut out, &mut named) };
     answered(status, named).map(|()| out)
 }
 
@@ -313,7 +313,7 @@ pub(crate) fn list_dmar_reserved(
     // SAFETY: the source and the hops are live slices of initialised items; the outputs are a live slice with its
     // length, and two live variables.
     let status = unsafe {
-        zacpi_list_dmar_reserved(
+        zacpi_1_list_dmar_reserved(
             source,
             segment,
             bus,
@@ -334,7 +334,7 @@ pub(crate) fn list_ivrs_memory(source: &Source<'_>, device_id: u16, out: &mut [I
     // SAFETY: the source holds live slices of initialised items; the outputs are a live slice with its length, and two
     // live variables.
     let status =
-        unsafe { zacpi_list_ivrs_memory(source, device_id, out.as_mut_ptr(), out.len(), &mut count, &mut named) };
+        unsafe { zacpi_1_list_ivrs_memory(source, device_id, out.as_mut_ptr(), out.len(), &mut count, &mut named) };
     answered(status, named).map(|()| count)
 }
 
@@ -343,7 +343,7 @@ pub(crate) fn clip(ranges: &[Range], without: &[Range], window: Range, out: &mut
     let mut count = 0;
     // SAFETY: all are live slices, each with its length, and live variables; `out` is borrowed alone.
     let status = unsafe {
-        zacpi_clip_ranges(
+        zacpi_1_clip_ranges(
             ranges.as_ptr(),
             ranges.len(),
             without.as_ptr(),

@@ -20,13 +20,13 @@ impl Slit<'_> {
     /// How far one locality is from another, in units of which 10 are the distance from itself; 255 stands for
     /// unreachable. `None` if one of them isn't below `localities`, or if the table ends before the byte of the pair.
     pub fn distance(&self, from: u64, to: u64) -> Option<u8> {
-        raw::zacpi_distance(&self.tables.source(), from, to).ok()
+        raw::zacpi_1_distance(&self.tables.source(), from, to).ok()
     }
 }
 
 impl<'k> Read<'k> for Slit<'k> {
     fn read(tables: &AcpiTables<'k>) -> AcpiResult<Self> {
-        let raw = raw::zacpi_get_localities(&tables.source())?;
+        let raw = raw::zacpi_1_get_localities(&tables.source())?;
         Ok(Slit { localities: raw.localities, is_sane: raw.is_sane != 0, tables: *tables })
     }
 }

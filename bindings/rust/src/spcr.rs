@@ -158,7 +158,7 @@ impl From<records::Console> for Spcr {
 
 impl Read<'_> for Spcr {
     fn read(tables: &AcpiTables<'_>) -> AcpiResult<Self> {
-        raw::zacpi_get_console(&tables.source()).map(Spcr::from)
+        raw::zacpi_1_get_console(&tables.source()).map(Spcr::from)
     }
 }
 impl AcpiTable<'_> for Spcr {

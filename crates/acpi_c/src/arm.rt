@@ -12,7 +12,7 @@ use acpi_c_lib::records::{Range, Signature, Source};
 
 /// The distributor of the GIC (section 5.2.12.15).
 #[unsafe(no_mangle)]
-pub extern "C" fn zacpi_get_gic_distributor(
+pub extern "C" fn zacpi_1_get_gic_distributor(
     source: &Source<'_>,
     out: &mut GicDistributor,
     named: &mut Signature,
@@ -25,7 +25,7 @@ pub extern "C" fn zacpi_get_gic_distributor(
 
 /// The processors' interfaces to the GIC (section 5.2.12.14).
 #[unsafe(no_mangle)]
-pub extern "C" fn zacpi_list_gic_cpu_interfaces(
+pub extern "C" fn zacpi_1_list_gic_cpu_interfaces(
     source: &Source<'_>,
     out: &mut [GicCpuInterface],
     count: &mut usize,
@@ -39,7 +39,7 @@ pub extern "C" fn zacpi_list_gic_cpu_interfaces(
 
 /// The ranges of memory that hold redistributors (section 5.2.12.17).
 #[unsafe(no_mangle)]
-pub extern "C" fn zacpi_list_gic_redistributors(
+pub extern "C" fn zacpi_1_list_gic_redistributors(
     source: &Source<'_>,
     out: &mut [Range],
     count: &mut usize,
@@ -53,7 +53,7 @@ pub extern "C" fn zacpi_list_gic_redistributors(
 
 /// The services that translate interrupts (section 5.2.12.18).
 #[unsafe(no_mangle)]
-pub extern "C" fn zacpi_list_gic_translation_services(
+pub extern "C" fn zacpi_1_list_gic_translation_services(
     source: &Source<'_>,
     out: &mut [GicTranslationService],
     count: &mut usize,
@@ -67,7 +67,7 @@ pub extern "C" fn zacpi_list_gic_translation_services(
 
 /// The frames that turn messages into interrupts (section 5.2.12.16).
 #[unsafe(no_mangle)]
-pub extern "C" fn zacpi_list_gic_msi_frames(
+pub extern "C" fn zacpi_1_list_gic_msi_frames(
     source: &Source<'_>,
     out: &mut [GicMsiFrame],
     count: &mut usize,
@@ -81,7 +81,7 @@ pub extern "C" fn zacpi_list_gic_msi_frames(
 
 /// The timers of every processor (section 5.2.24).
 #[unsafe(no_mangle)]
-pub extern "C" fn zacpi_get_arm_timers(
+pub extern "C" fn zacpi_1_get_arm_timers(
     source: &Source<'_>,
     out: &mut ArmTimers,
     named: &mut Signature,
@@ -93,7 +93,7 @@ pub extern "C" fn zacpi_get_arm_timers(
 
 /// The frames of the blocks of timers, block by block (section 5.2.24.1.1).
 #[unsafe(no_mangle)]
-pub extern "C" fn zacpi_list_gt_frames(
+pub extern "C" fn zacpi_1_list_gt_frames(
     source: &Source<'_>,
     out: &mut [GtFrame],
     count: &mut usize,
@@ -107,7 +107,7 @@ pub extern "C" fn zacpi_list_gt_frames(
 
 /// The watchdogs of the Server Base System Architecture (section 5.2.24.1.2).
 #[unsafe(no_mangle)]
-pub extern "C" fn zacpi_list_watchdogs(
+pub extern "C" fn zacpi_1_list_watchdogs(
     source: &Source<'_>,
     out: &mut [Watchdog],
     count: &mut usize,

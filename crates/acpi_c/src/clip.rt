@@ -7,7 +7,7 @@ use acpi_c_lib::records::Range;
 
 /// The memory in a window that ranges hold, without some that are left out, in order.
 #[unsafe(no_mangle)]
-pub extern "C" fn zacpi_clip_ranges(
+pub extern "C" fn zacpi_1_clip_ranges(
     ranges: &[Range],
     without: &[Range],
     window: &Range,

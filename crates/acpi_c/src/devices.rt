@@ -10,7 +10,7 @@ use acpi_c_lib::records::{BootGraphic, HpetInfo, PmTimer, Signature, Source};
 
 /// The fixed hardware (section 5.2.9).
 #[unsafe(no_mangle)]
-pub extern "C" fn zacpi_get_fixed_hardware(
+pub extern "C" fn zacpi_1_get_fixed_hardware(
     source: &Source<'_>,
     out: &mut FixedHardware,
     named: &mut Signature,
@@ -22,7 +22,7 @@ pub extern "C" fn zacpi_get_fixed_hardware(
 
 /// The serial console that the firmware used (SPCR).
 #[unsafe(no_mangle)]
-pub extern "C" fn zacpi_get_console(
+pub extern "C" fn zacpi_1_get_console(
     source: &Source<'_>,
     out: &mut Console,
     named: &mut Signature,
@@ -34,7 +34,11 @@ pub extern "C" fn zacpi_get_console(
 
 /// The block of event timers (HPET).
 #[unsafe(no_mangle)]
-pub extern "C" fn zacpi_hpet(source: &Source<'_>, out: &mut HpetInfo, named: &mut Signature) -> u32
+pub extern "C" fn zacpi_1_hpet(
+    source: &Source<'_>,
+    out: &mut HpetInfo,
+    named: &mut Signature,
+) -> u32
     ensures { Answers result out.old out.new named.old named.new (hpet_below source.now) }
 {
     answer(hpet(source), out, named)
@@ -42,7 +46,7 @@ pub extern "C" fn zacpi_hpet(source: &Source<'_>, out: &mut HpetInfo, named: &mu
 
 /// The power management timer (sections 4.8.3.3 and 5.2.9).
 #[unsafe(no_mangle)]
-pub extern "C" fn zacpi_get_pm_timer(
+pub extern "C" fn zacpi_1_get_pm_timer(
     source: &Source<'_>,
     out: &mut PmTimer,
     named: &mut Signature,
@@ -54,7 +58,7 @@ pub extern "C" fn zacpi_get_pm_timer(
 
 /// The image that the firmware showed (section 5.2.22).
 #[unsafe(no_mangle)]
-pub extern "C" fn zacpi_get_boot_graphic(
+pub extern "C" fn zacpi_1_get_boot_graphic(
     source: &Source<'_>,
     out: &mut BootGraphic,
     named: &mut Signature,

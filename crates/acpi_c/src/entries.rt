@@ -10,7 +10,7 @@ use acpi_c_lib::regions::{Region, locate};
 
 /// Where bytes of physical memory are in the caller's regions.
 #[unsafe(no_mangle)]
-pub extern "C" fn zacpi_locate(
+pub extern "C" fn zacpi_1_locate(
     regions: &[Region<'_>],
     address: u64,
     length: u64,
@@ -23,7 +23,7 @@ pub extern "C" fn zacpi_locate(
 
 /// The entries of the table at an address, from an offset on, which begin with Type and Length.
 #[unsafe(no_mangle)]
-pub extern "C" fn zacpi_list_entries(
+pub extern "C" fn zacpi_1_list_entries(
     regions: &[Region<'_>],
     table: u64,
     first: u32,

@@ -16,7 +16,7 @@ use acpi_c_lib::routes::{isa, pin, sci};
 
 /// Which controllers interrupts come to, and how many of each sort there are (section 5.2.12).
 #[unsafe(no_mangle)]
-pub extern "C" fn zacpi_get_interrupt_model(
+pub extern "C" fn zacpi_1_get_interrupt_model(
     source: &Source<'_>,
     out: &mut InterruptModel,
     named: &mut Signature,
@@ -28,7 +28,7 @@ pub extern "C" fn zacpi_get_interrupt_model(
 
 /// The processors, the boot processor first (sections 5.2.12.2 and 5.2.12.12).
 #[unsafe(no_mangle)]
-pub extern "C" fn zacpi_list_processors(
+pub extern "C" fn zacpi_1_list_processors(
     source: &Source<'_>,
     out: &mut [Processor],
     count: &mut usize,
@@ -42,7 +42,7 @@ pub extern "C" fn zacpi_list_processors(
 
 /// The model and all its lists at once, each as the call for it alone answers it.
 #[unsafe(no_mangle)]
-pub extern "C" fn zacpi_platform(
+pub extern "C" fn zacpi_1_platform(
     source: &Source<'_>,
     out: &mut InterruptModel,
     processors: &mut [Processor],
@@ -77,7 +77,7 @@ pub extern "C" fn zacpi_platform(
 
 /// The I/O APICs (section 5.2.12.3).
 #[unsafe(no_mangle)]
-pub extern "C" fn zacpi_list_io_apics(
+pub extern "C" fn zacpi_1_list_io_apics(
     source: &Source<'_>,
     out: &mut [IoApic],
     count: &mut usize,
@@ -91,7 +91,7 @@ pub extern "C" fn zacpi_list_io_apics(
 
 /// The Interrupt Source Override entries (section 5.2.12.5).
 #[unsafe(no_mangle)]
-pub extern "C" fn zacpi_list_overrides(
+pub extern "C" fn zacpi_1_list_overrides(
     source: &Source<'_>,
     out: &mut [InterruptSourceOverride],
     count: &mut usize,
@@ -105,7 +105,7 @@ pub extern "C" fn zacpi_list_overrides(
 
 /// The NMI Source entries (section 5.2.12.6).
 #[unsafe(no_mangle)]
-pub extern "C" fn zacpi_list_nmi_sources(
+pub extern "C" fn zacpi_1_list_nmi_sources(
     source: &Source<'_>,
     out: &mut [NmiSource],
     count: &mut usize,
@@ -119,7 +119,7 @@ pub extern "C" fn zacpi_list_nmi_sources(
 
 /// The Local APIC NMI and Local x2APIC NMI entries (sections 5.2.12.7 and 5.2.12.13).
 #[unsafe(no_mangle)]
-pub extern "C" fn zacpi_list_nmi_lines(
+pub extern "C" fn zacpi_1_list_nmi_lines(
     source: &Source<'_>,
     out: &mut [NmiLine],
     count: &mut usize,
@@ -133,7 +133,7 @@ pub extern "C" fn zacpi_list_nmi_lines(
 
 /// The global system interrupt of one of the 16 ISA interrupts (section 5.2.12.5).
 #[unsafe(no_mangle)]
-pub extern "C" fn zacpi_isa_interrupt(
+pub extern "C" fn zacpi_1_isa_interrupt(
     source: &Source<'_>,
     irq: u8,
     out: &mut Interrupt,
@@ -146,7 +146,7 @@ pub extern "C" fn zacpi_isa_interrupt(
 
 /// The global system interrupt of the System Control Interrupt (sections 5.2.9 and 5.2.12.5).
 #[unsafe(no_mangle)]
-pub extern "C" fn zacpi_sci_interrupt(
+pub extern "C" fn zacpi_1_sci_interrupt(
     source: &Source<'_>,
     out: &mut Interrupt,
     named: &mut Signature,
@@ -158,7 +158,7 @@ pub extern "C" fn zacpi_sci_interrupt(
 
 /// The I/O APIC that a global system interrupt comes to, and the pin there (section 5.2.12.3).
 #[unsafe(no_mangle)]
-pub extern "C" fn zacpi_get_io_apic_pin(
+pub extern "C" fn zacpi_1_get_io_apic_pin(
     source: &Source<'_>,
     interrupt: u32,
     out: &mut IoApicPin,
@@ -171,7 +171,7 @@ pub extern "C" fn zacpi_get_io_apic_pin(
 
 /// The 16 ISA interrupts, each as `zacpi_isa_interrupt` answers it, with what `zacpi_get_io_apic_pin` answers for it.
 #[unsafe(no_mangle)]
-pub extern "C" fn zacpi_list_isa_interrupts(
+pub extern "C" fn zacpi_1_list_isa_interrupts(
     source: &Source<'_>,
     out: &mut IsaInterrupts,
     named: &mut Signature,

@@ -11,7 +11,7 @@ use acpi_c_lib::records::{Signature, Source};
 
 /// The unit that remaps a device (DMAR, section 8.3).
 #[unsafe(no_mangle)]
-pub extern "C" fn zacpi_get_dmar_unit(
+pub extern "C" fn zacpi_1_get_dmar_unit(
     source: &Source<'_>,
     segment: u16,
     bus: u8,
@@ -27,7 +27,7 @@ pub extern "C" fn zacpi_get_dmar_unit(
 
 /// The unit that remaps the interrupts of an I/O APIC (DMAR, section 8.3.1).
 #[unsafe(no_mangle)]
-pub extern "C" fn zacpi_dmar_io_apic(
+pub extern "C" fn zacpi_1_dmar_io_apic(
     source: &Source<'_>,
     id: u8,
     out: &mut DmarSource,
@@ -40,7 +40,7 @@ pub extern "C" fn zacpi_dmar_io_apic(
 
 /// The unit that remaps the interrupts of an HPET (DMAR, section 8.3.1).
 #[unsafe(no_mangle)]
-pub extern "C" fn zacpi_dmar_hpet(
+pub extern "C" fn zacpi_1_dmar_hpet(
     source: &Source<'_>,
     number: u8,
     out: &mut DmarSource,
@@ -53,7 +53,7 @@ pub extern "C" fn zacpi_dmar_hpet(
 
 /// The memory that is reserved for a device (DMAR, section 8.4).
 #[unsafe(no_mangle)]
-pub extern "C" fn zacpi_list_dmar_reserved(
+pub extern "C" fn zacpi_1_list_dmar_reserved(
     source: &Source<'_>,
     segment: u16,
     bus: u8,
@@ -70,7 +70,7 @@ pub extern "C" fn zacpi_list_dmar_reserved(
 
 /// The unit that remaps a device, and how it treats it (IVRS, section 5.2).
 #[unsafe(no_mangle)]
-pub extern "C" fn zacpi_get_ivrs_unit(
+pub extern "C" fn zacpi_1_get_ivrs_unit(
     source: &Source<'_>,
     segment: u16,
     device_id: u16,
@@ -85,7 +85,7 @@ pub extern "C" fn zacpi_get_ivrs_unit(
 
 /// The memory that has its own rules for a device (IVRS, section 5.2).
 #[unsafe(no_mangle)]
-pub extern "C" fn zacpi_list_ivrs_memory(
+pub extern "C" fn zacpi_1_list_ivrs_memory(
     source: &Source<'_>,
     device_id: u16,
     out: &mut [IvrsMemory],

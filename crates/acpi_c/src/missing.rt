@@ -10,7 +10,7 @@ use acpi_c_lib::records::{Range, Signature, Source};
 ///
 /// Fails with `ZACPI_REGIONS_NOT_ASCENDING`, `ZACPI_REGION_TOO_HIGH` and `ZACPI_UNKNOWN_START`, and with nothing else.
 #[unsafe(no_mangle)]
-pub extern "C" fn zacpi_list_missing_ranges(
+pub extern "C" fn zacpi_1_list_missing_ranges(
     source: &Source<'_>,
     out: &mut [Range],
     count: &mut usize,

@@ -10,7 +10,7 @@ use acpi_c_lib::records::{Signature, Source};
 
 /// The ranges of memory that the SRAT puts into domains (section 5.2.16.2).
 #[unsafe(no_mangle)]
-pub extern "C" fn zacpi_list_memory_affinities(
+pub extern "C" fn zacpi_1_list_memory_affinities(
     source: &Source<'_>,
     out: &mut [MemoryAffinity],
     count: &mut usize,
@@ -24,7 +24,7 @@ pub extern "C" fn zacpi_list_memory_affinities(
 
 /// The domain of the memory at a physical address (section 5.2.16.2).
 #[unsafe(no_mangle)]
-pub extern "C" fn zacpi_domain_of_address(
+pub extern "C" fn zacpi_1_domain_of_address(
     source: &Source<'_>,
     address: u64,
     out: &mut u32,
@@ -38,7 +38,7 @@ pub extern "C" fn zacpi_domain_of_address(
 
 /// The domain of the processor of a local APIC or x2APIC (sections 5.2.16.1 and 5.2.16.3).
 #[unsafe(no_mangle)]
-pub extern "C" fn zacpi_domain_of_apic(
+pub extern "C" fn zacpi_1_domain_of_apic(
     source: &Source<'_>,
     local_apic_id: u32,
     out: &mut u32,
@@ -52,7 +52,7 @@ pub extern "C" fn zacpi_domain_of_apic(
 
 /// The domain of a processor with an interface to the GIC (section 5.2.16.4).
 #[unsafe(no_mangle)]
-pub extern "C" fn zacpi_domain_of_processor(
+pub extern "C" fn zacpi_1_domain_of_processor(
     source: &Source<'_>,
     uid: u32,
     out: &mut u32,
@@ -66,7 +66,7 @@ pub extern "C" fn zacpi_domain_of_processor(
 
 /// How far one locality is from another (section 5.2.17).
 #[unsafe(no_mangle)]
-pub extern "C" fn zacpi_distance(
+pub extern "C" fn zacpi_1_distance(
     source: &Source<'_>,
     from: u64,
     to: u64,
@@ -80,7 +80,7 @@ pub extern "C" fn zacpi_distance(
 
 /// How many localities the SLIT has distances of, and whether it can be believed (section 5.2.17).
 #[unsafe(no_mangle)]
-pub extern "C" fn zacpi_get_localities(
+pub extern "C" fn zacpi_1_get_localities(
     source: &Source<'_>,
     out: &mut Localities,
     named: &mut Signature,

@@ -8,7 +8,7 @@ use acpi_c_lib::records::{PciRegion, Signature, Source};
 
 /// The regions of configuration space (PCI Firmware Specification, section 4.1.2).
 #[unsafe(no_mangle)]
-pub extern "C" fn zacpi_list_pci_regions(
+pub extern "C" fn zacpi_1_list_pci_regions(
     source: &Source<'_>,
     out: &mut [PciRegion],
     count: &mut usize,
@@ -22,7 +22,7 @@ pub extern "C" fn zacpi_list_pci_regions(
 
 /// Where a function lies: a region's base is that of bus 0 (PCI Firmware Specification, section 4.1.2).
 #[unsafe(no_mangle)]
-pub extern "C" fn zacpi_pci_ecam_address(
+pub extern "C" fn zacpi_1_pci_ecam_address(
     source: &Source<'_>,
     segment: u16,
     bus: u8,
@@ -43,7 +43,7 @@ pub extern "C" fn zacpi_pci_ecam_address(
 
 /// The memory that each region of configuration space takes, by the base of bus 0.
 #[unsafe(no_mangle)]
-pub extern "C" fn zacpi_list_ecam_ranges(
+pub extern "C" fn zacpi_1_list_ecam_ranges(
     source: &Source<'_>,
     out: &mut [EcamRange],
     count: &mut usize,

@@ -10,7 +10,7 @@ use acpi_c_lib::walks::{nth, ranges, ssdts};
 
 /// The root table (sections 5.2.7 and 5.2.8).
 #[unsafe(no_mangle)]
-pub extern "C" fn zacpi_open(source: &Source<'_>, out: &mut Root, named: &mut Signature) -> u32
+pub extern "C" fn zacpi_1_open(source: &Source<'_>, out: &mut Root, named: &mut Signature) -> u32
     ensures { Answers result out.old out.new named.old named.new (root_below source.now) }
 {
     answer(root(source), out, named)
@@ -18,7 +18,7 @@ pub extern "C" fn zacpi_open(source: &Source<'_>, out: &mut Root, named: &mut Si
 
 /// All tables that are valid under the signatures that they bear, in the order of the root table.
 #[unsafe(no_mangle)]
-pub extern "C" fn zacpi_list_tables(
+pub extern "C" fn zacpi_1_list_tables(
     source: &Source<'_>,
     out: &mut [Table],
     count: &mut usize,
@@ -32,7 +32,7 @@ pub extern "C" fn zacpi_list_tables(
 
 /// The first valid table of a signature (section 5.2.6).
 #[unsafe(no_mangle)]
-pub extern "C" fn zacpi_find_table(
+pub extern "C" fn zacpi_1_find_table(
     source: &Source<'_>,
     name: Signature,
     out: &mut Table,
@@ -45,7 +45,11 @@ pub extern "C" fn zacpi_find_table(
 
 /// The AML of the DSDT (sections 5.2.9 and 5.2.11.1).
 #[unsafe(no_mangle)]
-pub extern "C" fn zacpi_dsdt(source: &Source<'_>, out: &mut AmlTable, named: &mut Signature) -> u32
+pub extern "C" fn zacpi_1_dsdt(
+    source: &Source<'_>,
+    out: &mut AmlTable,
+    named: &mut Signature,
+) -> u32
     ensures { Answers result out.old out.new named.old named.new (dsdt_below source.now) }
 {
     answer(dsdt(source), out, named)
@@ -53,7 +57,7 @@ pub extern "C" fn zacpi_dsdt(source: &Source<'_>, out: &mut AmlTable, named: &mu
 
 /// The `index`-th valid table with this signature, counted from 0 (section 5.2.6).
 #[unsafe(no_mangle)]
-pub extern "C" fn zacpi_find_nth_table(
+pub extern "C" fn zacpi_1_find_nth_table(
     source: &Source<'_>,
     name: Signature,
     index: usize,
@@ -67,7 +71,7 @@ pub extern "C" fn zacpi_find_nth_table(
 
 /// The AML of all valid SSDTs (section 5.2.11.2).
 #[unsafe(no_mangle)]
-pub extern "C" fn zacpi_list_ssdts(
+pub extern "C" fn zacpi_1_list_ssdts(
     source: &Source<'_>,
     out: &mut [AmlTable],
     count: &mut usize,
@@ -81,7 +85,7 @@ pub extern "C" fn zacpi_list_ssdts(
 
 /// The memory that the tables take (sections 5.2.6, 5.2.9 and 5.2.10).
 #[unsafe(no_mangle)]
-pub extern "C" fn zacpi_list_ranges(
+pub extern "C" fn zacpi_1_list_ranges(
     source: &Source<'_>,
     out: &mut [Range],
     count: &mut usize,
@@ -95,7 +99,7 @@ pub extern "C" fn zacpi_list_ranges(
 
 /// The tables that a lookup of a signature passes over, and why (section 5.2.6).
 #[unsafe(no_mangle)]
-pub extern "C" fn zacpi_list_faults(
+pub extern "C" fn zacpi_1_list_faults(
     source: &Source<'_>,
     name: Signature,
     out: &mut [Fault],

@@ -2,17 +2,17 @@
 ghost use Rattle.std.specs.Prelude.{length};
 ghost use Rattle.acpi.specs.declared.root.RootKind.TheVariants.{Rsdt, Xsdt};
 ghost use Rattle.acpi.specs.Types.{DSDT, SSDT};
-ghost use Rattle.acpi_c_lib.specs.Words.{AnswersPlain, WritesTable, writer_refused, facs_contents, dsdt_said, machine_said, size_said, table_said, tree_said};
+ghost use Rattle.acpi_c_lib.specs.Words.{AnswersPlain, WritesTable, writer_refused, facs_contents, dsdt_said, machine_said, signature_named, size_said, table_said, tree_said};
 ghost use Rattle.acpi_c_lib.specs.declared.writing.machine.Contents.TheVariants.{Bgrt, Fadt, Gic, Gtdt, Hpet, Madt, Mcfg, Spcr, Srat};
 ghost use Rattle.acpi_writer.specs.Words.{facs_written, root_written, rsdp_written, slit_written, table_written};
 
 use acpi_c_lib::answer::answer_plain;
 use acpi_c_lib::fixed_records::FixedHardware;
-use acpi_c_lib::records::{BootGraphic, HpetInfo, PciRegion};
+use acpi_c_lib::records::{BootGraphic, HpetInfo, PciRegion, Signature};
 use acpi_c_lib::writing::{
     Contents, dsdt_place, tables_size, write_contents, write_dsdt, write_facs, write_rsdp,
-    write_rsdt, write_slit, write_ssdt, write_tables, write_tables_without_rsdp, write_xsdt,
-    written,
+    write_rsdt, write_slit, write_ssdt, write_table, write_tables, write_tables_without_rsdp,
+    write_xsdt, written,
 };
 use acpi_c_lib::written_records::{
     FacsContents, GicContents, GtdtContents, Machine, MadtContents, SpcrContents, SratContents,
@@ -21,7 +21,7 @@ use acpi_c_lib::written_records::{
 
 /// An RSDP of revision 2 that leads to an XSDT (section 5.2.5.3).
 #[unsafe(no_mangle)]
-pub extern "C" fn zacpi_write_rsdp(
+pub extern "C" fn zacpi_1_write_rsdp(
     ids: &TableIds,
     xsdt: u64,
     out: &mut [u8],
@@ -35,7 +35,7 @@ pub extern "C" fn zacpi_write_rsdp(
 
 /// An RSDT (section 5.2.7).
 #[unsafe(no_mangle)]
-pub extern "C" fn zacpi_write_rsdt(
+pub extern "C" fn zacpi_1_write_rsdt(
     ids: &TableIds,
     addresses: &[u32],
     out: &mut [u8],
@@ -49,7 +49,7 @@ pub extern "C" fn zacpi_write_rsdt(
 
 /// An XSDT (section 5.2.8).
 #[unsafe(no_mangle)]
-pub extern "C" fn zacpi_write_xsdt(
+pub extern "C" fn zacpi_1_write_xsdt(
     ids: &TableIds,
     addresses: &[u64],
     out: &mut [u8],
@@ -63,7 +63,7 @@ pub extern "C" fn zacpi_write_xsdt(
 
 /// A DSDT of AML bytes (section 5.2.11.1).
 #[unsafe(no_mangle)]
-pub extern "C" fn zacpi_write_dsdt(
+pub extern "C" fn zacpi_1_write_dsdt(
     ids: &TableIds,
     revision: u8,
     aml: &[u8],
@@ -78,7 +78,7 @@ pub extern "C" fn zacpi_write_dsdt(
 
 /// An SSDT of AML bytes (section 5.2.11.2).
 #[unsafe(no_mangle)]
-pub extern "C" fn zacpi_write_ssdt(
+pub extern "C" fn zacpi_1_write_ssdt(
     ids: &TableIds,
     revision: u8,
     aml: &[u8],
@@ -91,9 +91,25 @@ pub extern "C" fn zacpi_write_ssdt(
     written(write_ssdt(out, ids, revision, aml), count)
 }
 
+/// A table of any signature, of the bytes after its header (section 5.2.6).
+#[unsafe(no_mangle)]
+pub extern "C" fn zacpi_1_write_table(
+    ids: &TableIds,
+    signature: Signature,
+    revision: u8,
+    body: &[u8],
+    out: &mut [u8],
+    count: &mut usize,
+) -> u32
+    ensures { WritesTable result out.old out.new count.old count.new
+        (writer_refused (table_written (length out.old) (signature_named signature) revision ids.now body.now)) }
+{
+    written(write_table(out, ids, signature, revision, body), count)
+}
+
 /// An HPET (IA-PC HPET Specification).
 #[unsafe(no_mangle)]
-pub extern "C" fn zacpi_write_hpet(
+pub extern "C" fn zacpi_1_write_hpet(
     ids: &TableIds,
     info: &HpetInfo,
     out: &mut [u8],
@@ -107,7 +123,7 @@ pub extern "C" fn zacpi_write_hpet(
 
 /// An MCFG of regions of PCI configuration space (PCI Firmware Specification, section 4.1.2).
 #[unsafe(no_mangle)]
-pub extern "C" fn zacpi_write_mcfg(
+pub extern "C" fn zacpi_1_write_mcfg(
     ids: &TableIds,
     regions: &[PciRegion],
     out: &mut [u8],
@@ -121,7 +137,7 @@ pub extern "C" fn zacpi_write_mcfg(
 
 /// A SLIT of the distances between localities (section 5.2.17).
 #[unsafe(no_mangle)]
-pub extern "C" fn zacpi_write_slit(
+pub extern "C" fn zacpi_1_write_slit(
     ids: &TableIds,
     localities: u64,
     distances: &[u8],
@@ -136,7 +152,7 @@ pub extern "C" fn zacpi_write_slit(
 
 /// A MADT of processors and interrupt controllers (section 5.2.12).
 #[unsafe(no_mangle)]
-pub extern "C" fn zacpi_write_madt(
+pub extern "C" fn zacpi_1_write_madt(
     ids: &TableIds,
     contents: &MadtContents<'_>,
     out: &mut [u8],
@@ -150,7 +166,7 @@ pub extern "C" fn zacpi_write_madt(
 
 /// A MADT of the GIC of an Arm machine (sections 5.2.12.14 to 5.2.12.18).
 #[unsafe(no_mangle)]
-pub extern "C" fn zacpi_write_gic_madt(
+pub extern "C" fn zacpi_1_write_gic_madt(
     ids: &TableIds,
     contents: &GicContents<'_>,
     out: &mut [u8],
@@ -164,7 +180,7 @@ pub extern "C" fn zacpi_write_gic_madt(
 
 /// A SRAT of processors and of ranges of memory (section 5.2.16).
 #[unsafe(no_mangle)]
-pub extern "C" fn zacpi_write_srat(
+pub extern "C" fn zacpi_1_write_srat(
     ids: &TableIds,
     contents: &SratContents<'_>,
     out: &mut [u8],
@@ -178,7 +194,7 @@ pub extern "C" fn zacpi_write_srat(
 
 /// A BGRT (section 5.2.22).
 #[unsafe(no_mangle)]
-pub extern "C" fn zacpi_write_bgrt(
+pub extern "C" fn zacpi_1_write_bgrt(
     ids: &TableIds,
     graphic: &BootGraphic,
     out: &mut [u8],
@@ -192,7 +208,7 @@ pub extern "C" fn zacpi_write_bgrt(
 
 /// An SPCR, whose layout is Microsoft's.
 #[unsafe(no_mangle)]
-pub extern "C" fn zacpi_write_spcr(
+pub extern "C" fn zacpi_1_write_spcr(
     ids: &TableIds,
     spcr: &SpcrContents,
     out: &mut [u8],
@@ -206,7 +222,7 @@ pub extern "C" fn zacpi_write_spcr(
 
 /// A GTDT of the timers of every processor and of the platform (section 5.2.24).
 #[unsafe(no_mangle)]
-pub extern "C" fn zacpi_write_gtdt(
+pub extern "C" fn zacpi_1_write_gtdt(
     ids: &TableIds,
     gtdt: &GtdtContents<'_>,
     out: &mut [u8],
@@ -220,7 +236,7 @@ pub extern "C" fn zacpi_write_gtdt(
 
 /// A FADT (section 5.2.9).
 #[unsafe(no_mangle)]
-pub extern "C" fn zacpi_write_fadt(
+pub extern "C" fn zacpi_1_write_fadt(
     ids: &TableIds,
     fadt: &FixedHardware,
     out: &mut [u8],
@@ -234,7 +250,7 @@ pub extern "C" fn zacpi_write_fadt(
 
 /// A FACS (section 5.2.10).
 #[unsafe(no_mangle)]
-pub extern "C" fn zacpi_write_facs(
+pub extern "C" fn zacpi_1_write_facs(
     contents: &FacsContents,
     out: &mut [u8],
     count: &mut usize,
@@ -247,7 +263,7 @@ pub extern "C" fn zacpi_write_facs(
 
 /// All tables of a machine.
 #[unsafe(no_mangle)]
-pub extern "C" fn zacpi_write_tables(
+pub extern "C" fn zacpi_1_write_tables(
     machine: &Machine<'_>,
     address: u64,
     out: &mut [u8],
@@ -261,7 +277,7 @@ pub extern "C" fn zacpi_write_tables(
 
 /// All tables of a machine but the RSDP.
 #[unsafe(no_mangle)]
-pub extern "C" fn zacpi_write_tables_without_rsdp(
+pub extern "C" fn zacpi_1_write_tables_without_rsdp(
     machine: &Machine<'_>,
     address: u64,
     out: &mut [u8],
@@ -275,7 +291,7 @@ pub extern "C" fn zacpi_write_tables_without_rsdp(
 
 /// How many bytes all tables of a machine have.
 #[unsafe(no_mangle)]
-pub extern "C" fn zacpi_tables_size(machine: &Machine<'_>, count: &mut usize) -> u32
+pub extern "C" fn zacpi_1_tables_size(machine: &Machine<'_>, count: &mut usize) -> u32
     ensures { AnswersPlain result count.old count.new (size_said machine.now) }
 {
     answer_plain(tables_size(machine), count)
@@ -283,7 +299,7 @@ pub extern "C" fn zacpi_tables_size(machine: &Machine<'_>, count: &mut usize) ->
 
 /// Where the DSDT of a machine lies.
 #[unsafe(no_mangle)]
-pub extern "C" fn zacpi_dsdt_address(address: u64, tables: usize, out: &mut u64) -> u32
+pub extern "C" fn zacpi_1_dsdt_address(address: u64, tables: usize, out: &mut u64) -> u32
     ensures { AnswersPlain result out.old out.new (dsdt_said address tables) }
 {
     answer_plain(dsdt_place(address, tables), out)

@@ -39,8 +39,8 @@ pub use Rattle.acpi_c_lib.specs.declared.records.Range.{Range}
 pub use Rattle.acpi_c_lib.specs.declared.records.Register.{Register}
 pub use Rattle.acpi_c_lib.specs.declared.records.Root.{Root}
 pub use Rattle.acpi_c_lib.specs.declared.refusal.Refusal.{Refusal}
-pub use Rattle.acpi_c_lib.specs.declared.refusal.Refusal.TheVariants.{Acpi, InvalidIommuMemoryRange, InvalidIommuStructureLength, InvalidMemoryRange, InvalidSratEntryLength, NoApics, NoDistance, NoDomain, NoGic, NoIommu, NoSuchFunction, NoSuchInterrupt, NoSuchIoApic, RangeTooHigh, RegionTooHigh, RegionsNotAscending, UnknownCode, UnknownStart, UnknownTable, UnknownWidth, Writer}
-pub use Rattle.acpi_c_lib.specs.declared.writing.machine.Contents.TheVariants.{Bgrt, Fadt, Gic, Hpet, Madt, Mcfg, Nothing, Slit, Spcr, Srat, Ssdt}
+pub use Rattle.acpi_c_lib.specs.declared.refusal.Refusal.TheVariants.{Acpi, InvalidIommuMemoryRange, InvalidIommuStructureLength, InvalidMemoryRange, InvalidSratEntryLength, NoApics, NoDistance, NoDomain, NoGic, NoIommu, NoSuchFunction, NoSuchInterrupt, NoSuchIoApic, RangeTooHigh, RegionTooHigh, RegionsNotAscending, UnknownCode, UnknownStart, BadTable, UnknownWidth, Writer}
+pub use Rattle.acpi_c_lib.specs.declared.writing.machine.Contents.TheVariants.{Bgrt, Fadt, Gic, Hpet, Madt, Mcfg, Spcr, Srat}
 pub use Rattle.acpi_c_lib.specs.declared.written_records.GicContents.{GicContents}
 pub use Rattle.acpi_c_lib.specs.declared.written_records.ListedTable.{ListedTable}
 pub use Rattle.acpi_c_lib.specs.declared.written_records.MadtContents.{MadtContents}
@@ -61,7 +61,7 @@ pub use Rattle.acpi_writer.specs.declared.bgrt.BgrtOrientation.{BgrtOrientation}
 pub use Rattle.acpi_writer.specs.declared.bgrt.BgrtOrientation.TheVariants.{Degrees0, Degrees180, Degrees270, Degrees90}
 pub use Rattle.acpi_writer.specs.declared.contents.AmlContents.{AmlContents}
 pub use Rattle.acpi_writer.specs.declared.error.WriterError.{WriterError}
-pub use Rattle.acpi_writer.specs.declared.error.WriterError.TheVariants.{BadCode, BadRange, IdOfAll, NoAddress, NoProcessor, SameAsBus, UidOfAll}
+pub use Rattle.acpi_writer.specs.declared.error.WriterError.TheVariants.{BadRange, IdOfAll, NoAddress, NoProcessor, SameAsBus, TooLong, UidOfAll}
 pub use Rattle.acpi_writer.specs.declared.facs.FacsContents.{FacsContents}
 pub use Rattle.acpi_writer.specs.declared.fadt.contents.FadtContents.{FadtContents}
 pub use Rattle.acpi_writer.specs.declared.fadt.contents.FadtHardware.{FadtHardware}

@@ -24,11 +24,11 @@ pub use Rattle.acpi_c_lib.specs.Regions.{Region, check_from, check_regions, memo
 pub use Rattle.acpi_c_lib.specs.Routes.{Interrupt, IoApicPin, below_apics, below_known, interrupt_or, interrupt_record, is_nearer, isa_below, pin_below, pin_or, sci_below}
 unfoldable pub use Rattle.acpi_c_lib.specs.Routes.{known_apics}
 pub use Rattle.acpi_c_lib.specs.Shown.{aml_record, dsdt_below, ecam_below, ecam_ranges_below, ecam_record, hpet_below, pci_record, pci_regions_below, root_below, signature_named, table_below, table_in, table_record, tables_below, tables_in}
-pub use Rattle.acpi_c_lib.specs.Types.{Acpi, ArmTimers, Bgrt, Fadt, Gic, Hpet, Madt, Mcfg, Nothing, Slit, Spcr, Srat, Ssdt, UnknownStart, Writer}
+pub use Rattle.acpi_c_lib.specs.Types.{Acpi, ArmTimers, Bgrt, Fadt, Gic, Hpet, Madt, Mcfg, Spcr, Srat, UnknownStart, Writer}
 pub use Rattle.acpi_c_lib.specs.Walked.{nth_below, nth_in, range_record, ranges_below, ssdts_below}
 pub use Rattle.acpi_c_lib.specs.Writing.{IsKeptOr, TableIds, WriterError, WritesTable, hpet_info_of, is_wiring, madt_of, writer_refused}
 pub use Rattle.acpi_c_lib.specs.WrittenFadt.{facs_contents}
 pub use Rattle.acpi_c_lib.specs.WrittenGic.{gic_of}
-pub use Rattle.acpi_c_lib.specs.WrittenMachine.{Contents, check_tables, dsdt_said, machine_said, size_said, table_said, tree_said, written_as}
+pub use Rattle.acpi_c_lib.specs.WrittenMachine.{Contents, dsdt_said, is_table, listed_written, machine_said, size_said, table_said, tree_said}
 pub use Rattle.acpi_c_lib.specs.declared.interrupt_records.Processor.{Processor}
 pub use Rattle.acpi_c_lib.specs.declared.writing.machine.Contents.TheVariants.{Gtdt}

@@ -2,10 +2,10 @@
 use Rattle.std.specs.Prelude.{ℕ, ◌&&◌, ◌==◌, ◌^◌, Bool, not, nat_lt, List, Option, Some, None, Result, if◌then◌else◌}
 use Rattle.acpi_base.specs.FromStd.{list_all}
 use Rattle.acpi_base.specs.Words.{◌>>=◌, holds}
-use Rattle.acpi_c_lib.specs.Types.{GicCpuInterface, GicDistributor, GicMsiFrame, GicRedistributors, GicTranslationService, Range, GicContents, BadRange}
+use Rattle.acpi_c_lib.specs.Types.{GicCpuInterface, GicDistributor, GicMsiFrame, GicRedistributors, GicTranslationService, Range, GicContents, BadRange, UnknownCode, Writer}
 use Rattle.acpi_c_lib.specs.Records as records
-use Rattle.acpi_c_lib.specs.Writing.{TableIds, WriterError, is_wiring, trigger_of}
-use Rattle.acpi_writer.specs.Words.{gic_checked, gic_meant, gic_written, GicContents as WriterGic}
+use Rattle.acpi_c_lib.specs.Writing.{Refusal, is_wiring, trigger_of}
+use Rattle.acpi_writer.specs.Words.{gic_meant, GicContents as WriterGic}
 use Rattle.acpi_writer.specs.declared.madt.gic.GicContents as writer
 
 -- ---- records, as the writer has them
@@ -64,10 +64,6 @@ msi_frame_of f = record {
 
 -- ---- the table
 
--- each trigger mode is one that there is
-abbrev pub has_codes : GicContents → Bool
-has_codes c = list_all (λ x. is_wiring x.performance_trigger && is_wiring x.maintenance_trigger) c.cpu_interfaces.now
-
 -- the contents, as the writer has them
 abbrev pub contents_of : GicContents
     → writer.GicContents records.GicCpuInterface Range records.GicTranslationService records.GicMsiFrame
@@ -82,14 +78,8 @@ contents_of c = record {
 abbrev pub gic_of : GicContents → WriterGic
 gic_of c = gic_meant cpu_interface_of redistributors_of translation_service_of msi_frame_of (contents_of c)
 
--- the first error of the contents
-abbrev pub checked : GicContents → Result (Unit {0}) WriterError
+-- each trigger mode is one that there is, and no range of redistributors has 2^32 bytes or more
+abbrev pub checked : GicContents → Result (Unit {0}) Refusal
 checked c = do
-  _ ← gic_checked (gic_of c)
-  holds (list_all is_short c.redistributors.now) BadRange
-
--- the MADT of records whose codes there are, in so much room, or the first error
-abbrev pub gic_laid : ℕ → TableIds → GicContents → Result (List ℕ) WriterError
-gic_laid room i c = do
-  _ ← checked c
-  gic_written room i (gic_of c)
+  _ ← holds (list_all (λ x. is_wiring x.performance_trigger && is_wiring x.maintenance_trigger) c.cpu_interfaces.now) UnknownCode
+  holds (list_all is_short c.redistributors.now) (Writer BadRange)

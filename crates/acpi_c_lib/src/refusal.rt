@@ -12,23 +12,23 @@ use acpi_writer::WriterError;
 pub enum Refusal {
     RegionsNotAscending,
     RegionTooHigh,
-    NoSuchFunction,
     UnknownStart,
     RangeTooHigh,
+    UnknownWidth,
+    NoSuchFunction,
     NoApics,
+    NoGic,
     NoSuchInterrupt,
     NoSuchIoApic,
     InvalidSratEntryLength,
     InvalidMemoryRange,
-    NoGic,
     NoDomain,
     NoDistance,
-    UnknownWidth,
     InvalidIommuStructureLength,
     InvalidIommuMemoryRange,
     NoIommu,
     UnknownCode,
-    UnknownTable,
+    BadTable,
     /// The error is one of a table that is written.
     Writer(WriterError),
     /// The refusal is one of the crate `acpi`: of memory, an RSDP, a table, a register or the MADT's entries.
@@ -59,29 +59,29 @@ impl Refusal {
         match self {
             Refusal::RegionsNotAscending => 1,
             Refusal::RegionTooHigh => 2,
-            Refusal::NoSuchFunction => 19,
-            Refusal::UnknownStart => 20,
-            Refusal::RangeTooHigh => 21,
-            Refusal::NoApics => 22,
-            Refusal::NoSuchInterrupt => 23,
-            Refusal::NoSuchIoApic => 24,
-            Refusal::InvalidSratEntryLength => 32,
-            Refusal::InvalidMemoryRange => 33,
-            Refusal::NoGic => 34,
-            Refusal::NoDomain => 35,
-            Refusal::NoDistance => 36,
-            Refusal::UnknownWidth => 37,
-            Refusal::InvalidIommuStructureLength => 38,
-            Refusal::InvalidIommuMemoryRange => 39,
-            Refusal::NoIommu => 40,
-            Refusal::UnknownCode => 41,
-            Refusal::UnknownTable => 57,
+            Refusal::UnknownStart => 3,
+            Refusal::RangeTooHigh => 4,
+            Refusal::UnknownWidth => 5,
+            Refusal::NoSuchFunction => 32,
+            Refusal::NoApics => 40,
+            Refusal::NoGic => 41,
+            Refusal::NoSuchInterrupt => 42,
+            Refusal::NoSuchIoApic => 43,
+            Refusal::InvalidSratEntryLength => 50,
+            Refusal::InvalidMemoryRange => 51,
+            Refusal::NoDomain => 52,
+            Refusal::NoDistance => 53,
+            Refusal::InvalidIommuStructureLength => 54,
+            Refusal::InvalidIommuMemoryRange => 55,
+            Refusal::NoIommu => 56,
+            Refusal::UnknownCode => 60,
+            Refusal::BadTable => 73,
             Refusal::Writer(error) => writer_code(error),
             Refusal::Acpi(error) => acpi_code(error),
         }
     }
 
-    /// The signature that the refusal carries, if it carries one: numbers 8 to 13 do.
+    /// The signature that the refusal carries, if it carries one: numbers 20 to 25 do.
     pub(crate) fn signature(self) -> Option<Signature>
         ensures { result ≡ codes.signature_of self }
     {
@@ -92,66 +92,66 @@ impl Refusal {
     }
 }
 
-/// The number of a refusal of the crate `acpi`.
+/// The number of a refusal of the crate `acpi`; 99 stands for those that no call returns.
 pub(crate) fn acpi_code(error: AcpiError) -> u32
     ensures { result ≡ codes.acpi_code error }
 {
     match error {
-        AcpiError::MapFailed => 3,
-        AcpiError::NoValidRsdp => 4,
-        AcpiError::RsdpIncorrectSignature => 5,
-        AcpiError::RsdpInvalidOemId => 6,
-        AcpiError::RsdpInvalidChecksum => 7,
-        AcpiError::SdtInvalidSignature(_) => 8,
-        AcpiError::SdtInvalidOemId(_) => 9,
-        AcpiError::SdtInvalidTableId(_) => 10,
-        AcpiError::SdtInvalidLength(_) => 11,
-        AcpiError::SdtInvalidChecksum(_) => 12,
-        AcpiError::TableMissing(_) => 13,
-        AcpiError::InvalidFacsAddress => 14,
-        AcpiError::InvalidDsdtAddress => 15,
-        AcpiError::InvalidGenericAddress => 16,
-        AcpiError::InvalidNamespaceString => 17,
-        AcpiError::AllocError => 18,
+        AcpiError::MapFailed => 10,
+        AcpiError::NoValidRsdp => 11,
+        AcpiError::RsdpIncorrectSignature => 12,
+        AcpiError::RsdpInvalidOemId => 13,
+        AcpiError::RsdpInvalidChecksum => 14,
+        AcpiError::SdtInvalidSignature(_) => 20,
+        AcpiError::SdtInvalidOemId(_) => 21,
+        AcpiError::SdtInvalidTableId(_) => 22,
+        AcpiError::SdtInvalidLength(_) => 23,
+        AcpiError::SdtInvalidChecksum(_) => 24,
+        AcpiError::TableMissing(_) => 25,
+        AcpiError::InvalidDsdtAddress => 30,
+        AcpiError::InvalidGenericAddress => 31,
+        AcpiError::InvalidFacsAddress => 99,
+        AcpiError::InvalidNamespaceString => 99,
+        AcpiError::AllocError => 99,
         AcpiError::InvalidMadt(error) => madt_code(error),
     }
 }
 
-/// The number of an error of a table that is written.
+/// The number of an error of a table that is written; 99 stands for those that no call returns.
 fn writer_code(error: WriterError) -> u32
     ensures { result ≡ codes.writer_code error }
 {
     match error {
-        WriterError::NoProcessor => 42,
-        WriterError::IdOfAll => 43,
-        WriterError::UidOfAll => 44,
-        WriterError::BadMatrix => 45,
-        WriterError::NoAddress => 46,
-        WriterError::BadName => 47,
-        WriterError::NoRoom => 48,
-        WriterError::TooLong => 49,
-        WriterError::BadProfile => 50,
-        WriterError::BadRegister => 51,
-        WriterError::BadRange => 52,
-        WriterError::BadCode => 53,
-        WriterError::LongName => 54,
-        WriterError::SameAsBus => 55,
-        WriterError::TooManyFrames => 56,
+        WriterError::NoProcessor => 61,
+        WriterError::IdOfAll => 62,
+        WriterError::UidOfAll => 63,
+        WriterError::BadMatrix => 64,
+        WriterError::NoAddress => 65,
+        WriterError::BadName => 66,
+        WriterError::NoRoom => 67,
+        WriterError::TooLong => 68,
+        WriterError::BadRegister => 69,
+        WriterError::BadRange => 70,
+        WriterError::SameAsBus => 71,
+        WriterError::TooManyFrames => 72,
+        WriterError::BadProfile => 99,
+        WriterError::BadCode => 99,
+        WriterError::LongName => 99,
     }
 }
 
-/// The number of a refusal of the MADT's entries (section 5.2.12).
+/// The number of a refusal of the MADT's entries (section 5.2.12); 99 stands for that which no call returns.
 fn madt_code(error: MadtError) -> u32
     ensures { result ≡ codes.madt_code error }
 {
     match error {
-        MadtError::UnexpectedEntry => 25,
-        MadtError::InterruptOverrideEntryHasInvalidBus => 26,
-        MadtError::InvalidLocalNmiLine => 27,
-        MadtError::MpsIntiInvalidPolarity => 28,
-        MadtError::MpsIntiInvalidTriggerMode => 29,
-        MadtError::WakeupApsTimeout => 30,
-        MadtError::InvalidEntryLength => 31,
+        MadtError::UnexpectedEntry => 44,
+        MadtError::InterruptOverrideEntryHasInvalidBus => 45,
+        MadtError::InvalidLocalNmiLine => 46,
+        MadtError::MpsIntiInvalidPolarity => 47,
+        MadtError::MpsIntiInvalidTriggerMode => 48,
+        MadtError::InvalidEntryLength => 49,
+        MadtError::WakeupApsTimeout => 99,
     }
 }
 

@@ -1,7 +1,9 @@
 //! Tables that are written for C, from its records, as `acpi_writer` writes them.
-ghost use Rattle.std.specs.Prelude.{◌≡◌};
-ghost use Rattle.acpi_c_lib.specs.Words.{AnswersPlain};
+ghost use Rattle.std.specs.Prelude.{◌≡◌, length, take};
+ghost use Rattle.acpi_base.specs.Words.{Gives};
+ghost use Rattle.acpi_c_lib.specs.Words.{AnswersPlain, signature_named};
 ghost use Rattle.acpi_c_lib.specs.Writing as writing;
+ghost use Rattle.acpi_writer.specs.Words.{Keeps, table_written};
 
 mod bgrt;
 mod fadt;
@@ -15,11 +17,12 @@ mod srat;
 use crate::answer::answer_plain;
 use crate::records::{self, PciRegion};
 use crate::refusal::Refusal;
+use crate::tables::signature_named;
 use acpi::HpetInfo;
 use acpi::hpet::PageProtection;
 use acpi_base::mcfg::McfgEntry;
-use acpi_writer::WriterError;
-use acpi_writer::spelled::StandsFor;
+use acpi_writer::spelled::{Bytes, StandsFor};
+use acpi_writer::{TableIds, WriterError};
 pub use acpi_writer::{
     write_dsdt, write_facs, write_rsdp, write_rsdt, write_slit, write_ssdt, write_xsdt,
 };
@@ -32,6 +35,22 @@ pub fn written(said: Result<usize, WriterError>, length: &mut usize) -> u32
     ensures { AnswersPlain result length.old length.new (writing.writer_refused said) }
 {
     answer_plain(said.map_err(Refusal::Writer), length)
+}
+
+/// Writes a table of this signature, whatever it is, with these bytes after its header, as `acpi_writer::write_table`
+/// does.
+pub fn write_table(
+    out: &mut [u8],
+    ids: &TableIds,
+    signature: records::Signature,
+    revision: u8,
+    body: &[u8],
+) -> Result<usize, WriterError>
+    ensures exact { Gives (λ n. take n out.new) result
+        (table_written (length out.old) (signature_named signature) revision ids.now body.now) }
+    ensures keeps { Keeps result out.old out.new }
+{
+    acpi_writer::write_table(out, signature_named(signature), revision, ids, &Bytes(body))
 }
 
 impl records::HpetInfo {

@@ -36,14 +36,6 @@ pub struct GicContents<'a> {
     pub msi_frames: &'a [GicMsiFrame],
 }
 
-/// What a SLIT is to say (section 5.2.17).
-#[repr(C)]
-#[derive(Clone, Copy)]
-pub struct SlitContents<'a> {
-    pub localities: u64,
-    pub distances: &'a [u8],
-}
-
 /// What a SRAT is to say (section 5.2.16).
 #[repr(C)]
 #[derive(Clone, Copy)]
@@ -89,23 +81,11 @@ pub struct AmlContents<'a> {
     pub revision: u8,
 }
 
-/// A table that a machine lists: its kind, and what it is to say in the list for that kind, of which the others are
-/// empty.
+/// A table that a machine lists: its bytes, as the call that writes such a table writes them, or of any other origin.
 #[repr(C)]
 #[derive(Clone, Copy)]
 pub struct ListedTable<'a> {
-    pub kind: u32,
-    pub fadts: &'a [FixedHardware],
-    pub madts: &'a [MadtContents<'a>],
-    pub regions: &'a [PciRegion],
-    pub hpets: &'a [HpetInfo],
-    pub slits: &'a [SlitContents<'a>],
-    pub ssdts: &'a [AmlContents<'a>],
-    pub srats: &'a [SratContents<'a>],
-    pub bgrts: &'a [BootGraphic],
-    pub spcrs: &'a [SpcrContents],
-    pub gtdts: &'a [GtdtContents<'a>],
-    pub gics: &'a [GicContents<'a>],
+    pub bytes: &'a [u8],
 }
 
 /// A machine, as its tables describe it.

@@ -215,30 +215,30 @@ fn route(raw: records::IsaRoute) -> Option<IsaRoute> {
 impl<'k> AcpiTables<'k> {
     /// The I/O APICs, in the order of the first valid MADT (section 5.2.12.3).
     pub fn io_apics(&self) -> Listing<'k, IoApic> {
-        self.list(raw::zacpi_list_io_apics)
+        self.list(raw::zacpi_1_list_io_apics)
     }
 
     /// The Interrupt Source Override entries, in the order of the first valid MADT (section 5.2.12.5).
     pub fn interrupt_source_overrides(&self) -> Listing<'k, InterruptSourceOverride> {
-        self.list(raw::zacpi_list_overrides)
+        self.list(raw::zacpi_1_list_overrides)
     }
 
     /// The NMI Source entries, in the order of the first valid MADT (section 5.2.12.6).
     pub fn nmi_sources(&self) -> Listing<'k, NmiSource> {
-        self.list(raw::zacpi_list_nmi_sources)
+        self.list(raw::zacpi_1_list_nmi_sources)
     }
 
     /// The Local APIC NMI and Local x2APIC NMI entries, in the order of the first valid MADT (sections 5.2.12.7 and
     /// 5.2.12.13).
     pub fn local_apic_nmi_lines(&self) -> Listing<'k, NmiLine> {
-        self.list(raw::zacpi_list_nmi_lines)
+        self.list(raw::zacpi_1_list_nmi_lines)
     }
 
     /// How one of the 16 ISA interrupts comes to the I/O APICs: as its last override says, or as the interrupt of the
     /// same number, active high and by edge (section 5.2.12.5). `None` for an interrupt above 15, and for one without
     /// an override whose number another one's override has taken.
     pub fn isa_interrupt(&self, irq: u8) -> AcpiResult<Option<Interrupt>> {
-        match raw::zacpi_isa_interrupt(&self.source(), irq) {
+        match raw::zacpi_1_isa_interrupt(&self.source(), irq) {
             Err(AcpiError::NoSuchInterrupt) => Ok(None),
             other => other.map(|raw| Some(raw.into())),
         }
@@ -246,19 +246,19 @@ impl<'k> AcpiTables<'k> {
 
     /// All 16 ISA interrupts at once, each with its pin: item `n` is interrupt `n`.
     pub fn isa_interrupts(&self) -> AcpiResult<[Option<IsaRoute>; 16]> {
-        raw::zacpi_list_isa_interrupts(&self.source()).map(|all| all.routes.map(route))
+        raw::zacpi_1_list_isa_interrupts(&self.source()).map(|all| all.routes.map(route))
     }
 
     /// How the System Control Interrupt, SCI_INT of the first valid FADT, comes to the I/O APICs: active low and by
     /// level, unless its override says otherwise (sections 5.2.9 and 5.2.12.5).
     pub fn sci_interrupt(&self) -> AcpiResult<Interrupt> {
-        raw::zacpi_sci_interrupt(&self.source()).map(Interrupt::from)
+        raw::zacpi_1_sci_interrupt(&self.source()).map(Interrupt::from)
     }
 
     /// The I/O APIC that a global system interrupt comes to, and the pin there (sections 5.2.12.3 and 5.2.13). Only the
     /// I/O APIC itself can tell how many pins it has. `None` if each base is above the interrupt.
     pub fn io_apic_for(&self, global_system_interrupt: u32) -> AcpiResult<Option<IoApicPin>> {
-        match raw::zacpi_get_io_apic_pin(&self.source(), global_system_interrupt) {
+        match raw::zacpi_1_get_io_apic_pin(&self.source(), global_system_interrupt) {
             Err(AcpiError::NoSuchIoApic) => Ok(None),
             other => other.map(Some),
         }

@@ -75,7 +75,7 @@ impl PmTimer {
     ///
     /// Refuses with `TableMissing` for the FADT, and with `InvalidGenericAddress` if its address has a reserved code.
     pub fn new(tables: &AcpiTables<'_>) -> AcpiResult<Option<PmTimer>> {
-        let raw = raw::zacpi_get_pm_timer(&tables.source())?;
+        let raw = raw::zacpi_1_get_pm_timer(&tables.source())?;
         present(raw.present, PmTimer { base: raw.base.into(), supports_32bit: raw.is_32_bit != 0 })
     }
 }
@@ -201,7 +201,7 @@ impl<'k> AcpiTables<'k> {
     /// How much room the lists of [`AcpiTables::platform_info`] take: none if the model isn't known. Refuses as that
     /// does.
     pub fn platform_counts(&self) -> AcpiResult<PlatformCounts> {
-        let model = raw::zacpi_get_interrupt_model(&self.source())?;
+        let model = raw::zacpi_1_get_interrupt_model(&self.source())?;
         Ok(PlatformCounts {
             processors: model.processors,
             io_apics: model.io_apics,
@@ -249,6 +249,6 @@ impl<'k> AcpiTables<'k> {
     ///
     /// Refuses as [`AcpiTables::platform_info`] does, and with `NoApics` if the model isn't known.
     pub fn processors(&self) -> Listing<'k, Processor> {
-        self.list(raw::zacpi_list_processors)
+        self.list(raw::zacpi_1_list_processors)
     }
 }

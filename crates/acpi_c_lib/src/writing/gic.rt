@@ -7,10 +7,11 @@ ghost use Rattle.acpi_c_lib.specs.WrittenGic as written;
 use super::madt::{is_wiring, trigger};
 use crate::arm_records::{GicCpuInterface, GicDistributor, GicMsiFrame, GicTranslationService};
 use crate::records::Range;
+use crate::refusal::Refusal;
 use crate::written_records::GicContents;
 use acpi_arm::gic;
 use acpi_writer::spelled::StandsFor;
-use acpi_writer::{Checked, WriterError, require};
+use acpi_writer::{WriterError, require};
 
 impl GicDistributor {
     /// The distributor, as the writer has it.
@@ -95,12 +96,10 @@ impl StandsFor<gic::GicMsiFrame> for GicMsiFrame {
     }
 }
 
-/// Whether each trigger mode is one that there is.
-pub(crate) fn has_codes(contents: &GicContents<'_>) -> bool
-    ensures { result ≡ written.has_codes contents.now }
+fn has_codes(interfaces: &[GicCpuInterface]) -> bool
+    ensures { result ≡ list_all (λ x. is_wiring x.performance_trigger && is_wiring x.maintenance_trigger) interfaces.now }
 {
-    contents.cpu_interfaces.iter().all(|x| is_wiring(x.performance_trigger)
-        && is_wiring(x.maintenance_trigger))
+    interfaces.iter().all(|x| is_wiring(x.performance_trigger) && is_wiring(x.maintenance_trigger))
 }
 
 fn are_short(ranges: &[Range]) -> bool
@@ -125,12 +124,13 @@ impl<'a> GicContents<'a> {
         }
     }
 
-    /// Returns the first error of the contents, which is `BadRange` if a range of redistributors has 2^32 bytes or
-    /// more.
-    pub(crate) fn check(&self) -> Result<(), WriterError>
+    /// Checks what the writer can't see: returns `UnknownCode` if a trigger mode isn't one that there is, and then
+    /// `BadRange` if a range of redistributors has 2^32 bytes or more.
+    pub(crate) fn check(&self) -> Result<(), Refusal>
         ensures { result ≡ written.checked self.now }
     {
-        self.contents().check()?;
-        require(are_short(self.redistributors), WriterError::BadRange)
+        require(has_codes(self.cpu_interfaces), Refusal::UnknownCode)?;
+        require(are_short(self.redistributors), WriterError::BadRange)?;
+        Ok(())
     }
 }

@@ -1,0 +1,79 @@
+/* nulls: calls with what C's designated initialisers leave out, and with outputs that hold anything: null pointers to
+ * lists of no items and to the signature that an error carries. It prints what isn't as it should be. */
+#include "zacpi.h"
+#include <stdio.h>
+#include <string.h>
+
+static int failed;
+#define EXPECT(holds) do { if (!(holds)) failed = 1, printf("FAILED: line %d: %s\n", __LINE__, #holds); } while (0)
+
+static uint8_t memory[4096];
+static const struct zacpi_table_ids ids = {"ZACPI", "NULLS", 1, {'Z', 'F', 'I', 'R'}, 1};
+static const struct zacpi_processor processors[] = {{.uid = 1, .local_apic_id = 2, .state = ZACPI_PROCESSOR_WAITING}};
+
+/* Writes a machine of a MADT with one processor and a table of an OEM's to 0x10000. */
+static size_t write_machine(void) {
+    static uint8_t scratch[2][256];
+    const struct zacpi_madt_contents madt = {.processors = processors, .processors_length = 1};
+    struct zacpi_listed_table tables[2] = {{.bytes = scratch[0]}, {.bytes = scratch[1]}};
+    const struct zacpi_machine machine = {.ids = ids, .tables = tables, .tables_length = 2};
+    const struct zacpi_machine none = {.ids = ids};
+    size_t length;
+    EXPECT(!zacpi_write_madt(&ids, &madt, scratch[0], sizeof scratch[0], &tables[0].length));
+    EXPECT(tables[0].length == 52);
+    EXPECT(!zacpi_write_table(&ids, ZACPI_SIGNATURE("OEM9"), 1, NULL, 0, scratch[1], 36, &tables[1].length));
+    EXPECT(!zacpi_tables_size(&none, &length) && length == 96);
+    EXPECT(zacpi_write_tables(&machine, 0x10000, NULL, 0, &length) == ZACPI_NO_ROOM);
+    EXPECT(!zacpi_write_tables(&machine, 0x10000, memory, sizeof memory, &length) && length == 48 + 64 + 64 + 48);
+    return length;
+}
+/* Lists of no items, and their tables. */
+static void write_nothing(void) {
+    const struct zacpi_srat_contents srat = {.apics = NULL};
+    const struct zacpi_gic_contents gic = {.distributor = {.address = 0x1000}};
+    const struct zacpi_madt_contents madt = {.also_has_8259 = 1};
+    const struct zacpi_gtdt_contents gtdt = {.platform_timers = NULL};
+    struct zacpi_fixed_hardware fadt = zacpi_fadt_reduced();
+    uint8_t table[276];
+    size_t length;
+    fadt.dsdt_address = 0x20000;
+    EXPECT(!zacpi_write_fadt(&ids, &fadt, table, sizeof table, &length) && length == 276);
+    EXPECT(table[112] == 0 && table[114] == 0x10); /* Flags: HW_REDUCED_ACPI */
+    EXPECT(table[96] == 101 && table[98] == 0xe9 && table[99] == 3); /* P_LVL2_LAT, P_LVL3_LAT */
+    EXPECT(!zacpi_write_srat(&ids, &srat, table, sizeof table, &length) && length == 48);
+    EXPECT(!zacpi_write_mcfg(&ids, NULL, 0, table, sizeof table, &length) && length == 44);
+    EXPECT(!zacpi_write_xsdt(&ids, NULL, 0, table, sizeof table, &length) && length == 36);
+    EXPECT(!zacpi_write_ssdt(&ids, 2, NULL, 0, table, sizeof table, &length) && length == 36);
+    EXPECT(zacpi_write_madt(&ids, &madt, table, sizeof table, &length) == ZACPI_NO_PROCESSOR);
+    EXPECT(zacpi_write_gic_madt(&ids, &gic, table, sizeof table, &length) == ZACPI_NO_PROCESSOR);
+    EXPECT(zacpi_write_gtdt(&ids, &gtdt, table, sizeof table, &length) == ZACPI_SAME_AS_BUS);
+}
+/* The machine is read, with no room, without a place for a signature, and into outputs that nobody has written. */
+static void read_machine(size_t length) {
+    const struct zacpi_region region = {0x10000, memory, length};
+    const struct zacpi_source source = {.regions = &region, .regions_length = 1, .address = 0x10000};
+    const struct zacpi_source nowhere = {.address = 0x10000};
+    const struct zacpi_range window = {0, 0x1000};
+    struct zacpi_signature named;
+    struct zacpi_table table;
+    struct zacpi_root root;
+    struct zacpi_pm_timer timer;
+    size_t count;
+    EXPECT(!zacpi_open(&source, &root, NULL) && root.address == 0x10030);
+    EXPECT(!zacpi_list_tables(&source, NULL, 0, &count, NULL) && count == 2);
+    EXPECT(!zacpi_find_table(&source, ZACPI_SIGNATURE("OEM9"), &table, NULL) && table.length == 36);
+    EXPECT(zacpi_table_bytes(&region, 1, &table) == memory + (table.address - 0x10000));
+    EXPECT(zacpi_table_bytes(NULL, 0, &table) == NULL);
+    EXPECT(zacpi_get_pm_timer(&source, &timer, NULL) == ZACPI_TABLE_MISSING);
+    EXPECT(zacpi_get_pm_timer(&source, &timer, &named) == ZACPI_TABLE_MISSING && !memcmp(named.letters, "FACP", 4));
+    EXPECT(zacpi_open(&nowhere, &root, NULL) == ZACPI_MAP_FAILED);
+    EXPECT(!zacpi_list_missing_ranges(&nowhere, NULL, 0, &count, NULL) && count == 1);
+    EXPECT(!zacpi_clip_ranges(NULL, 0, NULL, 0, &window, NULL, 0, &count) && count == 0);
+}
+
+int main(void) {
+    size_t length = write_machine();
+    write_nothing();
+    read_machine(length);
+    return failed;
+}

@@ -1,0 +1,951 @@
+/* The inlines of zacpi.h, which includes this file. scripts/calls made it of the prototypes there, and says what they are
+ * for. */
+#define ZACPI_NOTHING ((void *)(uintptr_t)16) /* where the items of a list of none are: aligned for any type */
+
+static inline struct zacpi_source zacpi_source_kept(const struct zacpi_source *given) {
+    struct zacpi_source kept = *given;
+    if (!kept.regions_length)
+        kept.regions = (const struct zacpi_region *)ZACPI_NOTHING;
+    return kept;
+}
+
+static inline struct zacpi_madt_contents zacpi_madt_contents_kept(const struct zacpi_madt_contents *given) {
+    struct zacpi_madt_contents kept = *given;
+    if (!kept.processors_length)
+        kept.processors = (const struct zacpi_processor *)ZACPI_NOTHING;
+    if (!kept.io_apics_length)
+        kept.io_apics = (const struct zacpi_io_apic *)ZACPI_NOTHING;
+    if (!kept.overrides_length)
+        kept.overrides = (const struct zacpi_interrupt_source_override *)ZACPI_NOTHING;
+    if (!kept.nmi_sources_length)
+        kept.nmi_sources = (const struct zacpi_nmi_source *)ZACPI_NOTHING;
+    if (!kept.nmi_lines_length)
+        kept.nmi_lines = (const struct zacpi_nmi_line *)ZACPI_NOTHING;
+    return kept;
+}
+
+static inline struct zacpi_gic_contents zacpi_gic_contents_kept(const struct zacpi_gic_contents *given) {
+    struct zacpi_gic_contents kept = *given;
+    if (!kept.cpu_interfaces_length)
+        kept.cpu_interfaces = (const struct zacpi_gic_cpu_interface *)ZACPI_NOTHING;
+    if (!kept.redistributors_length)
+        kept.redistributors = (const struct zacpi_range *)ZACPI_NOTHING;
+    if (!kept.translation_services_length)
+        kept.translation_services = (const struct zacpi_gic_translation_service *)ZACPI_NOTHING;
+    if (!kept.msi_frames_length)
+        kept.msi_frames = (const struct zacpi_gic_msi_frame *)ZACPI_NOTHING;
+    return kept;
+}
+
+static inline struct zacpi_srat_contents zacpi_srat_contents_kept(const struct zacpi_srat_contents *given) {
+    struct zacpi_srat_contents kept = *given;
+    if (!kept.apics_length)
+        kept.apics = (const struct zacpi_apic_domain *)ZACPI_NOTHING;
+    if (!kept.giccs_length)
+        kept.giccs = (const struct zacpi_gicc_domain *)ZACPI_NOTHING;
+    if (!kept.ranges_length)
+        kept.ranges = (const struct zacpi_memory_affinity *)ZACPI_NOTHING;
+    return kept;
+}
+
+static inline struct zacpi_gtdt_contents zacpi_gtdt_contents_kept(const struct zacpi_gtdt_contents *given) {
+    struct zacpi_gtdt_contents kept = *given;
+    if (!kept.platform_timers_length)
+        kept.platform_timers = (const struct zacpi_platform_timer *)ZACPI_NOTHING;
+    return kept;
+}
+
+static inline struct zacpi_machine zacpi_machine_kept(const struct zacpi_machine *given) {
+    struct zacpi_machine kept = *given;
+    if (!kept.tables_length)
+        kept.tables = (const struct zacpi_listed_table *)ZACPI_NOTHING;
+    if (!kept.dsdts_length)
+        kept.dsdts = (const struct zacpi_aml_contents *)ZACPI_NOTHING;
+    if (!kept.facs_length)
+        kept.facs = (const struct zacpi_facs_contents *)ZACPI_NOTHING;
+    return kept;
+}
+
+zacpi_status zacpi_1_clip_ranges(const struct zacpi_range *ranges, size_t ranges_length,
+                                 const struct zacpi_range *without, size_t without_length,
+                                 const struct zacpi_range *window, struct zacpi_range *out,
+                                 size_t capacity, size_t *count);
+ZACPI_NONNULL((5, 8))
+ZACPI_STATUS zacpi_clip_ranges(const struct zacpi_range *ranges, size_t ranges_length,
+                               const struct zacpi_range *without, size_t without_length,
+                               const struct zacpi_range *window, struct zacpi_range *out,
+                               size_t capacity, size_t *count) {
+    return zacpi_1_clip_ranges(ranges_length ? ranges : (const struct zacpi_range *)ZACPI_NOTHING,
+                               ranges_length,
+                               without_length ? without : (const struct zacpi_range *)ZACPI_NOTHING,
+                               without_length, window,
+                               capacity ? out : (struct zacpi_range *)ZACPI_NOTHING, capacity,
+                               count);
+}
+
+zacpi_status zacpi_1_locate(const struct zacpi_region *regions, size_t regions_length,
+                            uint64_t address, uint64_t length, struct zacpi_place *out);
+ZACPI_NONNULL((5))
+ZACPI_STATUS zacpi_locate(const struct zacpi_region *regions, size_t regions_length,
+                          uint64_t address, uint64_t length, struct zacpi_place *out) {
+    return zacpi_1_locate(regions_length ? regions : (const struct zacpi_region *)ZACPI_NOTHING,
+                          regions_length, address, length, out);
+}
+
+zacpi_status zacpi_1_open(const struct zacpi_source *source, struct zacpi_root *out,
+                          struct zacpi_signature *signature);
+ZACPI_NONNULL((1, 2))
+ZACPI_STATUS zacpi_open(const struct zacpi_source *source, struct zacpi_root *out,
+                        struct zacpi_signature *signature) {
+    const struct zacpi_source kept_source = zacpi_source_kept(source);
+    struct zacpi_signature unasked;
+    return zacpi_1_open(&kept_source, out, signature ? signature : &unasked);
+}
+
+zacpi_status zacpi_1_list_missing_ranges(const struct zacpi_source *source, struct zacpi_range *out,
+                                         size_t capacity, size_t *count,
+                                         struct zacpi_signature *signature);
+ZACPI_NONNULL((1, 4))
+ZACPI_STATUS zacpi_list_missing_ranges(const struct zacpi_source *source, struct zacpi_range *out,
+                                       size_t capacity, size_t *count,
+                                       struct zacpi_signature *signature) {
+    const struct zacpi_source kept_source = zacpi_source_kept(source);
+    struct zacpi_signature unasked;
+    return zacpi_1_list_missing_ranges(&kept_source,
+                                       capacity ? out : (struct zacpi_range *)ZACPI_NOTHING,
+                                       capacity, count, signature ? signature : &unasked);
+}
+
+zacpi_status zacpi_1_list_tables(const struct zacpi_source *source, struct zacpi_table *out,
+                                 size_t capacity, size_t *count, struct zacpi_signature *signature);
+ZACPI_NONNULL((1, 4))
+ZACPI_STATUS zacpi_list_tables(const struct zacpi_source *source, struct zacpi_table *out,
+                               size_t capacity, size_t *count, struct zacpi_signature *signature) {
+    const struct zacpi_source kept_source = zacpi_source_kept(source);
+    struct zacpi_signature unasked;
+    return zacpi_1_list_tables(&kept_source, capacity ? out : (struct zacpi_table *)ZACPI_NOTHING,
+                               capacity, count, signature ? signature : &unasked);
+}
+
+zacpi_status zacpi_1_find_table(const struct zacpi_source *source, struct zacpi_signature wanted,
+                                struct zacpi_table *out, struct zacpi_signature *signature);
+ZACPI_NONNULL((1, 3))
+ZACPI_STATUS zacpi_find_table(const struct zacpi_source *source, struct zacpi_signature wanted,
+                              struct zacpi_table *out, struct zacpi_signature *signature) {
+    const struct zacpi_source kept_source = zacpi_source_kept(source);
+    struct zacpi_signature unasked;
+    return zacpi_1_find_table(&kept_source, wanted, out, signature ? signature : &unasked);
+}
+
+zacpi_status zacpi_1_find_nth_table(const struct zacpi_source *source,
+                                    struct zacpi_signature wanted, size_t index,
+                                    struct zacpi_table *out, struct zacpi_signature *signature);
+ZACPI_NONNULL((1, 4))
+ZACPI_STATUS zacpi_find_nth_table(const struct zacpi_source *source, struct zacpi_signature wanted,
+                                  size_t index, struct zacpi_table *out,
+                                  struct zacpi_signature *signature) {
+    const struct zacpi_source kept_source = zacpi_source_kept(source);
+    struct zacpi_signature unasked;
+    return zacpi_1_find_nth_table(&kept_source, wanted, index, out,
+                                  signature ? signature : &unasked);
+}
+
+zacpi_status zacpi_1_list_entries(const struct zacpi_region *regions, size_t regions_length,
+                                  uint64_t table, uint32_t first, uint32_t bytes_each,
+                                  struct zacpi_entry *out, size_t capacity, size_t *count,
+                                  uint8_t *malformed, struct zacpi_signature *signature);
+ZACPI_NONNULL((8, 9))
+ZACPI_STATUS zacpi_list_entries(const struct zacpi_region *regions, size_t regions_length,
+                                uint64_t table, uint32_t first, uint32_t bytes_each,
+                                struct zacpi_entry *out, size_t capacity, size_t *count,
+                                uint8_t *malformed, struct zacpi_signature *signature) {
+    struct zacpi_signature unasked;
+    return zacpi_1_list_entries(
+                                regions_length ? regions : (const struct zacpi_region *)ZACPI_NOTHING,
+                                regions_length, table, first, bytes_each,
+                                capacity ? out : (struct zacpi_entry *)ZACPI_NOTHING, capacity,
+                                count, malformed, signature ? signature : &unasked);
+}
+
+zacpi_status zacpi_1_list_faults(const struct zacpi_source *source, struct zacpi_signature wanted,
+                                 struct zacpi_fault *out, size_t capacity, size_t *count,
+                                 struct zacpi_signature *signature);
+ZACPI_NONNULL((1, 5))
+ZACPI_STATUS zacpi_list_faults(const struct zacpi_source *source, struct zacpi_signature wanted,
+                               struct zacpi_fault *out, size_t capacity, size_t *count,
+                               struct zacpi_signature *signature) {
+    const struct zacpi_source kept_source = zacpi_source_kept(source);
+    struct zacpi_signature unasked;
+    return zacpi_1_list_faults(&kept_source, wanted,
+                               capacity ? out : (struct zacpi_fault *)ZACPI_NOTHING, capacity,
+                               count, signature ? signature : &unasked);
+}
+
+zacpi_status zacpi_1_dsdt(const struct zacpi_source *source, struct zacpi_aml_table *out,
+                          struct zacpi_signature *signature);
+ZACPI_NONNULL((1, 2))
+ZACPI_STATUS zacpi_dsdt(const struct zacpi_source *source, struct zacpi_aml_table *out,
+                        struct zacpi_signature *signature) {
+    const struct zacpi_source kept_source = zacpi_source_kept(source);
+    struct zacpi_signature unasked;
+    return zacpi_1_dsdt(&kept_source, out, signature ? signature : &unasked);
+}
+
+zacpi_status zacpi_1_list_ssdts(const struct zacpi_source *source, struct zacpi_aml_table *out,
+                                size_t capacity, size_t *count, struct zacpi_signature *signature);
+ZACPI_NONNULL((1, 4))
+ZACPI_STATUS zacpi_list_ssdts(const struct zacpi_source *source, struct zacpi_aml_table *out,
+                              size_t capacity, size_t *count, struct zacpi_signature *signature) {
+    const struct zacpi_source kept_source = zacpi_source_kept(source);
+    struct zacpi_signature unasked;
+    return zacpi_1_list_ssdts(&kept_source,
+                              capacity ? out : (struct zacpi_aml_table *)ZACPI_NOTHING, capacity,
+                              count, signature ? signature : &unasked);
+}
+
+zacpi_status zacpi_1_list_ranges(const struct zacpi_source *source, struct zacpi_range *out,
+                                 size_t capacity, size_t *count, struct zacpi_signature *signature);
+ZACPI_NONNULL((1, 4))
+ZACPI_STATUS zacpi_list_ranges(const struct zacpi_source *source, struct zacpi_range *out,
+                               size_t capacity, size_t *count, struct zacpi_signature *signature) {
+    const struct zacpi_source kept_source = zacpi_source_kept(source);
+    struct zacpi_signature unasked;
+    return zacpi_1_list_ranges(&kept_source, capacity ? out : (struct zacpi_range *)ZACPI_NOTHING,
+                               capacity, count, signature ? signature : &unasked);
+}
+
+zacpi_status zacpi_1_get_fixed_hardware(const struct zacpi_source *source,
+                                        struct zacpi_fixed_hardware *out,
+                                        struct zacpi_signature *signature);
+ZACPI_NONNULL((1, 2))
+ZACPI_STATUS zacpi_get_fixed_hardware(const struct zacpi_source *source,
+                                      struct zacpi_fixed_hardware *out,
+                                      struct zacpi_signature *signature) {
+    const struct zacpi_source kept_source = zacpi_source_kept(source);
+    struct zacpi_signature unasked;
+    return zacpi_1_get_fixed_hardware(&kept_source, out, signature ? signature : &unasked);
+}
+
+zacpi_status zacpi_1_get_console(const struct zacpi_source *source, struct zacpi_console *out,
+                                 struct zacpi_signature *signature);
+ZACPI_NONNULL((1, 2))
+ZACPI_STATUS zacpi_get_console(const struct zacpi_source *source, struct zacpi_console *out,
+                               struct zacpi_signature *signature) {
+    const struct zacpi_source kept_source = zacpi_source_kept(source);
+    struct zacpi_signature unasked;
+    return zacpi_1_get_console(&kept_source, out, signature ? signature : &unasked);
+}
+
+zacpi_status zacpi_1_get_pm_timer(const struct zacpi_source *source, struct zacpi_pm_timer *out,
+                                  struct zacpi_signature *signature);
+ZACPI_NONNULL((1, 2))
+ZACPI_STATUS zacpi_get_pm_timer(const struct zacpi_source *source, struct zacpi_pm_timer *out,
+                                struct zacpi_signature *signature) {
+    const struct zacpi_source kept_source = zacpi_source_kept(source);
+    struct zacpi_signature unasked;
+    return zacpi_1_get_pm_timer(&kept_source, out, signature ? signature : &unasked);
+}
+
+zacpi_status zacpi_1_hpet(const struct zacpi_source *source, struct zacpi_hpet_info *out,
+                          struct zacpi_signature *signature);
+ZACPI_NONNULL((1, 2))
+ZACPI_STATUS zacpi_hpet(const struct zacpi_source *source, struct zacpi_hpet_info *out,
+                        struct zacpi_signature *signature) {
+    const struct zacpi_source kept_source = zacpi_source_kept(source);
+    struct zacpi_signature unasked;
+    return zacpi_1_hpet(&kept_source, out, signature ? signature : &unasked);
+}
+
+zacpi_status zacpi_1_get_boot_graphic(const struct zacpi_source *source,
+                                      struct zacpi_boot_graphic *out,
+                                      struct zacpi_signature *signature);
+ZACPI_NONNULL((1, 2))
+ZACPI_STATUS zacpi_get_boot_graphic(const struct zacpi_source *source,
+                                    struct zacpi_boot_graphic *out,
+                                    struct zacpi_signature *signature) {
+    const struct zacpi_source kept_source = zacpi_source_kept(source);
+    struct zacpi_signature unasked;
+    return zacpi_1_get_boot_graphic(&kept_source, out, signature ? signature : &unasked);
+}
+
+zacpi_status zacpi_1_list_pci_regions(const struct zacpi_source *source,
+                                      struct zacpi_pci_region *out, size_t capacity, size_t *count,
+                                      struct zacpi_signature *signature);
+ZACPI_NONNULL((1, 4))
+ZACPI_STATUS zacpi_list_pci_regions(const struct zacpi_source *source, struct zacpi_pci_region *out,
+                                    size_t capacity, size_t *count,
+                                    struct zacpi_signature *signature) {
+    const struct zacpi_source kept_source = zacpi_source_kept(source);
+    struct zacpi_signature unasked;
+    return zacpi_1_list_pci_regions(&kept_source,
+                                    capacity ? out : (struct zacpi_pci_region *)ZACPI_NOTHING,
+                                    capacity, count, signature ? signature : &unasked);
+}
+
+zacpi_status zacpi_1_list_ecam_ranges(const struct zacpi_source *source,
+                                      struct zacpi_ecam_range *out, size_t capacity, size_t *count,
+                                      struct zacpi_signature *signature);
+ZACPI_NONNULL((1, 4))
+ZACPI_STATUS zacpi_list_ecam_ranges(const struct zacpi_source *source, struct zacpi_ecam_range *out,
+                                    size_t capacity, size_t *count,
+                                    struct zacpi_signature *signature) {
+    const struct zacpi_source kept_source = zacpi_source_kept(source);
+    struct zacpi_signature unasked;
+    return zacpi_1_list_ecam_ranges(&kept_source,
+                                    capacity ? out : (struct zacpi_ecam_range *)ZACPI_NOTHING,
+                                    capacity, count, signature ? signature : &unasked);
+}
+
+zacpi_status zacpi_1_pci_ecam_address(const struct zacpi_source *source, uint16_t segment_group,
+                                      uint8_t bus, uint8_t device, uint8_t function, uint64_t *out,
+                                      struct zacpi_signature *signature);
+ZACPI_NONNULL((1, 6))
+ZACPI_STATUS zacpi_pci_ecam_address(const struct zacpi_source *source, uint16_t segment_group,
+                                    uint8_t bus, uint8_t device, uint8_t function, uint64_t *out,
+                                    struct zacpi_signature *signature) {
+    const struct zacpi_source kept_source = zacpi_source_kept(source);
+    struct zacpi_signature unasked;
+    return zacpi_1_pci_ecam_address(&kept_source, segment_group, bus, device, function, out,
+                                    signature ? signature : &unasked);
+}
+
+zacpi_status zacpi_1_get_interrupt_model(const struct zacpi_source *source,
+                                         struct zacpi_interrupt_model *out,
+                                         struct zacpi_signature *signature);
+ZACPI_NONNULL((1, 2))
+ZACPI_STATUS zacpi_get_interrupt_model(const struct zacpi_source *source,
+                                       struct zacpi_interrupt_model *out,
+                                       struct zacpi_signature *signature) {
+    const struct zacpi_source kept_source = zacpi_source_kept(source);
+    struct zacpi_signature unasked;
+    return zacpi_1_get_interrupt_model(&kept_source, out, signature ? signature : &unasked);
+}
+
+zacpi_status zacpi_1_list_io_apics(const struct zacpi_source *source, struct zacpi_io_apic *out,
+                                   size_t capacity, size_t *count,
+                                   struct zacpi_signature *signature);
+ZACPI_NONNULL((1, 4))
+ZACPI_STATUS zacpi_list_io_apics(const struct zacpi_source *source, struct zacpi_io_apic *out,
+                                 size_t capacity, size_t *count,
+                                 struct zacpi_signature *signature) {
+    const struct zacpi_source kept_source = zacpi_source_kept(source);
+    struct zacpi_signature unasked;
+    return zacpi_1_list_io_apics(&kept_source,
+                                 capacity ? out : (struct zacpi_io_apic *)ZACPI_NOTHING, capacity,
+                                 count, signature ? signature : &unasked);
+}
+
+zacpi_status zacpi_1_list_overrides(const struct zacpi_source *source,
+                                    struct zacpi_interrupt_source_override *out, size_t capacity,
+                                    size_t *count, struct zacpi_signature *signature);
+ZACPI_NONNULL((1, 4))
+ZACPI_STATUS zacpi_list_overrides(const struct zacpi_source *source,
+                                  struct zacpi_interrupt_source_override *out, size_t capacity,
+                                  size_t *count, struct zacpi_signature *signature) {
+    const struct zacpi_source kept_source = zacpi_source_kept(source);
+    struct zacpi_signature unasked;
+    return zacpi_1_list_overrides(&kept_source,
+                                  capacity ? out : (struct zacpi_interrupt_source_override *)ZACPI_NOTHING,
+                                  capacity, count, signature ? signature : &unasked);
+}
+
+zacpi_status zacpi_1_list_nmi_sources(const struct zacpi_source *source,
+                                      struct zacpi_nmi_source *out, size_t capacity, size_t *count,
+                                      struct zacpi_signature *signature);
+ZACPI_NONNULL((1, 4))
+ZACPI_STATUS zacpi_list_nmi_sources(const struct zacpi_source *source, struct zacpi_nmi_source *out,
+                                    size_t capacity, size_t *count,
+                                    struct zacpi_signature *signature) {
+    const struct zacpi_source kept_source = zacpi_source_kept(source);
+    struct zacpi_signature unasked;
+    return zacpi_1_list_nmi_sources(&kept_source,
+                                    capacity ? out : (struct zacpi_nmi_source *)ZACPI_NOTHING,
+                                    capacity, count, signature ? signature : &unasked);
+}
+
+zacpi_status zacpi_1_list_nmi_lines(const struct zacpi_source *source, struct zacpi_nmi_line *out,
+                                    size_t capacity, size_t *count,
+                                    struct zacpi_signature *signature);
+ZACPI_NONNULL((1, 4))
+ZACPI_STATUS zacpi_list_nmi_lines(const struct zacpi_source *source, struct zacpi_nmi_line *out,
+                                  size_t capacity, size_t *count,
+                                  struct zacpi_signature *signature) {
+    const struct zacpi_source kept_source = zacpi_source_kept(source);
+    struct zacpi_signature unasked;
+    return zacpi_1_list_nmi_lines(&kept_source,
+                                  capacity ? out : (struct zacpi_nmi_line *)ZACPI_NOTHING, capacity,
+                                  count, signature ? signature : &unasked);
+}
+
+zacpi_status zacpi_1_list_processors(const struct zacpi_source *source, struct zacpi_processor *out,
+                                     size_t capacity, size_t *count,
+                                     struct zacpi_signature *signature);
+ZACPI_NONNULL((1, 4))
+ZACPI_STATUS zacpi_list_processors(const struct zacpi_source *source, struct zacpi_processor *out,
+                                   size_t capacity, size_t *count,
+                                   struct zacpi_signature *signature) {
+    const struct zacpi_source kept_source = zacpi_source_kept(source);
+    struct zacpi_signature unasked;
+    return zacpi_1_list_processors(&kept_source,
+                                   capacity ? out : (struct zacpi_processor *)ZACPI_NOTHING,
+                                   capacity, count, signature ? signature : &unasked);
+}
+
+zacpi_status zacpi_1_platform(const struct zacpi_source *source, struct zacpi_interrupt_model *out,
+                              struct zacpi_processor *processors, size_t processors_capacity,
+                              struct zacpi_io_apic *io_apics, size_t io_apics_capacity,
+                              struct zacpi_interrupt_source_override *overrides,
+                              size_t overrides_capacity, struct zacpi_nmi_source *nmi_sources,
+                              size_t nmi_sources_capacity, struct zacpi_nmi_line *nmi_lines,
+                              size_t nmi_lines_capacity, struct zacpi_signature *signature);
+ZACPI_NONNULL((1, 2))
+ZACPI_STATUS zacpi_platform(const struct zacpi_source *source, struct zacpi_interrupt_model *out,
+                            struct zacpi_processor *processors, size_t processors_capacity,
+                            struct zacpi_io_apic *io_apics, size_t io_apics_capacity,
+                            struct zacpi_interrupt_source_override *overrides,
+                            size_t overrides_capacity, struct zacpi_nmi_source *nmi_sources,
+                            size_t nmi_sources_capacity, struct zacpi_nmi_line *nmi_lines,
+                            size_t nmi_lines_capacity, struct zacpi_signature *signature) {
+    const struct zacpi_source kept_source = zacpi_source_kept(source);
+    struct zacpi_signature unasked;
+    return zacpi_1_platform(&kept_source, out,
+                            processors_capacity ? processors : (struct zacpi_processor *)ZACPI_NOTHING,
+                            processors_capacity,
+                            io_apics_capacity ? io_apics : (struct zacpi_io_apic *)ZACPI_NOTHING,
+                            io_apics_capacity,
+                            overrides_capacity ? overrides : (struct zacpi_interrupt_source_override *)ZACPI_NOTHING,
+                            overrides_capacity,
+                            nmi_sources_capacity ? nmi_sources : (struct zacpi_nmi_source *)ZACPI_NOTHING,
+                            nmi_sources_capacity,
+                            nmi_lines_capacity ? nmi_lines : (struct zacpi_nmi_line *)ZACPI_NOTHING,
+                            nmi_lines_capacity, signature ? signature : &unasked);
+}
+
+zacpi_status zacpi_1_isa_interrupt(const struct zacpi_source *source, uint8_t irq,
+                                   struct zacpi_interrupt *out, struct zacpi_signature *signature);
+ZACPI_NONNULL((1, 3))
+ZACPI_STATUS zacpi_isa_interrupt(const struct zacpi_source *source, uint8_t irq,
+                                 struct zacpi_interrupt *out, struct zacpi_signature *signature) {
+    const struct zacpi_source kept_source = zacpi_source_kept(source);
+    struct zacpi_signature unasked;
+    return zacpi_1_isa_interrupt(&kept_source, irq, out, signature ? signature : &unasked);
+}
+
+zacpi_status zacpi_1_sci_interrupt(const struct zacpi_source *source, struct zacpi_interrupt *out,
+                                   struct zacpi_signature *signature);
+ZACPI_NONNULL((1, 2))
+ZACPI_STATUS zacpi_sci_interrupt(const struct zacpi_source *source, struct zacpi_interrupt *out,
+                                 struct zacpi_signature *signature) {
+    const struct zacpi_source kept_source = zacpi_source_kept(source);
+    struct zacpi_signature unasked;
+    return zacpi_1_sci_interrupt(&kept_source, out, signature ? signature : &unasked);
+}
+
+zacpi_status zacpi_1_get_io_apic_pin(const struct zacpi_source *source,
+                                     uint32_t global_system_interrupt,
+                                     struct zacpi_io_apic_pin *out,
+                                     struct zacpi_signature *signature);
+ZACPI_NONNULL((1, 3))
+ZACPI_STATUS zacpi_get_io_apic_pin(const struct zacpi_source *source,
+                                   uint32_t global_system_interrupt, struct zacpi_io_apic_pin *out,
+                                   struct zacpi_signature *signature) {
+    const struct zacpi_source kept_source = zacpi_source_kept(source);
+    struct zacpi_signature unasked;
+    return zacpi_1_get_io_apic_pin(&kept_source, global_system_interrupt, out,
+                                   signature ? signature : &unasked);
+}
+
+zacpi_status zacpi_1_list_isa_interrupts(const struct zacpi_source *source,
+                                         struct zacpi_isa_interrupts *out,
+                                         struct zacpi_signature *signature);
+ZACPI_NONNULL((1, 2))
+ZACPI_STATUS zacpi_list_isa_interrupts(const struct zacpi_source *source,
+                                       struct zacpi_isa_interrupts *out,
+                                       struct zacpi_signature *signature) {
+    const struct zacpi_source kept_source = zacpi_source_kept(source);
+    struct zacpi_signature unasked;
+    return zacpi_1_list_isa_interrupts(&kept_source, out, signature ? signature : &unasked);
+}
+
+zacpi_status zacpi_1_get_gic_distributor(const struct zacpi_source *source,
+                                         struct zacpi_gic_distributor *out,
+                                         struct zacpi_signature *signature);
+ZACPI_NONNULL((1, 2))
+ZACPI_STATUS zacpi_get_gic_distributor(const struct zacpi_source *source,
+                                       struct zacpi_gic_distributor *out,
+                                       struct zacpi_signature *signature) {
+    const struct zacpi_source kept_source = zacpi_source_kept(source);
+    struct zacpi_signature unasked;
+    return zacpi_1_get_gic_distributor(&kept_source, out, signature ? signature : &unasked);
+}
+
+zacpi_status zacpi_1_list_gic_cpu_interfaces(const struct zacpi_source *source,
+                                             struct zacpi_gic_cpu_interface *out, size_t capacity,
+                                             size_t *count, struct zacpi_signature *signature);
+ZACPI_NONNULL((1, 4))
+ZACPI_STATUS zacpi_list_gic_cpu_interfaces(const struct zacpi_source *source,
+                                           struct zacpi_gic_cpu_interface *out, size_t capacity,
+                                           size_t *count, struct zacpi_signature *signature) {
+    const struct zacpi_source kept_source = zacpi_source_kept(source);
+    struct zacpi_signature unasked;
+    return zacpi_1_list_gic_cpu_interfaces(&kept_source,
+                                           capacity ? out : (struct zacpi_gic_cpu_interface *)ZACPI_NOTHING,
+                                           capacity, count, signature ? signature : &unasked);
+}
+
+zacpi_status zacpi_1_list_gic_redistributors(const struct zacpi_source *source,
+                                             struct zacpi_range *out, size_t capacity,
+                                             size_t *count, struct zacpi_signature *signature);
+ZACPI_NONNULL((1, 4))
+ZACPI_STATUS zacpi_list_gic_redistributors(const struct zacpi_source *source,
+                                           struct zacpi_range *out, size_t capacity, size_t *count,
+                                           struct zacpi_signature *signature) {
+    const struct zacpi_source kept_source = zacpi_source_kept(source);
+    struct zacpi_signature unasked;
+    return zacpi_1_list_gic_redistributors(&kept_source,
+                                           capacity ? out : (struct zacpi_range *)ZACPI_NOTHING,
+                                           capacity, count, signature ? signature : &unasked);
+}
+
+zacpi_status zacpi_1_list_gic_translation_services(const struct zacpi_source *source,
+                                                   struct zacpi_gic_translation_service *out,
+                                                   size_t capacity, size_t *count,
+                                                   struct zacpi_signature *signature);
+ZACPI_NONNULL((1, 4))
+ZACPI_STATUS zacpi_list_gic_translation_services(const struct zacpi_source *source,
+                                                 struct zacpi_gic_translation_service *out,
+                                                 size_t capacity, size_t *count,
+                                                 struct zacpi_signature *signature) {
+    const struct zacpi_source kept_source = zacpi_source_kept(source);
+    struct zacpi_signature unasked;
+    return zacpi_1_list_gic_translation_services(&kept_source,
+                                                 capacity ? out : (struct zacpi_gic_translation_service *)ZACPI_NOTHING,
+                                                 capacity, count, signature ? signature : &unasked);
+}
+
+zacpi_status zacpi_1_list_gic_msi_frames(const struct zacpi_source *source,
+                                         struct zacpi_gic_msi_frame *out, size_t capacity,
+                                         size_t *count, struct zacpi_signature *signature);
+ZACPI_NONNULL((1, 4))
+ZACPI_STATUS zacpi_list_gic_msi_frames(const struct zacpi_source *source,
+                                       struct zacpi_gic_msi_frame *out, size_t capacity,
+                                       size_t *count, struct zacpi_signature *signature) {
+    const struct zacpi_source kept_source = zacpi_source_kept(source);
+    struct zacpi_signature unasked;
+    return zacpi_1_list_gic_msi_frames(&kept_source,
+                                       capacity ? out : (struct zacpi_gic_msi_frame *)ZACPI_NOTHING,
+                                       capacity, count, signature ? signature : &unasked);
+}
+
+zacpi_status zacpi_1_get_arm_timers(const struct zacpi_source *source, struct zacpi_arm_timers *out,
+                                    struct zacpi_signature *signature);
+ZACPI_NONNULL((1, 2))
+ZACPI_STATUS zacpi_get_arm_timers(const struct zacpi_source *source, struct zacpi_arm_timers *out,
+                                  struct zacpi_signature *signature) {
+    const struct zacpi_source kept_source = zacpi_source_kept(source);
+    struct zacpi_signature unasked;
+    return zacpi_1_get_arm_timers(&kept_source, out, signature ? signature : &unasked);
+}
+
+zacpi_status zacpi_1_list_gt_frames(const struct zacpi_source *source, struct zacpi_gt_frame *out,
+                                    size_t capacity, size_t *count,
+                                    struct zacpi_signature *signature);
+ZACPI_NONNULL((1, 4))
+ZACPI_STATUS zacpi_list_gt_frames(const struct zacpi_source *source, struct zacpi_gt_frame *out,
+                                  size_t capacity, size_t *count,
+                                  struct zacpi_signature *signature) {
+    const struct zacpi_source kept_source = zacpi_source_kept(source);
+    struct zacpi_signature unasked;
+    return zacpi_1_list_gt_frames(&kept_source,
+                                  capacity ? out : (struct zacpi_gt_frame *)ZACPI_NOTHING, capacity,
+                                  count, signature ? signature : &unasked);
+}
+
+zacpi_status zacpi_1_list_watchdogs(const struct zacpi_source *source, struct zacpi_watchdog *out,
+                                    size_t capacity, size_t *count,
+                                    struct zacpi_signature *signature);
+ZACPI_NONNULL((1, 4))
+ZACPI_STATUS zacpi_list_watchdogs(const struct zacpi_source *source, struct zacpi_watchdog *out,
+                                  size_t capacity, size_t *count,
+                                  struct zacpi_signature *signature) {
+    const struct zacpi_source kept_source = zacpi_source_kept(source);
+    struct zacpi_signature unasked;
+    return zacpi_1_list_watchdogs(&kept_source,
+                                  capacity ? out : (struct zacpi_watchdog *)ZACPI_NOTHING, capacity,
+                                  count, signature ? signature : &unasked);
+}
+
+zacpi_status zacpi_1_list_memory_affinities(const struct zacpi_source *source,
+                                            struct zacpi_memory_affinity *out, size_t capacity,
+                                            size_t *count, struct zacpi_signature *signature);
+ZACPI_NONNULL((1, 4))
+ZACPI_STATUS zacpi_list_memory_affinities(const struct zacpi_source *source,
+                                          struct zacpi_memory_affinity *out, size_t capacity,
+                                          size_t *count, struct zacpi_signature *signature) {
+    const struct zacpi_source kept_source = zacpi_source_kept(source);
+    struct zacpi_signature unasked;
+    return zacpi_1_list_memory_affinities(&kept_source,
+                                          capacity ? out : (struct zacpi_memory_affinity *)ZACPI_NOTHING,
+                                          capacity, count, signature ? signature : &unasked);
+}
+
+zacpi_status zacpi_1_domain_of_address(const struct zacpi_source *source, uint64_t address,
+                                       uint32_t *out, struct zacpi_signature *signature);
+ZACPI_NONNULL((1, 3))
+ZACPI_STATUS zacpi_domain_of_address(const struct zacpi_source *source, uint64_t address,
+                                     uint32_t *out, struct zacpi_signature *signature) {
+    const struct zacpi_source kept_source = zacpi_source_kept(source);
+    struct zacpi_signature unasked;
+    return zacpi_1_domain_of_address(&kept_source, address, out, signature ? signature : &unasked);
+}
+
+zacpi_status zacpi_1_domain_of_apic(const struct zacpi_source *source, uint32_t local_apic_id,
+                                    uint32_t *out, struct zacpi_signature *signature);
+ZACPI_NONNULL((1, 3))
+ZACPI_STATUS zacpi_domain_of_apic(const struct zacpi_source *source, uint32_t local_apic_id,
+                                  uint32_t *out, struct zacpi_signature *signature) {
+    const struct zacpi_source kept_source = zacpi_source_kept(source);
+    struct zacpi_signature unasked;
+    return zacpi_1_domain_of_apic(&kept_source, local_apic_id, out,
+                                  signature ? signature : &unasked);
+}
+
+zacpi_status zacpi_1_domain_of_processor(const struct zacpi_source *source, uint32_t uid,
+                                         uint32_t *out, struct zacpi_signature *signature);
+ZACPI_NONNULL((1, 3))
+ZACPI_STATUS zacpi_domain_of_processor(const struct zacpi_source *source, uint32_t uid,
+                                       uint32_t *out, struct zacpi_signature *signature) {
+    const struct zacpi_source kept_source = zacpi_source_kept(source);
+    struct zacpi_signature unasked;
+    return zacpi_1_domain_of_processor(&kept_source, uid, out, signature ? signature : &unasked);
+}
+
+zacpi_status zacpi_1_get_localities(const struct zacpi_source *source, struct zacpi_localities *out,
+                                    struct zacpi_signature *signature);
+ZACPI_NONNULL((1, 2))
+ZACPI_STATUS zacpi_get_localities(const struct zacpi_source *source, struct zacpi_localities *out,
+                                  struct zacpi_signature *signature) {
+    const struct zacpi_source kept_source = zacpi_source_kept(source);
+    struct zacpi_signature unasked;
+    return zacpi_1_get_localities(&kept_source, out, signature ? signature : &unasked);
+}
+
+zacpi_status zacpi_1_distance(const struct zacpi_source *source, uint64_t from, uint64_t to,
+                              uint8_t *out, struct zacpi_signature *signature);
+ZACPI_NONNULL((1, 4))
+ZACPI_STATUS zacpi_distance(const struct zacpi_source *source, uint64_t from, uint64_t to,
+                            uint8_t *out, struct zacpi_signature *signature) {
+    const struct zacpi_source kept_source = zacpi_source_kept(source);
+    struct zacpi_signature unasked;
+    return zacpi_1_distance(&kept_source, from, to, out, signature ? signature : &unasked);
+}
+
+zacpi_status zacpi_1_get_dmar_unit(const struct zacpi_source *source, uint16_t segment, uint8_t bus,
+                                   const struct zacpi_hop *hops, size_t hops_length,
+                                   struct zacpi_dmar_unit *out, struct zacpi_signature *signature);
+ZACPI_NONNULL((1, 6))
+ZACPI_STATUS zacpi_get_dmar_unit(const struct zacpi_source *source, uint16_t segment, uint8_t bus,
+                                 const struct zacpi_hop *hops, size_t hops_length,
+                                 struct zacpi_dmar_unit *out, struct zacpi_signature *signature) {
+    const struct zacpi_source kept_source = zacpi_source_kept(source);
+    struct zacpi_signature unasked;
+    return zacpi_1_get_dmar_unit(&kept_source, segment, bus,
+                                 hops_length ? hops : (const struct zacpi_hop *)ZACPI_NOTHING,
+                                 hops_length, out, signature ? signature : &unasked);
+}
+
+zacpi_status zacpi_1_dmar_io_apic(const struct zacpi_source *source, uint8_t id,
+                                  struct zacpi_dmar_source *out, struct zacpi_signature *signature);
+ZACPI_NONNULL((1, 3))
+ZACPI_STATUS zacpi_dmar_io_apic(const struct zacpi_source *source, uint8_t id,
+                                struct zacpi_dmar_source *out, struct zacpi_signature *signature) {
+    const struct zacpi_source kept_source = zacpi_source_kept(source);
+    struct zacpi_signature unasked;
+    return zacpi_1_dmar_io_apic(&kept_source, id, out, signature ? signature : &unasked);
+}
+
+zacpi_status zacpi_1_dmar_hpet(const struct zacpi_source *source, uint8_t number,
+                               struct zacpi_dmar_source *out, struct zacpi_signature *signature);
+ZACPI_NONNULL((1, 3))
+ZACPI_STATUS zacpi_dmar_hpet(const struct zacpi_source *source, uint8_t number,
+                             struct zacpi_dmar_source *out, struct zacpi_signature *signature) {
+    const struct zacpi_source kept_source = zacpi_source_kept(source);
+    struct zacpi_signature unasked;
+    return zacpi_1_dmar_hpet(&kept_source, number, out, signature ? signature : &unasked);
+}
+
+zacpi_status zacpi_1_list_dmar_reserved(const struct zacpi_source *source, uint16_t segment,
+                                        uint8_t bus, const struct zacpi_hop *hops,
+                                        size_t hops_length, struct zacpi_dmar_reserved *out,
+                                        size_t capacity, size_t *count,
+                                        struct zacpi_signature *signature);
+ZACPI_NONNULL((1, 8))
+ZACPI_STATUS zacpi_list_dmar_reserved(const struct zacpi_source *source, uint16_t segment,
+                                      uint8_t bus, const struct zacpi_hop *hops, size_t hops_length,
+                                      struct zacpi_dmar_reserved *out, size_t capacity,
+                                      size_t *count, struct zacpi_signature *signature) {
+    const struct zacpi_source kept_source = zacpi_source_kept(source);
+    struct zacpi_signature unasked;
+    return zacpi_1_list_dmar_reserved(&kept_source, segment, bus,
+                                      hops_length ? hops : (const struct zacpi_hop *)ZACPI_NOTHING,
+                                      hops_length,
+                                      capacity ? out : (struct zacpi_dmar_reserved *)ZACPI_NOTHING,
+                                      capacity, count, signature ? signature : &unasked);
+}
+
+zacpi_status zacpi_1_get_ivrs_unit(const struct zacpi_source *source, uint16_t segment,
+                                   uint16_t device_id, struct zacpi_ivrs_device *out,
+                                   struct zacpi_signature *signature);
+ZACPI_NONNULL((1, 4))
+ZACPI_STATUS zacpi_get_ivrs_unit(const struct zacpi_source *source, uint16_t segment,
+                                 uint16_t device_id, struct zacpi_ivrs_device *out,
+                                 struct zacpi_signature *signature) {
+    const struct zacpi_source kept_source = zacpi_source_kept(source);
+    struct zacpi_signature unasked;
+    return zacpi_1_get_ivrs_unit(&kept_source, segment, device_id, out,
+                                 signature ? signature : &unasked);
+}
+
+zacpi_status zacpi_1_list_ivrs_memory(const struct zacpi_source *source, uint16_t device_id,
+                                      struct zacpi_ivrs_memory *out, size_t capacity, size_t *count,
+                                      struct zacpi_signature *signature);
+ZACPI_NONNULL((1, 5))
+ZACPI_STATUS zacpi_list_ivrs_memory(const struct zacpi_source *source, uint16_t device_id,
+                                    struct zacpi_ivrs_memory *out, size_t capacity, size_t *count,
+                                    struct zacpi_signature *signature) {
+    const struct zacpi_source kept_source = zacpi_source_kept(source);
+    struct zacpi_signature unasked;
+    return zacpi_1_list_ivrs_memory(&kept_source, device_id,
+                                    capacity ? out : (struct zacpi_ivrs_memory *)ZACPI_NOTHING,
+                                    capacity, count, signature ? signature : &unasked);
+}
+
+zacpi_status zacpi_1_write_rsdp(const struct zacpi_table_ids *ids, uint64_t xsdt, uint8_t *out,
+                                size_t capacity, size_t *length);
+ZACPI_NONNULL((1, 5))
+ZACPI_STATUS zacpi_write_rsdp(const struct zacpi_table_ids *ids, uint64_t xsdt, uint8_t *out,
+                              size_t capacity, size_t *length) {
+    return zacpi_1_write_rsdp(ids, xsdt, capacity ? out : (uint8_t *)ZACPI_NOTHING, capacity,
+                              length);
+}
+
+zacpi_status zacpi_1_write_rsdt(const struct zacpi_table_ids *ids, const uint32_t *addresses,
+                                size_t addresses_length, uint8_t *out, size_t capacity,
+                                size_t *length);
+ZACPI_NONNULL((1, 6))
+ZACPI_STATUS zacpi_write_rsdt(const struct zacpi_table_ids *ids, const uint32_t *addresses,
+                              size_t addresses_length, uint8_t *out, size_t capacity,
+                              size_t *length) {
+    return zacpi_1_write_rsdt(ids, addresses_length ? addresses : (const uint32_t *)ZACPI_NOTHING,
+                              addresses_length, capacity ? out : (uint8_t *)ZACPI_NOTHING, capacity,
+                              length);
+}
+
+zacpi_status zacpi_1_write_xsdt(const struct zacpi_table_ids *ids, const uint64_t *addresses,
+                                size_t addresses_length, uint8_t *out, size_t capacity,
+                                size_t *length);
+ZACPI_NONNULL((1, 6))
+ZACPI_STATUS zacpi_write_xsdt(const struct zacpi_table_ids *ids, const uint64_t *addresses,
+                              size_t addresses_length, uint8_t *out, size_t capacity,
+                              size_t *length) {
+    return zacpi_1_write_xsdt(ids, addresses_length ? addresses : (const uint64_t *)ZACPI_NOTHING,
+                              addresses_length, capacity ? out : (uint8_t *)ZACPI_NOTHING, capacity,
+                              length);
+}
+
+zacpi_status zacpi_1_write_dsdt(const struct zacpi_table_ids *ids, uint8_t revision,
+                                const uint8_t *aml, size_t aml_length, uint8_t *out,
+                                size_t capacity, size_t *length);
+ZACPI_NONNULL((1, 7))
+ZACPI_STATUS zacpi_write_dsdt(const struct zacpi_table_ids *ids, uint8_t revision,
+                              const uint8_t *aml, size_t aml_length, uint8_t *out, size_t capacity,
+                              size_t *length) {
+    return zacpi_1_write_dsdt(ids, revision, aml_length ? aml : (const uint8_t *)ZACPI_NOTHING,
+                              aml_length, capacity ? out : (uint8_t *)ZACPI_NOTHING, capacity,
+                              length);
+}
+
+zacpi_status zacpi_1_write_ssdt(const struct zacpi_table_ids *ids, uint8_t revision,
+                                const uint8_t *aml, size_t aml_length, uint8_t *out,
+                                size_t capacity, size_t *length);
+ZACPI_NONNULL((1, 7))
+ZACPI_STATUS zacpi_write_ssdt(const struct zacpi_table_ids *ids, uint8_t revision,
+                              const uint8_t *aml, size_t aml_length, uint8_t *out, size_t capacity,
+                              size_t *length) {
+    return zacpi_1_write_ssdt(ids, revision, aml_length ? aml : (const uint8_t *)ZACPI_NOTHING,
+                              aml_length, capacity ? out : (uint8_t *)ZACPI_NOTHING, capacity,
+                              length);
+}
+
+zacpi_status zacpi_1_write_table(const struct zacpi_table_ids *ids, struct zacpi_signature wanted,
+                                 uint8_t revision, const uint8_t *body, size_t body_length,
+                                 uint8_t *out, size_t capacity, size_t *length);
+ZACPI_NONNULL((1, 8))
+ZACPI_STATUS zacpi_write_table(const struct zacpi_table_ids *ids, struct zacpi_signature wanted,
+                               uint8_t revision, const uint8_t *body, size_t body_length,
+                               uint8_t *out, size_t capacity, size_t *length) {
+    return zacpi_1_write_table(ids, wanted, revision,
+                               body_length ? body : (const uint8_t *)ZACPI_NOTHING, body_length,
+                               capacity ? out : (uint8_t *)ZACPI_NOTHING, capacity, length);
+}
+
+zacpi_status zacpi_1_write_madt(const struct zacpi_table_ids *ids,
+                                const struct zacpi_madt_contents *contents, uint8_t *out,
+                                size_t capacity, size_t *length);
+ZACPI_NONNULL((1, 2, 5))
+ZACPI_STATUS zacpi_write_madt(const struct zacpi_table_ids *ids,
+                              const struct zacpi_madt_contents *contents, uint8_t *out,
+                              size_t capacity, size_t *length) {
+    const struct zacpi_madt_contents kept_contents = zacpi_madt_contents_kept(contents);
+    return zacpi_1_write_madt(ids, &kept_contents, capacity ? out : (uint8_t *)ZACPI_NOTHING,
+                              capacity, length);
+}
+
+zacpi_status zacpi_1_write_gic_madt(const struct zacpi_table_ids *ids,
+                                    const struct zacpi_gic_contents *contents, uint8_t *out,
+                                    size_t capacity, size_t *length);
+ZACPI_NONNULL((1, 2, 5))
+ZACPI_STATUS zacpi_write_gic_madt(const struct zacpi_table_ids *ids,
+                                  const struct zacpi_gic_contents *contents, uint8_t *out,
+                                  size_t capacity, size_t *length) {
+    const struct zacpi_gic_contents kept_contents = zacpi_gic_contents_kept(contents);
+    return zacpi_1_write_gic_madt(ids, &kept_contents, capacity ? out : (uint8_t *)ZACPI_NOTHING,
+                                  capacity, length);
+}
+
+zacpi_status zacpi_1_write_mcfg(const struct zacpi_table_ids *ids,
+                                const struct zacpi_pci_region *regions, size_t regions_length,
+                                uint8_t *out, size_t capacity, size_t *length);
+ZACPI_NONNULL((1, 6))
+ZACPI_STATUS zacpi_write_mcfg(const struct zacpi_table_ids *ids,
+                              const struct zacpi_pci_region *regions, size_t regions_length,
+                              uint8_t *out, size_t capacity, size_t *length) {
+    return zacpi_1_write_mcfg(ids,
+                              regions_length ? regions : (const struct zacpi_pci_region *)ZACPI_NOTHING,
+                              regions_length, capacity ? out : (uint8_t *)ZACPI_NOTHING, capacity,
+                              length);
+}
+
+zacpi_status zacpi_1_write_hpet(const struct zacpi_table_ids *ids,
+                                const struct zacpi_hpet_info *info, uint8_t *out, size_t capacity,
+                                size_t *length);
+ZACPI_NONNULL((1, 2, 5))
+ZACPI_STATUS zacpi_write_hpet(const struct zacpi_table_ids *ids, const struct zacpi_hpet_info *info,
+                              uint8_t *out, size_t capacity, size_t *length) {
+    return zacpi_1_write_hpet(ids, info, capacity ? out : (uint8_t *)ZACPI_NOTHING, capacity,
+                              length);
+}
+
+zacpi_status zacpi_1_write_slit(const struct zacpi_table_ids *ids, uint64_t localities,
+                                const uint8_t *distances, size_t distances_length, uint8_t *out,
+                                size_t capacity, size_t *length);
+ZACPI_NONNULL((1, 7))
+ZACPI_STATUS zacpi_write_slit(const struct zacpi_table_ids *ids, uint64_t localities,
+                              const uint8_t *distances, size_t distances_length, uint8_t *out,
+                              size_t capacity, size_t *length) {
+    return zacpi_1_write_slit(ids, localities,
+                              distances_length ? distances : (const uint8_t *)ZACPI_NOTHING,
+                              distances_length, capacity ? out : (uint8_t *)ZACPI_NOTHING, capacity,
+                              length);
+}
+
+zacpi_status zacpi_1_write_srat(const struct zacpi_table_ids *ids,
+                                const struct zacpi_srat_contents *contents, uint8_t *out,
+                                size_t capacity, size_t *length);
+ZACPI_NONNULL((1, 2, 5))
+ZACPI_STATUS zacpi_write_srat(const struct zacpi_table_ids *ids,
+                              const struct zacpi_srat_contents *contents, uint8_t *out,
+                              size_t capacity, size_t *length) {
+    const struct zacpi_srat_contents kept_contents = zacpi_srat_contents_kept(contents);
+    return zacpi_1_write_srat(ids, &kept_contents, capacity ? out : (uint8_t *)ZACPI_NOTHING,
+                              capacity, length);
+}
+
+zacpi_status zacpi_1_write_bgrt(const struct zacpi_table_ids *ids,
+                                const struct zacpi_boot_graphic *graphic, uint8_t *out,
+                                size_t capacity, size_t *length);
+ZACPI_NONNULL((1, 2, 5))
+ZACPI_STATUS zacpi_write_bgrt(const struct zacpi_table_ids *ids,
+                              const struct zacpi_boot_graphic *graphic, uint8_t *out,
+                              size_t capacity, size_t *length) {
+    return zacpi_1_write_bgrt(ids, graphic, capacity ? out : (uint8_t *)ZACPI_NOTHING, capacity,
+                              length);
+}
+
+zacpi_status zacpi_1_write_spcr(const struct zacpi_table_ids *ids,
+                                const struct zacpi_spcr_contents *contents, uint8_t *out,
+                                size_t capacity, size_t *length);
+ZACPI_NONNULL((1, 2, 5))
+ZACPI_STATUS zacpi_write_spcr(const struct zacpi_table_ids *ids,
+                              const struct zacpi_spcr_contents *contents, uint8_t *out,
+                              size_t capacity, size_t *length) {
+    return zacpi_1_write_spcr(ids, contents, capacity ? out : (uint8_t *)ZACPI_NOTHING, capacity,
+                              length);
+}
+
+zacpi_status zacpi_1_write_gtdt(const struct zacpi_table_ids *ids,
+                                const struct zacpi_gtdt_contents *contents, uint8_t *out,
+                                size_t capacity, size_t *length);
+ZACPI_NONNULL((1, 2, 5))
+ZACPI_STATUS zacpi_write_gtdt(const struct zacpi_table_ids *ids,
+                              const struct zacpi_gtdt_contents *contents, uint8_t *out,
+                              size_t capacity, size_t *length) {
+    const struct zacpi_gtdt_contents kept_contents = zacpi_gtdt_contents_kept(contents);
+    return zacpi_1_write_gtdt(ids, &kept_contents, capacity ? out : (uint8_t *)ZACPI_NOTHING,
+                              capacity, length);
+}
+
+zacpi_status zacpi_1_write_fadt(const struct zacpi_table_ids *ids,
+                                const struct zacpi_fixed_hardware *fadt, uint8_t *out,
+                                size_t capacity, size_t *length);
+ZACPI_NONNULL((1, 2, 5))
+ZACPI_STATUS zacpi_write_fadt(const struct zacpi_table_ids *ids,
+                              const struct zacpi_fixed_hardware *fadt, uint8_t *out,
+                              size_t capacity, size_t *length) {
+    return zacpi_1_write_fadt(ids, fadt, capacity ? out : (uint8_t *)ZACPI_NOTHING, capacity,
+                              length);
+}
+
+zacpi_status zacpi_1_write_facs(const struct zacpi_facs_contents *contents, uint8_t *out,
+                                size_t capacity, size_t *length);
+ZACPI_NONNULL((1, 4))
+ZACPI_STATUS zacpi_write_facs(const struct zacpi_facs_contents *contents, uint8_t *out,
+                              size_t capacity, size_t *length) {
+    return zacpi_1_write_facs(contents, capacity ? out : (uint8_t *)ZACPI_NOTHING, capacity,
+                              length);
+}
+
+zacpi_status zacpi_1_write_tables(const struct zacpi_machine *machine, uint64_t address,
+                                  uint8_t *out, size_t capacity, size_t *length);
+ZACPI_NONNULL((1, 5))
+ZACPI_STATUS zacpi_write_tables(const struct zacpi_machine *machine, uint64_t address, uint8_t *out,
+                                size_t capacity, size_t *length) {
+    const struct zacpi_machine kept_machine = zacpi_machine_kept(machine);
+    return zacpi_1_write_tables(&kept_machine, address, capacity ? out : (uint8_t *)ZACPI_NOTHING,
+                                capacity, length);
+}
+
+zacpi_status zacpi_1_write_tables_without_rsdp(const struct zacpi_machine *machine,
+                                               uint64_t address, uint8_t *out, size_t capacity,
+                                               size_t *length);
+ZACPI_NONNULL((1, 5))
+ZACPI_STATUS zacpi_write_tables_without_rsdp(const struct zacpi_machine *machine, uint64_t address,
+                                             uint8_t *out, size_t capacity, size_t *length) {
+    const struct zacpi_machine kept_machine = zacpi_machine_kept(machine);
+    return zacpi_1_write_tables_without_rsdp(&kept_machine, address,
+                                             capacity ? out : (uint8_t *)ZACPI_NOTHING, capacity,
+                                             length);
+}
+
+zacpi_status zacpi_1_tables_size(const struct zacpi_machine *machine, size_t *length);
+ZACPI_NONNULL((1, 2))
+ZACPI_STATUS zacpi_tables_size(const struct zacpi_machine *machine, size_t *length) {
+    const struct zacpi_machine kept_machine = zacpi_machine_kept(machine);
+    return zacpi_1_tables_size(&kept_machine, length);
+}
+
+zacpi_status zacpi_1_dsdt_address(uint64_t address, size_t tables_length, uint64_t *out);
+ZACPI_NONNULL((3))
+ZACPI_STATUS zacpi_dsdt_address(uint64_t address, size_t tables_length, uint64_t *out) {
+    return zacpi_1_dsdt_address(address, tables_length, out);
+}
