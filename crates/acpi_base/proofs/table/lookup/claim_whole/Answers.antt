@@ -1,4 +1,4 @@
-use Rattle.std.proofs.Common.{◌≡◌, ℕ, ◌+◌, ◌^◌, ◌<◌, ◌≤◌, length, IfOk, Result, Ok, Err, arith}
+use Rattle.std.proofs.Common.{◌≡◌, ℕ, ◌^◌, ◌<◌, ◌≤◌, length, IfOk, Result, Ok, Err, arith}
 use Rattle.acpi_base.proofs.FromStd.{common_steps}
 use Rattle.acpi_base.proofs.AllowedRanges.{asked_length}
 use Rattle.acpi_base.proofs.LentRanges.{lent_ends, lent_shown}
