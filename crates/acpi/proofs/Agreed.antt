@@ -1,30 +1,42 @@
 -- Memories that agree on the ranges of a definition have the same answer of it: below a root table, and of what leads
 -- to one.
-use Rattle.std.proofs.Common.{◌≡◌, ℕ, List, [], ◌∷◌, ◌++◌, Option, Some, Result, Ok, Err, refl, ap, ◌∙◌, length, zero, suc, ◌+◌, None, filter_map, flat_map}
+use Rattle.std.proofs.Common.{◌≡◌, ℕ, List, [], ◌∷◌, ◌++◌, Option, Some, Result, Ok, Err, refl, ap, ◌∙◌, zero, suc, ◌+◌, None, filter_map, flat_map}
 use Rattle.acpi_base.specs.FromStd.{result_ok, option_or}
 use Rattle.acpi_base.proofs.Words.{each_back, each_front, same_own_table, same_table}
-use Rattle.acpi.specs.Types.{AcpiError, DSDT, SSDT, Fadt, NoValidRsdp, AddressRange}
-use Rattle.acpi_base.specs.Words.{mailbox_of, mcfg_entries_of, Memory, at, AgreesOn, DependsOn, Footprint, Ranges, own_table_ranges, table_ranges, unless_found, ◌>>=◌, lent, Kind, plain_kind, table_at}
+use Rattle.acpi.specs.Types.{AcpiError, DSDT, SSDT, Fadt, AddressRange}
+use Rattle.acpi_base.specs.Words.{mailbox_of, mcfg_entries_of, Memory, at, AgreesOn, DependsOn, Ranges, own_table_ranges, table_ranges, unless_found, ◌>>=◌, lent, Kind, plain_kind, table_at}
 use Rattle.acpi_fixed.specs.Words.{dsdt_address_of, facs_address_of, fadt_at}
 use Rattle.acpi.proofs.First.{here}
-use Rattle.acpi.specs.Words.{FootprintBelow, below, header_ranges, lookup_ranges, root_ranges, dsdt_ranges, platform_ranges, ssdt_ranges, hpet_at, hpet_kind, info_of, hpet_of, or_later, fadt_kind, faults_of, own_header_at, stream_at, unless_valid, dsdt_stream, ssdt_streams, valid_headers, lookup, found_at, kind_ranges, members_of, tables_found, mcfg_kind, found_regions, both_place_ranges, dsdt_place, dsdt_place_ranges, facs_at, facs_length_in, facs_place, facs_place_ranges, facs_ranges, led_by, led_by_ranges, led_ranges, place_at, place_ranges, places_of, range, madt_kind, model_in, platform_of, root_at, root_kind, root_of_revision, mailbox_found, kind_of, memory_of, pointers_of, root_address_of, root_of, AcpiTables, opened_at, opened_from, opened_by_rsdp, opened_by_search, area_ranges, length_ranges, opened_ranges, or_else_ranges, rsdp_ranges, search_ranges, walk_ranges, opened_by_rsdp_ranges, opened_by_search_ranges, check_whole, checked_length, root_of_rsdp, rsdp_at, count_of, first_area, found_in, found_rsdp, or_else, room_of, second_area, walk, word_in, Area, areas_ranges, count_in, first_in, found_among, found_in_areas, walk_in, opened_in_areas_ranges, opened_in_areas}
+use Rattle.acpi.specs.Words.{FootprintBelow, below, header_ranges, lookup_ranges, root_ranges, dsdt_ranges, platform_ranges, ssdt_ranges, hpet_at, hpet_kind, info_of, hpet_of, or_later, fadt_kind, faults_of, own_header_at, stream_at, unless_valid, dsdt_stream, ssdt_streams, valid_headers, lookup, found_at, kind_ranges, members_of, tables_found, mcfg_kind, found_regions, both_place_ranges, dsdt_place, dsdt_place_ranges, facs_at, facs_length_in, facs_place, facs_place_ranges, facs_ranges, led_by, led_by_ranges, led_ranges, place_at, place_ranges, places_of, madt_kind, platform_of, root_at, root_kind, root_of_revision, mailbox_found, kind_of, memory_of, pointers_of, root_address_of, root_of, AcpiTables, opened_at, opened_from, opened_by_rsdp, opened_by_search, area_ranges, length_ranges, opened_ranges, or_else_ranges, rsdp_ranges, search_ranges, walk_ranges, opened_by_rsdp_ranges, opened_by_search_ranges, check_whole, checked_length, root_of_rsdp, rsdp_at, count_of, first_area, found_in, found_rsdp, or_else, room_of, second_area, walk, word_in, Area, areas_ranges, count_in, first_in, found_among, found_in_areas, walk_in, opened_in_areas_ranges, opened_in_areas, last_in}
 use Rattle.acpi_base.specs.Ranges as ranges
 
 -- ---- lookups
 
-same_later : (m n : Memory) (k : Kind) (p : ℕ) (ps : List ℕ) (r : Result (List ℕ) AcpiError)
-    → (AgreesOn m n (lookup_ranges m k ps) → lookup n k ps ≡ lookup m k ps)
-    → AgreesOn m n (unless_found r (lookup_ranges m k ps))
-    → or_later (here p) r (lookup n k ps) ≡ or_later (here p) r (lookup m k ps)
-same_later m n k p ps (Ok table) later h = refl
-same_later m n k p ps (Err e) later h = later h
+-- what goes on after a step that gives the same
+then_same : {A B : Type 0} (m n : Memory) (of : A → Ranges) (f g : A → Result B AcpiError)
+    → ((x : A) → AgreesOn m n (of x) → f x ≡ g x) → (r : Result A AcpiError) → AgreesOn m n (ranges.◌>>=◌ r of)
+    → (r >>= f) ≡ (r >>= g)
+then_same m n of f g each (Ok x) h = each x h
+then_same m n of f g each (Err e) h = refl
+
+-- what is come to only if this is refused
+later_same : {A B : Type 0} (m n : Memory) (found : A → B) (r : Result A AcpiError) (xs : Ranges) (x y : B)
+    → (AgreesOn m n xs → x ≡ y) → AgreesOn m n (unless_found r xs) → or_later found r x ≡ or_later found r y
+later_same m n found (Ok a) xs x y each h = refl
+later_same m n found (Err e) xs x y each h = each h
+
+-- what is come to only if nothing is found before
+else_same : {A : Type 0} (m n : Memory) (xs : Ranges) (x y : Result A AcpiError) → (AgreesOn m n xs → x ≡ y)
+    → (o : Option A) → AgreesOn m n (or_else_ranges o xs) → or_else o x ≡ or_else o y
+else_same m n xs x y each (Some found) h = refl
+else_same m n xs x y each None h = each h
 
 pub same_lookup : (k : Kind) → DependsOn (λ m. lookup_ranges m k) (λ m. lookup m k)
 same_lookup k m n [] h = refl
 same_lookup k m n (p ∷ ps) h =
     let front = same_table k m n p (each_front _ (table_ranges m k p) _ h) in
     let after = each_back _ (table_ranges m k p) _ h in
-    rw front (same_later m n k p ps (table_at m k p) (same_lookup k m n ps) after)
+    rw front (later_same m n (here p) (table_at m k p) _ _ _ (same_lookup k m n ps) after)
 
 same_faults_later : (m n : Memory) (k : Kind) (p : ℕ) (ps : List ℕ) (r : Result (List ℕ) AcpiError)
     → (AgreesOn m n (lookup_ranges m k ps) → faults_of n k ps ≡ faults_of m k ps)
@@ -86,32 +98,21 @@ same_found k m n ps h = same_each m n (table_ranges m k) _ _ (same_found_at k m 
 
 -- ---- the DSDT
 
-same_dsdt_at : (m n : Memory) (r : Result ℕ AcpiError)
-    → AgreesOn m n (ranges.◌>>=◌ r (λ a. table_ranges m (plain_kind DSDT) a))
-    → (r >>= λ a. stream_at n DSDT a) ≡ (r >>= λ a. stream_at m DSDT a)
-unfolding stream_at
-same_dsdt_at m n (Ok a) h = rw (same_table (plain_kind DSDT) m n a h) refl
-same_dsdt_at m n (Err e) h = refl
-
 -- what the first valid FADT leads to
-led_from : {A : Type 0} (place : Memory → Fadt → Result A AcpiError) (of : Memory → Fadt → Ranges) (m n : Memory)
-    → ((f : Fadt) → AgreesOn m n (of m f) → place n f ≡ place m f)
-    → (r : Result (ℕ × List ℕ) AcpiError) → AgreesOn m n (ranges.◌>>=◌ r (λ found. of m (fadt_at found.1)))
-    → (r >>= λ found. place n (fadt_at found.1)) ≡ (r >>= λ found. place m (fadt_at found.1))
-led_from place of m n same (Ok found) h = same (fadt_at found.1) h
-led_from place of m n same (Err e) h = refl
-
 same_led : {A : Type 0} (place : Memory → Fadt → Result A AcpiError) (of : Memory → Fadt → Ranges) (m n : Memory)
     → ((f : Fadt) → AgreesOn m n (of m f) → place n f ≡ place m f)
     → (ps : List ℕ) → AgreesOn m n (led_by_ranges of m ps) → led_by place n ps ≡ led_by place m ps
 same_led place of m n same ps h =
     let front = same_lookup fadt_kind m n ps (each_front _ (lookup_ranges m fadt_kind ps) _ h) in
-    rw front (led_from place of m n same (lookup m fadt_kind ps) (each_back _ (lookup_ranges m fadt_kind ps) _ h))
+    rw front (then_same m n (λ found. of m (fadt_at found.1)) _ _ (λ found. same (fadt_at found.1))
+    (lookup m fadt_kind ps) (each_back _ (lookup_ranges m fadt_kind ps) _ h))
 
 pub same_dsdt : DependsOn dsdt_ranges dsdt_stream
+unfolding stream_at
 same_dsdt m n ps h =
     same_led (λ o f. dsdt_address_of f >>= λ a. stream_at o DSDT a) dsdt_place_ranges m n
-    (λ f. same_dsdt_at m n (dsdt_address_of f)) ps h
+    (λ f. then_same m n (table_ranges m (plain_kind DSDT)) _ _
+    (λ a here. rw (same_table (plain_kind DSDT) m n a here) refl) (dsdt_address_of f)) ps h
 
 -- ---- places
 
@@ -121,39 +122,22 @@ unfolding place_at
 same_place_at m n p h = rw (same_own_table m n p h) refl
 
 module _ (m n : Memory) where
-  dsdt_from : (r : Result ℕ AcpiError) → AgreesOn m n (ranges.◌>>=◌ r (λ a. table_ranges m (plain_kind DSDT) a))
-      → (r >>= λ a. table_at n (plain_kind DSDT) a >>= λ t. Ok (range a (length t)))
-      ≡ (r >>= λ a. table_at m (plain_kind DSDT) a >>= λ t. Ok (range a (length t)))
-  dsdt_from (Ok a) h = rw (same_table (plain_kind DSDT) m n a h) refl
-  dsdt_from (Err e) h = refl
-
   same_dsdt_place : (f : Fadt) → AgreesOn m n (dsdt_place_ranges m f) → dsdt_place n f ≡ dsdt_place m f
   unfolding dsdt_place
-  same_dsdt_place f h = dsdt_from (dsdt_address_of f) h
-
-  long_from : (a : ℕ) (r : Result ℕ AcpiError) → AgreesOn m n (ranges.◌>>=◌ r (λ l. (a, l) ∷ []))
-      → (r >>= λ l. lent n a l >>= λ _. Ok (range a l)) ≡ (r >>= λ l. lent m a l >>= λ _. Ok (range a l))
-  long_from a (Ok l) h = rw h.0 refl
-  long_from a (Err e) h = refl
-
-  head_from : (a : ℕ) (r : Result (List ℕ) AcpiError)
-      → AgreesOn m n (ranges.◌>>=◌ r (λ b. ranges.◌>>=◌ (facs_length_in b) (λ l. (a, l) ∷ [])))
-      → (r >>= λ b. facs_length_in b >>= λ l. lent n a l >>= λ _. Ok (range a l))
-      ≡ (r >>= λ b. facs_length_in b >>= λ l. lent m a l >>= λ _. Ok (range a l))
-  head_from a (Ok b) h = long_from a (facs_length_in b) h
-  head_from a (Err e) h = refl
+  same_dsdt_place f = then_same m n (table_ranges m (plain_kind DSDT)) _ _
+      (λ a here. rw (same_table (plain_kind DSDT) m n a here) refl) (dsdt_address_of f)
 
   same_facs_at : (a : ℕ) → AgreesOn m n (facs_ranges m a) → facs_at n a ≡ facs_at m a
   unfolding facs_at
-  same_facs_at a h = rw (← h.0) (head_from a (lent m a 36) h.1)
+  same_facs_at a h =
+      rw (← h.0) (then_same m n (λ b. ranges.◌>>=◌ (facs_length_in b) (λ l. (a, l) ∷ [])) _ _
+      (λ b. then_same m n (λ l. (a, l) ∷ []) _ _ (λ l here. rw here.0 refl) (facs_length_in b)) (lent m a 36) h.1)
 
-  facs_from : (r : Result ℕ AcpiError) → AgreesOn m n (ranges.◌>>=◌ r (λ a. facs_ranges m a))
-      → (r >>= λ a. facs_at n a) ≡ (r >>= λ a. facs_at m a)
-  facs_from (Ok a) h = same_facs_at a h
-  facs_from (Err e) h = refl
+  same_facs_place : (f : Fadt) → AgreesOn m n (facs_place_ranges m f) → facs_place n f ≡ facs_place m f
+  same_facs_place f = then_same m n (facs_ranges m) _ _ same_facs_at (facs_address_of f)
 
 pub same_facs : DependsOn (led_by_ranges facs_place_ranges) (led_by facs_place)
-same_facs m n ps h = same_led facs_place facs_place_ranges m n (λ f. facs_from m n (facs_address_of f)) ps h
+same_facs m n ps h = same_led facs_place facs_place_ranges m n (same_facs_place m n) ps h
 
 same_led_dsdt : DependsOn led_ranges (led_by dsdt_place)
 same_led_dsdt m n ps h = same_led dsdt_place both_place_ranges m n
@@ -161,7 +145,7 @@ same_led_dsdt m n ps h = same_led dsdt_place both_place_ranges m n
 
 same_led_facs : DependsOn led_ranges (led_by facs_place)
 same_led_facs m n ps h = same_led facs_place both_place_ranges m n
-    (λ f both. facs_from m n (facs_address_of f) (each_back _ (dsdt_place_ranges m f) _ both)) ps h
+    (λ f both. same_facs_place m n f (each_back _ (dsdt_place_ranges m f) _ both)) ps h
 
 pub same_places : (root : AddressRange) → DependsOn place_ranges (places_of root)
 same_places root m n ps h =
@@ -186,17 +170,12 @@ same_regions m n ps h = same_said mcfg_kind m n ps (λ r. r >>= λ f. Ok (mcfg_e
 pub same_mailbox : DependsOn (λ m. lookup_ranges m madt_kind) mailbox_found
 same_mailbox m n ps h = same_said madt_kind m n ps (λ r. r >>= λ f. mailbox_of f.1) h
 
-same_model : {A B : Type 0} (m n : Memory) (ps : List ℕ) (r : Result (ℕ × List ℕ) AcpiError) (rest : ℕ × List ℕ → _
-    → Result B AcpiError)
-    → AgreesOn m n (ranges.◌>>=◌ r (λ _. lookup_ranges m madt_kind ps))
-    → (r >>= λ f. model_in {A = A} n ps >>= rest f) ≡ (r >>= λ f. model_in {A = A} m ps >>= rest f)
-same_model m n ps (Ok f) rest h = rw (same_lookup madt_kind m n ps h) refl
-same_model m n ps (Err e) rest h = refl
-
 pub same_platform : {A : Type 0} → DependsOn platform_ranges (λ m ps. platform_of {A = A} m ps)
 same_platform m n ps h =
     let front = same_lookup fadt_kind m n ps (each_front _ (lookup_ranges m fadt_kind ps) _ h) in
-    rw front (same_model m n ps (lookup m fadt_kind ps) _ (each_back _ (lookup_ranges m fadt_kind ps) _ h))
+    rw front (then_same m n (λ _. lookup_ranges m madt_kind ps) _ _
+    (λ f here. rw (same_lookup madt_kind m n ps here) refl) (lookup m fadt_kind ps)
+    (each_back _ (lookup_ranges m fadt_kind ps) _ h))
 
 -- ---- from a root table
 
@@ -256,72 +235,45 @@ module _ {H : Type 0} {h : _} (t : AcpiTables H h) where
 
 -- ---- one RSDP
 
-same_sum : (m n : Memory) (a : ℕ) (b : List ℕ) (q : Result (Option ℕ) AcpiError)
-    → AgreesOn m n (ranges.◌>>=◌ q (length_ranges a))
-    → (q >>= λ k. check_whole (lent n a) k >>= λ _. Ok b) ≡ (q >>= λ k. check_whole (lent m a) k >>= λ _. Ok b)
-same_sum m n a b (Ok None) h = refl
-same_sum m n a b (Ok (Some k)) h = rw h.0 refl
-same_sum m n a b (Err e) h = refl
-
-same_checks : (m n : Memory) (a : ℕ) (r : Result (List ℕ) AcpiError)
-    → AgreesOn m n (ranges.◌>>=◌ r (λ b. ranges.◌>>=◌ (checked_length b) (length_ranges a)))
-    → (r >>= λ b. checked_length b >>= λ k. check_whole (lent n a) k >>= λ _. Ok b)
-    ≡ (r >>= λ b. checked_length b >>= λ k. check_whole (lent m a) k >>= λ _. Ok b)
-same_checks m n a (Ok b) h = same_sum m n a b (checked_length b) h
-same_checks m n a (Err e) h = refl
+same_check : (m n : Memory) (a : ℕ) (k : Option ℕ) → AgreesOn m n (length_ranges a k)
+    → check_whole (lent n a) k ≡ check_whole (lent m a) k
+same_check m n a None h = refl
+same_check m n a (Some k) h = rw h.0 refl
 
 pub same_rsdp : DependsOn rsdp_ranges rsdp_at
 unfolding rsdp_at
-same_rsdp m n a h = rw (← h.0) (same_checks m n a (lent m a 36) h.1)
+same_rsdp m n a h =
+    rw (← h.0) (then_same m n (λ b. ranges.◌>>=◌ (checked_length b) (length_ranges a)) _ _
+    (λ b. then_same m n (length_ranges a) _ _ (λ k here. ap (λ r. r >>= λ _. Ok b) (same_check m n a k here))
+    (checked_length b)) (lent m a 36) h.1)
 
 -- ---- the search
-
-abbrev pub placed_at : ℕ → List ℕ → Option (ℕ × List ℕ)
-placed_at a b = Some (a, b)
-
-same_next : (m n : Memory) (c a : ℕ) (r : Result (List ℕ) AcpiError)
-    → (AgreesOn m n (walk_ranges m c (a + 16)) → walk n c (a + 16) ≡ walk m c (a + 16))
-    → AgreesOn m n (unless_found r (walk_ranges m c (a + 16)))
-    → or_later (placed_at a) r (walk n c (a + 16)) ≡ or_later (placed_at a) r (walk m c (a + 16))
-same_next m n c a (Ok b) later h = refl
-same_next m n c a (Err e) later h = later h
 
 pub same_walk : (m n : Memory) (c a : ℕ) → AgreesOn m n (walk_ranges m c a) → walk n c a ≡ walk m c a
 same_walk m n zero a h = refl
 same_walk m n (suc c) a h =
     let front = same_rsdp m n a (each_front _ (rsdp_ranges m a) _ h) in
     let after = each_back _ (rsdp_ranges m a) _ h in
-    rw front (same_next m n c a (rsdp_at m a) (same_walk m n c (a + 16)) after)
-
-same_there : (m n : Memory) (s : Area) (r : Result (List ℕ) AcpiError)
-    → AgreesOn m n (ranges.◌>>=◌ r (λ _. walk_ranges m (count_of s) s.start))
-    → (r >>= λ _. Ok (walk n (count_of s) s.start)) ≡ (r >>= λ _. Ok (walk m (count_of s) s.start))
-same_there m n s (Ok b) h = rw (same_walk m n (count_of s) s.start h) refl
-same_there m n s (Err e) h = refl
+    rw front (later_same m n (λ b. Some (a, b)) (rsdp_at m a) _ _ _ (same_walk m n c (a + 16)) after)
 
 same_area : (m n : Memory) (s : Area) → AgreesOn m n (area_ranges m s) → found_in n s ≡ found_in m s
 unfolding found_in
-same_area m n s h = rw (← h.0) (same_there m n s (lent m s.start (room_of s)) h.1)
+same_area m n s h =
+    rw (← h.0) (then_same m n (λ _. walk_ranges m (count_of s) s.start) _ _
+    (λ _ here. rw (same_walk m n (count_of s) s.start here) refl) (lent m s.start (room_of s)) h.1)
 
-same_second : (m n : Memory) (s : Area) (r : Result (Option (ℕ × List ℕ)) AcpiError)
-    → AgreesOn m n (ranges.◌>>=◌ r (λ first. or_else_ranges first (area_ranges m s)))
-    → (r >>= λ first. or_else first (found_in n s >>= λ second. or_else second (Err NoValidRsdp)))
-    ≡ (r >>= λ first. or_else first (found_in m s >>= λ second. or_else second (Err NoValidRsdp)))
-same_second m n s (Ok None) h = rw (same_area m n s h) refl
-same_second m n s (Ok (Some found)) h = refl
-same_second m n s (Err e) h = refl
-
-same_areas : (m n : Memory) (r : Result ℕ AcpiError)
-    → AgreesOn m n (ranges.◌>>=◌ r (λ word. area_ranges m first_area
-    ++ ranges.◌>>=◌ (found_in m first_area) (λ first. or_else_ranges first (area_ranges m (second_area word)))))
-    → (r >>= λ word. found_in n first_area >>= λ first. or_else first
-    (found_in n (second_area word) >>= λ second. or_else second (Err NoValidRsdp)))
-    ≡ (r >>= λ word. found_in m first_area >>= λ first. or_else first
-    (found_in m (second_area word) >>= λ second. or_else second (Err NoValidRsdp)))
-same_areas m n (Ok word) h =
+-- the first area, and the second if the first has none
+same_areas : (m n : Memory) (word : ℕ)
+    → AgreesOn m n (area_ranges m first_area ++ ranges.◌>>=◌ (found_in m first_area)
+    (λ first. or_else_ranges first (area_ranges m (second_area word))))
+    → (found_in n first_area >>= λ first. or_else first (last_in n (second_area word)))
+    ≡ (found_in m first_area >>= λ first. or_else first (last_in m (second_area word)))
+same_areas m n word h =
+    let s = second_area word in
     let front = same_area m n first_area (each_front _ (area_ranges m first_area) _ h) in
-    rw front (same_second m n (second_area word) (found_in m first_area) (each_back _ (area_ranges m first_area) _ h))
-same_areas m n (Err e) h = refl
+    rw front (then_same m n (λ first. or_else_ranges first (area_ranges m s)) _ _
+    (else_same m n (area_ranges m s) _ _ (λ last. rw (same_area m n s last) refl)) (found_in m first_area)
+    (each_back _ (area_ranges m first_area) _ h))
 
 same_word : (m n : Memory) → at m 0x40e 2 ≡ at n 0x40e 2 → word_in n ≡ word_in m
 unfolding word_in
@@ -329,7 +281,9 @@ same_word m n h = rw (← h) refl
 
 pub same_search : (m n : Memory) → AgreesOn m n (search_ranges m) → found_rsdp n ≡ found_rsdp m
 unfolding found_rsdp
-same_search m n h = rw (same_word m n h.0) (same_areas m n (word_in m) h.1)
+same_search m n h = rw (same_word m n h.0) (then_same m n (λ word. area_ranges m first_area ++ ranges.◌>>=◌
+    (found_in m first_area) (λ first. or_else_ranges first (area_ranges m (second_area word)))) _ _ (same_areas m n)
+    (word_in m) h.1)
 
 -- ---- what is opened
 
@@ -341,28 +295,18 @@ pub same_opened_at : (m n : Memory) (revision address : ℕ)
     → opened_at n (revision, address) ≡ opened_at m (revision, address)
 same_opened_at m n revision address h = same_opened m n (root_of_revision revision address) h
 
-same_by_rsdp : (m n : Memory) (r : Result (List ℕ) AcpiError)
-    → AgreesOn m n (ranges.◌>>=◌ r (λ b. opened_ranges m (root_of_rsdp b)))
-    → (r >>= λ b. opened_from n (root_of_rsdp b)) ≡ (r >>= λ b. opened_from m (root_of_rsdp b))
-same_by_rsdp m n (Ok b) h = same_opened m n (root_of_rsdp b) h
-same_by_rsdp m n (Err e) h = refl
-
 pub same_opened_by_rsdp : DependsOn opened_by_rsdp_ranges opened_by_rsdp
 same_opened_by_rsdp m n a h =
     let front = same_rsdp m n a (each_front _ (rsdp_ranges m a) _ h) in
-    rw front (same_by_rsdp m n (rsdp_at m a) (each_back _ (rsdp_ranges m a) _ h))
-
-pub same_by_search : (m n : Memory) (r : Result (ℕ × List ℕ) AcpiError)
-    → AgreesOn m n (ranges.◌>>=◌ r (λ f. opened_ranges m (root_of_rsdp f.1)))
-    → (r >>= λ f. opened_from n (root_of_rsdp f.1)) ≡ (r >>= λ f. opened_from m (root_of_rsdp f.1))
-same_by_search m n (Ok f) h = same_opened m n (root_of_rsdp f.1) h
-same_by_search m n (Err e) h = refl
+    rw front (then_same m n (λ b. opened_ranges m (root_of_rsdp b)) _ _ (λ b. same_opened m n (root_of_rsdp b))
+    (rsdp_at m a) (each_back _ (rsdp_ranges m a) _ h))
 
 pub same_opened_by_search : (m n : Memory) → AgreesOn m n (opened_by_search_ranges m)
     → opened_by_search n ≡ opened_by_search m
 same_opened_by_search m n h =
     let front = same_search m n (each_front _ (search_ranges m) _ h) in
-    rw front (same_by_search m n (found_rsdp m) (each_back _ (search_ranges m) _ h))
+    rw front (then_same m n (λ f. opened_ranges m (root_of_rsdp f.1)) _ _ (λ f. same_opened m n (root_of_rsdp f.1))
+    (found_rsdp m) (each_back _ (search_ranges m) _ h))
 
 -- ---- memories that agree on the ranges of a search in areas find the same RSDP there
 
@@ -388,4 +332,5 @@ same_in_areas m n areas h = rw (same_among m n areas h) refl
 pub same_opened_in_areas : DependsOn opened_in_areas_ranges opened_in_areas
 same_opened_in_areas m n areas h =
     let front = same_in_areas m n areas (each_front _ (areas_ranges m areas) _ h) in
-    rw front (same_by_search m n (found_in_areas m areas) (each_back _ (areas_ranges m areas) _ h))
+    rw front (then_same m n (λ f. opened_ranges m (root_of_rsdp f.1)) _ _ (λ f. same_opened m n (root_of_rsdp f.1))
+    (found_in_areas m areas) (each_back _ (areas_ranges m areas) _ h))

@@ -1,23 +1,19 @@
 -- The search in areas that a caller gives: candidate by candidate, and in the reader's words.
-use Rattle.std.proofs.Common.{◌≡◌, ℕ, zero, suc, ◌+◌, ◌-◌, ◌*◌, ◌/◌, ◌<◌, ◌≤◌, List, [], ◌∷◌, ◌++◌, length, drop, get_or, length-drop, Bool, true, false, arith, refl, ap, sym, subst, ◌∙◌, Option, Some, None, Result, Ok, Err, ◌&&◌, nat_le, IfOk, IsOk, MatchOption, unwrap_or, ok_or}
+use Rattle.std.proofs.Common.{◌≡◌, ℕ, zero, suc, ◌+◌, ◌-◌, ◌*◌, ◌/◌, ◌<◌, ◌≤◌, List, [], ◌∷◌, ◌++◌, length, drop, get_or, length-drop, Bool, true, arith, refl, ap, sym, subst, ◌∙◌, Option, Some, None, Result, Ok, Err, nat_le, IfOk, IsOk, MatchOption, unwrap_or, ok_or}
 use Rattle.acpi_base.specs.FromStd.{AllByRecursion, option_or, is_err}
-use Rattle.acpi_base.proofs.FromStd.{nat_tests, drop_all, drop_more}
+use Rattle.acpi_base.proofs.FromStd.{and_parts, nat_tests, drop_all, drop_more}
 use Rattle.acpi_base.specs.Words.{part, Memory, IsMemory, at, Gives, lent, start_of, Allows}
 use Rattle.acpi.specs.Types.{AcpiError, PhysicalMapping, NoValidRsdp, AddressRange}
 use Rattle.acpi_base.proofs.Words.{all_back, all_front}
 use Rattle.acpi.specs.Words.{areas_ranges, opened_in_areas_ranges, IsCandidateIn, IsFirstIn, IsSearchedIn, NoneIn, count_in, end_of, first_in, found_among, found_in_areas, is_refused_in, walk_in, opened_ranges, or_else_ranges, walk_ranges, checked_length, root_of_rsdp, rsdp_at, IsRefused, placed, walk}
 use Rattle.acpi.proofs.Asked.{asked_next}
-use Rattle.acpi.proofs.Search.{Says, lent_part, walk_later, walk_says}
+use Rattle.acpi.proofs.Search.{Says, lent_part, moved, walk_later, walk_says}
 
 -- ---- what a loan shows
 
 err_is : (r : Result (Option ℕ) AcpiError) → is_err r ≡ true → (e : AcpiError) × (r ≡ Err e)
 err_is (Ok x) h = absurd cc
 err_is (Err e) h = (e, refl)
-
-both_true : (a b : Bool) → (a && b) ≡ true → (a ≡ true) × (b ≡ true)
-both_true true b h = (refl, h)
-both_true false b h = absurd cc
 
 -- the first checks refuse what is lent there
 first_refused : (m : Memory) (a : ℕ) (b : List ℕ) (e : AcpiError) → lent m a 36 ≡ Ok b → checked_length b ≡ Err e
@@ -29,7 +25,7 @@ first_refused m a b e there refused = (e, rw (there, refused) refl)
 pub shown_refused : (m : Memory) (a off : ℕ) (b : List ℕ) → IsMemory m → lent m a (length b) ≡ Ok b
     → is_refused_in b off ≡ true → IsRefused m (a + off)
 shown_refused m a off b hm e h =
-    let two = both_true _ _ h in
+    let two = and_parts _ _ h in
     let long : 36 ≤ length (drop off b) = (let test : nat_le 36 (length (drop off b)) ≡ true = two.0 in
     grind (arith, nat_tests)) in
     let room : off + 36 ≤ length b = omega (arith, long, length-drop off b) in
@@ -37,9 +33,6 @@ shown_refused m a off b hm e h =
     first_refused m (a + off) (part b off 36) why.0 (lent_part m a off 36 (length b) b hm e (omega arith) room) why.1
 
 -- ---- candidates that are passed over
-
-moved : (m : Memory) (a b : ℕ) → a ≡ b → IsRefused m a → IsRefused m b
-moved m a b e h = subst (λ (x : ℕ). IsRefused m x) e h
 
 -- what isn't lent is refused
 pub unlent_refused : (m : Memory) (a : ℕ) (e : AcpiError) → lent m a 36 ≡ Err e → IsRefused m a
@@ -102,24 +95,20 @@ module _ (m : Memory) (n start : ℕ) where
 
 -- ---- the areas, one at a time
 
-in_turn : (areas : List AddressRange) (i : ℕ) (d : AddressRange) → i < length areas
-    → drop i areas ≡ get_or areas i d ∷ drop (i + 1) areas
-in_turn areas i d less = drop_more areas i d less
-
 pub area_in_turn : (may : ℕ → ℕ → Bool) (m : Memory) (areas : List AddressRange) (i : ℕ) (d : AddressRange)
     → i < length areas
     → Allows may (areas_ranges m (drop i areas))
     → Allows may (walk_ranges m (count_in (get_or areas i d)) (first_in (get_or areas i d)))
 area_in_turn may m areas i d less asked =
     let s = get_or areas i d in
-    all_front may (walk_ranges m (count_in s) (first_in s)) _ (rw (in_turn areas i d less) at asked)
+    all_front may (walk_ranges m (count_in s) (first_in s)) _ (rw (drop_more areas i d less) at asked)
 
 pub found_in_turn : (m : Memory) (areas : List AddressRange) (i : ℕ) (d : AddressRange) (top : Option (ℕ × List ℕ))
     (found : ℕ × List ℕ) → i < length areas
     → found_among m (drop i areas) ≡ top → Some found ≡ walk_in m (get_or areas i d) → Some found ≡ top
 found_in_turn m areas i d top found less so_far here =
     let first : option_or (walk_in m (get_or areas i d)) (found_among m (drop (i + 1) areas)) ≡ top =
-    rw (in_turn areas i d less) at so_far in
+    rw (drop_more areas i d less) at so_far in
     rw (← here) at first
 
 -- areas after one that has no valid candidate
@@ -132,9 +121,9 @@ later_areas may m areas i d top less so_far asked none =
     let s = get_or areas i d in
     let later = drop (i + 1) areas in
     let these : Allows may (walk_ranges m (count_in s) (first_in s)
-    ++ or_else_ranges (walk_in m s) (areas_ranges m later)) = rw (in_turn areas i d less) at asked in
+    ++ or_else_ranges (walk_in m s) (areas_ranges m later)) = rw (drop_more areas i d less) at asked in
     let rest = all_back may (walk_ranges m (count_in s) (first_in s)) _ these in
-    let found : option_or (walk_in m s) (found_among m later) ≡ top = rw (in_turn areas i d less) at so_far in
+    let found : option_or (walk_in m s) (found_among m later) ≡ top = rw (drop_more areas i d less) at so_far in
     (rw (← none) at found, rw (← none) at rest)
 
 pub no_area_left : (m : Memory) (areas : List AddressRange) (i : ℕ) (top : Option (ℕ × List ℕ)) → length areas ≤ i

@@ -72,25 +72,17 @@ module _ (may : ℕ → ℕ → Bool) where
 
   -- ---- lists
 
-  pub asked_each : (of : ℕ → Ranges) (p : ℕ) (all ps : List ℕ) → all ≡ p ∷ ps → Allows may (flat_map of all)
-      → Allows may (of p)
-  asked_each of p all ps is h = all_front may (of p) _ (rw is at h)
-
-  pub asked_others : (of : ℕ → Ranges) (p : ℕ) (all ps : List ℕ) → all ≡ p ∷ ps → Allows may (flat_map of all)
-      → Allows may (flat_map of ps)
-  asked_others of p all ps is h = all_back may (of p) _ (rw is at h)
-
   pub asked_now : (of : ℕ → Ranges) (all ps : List ℕ) (r : Option ℕ)
       → MatchOption r ((all ≡ []) × (ps ≡ [])) (λ p. all ≡ p ∷ ps)
       → Allows may (flat_map of all) → IfSome r (λ p. Allows may (of p))
   asked_now of all ps None is h = tt
-  asked_now of all ps (Some p) is h = asked_each of p all ps is h
+  asked_now of all ps (Some p) is h = all_front may (of p) _ (rw is at h)
 
   pub asked_kept : (of : ℕ → Ranges) (all ps : List ℕ) (r : Option ℕ)
       → MatchOption r ((all ≡ []) × (ps ≡ [])) (λ p. all ≡ p ∷ ps)
       → Allows may (flat_map of all) → Allows may (flat_map of ps)
   asked_kept of all ps None is h = rw is.1 (rw is.0 at h)
-  asked_kept of all ps (Some p) is h = asked_others of p all ps is h
+  asked_kept of all ps (Some p) is h = all_back may (of p) _ (rw is at h)
 
   -- ---- the FADT, and what it leads to
 

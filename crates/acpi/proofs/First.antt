@@ -1,11 +1,12 @@
 -- A lookup answers a table exactly if that is the first valid one. Members that aren't valid change nothing, and lists
 -- over members are no longer than the members.
-use Rattle.std.proofs.Common.{◌≡◌, ℕ, List, [], ◌∷◌, ◌++◌, Result, Ok, Err, refl, ap, ◌∙◌, ◌+◌, ◌≤◌, length, Option, Some, None, arith, zero, suc, ◌^◌, ◌<◌, drop, length-drop, IsErr, IsOk, IfOk, filter_map}
+use Rattle.std.proofs.Common.{◌≡◌, ℕ, List, [], ◌∷◌, ◌++◌, Result, Ok, Err, refl, ap, ◌∙◌, ◌+◌, ◌≤◌, length, Option, Some, None, arith, zero, suc, ◌^◌, ◌<◌, drop, length-drop, IsErr, IfOk, filter_map}
 use Rattle.acpi_base.specs.Words.{Memory, Gives, Kind, table_at}
 use Rattle.acpi.specs.Types.{AcpiError, TableMissing, Signature}
 use Rattle.acpi.specs.Words.{LookupIsFirst, SkipsInvalid, ValidEndsFaults, or_later, IsFirstValid, NoneValid, lookup, faults_of, unless_valid, with_fault, pieces, pointers, TableFault}
 use Rattle.acpi_base.specs.FromStd.{cons_option}
 use Rattle.acpi_base.specs.declared.error.AcpiError.TheVariants as refusal
+use Rattle.acpi.proofs.Asked.{valid_last}
 
 abbrev done : ℕ × List ℕ → Result (ℕ × List ℕ) AcpiError
 done x = Ok x
@@ -158,12 +159,7 @@ pointers_short w root short = omega (arith, pointers_few w (drop 36 root), lengt
 pub fits_root : (n w : ℕ) (root : List ℕ) → length root < 2 ^ 32 → n ≤ length (pointers w (drop 36 root)) → n < 2 ^ 32
 fits_root n w root short few = omega (arith, pointers_few w (drop 36 root), length-drop 36 root, short, few)
 
-valid_faultless : (p : ℕ) (r : Result (List ℕ) AcpiError) (faults : List TableFault) → IsOk r
-    → unless_valid p r faults ≡ []
-valid_faultless p (Ok table) faults ok = refl
-valid_faultless p (Err e) faults ok = absurd cc
-
 pub valid_ends_faults : ValidEndsFaults
-valid_ends_faults m k p [] after ok = valid_faultless p (table_at m k p) (faults_of m k after) ok
+valid_ends_faults m k p [] after ok = valid_last p (table_at m k p) (faults_of m k after) ok
 valid_ends_faults m k p (q ∷ before) after ok =
     ap (unless_valid q (table_at m k q)) (valid_ends_faults m k p before after ok)

@@ -3,16 +3,12 @@ use Rattle.std.proofs.Common.{◌≡◌, ℕ, ◌+◌, ◌-◌, ◌<◌, ◌≤�
 use Rattle.acpi_base.proofs.FromStd.{leb-true, take-take, drop-take, length-take-le, cond_some}
 use Rattle.acpi_base.specs.Words.{part, field_of, Memory, Region, HoldsRange, IsMemory, at, rest_from, lent, ◌>>=◌, Gives, start_of}
 use Rattle.acpi.specs.Types.{RsdpIncorrectSignature, MapFailed, NoValidRsdp, AcpiError, PhysicalMapping}
-use Rattle.acpi_base.proofs.Words.{lent_is_inside, lent_front, bind_ok, holds_ok, part_within}
+use Rattle.acpi_base.proofs.Words.{lent_is_inside, lent_front, bind_ok, holds_ok, part_within, some_lent}
 use Rattle.acpi.specs.Words.{check_first, checked_length, rsd_ptr, rsdp_at, rsdp_of, check_rsdp, check_whole, at_hand, or_later, walk, first_area, second_area, room_of, count_of, found_in, found_rsdp, or_else, word_in, IsRefused, IsLeast, HasNone, IsLent, IsSecond, IsSearched, IsFound, placed, Area}
-
-there_is : {A E : Type 0} (o : Option A) (e : E) (x : A) → ok_or o e ≡ Ok x → o ≡ Some x
-there_is None e x given = absurd cc
-there_is (Some y) e x given = cc
 
 -- what is lent is there
 pub at_lent : (m : Memory) (a n : ℕ) (b : List ℕ) → lent m a n ≡ Ok b → at m a n ≡ Some b
-at_lent m a n b e = there_is _ _ _ e
+at_lent m a n b e = some_lent _ _ e
 
 long_at : (m : Memory) (a n : ℕ) (b : List ℕ) → at m a n ≡ Some b → length b ≡ n
 unfolding at
@@ -112,7 +108,7 @@ Says m n a (Some found) =
     × ((i : ℕ) → i < k → IsRefused m (a + 16 * i))
 Says m n a None = (i : ℕ) → i < n → IsRefused m (a + 16 * i)
 
-moved : (m : Memory) (a b : ℕ) → a ≡ b → IsRefused m a → IsRefused m b
+pub moved : (m : Memory) (a b : ℕ) → a ≡ b → IsRefused m a → IsRefused m b
 moved m a b e h = subst (λ (x : ℕ). IsRefused m x) e h
 
 refused_more : (m : Memory) (a k : ℕ) → IsRefused m a → ((i : ℕ) → i < k → IsRefused m (a + 16 + 16 * i)) → (i : ℕ)
@@ -225,9 +221,6 @@ searched m view (Ok x) same = rw same at (found_is_searched m)
 searched m view (Err e) same = rw same at (found_is_searched m)
 
 -- ---- valid RSDPs: the bytes that are lent where one is, and bytes that are one
-
-abbrev done : List ℕ → Result (List ℕ) AcpiError
-done x = Ok x
 
 is_value : (r : Result (List ℕ) AcpiError) → IsOk r → (b : List ℕ) × (r ≡ Ok b)
 is_value (Ok b) ok = (b, refl)

@@ -8,30 +8,13 @@ use Rattle.acpi.specs.Words.{OnePointers, IsPointers, pieces, pointers, root_at,
 
 length-spelled : (width : ℕ) (ps : List ℕ) → length (flat_map (spelling width) ps) ≡ width * length ps
 length-spelled width [] = omega arith
-length-spelled width (p ∷ ps) = omega (
-  arith,
-  length-append (spelling width p) (flat_map (spelling width) ps),
-  length-spelling width p,
-  length-spelled width ps,
-)
+length-spelled width (p ∷ ps) = omega (arith, length-append {A = ℕ}, length-spelling, length-spelled width ps)
 
 same_numbers : (width : ℕ) (ps qs : List ℕ) → 0 < width → AllByRecursion (λ p. p < 256 ^ width) ps
     → AllByRecursion (λ p. p < 256 ^ width) qs → flat_map (spelling width) ps ≡ flat_map (spelling width) qs → ps ≡ qs
 same_numbers width [] [] w a b e = refl
-same_numbers width [] (q ∷ qs) w a b e = absurd
-    (omega (
-      arith,
-      ap length e,
-      length-append (spelling width q) (flat_map (spelling width) qs),
-      length-spelling width q,
-    ))
-same_numbers width (p ∷ ps) [] w a b e = absurd
-    (omega (
-      arith,
-      ap length e,
-      length-append (spelling width p) (flat_map (spelling width) ps),
-      length-spelling width p,
-    ))
+same_numbers width [] (q ∷ qs) w a b e = absurd (omega (arith, ap length e, length-append {A = ℕ}, length-spelling))
+same_numbers width (p ∷ ps) [] w a b e = absurd (omega (arith, ap length e, length-append {A = ℕ}, length-spelling))
 same_numbers width (p ∷ ps) (q ∷ qs) w a b e =
     let front : spelling width p ≡ spelling width q =
     sym (take_at (spelling width p) (flat_map (spelling width) ps) width (length-spelling width p))
