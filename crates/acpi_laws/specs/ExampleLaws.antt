@@ -4,8 +4,8 @@ use Rattle.std.specs.Prelude.{◌≡◌, ℕ, true, false, List, [], ◌∷◌, 
 use Rattle.acpi.specs.Types.{Undefined, SystemIo, SdtInvalidOemId, SdtInvalidSignature, McfgEntry, Running, FADT, HPET, Desktop}
 use Rattle.acpi_base.specs.declared.model.interrupt.InterruptModel.TheVariants.{Apic}
 use Rattle.acpi_base.specs.Words.{header_at, Memory, AgreesOn, Ranges, own_table_ranges, table_ranges, own_table_at, plain_kind, table_at}
-use Rattle.acpi_laws.specs.Examples.{bios_here, bios_there, here, hpet, listed, more, moved, moved_pointers, rsdp, rsdt, tables, there}
-use Rattle.acpi.specs.Words.{dsdt_ranges, header_ranges, lookup_ranges, platform_ranges, ssdt_ranges, hpet_kind, hpet_of, dsdt_stream, faults_of, ssdt_streams, valid_headers, valid_tables, lookup, Opened, opened_by_rsdp, opened_by_search, opened_from, opened_by_rsdp_ranges, opened_by_search_ranges, opened_ranges, root_and_ranges, rsdp_ranges, search_ranges, found_regions, mcfg_kind, madt_kind, platform_of, bytes_found, root_pointer, rsdp_at, found_rsdp, mailbox_found}
+use Rattle.acpi_laws.specs.Examples.{here, hpet, listed, more, moved, moved_pointers, rsdp, rsdt, tables, there}
+use Rattle.acpi.specs.Words.{dsdt_ranges, header_ranges, lookup_ranges, platform_ranges, ssdt_ranges, hpet_kind, hpet_of, dsdt_stream, faults_of, ssdt_streams, valid_headers, valid_tables, lookup, Opened, opened_by_rsdp, opened_from, opened_by_rsdp_ranges, opened_ranges, root_and_ranges, rsdp_ranges, found_regions, mcfg_kind, madt_kind, platform_of, bytes_found, root_pointer, rsdp_at, mailbox_found}
 use Rattle.acpi.specs.declared.hpet.HpetInfo.{HpetInfo}
 use Rattle.acpi.specs.declared.hpet.PageProtection.TheVariants as protections
 use Rattle.acpi.specs.declared.platform.PlatformInfo.{PlatformInfo}
@@ -105,14 +105,6 @@ pub record Instances (A : Type 0) : Type 0 where
   pub asked :
       root_and_ranges here (root_pointer 0 Rsdt 0x1000) (λ m. lookup_ranges m hpet_kind)
       ≡ (0x1000, 36) ∷ (0x1000, 60) ∷ (0x2000, 36) ∷ (0x3000, 36) ∷ (0x4000, 36) ∷ (0x4000, 56) ∷ []
-
--- in the areas of the BIOS
-abbrev pub SearchInstance : Type 0
-SearchInstance = AgreesOn bios_here bios_there (search_ranges bios_here) × (found_rsdp bios_here ≡ Ok (0xe0000, rsdp))
-
-abbrev pub OpenedBySearchInstance : Type 0
-OpenedBySearchInstance =
-    AgreesOn bios_here bios_there (opened_by_search_ranges bios_here) × (opened_by_search bios_here ≡ Ok opened)
 
 -- ---- the same tables elsewhere
 

@@ -1,5 +1,4 @@
--- Memories written out: two that differ, two with the areas of the BIOS too, and one with the same
--- tables elsewhere.
+-- Memories written out: two that differ, and one with the same tables elsewhere.
 use Rattle.std.specs.Prelude.{◌≡◌, ℕ, List, [], ◌∷◌, ◌++◌, codes, map, replicate, Some, Ok}
 use Rattle.acpi_base.specs.Words.{IsMemory, Memory, Region, at}
 use Rattle.acpi.specs.Words.{below}
@@ -129,23 +128,8 @@ TheyList =
     (below here Rsdt 0x1000 (λ ps. Ok ps) ≡ Ok listed)
     × (below moved Xsdt 0x100001000 (λ ps. Ok ps) ≡ Ok moved_pointers)
 
--- ---- the areas of the BIOS
-
--- the word at 0x40e, which is 0, and the RSDP where the first area begins
-unfoldable pub bios : ℕ → Memory
-bios other =
-    region 0x400 (replicate 16 0) other
-    ∷ (memory other ++ region 0xe0000 (rsdp ++ replicate 131052 0) other ∷ [])
-
-abbrev pub bios_here : Memory
-bios_here = bios 0
-
-abbrev pub bios_there : Memory
-bios_there = bios 255
-
 abbrev pub AreMemories : Type 0
-AreMemories =
-    IsMemory here × IsMemory there × IsMemory moved × IsMemory bios_here × IsMemory bios_there
+AreMemories = IsMemory here × IsMemory there × IsMemory moved
 
 -- ---- how they differ
 
@@ -161,7 +145,5 @@ abbrev pub differing : List ℕ
 differing =
     0x524 ∷ 0x103c ∷ 0x2024 ∷ 0x203b ∷ 0x203c ∷ 0x3074 ∷ 0x4038 ∷ 0x5044 ∷ 0x603c ∷ 0x7026 ∷ 0x8028 ∷ 0x9024 ∷ []
 
--- those of a BIOS also after the word, and after the first area and the 16 bytes that follow it
 abbrev pub TheyDiffer : Type 0
 TheyDiffer = DifferAt here there differing
-    × DifferAt bios_here bios_there (0x410 ∷ 0x100010 ∷ differing)
