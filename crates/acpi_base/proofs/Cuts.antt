@@ -1,6 +1,6 @@
 -- Bytes are cut in exactly one way.
-use Rattle.std.proofs.Common.{◌≡◌, ℕ, zero, suc, ◌+◌, ◌-◌, ◌≤◌, Bool, true, false, cond, List, [], ◌∷◌, ◌++◌, length, take, drop, get_or, Option, Some, None, refl, sym, ap, ◌∙◌, arith, append_assoc, length-append, length-drop, leb, ◌⊎◌, inl, inr, option_map}
-use Rattle.acpi_base.proofs.FromStd.{get_or_append_left, take_at, drop_at, take-append-drop, get_or-take, length-take-le, and_parts, and_from, leb-true, le-leb}
+use Rattle.std.proofs.Common.{◌≡◌, ℕ, zero, suc, ◌+◌, ◌-◌, ◌≤◌, Bool, true, false, cond, List, [], ◌∷◌, ◌++◌, length, take, drop, Option, Some, None, refl, sym, ap, ◌∙◌, arith, append_assoc, length-append, length-drop, leb, ◌⊎◌, inl, inr, option_map}
+use Rattle.acpi_base.proofs.FromStd.{get_or_append_left, take_at, drop_at, take-append-drop, get_or-take, length-take-le, and_from, le-leb, nat_tests}
 use Rattle.acpi_base.specs.FromStd.{concat}
 use Rattle.acpi_base.specs.Words.{IsEntry, IsCut, IsFew, after_one, front, is_full, next_front, with_entry, cut_within, cut, least_length, number_at, number_in, width_of, OneCut, CutIsCut, EntryLayout, Grammar, Place, Width, One, Two}
 use Rattle.acpi_base.specs.Entries.{end_of}
@@ -11,19 +11,13 @@ in_append : (w : Width) (at : ℕ) (e x : List ℕ) → at + width_of w ≤ leng
     → number_in w at (e ++ x) ≡ number_in w at e
 in_append One at e x l = get_or_append_left e x 0 at (omega (arith, l))
 in_append Two at e x l =
-    let low : get_or (e ++ x) at 0 ≡ get_or e at 0 = get_or_append_left e x 0 at (omega (arith, l)) in
-    let high : get_or (e ++ x) (at + 1) 0 ≡ get_or e (at + 1) 0 =
-    get_or_append_left e x 0 (at + 1) (omega (arith, l)) in
-    rw (low, high) refl
+    rw (get_or_append_left e x 0 at (omega (arith, l)), get_or_append_left e x 0 (at + 1) (omega (arith, l))) refl
 
 in_take : (w : Width) (at n : ℕ) (bytes : List ℕ) → at + width_of w ≤ n
     → number_in w at (take n bytes) ≡ number_in w at bytes
 in_take One at n bytes l = get_or-take n bytes at 0 (omega (arith, l))
 in_take Two at n bytes l =
-    let low : get_or (take n bytes) at 0 ≡ get_or bytes at 0 = get_or-take n bytes at 0 (omega (arith, l)) in
-    let high : get_or (take n bytes) (at + 1) 0 ≡ get_or bytes (at + 1) 0 =
-    get_or-take n bytes (at + 1) 0 (omega (arith, l)) in
-    rw (low, high) refl
+    rw (get_or-take n bytes at 0 (omega (arith, l)), get_or-take n bytes (at + 1) 0 (omega (arith, l))) refl
 
 at_append : (p : Place) (e x : List ℕ) → end_of p ≤ length e → number_at p (e ++ x) ≡ number_at p e
 at_append p e x l = in_append p.width p.at e x l
@@ -51,10 +45,6 @@ same_front l e f x y ee ff same =
     )
 
 -- what the test at the front says
-some_true : (b : Bool) (m n : ℕ) → cond b (Some m) None ≡ Some n → (b ≡ true) × (m ≡ n)
-some_true true m n e = (refl, cc)
-some_true false m n e = cc
-
 none_false : (b : Bool) (m : ℕ) → cond b (Some m) None ≡ None → b ≡ false
 none_false true m e = cc
 none_false false m e = refl
@@ -63,25 +53,17 @@ pub front_is : {k : ℕ} (l : EntryLayout k) (bytes : List ℕ) (n : ℕ) → fr
     → IsEntry l (take n bytes) × (1 ≤ n) × (n ≤ length bytes)
 unfolding front
 front_is l bytes n e =
-    let m = number_at l.length_place bytes in
-    let entry_type = number_at l.kind_place bytes in
-    let t : (_ ≡ true) × (m ≡ n) = some_true _ m n e in
-    let p : (_ ≡ true) × (leb m (length bytes) ≡ true) = and_parts _ _ t.0 in
-    let q : (_ ≡ true) × (leb (least_length l entry_type) m ≡ true) = and_parts _ _ p.0 in
-    let r : (leb (end_of l.kind_place) m ≡ true) × (leb (end_of l.length_place) m ≡ true) = and_parts _ _ q.0 in
-    let kind_in : end_of l.kind_place ≤ n = omega (arith, leb-true (end_of l.kind_place) m r.0, t.1) in
-    let length_in : end_of l.length_place ≤ n = omega (arith, leb-true (end_of l.length_place) m r.1, t.1) in
-    let least : least_length l entry_type ≤ n = omega (arith, leb-true (least_length l entry_type) m q.1, t.1) in
-    let within : n ≤ length bytes = omega (arith, leb-true m (length bytes) p.1, t.1) in
-    let long : length (take n bytes) ≡ n = length-take-le n bytes within in
-    let same_kind : number_at l.kind_place (take n bytes) ≡ entry_type = at_take l.kind_place n bytes kind_in in
-    let same_length : number_at l.length_place (take n bytes) ≡ m = at_take l.length_place n bytes length_in in (
+    let is : number_at l.length_place bytes ≡ n = grind (arith, nat_tests) in
+    let kind_in : end_of l.kind_place ≤ n = grind (arith, nat_tests) in
+    let length_in : end_of l.length_place ≤ n = grind (arith, nat_tests) in
+    let least : least_length l (number_at l.kind_place bytes) ≤ n = grind (arith, nat_tests) in
+    let within : n ≤ length bytes = grind (arith, nat_tests) in
+    let long : length (take n bytes) ≡ n = length-take-le n bytes within in (
       record {
         entry_type = omega (arith, kind_in, long);
         header = omega (arith, length_in, long);
-        size =
-            same_length ∙ t.1 ∙ sym long;
-        least = rw (same_kind, long) least;
+        size = at_take l.length_place n bytes length_in ∙ is ∙ sym long;
+        least = rw (at_take l.kind_place n bytes kind_in, long) least;
       },
       omega (arith, length_in, some_end l.length_place.width l.length_place.at),
       within,
@@ -310,7 +292,7 @@ cut_stuck {k} g bytes e =
 front_length : {k : ℕ} (l : EntryLayout k) (bytes : List ℕ) (n : ℕ) → front l bytes ≡ Some n
     → number_at l.length_place bytes ≡ n
 unfolding front
-front_length l bytes n e = (some_true _ (number_at l.length_place bytes) n e).1
+front_length l bytes n e = grind (arith, nat_tests)
 
 next_length : {k : ℕ} (g : Grammar k) (bytes : List ℕ) (n : ℕ) → next_front g bytes ≡ Some n
     → number_at g.layout.length_place bytes ≡ n

@@ -15,22 +15,6 @@ record IsFrom (m : Memory) (a : ℕ) : Type 0 where
   pub inside : lies_in region a ≡ true
   pub rest : rest_from m a ≡ drop (a - region.start) region.bytes
 
-later : (r : Region) (m : Memory) (x : Region) → Contains m x → Contains (r ∷ m) x
-later r m x c = (suc c.0, omega (arith, c.1), c.2)
-
-from_first : (r : Region) (m : Memory) (a : ℕ) → lies_in r a ≡ true → IsFrom (r ∷ m) a
-unfolding rest_from
-from_first r m a h = record { region = r; listed = (0, omega arith, refl); inside = h; rest = rw h refl }
-
-from_later : (r : Region) (m : Memory) (a : ℕ) → lies_in r a ≡ false → IsFrom m a → IsFrom (r ∷ m) a
-unfolding rest_from
-from_later r m a h f = record {
-  region = f.region;
-  listed = later r m f.region f.listed;
-  inside = f.inside;
-  rest = rw h f.rest;
-}
-
 rest_past : (r : Region) (m : Memory) (a : ℕ) → lies_in r a ≡ false → rest_from (r ∷ m) a ≡ rest_from m a
 unfolding rest_from
 rest_past r m a h = rw h refl
@@ -41,8 +25,16 @@ nothing a = refl
 
 cases_from : (r : Region) (m : Memory) (a : ℕ) (b : Bool) → lies_in r a ≡ b → (lies_in r a ≡ false → IsFrom m a)
     → IsFrom (r ∷ m) a
-cases_from r m a true h more = from_first r m a h
-cases_from r m a false h more = from_later r m a h (more h)
+unfolding rest_from
+cases_from r m a true h more = record { region = r; listed = (0, omega arith, refl); inside = h; rest = rw h refl }
+cases_from r m a false h more =
+    let f = more h in
+    record {
+      region = f.region;
+      listed = (suc f.listed.0, omega (arith, f.listed.1), f.listed.2);
+      inside = f.inside;
+      rest = rw h f.rest;
+    }
 
 some_region : (m : Memory) (a : ℕ) → 0 < length (rest_from m a) → IsFrom m a
 some_region [] a some = absurd (omega (arith, nothing a))

@@ -124,21 +124,14 @@ own_is m s p head front own = rw front (ap (λ x. table_at m (plain_kind x) p) o
 own_of : (m : Memory) (s : Signature) (least p : ℕ) → 36 ≤ least → (table : List ℕ)
     → table_at m (kind s least (check_table s)) p ≡ Ok table
     → (own_table_at m p ≡ Ok table) × (serves s least table ≡ true)
+unfolding table_at
 own_of m s least p enough table e =
     let h = passed m (kind s least (check_table s)) p table e in
     let is = is_whole m (kind s least (check_table s)) p table enough h in
     let own = is_named s (header_at h.head) h.names in
     let long = le-leb 36 (header_at h.head).length
     (omega (arith, enough, leb-true least (header_at h.head).length h.long)) in
-    let plain = passes m (plain_kind s) p table (record {
-      head = h.head;
-      front = h.front;
-      names = h.names;
-      long =
-          long;
-      whole = h.whole;
-      checked = h.checked;
-    }) in (
+    let plain : table_at m (plain_kind s) p ≡ Ok table = rw (h.front, h.names, long, h.whole, h.checked) refl in (
       own_is m s p h.head h.front (same_signature s (header_at h.head) own) ∙ plain,
       and_from (bears s (header_at table)) (nat_le least (length table)) (rw is.0 own) (rw (← is.1, is.0) h.long),
     )
@@ -146,7 +139,7 @@ own_of m s least p enough table e =
 of_own : (m : Memory) (s : Signature) (least p : ℕ) (table : List ℕ) → own_table_at m p ≡ Ok table
     → serves s least table ≡ true
     → table_at m (kind s least (check_table s)) p ≡ Ok table
-unfolding own_table_at
+unfolding own_table_at table_at
 of_own m s least p table e serving =
     let both = and_parts _ _ serving in
     let first = bind_ok (lent m p 36) _ table e in
@@ -158,15 +151,8 @@ of_own m s least p table e serving =
     ∙ same_signature s (header_at h.head) (rw (← is.0) both.0) in
     let g = passed m (plain_kind s) p table (subst (λ x. table_at m (plain_kind x) p ≡ Ok table) own first.2) in
     let long = is_whole m (plain_kind s) p table (lit≤ tt) g in
-    passes m (kind s least (check_table s)) p table (record {
-      head = g.head;
-      front = g.front;
-      names = g.names;
-      long =
-          rw (← long.0, long.1) both.1;
-      whole = g.whole;
-      checked = g.checked;
-    })
+    let enough : nat_le least (header_at g.head).length ≡ true = rw (← long.0, long.1) both.1 in
+    rw (g.front, g.names, enough, g.whole, g.checked) refl
 
 unserved : (b : Bool) (table : List ℕ) → (b ≡ true → ⊥) → None ≡ only b (Some table)
 unserved true table never = absurd (never refl)

@@ -8,7 +8,6 @@ pub mod FromStd
 pub mod ModelBuilder
 pub mod Entries
 pub mod EntryLaws
-pub mod Equality
 pub mod ErrorText
 pub mod Extended
 pub mod Guarded
