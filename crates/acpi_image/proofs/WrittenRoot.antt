@@ -56,40 +56,35 @@ module _ (a b c d e f : ℕ) where
     front_sum : (y : ℕ) → sum_of (take 20 (shape y)) ≡ 0
     front_sum y = ap sum_of (front_is y) ∙ sum_is_set 8 _ (omega (arith, front_long))
 
+    revision_is : number (revision ∷ []) ≡ revision
+    revision_is = omega arith
+
     module _ (y : ℕ) where
-      signature_is : (rsdp_of (shape y)).signature ≡ rsd_ptr
-      unfolding rsdp_of spelling
-      signature_is = refl
+      fields_are : rsdp_of (shape y) ≡ record {
+        signature = rsd_ptr;
+        checksum = number (first_byte ∷ []);
+        oem_id = id;
+        revision = number (revision ∷ []);
+        rsdt_address = number (spelling 4 rsdt);
+        length = number (spelling 4 count);
+        xsdt_address = number (spelling 8 xsdt);
+        ext_checksum = number (y ∷ []);
+      }
+      unfolding rsdp_of spelling field_of
+      fields_are = refl
 
       id_is : (rsdp_of (shape y)).oem_id ≡ id
-      unfolding rsdp_of spelling
-      id_is = refl
-
-      revision_is : (rsdp_of (shape y)).revision ≡ revision
-      unfolding rsdp_of spelling field_of
-      revision_is = omega arith
-
-      rsdt_is : (rsdp_of (shape y)).rsdt_address ≡ number (spelling 4 rsdt)
-      unfolding rsdp_of spelling field_of
-      rsdt_is = refl
-
-      count_is : (rsdp_of (shape y)).length ≡ number (spelling 4 count)
-      unfolding rsdp_of spelling field_of
-      count_is = refl
-
-      xsdt_is : (rsdp_of (shape y)).xsdt_address ≡ number (spelling 8 xsdt)
-      unfolding rsdp_of spelling field_of
-      xsdt_is = refl
+      id_is = ap (λ r. r.oem_id) fields_are
 
       lengths : checked_length (shape y)
           ≡ check_length (if revision == 0 then None else Some (number (spelling 4 count)))
       unfolding checked_length check_first check_sum
-      lengths = rw (signature_is, id_is, text, front_sum y, revision_is, count_is) refl
+      lengths = rw (fields_are, text, front_sum y, revision_is) refl
 
       leads : root_of_rsdp (shape y) ≡ (if revision == 0 || number (spelling 8 xsdt) == 0
           then root_pointer revision Rsdt (number (spelling 4 rsdt))
           else root_pointer revision Xsdt (number (spelling 8 xsdt)))
-      leads = rw (revision_is, rsdt_is, xsdt_is) refl
+      leads = rw (fields_are, revision_is) refl
 
   module _ (text : is_utf8 id ≡ true) (revision root : ℕ) where
     -- ---- the two forms

@@ -1,7 +1,7 @@
 -- Regions by their starts: the last one that starts at an address or below it is the only one that
 -- can hold the address.
 use Rattle.std.proofs.Common.{Option, ◌≡◌, ℕ, zero, suc, ◌+◌, ◌-◌, ◌<◌, ◌≤◌, ◌==◌, ◌&&◌, nat_lt, Bool, true, false, List, [], ◌∷◌, ◌++◌, length, drop, slice_index_or, Some, None, IsSome, refl, sym, ap, ◌∙◌, arith, inl, inr, eq-eqb, ne_eqb, cond, take, option_map, Contains}
-use Rattle.acpi_base.proofs.FromStd.{and_parts, and_from, false_from_ne_true, both_ways, length-drop, ltb-true, lt-ltb, eqb-true, cases_lt, and_right, cases_eq, le-ltb, le-leb, lt-leb, and_left, nat_tests, All-from_recursion, All-contains, recursion_from_All, Contains-get_or, take-length, map-append}
+use Rattle.acpi_base.proofs.FromStd.{and_parts, and_from, false_from_ne_true, length-drop, ltb-true, lt-ltb, eqb-true, cases_lt, and_right, cases_eq, le-ltb, le-leb, lt-leb, and_left, nat_tests, All-from_recursion, All-contains, recursion_from_All, Contains-get_or, take-length, map-append}
 use Rattle.acpi_base.specs.FromStd.{BTreeMap, get, is_eq, nat_cmp, AllByRecursion}
 use Rattle.acpi_base.specs.Words.{Memory, Region, AreApart, end_of, lies_in, rest_from, at}
 use Rattle.acpi_image_reader.specs.Words.{share, shares_any, AreAllApart, ListsStarts, bytes_at, region_of, regions_of, Record}
@@ -157,10 +157,7 @@ pub rest_past : (m : Memory) (start a : ℕ) (bytes : List ℕ) → AreAllApart 
     → lies_in (region_with start bytes) a ≡ false
     → ((b : ℕ) → b ≤ a → IsSome (bytes_at m b) → b ≤ start) → rest_from m a ≡ []
 rest_past m start a bytes h e low lacks last =
-    let apart : AreApart (region_with start bytes) (byte_at a) = λ b hs hb.
-    let q = inside (byte_at a) b hb in
-    let same : b ≡ a = omega (arith, q.0, q.1) in
-    absurd (both_ways _ lacks (rw same at hs)) in
+    let apart : AreApart (region_with start bytes) (byte_at a) = λ b hs hb. grind (arith, nat_tests) in
     rest_unshared m a (all_apart m (byte_at a)
     (shares_past m start bytes (byte_at a) h e (omega arith) apart (λ b less some. last b (omega arith) some)))
 
@@ -177,12 +174,7 @@ bytes_without [] r a h = rw h refl
 bytes_without (s ∷ m) r a h = ap (λ o. cond (starts_at s a) (Some s.bytes) o) (bytes_without m r a h)
 
 not_here : (s r : Region) → 0 < length r.bytes → AreApart s r → starts_at s r.start ≡ false
-not_here s r some apart =
-    false_from_ne_true _ (λ h.
-    let p = and_parts _ _ h in
-    let start = eqb-true s.start r.start p.0 in
-    let held = ltb-true 0 (length s.bytes) p.1 in
-    apart r.start (within s r.start (omega arith) (omega arith)) (within r r.start (omega arith) (omega arith)))
+not_here s r some apart = grind (arith, nat_tests, apart r.start)
 
 bytes_last : (m : Memory) (r : Region) → 0 < length r.bytes → AllByRecursion (λ s. AreApart s r) m
     → bytes_at (m ++ (r ∷ [])) r.start ≡ Some r.bytes

@@ -126,18 +126,15 @@ even n = omega arith
 above : (n : ℕ) → n ≤ aligned n
 above n = omega arith
 
--- an address that is given
-record IsGiven (fixed : Region) (from count a : ℕ) : Type 0 where
-  pub behind : from ≤ a
-  pub even : a % 16 ≡ 0
-  pub apart : (a + count ≤ fixed.start) ⊎ (end_of fixed ≤ a)
-
-given : (fixed : Region) (from count : ℕ) → IsGiven fixed from count (start_at fixed from count)
+-- the address that is given, if the bytes end below 2^64
+given : (fixed : Region) (from : ℕ) (table : List ℕ) → start_at fixed from (length table) + length table < 2 ^ 64
+    → IsPlaced fixed from (record { start = start_at fixed from (length table); bytes = table })
 unfolding start_at
-given fixed from count =
-    cond_both (nat_le (aligned from + count) fixed.start || nat_le (end_of fixed) (aligned from)) (aligned from) _
-    (IsGiven fixed from count)
-    (λ fits. record {
+given fixed from table =
+    cond_both (nat_le (aligned from + length table) fixed.start || nat_le (end_of fixed) (aligned from)) (aligned from)
+    (aligned (end_of fixed))
+    (λ a. a + length table < 2 ^ 64 → IsPlaced fixed from (record { start = a; bytes = table }))
+    (λ fits ends. record {
       behind = above from;
       even = even from;
       apart =
@@ -145,19 +142,16 @@ given fixed from count =
             | inl before ↦ inl (leb-true _ _ before)
             | inr after ↦ inr (leb-true _ _ after)
           ];
+      ends = ends;
     })
-    (λ taken. record {
+    (λ taken ends. record {
       behind =
           let short : aligned from < end_of fixed = leb-false _ _ (or_parts _ _ taken).1 in
           omega (arith, above from, above (end_of fixed));
       even = even (end_of fixed);
       apart = inr (above (end_of fixed));
+      ends = ends;
     })
-
-is_at : (fixed : Region) (from : ℕ) (table : List ℕ) → IsGiven fixed from (length table) (start_at fixed from (length table))
-    → start_at fixed from (length table) + length table < 2 ^ 64
-    → IsPlaced fixed from (record { start = start_at fixed from (length table); bytes = table })
-is_at fixed from table is ends = record { behind = is.behind; even = is.even; apart = is.apart; ends = ends }
 
 -- what has an address lies there as it is to
 pub is_placed : (fixed : Region) (from : ℕ) (table : List ℕ) (a : ℕ) → place_at fixed from (length table) ≡ Some a
@@ -165,8 +159,7 @@ pub is_placed : (fixed : Region) (from : ℕ) (table : List ℕ) (a : ℕ) → p
 unfolding place_at
 is_placed fixed from table a e =
     let known = cond_some _ _ a e in
-    let lies = given fixed from (length table) in
-    rw known.1 at (is_at fixed from table lies (ltb-true _ _ known.0))
+    rw known.1 at (given fixed from table (ltb-true _ _ known.0))
 
 -- what was placed is the tables as they are, in order, each where it is to lie
 record IsLaid (fixed : Region) (from : ℕ) (ts : List (List ℕ)) (m : Memory) : Type 0 where

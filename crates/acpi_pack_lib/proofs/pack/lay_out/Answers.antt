@@ -22,16 +22,11 @@ refuses : {X : Type 0} (r : Result X Refusal) (d : Refusal) (packed : Result Mem
 refuses (Ok x) d packed h says = tt
 refuses (Err x) d packed h says = rw h says
 
--- what refuses by name only what is refused, of what is not
-only_memory : (e : Refusal) (r : Result Memory Refusal) (m : Memory) → r ≡ Ok m → (e ≢ refusal.OutOfMemory → r ≡ Err e)
-    → e ≡ refusal.OutOfMemory
-only_memory refusal.OutOfMemory r m is named = refl
-only_memory refusal.NoRoom r m is named =
-    let both : done m ≡ Err refusal.NoRoom = sym is ∙ named (λ x. absurd cc) in
-    absurd cc
-only_memory (refusal.File n f) r m is named =
-    let both : done m ≡ Err (refusal.File n f) = sym is ∙ named (λ x. absurd cc) in
-    absurd cc
+-- a refusal that can't be another
+only_memory : (e : Refusal) → (e ≢ refusal.OutOfMemory → ⊥) → e ≡ refusal.OutOfMemory
+only_memory refusal.OutOfMemory none = refl
+only_memory refusal.NoRoom none = absurd (none (λ x. absurd cc))
+only_memory (refusal.File n f) none = absurd (none (λ x. absurd cc))
 
 room_fails : (r : Result Memory Refusal) (e : Refusal) → (r >>= λ _. checked) ≡ Err e → r ≡ Err e
 room_fails (Ok m) e fails = absurd cc
@@ -80,8 +75,9 @@ module _ (dsdt : Option Region) (fixed : Region) (files : List (Option (List ℕ
     not_placed : (e : Refusal) → (e ≢ refusal.OutOfMemory → placed_from fixed (root + count) tables ≡ Err e)
         → RefusesOrRunsOut (laid_out dsdt tables) e
     not_placed e named =
-        out_of_memory e (only_memory e (placed_from (fixed_of dsdt) behind_root tables) all.0 all.1
-        (λ other. rw (fixed_is, counted) at (named other)))
+        out_of_memory e (only_memory e (λ other.
+        let both : done all.0 ≡ Err e = sym all.1 ∙ rw (fixed_is, counted) at (named other) in
+        absurd cc))
 
 pub returns-in_err-check_room-clause-refused : goal.returns-in_err-check_room-clause-refused
 returns-in_err-check_room-clause-refused c =
