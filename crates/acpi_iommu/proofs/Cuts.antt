@@ -1,5 +1,6 @@
 -- Pieces say their own lengths, and bytes are cut into them in one way; hops are cut into a path and others after it.
 use Rattle.std.proofs.Common.{◌≡◌, ℕ, zero, suc, ◌-◌, ◌≤◌, Bool, true, cond, List, [], ◌∷◌, ◌++◌, length, take, drop, Option, Some, None, refl, sym, ap, ◌∙◌, subst, arith, append_assoc, length-append, length-drop, leb, ◌+◌, ◌&&◌, filter, is_some, slice_get}
+use Rattle.std.proofs.lemmas.Option.{option_and_then_some}
 use Rattle.acpi_base.proofs.FromStd.{cond_some, and_parts, and_from, eqb-true, leb-true, le-leb, nat_tests, take_all, drop-take, take-take, take_at, drop_at, take-append-drop, length-take-le, append-nil, take-append-le, drop-append-le}
 use Rattle.acpi_base.specs.FromStd.{concat, AllByRecursion, list_all, list_any, prefix_len}
 use Rattle.acpi_base.specs.Words.{with_entry, field_of}
@@ -9,28 +10,17 @@ use Rattle.acpi_iommu.specs.Ivrs as ivrs
 
 -- ---- the piece with which bytes begin
 
-checked : ℕ → Option ℕ → Option ℕ
-checked len o = elim o [ Some n ↦ cond (leb 1 n && leb n len) (Some n) None | None ↦ None ]
-
-checked_is : (len n : ℕ) (o : Option ℕ) → checked len o ≡ Some n → (o ≡ Some n) × (1 ≤ n) × (n ≤ len)
-unfolding checked
-checked_is len n None e = absurd cc
-checked_is len n (Some m) e =
-    let t = cond_some (leb 1 m && leb m len) m n e in
-    let p = and_parts (leb 1 m) (leb m len) t.0 in
-    (ap Some t.1, omega (arith, leb-true 1 m p.0, t.1), omega (arith, leb-true m len p.1, t.1))
-
 pub front_within : (size : List ℕ → Option ℕ) (bytes : List ℕ) (n : ℕ) → front size bytes ≡ Some n
     → (size bytes ≡ Some n) × (1 ≤ n) × (n ≤ length bytes)
-unfolding checked
-front_within size bytes n e = checked_is (length bytes) n (size bytes) e
+front_within size bytes n e =
+    option_and_then_some (λ m. cond (leb 1 m && leb m (length bytes)) (Some m) None) (size bytes) n e (λ m is f.
+    let t = cond_some (leb 1 m && leb m (length bytes)) m n f in
+    let p = and_parts (leb 1 m) (leb m (length bytes)) t.0 in
+    (is ∙ ap Some t.1, omega (arith, leb-true 1 m p.0, t.1), omega (arith, leb-true m (length bytes) p.1, t.1)))
 
 front_from : (size : List ℕ → Option ℕ) (bytes : List ℕ) (n : ℕ) → size bytes ≡ Some n → 1 ≤ n → n ≤ length bytes
     → front size bytes ≡ Some n
-unfolding checked
-front_from size bytes n e one within =
-    ap (checked (length bytes)) e ∙ ap (λ b. cond b (Some n) None)
-    (and_from (leb 1 n) (leb n (length bytes)) (le-leb 1 n one) (le-leb n (length bytes) within))
+front_from size bytes n e one within = rw (e, le-leb 1 n one, le-leb n (length bytes) within) refl
 
 -- ---- one piece after the other
 
@@ -152,15 +142,9 @@ only : (size : List ℕ → Option ℕ) → SaysItself size → (ps : List (List
     → pieces size (concat ps ++ rest) ≡ (ps, rest)
 only size says [] rest are ends = rest_stuck size says rest (front size rest) refl ends
 only size says (p ∷ ps) rest are ends =
-    let others : pieces size (concat ps ++ rest) ≡ (ps, rest) = only size says ps rest are.1 ends in
-    let first : pieces size (p ++ (concat ps ++ rest)) ≡ with_entry (take (length p) (p ++ (concat ps ++ rest)))
-    (pieces size (drop (length p) (p ++ (concat ps ++ rest)))) =
-    pieces_front size (p ++ (concat ps ++ rest)) (length p) (begins size says p (concat ps ++ rest) are.0) in
-    ap (pieces size) (append_assoc p (concat ps) rest) ∙ first
-    ∙ ap (λ q. with_entry q (pieces size (drop (length p) (p ++ (concat ps ++ rest)))))
-    (take_at p (concat ps ++ rest) (length p) refl)
-    ∙ ap (λ b. with_entry p (pieces size b)) (drop_at p (concat ps ++ rest) (length p) refl)
-    ∙ ap (with_entry p) others
+    let first = pieces_front size (p ++ (concat ps ++ rest)) (length p) (begins size says p (concat ps ++ rest) are.0) in
+    rw (append_assoc p (concat ps) rest, first, take_at p (concat ps ++ rest) (length p) refl)
+    (rw (drop_at p (concat ps ++ rest) (length p) refl, only size says ps rest are.1 ends) refl)
 
 pub one_cut : (size : List ℕ → Option ℕ) → SaysItself size → OneCut size
 one_cut size says bytes ps rest = (

@@ -1,6 +1,6 @@
 -- How bytes are cut into pieces, each of which says by its first bytes how long it is, and what a walk along them
 -- shows.
-use Rattle.std.specs.Prelude.{◌≡◌, ◌↔◌, ℕ, zero, suc, ◌≤◌, ◌&&◌, ◌++◌, Bool, nat_le, List, [], length, take, drop, Option, Some, None, if◌then◌else◌}
+use Rattle.std.specs.Prelude.{◌≡◌, ◌↔◌, ℕ, zero, suc, ◌≤◌, ◌&&◌, ◌++◌, Bool, nat_le, List, [], length, take, drop, Option, Some, None, option_and_then, if◌then◌else◌}
 use Rattle.acpi_base.specs.FromStd.{concat, AllByRecursion}
 use Rattle.acpi_base.specs.Words.{with_entry, is_left}
 use Rattle.acpi_iommu.specs.declared.pieces.PieceIter.{PieceIter}
@@ -14,10 +14,8 @@ said least size = if nat_le least size then Some size else None
 -- how many bytes the piece has with which bytes begin, if one begins there: as many as it says, which is one at least,
 -- and no more than there are
 abbrev pub front : (List ℕ → Option ℕ) → List ℕ → Option ℕ
-front size bytes = elim (size bytes) [
-  | Some n ↦ if nat_le 1 n && nat_le n (length bytes) then Some n else None
-  | None ↦ None
-]
+front size bytes =
+    option_and_then (λ n. if nat_le 1 n && nat_le n (length bytes) then Some n else None) (size bytes)
 
 -- bytes that are one piece
 abbrev pub IsPiece : (List ℕ → Option ℕ) → List ℕ → Type 0
