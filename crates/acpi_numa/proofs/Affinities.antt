@@ -1,6 +1,6 @@
 -- What the first valid SRAT says depends on what its lookup depends on, wherever the tables lie; the domain that is
 -- computed is that of the first range in which the address lies; and there are few ranges.
-use Rattle.std.proofs.Common.{Result, Ok, lit≤, ◌≡◌, ℕ, Bool, true, false, List, [], ◌∷◌, Option, Some, None, refl, ap, arith, suc, ◌-◌, ◌≤◌, ◌++◌, length, length-drop, drop, length-append, find, if◌then◌else◌, option_map, filter_map}
+use Rattle.std.proofs.Common.{Result, Ok, lit≤, ◌≡◌, ℕ, true, false, List, [], ◌∷◌, Option, Some, None, refl, ap, arith, suc, ◌-◌, ◌≤◌, ◌++◌, length, length-drop, drop, length-append, find, option_map, filter_map}
 use Rattle.acpi_base.specs.Words.{DependsOn, ◌>>=◌, IsEntry, cut}
 use Rattle.acpi.specs.Types.{AcpiError, SRAT}
 use Rattle.acpi.proofs.Agreed.{same_said}

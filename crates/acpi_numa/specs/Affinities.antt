@@ -1,7 +1,7 @@
 -- Which domain each range of memory is in (signature SRAT; ACPI 6.4, section 5.2.16.2).
-use Rattle.std.specs.Prelude.{◌≡◌, ℕ, ◌+◌, ◌^◌, ◌<◌, ◌≤◌, ◌&&◌, Bool, true, false, List, [], ◌∷◌, ◌++◌, length, find, nat_le, nat_lt, Option, Some, None, Result, Ok, if◌then◌else◌, filter_map, option_map}
+use Rattle.std.specs.Prelude.{◌≡◌, ℕ, ◌+◌, ◌^◌, ◌<◌, ◌≤◌, ◌&&◌, Bool, not, List, ◌∷◌, ◌++◌, length, find, nat_le, nat_lt, Option, Some, None, Result, Ok, if◌then◌else◌, filter_map, option_map}
 use Rattle.acpi_base.specs.FromStd.{AllByRecursion, list_all}
-use Rattle.acpi_base.specs.Words.{has_bit, Memory, ◌>>=◌, holds, Kind, sdt_kind}
+use Rattle.acpi_base.specs.Words.{has_bit, is_left, Memory, ◌>>=◌, holds, Kind, sdt_kind}
 use Rattle.acpi.specs.Types.{AcpiError, SRAT}
 use Rattle.acpi.specs.Words.{lookup}
 use Rattle.acpi_numa.specs.Answers.{joined}
@@ -39,15 +39,10 @@ ranges_of table = filter_map range_in (entries_of table)
 abbrev pub ends_below : MemoryRange → Bool
 ends_below r = nat_lt (r.base + r.length) (2 ^ 64)
 
--- no byte is left
-abbrev pub is_used_up : List ℕ → Bool
-is_used_up [] = true
-is_used_up (b ∷ rest) = false
-
 -- the ranges, if the entries take all bytes of the table and then each range ends below 2^64
 abbrev pub affinities_of : List ℕ → Result (List MemoryRange) NumaError
 affinities_of table = do
-  _ ← holds (is_used_up (cut_of table).1) InvalidEntryLength
+  _ ← holds (not (is_left (cut_of table).1)) InvalidEntryLength
   _ ← holds (list_all ends_below (ranges_of table)) InvalidMemoryRange
   Ok (ranges_of table)
 

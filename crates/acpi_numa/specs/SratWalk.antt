@@ -1,7 +1,7 @@
 -- What a walk along the SRAT's entries shows. It begins with the table's `entries_of` and the rest of its `cut_of`, and
 -- each step gives the first entry that is left.
-use Rattle.std.specs.Prelude.{◌≡◌, ◌&&◌, Bool, true, false, ℕ, List, [], ◌∷◌, Option, Some, None, filter_map}
-use Rattle.acpi_base.specs.Words.{cut}
+use Rattle.std.specs.Prelude.{◌≡◌, ◌&&◌, Bool, ℕ, List, Option, Some, None, filter_map}
+use Rattle.acpi_base.specs.Words.{cut, is_left}
 use Rattle.acpi_numa.specs.Srat.{entry_of, srat_grammar}
 use Rattle.acpi_numa.specs.declared.srat.entry.SratEntry.{SratEntry}
 use Rattle.acpi_numa.specs.declared.srat.walk.SratEntryIter.{SratEntryIter}
@@ -17,11 +17,6 @@ rest_left s = (cut srat_grammar s.rest.now).1
 -- whether it has answered that no entry is left
 abbrev pub has_ended : SratEntryIter → Bool
 has_ended s = s.ended
-
--- whether bytes are left
-abbrev pub is_left : List ℕ → Bool
-is_left [] = false
-is_left (b ∷ rest) = true
 
 -- whether it ended before the table did: what `ended_malformed` returns, which is no until the walk has given None
 abbrev pub is_malformed : SratEntryIter → Bool
