@@ -19,6 +19,36 @@ macro_rules! refusals {
     };
 }
 
+/// The constants of the library, each after its name.
+#[rattlefmt::skip]
+static CONSTANTS: [(&str, Signature); 65] = constants!(
+    RSDT XSDT FADT HPET MADT MCFG SSDT BERT BGRT CPEP DSDT ECDT EINJ ERST FACS FPDT GTDT HEST
+    MSCT MPST NFIT PCCT PHAT PMTT PSDT RASF SBST SDEV SLIT SRAT AEST BDAT CDIT CEDT CRAT CSRT
+    DBGP DBG2 DMAR DRTM ETDT IBFT IORT IVRS LPIT MCHI MPAM MSDM PRMT RGRT SDEI SLIC SPCR SPMI
+    STAO SVKL TCPA TPM2 UEFI WAET WDAT WDRT WPBT WSMT XENV
+);
+
+/// The refusals that name no table.
+static OTHERS: [AcpiError; 17] = [
+    AcpiError::NoValidRsdp,
+    AcpiError::RsdpIncorrectSignature,
+    AcpiError::RsdpInvalidOemId,
+    AcpiError::RsdpInvalidChecksum,
+    AcpiError::InvalidFacsAddress,
+    AcpiError::InvalidDsdtAddress,
+    AcpiError::InvalidGenericAddress,
+    AcpiError::AllocError,
+    AcpiError::MapFailed,
+    AcpiError::InvalidNamespaceString,
+    AcpiError::InvalidMadt(MadtError::UnexpectedEntry),
+    AcpiError::InvalidMadt(MadtError::InterruptOverrideEntryHasInvalidBus),
+    AcpiError::InvalidMadt(MadtError::InvalidLocalNmiLine),
+    AcpiError::InvalidMadt(MadtError::MpsIntiInvalidPolarity),
+    AcpiError::InvalidMadt(MadtError::MpsIntiInvalidTriggerMode),
+    AcpiError::InvalidMadt(MadtError::WakeupApsTimeout),
+    AcpiError::InvalidMadt(MadtError::InvalidEntryLength),
+];
+
 /// What four letters say as a signature: `signature`, how it is printed, debugged, and stored, `against SIGNATURE`,
 /// how they compare, `refusals`, those that name a table, and of all `others` and `constants`.
 pub(super) fn answer(out: &mut Text<'_>, bytes: &[u8], call: &str, rest: &str) {
@@ -42,13 +72,7 @@ pub(super) fn answer(out: &mut Text<'_>, bytes: &[u8], call: &str, rest: &str) {
 }
 
 fn print_constants(out: &mut Text<'_>) {
-    let constants = constants!(
-        RSDT XSDT FADT HPET MADT MCFG SSDT BERT BGRT CPEP DSDT ECDT EINJ ERST FACS FPDT GTDT HEST
-        MSCT MPST NFIT PCCT PHAT PMTT PSDT RASF SBST SDEV SLIT SRAT AEST BDAT CDIT CEDT CRAT CSRT
-        DBGP DBG2 DMAR DRTM ETDT IBFT IORT IVRS LPIT MCHI MPAM MSDM PRMT RGRT SDEI SLIC SPCR SPMI
-        STAO SVKL TCPA TPM2 UEFI WAET WDAT WDRT WPBT WSMT XENV
-    );
-    for constant in &constants {
+    for constant in &CONSTANTS {
         out.show(constant);
     }
 }
@@ -62,26 +86,7 @@ fn print_refusals(out: &mut Text<'_>, signature: Signature) {
 }
 
 fn print_others(out: &mut Text<'_>) {
-    let refusals = [
-        AcpiError::NoValidRsdp,
-        AcpiError::RsdpIncorrectSignature,
-        AcpiError::RsdpInvalidOemId,
-        AcpiError::RsdpInvalidChecksum,
-        AcpiError::InvalidFacsAddress,
-        AcpiError::InvalidDsdtAddress,
-        AcpiError::InvalidGenericAddress,
-        AcpiError::AllocError,
-        AcpiError::MapFailed,
-        AcpiError::InvalidNamespaceString,
-        AcpiError::InvalidMadt(MadtError::UnexpectedEntry),
-        AcpiError::InvalidMadt(MadtError::InterruptOverrideEntryHasInvalidBus),
-        AcpiError::InvalidMadt(MadtError::InvalidLocalNmiLine),
-        AcpiError::InvalidMadt(MadtError::MpsIntiInvalidPolarity),
-        AcpiError::InvalidMadt(MadtError::MpsIntiInvalidTriggerMode),
-        AcpiError::InvalidMadt(MadtError::WakeupApsTimeout),
-        AcpiError::InvalidMadt(MadtError::InvalidEntryLength),
-    ];
-    for refusal in &refusals {
+    for refusal in &OTHERS {
         out.print(refusal);
     }
 }
