@@ -18,7 +18,7 @@ pub fn print_processors<W: Write>(
     out: &mut W,
 ) -> io::Result<()> {
     match MemoryImage::from_bytes(alloc, image) {
-        Ok(memory) => print_platform(platform_of(alloc, &memory, rsdp), out),
+        Ok(memory) => print_platform(&platform_of(alloc, &memory, rsdp), out),
         Err(error) => writeln!(out, "image: {error}"),
     }
 }
@@ -35,17 +35,17 @@ fn platform_of<H: AcpiHandler>(
 
 /// Prints the processors of a platform, if the MADT lists any, or the error.
 fn print_platform<W: Write>(
-    found: AcpiResult<PlatformInfo<Global>>,
+    found: &AcpiResult<PlatformInfo<Global>>,
     out: &mut W,
 ) -> io::Result<()> {
-    match &found {
+    match found {
         Ok(platform) => match &platform.processor_info {
             Some(processors) => {
                 print_processor(&processors.boot_processor, out)?;
-                let others = processors.application_processors.as_slice();
-                others
-                    .iter()
-                    .try_for_each(|other| print_processor(other, out))
+                for other in processors.application_processors.as_slice() {
+                    print_processor(other, out)?;
+                }
+                Ok(())
             }
             None => Ok(()),
         },
