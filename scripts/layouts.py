@@ -15,14 +15,19 @@ SUM = rf"{PART}(?:\+{PART})*"
 KINDS = rf"\*|{NUMBER}(?:-{NUMBER})?"
 LENGTH = rf"\*|z|<?{SUM}"
 COUNT = rf"\*|{SUM}"
-FIELD = rf"(?:>|{SUM}) (?:(?:{LENGTH})|{SUM}\[(?:{COUNT})\]) (?:-|dec|text|wide|row|guid|fn|path|gas) [^|]+"
-CODED = rf"(?:>|{SUM}) (?:{LENGTH}) (codes|flags) [^|]+\|(.+)"
+FIELD = rf"(?:>|{SUM}) (?:(?:{LENGTH})|{SUM}\[(?:{COUNT})\]) (?:-|dec|dec\+1|text|wide|row|guid|fn|path|gas) [^|]+"
+CODED = rf"(?:>|{SUM}) (?:{LENGTH}) (codes|flags|dec|guid) [^|]+\|(.+)"
 LIST = (
     rf"(?:>|{SUM}) \{{(?:{COUNT}|~{SUM})\}} (?:(each) (?:z|{SUM})|(own) {SUM}|(typed) {SUM} {SUM}|(sized) {SUM}) (\S+)"
 )
-CHOICE = rf"if {SUM} {NUMBER} {NUMBER} (\S+)"
+CHOICE = rf"if {SUM} (?:[&!]{NUMBER}|{NUMBER}(?:-{NUMBER})?) (\S+)"
 INNER = r"(?:with|then) (\S+)"
-ITEMS = {"codes": rf"{NUMBER} .+", "flags": rf"{NUMBER}(?::{NUMBER})?(?:/{NUMBER})? .+"}
+ITEMS = {
+    "codes": rf"{NUMBER} .+",
+    "dec": rf"{NUMBER} .+",
+    "guid": r"[0-9a-f]{8}(?:-[0-9a-f]{4}){3}-[0-9a-f]{12} .+",
+    "flags": rf"{NUMBER}(?::{NUMBER})?(?:/{NUMBER})? .+",
+}
 
 
 def sources():
@@ -90,8 +95,8 @@ def add_lines(found, blocks, lines, base=0):
         entries = re.fullmatch(LIST, line)
         if entries:
             found.lists.append((base, line, entries[5]))
-        elif line.startswith("if ") and line.split()[1:4] == ["0:1", found.kinds, found.kinds]:
-            add_lines(found, blocks, find(blocks, line.split()[4])[4], base)  # what all of its type have
+        elif line.startswith("if ") and line.split()[1:3] == ["0:1", found.kinds]:
+            add_lines(found, blocks, find(blocks, line.split()[3])[4], base)  # what all of its type have
         elif line.startswith("if "):
             found.choices.append((base, line.split()))
         elif line.startswith(("with ", "then ")):
@@ -121,7 +126,7 @@ def structures():
     take in as theirs, are none."""
     for text, blocks in texts().items():
         lines = "\n".join(line for it in blocks for line in it[4])
-        others = {*re.findall(r"\| @(\S+)", lines), *re.findall(r"(?:with|then|if \S+ \S+ \S+) (\S+)", lines)}
+        others = {*re.findall(r"\| @(\S+)", lines), *re.findall(r"(?:with|then|if \S+ \S+) (\S+)", lines)}
         for block in blocks:
             if block[0] not in others:
                 yield laid(text, blocks, block)

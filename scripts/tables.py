@@ -85,7 +85,7 @@ def variants(found, blocks):
     yield name_of(found), found
     seen = set()
     for base, words in found.choices:
-        block = layouts.find(blocks, words[4])
+        block = layouts.find(blocks, words[3])
         if not block:
             continue
         more = layouts.Structure(found.text, [found.block, found.kinds, "-", found.title])
@@ -140,7 +140,9 @@ def constants(stem, meaning, lines):
         number, name = line.split(maxsplit=1)
         bits, _, code = number.partition("/")
         high, _, low = bits.partition(":")
-        if meaning == "codes":
+        if meaning == "guid":
+            continue
+        if meaning in ("codes", "dec"):
             yield f"{stem}_{word(name)}", unsigned(int(number, 0))
         elif code:
             yield f"{stem}_{word(name)}", unsigned(int(code, 0) << int(low or high, 0))

@@ -1,22 +1,40 @@
 //! Shows the ACPI tables of a machine, of files, of acpidump's text or of memory.
 #![tactic(auto)]
 
-use acpi_cli::{args, borrowed};
-use acpi_dump_lib::run::dump;
+use acpi_cli::borrowed;
+use acpi_dump_lib::run::{dump, refuse_arguments};
 use acpi_dump_lib::sources::HostSources;
-use std::io;
 use std::process::ExitCode;
+use std::{env, io};
 
 fn main(rt: HostRuntime) -> ExitCode {
     ExitCode::from(status(&rt).unwrap_or(1))
+}
+
+/// The process's arguments after the program's name, in order.
+///
+/// Fails if one of them is no UTF-8, or memory for them is refused.
+fn arguments(rt: &HostRuntime) -> io::Result<Vec<String>> {
+    let mut all = env::args(rt)?;
+    all.next();
+    Ok(all.collect(rt.alloc())?)
 }
 
 /// The status of the program over the process's arguments, files and outputs.
 ///
 /// Fails if a write fails or memory runs out.
 fn status(rt: &HostRuntime) -> io::Result<u8> {
-    let args = args(rt)?;
-    let args = borrowed(rt.alloc(), &args)?;
+    let had = arguments(rt);
+    let arguments = match &had {
+        Ok(arguments) => borrowed(rt.alloc(), arguments)?,
+        Err(refusal) => return refuse_arguments(refusal, rt.stderr()),
+    };
     let mut sources = HostSources::new(rt);
-    dump(rt.alloc(), &args, &mut sources, io::writer(rt), rt.stderr())
+    dump(
+        rt.alloc(),
+        &arguments,
+        &mut sources,
+        io::writer(rt),
+        rt.stderr(),
+    )
 }

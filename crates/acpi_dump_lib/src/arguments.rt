@@ -73,6 +73,8 @@ pub(crate) struct Request<'w> {
     pub(crate) kind: Option<Kind>,
     /// The physical address of memory's first byte.
     pub(crate) at: Option<u64>,
+    /// How many bytes an input has at most.
+    pub(crate) most: u64,
     /// The way to the root table, if it is said.
     pub(crate) start: Option<Root>,
     pub(crate) view: View,
@@ -80,6 +82,10 @@ pub(crate) struct Request<'w> {
     pub(crate) choices: Vec<Choice>,
     pub(crate) is_json: bool,
     pub(crate) is_strict: bool,
+    /// Whether the status is 1 if two inputs differ.
+    pub(crate) is_exit_code: bool,
+    /// The names of fields that are left out of what differs.
+    pub(crate) ignored: Vec<&'w str>,
     pub(crate) color: Color,
     /// The first mistake that the arguments have.
     pub(crate) mistake: Option<Mistake<'w>>,
@@ -89,6 +95,12 @@ pub(crate) struct Request<'w> {
 fn parse_signature(word: &str) -> Option<Option<Signature>> {
     if word.eq_ignore_ascii_case("all") {
         return Some(None);
+    }
+    if word.eq_ignore_ascii_case("madt") {
+        return Some(Some(Signature::MADT));
+    }
+    if word.eq_ignore_ascii_case("fadt") {
+        return Some(Some(Signature::FADT));
     }
     match word.as_bytes() {
         [a, b, c, d] => Some(Some(Signature::from_bytes([*a, *b, *c, *d]))),
@@ -129,6 +141,8 @@ const ONE_VIEW: &str = "[--table SIG].. [--hex SIG].. | --summary | --find | --c
 const KINDS: &str = "image | memory | text | table";
 
 const AT: &str = "ADDRESS, which is 0x and one to sixteen hexadecimal digits";
+
+const MOST: &str = "NUMBER, in decimal digits";
 
 const START: &str = "rsdt:REVISION:ADDRESS | rsdp:ADDRESS | bios";
 
@@ -181,19 +195,25 @@ impl<'w> Request<'w> {
         let kind = parse_kind(word_of(matches, "as"));
         let at = parse_address(word_of(matches, "at"));
         let start = parse_start(word_of(matches, "start"));
+        let most = word_of(matches, "max-bytes").parse::<u64>().ok();
         let color = parse_color(word_of(matches, "color"));
         self.kind = self.checked(matches, "as", kind, KINDS);
         self.at = self.checked(matches, "at", at, AT);
         self.start = self.checked(matches, "start", start, START);
+        self.most = self
+            .checked(matches, "max-bytes", most, MOST)
+            .unwrap_or(1 << 30);
         self.color = self
             .checked(matches, "color", color, COLORS)
             .unwrap_or(Color::Auto);
     }
 
-    /// Adds the words that name inputs, and those of a way to the root table that may follow the first.
+    /// Adds the words that name inputs and fields, and those of a way to the root table that may follow the first.
     fn add_inputs(&mut self, matches: &ArgMatches<'w>) {
         let words = matches.get_strs("input").unwrap_or(&[]);
-        if self.inputs.extend_from_slice(words).is_err() {
+        let ignored = matches.get_strs("ignore").unwrap_or(&[]);
+        let added = self.inputs.extend_from_slice(words);
+        if added.is_err() || self.ignored.extend_from_slice(ignored).is_err() {
             self.refuse(Mistake::OutOfMemory);
         }
     }
@@ -265,11 +285,14 @@ pub(crate) fn request_of<'w>(alloc: Global, matches: &ArgMatches<'w>) -> Request
         inputs: Vec::new(alloc),
         kind: None,
         at: None,
+        most: 0,
         start: None,
         view: View::Lines,
         choices: Vec::new(alloc),
         is_json: matches.get_flag("json"),
         is_strict: matches.get_flag("strict"),
+        is_exit_code: matches.get_flag("exit-code"),
+        ignored: Vec::new(alloc),
         color: Color::Auto,
         mistake: None,
     };

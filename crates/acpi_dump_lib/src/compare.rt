@@ -7,7 +7,6 @@ use crate::fields::{print_hex, print_meaning, print_value};
 use crate::out::Out;
 use crate::walk::{Field, Group, Show, walk_table};
 use std::alloc::{AllocError, Global};
-use std::io::Write;
 
 /// A field or a run of bytes of a table: where it is, its name, and where its value stands in the text of all values.
 #[derive(Clone, Copy)]
@@ -22,7 +21,7 @@ struct Item {
 #[derive(Drop)]
 struct Items {
     items: Vec<Item>,
-    values: Out<Vec<u8>>,
+    values: Out,
     /// Whether memory for an item was refused.
     is_refused: bool,
 }
@@ -97,7 +96,7 @@ impl<'a> Side<'a> {
 fn items_of(alloc: Global, entry: &Entry<'_>) -> Items {
     let mut items = Items {
         items: Vec::new(alloc),
-        values: Out::new(Vec::new(alloc)),
+        values: Out::new(alloc),
         is_refused: false,
     };
     if let Some(signature) = entry.signature() {
@@ -125,11 +124,13 @@ fn next_pair(old: Option<Item>, new: Option<Item>) -> (Option<Item>, Option<Item
     }
 }
 
-/// The differences between the items of two tables, in the order of their offsets.
+/// The differences between the items of two tables, less those of the names that are ignored, in the order of their
+/// offsets.
 fn differences<'a>(
     alloc: Global,
     old: &'a Items,
     new: &'a Items,
+    ignored: &[&str],
 ) -> Result<Vec<Difference<'a>>, AllocError> {
     let (old, new) = (old.side()?, new.side()?);
     let mut found = Vec::new(alloc);
@@ -141,6 +142,7 @@ fn differences<'a>(
         let (old, new) = (old.value(a), new.value(b));
         if let Some(item) = a.or(b)
             && old != new
+            && !ignored.contains(&item.name)
         {
             found.push(Difference {
                 offset: item.offset,
@@ -194,15 +196,17 @@ pub(crate) trait ShowDifferences {
 
 /// Differences as lines of text: the names of the two inputs, and where the lines are written to.
 #[derive(Drop)]
-pub(crate) struct DifferenceLines<'a, W> {
+pub(crate) struct DifferenceLines<'a> {
     pub(crate) names: (&'a str, &'a str),
-    pub(crate) out: &'a mut Out<W>,
+    pub(crate) out: &'a mut Out,
 }
 
-impl<W: Write> ShowDifferences for DifferenceLines<'_, W> {
+impl ShowDifferences for DifferenceLines<'_> {
     fn alone(&mut self, is_first: bool, entry: &Entry<'_>) {
         let name = if is_first { self.names.0 } else { self.names.1 };
-        write!(self.out, "only in {name}: ");
+        self.out.text("only in ");
+        self.out.escaped(name.as_bytes());
+        self.out.text(": ");
         print_name(entry, self.out);
         self.out.text("\n");
     }
@@ -213,12 +217,7 @@ impl<W: Write> ShowDifferences for DifferenceLines<'_, W> {
 }
 
 /// Prints differences between two tables, under their names.
-fn print_found<W: Write>(
-    old: &Entry<'_>,
-    new: &Entry<'_>,
-    found: &[Difference<'_>],
-    out: &mut Out<W>,
-) {
+fn print_found(old: &Entry<'_>, new: &Entry<'_>, found: &[Difference<'_>], out: &mut Out) {
     print_name(old, out);
     out.text(" and ");
     print_name(new, out);
@@ -233,40 +232,48 @@ fn print_found<W: Write>(
     }
 }
 
-/// Shows the differences between two tables, if there are some.
+/// Shows the differences between two tables, and answers whether there are some.
 fn compare_pair<S: ShowDifferences>(
     alloc: Global,
     old: &Entry<'_>,
     new: &Entry<'_>,
+    ignored: &[&str],
     show: &mut S,
-) -> Result<(), AllocError> {
+) -> Result<bool, AllocError> {
     let (items, others) = (items_of(alloc, old), items_of(alloc, new));
-    let found = differences(alloc, &items, &others)?;
+    let found = differences(alloc, &items, &others, ignored)?;
     if !found.is_empty() {
         show.pair(old, new, &found);
     }
-    Ok(())
+    Ok(!found.is_empty())
 }
 
-/// Shows the tables that are in one input alone, and of those in both the fields that differ.
+/// Shows the tables that are in one input alone, and of those in both the fields that differ, less those of the names
+/// that are ignored. It answers whether it shows something.
 ///
 /// Fails if memory runs out.
 pub(crate) fn compare<S: ShowDifferences>(
     alloc: Global,
     old: &[Entry<'_>],
     new: &[Entry<'_>],
+    ignored: &[&str],
     show: &mut S,
-) -> Result<(), AllocError> {
+) -> Result<bool, AllocError> {
+    let mut any = false;
     for index in 0..old.len() {
         match same_in(old, index, new) {
-            Some(other) => compare_pair(alloc, &old[index], other, show)?,
-            None => show.alone(true, &old[index]),
+            Some(other) => any |= compare_pair(alloc, &old[index], other, ignored, show)?,
+            None => {
+                any = true;
+                show.alone(true, &old[index]);
+            }
         }
     }
     for index in 0..new.len() {
         if same_in(new, index, old).is_none() {
+            any = true;
             show.alone(false, &new[index]);
         }
     }
-    Ok(())
+    Ok(any)
 }

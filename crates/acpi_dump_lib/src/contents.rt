@@ -2,7 +2,7 @@
 
 use crate::arguments::{Choice, Contents};
 use crate::entries::{Entry, Place, own_signature};
-use crate::errors::tell;
+use crate::errors::{Log, fail};
 use crate::getters::print_getters;
 use crate::hex::print_dump;
 use crate::out::Out;
@@ -11,7 +11,6 @@ use crate::status::Status;
 use crate::text::Text;
 use crate::walk::walk_table;
 use acpi::sdt::Signature;
-use std::io::Write;
 
 /// Whether a choice has a table, of which some byte is there.
 pub(crate) fn chooses(choice: Choice, entry: &Entry<'_>) -> bool {
@@ -23,12 +22,7 @@ pub(crate) fn chooses(choice: Choice, entry: &Entry<'_>) -> bool {
 }
 
 /// Prints the tables that are chosen, choice by choice.
-pub(crate) fn print_tables<W: Write>(
-    entries: &[Entry<'_>],
-    choices: &[Choice],
-    paint: Paint,
-    out: &mut Out<W>,
-) {
+pub(crate) fn print_tables(entries: &[Entry<'_>], choices: &[Choice], paint: Paint, out: &mut Out) {
     for choice in choices {
         for entry in entries {
             if chooses(*choice, entry) {
@@ -48,40 +42,35 @@ fn is_there(entries: &[Entry<'_>], choice: Choice) -> bool {
     false
 }
 
-/// Whether a signature that is chosen has no table. For each such one it says so.
-pub(crate) fn missing<E: Write>(
-    entries: &[Entry<'_>],
-    choices: &[Choice],
-    name: &str,
-    err: &mut Out<E>,
-) -> bool {
-    let mut any = false;
+/// Says of each signature that is chosen and has no table that it has none.
+pub(crate) fn tell_missing(entries: &[Entry<'_>], choices: &[Choice], name: &str, log: &mut Log) {
     for choice in choices {
         if let Some(signature) = choice.signature
             && !is_there(entries, *choice)
         {
-            any = true;
-            tell(err, name, &format_args!("no table {signature}"));
+            fail(log, name, &format_args!("no table {signature}"));
         }
     }
-    any
 }
 
 /// Prints what a table is called and where it lies.
-pub(crate) fn print_name<W: Write>(entry: &Entry<'_>, out: &mut Out<W>) {
+pub(crate) fn print_name(entry: &Entry<'_>, out: &mut Out) {
     match entry.signature().or(entry.sought) {
-        Some(signature) => write!(out, "{signature}"),
+        Some(signature) => out.escaped(&signature.to_bytes()),
         None => out.text("-"),
     }
     match entry.place {
         Place::Address(address) => write!(out, " at {address:016x}"),
-        Place::File(name) => write!(out, " in {name}"),
+        Place::File(name) => {
+            out.text(" in ");
+            out.escaped(name.as_bytes())
+        }
         Place::Nowhere => {}
     }
 }
 
 /// Prints the contents of a table, under where it lies and, unless it is valid, what the checks say.
-fn print_table<W: Write>(entry: &Entry<'_>, contents: Contents, paint: Paint, out: &mut Out<W>) {
+fn print_table(entry: &Entry<'_>, contents: Contents, paint: Paint, out: &mut Out) {
     print_name(entry, out);
     out.text("\n");
     if !matches!(entry.status, Status::Valid) {
@@ -96,7 +85,7 @@ fn print_table<W: Write>(entry: &Entry<'_>, contents: Contents, paint: Paint, ou
 }
 
 /// Prints the fields of a table.
-fn print_fields<W: Write>(entry: &Entry<'_>, out: &mut Out<W>) {
+fn print_fields(entry: &Entry<'_>, out: &mut Out) {
     let signature = own_signature(entry.bytes);
     walk_table(signature, entry.bytes, &mut Text { out, depth: 0 });
     if signature == Signature::FADT {

@@ -15,7 +15,6 @@ use crate::walk::{Field, Group, Show};
 use json::{Pretty, Token, is_number};
 use std::alloc::{AllocError, Global};
 use std::fmt::Display;
-use std::io::Write;
 pub(crate) use tables::{add_all, add_chosen};
 
 /// The version of the document's form.
@@ -56,12 +55,12 @@ impl Document {
     /// view shows.
     ///
     /// Fails if memory for a piece was refused.
-    pub(crate) fn print<W: Write>(
+    pub(crate) fn print(
         mut self,
         view: &str,
         inputs: &[&str],
         part: &str,
-        out: &mut Out<W>,
+        out: &mut Out,
     ) -> Result<(), AllocError> {
         self.token(Token::EndArray);
         if part == BEFORE_INPUTS {
@@ -101,7 +100,7 @@ impl Document {
 
     /// Adds a number.
     pub(crate) fn number(&mut self, name: &str, number: u64) {
-        let mut text = Out::new(Vec::new(self.alloc));
+        let mut text = Out::new(self.alloc);
         write!(text, "{number}");
         self.token(Token::Key(name));
         match text.printed() {
@@ -117,7 +116,7 @@ impl Document {
     }
 
     /// Adds what was printed.
-    fn printed(&mut self, name: &str, text: &Out<Vec<u8>>) {
+    fn printed(&mut self, name: &str, text: &Out) {
         match text.printed() {
             Some(text) => self.text(name, text),
             None => self.is_refused = true,
@@ -126,7 +125,7 @@ impl Document {
 
     /// Adds what a value is as a text.
     pub(crate) fn shown(&mut self, name: &str, value: &impl Display) {
-        let mut text = Out::new(Vec::new(self.alloc));
+        let mut text = Out::new(self.alloc);
         write!(text, "{value}");
         self.printed(name, &text);
     }
@@ -138,14 +137,14 @@ impl Document {
 
     /// Adds a text of bytes, those that aren't printable ASCII as `.`.
     fn letters(&mut self, name: &str, bytes: &[u8]) {
-        let mut text = Out::new(Vec::new(self.alloc));
+        let mut text = Out::new(self.alloc);
         print_text(bytes, &mut text);
         self.printed(name, &text);
     }
 
     /// Adds bytes as pairs of hexadecimal digits.
     fn hex(&mut self, name: &str, bytes: &[u8]) {
-        let mut text = Out::new(Vec::new(self.alloc));
+        let mut text = Out::new(self.alloc);
         print_hex(bytes, &mut text);
         self.printed(name, &text);
     }
@@ -163,8 +162,11 @@ impl Document {
 impl Show for Document {
     fn field(&mut self, shown: &Field<'_>) {
         self.token(Token::BeginObject);
+        if let Meaning::Flags(_) = shown.meaning {
+            add_flags(self, shown);
+        }
         self.number("length", shown.bytes.len() as u64);
-        if !matches!(shown.meaning, Meaning::Decimal) {
+        if !matches!(shown.meaning, Meaning::Decimal(_)) {
             add_meaning(self, shown);
         }
         self.text("name", shown.name);
@@ -172,6 +174,9 @@ impl Show for Document {
             self.number("number", number);
         }
         self.number("offset", shown.offset);
+        if let Meaning::Register = shown.meaning {
+            add_parts(self, shown.bytes);
+        }
         add_value(self, shown);
         self.token(Token::EndObject);
     }
@@ -210,7 +215,7 @@ impl Show for Document {
     }
 
     fn malformed(&mut self, offset: u64, fault: Fault) {
-        let mut why = Out::new(Vec::new(self.alloc));
+        let mut why = Out::new(self.alloc);
         fault.print(offset, &mut why);
         self.token(Token::BeginObject);
         self.printed("malformed", &why);
@@ -219,16 +224,44 @@ impl Show for Document {
     }
 }
 
+/// Adds the names of the flags that are set.
+fn add_flags(document: &mut Document, shown: &Field<'_>) {
+    let mut text = Out::new(document.alloc);
+    print_meaning(shown.bytes, shown.meaning, &mut text);
+    document.begin_list("flags");
+    for name in text.printed().unwrap_or("").trim().split(", ") {
+        if !name.is_empty() {
+            document.token(Token::String(name));
+        }
+    }
+    document.token(Token::EndArray);
+}
+
+/// Adds the parts of a generic address (section 5.2.3.2).
+fn add_parts(document: &mut Document, bytes: &[u8]) {
+    let [space, width, offset, size, address @ ..] = bytes else {
+        return;
+    };
+    document.token(Token::Key("parts"));
+    document.token(Token::BeginObject);
+    document.number("access", *size as u64);
+    document.address("address", number_of(address));
+    document.number("offset", *offset as u64);
+    document.number("space", *space as u64);
+    document.number("width", *width as u64);
+    document.token(Token::EndObject);
+}
+
 /// Adds the value of a field: a number of up to four bytes as one, and else hexadecimal text.
 fn add_value(document: &mut Document, shown: &Field<'_>) {
     let is_number = !matches!(
         shown.meaning,
-        Meaning::Text | Meaning::Wide | Meaning::Row | Meaning::Guid
+        Meaning::Text | Meaning::Wide | Meaning::Row | Meaning::Guid(_)
     );
     if is_number && shown.bytes.len() <= 4 {
         document.number("value", number_of(shown.bytes));
     } else {
-        let mut text = Out::new(Vec::new(document.alloc));
+        let mut text = Out::new(document.alloc);
         print_value(shown.bytes, shown.meaning, &mut text);
         document.printed("value", &text);
     }
@@ -236,7 +269,7 @@ fn add_value(document: &mut Document, shown: &Field<'_>) {
 
 /// Adds the meaning of a field, if it has one.
 fn add_meaning(document: &mut Document, shown: &Field<'_>) {
-    let mut text = Out::new(Vec::new(document.alloc));
+    let mut text = Out::new(document.alloc);
     print_meaning(shown.bytes, shown.meaning, &mut text);
     match text.printed() {
         None => document.is_refused = true,

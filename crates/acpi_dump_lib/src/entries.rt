@@ -1,5 +1,6 @@
 //! The tables that an input has, with what their checks say.
 
+use crate::flaws::is_malformed;
 use crate::input::candidates::check_file;
 use crate::input::tables::TableFile;
 use crate::status::Status;
@@ -158,6 +159,21 @@ fn check_facs(lent: &[u8], cut: AcpiError) -> Status {
     }
 }
 
+/// What there is to say of a table, over all bytes that are shown of it, after what the checks say.
+fn looked_over(status: Status, bytes: &[u8]) -> Status {
+    if !matches!(status, Status::Valid) {
+        return status;
+    }
+    let over = bytes.len().saturating_sub(field(bytes, 4, 4) as usize);
+    if over > 0 && !bytes.starts_with(b"RSD PTR ") {
+        Status::Longer(over)
+    } else if is_malformed(bytes) {
+        Status::Malformed
+    } else {
+        status
+    }
+}
+
 /// The table in a file.
 fn entry_of_file(file: &TableFile) -> Entry<'_> {
     let lent = file.bytes.as_slice();
@@ -181,7 +197,7 @@ fn entry_of_file(file: &TableFile) -> Entry<'_> {
         place,
         sought: None,
         bytes: lent,
-        status,
+        status: looked_over(status, lent),
     }
 }
 
@@ -222,11 +238,12 @@ fn entry_at<'i>(image: &MemoryImage<'i>, address: u64, sought: Option<Signature>
         Some(signature) => check_header(lent, signature, AcpiError::MapFailed),
         None => check_header(lent, own, AcpiError::MapFailed),
     };
+    let bytes = cut_to_length(lent);
     Entry {
         place: Place::Address(address),
         sought,
-        bytes: cut_to_length(lent),
-        status,
+        bytes,
+        status: looked_over(status, bytes),
     }
 }
 

@@ -2,27 +2,83 @@
 
 use crate::arguments::WrongWord;
 use crate::out::Out;
+use std::alloc::{AllocError, Global};
 use std::fmt::Display;
-use std::io::Write;
+
+/// Why nothing more is shown.
+#[derive(Clone, Copy)]
+pub(crate) enum Stop {
+    /// For what has been said.
+    Told,
+    /// The allocator refused memory.
+    OutOfMemory,
+}
+
+/// Makes `OutOfMemory`.
+impl From<AllocError> for Stop {
+    ghost use Rattle.std.specs.Prelude.{◌≡◌};
+    ghost use Rattle.acpi_dump_lib.specs.declared.errors.Stop.TheVariants.{OutOfMemory};
+
+    ghost from_gives = { λ _ e. e ≡ OutOfMemory };
+
+    fn from(_refused: AllocError) -> Stop {
+        Stop::OutOfMemory
+    }
+}
+
+/// What is said on standard error.
+#[derive(Drop)]
+pub(crate) struct Log {
+    pub(crate) text: Out,
+    /// Whether something isn't shown that was asked for.
+    pub(crate) is_incomplete: bool,
+}
+
+impl Log {
+    /// Nothing is said yet.
+    pub(crate) fn new(alloc: Global) -> Log {
+        Log {
+            text: Out::new(alloc),
+            is_incomplete: false,
+        }
+    }
+}
+
+/// Begins a line on a file.
+pub(crate) fn begin(log: &mut Log, name: &str) {
+    log.text.text("acpi_dump: ");
+    log.text.escaped(name.as_bytes());
+    log.text.text(": ");
+}
 
 /// Says something of a file.
-pub(crate) fn tell<E: Write>(err: &mut Out<E>, name: &str, what: &impl Display) {
-    writeln!(err, "acpi_dump: {name}: {what}");
+pub(crate) fn tell(log: &mut Log, name: &str, what: &impl Display) {
+    begin(log, name);
+    log.text.value(what);
+    log.text.text("\n");
+}
+
+/// Says why a file isn't shown.
+pub(crate) fn fail(log: &mut Log, name: &str, why: &impl Display) -> Stop {
+    log.is_incomplete = true;
+    tell(log, name, why);
+    Stop::Told
 }
 
 /// Says which word is wrong, and what would be right.
-pub(crate) fn tell_word<E: Write>(err: &mut Out<E>, wrong: WrongWord<'_>) {
+pub(crate) fn tell_word(log: &mut Log, wrong: WrongWord<'_>) {
     let WrongWord {
         option,
         word,
         usage,
     } = wrong;
+    log.text.text("acpi_dump: ");
     if option.is_empty() {
-        writeln!(err, "acpi_dump: {word}\nusage: acpi_dump {usage}");
+        log.text.escaped(word.as_bytes());
+        writeln!(log.text, "\nusage: acpi_dump {usage}");
     } else {
-        writeln!(
-            err,
-            "acpi_dump: --{option}: {word}\nusage: --{option} {usage}"
-        );
+        write!(log.text, "--{option}: ");
+        log.text.escaped(word.as_bytes());
+        writeln!(log.text, "\nusage: --{option} {usage}");
     }
 }

@@ -1,7 +1,6 @@
 //! Why a rest of a table isn't shown by its layout.
 
 use crate::out::Out;
-use std::io::Write;
 
 /// Why a rest of a table isn't shown by its layout.
 #[derive(Clone, Copy)]
@@ -54,7 +53,7 @@ impl Fault {
     }
 
     /// Prints it for an offset of the table.
-    pub(crate) fn print<W: Write>(self, offset: u64, out: &mut Out<W>) {
+    pub(crate) fn print(self, offset: u64, out: &mut Out) {
         let (words, number) = self.words();
         for letter in words.as_bytes() {
             match *letter {

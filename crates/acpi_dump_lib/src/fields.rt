@@ -1,16 +1,14 @@
 //! Fields, one a line: offset, name, value, meaning.
 
-use crate::fault::Fault;
 use crate::language;
 use crate::language::{Meaning, cut_at, next_word};
 use crate::out::Out;
 use crate::text::print_indent;
 use crate::walk::Field;
 use acpi::sdt::field;
-use std::io::Write;
 
 /// Prints bytes that no field covers, which begin at an offset of the table, 16 a line.
-pub(crate) fn print_bytes<W: Write>(offset: u64, bytes: &[u8], depth: usize, out: &mut Out<W>) {
+pub(crate) fn print_bytes(offset: u64, bytes: &[u8], depth: usize, out: &mut Out) {
     let mut offset = offset;
     for line in bytes.chunks(16) {
         print_indent(depth, out);
@@ -22,7 +20,7 @@ pub(crate) fn print_bytes<W: Write>(offset: u64, bytes: &[u8], depth: usize, out
 }
 
 /// Prints bytes as pairs of digits.
-pub(crate) fn print_hex<W: Write>(bytes: &[u8], out: &mut Out<W>) {
+pub(crate) fn print_hex(bytes: &[u8], out: &mut Out) {
     for byte in bytes {
         write!(out, "{byte:02x}");
     }
@@ -32,7 +30,7 @@ pub(crate) fn print_hex<W: Write>(bytes: &[u8], out: &mut Out<W>) {
 const VALUES: usize = 46;
 
 /// Prints one field, in a structure so deep in others.
-pub(crate) fn print_field<W: Write>(shown: &Field<'_>, depth: usize, out: &mut Out<W>) {
+pub(crate) fn print_field(shown: &Field<'_>, depth: usize, out: &mut Out) {
     print_indent(depth, out);
     write!(out, "{:04x}  {}", shown.offset, shown.name);
     let mut column = depth
@@ -54,7 +52,7 @@ pub(crate) fn print_field<W: Write>(shown: &Field<'_>, depth: usize, out: &mut O
 
 /// Prints a number of up to eight bytes as one, the highest digit first, and a text or more bytes
 /// in their order.
-pub(crate) fn print_value<W: Write>(value: &[u8], meaning: Meaning, out: &mut Out<W>) {
+pub(crate) fn print_value(value: &[u8], meaning: Meaning, out: &mut Out) {
     if value.len() > 8 || matches!(meaning, Meaning::Text | Meaning::Wide | Meaning::Row) {
         return print_hex(value, out);
     }
@@ -74,17 +72,21 @@ pub(crate) fn number_of(value: &[u8]) -> u64 {
 }
 
 /// Prints the meaning of a field's value, if it means more than itself.
-pub(crate) fn print_meaning<W: Write>(value: &[u8], meaning: Meaning, out: &mut Out<W>) {
+pub(crate) fn print_meaning(value: &[u8], meaning: Meaning, out: &mut Out) {
     match meaning {
         Meaning::Plain => {}
-        Meaning::Decimal => write!(out, "  {}", number_of(value)),
+        Meaning::Decimal(codes) => {
+            write!(out, "  {}", number_of(value));
+            print_code(number_of(value), codes, out)
+        }
+        Meaning::LessOne => write!(out, "  {}", number_of(value).saturating_add(1)),
         Meaning::Text => {
             out.text("  ");
             print_text(value, out)
         }
         Meaning::Wide => print_wide(value, out),
         Meaning::Row => print_row(value, out),
-        Meaning::Guid => print_guid(value, out),
+        Meaning::Guid(names) => print_guid(value, names, out),
         Meaning::Function => print_function(number_of(value), out),
         Meaning::Path => print_path(value, out),
         Meaning::Codes(codes) => print_code(number_of(value), codes, out),
@@ -94,7 +96,7 @@ pub(crate) fn print_meaning<W: Write>(value: &[u8], meaning: Meaning, out: &mut 
 }
 
 /// Prints bytes as characters, those that aren't printable ASCII as `.`.
-pub(crate) fn print_text<W: Write>(bytes: &[u8], out: &mut Out<W>) {
+pub(crate) fn print_text(bytes: &[u8], out: &mut Out) {
     for byte in bytes {
         let shown = if (0x20..0x7f).contains(byte) {
             *byte as char
@@ -106,10 +108,10 @@ pub(crate) fn print_text<W: Write>(bytes: &[u8], out: &mut Out<W>) {
 }
 
 /// Prints the meaning of a number that is a code.
-fn print_code<W: Write>(number: u64, codes: &'static str, out: &mut Out<W>) {
+fn print_code(number: u64, codes: &'static str, out: &mut Out) {
     for item in codes.split(['|', '\n']) {
         let (code, name) = next_word(item);
-        if language::number_of(code).ok() == Some(number) {
+        if language::number_of(code) == Some(number) {
             out.text("  ");
             return out.text(name.trim_ascii());
         }
@@ -141,21 +143,15 @@ struct Flag {
 
 impl Flag {
     /// The bits that a word says.
-    fn read(word: &'static str) -> Result<Flag, Fault> {
+    fn read(word: &str) -> Option<Flag> {
         let (bits, code) = cut_at(word, '/');
         let (highest, lowest) = cut_at(bits, ':');
         let last = language::number_of(highest)?;
-        let first = if lowest.is_empty() {
-            last
-        } else {
-            language::number_of(lowest)?
-        };
-        let code = if code.is_empty() {
-            None
-        } else {
-            Some(language::number_of(code)?)
-        };
-        Ok(Flag { first, last, code })
+        Some(Flag {
+            first: language::number_of(lowest).unwrap_or(last),
+            last,
+            code: language::number_of(code),
+        })
     }
 
     /// Whether it says something of a number: that the bits are its code, or aren't 0.
@@ -169,11 +165,11 @@ impl Flag {
 }
 
 /// Prints the parts of a number that aren't 0, and the meanings of those that are codes.
-fn print_flags<W: Write>(number: u64, flags: &'static str, out: &mut Out<W>) {
+fn print_flags(number: u64, flags: &'static str, out: &mut Out) {
     let mut is_first = true;
     for item in flags.split(['|', '\n']) {
         let (word, name) = next_word(item);
-        if let Ok(flag) = Flag::read(word)
+        if let Some(flag) = Flag::read(word)
             && flag.is_in(number)
         {
             out.text(if is_first { "  " } else { ", " });
@@ -187,7 +183,7 @@ fn print_flags<W: Write>(number: u64, flags: &'static str, out: &mut Out<W>) {
 }
 
 /// Prints a text in UTF-16 as characters, those that aren't printable ASCII as `.`, up to a zero.
-fn print_wide<W: Write>(value: &[u8], out: &mut Out<W>) {
+fn print_wide(value: &[u8], out: &mut Out) {
     out.text("  ");
     for unit in value.chunks(2) {
         let letter = match unit {
@@ -200,29 +196,46 @@ fn print_wide<W: Write>(value: &[u8], out: &mut Out<W>) {
 }
 
 /// Prints bytes as decimal numbers.
-fn print_row<W: Write>(value: &[u8], out: &mut Out<W>) {
+fn print_row(value: &[u8], out: &mut Out) {
     out.text(" ");
     for number in value {
         write!(out, " {number}");
     }
 }
 
-/// Prints a GUID, whose first three numbers have their lowest bytes first.
-fn print_guid<W: Write>(value: &[u8], out: &mut Out<W>) {
+/// Prints a GUID, whose first three numbers have their lowest bytes first, and its name if it is one of these.
+fn print_guid(value: &[u8], names: &'static str, out: &mut Out) {
     if value.len() != 16 {
         return;
     }
+    let start = out.length().saturating_add(2);
     let first = field(value, 0, 4);
     let second = field(value, 4, 2);
     let third = field(value, 6, 2);
     write!(out, "  {first:08x}-{second:04x}-{third:04x}-");
     print_hex(&value[8..10], out);
     out.text("-");
-    print_hex(&value[10..], out)
+    print_hex(&value[10..], out);
+    let name = name_in(names, out.since(start));
+    if !name.is_empty() {
+        out.text("  ");
+        out.text(name);
+    }
+}
+
+/// The name of the item that begins with a word, or no letters if none does.
+fn name_in(names: &'static str, wanted: &[u8]) -> &'static str {
+    for item in names.split('\n') {
+        let (word, name) = next_word(item);
+        if word.as_bytes() == wanted {
+            return name;
+        }
+    }
+    ""
 }
 
 /// Prints the numbers of a device and a function.
-fn print_path<W: Write>(value: &[u8], out: &mut Out<W>) {
+fn print_path(value: &[u8], out: &mut Out) {
     let [device, function] = value else {
         return;
     };
@@ -230,7 +243,7 @@ fn print_path<W: Write>(value: &[u8], out: &mut Out<W>) {
 }
 
 /// Prints a PCI function.
-fn print_function<W: Write>(number: u64, out: &mut Out<W>) {
+fn print_function(number: u64, out: &mut Out) {
     let bus = bits_of(number, 8, 15);
     let device = bits_of(number, 3, 7);
     let function = bits_of(number, 0, 2);
@@ -238,7 +251,7 @@ fn print_function<W: Write>(number: u64, out: &mut Out<W>) {
 }
 
 /// Prints the parts of a generic address, if it isn't all zeros.
-fn print_register<W: Write>(value: &[u8], out: &mut Out<W>) {
+fn print_register(value: &[u8], out: &mut Out) {
     let [space, width, offset, size, address @ ..] = value else {
         return;
     };
@@ -246,8 +259,33 @@ fn print_register<W: Write>(value: &[u8], out: &mut Out<W>) {
     if address == 0 && matches!(value, [0, 0, 0, 0, ..]) {
         return;
     }
+    write!(out, "  space {space}");
+    let name = space_name(*space);
+    if !name.is_empty() {
+        write!(out, " {name}");
+    }
     write!(
         out,
-        "  space {space} width {width} offset {offset} access {size} address 0x{address:x}"
+        " width {width} offset {offset} access {size} address 0x{address:x}"
     )
+}
+
+/// The name of an address space (table 5.1), or no letters if it has none.
+fn space_name(space: u8) -> &'static str {
+    match space {
+        0 => "(memory)",
+        1 => "(I/O)",
+        2 => "(PCI configuration)",
+        3 => "(embedded controller)",
+        4 => "(SMBus)",
+        5 => "(CMOS)",
+        6 => "(PCI BAR)",
+        7 => "(IPMI)",
+        8 => "(general-purpose I/O)",
+        9 => "(serial bus)",
+        10 => "(PCC)",
+        11 => "(PRM)",
+        0x7f => "(fixed hardware)",
+        _ => "",
+    }
 }

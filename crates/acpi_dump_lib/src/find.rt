@@ -5,10 +5,9 @@ use crate::input::candidates::Candidate;
 use crate::language::cut_at;
 use crate::out::Out;
 use json::Token;
-use std::io::Write;
 
 /// Prints a line for each RSDP: its address, what it points to, and what the checks say.
-pub(crate) fn print_candidates<W: Write>(found: &[Candidate], out: &mut Out<W>) {
+pub(crate) fn print_candidates(found: &[Candidate], out: &mut Out) {
     for candidate in found {
         write!(out, "RSDP at {:016x}", candidate.address);
         if let Some(fields) = candidate.fields {
@@ -54,7 +53,7 @@ pub(crate) fn add_candidates(document: &mut Document, found: &[Candidate]) {
 }
 
 /// Prints the lines of facts in two columns.
-pub(crate) fn print_facts<W: Write>(facts: &str, out: &mut Out<W>) {
+pub(crate) fn print_facts(facts: &str, out: &mut Out) {
     for fact in facts.lines() {
         let (name, text) = cut_at(fact, '\t');
         writeln!(out, "{name:<20} {text}");

@@ -4,10 +4,9 @@ use crate::out::Out;
 use acpi::address::GenericAddress;
 use acpi::fadt::Fadt;
 use acpi::{AcpiResult, PhysicalRecord};
-use std::io::Write;
 
 /// Prints the answers of the getters, if the table is as long as a FADT.
-pub(crate) fn print_getters<W: Write>(table: &[u8], out: &mut Out<W>) {
+pub(crate) fn print_getters(table: &[u8], out: &mut Out) {
     if table.len() < Fadt::MIN_LENGTH {
         return;
     }
@@ -38,7 +37,7 @@ fn blocks_of(fadt: &Fadt) -> [(&'static str, AcpiResult<Option<GenericAddress>>)
 }
 
 /// Prints an address, or its refusal.
-fn print_address<W: Write>(name: &str, address: AcpiResult<u64>, out: &mut Out<W>) {
+fn print_address(name: &str, address: AcpiResult<u64>, out: &mut Out) {
     match address {
         Ok(address) => writeln!(out, "  {name}: 0x{address:x}"),
         Err(refusal) => writeln!(out, "  {name}: {refusal}"),
@@ -46,7 +45,7 @@ fn print_address<W: Write>(name: &str, address: AcpiResult<u64>, out: &mut Out<W
 }
 
 /// Prints a block of registers, or its refusal.
-fn print_block<W: Write>(name: &str, block: AcpiResult<Option<GenericAddress>>, out: &mut Out<W>) {
+fn print_block(name: &str, block: AcpiResult<Option<GenericAddress>>, out: &mut Out) {
     write!(out, "  {name}: ");
     match block {
         Ok(Some(block)) => writeln!(

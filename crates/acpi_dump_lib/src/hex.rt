@@ -2,11 +2,10 @@
 
 use crate::fields::print_text;
 use crate::out::Out;
-use std::io::Write;
 
 /// Prints bytes in lines of 16: the offset, the bytes in hexadecimal, and their characters. Lines
 /// that are the same as the one before are one `*`. At last comes the number of bytes.
-pub(crate) fn print_dump<W: Write>(bytes: &[u8], out: &mut Out<W>) {
+pub(crate) fn print_dump(bytes: &[u8], out: &mut Out) {
     let mut before: &[u8] = &[];
     let mut starred = false;
     let mut offset: u64 = 0;
@@ -27,7 +26,7 @@ pub(crate) fn print_dump<W: Write>(bytes: &[u8], out: &mut Out<W>) {
 }
 
 /// Prints a line of up to 16 bytes.
-fn print_line<W: Write>(offset: u64, line: &[u8], out: &mut Out<W>) {
+fn print_line(offset: u64, line: &[u8], out: &mut Out) {
     write!(out, "{offset:08x}  ");
     for place in 0..16 {
         if place == 8 {

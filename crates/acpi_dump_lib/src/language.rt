@@ -3,7 +3,8 @@
 //! A text is blocks of lines. A block describes a structure: `= NAME KIND SIZE TITLE`, and then a line
 //! for each part, in the order of the offsets, which count from the beginning of the structure. KIND
 //! is `*`, or the type, or the first and the last type, that a structure of the name's list has: as
-//! `0x10` or `0x00-0x3f`. SIZE is the length where a type determines it, else `-`.
+//! `0x10` or `0x00-0x3f`. SIZE is the length where a type determines it, the least length where each
+//! structure tells its own, or `-`.
 //!
 //! - `OFFSET LENGTH MEANING NAME` is a field. With `|` there follow what its number means.
 //! - `OFFSET LENGTH[COUNT] MEANING NAME` are so many fields of one length, and `[*]` as many as fit.
@@ -11,7 +12,9 @@
 //!   bytes. HOW is `each LENGTH BLOCK` if the structure that they are in tells their length, `own
 //!   LENGTH BLOCK` if each tells its own, `typed PLACE LENGTH BLOCK` if each has a type, and `sized PLACE
 //!   BLOCK` if its type determines its length. The block of the kind `*` is what all begin with.
-//! - `if PLACE FIRST LAST BLOCK` are the lines of a block if the number is in the range.
+//! - `if PLACE FIRST-LAST BLOCK` are the lines of a block if the number is in the range, `if PLACE NUMBER
+//!   BLOCK` if it is that, `if PLACE &NUMBER BLOCK` if it has one of these bits, and `if PLACE !NUMBER BLOCK`
+//!   if it has none of them.
 //! - `with BLOCK` are the lines of a block.
 //! - `then BLOCK` are the lines of a block, by offsets from the end of what stands before.
 //!
@@ -20,10 +23,11 @@
 //! what stands before. LENGTH may be `*`, to the end of the structure, `z`, to the first zero and with it, or
 //! `<OFFSET`, to that offset.
 //!
-//! MEANING is `-` (the number itself), `dec` (also in decimal digits), `text`, `wide` (UTF-16),
-//! `row` (numbers of a byte), `guid`, `fn` (bus, device and function), `path` (device and function),
-//! `gas` (a generic address), `codes` (`| NUMBER MEANING` for each) or `flags`: `| BIT NAME`, `| HIGH:LOW
-//! NAME` for a number, `| HIGH:LOW/NUMBER MEANING` for a code. `| @BLOCK` takes them from a block.
+//! MEANING is `-` (the number itself), `dec` (also in decimal digits), `dec+1` (1 more in decimal digits),
+//! `text`, `wide` (UTF-16), `row` (numbers of a byte), `guid`, `fn` (bus, device and function), `path` (device
+//! and function), `gas` (a generic address), `codes` (`| NUMBER MEANING` for each) or `flags`: `| BIT NAME`,
+//! `| HIGH:LOW NAME` for a number, `| HIGH:LOW/NUMBER MEANING` for a code. `dec` and `guid` may have codes
+//! too. `| @BLOCK` takes them from a block.
 //!
 //! A word that isn't understood, and the name of a block that isn't there, is the fault `Unread`.
 //! `scripts/check_layouts` reads every layout, and so finds it before a table does.
@@ -36,16 +40,18 @@ use acpi::sdt::field;
 pub(crate) enum Meaning {
     /// The number itself.
     Plain,
-    /// The number itself, which is easier read in decimal digits.
-    Decimal,
+    /// The number itself, which is easier read in decimal digits, and may be one of these codes.
+    Decimal(&'static str),
+    /// The number of what is counted, less 1.
+    LessOne,
     /// The bytes are a text.
     Text,
     /// The bytes are a text in UTF-16.
     Wide,
     /// The bytes are numbers of a byte each, which are easier read in decimal digits.
     Row,
-    /// The bytes are a GUID (section 19.6.142).
-    Guid,
+    /// The bytes are a GUID (section 19.6.142), which may be one of these.
+    Guid(&'static str),
     /// The number is a PCI function: the bus in bits 15:8, the device in bits 7:3, the function in bits 2:0.
     Function,
     /// The bytes are the numbers of a device and a function.
@@ -71,11 +77,14 @@ pub(crate) struct Block {
 /// How many blocks a text has at most.
 const MOST: usize = 40;
 
-/// A number that a sum gives, and the offset after the last place that it reads.
+/// A number that a sum gives.
 #[derive(Clone, Copy)]
 pub(crate) struct Sum {
     pub(crate) number: u64,
+    /// The offset after the last place that it reads.
     pub(crate) end: usize,
+    /// The first word of it that isn't understood.
+    pub(crate) unread: Option<&'static str>,
 }
 
 /// What stands before the first separator of a text, and after it.
@@ -89,12 +98,11 @@ pub(crate) fn next_word(line: &str) -> (&str, &str) {
 }
 
 /// The number that a word is, in decimal digits or after `0x` in hexadecimal ones.
-pub(crate) fn number_of(word: &'static str) -> Result<u64, Fault> {
-    let number = match word.strip_prefix("0x") {
-        Some(digits) => u64::from_str_radix(digits, 16),
-        None => word.parse::<u64>(),
-    };
-    number.or(Err(Fault::Unread(word)))
+pub(crate) fn number_of(word: &str) -> Option<u64> {
+    match word.strip_prefix("0x") {
+        Some(digits) => u64::from_str_radix(digits, 16).ok(),
+        None => word.parse::<u64>().ok(),
+    }
 }
 
 /// Whether a word is a number by itself.
@@ -112,44 +120,97 @@ fn number_at(bytes: &[u8], offset: usize, length: usize) -> u64 {
 }
 
 /// The number of a factor: a number, or the number at a place of bytes.
-fn factor_of(word: &'static str, bytes: &[u8]) -> Result<Sum, Fault> {
+fn factor_of(word: &'static str, bytes: &[u8]) -> Sum {
     let (offset, length) = cut_at(word, ':');
-    let number = number_of(offset)?;
-    if length.is_empty() {
-        return Ok(Sum { number, end: 0 });
+    match (number_of(offset), number_of(length)) {
+        (Some(number), None) if length.is_empty() => Sum::of(number),
+        (Some(offset), Some(length)) => {
+            let (offset, length) = (offset as usize, length as usize);
+            Sum {
+                number: number_at(bytes, offset, length),
+                end: offset.saturating_add(length),
+                unread: None,
+            }
+        }
+        _ => Sum {
+            unread: Some(word),
+            ..Sum::of(0)
+        },
     }
-    let (offset, length) = (number as usize, number_of(length)? as usize);
-    let number = number_at(bytes, offset, length);
-    let end = offset.saturating_add(length);
-    Ok(Sum { number, end })
 }
 
 /// The product of the factors of a term.
-fn product_of(term: &'static str, bytes: &[u8]) -> Result<Sum, Fault> {
-    let (mut number, mut end) = (1u64, 0usize);
+fn product_of(term: &'static str, bytes: &[u8]) -> Sum {
+    let mut product = Sum::of(1);
     for word in term.split('*') {
-        let factor = factor_of(word, bytes)?;
-        number = number.saturating_mul(factor.number);
-        end = end.max(factor.end);
+        let factor = factor_of(word, bytes);
+        product = product.beside(factor, product.number.saturating_mul(factor.number));
     }
-    Ok(Sum { number, end })
+    product
 }
 
 /// The number that a sum gives over the bytes of a structure.
-pub(crate) fn sum_of(word: &'static str, bytes: &[u8]) -> Result<Sum, Fault> {
-    let (mut number, mut end) = (0u64, 0usize);
+pub(crate) fn sum_of(word: &'static str, bytes: &[u8]) -> Sum {
+    let mut sum = Sum::of(0);
     for added in word.split('+') {
         let (term, taken) = cut_at(added, '-');
-        let term = product_of(term, bytes)?;
-        number = number.saturating_add(term.number);
-        end = end.max(term.end);
+        let term = product_of(term, bytes);
+        sum = sum.beside(term, sum.number.saturating_add(term.number));
         if !taken.is_empty() {
-            let taken = product_of(taken, bytes)?;
-            number = number.saturating_sub(taken.number);
-            end = end.max(taken.end);
+            let taken = product_of(taken, bytes);
+            sum = sum.beside(taken, sum.number.saturating_sub(taken.number));
         }
     }
-    Ok(Sum { number, end })
+    sum
+}
+
+/// Whether a number is one that a word says, or lies between the two that it says.
+fn is_within(number: u64, word: &str) -> bool {
+    let (first, last) = cut_at(word, '-');
+    let last = if last.is_empty() { first } else { last };
+    match (number_of(first), number_of(last)) {
+        (Some(first), Some(last)) => first <= number && number <= last,
+        _ => false,
+    }
+}
+
+/// Whether a number is as a word of `if` says.
+pub(crate) fn is_chosen(number: u64, word: &str) -> bool {
+    match (word.strip_prefix('&'), word.strip_prefix('!')) {
+        (Some(mask), _) => number & number_of(mask).unwrap_or(0) != 0,
+        (_, Some(mask)) => number & number_of(mask).unwrap_or(0) == 0,
+        _ => is_within(number, word),
+    }
+}
+
+impl Sum {
+    /// A number that no bytes give.
+    pub(crate) fn of(number: u64) -> Sum {
+        Sum {
+            number,
+            end: 0,
+            unread: None,
+        }
+    }
+
+    /// A number that this sum and another one give together.
+    pub(crate) fn beside(self, other: Sum, number: u64) -> Sum {
+        Sum {
+            number,
+            end: self.end.max(other.end),
+            unread: self.unread.or(other.unread),
+        }
+    }
+
+    /// The number as an offset or a length.
+    ///
+    /// Fails if a word of it isn't understood.
+    pub(crate) fn size(self) -> Result<usize, Fault> {
+        match self.unread {
+            None => Ok(self.number as usize),
+            Some(word) => Err(Fault::Unread(word)),
+        }
+    }
 }
 
 impl Block {
@@ -179,16 +240,11 @@ impl Block {
     }
 
     /// Whether it is for structures of a type, or for what all of them begin with.
-    fn is_of_kind(&self, kind: Option<u64>) -> Result<bool, Fault> {
-        let Some(kind) = kind else {
-            return Ok(self.kinds == "*");
-        };
-        if self.kinds == "*" {
-            return Ok(false);
+    fn is_of_kind(&self, kind: Option<u64>) -> bool {
+        match kind {
+            None => self.kinds == "*",
+            Some(kind) => is_within(kind, self.kinds),
         }
-        let (first, last) = cut_at(self.kinds, '-');
-        let last = if last.is_empty() { first } else { last };
-        Ok(number_of(first)? <= kind && kind <= number_of(last)?)
     }
 }
 
@@ -213,40 +269,33 @@ impl Blocks {
     }
 
     /// The block with a name, for structures of a type, or for what all of them begin with.
-    pub(crate) fn find(&self, name: &str, kind: Option<u64>) -> Result<Option<Block>, Fault> {
+    pub(crate) fn find(&self, name: &str, kind: Option<u64>) -> Option<Block> {
         for block in &self.list {
-            if block.name == name && block.is_of_kind(kind)? {
-                return Ok(Some(*block));
+            if block.name == name && block.is_of_kind(kind) {
+                return Some(*block);
             }
         }
-        Ok(None)
+        None
+    }
+
+    /// The block that the first word names for structures of a type: `NONE` if there is none.
+    pub(crate) fn typed(&self, rest: &'static str, kind: u64) -> Block {
+        let (name, _) = next_word(rest);
+        self.find(name, Some(kind)).unwrap_or(Block::NONE)
     }
 
     /// The block that the first word names.
     pub(crate) fn named(&self, rest: &'static str) -> Result<Block, Fault> {
         let (name, _) = next_word(rest);
-        self.find(name, None)?.ok_or(Fault::Unread(name))
+        self.find(name, None).ok_or(Fault::Unread(name))
     }
 
     /// The meaning of a field, and its name, by what a line says after the length.
     pub(crate) fn field(&self, rest: &'static str) -> Result<(Meaning, &'static str), Fault> {
         let (word, rest) = next_word(rest);
         let (name, items) = cut_at(rest, '|');
-        let meaning = match word {
-            "-" => Meaning::Plain,
-            "dec" => Meaning::Decimal,
-            "text" => Meaning::Text,
-            "wide" => Meaning::Wide,
-            "row" => Meaning::Row,
-            "guid" => Meaning::Guid,
-            "fn" => Meaning::Function,
-            "path" => Meaning::Path,
-            "gas" => Meaning::Register,
-            "codes" => Meaning::Codes(self.items(items)?),
-            "flags" => Meaning::Flags(self.items(items)?),
-            _ => return Err(Fault::Unread(word)),
-        };
-        Ok((meaning, name.trim_ascii()))
+        let meaning = Meaning::read(word, self.items(items)?);
+        Ok((meaning.ok_or(Fault::Unread(word))?, name.trim_ascii()))
     }
 
     /// The codes or flags that a line gives, or those of the block that it names.
@@ -254,6 +303,27 @@ impl Blocks {
         match items.trim_ascii().strip_prefix('@') {
             Some(name) => Ok(self.named(name)?.lines),
             None => Ok(items),
+        }
+    }
+}
+
+impl Meaning {
+    /// The meaning that a word names, with these codes or flags.
+    fn read(word: &str, items: &'static str) -> Option<Meaning> {
+        match word {
+            "-" => Some(Meaning::Plain),
+            "dec" => Some(Meaning::Decimal(items)),
+            "dec+1" => Some(Meaning::LessOne),
+            "text" => Some(Meaning::Text),
+            "wide" => Some(Meaning::Wide),
+            "row" => Some(Meaning::Row),
+            "guid" => Some(Meaning::Guid(items)),
+            "fn" => Some(Meaning::Function),
+            "path" => Some(Meaning::Path),
+            "gas" => Some(Meaning::Register),
+            "codes" => Some(Meaning::Codes(items)),
+            "flags" => Some(Meaning::Flags(items)),
+            _ => None,
         }
     }
 }

@@ -44,7 +44,7 @@ pub(crate) fn layout_of(signature: Signature) -> (Blocks, &'static str) {
     let name = signature.as_str().unwrap_or("");
     for text in &TEXTS {
         let blocks = Blocks::read(*text);
-        if let Ok(Some(block)) = blocks.find(name, None) {
+        if let Some(block) = blocks.find(name, None) {
             return (blocks, block.lines);
         }
     }

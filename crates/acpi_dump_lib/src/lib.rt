@@ -13,6 +13,7 @@ mod errors;
 mod fault;
 mod fields;
 mod find;
+mod flaws;
 mod getters;
 mod hex;
 mod input;

@@ -6,7 +6,6 @@ use crate::out::Out;
 use crate::paint::Paint;
 use acpi::PhysicalRecord;
 use acpi::sdt::{SdtHeader, Signature};
-use std::io::Write;
 
 /// The name of a file without the folders before it.
 fn last_part(path: &str) -> &str {
@@ -16,27 +15,40 @@ fn last_part(path: &str) -> &str {
     }
 }
 
-/// The headings of the columns.
-fn headings(entries: &[Entry<'_>]) -> &'static str {
+/// How wide the column of places is: as an address, or as the longest name of a file.
+fn width_of(entries: &[Entry<'_>]) -> usize {
+    let mut width = 16usize;
     for entry in entries {
-        if matches!(entry.place, Place::File(_)) {
-            return "SIG  FILE             LENGTH   REV OEM ID TABLE ID OEM REV  CRTR CRTR REV STATUS";
+        if let Place::File(path) = entry.place {
+            width = width.max(last_part(path).len());
         }
     }
-    "SIG  ADDRESS          LENGTH   REV OEM ID TABLE ID OEM REV  CRTR CRTR REV STATUS"
+    width
+}
+
+/// The heading of the column of places.
+fn place_heading(entries: &[Entry<'_>]) -> &'static str {
+    for entry in entries {
+        if matches!(entry.place, Place::File(_)) {
+            return "FILE";
+        }
+    }
+    "ADDRESS"
 }
 
 /// Prints the headings, then a line for each table.
-pub(crate) fn print_lines<W: Write>(entries: &[Entry<'_>], paint: Paint, out: &mut Out<W>) {
-    paint.heading(headings(entries), out);
+pub(crate) fn print_lines(entries: &[Entry<'_>], paint: Paint, out: &mut Out) {
+    let (place, width) = (place_heading(entries), width_of(entries));
+    let columns = "LENGTH   REV OEM ID TABLE ID OEM REV  CRTR CRTR REV STATUS";
+    paint.heading(&format_args!("SIG  {place:<width$} {columns}"), out);
     out.text("\n");
     for entry in entries {
-        print_line(entry, paint, out);
+        print_line(entry, width, paint, out);
     }
 }
 
 /// Prints the line of a table.
-fn print_line<W: Write>(entry: &Entry<'_>, paint: Paint, out: &mut Out<W>) {
+fn print_line(entry: &Entry<'_>, width: usize, paint: Paint, out: &mut Out) {
     let is_headless = entry.sought == Some(Signature::FACS)
         || entry.bytes.starts_with(b"FACS")
         || entry.bytes.starts_with(b"RSD PTR ");
@@ -49,7 +61,7 @@ fn print_line<W: Write>(entry: &Entry<'_>, paint: Paint, out: &mut Out<W>) {
         Some(header) => print_text(&header.signature.to_bytes(), out),
         None => out.text("-   "),
     }
-    print_place(entry.place, out);
+    print_place(entry.place, width, out);
     match &header {
         Some(header) if is_headless => print_headless(header, entry, out),
         Some(header) => print_columns(header, out),
@@ -61,19 +73,22 @@ fn print_line<W: Write>(entry: &Entry<'_>, paint: Paint, out: &mut Out<W>) {
 }
 
 /// Prints where a table lies.
-fn print_place<W: Write>(place: Place<'_>, out: &mut Out<W>) {
+fn print_place(place: Place<'_>, width: usize, out: &mut Out) {
+    out.text(" ");
+    let start = out.length();
     match place {
-        Place::Address(address) => write!(out, " {address:016x} "),
-        Place::File(path) => {
-            let name = last_part(path);
-            write!(out, " {name:<16} ")
-        }
-        Place::Nowhere => out.text(" -                "),
+        Place::Address(address) => write!(out, "{address:016x}"),
+        Place::File(path) => out.escaped(last_part(path).as_bytes()),
+        Place::Nowhere => out.text("-"),
     }
+    for _ in out.length().saturating_sub(start)..width {
+        out.text(" ");
+    }
+    out.text(" ")
 }
 
 /// Prints the columns of a FACS or an RSDP, which have no header: the length alone.
-fn print_headless<W: Write>(header: &SdtHeader, entry: &Entry<'_>, out: &mut Out<W>) {
+fn print_headless(header: &SdtHeader, entry: &Entry<'_>, out: &mut Out) {
     let length = if entry.bytes.starts_with(b"RSD PTR ") {
         entry.bytes.len() as u64
     } else {
@@ -86,7 +101,7 @@ fn print_headless<W: Write>(header: &SdtHeader, entry: &Entry<'_>, out: &mut Out
 }
 
 /// Prints the columns of a header.
-fn print_columns<W: Write>(header: &SdtHeader, out: &mut Out<W>) {
+fn print_columns(header: &SdtHeader, out: &mut Out) {
     write!(out, "{:08x} {:02x}  ", header.length, header.revision);
     print_text(&header.oem_id, out);
     out.text(" ");

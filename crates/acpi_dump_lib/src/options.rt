@@ -14,8 +14,11 @@ hex SIG.. The bytes of the tables of a signature, or of all
 summary - The machine in short
 find - Every RSDP in memory, valid or not
 compare - What differs between two inputs
+exit-code - Status 1 if two inputs differ
+ignore FIELD.. Fields that are left out of what differs
 json - One JSON document of what is shown
 strict - Status 3 if a table is invalid
+max-bytes NUMBER How many bytes an input has at most: 1073741824 if it isn't said
 color WHEN auto, always or never";
 
 /// The option that a line describes.

@@ -1,47 +1,32 @@
-//! What is printed, piece by piece, without asking after each piece whether it was taken.
+//! What is printed, piece by piece, without asking after each piece whether memory sufficed for it.
 
+use std::alloc::{AllocError, Global};
 use std::fmt::Display;
 use std::io;
 use std::io::Write;
 
-/// A writer that gets nothing more after the first write that it refused.
+/// A text that gets nothing more after memory for a piece was refused.
 #[derive(Drop)]
-pub(crate) struct Out<W> {
-    writer: W,
-    /// The refusal of the first write that was refused.
-    refused: Option<io::Error>,
+pub(crate) struct Out {
+    bytes: Vec<u8>,
+    is_refused: bool,
+    alloc: Global,
 }
 
-impl<W: Write + Drop> Out<W> {
-    /// A writer that has refused nothing yet.
-    pub(crate) fn new(writer: W) -> Out<W> {
+impl Out {
+    /// No text.
+    pub(crate) fn new(alloc: Global) -> Out {
         Out {
-            writer,
-            refused: None,
+            bytes: Vec::new(alloc),
+            is_refused: false,
+            alloc,
         }
     }
 
-    /// Flushes the writer, also if it refused a write.
-    ///
-    /// Fails with the error of the first write or of the flush.
-    pub(crate) fn ended(self) -> io::Result<()> {
-        let Out {
-            mut writer,
-            refused,
-        } = self;
-        let flushed = writer.flush();
-        match refused {
-            Some(refusal) => Err(refusal),
-            None => flushed,
-        }
-    }
-}
-
-impl<W: Write> Out<W> {
     /// Prints a piece: what `write!` and `writeln!` call.
     pub(crate) fn write_fmt<D: Display + Drop>(&mut self, piece: D) {
-        if self.refused.is_none() {
-            self.refused = self.writer.write_fmt(piece).err();
+        if !self.is_refused {
+            self.is_refused = self.bytes.write_fmt(piece).is_err();
         }
     }
 
@@ -52,23 +37,58 @@ impl<W: Write> Out<W> {
 
     /// Prints bytes as they are.
     pub(crate) fn bytes(&mut self, bytes: &[u8]) {
-        if self.refused.is_none() {
-            self.refused = self.writer.write_all(bytes).err();
+        if !self.is_refused {
+            self.is_refused = self.bytes.extend_from_slice(bytes).is_err();
         }
     }
-}
 
-impl Out<Vec<u8>> {
+    /// Prints bytes, each one that isn't printable ASCII as `\x1b`.
+    pub(crate) fn escaped(&mut self, bytes: &[u8]) {
+        for byte in bytes {
+            if (0x20..0x7f).contains(byte) {
+                self.bytes(&[*byte]);
+            } else {
+                write!(self, "\\x{byte:02x}");
+            }
+        }
+    }
+
+    /// Prints what a value is, each byte that isn't printable ASCII as `\x1b`.
+    pub(crate) fn value<D: Display>(&mut self, value: &D) {
+        let mut text = Out::new(self.alloc);
+        write!(text, "{value}");
+        self.is_refused |= text.is_refused;
+        self.escaped(&text.bytes);
+    }
+
     /// How many bytes were printed.
     pub(crate) fn length(&self) -> usize {
-        self.writer.len()
+        self.bytes.len()
+    }
+
+    /// What was printed after so many bytes.
+    pub(crate) fn since(&self, start: usize) -> &[u8] {
+        self.bytes.get(start..).unwrap_or(&[])
     }
 
     /// What was printed, if memory sufficed for it.
     pub(crate) fn printed(&self) -> Option<&str> {
-        if self.refused.is_some() {
+        if self.is_refused {
             return None;
         }
-        str::from_utf8(&self.writer).ok()
+        str::from_utf8(&self.bytes).ok()
+    }
+
+    /// Writes what was printed, and flushes the writer, also if it refused that.
+    ///
+    /// Fails with the error of the write, or else of the flush, or if memory for a piece was refused.
+    pub(crate) fn write_to<W: Write + Drop>(&self, mut writer: W) -> io::Result<()> {
+        let written = writer.write_all(&self.bytes);
+        let flushed = writer.flush();
+        written.and(flushed)?;
+        if self.is_refused {
+            return Err(io::Error::from(AllocError));
+        }
+        Ok(())
     }
 }

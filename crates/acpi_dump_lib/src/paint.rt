@@ -2,7 +2,7 @@
 
 use crate::out::Out;
 use crate::status::Status;
-use std::io::Write;
+use std::fmt::Display;
 
 /// Whether colors are printed.
 #[derive(Clone, Copy)]
@@ -20,23 +20,23 @@ const PLAIN: &str = "\x1b[0m";
 
 impl Paint {
     /// Prints what switches a color on or off.
-    fn switch<W: Write>(self, color: &str, out: &mut Out<W>) {
+    fn switch(self, color: &str, out: &mut Out) {
         if self.is_on {
             out.text(color);
         }
     }
 
     /// Prints a heading, without a line's end.
-    pub(crate) fn heading<W: Write>(self, text: &str, out: &mut Out<W>) {
+    pub(crate) fn heading<D: Display>(self, text: &D, out: &mut Out) {
         self.switch(BOLD, out);
-        out.text(text);
+        write!(out, "{text}");
         self.switch(PLAIN, out);
     }
 
     /// Prints what the checks of a table say.
-    pub(crate) fn status<W: Write>(self, status: Status, out: &mut Out<W>) {
+    pub(crate) fn status(self, status: Status, out: &mut Out) {
         self.switch(if status.is_invalid() { RED } else { GREEN }, out);
-        write!(out, "{status}");
+        out.value(&status);
         self.switch(PLAIN, out);
     }
 }

@@ -1,25 +1,22 @@
 //! The program over any files and any writers.
 
 use crate::arguments::{Color, Mistake, Request, View, WrongWord, request_of};
-use crate::errors::tell_word;
+use crate::errors::{Log, Stop, tell, tell_word};
 use crate::input::gather::{Input, gather};
 use crate::input::read::Reading;
 use crate::options::command;
 use crate::out::Out;
 use crate::paint::Paint;
-use crate::sources::Sources;
+use crate::sources::{Sources, reason_of};
 use crate::views::{Output, print_compared, print_input};
 use clap::ArgMatches;
 use std::alloc::{AllocError, Global};
 use std::io;
-use std::io::{BufWriter, Write};
-
-/// How many bytes of an output are gathered before they are written.
-const BUFFERED: usize = 32768;
+use std::io::{ErrorKind, Write};
 
 /// Runs the program on the arguments after its name, and answers the status: 0 if all is shown, 1 if something that
-/// is asked for isn't there or can't be read, 2 if the arguments are not a command, and 3 if all is shown but a
-/// table is invalid and `--strict` is given.
+/// is asked for isn't there or can't be read, or if two inputs differ and `--exit-code` is given, 2 if the arguments
+/// are not a command, and 3 if all is shown but a table is invalid and `--strict` is given.
 ///
 /// Fails if memory runs out, or with the error of the first write or flush of `out`, or else of `err`, that is
 /// refused.
@@ -30,58 +27,64 @@ pub fn dump<S: Sources, W: Write + Drop, E: Write + Drop>(
     out: W,
     err: E,
 ) -> io::Result<u8> {
-    let mut out = Out::new(BufWriter::with_capacity(alloc, BUFFERED, out)?);
-    let mut err = Out::new(BufWriter::with_capacity(alloc, BUFFERED, err)?);
-    let status = print_asked(alloc, arguments, sources, &mut out, &mut err);
-    let shown = out.ended();
-    let told = err.ended();
-    match status {
-        Ok(status) => {
-            shown.and(told)?;
-            Ok(status)
-        }
-        Err(refusal) => Err(io::Error::from(refusal)),
+    let (mut shown, mut log) = (Out::new(alloc), Log::new(alloc));
+    let status = print_asked(alloc, arguments, sources, &mut shown, &mut log);
+    let shown = shown.write_to(out);
+    if let Err(refusal) = &shown {
+        tell(&mut log, "standard output", &reason_of(refusal));
     }
+    let told = log.text.write_to(err);
+    let status = match status {
+        Ok(0 | 3) if log.is_incomplete => 1,
+        Ok(status) => status,
+        Err(Stop::Told) => 1,
+        Err(Stop::OutOfMemory) => return Err(io::Error::from(AllocError)),
+    };
+    shown.and(told)?;
+    Ok(status)
 }
 
 /// Prints what the arguments ask for.
-fn print_asked<S: Sources, W: Write, E: Write>(
+fn print_asked<S: Sources>(
     alloc: Global,
     arguments: &[&str],
     sources: &mut S,
-    out: &mut Out<W>,
-    err: &mut Out<E>,
-) -> Result<u8, AllocError> {
+    out: &mut Out,
+    log: &mut Log,
+) -> Result<u8, Stop> {
     let parsed = command(alloc)?.try_get_matches_from(arguments);
     let request = match &parsed {
         Ok(matches) => &request_of(alloc, matches),
-        Err(refusal) => return print_refusal(alloc, refusal, out, err),
+        Err(refusal) => return print_refusal(alloc, refusal, out, log),
     };
     match request.mistake {
-        None => print_inputs(alloc, request, sources, out, err),
+        None => print_inputs(alloc, request, sources, out, log),
         Some(Mistake::Word(wrong)) => {
-            tell_word(err, wrong);
+            tell_word(log, wrong);
             Ok(2)
         }
-        Some(Mistake::OutOfMemory) => Err(AllocError),
+        Some(Mistake::OutOfMemory) => Err(Stop::OutOfMemory),
     }
 }
 
 /// Prints why words are no command, or the help or the version that they ask for.
-fn print_refusal<W: Write, E: Write>(
+fn print_refusal(
     alloc: Global,
     refusal: &clap::Error,
-    out: &mut Out<W>,
-    err: &mut Out<E>,
-) -> Result<u8, AllocError> {
+    out: &mut Out,
+    log: &mut Log,
+) -> Result<u8, Stop> {
     if refusal.kind() == clap::error::ErrorKind::OutOfMemory {
-        return Err(AllocError);
+        return Err(Stop::OutOfMemory);
     }
     let text = format!(in alloc; "{refusal}")?;
     let text = text.as_str();
     if refusal.use_stderr() {
-        err.text("acpi_dump: ");
-        err.text(text.strip_prefix("error: ").unwrap_or(text));
+        log.text.text("acpi_dump: ");
+        for line in text.strip_prefix("error: ").unwrap_or(text).lines() {
+            log.text.escaped(line.as_bytes());
+            log.text.text("\n");
+        }
         return Ok(2);
     }
     out.text(text);
@@ -89,13 +92,13 @@ fn print_refusal<W: Write, E: Write>(
 }
 
 /// Prints what is asked for of the inputs.
-fn print_inputs<S: Sources, W: Write, E: Write>(
+fn print_inputs<S: Sources>(
     alloc: Global,
     request: &Request<'_>,
     sources: &mut S,
-    out: &mut Out<W>,
-    err: &mut Out<E>,
-) -> Result<u8, AllocError> {
+    out: &mut Out,
+    log: &mut Log,
+) -> Result<u8, Stop> {
     let is_on = match request.color {
         Color::Auto => sources.takes_color(),
         Color::Always => true,
@@ -107,49 +110,56 @@ fn print_inputs<S: Sources, W: Write, E: Write>(
         paint: Paint { is_on },
     };
     if matches!(request.view, View::Differences) {
-        return print_two(output, sources, out, err);
+        return print_two(output, sources, out, log);
     }
-    match &gather_named(output, &request.inputs, sources, err)? {
-        Some(input) => print_input(output, input, out, err),
-        None => Ok(1),
-    }
+    let input = &gather_named(output, &request.inputs, sources, log)?;
+    print_input(output, input, out, log)
 }
 
 /// Prints what differs between the two inputs that are named.
-fn print_two<S: Sources, W: Write, E: Write>(
+fn print_two<S: Sources>(
     output: Output<'_, '_>,
     sources: &mut S,
-    out: &mut Out<W>,
-    err: &mut Out<E>,
-) -> Result<u8, AllocError> {
+    out: &mut Out,
+    log: &mut Log,
+) -> Result<u8, Stop> {
     let [old, new] = output.request.inputs.as_slice() else {
         let wrong = WrongWord {
             option: "compare",
             word: "it takes two inputs",
             usage: "A B",
         };
-        tell_word(err, wrong);
+        tell_word(log, wrong);
         return Ok(2);
     };
-    let Some(first) = &gather_named(output, &[*old], sources, err)? else {
-        return Ok(1);
-    };
-    match &gather_named(output, &[*new], sources, err)? {
-        Some(second) => print_compared(output, first, second, out, err),
-        None => Ok(1),
-    }
+    let first = &gather_named(output, &[*old], sources, log)?;
+    let second = &gather_named(output, &[*new], sources, log)?;
+    print_compared(output, first, second, out, log)
 }
 
 /// The input that words name, read as it is asked for.
-fn gather_named<S: Sources, E: Write>(
+fn gather_named<S: Sources>(
     output: Output<'_, '_>,
     names: &[&str],
     sources: &mut S,
-    err: &mut Out<E>,
-) -> Result<Option<Input>, AllocError> {
+    log: &mut Log,
+) -> Result<Input, Stop> {
     let reading = Reading {
         kind: output.request.kind,
         at: output.request.at,
+        most: output.request.most,
     };
-    gather(output.alloc, names, reading, sources, err)
+    gather(output.alloc, names, reading, sources, log)
+}
+
+/// Says that the process's arguments can't be had, as when one is no UTF-8, and answers the status.
+///
+/// Fails if the writer refuses that.
+pub fn refuse_arguments<E: Write + Drop>(refusal: &io::Error, mut err: E) -> io::Result<u8> {
+    let why = match refusal.kind() {
+        ErrorKind::OutOfMemory => "out of memory",
+        _ => "an argument is not UTF-8",
+    };
+    writeln!(err, "acpi_dump: {why}")?;
+    Ok(2)
 }

@@ -1,32 +1,51 @@
 //! What the program reads: folders, files and standard input, and whether its output is a terminal.
 
 use std::alloc::{AllocError, Global};
+use std::fs::File;
 use std::io::{ErrorKind, IsTerminal, Read};
 use std::{env, fs, io};
 
+/// What a name leads to.
+#[derive(Clone, Copy, PartialEq, Eq)]
+pub enum Kind {
+    Folder,
+    File,
+    /// A pipe, a device or the like, whose bytes may have no end.
+    Other,
+}
+
+/// What lies in a folder.
+#[derive(Drop)]
+pub struct Listing {
+    /// The names, in no order.
+    pub names: Vec<String>,
+    /// How many names there are besides that are no UTF-8.
+    pub unnamed: usize,
+}
+
 /// Files and folders, as the program or a test reaches them.
 pub trait Sources {
-    /// Whether a name leads to a folder.
+    /// What a name leads to.
     ///
     /// Fails if the system doesn't say what it leads to.
-    fn is_folder(&mut self, name: &str) -> io::Result<bool>;
+    fn kind_of(&mut self, name: &str) -> io::Result<Kind>;
 
-    /// The names of what lies in a folder, in no order.
+    /// The names of what lies in a folder.
     ///
     /// Fails if the system refuses the folder, or memory runs out.
-    fn names_in(&mut self, alloc: Global, folder: &str) -> io::Result<Vec<String>>;
+    fn names_in(&mut self, alloc: Global, folder: &str) -> io::Result<Listing>;
 
     /// The bytes of a file.
     ///
-    /// Fails if the system refuses the file, or memory runs out.
-    fn read(&mut self, name: &str) -> io::Result<Vec<u8>>;
+    /// Fails if the system refuses the file, if it has more than so many bytes (`FileTooLarge`), or if memory runs out.
+    fn read(&mut self, alloc: Global, name: &str, most: u64) -> io::Result<Vec<u8>>;
 
     /// All bytes of standard input.
     ///
-    /// Fails if the system refuses them, or memory runs out.
-    fn read_standard_input(&mut self, alloc: Global) -> io::Result<Vec<u8>>;
+    /// Fails if the system refuses them, if they are more than so many (`FileTooLarge`), or if memory runs out.
+    fn read_standard_input(&mut self, alloc: Global, most: u64) -> io::Result<Vec<u8>>;
 
-    /// Whether standard output is a terminal whose user hasn't set `NO_COLOR`.
+    /// Whether standard output is a terminal that has colors, whose user hasn't set `NO_COLOR`.
     fn takes_color(&mut self) -> bool;
 }
 
@@ -44,27 +63,38 @@ impl<'r> HostSources<'r> {
 }
 
 impl Sources for HostSources<'_> {
-    fn is_folder(&mut self, name: &str) -> io::Result<bool> {
-        Ok(fs::metadata(self.rt, name)?.is_dir())
+    fn kind_of(&mut self, name: &str) -> io::Result<Kind> {
+        let found = fs::metadata(self.rt, name)?;
+        Ok(if found.is_dir() {
+            Kind::Folder
+        } else if found.is_file() {
+            Kind::File
+        } else {
+            Kind::Other
+        })
     }
 
-    fn names_in(&mut self, alloc: Global, folder: &str) -> io::Result<Vec<String>> {
+    fn names_in(&mut self, alloc: Global, folder: &str) -> io::Result<Listing> {
         let mut names = Vec::new(alloc);
+        let mut unnamed = 0usize;
         for entry in fs::read_dir(self.rt, folder)? {
-            push_name(alloc, &mut names, entry?.file_name())?;
+            match entry {
+                Ok(entry) => push_name(alloc, &mut names, entry.file_name())?,
+                Err(refusal) if refusal.kind() == ErrorKind::InvalidFilename => {
+                    unnamed = unnamed.saturating_add(1);
+                }
+                Err(refusal) => return Err(refusal),
+            }
         }
-        Ok(names)
+        Ok(Listing { names, unnamed })
     }
 
-    fn read(&mut self, name: &str) -> io::Result<Vec<u8>> {
-        fs::read(self.rt, name)
+    fn read(&mut self, alloc: Global, name: &str, most: u64) -> io::Result<Vec<u8>> {
+        read_at_most(alloc, File::open(self.rt, name)?, most)
     }
 
-    fn read_standard_input(&mut self, alloc: Global) -> io::Result<Vec<u8>> {
-        let mut bytes = Vec::new(alloc);
-        let mut reader = self.rt.reader();
-        reader.read_to_end(&mut bytes)?;
-        Ok(bytes)
+    fn read_standard_input(&mut self, alloc: Global, most: u64) -> io::Result<Vec<u8>> {
+        read_at_most(alloc, self.rt.reader(), most)
     }
 
     fn takes_color(&mut self) -> bool {
@@ -72,8 +102,22 @@ impl Sources for HostSources<'_> {
             Ok(value) => !value.is_empty(),
             Err(_) => false,
         };
-        !asked_not && self.rt.stdout().is_terminal()
+        let is_plain = match env::var(self.rt, "TERM") {
+            Ok(value) => value.as_str() == "dumb",
+            Err(_) => false,
+        };
+        !asked_not && !is_plain && self.rt.stdout().is_terminal()
     }
+}
+
+/// All bytes of a reader, if they are at most so many.
+fn read_at_most<R: Read + Drop>(alloc: Global, reader: R, most: u64) -> io::Result<Vec<u8>> {
+    let mut bytes = Vec::new(alloc);
+    reader.take(most.saturating_add(1)).read_to_end(&mut bytes)?;
+    if bytes.len() as u64 > most {
+        return Err(io::Error::from(ErrorKind::FileTooLarge));
+    }
+    Ok(bytes)
 }
 
 /// Adds a name.
@@ -90,6 +134,9 @@ pub(crate) fn reason_of(error: &io::Error) -> &'static str {
         ErrorKind::IsADirectory => "it is a folder",
         ErrorKind::NotADirectory => "a part of its path isn't a folder",
         ErrorKind::OutOfMemory => "out of memory",
+        ErrorKind::FileTooLarge => "more bytes than --max-bytes allows",
+        ErrorKind::StorageFull => "no space left",
+        ErrorKind::BrokenPipe => "no one reads it any more",
         ErrorKind::InvalidFilename => "the name is too long, or not valid UTF-8",
         ErrorKind::FilesystemLoop => "too many links",
         ErrorKind::InvalidInput => "not a name of a file",

@@ -25,6 +25,10 @@ pub(crate) enum Status {
         has: usize,
         length: u32,
     },
+    /// It is valid, but so many bytes come after what its length says.
+    Longer(usize),
+    /// It is valid by its header and sum, but a part of it isn't as the layout of its type says.
+    Malformed,
     /// A FADT gives its address, at which the input has no byte.
     NotHere,
 }
@@ -55,6 +59,8 @@ impl fmt::Display for Status {
                 has,
                 length,
             } => write!(f, "{refusal}: {has} of {length} bytes are there"),
+            Status::Longer(over) => write!(f, "{over} bytes after its length"),
+            Status::Malformed => f.write_str("malformed"),
             Status::NotHere => f.write_str("not in this input"),
         }
     }

@@ -1,6 +1,10 @@
 //! The machine in short: processors, interrupts, timers, PCI, memory domains and the console, one fact a line.
 
+mod distances;
+mod gic;
+
 use crate::out::Out;
+use acpi::madt::Madt;
 use acpi::mcfg::PciConfigEntry;
 use acpi::platform::interrupt::{
     Apic, InterruptModel, IoApic, NmiLine, NmiProcessor, NmiSource, Polarity, TriggerMode,
@@ -8,11 +12,14 @@ use acpi::platform::interrupt::{
 use acpi::platform::{PmTimer, Processor, ProcessorState};
 use acpi::spcr::Spcr;
 use acpi::{AcpiError, AcpiHandler, AcpiTables, HpetInfo, PciConfigRegions, PlatformInfo};
-use acpi_numa::{Domains, MemoryAffinities, MemoryRange, Srat};
+use acpi_arm::gic::GicModel;
+use acpi_numa::{Domains, MemoryAffinities, MemoryRange, Slit, Srat};
+use distances::add_distances;
+use gic::add_gic;
 use std::alloc::Global;
 
 /// Facts as text, a line for each: its name, a tab, and what holds.
-pub(crate) type Facts = Out<Vec<u8>>;
+pub(crate) type Facts = Out;
 
 /// Adds why a part isn't known.
 fn add_refused(facts: &mut Facts, name: &str, refusal: AcpiError) {
@@ -39,6 +46,9 @@ pub(crate) fn add_facts<H: AcpiHandler>(
     }
     add_regions(alloc, tables, facts);
     add_ranges(alloc, tables, facts);
+    if let Ok(slit) = &tables.find_table::<Slit>() {
+        add_distances(facts, slit.bytes());
+    }
     if let Ok(console) = &tables.find_table::<Spcr>() {
         add_console(facts, console.get());
     }
@@ -48,8 +58,23 @@ pub(crate) fn add_facts<H: AcpiHandler>(
 fn add_platform<H: AcpiHandler>(alloc: Global, tables: &AcpiTables<'_, H>, facts: &mut Facts) {
     match &tables.platform_info(alloc) {
         Ok(platform) => add_parts(facts, platform, tables),
-        Err(refusal) => add_refused(facts, "platform", *refusal),
+        Err(refusal) => add_other(alloc, tables, *refusal, facts),
     }
+}
+
+/// Adds the parts of a GIC, or else why the platform isn't known.
+fn add_other<H: AcpiHandler>(
+    alloc: Global,
+    tables: &AcpiTables<'_, H>,
+    refusal: AcpiError,
+    facts: &mut Facts,
+) {
+    if let Ok(madt) = &tables.find_table::<Madt>()
+        && let Ok(Some(gic)) = &GicModel::of(madt.bytes(), alloc)
+    {
+        return add_gic(facts, gic);
+    }
+    add_refused(facts, "platform", refusal);
 }
 
 /// Adds the parts of the platform.

@@ -4,16 +4,15 @@ use crate::fault::Fault;
 use crate::fields::{print_bytes, print_field};
 use crate::out::Out;
 use crate::walk::{Field, Group, Show};
-use std::io::Write;
 
 /// The text of a table: where it is written to, and how deep the structures lie that have begun.
 #[derive(Drop)]
-pub(crate) struct Text<'a, W> {
-    pub(crate) out: &'a mut Out<W>,
+pub(crate) struct Text<'a> {
+    pub(crate) out: &'a mut Out,
     pub(crate) depth: usize,
 }
 
-impl<W: Write> Show for Text<'_, W> {
+impl Show for Text<'_> {
     fn field(&mut self, shown: &Field<'_>) {
         print_field(shown, self.depth, self.out)
     }
@@ -40,7 +39,7 @@ impl<W: Write> Show for Text<'_, W> {
 }
 
 /// Prints the spaces that a line begins with.
-pub(crate) fn print_indent<W: Write>(depth: usize, out: &mut Out<W>) {
+pub(crate) fn print_indent(depth: usize, out: &mut Out) {
     out.text("  ");
     for _ in 0..depth {
         out.text("  ");
@@ -48,7 +47,7 @@ pub(crate) fn print_indent<W: Write>(depth: usize, out: &mut Out<W>) {
 }
 
 /// Prints the heading of a structure.
-fn print_group<W: Write>(group: &Group, depth: usize, out: &mut Out<W>) {
+fn print_group(group: &Group, depth: usize, out: &mut Out) {
     print_indent(depth, out);
     write!(out, "entry {} at 0x{:x}", group.number, group.offset);
     if let Some(kind) = group.kind {

@@ -4,10 +4,10 @@ mod compared;
 mod packed;
 
 use crate::arguments::{Request, View};
-use crate::contents::{missing, print_tables};
+use crate::contents::{print_name, print_tables, tell_missing};
 use crate::document::{Document, add_all, add_chosen};
-use crate::entries::{Entry, bytes_from, entries_of, entries_of_files};
-use crate::errors::tell;
+use crate::entries::{Entry, Place, bytes_from, entries_of, entries_of_files};
+use crate::errors::{Log, Stop, begin, fail, tell};
 use crate::find::{add_candidates, add_fact_lines, print_candidates, print_facts};
 use crate::input::candidates::{Candidate, candidates, ebda_of, starts};
 use crate::input::gather::Input;
@@ -22,7 +22,6 @@ use acpi_image_reader::MemoryImage;
 pub(crate) use compared::print_compared;
 use packed::add_facts_of_files;
 use std::alloc::{AllocError, Global};
-use std::io::Write;
 
 /// How a view is printed.
 #[derive(Clone, Copy)]
@@ -56,164 +55,158 @@ impl<'w> Output<'_, 'w> {
     }
 
     /// Prints a document that is begun so.
-    fn print<W: Write>(
+    fn print(
         self,
         document: Document,
         view: &str,
         part: &str,
-        out: &mut Out<W>,
+        out: &mut Out,
     ) -> Result<(), AllocError> {
         document.print(view, &self.request.inputs, part, out)
     }
 }
 
-/// The memory or the tables that an input is, or `None`, after saying why, if it is said to be an image and isn't one.
-fn load<'i, E: Write>(
+/// The memory or the tables that an input is.
+///
+/// Fails, after saying why, if it is said to be an image and isn't one.
+fn load<'i>(
     output: Output<'_, '_>,
     number: usize,
     input: &'i Input,
-    err: &mut Out<E>,
-) -> Option<Loaded<'i>> {
+    log: &mut Log,
+) -> Result<Loaded<'i>, Stop> {
     match input {
-        Input::Tables(files) => Some(Loaded::Tables(files)),
+        Input::Tables(files) => Ok(Loaded::Tables(files)),
         Input::Memory(bytes) => match MemoryImage::from_bytes(output.alloc, bytes) {
-            Ok(image) => Some(Loaded::Memory(image)),
-            Err(refusal) => {
-                tell(err, output.name(number), &refusal);
-                None
-            }
+            Ok(image) => Ok(Loaded::Memory(image)),
+            Err(refusal) => Err(fail(log, output.name(number), &refusal)),
         },
     }
 }
 
 /// Says that there are several valid RSDPs.
-fn tell_several<E: Write>(name: &str, addresses: &[u64], err: &mut Out<E>) {
-    write!(err, "acpi_dump: {name}: valid RSDPs at");
+fn tell_several(name: &str, addresses: &[u64], log: &mut Log) {
+    begin(log, name);
+    log.text.text("valid RSDPs at");
     for address in addresses {
-        write!(err, " 0x{address:x}");
+        write!(log.text, " 0x{address:x}");
     }
-    err.text(": the first is taken\n");
+    log.text.text(": the first is taken\n");
 }
 
 /// The way to the root table of a memory: the one that is said, or the one RSDP that a search finds. If there are
-/// several, it says so, and takes the first; if there is none, it says that.
-fn start_of<E: Write>(
+/// several, it says so, and takes the first.
+///
+/// Fails, after saying so, if there is none.
+fn start_of(
     output: Output<'_, '_>,
     number: usize,
     image: &MemoryImage<'_>,
-    err: &mut Out<E>,
-) -> Result<Option<Root>, AllocError> {
-    if output.request.start.is_some() {
-        return Ok(output.request.start);
+    log: &mut Log,
+) -> Result<Root, Stop> {
+    if let Some(root) = output.request.start {
+        return Ok(root);
     }
     let name = output.name(number);
     let ebda = ebda_of(bytes_from(image, 0x40e));
     let addresses = &starts(output.alloc, &candidates(output.alloc, image)?, ebda)?;
     let [address, others @ ..] = addresses.as_slice() else {
-        let what = "no valid RSDP: --find shows those that there are, --start says where to begin";
-        tell(err, name, &what);
-        return Ok(None);
+        let why = "no valid RSDP: --find shows those that there are, --start says where to begin";
+        return Err(fail(log, name, &why));
     };
     if !others.is_empty() {
-        tell_several(name, addresses, err);
+        tell_several(name, addresses, log);
     }
-    Ok(Some(Root::Rsdp { address: *address }))
+    Ok(Root::Rsdp { address: *address })
 }
 
 /// Says why the root table isn't opened.
-fn tell_unopened<E: Write>(name: &str, root: Root, refusal: AcpiError, err: &mut Out<E>) {
+fn unopened(name: &str, root: Root, refusal: AcpiError, log: &mut Log) -> Stop {
     match root {
         Root::Rsdt { address, .. } | Root::Rsdp { address } => {
-            tell(err, name, &format_args!("0x{address:x}: {refusal}"));
+            fail(log, name, &format_args!("0x{address:x}: {refusal}"))
         }
-        Root::Bios => tell(err, name, &refusal),
+        Root::Bios => fail(log, name, &refusal),
     }
 }
 
-/// The tables below the root table of a memory, or `None`, after saying why, if there are none.
-fn open<'h, 'i, E: Write>(
+/// The tables below the root table of a memory.
+///
+/// Fails, after saying why, if there are none.
+fn open<'h, 'i>(
     output: Output<'_, '_>,
     number: usize,
     image: &'h MemoryImage<'i>,
-    err: &mut Out<E>,
-) -> Result<Option<AcpiTables<'h, MemoryImage<'i>>>, AllocError> {
-    let Some(root) = start_of(output, number, image, err)? else {
-        return Ok(None);
-    };
+    log: &mut Log,
+) -> Result<AcpiTables<'h, MemoryImage<'i>>, Stop> {
+    let root = start_of(output, number, image, log)?;
     match root.open(image) {
-        Ok(tables) => Ok(Some(tables)),
-        Err(refusal) => {
-            tell_unopened(output.name(number), root, refusal, err);
-            Ok(None)
-        }
+        Ok(tables) => Ok(tables),
+        Err(refusal) => Err(unopened(output.name(number), root, refusal, log)),
     }
 }
 
-/// The tables of an input, or `None`, after saying why, if there are none.
-fn entries_in<'l, E: Write>(
+/// The tables of an input.
+///
+/// Fails, after saying why, if there are none.
+fn entries_in<'l>(
     output: Output<'_, '_>,
     number: usize,
     loaded: &'l Loaded<'_>,
-    err: &mut Out<E>,
-) -> Result<Option<Vec<Entry<'l>>>, AllocError> {
+    log: &mut Log,
+) -> Result<Vec<Entry<'l>>, Stop> {
     match loaded {
-        Loaded::Tables(files) => Ok(Some(entries_of_files(output.alloc, *files)?)),
-        Loaded::Memory(image) => match open(output, number, image, err)? {
-            Some(tables) => Ok(Some(entries_of(output.alloc, image, &tables)?)),
-            None => Ok(None),
-        },
+        Loaded::Tables(files) => Ok(entries_of_files(output.alloc, *files)?),
+        Loaded::Memory(image) => {
+            let tables = open(output, number, image, log)?;
+            Ok(entries_of(output.alloc, image, &tables)?)
+        }
     }
 }
 
 /// Prints what is asked for of an input.
 ///
 /// Fails if memory runs out.
-pub(crate) fn print_input<W: Write, E: Write>(
+pub(crate) fn print_input(
     output: Output<'_, '_>,
     input: &Input,
-    out: &mut Out<W>,
-    err: &mut Out<E>,
-) -> Result<u8, AllocError> {
-    match &load(output, 0, input, err) {
-        Some(loaded) => print_loaded(output, loaded, out, err),
-        None => Ok(1),
-    }
+    out: &mut Out,
+    log: &mut Log,
+) -> Result<u8, Stop> {
+    print_loaded(output, &load(output, 0, input, log)?, out, log)
 }
 
 /// Prints what is asked for of memory or of tables.
-fn print_loaded<W: Write, E: Write>(
+fn print_loaded(
     output: Output<'_, '_>,
     loaded: &Loaded<'_>,
-    out: &mut Out<W>,
-    err: &mut Out<E>,
-) -> Result<u8, AllocError> {
+    out: &mut Out,
+    log: &mut Log,
+) -> Result<u8, Stop> {
     if let Loaded::Tables(_) = loaded
         && output.request.start.is_some()
     {
         tell(
-            err,
+            log,
             output.name(0),
             &"tables, which have no start: --start is for memory",
         );
         return Ok(2);
     }
     match output.request.view {
-        View::Candidates => print_found(output, loaded, out, err),
-        View::Summary => print_summary(output, loaded, out, err),
-        _ => match &entries_in(output, 0, loaded, err)? {
-            Some(entries) => print_entries(output, entries, out, err),
-            None => Ok(1),
-        },
+        View::Candidates => print_found(output, loaded, out, log),
+        View::Summary => print_summary(output, loaded, out, log),
+        _ => print_entries(output, &entries_in(output, 0, loaded, log)?, out, log),
     }
 }
 
 /// Prints what is asked for of tables.
-fn print_entries<W: Write, E: Write>(
+fn print_entries(
     output: Output<'_, '_>,
     entries: &[Entry<'_>],
-    out: &mut Out<W>,
-    err: &mut Out<E>,
-) -> Result<u8, AllocError> {
+    out: &mut Out,
+    log: &mut Log,
+) -> Result<u8, Stop> {
     let choices = output.request.choices.as_slice();
     let is_chosen = matches!(output.request.view, View::Tables);
     if output.request.is_json {
@@ -223,18 +216,18 @@ fn print_entries<W: Write, E: Write>(
     } else {
         print_lines(entries, output.paint, out);
     }
-    if is_chosen && missing(entries, choices, output.name(0), err) {
-        return Ok(1);
+    if is_chosen {
+        tell_missing(entries, choices, output.name(0), log);
     }
     Ok(strict_status(output, entries))
 }
 
 /// Prints tables as a document: those that are chosen, with their contents, or all of them without.
-fn print_document<W: Write>(
+fn print_document(
     output: Output<'_, '_>,
     entries: &[Entry<'_>],
     is_chosen: bool,
-    out: &mut Out<W>,
+    out: &mut Out,
 ) -> Result<(), AllocError> {
     let mut document = output.document("tables");
     if is_chosen {
@@ -257,31 +250,30 @@ fn strict_status(output: Output<'_, '_>, entries: &[Entry<'_>]) -> u8 {
 }
 
 /// Prints the RSDPs of a memory.
-fn print_found<W: Write, E: Write>(
+fn print_found(
     output: Output<'_, '_>,
     loaded: &Loaded<'_>,
-    out: &mut Out<W>,
-    err: &mut Out<E>,
-) -> Result<u8, AllocError> {
+    out: &mut Out,
+    log: &mut Log,
+) -> Result<u8, Stop> {
     match loaded {
         Loaded::Memory(image) => {
-            print_rsdps(output, &candidates(output.alloc, image)?, out, err)
+            print_rsdps(output, &candidates(output.alloc, image)?, out, log)
         }
         Loaded::Tables(_) => {
-            let what = "tables, not memory: there is no RSDP to find";
-            tell(err, output.name(0), &what);
-            Ok(1)
+            let why = "tables, not memory: there is no RSDP to find";
+            Err(fail(log, output.name(0), &why))
         }
     }
 }
 
 /// Prints RSDPs.
-fn print_rsdps<W: Write, E: Write>(
+fn print_rsdps(
     output: Output<'_, '_>,
     found: &[Candidate],
-    out: &mut Out<W>,
-    err: &mut Out<E>,
-) -> Result<u8, AllocError> {
+    out: &mut Out,
+    log: &mut Log,
+) -> Result<u8, Stop> {
     if output.request.is_json {
         let mut document = output.document("rsdps");
         add_candidates(&mut document, found);
@@ -290,55 +282,57 @@ fn print_rsdps<W: Write, E: Write>(
         print_candidates(found, out);
     }
     if found.is_empty() {
-        tell(err, output.name(0), &"no RSDP");
-        return Ok(1);
+        return Err(fail(log, output.name(0), &"no RSDP"));
     }
     Ok(0)
 }
 
-/// Adds the facts of an input, and answers whether there are some, after saying why not. Those of files are those of
-/// the valid ones.
-fn add_facts_in<E: Write>(
+/// Adds the facts of an input, those of files by the valid ones, and answers its tables.
+fn add_facts_in<'l>(
     output: Output<'_, '_>,
-    loaded: &Loaded<'_>,
+    loaded: &'l Loaded<'_>,
     facts: &mut Facts,
-    err: &mut Out<E>,
-) -> Result<bool, AllocError> {
+    log: &mut Log,
+) -> Result<Vec<Entry<'l>>, Stop> {
     match loaded {
-        Loaded::Memory(image) => add_facts_of_image(output, image, facts, err),
-        Loaded::Tables(files) => add_facts_of_files(output, *files, facts, err),
+        Loaded::Memory(image) => {
+            let tables = open(output, 0, image, log)?;
+            add_facts(output.alloc, &tables, facts);
+            Ok(entries_of(output.alloc, image, &tables)?)
+        }
+        Loaded::Tables(files) => {
+            let entries = entries_of_files(output.alloc, *files)?;
+            add_facts_of_files(output, &entries, facts, log)?;
+            Ok(entries)
+        }
     }
 }
 
-/// Adds the facts of a memory, and answers whether it has tables, after saying why not.
-fn add_facts_of_image<E: Write>(
-    output: Output<'_, '_>,
-    image: &MemoryImage<'_>,
-    facts: &mut Facts,
-    err: &mut Out<E>,
-) -> Result<bool, AllocError> {
-    match &open(output, 0, image, err)? {
-        Some(tables) => {
-            add_facts(output.alloc, tables, facts);
-            Ok(true)
+/// Adds the tables that are somewhere and can't be read.
+fn add_unread(facts: &mut Facts, entries: &[Entry<'_>]) {
+    for entry in entries {
+        if entry.status.is_invalid() && !matches!(entry.place, Place::Nowhere) {
+            facts.text("not read\t");
+            print_name(entry, facts);
+            facts.text(": ");
+            facts.value(&entry.status);
+            facts.text("\n");
         }
-        None => Ok(false),
     }
 }
 
 /// Prints the machine in short.
-fn print_summary<W: Write, E: Write>(
+fn print_summary(
     output: Output<'_, '_>,
     loaded: &Loaded<'_>,
-    out: &mut Out<W>,
-    err: &mut Out<E>,
-) -> Result<u8, AllocError> {
-    let mut facts = Out::new(Vec::new(output.alloc));
-    if !add_facts_in(output, loaded, &mut facts, err)? {
-        return Ok(1);
-    }
+    out: &mut Out,
+    log: &mut Log,
+) -> Result<u8, Stop> {
+    let mut facts = Out::new(output.alloc);
+    let entries = add_facts_in(output, loaded, &mut facts, log)?;
+    add_unread(&mut facts, &entries);
     let Some(facts) = facts.printed() else {
-        return Err(AllocError);
+        return Err(Stop::OutOfMemory);
     };
     if output.request.is_json {
         let mut document = output.document("facts");
@@ -347,5 +341,5 @@ fn print_summary<W: Write, E: Write>(
     } else {
         print_facts(facts, out);
     }
-    Ok(0)
+    Ok(strict_status(output, &entries))
 }

@@ -6,7 +6,7 @@ mod parts;
 ghost use Rattle.std.specs.Prelude.{◌<◌, length};
 
 use crate::fault::Fault;
-use crate::language::{Meaning, is_number, next_word, number_of, sum_of};
+use crate::language::{Meaning, is_chosen, is_number, next_word, sum_of};
 use crate::layouts::{HEADER, layout_of};
 use acpi::sdt::Signature;
 use entry::next_entry;
@@ -127,15 +127,17 @@ fn walk_line<S: Show>(
     let (word, rest) = next_word(line);
     let start = match word {
         "" => return Ok(shown),
-        "if" => return Ok(walk_lines(piece, chosen_lines(piece, rest)?, shown, depth, show)),
-        "with" => return Ok(walk_lines(piece, piece.blocks.named(rest)?.lines, shown, depth, show)),
+        "if" | "with" => {
+            let lines = chosen_lines(piece, word, rest)?;
+            return Ok(walk_lines(piece, lines, shown, depth, show));
+        }
         "then" => {
-            let lines = piece.blocks.named(rest)?.lines;
+            let lines = chosen_lines(piece, word, rest)?;
             let end = walk_lines(piece.from(shown), lines, 0, depth, show);
             return Ok(shown.saturating_add(end));
         }
         ">" => shown,
-        _ => sum_of(word, piece.bytes)?.number as usize,
+        _ => sum_of(word, piece.bytes).size()?,
     };
     let (length, rest) = next_word(rest);
     let Some(count) = length.strip_prefix('{') else {
@@ -187,6 +189,9 @@ fn walk_list<S: Show>(
         };
         walk_structure(inner, entry.head, entry.lines, depth - 1, show);
         show.end();
+        if (entry.length as u64) < entry.least {
+            show.malformed(offset, Fault::Length(entry.length as u64));
+        }
         offset = offset.saturating_add(bytes.len() as u64);
         number = number.saturating_add(1);
         rest = others;
@@ -206,16 +211,17 @@ fn split(bytes: &[u8], place: usize) -> (&[u8], &[u8])
     }
 }
 
-/// The lines of the block that the fourth word names, if the number at the place that is the first
-/// is neither less than the second nor more than the third.
-fn chosen_lines(piece: Piece<'_>, rest: &'static str) -> Result<&'static str, Fault> {
-    let (place, rest) = next_word(rest);
-    let (first, rest) = next_word(rest);
-    let (last, rest) = next_word(rest);
-    let number = sum_of(place, piece.bytes)?.number;
-    if number_of(first)? <= number && number <= number_of(last)? {
-        Ok(piece.blocks.named(rest)?.lines)
-    } else {
-        Ok("")
+/// The lines of the block that a line names, or no lines if it begins with `if` and the number at the place that it
+/// says isn't as it says.
+fn chosen_lines(piece: Piece<'_>, word: &str, rest: &'static str) -> Result<&'static str, Fault> {
+    let mut name = rest;
+    if word == "if" {
+        let (place, rest) = next_word(rest);
+        let (range, rest) = next_word(rest);
+        if !is_chosen(sum_of(place, piece.bytes).number, range) {
+            return Ok("");
+        }
+        name = rest;
     }
+    Ok(piece.blocks.named(name)?.lines)
 }

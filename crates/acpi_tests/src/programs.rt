@@ -6,7 +6,7 @@ use crate::image::FILE;
 use acpi_cli::args_or_none;
 use acpi_cli::files::{HostFiles, count};
 use acpi_dump_lib::run::dump;
-use acpi_dump_lib::sources::{HostSources, Sources};
+use acpi_dump_lib::sources::{HostSources, Kind, Listing, Sources};
 use acpi_pack_lib::arguments::parse_command;
 use acpi_pack_lib::program::pack;
 use acpi_pack_lib::run::run;
@@ -72,21 +72,21 @@ struct Counted<'r> {
 }
 
 impl Sources for Counted<'_> {
-    fn is_folder(&mut self, name: &str) -> io::Result<bool> {
-        self.files.is_folder(name)
+    fn kind_of(&mut self, name: &str) -> io::Result<Kind> {
+        self.files.kind_of(name)
     }
 
-    fn names_in(&mut self, alloc: Global, folder: &str) -> io::Result<Vec<String>> {
+    fn names_in(&mut self, alloc: Global, folder: &str) -> io::Result<Listing> {
         self.files.names_in(alloc, folder)
     }
 
-    fn read(&mut self, name: &str) -> io::Result<Vec<u8>> {
+    fn read(&mut self, alloc: Global, name: &str, most: u64) -> io::Result<Vec<u8>> {
         self.read = self.read.saturating_add(1);
-        self.files.read(name)
+        self.files.read(alloc, name, most)
     }
 
-    fn read_standard_input(&mut self, alloc: Global) -> io::Result<Vec<u8>> {
-        self.files.read_standard_input(alloc)
+    fn read_standard_input(&mut self, alloc: Global, most: u64) -> io::Result<Vec<u8>> {
+        self.files.read_standard_input(alloc, most)
     }
 
     fn takes_color(&mut self) -> bool {

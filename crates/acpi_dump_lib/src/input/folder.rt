@@ -1,84 +1,97 @@
 //! The tables of a folder.
 
-use crate::errors::tell;
+use crate::errors::{Log, Stop, fail, tell};
 use crate::input::kind::Kind;
 use crate::input::order::in_order;
-use crate::input::read::ANY;
+use crate::input::read::Reading;
 use crate::input::tables::{TableFile, add_input};
-use crate::out::Out;
+use crate::sources;
 use crate::sources::{Sources, reason_of};
 use acpi_cli::borrowed;
-use std::alloc::{AllocError, Global};
-use std::io::Write;
+use std::alloc::Global;
 
-/// Adds the tables of a file in a folder. A folder in it is skipped, and so is a file without tables, with a message.
-fn add_within<S: Sources, E: Write>(
+/// Adds the tables of a file in a folder. A folder in it is skipped, and so is what is no file or has no tables, with a
+/// message.
+fn add_within<S: Sources>(
     alloc: Global,
     tables: &mut Vec<TableFile>,
     path: &str,
-    sources: &mut S,
-    err: &mut Out<E>,
-) -> Result<bool, AllocError> {
-    if matches!(sources.is_folder(path), Ok(true)) {
-        return Ok(true);
+    reading: Reading,
+    files: &mut S,
+    log: &mut Log,
+) -> Result<(), Stop> {
+    match files.kind_of(path) {
+        Ok(sources::Kind::Folder) => return Ok(()),
+        Ok(sources::Kind::Other) => return Ok(tell(log, path, &"not a file: skipped")),
+        _ => {}
     }
-    match ANY.read(alloc, path, sources, err)? {
-        None => Ok(false),
-        Some((kind @ Some(Kind::Table | Kind::Text), bytes)) => {
-            add_input(alloc, tables, path, kind, bytes, err)
-        }
-        Some(_) => {
-            tell(err, path, &"not a table: passed over");
-            Ok(true)
-        }
+    let (kind, bytes) = reading.read(alloc, path, files, log)?;
+    if let Some(Kind::Table | Kind::Text) = kind {
+        return add_input(alloc, tables, path, kind, bytes, log);
     }
+    tell(log, path, &"not a table: skipped");
+    Ok(())
 }
 
-/// Adds the tables of the files of these names in a folder, in the order of their names.
-fn add_names<S: Sources, E: Write>(
+/// Adds the tables of the files of these names in a folder, in the order of their names. What isn't added leaves the
+/// others as they are.
+fn add_names<S: Sources>(
     alloc: Global,
     tables: &mut Vec<TableFile>,
     folder: &str,
     names: &[&str],
+    reading: Reading,
     sources: &mut S,
-    err: &mut Out<E>,
-) -> Result<bool, AllocError> {
+    log: &mut Log,
+) -> Result<(), Stop> {
     let before = tables.len();
+    let mut last = Ok(());
     let mark = if folder.ends_with('/') { "" } else { "/" };
     for name in &in_order(alloc, names)? {
         let name = *name;
         let path = &format!(in alloc; "{folder}{mark}{name}")?;
-        if !add_within(alloc, tables, path.as_str(), sources, err)? {
-            return Ok(false);
+        if let Err(stop) = add_within(alloc, tables, path.as_str(), reading, sources, log) {
+            if let Stop::OutOfMemory = stop {
+                return Err(stop);
+            }
+            last = Err(stop);
         }
     }
-    let is_some = tables.len() > before;
-    if !is_some {
-        tell(err, folder, &"no table in it");
+    if tables.len() > before {
+        return Ok(());
     }
-    Ok(is_some)
+    last?;
+    Err(fail(log, folder, &"no table in it"))
 }
 
-/// Adds the tables of a folder, and answers whether they are some, after saying why not.
-pub(crate) fn add_folder<S: Sources, E: Write>(
+/// Adds the tables of a folder.
+///
+/// Fails, after saying why, if there are none.
+pub(crate) fn add_folder<S: Sources>(
     alloc: Global,
     tables: &mut Vec<TableFile>,
     folder: &str,
+    reading: Reading,
     sources: &mut S,
-    err: &mut Out<E>,
-) -> Result<bool, AllocError> {
-    match &sources.names_in(alloc, folder) {
-        Ok(names) => add_names(
-            alloc,
-            tables,
+    log: &mut Log,
+) -> Result<(), Stop> {
+    let listing = match sources.names_in(alloc, folder) {
+        Ok(listing) => listing,
+        Err(refusal) => return Err(fail(log, folder, &reason_of(&refusal))),
+    };
+    if listing.unnamed > 0 {
+        let unnamed = listing.unnamed;
+        fail(
+            log,
             folder,
-            &borrowed(alloc, names)?,
-            sources,
-            err,
-        ),
-        Err(refusal) => {
-            tell(err, folder, &reason_of(refusal));
-            Ok(false)
-        }
+            &format_args!("names that are not UTF-8, not shown: {unnamed}"),
+        );
     }
+    let reading = Reading {
+        kind: None,
+        at: None,
+        ..reading
+    };
+    let names = borrowed(alloc, &listing.names)?;
+    add_names(alloc, tables, folder, &names, reading, sources, log)
 }

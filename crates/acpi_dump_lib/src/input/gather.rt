@@ -1,17 +1,15 @@
 //! Reading the inputs that the arguments name.
 
-use crate::errors::tell;
+use crate::errors::{Log, Stop, fail, tell};
 use crate::input::folder::add_folder;
 use crate::input::kind::Kind;
-use crate::input::machine::are_of_one_machine;
+use crate::input::machine::of_one_machine;
 use crate::input::memory::image_of;
 use crate::input::order::in_order;
 use crate::input::read::{Reading, is_folder, read_any};
 use crate::input::tables::{TableFile, add_input};
-use crate::out::Out;
 use crate::sources::Sources;
-use std::alloc::{AllocError, Global};
-use std::io::Write;
+use std::alloc::Global;
 
 /// Where Linux shows the machine's own tables.
 const OWN: &str = "/sys/firmware/acpi/tables";
@@ -25,134 +23,107 @@ pub(crate) enum Input {
     Tables(Vec<TableFile>),
 }
 
-/// Memory from an address on, as an image, or `None`, after saying so, if it would end too high.
-fn memory_from<E: Write>(
+/// Memory from an address on, as an image.
+///
+/// Fails, after saying so, if it would end too high.
+fn memory_from(
     alloc: Global,
     name: &str,
     address: u64,
     bytes: &[u8],
-    err: &mut Out<E>,
-) -> Result<Option<Input>, AllocError> {
+    log: &mut Log,
+) -> Result<Input, Stop> {
     if bytes.len() as u64 > u64::MAX - address {
-        let what = format_args!("memory from 0x{address:x} on would end above 2^64 - 1");
-        tell(err, name, &what);
-        return Ok(None);
+        let why = format_args!("memory from 0x{address:x} on would end above 2^64 - 1");
+        return Err(fail(log, name, &why));
     }
-    Ok(Some(Input::Memory(image_of(alloc, address, bytes)?)))
+    Ok(Input::Memory(image_of(alloc, address, bytes)?))
 }
 
 /// The input that one word names, which is no folder.
-fn gather_file<S: Sources, E: Write>(
+fn gather_file<S: Sources>(
     alloc: Global,
     name: &str,
     reading: Reading,
     sources: &mut S,
-    err: &mut Out<E>,
-) -> Result<Option<Input>, AllocError> {
+    log: &mut Log,
+) -> Result<Input, Stop> {
     // What is said to be an image may be empty.
     if let Some(Kind::Image) = reading.kind {
-        return Ok(match read_any(alloc, name, sources, err) {
-            Some(bytes) => Some(Input::Memory(bytes)),
-            None => None,
-        });
+        return Ok(Input::Memory(read_any(alloc, name, reading.most, sources, log)?));
     }
-    match reading.read(alloc, name, sources, err)? {
-        None => Ok(None),
-        Some((Some(Kind::Image), bytes)) => Ok(Some(Input::Memory(bytes))),
-        Some((Some(Kind::Memory), bytes)) => {
-            memory_from(alloc, name, reading.at.unwrap_or(0), &bytes, err)
-        }
-        Some((kind, bytes)) => {
+    let (kind, bytes) = reading.read(alloc, name, sources, log)?;
+    match kind {
+        Some(Kind::Image) => Ok(Input::Memory(bytes)),
+        Some(Kind::Memory) => memory_from(alloc, name, reading.at.unwrap_or(0), &bytes, log),
+        _ => {
             let mut tables = Vec::new(alloc);
-            let is_added = add_input(alloc, &mut tables, name, kind, bytes, err)?;
-            Ok(ended(tables, is_added, err))
+            add_input(alloc, &mut tables, name, kind, bytes, log)?;
+            Ok(Input::Tables(of_one_machine(alloc, tables, log)?))
         }
-    }
-}
-
-/// These tables as an input, if they were all added and are those of one machine.
-fn ended<E: Write>(tables: Vec<TableFile>, are_added: bool, err: &mut Out<E>) -> Option<Input> {
-    if are_added && are_of_one_machine(&tables, err) {
-        Some(Input::Tables(tables))
-    } else {
-        None
     }
 }
 
 /// Adds the tables of a file or a folder.
-fn add_word<S: Sources, E: Write>(
+fn add_word<S: Sources>(
     alloc: Global,
     tables: &mut Vec<TableFile>,
     name: &str,
     reading: Reading,
     sources: &mut S,
-    err: &mut Out<E>,
-) -> Result<bool, AllocError> {
-    match is_folder(name, sources, err) {
-        None => Ok(false),
-        Some(true) => add_folder(alloc, tables, name, sources, err),
-        Some(false) => match reading.read(alloc, name, sources, err)? {
-            None => Ok(false),
-            Some((kind, bytes)) => add_input(alloc, tables, name, kind, bytes, err),
-        },
-    }
-}
-
-/// Adds the tables of several files or folders, in the order of their names.
-fn add_words<S: Sources, E: Write>(
-    alloc: Global,
-    tables: &mut Vec<TableFile>,
-    names: &[&str],
-    reading: Reading,
-    sources: &mut S,
-    err: &mut Out<E>,
-) -> Result<bool, AllocError> {
-    for name in &in_order(alloc, names)? {
-        if !add_word(alloc, tables, *name, reading, sources, err)? {
-            return Ok(false);
+    log: &mut Log,
+) -> Result<(), Stop> {
+    if is_folder(name, sources, log)? {
+        if reading.at.is_some() {
+            return Err(fail(
+                log,
+                name,
+                &"a folder, which has no address: --at is for memory",
+            ));
         }
+        return add_folder(alloc, tables, name, reading, sources, log);
     }
-    Ok(true)
+    let (kind, bytes) = reading.read(alloc, name, sources, log)?;
+    add_input(alloc, tables, name, kind, bytes, log)
 }
 
-/// The tables that several words name, or folders, in the order of the files' names.
-fn gather_tables<S: Sources, E: Write>(
+/// The tables that words name, or folders, in the order of the files' names.
+fn gather_tables<S: Sources>(
     alloc: Global,
     names: &[&str],
     reading: Reading,
     sources: &mut S,
-    err: &mut Out<E>,
-) -> Result<Option<Input>, AllocError> {
+    log: &mut Log,
+) -> Result<Input, Stop> {
     let mut tables = Vec::new(alloc);
-    let are_added = add_words(alloc, &mut tables, names, reading, sources, err)?;
-    Ok(ended(tables, are_added, err))
+    for name in &in_order(alloc, names)? {
+        add_word(alloc, &mut tables, *name, reading, sources, log)?;
+    }
+    Ok(Input::Tables(of_one_machine(alloc, tables, log)?))
 }
 
-/// The input that words name, or the machine's own tables if there are no words. It answers `None`, after saying
-/// why, if something isn't there or isn't what it should be.
+/// The input that words name, or the machine's own tables if there are no words.
 ///
-/// Fails if memory runs out.
-pub(crate) fn gather<S: Sources, E: Write>(
+/// Fails, after saying why, if something isn't there or isn't what it should be, or if memory runs out.
+pub(crate) fn gather<S: Sources>(
     alloc: Global,
     names: &[&str],
     reading: Reading,
     sources: &mut S,
-    err: &mut Out<E>,
-) -> Result<Option<Input>, AllocError> {
+    log: &mut Log,
+) -> Result<Input, Stop> {
     match names {
         [] => {
-            let own = gather_tables(alloc, &[OWN], reading, sources, err)?;
-            if own.is_none() {
+            let own = gather_tables(alloc, &[OWN], reading, sources, log);
+            if own.is_err() {
                 let what = "Linux shows the machine's tables there, to root alone";
-                tell(err, OWN, &what);
+                tell(log, OWN, &what);
             }
-            Ok(own)
+            own
         }
-        [name] => match is_folder(*name, sources, err) {
-            None => Ok(None),
-            Some(false) => gather_file(alloc, *name, reading, sources, err),
-            Some(true) => gather_tables(alloc, names, reading, sources, err),
-        },
-        _ => gather_tables(alloc, names, reading, sources, err),
+        [name] if !is_folder(*name, sources, log)? => {
+            gather_file(alloc, *name, reading, sources, log)
+        }
+        _ => gather_tables(alloc, names, reading, sources, log),
     }
 }

@@ -1,49 +1,62 @@
-//! Whether tables are those of one machine.
+//! The tables of which a machine has one each.
 
-use crate::errors::tell;
+use crate::errors::{Log, fail};
 use crate::input::tables::TableFile;
-use crate::out::Out;
-use std::io::Write;
+use std::alloc::{AllocError, Global};
 
 /// The letters that a table begins with.
 pub(crate) fn letters_of(bytes: &[u8]) -> &[u8] {
     bytes.get(..4).unwrap_or(bytes)
 }
 
-/// The second table of those that begin with these letters, and the first.
-fn second_of<'t>(
-    tables: &'t [TableFile],
-    letters: &[u8],
-) -> Option<(&'t TableFile, &'t TableFile)> {
-    let mut first: Option<&TableFile> = None;
-    for table in tables {
-        if letters_of(&table.bytes) != letters {
-            continue;
+/// The signatures of which a machine has one table each.
+const SINGLE: [&[u8]; 6] = [b"FACP", b"DSDT", b"FACS", b"RSDT", b"XSDT", b"RSD "];
+
+/// The number of the signature of which a machine has one table, if bytes begin with one.
+fn single_of(bytes: &[u8]) -> usize {
+    let mut number = 0usize;
+    for letters in &SINGLE {
+        if letters_of(bytes) == *letters {
+            break;
         }
-        if let Some(first) = first {
-            return Some((table, first));
-        }
-        first = Some(table);
+        number = number.saturating_add(1);
     }
-    None
+    number
 }
 
-/// The signatures of which a machine has one table each.
-const SINGLE: [&str; 6] = ["FACP", "DSDT", "FACS", "RSDT", "XSDT", "RSD "];
-
-/// Whether tables are those of one machine: it has one of each of these. If not, it says which file is the second.
-pub(crate) fn are_of_one_machine<E: Write>(tables: &[TableFile], err: &mut Out<E>) -> bool {
-    for signature in &SINGLE {
-        let signature = *signature;
-        if let Some((second, first)) = second_of(tables, signature.as_bytes()) {
-            let other = first.name.as_str();
-            tell(
-                err,
-                second.name.as_str(),
-                &format_args!("a second {signature} beside {other}: tables of two machines"),
-            );
-            return false;
+/// These tables, less those of which another one comes before: it says which these are.
+///
+/// Fails if memory runs out.
+pub(crate) fn of_one_machine(
+    alloc: Global,
+    tables: Vec<TableFile>,
+    log: &mut Log,
+) -> Result<Vec<TableFile>, AllocError> {
+    let mut kept: Vec<TableFile> = Vec::new(alloc);
+    let mut firsts = [usize::MAX; 6];
+    for table in tables {
+        let single = single_of(&table.bytes);
+        if single < 6 {
+            if let Some(first) = kept.get(firsts[single]) {
+                tell_second(&table, first, log);
+                continue;
+            }
+            firsts[single] = kept.len();
         }
+        kept.push(table)?;
     }
-    true
+    Ok(kept)
+}
+
+/// Says that a table isn't shown, beside the first of its signature.
+fn tell_second(table: &TableFile, first: &TableFile, log: &mut Log) {
+    let (name, other) = (table.name.as_str(), first.name.as_str());
+    let letters = str::from_utf8(letters_of(&table.bytes))
+        .unwrap_or("")
+        .trim_ascii();
+    fail(
+        log,
+        name,
+        &format_args!("a second {letters} beside {other}: not shown"),
+    );
 }

@@ -1,50 +1,47 @@
 //! Reading what a name leads to, and saying why if the system refuses it.
 
-use crate::errors::tell;
+use crate::errors::{Log, Stop, fail};
 use crate::input::kind::{Kind, kind_of};
 use crate::input::wide::{is_wide, narrowed};
-use crate::out::Out;
+use crate::sources;
 use crate::sources::{Sources, reason_of};
-use std::alloc::{AllocError, Global};
-use std::io::Write;
+use std::alloc::Global;
 
-/// Whether a word names a folder, or `None`, after saying why, if the system refuses it.
-pub(crate) fn is_folder<S: Sources, E: Write>(
+/// Whether a word names a folder.
+///
+/// Fails, after saying why, if the system refuses it.
+pub(crate) fn is_folder<S: Sources>(
     name: &str,
-    sources: &mut S,
-    err: &mut Out<E>,
-) -> Option<bool> {
+    files: &mut S,
+    log: &mut Log,
+) -> Result<bool, Stop> {
     if name == "-" {
-        return Some(false);
+        return Ok(false);
     }
-    match sources.is_folder(name) {
-        Ok(answer) => Some(answer),
-        Err(refusal) => {
-            tell(err, name, &reason_of(&refusal));
-            None
-        }
+    match files.kind_of(name) {
+        Ok(kind) => Ok(kind == sources::Kind::Folder),
+        Err(refusal) => Err(fail(log, name, &reason_of(&refusal))),
     }
 }
 
-/// The bytes of an input, which is standard input if its name is `-`, or `None`, after saying why, if the system refuses
-/// it.
-pub(crate) fn read_any<S: Sources, E: Write>(
+/// The bytes of an input, which is standard input if its name is `-`.
+///
+/// Fails, after saying why, if the system refuses it.
+pub(crate) fn read_any<S: Sources>(
     alloc: Global,
     name: &str,
+    most: u64,
     sources: &mut S,
-    err: &mut Out<E>,
-) -> Option<Vec<u8>> {
+    log: &mut Log,
+) -> Result<Vec<u8>, Stop> {
     let content = if name == "-" {
-        sources.read_standard_input(alloc)
+        sources.read_standard_input(alloc, most)
     } else {
-        sources.read(name)
+        sources.read(alloc, name, most)
     };
     match content {
-        Ok(bytes) => Some(bytes),
-        Err(refusal) => {
-            tell(err, name, &reason_of(&refusal));
-            None
-        }
+        Ok(bytes) => Ok(bytes),
+        Err(refusal) => Err(fail(log, name, &reason_of(&refusal))),
     }
 }
 
@@ -55,13 +52,9 @@ pub(crate) struct Reading {
     pub(crate) kind: Option<Kind>,
     /// The address of memory's first byte, if it is said.
     pub(crate) at: Option<u64>,
+    /// How many bytes an input has at most.
+    pub(crate) most: u64,
 }
-
-/// An input of which nothing is said.
-pub(crate) const ANY: Reading = Reading {
-    kind: None,
-    at: None,
-};
 
 impl Reading {
     /// The kind of input that bytes are, as it is said or as they look.
@@ -73,27 +66,25 @@ impl Reading {
         }
     }
 
-    /// The kind of an input, and its bytes: those of a text in UTF-16 as one in ASCII. It is `None`, after saying why,
-    /// if the system refuses the input or it is empty.
-    pub(crate) fn read<S: Sources, E: Write>(
+    /// The kind of an input, and its bytes: those of a text in UTF-16 as one in ASCII.
+    ///
+    /// Fails, after saying why, if the system refuses the input or it is empty.
+    pub(crate) fn read<S: Sources>(
         self,
         alloc: Global,
         name: &str,
         sources: &mut S,
-        err: &mut Out<E>,
-    ) -> Result<Option<(Option<Kind>, Vec<u8>)>, AllocError> {
-        let Some(bytes) = read_any(alloc, name, sources, err) else {
-            return Ok(None);
-        };
+        log: &mut Log,
+    ) -> Result<(Option<Kind>, Vec<u8>), Stop> {
+        let bytes = read_any(alloc, name, self.most, sources, log)?;
         if bytes.is_empty() {
-            tell(err, name, &"it is empty");
-            return Ok(None);
+            return Err(fail(log, name, &"it is empty"));
         }
         let kind = self.kind_of(alloc, &bytes);
         if !is_wide(&bytes) || !matches!(kind, None | Some(Kind::Text)) {
-            return Ok(Some((kind, bytes)));
+            return Ok((kind, bytes));
         }
         let narrow = narrowed(alloc, &bytes)?;
-        Ok(Some((self.kind_of(alloc, &narrow), narrow)))
+        Ok((self.kind_of(alloc, &narrow), narrow))
     }
 }

@@ -1,11 +1,9 @@
 //! Tables without memory around them, as files and texts have them.
 
-use crate::errors::tell;
+use crate::errors::{Log, Stop, fail};
 use crate::input::kind::{Kind, text_in};
 use crate::input::text::{TextError, tables_in};
-use crate::out::Out;
 use std::alloc::{AllocError, Global};
-use std::io::Write;
 
 /// A table that comes as a file, or as a part of a text.
 #[derive(Drop)]
@@ -35,60 +33,57 @@ fn push_table(
     Ok(tables.push(table)?)
 }
 
-/// Adds the tables that a text spells, and answers whether it does, after saying where it is wrong.
-fn add_text<E: Write>(
+/// Adds the tables that a text spells.
+///
+/// Fails, after saying where it is wrong, if it spells none.
+fn add_text(
     alloc: Global,
     tables: &mut Vec<TableFile>,
     name: &str,
     bytes: &[u8],
-    err: &mut Out<E>,
-) -> Result<bool, AllocError> {
+    log: &mut Log,
+) -> Result<(), Stop> {
     let Some(text) = text_in(bytes) else {
-        tell(err, name, &"not a text");
-        return Ok(false);
+        return Err(fail(log, name, &"not a text"));
     };
     match tables_in(alloc, text) {
         Ok(spelled) => {
-            let is_some = !spelled.is_empty();
-            if !is_some {
-                tell(err, name, &"no table in it");
+            if spelled.is_empty() {
+                return Err(fail(log, name, &"no table in it"));
             }
             for table in spelled {
                 push_table(alloc, tables, name, Some(table.address), table.bytes)?;
             }
-            Ok(is_some)
+            Ok(())
         }
-        Err(TextError::OutOfMemory) => Err(AllocError),
+        Err(TextError::OutOfMemory) => Err(Stop::OutOfMemory),
         Err(TextError::Line(number)) => {
-            tell(err, name, &format_args!("line {number} is wrong"));
-            Ok(false)
+            Err(fail(log, name, &format_args!("line {number} is wrong")))
         }
     }
 }
 
-/// Adds the tables that bytes of this kind are, and answers whether they are some, after saying why not.
-pub(crate) fn add_input<E: Write>(
+/// Adds the tables that bytes of this kind are.
+///
+/// Fails, after saying why, if they are none.
+pub(crate) fn add_input(
     alloc: Global,
     tables: &mut Vec<TableFile>,
     name: &str,
     kind: Option<Kind>,
     bytes: Vec<u8>,
-    err: &mut Out<E>,
-) -> Result<bool, AllocError> {
+    log: &mut Log,
+) -> Result<(), Stop> {
     match kind {
-        Some(Kind::Text) => add_text(alloc, tables, name, &bytes, err),
-        Some(Kind::Table) => {
-            push_table(alloc, tables, name, None, bytes)?;
-            Ok(true)
-        }
+        Some(Kind::Text) => add_text(alloc, tables, name, &bytes, log),
+        Some(Kind::Table) => { Ok(push_table(alloc, tables, name, None, bytes)?) }
         _ => {
             let why = if kind.is_some() {
                 "memory, which stands alone and not beside other inputs"
             } else {
                 "not recognised: --as image, memory, text or table says what it is"
             };
-            tell(err, name, &why);
-            Ok(false)
+            Err(fail(log, name, &why))
         }
     }
 }

@@ -134,8 +134,8 @@ pub(crate) const BOOT: &str = "
 7 1 codes AmHealthy | 0 Errors found | 1 No errors found | 2 Unknown | 3 Advisory
 8 16 guid Device Signature
 24 4 dec Device-specific Data Offset
-if 24:4 0 0 PHAT-path
-if 24:4 1 0xffffffff PHAT-data
+if 24:4 0 PHAT-path
+if 24:4 1-0xffffffff PHAT-data
 
 = PHAT-path * - without data
 28 * wide Device Path

@@ -62,6 +62,7 @@ pub(crate) const PORTS: &str = "
 0x12 16550 by generic address
 0x13 SDM845 with a clock of 7.372 MHz
 0x14 Intel LPSS
+0x15 RISC-V SBI console
 
 = DBG2 * - Debug Port Table 2
 36 4 - OffsetDbgDeviceInfo
@@ -77,11 +78,11 @@ pub(crate) const PORTS: &str = "
 8 2 dec OemDataLength
 10 2 dec OemDataOffset
 12 2 codes Port Type | 0x8000 Serial | 0x8001 1394 | 0x8002 USB | 0x8003 Net
-if 12:2 0x8000 0x8000 DBG2-serial
-if 12:2 0x8001 0x8001 DBG2-1394
-if 12:2 0x8002 0x8002 DBG2-usb
-if 12:2 0 0x7fff DBG2-other
-if 12:2 0x8003 0xffff DBG2-other
+if 12:2 0x8000 DBG2-serial
+if 12:2 0x8001 DBG2-1394
+if 12:2 0x8002 DBG2-usb
+if 12:2 0-0x7fff DBG2-other
+if 12:2 0x8003-0xffff DBG2-other
 16 2 - Reserved
 18 2 dec BaseAddressRegisterOffset
 20 2 dec AddressSizeOffset

@@ -26,43 +26,43 @@ pub(crate) const MADT: &str = "
 0xd active high, level-triggered
 0xf active low, level-triggered
 
-= MADT-entry 0x00 - Processor Local APIC
+= MADT-entry 0x00 8 Processor Local APIC
 2 1 dec ACPI Processor UID
 3 1 dec APIC ID
 4 4 flags Flags | @local-apic-flags
 
-= MADT-entry 0x01 - I/O APIC
+= MADT-entry 0x01 12 I/O APIC
 2 1 dec I/O APIC ID
 3 1 - Reserved
 4 4 - I/O APIC Address
 8 4 dec Global System Interrupt Base
 
-= MADT-entry 0x02 - Interrupt Source Override
+= MADT-entry 0x02 10 Interrupt Source Override
 2 1 dec Bus
 3 1 dec Source
 4 4 dec Global System Interrupt
 8 2 codes Flags | @mps-inti-flags
 
-= MADT-entry 0x03 - NMI Source
+= MADT-entry 0x03 8 NMI Source
 2 2 codes Flags | @mps-inti-flags
 4 4 dec Global System Interrupt
 
-= MADT-entry 0x04 - Local APIC NMI
-2 1 dec ACPI Processor UID
+= MADT-entry 0x04 6 Local APIC NMI
+2 1 dec ACPI Processor UID | 0xff all processors
 3 2 codes Flags | @mps-inti-flags
 5 1 dec Local APIC LINT#
 
-= MADT-entry 0x05 - Local APIC Address Override
+= MADT-entry 0x05 12 Local APIC Address Override
 2 2 - Reserved
 4 8 - Local APIC Address
 
-= MADT-entry 0x06 - I/O SAPIC
+= MADT-entry 0x06 16 I/O SAPIC
 2 1 dec I/O APIC ID
 3 1 - Reserved
 4 4 dec Global System Interrupt Base
 8 8 - I/O SAPIC Address
 
-= MADT-entry 0x07 - Local SAPIC
+= MADT-entry 0x07 16 Local SAPIC
 2 1 dec ACPI Processor ID
 3 1 dec Local SAPIC ID
 4 1 dec Local SAPIC EID
@@ -71,7 +71,7 @@ pub(crate) const MADT: &str = "
 12 4 dec ACPI Processor UID Value
 > z text ACPI Processor UID String
 
-= MADT-entry 0x08 - Platform Interrupt Sources
+= MADT-entry 0x08 16 Platform Interrupt Sources
 2 2 codes Flags | @mps-inti-flags
 4 1 codes Interrupt Type | 1 PMI | 2 INIT | 3 Corrected Platform Error Interrupt
 5 1 dec Processor ID
@@ -80,19 +80,19 @@ pub(crate) const MADT: &str = "
 8 4 dec Global System Interrupt
 12 4 flags Platform Interrupt Source Flags | 0 CPEI Processor Override
 
-= MADT-entry 0x09 - Processor Local x2APIC
+= MADT-entry 0x09 16 Processor Local x2APIC
 2 2 - Reserved
 4 4 dec X2APIC ID
 8 4 flags Flags | @local-apic-flags
 12 4 dec ACPI Processor UID
 
-= MADT-entry 0x0a - Local x2APIC NMI
+= MADT-entry 0x0a 12 Local x2APIC NMI
 2 2 codes Flags | @mps-inti-flags
-4 4 dec ACPI Processor UID
+4 4 dec ACPI Processor UID | 0xffffffff all processors
 8 1 dec Local x2APIC LINT#
 9 3 - Reserved
 
-= MADT-entry 0x0b - GIC CPU Interface (GICC)
+= MADT-entry 0x0b 40 GIC CPU Interface (GICC)
 2 2 - Reserved
 4 4 dec CPU Interface Number
 8 4 dec ACPI Processor UID
@@ -111,7 +111,7 @@ pub(crate) const MADT: &str = "
 78 2 dec SPE overflow Interrupt
 80 2 dec TRBE Interrupt
 
-= MADT-entry 0x0c - GIC Distributor (GICD)
+= MADT-entry 0x0c 24 GIC Distributor (GICD)
 2 2 - Reserved
 4 4 dec GIC ID
 8 8 - Physical Base Address
@@ -119,7 +119,7 @@ pub(crate) const MADT: &str = "
 20 1 codes GIC version | 0 as the hardware tells | 1 GICv1 | 2 GICv2 | 3 GICv3 | 4 GICv4
 21 3 - Reserved
 
-= MADT-entry 0x0d - GIC MSI Frame
+= MADT-entry 0x0d 24 GIC MSI Frame
 2 2 - Reserved
 4 4 dec GIC MSI Frame ID
 8 8 - Physical Base Address
@@ -127,66 +127,66 @@ pub(crate) const MADT: &str = "
 20 2 dec SPI Count
 22 2 dec SPI Base
 
-= MADT-entry 0x0e - GIC Redistributor (GICR)
+= MADT-entry 0x0e 16 GIC Redistributor (GICR)
 2 2 - Reserved
 4 8 - Discovery Range Base Address
 12 4 - Discovery Range Length
 
-= MADT-entry 0x0f - GIC Interrupt Translation Service (ITS)
+= MADT-entry 0x0f 20 GIC Interrupt Translation Service (ITS)
 2 2 - Reserved
 4 4 dec GIC ITS ID
 8 8 - Physical Base Address
 16 4 - Reserved
 
-= MADT-entry 0x10 - Multiprocessor Wakeup
+= MADT-entry 0x10 16 Multiprocessor Wakeup
 2 2 - MailBoxVersion
 4 4 - Reserved
 8 8 - MailBoxAddress
 
-= MADT-entry 0x11 - Core Programmable Interrupt Controller (CORE PIC)
+= MADT-entry 0x11 15 Core Programmable Interrupt Controller (CORE PIC)
 2 1 - Version
 3 4 dec ACPI Processor ID
 7 4 dec Physical Processor ID
 11 4 flags Flags | 0 Enabled
 
-= MADT-entry 0x12 - Legacy I/O Programmable Interrupt Controller (LIO PIC)
+= MADT-entry 0x12 23 Legacy I/O Programmable Interrupt Controller (LIO PIC)
 2 1 - Version
 3 8 - Base Address
 11 2 - Size
 13 2 - Cascade vector
 15 8 - Cascade vector mapping
 
-= MADT-entry 0x13 - HyperTransport Programmable Interrupt Controller (HT PIC)
+= MADT-entry 0x13 21 HyperTransport Programmable Interrupt Controller (HT PIC)
 2 1 - Version
 3 8 - Base Address
 11 2 - Size
 13 8 - Cascade Vector
 
-= MADT-entry 0x14 - Extend I/O Programmable Interrupt Controller (EIO PIC)
+= MADT-entry 0x14 13 Extend I/O Programmable Interrupt Controller (EIO PIC)
 2 1 - Version
 3 1 - Cascade vector
 4 1 dec Node
 5 8 - Node Map
 
-= MADT-entry 0x15 - MSI Programmable Interrupt Controller (MSI PIC)
+= MADT-entry 0x15 19 MSI Programmable Interrupt Controller (MSI PIC)
 2 1 - Version
 3 8 - Message Address
 11 4 dec Start
 15 4 dec Count
 
-= MADT-entry 0x16 - Bridge I/O Programmable Interrupt Controller (BIO PIC)
+= MADT-entry 0x16 17 Bridge I/O Programmable Interrupt Controller (BIO PIC)
 2 1 - Version
 3 8 - Base Address
 11 2 - Size
 13 2 dec Hardware ID
 15 2 dec GSI Base
 
-= MADT-entry 0x17 - Low Pin Count Programmable Interrupt Controller (LPC PIC)
+= MADT-entry 0x17 13 Low Pin Count Programmable Interrupt Controller (LPC PIC)
 2 1 - Version
 3 8 - Base Address
 11 2 - Size
 
-= MADT-entry 0x18 - RISC-V Interrupt Controller (RINTC)
+= MADT-entry 0x18 20 RISC-V Interrupt Controller (RINTC)
 2 1 - Version
 3 1 - Reserved
 4 4 flags Flags | @local-apic-flags
@@ -196,7 +196,7 @@ pub(crate) const MADT: &str = "
 24 8 - IMSIC Base address
 32 4 - IMSIC Size
 
-= MADT-entry 0x19 - RISC-V Incoming MSI Controller (IMSIC)
+= MADT-entry 0x19 16 RISC-V Incoming MSI Controller (IMSIC)
 2 1 - Version
 3 1 - Reserved
 4 4 - Flags
@@ -207,7 +207,7 @@ pub(crate) const MADT: &str = "
 14 1 dec Group Index Bits
 15 1 dec Group Index Shift
 
-= MADT-entry 0x1a - RISC-V Advanced Platform Level Interrupt Controller (APLIC)
+= MADT-entry 0x1a 36 RISC-V Advanced Platform Level Interrupt Controller (APLIC)
 2 1 - Version
 3 1 dec APLIC ID
 4 4 - Flags
@@ -218,7 +218,7 @@ pub(crate) const MADT: &str = "
 24 8 - APLIC Address
 32 4 - APLIC size
 
-= MADT-entry 0x1b - RISC-V Platform Level Interrupt Controller (PLIC)
+= MADT-entry 0x1b 36 RISC-V Platform Level Interrupt Controller (PLIC)
 2 1 - Version
 3 1 dec PLIC ID
 4 8 text Hardware ID
@@ -244,21 +244,21 @@ pub(crate) const GTDT: &str = "
 68 4 codes Virtual EL1 Timer Flags | @timer-flags
 72 4 dec EL2 Timer GSIV
 76 4 codes EL2 Timer Flags | @timer-flags
-if 8:1 2 255 platform-timers
+if 8:1 2-255 platform-timers
 
 = platform-timers * - since revision 2
 80 8 - CntReadBase Physical Address
 88 4 dec Platform Timer Count
 92 4 dec Platform Timer Offset
-if 8:1 3 255 revision-3
+if 8:1 3-255 revision-3
 92:4 {88:4} typed 0:1 1:2 GTDT-structure
 
 = revision-3 * - since revision 3
-if 88:4 0 0 virtual-el2
-if 88:4 1 0xffffffff virtual-el2-before
+if 88:4 0 virtual-el2
+if 88:4 1-0xffffffff virtual-el2-before
 
 = virtual-el2-before * - if no structure begins in its place
-if 92:4 104 0xffffffff virtual-el2
+if 92:4 104-0xffffffff virtual-el2
 
 = virtual-el2 * - the virtual timer of EL2
 96 4 dec Virtual EL2 Timer GSIV

@@ -3,7 +3,7 @@
 /// The DMAR (Intel Virtualization Technology for Directed I/O 4.0, chapter 8).
 pub(crate) const DMAR: &str = "
 = DMAR * - DMA Remapping Reporting Structure
-36 1 dec Host Address Width
+36 1 dec+1 Host Address Width
 37 1 flags Flags | 0 INTR_REMAP | 1 X2APIC_OPT_OUT | 2 DMA_CTRL_PLATFORM_OPT_IN_FLAG
 38 10 - Reserved
 48 {*} typed 0:2 2:2 DMAR-structure
@@ -233,7 +233,7 @@ pub(crate) const IORT: &str = "
 
 = IORT-mapping * - ID mapping
 0 4 - Input base
-4 4 - Number of IDs
+4 4 dec+1 Number of IDs
 8 4 - Output base
 12 4 - Output Reference
 16 4 flags Flags | 0 Single mapping
@@ -260,13 +260,13 @@ then IORT-memory-access
 with IORT-mappings
 
 = IORT-node 2 - Root complex
-if 0:1 2 2 IORT-memory-access-16
+if 0:1 2 IORT-memory-access-16
 24 4 flags ATS attribute | 0 ATS Supported | 1 PRI Supported | 2 PASID forwarding supported
 28 4 dec PCI Segment number
 32 1 dec Memory address size limit
-if 3:1 0 2 IORT-root-complex-2
-if 3:1 3 255 IORT-root-complex-3
-if 3:1 4 255 IORT-root-complex-4
+if 3:1 0-2 IORT-root-complex-2
+if 3:1 3-255 IORT-root-complex-3
+if 3:1 4-255 IORT-root-complex-4
 with IORT-mappings
 
 = IORT-memory-access-16 * - Memory access properties after the node's head

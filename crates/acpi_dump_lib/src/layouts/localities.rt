@@ -12,7 +12,7 @@ pub(crate) const LOCALITIES: &str = "
 0 1 - Type
 1 1 dec Length
 
-= SRAT-entry 0 - Processor Local APIC/SAPIC Affinity
+= SRAT-entry 0 16 Processor Local APIC/SAPIC Affinity
 2 1 dec Proximity Domain [7:0]
 3 1 dec APIC ID
 4 4 flags Flags | 0 Enabled
@@ -20,7 +20,7 @@ pub(crate) const LOCALITIES: &str = "
 9 3 dec Proximity Domain [31:8]
 12 4 dec Clock Domain
 
-= SRAT-entry 1 - Memory Affinity
+= SRAT-entry 1 40 Memory Affinity
 2 4 dec Proximity Domain
 6 2 - Reserved
 8 8 - Base Address
@@ -29,7 +29,7 @@ pub(crate) const LOCALITIES: &str = "
 28 4 flags Flags | 0 Enabled | 1 Hot Pluggable | 2 NonVolatile
 32 8 - Reserved
 
-= SRAT-entry 2 - Processor Local x2APIC Affinity
+= SRAT-entry 2 24 Processor Local x2APIC Affinity
 2 2 - Reserved
 4 4 dec Proximity Domain
 8 4 dec X2APIC ID
@@ -37,21 +37,21 @@ pub(crate) const LOCALITIES: &str = "
 16 4 dec Clock Domain
 20 4 - Reserved
 
-= SRAT-entry 3 - GICC Affinity
+= SRAT-entry 3 18 GICC Affinity
 2 4 dec Proximity Domain
 6 4 dec ACPI Processor UID
 10 4 flags Flags | 0 Enabled
 14 4 dec Clock Domain
 
-= SRAT-entry 4 - GIC Interrupt Translation Service (ITS) Affinity
+= SRAT-entry 4 12 GIC Interrupt Translation Service (ITS) Affinity
 2 4 dec Proximity Domain
 6 2 - Reserved
 8 4 dec ITS ID
 
-= SRAT-entry 5 - Generic Initiator Affinity
+= SRAT-entry 5 32 Generic Initiator Affinity
 then SRAT-device
 
-= SRAT-entry 6 - Generic Port Affinity
+= SRAT-entry 6 32 Generic Port Affinity
 then SRAT-device
 
 = SRAT-device * - by offsets after the type and the length
@@ -62,7 +62,7 @@ then SRAT-device
 22 4 flags Flags | 0 Enabled | 1 Architectural Transactions
 26 4 - Reserved
 
-= SRAT-entry 7 - RINTC Affinity
+= SRAT-entry 7 20 RINTC Affinity
 2 2 - Reserved
 4 4 dec Proximity Domain
 8 4 dec ACPI Processor UID
@@ -90,8 +90,8 @@ then SRAT-device
 
 = HMAT * - Heterogeneous Memory Attribute Table
 36 4 - Reserved
-if 8:1 0 1 HMAT-1
-if 8:1 2 255 HMAT-2
+if 8:1 0-1 HMAT-1
+if 8:1 2-255 HMAT-2
 
 = HMAT-1 * - revision 1
 40 {*} typed 0:2 4:4 HMAT-entry-1

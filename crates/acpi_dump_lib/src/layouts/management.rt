@@ -121,8 +121,8 @@ with ASF_ADDR
 43 1 flags PCI Device Flag | 0 PCI device
 44 4 dec Global System Interrupt
 48 12 gas Base Address
-if 43:1 0 0 SPMI-uid
-if 43:1 1 255 SPMI-pci
+if 43:1 !1 SPMI-uid
+if 43:1 &1 SPMI-pci
 64 1 - Reserved
 
 = SPMI-pci * - of a PCI device

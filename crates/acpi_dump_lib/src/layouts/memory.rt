@@ -42,8 +42,8 @@ then MPST-characteristics
 20 8 - Reserved
 
 = PMTT * - Platform Memory Topology Table
-if 8:1 0 1 PMTT-1
-if 8:1 2 255 PMTT-2
+if 8:1 0-1 PMTT-1
+if 8:1 2-255 PMTT-2
 
 = PMTT-1 * - up to revision 1
 36 4 - Reserved
@@ -149,13 +149,23 @@ pub(crate) const NFIT: &str = "
 0 2 - Type
 2 2 dec Length
 
+= NFIT-ranges * - Address Range Type GUID (section 5.2.26.2)
+7305944f-fdda-44e3-b16c-3f22d252e5d0 volatile memory
+66f0d379-b4f3-4074-ac43-0d3318b78cdb persistent memory
+92f701f6-13b4-405d-910b-299367e8234c NVDIMM control
+91af0530-5d86-470e-a6b0-0a2db9408249 NVDIMM block data window
+77ab535a-45fc-624b-5560-f7b281d1f96e volatile virtual disk
+3d5abd30-4175-87ce-6d64-d2ade523c4bb volatile virtual CD
+5cea02c9-4d07-69d3-269f-4496fbe096f9 persistent virtual disk
+08018188-42cd-bb48-100f-5387d53ded3d persistent virtual CD
+
 = NFIT-structure 0 - System Physical Address (SPA) Range Structure
 4 2 dec SPA Range Structure Index
 6 2 flags Flags | 0 Control region only for management during hot add or online operation \
     | 1 Proximity Domain is valid | 2 SpaLocationCookie is valid
 8 4 - Reserved
 12 4 dec Proximity Domain
-16 16 guid Address Range Type GUID
+16 16 guid Address Range Type GUID | @NFIT-ranges
 32 8 - System Physical Address Range Base
 40 8 - System Physical Address Range Length
 48 8 - Address Range Memory Mapping Attribute
@@ -255,15 +265,24 @@ pub(crate) const NFIT: &str = "
     | 9 6 ways | 10 12 ways
 25 1 codes Interleave Arithmetic | 0 standard modulo | 1 modulo with XOR
 26 2 - Reserved
-28 4 dec Host Bridge Interleave Granularity (HBIG)
+28 4 codes Host Bridge Interleave Granularity (HBIG) | @CEDT-granularity
 32 2 flags Window Restrictions | 0 CXL Type 2 memory | 1 CXL Type 3 memory | 2 volatile | 3 persistent \
     | 4 fixed device configuration
 34 2 dec QTG ID
 36 4[*] - Interleave Target List
 
+= CEDT-granularity * - Host Bridge Interleave Granularity
+0 256 bytes
+1 512 bytes
+2 1024 bytes
+3 2048 bytes
+4 4096 bytes
+5 8192 bytes
+6 16384 bytes
+
 = CEDT-structure 2 - CXL XOR Interleave Math Structure (CXIMS)
 4 2 - Reserved
-6 1 dec Host Bridge Interleave Granularity (HBIG)
+6 1 codes Host Bridge Interleave Granularity (HBIG) | @CEDT-granularity
 7 1 dec Number of Bitmap Entries (NIB)
 8 8[7:1] - XORMAP
 

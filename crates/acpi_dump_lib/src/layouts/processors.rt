@@ -161,9 +161,9 @@ with PCCT-interrupt
 16 2 - Revision
 18 2 - Reserved
 20 4 dec Shared Info Length
-if 20:4 28 28 CSRT-dma
-if 20:4 0 27 CSRT-shared
-if 20:4 29 0xffffffff CSRT-shared
+if 20:4 28 CSRT-dma
+if 20:4 0-27 CSRT-shared
+if 20:4 29-0xffffffff CSRT-shared
 > {*} own 0:4 CSRT-descriptor
 
 = CSRT-dma * - shared information of DMA controllers

@@ -5,8 +5,8 @@
 pub(crate) const HEADER: &str = "
 0 4 text Signature
 4 4 dec Length
-if 0:4 0x54503353 0x54503353 S3PT-records
-if 0:4 0x54504246 0x54504246 FBPT-records
+if 0:4 0x54503353 S3PT-records
+if 0:4 0x54504246 FBPT-records
 8 1 - Revision
 9 1 - Checksum
 10 6 text OEMID
@@ -123,6 +123,9 @@ pub(crate) const ROOTS: &str = "
 19 FORCE_APIC_PHYSICAL_DESTINATION_MODE
 20 HW_REDUCED_ACPI
 21 LOW_POWER_S0_IDLE_CAPABLE
+23:22/1 PERSISTENT_CPU_CACHES not persistent
+23:22/2 PERSISTENT_CPU_CACHES persistent
+23:22/3 PERSISTENT_CPU_CACHES reserved
 
 = FACS * - Firmware ACPI Control Structure
 0 4 text Signature

@@ -8,9 +8,9 @@ pub(crate) const TRUST: &str = "
 38 2 - Reserved
 40 8 - Address of Control Area
 48 4 codes Start Method | @TPM2-start-methods
-if 48:4 0 10 TPM2-parameters
-if 48:4 11 11 TPM2-smc
-if 48:4 12 0xffffffff TPM2-parameters
+if 48:4 0-10 TPM2-parameters
+if 48:4 11 TPM2-smc
+if 48:4 12-0xffffffff TPM2-parameters
 64 4 dec Log Area Minimum Length (LAML)
 68 8 - Log Area Start Address (LASA)
 
@@ -36,8 +36,8 @@ if 48:4 12 0xffffffff TPM2-parameters
 
 = TCPA * - Trusted Computing Platform Alliance Capabilities Table
 36 2 codes Platform Class | 0 client | 1 server
-if 36:2 0 0 TCPA-client
-if 36:2 1 1 TCPA-server
+if 36:2 0 TCPA-client
+if 36:2 1 TCPA-server
 
 = TCPA-client * - of a client
 38 4 dec Log Area Minimum Length (LAML)
@@ -107,8 +107,8 @@ then DRTM-id
 6 2 dec Device Id Length
 8 2 dec Vendor Specific Data Offset
 10 2 dec Vendor Specific Data Length
-if 1:1 0 1 SDEV-plain
-if 1:1 2 255 SDEV-components
+if 1:1 !2 SDEV-plain
+if 1:1 &2 SDEV-components
 
 = SDEV-plain * - if secure access components aren't present
 with SDEV-device-id
@@ -124,9 +124,9 @@ with SDEV-vendor-data
 12 2 dec Secure Access Components Offset
 14 2 dec Secure Access Components Length
 with SDEV-device-id
-if 8:2-12:2 1 0xffff SDEV-component-list
+if 8:2-12:2 1-0xffff SDEV-component-list
 with SDEV-vendor-data
-if 8:2-12:2 0 0 SDEV-component-list
+if 8:2-12:2 0 SDEV-component-list
 
 = SDEV-component-list * - before Vendor Specific Data, or after it
 12:2 {~14:2} typed 0:1 2:2 SDEV-component

@@ -3,72 +3,64 @@
 use super::{Loaded, Output, entries_in, load, strict_status};
 use crate::compare::{DifferenceLines, compare};
 use crate::entries::Entry;
+use crate::errors::{Log, Stop};
 use crate::input::gather::Input;
 use crate::out::Out;
-use std::alloc::AllocError;
-use std::io::Write;
 
 /// Prints what differs between two inputs.
 ///
 /// Fails if memory runs out.
-pub(crate) fn print_compared<W: Write, E: Write>(
+pub(crate) fn print_compared(
     output: Output<'_, '_>,
     first: &Input,
     second: &Input,
-    out: &mut Out<W>,
-    err: &mut Out<E>,
-) -> Result<u8, AllocError> {
-    let first = load(output, 0, first, err);
-    let second = load(output, 1, second, err);
-    match (&first, &second) {
-        (Some(first), Some(second)) => compare_loaded(output, first, second, out, err),
-        _ => Ok(1),
-    }
+    out: &mut Out,
+    log: &mut Log,
+) -> Result<u8, Stop> {
+    let first = &load(output, 0, first, log)?;
+    let second = &load(output, 1, second, log)?;
+    compare_loaded(output, first, second, out, log)
 }
 
 /// Prints what differs between two memories or lists of tables.
-fn compare_loaded<W: Write, E: Write>(
+fn compare_loaded(
     output: Output<'_, '_>,
     first: &Loaded<'_>,
     second: &Loaded<'_>,
-    out: &mut Out<W>,
-    err: &mut Out<E>,
-) -> Result<u8, AllocError> {
-    match &entries_in(output, 0, first, err)? {
-        Some(old) => compare_with(output, old, second, out, err),
-        None => Ok(1),
-    }
-}
-
-/// Prints what differs between these tables and those of a second input.
-fn compare_with<W: Write, E: Write>(
-    output: Output<'_, '_>,
-    old: &[Entry<'_>],
-    second: &Loaded<'_>,
-    out: &mut Out<W>,
-    err: &mut Out<E>,
-) -> Result<u8, AllocError> {
-    match &entries_in(output, 1, second, err)? {
-        Some(new) => compare_entries(output, old, new, out),
-        None => Ok(1),
-    }
+    out: &mut Out,
+    log: &mut Log,
+) -> Result<u8, Stop> {
+    let old = &entries_in(output, 0, first, log)?;
+    let new = &entries_in(output, 1, second, log)?;
+    compare_entries(output, old, new, out)
 }
 
 /// Prints what differs between two inputs' tables.
-fn compare_entries<W: Write>(
+fn compare_entries(
     output: Output<'_, '_>,
     old: &[Entry<'_>],
     new: &[Entry<'_>],
-    out: &mut Out<W>,
-) -> Result<u8, AllocError> {
+    out: &mut Out,
+) -> Result<u8, Stop> {
     let alloc = output.alloc;
-    if output.request.is_json {
+    let ignored = output.request.ignored.as_slice();
+    let differ = if output.request.is_json {
         let mut document = output.document("tables");
-        compare(alloc, old, new, &mut document)?;
+        let differ = compare(alloc, old, new, ignored, &mut document)?;
         output.print(document, "compare", "tables", out)?;
+        differ
     } else {
         let names = (output.name(0), output.name(1));
-        compare(alloc, old, new, &mut DifferenceLines { names, out })?;
+        compare(
+            alloc,
+            old,
+            new,
+            ignored,
+            &mut DifferenceLines { names, out },
+        )?
+    };
+    if differ && output.request.is_exit_code {
+        return Ok(1);
     }
     Ok(strict_status(output, old).max(strict_status(output, new)))
 }

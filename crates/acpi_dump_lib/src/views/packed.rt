@@ -1,17 +1,14 @@
 //! The facts of tables that come as files: of the valid ones, in a memory where each has a place.
 
-use super::{Output, add_facts_of_image};
-use crate::entries::{Entry, entries_of_files};
-use crate::errors::tell;
+use super::{Output, open};
+use crate::entries::Entry;
+use crate::errors::{Log, Stop, fail};
 use crate::input::machine::letters_of;
-use crate::input::tables::TableFile;
-use crate::out::Out;
 use crate::status::Status;
-use crate::summary::Facts;
+use crate::summary::{Facts, add_facts};
 use acpi_image::{PlacedTable, write_image};
 use acpi_image_reader::MemoryImage;
 use std::alloc::{AllocError, Global};
-use std::io::Write;
 
 /// Where the root table of tables that come as files is put, and from where on they are.
 const ROOT: u64 = 0x1000_0000;
@@ -26,7 +23,10 @@ fn placed_of<'e>(alloc: Global, entries: &[Entry<'e>]) -> Result<Vec<PlacedTable
     let mut placed = Vec::new(alloc);
     let mut address = FIRST;
     for entry in entries {
-        let is_valid = matches!(entry.status, Status::Valid | Status::NoLookup(_));
+        let is_valid = matches!(
+            entry.status,
+            Status::Valid | Status::NoLookup(_) | Status::Longer(_) | Status::Malformed
+        );
         if is_valid && !UNLISTED.contains(&letters_of(entry.bytes)) {
             placed.push(PlacedTable {
                 address,
@@ -39,35 +39,23 @@ fn placed_of<'e>(alloc: Global, entries: &[Entry<'e>]) -> Result<Vec<PlacedTable
     Ok(placed)
 }
 
-/// An image of the valid ones of tables that come as files, or `None`, after saying why, if there is none.
-fn packed_of<E: Write>(
+/// Adds the facts of tables that come as files.
+///
+/// Fails, after saying why, if they are no machine's.
+pub(super) fn add_facts_of_files(
     output: Output<'_, '_>,
-    files: &[TableFile],
-    err: &mut Out<E>,
-) -> Result<Option<Vec<u8>>, AllocError> {
-    let entries = entries_of_files(output.alloc, files)?;
-    let placed = placed_of(output.alloc, &entries)?;
-    match write_image(output.alloc, 0xe0000, ROOT, 2, &placed) {
-        Ok(packed) => Ok(Some(packed)),
-        Err(refusal) => {
-            tell(err, output.name(0), &refusal);
-            Ok(None)
-        }
-    }
-}
-
-/// Adds the facts of tables that come as files, and answers whether they are some machine's, after saying why not.
-pub(super) fn add_facts_of_files<E: Write>(
-    output: Output<'_, '_>,
-    files: &[TableFile],
+    entries: &[Entry<'_>],
     facts: &mut Facts,
-    err: &mut Out<E>,
-) -> Result<bool, AllocError> {
-    let Some(packed) = packed_of(output, files, err)? else {
-        return Ok(false);
+    log: &mut Log,
+) -> Result<(), Stop> {
+    let placed = placed_of(output.alloc, entries)?;
+    let packed = match write_image(output.alloc, 0xe0000, ROOT, 2, &placed) {
+        Ok(packed) => packed,
+        Err(refusal) => return Err(fail(log, output.name(0), &refusal)),
     };
-    match &MemoryImage::from_bytes(output.alloc, &packed) {
-        Ok(image) => add_facts_of_image(output, image, facts, err),
-        Err(_) => Err(AllocError),
-    }
+    let Ok(image) = &MemoryImage::from_bytes(output.alloc, &packed) else {
+        return Err(Stop::OutOfMemory);
+    };
+    add_facts(output.alloc, &open(output, 0, image, log)?, facts);
+    Ok(())
 }

@@ -1,15 +1,18 @@
-//! The structures in a structure, one by one.
+//! The entries of a list in a structure, one by one.
 
 use super::parts::{Piece, after_zero};
 use crate::fault::Fault;
-use crate::language::{Block, next_word, sum_of};
+use crate::language::{Block, Sum, next_word, sum_of};
 
-/// What is known of an entry: its length, its name, its type, and the lines of its layout.
+/// What is known of an entry.
 #[derive(Clone, Copy)]
 pub(super) struct Entry {
     pub(super) length: usize,
+    /// The length that entries of its type have at least.
+    pub(super) least: u64,
     pub(super) name: &'static str,
     pub(super) kind: Option<u64>,
+    /// The lines for what the entries of all types begin with.
     pub(super) head: &'static str,
     pub(super) lines: &'static str,
 }
@@ -19,83 +22,86 @@ pub(super) fn next_entry(piece: Piece<'_>, rest: &[u8], how: &'static str) -> Re
     let (word, how) = next_word(how);
     let (first, how) = next_word(how);
     match word {
-        "each" => {
-            let length = if first == "z" {
-                after_zero(rest, 0)
-            } else {
-                sum_of(first, piece.bytes)?.number as usize
-            };
-            let length = checked_length(rest, length, length.max(1))?;
-            Ok(Entry::of(length, piece.blocks.named(how)?))
-        }
-        "own" => {
-            let length = own_length(rest, first, 1)?;
-            Ok(Entry::of(length, piece.blocks.named(how)?))
-        }
+        "each" => untyped_entry(piece, rest, told_length(piece, rest, first), how),
+        "own" => untyped_entry(piece, rest, sum_of(first, rest), how),
         "typed" => {
-            let kind = sum_of(first, rest)?;
-            let (size, how) = next_word(how);
-            let length = own_length(rest, size, kind.end)?;
-            let block = typed_block(piece, kind.number, how)?;
-            let entry = Entry::of(length, block.unwrap_or(Block::NONE));
-            Ok(entry.typed(kind.number, piece.blocks.named(how)?))
+            let (length, how) = next_word(how);
+            typed_entry(piece, rest, sum_of(first, rest), length, how)
         }
-        "sized" => {
-            let kind = sum_of(first, rest)?;
-            if rest.len() < kind.end {
-                return Err(Fault::Cut);
-            }
-            let block = typed_block(piece, kind.number, how)?.ok_or(Fault::Unknown(kind.number))?;
-            let entry = Entry::of(own_length(rest, block.size, kind.end)?, block);
-            Ok(entry.typed(kind.number, piece.blocks.named(how)?))
-        }
+        "sized" => typed_entry(piece, rest, sum_of(first, rest), "", how),
         _ => Err(Fault::Unread(word)),
     }
 }
 
-/// The block of a name for structures of a type, if there is one.
-fn typed_block(piece: Piece<'_>, kind: u64, how: &'static str) -> Result<Option<Block>, Fault> {
-    let (name, _) = next_word(how);
-    piece.blocks.find(name, Some(kind))
-}
-
-/// A length of an entry, if it is at least so much, and at most what is left.
-fn checked_length(rest: &[u8], length: usize, least: usize) -> Result<usize, Fault> {
-    if rest.len() < least {
-        Err(Fault::Cut)
-    } else if length < least {
-        Err(Fault::Length(length as u64))
-    } else if rest.len() < length {
-        Err(Fault::Past(length as u64))
+/// The length of an entry that the structure tells, which all bytes of the entry are there to give.
+fn told_length(piece: Piece<'_>, rest: &[u8], word: &'static str) -> Sum {
+    let length = if word == "z" {
+        Sum::of(after_zero(rest, 0) as u64)
     } else {
-        Ok(length)
+        sum_of(word, piece.bytes)
+    };
+    Sum {
+        end: length.number as usize,
+        ..length
     }
 }
 
-/// The length that stands in the entry that bytes begin with, which is at least so much.
-fn own_length(rest: &[u8], size: &'static str, least: usize) -> Result<usize, Fault> {
-    let length = sum_of(size, rest)?;
-    checked_length(rest, length.number as usize, length.end.max(least))
+/// A length of an entry, if it is at least 1 and what gives it, and at most what is left.
+fn checked_length(rest: &[u8], length: Sum) -> Result<usize, Fault> {
+    let least = length.end.max(1);
+    if rest.len() < least {
+        return Err(Fault::Cut);
+    }
+    let size = length.size()?;
+    if size < least {
+        Err(Fault::Length(length.number))
+    } else if rest.len() < size {
+        Err(Fault::Past(length.number))
+    } else {
+        Ok(size)
+    }
 }
 
-impl Entry {
-    /// An entry without a type, which a block describes.
-    fn of(length: usize, block: Block) -> Entry {
-        Entry {
-            length,
-            name: block.title,
-            kind: None,
-            head: "",
-            lines: block.lines,
-        }
-    }
+/// An entry of this length without a type, by the block that a line names.
+fn untyped_entry(
+    piece: Piece<'_>,
+    rest: &[u8],
+    length: Sum,
+    how: &'static str,
+) -> Result<Entry, Fault> {
+    let block = piece.blocks.named(how)?;
+    Ok(Entry {
+        length: checked_length(rest, length)?,
+        least: 0,
+        name: block.title,
+        kind: None,
+        head: "",
+        lines: block.lines,
+    })
+}
 
-    /// This entry with a type, and with what those of all types begin with.
-    fn typed(self, kind: u64, head: Block) -> Entry {
-        Entry {
-            kind: Some(kind),
-            head: head.lines,
-            ..self
-        }
+/// An entry of this type, by the blocks that a line names. Its length is the number that a word gives, or if that has
+/// no letters the length that entries of the type have.
+fn typed_entry(
+    piece: Piece<'_>,
+    rest: &[u8],
+    kind: Sum,
+    word: &'static str,
+    how: &'static str,
+) -> Result<Entry, Fault> {
+    let head = piece.blocks.named(how)?.lines;
+    let block = piece.blocks.typed(how, kind.number);
+    let word = if word.is_empty() { block.size } else { word };
+    if word.is_empty() && rest.len() >= kind.end {
+        return Err(Fault::Unknown(kind.number));
     }
+    let length = sum_of(word, rest);
+    Ok(Entry {
+        length: checked_length(rest, kind.beside(length, length.number))?,
+        least: sum_of(block.size, rest).number,
+        name: block.title,
+        kind: Some(kind.number),
+        head,
+        lines: block.lines,
+    })
 }

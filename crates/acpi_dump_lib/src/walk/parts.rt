@@ -71,7 +71,7 @@ pub(super) fn list_extent(bytes: &[u8], start: usize, word: &'static str) -> Res
     let Some(length) = word.strip_prefix('~') else {
         return counted_extent(bytes, start, word);
     };
-    let end = start.saturating_add(sum_of(length, bytes)?.number as usize);
+    let end = start.saturating_add(sum_of(length, bytes).size()?);
     Ok(Extent {
         start,
         end,
@@ -81,9 +81,10 @@ pub(super) fn list_extent(bytes: &[u8], start: usize, word: &'static str) -> Res
 
 /// The rest of a structure from an offset on, and how many elements a word says that it has: `*` if as many as fit.
 fn counted_extent(bytes: &[u8], start: usize, word: &'static str) -> Result<Extent, Fault> {
-    let count = match word {
-        "*" => None,
-        _ => Some(sum_of(word, bytes)?.number),
+    let count = if word == "*" {
+        None
+    } else {
+        Some(sum_of(word, bytes).size()? as u64)
     };
     Ok(Extent {
         start,
@@ -147,63 +148,64 @@ pub(super) fn show_fields<S: Show>(
 ) -> Result<usize, Fault> {
     let (meaning, name) = piece.blocks.field(rest)?;
     let (length, count) = cut_at(word, '[');
-    if !count.is_empty() {
-        let (count, _) = cut_at(count, ']');
-        let extent = counted_extent(piece.bytes, start, count)?;
-        let length = sum_of(length, piece.bytes)?.number as usize;
-        if show_start(piece, shown, extent, show)? {
-            return Ok(show_numbers(piece, extent, length, meaning, name, show));
-        }
+    let is_one = count.is_empty();
+    let extent = if is_one {
+        field_extent(piece.bytes, start, length)?
+    } else {
+        counted_extent(piece.bytes, start, cut_at(count, ']').0)?
+    };
+    let is_optional = is_fixed && is_one && is_number(length);
+    let is_there = shown <= start && extent.end <= piece.bytes.len();
+    if is_optional && !is_there || !show_start(piece, shown, extent, show)? {
         return Ok(shown);
     }
-    let end = field_end(piece.bytes, start, length)?;
-    let extent = Extent {
-        start,
-        end,
-        count: None,
-    };
-    if is_fixed && is_number(length) {
-        if start < shown || piece.bytes.len() < end {
-            return Ok(shown);
-        }
-        show_gap(piece, shown, start, show);
-    } else if !show_start(piece, shown, extent, show)? {
-        return Ok(shown);
+    if !is_one {
+        return show_numbers(piece, extent, length, meaning, name, show);
     }
     show.field(&Field {
         offset: piece.at(start),
-        bytes: piece.bytes.get(start..end).unwrap_or(&[]),
+        bytes: piece.bytes.get(start..extent.end).unwrap_or(&[]),
         name,
         number: None,
         meaning,
     });
-    Ok(end)
+    Ok(extent.end)
 }
 
-/// Where a field ends that begins at an offset of a structure, by the word for its length.
-fn field_end(bytes: &[u8], start: usize, length: &'static str) -> Result<usize, Fault> {
-    match length {
-        "*" => Ok(bytes.len()),
-        "z" => Ok(after_zero(bytes, start)),
-        _ => match length.strip_prefix('<') {
-            Some(end) => Ok(sum_of(end, bytes)?.number as usize),
-            None => Ok(start.saturating_add(sum_of(length, bytes)?.number as usize)),
-        },
-    }
+/// Where a field lies that begins at an offset of a structure, by the word for its length.
+fn field_extent(bytes: &[u8], start: usize, word: &'static str) -> Result<Extent, Fault> {
+    let end = match word {
+        "*" => bytes.len(),
+        "z" => after_zero(bytes, start),
+        _ => {
+            let (from, length) = match word.strip_prefix('<') {
+                Some(end) => (0, end),
+                None => (start, word),
+            };
+            from.saturating_add(sum_of(length, bytes).size()?)
+        }
+    };
+    Ok(Extent {
+        start,
+        end,
+        count: None,
+    })
 }
 
-/// Shows fields of one length, as far as they are there. It answers up to where the structure is shown then.
+/// Shows fields of the length that a word says, as far as they are there. It answers up to where the structure is shown
+/// then.
 fn show_numbers<S: Show>(
     piece: Piece<'_>,
     extent: Extent,
-    length: usize,
+    word: &'static str,
     meaning: Meaning,
     name: &'static str,
     show: &mut S,
-) -> usize {
+) -> Result<usize, Fault> {
     let mut shown = extent.start;
+    let length = sum_of(word, piece.bytes).size()?;
     if length == 0 {
-        return shown;
+        return Ok(shown);
     }
     let mut number: u64 = 0;
     for bytes in piece.bytes.get(shown..).unwrap_or(&[]).chunks(length) {
@@ -220,5 +222,5 @@ fn show_numbers<S: Show>(
         }
     }
     show_missing(piece.at(shown), extent, number, show);
-    shown
+    Ok(shown)
 }
