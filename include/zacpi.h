@@ -101,7 +101,8 @@ enum zacpi_refusal {
     /* The MADT (section 5.2.12). Its entries follow one another from byte 44 on. One begins where
      * its Length is at most the bytes left and at least 8, 12, 10, 8, 6, 12, 16, 16, 16, 16, 12,
      * 76, 24, 24, 16, 20 and 16 for Types 0 to 0x10, and 2 for any other Type, which is skipped. */
-    ZACPI_NO_APICS = 40,            /* no MADT, or no entry of a machine with APICs in the first */
+    ZACPI_NO_APICS = 40,            /* the first valid MADT has no entry of Types 0 to 5, 9 and 0xa;
+                                     * for zacpi_platform also if there is none */
     ZACPI_NO_GIC = 41,              /* the MADT has no GICD entry (section 5.2.12.15) */
     ZACPI_NO_SUCH_INTERRUPT = 42,   /* no ISA interrupt of this number comes to an I/O APIC */
     ZACPI_NO_SUCH_IO_APIC = 43,     /* no I/O APIC has this global system interrupt */
@@ -612,10 +613,20 @@ ZACPI_STATUS zacpi_pci_ecam_address(const struct zacpi_source *source, uint16_t 
 /* ---- Interrupts and processors of a PC (MADT, section 5.2.12) -------------------------------- */
 
 /* Polarity and trigger are the codes of MPS INTI Flags (section 5.2.12.5, table 5.26). Polarity,
- * bits 0 and 1: 0 as the bus has it, 1 active high, 3 active low. Trigger Mode, bits 2 and 3: 0 as
- * the bus has it, 1 edge, 3 level. */
-enum zacpi_polarity { ZACPI_POLARITY_BUS = 0, ZACPI_POLARITY_HIGH = 1, ZACPI_POLARITY_LOW = 3 };
-enum zacpi_trigger { ZACPI_TRIGGER_BUS = 0, ZACPI_TRIGGER_EDGE = 1, ZACPI_TRIGGER_LEVEL = 3 };
+ * bits 0 and 1: 0 as the bus has it, 1 active high, 2 reserved, 3 active low. Trigger Mode, bits 2
+ * and 3: 0 as the bus has it, 1 edge, 2 reserved, 3 level. */
+enum zacpi_polarity {
+    ZACPI_POLARITY_BUS = 0,
+    ZACPI_POLARITY_HIGH = 1,
+    ZACPI_POLARITY_RESERVED = 2,
+    ZACPI_POLARITY_LOW = 3
+};
+enum zacpi_trigger {
+    ZACPI_TRIGGER_BUS = 0,
+    ZACPI_TRIGGER_EDGE = 1,
+    ZACPI_TRIGGER_RESERVED = 2,
+    ZACPI_TRIGGER_LEVEL = 3
+};
 /* Disabled: Enabled, bit 0 of Flags, is 0. Waiting: an application processor, to be started.
  * Running: the boot one. */
 enum zacpi_processor_state {
@@ -642,17 +653,18 @@ struct zacpi_interrupt_source_override { /* Interrupt Source Override, section 5
     uint32_t global_system_interrupt; /* Global System Interrupt */
     uint8_t isa_source;               /* Source: the interrupt on the ISA bus */
     uint8_t polarity, trigger;        /* Polarity and Trigger Mode of Flags */
+    uint8_t bus;                      /* Bus: 0 ISA; other numbers are reserved */
 };
 struct zacpi_nmi_source { /* NMI Source, section 5.2.12.6 */
     uint32_t global_system_interrupt; /* Global System Interrupt */
     uint8_t polarity, trigger;        /* Polarity and Trigger Mode of Flags */
 };
-struct zacpi_nmi_line { /* Local APIC NMI and Local x2APIC NMI, sections 5.2.12.7 and 5.2.12.13.
-                         * Flags aren't read */
+struct zacpi_nmi_line { /* Local APIC NMI and Local x2APIC NMI, sections 5.2.12.7 and 5.2.12.13 */
     uint32_t processor_uid; /* ACPI Processor UID; 0 if it is of all processors */
     uint8_t of_all;         /* whether ACPI Processor UID is 0xff, or 0xffffffff for an x2APIC: all
                              * processors */
-    uint8_t lint;           /* Local APIC LINT#: 0 LINT0, 1 LINT1 */
+    uint8_t lint;           /* Local APIC LINT#: 0 LINT0, 1 LINT1; other numbers are reserved */
+    uint8_t polarity, trigger; /* Polarity and Trigger Mode of Flags */
 };
 struct zacpi_processor { /* Processor Local APIC and Processor Local x2APIC, sections 5.2.12.2 and
                           * 5.2.12.12 */
@@ -660,51 +672,73 @@ struct zacpi_processor { /* Processor Local APIC and Processor Local x2APIC, sec
     uint32_t local_apic_id; /* APIC ID or X2APIC ID */
     uint8_t state;          /* one of enum zacpi_processor_state */
     uint8_t is_boot;        /* whether it is the boot processor */
+    uint8_t is_online_capable; /* Online Capable, bit 1 of Flags: whether it can be enabled later;
+                                * reserved below revision 5 of the MADT */
+    uint8_t is_x2apic;      /* whether the entry is a Processor Local x2APIC */
 };
 
-/* Which controllers interrupts come to, and how many items the five lists below have, by the first
- * valid MADT (section 5.2.12). Without one, or if it has no entry of a machine with APICs (Types 0
- * to 5, 9 and 0xa, not 0x10), the model isn't known, and the calls below return ZACPI_NO_APICS.
- * Further errors: ZACPI_TABLE_MISSING "FACP", 44 to 49 of enum zacpi_refusal for the first entry of
- * the MADT at fault, of one entry's faults the least, and ZACPI_INVALID_GENERIC_ADDRESS if
+/* Which controllers interrupts come to, and how many items zacpi_platform's lists have, by the
+ * first valid MADT (section 5.2.12). Without one, or if it has no entry of Types 0 to 5, 9 and 0xa,
+ * `known` is 0. This call and zacpi_platform are strict: one entry at fault, or no FADT, is an
+ * error. Further errors: ZACPI_TABLE_MISSING "FACP", 44 to 49 of enum zacpi_refusal for the first
+ * entry of the MADT at fault, of one entry's faults the least, and ZACPI_INVALID_GENERIC_ADDRESS if
  * zacpi_get_pm_timer returns it. */
 ZACPI_STATUS zacpi_get_interrupt_model(const struct zacpi_source *source,
                                        struct zacpi_interrupt_model *out,
                                        struct zacpi_signature *signature);
-/* The I/O APICs, in the order of the first valid MADT (section 5.2.12.3). Further errors: those of
- * zacpi_get_interrupt_model, and ZACPI_NO_APICS if the model isn't known. */
+
+/* The lists of the MADT's entries, in its order, go by the entries that they are about and by
+ * nothing else: an entry at fault is listed as it stands, and changes nothing of the others. They
+ * end before the first byte at which no entry begins (44 to 49 of enum zacpi_refusal). The FADT
+ * isn't read. */
+
+/* The I/O APIC entries of the first valid MADT (section 5.2.12.3). Further errors:
+ * ZACPI_TABLE_MISSING "APIC", ZACPI_NO_APICS if no entry is of Types 0 to 5, 9 and 0xa. */
 ZACPI_STATUS zacpi_list_io_apics(const struct zacpi_source *source, struct zacpi_io_apic *out,
                                  size_t capacity, size_t *count, struct zacpi_signature *signature);
-/* The Interrupt Source Override entries (section 5.2.12.5), in the order of the first valid MADT.
- * Further errors: those of zacpi_get_interrupt_model, and ZACPI_NO_APICS if the model isn't known.
- * */
+/* The Interrupt Source Override entries of the first valid MADT (section 5.2.12.5), those of other
+ * buses than ISA and those with reserved codes among them. Further errors: ZACPI_TABLE_MISSING
+ * "APIC", ZACPI_NO_APICS if no entry is of Types 0 to 5, 9 and 0xa. */
 ZACPI_STATUS zacpi_list_overrides(const struct zacpi_source *source,
                                   struct zacpi_interrupt_source_override *out, size_t capacity,
                                   size_t *count, struct zacpi_signature *signature);
-/* The NMI Source entries (section 5.2.12.6), which name the I/O APIC pins that are non-maskable, in
- * the order of the first valid MADT. Further errors: those of zacpi_get_interrupt_model, and
- * ZACPI_NO_APICS if the model isn't known. */
+/* The NMI Source entries of the first valid MADT (section 5.2.12.6): the I/O APIC pins that are
+ * non-maskable. Further errors: ZACPI_TABLE_MISSING "APIC", ZACPI_NO_APICS if no entry is of Types
+ * 0 to 5, 9 and 0xa. */
 ZACPI_STATUS zacpi_list_nmi_sources(const struct zacpi_source *source, struct zacpi_nmi_source *out,
                                     size_t capacity, size_t *count,
                                     struct zacpi_signature *signature);
-/* The Local APIC NMI and Local x2APIC NMI entries (sections 5.2.12.7 and 5.2.12.13), which name
- * LINT pins, in the order of the first valid MADT. Those of one processor are those with `of_all`,
- * and those with its uid. Further errors: those of zacpi_get_interrupt_model, and ZACPI_NO_APICS if
- * the model isn't known. */
+/* The Local APIC NMI and Local x2APIC NMI entries of the first valid MADT (sections 5.2.12.7 and
+ * 5.2.12.13): the LINT pins that NMIs come to. Those of one processor are those with `of_all`, and
+ * those with its uid. Further errors: ZACPI_TABLE_MISSING "APIC", ZACPI_NO_APICS if no entry is of
+ * Types 0 to 5, 9 and 0xa. */
 ZACPI_STATUS zacpi_list_nmi_lines(const struct zacpi_source *source, struct zacpi_nmi_line *out,
                                   size_t capacity, size_t *count,
                                   struct zacpi_signature *signature);
-/* The processors, in the order of the first valid MADT: the first is the boot processor, also if it
- * is disabled (sections 5.2.12.1, 5.2.12.2 and 5.2.12.12). Further errors: those of
- * zacpi_get_interrupt_model, and ZACPI_NO_APICS if the model isn't known. */
+/* The Processor Local APIC and Processor Local x2APIC entries of the first valid MADT (sections
+ * 5.2.12.1, 5.2.12.2 and 5.2.12.12): the first is the boot processor, also if it is disabled.
+ * Further errors: ZACPI_TABLE_MISSING "APIC", ZACPI_NO_APICS if no entry is of Types 0 to 5, 9 and
+ * 0xa. */
 ZACPI_STATUS zacpi_list_processors(const struct zacpi_source *source, struct zacpi_processor *out,
                                    size_t capacity, size_t *count,
                                    struct zacpi_signature *signature);
 
-/* All of these at once, with the tables opened once: `out` gets what zacpi_get_interrupt_model
- * returns, with the numbers of all items, and each list as many items of its call above as there is
- * room for. Further errors: those of zacpi_get_interrupt_model, and ZACPI_NO_APICS if the model
- * isn't known. */
+struct zacpi_madt_fault {
+    uint64_t address;   /* of the entry's first byte, or of the first byte at which none begins */
+    uint32_t status;    /* its error, one of 44 to 49 of enum zacpi_refusal */
+    uint8_t entry_type; /* Type: the byte at that address */
+};
+/* The entries of the first valid MADT at fault, and last, if bytes are left at which no entry
+ * begins, those (section 5.2.12). Each has the error that zacpi_platform would return for it.
+ * Further errors: ZACPI_TABLE_MISSING "APIC". */
+ZACPI_STATUS zacpi_list_madt_faults(const struct zacpi_source *source, struct zacpi_madt_fault *out,
+                                    size_t capacity, size_t *count,
+                                    struct zacpi_signature *signature);
+
+/* The model and the five lists at once, with the tables opened once: `out` gets what
+ * zacpi_get_interrupt_model returns, with the numbers of all items, and each list as many items of
+ * its call above as there is room for. Further errors: those of zacpi_get_interrupt_model, and
+ * ZACPI_NO_APICS if the model isn't known. */
 ZACPI_STATUS zacpi_platform(const struct zacpi_source *source, struct zacpi_interrupt_model *out,
                             struct zacpi_processor *processors, size_t processors_capacity,
                             struct zacpi_io_apic *io_apics, size_t io_apics_capacity,
@@ -723,26 +757,28 @@ struct zacpi_io_apic_pin {
     uint32_t pin; /* from 0 on: the global system interrupt less Global System Interrupt Base */
 };
 
-/* How one of the 16 ISA interrupts comes to the I/O APICs: as its last override says, or as the
- * interrupt of the same number, active high and by edge (section 5.2.12.5). Further errors: those
- * of zacpi_get_interrupt_model, ZACPI_NO_APICS if the model isn't known, and
- * ZACPI_NO_SUCH_INTERRUPT for an irq above 15 and for one without an override whose number another
- * one's override has taken. */
+/* How one of the 16 ISA interrupts comes to the I/O APICs: as its last override of bus 0 says, or
+ * as the interrupt of the same number, active high and by edge (section 5.2.12.5). Further errors:
+ * ZACPI_TABLE_MISSING "APIC", ZACPI_NO_APICS if no entry of the first valid MADT is of Types 0 to
+ * 5, 9 and 0xa, 47 or else 48 of enum zacpi_refusal for reserved flags of that override, and
+ * ZACPI_NO_SUCH_INTERRUPT for an irq above 15, and for one without an override if the last override
+ * of another source of bus 0 leads to its number. */
 ZACPI_STATUS zacpi_isa_interrupt(const struct zacpi_source *source, uint8_t irq,
                                  struct zacpi_interrupt *out, struct zacpi_signature *signature);
 
 /* How the System Control Interrupt (SCI), SCI_INT of the first valid FADT, comes to the I/O APICs:
- * active low and by level, unless it is below 16 and its last override says otherwise (sections
- * 5.2.9 and 5.2.12.5). Further errors: those of zacpi_get_interrupt_model, and ZACPI_NO_APICS if
- * the model isn't known. */
+ * active low and by level, unless it is below 16 and its last override of bus 0 says otherwise
+ * (sections 5.2.9 and 5.2.12.5). Further errors: ZACPI_TABLE_MISSING "APIC", ZACPI_NO_APICS if no
+ * entry of the first valid MADT is of Types 0 to 5, 9 and 0xa, ZACPI_TABLE_MISSING "FACP", and 47
+ * or else 48 of enum zacpi_refusal for reserved flags of that override. */
 ZACPI_STATUS zacpi_sci_interrupt(const struct zacpi_source *source, struct zacpi_interrupt *out,
                                  struct zacpi_signature *signature);
 
 /* The I/O APIC that a global system interrupt comes to, and the pin there: the first one with the
  * greatest Global System Interrupt Base that is at most the interrupt (sections 5.2.12.3 and
- * 5.2.13). Only the I/O APIC itself can tell how many pins it has. Further errors: those of
- * zacpi_get_interrupt_model, ZACPI_NO_APICS if the model isn't known, and ZACPI_NO_SUCH_IO_APIC if
- * each base is above the interrupt. */
+ * 5.2.13). Only the I/O APIC itself can tell how many pins it has. Further errors:
+ * ZACPI_TABLE_MISSING "APIC", ZACPI_NO_APICS if no entry of the first valid MADT is of Types 0 to
+ * 5, 9 and 0xa, and ZACPI_NO_SUCH_IO_APIC if each base is above the interrupt. */
 ZACPI_STATUS zacpi_get_io_apic_pin(const struct zacpi_source *source,
                                    uint32_t global_system_interrupt, struct zacpi_io_apic_pin *out,
                                    struct zacpi_signature *signature);
@@ -750,7 +786,7 @@ ZACPI_STATUS zacpi_get_io_apic_pin(const struct zacpi_source *source,
 struct zacpi_isa_route {
     struct zacpi_interrupt interrupt; /* what zacpi_isa_interrupt returns, or zeros */
     struct zacpi_io_apic_pin pin;     /* what zacpi_get_io_apic_pin returns for it, or zeros */
-    uint8_t present;                  /* 0: zacpi_isa_interrupt returns ZACPI_NO_SUCH_INTERRUPT */
+    uint8_t present;                  /* 0: zacpi_isa_interrupt returns an error for this irq */
     uint8_t has_pin;                  /* 0: it isn't present, or zacpi_get_io_apic_pin returns
                                        * ZACPI_NO_SUCH_IO_APIC */
 };
@@ -759,7 +795,8 @@ struct zacpi_isa_interrupts {
 };
 
 /* All 16 ISA interrupts at once, each with its pin (sections 5.2.12.3 and 5.2.12.5). Further
- * errors: those of zacpi_get_interrupt_model, and ZACPI_NO_APICS if the model isn't known. */
+ * errors: ZACPI_TABLE_MISSING "APIC", ZACPI_NO_APICS if no entry of the first valid MADT is of
+ * Types 0 to 5, 9 and 0xa. */
 ZACPI_STATUS zacpi_list_isa_interrupts(const struct zacpi_source *source,
                                        struct zacpi_isa_interrupts *out,
                                        struct zacpi_signature *signature);

@@ -391,6 +391,20 @@ ZACPI_STATUS zacpi_list_processors(const struct zacpi_source *source, struct zac
                                    capacity, count, signature ? signature : &unasked);
 }
 
+zacpi_status zacpi_1_list_madt_faults(const struct zacpi_source *source,
+                                      struct zacpi_madt_fault *out, size_t capacity, size_t *count,
+                                      struct zacpi_signature *signature);
+ZACPI_NONNULL((1, 4))
+ZACPI_STATUS zacpi_list_madt_faults(const struct zacpi_source *source, struct zacpi_madt_fault *out,
+                                    size_t capacity, size_t *count,
+                                    struct zacpi_signature *signature) {
+    const struct zacpi_source kept_source = zacpi_source_kept(source);
+    struct zacpi_signature unasked;
+    return zacpi_1_list_madt_faults(&kept_source,
+                                    capacity ? out : (struct zacpi_madt_fault *)ZACPI_NOTHING,
+                                    capacity, count, signature ? signature : &unasked);
+}
+
 zacpi_status zacpi_1_platform(const struct zacpi_source *source, struct zacpi_interrupt_model *out,
                               struct zacpi_processor *processors, size_t processors_capacity,
                               struct zacpi_io_apic *io_apics, size_t io_apics_capacity,

@@ -123,8 +123,14 @@ static void tables(const struct zacpi_source *source, const struct printer *p) {
     for (i = 0; i < count; i++) stream(p, "ssdt ", list.streams + i);
 }
 
-static const char *polarity(uint8_t code) { return code == ZACPI_POLARITY_HIGH ? " high" : code == ZACPI_POLARITY_LOW ? " low" : " bus"; }
-static const char *trigger(uint8_t code) { return code == ZACPI_TRIGGER_EDGE ? " edge" : code == ZACPI_TRIGGER_LEVEL ? " level" : " bus"; }
+static const char *polarity(uint8_t code) {
+    static const char *const names[] = {" bus", " high", " reserved", " low"};
+    return names[code % 4];
+}
+static const char *trigger(uint8_t code) {
+    static const char *const names[] = {" bus", " edge", " reserved", " level"};
+    return names[code % 4];
+}
 
 static void interrupts(const struct zacpi_source *source, const struct printer *p) {
     struct zacpi_signature named = {{0}};
@@ -162,7 +168,8 @@ static void interrupts(const struct zacpi_source *source, const struct printer *
         say(p, "line ");
         if (list.nmi_lines[i].of_all) say(p, "all");
         else say_number(p, list.nmi_lines[i].processor_uid);
-        say(p, list.nmi_lines[i].lint ? " lint1" : " lint0");
+        say(p, " lint");
+        say_number(p, list.nmi_lines[i].lint);
         newline(p);
     }
 }

@@ -6,7 +6,7 @@
 #include "zacpi.h"
 
 #define BASE 0x100000u
-#define SIZE 0x10000u
+#define SIZE 0x14000u
 #define AT(n) (BASE + 0x200u * (n))       /* where table N lies */
 #define TAIL (BASE + SIZE - 36u)          /* the last 36 bytes: a header whose table isn't lent as a whole */
 #define CUT(n) (0x180000u + 0x1000u * (n)) /* three regions with the first bytes of a table each */
@@ -31,7 +31,8 @@ struct put {
 
 enum { EMPTY, ARM, PC, ODD, HOLES, SUM, DESKTOP, MOBILE, WORKSTATION, SERVER, SOHO, APPLIANCE, PERFORMANCE, TABLET,
        RESERVED, WIDE, TIMER_5, LEAST, OLD, HALF, HALF_X, UNITS, UNITS_10, UNITS_CUT,
-       UNITS_END, /* root tables, in the order of `tables` */
+       UNITS_END, SAPIC_BETWEEN, NMI_2, LENGTH_0, NO_FADT, BUS_1, TRIGGER_2,
+       LINT_2, /* root tables, in the order of `tables` */
        RSDP_0, RSDP_2, RSDP_MIXED, RSDP_LONG, RSDP_LOST, RSDP_CUT, RSDP_SHORT,
        RSDP_NONE, /* RSDPs, and the last one is none */
        MADT_GIC, GTDT, SRAT, SLIT, MCFG, FADT, MADT_PC, HPET_SHORT, HPET, MADT_CUT, GTDT_CUT, SRAT_CUT, SLIT_ODD,
@@ -42,7 +43,7 @@ enum { EMPTY, ARM, PC, ODD, HOLES, SUM, DESKTOP, MOBILE, WORKSTATION, SERVER, SO
        HPET_55, HPET_56, BGRT_55, BGRT_56, SPCR_79, SPCR_80, GTDT_95, GTDT_96, SRAT_47, SRAT_48, SLIT_43, SLIT_44,
        OEM2_35, OEM2_36, FADT_OLD, MADT_OLD, GTDT_OLD, SRAT_OLD, OEM_BYTE, FADT_HALF, SPCR_HALF, GTDT_HALF, MADT_HALF,
        MCFG_HALF, FADT_HALF_X, DMAR, DMAR_CUT, DMAR_END, DMAR_47, DMAR_48, IVRS, IVRS_10, IVRS_CUT, IVRS_END, IVRS_47,
-       IVRS_48 };
+       IVRS_48, MADT_SAPIC_BETWEEN, MADT_NMI_2, MADT_LENGTH_0, MADT_BUS_1, MADT_TRIGGER_2, MADT_LINT_2 };
 
 /* Entry[n] of an RSDT, from 36 on (section 5.2.7), and of an XSDT (section 5.2.8). */
 PUTS(no_fields, {36, 0, 0});
@@ -78,6 +79,14 @@ PUTS(old, {36, 4, AT(FADT_OLD)}, {40, 4, AT(MADT_OLD)}, {44, 4, AT(GTDT_OLD)}, {
 PUTS(half, {36, 4, AT(FADT_HALF)}, {40, 4, AT(SPCR_HALF)}, {44, 4, AT(GTDT_HALF)}, {48, 4, AT(MADT_HALF)},
      {52, 4, AT(MCFG_HALF)});
 PUTS(half_x, {36, 4, AT(FADT_HALF_X)});
+/* Machines that are named by what is at fault in their MADTs, and one that has no FADT. */
+PUTS(sapic_between, {36, 4, AT(FADT)}, {40, 4, AT(MADT_SAPIC_BETWEEN)});
+PUTS(nmi_2, {36, 4, AT(FADT)}, {40, 4, AT(MADT_NMI_2)});
+PUTS(length_0, {36, 4, AT(FADT)}, {40, 4, AT(MADT_LENGTH_0)});
+PUTS(no_fadt, {36, 4, AT(MADT_PC)});
+PUTS(bus_1, {36, 4, AT(FADT)}, {40, 4, AT(MADT_BUS_1)});
+PUTS(trigger_2, {36, 4, AT(FADT)}, {40, 4, AT(MADT_TRIGGER_2)});
+PUTS(lint_2, {36, 4, AT(FADT)}, {40, 4, AT(MADT_LINT_2)});
 
 PUTS(madt_gic,
     {44, 2, HEADER(0x0c, 24)}, {44 + 4, 4, 7} /* GIC ID */, {44 + 8, 8, 0x2f000000} /* Physical Base Address */,
@@ -218,6 +227,9 @@ static const struct table {
     {AT(OLD), "RSDT", 1, 58, old}, {AT(HALF), "RSDT", 1, 56, half}, {AT(HALF_X), "RSDT", 1, 40, half_x},
     {AT(UNITS), "RSDT", 1, 44, units}, {AT(UNITS_10), "RSDT", 1, 40, units_10},
     {AT(UNITS_CUT), "RSDT", 1, 44, units_cut}, {AT(UNITS_END), "RSDT", 1, 44, units_end},
+    {AT(SAPIC_BETWEEN), "RSDT", 1, 44, sapic_between}, {AT(NMI_2), "RSDT", 1, 44, nmi_2},
+    {AT(LENGTH_0), "RSDT", 1, 44, length_0}, {AT(NO_FADT), "RSDT", 1, 40, no_fadt}, {AT(BUS_1), "RSDT", 1, 44, bus_1},
+    {AT(TRIGGER_2), "RSDT", 1, 44, trigger_2}, {AT(LINT_2), "RSDT", 1, 44, lint_2},
     {AT(MADT_GIC), "APIC", 6, 346, madt_gic}, {AT(GTDT), "GTDT", 3, 260, gtdt}, {AT(SRAT), "SRAT", 3, 274, srat},
     {AT(SLIT), "SLIT", 1, 48, slit}, {AT(MCFG), "MCFG", 1, 108, mcfg}, {AT(FADT), "FACP", 6, 276, fadt},
     {AT(MADT_PC), "APIC", 4, 96, madt_pc}, {AT(HPET_SHORT), "HPET", 3, 48, no_fields}, {AT(HPET), "HPET", 1, 56, hpet},
@@ -264,6 +276,9 @@ static const struct table {
     {AT(IVRS), "IVRS", 2, 332, ivrs}, {AT(IVRS_10), "IVRS", 2, 76, ivrs_10}, {AT(IVRS_CUT), "IVRS", 2, 80, ivrs_cut},
     {AT(IVRS_END), "IVRS", 2, 80, ivrs_end}, {AT(IVRS_47), "IVRS", 2, 47, no_fields},
     {AT(IVRS_48), "IVRS", 2, 48, no_fields},
+    {AT(MADT_SAPIC_BETWEEN), "APIC", 5, 76, madt_sapic_between}, {AT(MADT_NMI_2), "APIC", 5, 70, madt_nmi_2},
+    {AT(MADT_LENGTH_0), "APIC", 5, 72, madt_length_0}, {AT(MADT_BUS_1), "APIC", 5, 82, madt_bus_1},
+    {AT(MADT_TRIGGER_2), "APIC", 5, 84, madt_trigger_2}, {AT(MADT_LINT_2), "APIC", 5, 78, madt_lint_2},
     {BIOS + 0x10000, "RSDT", 1, 36, no_fields}};
 
 /* RSDPs: the first byte of OEMID at 9, Revision at 15, RsdtAddress at 16, Length at 20, XsdtAddress at 24 (section

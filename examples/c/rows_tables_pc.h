@@ -139,6 +139,50 @@ PUTS(madt_unknown,
     {36, 4, 0xfee04000} /* Local Interrupt Controller Address */, {40, 4, 1} /* Flags: PCAT_COMPAT */,
     {44, 2, HEADER(0x80, 4)}, {48, 2, HEADER(0x10, 16)});
 PUTS(madt_sapic, {44, 2, HEADER(6, 16)});
+/* Two processors, and between them a Local SAPIC, which is at fault. */
+PUTS(madt_sapic_between,
+    {44, 2, HEADER(0, 8)}, {44 + 2, 1, 1} /* ACPI Processor UID */, {44 + 3, 1, 10} /* APIC ID */,
+    {44 + 4, 4, 1} /* Flags: Enabled */, {52, 2, HEADER(7, 16)},
+    {68, 2, HEADER(0, 8)}, {68 + 2, 1, 2} /* ACPI Processor UID */, {68 + 3, 1, 11} /* APIC ID */,
+    {68 + 4, 4, 2} /* Flags: Online Capable */);
+/* An NMI source whose polarity is reserved, before an override. */
+PUTS(madt_nmi_2,
+    {44, 2, HEADER(0, 8)}, {44 + 2, 1, 1} /* ACPI Processor UID */, {44 + 3, 1, 10} /* APIC ID */,
+    {44 + 4, 4, 1} /* Flags: Enabled */, {52, 2, HEADER(3, 8)}, {52 + 2, 2, 0xe} /* Flags: polarity 2, level */,
+    {52 + 4, 4, 30} /* Global System Interrupt */, {60, 2, HEADER(2, 10)}, {60 + 3, 1, 4} /* Source */,
+    {60 + 4, 4, 20} /* Global System Interrupt */, {60 + 8, 2, 0xd} /* Flags: active high, level */);
+/* After the second processor stands a Length of 0, and then an I/O APIC that nobody reaches. */
+PUTS(madt_length_0,
+    {44, 2, HEADER(0, 8)}, {44 + 2, 1, 1} /* ACPI Processor UID */, {44 + 3, 1, 10} /* APIC ID */,
+    {44 + 4, 4, 1} /* Flags: Enabled */, {52, 2, HEADER(0, 8)}, {52 + 2, 1, 2} /* ACPI Processor UID */,
+    {52 + 3, 1, 11} /* APIC ID; not Enabled */, {60, 2, HEADER(1, 0)}, {60 + 2, 2, HEADER(1, 10)});
+/* Overrides of one source, of which the middle one is of ISA. */
+PUTS(madt_bus_1,
+    {44, 2, HEADER(0, 8)}, {44 + 2, 1, 1} /* ACPI Processor UID */, {44 + 3, 1, 10} /* APIC ID */,
+    {44 + 4, 4, 1} /* Flags: Enabled */,
+    {52, 2, HEADER(2, 10)}, {52 + 2, 1, 1} /* Bus */, {52 + 3, 1, 4} /* Source */,
+    {52 + 4, 4, 21} /* Global System Interrupt */,
+    {62, 2, HEADER(2, 10)}, {62 + 3, 1, 4} /* Source */, {62 + 4, 4, 20} /* Global System Interrupt */,
+    {62 + 8, 2, 0xd} /* Flags: active high, level */,
+    {72, 2, HEADER(2, 10)}, {72 + 2, 1, 2} /* Bus */, {72 + 3, 1, 4} /* Source */,
+    {72 + 4, 4, 22} /* Global System Interrupt */);
+/* An I/O APIC, overrides with reserved codes of source 4 and of source 9, which is SCI_INT, and a Type that nothing
+ * defines. */
+PUTS(madt_trigger_2,
+    {44, 2, HEADER(1, 12)}, {44 + 2, 1, 2} /* I/O APIC ID */, {44 + 4, 4, 0xfec00000} /* I/O APIC Address */,
+    {56, 2, HEADER(2, 10)}, {56 + 3, 1, 4} /* Source */, {56 + 4, 4, 20} /* Global System Interrupt */,
+    {56 + 8, 2, 8} /* Flags: polarity as the bus, trigger 2 */,
+    {66, 2, HEADER(2, 10)}, {66 + 3, 1, 9} /* Source */, {66 + 4, 4, 7} /* Global System Interrupt */,
+    {66 + 8, 2, 0xa} /* Flags: polarity 2, trigger 2 */,
+    {76, 2, HEADER(0x80, 8)});
+/* A processor that isn't enabled yet, and two LINT pins, of which the first isn't one. */
+PUTS(madt_lint_2,
+    {44, 2, HEADER(9, 16)}, {44 + 4, 4, 5} /* X2APIC ID */, {44 + 8, 4, 2} /* Flags: Online Capable */,
+    {44 + 12, 4, 9} /* ACPI Processor UID */,
+    {60, 2, HEADER(4, 6)}, {60 + 2, 1, 0xff} /* ACPI Processor UID: all */,
+    {60 + 3, 2, 5} /* Flags: active high, edge */, {60 + 5, 1, 2} /* Local APIC LINT# */,
+    {66, 2, HEADER(0xa, 12)}, {66 + 2, 2, 0xb} /* Flags: active low, trigger 2 */,
+    {66 + 4, 4, 0xff} /* ACPI Processor UID */, {66 + 8, 1, 1} /* Local x2APIC LINT# */);
 
 /* Event Timer Block ID at 36, BASE_ADDRESS at 40, HPET Number at 52, Main Counter Minimum Clock_tick at 53, Page
  * Protection in the low four bits at 55, of which 3 to 15 are reserved. HPET_SHORT ends before BASE_ADDRESS does. */

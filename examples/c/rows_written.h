@@ -31,29 +31,30 @@ static const struct zacpi_hpet_info unprotected = {0x1fed00000, 0x8086a201, 0x12
 static const struct zacpi_hpet_info protected_64k = {0x1fed00000, 0x8086a201, 0x1234, 2, 2};
 static const struct zacpi_hpet_info reserved_protection = {0xfed00000, 0x8086a201, 0x80, 2, 9};
 /* The second one's ids are too large for a Processor Local APIC; the third one's uid alone, and the fourth one's id. */
-static const struct zacpi_processor listed[] = {{7, 2, ZACPI_PROCESSOR_RUNNING, 1},
-                                                {255, 0x1234, ZACPI_PROCESSOR_DISABLED, 0},
-                                                {255, 254, ZACPI_PROCESSOR_WAITING, 0},
-                                                {254, 255, ZACPI_PROCESSOR_WAITING, 0},
-                                                {254, 254, ZACPI_PROCESSOR_WAITING, 1}};
+static const struct zacpi_processor listed[] = {{7, 2, ZACPI_PROCESSOR_RUNNING, 1, 0, 0},
+                                                {255, 0x1234, ZACPI_PROCESSOR_DISABLED, 0, 0, 0},
+                                                {255, 254, ZACPI_PROCESSOR_WAITING, 0, 0, 0},
+                                                {254, 255, ZACPI_PROCESSOR_WAITING, 0, 0, 0},
+                                                {254, 254, ZACPI_PROCESSOR_WAITING, 1, 0, 0}};
 static const struct zacpi_io_apic controllers[] = {{0xfec00000, 24, 3}, {0xfe020304, 0x05060708, 0}};
 static const struct zacpi_interrupt_source_override wirings[] = {
-    {20, 9, ZACPI_POLARITY_LOW, ZACPI_TRIGGER_LEVEL}, {0x01020304, 0, ZACPI_POLARITY_HIGH, ZACPI_TRIGGER_BUS},
-    {5, 1, ZACPI_POLARITY_BUS, ZACPI_TRIGGER_LEVEL}};
+    {20, 9, ZACPI_POLARITY_LOW, ZACPI_TRIGGER_LEVEL, 0}, {0x01020304, 0, ZACPI_POLARITY_HIGH, ZACPI_TRIGGER_BUS, 0},
+    {5, 1, ZACPI_POLARITY_BUS, ZACPI_TRIGGER_LEVEL, 0}};
 static const struct zacpi_nmi_source sources_of_nmis[] = {{21, ZACPI_POLARITY_HIGH, ZACPI_TRIGGER_EDGE},
                                                         {0x01020304, ZACPI_POLARITY_BUS, ZACPI_TRIGGER_BUS}};
-static const struct zacpi_nmi_line lines_of_nmis[] = {{9, 1, 1}, {255, 0, 0}, {254, 0, 1}, {0xfffffffe, 0, 1}};
+static const struct zacpi_nmi_line lines_of_nmis[] = {{9, 1, 1, 0, 0}, {255, 0, 0, 0, 0}, {254, 0, 1, 0, 0},
+                                                       {0xfffffffe, 0, 1, 0, 0}};
 /* The second one's uid stands for all processors, or its id. */
-static const struct zacpi_processor of_all_uids[] = {{7, 2, ZACPI_PROCESSOR_RUNNING, 1},
-                                                     {0xffffffff, 1, ZACPI_PROCESSOR_RUNNING, 0}};
-static const struct zacpi_processor of_all_ids[] = {{7, 2, ZACPI_PROCESSOR_RUNNING, 1},
-                                                    {1, 0xffffffff, ZACPI_PROCESSOR_RUNNING, 0}};
-static const struct zacpi_interrupt_source_override no_polarity[] = {{20, 9, 2, ZACPI_TRIGGER_LEVEL}};
-static const struct zacpi_interrupt_source_override no_trigger[] = {{20, 9, ZACPI_POLARITY_LOW, 4}};
+static const struct zacpi_processor of_all_uids[] = {{7, 2, ZACPI_PROCESSOR_RUNNING, 1, 0, 0},
+                                                     {0xffffffff, 1, ZACPI_PROCESSOR_RUNNING, 0, 0, 0}};
+static const struct zacpi_processor of_all_ids[] = {{7, 2, ZACPI_PROCESSOR_RUNNING, 1, 0, 0},
+                                                    {1, 0xffffffff, ZACPI_PROCESSOR_RUNNING, 0, 0, 0}};
+static const struct zacpi_interrupt_source_override no_polarity[] = {{20, 9, 2, ZACPI_TRIGGER_LEVEL, 0}};
+static const struct zacpi_interrupt_source_override no_trigger[] = {{20, 9, ZACPI_POLARITY_LOW, 4, 0}};
 static const struct zacpi_nmi_source no_source_trigger[] = {{21, ZACPI_POLARITY_LOW, 2}};
 static const struct zacpi_nmi_source no_source_polarity[] = {{21, 4, ZACPI_TRIGGER_BUS}};
-static const struct zacpi_nmi_line no_lint[] = {{9, 0, 2}};
-static const struct zacpi_nmi_line line_of_all[] = {{0xffffffff, 0, 1}};
+static const struct zacpi_nmi_line no_lint[] = {{9, 0, 2, 0, 0}};
+static const struct zacpi_nmi_line line_of_all[] = {{0xffffffff, 0, 1, 0, 0}};
 /* The second one's id is too large for a Processor Local APIC/SAPIC Affinity; the second range ends at 2^64 - 1. */
 static const struct zacpi_apic_domain domains_of_apics[] = {{254, 0x04030201}, {300, 1}};
 static const struct zacpi_gicc_domain domains_of_giccs[] = {{0x0a0b0c0d, 0x01020304}};

@@ -142,6 +142,7 @@ lists! {
     zacpi_1_list_nmi_sources() -> NmiSource;
     zacpi_1_list_nmi_lines() -> NmiLine;
     zacpi_1_list_processors() -> Processor;
+    zacpi_1_list_madt_faults() -> MadtFault;
     zacpi_1_list_gic_cpu_interfaces() -> GicCpuInterface;
     zacpi_1_list_gic_redistributors() -> Range;
     zacpi_1_list_gic_translation_services() -> GicTranslationService;

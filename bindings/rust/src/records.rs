@@ -139,10 +139,11 @@ records! {
     EcamRange { address: u64, length: u64, segment_group: u16, present: u8, }
     InterruptModel { local_apic_address: u64, io_apics: usize, overrides: usize, nmi_sources: usize,
         nmi_lines: usize, processors: usize, known: u8, also_has_8259: u8, }
-    InterruptSourceOverride { global_system_interrupt: u32, isa_source: u8, polarity: u8, trigger: u8, }
+    InterruptSourceOverride { global_system_interrupt: u32, isa_source: u8, polarity: u8, trigger: u8, bus: u8, }
     NmiSource { global_system_interrupt: u32, polarity: u8, trigger: u8, }
-    NmiLine { processor_uid: u32, of_all: u8, lint: u8, }
-    Processor { uid: u32, local_apic_id: u32, state: u8, is_boot: u8, }
+    NmiLine { processor_uid: u32, of_all: u8, lint: u8, polarity: u8, trigger: u8, }
+    Processor { uid: u32, local_apic_id: u32, state: u8, is_boot: u8, is_online_capable: u8, is_x2apic: u8, }
+    MadtFault { address: u64, status: u32, entry_type: u8, }
     Interrupt { global_system_interrupt: u32, polarity: u8, trigger: u8, }
     IsaRoute { interrupt: Interrupt, pin: IoApicPin, present: u8, has_pin: u8, }
     IsaInterrupts { routes: [IsaRoute; 16], }

@@ -1,16 +1,17 @@
 //! The interrupt model and the processors, and how interrupts come to the I/O APICs.
-ghost use Rattle.std.specs.Prelude.{◌≡◌};
-ghost use Rattle.acpi_c_lib.specs.Words.{Answers, AnswersList, items_said, put_from, isa_list_below, below_platform, counts_of, io_apics_of, nmi_lines_of, nmi_sources_of, overrides_of, processors_of, below_apics, below_known, isa_below, pin_below, sci_below};
+ghost use Rattle.std.specs.Prelude.{◌≡◌, filter_map};
+ghost use Rattle.acpi_c_lib.specs.Words.{Answers, AnswersList, items_beside, put_from, isa_list_below, below_platform, counts_of, io_apic_in, madt_faults_below, nmi_line_in, nmi_source_in, override_in, processors_of, below_apics, below_known, isa_below, pin_below, sci_below};
 
 use acpi_c_lib::answer::answer;
+use acpi_c_lib::apics::{entries, processors};
 use acpi_c_lib::interrupt_records::{
-    Interrupt, InterruptModel, InterruptSourceOverride, IoApic, IoApicPin, IsaInterrupts, NmiLine,
-    NmiSource, Processor,
+    Interrupt, InterruptModel, InterruptSourceOverride, IoApic, IoApicPin, IsaInterrupts,
+    MadtFault, NmiLine, NmiSource, Processor,
 };
-use acpi_c_lib::interrupts::entries;
 use acpi_c_lib::isa_list::isa_list;
+use acpi_c_lib::madt_faults::madt_faults;
 use acpi_c_lib::platform::platform;
-use acpi_c_lib::processors::{model, processors};
+use acpi_c_lib::processors::model;
 use acpi_c_lib::records::{Signature, Source};
 use acpi_c_lib::routes::{isa, pin, sci};
 
@@ -35,7 +36,7 @@ pub extern "C" fn zacpi_1_list_processors(
     named: &mut Signature,
 ) -> u32
     ensures { AnswersList result out.old out.new count.old count.new named.old named.new
-        (below_known source.now processors_of) }
+        (below_apics source.now processors_of) }
 {
     answer(processors(source, out), count, named)
 }
@@ -54,15 +55,20 @@ pub extern "C" fn zacpi_1_platform(
 ) -> u32
     ensures model { Answers result out.old out.new named.old named.new (below_known source.now counts_of) }
     ensures processors { processors.new
-        ≡ put_from processors.old 0 (items_said (below_known source.now processors_of)) }
+        ≡ put_from processors.old 0 (items_beside (below_known source.now counts_of)
+        (below_apics source.now processors_of)) }
     ensures io_apics { io_apics.new
-        ≡ put_from io_apics.old 0 (items_said (below_apics source.now io_apics_of)) }
+        ≡ put_from io_apics.old 0 (items_beside (below_known source.now counts_of)
+        (below_apics source.now (filter_map io_apic_in))) }
     ensures overrides { overrides.new
-        ≡ put_from overrides.old 0 (items_said (below_apics source.now overrides_of)) }
+        ≡ put_from overrides.old 0 (items_beside (below_known source.now counts_of)
+        (below_apics source.now (filter_map override_in))) }
     ensures nmi_sources { nmi_sources.new
-        ≡ put_from nmi_sources.old 0 (items_said (below_apics source.now nmi_sources_of)) }
+        ≡ put_from nmi_sources.old 0 (items_beside (below_known source.now counts_of)
+        (below_apics source.now (filter_map nmi_source_in))) }
     ensures nmi_lines { nmi_lines.new
-        ≡ put_from nmi_lines.old 0 (items_said (below_apics source.now nmi_lines_of)) }
+        ≡ put_from nmi_lines.old 0 (items_beside (below_known source.now counts_of)
+        (below_apics source.now (filter_map nmi_line_in))) }
 {
     let said = platform(
         source,
@@ -84,7 +90,7 @@ pub extern "C" fn zacpi_1_list_io_apics(
     named: &mut Signature,
 ) -> u32
     ensures { AnswersList result out.old out.new count.old count.new named.old named.new
-        (below_apics source.now io_apics_of) }
+        (below_apics source.now (filter_map io_apic_in)) }
 {
     answer(entries(source, out), count, named)
 }
@@ -98,7 +104,7 @@ pub extern "C" fn zacpi_1_list_overrides(
     named: &mut Signature,
 ) -> u32
     ensures { AnswersList result out.old out.new count.old count.new named.old named.new
-        (below_apics source.now overrides_of) }
+        (below_apics source.now (filter_map override_in)) }
 {
     answer(entries(source, out), count, named)
 }
@@ -112,7 +118,7 @@ pub extern "C" fn zacpi_1_list_nmi_sources(
     named: &mut Signature,
 ) -> u32
     ensures { AnswersList result out.old out.new count.old count.new named.old named.new
-        (below_apics source.now nmi_sources_of) }
+        (below_apics source.now (filter_map nmi_source_in)) }
 {
     answer(entries(source, out), count, named)
 }
@@ -126,7 +132,7 @@ pub extern "C" fn zacpi_1_list_nmi_lines(
     named: &mut Signature,
 ) -> u32
     ensures { AnswersList result out.old out.new count.old count.new named.old named.new
-        (below_apics source.now nmi_lines_of) }
+        (below_apics source.now (filter_map nmi_line_in)) }
 {
     answer(entries(source, out), count, named)
 }
@@ -179,4 +185,18 @@ pub extern "C" fn zacpi_1_list_isa_interrupts(
     ensures { Answers result out.old out.new named.old named.new (isa_list_below source.now) }
 {
     answer(isa_list(source, out), &mut (), named)
+}
+
+/// The entries of the MADT at fault and, last, the malformed front that ends them (section 5.2.12).
+#[unsafe(no_mangle)]
+pub extern "C" fn zacpi_1_list_madt_faults(
+    source: &Source<'_>,
+    out: &mut [MadtFault],
+    count: &mut usize,
+    named: &mut Signature,
+) -> u32
+    ensures { AnswersList result out.old out.new count.old count.new named.old named.new
+        (madt_faults_below source.now) }
+{
+    answer(madt_faults(source, out), count, named)
 }

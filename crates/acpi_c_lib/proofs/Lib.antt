@@ -1,6 +1,9 @@
+pub mod ApicLists
 pub mod Ascending
 pub mod Clipping
+pub mod FaultLists
 pub mod IsaList
+pub mod StrictLists
 pub mod Unlent
 pub mod Written
 pub mod WrittenTables

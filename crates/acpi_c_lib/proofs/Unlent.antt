@@ -229,7 +229,7 @@ lent_short m a n bytes e =
     let both = cond_some _ _ _ (some_lent _ _ e) in
     subst (λ (b : List ℕ). length b ≤ n) both.1 (omega (arith, length-take n (rest_from m a)))
 
-table_ends : (m : Memory) (k : Kind) (p : ℕ) (table : List ℕ) → IsMemory m → 0 < length table
+pub table_ends : (m : Memory) (k : Kind) (p : ℕ) (table : List ℕ) → IsMemory m → 0 < length table
     → table_at m k p ≡ Ok table → p + length table < 2 ^ 64
 table_ends m k p table h some e =
     let passes = passed m k p table e in

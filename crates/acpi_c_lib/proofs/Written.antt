@@ -1,7 +1,7 @@
 -- Lists that are written, in one part or in two, and how many items they have at most.
 use Rattle.std.proofs.Common.{◌≡◌, ◌∙◌, ◌+◌, ℕ, List, [], ◌∷◌, ◌++◌, length, length-append, slice_set, ap, sym, arith, drop, zero, suc, map, Some, None, true, refl, add-one, ◌<◌, ◌*◌, ◌≤◌, Bool, false, Option, length-drop, inl, inr, take, nat_lt, ◌==◌, ◌&&◌, ◌||◌, not, nat_le, if◌then◌else◌, filter, Ok, filter_map, option_map}
 use Rattle.acpi_base.proofs.FromStd.{append-nil, length-map, nat_tests, length-filter, count_by-le-length}
-use Rattle.acpi_c_lib.specs.Words.{Writes, put_from, MadtItem, left_after, listed, processor_record, Processor, plain_grammar, plain_layout, GtFrame, frame_record, frames_in, frames_of, frames_shown, watchdog_in, watchdogs_shown}
+use Rattle.acpi_c_lib.specs.Words.{Writes, put_from, MadtItem, listed, plain_grammar, plain_layout, GtFrame, frame_record, frames_in, frames_of, frames_shown, watchdog_in, watchdogs_shown}
 use Rattle.acpi.proofs.First.{filter_map_few}
 use Rattle.acpi_base.specs.FromStd.{concat, AllByRecursion, cons_option, list_all}
 use Rattle.acpi_base.specs.Words.{processor_in, processors_of, IsBytes, field_of, IsEntry, after_one, cut, number_in, width_of, with_entry, ◌>>=◌, holds}
@@ -39,19 +39,6 @@ one_part old new xs n first counted = rw (append-nil xs) (omega (arith, counted)
 pub found_few : {X Y Z : Type 0} (f : Y → Z) (g : X → Option Y) (xs : List X)
     → length (map f (filter_map g xs)) ≤ length xs
 found_few f g xs = omega (arith, length-map (filter_map g xs) f, filter_map_few g xs)
-
--- ---- processors: the first is the boot processor
-
-pub next_some : (n : ℕ) (x : MadtItem) (items : List MadtItem) (r : Processor)
-    → option_map processor_record (processor_in (nat_lt 0 n) x) ≡ Some r
-    → left_after n (x ∷ items) ≡ r ∷ left_after (n + 1) items
-next_some zero x items r e = grind (arith, e)
-next_some (suc n) x items r e = grind (arith, e, add-one (suc n))
-
-pub next_none : (n : ℕ) (x : MadtItem) (items : List MadtItem)
-    → option_map processor_record (processor_in (nat_lt 0 n) x) ≡ None → left_after n (x ∷ items) ≡ left_after n items
-next_none zero x items e = grind (arith, e)
-next_none (suc n) x items e = grind (arith, e)
 
 -- as many are listed as there are entries of processors
 pub as_many : (items : List MadtItem) → length (listed (processors_of items))

@@ -47,6 +47,11 @@ abbrev pub items_said : {X : Type 0} → Result (List X) Refusal → List X
 items_said (Ok xs) = xs
 items_said (Err e) = []
 
+-- the items of an answer where another call isn't refused
+abbrev pub items_beside : {A X : Type 0} → Result A Refusal → Result (List X) Refusal → List X
+items_beside (Ok x) said = items_said said
+items_beside (Err e) said = []
+
 -- how many items there are, or the refusal; and the items were written as far as there is room
 abbrev pub Fills : {X : Type 0} → Result ℕ Refusal → List X → List X → Result (List X) Refusal → Type 0
 Fills count old new said = (count ≡ result_map length said) × (new ≡ put_from old 0 (items_said said))

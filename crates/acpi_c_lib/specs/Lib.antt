@@ -1,5 +1,7 @@
 pub mod Answers
+pub mod Apics
 pub mod Arm
+pub mod ApicLaws
 pub mod ArmTimers
 pub mod Below
 pub mod Clip
@@ -14,6 +16,7 @@ pub mod Iommu
 pub mod IsaList
 pub mod Listed
 pub mod Located
+pub mod MadtFaults
 pub mod Missing
 pub mod Model
 pub mod Numa

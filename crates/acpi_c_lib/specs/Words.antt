@@ -1,5 +1,8 @@
 -- This crate's words: what proofs, contracts and the crates above bring in from its specs.
-pub use Rattle.acpi_c_lib.specs.Answers.{Answers, AnswersList, AnswersPlain, AnswersSome, Fills, GivesSome, Writes, items_said, name_or, put_from, result_map}
+pub use Rattle.acpi_c_lib.specs.Answers.{Answers, AnswersList, AnswersPlain, AnswersSome, Fills, GivesSome, Writes, items_beside, items_said, name_or, put_from, result_map}
+pub use Rattle.acpi_c_lib.specs.ApicLaws.{ListsAreModels}
+pub use Rattle.acpi_c_lib.specs.Apics.{MadtEntry, below_apics, boot_first, booted, io_apic_in, is_of_apics, local_apic_address_in, nmi_line, nmi_line_in, nmi_source_in, override_in, processor, processor_in, processors_of}
+unfoldable pub use Rattle.acpi_c_lib.specs.Apics.{apic_entries}
 pub use Rattle.acpi_c_lib.specs.Arm.{below_gic, cpu_interfaces_shown, distributor_shown, msi_frames_shown, redistributors_shown, translation_services_shown}
 pub use Rattle.acpi_c_lib.specs.ArmTimers.{GtFrame, arm_timer_or, arm_timer_record, frame_record, frames_in, frames_of, frames_shown, gtdt_below, or_ones, timers_record, timers_shown, watchdog_in, watchdogs_of, watchdogs_shown}
 pub use Rattle.acpi_c_lib.specs.Below.{AcpiError, Refusal, Source, ebda_in, opened_in, refused_as}
@@ -18,11 +21,13 @@ pub use Rattle.acpi_c_lib.specs.Listed.{lists_by, lists_each, lists_found, lists
 pub use Rattle.acpi_c_lib.specs.Located.{LiesOnlyAt, Place, located, spot_from}
 pub use Rattle.acpi_c_lib.specs.Missing.{Areas, CandidatesHaveHoles, Fits, IsUnlent, LedHaveHoles, MembersHaveHoles, OpeningHasHole, areas_holes, areas_of, hole, last_range, member_hole, missing_below, missing_in, no_areas, opening_ranges, pieces, range_of, stretch}
 unfoldable pub use Rattle.acpi_c_lib.specs.Missing.{candidate_hole, candidate_holes, has_valid, opened_as_lent_ranges, walk_holes}
-pub use Rattle.acpi_c_lib.specs.Model.{MadtItem, apics_by, below_platform, counts_of, io_apic_record, io_apics_of, left_after, listed, model_by, nmi_line_record, nmi_lines_of, nmi_source_record, nmi_sources_of, override_record, overrides_of, processor_record, processors_in, processors_of, state_code}
+pub use Rattle.acpi_c_lib.specs.MadtFaults.{error_of, fault, faults_from, faults_of, flags_error, madt_faults_below}
+unfoldable pub use Rattle.acpi_c_lib.specs.MadtFaults.{found_madt}
+pub use Rattle.acpi_c_lib.specs.Model.{MadtItem, apics_by, below_platform, counts_of, io_apic_record, listed, model_by, platform_model}
 pub use Rattle.acpi_c_lib.specs.Numa.{IsLocalities, affinities_below, affinity_record, distance_below, domain_of_address_below, domain_of_apic_below, domain_of_processor_below, numa_refusal, slit_in}
 pub use Rattle.acpi_c_lib.specs.Regions.{Region, check_from, check_regions, memory_in, memory_of, region_of}
-pub use Rattle.acpi_c_lib.specs.Routes.{Interrupt, IoApicPin, below_apics, below_known, interrupt_or, interrupt_record, is_nearer, isa_below, pin_below, pin_or, sci_below}
-unfoldable pub use Rattle.acpi_c_lib.specs.Routes.{known_apics}
+pub use Rattle.acpi_c_lib.specs.Routes.{AreWirings, Interrupt, IoApicPin, apic_in, below_known, has_codes, interrupt_or, interrupt_record, is_nearer, isa_below, isa_in, isa_override_in, last_override, own_override, pin_below, pin_in, pin_or, sci_below, sci_in, wirings_of}
+unfoldable pub use Rattle.acpi_c_lib.specs.Routes.{known_platform}
 pub use Rattle.acpi_c_lib.specs.Shown.{aml_record, dsdt_below, ecam_below, ecam_ranges_below, ecam_record, hpet_below, pci_record, pci_regions_below, root_below, signature_named, table_below, table_in, table_record, tables_below, tables_in}
 pub use Rattle.acpi_c_lib.specs.Types.{Acpi, ArmTimers, Bgrt, Fadt, Gic, Hpet, Madt, Mcfg, Spcr, Srat, UnknownStart, Writer}
 pub use Rattle.acpi_c_lib.specs.Walked.{nth_below, nth_in, range_record, ranges_below, ssdts_below}

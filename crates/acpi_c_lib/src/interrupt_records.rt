@@ -31,6 +31,7 @@ pub struct InterruptSourceOverride {
     pub isa_source: u8,
     pub polarity: u8,
     pub trigger: u8,
+    pub bus: u8,
 }
 
 /// A non-maskable interrupt (NMI Source, section 5.2.12.6).
@@ -49,6 +50,8 @@ pub struct NmiLine {
     pub processor_uid: u32,
     pub of_all: u8,
     pub lint: u8,
+    pub polarity: u8,
+    pub trigger: u8,
 }
 
 /// A processor (Processor Local APIC and Processor Local x2APIC, sections 5.2.12.2 and 5.2.12.12).
@@ -59,6 +62,8 @@ pub struct Processor {
     pub local_apic_id: u32,
     pub state: u8,
     pub is_boot: u8,
+    pub is_online_capable: u8,
+    pub is_x2apic: u8,
 }
 
 /// How an interrupt comes to the I/O APICs (section 5.2.12.5).
@@ -93,4 +98,13 @@ pub struct IsaRoute {
 #[derive(Clone, Copy)]
 pub struct IsaInterrupts {
     pub routes: [IsaRoute; 16],
+}
+
+/// An entry of a MADT at fault, or the malformed front that ends its entries (section 5.2.12).
+#[repr(C)]
+#[derive(Clone, Copy)]
+pub struct MadtFault {
+    pub address: u64,
+    pub status: u32,
+    pub entry_type: u8,
 }

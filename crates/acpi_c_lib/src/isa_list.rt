@@ -1,68 +1,53 @@
 //! How all ISA interrupts come to the I/O APICs, by one walk along the overrides and one along the I/O APICs.
-ghost use Rattle.std.specs.Prelude.{◌≡◌, ◌<◌, ℕ, None, map, slice_index_or, filter_map};
+ghost use Rattle.std.specs.Prelude.{◌≡◌, ◌<◌, ℕ, None, map, slice_index_or};
 ghost use Rattle.acpi_base.specs.FromStd.{result_unwrap_or};
-ghost use Rattle.acpi_base.specs.Words.{isa_interrupt, IsGathered, bytes_of, io_apic_in, items_of, override_in};
-ghost use Rattle.acpi_c_lib.specs.Words.{result_map, isa_list_below, isa_numbers, isa_route, nearer_of, no_route, number_of, route_of};
+ghost use Rattle.acpi_base.specs.Words.{entries_of};
+ghost use Rattle.acpi_c_lib.specs.Words.{result_map, isa_in, isa_list_below, isa_numbers, isa_route, nearer_of, no_route, number_of, route_of};
 
-use crate::interrupt_records::{IoApicPin, IsaInterrupts, IsaRoute};
-use crate::interrupts::{io_apic_record, known_madt};
+use crate::apics::apics;
+use crate::interrupt_records::{Interrupt, IoApicPin, IsaInterrupts, IsaRoute};
+use crate::interrupts::io_apic_record;
 use crate::records::Source;
 use crate::refusal::Refusal;
 use crate::regions::Mapped;
-use crate::routes::interrupt_record;
-use acpi::madt::Madt;
-use acpi::platform::interrupt::{IoApic, IsaInterrupt};
-use acpi::{Lender, PhysicalMapping};
-use acpi_base::model::{IsaOverrides, MadtItem};
+use crate::routes::io_apic;
+use crate::wirings::Wirings;
+use acpi::platform::interrupt::IoApic;
+use acpi_base::madt::MadtEntryIter;
 
 /// Writes the 16 ISA interrupts, each with its pin. They are written in place, since a copy takes much of the stack.
 pub fn isa_list(source: &Source<'_>, out: &mut IsaInterrupts) -> Result<(), Refusal>
-    ensures status { result ≡ result_map (λ _. tt) (isa_list_below source.now) }
+    ensures said { result ≡ result_map (λ list. tt) (isa_list_below source.now) }
     ensures written { out.new ≡ result_unwrap_or (isa_list_below source.now) out.old }
 {
     let memory = Mapped::new(source.regions);
-    let found = known_madt(&memory, source)?;
-    write_routes(&found.madt, &mut out.routes);
+    let madt = apics(&memory, source)?;
+    write_routes(madt.bytes(), &mut out.routes);
     Ok(())
 }
 
 /// Writes those of a MADT that describes APICs.
-fn write_routes<H: Lender>(madt: &PhysicalMapping<'_, H, Madt>, routes: &mut [IsaRoute; 16])
-    ensures { let items = items_of (bytes_of madt.now) in routes.new
-        ≡ map (isa_route (filter_map override_in items) (filter_map io_apic_in items)) isa_numbers }
+fn write_routes(table: &[u8], routes: &mut [IsaRoute; 16])
+    ensures { routes.new ≡ map (isa_route (entries_of table.now)) isa_numbers }
 {
-    write_interrupts(madt, routes);
-    for item in madt.items() {
-        if let MadtItem::IoApic(io_apic) = item {
+    write_interrupts(table, routes);
+    for entry in MadtEntryIter::over(table) {
+        if let Some(io_apic) = io_apic(&entry) {
             meet_all(routes, &io_apic);
         }
     }
 }
 
 /// Writes each ISA interrupt, without its pin.
-fn write_interrupts<H: Lender>(madt: &PhysicalMapping<'_, H, Madt>, routes: &mut [IsaRoute; 16])
-    ensures { (irq : ℕ) → irq < 16 → slice_index_or routes.new irq no_route
-        ≡ route_of (isa_interrupt (filter_map override_in (items_of (bytes_of madt.now))) irq) None }
+fn write_interrupts(table: &[u8], routes: &mut [IsaRoute; 16])
+    ensures { (irq : ℕ) → irq < 16
+        → slice_index_or routes.new irq no_route ≡ route_of (isa_in (entries_of table.now) irq) None }
 {
-    let gathered = overrides_in(madt);
+    let wirings = Wirings::among(table);
     for irq in 0..16 {
-        routes[irq] = without_pin(gathered.isa_interrupt(irq as u8));
+        routes[irq] = without_pin(wirings.isa(irq as u8));
     }
 }
-
-/// What the overrides among the entries say of the ISA interrupts.
-pub(crate) fn overrides_in<H: Lender>(madt: &PhysicalMapping<'_, H, Madt>) -> IsaOverrides
-    ensures { IsGathered (filter_map override_in (items_of (bytes_of madt.now))) result }
-{
-    let mut gathered = IsaOverrides::new();
-    for item in madt.items() {
-        if let MadtItem::Override(wiring) = item {
-            gathered.add(&wiring);
-        }
-    }
-    gathered
-}
-
 /// Of each interrupt, the pin of this I/O APIC if it is nearer than the one so far.
 fn meet_all(routes: &mut [IsaRoute; 16], io_apic: &IoApic)
     ensures { (irq : ℕ) → irq < 16 → (interrupt : _) (found : _)
@@ -99,15 +84,15 @@ fn meet(route: IsaRoute, io_apic: &IoApic) -> IsaRoute
 }
 
 /// An interrupt, if there is one, that comes to no I/O APIC so far.
-fn without_pin(interrupt: Option<IsaInterrupt>) -> IsaRoute
+fn without_pin(interrupt: Result<Interrupt, Refusal>) -> IsaRoute
     ensures { result ≡ route_of interrupt None }
 {
     match interrupt {
-        Some(interrupt) => IsaRoute {
-            interrupt: interrupt_record(interrupt),
+        Ok(interrupt) => IsaRoute {
+            interrupt,
             present: 1,
             ..IsaRoute::default()
         },
-        None => IsaRoute::default(),
+        Err(_) => IsaRoute::default(),
     }
 }

@@ -1,5 +1,5 @@
 //! Laws of the definitions, each the contract of a call that does nothing.
-ghost use Rattle.acpi_c_lib.specs.Words.{ItemsAreAnswers, CandidatesHaveHoles, LedHaveHoles, MembersHaveHoles, OpeningHasHole};
+ghost use Rattle.acpi_c_lib.specs.Words.{ItemsAreAnswers, CandidatesHaveHoles, LedHaveHoles, ListsAreModels, MembersHaveHoles, OpeningHasHole};
 
 /// Each member of the root table that is refused with `MapFailed` has a range among those that
 /// `zacpi_list_missing_ranges` lists, and that range lies in no one region.
@@ -34,4 +34,9 @@ pub fn a_refused_opening_has_a_range()
 #[tactic(auto, using(crate::proofs::IsaList::items_are_answers))]
 pub fn items_are_answers()
     ensures { ItemsAreAnswers }
+{}
+
+/// Of a MADT none of whose entries is at fault, the lists of its entries are those of `PlatformInfo`.
+pub fn lists_are_models()
+    ensures { ListsAreModels }
 {}

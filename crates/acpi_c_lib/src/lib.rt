@@ -7,6 +7,7 @@
 #![tactic(auto)]
 
 pub mod answer;
+pub mod apics;
 pub mod arm_records;
 pub mod arm_timers;
 mod candidates;
@@ -25,6 +26,7 @@ pub mod iommu_records;
 pub mod isa_list;
 pub mod laws;
 mod lists;
+pub mod madt_faults;
 pub mod missing;
 pub mod numa;
 pub mod numa_records;
@@ -38,5 +40,6 @@ pub mod regions;
 pub mod routes;
 pub mod tables;
 pub mod walks;
+mod wirings;
 pub mod writing;
 pub mod written_records;

@@ -1,22 +1,22 @@
-//! The interrupt model with all its lists at once: the entries of the MADT are walked along once to count them, and once
-//! to write them.
-ghost use Rattle.std.specs.Prelude.{◌≡◌, ◌∷◌, ◌+◌, ◌^◌, ◌<◌, ◌≤◌, List, length, map, filter_map};
-ghost use Rattle.acpi_base.specs.Words.{items_left, io_apic_in, last_address, local_apic_address_in, nmi_line_in, nmi_source_in, override_in};
-ghost use Rattle.acpi.specs.Types.{MadtItem};
-ghost use Rattle.acpi_c_lib.specs.Words.{items_said, put_from, counts_of, io_apic_record, io_apics_of, left_after, nmi_line_record, nmi_lines_of, nmi_source_record, nmi_sources_of, override_record, overrides_of, processors_in, processors_of, below_apics, below_known};
+//! The interrupt model with all its lists at once: the entries of the MADT are walked along once to count them, and
+//! once to write them.
+ghost use Rattle.std.specs.Prelude.{◌≡◌, ◌∷◌, ◌+◌, ◌^◌, ◌<◌, ◌≤◌, List, length, filter_map};
+ghost use Rattle.acpi_base.specs.Words.{entries_of, last_address};
+ghost use Rattle.acpi_c_lib.specs.Words.{MadtEntry, items_beside, put_from, below_apics, below_known, counts_of, io_apic_in, local_apic_address_in, nmi_line_in, nmi_source_in, override_in, processors_of};
 
+use crate::apics::{MadtRecord, boot_first};
 use crate::interrupt_records::{
     InterruptModel, InterruptSourceOverride, IoApic, NmiLine, NmiSource, Processor,
 };
-use crate::interrupts::{MadtRecord, items_of, known_madt};
+use crate::interrupts::known_madt;
 use crate::lists::put;
-use crate::processors::{known_model, processor_of};
+use crate::processors::known_model;
 use crate::records::Source;
 use crate::refusal::Refusal;
 use crate::regions::Mapped;
-use acpi_base::model::{MadtItem, MadtItems};
+use acpi_base::madt::{MadtEntry, MadtEntryIter};
 
-/// The model of a machine with APICs, with its lists.
+/// The model of a machine with APICs, with its lists, each as the call for it alone answers it.
 pub fn platform(
     source: &Source<'_>,
     processors: &mut [Processor],
@@ -27,20 +27,20 @@ pub fn platform(
 ) -> Result<InterruptModel, Refusal>
     ensures model { result ≡ below_known source.now counts_of }
     ensures processors { processors.new
-        ≡ put_from processors.old 0 (items_said (below_known source.now processors_of)) }
+        ≡ put_from processors.old 0 (items_beside result (below_apics source.now processors_of)) }
     ensures io_apics { io_apics.new
-        ≡ put_from io_apics.old 0 (items_said (below_apics source.now io_apics_of)) }
+        ≡ put_from io_apics.old 0 (items_beside result (below_apics source.now (filter_map io_apic_in))) }
     ensures overrides { overrides.new
-        ≡ put_from overrides.old 0 (items_said (below_apics source.now overrides_of)) }
+        ≡ put_from overrides.old 0 (items_beside result (below_apics source.now (filter_map override_in))) }
     ensures nmi_sources { nmi_sources.new
-        ≡ put_from nmi_sources.old 0 (items_said (below_apics source.now nmi_sources_of)) }
+        ≡ put_from nmi_sources.old 0 (items_beside result (below_apics source.now (filter_map nmi_source_in))) }
     ensures nmi_lines { nmi_lines.new
-        ≡ put_from nmi_lines.old 0 (items_said (below_apics source.now nmi_lines_of)) }
+        ≡ put_from nmi_lines.old 0 (items_beside result (below_apics source.now (filter_map nmi_line_in))) }
 {
     let memory = Mapped::new(source.regions);
     let found = known_madt(&memory, source)?;
     let address = write_all(
-        items_of(&found.madt),
+        found.madt.bytes(),
         found.madt.local_apic_address as u64,
         processors,
         io_apics,
@@ -53,7 +53,7 @@ pub fn platform(
 
 /// Writes each list as far as there is room, and says Local APIC Address of the last override, or else this address.
 fn write_all(
-    items: MadtItems<'_>,
+    table: &[u8],
     address: u64,
     processors: &mut [Processor],
     io_apics: &mut [IoApic],
@@ -61,18 +61,13 @@ fn write_all(
     nmi_sources: &mut [NmiSource],
     nmi_lines: &mut [NmiLine],
 ) -> u64
-    requires { length (items_left items) < 2 ^ 63 }
-    ensures address { result ≡ last_address address (filter_map local_apic_address_in (items_left items.entry)) }
-    ensures processors { processors.new
-        ≡ put_from processors.old 0 (processors_in (items_left items.entry)) }
-    ensures io_apics { io_apics.new ≡ put_from io_apics.old 0
-        (map io_apic_record (filter_map io_apic_in (items_left items.entry))) }
-    ensures overrides { overrides.new ≡ put_from overrides.old 0
-        (map override_record (filter_map override_in (items_left items.entry))) }
-    ensures nmi_sources { nmi_sources.new ≡ put_from nmi_sources.old 0
-        (map nmi_source_record (filter_map nmi_source_in (items_left items.entry))) }
-    ensures nmi_lines { nmi_lines.new ≡ put_from nmi_lines.old 0
-        (map nmi_line_record (filter_map nmi_line_in (items_left items.entry))) }
+    ensures address { result ≡ last_address address (filter_map local_apic_address_in (entries_of table.now)) }
+    ensures processors { processors.new ≡ put_from processors.old 0 (processors_of (entries_of table.now)) }
+    ensures io_apics { io_apics.new ≡ put_from io_apics.old 0 (filter_map io_apic_in (entries_of table.now)) }
+    ensures overrides { overrides.new ≡ put_from overrides.old 0 (filter_map override_in (entries_of table.now)) }
+    ensures nmi_sources { nmi_sources.new
+        ≡ put_from nmi_sources.old 0 (filter_map nmi_source_in (entries_of table.now)) }
+    ensures nmi_lines { nmi_lines.new ≡ put_from nmi_lines.old 0 (filter_map nmi_line_in (entries_of table.now)) }
 {
     let mut last = address;
     let mut processor = 0;
@@ -80,49 +75,32 @@ fn write_all(
     let mut wiring = 0;
     let mut nmi_source = 0;
     let mut nmi_line = 0;
-    for item in items {
-        if let MadtItem::LocalApicAddress(given) = item {
-            last = given;
+    for entry in MadtEntryIter::over(table) {
+        if let MadtEntry::LocalApicAddressOverride(given) = entry {
+            last = given.local_apic_address;
         }
-        processor = add_processor(item, processors, processor);
-        io_apic = add(item, io_apics, io_apic);
-        wiring = add(item, overrides, wiring);
-        nmi_source = add(item, nmi_sources, nmi_source);
-        nmi_line = add(item, nmi_lines, nmi_line);
+        processor = add(&entry, processors, processor);
+        io_apic = add(&entry, io_apics, io_apic);
+        wiring = add(&entry, overrides, wiring);
+        nmi_source = add(&entry, nmi_sources, nmi_source);
+        nmi_line = add(&entry, nmi_lines, nmi_line);
     }
+    boot_first(processors, processor);
     last
 }
 
 /// Writes what an entry says at an index, if it is of this sort, and says where the next is to stand.
 #[inline(always)]
-fn add<R: MadtRecord>(item: MadtItem, out: &mut [R], at: usize) -> usize
+fn add<R: MadtRecord>(entry: &MadtEntry, out: &mut [R], at: usize) -> usize
     requires { at < 2 ^ 63 }
-    ensures written { (more : List MadtItem)
-        → put_from out.new result (map R.record_of (filter_map R.part_in more))
-        ≡ put_from out.old at (map R.record_of (filter_map R.part_in (item ∷ more))) }
+    ensures written { (more : List MadtEntry)
+        → put_from out.new result (filter_map R.record_in more)
+        ≡ put_from out.old at (filter_map R.record_in (entry.now ∷ more)) }
+    ensures count { (more : List MadtEntry)
+        → result + length (filter_map R.record_in more) ≡ at + length (filter_map R.record_in (entry.now ∷ more)) }
     ensures next { result ≤ at + 1 }
 {
-    match R::said(item) {
-        Some(record) => {
-            put(out, at, record);
-            at + 1
-        }
-        None => at,
-    }
-}
-
-/// Writes the processor that an item says, if it says one, and returns the place of the next. The one at place 0 is the
-/// boot processor.
-#[inline(always)]
-#[tactic(auto, using(crate::proofs::Written::next_some, crate::proofs::Written::next_none))]
-fn add_processor(item: MadtItem, out: &mut [Processor], at: usize) -> usize
-    requires { at < 2 ^ 63 }
-    ensures written { (more : List MadtItem)
-        → put_from out.new result (left_after result more)
-        ≡ put_from out.old at (left_after at (item ∷ more)) }
-    ensures next { result ≤ at + 1 }
-{
-    match processor_of(item, at > 0) {
+    match R::said(entry) {
         Some(record) => {
             put(out, at, record);
             at + 1

@@ -141,7 +141,7 @@ fn writer_code(error: WriterError) -> u32
 }
 
 /// The number of a refusal of the MADT's entries (section 5.2.12); 99 stands for that which no call returns.
-fn madt_code(error: MadtError) -> u32
+pub(crate) fn madt_code(error: MadtError) -> u32
     ensures { result ≡ codes.madt_code error }
 {
     match error {

@@ -1,44 +1,37 @@
 //! How interrupts come to the I/O APICs, by walks along the entries of the MADT.
 ghost use Rattle.std.specs.Prelude.{◌≡◌, ◌≤◌, IfSome, filter_map};
-ghost use Rattle.acpi_base.specs.Words.{bytes_of, io_apic_in, items_of, base_of, nearest};
-ghost use Rattle.acpi_c_lib.specs.Words.{interrupt_record, is_nearer, isa_below, pin_below, sci_below};
+ghost use Rattle.acpi_base.specs.Words.{bytes_of, entries_of, base_of, nearest};
+ghost use Rattle.acpi_c_lib.specs.Words.{apic_in, AreWirings, is_nearer, isa_below, pin_below, pin_in, sci_below};
 
+use crate::apics::apics;
 use crate::interrupt_records::{Interrupt, IoApicPin};
-use crate::interrupts::{apic_madt, io_apic_record, known_madt};
-use crate::isa_list::overrides_in;
-use crate::opening::open;
+use crate::interrupts::io_apic_record;
+use crate::opening::first;
 use crate::records::Source;
 use crate::refusal::Refusal;
 use crate::regions::Mapped;
-use acpi::madt::Madt;
-use acpi::platform::interrupt::{IoApic, IsaInterrupt};
-use acpi::{Lender, PhysicalMapping};
-use acpi_base::model::MadtItem;
+use crate::wirings::Wirings;
+use acpi::fadt::Fadt;
+use acpi::platform::interrupt::IoApic;
+use acpi_base::madt::{MadtEntry, MadtEntryIter};
 
 /// The global system interrupt of one of the 16 ISA interrupts.
 pub fn isa(source: &Source<'_>, irq: u8) -> Result<Interrupt, Refusal>
     ensures { result ≡ isa_below source.now irq }
 {
     let memory = Mapped::new(source.regions);
-    let found = known_madt(&memory, source)?;
-    let overrides = overrides_in(&found.madt);
-    let interrupt = overrides
-        .isa_interrupt(irq)
-        .ok_or(Refusal::NoSuchInterrupt)?;
-    Ok(interrupt_record(interrupt))
+    let madt = apics(&memory, source)?;
+    Wirings::among(madt.bytes()).isa(irq)
 }
 
 /// The global system interrupt of the System Control Interrupt.
 pub fn sci(source: &Source<'_>) -> Result<Interrupt, Refusal>
     ensures { result ≡ sci_below source.now }
 {
-    let memory = Mapped::new(source.regions)?;
-    let tables = open(&memory, source)?;
-    let found = apic_madt(&tables)?;
-    let fadt = tables.find_fadt()?;
-    let found = found.ok_or(Refusal::NoApics)?;
-    let overrides = overrides_in(&found.madt);
-    Ok(interrupt_record(overrides.sci_interrupt(fadt.sci_interrupt())))
+    let memory = Mapped::new(source.regions);
+    let madt = apics(&memory, source)?;
+    let fadt = first::<Fadt>(&memory, source)?;
+    Wirings::among(madt.bytes()).sci(fadt.get().sci_interrupt)
 }
 
 /// The I/O APIC that a global system interrupt comes to, and the pin there.
@@ -46,33 +39,23 @@ pub fn pin(source: &Source<'_>, interrupt: u32) -> Result<IoApicPin, Refusal>
     ensures { result ≡ pin_below source.now interrupt }
 {
     let memory = Mapped::new(source.regions);
-    let found = known_madt(&memory, source)?;
-    let io_apic = nearest(&found.madt, interrupt).ok_or(Refusal::NoSuchIoApic)?;
+    let madt = apics(&memory, source)?;
+    let io_apic = nearest(madt.bytes(), interrupt).ok_or(Refusal::NoSuchIoApic)?;
     Ok(IoApicPin {
         io_apic: io_apic_record(&io_apic),
         pin: interrupt - io_apic.global_system_interrupt_base,
     })
 }
 
-pub(crate) fn interrupt_record(interrupt: IsaInterrupt) -> Interrupt
-    ensures { result ≡ interrupt_record interrupt }
-{
-    Interrupt {
-        global_system_interrupt: interrupt.global_system_interrupt,
-        polarity: interrupt.polarity.code(),
-        trigger: interrupt.trigger_mode.code(),
-    }
-}
-
 /// The first I/O APIC of the greatest base that is at most the interrupt.
 #[tactic(auto, using(acpi_base::proofs::Pin::one_nearer))]
-fn nearest<H: Lender>(madt: &PhysicalMapping<'_, H, Madt>, interrupt: u32) -> Option<IoApic>
-    ensures found { result ≡ nearest interrupt (filter_map io_apic_in (items_of (bytes_of madt.now))) }
+fn nearest(table: &[u8], interrupt: u32) -> Option<IoApic>
+    ensures found { result ≡ nearest interrupt (filter_map apic_in (entries_of table.now)) }
     ensures below { IfSome result (λ x. base_of x ≤ interrupt) }
 {
     let mut found = None;
-    for item in madt.items() {
-        if let MadtItem::IoApic(io_apic) = item
+    for entry in MadtEntryIter::over(table) {
+        if let Some(io_apic) = io_apic(&entry)
             && io_apic.global_system_interrupt_base <= interrupt
             && is_nearer(found, &io_apic)
         {
@@ -80,6 +63,20 @@ fn nearest<H: Lender>(madt: &PhysicalMapping<'_, H, Madt>, interrupt: u32) -> Op
         }
     }
     found
+}
+
+/// The I/O APIC that an entry is, if it is one.
+pub(crate) fn io_apic(entry: &MadtEntry) -> Option<IoApic>
+    ensures { result ≡ apic_in entry.now }
+{
+    match entry {
+        MadtEntry::IoApic(e) => Some(IoApic {
+            id: e.io_apic_id,
+            address: e.io_apic_address,
+            global_system_interrupt_base: e.global_system_interrupt_base,
+        }),
+        _ => None,
+    }
 }
 
 /// Whether an I/O APIC is nearer than the one so far.

@@ -5,6 +5,7 @@ use crate::list::{items, List, Listing};
 pub use crate::raw::records::{IoApic, IoApicPin};
 use crate::raw::{self, records};
 use crate::acpi_tables::AcpiTables;
+use crate::sdt::Signature;
 
 /// At which level an interrupt is active: Polarity, bits 0 and 1 of MPS INTI Flags (table 5.26).
 #[derive(Clone, Copy, Debug, PartialEq, Eq)]
@@ -54,10 +55,12 @@ impl From<u8> for TriggerMode {
     }
 }
 
-/// An interrupt of the ISA bus that comes to another global system interrupt, or in another way (section 5.2.12.5).
+/// An interrupt of a bus that comes to another global system interrupt, or in another way (section 5.2.12.5).
 #[derive(Clone, Copy, Debug, PartialEq, Eq)]
 pub struct InterruptSourceOverride {
-    /// Source: the interrupt on the ISA bus.
+    /// Bus: 0 is ISA, and other numbers are reserved.
+    pub bus: u8,
+    /// Source: the interrupt on the bus.
     pub isa_source: u8,
     /// Global System Interrupt.
     pub global_system_interrupt: u32,
@@ -70,6 +73,7 @@ pub struct InterruptSourceOverride {
 impl From<records::InterruptSourceOverride> for InterruptSourceOverride {
     fn from(raw: records::InterruptSourceOverride) -> Self {
         InterruptSourceOverride {
+            bus: raw.bus,
             isa_source: raw.isa_source,
             global_system_interrupt: raw.global_system_interrupt,
             polarity: raw.polarity.into(),
@@ -136,12 +140,16 @@ pub struct NmiLine {
     pub processor: NmiProcessor,
     /// Which input.
     pub line: LocalInterruptLine,
+    /// Polarity of Flags.
+    pub polarity: Polarity,
+    /// Trigger Mode of Flags.
+    pub trigger_mode: TriggerMode,
 }
 
 impl From<records::NmiLine> for NmiLine {
     fn from(raw: records::NmiLine) -> Self {
         let processor = if raw.of_all != 0 { NmiProcessor::All } else { NmiProcessor::ProcessorUid(raw.processor_uid) };
-        NmiLine { processor, line: raw.lint.into() }
+        NmiLine { processor, line: raw.lint.into(), polarity: raw.polarity.into(), trigger_mode: raw.trigger.into() }
     }
 }
 
@@ -210,9 +218,38 @@ fn route(raw: records::IsaRoute) -> Option<IsaRoute> {
     (raw.present != 0).then(|| IsaRoute { interrupt: raw.interrupt.into(), pin })
 }
 
-/// Each of these refuses as [`AcpiTables::platform_info`] does, and with [`AcpiError::NoApics`] if the model isn't
-/// known.
+/// An entry of the MADT at fault, or the first byte at which no entry begins.
+#[derive(Clone, Copy, Debug, PartialEq, Eq)]
+pub struct MadtFault {
+    /// The physical address of its first byte.
+    pub address: u64,
+    /// Type: the byte at that address.
+    pub entry_type: u8,
+    /// The error that [`AcpiTables::platform_info`] has for it.
+    pub refusal: AcpiError,
+}
+
+impl From<records::MadtFault> for MadtFault {
+    fn from(raw: records::MadtFault) -> Self {
+        let refusal = AcpiError::of(raw.status, Signature::default());
+        MadtFault { address: raw.address, entry_type: raw.entry_type, refusal }
+    }
+}
+
+items! { MadtFault = MadtFault }
+
+/// What the entries of the first valid MADT say, each by itself: one at fault is listed as it stands, and changes nothing
+/// of the others. The lists end before the first byte at which no entry begins.
+///
+/// Each of these fails with `TableMissing` for the MADT and, but for the faults, with [`AcpiError::NoApics`] if no entry is
+/// of a machine with APICs.
 impl<'k> AcpiTables<'k> {
+    /// The entries of the first valid MADT at fault and, last, the first byte at which no entry begins, if bytes are left
+    /// there (section 5.2.12).
+    pub fn madt_faults(&self) -> Listing<'k, MadtFault> {
+        self.list(raw::zacpi_1_list_madt_faults)
+    }
+
     /// The I/O APICs, in the order of the first valid MADT (section 5.2.12.3).
     pub fn io_apics(&self) -> Listing<'k, IoApic> {
         self.list(raw::zacpi_1_list_io_apics)
@@ -234,9 +271,10 @@ impl<'k> AcpiTables<'k> {
         self.list(raw::zacpi_1_list_nmi_lines)
     }
 
-    /// How one of the 16 ISA interrupts comes to the I/O APICs: as its last override says, or as the interrupt of the
-    /// same number, active high and by edge (section 5.2.12.5). `None` for an interrupt above 15, and for one without
-    /// an override whose number another one's override has taken.
+    /// How one of the 16 ISA interrupts comes to the I/O APICs: as its last override of bus 0 says, or as the interrupt
+    /// of the same number, active high and by edge (section 5.2.12.5). `None` for an interrupt above 15, and for one
+    /// without an override whose number another one's override has taken. Fails with `InvalidMadt` if the flags of its
+    /// override are reserved.
     pub fn isa_interrupt(&self, irq: u8) -> AcpiResult<Option<Interrupt>> {
         match raw::zacpi_1_isa_interrupt(&self.source(), irq) {
             Err(AcpiError::NoSuchInterrupt) => Ok(None),
@@ -244,13 +282,15 @@ impl<'k> AcpiTables<'k> {
         }
     }
 
-    /// All 16 ISA interrupts at once, each with its pin: item `n` is interrupt `n`.
+    /// All 16 ISA interrupts at once, each with its pin: item `n` is interrupt `n`, or `None` if it doesn't come to the
+    /// I/O APICs or the flags of its override are reserved.
     pub fn isa_interrupts(&self) -> AcpiResult<[Option<IsaRoute>; 16]> {
         raw::zacpi_1_list_isa_interrupts(&self.source()).map(|all| all.routes.map(route))
     }
 
     /// How the System Control Interrupt, SCI_INT of the first valid FADT, comes to the I/O APICs: active low and by
-    /// level, unless its override says otherwise (sections 5.2.9 and 5.2.12.5).
+    /// level, unless its override says otherwise (sections 5.2.9 and 5.2.12.5). Fails with `TableMissing` for the FADT
+    /// too, and with `InvalidMadt` if the flags of its override are reserved.
     pub fn sci_interrupt(&self) -> AcpiResult<Interrupt> {
         raw::zacpi_1_sci_interrupt(&self.source()).map(Interrupt::from)
     }

@@ -46,6 +46,10 @@ pub struct Processor {
     pub state: ProcessorState,
     /// Whether it is an application processor: any but the first one.
     pub is_ap: bool,
+    /// Online Capable, bit 1 of Flags: whether it can be enabled later. Reserved below revision 5 of the MADT.
+    pub is_online_capable: bool,
+    /// Whether its entry is a Processor Local x2APIC.
+    pub is_x2apic: bool,
 }
 
 impl From<records::Processor> for Processor {
@@ -55,6 +59,8 @@ impl From<records::Processor> for Processor {
             local_apic_id: raw.local_apic_id,
             state: raw.state.into(),
             is_ap: raw.is_boot == 0,
+            is_online_capable: raw.is_online_capable != 0,
+            is_x2apic: raw.is_x2apic != 0,
         }
     }
 }
@@ -247,7 +253,8 @@ impl<'k> AcpiTables<'k> {
 
     /// The processors, the boot processor first, also if it is disabled (sections 5.2.12.1, 5.2.12.2 and 5.2.12.12).
     ///
-    /// Refuses as [`AcpiTables::platform_info`] does, and with `NoApics` if the model isn't known.
+    /// Entries at fault change nothing. Fails with `TableMissing` for the MADT, and with `NoApics` if no entry is of a
+    /// machine with APICs.
     pub fn processors(&self) -> Listing<'k, Processor> {
         self.list(raw::zacpi_1_list_processors)
     }

@@ -14,5 +14,5 @@ written (Ok x) old new status old_unit new_unit old_name new_name answers is = (
 written (Err e) old new status old_unit new_unit old_name new_name answers is = (answers.0, is, answers.2)
 
 pub returns : goal.returns
-returns c = written _ _ _ _ tt c.answer.new.out _ _ (rw c.isa_list.ensures.status at c.answer.ensures)
+returns c = written _ _ _ _ tt c.answer.new.out _ _ (rw c.isa_list.ensures.said at c.answer.ensures)
     c.isa_list.ensures.written

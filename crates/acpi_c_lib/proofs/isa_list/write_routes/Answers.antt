@@ -1,31 +1,41 @@
-use Rattle.std.proofs.Common.{◌≡◌, filter_map}
-use Rattle.acpi_base.specs.Words.{isa_interrupt, items_left, bytes_of, io_apic_in, items_of, override_in}
-use Rattle.acpi_c_lib.specs.Words.{isa_route}
-use Rattle.acpi_c_lib.proofs.IsaList.{all_met, none_more, one_met, same_answer}
+use Rattle.std.proofs.Common.{◌≡◌, [], ◌∷◌, ◌∙◌, ap, sym, subst, filter_map, None, Some}
+use Rattle.acpi_base.specs.Words.{entries_left, entries_of}
+use Rattle.acpi_c_lib.specs.Words.{apic_in, isa_in, isa_route}
+use Rattle.acpi_c_lib.proofs.IsaList.{Routed, all_met, none_more, one_met, one_more, same_answer}
 use Rattle.acpi_c_lib.proofs.isa_list.write_routes.Goals as goal
 
-pub loop-item-preserved-in-IoApic : goal.loop-item-preserved-in-IoApic
-loop-item-preserved-in-IoApic g c =
-    let routed = rw (c.in-Some.ensures.steps, c.in-IoApic.is) at c.loop-item.invariant.1 in
-    let left = filter_map io_apic_in (items_left c.next.new.self) in
-    let all = filter_map io_apic_in (items_left c.into_iter-item-iterator.result) in
-    (c.meet_all.array_long, one_met _ _ _ _ left all c.meet_all.ensures routed)
+pub loop-entry-preserved-in-Some-io_apic : goal.loop-entry-preserved-in-Some-io_apic
+loop-entry-preserved-in-Some-io_apic c =
+    let isa = isa_in (entries_of c.args.table.now) in
+    let left = filter_map apic_in (entries_left c.next.new.self) in
+    let all = filter_map apic_in (entries_left c.into_iter-entry-iterator.result) in
+    let is : apic_in c.in-Some.entry ≡ Some c.in-Some-io_apic.io_apic =
+    sym c.io_apic.ensures ∙ c.in-Some-io_apic.is in
+    let more : filter_map apic_in (entries_left c.loop-entry.entry-iterator) ≡ c.in-Some-io_apic.io_apic ∷ left =
+    ap (filter_map apic_in) c.in-Some.ensures.steps.0 ∙ one_more _ _ (entries_left c.next.new.self) is in
+    let routed = subst (λ xs. Routed isa c.loop-entry.routes xs all) more c.loop-entry.invariant.1 in
+    (c.meet_all.array_long, one_met isa _ _ _ left all c.meet_all.ensures routed)
 
-pub loop-item-preserved : goal.loop-item-preserved
-loop-item-preserved g c =
-    let routed = rw (
-      c.in-Some.ensures.steps,
-      none_more c.in-Some.item (items_left c.next.new.self)
-          c.in_default.not-IoApic,
-    ) at c.loop-item.invariant.1 in
-    (c.loop-item.invariant.0, routed)
+pub loop-entry-preserved : goal.loop-entry-preserved
+loop-entry-preserved c =
+    let isa = isa_in (entries_of c.args.table.now) in
+    let left = filter_map apic_in (entries_left c.next.new.self) in
+    let all = filter_map apic_in (entries_left c.into_iter-entry-iterator.result) in
+    let is : apic_in c.in-Some.entry ≡ None = sym c.io_apic.ensures ∙ c.in_default.is in
+    let more : filter_map apic_in (entries_left c.loop-entry.entry-iterator) ≡ left =
+    ap (filter_map apic_in) c.in-Some.ensures.steps.0 ∙ none_more _ (entries_left c.next.new.self) is in
+    (c.loop-entry.invariant.0, subst (λ xs. Routed isa c.loop-entry.routes xs all) more c.loop-entry.invariant.1)
 
 pub returns : goal.returns
-returns g c =
-    let items = items_of (bytes_of c.args.madt.now) in
-    let overrides = filter_map override_in items in
-    let io_apics = filter_map io_apic_in items in
-    let first : items_left c.into_iter-item-iterator.result ≡ items = cc in
-    all_met (isa_interrupt overrides) (isa_route overrides io_apics) c.loop-item.routes io_apics c.loop-item.invariant.0
-    (λ irq. same_answer io_apics (isa_interrupt overrides irq))
-    (rw (c.in-None.ensures.steps.0, first) at c.loop-item.invariant.1)
+returns c =
+    let entries = entries_of c.args.table.now in
+    let isa = isa_in entries in
+    let routes = c.loop-entry.routes in
+    let all = filter_map apic_in (entries_left c.into_iter-entry-iterator.result) in
+    let first : entries_left c.into_iter-entry-iterator.result ≡ entries = cc in
+    let none : filter_map apic_in (entries_left c.loop-entry.entry-iterator) ≡ [] =
+    ap (filter_map apic_in) c.in-None.ensures.steps.0.0 in
+    let routed = subst (λ xs. Routed isa routes xs all) none c.loop-entry.invariant.1 in
+    let last = subst (λ xs. Routed isa routes [] xs) (ap (filter_map apic_in) first) routed in
+    all_met isa (isa_route entries) routes (filter_map apic_in entries) c.loop-entry.invariant.0
+    (λ irq. same_answer (filter_map apic_in entries) (isa irq)) last

@@ -1,11 +1,12 @@
 use Rattle.std.proofs.Common.{◌≡◌, length, filter_map}
-use Rattle.acpi_base.specs.Words.{isa_interrupt, items_left, bytes_of, io_apic_in, items_of, override_in}
+use Rattle.acpi_base.specs.Words.{entries_left, entries_of}
+use Rattle.acpi_c_lib.specs.Words.{apic_in, isa_in}
 use Rattle.acpi_c_lib.proofs.IsaList.{Routed}
 use Rattle.acpi_c_lib.proofs.isa_list.write_routes.Given as goal
 
--- each interrupt has the nearest so far, and with those that are left they are all
-abbrev pub invariant-loop-item : goal.invariant-loop-item
-invariant-loop-item g l =
+-- each interrupt has the nearest of the I/O APICs so far
+abbrev pub invariant-loop-entry : goal.invariant-loop-entry
+invariant-loop-entry l =
     (length l.routes ≡ 16)
-    × Routed (isa_interrupt (filter_map override_in (items_of (bytes_of l.madt)))) l.routes
-    (filter_map io_apic_in (items_left l.item-iterator)) (filter_map io_apic_in (items_left l.initial.item-iterator))
+    × Routed (isa_in (entries_of l.table)) l.routes (filter_map apic_in (entries_left l.entry-iterator))
+    (filter_map apic_in (entries_left l.initial.entry-iterator))

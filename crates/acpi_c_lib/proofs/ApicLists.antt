@@ -1,0 +1,112 @@
+-- The list of processors, whose first is made the boot processor after all are written, and what the strict model says
+-- of the same entries.
+use Rattle.std.proofs.Common.{◌≡◌, ℕ, suc, ◌+◌, ◌<◌, ◌≤◌, List, [], ◌∷◌, length, get_or, slice_set, subst, true, refl, add-one, arith, ◌∙◌, sym, ap, filter_map, Option, Some, None, Result, Ok, Err}
+use Rattle.std.specs.Prelude.{option_and_then}
+use Rattle.acpi_base.specs.FromStd.{cons_option, list_any, result_ok}
+use Rattle.acpi_base.specs.Words.{io_apic_of, item_in, item_of, nmi_line_of, ◌>>=◌}
+use Rattle.acpi_base.specs.Interrupts.{nmi_source_of, override_of}
+use Rattle.acpi_base.specs.Model.{is_of_apic}
+use Rattle.acpi_base.specs.Model as base
+use Rattle.acpi.specs.Types.{MadtEntry, MadtError, MadtItem}
+use Rattle.acpi_base.specs.declared.model.item.MadtItem.TheVariants as item
+use Rattle.acpi_base.specs.declared.tables.madt.entry.MadtEntry.TheVariants as entry
+use Rattle.acpi_c_lib.specs.Words.{put_from, Processor, boot_first, booted, is_of_apics, local_apic_address_in}
+
+-- what is written from the second place on leaves the first
+put_later : {X : Type 0} (z : X) (zs xs : List X) (n : ℕ) → put_from (z ∷ zs) (suc n) xs ≡ z ∷ put_from zs n xs
+put_later z zs [] n = refl
+put_later z zs (x ∷ xs) n = rw (add-one n, add-one (suc n)) (put_later z (slice_set zs n x) xs (suc n))
+
+put_none : {X : Type 0} (xs : List X) (n : ℕ) → put_from {X = X} [] n xs ≡ []
+put_none [] n = refl
+put_none (x ∷ xs) n = put_none xs (n + 1)
+
+pub as_many : (ps : List Processor) → length (boot_first ps) ≡ length ps
+as_many [] = refl
+as_many (p ∷ ps) = refl
+
+-- what is written has as many places as there were
+none_written : (before ps : List Processor) → length (put_from before 0 ps) ≤ 0 → before ≡ []
+none_written [] ps none = refl
+none_written (o ∷ before) [] none = absurd (omega (arith, none))
+none_written (o ∷ before) (p ∷ ps) none =
+    let later = ap length (put_later p before ps 0) in
+    absurd (omega (arith, none, later))
+
+-- the one written first is made the boot processor
+pub first_booted : (before ps out : List Processor) (or : Processor) → out ≡ put_from before 0 ps → 0 < length ps
+    → 0 < length out → slice_set out 0 (booted (get_or out 0 or)) ≡ put_from before 0 (boot_first ps)
+first_booted before [] out or is some room = absurd (omega (arith, some))
+first_booted [] (p ∷ ps) out or is some room =
+    let none = ap length (is ∙ put_none (p ∷ ps) 0) in
+    absurd (omega (arith, none, room))
+first_booted (o ∷ before) (p ∷ ps) out or is some room =
+    let same = is ∙ put_later p before ps 0 in
+    let later = put_later (booted p) before ps 0 in
+    rw (same, later) refl
+
+pub none_booted : (before ps out : List Processor) → out ≡ put_from before 0 ps → length out ≤ 0
+    → out ≡ put_from before 0 (boot_first ps)
+none_booted before ps out is none =
+    let empty = none_written before ps (subst (λ xs. length xs ≤ 0) is none) in
+    is ∙ rw (empty, put_none ps 0) (sym (put_none (boot_first ps) 0))
+
+pub no_processor : (before ps out : List Processor) → out ≡ put_from before 0 ps → length ps ≤ 0
+    → out ≡ put_from before 0 (boot_first ps)
+no_processor before [] out is none = is
+no_processor before (p ∷ ps) out is none = absurd (omega (arith, none))
+
+-- ---- a table that the strict model takes
+
+-- an entry whose item is of APICs is of APICs
+any_with : (e : MadtEntry) (es : List MadtEntry)
+    → (list_any is_of_apic (filter_map item_in es) ≡ true → list_any is_of_apics es ≡ true)
+    → list_any is_of_apic (filter_map item_in (e ∷ es)) ≡ true → list_any is_of_apics (e ∷ es) ≡ true
+unfolding item_of
+any_with (entry.IoSapic e) es more any = more any
+any_with (entry.LocalSapic e) es more any = more any
+any_with (entry.PlatformInterruptSource e) es more any = more any
+any_with (entry.Gicc e) es more any = more any
+any_with (entry.Gicd e) es more any = more any
+any_with (entry.GicMsiFrame e) es more any = more any
+any_with (entry.GicRedistributor e) es more any = more any
+any_with (entry.GicInterruptTranslationService e) es more any = more any
+any_with (entry.MultiprocessorWakeup e) es more any = more any
+any_with _ es more any = refl
+
+pub any_said : (es : List MadtEntry) → list_any is_of_apic (filter_map item_in es) ≡ true
+    → list_any is_of_apics es ≡ true
+any_said [] any = any
+any_said (e ∷ es) any = any_with e es (any_said es) any
+
+-- ---- the address of the local APICs
+
+-- an entry that says another thing has none
+none_said : {X : Type 0} (k : X → MadtItem) (x : Result X MadtError)
+    → ((y : X) → base.local_apic_address_in (k y) ≡ None)
+    → None ≡ option_and_then base.local_apic_address_in (result_ok (x >>= λ y. Ok (k y)))
+none_said k (Ok y) none = sym (none y)
+none_said k (Err e) none = refl
+
+one_address : (e : MadtEntry) → local_apic_address_in e ≡ option_and_then base.local_apic_address_in (item_in e)
+unfolding item_of
+one_address (entry.InterruptSourceOverride e) = none_said item.Override (override_of e) (λ y. refl)
+one_address (entry.NmiSource e) = none_said item.NmiSource (nmi_source_of e) (λ y. refl)
+one_address (entry.LocalApicNmi e) = none_said item.NmiLine _ (λ y. refl)
+one_address (entry.X2ApicNmi e) = none_said item.NmiLine _ (λ y. refl)
+one_address _ = refl
+
+address_first : (i : Option MadtItem) (items : List MadtItem)
+    → filter_map base.local_apic_address_in (cons_option i items)
+    ≡ cons_option (option_and_then base.local_apic_address_in i) (filter_map base.local_apic_address_in items)
+address_first None items = refl
+address_first (Some x) items = refl
+
+-- those of the strict model
+pub same_addresses : (es : List MadtEntry)
+    → filter_map base.local_apic_address_in (filter_map item_in es) ≡ filter_map local_apic_address_in es
+same_addresses [] = refl
+same_addresses (e ∷ es) =
+    address_first (item_in e) (filter_map item_in es)
+    ∙ sym (ap (λ o. cons_option o (filter_map base.local_apic_address_in (filter_map item_in es))) (one_address e))
+    ∙ ap (cons_option (local_apic_address_in e)) (same_addresses es)

@@ -1,0 +1,290 @@
+-- Of a MADT none of whose entries is at fault, the lists are those of the strict model.
+use Rattle.std.proofs.Common.{◌≡◌, ℕ, List, [], ◌∷◌, map, Bool, true, false, Option, Some, None, Result, Ok, Err, refl, ap, sym, ◌∙◌, arith, filter_map, option_map}
+use Rattle.std.specs.Prelude.{◌==◌, option_and_then, if◌then◌else◌}
+use Rattle.acpi_base.specs.FromStd.{cons_option, result_err, result_ok}
+use Rattle.acpi_base.proofs.FromStd.{eqb-true}
+use Rattle.acpi_base.specs.Words.{all_apics, all_x2apics, line_of, processor_for}
+use Rattle.acpi_base.specs.Interrupts.{item_of, nmi_line_of, nmi_source_of, override_of, polarity_of, trigger_mode_of}
+use Rattle.acpi_base.specs.Words.{bits_of, cut_of, entries_of, has_bit, uid_code, ◌>>=◌, holds}
+use Rattle.acpi_base.specs.Model as base
+use Rattle.acpi_base.proofs.Words.{codes_decode}
+use Rattle.acpi.specs.Types.{All, InterruptSourceOverride, LocalInterruptLine, MadtEntry, MadtError, MadtItem, NmiLine, NmiSource, Polarity, ProcessorUid, TriggerMode}
+use Rattle.acpi_base.specs.declared.error.MadtError.TheVariants.{InterruptOverrideEntryHasInvalidBus}
+use Rattle.acpi_base.specs.declared.model.item.MadtItem.TheVariants as item
+use Rattle.acpi_base.specs.declared.tables.madt.apic.InterruptSourceOverrideEntry.{InterruptSourceOverrideEntry}
+use Rattle.acpi_base.specs.declared.tables.madt.apic.NmiSourceEntry.{NmiSourceEntry}
+use Rattle.acpi_base.specs.declared.tables.madt.entry.MadtEntry.TheVariants as entry
+use Rattle.acpi_c_lib.specs.ApicLaws.{ListsAreModels, line_said, line_shown, nmi_source_record, of_all, override_record, processor_said, processor_shown, state_code}
+use Rattle.acpi_c_lib.specs.Devices.{flag}
+use Rattle.acpi_c_lib.specs.Records as records
+use Rattle.acpi_c_lib.specs.Words.{boot_first, io_apic_in, io_apic_record, listed, nmi_line, nmi_line_in, nmi_source_in, override_in, processor_in}
+
+-- ---- what holds of each entry holds of the lists
+
+no_fault : (faults : List MadtError) (rest : List ℕ) → base.first_fault faults rest ≡ None → faults ≡ []
+no_fault [] rest h = refl
+no_fault (f ∷ faults) rest h = absurd cc
+
+both_none : (o : Option MadtError) (faults : List MadtError) → cons_option o faults ≡ [] → (o ≡ None) × (faults ≡ [])
+both_none None faults h = (refl, h)
+both_none (Some f) faults h = absurd cc
+
+map_first : {B R : Type 0} (r : B → R) (o : Option B) (xs : List B)
+    → map r (cons_option o xs) ≡ cons_option (option_map r o) (map r xs)
+map_first r None xs = refl
+map_first r (Some x) xs = refl
+
+said_first : {B R : Type 0} (g : MadtItem → Option B) (r : B → R) (i : Option MadtItem) (items : List MadtItem)
+    → map r (filter_map g (cons_option i items))
+    ≡ cons_option (option_map r (option_and_then g i)) (map r (filter_map g items))
+said_first g r None items = refl
+said_first g r (Some x) items = map_first r (g x) (filter_map g items)
+
+-- the records of a sort of entries show what their items say
+abbrev Agree : {A B R : Type 0} → (MadtEntry → Option A) → (A → R) → (MadtItem → Option B) → (B → R) → Type 0
+Agree f s g r =
+    (e : MadtEntry) → base.fault_in e ≡ None → option_map s (f e) ≡ option_map r (option_and_then g (base.item_in e))
+
+agree : {A B R : Type 0} (f : MadtEntry → Option A) (s : A → R) (g : MadtItem → Option B) (r : B → R) → Agree f s g r
+    → (es : List MadtEntry) → filter_map base.fault_in es ≡ []
+    → map s (filter_map f es) ≡ map r (filter_map g (filter_map base.item_in es))
+agree f s g r each [] h = refl
+agree f s g r each (e ∷ es) h =
+    let both = both_none (base.fault_in e) (filter_map base.fault_in es) h in
+    map_first s (f e) (filter_map f es)
+    ∙ ap (λ o. cons_option o (map s (filter_map f es))) (each e both.0)
+    ∙ ap (cons_option (option_map r (option_and_then g (base.item_in e)))) (agree f s g r each es both.1)
+    ∙ sym (said_first g r (base.item_in e) (filter_map base.item_in es))
+
+-- an entry of another sort has no record
+other : {X B R : Type 0} (g : MadtItem → Option B) (r : B → R) (k : X → MadtItem) (x : Result X MadtError)
+    → ((y : X) → g (k y) ≡ None) → None ≡ option_map r (option_and_then g (result_ok (x >>= λ y. Ok (k y))))
+other g r k (Ok y) none = rw (none y) refl
+other g r k (Err e) none = refl
+
+-- ---- I/O APICs
+
+io_apics : Agree io_apic_in (λ x. x) base.io_apic_in io_apic_record
+unfolding item_of
+io_apics (entry.InterruptSourceOverride e) h =
+    other base.io_apic_in io_apic_record item.Override (override_of e) (λ y. refl)
+io_apics (entry.NmiSource e) h =
+    other base.io_apic_in io_apic_record item.NmiSource (nmi_source_of e) (λ y. refl)
+io_apics (entry.LocalApicNmi e) h =
+    other base.io_apic_in io_apic_record item.NmiLine (nmi_line_of (processor_for all_apics e.processor_id) e.nmi_line)
+    (λ y. refl)
+io_apics (entry.X2ApicNmi e) h =
+    other base.io_apic_in io_apic_record item.NmiLine
+    (nmi_line_of (processor_for all_x2apics e.processor_uid) e.nmi_line) (λ y. refl)
+io_apics _ h = refl
+
+-- ---- polarity and trigger mode
+
+wired : {X : Type 0} (p : Result Polarity MadtError) (t : Result TriggerMode MadtError)
+    (k : Polarity → TriggerMode → X) (x : X) → (p >>= λ a. t >>= λ b. Ok (k a b)) ≡ Ok x
+    → (a : Polarity) × (b : TriggerMode) × (p ≡ Ok a) × (t ≡ Ok b) × (k a b ≡ x)
+wired (Ok a) (Ok b) k x h = (a, b, refl, refl, cc)
+wired (Ok a) (Err e) k x h = absurd cc
+wired (Err e) t k x h = absurd cc
+
+on_bus : {X : Type 0} (b : Bool) (r : Result X MadtError) (x : X)
+    → (holds b InterruptOverrideEntryHasInvalidBus >>= λ _. r) ≡ Ok x → (b ≡ true) × (r ≡ Ok x)
+on_bus true r x h = (refl, h)
+on_bus false r x h = absurd cc
+
+-- a record of an override, by its codes
+abbrev overriding : InterruptSourceOverrideEntry → ℕ → ℕ → ℕ → records.InterruptSourceOverride
+overriding e p t bus = record {
+  global_system_interrupt = e.global_system_interrupt;
+  isa_source = e.irq;
+  polarity = p;
+  trigger = t;
+  bus = bus;
+}
+
+same_override : (e : InterruptSourceOverrideEntry) (p q t u bus : ℕ) → p ≡ q → t ≡ u → bus ≡ 0
+    → overriding e p t bus ≡ overriding e q u 0
+same_override e p q t u bus polarity trigger isa = rw (polarity, trigger, isa) refl
+
+overrides_said : (e : InterruptSourceOverrideEntry) (x : InterruptSourceOverride) → override_of e ≡ Ok x
+    → override_in (entry.InterruptSourceOverride e) ≡ Some (override_record x)
+overrides_said e x h =
+    let s = on_bus (e.bus == 0) _ x h in
+    let w = wired (polarity_of e.flags) (trigger_mode_of e.flags) _ x s.1 in
+    let p = codes_decode.polarities.only (bits_of e.flags 0 2) w.0 w.2 in
+    let t = codes_decode.triggers.only (bits_of e.flags 2 2) w.1 w.3 in
+    ap Some (same_override e _ _ _ _ _ (sym p.1) (sym t.1) (eqb-true e.bus 0 s.0))
+    ∙ ap (λ y. Some (override_record y)) w.4
+
+overrides_by : (e : InterruptSourceOverrideEntry) (o : Result InterruptSourceOverride MadtError) → override_of e ≡ o
+    → result_err (o >>= λ y. Ok (item.Override y)) ≡ None
+    → override_in (entry.InterruptSourceOverride e)
+    ≡ option_map override_record (option_and_then base.override_in (result_ok (o >>= λ y. Ok (item.Override y))))
+overrides_by e (Ok x) is h = overrides_said e x is
+overrides_by e (Err f) is h = absurd cc
+
+overrides : Agree override_in (λ x. x) base.override_in override_record
+unfolding item_of
+overrides (entry.InterruptSourceOverride e) h = overrides_by e (override_of e) refl h
+overrides (entry.NmiSource e) h =
+    other base.override_in override_record item.NmiSource (nmi_source_of e) (λ y. refl)
+overrides (entry.LocalApicNmi e) h =
+    other base.override_in override_record item.NmiLine
+    (nmi_line_of (processor_for all_apics e.processor_id) e.nmi_line) (λ y. refl)
+overrides (entry.X2ApicNmi e) h =
+    other base.override_in override_record item.NmiLine
+    (nmi_line_of (processor_for all_x2apics e.processor_uid) e.nmi_line) (λ y. refl)
+overrides _ h = refl
+
+-- ---- NMI sources
+
+abbrev sourcing : NmiSourceEntry → ℕ → ℕ → records.NmiSource
+sourcing e p t = record { global_system_interrupt = e.global_system_interrupt; polarity = p; trigger = t }
+
+same_source : (e : NmiSourceEntry) (p q t u : ℕ) → p ≡ q → t ≡ u → sourcing e p t ≡ sourcing e q u
+same_source e p q t u polarity trigger = rw (polarity, trigger) refl
+
+sources_by : (e : NmiSourceEntry) (o : Result NmiSource MadtError) → nmi_source_of e ≡ o
+    → result_err (o >>= λ y. Ok (item.NmiSource y)) ≡ None
+    → nmi_source_in (entry.NmiSource e)
+    ≡ option_map nmi_source_record (option_and_then base.nmi_source_in (result_ok (o >>= λ y. Ok (item.NmiSource y))))
+sources_by e (Ok x) is h =
+    let w = wired (polarity_of e.flags) (trigger_mode_of e.flags) _ x is in
+    let p = codes_decode.polarities.only (bits_of e.flags 0 2) w.0 w.2 in
+    let t = codes_decode.triggers.only (bits_of e.flags 2 2) w.1 w.3 in
+    ap Some (same_source e _ _ _ _ (sym p.1) (sym t.1)) ∙ ap (λ y. Some (nmi_source_record y)) w.4
+sources_by e (Err f) is h = absurd cc
+
+nmi_sources : Agree nmi_source_in (λ x. x) base.nmi_source_in nmi_source_record
+unfolding item_of
+nmi_sources (entry.InterruptSourceOverride e) h =
+    other base.nmi_source_in nmi_source_record item.Override (override_of e) (λ y. refl)
+nmi_sources (entry.NmiSource e) h = sources_by e (nmi_source_of e) refl h
+nmi_sources (entry.LocalApicNmi e) h =
+    other base.nmi_source_in nmi_source_record item.NmiLine
+    (nmi_line_of (processor_for all_apics e.processor_id) e.nmi_line) (λ y. refl)
+nmi_sources (entry.X2ApicNmi e) h =
+    other base.nmi_source_in nmi_source_record item.NmiLine
+    (nmi_line_of (processor_for all_x2apics e.processor_uid) e.nmi_line) (λ y. refl)
+nmi_sources _ h = refl
+
+-- ---- LINT pins
+
+same_processor : (b : Bool) (uid n : ℕ)
+    → ◌≡◌ {A = ℕ × ℕ × ℕ} (if b then 0 else uid, flag b, n)
+    (uid_code 0 (if b then All else ProcessorUid uid), of_all (if b then All else ProcessorUid uid), n)
+same_processor true uid n = refl
+same_processor false uid n = refl
+
+lines_by : (all uid number flags : ℕ) (o : Result LocalInterruptLine MadtError) → line_of number ≡ o
+    → let said = (o >>= λ line. Ok (record { processor = processor_for all uid; line = line })) >>= λ y. Ok (item.NmiLine y) in
+    result_err said ≡ None
+    → Some (line_shown (nmi_line all uid number flags))
+    ≡ option_map line_said (option_and_then base.nmi_line_in (result_ok said))
+lines_by all uid number flags (Ok line) is h =
+    let n = codes_decode.lines.only number line is in
+    rw (n.1) (ap Some (same_processor (uid == all) uid number))
+lines_by all uid number flags (Err f) is h = absurd cc
+
+nmi_lines : Agree nmi_line_in line_shown base.nmi_line_in line_said
+unfolding item_of
+nmi_lines (entry.InterruptSourceOverride e) h =
+    other base.nmi_line_in line_said item.Override (override_of e) (λ y. refl)
+nmi_lines (entry.NmiSource e) h = other base.nmi_line_in line_said item.NmiSource (nmi_source_of e) (λ y. refl)
+nmi_lines (entry.LocalApicNmi e) h = lines_by all_apics e.processor_id e.nmi_line e.flags (line_of e.nmi_line) refl h
+nmi_lines (entry.X2ApicNmi e) h =
+    lines_by all_x2apics e.processor_uid e.nmi_line e.flags (line_of e.nmi_line) refl h
+nmi_lines _ h = refl
+
+-- ---- processors
+
+waits : (b : Bool) (uid id : ℕ) → ◌≡◌ {A = Option (ℕ × ℕ × ℕ × ℕ)} (Some (uid, id, flag b, 0))
+    (Some (uid, id, state_code (base.state_of true b), 0))
+waits true uid id = refl
+waits false uid id = refl
+
+waiting : Agree processor_in processor_shown (base.processor_in true) processor_said
+unfolding item_of
+waiting (entry.LocalApic e) h = waits (has_bit e.flags 0) e.processor_id e.apic_id
+waiting (entry.LocalX2Apic e) h = waits (has_bit e.flags 0) e.processor_uid e.x2apic_id
+waiting (entry.InterruptSourceOverride e) h =
+    other (base.processor_in true) processor_said item.Override (override_of e) (λ y. refl)
+waiting (entry.NmiSource e) h =
+    other (base.processor_in true) processor_said item.NmiSource (nmi_source_of e) (λ y. refl)
+waiting (entry.LocalApicNmi e) h =
+    other (base.processor_in true) processor_said item.NmiLine
+    (nmi_line_of (processor_for all_apics e.processor_id) e.nmi_line) (λ y. refl)
+waiting (entry.X2ApicNmi e) h =
+    other (base.processor_in true) processor_said item.NmiLine
+    (nmi_line_of (processor_for all_x2apics e.processor_uid) e.nmi_line) (λ y. refl)
+waiting _ h = refl
+
+runs : (b : Bool) (uid id : ℕ) (xs ys : List (ℕ × ℕ × ℕ × ℕ)) → xs ≡ ys
+    → ◌≡◌ {A = List (ℕ × ℕ × ℕ × ℕ)} ((uid, id, if flag b == 0 then 0 else 2, 1) ∷ xs)
+    ((uid, id, state_code (base.state_of false b), 1) ∷ ys)
+runs true uid id xs ys h = ap (λ zs. (uid, id, 2, 1) ∷ zs) h
+runs false uid id xs ys h = ap (λ zs. (uid, id, 0, 1) ∷ zs) h
+
+abbrev said_by : List MadtItem → List (ℕ × ℕ × ℕ × ℕ)
+said_by items = map processor_said (listed (base.processors_of items))
+
+one_passed : (x : MadtItem) (items : List MadtItem) → base.processor_in false x ≡ None
+    → said_by items ≡ said_by (x ∷ items)
+one_passed (item.Processor uid id is_enabled) items none = absurd cc
+one_passed _ items none = refl
+
+passed : {X : Type 0} (k : X → MadtItem) (x : Result X MadtError) → ((y : X) → base.processor_in false (k y) ≡ None)
+    → (items : List MadtItem)
+    → said_by items ≡ said_by (cons_option (result_ok (x >>= λ y. Ok (k y))) items)
+passed k (Ok y) none items = one_passed (k y) items (none y)
+passed k (Err e) none items = refl
+
+later : (e : MadtEntry) (es : List MadtEntry) → filter_map base.fault_in (e ∷ es) ≡ []
+    → filter_map base.fault_in es ≡ []
+later e es h = (both_none (base.fault_in e) (filter_map base.fault_in es) h).1
+
+processors : (es : List MadtEntry) → filter_map base.fault_in es ≡ []
+    → map processor_shown (boot_first (filter_map processor_in es)) ≡ said_by (filter_map base.item_in es)
+unfolding item_of
+processors [] h = refl
+processors (entry.LocalApic e ∷ es) h =
+    runs (has_bit e.flags 0) e.processor_id e.apic_id _ _
+    (agree processor_in processor_shown (base.processor_in true) processor_said waiting es
+    (later (entry.LocalApic e) es h))
+processors (entry.LocalX2Apic e ∷ es) h =
+    runs (has_bit e.flags 0) e.processor_uid e.x2apic_id _ _
+    (agree processor_in processor_shown (base.processor_in true) processor_said waiting es
+    (later (entry.LocalX2Apic e) es h))
+processors (entry.InterruptSourceOverride e ∷ es) h =
+    processors es (later (entry.InterruptSourceOverride e) es h)
+    ∙ passed item.Override (override_of e) (λ y. refl) (filter_map base.item_in es)
+processors (entry.NmiSource e ∷ es) h =
+    processors es (later (entry.NmiSource e) es h)
+    ∙ passed item.NmiSource (nmi_source_of e) (λ y. refl) (filter_map base.item_in es)
+processors (entry.LocalApicNmi e ∷ es) h =
+    processors es (later (entry.LocalApicNmi e) es h)
+    ∙ passed item.NmiLine (nmi_line_of (processor_for all_apics e.processor_id) e.nmi_line) (λ y. refl)
+    (filter_map base.item_in es)
+processors (entry.X2ApicNmi e ∷ es) h =
+    processors es (later (entry.X2ApicNmi e) es h)
+    ∙ passed item.NmiLine (nmi_line_of (processor_for all_x2apics e.processor_uid) e.nmi_line) (λ y. refl)
+    (filter_map base.item_in es)
+processors (e ∷ es) h = processors es (later e es h)
+
+-- ---- the law
+
+unmapped : {A : Type 0} (xs : List A) → map (λ x. x) xs ≡ xs
+unmapped [] = refl
+unmapped (x ∷ xs) = ap (λ ys. x ∷ ys) (unmapped xs)
+
+pub lists_are_models : ListsAreModels
+lists_are_models table h =
+    let es = entries_of table in
+    let none = no_fault (filter_map base.fault_in es) (cut_of table).1 h in record {
+      io_apics = sym (unmapped _) ∙ agree io_apic_in (λ x. x) base.io_apic_in io_apic_record io_apics es none;
+      overrides = sym (unmapped _) ∙ agree override_in (λ x. x) base.override_in override_record overrides es none;
+      nmi_sources =
+          sym (unmapped _) ∙ agree nmi_source_in (λ x. x) base.nmi_source_in nmi_source_record nmi_sources es none;
+      nmi_lines = agree nmi_line_in line_shown base.nmi_line_in line_said nmi_lines es none;
+      processors = processors es none;
+    }

@@ -1,0 +1,124 @@
+-- What the entries of a MADT that describes APICs say, each by itself (ACPI 6.4, section 5.2.12): what another entry
+-- says, or why the strict model refuses it, changes nothing.
+use Rattle.std.specs.Prelude.{ℕ, ◌==◌, Bool, true, false, List, [], ◌∷◌, Option, Some, None, Result, Ok, if◌then◌else◌, filter_map}
+use Rattle.acpi_base.specs.FromStd.{list_any}
+use Rattle.acpi_base.specs.Words.{all_apics, all_x2apics, bits_of, has_bit, entries_of, ◌>>=◌, holds}
+pub use Rattle.acpi.specs.Types.{MadtEntry}
+use Rattle.acpi_base.specs.declared.tables.madt.entry.MadtEntry.TheVariants as entry
+use Rattle.acpi.specs.Words.{madt_kind}
+use Rattle.acpi_c_lib.specs.Answers.{result_map}
+use Rattle.acpi_c_lib.specs.Below.{Refusal, Source, first_table}
+use Rattle.acpi_c_lib.specs.Devices.{flag}
+use Rattle.acpi_c_lib.specs.Records as records
+use Rattle.acpi_c_lib.specs.Types.{NoApics}
+
+-- whether an entry is of APICs: Types 0 to 5, 9 and 0xa
+abbrev pub is_of_apics : MadtEntry → Bool
+is_of_apics (entry.LocalApic e) = true
+is_of_apics (entry.IoApic e) = true
+is_of_apics (entry.InterruptSourceOverride e) = true
+is_of_apics (entry.NmiSource e) = true
+is_of_apics (entry.LocalApicNmi e) = true
+is_of_apics (entry.LocalApicAddressOverride e) = true
+is_of_apics (entry.LocalX2Apic e) = true
+is_of_apics (entry.X2ApicNmi e) = true
+is_of_apics _ = false
+
+-- the entries of a table, if any is of APICs
+abbrev pub apics_among : List MadtEntry → Result (List MadtEntry) Refusal
+apics_among entries = do
+  _ ← holds (list_any is_of_apics entries) NoApics
+  Ok entries
+
+-- those of the first valid MADT, up to the first malformed front
+unfoldable pub apic_entries : Source → Result (List MadtEntry) Refusal
+apic_entries s = do
+  table ← first_table madt_kind s
+  apics_among (entries_of table)
+
+-- what is shown of them
+abbrev pub below_apics : {A : Type 0} → Source → (List MadtEntry → A) → Result A Refusal
+below_apics s show = result_map show (apic_entries s)
+
+-- ---- processors (sections 5.2.12.2 and 5.2.12.12)
+
+-- a processor that waits, if it is enabled. Flags (Local APIC Flags): bit 0 Enabled, bit 1 Online Capable
+abbrev pub processor : Bool → ℕ → ℕ → ℕ → records.Processor
+processor is_x2apic uid id flags = record {
+  uid = uid;
+  local_apic_id = id;
+  state = flag (has_bit flags 0);
+  is_boot = 0;
+  is_online_capable = flag (has_bit flags 1);
+  is_x2apic = flag is_x2apic;
+}
+
+abbrev pub processor_in : MadtEntry → Option records.Processor
+processor_in (entry.LocalApic e) = Some (processor false e.processor_id e.apic_id e.flags)
+processor_in (entry.LocalX2Apic e) = Some (processor true e.processor_uid e.x2apic_id e.flags)
+processor_in _ = None
+
+-- as the boot processor: it runs, if it is enabled
+abbrev pub booted : records.Processor → records.Processor
+booted p = record p { state = if p.state == 0 then 0 else 2; is_boot = 1 }
+
+-- the first is the boot processor
+abbrev pub boot_first : List records.Processor → List records.Processor
+boot_first [] = []
+boot_first (p ∷ others) = booted p ∷ others
+
+abbrev pub processors_of : List MadtEntry → List records.Processor
+processors_of entries = boot_first (filter_map processor_in entries)
+
+-- ---- I/O APICs (section 5.2.12.3)
+
+abbrev pub io_apic_in : MadtEntry → Option records.IoApic
+io_apic_in (entry.IoApic e) = Some (record {
+  address = e.io_apic_address;
+  global_system_interrupt_base = e.global_system_interrupt_base;
+  id = e.io_apic_id;
+})
+io_apic_in _ = None
+
+-- ---- overrides (section 5.2.12.5). MPS INTI Flags: bits 0 and 1 Polarity, bits 2 and 3 Trigger Mode; 2 is reserved
+
+abbrev pub override_in : MadtEntry → Option records.InterruptSourceOverride
+override_in (entry.InterruptSourceOverride e) = Some (record {
+  global_system_interrupt = e.global_system_interrupt;
+  isa_source = e.irq;
+  polarity = bits_of e.flags 0 2;
+  trigger = bits_of e.flags 2 2;
+  bus = e.bus;
+})
+override_in _ = None
+
+-- ---- non-maskable interrupts (sections 5.2.12.6, 5.2.12.7 and 5.2.12.13)
+
+abbrev pub nmi_source_in : MadtEntry → Option records.NmiSource
+nmi_source_in (entry.NmiSource e) = Some (record {
+  global_system_interrupt = e.global_system_interrupt;
+  polarity = bits_of e.flags 0 2;
+  trigger = bits_of e.flags 2 2;
+})
+nmi_source_in _ = None
+
+-- a LINT pin of a processor, or of all of them, if the UID is the one that stands for all
+abbrev pub nmi_line : ℕ → ℕ → ℕ → ℕ → records.NmiLine
+nmi_line all uid lint flags = record {
+  processor_uid = if uid == all then 0 else uid;
+  of_all = flag (uid == all);
+  lint = lint;
+  polarity = bits_of flags 0 2;
+  trigger = bits_of flags 2 2;
+}
+
+abbrev pub nmi_line_in : MadtEntry → Option records.NmiLine
+nmi_line_in (entry.LocalApicNmi e) = Some (nmi_line all_apics e.processor_id e.nmi_line e.flags)
+nmi_line_in (entry.X2ApicNmi e) = Some (nmi_line all_x2apics e.processor_uid e.nmi_line e.flags)
+nmi_line_in _ = None
+
+-- ---- the address of the local APICs (section 5.2.12.8)
+
+abbrev pub local_apic_address_in : MadtEntry → Option ℕ
+local_apic_address_in (entry.LocalApicAddressOverride e) = Some e.local_apic_address
+local_apic_address_in _ = None

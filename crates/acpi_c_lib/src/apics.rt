@@ -1,0 +1,262 @@
+//! The lists of what the entries of the first valid MADT say of APICs, each entry by itself.
+ghost use Rattle.std.specs.Prelude.{◌≡◌, Option, length, filter_map};
+ghost use Rattle.acpi_base.specs.FromStd.{list_any};
+ghost use Rattle.acpi_base.specs.Words.{entries_of, bytes_of, entries_left, Gives};
+ghost use Rattle.acpi_c_lib.specs.Words.{Fills, Writes, put_from, MadtEntry, apic_entries, below_apics, boot_first, booted, io_apic_in, is_of_apics, nmi_line, nmi_line_in, nmi_source_in, override_in, processor, processor_in, processors_of, mapped_memory, lists_some, memory_in};
+
+use crate::interrupt_records::{InterruptSourceOverride, IoApic, NmiLine, NmiSource, Processor};
+use crate::lists::{Listing, fill};
+use crate::opening::first;
+use crate::records::Source;
+use crate::refusal::Refusal;
+use crate::regions::Mapped;
+use acpi::PhysicalMapping;
+use acpi::madt::Madt;
+use acpi::platform::interrupt::NmiProcessor;
+use acpi_base::bytes::{bits, has_bit};
+use acpi_base::madt::{MadtEntry, MadtEntryIter};
+
+/// The first valid MADT, if one of its entries is of APICs.
+///
+/// Fails as `first` does, and then with `NoApics`.
+#[tactic(auto, unfolding(crate::specs::Apics::apic_entries))]
+pub(crate) fn apics<'h, 'k>(
+    memory: &'h Result<Mapped<'k>, Refusal>,
+    source: &Source<'_>,
+) -> Result<PhysicalMapping<'h, Mapped<'k>, Madt>, Refusal>
+    requires { Gives (λ m. mapped_memory m) memory.now (memory_in source.now.regions.now) }
+    ensures { Gives (λ m. entries_of (bytes_of m)) result (apic_entries source.now) }
+{
+    let madt = first::<Madt>(memory, source)?;
+    if !describes_apics(madt.bytes()) {
+        return Err(Refusal::NoApics);
+    }
+    Ok(madt)
+}
+
+/// Whether an entry of a MADT is of APICs.
+fn describes_apics(table: &[u8]) -> bool
+    ensures { result ≡ list_any is_of_apics (entries_of table.now) }
+{
+    for entry in MadtEntryIter::over(table) {
+        if is_of_apics(&entry) {
+            return true;
+        }
+    }
+    false
+}
+
+/// Whether an entry is of APICs.
+fn is_of_apics(entry: &MadtEntry) -> bool
+    ensures { result ≡ is_of_apics entry.now }
+{
+    match entry {
+        MadtEntry::LocalApic(_)
+        | MadtEntry::IoApic(_)
+        | MadtEntry::InterruptSourceOverride(_)
+        | MadtEntry::NmiSource(_)
+        | MadtEntry::LocalApicNmi(_)
+        | MadtEntry::LocalApicAddressOverride(_)
+        | MadtEntry::LocalX2Apic(_)
+        | MadtEntry::X2ApicNmi(_) => true,
+        _ => false,
+    }
+}
+
+/// A record of C's of what an entry of a MADT says.
+pub trait MadtRecord: Copy {
+    // The record of an entry, if it is of this sort.
+    ghost record_in: { MadtEntry → Option Self };
+
+    /// The record of an entry, if it is of this sort.
+    fn said(entry: &MadtEntry) -> Option<Self>
+        ensures { result ≡ record_in entry.now };
+}
+
+impl<R: MadtRecord> Listing<(), R> for MadtEntryIter<'_> {
+    ghost record_of = { λ known. R.record_in };
+
+    ghost left = { λ known s. filter_map R.record_in (entries_left s) };
+
+    ghost gives_first = { λ known s item t given. lists_some R.record_in (λ x. entries_left x) s item t given.0 };
+
+    fn record(_known: &(), entry: MadtEntry) -> Option<R>
+        ensures { result ≡ R.record_in entry }
+    {
+        R::said(&entry)
+    }
+}
+
+/// Lists what the entries of one sort say.
+pub fn entries<R: MadtRecord>(source: &Source<'_>, out: &mut [R]) -> Result<usize, Refusal>
+    ensures { Fills result out.old out.new (below_apics source.now (filter_map R.record_in)) }
+{
+    let memory = Mapped::new(source.regions);
+    let madt = apics(&memory, source)?;
+    Ok(fill_entries(madt.bytes(), out))
+}
+
+/// Writes what the entries of a MADT say, those of one sort.
+#[tactic(auto, using(acpi::proofs::First::filter_map_few))]
+fn fill_entries<R: MadtRecord>(table: &[u8], out: &mut [R]) -> usize
+    ensures { Writes result out.old out.new (filter_map R.record_in (entries_of table.now)) }
+{
+    fill(MadtEntryIter::over(table), &(), out)
+}
+
+/// Lists the processors, the boot processor first.
+pub fn processors(source: &Source<'_>, out: &mut [Processor]) -> Result<usize, Refusal>
+    ensures { Fills result out.old out.new (below_apics source.now processors_of) }
+{
+    let memory = Mapped::new(source.regions);
+    let madt = apics(&memory, source)?;
+    Ok(fill_processors(madt.bytes(), out))
+}
+
+/// Writes the processors of a MADT, the boot processor first.
+#[tactic(auto, using(crate::proofs::ApicLists::as_many))]
+fn fill_processors(table: &[u8], out: &mut [Processor]) -> usize
+    ensures { Writes result out.old out.new (processors_of (entries_of table.now)) }
+{
+    let count = fill_entries(table, out);
+    boot_first(out, count);
+    count
+}
+
+/// Makes the first of so many processors that were written the boot processor.
+pub(crate) fn boot_first(out: &mut [Processor], count: usize)
+    ensures { (before : _) (processors : _) → out.old ≡ put_from before 0 processors → count ≡ length processors
+        → out.new ≡ put_from before 0 (boot_first processors) }
+{
+    if count > 0 && out.len() > 0 {
+        out[0] = booted(out[0]);
+    }
+}
+
+/// A processor as the boot processor: it runs, if it is enabled.
+fn booted(processor: Processor) -> Processor
+    ensures { result ≡ booted processor }
+{
+    Processor {
+        state: if processor.state == 0 { 0 } else { 2 },
+        is_boot: 1,
+        ..processor
+    }
+}
+
+/// A processor that waits, if it is enabled.
+fn processor(is_x2apic: bool, uid: u32, local_apic_id: u32, flags: u32) -> Processor
+    ensures { result ≡ processor is_x2apic uid local_apic_id flags }
+{
+    Processor {
+        uid,
+        local_apic_id,
+        state: has_bit(flags as u64, 0) as u8, // Enabled
+        is_boot: 0,
+        is_online_capable: has_bit(flags as u64, 1) as u8, // Online Capable
+        is_x2apic: is_x2apic as u8,
+    }
+}
+
+impl MadtRecord for Processor {
+    ghost record_in = { processor_in };
+
+    fn said(entry: &MadtEntry) -> Option<Processor> {
+        match entry {
+            MadtEntry::LocalApic(e) => {
+                Some(processor(false, e.processor_id as u32, e.apic_id as u32, e.flags))
+            }
+            MadtEntry::LocalX2Apic(e) => {
+                Some(processor(true, e.processor_uid, e.x2apic_id, e.flags))
+            }
+            _ => None,
+        }
+    }
+}
+
+impl MadtRecord for IoApic {
+    ghost record_in = { io_apic_in };
+
+    fn said(entry: &MadtEntry) -> Option<IoApic> {
+        match entry {
+            MadtEntry::IoApic(e) => Some(IoApic {
+                address: e.io_apic_address,
+                global_system_interrupt_base: e.global_system_interrupt_base,
+                id: e.io_apic_id,
+            }),
+            _ => None,
+        }
+    }
+}
+
+impl MadtRecord for InterruptSourceOverride {
+    ghost record_in = { override_in };
+
+    fn said(entry: &MadtEntry) -> Option<InterruptSourceOverride> {
+        match entry {
+            MadtEntry::InterruptSourceOverride(e) => Some(InterruptSourceOverride {
+                global_system_interrupt: e.global_system_interrupt,
+                isa_source: e.irq,
+                polarity: bits(e.flags as u64, 0, 2) as u8,
+                trigger: bits(e.flags as u64, 2, 2) as u8,
+                bus: e.bus,
+            }),
+            _ => None,
+        }
+    }
+}
+
+impl MadtRecord for NmiSource {
+    ghost record_in = { nmi_source_in };
+
+    fn said(entry: &MadtEntry) -> Option<NmiSource> {
+        match entry {
+            MadtEntry::NmiSource(e) => Some(NmiSource {
+                global_system_interrupt: e.global_system_interrupt,
+                polarity: bits(e.flags as u64, 0, 2) as u8,
+                trigger: bits(e.flags as u64, 2, 2) as u8,
+            }),
+            _ => None,
+        }
+    }
+}
+
+impl MadtRecord for NmiLine {
+    ghost record_in = { nmi_line_in };
+
+    fn said(entry: &MadtEntry) -> Option<NmiLine> {
+        match entry {
+            MadtEntry::LocalApicNmi(e) => {
+                Some(nmi_line(
+                    NmiProcessor::ALL_APICS,
+                    e.processor_id as u32,
+                    e.nmi_line,
+                    e.flags,
+                ))
+            }
+            MadtEntry::X2ApicNmi(e) => {
+                Some(nmi_line(
+                    NmiProcessor::ALL_X2APICS,
+                    e.processor_uid,
+                    e.nmi_line,
+                    e.flags,
+                ))
+            }
+            _ => None,
+        }
+    }
+}
+
+/// A LINT pin of a processor, or of all of them, if the UID is the one that stands for all.
+fn nmi_line(all: u32, uid: u32, lint: u8, flags: u16) -> NmiLine
+    ensures { result ≡ nmi_line all uid lint flags }
+{
+    let of_all = uid == all;
+    NmiLine {
+        processor_uid: if of_all { 0 } else { uid },
+        of_all: of_all as u8,
+        lint,
+        polarity: bits(flags as u64, 0, 2) as u8,
+        trigger: bits(flags as u64, 2, 2) as u8,
+    }
+}
