@@ -1123,17 +1123,18 @@ struct zacpi_table_ids { /* who made the table, as its header says (section 5.2.
 };
 struct zacpi_madt_contents {
     const struct zacpi_processor *processors; /* the first is the boot processor: is_boot isn't
-                                               * looked at. Enabled is set unless the state is
-                                               * ZACPI_PROCESSOR_DISABLED, and Online Capable is
-                                               * clear */
+                                               * looked at, nor is is_x2apic. Enabled is set unless
+                                               * the state is ZACPI_PROCESSOR_DISABLED */
     size_t processors_length;
     const struct zacpi_io_apic *io_apics;
     size_t io_apics_length;
-    const struct zacpi_interrupt_source_override *overrides;
+    const struct zacpi_interrupt_source_override *overrides; /* bus isn't looked at: 0 is written */
     size_t overrides_length;
     const struct zacpi_nmi_source *nmi_sources;
     size_t nmi_sources_length;
-    const struct zacpi_nmi_line *nmi_lines; /* processor_uid isn't looked at if of_all isn't 0 */
+    const struct zacpi_nmi_line *nmi_lines; /* processor_uid isn't looked at if of_all isn't 0, nor
+                                             * are polarity and trigger: 0 is written, as the bus
+                                             * has them */
     size_t nmi_lines_length;
     uint64_t local_apic_address;
     uint64_t wakeup_mailbox;     /* MailBoxAddress (section 5.2.12.19); isn't looked at unless

@@ -32,7 +32,7 @@ static const struct zacpi_hpet_info protected_64k = {0x1fed00000, 0x8086a201, 0x
 static const struct zacpi_hpet_info reserved_protection = {0xfed00000, 0x8086a201, 0x80, 2, 9};
 /* The second one's ids are too large for a Processor Local APIC; the third one's uid alone, and the fourth one's id. */
 static const struct zacpi_processor listed[] = {{7, 2, ZACPI_PROCESSOR_RUNNING, 1, 0, 0},
-                                                {255, 0x1234, ZACPI_PROCESSOR_DISABLED, 0, 0, 0},
+                                                {255, 0x1234, ZACPI_PROCESSOR_DISABLED, 0, 1, 0},
                                                 {255, 254, ZACPI_PROCESSOR_WAITING, 0, 0, 0},
                                                 {254, 255, ZACPI_PROCESSOR_WAITING, 0, 0, 0},
                                                 {254, 254, ZACPI_PROCESSOR_WAITING, 1, 0, 0}};
@@ -154,9 +154,9 @@ static const uint8_t protected_64k_bytes[] = HPET(0xa3, 2);
 static const uint8_t reserved_hpet_bytes[] = {HEAD('H', 'P', 'E', 'T', 56, 1, 0x69), 1, 0xa2, 0x86, 0x80,
     0, 0, 0, 0, 0, 0, 0xd0, 0xfe, 0, 0, 0, 0, 2, 0x80, 0, 3};
 static const uint8_t slit_bytes[] = {HEAD('S', 'L', 'I', 'T', 48, 1, 0x23), 2, 0, 0, 0, 0, 0, 0, 0, 10, 20, 21, 10};
-static const uint8_t madt_bytes[] = {HEAD('A', 'P', 'I', 'C', 242, 5, 0xa2), 0, 0, 0, 0, 1, 0, 0, 0,
+static const uint8_t madt_bytes[] = {HEAD('A', 'P', 'I', 'C', 242, 5, 0xa0), 0, 0, 0, 0, 1, 0, 0, 0,
     0, 8, 7, 2, 1, 0, 0, 0,                                  /* Processor Local APIC: uid 7, id 2 */
-    9, 16, 0, 0, 0x34, 0x12, 0, 0, 0, 0, 0, 0, 255, 0, 0, 0, /* Processor Local x2APIC: disabled */
+    9, 16, 0, 0, 0x34, 0x12, 0, 0, 2, 0, 0, 0, 255, 0, 0, 0, /* Processor Local x2APIC: disabled, Online Capable */
     9, 16, 0, 0, 254, 0, 0, 0, 1, 0, 0, 0, 255, 0, 0, 0,
     9, 16, 0, 0, 255, 0, 0, 0, 1, 0, 0, 0, 254, 0, 0, 0,
     0, 8, 254, 254, 1, 0, 0, 0,

@@ -1,5 +1,5 @@
 -- Tables that are written for C.
-use Rattle.std.specs.Prelude.{◌≡◌, ℕ, ◌≤◌, ◌&&◌, ◌==◌, Bool, false, is_ok, not, nat_le, List, length, take, drop, Option, Some, None, Result, Ok, Err, if◌then◌else◌}
+use Rattle.std.specs.Prelude.{◌≡◌, ℕ, ◌≤◌, ◌&&◌, ◌==◌, Bool, is_ok, not, nat_le, List, length, take, drop, Option, Some, None, Result, Ok, Err, if◌then◌else◌}
 use Rattle.acpi_base.specs.FromStd.{list_all, result_unwrap_or}
 use Rattle.acpi_base.specs.Words.{polarity_for, trigger_for}
 use Rattle.acpi.specs.Types.{InterruptSourceOverride, IoApic, Lint0, Lint1, NmiLine, NmiSource, Polarity, TriggerMode, McfgEntry}
@@ -60,13 +60,13 @@ region_of r = record {
 
 -- ---- the MADT (section 5.2.12)
 
--- Enabled is set unless the state is 0, and Online Capable is clear
+-- Enabled is set unless the state is 0
 abbrev pub processor_of : records.Processor → MadtProcessor
 processor_of p = record {
   processor_uid = p.uid;
   local_apic_id = p.local_apic_id;
   is_enabled = not (p.state == 0);
-  is_online_capable = false;
+  is_online_capable = not (p.is_online_capable == 0);
 }
 
 abbrev pub io_apic_of : records.IoApic → IoApic

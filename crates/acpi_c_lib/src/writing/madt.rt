@@ -37,7 +37,7 @@ impl StandsFor<MadtProcessor> for Processor {
             processor_uid: self.uid,
             local_apic_id: self.local_apic_id,
             is_enabled: self.state != 0,
-            is_online_capable: false,
+            is_online_capable: self.is_online_capable != 0,
         }
     }
 }
