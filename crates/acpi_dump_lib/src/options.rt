@@ -57,7 +57,7 @@ Status: 0 shown, 1 something isn't there or can't be read or written, 2 usage, 3
 /// What the options are.
 pub(crate) fn command<'a>(alloc: Global) -> Result<Command<'a>, AllocError> {
     let mut command = Command::new(alloc, "acpi_dump")
-        .version("5.2.0")
+        .version("1.0.0")
         .about("Shows ACPI tables")
         .after_help(AFTER)
         .no_binary_name(true)

@@ -6,7 +6,7 @@ help_text = codes "usage: acpi_pack OUT memory ADDRESS FILE [ADDRESS FILE]... | 
     ++ codes "       acpi_pack --help | --version\n"
 
 abbrev pub version_text : List ℕ
-version_text = codes "acpi_pack 5.2.0\n"
+version_text = codes "acpi_pack 1.0.0\n"
 
 -- what is told to a single argument that asks for it
 abbrev pub told_to : List ℕ → Option (List ℕ)

@@ -8,7 +8,7 @@ const HELP: &str = "usage: acpi_pack OUT memory ADDRESS FILE [ADDRESS FILE]... |
 ";
 
 /// The text that says the program's version.
-const VERSION: &str = "acpi_pack 5.2.0\n";
+const VERSION: &str = "acpi_pack 1.0.0\n";
 
 /// The text that an argument asks for, or `None` if it asks for none.
 fn told_to(argument: &str) -> Option<&'static str>
