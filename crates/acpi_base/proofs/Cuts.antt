@@ -1,6 +1,6 @@
 -- Bytes are cut in exactly one way.
-use Rattle.std.proofs.Common.{◌≡◌, ℕ, zero, suc, ◌+◌, ◌-◌, ◌≤◌, Bool, true, false, cond, List, [], ◌∷◌, ◌++◌, length, take, drop, Option, Some, None, refl, sym, ap, ◌∙◌, arith, append_assoc, length-append, length-drop, leb, ◌⊎◌, inl, inr, option_map}
-use Rattle.acpi_base.proofs.FromStd.{get_or_append_left, take_at, drop_at, take-append-drop, get_or-take, length-take-le, and_from, le-leb, nat_tests}
+use Rattle.std.proofs.Common.{◌≡◌, ℕ, zero, suc, ◌+◌, ◌-◌, ◌≤◌, cond, List, [], ◌∷◌, ◌++◌, length, take, drop, Option, Some, None, refl, sym, ap, ◌∙◌, arith, append_assoc, length-append, length-drop, ◌⊎◌, inl, inr, option_map}
+use Rattle.acpi_base.proofs.FromStd.{get_or_append_left, take_at, drop_at, take-append-drop, get_or-take, length-take-le, nat_tests}
 use Rattle.acpi_base.specs.FromStd.{concat}
 use Rattle.acpi_base.specs.Words.{IsEntry, IsCut, IsFew, after_one, front, is_full, next_front, with_entry, cut_within, cut, least_length, number_at, number_in, width_of, OneCut, CutIsCut, EntryLayout, Grammar, Place, Width, One, Two}
 use Rattle.acpi_base.specs.Entries.{end_of}
@@ -44,11 +44,6 @@ same_front l e f x y ee ff same =
       sym (drop_at e x (length e) refl) ∙ ap (drop (length e)) same ∙ drop_at f y (length e) (sym long),
     )
 
--- what the test at the front says
-none_false : (b : Bool) (m : ℕ) → cond b (Some m) None ≡ None → b ≡ false
-none_false true m e = cc
-none_false false m e = refl
-
 pub front_is : {k : ℕ} (l : EntryLayout k) (bytes : List ℕ) (n : ℕ) → front l bytes ≡ Some n
     → IsEntry l (take n bytes) × (1 ≤ n) × (n ≤ length bytes)
 unfolding front
@@ -73,21 +68,13 @@ pub front_none : {k : ℕ} (l : EntryLayout k) (bytes e more : List ℕ) → fro
     → IsEntry l e → ⊥
 unfolding front
 front_none l bytes e more none whole ee =
-    let m = number_at l.length_place (e ++ more) in
-    let entry_type = number_at l.kind_place (e ++ more) in
     let w : front l (e ++ more) ≡ None = sym (ap (front l) whole) ∙ none in
-    let is_m : m ≡ length e = at_append l.length_place e more ee.header ∙ ee.size in
-    let is_kind : entry_type ≡ number_at l.kind_place e = at_append l.kind_place e more ee.entry_type in
-    let k : leb (end_of l.kind_place) m ≡ true = le-leb (end_of l.kind_place) m (omega (arith, ee.entry_type, is_m)) in
-    let h : leb (end_of l.length_place) m ≡ true = le-leb (end_of l.length_place) m (omega (arith, ee.header, is_m)) in
-    let least_e : least_length l entry_type ≤ length e = rw is_kind ee.least in
-    let least : leb (least_length l entry_type) m ≡ true =
-    le-leb (least_length l entry_type) m (omega (arith, least_e, is_m)) in
-    let within : leb m (length (e ++ more)) ≡ true =
-    le-leb m (length (e ++ more)) (omega (arith, is_m, length-append e more)) in
-    let passes = and_from _ _ (and_from _ _ (and_from _ _ k h) least) within in
-    let fails = none_false _ m w in
-    cc
+    let is_long : number_at l.length_place (e ++ more) ≡ length e =
+    at_append l.length_place e more ee.header ∙ ee.size in
+    let is_kind : number_at l.kind_place (e ++ more) ≡ number_at l.kind_place e =
+    at_append l.kind_place e more ee.entry_type in
+    let least : least_length l (number_at l.kind_place (e ++ more)) ≤ length e = rw is_kind ee.least in
+    grind (arith, nat_tests, ee.entry_type, ee.header, length-append e more)
 
 -- ---- all entries
 
