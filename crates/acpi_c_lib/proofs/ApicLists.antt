@@ -3,7 +3,7 @@
 use Rattle.std.proofs.Common.{◌≡◌, ℕ, suc, ◌+◌, ◌<◌, ◌≤◌, List, [], ◌∷◌, length, get_or, slice_set, subst, true, refl, add-one, arith, ◌∙◌, sym, ap, filter_map, Option, Some, None, Result, Ok, Err}
 use Rattle.std.specs.Prelude.{option_and_then}
 use Rattle.acpi_base.specs.FromStd.{cons_option, list_any, result_ok}
-use Rattle.acpi_base.specs.Words.{io_apic_of, item_in, item_of, nmi_line_of, ◌>>=◌}
+use Rattle.acpi_base.specs.Words.{item_in, item_of, ◌>>=◌}
 use Rattle.acpi_base.specs.Interrupts.{nmi_source_of, override_of}
 use Rattle.acpi_base.specs.Model.{is_of_apic}
 use Rattle.acpi_base.specs.Model as base

@@ -4,7 +4,7 @@ use Rattle.acpi_base.proofs.FromStd.{fill_by_all, get_or-map-range_with_len}
 use Rattle.acpi_base.specs.Words.{io_apic_for, nearest, ◌>>=◌}
 use Rattle.acpi.specs.Types.{IoApic, MadtEntry}
 use Rattle.acpi_base.proofs.Words.{kept, one_nearer, or_nearer}
-use Rattle.acpi_c_lib.specs.Words.{Refusal, IsaInterrupts, IsaRoute, ItemsAreAnswers, apic_entries, apic_in, isa_in, isa_list, isa_numbers, isa_route, nearer_of, no_route, number_of, route_by, route_of, Interrupt, IoApicPin, pin_in, pin_or, result_map}
+use Rattle.acpi_c_lib.specs.Words.{Refusal, IsaInterrupts, IsaRoute, ItemsAreAnswers, apic_entries, apic_in, isa_in, isa_list, isa_numbers, isa_route, nearer_of, no_route, number_of, route_by, route_of, Interrupt, pin_in, pin_or, result_map}
 
 -- ---- a walk along the I/O APICs
 

@@ -1,5 +1,5 @@
 -- Of a MADT none of whose entries is at fault, the lists are those of the strict model.
-use Rattle.std.proofs.Common.{◌≡◌, ℕ, List, [], ◌∷◌, map, Bool, true, false, Option, Some, None, Result, Ok, Err, refl, ap, sym, ◌∙◌, arith, filter_map, option_map}
+use Rattle.std.proofs.Common.{◌≡◌, ℕ, List, [], ◌∷◌, map, Bool, true, false, Option, Some, None, Result, Ok, Err, refl, ap, sym, ◌∙◌, filter_map, option_map}
 use Rattle.std.specs.Prelude.{◌==◌, option_and_then, if◌then◌else◌}
 use Rattle.acpi_base.specs.FromStd.{cons_option, result_err, result_ok}
 use Rattle.acpi_base.proofs.FromStd.{eqb-true}

@@ -1,5 +1,5 @@
 -- Lists that are written, in one part or in two, and how many items they have at most.
-use Rattle.std.proofs.Common.{◌≡◌, ◌∙◌, ◌+◌, ℕ, List, [], ◌∷◌, ◌++◌, length, length-append, slice_set, ap, sym, arith, drop, zero, suc, map, Some, None, true, refl, add-one, ◌<◌, ◌*◌, ◌≤◌, Bool, false, Option, length-drop, inl, inr, take, nat_lt, ◌==◌, ◌&&◌, ◌||◌, not, nat_le, if◌then◌else◌, filter, Ok, filter_map, option_map}
+use Rattle.std.proofs.Common.{◌≡◌, ◌∙◌, ◌+◌, ℕ, List, [], ◌∷◌, ◌++◌, length, length-append, slice_set, ap, sym, arith, drop, zero, suc, map, Some, None, true, refl, ◌<◌, ◌*◌, ◌≤◌, Bool, false, Option, length-drop, inl, inr, take, ◌==◌, ◌&&◌, ◌||◌, not, nat_le, if◌then◌else◌, filter, Ok, filter_map}
 use Rattle.acpi_base.proofs.FromStd.{append-nil, length-map, nat_tests, length-filter, count_by-le-length}
 use Rattle.acpi_c_lib.specs.Words.{Writes, put_from, MadtItem, listed, plain_grammar, plain_layout, GtFrame, frame_record, frames_in, frames_of, frames_shown, watchdog_in, watchdogs_shown}
 use Rattle.acpi.proofs.First.{filter_map_few}

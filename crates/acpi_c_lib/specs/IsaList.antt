@@ -1,5 +1,5 @@
 -- The 16 ISA interrupts at once, each as the calls for one answer it.
-use Rattle.std.specs.Prelude.{◌≡◌, ℕ, ◌-◌, ◌<◌, ◌&&◌, nat_le, List, map, slice_index_or, Option, Some, None, Result, Ok, Err, if◌then◌else◌, option_map}
+use Rattle.std.specs.Prelude.{◌≡◌, ℕ, ◌-◌, ◌<◌, ◌&&◌, nat_le, List, map, slice_index_or, Option, Some, Result, Ok, Err, if◌then◌else◌, option_map}
 use Rattle.acpi_base.specs.FromStd.{range_with_len}
 use Rattle.acpi_base.specs.Words.{base_of}
 use Rattle.acpi.specs.Types.{IoApic}
