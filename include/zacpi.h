@@ -17,30 +17,29 @@
  *     }
  *
  * What the caller keeps. A pointer is aligned for its type and points to as many items as the
- * length beside it says. It isn't null, but for a list of no items and for `signature`; the lists
- * inside the items of a list (a region's bytes) aren't null either. An input is initialised; an
+ * length beside it says. It isn't null, but for a list of no items and for `signature`; lists
+ * inside the items of a list (a region's bytes) aren't null either. Inputs are initialised; an
  * output needn't be, and shares no byte with an input or another output. While a call runs nobody
  * writes what it reads, nor touches what it writes. The stack is aligned as the ABI says. The
- * archives for kernels (C.md) use general registers alone, and no red zone; the others use vector
- * registers, which are enabled first (on x86-64 CR0.EM clear, CR4.OSFXSR set), and may use the red
- * zone.
+ * archives for kernels (C.md) use general registers alone and no red zone; the others may use the
+ * red zone and use vector registers, which are enabled first (on x86-64 CR0.EM clear, CR4.OSFXSR
+ * set).
  *
- * Each call can be passed any numbers, over any bytes. It keeps no state, takes no memory and calls
- * nobody, so that any number of calls may run at once, each with outputs of its own.
+ * Each call can be passed any numbers, over any bytes. It keeps no state, takes no memory and
+ * calls nobody: any number of calls may run at once, each with outputs of its own.
  *
- * What a call returns is ZACPI_OK, with all its outputs written, or the number of the first error
- * that stands at it, with no output written. Only if that error carries a signature (20 to 25 of
- * enum zacpi_refusal) `signature` is written.
+ * A call returns ZACPI_OK, with all its outputs written, or fails with the first error that stands
+ * at it, with none written. Only a ZACPI_SDT_ error and ZACPI_TABLE_MISSING write `signature`.
  *
- * A list writes its first `capacity` items to `out`, and how many there are in all to `count`: with
- * a capacity of 0 it only counts.
+ * A list writes its first `capacity` items to `out`, and how many there are in all to `count`:
+ * with a capacity of 0 it only counts.
  *
- * Section numbers are those of the ACPI Specification, version 6.4, unless another document is
- * named, and names of fields (Length, SCI_INT) are those of the document that lays the table out. A
- * physical address is a number of bytes, and so is a length, unless its field says something else.
- * A field that says whether something holds is 0 for no and 1 for yes. Bytes of a field past the
- * end of its table or entry are read as 0, and a field is read in every Revision of its table,
- * unless the field says otherwise. */
+ * Section numbers are those of the ACPI Specification 6.4 unless another document is named, and
+ * names of fields (Length, SCI_INT) those of the document that lays the table out. A field without
+ * a comment is what its name says. Addresses are physical, and lengths in bytes, unless a field
+ * says otherwise. A field that says whether something holds is 0 or 1. Bytes past the end of a
+ * table or entry are read as 0, and a field is read in every Revision of its table, unless it says
+ * otherwise. */
 #ifndef ZACPI_H
 #define ZACPI_H
 #include <stddef.h>
@@ -73,84 +72,86 @@ enum zacpi_refusal {
     /* What is passed. */
     ZACPI_REGIONS_NOT_ASCENDING = 1, /* a region begins below the end of the one before it */
     ZACPI_REGION_TOO_HIGH = 2,       /* the address after a region's last byte is 2^64 or above */
-    ZACPI_UNKNOWN_START = 3,         /* zacpi_source.start isn't one of enum zacpi_start */
+    ZACPI_UNKNOWN_START = 3,         /* `start` isn't one of enum zacpi_start */
     ZACPI_RANGE_TOO_HIGH = 4,        /* the address after a range's last byte is 2^64 or above */
-    ZACPI_UNKNOWN_WIDTH = 5,         /* Type and Length can have 1 or 2 bytes each */
+    ZACPI_UNKNOWN_WIDTH = 5,         /* `bytes_each` isn't 1 or 2 */
 
     /* Memory and the RSDP (section 5.2.5). */
-    ZACPI_MAP_FAILED = 10,               /* bytes are needed that lie in no one region */
+    ZACPI_MAP_FAILED = 10,               /* bytes are needed that no one region contains */
     ZACPI_NO_VALID_RSDP = 11,            /* the BIOS areas contain no valid RSDP */
-    ZACPI_RSDP_INCORRECT_SIGNATURE = 12, /* Signature of the RSDP isn't "RSD PTR " */
-    ZACPI_RSDP_INVALID_OEM_ID = 13,      /* OEMID of the RSDP isn't UTF-8 */
-    ZACPI_RSDP_INVALID_CHECKSUM = 14,    /* its bytes don't sum to 0, or its Length is below 36 */
+    ZACPI_RSDP_INCORRECT_SIGNATURE = 12, /* Signature isn't "RSD PTR " */
+    ZACPI_RSDP_INVALID_OEM_ID = 13,      /* OEMID isn't UTF-8 */
+    ZACPI_RSDP_INVALID_CHECKSUM = 14,    /* the bytes don't sum to 0, or Length is below 36 */
 
-    /* A table (section 5.2.6). 20 to 25 carry the signature of the table that was looked for. */
-    ZACPI_SDT_INVALID_SIGNATURE = 20, /* another Signature stands there, or one that isn't UTF-8 */
+    /* A table (section 5.2.6). These carry the signature of the table that was looked for. */
+    ZACPI_SDT_INVALID_SIGNATURE = 20, /* Signature is another, or isn't UTF-8 */
     ZACPI_SDT_INVALID_OEM_ID = 21,    /* OEMID isn't UTF-8 */
     ZACPI_SDT_INVALID_TABLE_ID = 22,  /* OEM Table ID isn't UTF-8 */
-    ZACPI_SDT_INVALID_LENGTH = 23,    /* Length is less than the table's least length */
-    ZACPI_SDT_INVALID_CHECKSUM = 24,  /* the table's bytes don't sum to 0 */
-    ZACPI_TABLE_MISSING = 25,         /* no valid table of this signature is listed */
+    ZACPI_SDT_INVALID_LENGTH = 23,    /* Length is below the least length */
+    ZACPI_SDT_INVALID_CHECKSUM = 24,  /* the bytes don't sum to 0 */
+    ZACPI_TABLE_MISSING = 25,         /* no valid table of the signature is listed */
 
     /* The FADT, the HPET and the MCFG. */
-    ZACPI_INVALID_DSDT_ADDRESS = 30,    /* X_DSDT and DSDT of the FADT are 0 (section 5.2.9) */
+    ZACPI_INVALID_DSDT_ADDRESS = 30,    /* X_DSDT and DSDT are 0 (section 5.2.9) */
     ZACPI_INVALID_GENERIC_ADDRESS = 31, /* a reserved code in a register's address (section
                                          * 5.2.3.2), or an HPET that isn't in memory */
-    ZACPI_NO_SUCH_FUNCTION = 32,        /* no region of configuration space contains the function */
+    ZACPI_NO_SUCH_FUNCTION = 32,        /* no region of configuration space contains it */
 
     /* The MADT (section 5.2.12). Its entries follow one another from byte 44 on. One begins where
      * its Length is at most the bytes left and at least 8, 12, 10, 8, 6, 12, 16, 16, 16, 16, 12,
-     * 76, 24, 24, 16, 20 and 16 for Types 0 to 0x10, and 2 for any other Type, which is skipped. */
-    ZACPI_NO_APICS = 40,            /* the first valid MADT has no entry of Types 0 to 5, 9 and 0xa;
-                                     * for zacpi_platform also if there is none */
-    ZACPI_NO_GIC = 41,              /* the MADT has no GICD entry (section 5.2.12.15) */
-    ZACPI_NO_SUCH_INTERRUPT = 42,   /* no ISA interrupt of this number comes to an I/O APIC */
-    ZACPI_NO_SUCH_IO_APIC = 43,     /* no I/O APIC has this global system interrupt */
-    ZACPI_MADT_UNEXPECTED_ENTRY = 44, /* Type is of a SAPIC, a platform interrupt source (6 to 8) or
-                                       * a GIC (0xb to 0xf) */
+     * 76, 24, 24, 16, 20 and 16 for Types 0 to 0x10, and 2 for others, which are skipped. */
+    ZACPI_NO_APICS = 40,              /* the first valid MADT has no entry of Types 0 to 5, 9 and
+                                       * 0xa; for zacpi_platform also: there is no MADT */
+    ZACPI_NO_GIC = 41,                /* the MADT has no GICD entry (section 5.2.12.15) */
+    ZACPI_NO_SUCH_INTERRUPT = 42,     /* the ISA interrupt comes to no I/O APIC */
+    ZACPI_NO_SUCH_IO_APIC = 43,       /* no I/O APIC has this global system interrupt */
+    ZACPI_MADT_UNEXPECTED_ENTRY = 44, /* Type is of a SAPIC or a platform interrupt source (6 to 8),
+                                       * or of a GIC (0xb to 0xf) */
     /* Bus of an Interrupt Source Override isn't 0, ISA (section 5.2.12.5) */
     ZACPI_MADT_INTERRUPT_OVERRIDE_ENTRY_HAS_INVALID_BUS = 45,
-    ZACPI_MADT_INVALID_LOCAL_NMI_LINE = 46,        /* LINT# isn't 0 or 1 (section 5.2.12.7) */
-    ZACPI_MADT_MPS_INTI_INVALID_POLARITY = 47,     /* Polarity is 2, reserved (section 5.2.12.5) */
+    ZACPI_MADT_INVALID_LOCAL_NMI_LINE = 46, /* LINT# isn't 0 or 1 (section 5.2.12.7) */
+    ZACPI_MADT_MPS_INTI_INVALID_POLARITY = 47, /* Polarity is 2, reserved (section 5.2.12.5) */
     ZACPI_MADT_MPS_INTI_INVALID_TRIGGER_MODE = 48, /* Trigger Mode is 2, reserved */
-    ZACPI_MADT_INVALID_ENTRY_LENGTH = 49, /* bytes of the table are left in which no entry begins */
+    ZACPI_MADT_INVALID_ENTRY_LENGTH = 49, /* bytes are left in which no entry begins */
 
-    /* The SRAT (section 5.2.16), with entries as in a MADT, but from byte 48 on, and of a Length of
-     * at least 16, 40, 24, 18, 12, 32 and 32 for Types 0 to 6; the SLIT, the DMAR and the IVRS. */
-    ZACPI_NUMA_INVALID_ENTRY_LENGTH = 50, /* bytes of the table are left in which no entry begins */
-    ZACPI_NUMA_INVALID_MEMORY_RANGE = 51, /* the address after a range of memory is 2^64 or above */
-    ZACPI_NO_DOMAIN = 52,                 /* the SRAT puts the address or processor in no domain */
-    ZACPI_NO_DISTANCE = 53,               /* the SLIT has no distance of these two localities */
-    ZACPI_IOMMU_INVALID_STRUCTURE_LENGTH = 54, /* bytes of the table are left in which none of its
-                                                * structures or blocks begins, or bytes of one in
-                                                * which no device scope or device entry begins */
-    ZACPI_IOMMU_INVALID_MEMORY_RANGE = 55, /* the last byte of an RMRR is before its first, or the
+    /* The SRAT (section 5.2.16), with entries as in a MADT, from byte 48 on, of a Length of at
+     * least 16, 40, 24, 18, 12, 32 and 32 for Types 0 to 6; the SLIT, the DMAR and the IVRS. */
+    ZACPI_NUMA_INVALID_ENTRY_LENGTH = 50,  /* bytes are left in which no entry begins */
+    ZACPI_NUMA_INVALID_MEMORY_RANGE = 51,  /* the address after a range of memory is 2^64 or
+                                            * above */
+    ZACPI_NO_DOMAIN = 52,                  /* the SRAT puts it in no domain */
+    ZACPI_NO_DISTANCE = 53,                /* the SLIT has no distance of these localities */
+    ZACPI_IOMMU_INVALID_STRUCTURE_LENGTH = 54, /* bytes of the table are left in which no structure
+                                                * or block begins, or bytes of one in which no
+                                                * device scope or device entry does */
+    ZACPI_IOMMU_INVALID_MEMORY_RANGE = 55, /* an RMRR's last byte is before its first, or the
                                             * address after an IVMD's memory is 2^64 or above */
     ZACPI_NO_IOMMU = 56,                   /* the table has no unit for the device */
 
     /* A table that is written. */
-    ZACPI_UNKNOWN_CODE = 60,  /* a polarity, a trigger mode, a LINT pin, an image's orientation or
-                               * type, a console's interrupt_controllers, a timer's kind, or in a
-                               * register an address space, an access size or `present` by a number
-                               * that isn't one */
-    ZACPI_NO_PROCESSOR = 61,  /* a MADT without a processor */
-    ZACPI_ID_OF_ALL = 62,     /* a processor whose uid or id is 0xffffffff, which stands for all */
-    ZACPI_UID_OF_ALL = 63,    /* an NMI line of the processor whose uid is 0xffffffff */
-    ZACPI_BAD_MATRIX = 64,    /* a SLIT without a distance for each pair of localities */
-    ZACPI_NO_ADDRESS = 65,    /* an RSDP or a FADT that leads to address 0; a console's registers
-                               * there; an address at which a machine's tables can't lie */
-    ZACPI_BAD_NAME = 66,      /* OEMID, OEM Table ID or Creator ID isn't UTF-8 */
-    ZACPI_NO_ROOM = 67,       /* the buffer is shorter than the table */
-    ZACPI_TOO_LONG = 68,      /* the table has 2^32 bytes or more, which Length can't say */
-    ZACPI_BAD_REGISTER = 69,  /* a register of a FADT at address 0, or a block without bytes */
-    ZACPI_BAD_RANGE = 70,     /* a range of memory that has no byte, or ends above 2^64 - 1; one of
-                               * redistributors that has 2^32 bytes or more */
-    ZACPI_SAME_AS_BUS = 71,   /* a trigger mode or a polarity of an Arm machine as the bus has it */
-    ZACPI_TOO_MANY_FRAMES = 72, /* a GT Block with more frames than its Length can say */
-    ZACPI_BAD_TABLE = 73      /* a listed table whose bytes aren't one table */
+    ZACPI_UNKNOWN_CODE = 60,    /* a number that isn't one of its codes: a polarity, trigger mode or
+                                 * LINT pin, an image's orientation or type, a console's
+                                 * interrupt_controllers, a timer's kind, or a register's address
+                                 * space, access size or `present` */
+    ZACPI_NO_PROCESSOR = 61,
+    ZACPI_ID_OF_ALL = 62,       /* a processor's uid or id is 0xffffffff, which stands for all */
+    ZACPI_UID_OF_ALL = 63,      /* an NMI line's processor_uid is 0xffffffff */
+    ZACPI_BAD_MATRIX = 64,      /* a SLIT without one distance for each pair */
+    ZACPI_NO_ADDRESS = 65,      /* an address is 0 of what an RSDP or a FADT leads to, or of a
+                                 * console's registers; or a machine's tables can't lie at theirs */
+    ZACPI_BAD_NAME = 66,        /* OEMID, OEM Table ID or Creator ID isn't UTF-8 */
+    ZACPI_NO_ROOM = 67,         /* `capacity` is less than the length */
+    ZACPI_TOO_LONG = 68,        /* the table has 2^32 bytes or more */
+    ZACPI_BAD_REGISTER = 69,    /* a FADT's register at address 0, or block without bytes */
+    ZACPI_BAD_RANGE = 70,       /* a range of memory without a byte, or that ends above 2^64 - 1;
+                                 * one of redistributors of 2^32 bytes or more */
+    ZACPI_SAME_AS_BUS = 71,     /* a trigger mode or polarity of an Arm machine is 0, as the bus has
+                                 * it */
+    ZACPI_TOO_MANY_FRAMES = 72, /* a GT Block has more frames than Length can say */
+    ZACPI_BAD_TABLE = 73        /* a listed table's bytes aren't one table */
 };
 
-/* The name of a status, as acpi_view prints it: "MapFailed". "Unknown" for any other number. */
+/* Returns the name that acpi_view prints: "MapFailed"; "Unknown" for no error's number. */
 static inline const char *zacpi_status_name(zacpi_status status) {
     /* One text: a table of pointers would have to be relocated first. */
     static const char names[] = "0:Ok\0"
@@ -183,67 +184,61 @@ static inline const char *zacpi_status_name(zacpi_status status) {
 
 /* ---- Memory ---------------------------------------------------------------------------------- */
 
-/* Physical memory from `address` on, and the pointer to it in the caller's address space. The
- * pointer is never null: a kernel with an identity map begins its first region above address 0. */
+/* Physical memory from `address` on, and the pointer to it, which is never null: with an identity
+ * map the first region begins above address 0. */
 struct zacpi_region {
     uint64_t address;
     const uint8_t *bytes;
     size_t length;
 };
 
-/* A range of physical addresses: its first address, and how many bytes it has. */
 struct zacpi_range {
     uint64_t address, length;
 };
 
 enum zacpi_start {
-    ZACPI_START_RSDP = 0,       /* `address` is that of the RSDP, as a loader or UEFI passes it
-                                 * (section 5.2.5.2) */
-    ZACPI_START_RSDT = 1,       /* `address` is that of the RSDT: pointers of four bytes (section
-                                 * 5.2.7) */
-    ZACPI_START_XSDT = 2,       /* `address` is that of the XSDT: pointers of eight bytes (section
-                                 * 5.2.8) */
-    ZACPI_START_BIOS_SEARCH = 3, /* the RSDP is searched for in the BIOS areas, each of which has to
-                                  * be lent in one piece; `address` isn't looked at */
-    ZACPI_START_SEARCH = 4       /* the RSDP is searched for in the BIOS areas as far as they are
-                                  * lent; `address` isn't looked at */
+    ZACPI_START_RSDP = 0,        /* at the RSDP, as a loader or UEFI passes it (section 5.2.5.2) */
+    ZACPI_START_RSDT = 1,        /* at the RSDT: pointers of 4 bytes (section 5.2.7) */
+    ZACPI_START_XSDT = 2,        /* at the XSDT: pointers of 8 bytes (section 5.2.8) */
+    ZACPI_START_BIOS_SEARCH = 3, /* the RSDP is searched for in the BIOS areas, each lent in one
+                                  * piece */
+    ZACPI_START_SEARCH = 4       /* the same, as far as the areas are lent */
 };
 
 /* Where tables are looked for. The regions ascend and share no byte; zacpi_clip_ranges makes such.
  * Bytes are lent if one region contains all of them: regions that touch aren't joined. */
 struct zacpi_source {
     const struct zacpi_region *regions;
-    size_t regions_length; /* how many regions there are */
-    uint64_t address;      /* physical; of what `start` says */
-    uint32_t start;        /* one of enum zacpi_start */
+    size_t regions_length;
+    uint64_t address; /* where to start; a search doesn't look at it */
+    uint32_t start;   /* one of enum zacpi_start */
 };
 
 /* Lists the ranges to make regions of, from ranges in any order, as a firmware's memory map has
  * them: sorted, joined where they overlap or touch, clipped to `window`, and without what lies in
- * `without` (the kernel's own image, and whatever is written while calls run). None of them is
- * empty. Reads no memory. Fails with ZACPI_RANGE_TOO_HIGH if a range that is passed ends at 2^64 or
- * above. */
+ * `without` (the kernel's own image, and whatever is written while calls run). None is empty. Reads
+ * no memory. Fails with ZACPI_RANGE_TOO_HIGH. */
 ZACPI_STATUS zacpi_clip_ranges(const struct zacpi_range *ranges, size_t ranges_length,
                                const struct zacpi_range *without, size_t without_length,
                                const struct zacpi_range *window, struct zacpi_range *out,
                                size_t capacity, size_t *count);
 
 struct zacpi_place {
-    size_t region; /* the index of the region */
-    size_t offset; /* in bytes, from the region's first one on */
+    size_t region; /* its index */
+    size_t offset; /* from the region's first byte on */
 };
 
 /* Returns where physical memory is in the regions: the byte at `address` is
  * regions[region].bytes[offset], and `length` bytes from there on lie in that region. Reads no
  * memory. Fails with ZACPI_REGIONS_NOT_ASCENDING, ZACPI_REGION_TOO_HIGH, or ZACPI_MAP_FAILED if
- * `address` lies in no region, also for a length of 0, or the bytes reach past the region's end. */
+ * `address` lies in no region, also for a length of 0, or the bytes reach past its end. */
 ZACPI_STATUS zacpi_locate(const struct zacpi_region *regions, size_t regions_length,
                           uint64_t address, uint64_t length, struct zacpi_place *out);
 
 /* ---- Tables ---------------------------------------------------------------------------------- */
 
 struct zacpi_signature {
-    uint8_t letters[4]; /* Signature of a table, as "APIC", without a zero after it */
+    uint8_t letters[4]; /* as "APIC", without a zero after it */
 };
 static inline struct zacpi_signature zacpi_signature_of(const char *letters) {
     struct zacpi_signature made;
@@ -256,28 +251,28 @@ static inline struct zacpi_signature zacpi_signature_of(const char *letters) {
     zacpi_signature_of(&("" letters)[0 * sizeof(char[sizeof("" letters) == 5 ? 1 : -1])])
 struct zacpi_root {
     uint64_t address;      /* of the RSDT or XSDT */
-    uint32_t length;       /* Length: with its header */
-    uint8_t revision;      /* Revision of the RSDP; 0 if opened at an RSDT, 2 if at an XSDT */
-    uint8_t pointer_width; /* in bytes: 4 for an RSDT, 8 for an XSDT */
+    uint32_t length;
+    uint8_t revision;      /* of the RSDP; 0 if opened at an RSDT, 2 if at an XSDT */
+    uint8_t pointer_width; /* 4 for an RSDT, 8 for an XSDT */
 };
 struct zacpi_table {
     uint64_t address;
-    uint32_t length;      /* Length: with its header */
-    uint8_t signature[4]; /* Signature */
-    uint8_t revision;     /* Revision: of the table's layout */
+    uint32_t length;  /* with the header */
+    uint8_t signature[4];
+    uint8_t revision; /* of the table's layout */
 };
 struct zacpi_fault {
-    uint64_t address;   /* as the root table lists it */
-    zacpi_status status; /* why it is skipped: ZACPI_MAP_FAILED, or 21 to 24 of enum
-                          * zacpi_refusal */
+    uint64_t address;    /* as the root table lists it */
+    zacpi_status status; /* why it is skipped: ZACPI_MAP_FAILED or a ZACPI_SDT_ error, but for
+                          * ZACPI_SDT_INVALID_SIGNATURE */
 };
 struct zacpi_entry { /* an entry of a table, which begins with Type and Length */
-    uint64_t address;    /* of its first byte */
-    uint16_t entry_type; /* Type */
-    uint16_t length;     /* Length: with these two fields */
+    uint64_t address;
+    uint16_t entry_type;
+    uint16_t length; /* with these two fields */
 };
 struct zacpi_aml_table {
-    uint64_t address; /* of the first byte after the table's 36 bytes of header */
+    uint64_t address; /* of the byte after the table's header */
     uint32_t length;  /* Length less 36 */
 };
 
@@ -292,11 +287,10 @@ struct zacpi_aml_table {
 ZACPI_STATUS zacpi_open(const struct zacpi_source *source, struct zacpi_root *out,
                         struct zacpi_signature *signature);
 
-/* Lists the ranges of memory that the tables still need and that no one region contains: of RSDPs
- * that a search skipped, of what opening fails at, of the listed tables, the DSDT and the FACS
- * (C.md). A kernel maps those that it can, joins them with its regions' ranges (zacpi_clip_ranges),
- * and asks again, until no new range comes. Each has at least two bytes. Fails with
- * ZACPI_REGIONS_NOT_ASCENDING, ZACPI_REGION_TOO_HIGH or ZACPI_UNKNOWN_START. */
+/* Lists the ranges of memory that the tables still need and no one region contains (C.md). A kernel
+ * maps those that it can, joins them with its regions' ranges (zacpi_clip_ranges), and asks again,
+ * until no new range comes. Each has at least two bytes. Fails with ZACPI_REGIONS_NOT_ASCENDING,
+ * ZACPI_REGION_TOO_HIGH or ZACPI_UNKNOWN_START. */
 ZACPI_STATUS zacpi_list_missing_ranges(const struct zacpi_source *source, struct zacpi_range *out,
                                        size_t capacity, size_t *count,
                                        struct zacpi_signature *signature);
@@ -306,9 +300,8 @@ ZACPI_STATUS zacpi_list_missing_ranges(const struct zacpi_source *source, struct
 ZACPI_STATUS zacpi_list_tables(const struct zacpi_source *source, struct zacpi_table *out,
                                size_t capacity, size_t *count, struct zacpi_signature *signature);
 
-/* Returns the first valid table of the wanted signature (section 5.2.6): its header and its sum are
- * checked, its fields are not. Fails with an opening error, or ZACPI_TABLE_MISSING with that
- * signature. */
+/* Returns the first valid table of the wanted signature (section 5.2.6), whose fields aren't
+ * checked. Fails with an opening error, or ZACPI_TABLE_MISSING with that signature. */
 ZACPI_STATUS zacpi_find_table(const struct zacpi_source *source, struct zacpi_signature wanted,
                               struct zacpi_table *out, struct zacpi_signature *signature);
 
@@ -321,9 +314,9 @@ static inline const uint8_t *zacpi_table_bytes(const struct zacpi_region *region
     return regions[place.region].bytes + place.offset;
 }
 
-/* Returns the `index`-th valid table of the wanted signature, counted from 0 in the order of the
- * root table (section 5.2.6): the 0th is that of zacpi_find_table. Fails with an opening error, or
- * ZACPI_TABLE_MISSING with that signature if there are no more than `index`. */
+/* Returns the `index`-th valid table of the wanted signature, from 0 on in the order of the root
+ * table (section 5.2.6): the 0th is that of zacpi_find_table. Fails with an opening error, or
+ * ZACPI_TABLE_MISSING with that signature. */
 ZACPI_STATUS zacpi_find_nth_table(const struct zacpi_source *source, struct zacpi_signature wanted,
                                   size_t index, struct zacpi_table *out,
                                   struct zacpi_signature *signature);
@@ -361,22 +354,21 @@ ZACPI_STATUS zacpi_list_ssdts(const struct zacpi_source *source, struct zacpi_am
 /* Lists the memory of the tables, which isn't to be given away: of the root table, of each listed
  * table that is valid under its own signature, of the DSDT of the first valid FADT if it is valid,
  * and of that FADT's FACS if it is lent, has the signature "FACS" and a Length of at least 64
- * (sections 5.2.6 to 5.2.11). The ranges may overlap. Not among them are the RSDP, the boot
- * graphic's image and the mailbox that wakes processors. Fails with an opening error. */
+ * (sections 5.2.6 to 5.2.11). They may overlap. Not among them are the RSDP, the boot graphic's
+ * image and the mailbox that wakes processors. Fails with an opening error. */
 ZACPI_STATUS zacpi_list_ranges(const struct zacpi_source *source, struct zacpi_range *out,
                                size_t capacity, size_t *count, struct zacpi_signature *signature);
 
 /* ---- Fixed hardware and devices -------------------------------------------------------------- */
 
 struct zacpi_generic_address { /* Generic Address Structure, section 5.2.3.2 */
-    uint64_t address;    /* Address: in its space */
-    uint8_t space;       /* Address Space ID: 0 system memory, 1 I/O ports, 2 PCI configuration
-                          * space, ... */
-    uint8_t bit_width;   /* Register Bit Width */
-    uint8_t bit_offset;  /* Register Bit Offset: bits before the register at `address` */
-    uint8_t access_size; /* Access Size: 0 not said, 1 one byte, 2 two, 3 four, 4 eight */
+    uint64_t address;    /* in its space */
+    uint8_t space;       /* Address Space ID, of enum zacpi_address_space */
+    uint8_t bit_width;
+    uint8_t bit_offset;  /* bits before the register at `address` */
+    uint8_t access_size; /* 0 not said, 1 one byte, 2 two, 3 four, 4 eight */
 };
-enum zacpi_address_space { /* Address Space ID, section 5.2.3.2 */
+enum zacpi_address_space { /* section 5.2.3.2 */
     ZACPI_SPACE_SYSTEM_MEMORY = 0, ZACPI_SPACE_SYSTEM_IO = 1, ZACPI_SPACE_PCI_CONFIGURATION = 2,
     ZACPI_SPACE_EMBEDDED_CONTROLLER = 3, ZACPI_SPACE_SMBUS = 4, ZACPI_SPACE_SYSTEM_CMOS = 5,
     ZACPI_SPACE_PCI_BAR_TARGET = 6, ZACPI_SPACE_IPMI = 7, ZACPI_SPACE_GENERAL_PURPOSE_IO = 8,
@@ -385,24 +377,22 @@ enum zacpi_address_space { /* Address Space ID, section 5.2.3.2 */
 };
 struct zacpi_register {
     struct zacpi_generic_address at; /* zeros unless it is present */
-    uint8_t present;                /* 0: there is none. 1: it is `at`. 2: its address is an
-                                     * error */
+    uint8_t present;                 /* 0: none. 1: it is `at`. 2: its address is an error */
 };
 struct zacpi_pm_timer {
-    struct zacpi_generic_address base; /* X_PM_TMR_BLK or PM_TMR_BLK: its register. Zeros unless it
+    struct zacpi_generic_address base; /* X_PM_TMR_BLK or PM_TMR_BLK; zeros unless it is present */
+    uint8_t present;                   /* 0: none. 1: it is at `base` */
+    uint8_t is_32_bit;                 /* TMR_VAL_EXT: it counts in 32 bits, else in 24. 0 unless it
                                         * is present */
-    uint8_t present;                  /* 0: there is none. 1: it is at `base` */
-    uint8_t is_32_bit;                /* TMR_VAL_EXT: 1 if it counts in 32 bits, 0 if in 24. 0
-                                       * unless it is present */
 };
 struct zacpi_hpet_info {
-    uint64_t base_address;         /* BASE_ADDRESS: of the registers, in memory */
-    uint32_t event_timer_block_id; /* Event Timer Block ID */
+    uint64_t base_address;    /* of the registers, in memory */
+    uint32_t event_timer_block_id;
     uint16_t clock_tick_unit; /* Main Counter Minimum Clock_tick in Periodic Mode: the least ticks
                                * of a periodic timer */
-    uint8_t number;           /* HPET Number: of the block, from 0 on */
-    uint8_t page_protection;  /* Page Protection, bits 0 to 3: 0 nothing is promised, 1 the 4 KiB
-                               * may be accessed, 2 the 64 KiB, 3 a reserved code, 3 to 15 */
+    uint8_t number;           /* HPET Number, from 0 on */
+    uint8_t page_protection;  /* bits 0 to 3: 0 nothing is promised, 1 the 4 KiB may be accessed, 2
+                               * the 64 KiB, 3 a reserved code, 3 to 15 */
 };
 enum { /* of event_timer_block_id */
     ZACPI_HPET_HARDWARE_REV_ID = 0xff,
@@ -411,73 +401,68 @@ enum { /* of event_timer_block_id */
     ZACPI_HPET_LEGACY_REPLACEMENT = 1 << 15       /* in bits 16 to 31 is the PCI Vendor ID */
 };
 struct zacpi_boot_graphic {
-    uint64_t address;     /* Image Address: of the image */
-    uint32_t x, y;        /* Image Offset X and Y: of its upper left corner on the screen, in
-                           * pixels */
+    uint64_t address;     /* Image Address */
+    uint32_t x, y;        /* Image Offset X and Y: of its upper left corner, in pixels */
     uint16_t orientation; /* Orientation Offset, bits 1 and 2 of Status: in degrees, clockwise, 0,
                            * 90, 180 or 270 */
-    uint8_t displayed;    /* Displayed, bit 0 of Status: whether it is on the screen still */
-    uint8_t image_type;   /* Image Type, 0: a bitmap. 1: another code, which is reserved */
+    uint8_t displayed;    /* bit 0 of Status: it is on the screen still */
+    uint8_t image_type;   /* 0: a bitmap. 1: another code, which is reserved */
 };
 
 struct zacpi_gpe_block { /* general purpose events (sections 4.8.4.1 and 5.2.9), by the length in
-                          * bytes */
-    uint64_t address;    /* X_GPEn_BLK or GPEn_BLK: of the first register, in its space; 0 unless it
-                          * is present */
-    uint8_t space;       /* as in struct zacpi_generic_address; 0 unless it is present */
-    uint8_t byte_length; /* GPEn_BLK_LEN: first the status bits, in the second half the enable bits;
-                          * 0 unless it is present */
-    uint8_t present;     /* 0: there is none, also if GPEn_BLK_LEN is 0. 1: there is one. 2: its
-                          * address is an error, for Address Space ID alone: Access Size isn't
-                          * looked at */
+                          * bytes; zeros unless it is present */
+    uint64_t address;    /* X_GPEn_BLK or GPEn_BLK: of the first register, in its space */
+    uint8_t space;       /* as in struct zacpi_generic_address */
+    uint8_t byte_length; /* GPEn_BLK_LEN: first the status bits, in the second half the enable
+                          * bits */
+    uint8_t present;     /* 0: none, also if GPEn_BLK_LEN is 0. 1: there is one. 2: its address is
+                          * an error, for Address Space ID alone: Access Size isn't looked at */
 };
 /* FADT, section 5.2.9. An X_ field is read as 0 below revision 2, and if the table hasn't all its
- * bytes. An address is that of the X_ field if this isn't 0, and a block is that of the X_ field if
- * its Address isn't 0. Else a block is I/O ports at the other field, of eight bits
- * for each byte of its length (PM1_EVT_LEN to GPE1_BLK_LEN), which may be 0; from 32 bytes on it is
- * an error, but for gpe0_block and gpe1_block. */
+ * bytes. An address is that of the X_ field unless it is 0, and a block that of the X_ field unless
+ * its Address is 0. Else a block is I/O ports at the other field, of eight bits for each byte of
+ * its length (PM1_EVT_LEN to GPE1_BLK_LEN), which may be 0; from 32 bytes on it is an error, but
+ * for gpe0_block and gpe1_block. */
 struct zacpi_fixed_hardware {
-    uint64_t facs_address;               /* X_FIRMWARE_CTRL or FIRMWARE_CTRL. 0: none */
-    uint64_t dsdt_address;               /* X_DSDT or DSDT. 0: none */
-    struct zacpi_register pm1a_event, pm1b_event;     /* X_PM1n_EVT_BLK or PM1n_EVT_BLK: status and
-                                                       * enable bits */
-    struct zacpi_register pm1a_control, pm1b_control; /* X_PM1n_CNT_BLK or PM1n_CNT_BLK: control
-                                                       * registers */
-    struct zacpi_register pm2_control;    /* X_PM2_CNT_BLK or PM2_CNT_BLK */
-    struct zacpi_register pm_timer;       /* X_PM_TMR_BLK or PM_TMR_BLK, section 4.8.3.3. None if
-                                           * PM_TMR_LEN isn't 4 */
-    struct zacpi_register gpe0, gpe1;     /* X_GPEn_BLK or GPEn_BLK, also if GPEn_BLK_LEN is 0. For
-                                           * ports of 32 bytes and more see gpe0_block */
-    struct zacpi_register reset;          /* RESET_REG: counts only if bit 10 of `flags`
-                                           * (RESET_REG_SUP) is set */
-    struct zacpi_register sleep_control;  /* SLEEP_CONTROL_REG, of a machine of reduced hardware */
-    struct zacpi_register sleep_status;   /* SLEEP_STATUS_REG, of a machine of reduced hardware */
-    struct zacpi_gpe_block gpe0_block, gpe1_block; /* GPE0 and GPE1, of any length */
-    uint32_t smi_command;                /* SMI_CMD, a port. 0: there is no system management
-                                          * mode */
-    uint32_t flags;                      /* Flags: bit 20 (HW_REDUCED_ACPI) is set if the hardware
-                                          * is reduced */
-    uint16_t sci_interrupt;              /* SCI_INT: a number of the 8259, or else a global system
-                                          * interrupt */
-    uint16_t x86_boot_flags;             /* IAPC_BOOT_ARCH, section 5.2.9.3 */
-    uint16_t arm_boot_flags;             /* ARM_BOOT_ARCH, section 5.2.9.4 */
-    uint16_t c2_latency, c3_latency;     /* P_LVL2_LAT, P_LVL3_LAT: in microseconds. Above 100,
-                                          * 1000: no C2, no C3 */
-    uint16_t flush_size;                 /* FLUSH_SIZE: how many strides to read to write back all
-                                          * caches */
-    uint16_t flush_stride;               /* FLUSH_STRIDE: their width in bytes */
-    uint8_t power_profile;               /* Preferred_PM_Profile: 0 to 8, others are reserved
-                                          * (section 5.2.9.1) */
-    uint8_t acpi_enable, acpi_disable;   /* ACPI_ENABLE, ACPI_DISABLE: written to smi_command */
-    uint8_t s4bios_request;              /* S4BIOS_REQ: written to smi_command */
-    uint8_t pstate_control;              /* PSTATE_CNT: written to smi_command. 0: none */
-    uint8_t c_state_control;             /* CST_CNT: written to smi_command */
-    uint8_t gpe1_base;                   /* GPE1_BASE: the number of the first event of gpe1 */
-    uint8_t duty_offset, duty_width;     /* DUTY_OFFSET, DUTY_WIDTH: in the processor's control
-                                          * register, in bits */
-    uint8_t day_alarm, month_alarm, century; /* DAY_ALRM, MON_ALRM, CENTURY: registers of the clock.
-                                              * 0: none */
-    uint8_t reset_value;                 /* RESET_VALUE: what to write to `reset` */
+    uint64_t facs_address;                            /* X_FIRMWARE_CTRL or FIRMWARE_CTRL. 0:
+                                                       * none */
+    uint64_t dsdt_address;                            /* X_DSDT or DSDT. 0: none */
+    struct zacpi_register pm1a_event, pm1b_event;     /* X_PM1n_EVT_BLK or PM1n_EVT_BLK */
+    struct zacpi_register pm1a_control, pm1b_control; /* X_PM1n_CNT_BLK or PM1n_CNT_BLK */
+    struct zacpi_register pm2_control;                /* X_PM2_CNT_BLK or PM2_CNT_BLK */
+    struct zacpi_register pm_timer;                   /* X_PM_TMR_BLK or PM_TMR_BLK (section
+                                                       * 4.8.3.3). None if PM_TMR_LEN isn't 4 */
+    struct zacpi_register gpe0, gpe1;                 /* X_GPEn_BLK or GPEn_BLK, also if
+                                                       * GPEn_BLK_LEN is 0 */
+    struct zacpi_register reset;                      /* RESET_REG: counts only with
+                                                       * ZACPI_FADT_RESET_REG_SUP */
+    struct zacpi_register sleep_control;              /* SLEEP_CONTROL_REG, of reduced hardware */
+    struct zacpi_register sleep_status;               /* SLEEP_STATUS_REG, of reduced hardware */
+    struct zacpi_gpe_block gpe0_block, gpe1_block;    /* GPE0 and GPE1, of any length */
+    uint32_t smi_command;                             /* SMI_CMD, a port. 0: no system management
+                                                       * mode */
+    uint32_t flags;                                   /* of enum zacpi_fadt_flag */
+    uint16_t sci_interrupt;                           /* SCI_INT: of the 8259, or else a global
+                                                       * system interrupt */
+    uint16_t x86_boot_flags;                          /* IAPC_BOOT_ARCH (section 5.2.9.3) */
+    uint16_t arm_boot_flags;                          /* ARM_BOOT_ARCH (section 5.2.9.4) */
+    uint16_t c2_latency, c3_latency;                  /* P_LVL2_LAT, P_LVL3_LAT: in microseconds.
+                                                       * Above 100, 1000: no C2, no C3 */
+    uint16_t flush_size;                              /* strides to read to write back all caches */
+    uint16_t flush_stride;                            /* their width in bytes */
+    uint8_t power_profile;                            /* Preferred_PM_Profile: 0 to 8, others are
+                                                       * reserved */
+    uint8_t acpi_enable, acpi_disable;                /* written to smi_command */
+    uint8_t s4bios_request;                           /* S4BIOS_REQ: written to smi_command */
+    uint8_t pstate_control;                           /* PSTATE_CNT: written to smi_command. 0:
+                                                       * none */
+    uint8_t c_state_control;                          /* CST_CNT: written to smi_command */
+    uint8_t gpe1_base;                                /* the number of gpe1's first event */
+    uint8_t duty_offset, duty_width;                  /* in the processor's control register, in
+                                                       * bits */
+    uint8_t day_alarm, month_alarm, century;          /* DAY_ALRM, MON_ALRM, CENTURY: registers of
+                                                       * the clock. 0: none */
+    uint8_t reset_value;                              /* what to write to `reset` */
 };
 enum zacpi_fadt_flag { /* Flags, section 5.2.9 */
     ZACPI_FADT_WBINVD = 1 << 0, ZACPI_FADT_WBINVD_FLUSH = 1 << 1, ZACPI_FADT_PROC_C1 = 1 << 2,
@@ -503,30 +488,28 @@ enum zacpi_power_profile { /* Preferred_PM_Profile, section 5.2.9.1 */
     ZACPI_PROFILE_SOHO_SERVER = 5, ZACPI_PROFILE_APPLIANCE_PC = 6,
     ZACPI_PROFILE_PERFORMANCE_SERVER = 7, ZACPI_PROFILE_TABLET = 8
 };
-struct zacpi_console { /* SPCR, whose layout is Microsoft's, and so are these names of its fields */
-    struct zacpi_register base;           /* Base Address: of the registers. None if all its twelve
-                                           * bytes are 0 */
-    uint32_t baud_rate;                  /* Precise Baud Rate, or if that is 0 what Configured Baud
-                                          * Rate stands for: 3 9600, 4 19200, 6 57600, 7 115200; 0
-                                          * unless it is there. In bits in a second */
-    uint32_t global_system_interrupt;    /* Global System Interrupt; 0 unless it is there */
-    uint32_t clock_frequency;            /* UART Clock Frequency, in Hz. 0: the table doesn't say,
-                                          * or is below revision 3 */
-    uint32_t pci_flags;                  /* PCI Flags. Bit 0: neither switch the device off nor look
-                                          * for its like */
-    uint16_t pci_device_id, pci_vendor_id; /* PCI Device ID, PCI Vendor ID. 0xffff: the port is no
-                                            * PCI device */
-    uint8_t interface;                   /* Interface Type: 0 16550, 1 16450, 3 PL011, ... */
-    uint8_t irq;                         /* IRQ: on the 8259s; 0 unless it is there */
-    uint8_t has_irq;                     /* whether bit 0 of Interrupt Type is set */
-    uint8_t has_global_system_interrupt; /* whether one of bits 1 to 4 of Interrupt Type is set */
+struct zacpi_console { /* SPCR, whose layout and names of fields are Microsoft's */
+    struct zacpi_register base;            /* Base Address. None if all its twelve bytes are 0 */
+    uint32_t baud_rate;                    /* Precise Baud Rate, or if that is 0 what Configured
+                                            * Baud Rate stands for: 3 9600, 4 19200, 6 57600, 7
+                                            * 115200; 0 unless it is there. In bits in a second */
+    uint32_t global_system_interrupt;      /* 0 unless it is there */
+    uint32_t clock_frequency;              /* UART Clock Frequency, in Hz. 0: the table doesn't say,
+                                            * or is below revision 3 */
+    uint32_t pci_flags;                    /* bit 0: neither switch the device off nor look for its
+                                            * like */
+    uint16_t pci_device_id, pci_vendor_id; /* 0xffff: no PCI device */
+    uint8_t interface;                     /* Interface Type, of enum zacpi_console_type */
+    uint8_t irq;                           /* on the 8259s; 0 unless it is there */
+    uint8_t has_irq;                       /* bit 0 of Interrupt Type is set */
+    uint8_t has_global_system_interrupt;   /* one of bits 1 to 4 of Interrupt Type is set */
     uint8_t has_baud_rate;
-    uint8_t parity, stop_bits;           /* Parity, Stop Bits. 0: no parity. 1: one stop bit */
-    uint8_t pci_segment, pci_bus;        /* PCI Segment, PCI Bus Number */
-    uint8_t pci_device, pci_function;    /* PCI Device Number, PCI Function Number */
+    uint8_t parity, stop_bits;             /* 0: no parity. 1: one stop bit */
+    uint8_t pci_segment, pci_bus;
+    uint8_t pci_device, pci_function;
 };
 
-enum zacpi_console_type { /* Interface Type */
+enum zacpi_console_type {
     ZACPI_CONSOLE_16550 = 0, ZACPI_CONSOLE_16450 = 1, ZACPI_CONSOLE_MAX311XE = 2,
     ZACPI_CONSOLE_ARM_PL011 = 3, ZACPI_CONSOLE_MSM8X60 = 4, ZACPI_CONSOLE_NVIDIA_16550 = 5,
     ZACPI_CONSOLE_TI_OMAP = 6, ZACPI_CONSOLE_APM88XXXX = 8, ZACPI_CONSOLE_MSM8974 = 9,
@@ -541,23 +524,22 @@ enum zacpi_console_type { /* Interface Type */
 /* Returns the fixed hardware of the first valid FADT (section 5.2.9). An error of a register's
  * address isn't one of the call: its `present` is 2. The registers of pm1a and reset are present at
  * address 0 too, and those of sleep if the table is of revision 2 or above and has all their bytes:
- * 0 stands for none. If the hardware is reduced (ZACPI_FADT_HW_REDUCED_ACPI), those of pm1, pm2,
- * gpe and the timer mean nothing. Fails with an opening error, or ZACPI_TABLE_MISSING "FACP". */
+ * 0 stands for none. Those of pm1, pm2, gpe and the timer mean nothing with
+ * ZACPI_FADT_HW_REDUCED_ACPI. Fails with an opening error, or ZACPI_TABLE_MISSING "FACP". */
 ZACPI_STATUS zacpi_get_fixed_hardware(const struct zacpi_source *source,
                                       struct zacpi_fixed_hardware *out,
                                       struct zacpi_signature *signature);
 
-/* Returns the serial console that the firmware used, by the first valid SPCR, whose layout is
- * Microsoft's. An error of the base's address isn't one of the call: its `present` is 2. Fails with
- * an opening error, or ZACPI_TABLE_MISSING "SPCR". */
+/* Returns the serial console that the firmware used, by the first valid SPCR. An error of the
+ * base's address isn't one of the call: its `present` is 2. Fails with an opening error, or
+ * ZACPI_TABLE_MISSING "SPCR". */
 ZACPI_STATUS zacpi_get_console(const struct zacpi_source *source, struct zacpi_console *out,
                                struct zacpi_signature *signature);
 
 /* Returns the power management timer of the first valid FADT, which counts at 3.579545 MHz
- * (sections 4.8.3.3 and 5.2.9). No timer is no error: `present` is 0 if PM_TMR_LEN isn't 4, or no
- * field gives an address. Fails with an opening error, ZACPI_TABLE_MISSING "FACP", or
- * ZACPI_INVALID_GENERIC_ADDRESS if there is a timer, and X_PM_TMR_BLK has a reserved code and an
- * Address that isn't 0. */
+ * (sections 4.8.3.3 and 5.2.9). There is none if PM_TMR_LEN isn't 4, or no field gives an address.
+ * Fails with an opening error, ZACPI_TABLE_MISSING "FACP", or ZACPI_INVALID_GENERIC_ADDRESS if
+ * there is a timer, and X_PM_TMR_BLK has a reserved code and an Address that isn't 0. */
 ZACPI_STATUS zacpi_get_pm_timer(const struct zacpi_source *source, struct zacpi_pm_timer *out,
                                 struct zacpi_signature *signature);
 
@@ -577,20 +559,20 @@ ZACPI_STATUS zacpi_get_boot_graphic(const struct zacpi_source *source,
 
 struct zacpi_pci_region { /* an allocation of the MCFG (PCI Firmware Specification, section
                            * 4.1.2) */
-    uint64_t base_address;       /* Base Address: where bus 0 of the segment group would lie */
-    uint16_t segment_group;      /* PCI Segment Group Number */
+    uint64_t base_address;       /* where bus 0 of the segment group would lie */
+    uint16_t segment_group;
     uint8_t first_bus, last_bus; /* Start Bus Number, End Bus Number */
 };
 struct zacpi_ecam_range {
     uint64_t address, length; /* zeros if it isn't present */
-    uint16_t segment_group;   /* PCI Segment Group Number */
-    uint8_t present;          /* 0 if the last bus is below the first, or the range ends at 2^64 or
+    uint16_t segment_group;
+    uint8_t present;          /* 0: the last bus is below the first, or the range ends at 2^64 or
                                * above */
 };
 
-/* Lists the regions of PCI configuration space, as the first valid MCFG has them, in its order (PCI
- * Firmware Specification, section 4.1.2): 16 bytes for each from byte 44 on; fewer at the end are
- * none. Fails with an opening error, or ZACPI_TABLE_MISSING "MCFG". */
+/* Lists the regions of PCI configuration space of the first valid MCFG, in its order: 16 bytes for
+ * each from byte 44 on; fewer at the end are none (PCI Firmware Specification, section 4.1.2).
+ * Fails with an opening error, or ZACPI_TABLE_MISSING "MCFG". */
 ZACPI_STATUS zacpi_list_pci_regions(const struct zacpi_source *source, struct zacpi_pci_region *out,
                                     size_t capacity, size_t *count,
                                     struct zacpi_signature *signature);
@@ -601,20 +583,19 @@ ZACPI_STATUS zacpi_list_ecam_ranges(const struct zacpi_source *source, struct za
                                     size_t capacity, size_t *count,
                                     struct zacpi_signature *signature);
 
-/* Returns the physical address of a function's 4096 bytes of configuration space, by the first
- * region of the first valid MCFG that contains the bus, with its base as that of bus 0 (PCI
- * Firmware Specification, section 4.1.2). Fails with an opening error, ZACPI_TABLE_MISSING "MCFG",
- * or ZACPI_NO_SUCH_FUNCTION if no region contains the bus, the device is above 31, the function
- * above 7, or the sum 2^64 or above. */
+/* Returns the address of a function's 4096 bytes of configuration space, by the first region of the
+ * first valid MCFG that contains the bus, with its base as that of bus 0 (PCI Firmware
+ * Specification, section 4.1.2). Fails with an opening error, ZACPI_TABLE_MISSING "MCFG", or
+ * ZACPI_NO_SUCH_FUNCTION if no region contains the bus, the device is above 31, the function above
+ * 7, or the sum 2^64 or above. */
 ZACPI_STATUS zacpi_pci_ecam_address(const struct zacpi_source *source, uint16_t segment_group,
                                     uint8_t bus, uint8_t device, uint8_t function, uint64_t *out,
                                     struct zacpi_signature *signature);
 
 /* ---- Interrupts and processors of a PC (MADT, section 5.2.12) -------------------------------- */
 
-/* Polarity and trigger are the codes of MPS INTI Flags (section 5.2.12.5, table 5.26). Polarity,
- * bits 0 and 1: 0 as the bus has it, 1 active high, 2 reserved, 3 active low. Trigger Mode, bits 2
- * and 3: 0 as the bus has it, 1 edge, 2 reserved, 3 level. */
+/* `polarity` and `trigger` are codes of MPS INTI Flags (section 5.2.12.5, table 5.26): Polarity,
+ * bits 0 and 1, and Trigger Mode, bits 2 and 3. 0 is as the bus has it. */
 enum zacpi_polarity {
     ZACPI_POLARITY_BUS = 0,
     ZACPI_POLARITY_HIGH = 1,
@@ -627,8 +608,7 @@ enum zacpi_trigger {
     ZACPI_TRIGGER_RESERVED = 2,
     ZACPI_TRIGGER_LEVEL = 3
 };
-/* Disabled: Enabled, bit 0 of Flags, is 0. Waiting: an application processor, to be started.
- * Running: the boot one. */
+/* Disabled: Enabled, bit 0 of Flags, is 0. Waiting: to be started. Running: the boot processor. */
 enum zacpi_processor_state {
     ZACPI_PROCESSOR_DISABLED = 0, ZACPI_PROCESSOR_WAITING = 1, ZACPI_PROCESSOR_RUNNING = 2
 };
@@ -636,109 +616,102 @@ enum zacpi_processor_state {
 struct zacpi_interrupt_model {
     uint64_t local_apic_address; /* Local APIC Address of the last override of it (section
                                   * 5.2.12.8), or else Local Interrupt Controller Address of the
-                                  * MADT; 0 if APICs aren't described */
+                                  * MADT */
     /* how many each list below has */
     size_t io_apics, overrides, nmi_sources, nmi_lines, processors;
-    uint8_t known;         /* whether APICs are described; if not, all else is 0 */
-    uint8_t also_has_8259; /* PCAT_COMPAT, bit 0 of Flags: whether there is a pair of 8259s too, to
-                            * be masked */
+    uint8_t known;               /* 1 if APICs are described; if not, all else is 0 */
+    uint8_t also_has_8259;       /* PCAT_COMPAT, bit 0 of Flags: there is a pair of 8259s to be
+                                  * masked */
 };
 struct zacpi_io_apic { /* I/O APIC, section 5.2.12.3 */
-    uint32_t address;                      /* I/O APIC Address: of its registers */
-    uint32_t global_system_interrupt_base; /* Global System Interrupt Base: the interrupt of its
-                                            * first pin */
-    uint8_t id;                            /* I/O APIC ID */
+    uint32_t address;                      /* of its registers */
+    uint32_t global_system_interrupt_base; /* the interrupt of its first pin */
+    uint8_t id;
 };
 struct zacpi_interrupt_source_override { /* Interrupt Source Override, section 5.2.12.5 */
-    uint32_t global_system_interrupt; /* Global System Interrupt */
-    uint8_t isa_source;               /* Source: the interrupt on the ISA bus */
-    uint8_t polarity, trigger;        /* Polarity and Trigger Mode of Flags */
-    uint8_t bus;                      /* Bus: 0 ISA; other numbers are reserved */
+    uint32_t global_system_interrupt;
+    uint8_t isa_source; /* Source: the interrupt on the ISA bus */
+    uint8_t polarity, trigger;
+    uint8_t bus;        /* 0 ISA; others are reserved */
 };
 struct zacpi_nmi_source { /* NMI Source, section 5.2.12.6 */
-    uint32_t global_system_interrupt; /* Global System Interrupt */
-    uint8_t polarity, trigger;        /* Polarity and Trigger Mode of Flags */
+    uint32_t global_system_interrupt;
+    uint8_t polarity, trigger;
 };
 struct zacpi_nmi_line { /* Local APIC NMI and Local x2APIC NMI, sections 5.2.12.7 and 5.2.12.13 */
-    uint32_t processor_uid; /* ACPI Processor UID; 0 if it is of all processors */
-    uint8_t of_all;         /* whether ACPI Processor UID is 0xff, or 0xffffffff for an x2APIC: all
+    uint32_t processor_uid; /* 0 if `of_all` */
+    uint8_t of_all;         /* ACPI Processor UID is 0xff, or 0xffffffff for an x2APIC: all
                              * processors */
-    uint8_t lint;           /* Local APIC LINT#: 0 LINT0, 1 LINT1; other numbers are reserved */
-    uint8_t polarity, trigger; /* Polarity and Trigger Mode of Flags */
+    uint8_t lint;           /* Local APIC LINT#: 0 LINT0, 1 LINT1; others are reserved */
+    uint8_t polarity, trigger;
 };
 struct zacpi_processor { /* Processor Local APIC and Processor Local x2APIC, sections 5.2.12.2 and
                           * 5.2.12.12 */
-    uint32_t uid;           /* ACPI Processor UID */
-    uint32_t local_apic_id; /* APIC ID or X2APIC ID */
-    uint8_t state;          /* one of enum zacpi_processor_state */
-    uint8_t is_boot;        /* whether it is the boot processor */
-    uint8_t is_online_capable; /* Online Capable, bit 1 of Flags: whether it can be enabled later;
-                                * reserved below revision 5 of the MADT */
-    uint8_t is_x2apic;      /* whether the entry is a Processor Local x2APIC */
+    uint32_t uid;              /* ACPI Processor UID */
+    uint32_t local_apic_id;    /* APIC ID or X2APIC ID */
+    uint8_t state;             /* one of enum zacpi_processor_state */
+    uint8_t is_boot;
+    uint8_t is_online_capable; /* bit 1 of Flags: it can be enabled later; reserved below revision 5
+                                * of the MADT */
+    uint8_t is_x2apic;         /* the entry is a Processor Local x2APIC */
 };
 
-/* Which controllers interrupts come to, and how many items zacpi_platform's lists have, by the
- * first valid MADT (section 5.2.12). Without one, or if it has no entry of Types 0 to 5, 9 and 0xa,
- * `known` is 0. This call and zacpi_platform are strict: one entry at fault, or no FADT, is an
- * error. Further errors: ZACPI_TABLE_MISSING "FACP", 44 to 49 of enum zacpi_refusal for the first
- * entry of the MADT at fault, of one entry's faults the least, and ZACPI_INVALID_GENERIC_ADDRESS if
- * zacpi_get_pm_timer returns it. */
+/* Returns which controllers interrupts come to, by the first valid MADT, and how many items the
+ * lists of zacpi_platform have. Without a MADT, or if it has no entry of Types 0 to 5, 9 and 0xa,
+ * `known` is 0. Fails with an opening error, ZACPI_TABLE_MISSING "FACP", the ZACPI_MADT_ error of
+ * the first entry at fault (of several the least), or ZACPI_INVALID_GENERIC_ADDRESS if
+ * zacpi_get_pm_timer does. */
 ZACPI_STATUS zacpi_get_interrupt_model(const struct zacpi_source *source,
                                        struct zacpi_interrupt_model *out,
                                        struct zacpi_signature *signature);
 
-/* The lists of the MADT's entries, in its order, go by the entries that they are about and by
- * nothing else: an entry at fault is listed as it stands, and changes nothing of the others. They
- * end before the first byte at which no entry begins (44 to 49 of enum zacpi_refusal). The FADT
- * isn't read. */
+/* The lists below go by their own entries alone: these are listed as they stand, in order, also if
+ * they are at fault, up to the first byte at which no entry begins. The FADT isn't read. */
 
-/* The I/O APIC entries of the first valid MADT (section 5.2.12.3). Further errors:
- * ZACPI_TABLE_MISSING "APIC", ZACPI_NO_APICS if no entry is of Types 0 to 5, 9 and 0xa. */
+/* Lists the I/O APICs of the first valid MADT (section 5.2.12.3). Fails with an opening error,
+ * ZACPI_TABLE_MISSING "APIC", or ZACPI_NO_APICS. */
 ZACPI_STATUS zacpi_list_io_apics(const struct zacpi_source *source, struct zacpi_io_apic *out,
                                  size_t capacity, size_t *count, struct zacpi_signature *signature);
-/* The Interrupt Source Override entries of the first valid MADT (section 5.2.12.5), those of other
- * buses than ISA and those with reserved codes among them. Further errors: ZACPI_TABLE_MISSING
- * "APIC", ZACPI_NO_APICS if no entry is of Types 0 to 5, 9 and 0xa. */
+/* Lists the Interrupt Source Overrides of the first valid MADT (section 5.2.12.5), those of other
+ * buses than ISA too. Fails with an opening error, ZACPI_TABLE_MISSING "APIC", or ZACPI_NO_APICS.
+ * */
 ZACPI_STATUS zacpi_list_overrides(const struct zacpi_source *source,
                                   struct zacpi_interrupt_source_override *out, size_t capacity,
                                   size_t *count, struct zacpi_signature *signature);
-/* The NMI Source entries of the first valid MADT (section 5.2.12.6): the I/O APIC pins that are
- * non-maskable. Further errors: ZACPI_TABLE_MISSING "APIC", ZACPI_NO_APICS if no entry is of Types
- * 0 to 5, 9 and 0xa. */
+/* Lists the NMI Sources of the first valid MADT (section 5.2.12.6): the I/O APIC pins that are
+ * non-maskable. Fails with an opening error, ZACPI_TABLE_MISSING "APIC", or ZACPI_NO_APICS. */
 ZACPI_STATUS zacpi_list_nmi_sources(const struct zacpi_source *source, struct zacpi_nmi_source *out,
                                     size_t capacity, size_t *count,
                                     struct zacpi_signature *signature);
-/* The Local APIC NMI and Local x2APIC NMI entries of the first valid MADT (sections 5.2.12.7 and
- * 5.2.12.13): the LINT pins that NMIs come to. Those of one processor are those with `of_all`, and
- * those with its uid. Further errors: ZACPI_TABLE_MISSING "APIC", ZACPI_NO_APICS if no entry is of
- * Types 0 to 5, 9 and 0xa. */
+/* Lists the Local APIC NMIs and Local x2APIC NMIs of the first valid MADT (sections 5.2.12.7 and
+ * 5.2.12.13): the LINT pins that NMIs come to. A processor has those with `of_all`, and those with
+ * its uid. Fails with an opening error, ZACPI_TABLE_MISSING "APIC", or ZACPI_NO_APICS. */
 ZACPI_STATUS zacpi_list_nmi_lines(const struct zacpi_source *source, struct zacpi_nmi_line *out,
                                   size_t capacity, size_t *count,
                                   struct zacpi_signature *signature);
-/* The Processor Local APIC and Processor Local x2APIC entries of the first valid MADT (sections
- * 5.2.12.1, 5.2.12.2 and 5.2.12.12): the first is the boot processor, also if it is disabled.
- * Further errors: ZACPI_TABLE_MISSING "APIC", ZACPI_NO_APICS if no entry is of Types 0 to 5, 9 and
- * 0xa. */
+/* Lists the Processor Local APICs and Processor Local x2APICs of the first valid MADT (sections
+ * 5.2.12.1, 5.2.12.2 and 5.2.12.12). The first is the boot processor, also if it is disabled. Fails
+ * with an opening error, ZACPI_TABLE_MISSING "APIC", or ZACPI_NO_APICS. */
 ZACPI_STATUS zacpi_list_processors(const struct zacpi_source *source, struct zacpi_processor *out,
                                    size_t capacity, size_t *count,
                                    struct zacpi_signature *signature);
 
 struct zacpi_madt_fault {
-    uint64_t address;   /* of the entry's first byte, or of the first byte at which none begins */
-    uint32_t status;    /* its error, one of 44 to 49 of enum zacpi_refusal */
+    uint64_t address;   /* of the entry, or of the first byte at which none begins */
+    uint32_t status;    /* a ZACPI_MADT_ error */
     uint8_t entry_type; /* Type: the byte at that address */
 };
-/* The entries of the first valid MADT at fault, and last, if bytes are left at which no entry
- * begins, those (section 5.2.12). Each has the error that zacpi_platform would return for it.
- * Further errors: ZACPI_TABLE_MISSING "APIC". */
+/* Lists the entries of the first valid MADT at fault, each with the error that zacpi_platform would
+ * fail with for it, and last, if there is one, the first byte at which no entry begins (section
+ * 5.2.12). Fails with an opening error, or ZACPI_TABLE_MISSING "APIC". */
 ZACPI_STATUS zacpi_list_madt_faults(const struct zacpi_source *source, struct zacpi_madt_fault *out,
                                     size_t capacity, size_t *count,
                                     struct zacpi_signature *signature);
 
-/* The model and the five lists at once, with the tables opened once: `out` gets what
- * zacpi_get_interrupt_model returns, with the numbers of all items, and each list as many items of
- * its call above as there is room for. Further errors: those of zacpi_get_interrupt_model, and
- * ZACPI_NO_APICS if the model isn't known. */
+/* Returns what zacpi_get_interrupt_model returns, and writes the first items of the five lists
+ * above. Fails with an opening error, ZACPI_TABLE_MISSING "FACP", the ZACPI_MADT_ error of the
+ * first entry at fault (of several the least), ZACPI_INVALID_GENERIC_ADDRESS if zacpi_get_pm_timer
+ * does, or ZACPI_NO_APICS. */
 ZACPI_STATUS zacpi_platform(const struct zacpi_source *source, struct zacpi_interrupt_model *out,
                             struct zacpi_processor *processors, size_t processors_capacity,
                             struct zacpi_io_apic *io_apics, size_t io_apics_capacity,
@@ -749,36 +722,36 @@ ZACPI_STATUS zacpi_platform(const struct zacpi_source *source, struct zacpi_inte
 
 struct zacpi_interrupt {
     uint32_t global_system_interrupt;
-    uint8_t polarity, trigger; /* of enum zacpi_polarity and enum zacpi_trigger, but never as the
-                                * bus has it */
+    uint8_t polarity, trigger; /* never as the bus has it */
 };
 struct zacpi_io_apic_pin {
     struct zacpi_io_apic io_apic;
-    uint32_t pin; /* from 0 on: the global system interrupt less Global System Interrupt Base */
+    uint32_t pin; /* from 0 on */
 };
 
-/* How one of the 16 ISA interrupts comes to the I/O APICs: as its last override of bus 0 says, or
- * as the interrupt of the same number, active high and by edge (section 5.2.12.5). Further errors:
- * ZACPI_TABLE_MISSING "APIC", ZACPI_NO_APICS if no entry of the first valid MADT is of Types 0 to
- * 5, 9 and 0xa, 47 or else 48 of enum zacpi_refusal for reserved flags of that override, and
- * ZACPI_NO_SUCH_INTERRUPT for an irq above 15, and for one without an override if the last override
- * of another source of bus 0 leads to its number. */
+/* Returns how one of the 16 ISA interrupts comes to the I/O APICs: by its last override of bus 0,
+ * or else as the interrupt of the same number; active high and by edge unless the override says
+ * otherwise (section 5.2.12.5). Fails with an opening error, ZACPI_TABLE_MISSING "APIC",
+ * ZACPI_NO_APICS, ZACPI_MADT_MPS_INTI_INVALID_POLARITY or ZACPI_MADT_MPS_INTI_INVALID_TRIGGER_MODE
+ * of the override, or ZACPI_NO_SUCH_INTERRUPT for an irq above 15, and for one without an override
+ * if the last override of another source of bus 0 leads to its number. */
 ZACPI_STATUS zacpi_isa_interrupt(const struct zacpi_source *source, uint8_t irq,
                                  struct zacpi_interrupt *out, struct zacpi_signature *signature);
 
-/* How the System Control Interrupt (SCI), SCI_INT of the first valid FADT, comes to the I/O APICs:
- * active low and by level, unless it is below 16 and its last override of bus 0 says otherwise
- * (sections 5.2.9 and 5.2.12.5). Further errors: ZACPI_TABLE_MISSING "APIC", ZACPI_NO_APICS if no
- * entry of the first valid MADT is of Types 0 to 5, 9 and 0xa, ZACPI_TABLE_MISSING "FACP", and 47
- * or else 48 of enum zacpi_refusal for reserved flags of that override. */
+/* Returns how the System Control Interrupt (SCI), SCI_INT of the first valid FADT, comes to the I/O
+ * APICs: by its last override of bus 0 if it is below 16, or else as the interrupt of the same
+ * number; active low and by level unless the override says otherwise (sections 5.2.9 and 5.2.12.5).
+ * Fails with an opening error, ZACPI_TABLE_MISSING "APIC", ZACPI_NO_APICS, ZACPI_TABLE_MISSING
+ * "FACP", or ZACPI_MADT_MPS_INTI_INVALID_POLARITY or ZACPI_MADT_MPS_INTI_INVALID_TRIGGER_MODE of
+ * the override. */
 ZACPI_STATUS zacpi_sci_interrupt(const struct zacpi_source *source, struct zacpi_interrupt *out,
                                  struct zacpi_signature *signature);
 
-/* The I/O APIC that a global system interrupt comes to, and the pin there: the first one with the
- * greatest Global System Interrupt Base that is at most the interrupt (sections 5.2.12.3 and
- * 5.2.13). Only the I/O APIC itself can tell how many pins it has. Further errors:
- * ZACPI_TABLE_MISSING "APIC", ZACPI_NO_APICS if no entry of the first valid MADT is of Types 0 to
- * 5, 9 and 0xa, and ZACPI_NO_SUCH_IO_APIC if each base is above the interrupt. */
+/* Returns the I/O APIC that a global system interrupt comes to, and the pin there: the first one
+ * with the greatest Global System Interrupt Base that is at most the interrupt (sections 5.2.12.3
+ * and 5.2.13). Only its registers tell how many pins it has. Fails with an opening error,
+ * ZACPI_TABLE_MISSING "APIC", ZACPI_NO_APICS, or ZACPI_NO_SUCH_IO_APIC if each base is above the
+ * interrupt. */
 ZACPI_STATUS zacpi_get_io_apic_pin(const struct zacpi_source *source,
                                    uint32_t global_system_interrupt, struct zacpi_io_apic_pin *out,
                                    struct zacpi_signature *signature);
@@ -786,94 +759,93 @@ ZACPI_STATUS zacpi_get_io_apic_pin(const struct zacpi_source *source,
 struct zacpi_isa_route {
     struct zacpi_interrupt interrupt; /* what zacpi_isa_interrupt returns, or zeros */
     struct zacpi_io_apic_pin pin;     /* what zacpi_get_io_apic_pin returns for it, or zeros */
-    uint8_t present;                  /* 0: zacpi_isa_interrupt returns an error for this irq */
-    uint8_t has_pin;                  /* 0: it isn't present, or zacpi_get_io_apic_pin returns
-                                       * ZACPI_NO_SUCH_IO_APIC */
+    uint8_t present;                  /* 0: zacpi_isa_interrupt fails */
+    uint8_t has_pin;                  /* 0: it isn't present, or zacpi_get_io_apic_pin fails */
 };
 struct zacpi_isa_interrupts {
     struct zacpi_isa_route routes[16]; /* item n is irq n */
 };
 
-/* All 16 ISA interrupts at once, each with its pin (sections 5.2.12.3 and 5.2.12.5). Further
- * errors: ZACPI_TABLE_MISSING "APIC", ZACPI_NO_APICS if no entry of the first valid MADT is of
- * Types 0 to 5, 9 and 0xa. */
+/* Returns all 16 ISA interrupts, each with its pin (sections 5.2.12.3 and 5.2.12.5). Fails with an
+ * opening error, ZACPI_TABLE_MISSING "APIC", or ZACPI_NO_APICS. */
 ZACPI_STATUS zacpi_list_isa_interrupts(const struct zacpi_source *source,
                                        struct zacpi_isa_interrupts *out,
                                        struct zacpi_signature *signature);
 
 /* ---- Arm: the generic interrupt controller (MADT, section 5.2.12) ---------------------------- */
 
-/* A polarity is 1 active high or 3 active low, and a trigger 1 edge or 3 level, as in enum
- * zacpi_polarity and enum zacpi_trigger. */
+/* From here on `polarity` is 1 or 3, and `trigger` 1 or 3: never as the bus has it. */
 struct zacpi_gic_distributor { /* GIC Distributor (GICD), section 5.2.12.15 */
     uint64_t address;            /* Physical Base Address: of its registers */
-    uint32_t id;                 /* GIC ID */
-    uint32_t system_vector_base; /* System Vector Base: reserved, and kept as it is */
-    uint8_t version;             /* GIC version: 1 to 4; 0: the hardware tells */
+    uint32_t id;
+    uint32_t system_vector_base; /* reserved, and kept as it is */
+    uint8_t version;             /* 1 to 4; 0: the hardware tells */
 };
 struct zacpi_gic_cpu_interface { /* GIC CPU Interface (GICC), section 5.2.12.14. An address or
                                   * interrupt of 0 is none */
-    uint64_t mpidr;                    /* MPIDR */
-    uint64_t parked_address;           /* Parked Address: of the parking protocol's mailbox */
+    uint64_t mpidr;
+    uint64_t parked_address;           /* of the parking protocol's mailbox */
     uint64_t address;                  /* Physical Base Address: of the interface's registers */
     uint64_t virtual_address;          /* GICV: of the virtual interface's registers */
     uint64_t hypervisor_address;       /* GICH: of the registers that control the virtual
                                         * interface */
     uint64_t redistributor_address;    /* GICR Base Address: of the processor's redistributor */
     uint32_t number;                   /* CPU Interface Number */
-    uint32_t processor_uid;            /* ACPI Processor UID */
+    uint32_t processor_uid;
     uint32_t performance_interrupt;    /* Performance Interrupt GSIV */
-    uint32_t maintenance_interrupt;    /* VGIC Maintenance interrupt */
-    uint32_t parking_protocol_version; /* Parking Protocol Version. 0: none, and processors are
-                                        * woken by PSCI */
-    uint16_t spe_overflow_interrupt;   /* SPE overflow Interrupt */
+    uint32_t maintenance_interrupt;
+    uint32_t parking_protocol_version; /* 0: none; PSCI wakes processors */
+    uint16_t spe_overflow_interrupt;
     uint16_t trace_buffer_interrupt;   /* TRBE Interrupt, since ACPI 6.5: 0 below revision 6 of the
                                         * table, and if the entry hasn't both bytes */
-    uint8_t is_enabled;                /* Enabled, bit 0 of Flags */
-    uint8_t is_online_capable;         /* Online Capable, bit 3 of Flags, since ACPI 6.5 */
-    uint8_t performance_trigger;       /* Performance Interrupt Mode, bit 1 of Flags */
-    uint8_t maintenance_trigger;       /* VGIC Maintenance Interrupt Mode Flags, bit 2 of Flags */
+    uint8_t is_enabled;                /* bit 0 of Flags */
+    uint8_t is_online_capable;         /* bit 3 of Flags, since ACPI 6.5 */
+    uint8_t performance_trigger;       /* bit 1 of Flags */
+    uint8_t maintenance_trigger;       /* bit 2 of Flags */
     uint8_t efficiency_class;          /* Processor Power Efficiency Class: less is less power */
 };
 struct zacpi_gic_translation_service { /* GIC Interrupt Translation Service (ITS), section
                                         * 5.2.12.18 */
     uint64_t address; /* Physical Base Address: of its registers */
-    uint32_t id;      /* GIC ITS ID */
+    uint32_t id;
 };
 struct zacpi_gic_msi_frame { /* GIC MSI Frame, section 5.2.12.16 */
     uint64_t address;             /* Physical Base Address: of its registers */
-    uint32_t id;                  /* GIC MSI Frame ID */
-    uint16_t spi_base, spi_count; /* SPI Base, SPI Count: zeros if has_spis is 0 */
+    uint32_t id;
+    uint16_t spi_base, spi_count; /* zeros if has_spis is 0 */
     uint8_t has_spis;             /* SPI Count/Base Select, bit 0 of Flags. 0: the frame's registers
                                    * tell its SPIs */
 };
 
-/* The distributor of the first valid MADT: that of its first GICD entry (section 5.2.12.15).
- * Further errors: ZACPI_TABLE_MISSING "APIC", ZACPI_MADT_INVALID_ENTRY_LENGTH if bytes are left in
- * which no entry begins, and ZACPI_NO_GIC if no entry describes a distributor, as on a machine with
- * APICs. */
+/* Returns the distributor of the first valid MADT: its first GICD (section 5.2.12.15). Fails with
+ * an opening error, ZACPI_TABLE_MISSING "APIC", ZACPI_MADT_INVALID_ENTRY_LENGTH, or
+ * ZACPI_NO_GIC. */
 ZACPI_STATUS zacpi_get_gic_distributor(const struct zacpi_source *source,
                                        struct zacpi_gic_distributor *out,
                                        struct zacpi_signature *signature);
-/* The processors' interfaces, one for each GICC entry of the first valid MADT, in order (section
- * 5.2.12.14). Further errors: those of zacpi_get_gic_distributor. */
+/* Lists the processors' interfaces: the GICCs of the first valid MADT, in order (section
+ * 5.2.12.14). Fails with an opening error, ZACPI_TABLE_MISSING "APIC",
+ * ZACPI_MADT_INVALID_ENTRY_LENGTH, or ZACPI_NO_GIC. */
 ZACPI_STATUS zacpi_list_gic_cpu_interfaces(const struct zacpi_source *source,
                                            struct zacpi_gic_cpu_interface *out, size_t capacity,
                                            size_t *count, struct zacpi_signature *signature);
-/* The ranges of memory that hold redistributors, one for each GICR entry of the first valid MADT,
- * in order: Discovery Range Base Address and Discovery Range Length, which can be 0 (section
- * 5.2.12.17). Further errors: those of zacpi_get_gic_distributor. */
+/* Lists the memory that contains redistributors: Discovery Range Base Address and Discovery Range
+ * Length, which can be 0, of the GICRs of the first valid MADT, in order (section 5.2.12.17). Fails
+ * with an opening error, ZACPI_TABLE_MISSING "APIC", ZACPI_MADT_INVALID_ENTRY_LENGTH, or
+ * ZACPI_NO_GIC. */
 ZACPI_STATUS zacpi_list_gic_redistributors(const struct zacpi_source *source,
                                            struct zacpi_range *out, size_t capacity, size_t *count,
                                            struct zacpi_signature *signature);
-/* The services that translate interrupts, one for each GIC ITS entry of the first valid MADT, in
- * order (section 5.2.12.18). Further errors: those of zacpi_get_gic_distributor. */
+/* Lists the services that translate interrupts: the GIC ITS entries of the first valid MADT, in
+ * order (section 5.2.12.18). Fails with an opening error, ZACPI_TABLE_MISSING "APIC",
+ * ZACPI_MADT_INVALID_ENTRY_LENGTH, or ZACPI_NO_GIC. */
 ZACPI_STATUS zacpi_list_gic_translation_services(const struct zacpi_source *source,
                                                  struct zacpi_gic_translation_service *out,
                                                  size_t capacity, size_t *count,
                                                  struct zacpi_signature *signature);
-/* The frames that turn messages into interrupts, one for each GIC MSI Frame entry of the first
- * valid MADT, in order (section 5.2.12.16). Further errors: those of zacpi_get_gic_distributor. */
+/* Lists the frames that turn messages into interrupts: the GIC MSI Frame entries of the first valid
+ * MADT, in order (section 5.2.12.16). Fails with an opening error, ZACPI_TABLE_MISSING "APIC",
+ * ZACPI_MADT_INVALID_ENTRY_LENGTH, or ZACPI_NO_GIC. */
 ZACPI_STATUS zacpi_list_gic_msi_frames(const struct zacpi_source *source,
                                        struct zacpi_gic_msi_frame *out, size_t capacity,
                                        size_t *count, struct zacpi_signature *signature);
@@ -881,11 +853,10 @@ ZACPI_STATUS zacpi_list_gic_msi_frames(const struct zacpi_source *source,
 /* ---- Arm: the generic timers (GTDT, section 5.2.24) ------------------------------------------ */
 
 struct zacpi_arm_timer {
-    uint32_t interrupt; /* GSIV: as the number of the GIC; 0: none */
-    uint8_t polarity;   /* Timer Interrupt polarity, bit 1 of the timer's flags: 1 active high, 3
-                         * active low */
-    uint8_t trigger;    /* Timer Interrupt Mode, bit 0 of the timer's flags: 1 edge, 3 level */
-    uint8_t always_on;  /* Always-on Capability, bit 2 of the timer's flags */
+    uint32_t interrupt; /* GSIV: of the GIC; 0: none */
+    uint8_t polarity;   /* bit 1 of the timer's flags */
+    uint8_t trigger;    /* Timer Interrupt Mode, bit 0 of the timer's flags */
+    uint8_t always_on;  /* bit 2 of the timer's flags */
     uint8_t present;    /* 0: the table hasn't this timer's fields, and all else is 0 */
 };
 struct zacpi_arm_timers {
@@ -895,49 +866,47 @@ struct zacpi_arm_timers {
     /* virtual_el2 is present from revision 3 on, if the table has all its eight bytes, and Platform
      * Timer Count is 0 or Platform Timer Offset at least 104. */
     struct zacpi_arm_timer secure_el1, non_secure_el1, virtual_el1, el2, virtual_el2;
-    /* 1: the two lists below have what stands before the first fault of Platform Timer Count
-     * structures: Platform Timer Offset is below 96, a Length is above the bytes left or below 20
-     * (GT Block), 28 (watchdog) or 4 (another Type), or frames of a GT Block don't lie between its
-     * byte 20 and its end. 0 below revision 2. */
+    /* 1: one of Platform Timer Count structures is at fault, and the two lists below have what
+     * stands before the first. Platform Timer Offset is below 96, a Length is above the bytes left
+     * or below 20 (GT Block), 28 (watchdog) or 4 (another Type), or frames of a GT Block don't lie
+     * between its byte 20 and its end. 0 below revision 2. */
     uint8_t platform_timers_malformed;
 };
 struct zacpi_gt_frame { /* a frame of a GT Block, section 5.2.24.1.1 */
     uint64_t block_address;      /* GT Block Physical Address: of the block's control frame */
     uint64_t address;            /* GTx Physical Address: of the frame's registers */
-    uint64_t el0_address;        /* CntEL0BaseX: of the registers as EL0 sees them; all ones: EL0
-                                  * sees none */
-    uint32_t physical_interrupt; /* GTx Physical Timer GSIV; 0: the timer isn't there */
-    uint32_t virtual_interrupt;  /* GTx Virtual Timer GSIV; 0: the timer isn't there */
-    uint8_t number;              /* GT Frame Number: in the block, from 0 to 7 */
-    uint8_t physical_polarity, physical_trigger; /* GTx Physical Timer Flags */
-    uint8_t virtual_polarity, virtual_trigger;   /* GTx Virtual Timer Flags */
-    uint8_t is_secure;           /* Secure Timer, bit 0 of GTx Common Flags */
-    uint8_t is_always_on;        /* Always-on Capability, bit 1 of GTx Common Flags */
+    uint64_t el0_address;        /* CntEL0BaseX: of the registers as EL0 sees them; all ones:
+                                  * none */
+    uint32_t physical_interrupt; /* GTx Physical Timer GSIV; 0: no such timer */
+    uint32_t virtual_interrupt;  /* GTx Virtual Timer GSIV; 0: no such timer */
+    uint8_t number;              /* in the block, from 0 to 7 */
+    uint8_t physical_polarity, physical_trigger;
+    uint8_t virtual_polarity, virtual_trigger;
+    uint8_t is_secure;           /* bit 0 of GTx Common Flags */
+    uint8_t is_always_on;        /* bit 1 of GTx Common Flags */
 };
 struct zacpi_watchdog { /* Arm Generic Watchdog, section 5.2.24.1.2 */
-    uint64_t refresh_frame; /* RefreshFrame Physical Address */
-    uint64_t control_frame; /* WatchdogControlFrame Physical Address */
-    uint32_t interrupt;     /* Watchdog Timer GSIV */
-    uint8_t polarity;       /* Timer interrupt Polarity, bit 1 of Watchdog Timer Flags: 1 active
-                             * high, 3 active low */
-    uint8_t trigger;        /* Timer interrupt Mode, bit 0 of Watchdog Timer Flags: 1 edge, 3
-                             * level */
-    uint8_t is_secure;      /* Secure Timer, bit 2 of Watchdog Timer Flags */
+    uint64_t refresh_frame;
+    uint64_t control_frame;
+    uint32_t interrupt; /* Watchdog Timer GSIV */
+    uint8_t polarity;   /* bit 1 of Watchdog Timer Flags */
+    uint8_t trigger;    /* bit 0 of Watchdog Timer Flags */
+    uint8_t is_secure;  /* bit 2 of Watchdog Timer Flags */
 };
 
-/* The timers of every processor, by the first valid GTDT (section 5.2.24). Further error:
- * ZACPI_TABLE_MISSING "GTDT". */
+/* Returns the timers of every processor, by the first valid GTDT (section 5.2.24). Fails with an
+ * opening error, or ZACPI_TABLE_MISSING "GTDT". */
 ZACPI_STATUS zacpi_get_arm_timers(const struct zacpi_source *source, struct zacpi_arm_timers *out,
                                   struct zacpi_signature *signature);
-/* The frames of the blocks of timers of the first valid GTDT, block by block, in order (section
- * 5.2.24.1.1). None below revision 2 of the table. If Platform Timer Structures end malformed,
- * those before the first fault. Further error: ZACPI_TABLE_MISSING "GTDT". */
+/* Lists the frames of the GT Blocks of the first valid GTDT, block by block, in order, up to a
+ * structure at fault; none below revision 2 of the table (section 5.2.24.1.1). Fails with an
+ * opening error, or ZACPI_TABLE_MISSING "GTDT". */
 ZACPI_STATUS zacpi_list_gt_frames(const struct zacpi_source *source, struct zacpi_gt_frame *out,
                                   size_t capacity, size_t *count,
                                   struct zacpi_signature *signature);
-/* The watchdogs of the Server Base System Architecture of the first valid GTDT, in order (section
- * 5.2.24.1.2). None below revision 2 of the table. If Platform Timer Structures end malformed,
- * those before the first fault. Further error: ZACPI_TABLE_MISSING "GTDT". */
+/* Lists the Arm Generic Watchdogs of the first valid GTDT, in order, up to a structure at fault;
+ * none below revision 2 of the table (section 5.2.24.1.2). Fails with an opening error, or
+ * ZACPI_TABLE_MISSING "GTDT". */
 ZACPI_STATUS zacpi_list_watchdogs(const struct zacpi_source *source, struct zacpi_watchdog *out,
                                   size_t capacity, size_t *count,
                                   struct zacpi_signature *signature);
@@ -945,61 +914,60 @@ ZACPI_STATUS zacpi_list_watchdogs(const struct zacpi_source *source, struct zacp
 /* ---- NUMA: domains (SRAT, section 5.2.16) and distances (SLIT, section 5.2.17) --------------- */
 
 struct zacpi_memory_affinity { /* Memory Affinity, section 5.2.16.2 */
-    uint64_t address;         /* Base Address */
-    uint64_t length;          /* Length: at least one */
+    uint64_t address;
+    uint64_t length;          /* at least one */
     uint32_t domain;          /* Proximity Domain; below revision 2 of the table its lowest byte */
-    uint8_t is_hot_pluggable; /* Hot Pluggable, bit 1 of Flags */
-    uint8_t is_non_volatile;  /* NonVolatile, bit 2 of Flags */
+    uint8_t is_hot_pluggable; /* bit 1 of Flags */
+    uint8_t is_non_volatile;  /* bit 2 of Flags */
 };
 struct zacpi_localities {
-    uint64_t localities; /* Number of System Localities: the matrix has that many rows and columns,
-                          * counted from 0 */
+    uint64_t localities; /* Number of System Localities: rows and columns of the matrix, counted
+                          * from 0 */
     uint8_t is_sane;     /* 1: there are localities, the table has all distances, 10 of each
                           * locality from itself, and more than 10 of others */
 };
 
-/* The ranges of memory that the first valid SRAT puts into domains, in order: those of its entries
- * of memory that are enabled (Enabled, bit 0 of Flags) and have at least one byte (section
- * 5.2.16.2). They may overlap. Further errors: ZACPI_TABLE_MISSING "SRAT",
- * ZACPI_NUMA_INVALID_ENTRY_LENGTH if bytes are left in which no entry begins,
- * ZACPI_NUMA_INVALID_MEMORY_RANGE if the address after one of these ranges is above 2^64 - 1. */
+/* Lists the memory that the first valid SRAT puts into domains, in order: its Memory Affinity
+ * entries that are enabled (bit 0 of Flags) and have a byte (section 5.2.16.2). The ranges may
+ * overlap. Fails with an opening error, ZACPI_TABLE_MISSING "SRAT",
+ * ZACPI_NUMA_INVALID_ENTRY_LENGTH, or ZACPI_NUMA_INVALID_MEMORY_RANGE of one of these. */
 ZACPI_STATUS zacpi_list_memory_affinities(const struct zacpi_source *source,
                                           struct zacpi_memory_affinity *out, size_t capacity,
                                           size_t *count, struct zacpi_signature *signature);
-/* The domain of the memory at a physical address: that of the first range of
- * zacpi_list_memory_affinities that holds it (section 5.2.16.2). Further errors: those of
- * zacpi_list_memory_affinities, and ZACPI_NO_DOMAIN if none holds it. */
+/* Returns the domain of the memory at an address: of the first item of zacpi_list_memory_affinities
+ * that contains it. Fails with an opening error, ZACPI_TABLE_MISSING "SRAT",
+ * ZACPI_NUMA_INVALID_ENTRY_LENGTH, ZACPI_NUMA_INVALID_MEMORY_RANGE of an item, or
+ * ZACPI_NO_DOMAIN. */
 ZACPI_STATUS zacpi_domain_of_address(const struct zacpi_source *source, uint64_t address,
                                      uint32_t *out, struct zacpi_signature *signature);
-/* The domain of the processor whose local APIC or x2APIC has an id (APIC ID or X2APIC ID): that of
- * the last enabled entry for it in the first valid SRAT (sections 5.2.16.1 and 5.2.16.3). That of a
- * local APIC is Proximity Domain [7:0] alone below revision 2 of the table. Entries after a
- * malformed one aren't looked at. Further errors: ZACPI_TABLE_MISSING "SRAT", ZACPI_NO_DOMAIN if
- * there is no such entry. */
+/* Returns the domain of the processor with this APIC ID or X2APIC ID: of the last enabled entry for
+ * it in the first valid SRAT (sections 5.2.16.1 and 5.2.16.3). For an APIC ID it is Proximity
+ * Domain [7:0] alone below revision 2 of the table. Entries after a malformed one aren't looked at.
+ * Fails with an opening error, ZACPI_TABLE_MISSING "SRAT", or ZACPI_NO_DOMAIN. */
 ZACPI_STATUS zacpi_domain_of_apic(const struct zacpi_source *source, uint32_t local_apic_id,
                                   uint32_t *out, struct zacpi_signature *signature);
-/* The domain of the processor of an ACPI Processor UID on a machine with a GIC: that of the last
- * enabled GICC entry for it in the first valid SRAT (section 5.2.16.4). Entries after a malformed
- * one aren't looked at. Further errors: ZACPI_TABLE_MISSING "SRAT", ZACPI_NO_DOMAIN if there is no
- * such entry. */
+/* Returns the domain of the processor with this ACPI Processor UID on a machine with a GIC: of the
+ * last enabled GICC Affinity entry for it in the first valid SRAT (section 5.2.16.4). Entries after
+ * a malformed one aren't looked at. Fails with an opening error, ZACPI_TABLE_MISSING "SRAT", or
+ * ZACPI_NO_DOMAIN. */
 ZACPI_STATUS zacpi_domain_of_processor(const struct zacpi_source *source, uint32_t uid,
                                        uint32_t *out, struct zacpi_signature *signature);
-/* How many localities the first valid SLIT has distances of, and whether it can be believed
- * (section 5.2.17). Further error: ZACPI_TABLE_MISSING "SLIT". */
+/* Returns how many localities the first valid SLIT has distances of, and whether it can be believed
+ * (section 5.2.17). Fails with an opening error, or ZACPI_TABLE_MISSING "SLIT". */
 ZACPI_STATUS zacpi_get_localities(const struct zacpi_source *source, struct zacpi_localities *out,
                                   struct zacpi_signature *signature);
-/* How far one locality is from another, by the first valid SLIT (section 5.2.17): in units of which
- * 10 are the distance of a locality from itself, and 255 stands for unreachable. Further errors:
- * ZACPI_TABLE_MISSING "SLIT", ZACPI_NO_DISTANCE if one of them isn't below Number of System
- * Localities, or if the table ends before the byte of the pair. */
+/* Returns how far one locality is from another, by the first valid SLIT (section 5.2.17): 10 is the
+ * distance of a locality from itself, 255 stands for unreachable. Fails with an opening error,
+ * ZACPI_TABLE_MISSING "SLIT", or ZACPI_NO_DISTANCE if one isn't below Number of System Localities,
+ * or the table ends before their byte. */
 ZACPI_STATUS zacpi_distance(const struct zacpi_source *source, uint64_t from, uint64_t to,
                             uint8_t *out, struct zacpi_signature *signature);
 
 /* ---- IOMMUs: units that remap what devices ask of memory ------------------------------------- */
 
-/* The units of the DMAR (Intel Virtualization Technology for Directed I/O 4.0, chapter 8). Its
- * structures stand from byte 48 on, each with a Length of at least 16, 24, 8, 20, 8, 8 and 8 for
- * Types 0 to 6, and 4 for others; device scopes have at least 6 bytes (section 8.3.1). */
+/* The DMAR (Intel Virtualization Technology for Directed I/O 4.0, chapter 8). Its structures stand
+ * from byte 48 on, each with a Length of at least 16, 24, 8, 20, 8, 8 and 8 for Types 0 to 6, and 4
+ * for others; device scopes have at least 6 bytes (section 8.3.1). */
 enum zacpi_dmar_flag { /* Flags of the DMAR, section 8.1 */
     ZACPI_DMAR_INTR_REMAP = 1 << 0, ZACPI_DMAR_X2APIC_OPT_OUT = 1 << 1,
     ZACPI_DMAR_DMA_CTRL_PLATFORM_OPT_IN_FLAG = 1 << 2
@@ -1008,64 +976,67 @@ struct zacpi_hop { /* a step of Path, from a bus to a device on it */
     uint8_t device, function;
 };
 struct zacpi_dmar_unit { /* DMA Remapping Hardware Unit Definition (DRHD), section 8.3 */
-    uint64_t register_base;   /* Register Base Address */
+    uint64_t register_base;
     uint64_t register_bytes;  /* 2^n pages of 4 KiB, with n in bits 0 to 3 of Size */
-    uint16_t segment;         /* Segment Number */
-    uint8_t includes_pci_all; /* INCLUDE_PCI_ALL, bit 0 of Flags */
+    uint16_t segment;
+    uint8_t includes_pci_all; /* bit 0 of Flags */
 };
 struct zacpi_dmar_source { /* how a unit knows a device that sends interrupts, section 8.3.1 */
     struct zacpi_dmar_unit unit;
-    uint8_t bus;          /* Start Bus Number; with a path of one hop, bus and hop are the id */
+    uint8_t bus;          /* Start Bus Number; with a Path of one hop, bus and hop are the id */
     struct zacpi_hop hop; /* the last one of Path, or zeros */
-    uint8_t has_hop;      /* Path has one */
+    uint8_t has_hop;
 };
 struct zacpi_dmar_reserved { /* Reserved Memory Region Reporting (RMRR), section 8.4 */
-    uint64_t base;    /* Reserved Memory Region Base Address: the first byte */
-    uint64_t limit;   /* Reserved Memory Region Limit Address: the last byte */
-    uint16_t segment; /* Segment Number */
+    uint64_t base;  /* the first byte */
+    uint64_t limit; /* the last byte */
+    uint16_t segment;
 };
 
-/* The unit that remaps a device, which the hops reach from a bus of a segment, by the first valid
- * DMAR: the first DRHD of the segment with a device scope that names it, or the first with
+/* Returns the unit that remaps the device that the hops reach from a bus of a segment, by the first
+ * valid DMAR: the first DRHD of the segment with a device scope that names it, else the first with
  * INCLUDE_PCI_ALL. A scope whose Start Bus Number is the bus names it by Type 1 if its Path is the
- * hops, and by Type 2 if these begin with its Path, of a hop at least (section 8.3.1). Further
- * errors: ZACPI_TABLE_MISSING "DMAR", ZACPI_IOMMU_INVALID_STRUCTURE_LENGTH, ZACPI_NO_IOMMU. */
+ * hops, and by Type 2 if its Path, of at least one, begins them (section 8.3.1). Fails with an
+ * opening error, ZACPI_TABLE_MISSING "DMAR", ZACPI_IOMMU_INVALID_STRUCTURE_LENGTH, or
+ * ZACPI_NO_IOMMU. */
 ZACPI_STATUS zacpi_get_dmar_unit(const struct zacpi_source *source, uint16_t segment, uint8_t bus,
                                  const struct zacpi_hop *hops, size_t hops_length,
                                  struct zacpi_dmar_unit *out, struct zacpi_signature *signature);
-/* The unit that remaps the interrupts of an I/O APIC, by its id, in the first valid DMAR: that of
- * the first DRHD with a device scope of Type 3 and this Enumeration ID. Further errors: those of
- * zacpi_get_dmar_unit. */
+/* Returns the unit that remaps the interrupts of an I/O APIC, by the first valid DMAR: the first
+ * DRHD with a device scope of Type 3 whose Enumeration ID is `id`. Fails with an opening error,
+ * ZACPI_TABLE_MISSING "DMAR", ZACPI_IOMMU_INVALID_STRUCTURE_LENGTH, or ZACPI_NO_IOMMU. */
 ZACPI_STATUS zacpi_dmar_io_apic(const struct zacpi_source *source, uint8_t id,
                                 struct zacpi_dmar_source *out, struct zacpi_signature *signature);
-/* The same of an HPET, by its number: a device scope of Type 4. */
+/* Returns the unit that remaps the interrupts of an HPET, by the first valid DMAR: the first DRHD
+ * with a device scope of Type 4 whose Enumeration ID is `number`. Fails with an opening error,
+ * ZACPI_TABLE_MISSING "DMAR", ZACPI_IOMMU_INVALID_STRUCTURE_LENGTH, or ZACPI_NO_IOMMU. */
 ZACPI_STATUS zacpi_dmar_hpet(const struct zacpi_source *source, uint8_t number,
                              struct zacpi_dmar_source *out, struct zacpi_signature *signature);
-/* The memory that is reserved for a device, by the first valid DMAR: each RMRR of the segment with
- * a device scope that names it, as for zacpi_get_dmar_unit, in order. Further errors:
- * ZACPI_TABLE_MISSING "DMAR", ZACPI_IOMMU_INVALID_STRUCTURE_LENGTH,
+/* Lists the memory that the first valid DMAR reserves for a device: each RMRR of the segment with a
+ * device scope that names it as for zacpi_get_dmar_unit, in order. Fails with an opening error,
+ * ZACPI_TABLE_MISSING "DMAR", ZACPI_IOMMU_INVALID_STRUCTURE_LENGTH, or
  * ZACPI_IOMMU_INVALID_MEMORY_RANGE of one of these. */
 ZACPI_STATUS zacpi_list_dmar_reserved(const struct zacpi_source *source, uint16_t segment,
                                       uint8_t bus, const struct zacpi_hop *hops, size_t hops_length,
                                       struct zacpi_dmar_reserved *out, size_t capacity,
                                       size_t *count, struct zacpi_signature *signature);
 
-/* The units of the IVRS (AMD I/O Virtualization Technology (IOMMU) Specification 3.08, section
- * 5.2). Its blocks stand from byte 48 on, each with a Length of at least 24 for Type 0x10, 40 for
- * 0x11 and 0x40, 32 for 0x20 to 0x22, and 4 for others. A device entry has 4, 8, 16 or 32 bytes by
- * bits 6 and 7 of its Type, or for 0xf0 22 and those of its UID. The end of a range, Type 4, stands
- * right after its start. A device id is 256 times the bus, 8 times the device, and the function. */
+/* The IVRS (AMD I/O Virtualization Technology (IOMMU) Specification 3.08, section 5.2). Its blocks
+ * stand from byte 48 on, each with a Length of at least 24 for Type 0x10, 40 for 0x11 and 0x40, 32
+ * for 0x20 to 0x22, and 4 for others. A device entry has 4, 8, 16 or 32 bytes by bits 6 and 7 of
+ * its Type, or for 0xf0 22 and those of its UID. The end of a range, Type 4, stands right after its
+ * start. A device id is 256 times the bus, 8 times the device, and the function. */
 struct zacpi_ivrs_unit { /* I/O Virtualization Hardware Definition (IVHD) */
-    uint64_t base;                 /* IOMMU Base Address */
+    uint64_t base;
     uint64_t extended_features;    /* EFR Register Image, or 0 */
     uint32_t features;             /* IOMMU Feature Reporting; of Types 0x11 and 0x40 IOMMU
                                     * Attributes */
-    uint16_t segment;              /* PCI Segment Group */
-    uint16_t device_id;            /* DeviceID: the unit's own */
-    uint16_t capability_offset;    /* Capability Offset: in its configuration space */
-    uint16_t info;                 /* IOMMU Info */
-    uint8_t block_type;            /* Type */
-    uint8_t flags;                 /* Flags */
+    uint16_t segment;
+    uint16_t device_id;            /* the unit's own */
+    uint16_t capability_offset;    /* in its configuration space */
+    uint16_t info;
+    uint8_t block_type;
+    uint8_t flags;
     uint8_t has_extended_features; /* 0 for Type 0x10 */
 };
 enum zacpi_ivhd_flag { /* Flags of an IVHD; the last two are of Type 0x10 alone */
@@ -1079,52 +1050,52 @@ enum zacpi_ivmd_flag { /* Flags of an IVMD */
 };
 struct zacpi_ivrs_device {
     struct zacpi_ivrs_unit unit;
-    uint16_t source_id; /* by which the unit knows the device: Source DeviceID of an alias (Types
-                         * 0x42 and 0x43), else the device's own id */
+    uint16_t source_id; /* Source DeviceID of an alias (Types 0x42 and 0x43), else the device's own
+                         * id */
     uint8_t settings;   /* DTE Setting of the entry */
 };
 struct zacpi_ivrs_memory { /* I/O Virtualization Memory Definition (IVMD) */
-    uint64_t start;     /* IVMD start address */
-    uint64_t length;    /* IVMD memory block length */
-    uint16_t device_id; /* DeviceID */
+    uint64_t start;
+    uint64_t length;
+    uint16_t device_id;
     uint16_t auxiliary; /* Auxiliary Data: of Type 0x22 the last device */
-    uint8_t block_type; /* Type: 0x20 for all devices, 0x21 for one, 0x22 for a range */
-    uint8_t flags;      /* Flags: bit 0 Unity, bit 1 IR, bit 2 IW, bit 3 Exclusion Range */
+    uint8_t block_type; /* 0x20 for all devices, 0x21 for one, 0x22 for a range */
+    uint8_t flags;      /* of enum zacpi_ivmd_flag */
 };
 
-/* The unit that remaps a device, by the first valid IVRS: of the IVHDs of the greatest Type, 0x10,
- * 0x11 or 0x40, that it has, the first of the segment with an entry for the device: for all
- * devices, for it or for a range that it lies in, or of a special device with it as Source
- * DeviceID. The block's first such entry counts. Further errors: ZACPI_TABLE_MISSING "IVRS",
- * ZACPI_IOMMU_INVALID_STRUCTURE_LENGTH, ZACPI_NO_IOMMU. */
+/* Returns the unit that remaps a device, by the first valid IVRS: of the IVHDs of the greatest
+ * Type, 0x10, 0x11 or 0x40, that it has, the first of the segment with an entry for the device: for
+ * all devices, for it, for a range that it lies in, or of a special device with it as Source
+ * DeviceID. The first such entry counts. Fails with an opening error, ZACPI_TABLE_MISSING "IVRS",
+ * ZACPI_IOMMU_INVALID_STRUCTURE_LENGTH, or ZACPI_NO_IOMMU. */
 ZACPI_STATUS zacpi_get_ivrs_unit(const struct zacpi_source *source, uint16_t segment,
                                  uint16_t device_id, struct zacpi_ivrs_device *out,
                                  struct zacpi_signature *signature);
-/* The memory that has its own rules for a device, by the first valid IVRS: each IVMD for it, for
- * all devices or for a range that it lies in, in order, whatever its segment. Further errors:
- * ZACPI_TABLE_MISSING "IVRS", ZACPI_IOMMU_INVALID_STRUCTURE_LENGTH,
+/* Lists the memory that has its own rules for a device, by the first valid IVRS: each IVMD for it,
+ * for all devices or for a range that it lies in, in order, whatever its segment. Fails with an
+ * opening error, ZACPI_TABLE_MISSING "IVRS", ZACPI_IOMMU_INVALID_STRUCTURE_LENGTH, or
  * ZACPI_IOMMU_INVALID_MEMORY_RANGE of one of these. */
 ZACPI_STATUS zacpi_list_ivrs_memory(const struct zacpi_source *source, uint16_t device_id,
                                     struct zacpi_ivrs_memory *out, size_t capacity, size_t *count,
                                     struct zacpi_signature *signature);
 /* ---- Tables that are written ----------------------------------------------------------------- */
 
-/* Each call writes one table, from what it is to say, to the front of `out`, which has `capacity`
- * bytes, and its length to `length`; the rest of `out` is left as it is. The calls above then read
- * what was passed, but for what a call says that it writes otherwise. */
+/* Each call writes one table to the front of `out`, which has `capacity` bytes, and its length to
+ * `length`; the rest of `out` is left as it is. The calls above then read what was passed, unless a
+ * call says otherwise. */
 
-struct zacpi_table_ids { /* who made the table, as its header says (section 5.2.6). Each name is
-                          * filled up with spaces or zeros */
-    uint8_t oem_id[6];         /* OEMID */
-    uint8_t oem_table_id[8];   /* OEM Table ID */
-    uint32_t oem_revision;     /* OEM Revision */
-    uint8_t creator_id[4];     /* Creator ID */
-    uint32_t creator_revision; /* Creator Revision */
+struct zacpi_table_ids { /* who made the table (section 5.2.6); names are filled up with spaces or
+                          * zeros */
+    uint8_t oem_id[6];
+    uint8_t oem_table_id[8];
+    uint32_t oem_revision;
+    uint8_t creator_id[4];
+    uint32_t creator_revision;
 };
 struct zacpi_madt_contents {
-    const struct zacpi_processor *processors; /* the first is the boot processor: is_boot isn't
-                                               * looked at, nor is is_x2apic. Enabled is set unless
-                                               * the state is ZACPI_PROCESSOR_DISABLED */
+    const struct zacpi_processor *processors; /* the first is the boot processor; is_boot and
+                                               * is_x2apic aren't looked at. Enabled is set unless
+                                               * `state` is ZACPI_PROCESSOR_DISABLED */
     size_t processors_length;
     const struct zacpi_io_apic *io_apics;
     size_t io_apics_length;
@@ -1132,20 +1103,17 @@ struct zacpi_madt_contents {
     size_t overrides_length;
     const struct zacpi_nmi_source *nmi_sources;
     size_t nmi_sources_length;
-    const struct zacpi_nmi_line *nmi_lines; /* processor_uid isn't looked at if of_all isn't 0, nor
-                                             * are polarity and trigger: 0 is written, as the bus
-                                             * has them */
+    const struct zacpi_nmi_line *nmi_lines; /* polarity and trigger aren't looked at: 0 is written.
+                                             * Nor is processor_uid if of_all isn't 0 */
     size_t nmi_lines_length;
     uint64_t local_apic_address;
-    uint64_t wakeup_mailbox;     /* MailBoxAddress (section 5.2.12.19); isn't looked at unless
-                                  * has_wakeup_mailbox */
-    uint8_t also_has_8259;       /* PCAT_COMPAT */
+    uint64_t wakeup_mailbox; /* MailBoxAddress (section 5.2.12.19), if has_wakeup_mailbox */
+    uint8_t also_has_8259;   /* PCAT_COMPAT */
     uint8_t has_wakeup_mailbox;
 };
-struct zacpi_gic_contents { /* the interrupts of an Arm machine */
+struct zacpi_gic_contents {
     struct zacpi_gic_distributor distributor;
-    const struct zacpi_gic_cpu_interface *cpu_interfaces; /* the processors: the first is the boot
-                                                           * processor */
+    const struct zacpi_gic_cpu_interface *cpu_interfaces; /* the first is the boot processor */
     size_t cpu_interfaces_length;
     const struct zacpi_range *redistributors;
     size_t redistributors_length;
@@ -1157,11 +1125,11 @@ struct zacpi_gic_contents { /* the interrupts of an Arm machine */
 };
 struct zacpi_apic_domain { /* sections 5.2.16.1 and 5.2.16.3 */
     uint32_t local_apic_id; /* APIC ID or X2APIC ID */
-    uint32_t domain;        /* Proximity Domain */
+    uint32_t domain;
 };
 struct zacpi_gicc_domain { /* section 5.2.16.4 */
-    uint32_t processor_uid; /* ACPI Processor UID */
-    uint32_t domain;        /* Proximity Domain */
+    uint32_t processor_uid;
+    uint32_t domain;
 };
 struct zacpi_srat_contents {
     const struct zacpi_apic_domain *apics;
@@ -1174,15 +1142,16 @@ struct zacpi_srat_contents {
 struct zacpi_spcr_contents {
     struct zacpi_console console;
     uint8_t interrupt_controllers; /* bits 1 to 4 of Interrupt Type: 2 an I/O APIC, 4 an I/O SAPIC,
-                                    * 8 a GIC, 16 a PLIC or an APLIC, or a sum of these. Isn't looked
-                                    * at unless has_global_system_interrupt */
-    uint8_t flow_control;          /* Flow Control, as it is */
-    uint8_t terminal_type;         /* Terminal Type, as it is */
+                                    * 8 a GIC, 16 a PLIC or an APLIC, or a sum of these, if
+                                    * has_global_system_interrupt */
+    uint8_t flow_control;
+    uint8_t terminal_type;
 };
 struct zacpi_platform_timer { /* section 5.2.24.1: a GT Block or a watchdog */
-    uint32_t kind;               /* 0: the block. 1: the watchdog. The other one isn't looked at */
-    uint64_t block_address;      /* GT Block Physical Address */
-    const struct zacpi_gt_frame *frames; /* their block_address isn't looked at */
+    uint32_t kind;                       /* 0: the block. 1: the watchdog. The other isn't looked
+                                          * at */
+    uint64_t block_address;
+    const struct zacpi_gt_frame *frames; /* block_address isn't looked at */
     size_t frames_length;
     struct zacpi_watchdog watchdog;
 };
@@ -1193,104 +1162,101 @@ struct zacpi_gtdt_contents {
 };
 struct zacpi_facs_contents { /* section 5.2.10 */
     uint64_t waking_vector_64;    /* X_Firmware_Waking_Vector */
-    uint32_t hardware_signature;  /* Hardware Signature */
+    uint32_t hardware_signature;
     uint32_t waking_vector;       /* Firmware_Waking_Vector */
-    uint8_t supports_s4bios;      /* S4BIOS_F, bit 0 of Flags */
-    uint8_t supports_64_bit_wake; /* 64BIT_WAKE_SUPPORTED_F, bit 1 of Flags */
+    uint8_t supports_s4bios;      /* S4BIOS_F */
+    uint8_t supports_64_bit_wake; /* 64BIT_WAKE_SUPPORTED_F */
 };
 
-/* An RSDP of revision 2 that leads to an XSDT (section 5.2.5.3): 36 bytes. Of `ids` it has OEMID
- * alone. Fails with ZACPI_NO_ADDRESS if `xsdt` is 0, ZACPI_BAD_NAME or ZACPI_NO_ROOM. */
+/* Writes an RSDP of revision 2 that leads to an XSDT (section 5.2.5.3): 36 bytes. Of `ids` it has
+ * OEMID alone. Fails with ZACPI_NO_ADDRESS if `xsdt` is 0, ZACPI_BAD_NAME or ZACPI_NO_ROOM. */
 ZACPI_STATUS zacpi_write_rsdp(const struct zacpi_table_ids *ids, uint64_t xsdt, uint8_t *out,
                               size_t capacity, size_t *length);
-/* An RSDT, and an XSDT, of these addresses, in order, also of 0 (sections 5.2.7 and 5.2.8). Fail
- * with ZACPI_BAD_NAME, ZACPI_NO_ROOM or ZACPI_TOO_LONG. */
+/* Write an RSDT, and an XSDT, of these addresses, in order, also of 0 (sections 5.2.7 and 5.2.8).
+ * Fail with ZACPI_BAD_NAME, ZACPI_NO_ROOM or ZACPI_TOO_LONG. */
 ZACPI_STATUS zacpi_write_rsdt(const struct zacpi_table_ids *ids, const uint32_t *addresses,
                               size_t addresses_length, uint8_t *out, size_t capacity,
                               size_t *length);
 ZACPI_STATUS zacpi_write_xsdt(const struct zacpi_table_ids *ids, const uint64_t *addresses,
                               size_t addresses_length, uint8_t *out, size_t capacity,
                               size_t *length);
-/* A DSDT, and an SSDT, of these bytes of AML (section 5.2.11). By a revision of 1 AML's integers
- * have 32 bits, by 2 they have 64. Fail with ZACPI_BAD_NAME, ZACPI_NO_ROOM or ZACPI_TOO_LONG. */
+/* Write a DSDT, and an SSDT, of these bytes of AML, whose integers have 32 bits by a revision of 1,
+ * 64 by 2 (section 5.2.11). Fail with ZACPI_BAD_NAME, ZACPI_NO_ROOM or ZACPI_TOO_LONG. */
 ZACPI_STATUS zacpi_write_dsdt(const struct zacpi_table_ids *ids, uint8_t revision,
                               const uint8_t *aml, size_t aml_length, uint8_t *out, size_t capacity,
                               size_t *length);
 ZACPI_STATUS zacpi_write_ssdt(const struct zacpi_table_ids *ids, uint8_t revision,
                               const uint8_t *aml, size_t aml_length, uint8_t *out, size_t capacity,
                               size_t *length);
-/* A table of any signature and revision: a header (section 5.2.6) and these bytes after it, all as
- * they are passed. Fails with ZACPI_BAD_NAME, ZACPI_NO_ROOM or ZACPI_TOO_LONG. */
+/* Writes a table of any signature and revision: a header (section 5.2.6) and these bytes. Fails
+ * with ZACPI_BAD_NAME, ZACPI_NO_ROOM or ZACPI_TOO_LONG. */
 ZACPI_STATUS zacpi_write_table(const struct zacpi_table_ids *ids, struct zacpi_signature wanted,
                                uint8_t revision, const uint8_t *body, size_t body_length,
                                uint8_t *out, size_t capacity, size_t *length);
-/* A MADT of revision 5 (section 5.2.12), with its entries sort by sort in the order of the lists,
+/* Writes a MADT of revision 5 (section 5.2.12): its entries sort by sort in the order of the lists,
  * and the mailbox last. An address of 2^32 or above stands in a Local APIC Address Override after
- * the processors, and Local Interrupt Controller Address is then 0. A processor whose uid and id
- * are below 255 is a Processor Local APIC, any other a Processor Local x2APIC; a line of a uid of
- * 255 or above is a Local x2APIC NMI, any other a Local APIC NMI. Fails with ZACPI_UNKNOWN_CODE,
+ * the processors, and Local Interrupt Controller Address is 0. A processor whose uid and id are
+ * below 255 is a Processor Local APIC, any other a Processor Local x2APIC; a line of a uid of 255
+ * or above is a Local x2APIC NMI, any other a Local APIC NMI. Fails with ZACPI_UNKNOWN_CODE,
  * ZACPI_NO_PROCESSOR, ZACPI_ID_OF_ALL, ZACPI_UID_OF_ALL, ZACPI_BAD_NAME, ZACPI_NO_ROOM or
  * ZACPI_TOO_LONG. */
 ZACPI_STATUS zacpi_write_madt(const struct zacpi_table_ids *ids,
                               const struct zacpi_madt_contents *contents, uint8_t *out,
                               size_t capacity, size_t *length);
-/* A MADT of revision 6 of an Arm machine (sections 5.2.12.14 to 5.2.12.18), with its entries sort
- * by sort: the distributor, and the lists in their order. A GICC has 82 bytes, or 80 if
- * trace_buffer_interrupt is 0. Fails with ZACPI_UNKNOWN_CODE, ZACPI_BAD_RANGE, ZACPI_NO_PROCESSOR,
- * ZACPI_SAME_AS_BUS if a trigger is 0, ZACPI_BAD_NAME, ZACPI_NO_ROOM or ZACPI_TOO_LONG. */
+/* Writes a MADT of revision 6 of an Arm machine (sections 5.2.12.14 to 5.2.12.18): the distributor,
+ * and the lists in their order. A GICC has 82 bytes, or 80 if trace_buffer_interrupt is 0. Fails
+ * with ZACPI_UNKNOWN_CODE, ZACPI_BAD_RANGE, ZACPI_NO_PROCESSOR, ZACPI_SAME_AS_BUS if a trigger is
+ * 0, ZACPI_BAD_NAME, ZACPI_NO_ROOM or ZACPI_TOO_LONG. */
 ZACPI_STATUS zacpi_write_gic_madt(const struct zacpi_table_ids *ids,
                                   const struct zacpi_gic_contents *contents, uint8_t *out,
                                   size_t capacity, size_t *length);
-/* An MCFG of these regions, in order (PCI Firmware Specification, section 4.1.2). Fails with
+/* Writes an MCFG of these regions, in order (PCI Firmware Specification, section 4.1.2). Fails with
  * ZACPI_BAD_NAME, ZACPI_NO_ROOM or ZACPI_TOO_LONG. */
 ZACPI_STATUS zacpi_write_mcfg(const struct zacpi_table_ids *ids,
                               const struct zacpi_pci_region *regions, size_t regions_length,
                               uint8_t *out, size_t capacity, size_t *length);
-/* An HPET of revision 1 (IA-PC HPET Specification), with registers in memory of a Register Bit
- * Width of 0. A page protection above 3 is written as 3. Fails with ZACPI_BAD_NAME, ZACPI_NO_ROOM
- * or ZACPI_TOO_LONG. */
+/* Writes an HPET of revision 1 (IA-PC HPET Specification), with registers in memory of a Register
+ * Bit Width of 0. A page_protection above 3 is written as 3. Fails with ZACPI_BAD_NAME or
+ * ZACPI_NO_ROOM. */
 ZACPI_STATUS zacpi_write_hpet(const struct zacpi_table_ids *ids, const struct zacpi_hpet_info *info,
                               uint8_t *out, size_t capacity, size_t *length);
-/* A SLIT (section 5.2.17) of `localities` times `localities` distances, those from locality 0
- * first. Fails with ZACPI_BAD_MATRIX if there are more or fewer, ZACPI_BAD_NAME, ZACPI_NO_ROOM or
+/* Writes a SLIT (section 5.2.17) of `localities` times `localities` distances, those from locality
+ * 0 first. Fails with ZACPI_BAD_MATRIX if there are more or fewer, ZACPI_BAD_NAME, ZACPI_NO_ROOM or
  * ZACPI_TOO_LONG. */
 ZACPI_STATUS zacpi_write_slit(const struct zacpi_table_ids *ids, uint64_t localities,
                               const uint8_t *distances, size_t distances_length, uint8_t *out,
                               size_t capacity, size_t *length);
-/* A SRAT of revision 3 (section 5.2.16), with its entries sort by sort, all enabled, of a Clock
+/* Writes a SRAT of revision 3 (section 5.2.16): its entries sort by sort, all enabled, of a Clock
  * Domain of 0. A processor whose APIC id is below 255 is a Processor Local APIC/SAPIC Affinity, any
  * other a Processor Local x2APIC Affinity. Fails with ZACPI_ID_OF_ALL, ZACPI_BAD_RANGE,
  * ZACPI_BAD_NAME, ZACPI_NO_ROOM or ZACPI_TOO_LONG. */
 ZACPI_STATUS zacpi_write_srat(const struct zacpi_table_ids *ids,
                               const struct zacpi_srat_contents *contents, uint8_t *out,
                               size_t capacity, size_t *length);
-/* A BGRT of revision 1, 56 bytes, from the record as which zacpi_get_boot_graphic reads it (section
- * 5.2.22). Fails with ZACPI_UNKNOWN_CODE if `orientation` is none of its numbers, or image_type
- * isn't 0, ZACPI_BAD_NAME, ZACPI_NO_ROOM or ZACPI_TOO_LONG. */
+/* Writes a BGRT of revision 1, 56 bytes (section 5.2.22). Fails with ZACPI_UNKNOWN_CODE if
+ * `orientation` is none of its numbers, or image_type isn't 0, ZACPI_BAD_NAME or ZACPI_NO_ROOM. */
 ZACPI_STATUS zacpi_write_bgrt(const struct zacpi_table_ids *ids,
                               const struct zacpi_boot_graphic *graphic, uint8_t *out,
                               size_t capacity, size_t *length);
-/* An SPCR of revision 4, 90 bytes, from the record as which zacpi_get_console reads it, and what
- * that doesn't say; the layout is Microsoft's. Language is 0 and NamespaceString ".", that of a
- * port with no object in the namespace; Configured Baud Rate is the rate's code, or 0 if it has
- * none. A base, an interrupt or a rate that isn't there is written as 0 and not looked at; a
- * reserved code of `interface`, `parity` or stop_bits is written too. Fails with
- * ZACPI_UNKNOWN_CODE, ZACPI_NO_ADDRESS if `base` is present at address 0, ZACPI_BAD_NAME,
- * ZACPI_NO_ROOM or ZACPI_TOO_LONG. */
+/* Writes an SPCR of revision 4, 90 bytes. Language is 0 and NamespaceString ".", that of a port
+ * with no object in the namespace; Configured Baud Rate is the rate's code, or 0 if it has none. A
+ * base, an interrupt or a rate that isn't there is written as 0 and not looked at; a reserved code
+ * of `interface`, `parity` or stop_bits is written too. Fails with ZACPI_UNKNOWN_CODE,
+ * ZACPI_NO_ADDRESS if `base` is present at address 0, ZACPI_BAD_NAME or ZACPI_NO_ROOM. */
 ZACPI_STATUS zacpi_write_spcr(const struct zacpi_table_ids *ids,
                               const struct zacpi_spcr_contents *contents, uint8_t *out,
                               size_t capacity, size_t *length);
-/* A GTDT of revision 3 (section 5.2.24), from the record as which zacpi_get_arm_timers reads it and
- * the timers of the platform, in order: 104 bytes, which Platform Timer Offset says too, 28 for
- * each watchdog, 20 for each GT Block, and 40 for each frame. A virtual_el2 that isn't present is
- * written as zeros, and read as present; `present` of the other timers and
- * platform_timers_malformed aren't looked at. Fails with ZACPI_UNKNOWN_CODE, and of timer after
- * timer ZACPI_SAME_AS_BUS if a polarity or a trigger is 0, and ZACPI_TOO_MANY_FRAMES if a block has
- * more than 1637, ZACPI_BAD_NAME, ZACPI_NO_ROOM or ZACPI_TOO_LONG. */
+/* Writes a GTDT of revision 3 (section 5.2.24) with the timers of the platform, in order: 104
+ * bytes, which Platform Timer Offset says too, 28 for each watchdog, 20 for each GT Block, and 40
+ * for each frame. A virtual_el2 that isn't present is written as zeros, and read as present;
+ * `present` of other timers and platform_timers_malformed aren't looked at. Fails with
+ * ZACPI_UNKNOWN_CODE, of timer after timer ZACPI_TOO_MANY_FRAMES if a block has more than 1637, and
+ * ZACPI_SAME_AS_BUS if a polarity or a trigger is 0, ZACPI_BAD_NAME, ZACPI_NO_ROOM or
+ * ZACPI_TOO_LONG. */
 ZACPI_STATUS zacpi_write_gtdt(const struct zacpi_table_ids *ids,
                               const struct zacpi_gtdt_contents *contents, uint8_t *out,
                               size_t capacity, size_t *length);
-/* What the FADT of a guest without fixed hardware says, but for dsdt_address. */
+/* Returns what the FADT of a guest without fixed hardware says, but for dsdt_address. */
 static inline struct zacpi_fixed_hardware zacpi_fadt_reduced(void) {
     struct zacpi_fixed_hardware fadt;
     size_t i;
@@ -1299,19 +1265,17 @@ static inline struct zacpi_fixed_hardware zacpi_fadt_reduced(void) {
     fadt.c2_latency = 101, fadt.c3_latency = 1001; /* neither C2 nor C3 */
     return fadt;
 }
-/* A FADT of version 6.4, 276 bytes, from the record as which zacpi_get_fixed_hardware reads it
- * (section 5.2.9). An address or a block stands in its X_ field, and in its field of 32 bits if it
- * fits, a block if it is one of ports; a length in bytes is the whole bytes of bit_width, of which
- * PM1 and PM2 have one at least, and X_GPEn_BLK of 32 bytes or more has a width of 255. A register
- * is there by `present` 1 and an address that isn't 0, pm1a unless the hardware is reduced, and the
- * reset by ZACPI_FADT_RESET_REG_SUP. What isn't there, gpe0, gpe1, fixed hardware that is reduced,
- * and reserved flags aren't looked at and read as 0, sleep_control and sleep_status as present.
- * Fails with ZACPI_UNKNOWN_CODE, ZACPI_NO_ADDRESS if dsdt_address is 0, ZACPI_BAD_REGISTER,
- * ZACPI_BAD_NAME, ZACPI_NO_ROOM or ZACPI_TOO_LONG. */
+/* Writes a FADT of version 6.4, 276 bytes (section 5.2.9). An address or a block stands in its X_
+ * field, and in its field of 32 bits if it fits, a block if it is one of ports; a length in bytes
+ * is bit_width's whole bytes, and X_GPEn_BLK of 32 bytes or more has a width of 255. A register is
+ * there by `present` 1 and an address that isn't 0, pm1a unless the hardware is reduced, and the
+ * reset by ZACPI_FADT_RESET_REG_SUP. What isn't there is written as 0; it, `gpe0`, `gpe1` and
+ * reserved flags aren't looked at. Fails with ZACPI_UNKNOWN_CODE, ZACPI_NO_ADDRESS if dsdt_address
+ * is 0, ZACPI_BAD_REGISTER, ZACPI_BAD_NAME or ZACPI_NO_ROOM. */
 ZACPI_STATUS zacpi_write_fadt(const struct zacpi_table_ids *ids,
                               const struct zacpi_fixed_hardware *fadt, uint8_t *out,
                               size_t capacity, size_t *length);
-/* A FACS of version 2, 64 bytes, with a Global Lock of 0 (section 5.2.10). Fails with
+/* Writes a FACS of version 2, 64 bytes, with a Global Lock of 0 (section 5.2.10). Fails with
  * ZACPI_NO_ROOM. */
 ZACPI_STATUS zacpi_write_facs(const struct zacpi_facs_contents *contents, uint8_t *out,
                               size_t capacity, size_t *length);
@@ -1331,30 +1295,31 @@ struct zacpi_machine {
     struct zacpi_table_ids ids;
     const struct zacpi_listed_table *tables; /* in the order of the XSDT */
     size_t tables_length;
-    const struct zacpi_aml_contents *dsdts; /* the DSDT, if there is one: the first of them */
+    const struct zacpi_aml_contents *dsdts;  /* the first of them is the DSDT, if there is one */
     size_t dsdts_length;
-    const struct zacpi_facs_contents *facs; /* the FACS, if there is one: the first of them */
+    const struct zacpi_facs_contents *facs;  /* the first of them is the FACS, if there is one */
     size_t facs_length;
 };
 
-/* All tables of a machine, for memory that begins at `address`: the RSDP there, and 48 bytes on the
+/* Writes all tables of a machine, for memory that begins at `address`: the RSDP, 48 bytes on the
  * XSDT, the DSDT, 128 bytes with the FACS at their first multiple of 64, and the listed tables in
  * order, each table at a multiple of 16 and filled up with zeros to the next. Fails with
  * ZACPI_BAD_TABLE if a listed one has fewer than 36 bytes, another number of them than its Length,
- * or a sum that isn't 0; ZACPI_BAD_NAME; ZACPI_TOO_LONG; ZACPI_NO_ROOM; ZACPI_NO_ADDRESS if the
- * address is 0 or no multiple of 16, or the address after the last byte is 2^64 or above. */
+ * or a sum that isn't 0, ZACPI_BAD_NAME, ZACPI_TOO_LONG, ZACPI_NO_ROOM, or ZACPI_NO_ADDRESS if
+ * `address` is 0 or no multiple of 16, or the address after the last byte 2^64 or above. */
 ZACPI_STATUS zacpi_write_tables(const struct zacpi_machine *machine, uint64_t address, uint8_t *out,
                                 size_t capacity, size_t *length);
-/* The tables of a machine as zacpi_write_tables lays them, but for the RSDP and its 48 bytes: the
- * XSDT lies at `address`. Fails with the same errors. */
+/* Writes the tables of a machine as zacpi_write_tables lays them, but for the RSDP and its 48
+ * bytes: the XSDT lies at `address`. Fails with ZACPI_BAD_TABLE, ZACPI_BAD_NAME, ZACPI_TOO_LONG,
+ * ZACPI_NO_ROOM or ZACPI_NO_ADDRESS. */
 ZACPI_STATUS zacpi_write_tables_without_rsdp(const struct zacpi_machine *machine, uint64_t address,
                                              uint8_t *out, size_t capacity, size_t *length);
 /* Returns how many bytes zacpi_write_tables writes. Fails with ZACPI_BAD_TABLE, ZACPI_BAD_NAME or
  * ZACPI_TOO_LONG. */
 ZACPI_STATUS zacpi_tables_size(const struct zacpi_machine *machine, size_t *length);
-/* Returns where zacpi_write_tables lays the DSDT for this address if the machine lists so many
- * tables, as the FADT has to say. Fails with ZACPI_NO_ADDRESS if the sum is 2^64 or above, or an
- * XSDT can't list so many. */
+/* Returns where zacpi_write_tables lays the DSDT for this address and so many listed tables, as the
+ * FADT has to say. Fails with ZACPI_NO_ADDRESS if that is 2^64 or above, or an XSDT can't list so
+ * many. */
 ZACPI_STATUS zacpi_dsdt_address(uint64_t address, size_t tables_length, uint64_t *out);
 
 #include "zacpi_calls.h"
