@@ -16,30 +16,29 @@
  *         return printf("%zu processors\n", count), 0;
  *     }
  *
- * What the caller keeps. A pointer is aligned for its type and points to as many items as the
- * length beside it says. It isn't null, but for a list of no items and for `signature`; lists
- * inside the items of a list (a region's bytes) aren't null either. Inputs are initialised; an
- * output needn't be, and shares no byte with an input or another output. While a call runs nobody
- * writes what it reads, nor touches what it writes. The stack is aligned as the ABI says. The
- * archives for kernels (C.md) use general registers alone and no red zone; the others may use the
- * red zone and use vector registers, which are enabled first (on x86-64 CR0.EM clear, CR4.OSFXSR
- * set).
+ * What the caller keeps. A pointer is aligned for its type, points to as many items as the length
+ * beside it says, and isn't null, but for a list of no items and for `signature`; lists inside the
+ * items of a list (a region's bytes) aren't null either. An input is initialised. An output shares
+ * no byte with an input or another output. While a call runs nobody writes what it reads, nor
+ * touches what it writes. The stack is aligned as the ABI says. The archives for kernels (C.md)
+ * use general registers alone and no red zone; the others may use the red zone, and vector
+ * registers, to be enabled first (on x86-64 CR0.EM clear, CR4.OSFXSR set).
  *
- * Each call can be passed any numbers, over any bytes. It keeps no state, takes no memory and
- * calls nobody: any number of calls may run at once, each with outputs of its own.
+ * A call can be passed any numbers, over any bytes. It keeps no state, takes no memory and calls
+ * nobody: any number may run at once, each with outputs of its own. It returns ZACPI_OK, with all
+ * its outputs written, or fails with the first error that stands at it, with none written; only a
+ * ZACPI_SDT_ error and ZACPI_TABLE_MISSING write `signature`. Opening errors are those of
+ * zacpi_open. A call about a table goes by the first valid one that is listed.
  *
- * A call returns ZACPI_OK, with all its outputs written, or fails with the first error that stands
- * at it, with none written. Only a ZACPI_SDT_ error and ZACPI_TABLE_MISSING write `signature`.
+ * A list has its items in the table's order. It writes the first `capacity` of them to `out`, and
+ * how many there are in all to `count`: with a capacity of 0 it only counts.
  *
- * A list writes its first `capacity` items to `out`, and how many there are in all to `count`:
- * with a capacity of 0 it only counts.
- *
- * Section numbers are those of the ACPI Specification 6.4 unless another document is named, and
- * names of fields (Length, SCI_INT) those of the document that lays the table out. A field without
- * a comment is what its name says. Addresses are physical, and lengths in bytes, unless a field
- * says otherwise. A field that says whether something holds is 0 or 1. Bytes past the end of a
- * table or entry are read as 0, and a field is read in every Revision of its table, unless it says
- * otherwise. */
+ * Sections are those of the ACPI Specification 6.4 unless another document is named, and names of
+ * fields (Length, SCI_INT) those of the document that lays the table out. A field without a
+ * comment is what its name says. One that says whether something holds is 0 or 1. Addresses are
+ * physical, and lengths in bytes; memory ends at the address after its last byte. Bytes past the
+ * end of a table or entry are read as 0, and a field in every Revision of its table. Fields that
+ * differ say so. */
 #ifndef ZACPI_H
 #define ZACPI_H
 #include <stddef.h>
@@ -64,16 +63,16 @@ extern "C" {
 
 /* ---- Errors ---------------------------------------------------------------------------------- */
 
-typedef uint32_t zacpi_status; /* ZACPI_OK, or an error of enum zacpi_refusal, whose number stays */
+typedef uint32_t zacpi_status; /* of enum zacpi_refusal; numbers stay */
 
 enum zacpi_refusal {
     ZACPI_OK = 0,
 
     /* What is passed. */
     ZACPI_REGIONS_NOT_ASCENDING = 1, /* a region begins below the end of the one before it */
-    ZACPI_REGION_TOO_HIGH = 2,       /* the address after a region's last byte is 2^64 or above */
+    ZACPI_REGION_TOO_HIGH = 2,       /* a region ends at 2^64 or above */
     ZACPI_UNKNOWN_START = 3,         /* `start` isn't one of enum zacpi_start */
-    ZACPI_RANGE_TOO_HIGH = 4,        /* the address after a range's last byte is 2^64 or above */
+    ZACPI_RANGE_TOO_HIGH = 4,        /* a range ends at 2^64 or above */
     ZACPI_UNKNOWN_WIDTH = 5,         /* `bytes_each` isn't 1 or 2 */
 
     /* Memory and the RSDP (section 5.2.5). */
@@ -97,16 +96,15 @@ enum zacpi_refusal {
                                          * 5.2.3.2), or an HPET that isn't in memory */
     ZACPI_NO_SUCH_FUNCTION = 32,        /* no region of configuration space contains it */
 
-    /* The MADT (section 5.2.12). Its entries follow one another from byte 44 on. One begins where
-     * its Length is at most the bytes left and at least 8, 12, 10, 8, 6, 12, 16, 16, 16, 16, 12,
-     * 76, 24, 24, 16, 20 and 16 for Types 0 to 0x10, and 2 for others, which are skipped. */
-    ZACPI_NO_APICS = 40,              /* the first valid MADT has no entry of Types 0 to 5, 9 and
-                                       * 0xa; for zacpi_platform also: there is no MADT */
+    /* The MADT (section 5.2.12). An entry begins, from byte 44 on, where its Length is at most the
+     * bytes left and at least 8, 12, 10, 8, 6, 12, 16, 16, 16, 16, 12, 76, 24, 24, 16, 20 and 16
+     * for Types 0 to 0x10, and 2 for others, which are skipped. */
+    ZACPI_NO_APICS = 40,              /* the MADT has no entry of Types 0 to 5, 9 and 0xa; for
+                                       * zacpi_platform also: there is no MADT */
     ZACPI_NO_GIC = 41,                /* the MADT has no GICD entry (section 5.2.12.15) */
     ZACPI_NO_SUCH_INTERRUPT = 42,     /* the ISA interrupt comes to no I/O APIC */
     ZACPI_NO_SUCH_IO_APIC = 43,       /* no I/O APIC has this global system interrupt */
-    ZACPI_MADT_UNEXPECTED_ENTRY = 44, /* Type is of a SAPIC or a platform interrupt source (6 to 8),
-                                       * or of a GIC (0xb to 0xf) */
+    ZACPI_MADT_UNEXPECTED_ENTRY = 44, /* Type is 6 to 8, of SAPICs, or 0xb to 0xf, of a GIC */
     /* Bus of an Interrupt Source Override isn't 0, ISA (section 5.2.12.5) */
     ZACPI_MADT_INTERRUPT_OVERRIDE_ENTRY_HAS_INVALID_BUS = 45,
     ZACPI_MADT_INVALID_LOCAL_NMI_LINE = 46, /* LINT# isn't 0 or 1 (section 5.2.12.7) */
@@ -114,39 +112,37 @@ enum zacpi_refusal {
     ZACPI_MADT_MPS_INTI_INVALID_TRIGGER_MODE = 48, /* Trigger Mode is 2, reserved */
     ZACPI_MADT_INVALID_ENTRY_LENGTH = 49, /* bytes are left in which no entry begins */
 
-    /* The SRAT (section 5.2.16), with entries as in a MADT, from byte 48 on, of a Length of at
-     * least 16, 40, 24, 18, 12, 32 and 32 for Types 0 to 6; the SLIT, the DMAR and the IVRS. */
+    /* The SRAT (section 5.2.16), whose entries begin so from byte 48 on, with a Length of at least
+     * 16, 40, 24, 18, 12, 32 and 32 for Types 0 to 6; the SLIT, the DMAR and the IVRS. */
     ZACPI_NUMA_INVALID_ENTRY_LENGTH = 50,  /* bytes are left in which no entry begins */
-    ZACPI_NUMA_INVALID_MEMORY_RANGE = 51,  /* the address after a range of memory is 2^64 or
-                                            * above */
+    ZACPI_NUMA_INVALID_MEMORY_RANGE = 51,  /* memory ends at 2^64 or above */
     ZACPI_NO_DOMAIN = 52,                  /* the SRAT puts it in no domain */
     ZACPI_NO_DISTANCE = 53,                /* the SLIT has no distance of these localities */
-    ZACPI_IOMMU_INVALID_STRUCTURE_LENGTH = 54, /* bytes of the table are left in which no structure
-                                                * or block begins, or bytes of one in which no
-                                                * device scope or device entry does */
-    ZACPI_IOMMU_INVALID_MEMORY_RANGE = 55, /* an RMRR's last byte is before its first, or the
-                                            * address after an IVMD's memory is 2^64 or above */
+    ZACPI_IOMMU_INVALID_STRUCTURE_LENGTH = 54, /* bytes are left in which no structure or block
+                                                * begins, or in one of these no device scope or
+                                                * device entry */
+    ZACPI_IOMMU_INVALID_MEMORY_RANGE = 55, /* an RMRR's last byte is before its first, or an IVMD's
+                                            * memory ends at 2^64 or above */
     ZACPI_NO_IOMMU = 56,                   /* the table has no unit for the device */
 
     /* A table that is written. */
-    ZACPI_UNKNOWN_CODE = 60,    /* a number that isn't one of its codes: a polarity, trigger mode or
-                                 * LINT pin, an image's orientation or type, a console's
-                                 * interrupt_controllers, a timer's kind, or a register's address
-                                 * space, access size or `present` */
+    ZACPI_UNKNOWN_CODE = 60,    /* a number that isn't one of the codes: of a polarity, trigger
+                                 * mode, LINT pin, image's orientation or type, timer's kind, or
+                                 * console's interrupt_controllers; of a register's address space,
+                                 * access size or `present` */
     ZACPI_NO_PROCESSOR = 61,
     ZACPI_ID_OF_ALL = 62,       /* a processor's uid or id is 0xffffffff, which stands for all */
     ZACPI_UID_OF_ALL = 63,      /* an NMI line's processor_uid is 0xffffffff */
     ZACPI_BAD_MATRIX = 64,      /* a SLIT without one distance for each pair */
-    ZACPI_NO_ADDRESS = 65,      /* an address is 0 of what an RSDP or a FADT leads to, or of a
-                                 * console's registers; or a machine's tables can't lie at theirs */
+    ZACPI_NO_ADDRESS = 65,      /* what an RSDP or a FADT leads to, or a console, is at address 0,
+                                 * or a machine's tables can't lie at `address` */
     ZACPI_BAD_NAME = 66,        /* OEMID, OEM Table ID or Creator ID isn't UTF-8 */
     ZACPI_NO_ROOM = 67,         /* `capacity` is less than the length */
     ZACPI_TOO_LONG = 68,        /* the table has 2^32 bytes or more */
-    ZACPI_BAD_REGISTER = 69,    /* a FADT's register at address 0, or block without bytes */
-    ZACPI_BAD_RANGE = 70,       /* a range of memory without a byte, or that ends above 2^64 - 1;
-                                 * one of redistributors of 2^32 bytes or more */
-    ZACPI_SAME_AS_BUS = 71,     /* a trigger mode or polarity of an Arm machine is 0, as the bus has
-                                 * it */
+    ZACPI_BAD_REGISTER = 69,    /* a FADT's register is at address 0, or a block has no byte */
+    ZACPI_BAD_RANGE = 70,       /* memory has no byte, or ends at 2^64 or above; redistributors have
+                                 * 2^32 bytes or more */
+    ZACPI_SAME_AS_BUS = 71,     /* an Arm machine's trigger mode or polarity is 0 */
     ZACPI_TOO_MANY_FRAMES = 72, /* a GT Block has more frames than Length can say */
     ZACPI_BAD_TABLE = 73        /* a listed table's bytes aren't one table */
 };
@@ -200,13 +196,12 @@ enum zacpi_start {
     ZACPI_START_RSDP = 0,        /* at the RSDP, as a loader or UEFI passes it (section 5.2.5.2) */
     ZACPI_START_RSDT = 1,        /* at the RSDT: pointers of 4 bytes (section 5.2.7) */
     ZACPI_START_XSDT = 2,        /* at the XSDT: pointers of 8 bytes (section 5.2.8) */
-    ZACPI_START_BIOS_SEARCH = 3, /* the RSDP is searched for in the BIOS areas, each lent in one
-                                  * piece */
-    ZACPI_START_SEARCH = 4       /* the same, as far as the areas are lent */
+    ZACPI_START_BIOS_SEARCH = 3, /* searches the BIOS areas, each lent in one piece, for the RSDP */
+    ZACPI_START_SEARCH = 4       /* searches them as far as they are lent */
 };
 
 /* Where tables are looked for. The regions ascend and share no byte; zacpi_clip_ranges makes such.
- * Bytes are lent if one region contains all of them: regions that touch aren't joined. */
+ * Bytes are lent if one region contains all of them. */
 struct zacpi_source {
     const struct zacpi_region *regions;
     size_t regions_length;
@@ -214,24 +209,23 @@ struct zacpi_source {
     uint32_t start;   /* one of enum zacpi_start */
 };
 
-/* Lists the ranges to make regions of, from ranges in any order, as a firmware's memory map has
- * them: sorted, joined where they overlap or touch, clipped to `window`, and without what lies in
- * `without` (the kernel's own image, and whatever is written while calls run). None is empty. Reads
- * no memory. Fails with ZACPI_RANGE_TOO_HIGH. */
+/* Lists the ranges to make regions of, from ranges in any order: sorted, joined where they overlap
+ * or touch, clipped to `window`, without what lies in `without` (the kernel's image, and whatever
+ * is written while calls run), and none empty. Reads no memory. Fails with ZACPI_RANGE_TOO_HIGH. */
 ZACPI_STATUS zacpi_clip_ranges(const struct zacpi_range *ranges, size_t ranges_length,
                                const struct zacpi_range *without, size_t without_length,
                                const struct zacpi_range *window, struct zacpi_range *out,
                                size_t capacity, size_t *count);
 
 struct zacpi_place {
-    size_t region; /* its index */
-    size_t offset; /* from the region's first byte on */
+    size_t region;
+    size_t offset;
 };
 
-/* Returns where physical memory is in the regions: the byte at `address` is
- * regions[region].bytes[offset], and `length` bytes from there on lie in that region. Reads no
- * memory. Fails with ZACPI_REGIONS_NOT_ASCENDING, ZACPI_REGION_TOO_HIGH, or ZACPI_MAP_FAILED if
- * `address` lies in no region, also for a length of 0, or the bytes reach past its end. */
+/* Returns where memory is in the regions: `length` bytes from `address` on are those from
+ * regions[region].bytes[offset] on, all in that region. Reads no memory. Fails with
+ * ZACPI_REGIONS_NOT_ASCENDING, ZACPI_REGION_TOO_HIGH, or ZACPI_MAP_FAILED if no region contains the
+ * bytes, or `address` itself for a length of 0. */
 ZACPI_STATUS zacpi_locate(const struct zacpi_region *regions, size_t regions_length,
                           uint64_t address, uint64_t length, struct zacpi_place *out);
 
@@ -250,53 +244,52 @@ static inline struct zacpi_signature zacpi_signature_of(const char *letters) {
 #define ZACPI_SIGNATURE(letters) \
     zacpi_signature_of(&("" letters)[0 * sizeof(char[sizeof("" letters) == 5 ? 1 : -1])])
 struct zacpi_root {
-    uint64_t address;      /* of the RSDT or XSDT */
+    uint64_t address;
     uint32_t length;
     uint8_t revision;      /* of the RSDP; 0 if opened at an RSDT, 2 if at an XSDT */
     uint8_t pointer_width; /* 4 for an RSDT, 8 for an XSDT */
 };
 struct zacpi_table {
     uint64_t address;
-    uint32_t length;  /* with the header */
+    uint32_t length;
     uint8_t signature[4];
-    uint8_t revision; /* of the table's layout */
+    uint8_t revision;
 };
 struct zacpi_fault {
-    uint64_t address;    /* as the root table lists it */
+    uint64_t address;
     zacpi_status status; /* why it is skipped: ZACPI_MAP_FAILED or a ZACPI_SDT_ error, but for
                           * ZACPI_SDT_INVALID_SIGNATURE */
 };
-struct zacpi_entry { /* an entry of a table, which begins with Type and Length */
+struct zacpi_entry {
     uint64_t address;
     uint16_t entry_type;
-    uint16_t length; /* with these two fields */
+    uint16_t length; /* with Type and Length */
 };
 struct zacpi_aml_table {
     uint64_t address; /* of the byte after the table's header */
     uint32_t length;  /* Length less 36 */
 };
 
-/* Returns the root table (sections 5.2.7 and 5.2.8). Its errors, in this order, are the opening
- * errors of each call that is passed a source, before those that stand there:
+/* Returns the root table (sections 5.2.7 and 5.2.8). Fails with an opening error (C.md), in this
+ * order:
  *   the regions        ZACPI_REGIONS_NOT_ASCENDING, ZACPI_REGION_TOO_HIGH; then ZACPI_UNKNOWN_START
  *   a search           ZACPI_MAP_FAILED (a BIOS search), ZACPI_NO_VALID_RSDP
  *   an RSDP at address ZACPI_MAP_FAILED, ZACPI_RSDP_INCORRECT_SIGNATURE, ..._OEM_ID, ..._CHECKSUM
  *   the root table     the errors of a table, with "RSDT" or "XSDT"
- * C.md says when each comes, what a search looks at, and which tables are valid: those with none of
- * the errors of a table, which are ZACPI_MAP_FAILED and 20 to 24 of enum zacpi_refusal. */
+ * The errors of a table are ZACPI_MAP_FAILED and the ZACPI_SDT_ errors; a valid one has none. */
 ZACPI_STATUS zacpi_open(const struct zacpi_source *source, struct zacpi_root *out,
                         struct zacpi_signature *signature);
 
-/* Lists the ranges of memory that the tables still need and no one region contains (C.md). A kernel
- * maps those that it can, joins them with its regions' ranges (zacpi_clip_ranges), and asks again,
- * until no new range comes. Each has at least two bytes. Fails with ZACPI_REGIONS_NOT_ASCENDING,
- * ZACPI_REGION_TOO_HIGH or ZACPI_UNKNOWN_START. */
+/* Lists the memory that the tables still need and no one region contains (C.md). A kernel maps what
+ * it can, joins it with its regions' ranges (zacpi_clip_ranges), and asks again, until no new range
+ * comes. Each has at least two bytes. Fails with ZACPI_REGIONS_NOT_ASCENDING, ZACPI_REGION_TOO_HIGH
+ * or ZACPI_UNKNOWN_START. */
 ZACPI_STATUS zacpi_list_missing_ranges(const struct zacpi_source *source, struct zacpi_range *out,
                                        size_t capacity, size_t *count,
                                        struct zacpi_signature *signature);
 
-/* Lists the tables that are valid under their own signatures, in the order of the root table, with
- * repeats (sections 5.2.6 to 5.2.8). Fails with an opening error. */
+/* Lists the listed tables that are valid under their own signatures, with repeats (sections 5.2.6
+ * to 5.2.8). Fails with an opening error. */
 ZACPI_STATUS zacpi_list_tables(const struct zacpi_source *source, struct zacpi_table *out,
                                size_t capacity, size_t *count, struct zacpi_signature *signature);
 
@@ -315,47 +308,44 @@ static inline const uint8_t *zacpi_table_bytes(const struct zacpi_region *region
 }
 
 /* Returns the `index`-th valid table of the wanted signature, from 0 on in the order of the root
- * table (section 5.2.6): the 0th is that of zacpi_find_table. Fails with an opening error, or
- * ZACPI_TABLE_MISSING with that signature. */
+ * table (section 5.2.6). Fails with an opening error, or ZACPI_TABLE_MISSING with that
+ * signature. */
 ZACPI_STATUS zacpi_find_nth_table(const struct zacpi_source *source, struct zacpi_signature wanted,
                                   size_t index, struct zacpi_table *out,
                                   struct zacpi_signature *signature);
 
 /* Lists the entries of the table at address `table`, listed or not, from its byte `first` on. Each
  * begins with Type and Length, of `bytes_each` bytes each: 1 in a MADT (from byte 44) and an SRAT
- * (48), 2 in an NFIT (40) and a DMAR (48). A Length is at least that of these two fields and at
- * most the bytes left; `malformed` is 1 if bytes are left in which no entry begins. Fails with
- * ZACPI_REGIONS_NOT_ASCENDING, ZACPI_REGION_TOO_HIGH, ZACPI_UNKNOWN_WIDTH for another `bytes_each`,
- * an error of a table, with its own signature, or ZACPI_SDT_INVALID_LENGTH if its Length is below
- * `first`. */
+ * (48), 2 in an NFIT (40) and a DMAR (48). Length is at least that of these two and at most the
+ * bytes left; `malformed` is 1 if bytes are left in which no entry begins. Fails with
+ * ZACPI_REGIONS_NOT_ASCENDING, ZACPI_REGION_TOO_HIGH, ZACPI_UNKNOWN_WIDTH, an error of a table,
+ * with its own signature, or ZACPI_SDT_INVALID_LENGTH if its Length is below `first`. */
 ZACPI_STATUS zacpi_list_entries(const struct zacpi_region *regions, size_t regions_length,
                                 uint64_t table, uint32_t first, uint32_t bytes_each,
                                 struct zacpi_entry *out, size_t capacity, size_t *count,
                                 uint8_t *malformed, struct zacpi_signature *signature);
 
-/* Lists the members of the root table that a lookup of the wanted signature skips for another
- * reason than their Signature, in order, up to the one that it finds (section 5.2.6). The lookup is
- * that of the calls for this table, which need its fixed fields. Fails with an opening error. */
+/* Lists the members of the root table that a lookup of the wanted signature, by a call that needs
+ * its fixed fields, skips for another reason than their Signature, up to the one that it finds
+ * (section 5.2.6). Fails with an opening error. */
 ZACPI_STATUS zacpi_list_faults(const struct zacpi_source *source, struct zacpi_signature wanted,
                                struct zacpi_fault *out, size_t capacity, size_t *count,
                                struct zacpi_signature *signature);
 
-/* Returns the AML of the DSDT that the first valid FADT names (sections 5.2.9 and 5.2.11.1). Fails
- * with an opening error, ZACPI_TABLE_MISSING "FACP", ZACPI_INVALID_DSDT_ADDRESS, or an error of a
- * table with "DSDT". */
+/* Returns the AML of the DSDT that the FADT names (sections 5.2.9 and 5.2.11.1). Fails with an
+ * opening error, ZACPI_TABLE_MISSING "FACP", ZACPI_INVALID_DSDT_ADDRESS, or an error of a table
+ * with "DSDT". */
 ZACPI_STATUS zacpi_dsdt(const struct zacpi_source *source, struct zacpi_aml_table *out,
                         struct zacpi_signature *signature);
 
-/* Lists the AML of each valid SSDT, in the order of the root table (section 5.2.11.2). Fails with
- * an opening error. */
+/* Lists the AML of each valid SSDT (section 5.2.11.2). Fails with an opening error. */
 ZACPI_STATUS zacpi_list_ssdts(const struct zacpi_source *source, struct zacpi_aml_table *out,
                               size_t capacity, size_t *count, struct zacpi_signature *signature);
 
 /* Lists the memory of the tables, which isn't to be given away: of the root table, of each listed
- * table that is valid under its own signature, of the DSDT of the first valid FADT if it is valid,
- * and of that FADT's FACS if it is lent, has the signature "FACS" and a Length of at least 64
- * (sections 5.2.6 to 5.2.11). They may overlap. Not among them are the RSDP, the boot graphic's
- * image and the mailbox that wakes processors. Fails with an opening error. */
+ * table that is valid under its own signature, and of the FADT's DSDT if it is valid and FACS if it
+ * is lent, has the signature "FACS" and a Length of at least 64 (sections 5.2.6 to 5.2.11). The
+ * ranges may overlap; C.md says what isn't among them. Fails with an opening error. */
 ZACPI_STATUS zacpi_list_ranges(const struct zacpi_source *source, struct zacpi_range *out,
                                size_t capacity, size_t *count, struct zacpi_signature *signature);
 
@@ -363,9 +353,9 @@ ZACPI_STATUS zacpi_list_ranges(const struct zacpi_source *source, struct zacpi_r
 
 struct zacpi_generic_address { /* Generic Address Structure, section 5.2.3.2 */
     uint64_t address;    /* in its space */
-    uint8_t space;       /* Address Space ID, of enum zacpi_address_space */
+    uint8_t space;       /* of enum zacpi_address_space */
     uint8_t bit_width;
-    uint8_t bit_offset;  /* bits before the register at `address` */
+    uint8_t bit_offset;
     uint8_t access_size; /* 0 not said, 1 one byte, 2 two, 3 four, 4 eight */
 };
 enum zacpi_address_space { /* section 5.2.3.2 */
@@ -380,19 +370,17 @@ struct zacpi_register {
     uint8_t present;                 /* 0: none. 1: it is `at`. 2: its address is an error */
 };
 struct zacpi_pm_timer {
-    struct zacpi_generic_address base; /* X_PM_TMR_BLK or PM_TMR_BLK; zeros unless it is present */
-    uint8_t present;                   /* 0: none. 1: it is at `base` */
-    uint8_t is_32_bit;                 /* TMR_VAL_EXT: it counts in 32 bits, else in 24. 0 unless it
-                                        * is present */
+    struct zacpi_generic_address base; /* X_PM_TMR_BLK or PM_TMR_BLK */
+    uint8_t present;                   /* 0: there is none, and all else is 0 */
+    uint8_t is_32_bit;                 /* TMR_VAL_EXT: it counts in 32 bits, else in 24 */
 };
 struct zacpi_hpet_info {
-    uint64_t base_address;    /* of the registers, in memory */
+    uint64_t base_address;
     uint32_t event_timer_block_id;
-    uint16_t clock_tick_unit; /* Main Counter Minimum Clock_tick in Periodic Mode: the least ticks
-                               * of a periodic timer */
-    uint8_t number;           /* HPET Number, from 0 on */
+    uint16_t clock_tick_unit; /* Main Counter Minimum Clock_tick in Periodic Mode */
+    uint8_t number;
     uint8_t page_protection;  /* bits 0 to 3: 0 nothing is promised, 1 the 4 KiB may be accessed, 2
-                               * the 64 KiB, 3 a reserved code, 3 to 15 */
+                               * the 64 KiB, 3 reserved (3 to 15) */
 };
 enum { /* of event_timer_block_id */
     ZACPI_HPET_HARDWARE_REV_ID = 0xff,
@@ -401,7 +389,7 @@ enum { /* of event_timer_block_id */
     ZACPI_HPET_LEGACY_REPLACEMENT = 1 << 15       /* in bits 16 to 31 is the PCI Vendor ID */
 };
 struct zacpi_boot_graphic {
-    uint64_t address;     /* Image Address */
+    uint64_t address;
     uint32_t x, y;        /* Image Offset X and Y: of its upper left corner, in pixels */
     uint16_t orientation; /* Orientation Offset, bits 1 and 2 of Status: in degrees, clockwise, 0,
                            * 90, 180 or 270 */
@@ -415,8 +403,8 @@ struct zacpi_gpe_block { /* general purpose events (sections 4.8.4.1 and 5.2.9),
     uint8_t space;       /* as in struct zacpi_generic_address */
     uint8_t byte_length; /* GPEn_BLK_LEN: first the status bits, in the second half the enable
                           * bits */
-    uint8_t present;     /* 0: none, also if GPEn_BLK_LEN is 0. 1: there is one. 2: its address is
-                          * an error, for Address Space ID alone: Access Size isn't looked at */
+    uint8_t present;     /* 0: none, also if GPEn_BLK_LEN is 0. 1: there is one. 2: its Address
+                          * Space ID is reserved; Access Size isn't looked at */
 };
 /* FADT, section 5.2.9. An X_ field is read as 0 below revision 2, and if the table hasn't all its
  * bytes. An address is that of the X_ field unless it is 0, and a block that of the X_ field unless
@@ -424,45 +412,41 @@ struct zacpi_gpe_block { /* general purpose events (sections 4.8.4.1 and 5.2.9),
  * its length (PM1_EVT_LEN to GPE1_BLK_LEN), which may be 0; from 32 bytes on it is an error, but
  * for gpe0_block and gpe1_block. */
 struct zacpi_fixed_hardware {
-    uint64_t facs_address;                            /* X_FIRMWARE_CTRL or FIRMWARE_CTRL. 0:
-                                                       * none */
-    uint64_t dsdt_address;                            /* X_DSDT or DSDT. 0: none */
-    struct zacpi_register pm1a_event, pm1b_event;     /* X_PM1n_EVT_BLK or PM1n_EVT_BLK */
+    uint64_t facs_address;                   /* X_FIRMWARE_CTRL or FIRMWARE_CTRL. 0: none */
+    uint64_t dsdt_address;                   /* X_DSDT or DSDT. 0: none */
+    struct zacpi_register pm1a_event, pm1b_event; /* X_PM1n_EVT_BLK or PM1n_EVT_BLK */
     struct zacpi_register pm1a_control, pm1b_control; /* X_PM1n_CNT_BLK or PM1n_CNT_BLK */
-    struct zacpi_register pm2_control;                /* X_PM2_CNT_BLK or PM2_CNT_BLK */
-    struct zacpi_register pm_timer;                   /* X_PM_TMR_BLK or PM_TMR_BLK (section
-                                                       * 4.8.3.3). None if PM_TMR_LEN isn't 4 */
-    struct zacpi_register gpe0, gpe1;                 /* X_GPEn_BLK or GPEn_BLK, also if
-                                                       * GPEn_BLK_LEN is 0 */
-    struct zacpi_register reset;                      /* RESET_REG: counts only with
-                                                       * ZACPI_FADT_RESET_REG_SUP */
-    struct zacpi_register sleep_control;              /* SLEEP_CONTROL_REG, of reduced hardware */
-    struct zacpi_register sleep_status;               /* SLEEP_STATUS_REG, of reduced hardware */
-    struct zacpi_gpe_block gpe0_block, gpe1_block;    /* GPE0 and GPE1, of any length */
-    uint32_t smi_command;                             /* SMI_CMD, a port. 0: no system management
-                                                       * mode */
-    uint32_t flags;                                   /* of enum zacpi_fadt_flag */
-    uint16_t sci_interrupt;                           /* SCI_INT: of the 8259, or else a global
-                                                       * system interrupt */
-    uint16_t x86_boot_flags;                          /* IAPC_BOOT_ARCH (section 5.2.9.3) */
-    uint16_t arm_boot_flags;                          /* ARM_BOOT_ARCH (section 5.2.9.4) */
-    uint16_t c2_latency, c3_latency;                  /* P_LVL2_LAT, P_LVL3_LAT: in microseconds.
-                                                       * Above 100, 1000: no C2, no C3 */
-    uint16_t flush_size;                              /* strides to read to write back all caches */
-    uint16_t flush_stride;                            /* their width in bytes */
-    uint8_t power_profile;                            /* Preferred_PM_Profile: 0 to 8, others are
-                                                       * reserved */
-    uint8_t acpi_enable, acpi_disable;                /* written to smi_command */
-    uint8_t s4bios_request;                           /* S4BIOS_REQ: written to smi_command */
-    uint8_t pstate_control;                           /* PSTATE_CNT: written to smi_command. 0:
-                                                       * none */
-    uint8_t c_state_control;                          /* CST_CNT: written to smi_command */
-    uint8_t gpe1_base;                                /* the number of gpe1's first event */
-    uint8_t duty_offset, duty_width;                  /* in the processor's control register, in
-                                                       * bits */
-    uint8_t day_alarm, month_alarm, century;          /* DAY_ALRM, MON_ALRM, CENTURY: registers of
-                                                       * the clock. 0: none */
-    uint8_t reset_value;                              /* what to write to `reset` */
+    struct zacpi_register pm2_control;       /* X_PM2_CNT_BLK or PM2_CNT_BLK */
+    struct zacpi_register pm_timer;          /* X_PM_TMR_BLK or PM_TMR_BLK (section 4.8.3.3). None
+                                              * if PM_TMR_LEN isn't 4 */
+    struct zacpi_register gpe0, gpe1;        /* X_GPEn_BLK or GPEn_BLK, also if GPEn_BLK_LEN is 0 */
+    struct zacpi_register reset;             /* RESET_REG: counts only with
+                                              * ZACPI_FADT_RESET_REG_SUP */
+    struct zacpi_register sleep_control;     /* of reduced hardware */
+    struct zacpi_register sleep_status;      /* of reduced hardware */
+    struct zacpi_gpe_block gpe0_block, gpe1_block; /* GPE0 and GPE1, of any length */
+    uint32_t smi_command;                    /* SMI_CMD: the port that acpi_enable to
+                                              * c_state_control are written to. 0: no system
+                                              * management mode */
+    uint32_t flags;                          /* of enum zacpi_fadt_flag */
+    uint16_t sci_interrupt;                  /* SCI_INT: of the 8259, or else a global system
+                                              * interrupt */
+    uint16_t x86_boot_flags;                 /* IAPC_BOOT_ARCH */
+    uint16_t arm_boot_flags;                 /* ARM_BOOT_ARCH */
+    uint16_t c2_latency, c3_latency;         /* P_LVL2_LAT, P_LVL3_LAT: in microseconds. Above 100,
+                                              * 1000: no C2, no C3 */
+    uint16_t flush_size;                     /* strides to read to write back all caches, and their
+                                              * width */
+    uint16_t flush_stride;
+    uint8_t power_profile;                   /* Preferred_PM_Profile: 0 to 8, others are reserved */
+    uint8_t acpi_enable, acpi_disable;
+    uint8_t s4bios_request;
+    uint8_t pstate_control;                  /* PSTATE_CNT. 0: none */
+    uint8_t c_state_control;                 /* CST_CNT */
+    uint8_t gpe1_base;
+    uint8_t duty_offset, duty_width;         /* in the processor's control register, in bits */
+    uint8_t day_alarm, month_alarm, century; /* registers of the clock. 0: none */
+    uint8_t reset_value;
 };
 enum zacpi_fadt_flag { /* Flags, section 5.2.9 */
     ZACPI_FADT_WBINVD = 1 << 0, ZACPI_FADT_WBINVD_FLUSH = 1 << 1, ZACPI_FADT_PROC_C1 = 1 << 2,
@@ -499,7 +483,7 @@ struct zacpi_console { /* SPCR, whose layout and names of fields are Microsoft's
     uint32_t pci_flags;                    /* bit 0: neither switch the device off nor look for its
                                             * like */
     uint16_t pci_device_id, pci_vendor_id; /* 0xffff: no PCI device */
-    uint8_t interface;                     /* Interface Type, of enum zacpi_console_type */
+    uint8_t interface;                     /* of enum zacpi_console_type */
     uint8_t irq;                           /* on the 8259s; 0 unless it is there */
     uint8_t has_irq;                       /* bit 0 of Interrupt Type is set */
     uint8_t has_global_system_interrupt;   /* one of bits 1 to 4 of Interrupt Type is set */
@@ -521,36 +505,33 @@ enum zacpi_console_type {
     ZACPI_CONSOLE_RISCV_SBI = 0x15
 };
 
-/* Returns the fixed hardware of the first valid FADT (section 5.2.9). An error of a register's
- * address isn't one of the call: its `present` is 2. The registers of pm1a and reset are present at
- * address 0 too, and those of sleep if the table is of revision 2 or above and has all their bytes:
- * 0 stands for none. Those of pm1, pm2, gpe and the timer mean nothing with
- * ZACPI_FADT_HW_REDUCED_ACPI. Fails with an opening error, or ZACPI_TABLE_MISSING "FACP". */
+/* Returns the fixed hardware of the FADT (section 5.2.9). A register whose address is an error has
+ * a `present` of 2. Those of pm1a and reset are present at address 0 too, and those of sleep if the
+ * table is of revision 2 or above and has all their bytes: 0 stands for none. Fails with an opening
+ * error, or ZACPI_TABLE_MISSING "FACP". */
 ZACPI_STATUS zacpi_get_fixed_hardware(const struct zacpi_source *source,
                                       struct zacpi_fixed_hardware *out,
                                       struct zacpi_signature *signature);
 
-/* Returns the serial console that the firmware used, by the first valid SPCR. An error of the
- * base's address isn't one of the call: its `present` is 2. Fails with an opening error, or
- * ZACPI_TABLE_MISSING "SPCR". */
+/* Returns the serial console that the firmware used, by the SPCR. If the base's address is an error
+ * its `present` is 2. Fails with an opening error, or ZACPI_TABLE_MISSING "SPCR". */
 ZACPI_STATUS zacpi_get_console(const struct zacpi_source *source, struct zacpi_console *out,
                                struct zacpi_signature *signature);
 
-/* Returns the power management timer of the first valid FADT, which counts at 3.579545 MHz
- * (sections 4.8.3.3 and 5.2.9). There is none if PM_TMR_LEN isn't 4, or no field gives an address.
- * Fails with an opening error, ZACPI_TABLE_MISSING "FACP", or ZACPI_INVALID_GENERIC_ADDRESS if
- * there is a timer, and X_PM_TMR_BLK has a reserved code and an Address that isn't 0. */
+/* Returns the power management timer of the FADT, which counts at 3.579545 MHz (sections 4.8.3.3
+ * and 5.2.9). There is none if PM_TMR_LEN isn't 4, or no field gives an address. Fails with an
+ * opening error, ZACPI_TABLE_MISSING "FACP", or ZACPI_INVALID_GENERIC_ADDRESS if there is a timer,
+ * and X_PM_TMR_BLK has a reserved code and an Address that isn't 0. */
 ZACPI_STATUS zacpi_get_pm_timer(const struct zacpi_source *source, struct zacpi_pm_timer *out,
                                 struct zacpi_signature *signature);
 
-/* Returns the block of event timers of the first valid HPET (IA-PC HPET Specification). Fails with
- * an opening error, ZACPI_TABLE_MISSING "HPET", or ZACPI_INVALID_GENERIC_ADDRESS if BASE_ADDRESS
- * isn't in system memory. */
+/* Returns the block of event timers of the HPET (IA-PC HPET Specification). Fails with an opening
+ * error, ZACPI_TABLE_MISSING "HPET", or ZACPI_INVALID_GENERIC_ADDRESS. */
 ZACPI_STATUS zacpi_hpet(const struct zacpi_source *source, struct zacpi_hpet_info *out,
                         struct zacpi_signature *signature);
 
-/* Returns the image that the firmware showed, by the first valid BGRT (section 5.2.22). Fails with
- * an opening error, or ZACPI_TABLE_MISSING "BGRT". */
+/* Returns the image that the firmware showed, by the BGRT (section 5.2.22). Fails with an opening
+ * error, or ZACPI_TABLE_MISSING "BGRT". */
 ZACPI_STATUS zacpi_get_boot_graphic(const struct zacpi_source *source,
                                     struct zacpi_boot_graphic *out,
                                     struct zacpi_signature *signature);
@@ -559,9 +540,9 @@ ZACPI_STATUS zacpi_get_boot_graphic(const struct zacpi_source *source,
 
 struct zacpi_pci_region { /* an allocation of the MCFG (PCI Firmware Specification, section
                            * 4.1.2) */
-    uint64_t base_address;       /* where bus 0 of the segment group would lie */
+    uint64_t base_address; /* where bus 0 of the segment group would lie */
     uint16_t segment_group;
-    uint8_t first_bus, last_bus; /* Start Bus Number, End Bus Number */
+    uint8_t first_bus, last_bus;
 };
 struct zacpi_ecam_range {
     uint64_t address, length; /* zeros if it isn't present */
@@ -570,24 +551,22 @@ struct zacpi_ecam_range {
                                * above */
 };
 
-/* Lists the regions of PCI configuration space of the first valid MCFG, in its order: 16 bytes for
- * each from byte 44 on; fewer at the end are none (PCI Firmware Specification, section 4.1.2).
- * Fails with an opening error, or ZACPI_TABLE_MISSING "MCFG". */
+/* Lists the regions of PCI configuration space of the MCFG: 16 bytes for each from byte 44 on;
+ * fewer at the end are none. Fails with an opening error, or ZACPI_TABLE_MISSING "MCFG". */
 ZACPI_STATUS zacpi_list_pci_regions(const struct zacpi_source *source, struct zacpi_pci_region *out,
                                     size_t capacity, size_t *count,
                                     struct zacpi_signature *signature);
 
-/* Lists the memory of each item of zacpi_list_pci_regions, in its order, with its base as that of
- * bus 0. Fails with an opening error, or ZACPI_TABLE_MISSING "MCFG". */
+/* Lists the memory of each item of zacpi_list_pci_regions, with its base as that of bus 0. Fails
+ * with an opening error, or ZACPI_TABLE_MISSING "MCFG". */
 ZACPI_STATUS zacpi_list_ecam_ranges(const struct zacpi_source *source, struct zacpi_ecam_range *out,
                                     size_t capacity, size_t *count,
                                     struct zacpi_signature *signature);
 
 /* Returns the address of a function's 4096 bytes of configuration space, by the first region of the
- * first valid MCFG that contains the bus, with its base as that of bus 0 (PCI Firmware
- * Specification, section 4.1.2). Fails with an opening error, ZACPI_TABLE_MISSING "MCFG", or
- * ZACPI_NO_SUCH_FUNCTION if no region contains the bus, the device is above 31, the function above
- * 7, or the sum 2^64 or above. */
+ * MCFG that contains the bus, with its base as that of bus 0. Fails with an opening error,
+ * ZACPI_TABLE_MISSING "MCFG", or ZACPI_NO_SUCH_FUNCTION if no region contains the bus, the device
+ * is above 31, the function above 7, or the sum 2^64 or above. */
 ZACPI_STATUS zacpi_pci_ecam_address(const struct zacpi_source *source, uint16_t segment_group,
                                     uint8_t bus, uint8_t device, uint8_t function, uint64_t *out,
                                     struct zacpi_signature *signature);
@@ -614,17 +593,15 @@ enum zacpi_processor_state {
 };
 
 struct zacpi_interrupt_model {
-    uint64_t local_apic_address; /* Local APIC Address of the last override of it (section
-                                  * 5.2.12.8), or else Local Interrupt Controller Address of the
-                                  * MADT */
+    uint64_t local_apic_address; /* of the last override of it (section 5.2.12.8), or else Local
+                                  * Interrupt Controller Address */
     /* how many each list below has */
     size_t io_apics, overrides, nmi_sources, nmi_lines, processors;
-    uint8_t known;               /* 1 if APICs are described; if not, all else is 0 */
-    uint8_t also_has_8259;       /* PCAT_COMPAT, bit 0 of Flags: there is a pair of 8259s to be
-                                  * masked */
+    uint8_t known;         /* 1 if APICs are described; if not, all else is 0 */
+    uint8_t also_has_8259; /* PCAT_COMPAT, bit 0 of Flags: there is a pair of 8259s to be masked */
 };
 struct zacpi_io_apic { /* I/O APIC, section 5.2.12.3 */
-    uint32_t address;                      /* of its registers */
+    uint32_t address;
     uint32_t global_system_interrupt_base; /* the interrupt of its first pin */
     uint8_t id;
 };
@@ -647,51 +624,49 @@ struct zacpi_nmi_line { /* Local APIC NMI and Local x2APIC NMI, sections 5.2.12.
 };
 struct zacpi_processor { /* Processor Local APIC and Processor Local x2APIC, sections 5.2.12.2 and
                           * 5.2.12.12 */
-    uint32_t uid;              /* ACPI Processor UID */
+    uint32_t uid;
     uint32_t local_apic_id;    /* APIC ID or X2APIC ID */
     uint8_t state;             /* one of enum zacpi_processor_state */
     uint8_t is_boot;
-    uint8_t is_online_capable; /* bit 1 of Flags: it can be enabled later; reserved below revision 5
-                                * of the MADT */
+    uint8_t is_online_capable; /* bit 1 of Flags: it can be enabled later; reserved below revision
+                                * 5 */
     uint8_t is_x2apic;         /* the entry is a Processor Local x2APIC */
 };
 
-/* Returns which controllers interrupts come to, by the first valid MADT, and how many items the
- * lists of zacpi_platform have. Without a MADT, or if it has no entry of Types 0 to 5, 9 and 0xa,
- * `known` is 0. Fails with an opening error, ZACPI_TABLE_MISSING "FACP", the ZACPI_MADT_ error of
- * the first entry at fault (of several the least), or ZACPI_INVALID_GENERIC_ADDRESS if
- * zacpi_get_pm_timer does. */
+/* Returns which controllers interrupts come to, and how many items the lists of zacpi_platform
+ * have. Without a MADT, or if it has no entry of Types 0 to 5, 9 and 0xa, `known` is 0. Fails with
+ * an opening error, ZACPI_TABLE_MISSING "FACP", the ZACPI_MADT_ error of the first entry at fault
+ * (of several the least), or ZACPI_INVALID_GENERIC_ADDRESS if zacpi_get_pm_timer does. */
 ZACPI_STATUS zacpi_get_interrupt_model(const struct zacpi_source *source,
                                        struct zacpi_interrupt_model *out,
                                        struct zacpi_signature *signature);
 
-/* The lists below go by their own entries alone: these are listed as they stand, in order, also if
- * they are at fault, up to the first byte at which no entry begins. The FADT isn't read. */
+/* The lists below have their entries as they stand, in order, those at fault too, up to the first
+ * byte at which no entry begins. No other entry changes them. */
 
-/* Lists the I/O APICs of the first valid MADT (section 5.2.12.3). Fails with an opening error,
- * ZACPI_TABLE_MISSING "APIC", or ZACPI_NO_APICS. */
+/* Lists the I/O APICs. Fails with an opening error, ZACPI_TABLE_MISSING "APIC", or
+ * ZACPI_NO_APICS. */
 ZACPI_STATUS zacpi_list_io_apics(const struct zacpi_source *source, struct zacpi_io_apic *out,
                                  size_t capacity, size_t *count, struct zacpi_signature *signature);
-/* Lists the Interrupt Source Overrides of the first valid MADT (section 5.2.12.5), those of other
- * buses than ISA too. Fails with an opening error, ZACPI_TABLE_MISSING "APIC", or ZACPI_NO_APICS.
- * */
+/* Lists the Interrupt Source Overrides, those of other buses than ISA too. Fails with an opening
+ * error, ZACPI_TABLE_MISSING "APIC", or ZACPI_NO_APICS. */
 ZACPI_STATUS zacpi_list_overrides(const struct zacpi_source *source,
                                   struct zacpi_interrupt_source_override *out, size_t capacity,
                                   size_t *count, struct zacpi_signature *signature);
-/* Lists the NMI Sources of the first valid MADT (section 5.2.12.6): the I/O APIC pins that are
- * non-maskable. Fails with an opening error, ZACPI_TABLE_MISSING "APIC", or ZACPI_NO_APICS. */
+/* Lists the NMI Sources: the I/O APIC pins that are non-maskable. Fails with an opening error,
+ * ZACPI_TABLE_MISSING "APIC", or ZACPI_NO_APICS. */
 ZACPI_STATUS zacpi_list_nmi_sources(const struct zacpi_source *source, struct zacpi_nmi_source *out,
                                     size_t capacity, size_t *count,
                                     struct zacpi_signature *signature);
-/* Lists the Local APIC NMIs and Local x2APIC NMIs of the first valid MADT (sections 5.2.12.7 and
- * 5.2.12.13): the LINT pins that NMIs come to. A processor has those with `of_all`, and those with
- * its uid. Fails with an opening error, ZACPI_TABLE_MISSING "APIC", or ZACPI_NO_APICS. */
+/* Lists the Local APIC NMIs and Local x2APIC NMIs: the LINT pins that NMIs come to. A processor has
+ * those with `of_all`, and those with its uid. Fails with an opening error, ZACPI_TABLE_MISSING
+ * "APIC", or ZACPI_NO_APICS. */
 ZACPI_STATUS zacpi_list_nmi_lines(const struct zacpi_source *source, struct zacpi_nmi_line *out,
                                   size_t capacity, size_t *count,
                                   struct zacpi_signature *signature);
-/* Lists the Processor Local APICs and Processor Local x2APICs of the first valid MADT (sections
- * 5.2.12.1, 5.2.12.2 and 5.2.12.12). The first is the boot processor, also if it is disabled. Fails
- * with an opening error, ZACPI_TABLE_MISSING "APIC", or ZACPI_NO_APICS. */
+/* Lists the Processor Local APICs and Processor Local x2APICs. The first is the boot processor,
+ * also if it is disabled (section 5.2.12.1). Fails with an opening error, ZACPI_TABLE_MISSING
+ * "APIC", or ZACPI_NO_APICS. */
 ZACPI_STATUS zacpi_list_processors(const struct zacpi_source *source, struct zacpi_processor *out,
                                    size_t capacity, size_t *count,
                                    struct zacpi_signature *signature);
@@ -701,9 +676,9 @@ struct zacpi_madt_fault {
     uint32_t status;    /* a ZACPI_MADT_ error */
     uint8_t entry_type; /* Type: the byte at that address */
 };
-/* Lists the entries of the first valid MADT at fault, each with the error that zacpi_platform would
- * fail with for it, and last, if there is one, the first byte at which no entry begins (section
- * 5.2.12). Fails with an opening error, or ZACPI_TABLE_MISSING "APIC". */
+/* Lists the entries at fault, each with the error that zacpi_platform would fail with for it, and
+ * last, if there is one, the first byte at which no entry begins. Fails with an opening error, or
+ * ZACPI_TABLE_MISSING "APIC". */
 ZACPI_STATUS zacpi_list_madt_faults(const struct zacpi_source *source, struct zacpi_madt_fault *out,
                                     size_t capacity, size_t *count,
                                     struct zacpi_signature *signature);
@@ -738,20 +713,19 @@ struct zacpi_io_apic_pin {
 ZACPI_STATUS zacpi_isa_interrupt(const struct zacpi_source *source, uint8_t irq,
                                  struct zacpi_interrupt *out, struct zacpi_signature *signature);
 
-/* Returns how the System Control Interrupt (SCI), SCI_INT of the first valid FADT, comes to the I/O
- * APICs: by its last override of bus 0 if it is below 16, or else as the interrupt of the same
- * number; active low and by level unless the override says otherwise (sections 5.2.9 and 5.2.12.5).
- * Fails with an opening error, ZACPI_TABLE_MISSING "APIC", ZACPI_NO_APICS, ZACPI_TABLE_MISSING
- * "FACP", or ZACPI_MADT_MPS_INTI_INVALID_POLARITY or ZACPI_MADT_MPS_INTI_INVALID_TRIGGER_MODE of
- * the override. */
+/* Returns how the System Control Interrupt (SCI), SCI_INT of the FADT, comes to the I/O APICs: by
+ * its last override of bus 0 if it is below 16, or else as the interrupt of the same number; active
+ * low and by level unless the override says otherwise (sections 5.2.9 and 5.2.12.5). Fails with an
+ * opening error, ZACPI_TABLE_MISSING "APIC", ZACPI_NO_APICS, ZACPI_TABLE_MISSING "FACP", or
+ * ZACPI_MADT_MPS_INTI_INVALID_POLARITY or ZACPI_MADT_MPS_INTI_INVALID_TRIGGER_MODE of the
+ * override. */
 ZACPI_STATUS zacpi_sci_interrupt(const struct zacpi_source *source, struct zacpi_interrupt *out,
                                  struct zacpi_signature *signature);
 
 /* Returns the I/O APIC that a global system interrupt comes to, and the pin there: the first one
- * with the greatest Global System Interrupt Base that is at most the interrupt (sections 5.2.12.3
- * and 5.2.13). Only its registers tell how many pins it has. Fails with an opening error,
- * ZACPI_TABLE_MISSING "APIC", ZACPI_NO_APICS, or ZACPI_NO_SUCH_IO_APIC if each base is above the
- * interrupt. */
+ * with the greatest Global System Interrupt Base that is at most the interrupt (section 5.2.13).
+ * Fails with an opening error, ZACPI_TABLE_MISSING "APIC", ZACPI_NO_APICS, or ZACPI_NO_SUCH_IO_APIC
+ * if each base is above the interrupt. */
 ZACPI_STATUS zacpi_get_io_apic_pin(const struct zacpi_source *source,
                                    uint32_t global_system_interrupt, struct zacpi_io_apic_pin *out,
                                    struct zacpi_signature *signature);
@@ -766,97 +740,93 @@ struct zacpi_isa_interrupts {
     struct zacpi_isa_route routes[16]; /* item n is irq n */
 };
 
-/* Returns all 16 ISA interrupts, each with its pin (sections 5.2.12.3 and 5.2.12.5). Fails with an
- * opening error, ZACPI_TABLE_MISSING "APIC", or ZACPI_NO_APICS. */
+/* Returns all 16 ISA interrupts, each with its pin. Fails with an opening error,
+ * ZACPI_TABLE_MISSING "APIC", or ZACPI_NO_APICS. */
 ZACPI_STATUS zacpi_list_isa_interrupts(const struct zacpi_source *source,
                                        struct zacpi_isa_interrupts *out,
                                        struct zacpi_signature *signature);
 
 /* ---- Arm: the generic interrupt controller (MADT, section 5.2.12) ---------------------------- */
 
-/* From here on `polarity` is 1 or 3, and `trigger` 1 or 3: never as the bus has it. */
+/* From here on no `polarity` or `trigger` is as the bus has it. */
 struct zacpi_gic_distributor { /* GIC Distributor (GICD), section 5.2.12.15 */
-    uint64_t address;            /* Physical Base Address: of its registers */
+    uint64_t address;
     uint32_t id;
     uint32_t system_vector_base; /* reserved, and kept as it is */
     uint8_t version;             /* 1 to 4; 0: the hardware tells */
 };
 struct zacpi_gic_cpu_interface { /* GIC CPU Interface (GICC), section 5.2.12.14. An address or
-                                  * interrupt of 0 is none */
+                                  * interrupt of 0 is none. Flags: bit 0 is_enabled, 1
+                                  * performance_trigger, 2 maintenance_trigger, 3 (since ACPI 6.5)
+                                  * is_online_capable */
     uint64_t mpidr;
-    uint64_t parked_address;           /* of the parking protocol's mailbox */
-    uint64_t address;                  /* Physical Base Address: of the interface's registers */
-    uint64_t virtual_address;          /* GICV: of the virtual interface's registers */
-    uint64_t hypervisor_address;       /* GICH: of the registers that control the virtual
-                                        * interface */
-    uint64_t redistributor_address;    /* GICR Base Address: of the processor's redistributor */
-    uint32_t number;                   /* CPU Interface Number */
+    uint64_t parked_address;           /* the parking protocol's mailbox */
+    uint64_t address;                  /* Physical Base Address */
+    uint64_t virtual_address;          /* GICV */
+    uint64_t hypervisor_address;       /* GICH */
+    uint64_t redistributor_address;    /* GICR Base Address */
+    uint32_t number;
     uint32_t processor_uid;
-    uint32_t performance_interrupt;    /* Performance Interrupt GSIV */
+    uint32_t performance_interrupt;
     uint32_t maintenance_interrupt;
     uint32_t parking_protocol_version; /* 0: none; PSCI wakes processors */
     uint16_t spe_overflow_interrupt;
     uint16_t trace_buffer_interrupt;   /* TRBE Interrupt, since ACPI 6.5: 0 below revision 6 of the
                                         * table, and if the entry hasn't both bytes */
-    uint8_t is_enabled;                /* bit 0 of Flags */
-    uint8_t is_online_capable;         /* bit 3 of Flags, since ACPI 6.5 */
-    uint8_t performance_trigger;       /* bit 1 of Flags */
-    uint8_t maintenance_trigger;       /* bit 2 of Flags */
+    uint8_t is_enabled;
+    uint8_t is_online_capable;
+    uint8_t performance_trigger;
+    uint8_t maintenance_trigger;
     uint8_t efficiency_class;          /* Processor Power Efficiency Class: less is less power */
 };
 struct zacpi_gic_translation_service { /* GIC Interrupt Translation Service (ITS), section
                                         * 5.2.12.18 */
-    uint64_t address; /* Physical Base Address: of its registers */
+    uint64_t address;
     uint32_t id;
 };
 struct zacpi_gic_msi_frame { /* GIC MSI Frame, section 5.2.12.16 */
-    uint64_t address;             /* Physical Base Address: of its registers */
+    uint64_t address;
     uint32_t id;
     uint16_t spi_base, spi_count; /* zeros if has_spis is 0 */
     uint8_t has_spis;             /* SPI Count/Base Select, bit 0 of Flags. 0: the frame's registers
-                                   * tell its SPIs */
+                                   * tell */
 };
 
-/* Returns the distributor of the first valid MADT: its first GICD (section 5.2.12.15). Fails with
- * an opening error, ZACPI_TABLE_MISSING "APIC", ZACPI_MADT_INVALID_ENTRY_LENGTH, or
- * ZACPI_NO_GIC. */
+/* Returns the distributor of the first GICD. Fails with an opening error, ZACPI_TABLE_MISSING
+ * "APIC", ZACPI_MADT_INVALID_ENTRY_LENGTH, or ZACPI_NO_GIC. */
 ZACPI_STATUS zacpi_get_gic_distributor(const struct zacpi_source *source,
                                        struct zacpi_gic_distributor *out,
                                        struct zacpi_signature *signature);
-/* Lists the processors' interfaces: the GICCs of the first valid MADT, in order (section
- * 5.2.12.14). Fails with an opening error, ZACPI_TABLE_MISSING "APIC",
- * ZACPI_MADT_INVALID_ENTRY_LENGTH, or ZACPI_NO_GIC. */
+/* Lists the processors' interfaces: the GICCs. Fails with an opening error, ZACPI_TABLE_MISSING
+ * "APIC", ZACPI_MADT_INVALID_ENTRY_LENGTH, or ZACPI_NO_GIC. */
 ZACPI_STATUS zacpi_list_gic_cpu_interfaces(const struct zacpi_source *source,
                                            struct zacpi_gic_cpu_interface *out, size_t capacity,
                                            size_t *count, struct zacpi_signature *signature);
 /* Lists the memory that contains redistributors: Discovery Range Base Address and Discovery Range
- * Length, which can be 0, of the GICRs of the first valid MADT, in order (section 5.2.12.17). Fails
- * with an opening error, ZACPI_TABLE_MISSING "APIC", ZACPI_MADT_INVALID_ENTRY_LENGTH, or
- * ZACPI_NO_GIC. */
+ * Length, which can be 0, of the GICRs (section 5.2.12.17). Fails with an opening error,
+ * ZACPI_TABLE_MISSING "APIC", ZACPI_MADT_INVALID_ENTRY_LENGTH, or ZACPI_NO_GIC. */
 ZACPI_STATUS zacpi_list_gic_redistributors(const struct zacpi_source *source,
                                            struct zacpi_range *out, size_t capacity, size_t *count,
                                            struct zacpi_signature *signature);
-/* Lists the services that translate interrupts: the GIC ITS entries of the first valid MADT, in
- * order (section 5.2.12.18). Fails with an opening error, ZACPI_TABLE_MISSING "APIC",
- * ZACPI_MADT_INVALID_ENTRY_LENGTH, or ZACPI_NO_GIC. */
+/* Lists the services that translate interrupts: the ITS entries. Fails with an opening error,
+ * ZACPI_TABLE_MISSING "APIC", ZACPI_MADT_INVALID_ENTRY_LENGTH, or ZACPI_NO_GIC. */
 ZACPI_STATUS zacpi_list_gic_translation_services(const struct zacpi_source *source,
                                                  struct zacpi_gic_translation_service *out,
                                                  size_t capacity, size_t *count,
                                                  struct zacpi_signature *signature);
-/* Lists the frames that turn messages into interrupts: the GIC MSI Frame entries of the first valid
- * MADT, in order (section 5.2.12.16). Fails with an opening error, ZACPI_TABLE_MISSING "APIC",
- * ZACPI_MADT_INVALID_ENTRY_LENGTH, or ZACPI_NO_GIC. */
+/* Lists the frames that turn messages into interrupts: the GIC MSI Frames. Fails with an opening
+ * error, ZACPI_TABLE_MISSING "APIC", ZACPI_MADT_INVALID_ENTRY_LENGTH, or ZACPI_NO_GIC. */
 ZACPI_STATUS zacpi_list_gic_msi_frames(const struct zacpi_source *source,
                                        struct zacpi_gic_msi_frame *out, size_t capacity,
                                        size_t *count, struct zacpi_signature *signature);
 
 /* ---- Arm: the generic timers (GTDT, section 5.2.24) ------------------------------------------ */
 
-struct zacpi_arm_timer {
+struct zacpi_arm_timer { /* its flags: bit 0 trigger, 1 polarity, 2 always_on */
     uint32_t interrupt; /* GSIV: of the GIC; 0: none */
-    uint8_t polarity;   /* bit 1 of the timer's flags */
-    uint8_t trigger;    /* Timer Interrupt Mode, bit 0 of the timer's flags */
-    uint8_t always_on;  /* bit 2 of the timer's flags */
+    uint8_t polarity;
+    uint8_t trigger;
+    uint8_t always_on;
     uint8_t present;    /* 0: the table hasn't this timer's fields, and all else is 0 */
 };
 struct zacpi_arm_timers {
@@ -866,59 +836,60 @@ struct zacpi_arm_timers {
     /* virtual_el2 is present from revision 3 on, if the table has all its eight bytes, and Platform
      * Timer Count is 0 or Platform Timer Offset at least 104. */
     struct zacpi_arm_timer secure_el1, non_secure_el1, virtual_el1, el2, virtual_el2;
-    /* 1: one of Platform Timer Count structures is at fault, and the two lists below have what
-     * stands before the first. Platform Timer Offset is below 96, a Length is above the bytes left
-     * or below 20 (GT Block), 28 (watchdog) or 4 (another Type), or frames of a GT Block don't lie
-     * between its byte 20 and its end. 0 below revision 2. */
+    /* 1: one of Platform Timer Count structures is at fault, and the two lists below end before the
+     * first: Platform Timer Offset is below 96, a Length is above the bytes left or below 20 (GT
+     * Block), 28 (watchdog) or 4 (others), or frames of a GT Block don't lie between its byte 20
+     * and its end. 0 below revision 2. */
     uint8_t platform_timers_malformed;
 };
-struct zacpi_gt_frame { /* a frame of a GT Block, section 5.2.24.1.1 */
-    uint64_t block_address;      /* GT Block Physical Address: of the block's control frame */
-    uint64_t address;            /* GTx Physical Address: of the frame's registers */
+struct zacpi_gt_frame { /* a frame of a GT Block, section 5.2.24.1.1. GTx Common Flags: bit 0
+                         * is_secure, 1 is_always_on */
+    uint64_t block_address;      /* of the block's control frame */
+    uint64_t address;
     uint64_t el0_address;        /* CntEL0BaseX: of the registers as EL0 sees them; all ones:
                                   * none */
-    uint32_t physical_interrupt; /* GTx Physical Timer GSIV; 0: no such timer */
-    uint32_t virtual_interrupt;  /* GTx Virtual Timer GSIV; 0: no such timer */
+    uint32_t physical_interrupt; /* 0: no such timer */
+    uint32_t virtual_interrupt;  /* 0: no such timer */
     uint8_t number;              /* in the block, from 0 to 7 */
     uint8_t physical_polarity, physical_trigger;
     uint8_t virtual_polarity, virtual_trigger;
-    uint8_t is_secure;           /* bit 0 of GTx Common Flags */
-    uint8_t is_always_on;        /* bit 1 of GTx Common Flags */
+    uint8_t is_secure;
+    uint8_t is_always_on;
 };
-struct zacpi_watchdog { /* Arm Generic Watchdog, section 5.2.24.1.2 */
+struct zacpi_watchdog { /* Arm Generic Watchdog, section 5.2.24.1.2. Watchdog Timer Flags: bit 0
+                         * trigger, 1 polarity, 2 is_secure */
     uint64_t refresh_frame;
     uint64_t control_frame;
-    uint32_t interrupt; /* Watchdog Timer GSIV */
-    uint8_t polarity;   /* bit 1 of Watchdog Timer Flags */
-    uint8_t trigger;    /* bit 0 of Watchdog Timer Flags */
-    uint8_t is_secure;  /* bit 2 of Watchdog Timer Flags */
+    uint32_t interrupt;
+    uint8_t polarity;
+    uint8_t trigger;
+    uint8_t is_secure;
 };
 
-/* Returns the timers of every processor, by the first valid GTDT (section 5.2.24). Fails with an
- * opening error, or ZACPI_TABLE_MISSING "GTDT". */
+/* Returns the timers of every processor (section 5.2.24). Fails with an opening error, or
+ * ZACPI_TABLE_MISSING "GTDT". */
 ZACPI_STATUS zacpi_get_arm_timers(const struct zacpi_source *source, struct zacpi_arm_timers *out,
                                   struct zacpi_signature *signature);
-/* Lists the frames of the GT Blocks of the first valid GTDT, block by block, in order, up to a
- * structure at fault; none below revision 2 of the table (section 5.2.24.1.1). Fails with an
- * opening error, or ZACPI_TABLE_MISSING "GTDT". */
+/* Lists the frames of the GT Blocks, up to a structure at fault; none below revision 2 of the
+ * table. Fails with an opening error, or ZACPI_TABLE_MISSING "GTDT". */
 ZACPI_STATUS zacpi_list_gt_frames(const struct zacpi_source *source, struct zacpi_gt_frame *out,
                                   size_t capacity, size_t *count,
                                   struct zacpi_signature *signature);
-/* Lists the Arm Generic Watchdogs of the first valid GTDT, in order, up to a structure at fault;
- * none below revision 2 of the table (section 5.2.24.1.2). Fails with an opening error, or
- * ZACPI_TABLE_MISSING "GTDT". */
+/* Lists the Arm Generic Watchdogs, up to a structure at fault; none below revision 2 of the table.
+ * Fails with an opening error, or ZACPI_TABLE_MISSING "GTDT". */
 ZACPI_STATUS zacpi_list_watchdogs(const struct zacpi_source *source, struct zacpi_watchdog *out,
                                   size_t capacity, size_t *count,
                                   struct zacpi_signature *signature);
 
 /* ---- NUMA: domains (SRAT, section 5.2.16) and distances (SLIT, section 5.2.17) --------------- */
 
-struct zacpi_memory_affinity { /* Memory Affinity, section 5.2.16.2 */
+struct zacpi_memory_affinity { /* Memory Affinity, section 5.2.16.2. Flags: bit 0 Enabled, 1
+                                * is_hot_pluggable, 2 is_non_volatile */
     uint64_t address;
-    uint64_t length;          /* at least one */
-    uint32_t domain;          /* Proximity Domain; below revision 2 of the table its lowest byte */
-    uint8_t is_hot_pluggable; /* bit 1 of Flags */
-    uint8_t is_non_volatile;  /* bit 2 of Flags */
+    uint64_t length; /* at least one */
+    uint32_t domain; /* Proximity Domain; below revision 2 of the table its lowest byte */
+    uint8_t is_hot_pluggable;
+    uint8_t is_non_volatile;
 };
 struct zacpi_localities {
     uint64_t localities; /* Number of System Localities: rows and columns of the matrix, counted
@@ -927,10 +898,9 @@ struct zacpi_localities {
                           * locality from itself, and more than 10 of others */
 };
 
-/* Lists the memory that the first valid SRAT puts into domains, in order: its Memory Affinity
- * entries that are enabled (bit 0 of Flags) and have a byte (section 5.2.16.2). The ranges may
- * overlap. Fails with an opening error, ZACPI_TABLE_MISSING "SRAT",
- * ZACPI_NUMA_INVALID_ENTRY_LENGTH, or ZACPI_NUMA_INVALID_MEMORY_RANGE of one of these. */
+/* Lists the memory that the SRAT puts into domains: its Memory Affinity entries that are enabled
+ * and have a byte. They may overlap. Fails with an opening error, ZACPI_TABLE_MISSING "SRAT",
+ * ZACPI_NUMA_INVALID_ENTRY_LENGTH, or ZACPI_NUMA_INVALID_MEMORY_RANGE of an item. */
 ZACPI_STATUS zacpi_list_memory_affinities(const struct zacpi_source *source,
                                           struct zacpi_memory_affinity *out, size_t capacity,
                                           size_t *count, struct zacpi_signature *signature);
@@ -941,25 +911,24 @@ ZACPI_STATUS zacpi_list_memory_affinities(const struct zacpi_source *source,
 ZACPI_STATUS zacpi_domain_of_address(const struct zacpi_source *source, uint64_t address,
                                      uint32_t *out, struct zacpi_signature *signature);
 /* Returns the domain of the processor with this APIC ID or X2APIC ID: of the last enabled entry for
- * it in the first valid SRAT (sections 5.2.16.1 and 5.2.16.3). For an APIC ID it is Proximity
- * Domain [7:0] alone below revision 2 of the table. Entries after a malformed one aren't looked at.
- * Fails with an opening error, ZACPI_TABLE_MISSING "SRAT", or ZACPI_NO_DOMAIN. */
+ * it before a malformed one (sections 5.2.16.1 and 5.2.16.3). For an APIC ID it is Proximity Domain
+ * [7:0] alone below revision 2 of the table. Fails with an opening error, ZACPI_TABLE_MISSING
+ * "SRAT", or ZACPI_NO_DOMAIN. */
 ZACPI_STATUS zacpi_domain_of_apic(const struct zacpi_source *source, uint32_t local_apic_id,
                                   uint32_t *out, struct zacpi_signature *signature);
 /* Returns the domain of the processor with this ACPI Processor UID on a machine with a GIC: of the
- * last enabled GICC Affinity entry for it in the first valid SRAT (section 5.2.16.4). Entries after
- * a malformed one aren't looked at. Fails with an opening error, ZACPI_TABLE_MISSING "SRAT", or
- * ZACPI_NO_DOMAIN. */
+ * last enabled GICC Affinity entry for it before a malformed one (section 5.2.16.4). Fails with an
+ * opening error, ZACPI_TABLE_MISSING "SRAT", or ZACPI_NO_DOMAIN. */
 ZACPI_STATUS zacpi_domain_of_processor(const struct zacpi_source *source, uint32_t uid,
                                        uint32_t *out, struct zacpi_signature *signature);
-/* Returns how many localities the first valid SLIT has distances of, and whether it can be believed
- * (section 5.2.17). Fails with an opening error, or ZACPI_TABLE_MISSING "SLIT". */
+/* Returns how many localities the SLIT has distances of, and whether it can be believed. Fails with
+ * an opening error, or ZACPI_TABLE_MISSING "SLIT". */
 ZACPI_STATUS zacpi_get_localities(const struct zacpi_source *source, struct zacpi_localities *out,
                                   struct zacpi_signature *signature);
-/* Returns how far one locality is from another, by the first valid SLIT (section 5.2.17): 10 is the
- * distance of a locality from itself, 255 stands for unreachable. Fails with an opening error,
- * ZACPI_TABLE_MISSING "SLIT", or ZACPI_NO_DISTANCE if one isn't below Number of System Localities,
- * or the table ends before their byte. */
+/* Returns how far one locality is from another: 10 is the distance of a locality from itself, 255
+ * stands for unreachable. Fails with an opening error, ZACPI_TABLE_MISSING "SLIT", or
+ * ZACPI_NO_DISTANCE if one isn't below Number of System Localities, or the table ends before their
+ * byte. */
 ZACPI_STATUS zacpi_distance(const struct zacpi_source *source, uint64_t from, uint64_t to,
                             uint8_t *out, struct zacpi_signature *signature);
 
@@ -993,29 +962,27 @@ struct zacpi_dmar_reserved { /* Reserved Memory Region Reporting (RMRR), section
     uint16_t segment;
 };
 
-/* Returns the unit that remaps the device that the hops reach from a bus of a segment, by the first
- * valid DMAR: the first DRHD of the segment with a device scope that names it, else the first with
- * INCLUDE_PCI_ALL. A scope whose Start Bus Number is the bus names it by Type 1 if its Path is the
- * hops, and by Type 2 if its Path, of at least one, begins them (section 8.3.1). Fails with an
- * opening error, ZACPI_TABLE_MISSING "DMAR", ZACPI_IOMMU_INVALID_STRUCTURE_LENGTH, or
- * ZACPI_NO_IOMMU. */
+/* Returns the unit that remaps the device that the hops reach from a bus of a segment: the first
+ * DRHD of the segment with a device scope that names it, else the first with INCLUDE_PCI_ALL. A
+ * scope whose Start Bus Number is the bus names it by Type 1 if its Path is the hops, and by Type 2
+ * if these begin with its Path, of at least one (section 8.3.1). Fails with an opening error,
+ * ZACPI_TABLE_MISSING "DMAR", ZACPI_IOMMU_INVALID_STRUCTURE_LENGTH, or ZACPI_NO_IOMMU. */
 ZACPI_STATUS zacpi_get_dmar_unit(const struct zacpi_source *source, uint16_t segment, uint8_t bus,
                                  const struct zacpi_hop *hops, size_t hops_length,
                                  struct zacpi_dmar_unit *out, struct zacpi_signature *signature);
-/* Returns the unit that remaps the interrupts of an I/O APIC, by the first valid DMAR: the first
- * DRHD with a device scope of Type 3 whose Enumeration ID is `id`. Fails with an opening error,
- * ZACPI_TABLE_MISSING "DMAR", ZACPI_IOMMU_INVALID_STRUCTURE_LENGTH, or ZACPI_NO_IOMMU. */
+/* Returns the unit that remaps the interrupts of an I/O APIC: the first DRHD with a device scope of
+ * Type 3 whose Enumeration ID is `id`. Fails with an opening error, ZACPI_TABLE_MISSING "DMAR",
+ * ZACPI_IOMMU_INVALID_STRUCTURE_LENGTH, or ZACPI_NO_IOMMU. */
 ZACPI_STATUS zacpi_dmar_io_apic(const struct zacpi_source *source, uint8_t id,
                                 struct zacpi_dmar_source *out, struct zacpi_signature *signature);
-/* Returns the unit that remaps the interrupts of an HPET, by the first valid DMAR: the first DRHD
- * with a device scope of Type 4 whose Enumeration ID is `number`. Fails with an opening error,
- * ZACPI_TABLE_MISSING "DMAR", ZACPI_IOMMU_INVALID_STRUCTURE_LENGTH, or ZACPI_NO_IOMMU. */
+/* Returns the unit that remaps the interrupts of an HPET: the first DRHD with a device scope of
+ * Type 4 whose Enumeration ID is `number`. Fails with an opening error, ZACPI_TABLE_MISSING "DMAR",
+ * ZACPI_IOMMU_INVALID_STRUCTURE_LENGTH, or ZACPI_NO_IOMMU. */
 ZACPI_STATUS zacpi_dmar_hpet(const struct zacpi_source *source, uint8_t number,
                              struct zacpi_dmar_source *out, struct zacpi_signature *signature);
-/* Lists the memory that the first valid DMAR reserves for a device: each RMRR of the segment with a
- * device scope that names it as for zacpi_get_dmar_unit, in order. Fails with an opening error,
- * ZACPI_TABLE_MISSING "DMAR", ZACPI_IOMMU_INVALID_STRUCTURE_LENGTH, or
- * ZACPI_IOMMU_INVALID_MEMORY_RANGE of one of these. */
+/* Lists the memory that is reserved for a device: each RMRR of the segment with a device scope that
+ * names it as for zacpi_get_dmar_unit. Fails with an opening error, ZACPI_TABLE_MISSING "DMAR",
+ * ZACPI_IOMMU_INVALID_STRUCTURE_LENGTH, or ZACPI_IOMMU_INVALID_MEMORY_RANGE of an item. */
 ZACPI_STATUS zacpi_list_dmar_reserved(const struct zacpi_source *source, uint16_t segment,
                                       uint8_t bus, const struct zacpi_hop *hops, size_t hops_length,
                                       struct zacpi_dmar_reserved *out, size_t capacity,
@@ -1024,8 +991,8 @@ ZACPI_STATUS zacpi_list_dmar_reserved(const struct zacpi_source *source, uint16_
 /* The IVRS (AMD I/O Virtualization Technology (IOMMU) Specification 3.08, section 5.2). Its blocks
  * stand from byte 48 on, each with a Length of at least 24 for Type 0x10, 40 for 0x11 and 0x40, 32
  * for 0x20 to 0x22, and 4 for others. A device entry has 4, 8, 16 or 32 bytes by bits 6 and 7 of
- * its Type, or for 0xf0 22 and those of its UID. The end of a range, Type 4, stands right after its
- * start. A device id is 256 times the bus, 8 times the device, and the function. */
+ * its Type, and of Type 0xf0 22 and those of its UID. The end of a range, Type 4, stands right
+ * after its start. A device id is 256 times the bus, 8 times the device, and the function. */
 struct zacpi_ivrs_unit { /* I/O Virtualization Hardware Definition (IVHD) */
     uint64_t base;
     uint64_t extended_features;    /* EFR Register Image, or 0 */
@@ -1033,7 +1000,7 @@ struct zacpi_ivrs_unit { /* I/O Virtualization Hardware Definition (IVHD) */
                                     * Attributes */
     uint16_t segment;
     uint16_t device_id;            /* the unit's own */
-    uint16_t capability_offset;    /* in its configuration space */
+    uint16_t capability_offset;
     uint16_t info;
     uint8_t block_type;
     uint8_t flags;
@@ -1063,18 +1030,17 @@ struct zacpi_ivrs_memory { /* I/O Virtualization Memory Definition (IVMD) */
     uint8_t flags;      /* of enum zacpi_ivmd_flag */
 };
 
-/* Returns the unit that remaps a device, by the first valid IVRS: of the IVHDs of the greatest
- * Type, 0x10, 0x11 or 0x40, that it has, the first of the segment with an entry for the device: for
- * all devices, for it, for a range that it lies in, or of a special device with it as Source
- * DeviceID. The first such entry counts. Fails with an opening error, ZACPI_TABLE_MISSING "IVRS",
+/* Returns the unit that remaps a device: of the IVHDs of the greatest Type in the table, 0x10, 0x11
+ * or 0x40, the first of the segment with an entry for the device: for all devices, for it, for a
+ * range that it lies in, or of a special device with it as Source DeviceID. The first such entry
+ * counts. Fails with an opening error, ZACPI_TABLE_MISSING "IVRS",
  * ZACPI_IOMMU_INVALID_STRUCTURE_LENGTH, or ZACPI_NO_IOMMU. */
 ZACPI_STATUS zacpi_get_ivrs_unit(const struct zacpi_source *source, uint16_t segment,
                                  uint16_t device_id, struct zacpi_ivrs_device *out,
                                  struct zacpi_signature *signature);
-/* Lists the memory that has its own rules for a device, by the first valid IVRS: each IVMD for it,
- * for all devices or for a range that it lies in, in order, whatever its segment. Fails with an
- * opening error, ZACPI_TABLE_MISSING "IVRS", ZACPI_IOMMU_INVALID_STRUCTURE_LENGTH, or
- * ZACPI_IOMMU_INVALID_MEMORY_RANGE of one of these. */
+/* Lists the memory that has its own rules for a device: each IVMD for it, for all devices or for a
+ * range that it lies in, whatever its segment. Fails with an opening error, ZACPI_TABLE_MISSING
+ * "IVRS", ZACPI_IOMMU_INVALID_STRUCTURE_LENGTH, or ZACPI_IOMMU_INVALID_MEMORY_RANGE of an item. */
 ZACPI_STATUS zacpi_list_ivrs_memory(const struct zacpi_source *source, uint16_t device_id,
                                     struct zacpi_ivrs_memory *out, size_t capacity, size_t *count,
                                     struct zacpi_signature *signature);
@@ -1084,8 +1050,7 @@ ZACPI_STATUS zacpi_list_ivrs_memory(const struct zacpi_source *source, uint16_t 
  * `length`; the rest of `out` is left as it is. The calls above then read what was passed, unless a
  * call says otherwise. */
 
-struct zacpi_table_ids { /* who made the table (section 5.2.6); names are filled up with spaces or
-                          * zeros */
+struct zacpi_table_ids { /* section 5.2.6. Names are filled up with spaces or zeros */
     uint8_t oem_id[6];
     uint8_t oem_table_id[8];
     uint32_t oem_revision;
@@ -1094,8 +1059,8 @@ struct zacpi_table_ids { /* who made the table (section 5.2.6); names are filled
 };
 struct zacpi_madt_contents {
     const struct zacpi_processor *processors; /* the first is the boot processor; is_boot and
-                                               * is_x2apic aren't looked at. Enabled is set unless
-                                               * `state` is ZACPI_PROCESSOR_DISABLED */
+                                               * is_x2apic aren't looked at; enabled unless the
+                                               * state is ZACPI_PROCESSOR_DISABLED */
     size_t processors_length;
     const struct zacpi_io_apic *io_apics;
     size_t io_apics_length;
@@ -1161,11 +1126,11 @@ struct zacpi_gtdt_contents {
     size_t platform_timers_length;
 };
 struct zacpi_facs_contents { /* section 5.2.10 */
-    uint64_t waking_vector_64;    /* X_Firmware_Waking_Vector */
+    uint64_t waking_vector_64; /* X_Firmware_Waking_Vector */
     uint32_t hardware_signature;
-    uint32_t waking_vector;       /* Firmware_Waking_Vector */
-    uint8_t supports_s4bios;      /* S4BIOS_F */
-    uint8_t supports_64_bit_wake; /* 64BIT_WAKE_SUPPORTED_F */
+    uint32_t waking_vector;
+    uint8_t supports_s4bios;
+    uint8_t supports_64_bit_wake;
 };
 
 /* Writes an RSDP of revision 2 that leads to an XSDT (section 5.2.5.3): 36 bytes. Of `ids` it has
@@ -1194,12 +1159,11 @@ ZACPI_STATUS zacpi_write_table(const struct zacpi_table_ids *ids, struct zacpi_s
                                uint8_t revision, const uint8_t *body, size_t body_length,
                                uint8_t *out, size_t capacity, size_t *length);
 /* Writes a MADT of revision 5 (section 5.2.12): its entries sort by sort in the order of the lists,
- * and the mailbox last. An address of 2^32 or above stands in a Local APIC Address Override after
- * the processors, and Local Interrupt Controller Address is 0. A processor whose uid and id are
- * below 255 is a Processor Local APIC, any other a Processor Local x2APIC; a line of a uid of 255
- * or above is a Local x2APIC NMI, any other a Local APIC NMI. Fails with ZACPI_UNKNOWN_CODE,
- * ZACPI_NO_PROCESSOR, ZACPI_ID_OF_ALL, ZACPI_UID_OF_ALL, ZACPI_BAD_NAME, ZACPI_NO_ROOM or
- * ZACPI_TOO_LONG. */
+ * the mailbox last. An address of 2^32 or above stands in a Local APIC Address Override after the
+ * processors, with 0 in Local Interrupt Controller Address. Processors whose uid and id are below
+ * 255 are Processor Local APICs, others Processor Local x2APICs; lines of a uid of 255 or above are
+ * Local x2APIC NMIs, others Local APIC NMIs. Fails with ZACPI_UNKNOWN_CODE, ZACPI_NO_PROCESSOR,
+ * ZACPI_ID_OF_ALL, ZACPI_UID_OF_ALL, ZACPI_BAD_NAME, ZACPI_NO_ROOM or ZACPI_TOO_LONG. */
 ZACPI_STATUS zacpi_write_madt(const struct zacpi_table_ids *ids,
                               const struct zacpi_madt_contents *contents, uint8_t *out,
                               size_t capacity, size_t *length);
@@ -1227,8 +1191,8 @@ ZACPI_STATUS zacpi_write_slit(const struct zacpi_table_ids *ids, uint64_t locali
                               const uint8_t *distances, size_t distances_length, uint8_t *out,
                               size_t capacity, size_t *length);
 /* Writes a SRAT of revision 3 (section 5.2.16): its entries sort by sort, all enabled, of a Clock
- * Domain of 0. A processor whose APIC id is below 255 is a Processor Local APIC/SAPIC Affinity, any
- * other a Processor Local x2APIC Affinity. Fails with ZACPI_ID_OF_ALL, ZACPI_BAD_RANGE,
+ * Domain of 0. Processors whose APIC id is below 255 have a Processor Local APIC/SAPIC Affinity,
+ * others a Processor Local x2APIC Affinity. Fails with ZACPI_ID_OF_ALL, ZACPI_BAD_RANGE,
  * ZACPI_BAD_NAME, ZACPI_NO_ROOM or ZACPI_TOO_LONG. */
 ZACPI_STATUS zacpi_write_srat(const struct zacpi_table_ids *ids,
                               const struct zacpi_srat_contents *contents, uint8_t *out,
@@ -1238,21 +1202,20 @@ ZACPI_STATUS zacpi_write_srat(const struct zacpi_table_ids *ids,
 ZACPI_STATUS zacpi_write_bgrt(const struct zacpi_table_ids *ids,
                               const struct zacpi_boot_graphic *graphic, uint8_t *out,
                               size_t capacity, size_t *length);
-/* Writes an SPCR of revision 4, 90 bytes. Language is 0 and NamespaceString ".", that of a port
- * with no object in the namespace; Configured Baud Rate is the rate's code, or 0 if it has none. A
- * base, an interrupt or a rate that isn't there is written as 0 and not looked at; a reserved code
- * of `interface`, `parity` or stop_bits is written too. Fails with ZACPI_UNKNOWN_CODE,
- * ZACPI_NO_ADDRESS if `base` is present at address 0, ZACPI_BAD_NAME or ZACPI_NO_ROOM. */
+/* Writes an SPCR of revision 4, 90 bytes, with a Language of 0, the NamespaceString "." of a port
+ * with no object, and in Configured Baud Rate the rate's code, or 0 if it has none. A base, an
+ * interrupt or a rate that isn't there is written as 0 and not looked at; reserved codes of
+ * `interface`, `parity` and stop_bits are written. Fails with ZACPI_UNKNOWN_CODE, ZACPI_NO_ADDRESS
+ * if `base` is present at address 0, ZACPI_BAD_NAME or ZACPI_NO_ROOM. */
 ZACPI_STATUS zacpi_write_spcr(const struct zacpi_table_ids *ids,
                               const struct zacpi_spcr_contents *contents, uint8_t *out,
                               size_t capacity, size_t *length);
-/* Writes a GTDT of revision 3 (section 5.2.24) with the timers of the platform, in order: 104
- * bytes, which Platform Timer Offset says too, 28 for each watchdog, 20 for each GT Block, and 40
- * for each frame. A virtual_el2 that isn't present is written as zeros, and read as present;
- * `present` of other timers and platform_timers_malformed aren't looked at. Fails with
- * ZACPI_UNKNOWN_CODE, of timer after timer ZACPI_TOO_MANY_FRAMES if a block has more than 1637, and
- * ZACPI_SAME_AS_BUS if a polarity or a trigger is 0, ZACPI_BAD_NAME, ZACPI_NO_ROOM or
- * ZACPI_TOO_LONG. */
+/* Writes a GTDT of revision 3 (section 5.2.24): 104 bytes, 28 for each watchdog, 20 for each GT
+ * Block, and 40 for each frame, in order, with a Platform Timer Offset of 104. A virtual_el2 that
+ * isn't present is written as zeros, and read as present; `present` of other timers and
+ * platform_timers_malformed aren't looked at. Fails with ZACPI_UNKNOWN_CODE, timer after timer with
+ * ZACPI_TOO_MANY_FRAMES (above 1637) or ZACPI_SAME_AS_BUS, then with ZACPI_BAD_NAME, ZACPI_NO_ROOM
+ * or ZACPI_TOO_LONG. */
 ZACPI_STATUS zacpi_write_gtdt(const struct zacpi_table_ids *ids,
                               const struct zacpi_gtdt_contents *contents, uint8_t *out,
                               size_t capacity, size_t *length);
@@ -1267,11 +1230,11 @@ static inline struct zacpi_fixed_hardware zacpi_fadt_reduced(void) {
 }
 /* Writes a FADT of version 6.4, 276 bytes (section 5.2.9). An address or a block stands in its X_
  * field, and in its field of 32 bits if it fits, a block if it is one of ports; a length in bytes
- * is bit_width's whole bytes, and X_GPEn_BLK of 32 bytes or more has a width of 255. A register is
- * there by `present` 1 and an address that isn't 0, pm1a unless the hardware is reduced, and the
- * reset by ZACPI_FADT_RESET_REG_SUP. What isn't there is written as 0; it, `gpe0`, `gpe1` and
- * reserved flags aren't looked at. Fails with ZACPI_UNKNOWN_CODE, ZACPI_NO_ADDRESS if dsdt_address
- * is 0, ZACPI_BAD_REGISTER, ZACPI_BAD_NAME or ZACPI_NO_ROOM. */
+ * is the whole bytes of bit_width, and X_GPEn_BLK of 32 bytes or more has a width of 255. There is
+ * a register by `present` 1 and an address that isn't 0, pm1a unless the hardware is reduced, and
+ * the reset by ZACPI_FADT_RESET_REG_SUP. What isn't there is written as 0 and not looked at, nor
+ * are `gpe0`, `gpe1` and reserved flags. Fails with ZACPI_UNKNOWN_CODE, ZACPI_NO_ADDRESS if
+ * dsdt_address is 0, ZACPI_BAD_REGISTER, ZACPI_BAD_NAME or ZACPI_NO_ROOM. */
 ZACPI_STATUS zacpi_write_fadt(const struct zacpi_table_ids *ids,
                               const struct zacpi_fixed_hardware *fadt, uint8_t *out,
                               size_t capacity, size_t *length);
@@ -1295,31 +1258,30 @@ struct zacpi_machine {
     struct zacpi_table_ids ids;
     const struct zacpi_listed_table *tables; /* in the order of the XSDT */
     size_t tables_length;
-    const struct zacpi_aml_contents *dsdts;  /* the first of them is the DSDT, if there is one */
+    const struct zacpi_aml_contents *dsdts;  /* the first is the DSDT, if there is one */
     size_t dsdts_length;
-    const struct zacpi_facs_contents *facs;  /* the first of them is the FACS, if there is one */
+    const struct zacpi_facs_contents *facs;  /* the first is the FACS, if there is one */
     size_t facs_length;
 };
 
-/* Writes all tables of a machine, for memory that begins at `address`: the RSDP, 48 bytes on the
- * XSDT, the DSDT, 128 bytes with the FACS at their first multiple of 64, and the listed tables in
- * order, each table at a multiple of 16 and filled up with zeros to the next. Fails with
- * ZACPI_BAD_TABLE if a listed one has fewer than 36 bytes, another number of them than its Length,
- * or a sum that isn't 0, ZACPI_BAD_NAME, ZACPI_TOO_LONG, ZACPI_NO_ROOM, or ZACPI_NO_ADDRESS if
- * `address` is 0 or no multiple of 16, or the address after the last byte 2^64 or above. */
+/* Writes all tables of a machine, for memory from `address` on: the RSDP, after 48 bytes the XSDT,
+ * the DSDT, 128 bytes with the FACS at their first multiple of 64, and the listed tables in order,
+ * each at a multiple of 16 and filled up with zeros to the next. Fails with ZACPI_BAD_TABLE if a
+ * listed one has fewer than 36 bytes, a Length that isn't theirs, or a sum that isn't 0,
+ * ZACPI_BAD_NAME, ZACPI_TOO_LONG, ZACPI_NO_ROOM, or ZACPI_NO_ADDRESS if `address` is 0 or no
+ * multiple of 16, or the memory ends at 2^64 or above. */
 ZACPI_STATUS zacpi_write_tables(const struct zacpi_machine *machine, uint64_t address, uint8_t *out,
                                 size_t capacity, size_t *length);
-/* Writes the tables of a machine as zacpi_write_tables lays them, but for the RSDP and its 48
- * bytes: the XSDT lies at `address`. Fails with ZACPI_BAD_TABLE, ZACPI_BAD_NAME, ZACPI_TOO_LONG,
- * ZACPI_NO_ROOM or ZACPI_NO_ADDRESS. */
+/* Writes what zacpi_write_tables writes after the RSDP and its 48 bytes: the XSDT lies at
+ * `address`. Fails with ZACPI_BAD_TABLE, ZACPI_BAD_NAME, ZACPI_TOO_LONG, ZACPI_NO_ROOM or
+ * ZACPI_NO_ADDRESS. */
 ZACPI_STATUS zacpi_write_tables_without_rsdp(const struct zacpi_machine *machine, uint64_t address,
                                              uint8_t *out, size_t capacity, size_t *length);
 /* Returns how many bytes zacpi_write_tables writes. Fails with ZACPI_BAD_TABLE, ZACPI_BAD_NAME or
  * ZACPI_TOO_LONG. */
 ZACPI_STATUS zacpi_tables_size(const struct zacpi_machine *machine, size_t *length);
-/* Returns where zacpi_write_tables lays the DSDT for this address and so many listed tables, as the
- * FADT has to say. Fails with ZACPI_NO_ADDRESS if that is 2^64 or above, or an XSDT can't list so
- * many. */
+/* Returns where zacpi_write_tables lays the DSDT for this address and so many listed tables. Fails
+ * with ZACPI_NO_ADDRESS if that is 2^64 or above, or an XSDT can't list so many. */
 ZACPI_STATUS zacpi_dsdt_address(uint64_t address, size_t tables_length, uint64_t *out);
 
 #include "zacpi_calls.h"
