@@ -222,8 +222,8 @@ struct zacpi_place {
     size_t offset;
 };
 
-/* Returns where memory is in the regions: `length` bytes from `address` on are those from
- * regions[region].bytes[offset] on, all in that region. Reads no memory. Fails with
+/* Returns where memory is in the regions: the byte at `address` is regions[region].bytes[offset],
+ * and `length` bytes from there on lie in that region. Reads no memory. Fails with
  * ZACPI_REGIONS_NOT_ASCENDING, ZACPI_REGION_TOO_HIGH, or ZACPI_MAP_FAILED if no region contains the
  * bytes, or `address` itself for a length of 0. */
 ZACPI_STATUS zacpi_locate(const struct zacpi_region *regions, size_t regions_length,
@@ -288,8 +288,8 @@ ZACPI_STATUS zacpi_list_missing_ranges(const struct zacpi_source *source, struct
                                        size_t capacity, size_t *count,
                                        struct zacpi_signature *signature);
 
-/* Lists the listed tables that are valid under their own signatures, with repeats (sections 5.2.6
- * to 5.2.8). Fails with an opening error. */
+/* Lists the members of the root table that are valid under their own signatures, with repeats
+ * (sections 5.2.6 to 5.2.8). Fails with an opening error. */
 ZACPI_STATUS zacpi_list_tables(const struct zacpi_source *source, struct zacpi_table *out,
                                size_t capacity, size_t *count, struct zacpi_signature *signature);
 
@@ -435,9 +435,8 @@ struct zacpi_fixed_hardware {
     uint16_t arm_boot_flags;                 /* ARM_BOOT_ARCH */
     uint16_t c2_latency, c3_latency;         /* P_LVL2_LAT, P_LVL3_LAT: in microseconds. Above 100,
                                               * 1000: no C2, no C3 */
-    uint16_t flush_size;                     /* strides to read to write back all caches, and their
-                                              * width */
-    uint16_t flush_stride;
+    uint16_t flush_size;                     /* strides to read to write back all caches */
+    uint16_t flush_stride;                   /* their width in bytes */
     uint8_t power_profile;                   /* Preferred_PM_Profile: 0 to 8, others are reserved */
     uint8_t acpi_enable, acpi_disable;
     uint8_t s4bios_request;
@@ -641,8 +640,8 @@ ZACPI_STATUS zacpi_get_interrupt_model(const struct zacpi_source *source,
                                        struct zacpi_interrupt_model *out,
                                        struct zacpi_signature *signature);
 
-/* The lists below have their entries as they stand, in order, those at fault too, up to the first
- * byte at which no entry begins. No other entry changes them. */
+/* The five lists below have their entries as they stand, those at fault too, up to the first byte
+ * at which no entry begins. No other entry changes them. */
 
 /* Lists the I/O APICs. Fails with an opening error, ZACPI_TABLE_MISSING "APIC", or
  * ZACPI_NO_APICS. */
@@ -748,7 +747,7 @@ ZACPI_STATUS zacpi_list_isa_interrupts(const struct zacpi_source *source,
 
 /* ---- Arm: the generic interrupt controller (MADT, section 5.2.12) ---------------------------- */
 
-/* From here on no `polarity` or `trigger` is as the bus has it. */
+/* On Arm no `polarity` or `trigger` is as the bus has it. */
 struct zacpi_gic_distributor { /* GIC Distributor (GICD), section 5.2.12.15 */
     uint64_t address;
     uint32_t id;
@@ -1030,11 +1029,11 @@ struct zacpi_ivrs_memory { /* I/O Virtualization Memory Definition (IVMD) */
     uint8_t flags;      /* of enum zacpi_ivmd_flag */
 };
 
-/* Returns the unit that remaps a device: of the IVHDs of the greatest Type in the table, 0x10, 0x11
- * or 0x40, the first of the segment with an entry for the device: for all devices, for it, for a
- * range that it lies in, or of a special device with it as Source DeviceID. The first such entry
- * counts. Fails with an opening error, ZACPI_TABLE_MISSING "IVRS",
- * ZACPI_IOMMU_INVALID_STRUCTURE_LENGTH, or ZACPI_NO_IOMMU. */
+/* Returns the unit that remaps a device. Of the IVHDs of the greatest Type in the table (0x10, 0x11
+ * or 0x40) it is the first of the segment with an entry for all devices, for this one, for a range
+ * that it lies in, or of a special device with it as Source DeviceID; the first such entry counts.
+ * Fails with an opening error, ZACPI_TABLE_MISSING "IVRS", ZACPI_IOMMU_INVALID_STRUCTURE_LENGTH, or
+ * ZACPI_NO_IOMMU. */
 ZACPI_STATUS zacpi_get_ivrs_unit(const struct zacpi_source *source, uint16_t segment,
                                  uint16_t device_id, struct zacpi_ivrs_device *out,
                                  struct zacpi_signature *signature);
@@ -1044,6 +1043,7 @@ ZACPI_STATUS zacpi_get_ivrs_unit(const struct zacpi_source *source, uint16_t seg
 ZACPI_STATUS zacpi_list_ivrs_memory(const struct zacpi_source *source, uint16_t device_id,
                                     struct zacpi_ivrs_memory *out, size_t capacity, size_t *count,
                                     struct zacpi_signature *signature);
+
 /* ---- Tables that are written ----------------------------------------------------------------- */
 
 /* Each call writes one table to the front of `out`, which has `capacity` bytes, and its length to
@@ -1230,11 +1230,12 @@ static inline struct zacpi_fixed_hardware zacpi_fadt_reduced(void) {
 }
 /* Writes a FADT of version 6.4, 276 bytes (section 5.2.9). An address or a block stands in its X_
  * field, and in its field of 32 bits if it fits, a block if it is one of ports; a length in bytes
- * is the whole bytes of bit_width, and X_GPEn_BLK of 32 bytes or more has a width of 255. There is
- * a register by `present` 1 and an address that isn't 0, pm1a unless the hardware is reduced, and
- * the reset by ZACPI_FADT_RESET_REG_SUP. What isn't there is written as 0 and not looked at, nor
- * are `gpe0`, `gpe1` and reserved flags. Fails with ZACPI_UNKNOWN_CODE, ZACPI_NO_ADDRESS if
- * dsdt_address is 0, ZACPI_BAD_REGISTER, ZACPI_BAD_NAME or ZACPI_NO_ROOM. */
+ * is the whole bytes of bit_width, and X_GPEn_BLK of 32 bytes or more has a width of 255. A
+ * register is there by `present` 1 and an address that isn't 0, pm1a unless the hardware is
+ * reduced, and the reset by ZACPI_FADT_RESET_REG_SUP. What isn't there, and reduced fixed hardware,
+ * is written as 0 and not looked at, nor are `gpe0`, `gpe1` and reserved flags; sleep_control and
+ * sleep_status are read as present. Fails with ZACPI_UNKNOWN_CODE, ZACPI_NO_ADDRESS if dsdt_address
+ * is 0, ZACPI_BAD_REGISTER, ZACPI_BAD_NAME or ZACPI_NO_ROOM. */
 ZACPI_STATUS zacpi_write_fadt(const struct zacpi_table_ids *ids,
                               const struct zacpi_fixed_hardware *fadt, uint8_t *out,
                               size_t capacity, size_t *length);
@@ -1245,12 +1246,12 @@ ZACPI_STATUS zacpi_write_facs(const struct zacpi_facs_contents *contents, uint8_
 
 /* ---- A whole machine that is written --------------------------------------------------------- */
 
-struct zacpi_aml_contents { /* as zacpi_write_dsdt is passed them */
+struct zacpi_aml_contents {
     const uint8_t *aml;
     size_t aml_length;
     uint8_t revision;
 };
-struct zacpi_listed_table { /* a whole table, as its own call writes it, or of any other origin */
+struct zacpi_listed_table { /* a whole table, whoever wrote it */
     const uint8_t *bytes;
     size_t length;
 };
@@ -1266,8 +1267,8 @@ struct zacpi_machine {
 
 /* Writes all tables of a machine, for memory from `address` on: the RSDP, after 48 bytes the XSDT,
  * the DSDT, 128 bytes with the FACS at their first multiple of 64, and the listed tables in order,
- * each at a multiple of 16 and filled up with zeros to the next. Fails with ZACPI_BAD_TABLE if a
- * listed one has fewer than 36 bytes, a Length that isn't theirs, or a sum that isn't 0,
+ * each table at a multiple of 16 and filled up with zeros to the next. Fails with ZACPI_BAD_TABLE
+ * if a listed one has fewer than 36 bytes, a Length that isn't theirs, or a sum that isn't 0,
  * ZACPI_BAD_NAME, ZACPI_TOO_LONG, ZACPI_NO_ROOM, or ZACPI_NO_ADDRESS if `address` is 0 or no
  * multiple of 16, or the memory ends at 2^64 or above. */
 ZACPI_STATUS zacpi_write_tables(const struct zacpi_machine *machine, uint64_t address, uint8_t *out,
