@@ -748,6 +748,7 @@ ZACPI_STATUS zacpi_list_isa_interrupts(const struct zacpi_source *source,
 /* ---- Arm: the generic interrupt controller (MADT, section 5.2.12) ---------------------------- */
 
 /* On Arm no `polarity` or `trigger` is as the bus has it. */
+
 struct zacpi_gic_distributor { /* GIC Distributor (GICD), section 5.2.12.15 */
     uint64_t address;
     uint32_t id;
@@ -990,7 +991,7 @@ ZACPI_STATUS zacpi_list_dmar_reserved(const struct zacpi_source *source, uint16_
 /* The IVRS (AMD I/O Virtualization Technology (IOMMU) Specification 3.08, section 5.2). Its blocks
  * stand from byte 48 on, each with a Length of at least 24 for Type 0x10, 40 for 0x11 and 0x40, 32
  * for 0x20 to 0x22, and 4 for others. A device entry has 4, 8, 16 or 32 bytes by bits 6 and 7 of
- * its Type, and of Type 0xf0 22 and those of its UID. The end of a range, Type 4, stands right
+ * its Type, but one of Type 0xf0 22 and those of its UID. The end of a range, Type 4, stands right
  * after its start. A device id is 256 times the bus, 8 times the device, and the function. */
 struct zacpi_ivrs_unit { /* I/O Virtualization Hardware Definition (IVHD) */
     uint64_t base;
@@ -1273,9 +1274,8 @@ struct zacpi_machine {
  * multiple of 16, or the memory ends at 2^64 or above. */
 ZACPI_STATUS zacpi_write_tables(const struct zacpi_machine *machine, uint64_t address, uint8_t *out,
                                 size_t capacity, size_t *length);
-/* Writes what zacpi_write_tables writes after the RSDP and its 48 bytes: the XSDT lies at
- * `address`. Fails with ZACPI_BAD_TABLE, ZACPI_BAD_NAME, ZACPI_TOO_LONG, ZACPI_NO_ROOM or
- * ZACPI_NO_ADDRESS. */
+/* Writes what zacpi_write_tables writes after the RSDP's 48 bytes, with the XSDT at `address`.
+ * Fails with ZACPI_BAD_TABLE, ZACPI_BAD_NAME, ZACPI_TOO_LONG, ZACPI_NO_ROOM or ZACPI_NO_ADDRESS. */
 ZACPI_STATUS zacpi_write_tables_without_rsdp(const struct zacpi_machine *machine, uint64_t address,
                                              uint8_t *out, size_t capacity, size_t *length);
 /* Returns how many bytes zacpi_write_tables writes. Fails with ZACPI_BAD_TABLE, ZACPI_BAD_NAME or
