@@ -147,7 +147,8 @@ enum zacpi_refusal {
     ZACPI_BAD_TABLE = 73        /* a listed table's bytes aren't one table */
 };
 
-/* Returns the name that acpi_view prints: "MapFailed"; "Unknown" for no error's number. */
+/* Returns the name of a status, as acpi_view prints it ("MapFailed"), or "Unknown" for any other
+ * number. */
 static inline const char *zacpi_status_name(zacpi_status status) {
     /* One text: a table of pointers would have to be relocated first. */
     static const char names[] = "0:Ok\0"
