@@ -1,9 +1,9 @@
 //! The BGRT: the image that the firmware showed (section 5.2.22).
 
+use crate::acpi_tables::{read::Read, AcpiTable, AcpiTables};
 use crate::error::AcpiResult;
 use crate::raw::{self, records};
 use crate::sdt::Signature;
-use crate::acpi_tables::{read::Read, AcpiTable, AcpiTables};
 
 /// Image Type.
 #[derive(Clone, Copy, Debug, PartialEq, Eq)]
@@ -26,6 +26,21 @@ pub struct Bgrt {
 }
 
 impl Bgrt {
+    /// A bitmap at this physical address, for the upper left corner of the screen, which isn't shown.
+    pub const fn new(image_address: u64) -> Self {
+        Bgrt { image_address, image_type: ImageType::Bitmap, orientation: 0, was_displayed: false, offset: (0, 0) }
+    }
+
+    /// The same at another offset on the screen, turned by so many degrees clockwise: 0, 90, 180 or 270.
+    pub const fn at(self, offset: (u32, u32), orientation: u16) -> Self {
+        Bgrt { offset, orientation, ..self }
+    }
+
+    /// The same, shown or not.
+    pub const fn displayed(self, was_displayed: bool) -> Self {
+        Bgrt { was_displayed, ..self }
+    }
+
     /// Image Type.
     pub fn image_type(&self) -> ImageType {
         self.image_type

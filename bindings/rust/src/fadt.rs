@@ -1,10 +1,10 @@
 //! The FADT: the fixed hardware, its registers and flags (section 5.2.9).
 
+use crate::acpi_tables::{read::Read, AcpiTable, AcpiTables};
 use crate::address::{present, register, AddressSpace, GenericAddress};
 use crate::error::{AcpiError, AcpiResult};
 use crate::raw::{self, records};
 use crate::sdt::Signature;
-use crate::acpi_tables::{read::Read, AcpiTable, AcpiTables};
 
 macro_rules! profiles {
     ($($(#[$doc:meta])* $code:literal = $name:ident,)*) => {
@@ -226,7 +226,8 @@ pub struct Fadt {
     pub arm_boot_arch: ArmBootArchFlags,
     /// Flags.
     pub flags: FixedFeatureFlags,
-    raw: records::FixedHardware,
+    /// The registers, the addresses and the power profile; what a field above holds is 0 here.
+    pub(crate) raw: records::FixedHardware,
 }
 
 fn address(address: u64, refusal: AcpiError) -> AcpiResult<u64> {
@@ -351,7 +352,25 @@ impl From<records::FixedHardware> for Fadt {
             iapc_boot_arch: raw.x86_boot_flags.into(),
             arm_boot_arch: raw.arm_boot_flags.into(),
             flags: raw.flags.into(),
-            raw,
+            raw: records::FixedHardware {
+                facs_address: raw.facs_address,
+                dsdt_address: raw.dsdt_address,
+                pm1a_event: raw.pm1a_event,
+                pm1b_event: raw.pm1b_event,
+                pm1a_control: raw.pm1a_control,
+                pm1b_control: raw.pm1b_control,
+                pm2_control: raw.pm2_control,
+                pm_timer: raw.pm_timer,
+                gpe0: raw.gpe0,
+                gpe1: raw.gpe1,
+                reset: raw.reset,
+                sleep_control: raw.sleep_control,
+                sleep_status: raw.sleep_status,
+                gpe0_block: raw.gpe0_block,
+                gpe1_block: raw.gpe1_block,
+                power_profile: raw.power_profile,
+                ..Default::default()
+            },
         }
     }
 }

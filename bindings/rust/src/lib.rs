@@ -26,6 +26,7 @@ pub mod slit;
 pub mod spcr;
 pub mod srat;
 pub mod tables;
+pub mod write;
 
 pub use acpi_tables::{AcpiTable, AcpiTables, Fault, Root, Table, Tables};
 pub use error::{AcpiError, AcpiResult, MadtError};

@@ -5,6 +5,7 @@ use crate::error::AcpiError;
 use crate::error::AcpiResult;
 use crate::raw::records::{self, AmlTable, Range, Signature, Source};
 use crate::raw::records_of;
+use crate::write::Written;
 #[cfg(feature = "alloc")]
 use alloc::vec::Vec;
 use core::fmt;
@@ -20,6 +21,12 @@ pub(crate) mod sealed {
         type Raw: Copy + Default;
         /// The item of a record, in a list that looked this signature up, if it looked one up.
         fn of(raw: &Self::Raw, looked_up: super::Signature) -> Self;
+    }
+
+    /// An item of which a record can be made.
+    pub trait Record: Sealed {
+        /// The record that `of` makes this item of.
+        fn record(self) -> Self::Raw;
     }
 }
 
@@ -52,7 +59,7 @@ pub(crate) use items;
 
 plain! { Range AmlTable records::IoApic records::GicTranslationService records::DmarReserved records::IvrsMemory }
 
-/// Room for one item of a list, in the form in which the library writes it. An array of 64 is
+/// Room for one item of a list, in the form in which the library writes and reads it. An array of 64 is
 /// `[Slot::default(); 64]`.
 #[repr(transparent)]
 pub struct Slot<T: Item>(T::Raw);
@@ -66,6 +73,17 @@ impl<T: Item> Copy for Slot<T> {}
 impl<T: Item> Default for Slot<T> {
     fn default() -> Self {
         Slot(T::Raw::default())
+    }
+}
+impl<T: Written> From<T> for Slot<T> {
+    fn from(item: T) -> Self {
+        Slot(item.record())
+    }
+}
+impl<T: Written> Slot<T> {
+    /// The item that the slot was made of, or filled with.
+    pub fn item(&self) -> T {
+        T::of(&self.0, Signature::default())
     }
 }
 impl<T: Item> fmt::Debug for Slot<T> {

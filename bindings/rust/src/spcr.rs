@@ -1,10 +1,10 @@
 //! The SPCR: the serial console that the firmware used. Its layout is Microsoft's.
 
+use crate::acpi_tables::{read::Read, AcpiTable, AcpiTables};
 use crate::address::{register, GenericAddress};
 use crate::error::AcpiResult;
 use crate::raw::{self, records};
 use crate::sdt::Signature;
-use crate::acpi_tables::{read::Read, AcpiTable, AcpiTables};
 
 macro_rules! interfaces {
     ($($(#[$doc:meta])* $code:literal = $name:ident,)*) => {
@@ -21,6 +21,16 @@ macro_rules! interfaces {
                 match code {
                     $($code => SpcrInterfaceType::$name,)*
                     _ => SpcrInterfaceType::Unknown(code),
+                }
+            }
+        }
+
+        /// The code.
+        impl From<SpcrInterfaceType> for u8 {
+            fn from(interface: SpcrInterfaceType) -> u8 {
+                match interface {
+                    $(SpcrInterfaceType::$name => $code,)*
+                    SpcrInterfaceType::Unknown(code) => code,
                 }
             }
         }
@@ -87,6 +97,66 @@ pub struct Spcr {
 }
 
 impl Spcr {
+    /// A console of this type, to be written: no PCI device, with one stop bit and no parity, and none of what the
+    /// calls below add.
+    pub fn new(interface: SpcrInterfaceType) -> Self {
+        let none = 0xffff; // of PCI Device ID and PCI Vendor ID
+        let raw = records::Console {
+            interface: interface.into(),
+            pci_device_id: none,
+            pci_vendor_id: none,
+            ..Default::default()
+        };
+        Spcr { parity: 0, stop_bits: 1, pci_flags: 0, pci_segment: 0, raw }
+    }
+
+    /// The same with this Base Address.
+    pub fn with_base_address(mut self, base: GenericAddress) -> Self {
+        self.raw.base = records::Register { at: base.into(), present: 1 };
+        self
+    }
+
+    /// The same with this rate, in bits in a second.
+    pub fn with_baud_rate(mut self, rate: u32) -> Self {
+        (self.raw.baud_rate, self.raw.has_baud_rate) = (rate, 1);
+        self
+    }
+
+    /// The same with this interrupt of the 8259s.
+    pub fn with_irq(mut self, irq: u8) -> Self {
+        (self.raw.irq, self.raw.has_irq) = (irq, 1);
+        self
+    }
+
+    /// The same with this Global System Interrupt.
+    pub fn with_global_system_interrupt(mut self, interrupt: u32) -> Self {
+        (self.raw.global_system_interrupt, self.raw.has_global_system_interrupt) = (interrupt, 1);
+        self
+    }
+
+    /// The same with this UART Clock Frequency, in Hz.
+    pub fn with_uart_clock_frequency(mut self, frequency: u32) -> Self {
+        self.raw.clock_frequency = frequency;
+        self
+    }
+
+    /// The same as a PCI device: its PCI Vendor ID and PCI Device ID, and its bus, device and function.
+    pub fn with_pci_device(mut self, (vendor, device): (u16, u16), (bus, number, function): (u8, u8, u8)) -> Self {
+        (self.raw.pci_vendor_id, self.raw.pci_device_id) = (vendor, device);
+        (self.raw.pci_bus, self.raw.pci_device, self.raw.pci_function) = (bus, number, function);
+        self
+    }
+
+    pub(crate) fn record(&self) -> records::Console {
+        records::Console {
+            parity: self.parity,
+            stop_bits: self.stop_bits,
+            pci_flags: self.pci_flags,
+            pci_segment: self.pci_segment,
+            ..self.raw
+        }
+    }
+
     /// Interface Type.
     pub fn interface_type(&self) -> SpcrInterfaceType {
         self.raw.interface.into()
@@ -146,12 +216,14 @@ impl Spcr {
 
 impl From<records::Console> for Spcr {
     fn from(raw: records::Console) -> Self {
+        // What a public field holds isn't held twice.
+        let rest = records::Console { parity: 0, stop_bits: 0, pci_flags: 0, pci_segment: 0, ..raw };
         Spcr {
             parity: raw.parity,
             stop_bits: raw.stop_bits,
             pci_flags: raw.pci_flags,
             pci_segment: raw.pci_segment,
-            raw,
+            raw: rest,
         }
     }
 }
