@@ -9,7 +9,7 @@ use zacpi::platform::{interrupt::IoApic, Processor, ProcessorState};
 use zacpi::spcr::SpcrInterfaceType;
 use zacpi::srat::MemoryAffinity;
 use zacpi::write::{self, Aml, ApicDomain, Hpet, Machine, Madt, Mcfg, Room, Slit, Spcr, Srat, TableIds};
-use zacpi::{fadt, spcr, AcpiTables, HpetInfo, Region, Slot};
+use zacpi::{fadt, spcr, AcpiTables, HpetInfo, Region, Slot, Start};
 
 pub const TABLES: u64 = 0x700_0000;
 const HALF: u64 = 2 << 30;
@@ -69,7 +69,7 @@ pub fn guest() -> Result<Vec<u8>, Box<dyn Error>> {
 fn main() -> Result<(), Box<dyn Error>> {
     let written = guest()?;
     let regions = [Region::new(TABLES, &written)];
-    let tables = AcpiTables::from_rsdp(&regions, TABLES)?;
+    let tables = AcpiTables::open(&regions, Start::Rsdp(TABLES))?;
     println!("{} processors", tables.processors().count()?);
     for table in &tables.headers().fill(&mut [Slot::default(); 8])? {
         println!("{} {:#x} {}", table.signature, table.address, table.length);

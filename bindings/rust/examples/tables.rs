@@ -5,7 +5,9 @@ use zacpi::list::{Item, List};
 use zacpi::platform::interrupt::{Apic, InterruptModel, LocalInterruptLine, NmiProcessor, Polarity, TriggerMode};
 use zacpi::platform::{Processor, ProcessorState};
 use zacpi::spcr::Spcr;
-use zacpi::{AcpiResult, AcpiTables, HpetInfo, Listing, PciConfigRegions, PlatformRoom, Region, Signature, Slot};
+use zacpi::{
+    AcpiResult, AcpiTables, HpetInfo, Listing, PciConfigRegions, PlatformRoom, Region, Signature, Slot, Start,
+};
 
 /// How many items of a list are printed; more are counted, and said to be left out.
 const MOST: usize = 256;
@@ -25,7 +27,7 @@ fn eight(bytes: &[u8]) -> u64 {
 /// it refuses. crates/acpi_dump/data/README.md has the layout of images.
 fn regions(mut image: &[u8]) -> Result<Vec<Region<'_>>, &'static str> {
     let mut found: Vec<Region<'_>> = Vec::new();
-    let end = |r: &Region<'_>| r.address() + r.bytes().len() as u64;
+    let end = |r: &Region<'_>| r.address() + r.length() as u64;
     while !image.is_empty() {
         let (head, rest) = split(image, 16).ok_or("Truncated")?;
         let (bytes, others) = split(rest, eight(&head[8..])).ok_or("Truncated")?;
@@ -188,9 +190,9 @@ fn print_faults(tables: &AcpiTables<'_>) {
 fn opened<'k>(regions: &'k [Region<'k>], start: &[&str]) -> Option<AcpiResult<AcpiTables<'k>>> {
     let address = |text: &str| u64::from_str_radix(text.trim_start_matches("0x"), 16).ok();
     Some(match start {
-        ["rsdt", revision, at] => AcpiTables::from_rsdt(regions, revision.parse().ok()?, address(at)?),
-        ["rsdp", at] => AcpiTables::from_rsdp(regions, address(at)?),
-        ["bios"] => AcpiTables::search_for_rsdp_bios(regions),
+        ["rsdt", revision, at] => AcpiTables::open_root(regions, revision.parse().ok()?, address(at)?),
+        ["rsdp", at] => AcpiTables::open(regions, Start::Rsdp(address(at)?)),
+        ["bios"] => AcpiTables::open(regions, Start::BiosSearch),
         _ => return None,
     })
 }

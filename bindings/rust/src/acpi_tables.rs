@@ -14,7 +14,7 @@ pub struct Root {
     pub address: u64,
     /// Length: with its header.
     pub length: u32,
-    /// Revision of the RSDP, or what [`AcpiTables::from_rsdt`] was passed; 0 after [`Start::Rsdt`], 2 after
+    /// Revision of the RSDP, or what [`AcpiTables::open_root`] was passed; 0 after [`Start::Rsdt`], 2 after
     /// [`Start::Xsdt`].
     pub revision: u8,
     /// Whether it is an XSDT, whose pointers have eight bytes.
@@ -66,19 +66,50 @@ impl Sealed for Fault {
     }
 }
 
-/// A typed view of a table, which [`AcpiTables::find_table`] makes. Only this package implements it.
-pub trait AcpiTable<'k>: Sized + read::Read<'k> {
+/// A type of one's own that is read from a table: [`AcpiTables::find_table`] finds it.
+///
+/// ```
+/// use zacpi::{AcpiTable, Signature};
+///
+/// /// The flags of a WAET (Windows ACPI Emulated Devices Table).
+/// struct Waet(u32);
+///
+/// impl AcpiTable<'_> for Waet {
+///     const SIGNATURE: Signature = Signature::WAET;
+///
+///     fn read(bytes: &[u8]) -> Self {
+///         Waet(bytes.get(36..40).map_or(0, |flags| u32::from_le_bytes(flags.try_into().unwrap())))
+///     }
+/// }
+/// ```
+pub trait AcpiTable<'k>: Sized {
     /// The signature that it is looked up by.
     const SIGNATURE: Signature;
+
+    /// Reads the bytes of a valid table of this signature: as many as its Length says, at least the 36 of its header,
+    /// whose sum is right (section 5.2.6). A table may be shorter than its revision says.
+    fn read(bytes: &'k [u8]) -> Self;
 }
 
+/// What [`AcpiTables::find_table`] finds: each [`AcpiTable`], and the views of this package, which alone implements it.
+pub trait Found<'k>: read::Read<'k> {}
+
+impl<'k, T: read::Read<'k>> Found<'k> for T {}
+
 pub(crate) mod read {
-    use super::{AcpiResult, AcpiTables};
+    use super::{AcpiError, AcpiResult, AcpiTable, AcpiTables};
 
     /// How a view is made.
     pub trait Read<'k>: Sized {
         /// The view of the first valid table.
-        fn read(tables: &AcpiTables<'k>) -> AcpiResult<Self>;
+        fn find(tables: &AcpiTables<'k>) -> AcpiResult<Self>;
+    }
+
+    impl<'k, T: AcpiTable<'k>> Read<'k> for T {
+        fn find(tables: &AcpiTables<'k>) -> AcpiResult<Self> {
+            let table = tables.find(T::SIGNATURE)?;
+            tables.bytes(&table).map(T::read).ok_or(AcpiError::MapFailed)
+        }
     }
 }
 
@@ -91,42 +122,29 @@ pub struct AcpiTables<'k> {
 }
 
 impl<'k> AcpiTables<'k> {
-    /// The tables below the root table that the RSDP at an address leads to (section 5.2.5.3).
+    /// The tables below the root table that is looked for from a start, in memory that is mapped. A search is done once,
+    /// here. [`AcpiTables::from_rsdp`] and its like map the memory.
     ///
-    /// Refuses with `RegionsNotAscending` and `RegionTooHigh`, with `MapFailed`, `RsdpIncorrectSignature`,
-    /// `RsdpInvalidOemId` and `RsdpInvalidChecksum` for the RSDP, and then as [`AcpiTables::from_rsdt`] does for the
-    /// root table.
-    pub fn from_rsdp(regions: &'k [Region<'k>], address: u64) -> AcpiResult<Self> {
-        Self::open(regions, Start::Rsdp(address))
+    /// Fails with `RegionsNotAscending` and `RegionTooHigh`; at an RSDP with `MapFailed`, `RsdpIncorrectSignature`,
+    /// `RsdpInvalidOemId` and `RsdpInvalidChecksum`; in a search with `NoValidRsdp`, and by [`Start::BiosSearch`] with
+    /// `MapFailed` if an area isn't mapped; and for the root table with `MapFailed` and, carrying RSDT or XSDT, with
+    /// `SdtInvalidSignature`, `SdtInvalidOemId`, `SdtInvalidTableId`, `SdtInvalidLength` and `SdtInvalidChecksum`.
+    pub fn open(regions: &'k [Region<'k>], start: Start) -> AcpiResult<Self> {
+        let root = Root::from(raw::zacpi_1_open(&start.source(regions))?);
+        Ok(AcpiTables { regions, root })
     }
 
     /// The tables below the RSDT at an address, for revision 0, or else below the XSDT there (sections 5.2.7 and
-    /// 5.2.8).
-    ///
-    /// Refuses with `RegionsNotAscending`, `RegionTooHigh` and `MapFailed`, and, carrying RSDT or XSDT, with
-    /// `SdtInvalidSignature`, `SdtInvalidOemId`, `SdtInvalidTableId`, `SdtInvalidLength` and `SdtInvalidChecksum`.
-    pub fn from_rsdt(regions: &'k [Region<'k>], revision: u8, address: u64) -> AcpiResult<Self> {
+    /// 5.2.8). Fails as [`AcpiTables::open`] does.
+    pub fn open_root(regions: &'k [Region<'k>], revision: u8, address: u64) -> AcpiResult<Self> {
         let mut tables = Self::open(regions, if revision == 0 { Start::Rsdt(address) } else { Start::Xsdt(address) })?;
         tables.root.revision = revision;
         Ok(tables)
     }
 
-    /// The tables below the root table of the RSDP that the BIOS areas hold, each of which has to lie in one region
-    /// (section 5.2.5.1).
-    ///
-    /// Refuses with `RegionsNotAscending` and `RegionTooHigh`, with `MapFailed` if an area isn't mapped, with
-    /// `NoValidRsdp`, and then as [`AcpiTables::from_rsdt`] does for the root table.
-    pub fn search_for_rsdp_bios(regions: &'k [Region<'k>]) -> AcpiResult<Self> {
-        Self::open(regions, Start::BiosSearch)
-    }
-
-    /// The tables below the root table that is looked for from a start. A search is done once, here.
-    ///
-    /// Refuses as the three calls above do; [`Start::Search`] as [`Start::BiosSearch`], but never because an area isn't
-    /// mapped.
-    pub fn open(regions: &'k [Region<'k>], start: Start) -> AcpiResult<Self> {
-        let root = Root::from(raw::zacpi_1_open(&start.source(regions))?);
-        Ok(AcpiTables { regions, root })
+    /// The tables of a root table that was found before in these regions.
+    pub(crate) fn at_root(regions: &'k [Region<'k>], root: Root) -> Self {
+        AcpiTables { regions, root }
     }
 
     /// The regions that the tables were opened in.
@@ -158,11 +176,11 @@ impl<'k> AcpiTables<'k> {
     /// [`Madt`](crate::madt::Madt), [`HpetInfo`](crate::hpet::HpetInfo), [`Bgrt`](crate::bgrt::Bgrt),
     /// [`Spcr`](crate::spcr::Spcr), [`PciConfigRegions`](crate::mcfg::PciConfigRegions),
     /// [`Gtdt`](crate::gtdt::Gtdt), [`Srat`](crate::srat::Srat), [`Slit`](crate::slit::Slit),
-    /// [`Dmar`](crate::iommu::Dmar) or [`Ivrs`](crate::iommu::Ivrs).
+    /// [`Dmar`](crate::iommu::Dmar), [`Ivrs`](crate::iommu::Ivrs) or an [`AcpiTable`] of one's own.
     ///
     /// Refuses with `TableMissing`, and with what that type says.
-    pub fn find_table<T: AcpiTable<'k>>(&self) -> AcpiResult<T> {
-        T::read(self)
+    pub fn find_table<T: Found<'k>>(&self) -> AcpiResult<T> {
+        T::find(self)
     }
 
     /// The first valid table of a signature (section 5.2.6), whatever its type. Refuses with `TableMissing`.
@@ -217,8 +235,7 @@ impl<'k> AcpiTables<'k> {
     /// So many bytes from a physical address on, if the address lies in a region and this has so many.
     pub fn bytes_at(&self, address: u64, length: u64) -> Option<&'k [u8]> {
         let place = raw::locate(self.regions, address, length).ok()?;
-        let rest = self.regions.get(place.region)?.bytes().get(place.offset..)?;
-        rest.get(..usize::try_from(length).ok()?)
+        self.regions.get(place.region)?.slice(place.offset, usize::try_from(length).ok()?)
     }
 
     /// The entries of a table of any type, from an offset in it on, whose Type and Length have one or two bytes each.

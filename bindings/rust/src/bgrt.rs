@@ -1,9 +1,8 @@
 //! The BGRT: the image that the firmware showed (section 5.2.22).
 
-use crate::acpi_tables::{read::Read, AcpiTable, AcpiTables};
+use crate::acpi_tables::{read::Read, AcpiTables};
 use crate::error::AcpiResult;
 use crate::raw::{self, records};
-use crate::sdt::Signature;
 
 /// Image Type.
 #[derive(Clone, Copy, Debug, PartialEq, Eq)]
@@ -75,10 +74,7 @@ impl From<records::BootGraphic> for Bgrt {
 }
 
 impl Read<'_> for Bgrt {
-    fn read(tables: &AcpiTables<'_>) -> AcpiResult<Self> {
+    fn find(tables: &AcpiTables<'_>) -> AcpiResult<Self> {
         raw::zacpi_1_get_boot_graphic(&tables.source()).map(Bgrt::from)
     }
-}
-impl AcpiTable<'_> for Bgrt {
-    const SIGNATURE: Signature = Signature::BGRT;
 }

@@ -1,10 +1,9 @@
 //! The FADT: the fixed hardware, its registers and flags (section 5.2.9).
 
-use crate::acpi_tables::{read::Read, AcpiTable, AcpiTables};
+use crate::acpi_tables::{read::Read, AcpiTables};
 use crate::address::{present, register, AddressSpace, GenericAddress};
 use crate::error::{AcpiError, AcpiResult};
 use crate::raw::{self, records};
-use crate::sdt::Signature;
 
 macro_rules! profiles {
     ($($(#[$doc:meta])* $code:literal = $name:ident,)*) => {
@@ -376,10 +375,7 @@ impl From<records::FixedHardware> for Fadt {
 }
 
 impl Read<'_> for Fadt {
-    fn read(tables: &AcpiTables<'_>) -> AcpiResult<Self> {
+    fn find(tables: &AcpiTables<'_>) -> AcpiResult<Self> {
         raw::zacpi_1_get_fixed_hardware(&tables.source()).map(Fadt::from)
     }
-}
-impl AcpiTable<'_> for Fadt {
-    const SIGNATURE: Signature = Signature::FADT;
 }

@@ -4,8 +4,7 @@ use crate::error::AcpiResult;
 use crate::list::{items, Listing};
 use crate::platform::interrupt::{Polarity, TriggerMode};
 use crate::raw::{self, records};
-use crate::sdt::Signature;
-use crate::acpi_tables::{read::Read, AcpiTable, AcpiTables};
+use crate::acpi_tables::{read::Read, AcpiTables};
 
 /// How a timer interrupts.
 #[derive(Clone, Copy, Debug, PartialEq, Eq)]
@@ -143,7 +142,7 @@ impl<'k> Gtdt<'k> {
 }
 
 impl<'k> Read<'k> for Gtdt<'k> {
-    fn read(tables: &AcpiTables<'k>) -> AcpiResult<Self> {
+    fn find(tables: &AcpiTables<'k>) -> AcpiResult<Self> {
         let raw = raw::zacpi_1_get_arm_timers(&tables.source())?;
         Ok(Gtdt {
             control_base: unless_ones(raw.control_base),
@@ -157,7 +156,4 @@ impl<'k> Read<'k> for Gtdt<'k> {
             tables: *tables,
         })
     }
-}
-impl<'k> AcpiTable<'k> for Gtdt<'k> {
-    const SIGNATURE: Signature = Signature::GTDT;
 }

@@ -2,8 +2,7 @@
 
 use crate::error::AcpiResult;
 use crate::raw::{self, records};
-use crate::sdt::Signature;
-use crate::acpi_tables::{read::Read, AcpiTable, AcpiTables};
+use crate::acpi_tables::{read::Read, AcpiTables};
 
 /// Page Protection: what may be accessed beside the block's registers.
 #[derive(Clone, Copy, Debug, PartialEq, Eq)]
@@ -85,10 +84,7 @@ impl From<records::HpetInfo> for HpetInfo {
 }
 
 impl Read<'_> for HpetInfo {
-    fn read(tables: &AcpiTables<'_>) -> AcpiResult<Self> {
+    fn find(tables: &AcpiTables<'_>) -> AcpiResult<Self> {
         HpetInfo::new(tables)
     }
-}
-impl AcpiTable<'_> for HpetInfo {
-    const SIGNATURE: Signature = Signature::HPET;
 }

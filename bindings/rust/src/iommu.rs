@@ -6,7 +6,7 @@ use crate::error::{AcpiError, AcpiResult};
 use crate::list::{List, Slot};
 use crate::raw::{self, records, records_of};
 use crate::sdt::Signature;
-use crate::acpi_tables::{read::Read, AcpiTable, AcpiTables, Table};
+use crate::acpi_tables::{read::Read, AcpiTables, Table};
 
 pub use records::{DmarReserved, Hop, IvrsMemory};
 
@@ -172,12 +172,9 @@ impl Dmar<'_> {
 }
 
 impl<'k> Read<'k> for Dmar<'k> {
-    fn read(tables: &AcpiTables<'k>) -> AcpiResult<Self> {
+    fn find(tables: &AcpiTables<'k>) -> AcpiResult<Self> {
         Ok(Dmar { table: whole_table(tables, Signature::DMAR)?, tables: *tables })
     }
-}
-impl<'k> AcpiTable<'k> for Dmar<'k> {
-    const SIGNATURE: Signature = Signature::DMAR;
 }
 
 /// The units of the first valid IVRS. A device is named by its segment and its id: 256 times the bus, 8 times the
@@ -209,10 +206,7 @@ impl Ivrs<'_> {
 }
 
 impl<'k> Read<'k> for Ivrs<'k> {
-    fn read(tables: &AcpiTables<'k>) -> AcpiResult<Self> {
+    fn find(tables: &AcpiTables<'k>) -> AcpiResult<Self> {
         Ok(Ivrs { table: whole_table(tables, Signature::IVRS)?, tables: *tables })
     }
-}
-impl<'k> AcpiTable<'k> for Ivrs<'k> {
-    const SIGNATURE: Signature = Signature::IVRS;
 }

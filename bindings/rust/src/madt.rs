@@ -5,7 +5,7 @@ use crate::entries::{Entries, Entry, EntryWidth};
 pub use crate::error::MadtError;
 use crate::error::{AcpiError, AcpiResult};
 use crate::sdt::Signature;
-use crate::acpi_tables::{read::Read, AcpiTable, AcpiTables, Table};
+use crate::acpi_tables::{read::Read, AcpiTables, Table};
 
 /// The least length of a MADT: its entries begin there.
 const ENTRIES_AT: u32 = 44;
@@ -36,7 +36,7 @@ impl<'k> Madt<'k> {
 }
 
 impl<'k> Read<'k> for Madt<'k> {
-    fn read(tables: &AcpiTables<'k>) -> AcpiResult<Self> {
+    fn find(tables: &AcpiTables<'k>) -> AcpiResult<Self> {
         let missing = AcpiError::TableMissing(Signature::MADT);
         let table = tables.find_all(Signature::MADT).find(|table| table.length >= ENTRIES_AT).ok_or(missing)?;
         let bytes = tables.bytes(&table).ok_or(AcpiError::MapFailed)?;
@@ -44,9 +44,6 @@ impl<'k> Read<'k> for Madt<'k> {
         let (local_apic_address, flags) = (u32::at(bytes, 36), u32::at(bytes, 40));
         Ok(Madt { table, local_apic_address, flags, tables: *tables })
     }
-}
-impl<'k> AcpiTable<'k> for Madt<'k> {
-    const SIGNATURE: Signature = Signature::MADT;
 }
 
 /// A number in bytes, its lowest byte first. Bytes past the end are read as 0.

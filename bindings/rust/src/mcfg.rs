@@ -3,8 +3,7 @@
 use crate::error::AcpiResult;
 use crate::list::{items, Listing};
 use crate::raw::{self, records};
-use crate::sdt::Signature;
-use crate::acpi_tables::{read::Read, AcpiTable, AcpiTables};
+use crate::acpi_tables::{read::Read, AcpiTables};
 use core::ops::RangeInclusive;
 
 /// A region of configuration space: an allocation of the MCFG.
@@ -79,10 +78,7 @@ impl<'k> PciConfigRegions<'k> {
 }
 
 impl<'k> Read<'k> for PciConfigRegions<'k> {
-    fn read(tables: &AcpiTables<'k>) -> AcpiResult<Self> {
+    fn find(tables: &AcpiTables<'k>) -> AcpiResult<Self> {
         PciConfigRegions::new(tables)
     }
-}
-impl<'k> AcpiTable<'k> for PciConfigRegions<'k> {
-    const SIGNATURE: Signature = Signature::MCFG;
 }

@@ -111,6 +111,45 @@ where
     Ok(Mapped { regions: &regions[..count], missing, rounds: round })
 }
 
+/// What is to be mapped in place of `count` regions from `first` on, which may be none.
+pub(crate) struct Joined {
+    pub(crate) range: Range,
+    pub(crate) first: usize,
+    pub(crate) count: usize,
+}
+
+/// The pages of a range, joined with the regions that they touch or overlap, since a table has to lie in one region.
+/// `None` if they don't end below 2^64. A page has at least one byte.
+pub(crate) fn join(regions: &[Region<'_>], range: Range, page: u64) -> Option<Joined> {
+    let end_of = |region: &Region<'_>| region.address().saturating_add(region.length() as u64);
+    let low = range.address - range.address % page;
+    let end = range.address.checked_add(range.length)?.checked_next_multiple_of(page)?;
+    let first = regions.iter().take_while(|region| end_of(region) < low).count();
+    let count = regions[first..].iter().take_while(|region| region.address() <= end).count();
+    let joined = &regions[first..first + count];
+    let low = joined.first().map_or(low, |region| region.address().min(low));
+    let end = joined.last().map_or(end, |region| end_of(region).max(end));
+    Some(Joined { range: Range { address: low, length: end - low }, first, count })
+}
+
+/// Puts a region in the place of those that it was joined of: `regions` has `count` of them, and room after these.
+pub(crate) fn replace<'k>(
+    regions: &mut [Region<'k>],
+    count: &mut usize,
+    joined: &Joined,
+    region: Region<'k>,
+) -> AcpiResult<()> {
+    let after = joined.first + joined.count;
+    if joined.count == 0 {
+        regions.get_mut(after..=*count).ok_or(AcpiError::AllocError)?.rotate_right(1);
+    } else {
+        regions.copy_within(after..*count, joined.first + 1);
+    }
+    *count = *count - joined.count + 1;
+    regions[joined.first] = region;
+    Ok(())
+}
+
 /// Maps one range, with the regions that it touches or overlaps. Says whether it was mapped.
 fn map_one<'k>(
     regions: &mut [Region<'k>],
@@ -118,29 +157,13 @@ fn map_one<'k>(
     range: Range,
     map: &mut impl FnMut(Range) -> Option<&'k [u8]>,
 ) -> AcpiResult<bool> {
-    let end_of = |region: &Region<'_>| region.address().saturating_add(region.bytes().len() as u64);
-    let Some(end) = range.address.checked_add(range.length) else { return Ok(false) };
     let held = &regions[..*count];
-    let from = held.iter().take_while(|region| end_of(region) < range.address).count();
-    let to = from + held[from..].iter().take_while(|region| region.address() <= end).count();
-    let joined = &held[from..to];
-    if joined.iter().any(|region| region.address() <= range.address && end <= end_of(region)) {
+    if raw::locate(held, range.address, range.length).is_ok() {
         return Ok(false);
     }
-    let low = joined.first().map_or(range.address, |region| region.address().min(range.address));
-    let high = joined.last().map_or(end, |region| end_of(region).max(end));
-    let Ok(length) = usize::try_from(high - low) else { return Ok(false) };
-    let Some(bytes) = map(Range { address: low, length: high - low }).and_then(|bytes| bytes.get(..length)) else {
-        return Ok(false);
-    };
-    if from == to {
-        let after = regions.get_mut(from..=*count).ok_or(AcpiError::AllocError)?;
-        after.rotate_right(1);
-        *count += 1;
-    } else {
-        regions[from + 1..*count].rotate_left(to - from - 1);
-        *count -= to - from - 1;
-    }
-    regions[from] = Region::new(low, bytes);
+    let Some(joined) = join(held, range, 1) else { return Ok(false) };
+    let Ok(length) = usize::try_from(joined.range.length) else { return Ok(false) };
+    let Some(bytes) = map(joined.range).and_then(|bytes| bytes.get(..length)) else { return Ok(false) };
+    replace(regions, count, &joined, Region::new(joined.range.address, bytes))?;
     Ok(true)
 }

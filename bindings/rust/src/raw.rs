@@ -1,5 +1,5 @@
 //! The calls of `include/zacpi.h`, made safe: each is passed slices and references, whose pointers and lengths are what
-//! the header asks for. All `unsafe` code of this package stands in this module.
+//! the header asks for. All `unsafe` code of reading stands in this module.
 //!
 //! A list is a function of the source and a slice to fill, which answers how many items there are in all. Those that
 //! look a signature up are passed it; the others don't look at it, so that all lists have one type.
@@ -11,6 +11,7 @@ pub(crate) mod records;
 use crate::error::{AcpiError, AcpiResult};
 use crate::list::{Item, Slot};
 use core::marker::PhantomData;
+use core::ptr::NonNull;
 use records::*;
 
 impl<'k> Region<'k> {
@@ -19,15 +20,44 @@ impl<'k> Region<'k> {
         Region { address, bytes: bytes.as_ptr(), length: bytes.len(), lent: PhantomData }
     }
 
+    /// The memory from a physical address on, which is mapped at so many bytes from a pointer on. It is no slice, so
+    /// firmware, devices and the kernel may write parts of it.
+    ///
+    /// # Safety
+    ///
+    /// For `'k` the bytes are mapped there and can be read. Nobody writes a byte while a call of this package reads it,
+    /// nor while a slice of it is alive that this package returned: of a table ([`AcpiTables::bytes`] and the like), or
+    /// of what [`AcpiTables::bytes_at`] was asked for.
+    ///
+    /// [`AcpiTables::bytes`]: crate::AcpiTables::bytes
+    /// [`AcpiTables::bytes_at`]: crate::AcpiTables::bytes_at
+    pub const unsafe fn from_raw(address: u64, bytes: NonNull<u8>, length: usize) -> Self {
+        Region { address, bytes: bytes.as_ptr(), length, lent: PhantomData }
+    }
+
     /// The physical address of its first byte.
     pub const fn address(&self) -> u64 {
         self.address
     }
 
-    /// Its bytes.
-    pub const fn bytes(&self) -> &'k [u8] {
-        // SAFETY: they are the pointer and the length of the slice that `new` was passed, which lives for `'k`.
-        unsafe { core::slice::from_raw_parts(self.bytes, self.length) }
+    /// How many bytes it has.
+    pub const fn length(&self) -> usize {
+        self.length
+    }
+
+    /// Where its first byte is mapped.
+    pub const fn as_ptr(&self) -> *const u8 {
+        self.bytes
+    }
+
+    /// So many of its bytes from an offset on, if it has so many.
+    pub(crate) fn slice(&self, offset: usize, length: usize) -> Option<&'k [u8]> {
+        if length > self.length.checked_sub(offset)? {
+            return None;
+        }
+        // SAFETY: these are bytes of the slice that `new` was passed, which lives for `'k`, or of the memory that
+        // `from_raw` was, whose caller promised that these can be read and aren't written meanwhile.
+        Some(unsafe { core::slice::from_raw_parts(self.bytes.add(offset), length) })
     }
 }
 
@@ -38,7 +68,7 @@ impl Default for Region<'_> {
     }
 }
 
-// SAFETY: a region is a shared slice of bytes and a number.
+// SAFETY: a region is memory that can be read from anywhere, and a number.
 unsafe impl Send for Region<'_> {}
 // SAFETY: as above; nothing writes through a region.
 unsafe impl Sync for Region<'_> {}
@@ -298,7 +328,8 @@ pub(crate) fn platform(
 pub(crate) fn dmar_unit(source: &Source<'_>, segment: u16, bus: u8, hops: &[Hop]) -> AcpiResult<DmarUnit> {
     let (mut out, mut named) = (DmarUnit::default(), Signature::default());
     // SAFETY: the source and the hops are live slices of initialised items; the outputs are two live variables.
-    let status = unsafe { zacpi_1_get_dmar_unit(source, segment, bus, hops.as_ptr(), hops.len(), &mut out, &mut named) };
+    let status =
+        unsafe { zacpi_1_get_dmar_unit(source, segment, bus, hops.as_ptr(), hops.len(), &mut out, &mut named) };
     answered(status, named).map(|()| out)
 }
 

@@ -2,8 +2,7 @@
 
 use crate::error::AcpiResult;
 use crate::raw;
-use crate::sdt::Signature;
-use crate::acpi_tables::{read::Read, AcpiTable, AcpiTables};
+use crate::acpi_tables::{read::Read, AcpiTables};
 
 /// The distances of the first valid SLIT.
 #[derive(Clone, Copy, Debug)]
@@ -25,11 +24,8 @@ impl Slit<'_> {
 }
 
 impl<'k> Read<'k> for Slit<'k> {
-    fn read(tables: &AcpiTables<'k>) -> AcpiResult<Self> {
+    fn find(tables: &AcpiTables<'k>) -> AcpiResult<Self> {
         let raw = raw::zacpi_1_get_localities(&tables.source())?;
         Ok(Slit { localities: raw.localities, is_sane: raw.is_sane != 0, tables: *tables })
     }
-}
-impl<'k> AcpiTable<'k> for Slit<'k> {
-    const SIGNATURE: Signature = Signature::SLIT;
 }

@@ -1,10 +1,9 @@
 //! The SPCR: the serial console that the firmware used. Its layout is Microsoft's.
 
-use crate::acpi_tables::{read::Read, AcpiTable, AcpiTables};
+use crate::acpi_tables::{read::Read, AcpiTables};
 use crate::address::{register, GenericAddress};
 use crate::error::AcpiResult;
 use crate::raw::{self, records};
-use crate::sdt::Signature;
 
 macro_rules! interfaces {
     ($($(#[$doc:meta])* $code:literal = $name:ident,)*) => {
@@ -229,10 +228,7 @@ impl From<records::Console> for Spcr {
 }
 
 impl Read<'_> for Spcr {
-    fn read(tables: &AcpiTables<'_>) -> AcpiResult<Self> {
+    fn find(tables: &AcpiTables<'_>) -> AcpiResult<Self> {
         raw::zacpi_1_get_console(&tables.source()).map(Spcr::from)
     }
-}
-impl AcpiTable<'_> for Spcr {
-    const SIGNATURE: Signature = Signature::SPCR;
 }

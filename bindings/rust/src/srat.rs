@@ -4,7 +4,7 @@ use crate::error::{AcpiError, AcpiResult};
 use crate::list::{items, Listing};
 use crate::raw::{self, records};
 use crate::sdt::Signature;
-use crate::acpi_tables::{read::Read, AcpiTable, AcpiTables, Table};
+use crate::acpi_tables::{read::Read, AcpiTables, Table};
 
 /// The least length of an SRAT: its entries begin there.
 const LEAST: u32 = 48;
@@ -84,12 +84,9 @@ impl<'k> Srat<'k> {
 }
 
 impl<'k> Read<'k> for Srat<'k> {
-    fn read(tables: &AcpiTables<'k>) -> AcpiResult<Self> {
+    fn find(tables: &AcpiTables<'k>) -> AcpiResult<Self> {
         let missing = AcpiError::TableMissing(Signature::SRAT);
         let table = tables.find_all(Signature::SRAT).find(|table| table.length >= LEAST).ok_or(missing)?;
         Ok(Srat { table, tables: *tables })
     }
-}
-impl<'k> AcpiTable<'k> for Srat<'k> {
-    const SIGNATURE: Signature = Signature::SRAT;
 }

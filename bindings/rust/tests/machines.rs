@@ -99,7 +99,7 @@ fn read_back(count: u32) {
     assert!(memory[length..].iter().all(|byte| *byte == 0x5a));
 
     let regions = [Region::new(AT, &memory)];
-    let read = AcpiTables::from_rsdp(&regions, AT).unwrap();
+    let read = AcpiTables::open(&regions, Start::Rsdp(AT)).unwrap();
     let mut room = vec![Slot::default(); processors.len()];
     assert_eq!(read.processors().fill(&mut room).unwrap().iter().collect::<Vec<_>>(), processors);
     let mut room = [Slot::default(); 4];
@@ -138,7 +138,7 @@ fn read_back(count: u32) {
 fn reads_the_example() {
     let memory = guest::guest().unwrap();
     let regions = [Region::new(guest::TABLES, &memory)];
-    let tables = AcpiTables::from_rsdp(&regions, guest::TABLES).unwrap();
+    let tables = AcpiTables::open(&regions, Start::Rsdp(guest::TABLES)).unwrap();
     let mut room = [Slot::default(); 8];
     let signatures: Vec<_> =
         tables.headers().fill(&mut room).unwrap().iter().map(|table| table.signature.to_string()).collect();

@@ -12,8 +12,8 @@ fn range(address: u64, length: u64) -> Range {
 fn holds_bytes() {
     static BYTES: [u8; 3] = [1, 2, 3];
     let region = Region::new(0x1000, &BYTES);
-    assert_eq!((region.address(), region.bytes()), (0x1000, &BYTES[..]));
-    assert_eq!((Region::default().address(), Region::default().bytes()), (0, &[][..]));
+    assert_eq!((region.address(), region.length(), region.as_ptr()), (0x1000, 3, BYTES.as_ptr()));
+    assert_eq!((Region::default().address(), Region::default().length()), (0, 0));
     fn shared<T: Send + Sync>(_: &T) {}
     shared(&region);
 }
@@ -81,10 +81,10 @@ fn maps_what_is_missing() {
         range(NOWHERE, 36),
     ];
     assert_eq!(*asked.borrow(), expected);
-    let held: Vec<_> = mapped.regions.iter().map(|r| (r.address(), r.bytes().len())).collect();
+    let held: Vec<_> = mapped.regions.iter().map(|r| (r.address(), r.length())).collect();
     assert_eq!(held, [(ROOT, 44), (FADT, 116), (DSDT, 40), (RSDP, 36)]);
     assert_eq!((mapped.missing, mapped.rounds), (1, 7));
-    let tables = AcpiTables::from_rsdp(mapped.regions, RSDP).unwrap();
+    let tables = AcpiTables::open(mapped.regions, Start::Rsdp(RSDP)).unwrap();
     assert_eq!(tables.find(Signature::FADT).map(|table| table.address), Ok(FADT));
     assert_eq!(tables.dsdt().map(|aml| aml.address), Ok(DSDT + 36));
 }
@@ -121,7 +121,7 @@ fn joins_regions() {
     })
     .unwrap();
     assert_eq!(*asked.borrow(), [range(ROOT, 50)]);
-    let held: Vec<_> = mapped.regions.iter().map(|r| (r.address(), r.bytes().len())).collect();
+    let held: Vec<_> = mapped.regions.iter().map(|r| (r.address(), r.length())).collect();
     assert_eq!(held, [(ROOT, 50), (RSDP, 36)]);
     let overlapping = [at(ROOT, 40), at(ROOT + 39, 6)];
     let refusal = missing_ranges(&overlapping, Start::Rsdt(ROOT)).count().unwrap_err();

@@ -3,7 +3,7 @@ use std::fs;
 use std::path::Path;
 use zacpi::fadt::Fadt;
 use zacpi::platform::interrupt::InterruptModel;
-use zacpi::{AcpiTables, PlatformRoom, PowerProfile, Region, Signature, Slot};
+use zacpi::{AcpiTables, PlatformRoom, PowerProfile, Region, Signature, Slot, Start};
 
 /// A sample, unless the package stands elsewhere than in the repository.
 fn sample(name: &str) -> Option<Vec<u8>> {
@@ -32,7 +32,7 @@ fn regions(mut image: &[u8]) -> Vec<Region<'_>> {
 fn ten_tables() {
     let Some(image) = sample("examples/c/data/ten_tables.image") else { return };
     let regions = regions(&image);
-    let tables = AcpiTables::from_rsdp(&regions, 0x7000_0000).unwrap();
+    let tables = AcpiTables::open(&regions, Start::Rsdp(0x7000_0000)).unwrap();
     assert_eq!((tables.revision(), tables.root().address), (2, 0x7000_2be0));
     let mut room = [Slot::default(); 10];
     let list = tables.headers().fill(&mut room).unwrap();
@@ -57,7 +57,7 @@ fn ten_tables() {
 fn the_machine() {
     let Some(image) = sample("crates/acpi_dump/data/machine.image") else { return };
     let regions = regions(&image);
-    let tables = AcpiTables::from_rsdp(&regions, 0x500).unwrap();
+    let tables = AcpiTables::open(&regions, Start::Rsdp(0x500)).unwrap();
     assert_eq!((tables.root().address, tables.root().length), (0x1000, 108));
     let graphics: Vec<u64> = tables.find_all(Signature::BGRT).map(|table| table.address).collect();
     assert_eq!(graphics, [0x40c0, 0x4280]);

@@ -55,15 +55,15 @@ fn opens_a_root_table() {
     memory.sum(rsdp_2, 36, 32);
     memory.table(xsdt, "XSDT", 1, 52, &[(36, 8, SSDT), (44, 8, DSDT)]);
     let regions = memory.regions();
-    let old = AcpiTables::from_rsdp(&regions, rsdp).unwrap();
+    let old = AcpiTables::open(&regions, Start::Rsdp(rsdp)).unwrap();
     assert_eq!(old.root(), Root { address: ROOT, length, revision: 0, is_xsdt: false });
-    let new = AcpiTables::from_rsdp(&regions, rsdp_2).unwrap();
+    let new = AcpiTables::open(&regions, Start::Rsdp(rsdp_2)).unwrap();
     assert_eq!(new.root(), Root { address: xsdt, length: 52, revision: 2, is_xsdt: true });
     assert_eq!(new.headers().count(), Ok(2));
-    let by_xsdt = AcpiTables::from_rsdt(&regions, 2, xsdt).unwrap();
+    let by_xsdt = AcpiTables::open_root(&regions, 2, xsdt).unwrap();
     assert_eq!(by_xsdt.root(), new.root());
     for revision in [1, 5] {
-        let tables = AcpiTables::from_rsdt(&regions, revision, xsdt).unwrap();
+        let tables = AcpiTables::open_root(&regions, revision, xsdt).unwrap();
         assert_eq!((tables.revision(), tables.root().address), (revision, xsdt));
     }
     assert_eq!(AcpiTables::open(&regions, Start::Xsdt(xsdt)).unwrap().root(), new.root());
@@ -91,10 +91,10 @@ fn searches() {
     let rest = &memory.bytes[0x10..];
     let regions = [Region::new(0x40e, &[0, 0]), Region::new(0xe0000, &area), Region::new(ROOT + 0x10, rest)];
     let root = Root { address: ROOT + 0x10, length: 40, revision: 0, is_xsdt: false };
-    assert_eq!(AcpiTables::search_for_rsdp_bios(&regions).unwrap().root(), root);
+    assert_eq!(AcpiTables::open(&regions, Start::BiosSearch).unwrap().root(), root);
     // The part of the area from 0xf0000 on is enough for the search of what is lent.
     let part = [Region::new(0xf0000, &area[0x10000..]), regions[2]];
-    assert_eq!(AcpiTables::search_for_rsdp_bios(&part).unwrap_err(), AcpiError::MapFailed);
+    assert_eq!(AcpiTables::open(&part, Start::BiosSearch).unwrap_err(), AcpiError::MapFailed);
     let tables = AcpiTables::open(&part, Start::Search).unwrap();
     assert_eq!(tables.root(), root);
     assert_eq!(tables.find(Signature::SSDT), Ok(table(SSDT, "SSDT", 36, 2)));

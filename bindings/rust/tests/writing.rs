@@ -10,7 +10,7 @@ use zacpi::platform::{Processor, ProcessorState};
 use zacpi::spcr::{Spcr, SpcrInterfaceType};
 use zacpi::srat::{MemoryAffinity, Srat};
 use zacpi::write::{self, Aml, ApicDomain, Bytes, GiccDomain, PlatformTimer, TableIds, WriteError};
-use zacpi::{AcpiTables, GicModel, PowerProfile, Range, Region, Signature, Slot};
+use zacpi::{AcpiTables, GicModel, PowerProfile, Range, Region, Signature, Slot, Start};
 
 const IDS: TableIds = TableIds {
     oem_id: *b"OEMID ",
@@ -34,7 +34,7 @@ fn read_back<T>(
     assert_eq!(write(&mut memory[0x1000..]), Ok(size));
     assert_eq!(memory.last(), Some(&0x5a));
     let regions = [Region::new(ROOT, &memory)];
-    ask(AcpiTables::from_rsdt(&regions, 2, ROOT).unwrap())
+    ask(AcpiTables::open_root(&regions, 2, ROOT).unwrap())
 }
 
 /// The error of writing to so many bytes, which are as they were then.
@@ -86,7 +86,7 @@ fn writes_roots_and_aml() {
     assert_eq!(xsdt.write(&mut memory[36..]), Ok(44));
     assert_eq!(aml.write_ssdt(&mut memory[0x80..]), Ok(aml.size()));
     let regions = [Region::new(ROOT, &memory)];
-    let tables = AcpiTables::from_rsdp(&regions, ROOT).unwrap();
+    let tables = AcpiTables::open(&regions, Start::Rsdp(ROOT)).unwrap();
     let ssdts = tables.ssdts().count();
     assert_eq!((ssdts, tables.find(Signature::SSDT).map(|table| table.length)), (Ok(1), Ok(38)));
     let mut memory = [0; 0x100];
@@ -94,7 +94,7 @@ fn writes_roots_and_aml() {
     assert_eq!((rsdt.size(), rsdt.write(&mut memory)), (44, Ok(44)));
     assert_eq!(aml.write_dsdt(&mut memory[0x80..]), Ok(38));
     let regions = [Region::new(ROOT, &memory)];
-    let tables = AcpiTables::from_rsdt(&regions, 0, ROOT).unwrap();
+    let tables = AcpiTables::open_root(&regions, 0, ROOT).unwrap();
     assert_eq!(tables.find(Signature::DSDT).map(|table| table.revision), Ok(2));
 }
 

@@ -34,7 +34,7 @@ static MEMORY: [u8; 0x64] = {
 
 fn tables() -> usize {
     let regions = [Region::new(0x1000, &MEMORY)];
-    let Ok(tables) = AcpiTables::from_rsdt(&regions, 0, 0x1000) else { return 100 };
+    let Ok(tables) = AcpiTables::open_root(&regions, 0, 0x1000) else { return 100 };
     tables.find_all(Signature::SSDT).count()
 }
 

@@ -7,7 +7,7 @@
 //!
 //! ```
 //! use zacpi::write::{Machine, Room, Slit, TableIds};
-//! use zacpi::{AcpiTables, Region};
+//! use zacpi::{AcpiTables, Region, Start};
 //!
 //! let ids = TableIds { oem_id: *b"EXAMPL", oem_table_id: *b"GUEST   ", ..TableIds::default() };
 //! let mut scratch = [0; 128];
@@ -19,8 +19,8 @@
 //! machine.write(0x10_0000, &mut memory)?;
 //!
 //! let regions = [Region::new(0x10_0000, &memory)];
-//! let read = AcpiTables::from_rsdp(&regions, 0x10_0000).unwrap().find_table::<zacpi::slit::Slit>().unwrap();
-//! assert_eq!(read.distance(0, 1), Some(20));
+//! let read = AcpiTables::open(&regions, Start::Rsdp(0x10_0000)).unwrap();
+//! assert_eq!(read.find_table::<zacpi::slit::Slit>().unwrap().distance(0, 1), Some(20));
 //! # Ok::<(), zacpi::write::WriteError>(())
 //! ```
 

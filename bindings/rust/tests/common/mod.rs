@@ -66,7 +66,7 @@ impl Memory {
     /// Asks the tables below the RSDT.
     pub fn ask<T>(&self, ask: impl FnOnce(AcpiTables<'_>) -> T) -> T {
         let regions = self.regions();
-        ask(AcpiTables::from_rsdt(&regions, 0, ROOT).unwrap())
+        ask(AcpiTables::open_root(&regions, 0, ROOT).unwrap())
     }
 }
 

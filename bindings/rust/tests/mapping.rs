@@ -1,0 +1,140 @@
+//! Tables that are mapped while they are found.
+mod common;
+use common::{Memory, ROOT};
+use std::cell::RefCell;
+use std::ptr::NonNull;
+use zacpi::{AcpiError, AcpiTable, AcpiTables, MappedTables, PhysicalMapper, Range, Region, Signature, Start};
+
+const FADT: u64 = ROOT + 0x1000;
+const DSDT: u64 = ROOT + 0x2ff0;
+const RSDP: u64 = ROOT + 0x8ff8;
+/// Where the root table lists a table and no memory is.
+const NOWHERE: u64 = 0x4000_0000;
+
+/// Memory that is mapped where it is, and what is mapped of it.
+struct Mapper<'m> {
+    memory: &'m Memory,
+    /// What was asked for.
+    asked: RefCell<Vec<Range>>,
+    /// What is mapped, and where.
+    held: RefCell<Vec<(usize, Range)>>,
+}
+
+impl<'m> Mapper<'m> {
+    fn new(memory: &'m Memory) -> Self {
+        Mapper { memory, asked: RefCell::default(), held: RefCell::default() }
+    }
+}
+
+impl PhysicalMapper for &Mapper<'_> {
+    unsafe fn map(&self, range: Range) -> Option<NonNull<u8>> {
+        self.asked.borrow_mut().push(range);
+        let from = range.address.checked_sub(ROOT)? as usize;
+        let bytes = self.memory.bytes.get(from..from + range.length as usize)?;
+        self.held.borrow_mut().push((bytes.as_ptr() as usize, range));
+        NonNull::new(bytes.as_ptr().cast_mut())
+    }
+
+    fn unmap(&self, at: NonNull<u8>, range: Range) {
+        let mut held = self.held.borrow_mut();
+        let index = held.iter().position(|item| *item == (at.as_ptr() as usize, range));
+        held.remove(index.expect("it is mapped there"));
+    }
+}
+
+/// An RSDP at the end of a page, the RSDT, a FADT, and a DSDT over the end of a page.
+fn machine() -> Memory {
+    let mut memory = Memory::rsdt(&[FADT, NOWHERE]);
+    memory.table(FADT, "FACP", 1, 116, &[(40, 4, DSDT)]);
+    memory.table(DSDT, "DSDT", 2, 40, &[]);
+    memory.put(RSDP, &[(0, 8, u64::from_le_bytes(*b"RSD PTR ")), (16, 4, ROOT)]);
+    memory.sum(RSDP, 20, 8);
+    memory
+}
+
+#[test]
+fn maps_pages_joins_and_unmaps() {
+    let memory = machine();
+    let mapper = Mapper::new(&memory);
+    let pages = |address, count: u64| Range { address, length: count * 0x1000 };
+    // SAFETY: the memory lives longer than the tables, and nobody writes it.
+    let mapped = unsafe { AcpiTables::from_rsdp(&mapper, RSDP) }.unwrap();
+    let tables = mapped.tables();
+    assert_eq!(tables.find(Signature::FADT).map(|table| table.address), Ok(FADT));
+    assert_eq!(tables.dsdt().ok().and_then(|aml| tables.aml(&aml)).map(<[u8]>::len), Some(4));
+    let held: Vec<_> = mapped.regions().iter().map(|region| (region.address(), region.length())).collect();
+    // The RSDT's page, the FADT's and the DSDT's two touch, so they are one region.
+    assert_eq!(held, [(ROOT, 0x4000), (RSDP & !0xfff, 0x2000)]);
+    let asked = mapper.asked.borrow().clone();
+    assert_eq!(asked[..2], [pages(RSDP & !0xfff, 2), pages(ROOT, 1)]);
+    assert_eq!(asked.iter().filter(|range| range.address == NOWHERE).count(), 1);
+    assert_eq!(mapper.held.borrow().len(), 2);
+    assert!(format!("{mapped:?}").starts_with("MappedTables"));
+    drop(mapped);
+    assert_eq!(*mapper.held.borrow(), []);
+}
+
+#[test]
+fn starts_at_a_root_table() {
+    let memory = machine();
+    let mapper = Mapper::new(&memory);
+    // SAFETY: as above.
+    let mapped = unsafe { AcpiTables::from_rsdt(&mapper, 0, ROOT) }.unwrap();
+    assert_eq!((mapped.tables().root().address, mapped.tables().revision()), (ROOT, 0));
+    // SAFETY: as above.
+    let refused = unsafe { AcpiTables::from_rsdt(&mapper, 2, ROOT) }.unwrap_err();
+    assert_eq!(refused, AcpiError::SdtInvalidSignature(Signature::XSDT));
+    // SAFETY: as above.
+    assert_eq!(unsafe { AcpiTables::search_for_rsdp_bios(&mapper) }.unwrap_err(), AcpiError::MapFailed);
+    // What was mapped before an error is unmapped.
+    assert_eq!(mapper.held.borrow().len(), mapped.regions().len());
+    drop(mapped);
+    assert_eq!(mapper.held.borrow().len(), 0);
+}
+
+#[test]
+fn says_that_there_is_no_room() {
+    let memory = machine();
+    let mapper = Mapper::new(&memory);
+    // SAFETY: as above.
+    let refused = unsafe { MappedTables::<_, 1>::open(&mapper, Start::Rsdp(RSDP)) }.unwrap_err();
+    assert_eq!(refused, AcpiError::AllocError);
+    assert_eq!(mapper.held.borrow().len(), 0);
+}
+
+/// A region over memory that isn't a slice: the kernel writes what isn't a table.
+#[test]
+fn reads_memory_that_is_written_elsewhere() {
+    let mut memory = machine();
+    let at = NonNull::new(memory.bytes.as_mut_ptr()).unwrap();
+    // SAFETY: the memory lives longer than the region, and is written at its last byte alone, of which there is no slice.
+    let regions = [unsafe { Region::from_raw(ROOT, at, memory.bytes.len()) }];
+    let tables = AcpiTables::open(&regions, Start::Rsdp(RSDP)).unwrap();
+    let table = tables.find(Signature::FADT).unwrap();
+    let bytes = tables.bytes(&table).unwrap();
+    // SAFETY: as above.
+    unsafe { at.as_ptr().add(0xffff).write(1) };
+    assert_eq!((bytes.len(), &bytes[..4]), (116, &b"FACP"[..]));
+    assert_eq!(tables.bytes_at(ROOT, 0x1_0001), None);
+    assert_eq!(tables.bytes_at(ROOT + 0xffff, 1), Some(&[1][..]));
+}
+
+/// A type of the caller's own.
+#[derive(Debug, PartialEq)]
+struct Dsdt<'k>(&'k [u8]);
+
+impl<'k> AcpiTable<'k> for Dsdt<'k> {
+    const SIGNATURE: Signature = Signature::DSDT;
+    fn read(bytes: &'k [u8]) -> Self {
+        Dsdt(&bytes[36..])
+    }
+}
+
+#[test]
+fn finds_a_type_of_ones_own() {
+    let mut memory = Memory::rsdt(&[DSDT]);
+    memory.table(DSDT, "DSDT", 2, 38, &[(36, 2, 0xa3a3)]);
+    memory.ask(|tables| assert_eq!(tables.find_table::<Dsdt>(), Ok(Dsdt(&[0xa3, 0xa3]))));
+    let missing = AcpiError::TableMissing(Signature::DSDT);
+    Memory::rsdt(&[]).ask(|tables| assert_eq!(tables.find_table::<Dsdt>(), Err(missing)));
+}
