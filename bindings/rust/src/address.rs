@@ -1,4 +1,17 @@
 //! Where a register is: the Generic Address Structure (section 5.2.3.2).
+//!
+//! ```
+//! use zacpi::address::{AccessSize, AddressSpace, GenericAddress};
+//!
+//! let serial = GenericAddress {
+//!     address_space: AddressSpace::SystemIo,
+//!     bit_width: 8,
+//!     bit_offset: 0,
+//!     access_size: AccessSize::ByteAccess,
+//!     address: 0x3f8,
+//! };
+//! assert_eq!((AddressSpace::from(1), AccessSize::from(1)), (serial.address_space, serial.access_size));
+//! ```
 
 use crate::error::{AcpiError, AcpiResult};
 use crate::raw::records;

@@ -1,4 +1,23 @@
 //! The entries of any table, which begin with Type and Length.
+//!
+//! ```
+//! use zacpi::entries::EntryWidth;
+//! use zacpi::Signature;
+//!
+//! # let ids = zacpi::write::TableIds::default();
+//! # let mut memory = [0; 512];
+//! # zacpi::write::Xsdt { ids, addresses: &[0x1040] }.write(&mut memory).unwrap();
+//! # let mut table = zacpi::write::Srat::new(ids, &[]);
+//! # table.giccs = &[zacpi::write::GiccDomain { processor_uid: 0, domain: 1 }];
+//! # table.write(&mut memory[0x40..]).unwrap();
+//! # let regions = [zacpi::Region::new(0x1000, &memory)];
+//! # let tables = zacpi::AcpiTables::open(&regions, zacpi::Start::Xsdt(0x1000))?;
+//! let srat = tables.find(Signature::SRAT)?;
+//! let entries = tables.entries(&srat, 48, EntryWidth::One)?;
+//! let types: Vec<u16> = entries.map(|entry| entry.entry_type).collect();
+//! assert_eq!(types, [3]); // GICC Affinity
+//! # Ok::<(), zacpi::AcpiError>(())
+//! ```
 
 use crate::error::AcpiResult;
 use crate::raw::{self, records};

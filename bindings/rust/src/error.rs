@@ -8,7 +8,8 @@ pub type AcpiResult<T> = Result<T, AcpiError>;
 
 /// Why a call refuses. The names are those of the crate `acpi`, and of the library's own checks. A signature that is
 /// carried is that of the table that was looked for. A call whose answer is an `Option` answers `None` for what isn't
-/// there, so that `NoSuchFunction`, `NoSuchInterrupt`, `NoSuchIoApic`, `NoDomain`, `NoDistance` and `NoIommu` come from none.
+/// there, so that `NoSuchFunction`, `NoSuchInterrupt`, `NoSuchIoApic`, `NoDomain`, `NoDistance` and `NoIommu` come from
+/// none.
 #[derive(Clone, Copy, Debug, PartialEq, Eq)]
 #[non_exhaustive]
 pub enum AcpiError {
@@ -58,8 +59,8 @@ pub enum AcpiError {
     InvalidMadt(MadtError),
     /// Bytes of the SRAT are left in which no entry begins (section 5.2.16).
     InvalidEntryLength,
-    /// A range of memory in the SRAT (section 5.2.16.2) or the IVRS ends above 2^64 - 1, or one in the DMAR has its last
-    /// byte before its first.
+    /// A range of memory in the SRAT (section 5.2.16.2) or the IVRS ends above 2^64 - 1, or one in the DMAR has its
+    /// last byte before its first.
     InvalidMemoryRange,
     /// The MADT has no GICD entry: it describes no distributor of a GIC (section 5.2.12.15).
     NoGic,

@@ -1,4 +1,19 @@
 //! The FADT: the fixed hardware, its registers and flags (section 5.2.9).
+//!
+//! ```
+//! use zacpi::fadt::Fadt;
+//!
+//! # let ids = zacpi::write::TableIds::default();
+//! # let mut memory = [0; 512];
+//! # zacpi::write::Xsdt { ids, addresses: &[0x1040] }.write(&mut memory).unwrap();
+//! # zacpi::write::Fadt { ids, hardware: zacpi::fadt::Fadt::reduced(0x2000) }.write(&mut memory[0x40..]).unwrap();
+//! # let regions = [zacpi::Region::new(0x1000, &memory)];
+//! # let tables = zacpi::AcpiTables::open(&regions, zacpi::Start::Xsdt(0x1000))?;
+//! let fadt = tables.find_table::<Fadt>()?;
+//! assert!(fadt.flags.system_is_hw_reduced_acpi());
+//! assert_eq!(fadt.dsdt_address(), Ok(0x2000));
+//! # Ok::<(), zacpi::AcpiError>(())
+//! ```
 
 use crate::acpi_tables::{read::Read, AcpiTables};
 use crate::address::{present, register, AddressSpace, GenericAddress};

@@ -1,4 +1,24 @@
 //! The generic interrupt controller of an Arm machine (MADT, sections 5.2.12.14 to 5.2.12.18).
+//!
+//! ```
+//! use zacpi::{GicModel, Slot};
+//!
+//! # let ids = zacpi::write::TableIds::default();
+//! # let mut memory = [0; 512];
+//! # zacpi::write::Xsdt { ids, addresses: &[0x1040] }.write(&mut memory).unwrap();
+//! # let version = Some(3);
+//! # let distributor = zacpi::gic::GicDistributor { address: 0x800_0000, id: 0, system_vector_base: 0, version };
+//! # let processors = [zacpi::gic::GicCpuInterface { is_enabled: true, ..Default::default() }.into()];
+//! # zacpi::write::GicMadt::new(ids, distributor, &processors).write(&mut memory[0x40..]).unwrap();
+//! # let regions = [zacpi::Region::new(0x1000, &memory)];
+//! # let tables = zacpi::AcpiTables::open(&regions, zacpi::Start::Xsdt(0x1000))?;
+//! let gic = GicModel::new(&tables)?;
+//! for interface in &gic.cpu_interfaces().fill(&mut [Slot::default(); 8])? {
+//!     assert!(interface.is_enabled, "processor {} is off", interface.processor_uid);
+//! }
+//! assert_eq!(gic.distributor.version, Some(3));
+//! # Ok::<(), zacpi::AcpiError>(())
+//! ```
 
 use crate::error::AcpiResult;
 use crate::list::{items, Listing};
@@ -20,8 +40,8 @@ pub struct GicDistributor {
     pub version: Option<u8>,
 }
 
-/// A processor and its interface to the GIC (GICC, section 5.2.12.14).
-#[derive(Clone, Copy, Debug, PartialEq, Eq)]
+/// A processor and its interface to the GIC (GICC, section 5.2.12.14): by default a disabled one, which has nothing.
+#[derive(Clone, Copy, Debug, Default, PartialEq, Eq)]
 pub struct GicCpuInterface {
     /// MPIDR.
     pub mpidr: u64,

@@ -1,4 +1,19 @@
 //! The GTDT: the generic timers of an Arm machine (section 5.2.24).
+//!
+//! ```
+//! use zacpi::gtdt::Gtdt;
+//!
+//! # let ids = zacpi::write::TableIds::default();
+//! # let mut memory = [0; 512];
+//! # zacpi::write::Xsdt { ids, addresses: &[0x1040] }.write(&mut memory).unwrap();
+//! # zacpi::write::Gtdt::new(ids).write(&mut memory[0x40..]).unwrap();
+//! # let regions = [zacpi::Region::new(0x1000, &memory)];
+//! # let tables = zacpi::AcpiTables::open(&regions, zacpi::Start::Xsdt(0x1000))?;
+//! let timers = tables.find_table::<Gtdt>()?;
+//! let virtual_timer = timers.virtual_el1.and_then(|timer| timer.interrupt);
+//! assert_eq!((virtual_timer, timers.frames().count()), (None, Ok(0)));
+//! # Ok::<(), zacpi::AcpiError>(())
+//! ```
 
 use crate::error::AcpiResult;
 use crate::list::{items, Listing};

@@ -1,4 +1,21 @@
 //! The HPET: the first valid table's block of event timers. Its layout is that of the IA-PC HPET Specification.
+//!
+//! ```
+//! use zacpi::HpetInfo;
+//!
+//! # let ids = zacpi::write::TableIds::default();
+//! # let mut memory = [0; 512];
+//! # zacpi::write::Xsdt { ids, addresses: &[0x1040] }.write(&mut memory).unwrap();
+//! # let page_protection = zacpi::hpet::PageProtection::None;
+//! # let (event_timer_block_id, base_address) = (0x8086_a201, 0xfed0_0000);
+//! # let info = HpetInfo { event_timer_block_id, base_address, hpet_number: 0, clock_tick_unit: 100, page_protection };
+//! # zacpi::write::Hpet { ids, info }.write(&mut memory[0x40..]).unwrap();
+//! # let regions = [zacpi::Region::new(0x1000, &memory)];
+//! # let tables = zacpi::AcpiTables::open(&regions, zacpi::Start::Xsdt(0x1000))?;
+//! let hpet = HpetInfo::new(&tables)?;
+//! assert_eq!((hpet.base_address, hpet.num_comparators()), (0xfed0_0000, 3));
+//! # Ok::<(), zacpi::AcpiError>(())
+//! ```
 
 use crate::error::AcpiResult;
 use crate::raw::{self, records};

@@ -1,6 +1,21 @@
 //! The units that remap what devices ask of memory (IOMMUs): those of the DMAR (Intel Virtualization Technology for
 //! Directed I/O 4.0, chapter 8), and those of the IVRS (AMD I/O Virtualization Technology (IOMMU) Specification 3.08,
 //! section 5.2).
+//!
+//! ```
+//! use zacpi::iommu::{Dmar, Hop};
+//!
+//! # let ids = zacpi::write::TableIds::default();
+//! # let mut memory = [0; 512];
+//! # zacpi::write::Xsdt { ids, addresses: &[0x1040] }.write(&mut memory).unwrap();
+//! # zacpi::write::Bytes { ids, signature: zacpi::Signature::DMAR, revision: 1, bytes: &[0; 12] }.write(&mut memory[0x40..]).unwrap();
+//! # let regions = [zacpi::Region::new(0x1000, &memory)];
+//! # let tables = zacpi::AcpiTables::open(&regions, zacpi::Start::Xsdt(0x1000))?;
+//! let units = tables.find_table::<Dmar>()?;
+//! let device = [Hop { device: 2, function: 0 }];
+//! assert_eq!(units.unit_for(0, 0, &device), Ok(None)); // this DMAR has no unit
+//! # Ok::<(), zacpi::AcpiError>(())
+//! ```
 
 use crate::error::{AcpiError, AcpiResult};
 use crate::list::{List, Slot};

@@ -1,4 +1,24 @@
 //! Lists of what tables hold: counted, filled into a slice of the caller's, or, with the feature `alloc`, into a `Vec`.
+//!
+//! ```
+//! use zacpi::Slot;
+//!
+//! # let ids = zacpi::write::TableIds::default();
+//! # let mut memory = [0; 512];
+//! # zacpi::write::Xsdt { ids, addresses: &[0x1040] }.write(&mut memory).unwrap();
+//! # zacpi::write::Gtdt::new(ids).write(&mut memory[0x40..]).unwrap();
+//! # let regions = [zacpi::Region::new(0x1000, &memory)];
+//! # let tables = zacpi::AcpiTables::open(&regions, zacpi::Start::Xsdt(0x1000))?;
+//! let headers = tables.headers();
+//! assert_eq!(headers.count()?, 1);
+//! let mut room = [Slot::default(); 16];
+//! let list = headers.fill(&mut room)?;
+//! assert!(list.is_whole());
+//! for table in &list {
+//!     println!("{} at {:#x}", table.signature, table.address);
+//! }
+//! # Ok::<(), zacpi::AcpiError>(())
+//! ```
 
 #[cfg(feature = "alloc")]
 use crate::error::AcpiError;

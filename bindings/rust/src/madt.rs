@@ -1,5 +1,28 @@
 //! The MADT entry by entry (section 5.2.12), for what the interrupt model leaves out. Most kernels want
 //! [`AcpiTables::platform_info`], or on Arm [`GicModel`](crate::gic::GicModel).
+//!
+//! ```
+//! use zacpi::madt::{Madt, MadtEntry};
+//!
+//! # let ids = zacpi::write::TableIds::default();
+//! # let mut memory = [0; 512];
+//! # zacpi::write::Xsdt { ids, addresses: &[0x1040] }.write(&mut memory).unwrap();
+//! # use zacpi::platform::{interrupt::IoApic, Processor, ProcessorState};
+//! # let state = ProcessorState::Running;
+//! # let processors = [Processor { processor_uid: 0, local_apic_id: 0, state, is_ap: false }.into()];
+//! # let mut table = zacpi::write::Madt::new(ids, &processors);
+//! # table.io_apics = &[IoApic { address: 0xfec0_0000, global_system_interrupt_base: 0, id: 0 }];
+//! # table.write(&mut memory[0x40..]).unwrap();
+//! # let regions = [zacpi::Region::new(0x1000, &memory)];
+//! # let tables = zacpi::AcpiTables::open(&regions, zacpi::Start::Xsdt(0x1000))?;
+//! let madt = tables.find_table::<Madt>()?;
+//! for entry in madt.entries() {
+//!     if let MadtEntry::IoApic(io_apic) = entry {
+//!         assert_eq!(io_apic.io_apic_address, 0xfec0_0000);
+//!     }
+//! }
+//! # Ok::<(), zacpi::AcpiError>(())
+//! ```
 
 use crate::entries::{Entries, Entry, EntryWidth};
 pub use crate::error::MadtError;

@@ -1,4 +1,20 @@
 //! The MCFG: PCI configuration space in memory (PCI Firmware Specification, section 4.1.2).
+//!
+//! ```
+//! use zacpi::PciConfigRegions;
+//!
+//! # let ids = zacpi::write::TableIds::default();
+//! # let mut memory = [0; 512];
+//! # zacpi::write::Xsdt { ids, addresses: &[0x1040] }.write(&mut memory).unwrap();
+//! # use zacpi::mcfg::PciConfigEntry;
+//! # let regions = [PciConfigEntry { segment_group: 0, bus_range: 0..=255, physical_address: 0xb000_0000 }.into()];
+//! # zacpi::write::Mcfg { ids, regions: &regions }.write(&mut memory[0x40..]).unwrap();
+//! # let regions = [zacpi::Region::new(0x1000, &memory)];
+//! # let tables = zacpi::AcpiTables::open(&regions, zacpi::Start::Xsdt(0x1000))?;
+//! let pci = PciConfigRegions::new(&tables)?;
+//! assert_eq!(pci.ecam_address(0, 1, 2, 3), Some(0xb000_0000 + (1 << 20 | 2 << 15 | 3 << 12)));
+//! # Ok::<(), zacpi::AcpiError>(())
+//! ```
 
 use crate::error::AcpiResult;
 use crate::list::{items, Listing};

@@ -1,4 +1,11 @@
 //! Tables' names.
+//!
+//! ```
+//! use zacpi::Signature;
+//!
+//! const OEM: Signature = Signature::new("OEM1");
+//! assert_eq!((OEM.as_str(), Signature::FADT.as_str()), (Some("OEM1"), Some("FACP")));
+//! ```
 
 pub use crate::raw::records::Signature;
 use core::fmt;

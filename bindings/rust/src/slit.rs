@@ -1,4 +1,19 @@
 //! The SLIT: how far localities are from each other (section 5.2.17).
+//!
+//! ```
+//! use zacpi::slit::Slit;
+//!
+//! # let ids = zacpi::write::TableIds::default();
+//! # let mut memory = [0; 512];
+//! # zacpi::write::Xsdt { ids, addresses: &[0x1040] }.write(&mut memory).unwrap();
+//! # zacpi::write::Slit { ids, localities: 2, distances: &[10, 20, 20, 10] }.write(&mut memory[0x40..]).unwrap();
+//! # let regions = [zacpi::Region::new(0x1000, &memory)];
+//! # let tables = zacpi::AcpiTables::open(&regions, zacpi::Start::Xsdt(0x1000))?;
+//! let slit = tables.find_table::<Slit>()?;
+//! assert!(slit.is_sane);
+//! assert_eq!((slit.distance(0, 1), slit.distance(0, 2)), (Some(20), None));
+//! # Ok::<(), zacpi::AcpiError>(())
+//! ```
 
 use crate::error::AcpiResult;
 use crate::raw;

@@ -1,4 +1,19 @@
 //! The SPCR: the serial console that the firmware used. Its layout is Microsoft's.
+//!
+//! ```
+//! use zacpi::spcr::{Spcr, SpcrInterfaceType};
+//!
+//! # let ids = zacpi::write::TableIds::default();
+//! # let mut memory = [0; 512];
+//! # zacpi::write::Xsdt { ids, addresses: &[0x1040] }.write(&mut memory).unwrap();
+//! # let console = Spcr::new(SpcrInterfaceType::Full16550).with_baud_rate(115_200);
+//! # zacpi::write::Spcr::new(ids, console).write(&mut memory[0x40..]).unwrap();
+//! # let regions = [zacpi::Region::new(0x1000, &memory)];
+//! # let tables = zacpi::AcpiTables::open(&regions, zacpi::Start::Xsdt(0x1000))?;
+//! let console = tables.find_table::<Spcr>()?;
+//! assert_eq!((console.interface_type(), console.baud_rate()), (SpcrInterfaceType::Full16550, Some(115_200)));
+//! # Ok::<(), zacpi::AcpiError>(())
+//! ```
 
 use crate::acpi_tables::{read::Read, AcpiTables};
 use crate::address::{register, GenericAddress};

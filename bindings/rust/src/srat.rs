@@ -1,4 +1,20 @@
 //! The SRAT: which memory and which processors are near each other (section 5.2.16).
+//!
+//! ```
+//! use zacpi::srat::Srat;
+//!
+//! # let ids = zacpi::write::TableIds::default();
+//! # let mut memory = [0; 512];
+//! # zacpi::write::Xsdt { ids, addresses: &[0x1040] }.write(&mut memory).unwrap();
+//! # let mut table = zacpi::write::Srat::new(ids, &[]);
+//! # table.apics = &[zacpi::write::ApicDomain { local_apic_id: 3, domain: 1 }];
+//! # table.write(&mut memory[0x40..]).unwrap();
+//! # let regions = [zacpi::Region::new(0x1000, &memory)];
+//! # let tables = zacpi::AcpiTables::open(&regions, zacpi::Start::Xsdt(0x1000))?;
+//! let srat = tables.find_table::<Srat>()?;
+//! assert_eq!((srat.domain_of_apic(3), srat.domain_of_apic(4)), (Ok(Some(1)), Ok(None)));
+//! # Ok::<(), zacpi::AcpiError>(())
+//! ```
 
 use crate::error::{AcpiError, AcpiResult};
 use crate::list::{items, Listing};

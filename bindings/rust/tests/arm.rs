@@ -53,24 +53,7 @@ fn reads_a_gic() {
             trace_buffer_interrupt: Some(22),
             efficiency_class: 4,
         };
-        let second = GicCpuInterface {
-            mpidr: 0,
-            number: 0,
-            processor_uid: 0,
-            is_enabled: false,
-            is_online_capable: true,
-            address: None,
-            virtual_address: None,
-            hypervisor_address: None,
-            redistributor_address: None,
-            parked_address: None,
-            parking_protocol_version: None,
-            performance_interrupt: None,
-            maintenance_interrupt: None,
-            spe_overflow_interrupt: None,
-            trace_buffer_interrupt: None,
-            efficiency_class: 0,
-        };
+        let second = GicCpuInterface { is_online_capable: true, ..GicCpuInterface::default() };
         let mut room = [Slot::default(); 4];
         let list = gic.cpu_interfaces().fill(&mut room).unwrap();
         assert_eq!(list.iter().collect::<Vec<_>>(), [first, second]);

@@ -193,18 +193,13 @@ fn writes_a_gic() {
         number: n,
         processor_uid: n,
         is_enabled: true,
-        is_online_capable: false,
-        address: None,
-        virtual_address: None,
         hypervisor_address: Some(0x0803_0000),
-        redistributor_address: None,
-        parked_address: None,
-        parking_protocol_version: None,
         performance_interrupt: Some((23, TriggerMode::Level)),
         maintenance_interrupt: (n == 0).then_some((25, TriggerMode::Edge)),
         spe_overflow_interrupt: Some(21),
         trace_buffer_interrupt: (n == 1).then_some(22),
         efficiency_class: 5,
+        ..GicCpuInterface::default()
     };
     let interfaces = [interface(0), interface(1)];
     let frames = [

@@ -50,8 +50,8 @@ pub fn dsdt_address(address: u64, tables: usize) -> Result<u64, WriteError> {
     raw::dsdt_address(address, tables)
 }
 
-/// Where [`Machine::write`] lays the FACS for this address if the machine lists so many tables and has this DSDT, as the
-/// FADT has to say: at the first multiple of 64 after the DSDT. Fails with `NoAddress` as [`dsdt_address`] does.
+/// Where [`Machine::write`] lays the FACS for this address if the machine lists so many tables and has this DSDT, as
+/// the FADT has to say: at the first multiple of 64 after the DSDT. Fails with `NoAddress` as [`dsdt_address`] does.
 pub fn facs_address(address: u64, tables: usize, dsdt: Option<Aml<'_>>) -> Result<u64, WriteError> {
     let length = dsdt.map_or(0, |dsdt| dsdt.size()) as u64;
     let end = dsdt_address(address, tables)?.checked_add(length).and_then(|end| end.checked_next_multiple_of(64));
