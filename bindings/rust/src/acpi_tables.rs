@@ -122,8 +122,8 @@ pub struct AcpiTables<'k> {
 }
 
 impl<'k> AcpiTables<'k> {
-    /// The tables below the root table that is looked for from a start, in memory that is mapped. A search is done once,
-    /// here. [`AcpiTables::from_rsdp`] and its like map the memory.
+    /// The tables below the root table that is looked for from a start, in memory that is mapped. A search is done
+    /// once, here. [`AcpiTables::from_rsdp`] and its like map the memory.
     ///
     /// Fails with `RegionsNotAscending` and `RegionTooHigh`; at an RSDP with `MapFailed`, `RsdpIncorrectSignature`,
     /// `RsdpInvalidOemId` and `RsdpInvalidChecksum`; in a search with `NoValidRsdp`, and by [`Start::BiosSearch`] with
@@ -210,7 +210,8 @@ impl<'k> AcpiTables<'k> {
         raw::zacpi_1_dsdt(&self.source())
     }
 
-    /// The AML of each valid SSDT, in the order of the root table (section 5.2.11.2).
+    /// The AML of each valid SSDT, in the order of the root table (section 5.2.11.2): a list, or in a `for` loop one
+    /// after the other.
     pub fn ssdts(&self) -> Listing<'k, AmlTable> {
         self.list(raw::zacpi_1_list_ssdts)
     }
@@ -245,6 +246,32 @@ impl<'k> AcpiTables<'k> {
     /// the offset.
     pub fn entries(&self, table: &Table, first: u32, width: EntryWidth) -> AcpiResult<Entries<'k>> {
         Entries::new(*self, *table, first, width)
+    }
+}
+
+/// The AML of each valid SSDT, one after the other: each step asks for one more, so that no room is needed.
+#[derive(Clone, Debug)]
+pub struct Ssdts<'k> {
+    source: Source<'k>,
+    index: usize,
+}
+
+impl Iterator for Ssdts<'_> {
+    type Item = AmlTable;
+
+    fn next(&mut self) -> Option<AmlTable> {
+        let table = raw::zacpi_1_find_nth_table(&self.source, Signature::SSDT, self.index).ok()?;
+        self.index += 1;
+        Some(AmlTable { address: table.address.checked_add(36)?, length: table.length.checked_sub(36)? })
+    }
+}
+
+impl<'k> IntoIterator for Listing<'k, AmlTable> {
+    type Item = AmlTable;
+    type IntoIter = Ssdts<'k>;
+
+    fn into_iter(self) -> Ssdts<'k> {
+        Ssdts { source: self.source(), index: 0 }
     }
 }
 

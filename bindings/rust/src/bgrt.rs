@@ -6,7 +6,8 @@
 //! # let ids = zacpi::write::TableIds::default();
 //! # let mut memory = [0; 512];
 //! # zacpi::write::Xsdt { ids, addresses: &[0x1040] }.write(&mut memory).unwrap();
-//! # zacpi::write::Bgrt { ids, image: zacpi::bgrt::Bgrt::new(0x20_0000).at((640, 400), 0) }.write(&mut memory[0x40..]).unwrap();
+//! # let image = Bgrt::new(0x20_0000).at((640, 400), 0);
+//! # zacpi::write::Bgrt { ids, image }.write(&mut memory[0x40..]).unwrap();
 //! # let regions = [zacpi::Region::new(0x1000, &memory)];
 //! # let tables = zacpi::AcpiTables::open(&regions, zacpi::Start::Xsdt(0x1000))?;
 //! let image = tables.find_table::<Bgrt>()?;

@@ -8,7 +8,8 @@
 //! # let ids = zacpi::write::TableIds::default();
 //! # let mut memory = [0; 512];
 //! # zacpi::write::Xsdt { ids, addresses: &[0x1040] }.write(&mut memory).unwrap();
-//! # zacpi::write::Bytes { ids, signature: zacpi::Signature::DMAR, revision: 1, bytes: &[0; 12] }.write(&mut memory[0x40..]).unwrap();
+//! # let table = zacpi::write::Bytes { ids, signature: zacpi::Signature::DMAR, revision: 1, bytes: &[0; 12] };
+//! # table.write(&mut memory[0x40..]).unwrap();
 //! # let regions = [zacpi::Region::new(0x1000, &memory)];
 //! # let tables = zacpi::AcpiTables::open(&regions, zacpi::Start::Xsdt(0x1000))?;
 //! let units = tables.find_table::<Dmar>()?;

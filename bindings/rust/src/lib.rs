@@ -29,7 +29,7 @@ pub mod srat;
 pub mod tables;
 pub mod write;
 
-pub use acpi_tables::{AcpiTable, AcpiTables, Fault, Found, Root, Table, Tables};
+pub use acpi_tables::{AcpiTable, AcpiTables, Fault, Found, Root, Ssdts, Table, Tables};
 pub use error::{AcpiError, AcpiResult, MadtError};
 pub use fadt::PowerProfile;
 pub use gic::GicModel;

@@ -238,6 +238,10 @@ impl<'k, T: Item> Listing<'k, T> {
         Listing { source, looked_up, call }
     }
 
+    pub(crate) fn source(&self) -> Source<'k> {
+        self.source
+    }
+
     /// How many items there are.
     pub fn count(&self) -> AcpiResult<usize> {
         (self.call)(&self.source, self.looked_up, &mut [])

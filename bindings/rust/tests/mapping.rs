@@ -107,7 +107,8 @@ fn says_that_there_is_no_room() {
 fn reads_memory_that_is_written_elsewhere() {
     let mut memory = machine();
     let at = NonNull::new(memory.bytes.as_mut_ptr()).unwrap();
-    // SAFETY: the memory lives longer than the region, and is written at its last byte alone, of which there is no slice.
+    // SAFETY: the memory lives longer than the region, and is written at its last byte alone, of which there is no
+    // slice.
     let regions = [unsafe { Region::from_raw(ROOT, at, memory.bytes.len()) }];
     let tables = AcpiTables::open(&regions, Start::Rsdp(RSDP)).unwrap();
     let table = tables.find(Signature::FADT).unwrap();

@@ -146,6 +146,7 @@ fn answers_where_bytes_are() {
         let ssdts = tables.ssdts().fill(&mut room).unwrap();
         let expected = [AmlTable { address: SSDT + 36, length: 1 }, AmlTable { address: OTHER_SSDT + 36, length: 0 }];
         assert_eq!(ssdts.iter().collect::<Vec<_>>(), expected);
+        assert_eq!(tables.ssdts().into_iter().collect::<Vec<_>>(), expected);
         assert_eq!((tables.aml(&expected[0]), tables.aml(&expected[1])), (Some(&[0xa3][..]), Some(&[][..])));
         let dmar = tables.find(Signature::DMAR).unwrap();
         let bytes = tables.bytes(&dmar).unwrap();
