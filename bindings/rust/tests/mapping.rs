@@ -3,7 +3,7 @@ mod common;
 use common::{Memory, ROOT};
 use std::cell::RefCell;
 use std::ptr::NonNull;
-use zacpi::{AcpiError, AcpiTable, AcpiTables, MappedTables, PhysicalMapper, Range, Region, Signature, Start};
+use zacpi::{AcpiError, AcpiTable, AcpiTables, MappedTables, PhysicalMapper, Range, Region, Signature, Slot, Start};
 
 const FADT: u64 = ROOT + 0x1000;
 const DSDT: u64 = ROOT + 0x2ff0;
@@ -100,6 +100,44 @@ fn says_that_there_is_no_room() {
     let refused = unsafe { MappedTables::<_, 1>::open(&mapper, Start::Rsdp(RSDP)) }.unwrap_err();
     assert_eq!(refused, AcpiError::AllocError);
     assert_eq!(mapper.held.borrow().len(), 0);
+}
+
+/// What the tables answer: where they are, and what of them is refused.
+fn answers(tables: &AcpiTables<'_>) -> impl PartialEq + std::fmt::Debug {
+    let mut headers = [Slot::default(); 8];
+    let mut ranges = [Slot::default(); 16];
+    let mut faults = [Slot::default(); 8];
+    let headers: Vec<_> = tables.headers().fill(&mut headers).unwrap().iter().collect();
+    let ranges: Vec<_> = tables.ranges().fill(&mut ranges).unwrap().iter().collect();
+    let faults: Vec<_> = tables.faults(Signature::FADT).fill(&mut faults).unwrap().iter().collect();
+    (tables.root(), headers, ranges, faults, tables.dsdt())
+}
+
+/// Whichever bit is damaged, memory that is mapped by pages answers as memory that is mapped as a whole does, and all is
+/// unmapped in the end.
+#[test]
+fn answers_as_if_all_were_mapped() {
+    let mut memory = machine();
+    for (at, length) in [(RSDP, 20), (ROOT, 44), (FADT, 116), (DSDT, 40)] {
+        for bit in 0..8 * length {
+            let index = (at - ROOT) as usize + bit / 8;
+            memory.bytes[index] ^= 1 << (bit % 8);
+            let regions = memory.regions();
+            let whole = AcpiTables::open(&regions, Start::Rsdp(RSDP));
+            let mapper = Mapper::new(&memory);
+            // SAFETY: as above.
+            let mapped = unsafe { AcpiTables::from_rsdp(&mapper, RSDP) };
+            match (&whole, &mapped) {
+                (Ok(whole), Ok(mapped)) => {
+                    assert_eq!(answers(whole), answers(&mapped.tables()), "bit {bit} of {at:#x}")
+                }
+                (whole, mapped) => assert_eq!(whole.as_ref().err(), mapped.as_ref().err(), "bit {bit} of {at:#x}"),
+            }
+            drop(mapped);
+            assert_eq!(mapper.held.borrow().len(), 0);
+            memory.bytes[index] ^= 1 << (bit % 8);
+        }
+    }
 }
 
 /// A region over memory that isn't a slice: the kernel writes what isn't a table.
