@@ -46,9 +46,9 @@ pub trait PhysicalMapper {
 /// The bytes of a page.
 const PAGE: u64 = 4096;
 
-/// Tables, with the memory that they lie in, which is unmapped when this is dropped. There is room for so many regions,
-/// and for as many ranges that are missing at a time: eight are enough, and a region and two ranges more for each
-/// pointer of the root table. [`MappedTables::tables`] reads them.
+/// Tables, with the memory that they lie in, which is unmapped when this is dropped. [`MappedTables::tables`] reads
+/// them. There is room for so many regions, for as many ranges that are missing at a time, and for as many that can't
+/// be mapped: eight of each are enough, and one more for each pointer of the root table.
 pub struct MappedTables<M: PhysicalMapper, const ROOM: usize = 64> {
     mapper: M,
     /// The first `count` are mapped by `mapper`, in ascending order, and stay so until they are replaced or dropped.
@@ -127,9 +127,9 @@ impl<M: PhysicalMapper, const ROOM: usize> MappedTables<M, ROOM> {
         }
     }
 
-    /// Maps a range, if an address can count its bytes.
+    /// Maps a range, unless it has more bytes than memory can have.
     fn map(&self, range: Range) -> Option<NonNull<u8>> {
-        usize::try_from(range.length).ok()?;
+        isize::try_from(range.length).ok()?;
         // SAFETY: it is unmapped once, by `unmap`, when it is replaced or dropped, or if there is no room for it.
         unsafe { self.mapper.map(range) }
     }

@@ -25,9 +25,9 @@ impl<'k> Region<'k> {
     ///
     /// # Safety
     ///
-    /// For `'k` the bytes are mapped there and can be read. Nobody writes a byte while a call of this package reads it,
-    /// nor while a slice of it is alive that this package returned: of a table ([`AcpiTables::bytes`] and the like), or
-    /// of what [`AcpiTables::bytes_at`] was asked for.
+    /// For `'k` the bytes, at most `isize::MAX`, are mapped there and can be read. Nobody writes a byte while a call of
+    /// this package reads it, nor while a slice of it is alive that this package returned: of a table
+    /// ([`AcpiTables::bytes`] and the like), or of what [`AcpiTables::bytes_at`] was asked for.
     ///
     /// [`AcpiTables::bytes`]: crate::AcpiTables::bytes
     /// [`AcpiTables::bytes_at`]: crate::AcpiTables::bytes_at
