@@ -163,6 +163,7 @@ fn writes_a_console() {
     assert_eq!(read, console);
     for code in 0..=u8::MAX {
         assert_eq!(u8::from(SpcrInterfaceType::from(code)), code);
+        assert_eq!((u8::from(AddressSpace::from(code)), u8::from(AccessSize::from(code))), (code, code));
     }
     let plain = write::Spcr::new(IDS, Spcr::new(SpcrInterfaceType::ArmPL011));
     let read = read_back(plain.size(), |at| plain.write(at), |tables| tables.find_table::<Spcr>().unwrap());
