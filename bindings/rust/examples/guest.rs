@@ -19,7 +19,15 @@ pub fn guest() -> Result<Vec<u8>, Box<dyn Error>> {
     let ids = TableIds { oem_id: *b"ZACPI ", oem_table_id: *b"GUEST   ", oem_revision: 1, ..TableIds::default() };
     let processors = [0, 1, 2, 3].map(|id| {
         let state = ProcessorState::WaitingForSipi;
-        Slot::from(Processor { processor_uid: id, local_apic_id: id, state, is_ap: id != 0 })
+        let (is_online_capable, is_x2apic) = (false, false);
+        Slot::from(Processor {
+            processor_uid: id,
+            local_apic_id: id,
+            state,
+            is_ap: id != 0,
+            is_online_capable,
+            is_x2apic,
+        })
     });
     let mut madt = Madt::new(ids, &processors);
     madt.io_apics = &[IoApic { address: 0xfec0_0000, global_system_interrupt_base: 0, id: 0 }];

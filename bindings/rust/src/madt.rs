@@ -9,7 +9,9 @@
 //! # zacpi::write::Xsdt { ids, addresses: &[0x1040] }.write(&mut memory).unwrap();
 //! # use zacpi::platform::{interrupt::IoApic, Processor, ProcessorState};
 //! # let state = ProcessorState::Running;
-//! # let processors = [Processor { processor_uid: 0, local_apic_id: 0, state, is_ap: false }.into()];
+//! # let (is_ap, is_online_capable, is_x2apic) = (false, false, false);
+//! # let one = Processor { processor_uid: 0, local_apic_id: 0, state, is_ap, is_online_capable, is_x2apic };
+//! # let processors = [one.into()];
 //! # let mut table = zacpi::write::Madt::new(ids, &processors);
 //! # table.io_apics = &[IoApic { address: 0xfec0_0000, global_system_interrupt_base: 0, id: 0 }];
 //! # table.write(&mut memory[0x40..]).unwrap();

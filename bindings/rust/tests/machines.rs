@@ -27,7 +27,15 @@ fn processors(count: u32) -> Vec<Processor> {
         n if n % 3 == 1 => ProcessorState::WaitingForSipi,
         _ => ProcessorState::Disabled,
     };
-    (0..count).map(|n| Processor { processor_uid: n, local_apic_id: 2 * n, state: state(n), is_ap: n != 0 }).collect()
+    let processor = |n| Processor {
+        processor_uid: n,
+        local_apic_id: 2 * n,
+        state: state(n),
+        is_ap: n != 0,
+        is_online_capable: n % 5 == 2,
+        is_x2apic: 2 * n >= 255, // what a Processor Local APIC has no room for
+    };
+    (0..count).map(processor).collect()
 }
 
 /// A machine of so many processors in two domains is read back as it was written.
@@ -43,6 +51,7 @@ fn read_back(count: u32) {
     let slots: Vec<_> = processors.iter().copied().map(Slot::from).collect();
     let io_apics = [IoApic { address: 0xfec0_0000, global_system_interrupt_base: 0, id: 7 }];
     let overrides = [InterruptSourceOverride {
+        bus: 0,
         isa_source: 9,
         global_system_interrupt: 20,
         polarity: Polarity::ActiveLow,
@@ -50,10 +59,12 @@ fn read_back(count: u32) {
     }];
     let nmi_source =
         NmiSource { global_system_interrupt: 2, polarity: Polarity::ActiveHigh, trigger_mode: TriggerMode::Edge };
+    let (polarity, trigger_mode) = (Polarity::SameAsBus, TriggerMode::SameAsBus);
+    let line = |processor, line| NmiLine { processor, line, polarity, trigger_mode };
     let lines = [
-        NmiLine { processor: NmiProcessor::All, line: LocalInterruptLine::Lint1 },
-        NmiLine { processor: NmiProcessor::ProcessorUid(3), line: LocalInterruptLine::Lint0 },
-        NmiLine { processor: NmiProcessor::ProcessorUid(300), line: LocalInterruptLine::Lint1 },
+        line(NmiProcessor::All, LocalInterruptLine::Lint1),
+        line(NmiProcessor::ProcessorUid(3), LocalInterruptLine::Lint0),
+        line(NmiProcessor::ProcessorUid(300), LocalInterruptLine::Lint1),
     ];
     let (override_slots, nmi_slots) = (overrides.map(Slot::from), [nmi_source.into()]);
     let line_slots = lines.map(Slot::from);

@@ -340,7 +340,8 @@ fn writes_domains() {
 fn errors_have_names() {
     let processor = |id| {
         let state = ProcessorState::WaitingForSipi;
-        Slot::from(Processor { processor_uid: 0, local_apic_id: id, state, is_ap: false })
+        let (is_ap, is_online_capable, is_x2apic) = (false, false, false);
+        Slot::from(Processor { processor_uid: 0, local_apic_id: id, state, is_ap, is_online_capable, is_x2apic })
     };
     let table = write::Madt::new(IDS, &[]);
     assert_eq!(fails(|at| table.write(at), 1000), WriteError::NoProcessor);
@@ -349,7 +350,9 @@ fn errors_have_names() {
     assert_eq!(fails(|at| table.write(at), 1000), WriteError::IdOfAll);
     let one = [processor(0)];
     let mut table = write::Madt::new(IDS, &one);
-    let lines = [NmiLine { processor: NmiProcessor::ProcessorUid(u32::MAX), line: LocalInterruptLine::Lint1 }.into()];
+    let (polarity, trigger_mode) = (Polarity::SameAsBus, TriggerMode::SameAsBus);
+    let (processor, line) = (NmiProcessor::ProcessorUid(u32::MAX), LocalInterruptLine::Lint1);
+    let lines = [NmiLine { processor, line, polarity, trigger_mode }.into()];
     table.local_apic_nmi_lines = &lines;
     assert_eq!(fails(|at| table.write(at), 1000), WriteError::UidOfAll);
     let mut table = write::Madt::new(TableIds { creator_id: [0xff; 4], ..IDS }, &one);

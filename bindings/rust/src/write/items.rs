@@ -118,12 +118,15 @@ written! {
         local_apic_id: it.local_apic_id,
         state: it.state.into(),
         is_boot: (!it.is_ap).into(),
+        is_online_capable: it.is_online_capable.into(),
+        is_x2apic: it.is_x2apic.into(),
     };
     InterruptSourceOverride |it| records::InterruptSourceOverride {
         global_system_interrupt: it.global_system_interrupt,
         isa_source: it.isa_source,
         polarity: it.polarity.into(),
         trigger: it.trigger_mode.into(),
+        bus: it.bus,
     };
     NmiSource |it| records::NmiSource {
         global_system_interrupt: it.global_system_interrupt,
@@ -135,7 +138,8 @@ written! {
             NmiProcessor::All => (0, 1),
             NmiProcessor::ProcessorUid(uid) => (uid, 0),
         };
-        records::NmiLine { processor_uid, of_all, lint: it.line.into() }
+        let (polarity, trigger) = (it.polarity.into(), it.trigger_mode.into());
+        records::NmiLine { processor_uid, of_all, lint: it.line.into(), polarity, trigger }
     };
     MemoryAffinity |it| records::MemoryAffinity {
         address: it.address,
