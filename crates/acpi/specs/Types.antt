@@ -20,7 +20,7 @@ pub use Rattle.acpi_base.specs.declared.address.GenericAddress.{GenericAddress}
 pub use Rattle.acpi_base.specs.declared.entries.EntryLayout.{EntryLayout}
 pub use Rattle.acpi_base.specs.declared.entries.Grammar.{Grammar}
 pub use Rattle.acpi_base.specs.declared.entries.Width.{Width}
-pub use Rattle.acpi_base.specs.declared.entries.Width.TheVariants.{One, Two}
+pub use Rattle.acpi_base.specs.declared.entries.Width.TheVariants.{Four, One, Two}
 pub use Rattle.acpi_base.specs.declared.error.AcpiError.{AcpiError}
 pub use Rattle.acpi_base.specs.declared.error.AcpiError.TheVariants.{AllocError, InvalidDsdtAddress, InvalidFacsAddress, InvalidGenericAddress, InvalidMadt, MapFailed, NoValidRsdp, RsdpIncorrectSignature, RsdpInvalidChecksum, RsdpInvalidOemId, SdtInvalidChecksum, SdtInvalidLength, SdtInvalidOemId, SdtInvalidSignature, TableMissing}
 pub use Rattle.acpi_base.specs.declared.error.MadtError.{MadtError}

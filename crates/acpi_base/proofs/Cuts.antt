@@ -2,22 +2,32 @@
 use Rattle.std.proofs.Common.{◌≡◌, ℕ, zero, suc, ◌+◌, ◌-◌, ◌≤◌, cond, List, [], ◌∷◌, ◌++◌, length, take, drop, Option, Some, None, refl, sym, ap, ◌∙◌, arith, append_assoc, length-append, length-drop, ◌⊎◌, inl, inr, option_map}
 use Rattle.acpi_base.proofs.FromStd.{get_or_append_left, take_at, drop_at, take-append-drop, get_or-take, length-take-le, nat_tests}
 use Rattle.acpi_base.specs.FromStd.{concat}
-use Rattle.acpi_base.specs.Words.{IsEntry, IsCut, IsFew, after_one, front, is_full, next_front, with_entry, cut_within, cut, least_length, number_at, number_in, width_of, OneCut, CutIsCut, EntryLayout, Grammar, Place, Width, One, Two}
-use Rattle.acpi_base.specs.Entries.{end_of}
+use Rattle.acpi_base.specs.Words.{IsEntry, IsCut, IsFew, after_one, front, is_full, next_front, with_entry, cut_within, cut, least_length, number_at, number_in, width_of, OneCut, CutIsCut, EntryLayout, Grammar, Place, Width, One, Two, Four}
+use Rattle.acpi_base.specs.Entries.{end_of, two_at}
 
 -- ---- numbers in the front of bytes
+
+two_append : (at : ℕ) (e x : List ℕ) → at + 2 ≤ length e → two_at at (e ++ x) ≡ two_at at e
+two_append at e x l =
+    rw (get_or_append_left e x 0 at (omega (arith, l)), get_or_append_left e x 0 (at + 1) (omega (arith, l))) refl
 
 in_append : (w : Width) (at : ℕ) (e x : List ℕ) → at + width_of w ≤ length e
     → number_in w at (e ++ x) ≡ number_in w at e
 in_append One at e x l = get_or_append_left e x 0 at (omega (arith, l))
-in_append Two at e x l =
-    rw (get_or_append_left e x 0 at (omega (arith, l)), get_or_append_left e x 0 (at + 1) (omega (arith, l))) refl
+in_append Two at e x l = two_append at e x l
+in_append Four at e x l =
+    rw (two_append at e x (omega (arith, l)), two_append (at + 2) e x (omega (arith, l))) refl
+
+two_take : (at n : ℕ) (bytes : List ℕ) → at + 2 ≤ n → two_at at (take n bytes) ≡ two_at at bytes
+two_take at n bytes l =
+    rw (get_or-take n bytes at 0 (omega (arith, l)), get_or-take n bytes (at + 1) 0 (omega (arith, l))) refl
 
 in_take : (w : Width) (at n : ℕ) (bytes : List ℕ) → at + width_of w ≤ n
     → number_in w at (take n bytes) ≡ number_in w at bytes
 in_take One at n bytes l = get_or-take n bytes at 0 (omega (arith, l))
-in_take Two at n bytes l =
-    rw (get_or-take n bytes at 0 (omega (arith, l)), get_or-take n bytes (at + 1) 0 (omega (arith, l))) refl
+in_take Two at n bytes l = two_take at n bytes l
+in_take Four at n bytes l =
+    rw (two_take at n bytes (omega (arith, l)), two_take (at + 2) n bytes (omega (arith, l))) refl
 
 at_append : (p : Place) (e x : List ℕ) → end_of p ≤ length e → number_at p (e ++ x) ≡ number_at p e
 at_append p e x l = in_append p.width p.at e x l
@@ -28,6 +38,7 @@ at_take p n bytes l = in_take p.width p.at n bytes l
 some_end : (w : Width) (at : ℕ) → 1 ≤ at + width_of w
 some_end One at = omega arith
 some_end Two at = omega arith
+some_end Four at = omega arith
 
 -- ---- the front
 

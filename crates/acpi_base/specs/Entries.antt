@@ -3,22 +3,28 @@
 -- of each type, and how many entries there are at most.
 use Rattle.std.specs.Prelude.{◌≡◌, ℕ, zero, suc, ◌+◌, ◌-◌, ◌*◌, ◌≤◌, ◌&&◌, Bool, true, false, List, [], ◌∷◌, ◌++◌, length, take, drop, Option, Some, None, nat_le, if◌then◌else◌, slice_index, slice_index_or, option_map, unwrap_or}
 use Rattle.acpi_base.specs.FromStd.{concat, AllByRecursion}
-use Rattle.acpi_base.specs.Types.{EntryLayout, Grammar, Place, Width, One, Two}
+use Rattle.acpi_base.specs.Types.{EntryLayout, Grammar, Place, Width, One, Two, Four}
 
 -- ---- one entry
 
 abbrev pub width_of : Width → ℕ
 width_of One = 1
 width_of Two = 2
+width_of Four = 4
 
 -- where a number ends
 abbrev pub end_of : Place → ℕ
 end_of p = p.at + width_of p.width
 
--- the number of these bytes from an offset on, the lowest first; a byte past the end is zero
+-- the number of two bytes from an offset on, the lower one first; a byte past the end is zero
+abbrev pub two_at : ℕ → List ℕ → ℕ
+two_at at bytes = slice_index bytes at + 256 * slice_index bytes (at + 1)
+
+-- the number of these bytes from an offset on, the lowest first
 abbrev pub number_in : Width → ℕ → List ℕ → ℕ
 number_in One at bytes = slice_index bytes at
-number_in Two at bytes = slice_index bytes at + 256 * slice_index bytes (at + 1)
+number_in Two at bytes = two_at at bytes
+number_in Four at bytes = two_at at bytes + 65536 * two_at (at + 2) bytes
 
 abbrev pub number_at : Place → List ℕ → ℕ
 number_at p bytes = number_in p.width p.at bytes

@@ -8,7 +8,7 @@ pub use Rattle.acpi_base.specs.declared.entries.EntryLayout.{EntryLayout}
 pub use Rattle.acpi_base.specs.declared.entries.Grammar.{Grammar}
 pub use Rattle.acpi_base.specs.declared.entries.Place.{Place}
 pub use Rattle.acpi_base.specs.declared.entries.Width.{Width}
-pub use Rattle.acpi_base.specs.declared.entries.Width.TheVariants.{One, Two}
+pub use Rattle.acpi_base.specs.declared.entries.Width.TheVariants.{Four, One, Two}
 pub use Rattle.acpi_base.specs.declared.error.AcpiError.{AcpiError}
 pub use Rattle.acpi_base.specs.declared.error.AcpiError.TheVariants.{AllocError, InvalidGenericAddress, InvalidMadt, InvalidNamespaceString, MapFailed, SdtInvalidChecksum, SdtInvalidLength, SdtInvalidOemId, SdtInvalidSignature, SdtInvalidTableId}
 pub use Rattle.acpi_base.specs.declared.error.MadtError.{MadtError}

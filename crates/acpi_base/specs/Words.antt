@@ -46,6 +46,6 @@ unfoldable pub use Rattle.acpi_base.specs.Sums.{evens}
 pub use Rattle.acpi_base.specs.Table.{Kind, kind, plain_kind, sdt_kind}
 unfoldable pub use Rattle.acpi_base.specs.Table.{own_table_at, table_at}
 pub use Rattle.acpi_base.specs.Text.{IsTextOf, Shows, bytes_text, hex_digit, hex_text, letters_of, signature_text}
-pub use Rattle.acpi_base.specs.Types.{AcpiError, Counts, EntryLayout, Grammar, InterruptSourceOverride, InvalidEntryLength, InvalidMadt, IoApic, IsaInterrupt, MADT, MCFG, MadtEntry, MadtError, MadtItem, MapFailed, ModelBuilder, One, Place, Processor, ProcessorInfo, SPCR, SdtHeader, SdtInvalidChecksum, SdtInvalidLength, SdtInvalidSignature, Signature, Two, Width}
+pub use Rattle.acpi_base.specs.Types.{AcpiError, Counts, EntryLayout, Four, Grammar, InterruptSourceOverride, InvalidEntryLength, InvalidMadt, IoApic, IsaInterrupt, MADT, MCFG, MadtEntry, MadtError, MadtItem, MapFailed, ModelBuilder, One, Place, Processor, ProcessorInfo, SPCR, SdtHeader, SdtInvalidChecksum, SdtInvalidLength, SdtInvalidSignature, Signature, Two, Width}
 pub use Rattle.acpi_base.specs.Wakeup.{command_of}
 pub use Rattle.acpi_base.specs.declared.memory.claim.Claim.{Claim}

@@ -4,7 +4,7 @@
 //! a grammar that is a constant it costs what a walk written for that table does.
 ghost use Rattle.std.specs.Prelude.{◌≡◌, ◌<◌, ◌≤◌, length, IfSome, IfNone, [], slice_index, Some};
 ghost use Rattle.acpi_base.specs.Words.{IsEntry, after_one, cut, front, least_length, next_front, number_at, with_entry};
-ghost use Rattle.acpi_base.specs.Entries.{end_of};
+ghost use Rattle.acpi_base.specs.Entries.{end_of, two_at};
 
 /// How many bytes a number has.
 #[derive(Clone, Copy)]
@@ -13,6 +13,8 @@ pub enum Width {
     One,
     /// Two bytes, the lower one first.
     Two,
+    /// Four bytes, the lowest one first.
+    Four,
 }
 
 /// The place of a number in an entry.
@@ -57,6 +59,16 @@ fn byte_at(bytes: &[u8], at: usize) -> u8
     }
 }
 
+/// Two bytes as a number, the lower one first. A byte past the end is zero.
+#[inline(always)]
+fn two_at(bytes: &[u8], at: usize) -> usize
+    requires { at < 512 }
+    ensures number { result ≡ two_at at bytes.now }
+    ensures small { result < 65536 }
+{
+    byte_at(bytes, at) as usize + 256 * byte_at(bytes, at + 1) as usize
+}
+
 /// The number at a place of an entry. A byte past the end is read as zero.
 #[inline(always)]
 pub fn number_at(place: Place, bytes: &[u8]) -> usize
@@ -65,7 +77,8 @@ pub fn number_at(place: Place, bytes: &[u8]) -> usize
     let at = place.at as usize;
     match place.width {
         Width::One => byte_at(bytes, at) as usize,
-        Width::Two => byte_at(bytes, at) as usize + 256 * byte_at(bytes, at + 1) as usize,
+        Width::Two => two_at(bytes, at),
+        Width::Four => two_at(bytes, at) + 65536 * two_at(bytes, at + 2),
     }
 }
 
@@ -79,6 +92,11 @@ fn number_there(place: Place, bytes: &[u8]) -> usize
     match place.width {
         Width::One => bytes[at] as usize,
         Width::Two => bytes[at] as usize + 256 * bytes[at + 1] as usize,
+        Width::Four => {
+            bytes[at] as usize
+                + 256 * bytes[at + 1] as usize
+                + 65536 * (bytes[at + 2] as usize + 256 * bytes[at + 3] as usize)
+        }
     }
 }
 
@@ -90,6 +108,7 @@ fn end_of(place: Place) -> usize
     match place.width {
         Width::One => place.at as usize + 1,
         Width::Two => place.at as usize + 2,
+        Width::Four => place.at as usize + 4,
     }
 }
 

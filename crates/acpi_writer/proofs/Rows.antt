@@ -6,7 +6,7 @@ use Rattle.acpi_base.proofs.FromStd.{concat-append, length-map, map-append, map-
 use Rattle.acpi_base.proofs.Words.{cut_is_cut, one_cut}
 use Rattle.acpi_base.specs.Entries.{end_of}
 use Rattle.acpi_base.specs.Words.{IsEntry, IsFew, cut, least_length, number_at, width_of}
-use Rattle.acpi.specs.Types.{EntryLayout, Grammar, Width, One, Two}
+use Rattle.acpi.specs.Types.{EntryLayout, Grammar, Width, One, Two, Four}
 
 -- ---- entries
 
@@ -70,6 +70,7 @@ module _ {n : ℕ} {R : Type 0} {l : EntryLayout n} {T : List ℕ → R → Type
 wide : (w : Width) → 1 ≤ width_of w
 wide One = lit≤ tt
 wide Two = lit≤ tt
+wide Four = lit≤ tt
 
 no_more : {n : ℕ} (l : EntryLayout n) (e more : List ℕ) → [] ≡ e ++ more → IsEntry l e → ⊥
 no_more l e more w i = omega (arith, i.header, ap length w, length-append e more, wide l.length_place.width)
