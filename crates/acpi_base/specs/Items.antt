@@ -1,6 +1,6 @@
 -- What a walk along the MADT's entries shows of what they say.
 use Rattle.std.specs.Prelude.{ℕ, ◌+◌, ◌||◌, List, length, false, true, Option, None, Some, option_and_then, Result, Ok, Err, filter_map, option_map}
-use Rattle.acpi_base.specs.FromStd.{list_any, result_ok}
+use Rattle.acpi_base.specs.FromStd.{list_any, result_err, result_ok}
 use Rattle.acpi_base.specs.Entries.{cut}
 use Rattle.acpi_base.specs.Interrupts.{item_of}
 use Rattle.acpi_base.specs.Madt.{entry_of, madt_grammar}
@@ -14,6 +14,10 @@ said_of e = option_map item_of (entry_of e)
 -- what an entry says, if its type is defined and it isn't refused
 abbrev pub item_said : List ℕ → Option MadtItem
 item_said e = option_and_then result_ok (said_of e)
+
+-- why an entry is refused, if its type is defined and it is
+abbrev pub fault_said : List ℕ → Option MadtError
+fault_said e = option_and_then result_err (said_of e)
 
 -- what the entries in which these bytes are cut say, and the refusals
 abbrev pub said_in : List ℕ → List (Result MadtItem MadtError)

@@ -13,11 +13,11 @@ pub use Rattle.acpi_base.specs.ErrorText.{error_text, madt_error_text}
 pub use Rattle.acpi_base.specs.Extended.{extended_at, held_of, shown_of}
 pub use Rattle.acpi_base.specs.Guarded.{guarded_by, listed_by}
 unfoldable pub use Rattle.acpi_base.specs.Header.{check_names, check_table, header_at}
-pub use Rattle.acpi_base.specs.Interrupts.{io_apic_of, nmi_line_of, polarity_of, trigger_mode_of}
+pub use Rattle.acpi_base.specs.Interrupts.{flags_fault, io_apic_of, nmi_line_of, nmi_source_of, override_fault, override_of, polarity_of, trigger_mode_of, unless_fault}
 unfoldable pub use Rattle.acpi_base.specs.Interrupts.{item_of}
 pub use Rattle.acpi_base.specs.Isa.{SharedByOverrides, goes_to, is_taken, isa_interrupt, leads_to, override_for, sci_interrupt, straight, wired}
 pub use Rattle.acpi_base.specs.IsaOverrides.{AreCounted, Gathered, IsGathered}
-pub use Rattle.acpi_base.specs.Items.{counted_behind, counts_of, item_said, items_left, model_counts, said_in}
+pub use Rattle.acpi_base.specs.Items.{counted_behind, counts_of, fault_said, item_said, items_left, model_counts, said_in}
 unfoldable pub use Rattle.acpi_base.specs.Items.{said_of}
 pub use Rattle.acpi_base.specs.Laws.{DamageShows, FieldPastEnd, LentIsInside}
 pub use Rattle.acpi_base.specs.Madt.{cut_of, entries_of, entry_of, madt_grammar, madt_layout, mailbox_in, mailbox_of, no_mailbox}

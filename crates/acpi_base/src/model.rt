@@ -25,7 +25,7 @@ pub use interrupt::{
 };
 pub use isa::IsaInterrupt;
 pub use isa_overrides::IsaOverrides;
-pub use item::MadtItem;
+pub use item::{MadtItem, flags_fault};
 pub use items::MadtItems;
 pub use nmi_lines::LocalNmiLines;
 pub use pin::IoApicPin;

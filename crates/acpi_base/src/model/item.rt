@@ -1,7 +1,7 @@
 //! One entry of a MADT as an item of the interrupt model (section 5.2.12).
 ghost use Rattle.std.specs.Prelude.{◌≡◌, Ok};
-ghost use Rattle.acpi_base.specs.FromStd.{result_map_both};
-ghost use Rattle.acpi_base.specs.Words.{IsEntry, io_apic_of, item_of, nmi_line_of, polarity_of, trigger_mode_of, madt_layout, said_of};
+ghost use Rattle.acpi_base.specs.FromStd.{result_err};
+ghost use Rattle.acpi_base.specs.Words.{IsEntry, fault_said, flags_fault, io_apic_of, item_of, line_of, madt_layout, nmi_line_of, nmi_source_of, override_fault, override_of, polarity_of, said_of, trigger_mode_of, unless_fault};
 ghost use Rattle.acpi_base.specs.declared.model.item.MadtItem.TheVariants as item;
 ghost use Rattle.acpi_base.specs.declared.tables.madt.entry.MadtEntry.TheVariants as variants;
 
@@ -67,17 +67,45 @@ impl MadtItem {
                     global_system_interrupt_base: e.global_system_interrupt_base,
                 })))
             }
-            0x02 => Some(override_item(&InterruptSourceOverrideEntry::read(entry))),
-            0x03 => Some(nmi_source_item(&NmiSourceEntry::read(entry))),
-            0x04 => Some(nmi_line_item(&LocalApicNmiEntry::read(entry))),
+            0x02 => {
+                let e = InterruptSourceOverrideEntry::read(entry);
+                Some(unless_fault(e.fault(), MadtItem::Override(e.wiring())))
+            }
+            0x03 => {
+                let e = NmiSourceEntry::read(entry);
+                Some(unless_fault(flags_fault(e.flags), MadtItem::NmiSource(e.source())))
+            }
+            0x04 => {
+                let e = LocalApicNmiEntry::read(entry);
+                let processor = NmiProcessor::from_uid(
+                    e.processor_id as u32,
+                    NmiProcessor::ALL_APICS,
+                );
+                Some(line_item(processor, e.nmi_line))
+            }
             0x05 => {
                 let e = LocalApicAddressOverrideEntry::read(entry);
                 Some(Ok(MadtItem::LocalApicAddress(e.local_apic_address)))
             }
             0x09 => Some(Ok(x2apic_processor_of(&LocalX2ApicEntry::read(entry)))),
-            0x0a => Some(x2apic_nmi_line_item(&X2ApicNmiEntry::read(entry))),
+            0x0a => {
+                let e = X2ApicNmiEntry::read(entry);
+                let processor = NmiProcessor::from_uid(e.processor_uid, NmiProcessor::ALL_X2APICS);
+                Some(line_item(processor, e.nmi_line))
+            }
             0x10 => Some(Ok(MadtItem::Wakeup)),
             kind if kind < 0x10 => Some(Err(MadtError::UnexpectedEntry)),
+            _ => None,
+        }
+    }
+
+    /// Why an entry's bytes are refused, or `None` if they aren't: the error with which the strict model fails for it.
+    pub fn fault(entry: &[u8]) -> Option<MadtError>
+        requires { IsEntry madt_layout entry.now }
+        ensures { result ≡ fault_said entry.now }
+    {
+        match MadtItem::said(entry) {
+            Some(Err(fault)) => Some(fault),
             _ => None,
         }
     }
@@ -109,56 +137,77 @@ pub(super) fn x2apic_processor_of(entry: &LocalX2ApicEntry) -> MadtItem
     }
 }
 
-/// Local APIC NMI: the LINT pin of a local APIC.
+/// The LINT pin of that number, for these processors' local APICs.
 #[inline(always)]
-#[tactic(auto, unfolding(crate::specs::Interrupts::item_of))]
-fn nmi_line_item(entry: &LocalApicNmiEntry) -> Result<MadtItem, MadtError>
-    ensures { result ≡ item_of (variants.LocalApicNmi entry.now) }
+fn line_item(processor: NmiProcessor, number: u8) -> Result<MadtItem, MadtError>
+    ensures { result ≡ unless_fault (result_err (line_of number)) (item.NmiLine (nmi_line_of processor number)) }
 {
-    let processor = NmiProcessor::from_uid(entry.processor_id as u32, NmiProcessor::ALL_APICS);
-    nmi_line_for(processor, entry.nmi_line)
+    let line = LocalInterruptLine::try_from(number)?;
+    Ok(MadtItem::NmiLine(NmiLine { processor, line }))
 }
 
-/// Local x2APIC NMI: the LINT pin of a local x2APIC.
+/// What is read, unless the entry has a fault.
 #[inline(always)]
-#[tactic(auto, unfolding(crate::specs::Interrupts::item_of))]
-fn x2apic_nmi_line_item(entry: &X2ApicNmiEntry) -> Result<MadtItem, MadtError>
-    ensures { result ≡ item_of (variants.X2ApicNmi entry.now) }
+fn unless_fault(fault: Option<MadtError>, item: MadtItem) -> Result<MadtItem, MadtError>
+    ensures { result ≡ unless_fault fault item }
 {
-    let processor = NmiProcessor::from_uid(entry.processor_uid, NmiProcessor::ALL_X2APICS);
-    nmi_line_for(processor, entry.nmi_line)
-}
-
-/// The wiring that an override gives (section 5.2.12.5). The bus is tested before the flags.
-#[tactic(auto, unfolding(crate::specs::Interrupts::item_of))]
-fn override_item(entry: &InterruptSourceOverrideEntry) -> Result<MadtItem, MadtError>
-    ensures { result ≡ item_of (variants.InterruptSourceOverride entry.now) }
-{
-    if entry.bus != 0 {
-        return Err(MadtError::InterruptOverrideEntryHasInvalidBus);
+    match fault {
+        Some(fault) => Err(fault),
+        None => Ok(item),
     }
-    let polarity = polarity_of(entry.flags)?;
-    let trigger_mode = trigger_mode_of(entry.flags)?;
-    Ok(MadtItem::Override(InterruptSourceOverride {
-        isa_source: entry.irq,
-        global_system_interrupt: entry.global_system_interrupt,
-        polarity,
-        trigger_mode,
-    }))
 }
 
-/// The interrupt that is non-maskable (section 5.2.12.6).
-#[tactic(auto, unfolding(crate::specs::Interrupts::item_of))]
-fn nmi_source_item(entry: &NmiSourceEntry) -> Result<MadtItem, MadtError>
-    ensures { result ≡ item_of (variants.NmiSource entry.now) }
+impl InterruptSourceOverrideEntry {
+    /// How the interrupt is wired (section 5.2.12.5). A reserved code, which is a fault, is read as that of the bus.
+    #[inline(always)]
+    pub fn wiring(&self) -> InterruptSourceOverride
+        ensures { result ≡ override_of self.now }
+    {
+        InterruptSourceOverride {
+            isa_source: self.irq,
+            global_system_interrupt: self.global_system_interrupt,
+            polarity: polarity_of(self.flags).unwrap_or(Polarity::SameAsBus),
+            trigger_mode: trigger_mode_of(self.flags).unwrap_or(TriggerMode::SameAsBus),
+        }
+    }
+
+    /// Why it is refused, if it is. The bus is tested before the flags.
+    #[inline(always)]
+    fn fault(&self) -> Option<MadtError>
+        ensures { result ≡ override_fault self.now }
+    {
+        if self.bus != 0 {
+            return Some(MadtError::InterruptOverrideEntryHasInvalidBus);
+        }
+        flags_fault(self.flags)
+    }
+}
+
+impl NmiSourceEntry {
+    /// The interrupt that is non-maskable (section 5.2.12.6). A reserved code, which is a fault, is read as that of the
+    /// bus.
+    #[inline(always)]
+    fn source(&self) -> NmiSource
+        ensures { result ≡ nmi_source_of self.now }
+    {
+        NmiSource {
+            global_system_interrupt: self.global_system_interrupt,
+            polarity: polarity_of(self.flags).unwrap_or(Polarity::SameAsBus),
+            trigger_mode: trigger_mode_of(self.flags).unwrap_or(TriggerMode::SameAsBus),
+        }
+    }
+}
+
+/// Why MPS INTI Flags are refused, if they are: for a reserved Polarity, or else for a reserved Trigger Mode (section
+/// 5.2.12.5).
+#[inline(always)]
+pub fn flags_fault(flags: u16) -> Option<MadtError>
+    ensures { result ≡ flags_fault flags }
 {
-    let polarity = polarity_of(entry.flags)?;
-    let trigger_mode = trigger_mode_of(entry.flags)?;
-    Ok(MadtItem::NmiSource(NmiSource {
-        global_system_interrupt: entry.global_system_interrupt,
-        polarity,
-        trigger_mode,
-    }))
+    if bits(flags as u64, 0, 2) == 2 {
+        return Some(MadtError::MpsIntiInvalidPolarity);
+    }
+    (bits(flags as u64, 2, 2) == 2).then_some(MadtError::MpsIntiInvalidTriggerMode)
 }
 
 /// Polarity: bits 0 and 1 of an interrupt's MPS INTI Flags (section 5.2.12.5).
@@ -173,12 +222,4 @@ pub(super) fn trigger_mode_of(flags: u16) -> Result<TriggerMode, MadtError>
     ensures { result ≡ trigger_mode_of flags }
 {
     TriggerMode::try_from(bits(flags as u64, 2, 2) as u8)
-}
-
-/// The LINT pin of that number, 0 or 1, for these processors' local APICs.
-fn nmi_line_for(processor: NmiProcessor, number: u8) -> Result<MadtItem, MadtError>
-    ensures { result ≡ result_map_both item.NmiLine (λ e. e) (nmi_line_of processor number) }
-{
-    let line = LocalInterruptLine::try_from(number)?;
-    Ok(MadtItem::NmiLine(NmiLine { processor, line }))
 }

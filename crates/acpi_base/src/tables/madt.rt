@@ -23,8 +23,7 @@ pub use apic::{
     InterruptSourceOverrideEntry, IoApicEntry, LocalApicAddressOverrideEntry, LocalApicEntry,
     LocalApicNmiEntry, LocalX2ApicEntry, NmiSourceEntry, X2ApicNmiEntry,
 };
-pub(crate) use entry::MADT_GRAMMAR;
-pub use entry::{EntryHeader, MadtEntry};
+pub use entry::{EntryHeader, MADT_GRAMMAR, MadtEntry};
 pub use gic::{
     GicInterruptTranslationServiceEntry, GicMsiFrameEntry, GicRedistributorEntry, GiccEntry,
     GicdEntry,

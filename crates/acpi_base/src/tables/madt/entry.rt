@@ -102,7 +102,7 @@ const LEAST_LENGTHS: [usize; 17] = [
 ];
 
 /// How the table's bytes are cut into entries: the type and the length have one byte each.
-pub(crate) const MADT_GRAMMAR: Grammar<17> = Grammar {
+pub const MADT_GRAMMAR: Grammar<17> = Grammar {
     layout: EntryLayout {
         kind_place: Place {
             at: 0,
