@@ -183,7 +183,7 @@ sum_set n bytes k b l m =
     let front : sum (take n bytes) + sum (drop n bytes) ≡ sum bytes = sum_by-take-drop (λ x. x) bytes n in
     let changed : sum (take n (set bytes k b)) + sum (drop n (set bytes k b)) ≡ sum (set bytes k b) =
     sum_by-take-drop (λ x. x) (set bytes k b) n in
-    let behind : sum (drop n (set bytes k b)) ≡ sum (drop n bytes) = ap sum (drop-set-lt n bytes k b l) in
+    let rest : sum (drop n (set bytes k b)) ≡ sum (drop n bytes) = ap sum (drop-set-lt n bytes k b l) in
     let whole : sum (set bytes k b) + get_or bytes k 0 ≡ sum bytes + b = sum_by-set (λ x. x) bytes k b 0 m in
     omega arith
 

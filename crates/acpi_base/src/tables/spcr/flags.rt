@@ -52,7 +52,8 @@ impl Flags for SpcrInterruptType {
 
     ghost exact = { ⊤ };
 
-    ghost table = { (codes "DUAL_8259", 1) ∷ (codes "IO_APIC", 2) ∷ (codes "IO_SAPIC", 4) ∷ (codes "ARMH_GIC", 8) ∷ (codes "RISCV_PLIC", 16) ∷ [] };
+    ghost table = { (codes "DUAL_8259", 1) ∷ (codes "IO_APIC", 2) ∷ (codes "IO_SAPIC", 4) ∷ (codes "ARMH_GIC", 8)
+        ∷ (codes "RISCV_PLIC", 16) ∷ [] };
 
     ghost set_of = { λ s. s.0 };
 
@@ -111,7 +112,8 @@ impl Flags for SpcrTerminalType {
 
     ghost exact = { ⊤ };
 
-    ghost table = { (codes "VT1000", 1) ∷ (codes "EXTENDED_VT1000", 2) ∷ (codes "VT_UTF8", 4) ∷ (codes "ANSI", 8) ∷ [] };
+    ghost table = { (codes "VT1000", 1) ∷ (codes "EXTENDED_VT1000", 2) ∷ (codes "VT_UTF8", 4)
+        ∷ (codes "ANSI", 8) ∷ [] };
 
     ghost set_of = { λ s. s.0 };
 
