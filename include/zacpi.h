@@ -1,4 +1,4 @@
-/* zacpi.h: what a machine's ACPI tables say, for C and C++. The least that a caller does:
+/* zacpi.h: reads and writes a machine's ACPI tables, for C and C++. The least that a caller does:
  *
  *     #include "zacpi.h"
  *     #include <stdio.h>
@@ -26,7 +26,7 @@
  *
  * A call can be passed any numbers, over any bytes. It keeps no state, takes no memory and calls
  * nobody: any number may run at once, each with outputs of its own. It returns ZACPI_OK, with all
- * its outputs written, or fails with the first error that stands at it, with none written; only a
+ * its outputs written, or fails with the first error of its comment, with none written; only a
  * ZACPI_SDT_ error and ZACPI_TABLE_MISSING write `signature`. Opening errors are those of
  * zacpi_open. A call about a table goes by the first valid one that is listed.
  *
@@ -35,10 +35,10 @@
  *
  * Sections are those of the ACPI Specification 6.4 unless another document is named, and names of
  * fields (Length, SCI_INT) those of the document that lays the table out. A field without a
- * comment is what its name says. One that says whether something holds is 0 or 1. Addresses are
+ * comment is what its name means. One that tells whether something holds is 0 or 1. Addresses are
  * physical, and lengths in bytes; memory ends at the address after its last byte. Bytes past the
  * end of a table or entry are read as 0, and a field in every Revision of its table. Fields that
- * differ say so. */
+ * differ have a comment. */
 #ifndef ZACPI_H
 #define ZACPI_H
 #include <stddef.h>
@@ -46,7 +46,7 @@
 
 #define ZACPI_VERSION "1.0.0"
 #define ZACPI_VERSION_NUMBER 0x010000 /* to compare: one byte for each part of the version */
-#define ZACPI_ABI 1 /* stands in the symbols of the library: with another library nothing links */
+#define ZACPI_ABI 1 /* part of the library's symbols: with another library nothing links */
 
 #if defined(__GNUC__)
 #define ZACPI_CHECKED __attribute__((__warn_unused_result__))
@@ -131,10 +131,10 @@ enum zacpi_refusal {
                                  * console's interrupt_controllers; of a register's address space,
                                  * access size or `present` */
     ZACPI_NO_PROCESSOR = 61,
-    ZACPI_ID_OF_ALL = 62,       /* a processor's uid or id is 0xffffffff, which stands for all */
+    ZACPI_ID_OF_ALL = 62,       /* a processor's uid or id is 0xffffffff, which means all */
     ZACPI_UID_OF_ALL = 63,      /* an NMI line's processor_uid is 0xffffffff */
     ZACPI_BAD_MATRIX = 64,      /* a SLIT without one distance for each pair */
-    ZACPI_NO_ADDRESS = 65,      /* what an RSDP or a FADT leads to, or a console, is at address 0,
+    ZACPI_NO_ADDRESS = 65,      /* what an RSDP or a FADT points to, or a console, is at address 0,
                                  * or a machine's tables can't lie at `address` */
     ZACPI_BAD_NAME = 66,        /* OEMID, OEM Table ID or Creator ID isn't UTF-8 */
     ZACPI_NO_ROOM = 67,         /* `capacity` is less than the length */
@@ -143,7 +143,7 @@ enum zacpi_refusal {
     ZACPI_BAD_RANGE = 70,       /* memory has no byte, or ends at 2^64 or above; redistributors have
                                  * 2^32 bytes or more */
     ZACPI_SAME_AS_BUS = 71,     /* an Arm machine's trigger mode or polarity is 0 */
-    ZACPI_TOO_MANY_FRAMES = 72, /* a GT Block has more frames than Length can say */
+    ZACPI_TOO_MANY_FRAMES = 72, /* a GT Block has more frames than Length can count */
     ZACPI_BAD_TABLE = 73        /* a listed table's bytes aren't one table */
 };
 
@@ -197,12 +197,12 @@ enum zacpi_start {
     ZACPI_START_RSDP = 0,        /* at the RSDP, as a loader or UEFI passes it (section 5.2.5.2) */
     ZACPI_START_RSDT = 1,        /* at the RSDT: pointers of 4 bytes (section 5.2.7) */
     ZACPI_START_XSDT = 2,        /* at the XSDT: pointers of 8 bytes (section 5.2.8) */
-    ZACPI_START_BIOS_SEARCH = 3, /* searches the BIOS areas, each lent in one piece, for the RSDP */
-    ZACPI_START_SEARCH = 4       /* searches them as far as they are lent */
+    ZACPI_START_BIOS_SEARCH = 3, /* searches the BIOS areas, each in one region, for the RSDP */
+    ZACPI_START_SEARCH = 4       /* searches them as far as they are mapped */
 };
 
 /* Where tables are looked for. The regions ascend and share no byte; zacpi_clip_ranges makes such.
- * Bytes are lent if one region contains all of them. */
+ * Bytes are mapped if one region contains all of them. */
 struct zacpi_source {
     const struct zacpi_region *regions;
     size_t regions_length;
@@ -282,7 +282,7 @@ ZACPI_STATUS zacpi_open(const struct zacpi_source *source, struct zacpi_root *ou
                         struct zacpi_signature *signature);
 
 /* Lists the memory that the tables still need and no one region contains (C.md). A kernel maps what
- * it can, joins it with its regions' ranges (zacpi_clip_ranges), and asks again, until no new range
+ * it can, joins it with its regions' ranges (zacpi_clip_ranges), and repeats, until no new range
  * comes. Each has at least two bytes. Fails with ZACPI_REGIONS_NOT_ASCENDING, ZACPI_REGION_TOO_HIGH
  * or ZACPI_UNKNOWN_START. */
 ZACPI_STATUS zacpi_list_missing_ranges(const struct zacpi_source *source, struct zacpi_range *out,
@@ -345,8 +345,8 @@ ZACPI_STATUS zacpi_list_ssdts(const struct zacpi_source *source, struct zacpi_am
 
 /* Lists the memory of the tables, which isn't to be given away: of the root table, of each listed
  * table that is valid under its own signature, and of the FADT's DSDT if it is valid and FACS if it
- * is lent, has the signature "FACS" and a Length of at least 64 (sections 5.2.6 to 5.2.11). The
- * ranges may overlap; C.md says what isn't among them. Fails with an opening error. */
+ * is mapped, has the signature "FACS" and a Length of at least 64 (sections 5.2.6 to 5.2.11). The
+ * ranges may overlap; C.md has what isn't among them. Fails with an opening error. */
 ZACPI_STATUS zacpi_list_ranges(const struct zacpi_source *source, struct zacpi_range *out,
                                size_t capacity, size_t *count, struct zacpi_signature *signature);
 
@@ -357,7 +357,7 @@ struct zacpi_generic_address { /* Generic Address Structure, section 5.2.3.2 */
     uint8_t space;       /* of enum zacpi_address_space */
     uint8_t bit_width;
     uint8_t bit_offset;
-    uint8_t access_size; /* 0 not said, 1 one byte, 2 two, 3 four, 4 eight */
+    uint8_t access_size; /* 0 unspecified, 1 one byte, 2 two, 3 four, 4 eight */
 };
 enum zacpi_address_space { /* section 5.2.3.2 */
     ZACPI_SPACE_SYSTEM_MEMORY = 0, ZACPI_SPACE_SYSTEM_IO = 1, ZACPI_SPACE_PCI_CONFIGURATION = 2,
@@ -475,10 +475,10 @@ enum zacpi_power_profile { /* Preferred_PM_Profile, section 5.2.9.1 */
 struct zacpi_console { /* SPCR, whose layout and names of fields are Microsoft's */
     struct zacpi_register base;            /* Base Address. None if all its twelve bytes are 0 */
     uint32_t baud_rate;                    /* Precise Baud Rate, or if that is 0 what Configured
-                                            * Baud Rate stands for: 3 9600, 4 19200, 6 57600, 7
+                                            * Baud Rate means: 3 9600, 4 19200, 6 57600, 7
                                             * 115200; 0 unless it is there. In bits in a second */
     uint32_t global_system_interrupt;      /* 0 unless it is there */
-    uint32_t clock_frequency;              /* UART Clock Frequency, in Hz. 0: the table doesn't say,
+    uint32_t clock_frequency;              /* UART Clock Frequency, in Hz. 0: unspecified,
                                             * or is below revision 3 */
     uint32_t pci_flags;                    /* bit 0: neither switch the device off nor look for its
                                             * like */
@@ -507,7 +507,7 @@ enum zacpi_console_type {
 
 /* Returns the fixed hardware of the FADT (section 5.2.9). A register whose address is an error has
  * a `present` of 2. Those of pm1a and reset are present at address 0 too, and those of sleep if the
- * table is of revision 2 or above and has all their bytes: 0 stands for none. Fails with an opening
+ * table is of revision 2 or above and has all their bytes: 0 means none. Fails with an opening
  * error, or ZACPI_TABLE_MISSING "FACP". */
 ZACPI_STATUS zacpi_get_fixed_hardware(const struct zacpi_source *source,
                                       struct zacpi_fixed_hardware *out,
@@ -635,13 +635,13 @@ struct zacpi_processor { /* Processor Local APIC and Processor Local x2APIC, sec
 
 /* Returns which controllers interrupts come to, and how many items the lists of zacpi_platform
  * have. Without a MADT, or if it has no entry of Types 0 to 5, 9 and 0xa, `known` is 0. Fails with
- * an opening error, ZACPI_TABLE_MISSING "FACP", the ZACPI_MADT_ error of the first entry at fault
+ * an opening error, ZACPI_TABLE_MISSING "FACP", the ZACPI_MADT_ error of the first entry with one
  * (of several the least), or ZACPI_INVALID_GENERIC_ADDRESS if zacpi_get_pm_timer does. */
 ZACPI_STATUS zacpi_get_interrupt_model(const struct zacpi_source *source,
                                        struct zacpi_interrupt_model *out,
                                        struct zacpi_signature *signature);
 
-/* The five lists below have their entries as they stand, those at fault too, up to the first byte
+/* The five lists below have their entries as they are, with errors too, up to the first byte
  * at which no entry begins. No other entry changes them. */
 
 /* Lists the I/O APICs. Fails with an opening error, ZACPI_TABLE_MISSING "APIC", or
@@ -676,7 +676,7 @@ struct zacpi_madt_fault {
     uint32_t status;    /* a ZACPI_MADT_ error */
     uint8_t entry_type; /* Type: the byte at that address */
 };
-/* Lists the entries at fault, each with the error that zacpi_platform would fail with for it, and
+/* Lists the entries with an error, each with that which zacpi_platform would fail with for it, and
  * last, if there is one, the first byte at which no entry begins. Fails with an opening error, or
  * ZACPI_TABLE_MISSING "APIC". */
 ZACPI_STATUS zacpi_list_madt_faults(const struct zacpi_source *source, struct zacpi_madt_fault *out,
@@ -685,7 +685,7 @@ ZACPI_STATUS zacpi_list_madt_faults(const struct zacpi_source *source, struct za
 
 /* Returns what zacpi_get_interrupt_model returns, and writes the first items of the five lists
  * above. Fails with an opening error, ZACPI_TABLE_MISSING "FACP", the ZACPI_MADT_ error of the
- * first entry at fault (of several the least), ZACPI_INVALID_GENERIC_ADDRESS if zacpi_get_pm_timer
+ * first entry with one (of several the least), ZACPI_INVALID_GENERIC_ADDRESS if zacpi_get_pm_timer
  * does, or ZACPI_NO_APICS. */
 ZACPI_STATUS zacpi_platform(const struct zacpi_source *source, struct zacpi_interrupt_model *out,
                             struct zacpi_processor *processors, size_t processors_capacity,
@@ -705,17 +705,17 @@ struct zacpi_io_apic_pin {
 };
 
 /* Returns how one of the 16 ISA interrupts comes to the I/O APICs: by its last override of bus 0,
- * or else as the interrupt of the same number; active high and by edge unless the override says
- * otherwise (section 5.2.12.5). Fails with an opening error, ZACPI_TABLE_MISSING "APIC",
+ * or else as the interrupt of the same number; active high and by edge unless the override has
+ * others (section 5.2.12.5). Fails with an opening error, ZACPI_TABLE_MISSING "APIC",
  * ZACPI_NO_APICS, ZACPI_MADT_MPS_INTI_INVALID_POLARITY or ZACPI_MADT_MPS_INTI_INVALID_TRIGGER_MODE
  * of the override, or ZACPI_NO_SUCH_INTERRUPT for an irq above 15, and for one without an override
- * if the last override of another source of bus 0 leads to its number. */
+ * if the last override of another source of bus 0 has its number. */
 ZACPI_STATUS zacpi_isa_interrupt(const struct zacpi_source *source, uint8_t irq,
                                  struct zacpi_interrupt *out, struct zacpi_signature *signature);
 
 /* Returns how the System Control Interrupt (SCI), SCI_INT of the FADT, comes to the I/O APICs: by
  * its last override of bus 0 if it is below 16, or else as the interrupt of the same number; active
- * low and by level unless the override says otherwise (sections 5.2.9 and 5.2.12.5). Fails with an
+ * low and by level unless the override has others (sections 5.2.9 and 5.2.12.5). Fails with an
  * opening error, ZACPI_TABLE_MISSING "APIC", ZACPI_NO_APICS, ZACPI_TABLE_MISSING "FACP", or
  * ZACPI_MADT_MPS_INTI_INVALID_POLARITY or ZACPI_MADT_MPS_INTI_INVALID_TRIGGER_MODE of the
  * override. */
@@ -837,7 +837,7 @@ struct zacpi_arm_timers {
     /* virtual_el2 is present from revision 3 on, if the table has all its eight bytes, and Platform
      * Timer Count is 0 or Platform Timer Offset at least 104. */
     struct zacpi_arm_timer secure_el1, non_secure_el1, virtual_el1, el2, virtual_el2;
-    /* 1: one of Platform Timer Count structures is at fault, and the two lists below end before the
+    /* 1: one of Platform Timer Count structures is malformed; the two lists below end before the
      * first: Platform Timer Offset is below 96, a Length is above the bytes left or below 20 (GT
      * Block), 28 (watchdog) or 4 (others), or frames of a GT Block don't lie between its byte 20
      * and its end. 0 below revision 2. */
@@ -871,12 +871,12 @@ struct zacpi_watchdog { /* Arm Generic Watchdog, section 5.2.24.1.2. Watchdog Ti
  * ZACPI_TABLE_MISSING "GTDT". */
 ZACPI_STATUS zacpi_get_arm_timers(const struct zacpi_source *source, struct zacpi_arm_timers *out,
                                   struct zacpi_signature *signature);
-/* Lists the frames of the GT Blocks, up to a structure at fault; none below revision 2 of the
+/* Lists the frames of the GT Blocks, up to a malformed structure; none below revision 2 of the
  * table. Fails with an opening error, or ZACPI_TABLE_MISSING "GTDT". */
 ZACPI_STATUS zacpi_list_gt_frames(const struct zacpi_source *source, struct zacpi_gt_frame *out,
                                   size_t capacity, size_t *count,
                                   struct zacpi_signature *signature);
-/* Lists the Arm Generic Watchdogs, up to a structure at fault; none below revision 2 of the table.
+/* Lists the Arm Generic Watchdogs, up to a malformed structure; none below revision 2 of the table.
  * Fails with an opening error, or ZACPI_TABLE_MISSING "GTDT". */
 ZACPI_STATUS zacpi_list_watchdogs(const struct zacpi_source *source, struct zacpi_watchdog *out,
                                   size_t capacity, size_t *count,
@@ -927,16 +927,16 @@ ZACPI_STATUS zacpi_domain_of_processor(const struct zacpi_source *source, uint32
 ZACPI_STATUS zacpi_get_localities(const struct zacpi_source *source, struct zacpi_localities *out,
                                   struct zacpi_signature *signature);
 /* Returns how far one locality is from another: 10 is the distance of a locality from itself, 255
- * stands for unreachable. Fails with an opening error, ZACPI_TABLE_MISSING "SLIT", or
+ * means unreachable. Fails with an opening error, ZACPI_TABLE_MISSING "SLIT", or
  * ZACPI_NO_DISTANCE if one isn't below Number of System Localities, or the table ends before their
  * byte. */
 ZACPI_STATUS zacpi_distance(const struct zacpi_source *source, uint64_t from, uint64_t to,
                             uint8_t *out, struct zacpi_signature *signature);
 
-/* ---- IOMMUs: units that remap what devices ask of memory ------------------------------------- */
+/* ---- IOMMUs: units that remap devices' accesses to memory ------------------------------------ */
 
-/* The DMAR (Intel Virtualization Technology for Directed I/O 4.0, chapter 8). Its structures stand
- * from byte 48 on, each with a Length of at least 16, 24, 8, 20, 8, 8 and 8 for Types 0 to 6, and 4
+/* The DMAR (Intel Virtualization Technology for Directed I/O 4.0, chapter 8). Its structures begin
+ * at byte 48, each with a Length of at least 16, 24, 8, 20, 8, 8 and 8 for Types 0 to 6, and 4
  * for others; device scopes have at least 6 bytes (section 8.3.1). */
 enum zacpi_dmar_flag { /* Flags of the DMAR, section 8.1 */
     ZACPI_DMAR_INTR_REMAP = 1 << 0, ZACPI_DMAR_X2APIC_OPT_OUT = 1 << 1,
@@ -990,9 +990,9 @@ ZACPI_STATUS zacpi_list_dmar_reserved(const struct zacpi_source *source, uint16_
                                       size_t *count, struct zacpi_signature *signature);
 
 /* The IVRS (AMD I/O Virtualization Technology (IOMMU) Specification 3.08, section 5.2). Its blocks
- * stand from byte 48 on, each with a Length of at least 24 for Type 0x10, 40 for 0x11 and 0x40, 32
+ * begin at byte 48, each with a Length of at least 24 for Type 0x10, 40 for 0x11 and 0x40, 32
  * for 0x20 to 0x22, and 4 for others. A device entry has 4, 8, 16 or 32 bytes by bits 6 and 7 of
- * its Type, but one of Type 0xf0 22 and those of its UID. The end of a range, Type 4, stands right
+ * its Type, but one of Type 0xf0 22 and those of its UID. The end of a range, Type 4, is right
  * after its start. A device id is 256 times the bus, 8 times the device, and the function. */
 struct zacpi_ivrs_unit { /* I/O Virtualization Hardware Definition (IVHD) */
     uint64_t base;
@@ -1050,7 +1050,7 @@ ZACPI_STATUS zacpi_list_ivrs_memory(const struct zacpi_source *source, uint16_t 
 
 /* Each call writes one table to the front of `out`, which has `capacity` bytes, and its length to
  * `length`; the rest of `out` is left as it is. The calls above then read what was passed, unless a
- * call says otherwise. */
+ * comment has otherwise. */
 
 struct zacpi_table_ids { /* section 5.2.6. Names are filled up with spaces or zeros */
     uint8_t oem_id[6];
@@ -1135,7 +1135,7 @@ struct zacpi_facs_contents { /* section 5.2.10 */
     uint8_t supports_64_bit_wake;
 };
 
-/* Writes an RSDP of revision 2 that leads to an XSDT (section 5.2.5.3): 36 bytes. Of `ids` it has
+/* Writes an RSDP of revision 2 that points to an XSDT (section 5.2.5.3): 36 bytes. Of `ids` it has
  * OEMID alone. Fails with ZACPI_NO_ADDRESS if `xsdt` is 0, ZACPI_BAD_NAME or ZACPI_NO_ROOM. */
 ZACPI_STATUS zacpi_write_rsdp(const struct zacpi_table_ids *ids, uint64_t xsdt, uint8_t *out,
                               size_t capacity, size_t *length);
@@ -1161,7 +1161,7 @@ ZACPI_STATUS zacpi_write_table(const struct zacpi_table_ids *ids, struct zacpi_s
                                uint8_t revision, const uint8_t *body, size_t body_length,
                                uint8_t *out, size_t capacity, size_t *length);
 /* Writes a MADT of revision 5 (section 5.2.12): its entries sort by sort in the order of the lists,
- * the mailbox last. An address of 2^32 or above stands in a Local APIC Address Override after the
+ * the mailbox last. An address of 2^32 or above is in a Local APIC Address Override after the
  * processors, with 0 in Local Interrupt Controller Address. Processors whose uid and id are below
  * 255 are Processor Local APICs, others Processor Local x2APICs; lines of a uid of 255 or above are
  * Local x2APIC NMIs, others Local APIC NMIs. Fails with ZACPI_UNKNOWN_CODE, ZACPI_NO_PROCESSOR,
@@ -1221,7 +1221,7 @@ ZACPI_STATUS zacpi_write_spcr(const struct zacpi_table_ids *ids,
 ZACPI_STATUS zacpi_write_gtdt(const struct zacpi_table_ids *ids,
                               const struct zacpi_gtdt_contents *contents, uint8_t *out,
                               size_t capacity, size_t *length);
-/* Returns what the FADT of a guest without fixed hardware says, but for dsdt_address. */
+/* Returns what the FADT of a guest without fixed hardware has, but for dsdt_address. */
 static inline struct zacpi_fixed_hardware zacpi_fadt_reduced(void) {
     struct zacpi_fixed_hardware fadt;
     size_t i;
@@ -1230,7 +1230,7 @@ static inline struct zacpi_fixed_hardware zacpi_fadt_reduced(void) {
     fadt.c2_latency = 101, fadt.c3_latency = 1001; /* neither C2 nor C3 */
     return fadt;
 }
-/* Writes a FADT of version 6.4, 276 bytes (section 5.2.9). An address or a block stands in its X_
+/* Writes a FADT of version 6.4, 276 bytes (section 5.2.9). An address or a block is in its X_
  * field, and in its field of 32 bits if it fits, a block if it is one of ports; a length in bytes
  * is the whole bytes of bit_width, and X_GPEn_BLK of 32 bytes or more has a width of 255. A
  * register is there by `present` 1 and an address that isn't 0, pm1a unless the hardware is

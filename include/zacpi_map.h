@@ -4,7 +4,7 @@
 #define ZACPI_MAP_H
 #include "zacpi.h"
 
-/* How the caller maps memory. Firmware's addresses are nobody's word: `map` returns null for a range that isn't memory
+/* How the caller maps memory. Firmware's addresses can't be trusted: `map` returns null for a range that isn't memory
  * by the loader's map, or that it can't map, and else where the first byte is. A range may overlap others that are
  * mapped at the time, so a byte may be mapped twice. `unmap` is passed each range that was mapped, once, with where it
  * is. What is mapped stays as it is until then. */
@@ -12,7 +12,7 @@ struct zacpi_mapper {
     void *context; /* passed to both */
     const void *(*map)(void *context, uint64_t address, uint64_t length);
     void (*unmap)(void *context, const void *at, uint64_t address, uint64_t length);
-    uint64_t page; /* ranges begin and end at multiples of it; 0 stands for 4096 */
+    uint64_t page; /* ranges begin and end at multiples of it; 0 means 4096 */
 };
 
 /* Unmaps all regions of the source, and leaves it none. */
@@ -92,17 +92,17 @@ static inline zacpi_status zacpi_map_joined(const struct zacpi_mapper *mapper, s
     return ZACPI_OK;
 }
 
-/* Maps what the tables need (zacpi_list_missing_ranges) until no new range comes. The source leads to `regions` then,
+/* Maps what the tables need (zacpi_list_missing_ranges) until no new range comes. The source points to `regions` then,
  * in which the regions are. Its address and start are the caller's, and its regions_length says how many of `regions`
  * were mapped before, by pages: none, but for ZACPI_START_SEARCH, which finds an RSDP in these alone, with the 16 bytes
  * after the area that it is in.
  *
- * `ranges` is written: it has room for the ranges that are missing at a time, and those that `map` returned null for.
- * No range that holds one of the latter is asked for. A firmware may list an address that no memory is at, so some may
- * be missing in the end: the calls pass over that table, as they would with all memory mapped.
+ * `ranges` is written: it takes the ranges that are missing at a time, and those that `map` returned null for.
+ * No range that contains one of the latter is requested. A firmware may list an address that no memory is at, so some
+ * may be missing in the end: the calls skip that table, as they would with all memory mapped.
  *
  * With an error all regions are unmapped. Errors: those of the regions, ZACPI_UNKNOWN_START, and ZACPI_NO_ROOM if
- * `capacity` regions or `room` ranges aren't enough. Unless a search passes over RSDPs because of their Length, eight
+ * `capacity` regions or `room` ranges aren't enough. Unless a search skips RSDPs because of their Length, eight
  * of each are, and a region and two ranges more for each pointer of the root table. */
 static inline zacpi_status zacpi_map_tables(const struct zacpi_mapper *mapper, struct zacpi_source *source,
                                             struct zacpi_region *regions, size_t capacity,
