@@ -1,4 +1,4 @@
-//! The tables that an RSDP leads to.
+//! The tables below an RSDP.
 
 use crate::entries::{Entries, EntryWidth};
 use crate::error::{AcpiError, AcpiResult};
@@ -49,12 +49,12 @@ impl From<records::Table> for Table {
 
 items! { Table = Table }
 
-/// A member of the root table that a lookup passes over for another reason than another signature.
+/// A member of the root table that a lookup skips for another reason than another signature.
 #[derive(Clone, Copy, Debug, PartialEq, Eq)]
 pub struct Fault {
     /// Its physical address, as the root table lists it.
     pub address: u64,
-    /// Why it is passed over.
+    /// Why it is skipped.
     pub refusal: AcpiError,
 }
 
@@ -87,7 +87,7 @@ pub trait AcpiTable<'k>: Sized {
     const SIGNATURE: Signature;
 
     /// Reads the bytes of a valid table of this signature: as many as its Length says, at least the 36 of its header,
-    /// whose sum is right (section 5.2.6). A table may be shorter than its revision says.
+    /// whose sum is right (section 5.2.6). A table may be shorter than its revision has it.
     fn read(bytes: &'k [u8]) -> Self;
 }
 
@@ -114,7 +114,7 @@ pub(crate) mod read {
 }
 
 /// The tables of a machine. Each call opens them anew in the regions, so nothing is kept between calls but the address
-/// of the root table. The calls read the regions and nothing else; what they answer can't outlive the regions.
+/// of the root table. The calls read the regions and nothing else; what they return can't outlive the regions.
 #[derive(Clone, Copy, Debug)]
 pub struct AcpiTables<'k> {
     regions: &'k [Region<'k>],
@@ -178,17 +178,17 @@ impl<'k> AcpiTables<'k> {
     /// [`Gtdt`](crate::gtdt::Gtdt), [`Srat`](crate::srat::Srat), [`Slit`](crate::slit::Slit),
     /// [`Dmar`](crate::iommu::Dmar), [`Ivrs`](crate::iommu::Ivrs) or an [`AcpiTable`] of one's own.
     ///
-    /// Refuses with `TableMissing`, and with what that type says.
+    /// Fails with `TableMissing`, and with that type's errors.
     pub fn find_table<T: Found<'k>>(&self) -> AcpiResult<T> {
         T::find(self)
     }
 
-    /// The first valid table of a signature (section 5.2.6), whatever its type. Refuses with `TableMissing`.
+    /// The first valid table of a signature (section 5.2.6), whatever its type. Fails with `TableMissing`.
     pub fn find(&self, signature: Signature) -> AcpiResult<Table> {
         raw::zacpi_1_find_table(&self.source(), signature).map(Table::from)
     }
 
-    /// The valid tables of a signature, one after the other: each step asks for one more (section 5.2.6).
+    /// The valid tables of a signature, one after the other: each step fetches one more (section 5.2.6).
     pub fn find_all(&self, signature: Signature) -> Tables<'k> {
         Tables { tables: *self, signature, index: 0 }
     }
@@ -198,14 +198,14 @@ impl<'k> AcpiTables<'k> {
         self.list(raw::zacpi_1_list_tables)
     }
 
-    /// The members of the root table that a lookup of a signature passes over for another reason than another
+    /// The members of the root table that a lookup of a signature skips for another reason than another
     /// signature, in order, up to the first valid one (section 5.2.6).
     pub fn faults(&self, signature: Signature) -> Listing<'k, Fault> {
         Listing::new(self.source(), signature, raw::zacpi_1_list_faults)
     }
 
-    /// The AML of the DSDT that the first valid FADT names (section 5.2.11.1). Refuses with `TableMissing` for the
-    /// FADT, with `InvalidDsdtAddress`, and as the table at that address is refused.
+    /// The AML of the DSDT that the first valid FADT names (section 5.2.11.1). Fails with `TableMissing` for the
+    /// FADT, with `InvalidDsdtAddress`, and with the errors of the table at that address.
     pub fn dsdt(&self) -> AcpiResult<AmlTable> {
         raw::zacpi_1_dsdt(&self.source())
     }
@@ -241,7 +241,7 @@ impl<'k> AcpiTables<'k> {
 
     /// The entries of a table of any type, from an offset in it on, whose Type and Length have one or two bytes each.
     ///
-    /// Refuses, if the table isn't one of these tables, as its address is refused (`MapFailed`, `SdtInvalidOemId`,
+    /// Fails, if the table isn't one of these tables, with the error of its address (`MapFailed`, `SdtInvalidOemId`,
     /// `SdtInvalidTableId`, `SdtInvalidLength`, `SdtInvalidChecksum`), and with `SdtInvalidLength` if it ends before
     /// the offset.
     pub fn entries(&self, table: &Table, first: u32, width: EntryWidth) -> AcpiResult<Entries<'k>> {
@@ -249,7 +249,7 @@ impl<'k> AcpiTables<'k> {
     }
 }
 
-/// The AML of each valid SSDT, one after the other: each step asks for one more, so that no room is needed.
+/// The AML of each valid SSDT, one after the other: each step fetches one more, so that no memory is needed.
 #[derive(Clone, Debug)]
 pub struct Ssdts<'k> {
     source: Source<'k>,

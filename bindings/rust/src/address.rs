@@ -44,7 +44,7 @@ pub enum AddressSpace {
     PlatformCommunicationsChannel,
     /// 0x7f: fixed hardware of the processor's maker.
     FunctionalFixedHardware,
-    /// 0xc0 to 0xff: the machine's maker says what it is.
+    /// 0xc0 to 0xff: the machine's maker defines it.
     OemDefined(u8),
     /// Any other code, which is reserved.
     Other(u8),
@@ -74,7 +74,7 @@ impl From<u8> for AddressSpace {
 /// Access Size: how many bytes are to be read or written at once.
 #[derive(Clone, Copy, Debug, PartialEq, Eq)]
 pub enum AccessSize {
-    /// 0: not said.
+    /// 0: unspecified.
     Undefined,
     /// 1: one byte.
     ByteAccess,
@@ -128,12 +128,12 @@ impl From<records::GenericAddress> for GenericAddress {
     }
 }
 
-/// A register that may not be there: none, or refused with `InvalidGenericAddress` for a reserved code.
+/// A register that may not be there: none, or `InvalidGenericAddress` for a reserved code.
 pub(crate) fn register(raw: records::Register) -> AcpiResult<Option<GenericAddress>> {
     present(raw.present, raw.at.into())
 }
 
-/// What is there, by a record's `present`: 0 none, 1 it is there, 2 its address is refused.
+/// What is there, by a record's `present`: 0 none, 1 it is there, 2 its address is an error.
 pub(crate) fn present<T>(present: u8, value: T) -> AcpiResult<Option<T>> {
     match present {
         0 => Ok(None),

@@ -43,10 +43,10 @@ pub struct Entry<'k> {
     pub bytes: &'k [u8],
 }
 
-/// How many entries are asked for at once.
+/// How many entries are fetched at once.
 const AT_ONCE: usize = 16;
 
-/// The entries of a table, one after the other, sixteen of which are asked for at once.
+/// The entries of a table, one after the other, sixteen of which are fetched at once.
 #[derive(Clone, Debug)]
 pub struct Entries<'k> {
     tables: AcpiTables<'k>,
@@ -66,7 +66,7 @@ impl<'k> Entries<'k> {
         Ok(entries)
     }
 
-    /// Asks for the entries from an offset on.
+    /// Fetches the entries from an offset on.
     fn ask(&mut self, first: u32) -> AcpiResult<()> {
         let bytes_each = match self.width {
             EntryWidth::One => 1,
@@ -80,7 +80,7 @@ impl<'k> Entries<'k> {
     }
 
     /// Whether bytes are left after the last entry in which no entry begins: too few for Type and Length, or for the
-    /// Length that stands there.
+    /// Length that is there.
     pub fn is_malformed(&self) -> bool {
         self.is_malformed
     }

@@ -1,13 +1,13 @@
-//! Why a call refuses.
+//! Why a call fails.
 
 use crate::raw::records::Signature;
 use core::fmt;
 
-/// What a call that can refuse answers.
+/// What a call that can fail returns.
 pub type AcpiResult<T> = Result<T, AcpiError>;
 
-/// Why a call refuses. The names are those of the crate `acpi`, and of the library's own checks. A signature that is
-/// carried is that of the table that was looked for. A call whose answer is an `Option` answers `None` for what isn't
+/// Why a call fails. The names are those of the crate `acpi`, and of the library's own checks. A signature that is
+/// carried is that of the table that was looked for. A call whose result is an `Option` returns `None` for what isn't
 /// there, so that `NoSuchFunction`, `NoSuchInterrupt`, `NoSuchIoApic`, `NoDomain`, `NoDistance` and `NoIommu` come from
 /// none.
 #[derive(Clone, Copy, Debug, PartialEq, Eq)]
@@ -17,7 +17,7 @@ pub enum AcpiError {
     RegionsNotAscending,
     /// The address after a region's last byte is above 2^64 - 1.
     RegionTooHigh,
-    /// Bytes are asked for that lie in no one region.
+    /// Bytes are needed that lie in no one region.
     MapFailed,
     /// The BIOS areas hold no valid RSDP (section 5.2.5.1).
     NoValidRsdp,
@@ -55,7 +55,7 @@ pub enum AcpiError {
     NoSuchInterrupt,
     /// No I/O APIC has this global system interrupt (section 5.2.13).
     NoSuchIoApic,
-    /// An entry of a valid MADT is refused (section 5.2.12).
+    /// An entry of a valid MADT has an error (section 5.2.12).
     InvalidMadt(MadtError),
     /// Bytes of the SRAT are left in which no entry begins (section 5.2.16).
     InvalidEntryLength,
@@ -74,13 +74,13 @@ pub enum AcpiError {
     InvalidStructureLength,
     /// The DMAR or the IVRS has no unit for the device.
     NoIommu,
-    /// There is no memory for a list, or no room for a region.
+    /// There is no memory for a list, or no capacity for a region.
     AllocError,
-    /// The library refuses with a number that this version doesn't know.
+    /// The library fails with a number that this version doesn't know.
     Other(u32),
 }
 
-/// Why the entries of a valid MADT are refused (section 5.2.12).
+/// The errors of the entries of a valid MADT (section 5.2.12).
 #[derive(Clone, Copy, Debug, PartialEq, Eq)]
 #[non_exhaustive]
 pub enum MadtError {
@@ -100,7 +100,7 @@ pub enum MadtError {
 }
 
 impl AcpiError {
-    /// The refusal of a number, which isn't 0, with the signature that it carries.
+    /// The error of a number, which isn't 0, with the signature that it carries.
     pub(crate) fn of(status: u32, named: Signature) -> AcpiError {
         use AcpiError::*;
         match status {
@@ -144,7 +144,7 @@ impl AcpiError {
     }
 }
 
-/// The refusal as `acpi_view` prints it: its name, and after a space what it carries.
+/// The error as `acpi_view` prints it: its name, and after a space what it carries.
 impl fmt::Display for AcpiError {
     fn fmt(&self, f: &mut fmt::Formatter<'_>) -> fmt::Result {
         use AcpiError::*;

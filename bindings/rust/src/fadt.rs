@@ -52,7 +52,7 @@ macro_rules! profiles {
 }
 
 profiles! {
-    /// 0: not said.
+    /// 0: unspecified.
     0 = Unspecified,
     /// 1: a desktop.
     1 = Desktop,
@@ -101,9 +101,9 @@ macro_rules! flags {
 flags! {
     /// Flags of the FADT (table 5.10).
     FixedFeatureFlags(u32) {
-        /// WBINVD, bit 0: the instruction works as the specification says.
+        /// WBINVD, bit 0: the instruction works as the specification has it.
         0 = supports_equivalent_to_wbinvd,
-        /// WBINVD_FLUSH, bit 1: the instruction writes back all caches, and doesn't say that they are invalid.
+        /// WBINVD_FLUSH, bit 1: the instruction writes back all caches, and may not invalidate them.
         1 = wbinvd_flushes_all_caches,
         /// PROC_C1, bit 2: all processors have the power state C1.
         2 = all_procs_support_c1_power_state,
@@ -210,7 +210,7 @@ pub struct Fadt {
     pub s4bios_req: u8,
     /// PSTATE_CNT: written to `smi_cmd_port`, takes the performance states over. 0: none.
     pub pstate_control: u8,
-    /// CST_CNT: written to `smi_cmd_port`, says that `_CST` objects are understood.
+    /// CST_CNT: written to `smi_cmd_port` if `_CST` objects are understood.
     pub c_state_control: u8,
     /// GPE1_BASE: the number of the first event of the second block.
     pub gpe1_base: u8,
@@ -252,20 +252,20 @@ fn address(address: u64, refusal: AcpiError) -> AcpiResult<u64> {
     }
 }
 
-/// A register that each FADT has. The library never answers none for it.
+/// A register that each FADT has. The library never returns none for it.
 fn always(raw: records::Register) -> AcpiResult<GenericAddress> {
     register(raw)?.ok_or(AcpiError::InvalidGenericAddress)
 }
 
-/// A getter refuses with [`AcpiError::InvalidGenericAddress`] if the register's address has a reserved code. An address
+/// A getter fails with [`AcpiError::InvalidGenericAddress`] if the register's address has a reserved code. An address
 /// is that of the 64-bit field if this isn't 0, and otherwise that of the 32-bit field.
 impl Fadt {
-    /// X_FIRMWARE_CTRL or FIRMWARE_CTRL. Refuses with `InvalidFacsAddress` if both are 0.
+    /// X_FIRMWARE_CTRL or FIRMWARE_CTRL. Fails with `InvalidFacsAddress` if both are 0.
     pub fn facs_address(&self) -> AcpiResult<u64> {
         address(self.raw.facs_address, AcpiError::InvalidFacsAddress)
     }
 
-    /// X_DSDT or DSDT. Refuses with `InvalidDsdtAddress` if both are 0.
+    /// X_DSDT or DSDT. Fails with `InvalidDsdtAddress` if both are 0.
     pub fn dsdt_address(&self) -> AcpiResult<u64> {
         address(self.raw.dsdt_address, AcpiError::InvalidDsdtAddress)
     }
@@ -275,7 +275,7 @@ impl Fadt {
         self.raw.power_profile.into()
     }
 
-    /// X_PM1a_EVT_BLK or PM1a_EVT_BLK: status and enable bits. Address 0 stands for none.
+    /// X_PM1a_EVT_BLK or PM1a_EVT_BLK: status and enable bits. Address 0 means none.
     pub fn pm1a_event_block(&self) -> AcpiResult<GenericAddress> {
         always(self.raw.pm1a_event)
     }
@@ -285,7 +285,7 @@ impl Fadt {
         register(self.raw.pm1b_event)
     }
 
-    /// X_PM1a_CNT_BLK or PM1a_CNT_BLK: the control register. Address 0 stands for none.
+    /// X_PM1a_CNT_BLK or PM1a_CNT_BLK: the control register. Address 0 means none.
     pub fn pm1a_control_block(&self) -> AcpiResult<GenericAddress> {
         always(self.raw.pm1a_control)
     }
@@ -331,12 +331,12 @@ impl Fadt {
         always(self.raw.reset)
     }
 
-    /// SLEEP_CONTROL_REG, of a machine of reduced hardware. Address 0 stands for none too.
+    /// SLEEP_CONTROL_REG, of a machine of reduced hardware. Address 0 means none too.
     pub fn sleep_control_register(&self) -> AcpiResult<Option<GenericAddress>> {
         register(self.raw.sleep_control)
     }
 
-    /// SLEEP_STATUS_REG, of a machine of reduced hardware. Address 0 stands for none too.
+    /// SLEEP_STATUS_REG, of a machine of reduced hardware. Address 0 means none too.
     pub fn sleep_status_register(&self) -> AcpiResult<Option<GenericAddress>> {
         register(self.raw.sleep_status)
     }

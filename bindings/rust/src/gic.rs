@@ -137,7 +137,7 @@ impl From<records::GicMsiFrame> for GicMsiFrame {
 
 items! { GicCpuInterface = GicCpuInterface, GicMsiFrame = GicMsiFrame }
 
-/// The GIC of the first valid MADT. Its lists are in the order of the table, and refuse as [`GicModel::new`] does.
+/// The GIC of the first valid MADT. Its lists are in the order of the table, and fail as [`GicModel::new`] does.
 #[derive(Clone, Copy, Debug)]
 pub struct GicModel<'k> {
     /// The distributor: that of the first GICD entry.
@@ -148,7 +148,7 @@ pub struct GicModel<'k> {
 impl<'k> GicModel<'k> {
     /// The GIC of the first valid MADT.
     ///
-    /// Refuses with `TableMissing`, with `InvalidMadt` if bytes are left in which no entry begins, and with `NoGic` if
+    /// Fails with `TableMissing`, with `InvalidMadt` if bytes are left in which no entry begins, and with `NoGic` if
     /// no entry describes a distributor, as on a machine with APICs.
     pub fn new(tables: &AcpiTables<'k>) -> AcpiResult<Self> {
         let distributor = raw::zacpi_1_get_gic_distributor(&tables.source())?.into();

@@ -145,12 +145,12 @@ pub struct Gtdt<'k> {
 
 impl<'k> Gtdt<'k> {
     /// The frames of the blocks of timers, block by block, in order (section 5.2.24.1.1). None below revision 2 of the
-    /// table. Refuses with `TableMissing`.
+    /// table. Fails with `TableMissing`.
     pub fn frames(&self) -> Listing<'k, GtFrame> {
         self.tables.list(raw::zacpi_1_list_gt_frames)
     }
 
-    /// The watchdogs, in order (section 5.2.24.1.2). None below revision 2 of the table. Refuses with `TableMissing`.
+    /// The watchdogs, in order (section 5.2.24.1.2). None below revision 2 of the table. Fails with `TableMissing`.
     pub fn watchdogs(&self) -> Listing<'k, Watchdog> {
         self.tables.list(raw::zacpi_1_list_watchdogs)
     }

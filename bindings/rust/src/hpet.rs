@@ -52,7 +52,7 @@ pub struct HpetInfo {
 impl HpetInfo {
     /// The block of the first valid HPET.
     ///
-    /// Refuses with `TableMissing`, and with `InvalidGenericAddress` if its registers don't lie in memory.
+    /// Fails with `TableMissing`, and with `InvalidGenericAddress` if its registers don't lie in memory.
     pub fn new(tables: &AcpiTables<'_>) -> AcpiResult<HpetInfo> {
         raw::zacpi_1_hpet(&tables.source()).map(HpetInfo::from)
     }

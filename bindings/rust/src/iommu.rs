@@ -1,4 +1,4 @@
-//! The units that remap what devices ask of memory (IOMMUs): those of the DMAR (Intel Virtualization Technology for
+//! The units that remap devices' accesses to memory (IOMMUs): those of the DMAR (Intel Virtualization Technology for
 //! Directed I/O 4.0, chapter 8), and those of the IVRS (AMD I/O Virtualization Technology (IOMMU) Specification 3.08,
 //! section 5.2).
 //!
@@ -83,7 +83,7 @@ pub struct IvrsUnit {
     pub segment: u16,
     /// DeviceID: the unit's own.
     pub device_id: u16,
-    /// Capability Offset: where its capability block stands in its PCI configuration space.
+    /// Capability Offset: where its capability block is in its PCI configuration space.
     pub capability_offset: u16,
     /// IOMMU Info.
     pub info: u16,
@@ -153,27 +153,27 @@ impl Dmar<'_> {
     /// the segment with INCLUDE_PCI_ALL. The scope of an endpoint names the device of its Path, and that of a bridge
     /// each device that is reached through it (section 8.3).
     ///
-    /// Refuses with `InvalidStructureLength`.
+    /// Fails with `InvalidStructureLength`.
     pub fn unit_for(&self, segment: u16, bus: u8, hops: &[Hop]) -> AcpiResult<Option<DmarUnit>> {
         found(raw::dmar_unit(&self.tables.source(), segment, bus, hops))
     }
 
-    /// The unit that remaps the interrupts of the I/O APIC of an id (section 8.3.1). Refuses with
+    /// The unit that remaps the interrupts of the I/O APIC of an id (section 8.3.1). Fails with
     /// `InvalidStructureLength`.
     pub fn unit_of_io_apic(&self, id: u8) -> AcpiResult<Option<DmarSource>> {
         found(raw::zacpi_1_dmar_io_apic(&self.tables.source(), id))
     }
 
-    /// The unit that remaps the interrupts of the HPET of a number (section 8.3.1). Refuses with
+    /// The unit that remaps the interrupts of the HPET of a number (section 8.3.1). Fails with
     /// `InvalidStructureLength`.
     pub fn unit_of_hpet(&self, number: u8) -> AcpiResult<Option<DmarSource>> {
         found(raw::zacpi_1_dmar_hpet(&self.tables.source(), number))
     }
 
-    /// The memory that is reserved for a device, as far as there is room: each RMRR of the segment with a device scope
+    /// The memory that is reserved for a device, as far as it fits: each RMRR of the segment with a device scope
     /// that names it, in order (section 8.4).
     ///
-    /// Refuses with `InvalidStructureLength`, and with `InvalidMemoryRange` if one of these has its last byte before
+    /// Fails with `InvalidStructureLength`, and with `InvalidMemoryRange` if one of these has its last byte before
     /// its first.
     pub fn reserved_for<'b>(
         &self,
@@ -206,15 +206,15 @@ impl Ivrs<'_> {
     /// The unit that remaps a device, and how it treats it: of the IVHDs of the greatest Type, 0x10, 0x11 or 0x40, that
     /// the table has, the first of the segment with an entry for the device. The block's first such entry counts.
     ///
-    /// Refuses with `InvalidStructureLength`.
+    /// Fails with `InvalidStructureLength`.
     pub fn block_for(&self, segment: u16, device_id: u16) -> AcpiResult<Option<IvrsDevice>> {
         found(raw::zacpi_1_get_ivrs_unit(&self.tables.source(), segment, device_id))
     }
 
-    /// The memory that has its own rules for a device, as far as there is room: each IVMD for it, for all devices or for
+    /// The memory that has its own rules for a device, as far as it fits: each IVMD for it, for all devices or for
     /// a range that it lies in, in order, whatever its segment.
     ///
-    /// Refuses with `InvalidStructureLength`, and with `InvalidMemoryRange` if one of these ends above 2^64 - 1.
+    /// Fails with `InvalidStructureLength`, and with `InvalidMemoryRange` if one of these ends above 2^64 - 1.
     pub fn memory_for<'b>(&self, device_id: u16, room: &'b mut [Slot<IvrsMemory>]) -> AcpiResult<List<'b, IvrsMemory>> {
         let count = raw::list_ivrs_memory(&self.tables.source(), device_id, records_of(room))?;
         Ok(List::written(room, count, Signature::default()))

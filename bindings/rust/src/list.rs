@@ -79,7 +79,7 @@ pub(crate) use items;
 
 plain! { Range AmlTable records::IoApic records::GicTranslationService records::DmarReserved records::IvrsMemory }
 
-/// Room for one item of a list, in the form in which the library writes and reads it. An array of 64 is
+/// Memory for one item of a list, in the form in which the library writes and reads it. An array of 64 is
 /// `[Slot::default(); 64]`.
 #[repr(transparent)]
 pub struct Slot<T: Item>(T::Raw);
@@ -118,7 +118,7 @@ enum Slots<'b, T: Item> {
     Owned(Vec<Slot<T>>),
 }
 
-/// The items of a list, as far as there was room for them, and how many there are in all.
+/// The items of a list, as far as they fit, and how many there are in all.
 pub struct List<'b, T: Item> {
     slots: Slots<'b, T>,
     count: usize,
@@ -126,7 +126,7 @@ pub struct List<'b, T: Item> {
 }
 
 impl<'b, T: Item> List<'b, T> {
-    /// What was written of so many items, as far as there was room.
+    /// What was written of so many items, as far as they fit.
     pub(crate) fn written(room: &'b [Slot<T>], count: usize, looked_up: Signature) -> Self {
         List { slots: Slots::Lent(room.get(..count).unwrap_or(room)), count, looked_up }
     }
@@ -145,12 +145,12 @@ impl<'b, T: Item> List<'b, T> {
         }
     }
 
-    /// How many items there was room for.
+    /// How many items fit.
     pub fn len(&self) -> usize {
         self.slots().len()
     }
 
-    /// Whether there was room for none, or there is none.
+    /// Whether none fits, or there is none.
     pub fn is_empty(&self) -> bool {
         self.len() == 0
     }
@@ -160,17 +160,17 @@ impl<'b, T: Item> List<'b, T> {
         self.count
     }
 
-    /// Whether there was room for all items.
+    /// Whether all items fit.
     pub fn is_whole(&self) -> bool {
         self.len() == self.count
     }
 
-    /// The item at an index, if there was room for it.
+    /// The item at an index, if it fits.
     pub fn get(&self, index: usize) -> Option<T> {
         self.slots().get(index).map(|slot| T::of(&slot.0, self.looked_up))
     }
 
-    /// The items that there was room for, in the order of the list.
+    /// The items that fit, in the order of the list.
     pub fn iter(&self) -> Items<'_, T> {
         Items { slots: self.slots().iter(), looked_up: self.looked_up }
     }
@@ -219,7 +219,7 @@ impl<T: Item> ExactSizeIterator for Items<'_, T> {}
 
 pub(crate) type Call<T> = fn(&Source<'_>, Signature, &mut [<T as Sealed>::Raw]) -> AcpiResult<usize>;
 
-/// A list that hasn't been asked for yet. Each call below asks anew, and refuses as the call says that this is from.
+/// A list that hasn't been fetched yet. Each call below fetches anew, and fails as the call says that this is from.
 #[must_use = "nothing is asked for before `count`, `fill` or `to_vec`"]
 pub struct Listing<'k, T: Item> {
     source: Source<'k>,
@@ -247,13 +247,13 @@ impl<'k, T: Item> Listing<'k, T> {
         (self.call)(&self.source, self.looked_up, &mut [])
     }
 
-    /// The items, as far as there is room for them. [`List::is_whole`] says whether there was.
+    /// The items, as far as they fit. [`List::is_whole`] tells whether they do.
     pub fn fill<'b>(&self, room: &'b mut [Slot<T>]) -> AcpiResult<List<'b, T>> {
         let count = (self.call)(&self.source, self.looked_up, records_of(room))?;
         Ok(List::written(room, count, self.looked_up))
     }
 
-    /// All items. Refuses with [`AcpiError::AllocError`] if there is no memory for them.
+    /// All items. Fails with [`AcpiError::AllocError`] if there is no memory for them.
     #[cfg(feature = "alloc")]
     pub fn to_vec(&self) -> AcpiResult<Vec<T>> {
         let mut room = slots(self.count()?)?;
@@ -265,7 +265,7 @@ impl<'k, T: Item> Listing<'k, T> {
     }
 }
 
-/// Room for so many items.
+/// Memory for so many items.
 #[cfg(feature = "alloc")]
 pub(crate) fn slots<T: Item>(count: usize) -> AcpiResult<Vec<Slot<T>>> {
     let mut room = Vec::new();

@@ -22,7 +22,7 @@ use core::ptr::NonNull;
 ///
 /// impl PhysicalMapper for Direct {
 ///     unsafe fn map(&self, range: Range) -> Option<NonNull<u8>> {
-///         // A firmware's address is nobody's word: the kernel's memory map is asked first.
+///         // A firmware's address can't be trusted: the kernel's memory map decides.
 ///         let is_memory = range.address < 1 << 32 && range.length <= (1 << 32) - range.address;
 ///         NonNull::new((self.0 + range.address) as *mut u8).filter(|_| is_memory)
 ///     }
@@ -47,7 +47,7 @@ pub trait PhysicalMapper {
 const PAGE: u64 = 4096;
 
 /// Tables, with the memory that they lie in, which is unmapped when this is dropped. [`MappedTables::tables`] reads
-/// them. There is room for so many regions, for as many ranges that are missing at a time, and for as many that can't
+/// them. It has capacity for so many regions, for as many ranges that are missing at a time, and for as many that can't
 /// be mapped: eight of each are enough, and one more for each pointer of the root table.
 pub struct MappedTables<M: PhysicalMapper, const ROOM: usize = 64> {
     mapper: M,
@@ -59,9 +59,9 @@ pub struct MappedTables<M: PhysicalMapper, const ROOM: usize = 64> {
 
 impl<M: PhysicalMapper, const ROOM: usize> MappedTables<M, ROOM> {
     /// Maps what the tables from a start need: the RSDP, the root table, the listed tables, the DSDT and the FACS. What
-    /// `map` returned `None` for, or a range that holds it, isn't asked for again: that table is skipped.
+    /// `map` returned `None` for, or a range that holds it, isn't requested again: that table is skipped.
     ///
-    /// Fails as [`AcpiTables::open`] does, and with [`AcpiError::AllocError`] if there isn't room for a region or a
+    /// Fails as [`AcpiTables::open`] does, and with [`AcpiError::AllocError`] if there is no capacity for a region or a
     /// range. Then all is unmapped again. [`Start::Search`] looks at what is mapped alone, which is nothing here.
     ///
     /// # Safety
@@ -166,7 +166,7 @@ impl<M: PhysicalMapper, const ROOM: usize> fmt::Debug for MappedTables<M, ROOM> 
 }
 
 impl AcpiTables<'_> {
-    /// Maps the tables below the root table that the RSDP at an address leads to (section 5.2.5.3). Fails as
+    /// Maps the tables below the root table that the RSDP at an address points to (section 5.2.5.3). Fails as
     /// [`MappedTables::open`] does.
     ///
     /// # Safety

@@ -69,25 +69,25 @@ pub struct PciConfigRegions<'k> {
 }
 
 impl<'k> PciConfigRegions<'k> {
-    /// The configuration space of the first valid MCFG. Refuses with `TableMissing`.
+    /// The configuration space of the first valid MCFG. Fails with `TableMissing`.
     pub fn new(tables: &AcpiTables<'k>) -> AcpiResult<Self> {
         let regions = PciConfigRegions { tables: *tables };
         regions.entries().count().map(|_| regions)
     }
 
     /// The physical address of a function's 4096 bytes of configuration space, counted from bus 0 of the region's base,
-    /// as the specification says. Of several regions that hold the bus the first counts. `None` if none holds it, for a
-    /// device above 31 and a function above 7, and if the address is 2^64 or above.
+    /// as the specification has it. Of several regions that hold the bus the first counts. `None` if none holds it, for
+    /// a device above 31 and a function above 7, and if the address is 2^64 or above.
     pub fn ecam_address(&self, segment_group: u16, bus: u8, device: u8, function: u8) -> Option<u64> {
         raw::zacpi_1_pci_ecam_address(&self.tables.source(), segment_group, bus, device, function).ok()
     }
 
-    /// The regions, in the order of the table; fewer than 16 bytes at its end are none. Refuses with `TableMissing`.
+    /// The regions, in the order of the table; fewer than 16 bytes at its end are none. Fails with `TableMissing`.
     pub fn entries(&self) -> Listing<'k, PciConfigEntry> {
         self.tables.list(raw::zacpi_1_list_pci_regions)
     }
 
-    /// The memory that each region takes, in the same order. Refuses with `TableMissing`.
+    /// The memory that each region takes, in the same order. Fails with `TableMissing`.
     pub fn ecam_ranges(&self) -> Listing<'k, EcamRange> {
         self.tables.list(raw::zacpi_1_list_ecam_ranges)
     }

@@ -16,7 +16,7 @@ pub enum Start {
     /// As an XSDT at an address: pointers of eight bytes (section 5.2.8).
     Xsdt(u64),
     /// By the RSDP that the BIOS areas hold, each of which has to lie in one region with the 16 bytes after it
-    /// (section 5.2.5.1): what `search_for_rsdp_bios` of the crate `acpi` asks for.
+    /// (section 5.2.5.1): what `search_for_rsdp_bios` of the crate `acpi` maps.
     BiosSearch,
     /// By the RSDP that the BIOS areas hold, as far as they lie in regions (section 5.2.5.1).
     Search,
@@ -38,7 +38,7 @@ impl Start {
 /// in order, with what touches or overlaps joined. `ranges` come in any order, as a firmware's memory map has them;
 /// `without` has the kernel's own image, and whatever else is written while calls run.
 ///
-/// Refuses with [`AcpiError::RangeTooHigh`] if the address after the last byte of one of these ranges, or of the
+/// Fails with [`AcpiError::RangeTooHigh`] if the address after the last byte of one of these ranges, or of the
 /// window, is above 2^64 - 1.
 pub fn clip_ranges<'b>(
     ranges: &[Range],
@@ -50,11 +50,11 @@ pub fn clip_ranges<'b>(
     Ok(List::written(room, count, Signature::default()))
 }
 
-/// The ranges that were asked for, and that lie in no one region: that which opening the tables was refused, or those
+/// The ranges that are needed, and that lie in no one region: that which opening the tables lacked, or those
 /// of the listed tables, the DSDT and the FACS; after a search also those of an RSDP whose Length reaches too far.
-/// [`map_missing`] asks until there are no more.
+/// [`map_missing`] repeats until there are no more.
 ///
-/// The list refuses with [`AcpiError::RegionsNotAscending`] and [`AcpiError::RegionTooHigh`], and with nothing else.
+/// The list fails with [`AcpiError::RegionsNotAscending`] and [`AcpiError::RegionTooHigh`], and with nothing else.
 pub fn missing_ranges<'k>(regions: &'k [Region<'k>], start: Start) -> Listing<'k, Range> {
     Listing::new(start.source(regions), Signature::default(), raw::zacpi_1_list_missing_ranges)
 }
@@ -72,16 +72,16 @@ pub struct Mapped<'r> {
 
 /// Maps what the tables from a start need, round by round: the RSDP, the root table, the headers of the listed tables,
 /// the whole tables, the DSDT and the FACS. It ends when a round maps nothing, or after so many rounds. Eight are
-/// enough, since each of these has a header and a length, unless a round has more missing ranges than `ranges` has room
-/// for.
+/// enough, since each of these has a header and a length, unless a round has more missing ranges than `ranges` has
+/// items for.
 ///
-/// `regions` has first the regions that are mapped already, `mapped` of them, in ascending order, and room for more
-/// after them. `map` is passed a range and answers the bytes that it is mapped at, from its first address on, or `None`
+/// `regions` has first the regions that are mapped already, `mapped` of them, in ascending order, and more items
+/// after them. `map` is passed a range and returns the bytes that it is mapped at, from its first address on, or `None`
 /// if it can't be mapped. A table has to lie in one region, so if a missing range touches or overlaps regions then
 /// `map` is passed the range of all of these together, which takes their place.
 ///
-/// Refuses with [`AcpiError::RegionsNotAscending`] and [`AcpiError::RegionTooHigh`] for the regions, and with
-/// [`AcpiError::AllocError`] if `regions` has no room for one more.
+/// Fails with [`AcpiError::RegionsNotAscending`] and [`AcpiError::RegionTooHigh`] for the regions, and with
+/// [`AcpiError::AllocError`] if `regions` has no item for one more.
 pub fn map_missing<'k, 'r>(
     regions: &'r mut [Region<'k>],
     mapped: usize,
@@ -132,7 +132,8 @@ pub(crate) fn join(regions: &[Region<'_>], range: Range, page: u64) -> Option<Jo
     Some(Joined { range: Range { address: low, length: end - low }, first, count })
 }
 
-/// Puts a region in the place of those that it was joined of: `regions` has `count` of them, and room after these.
+/// Puts a region in the place of those that it was joined of: `regions` has `count` of them, and more items after
+/// these.
 pub(crate) fn replace<'k>(
     regions: &mut [Region<'k>],
     count: &mut usize,
@@ -150,7 +151,7 @@ pub(crate) fn replace<'k>(
     Ok(())
 }
 
-/// Maps one range, with the regions that it touches or overlaps. Says whether it was mapped.
+/// Maps one range, with the regions that it touches or overlaps. Returns whether it was mapped.
 fn map_one<'k>(
     regions: &mut [Region<'k>],
     count: &mut usize,

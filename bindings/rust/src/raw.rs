@@ -1,7 +1,7 @@
 //! The calls of `include/zacpi.h`, made safe: each is passed slices and references, whose pointers and lengths are what
-//! the header asks for. All `unsafe` code of reading stands in this module.
+//! the header requires. All `unsafe` code of reading is in this module.
 //!
-//! A list is a function of the source and a slice to fill, which answers how many items there are in all. Those that
+//! A list is a function of the source and a slice to fill, which returns how many items there are in all. Those that
 //! look a signature up are passed it; the others don't look at it, so that all lists have one type.
 #![allow(unsafe_code)]
 
@@ -27,7 +27,7 @@ impl<'k> Region<'k> {
     ///
     /// For `'k` the bytes, at most `isize::MAX`, are mapped there and can be read. Nobody writes a byte while a call of
     /// this package reads it, nor while a slice of it is alive that this package returned: of a table
-    /// ([`AcpiTables::bytes`] and the like), or of what [`AcpiTables::bytes_at`] was asked for.
+    /// ([`AcpiTables::bytes`] and the like), or of what [`AcpiTables::bytes_at`] was passed.
     ///
     /// [`AcpiTables::bytes`]: crate::AcpiTables::bytes
     /// [`AcpiTables::bytes_at`]: crate::AcpiTables::bytes_at
@@ -87,7 +87,7 @@ fn answered(status: u32, named: Signature) -> AcpiResult<()> {
     }
 }
 
-/// Calls that answer one record.
+/// Calls that return one record.
 macro_rules! ones {
     ($($name:ident($($argument:ident: $type:ty),*) -> $out:ty;)*) => {
         mod one {

@@ -1,5 +1,5 @@
-//! What passes between Rust and the library, laid out as the structs of `include/zacpi.h`, whose comments say what each
-//! field is. Numbers alone: every value of every byte is one of theirs. The modules that show them convert them.
+//! What passes between Rust and the library, laid out as the structs of `include/zacpi.h`, whose comments tell what
+//! each field is. Numbers alone: every value of every byte is one of theirs. The modules that show them convert them.
 use core::marker::PhantomData;
 
 /// A range of physical memory, and the bytes that it is mapped at.

@@ -31,7 +31,7 @@ pub struct Slit<'k> {
 }
 
 impl Slit<'_> {
-    /// How far one locality is from another, in units of which 10 are the distance from itself; 255 stands for
+    /// How far one locality is from another, in units of which 10 are the distance from itself; 255 means
     /// unreachable. `None` if one of them isn't below `localities`, or if the table ends before the byte of the pair.
     pub fn distance(&self, from: u64, to: u64) -> Option<u8> {
         raw::zacpi_1_distance(&self.tables.source(), from, to).ok()

@@ -176,13 +176,13 @@ impl Spcr {
         self.raw.interface.into()
     }
 
-    /// Base Address: of the registers. `None` if all its bytes are 0; refused with `InvalidGenericAddress` for a
+    /// Base Address: of the registers. `None` if all its bytes are 0; `InvalidGenericAddress` for a
     /// reserved code.
     pub fn base_address(&self) -> Option<AcpiResult<GenericAddress>> {
         register(self.raw.base).transpose()
     }
 
-    /// Precise Baud Rate, or what Configured Baud Rate stands for, in bits in a second.
+    /// Precise Baud Rate, or what Configured Baud Rate means, in bits in a second.
     pub fn baud_rate(&self) -> Option<u32> {
         (self.raw.has_baud_rate != 0).then_some(self.raw.baud_rate)
     }
@@ -222,7 +222,7 @@ impl Spcr {
         self.raw.pci_function
     }
 
-    /// UART Clock Frequency, in Hz, if the table says one: it is of revision 3 or above, and the field isn't 0.
+    /// UART Clock Frequency, in Hz, if the table has one: it is of revision 3 or above, and the field isn't 0.
     pub fn uart_clock_frequency(&self) -> Option<u32> {
         (self.raw.clock_frequency != 0).then_some(self.raw.clock_frequency)
     }

@@ -62,7 +62,7 @@ pub struct Srat<'k> {
     tables: AcpiTables<'k>,
 }
 
-/// A refusal because there is no such domain is none here.
+/// An error because there is no such domain isn't one here.
 fn domain(asked: AcpiResult<u32>) -> AcpiResult<Option<u32>> {
     match asked {
         Err(AcpiError::NoDomain) => Ok(None),
@@ -74,26 +74,26 @@ impl<'k> Srat<'k> {
     /// The ranges of memory that are in a domain, in order: of the enabled entries of memory that have at least one
     /// byte. They may overlap.
     ///
-    /// Refuses with `InvalidEntryLength` if bytes are left in which no entry begins, and with `InvalidMemoryRange` if a
+    /// Fails with `InvalidEntryLength` if bytes are left in which no entry begins, and with `InvalidMemoryRange` if a
     /// range ends above 2^64 - 1.
     pub fn memory_affinities(&self) -> Listing<'k, MemoryAffinity> {
         self.tables.list(raw::zacpi_1_list_memory_affinities)
     }
 
-    /// The domain of the memory at a physical address: that of the first range that holds it. Refuses as
+    /// The domain of the memory at a physical address: that of the first range that holds it. Fails as
     /// [`Srat::memory_affinities`] does.
     pub fn domain_of_address(&self, address: u64) -> AcpiResult<Option<u32>> {
         domain(raw::zacpi_1_domain_of_address(&self.tables.source(), address))
     }
 
     /// The domain of the processor whose local APIC or x2APIC has an id: that of the last enabled entry for it
-    /// (sections 5.2.16.1 and 5.2.16.3). Entries after a malformed one aren't looked at. Refuses nothing.
+    /// (sections 5.2.16.1 and 5.2.16.3). Entries after a malformed one aren't looked at. Never fails.
     pub fn domain_of_apic(&self, local_apic_id: u32) -> AcpiResult<Option<u32>> {
         domain(raw::zacpi_1_domain_of_apic(&self.tables.source(), local_apic_id))
     }
 
     /// The domain of the processor of an ACPI Processor UID on a machine with a GIC (section 5.2.16.4). Entries after a
-    /// malformed one aren't looked at. Refuses nothing.
+    /// malformed one aren't looked at. Never fails.
     pub fn domain_of_processor(&self, uid: u32) -> AcpiResult<Option<u32>> {
         domain(raw::zacpi_1_domain_of_processor(&self.tables.source(), uid))
     }

@@ -218,7 +218,7 @@ fn route(raw: records::IsaRoute) -> Option<IsaRoute> {
     (raw.present != 0).then(|| IsaRoute { interrupt: raw.interrupt.into(), pin })
 }
 
-/// An entry of the MADT at fault, or the first byte at which no entry begins.
+/// An entry of the MADT with an error, or the first byte at which no entry begins.
 #[derive(Clone, Copy, Debug, PartialEq, Eq)]
 pub struct MadtFault {
     /// The physical address of its first byte.
@@ -238,14 +238,14 @@ impl From<records::MadtFault> for MadtFault {
 
 items! { MadtFault = MadtFault }
 
-/// What the entries of the first valid MADT say, each by itself: one at fault is listed as it stands, and changes nothing
-/// of the others. The lists end before the first byte at which no entry begins.
+/// What the entries of the first valid MADT contain, each by itself: one with an error is listed as it is, and changes
+/// nothing of the others. The lists end before the first byte at which no entry begins.
 ///
-/// Each of these fails with `TableMissing` for the MADT and, but for the faults, with [`AcpiError::NoApics`] if no entry is
-/// of a machine with APICs.
+/// Each of these fails with `TableMissing` for the MADT and, but for the faults, with [`AcpiError::NoApics`] if no
+/// entry is of a machine with APICs.
 impl<'k> AcpiTables<'k> {
-    /// The entries of the first valid MADT at fault and, last, the first byte at which no entry begins, if bytes are left
-    /// there (section 5.2.12).
+    /// The entries of the first valid MADT that have errors and, last, the first byte at which no entry begins, if
+    /// bytes are left there (section 5.2.12).
     pub fn madt_faults(&self) -> Listing<'k, MadtFault> {
         self.list(raw::zacpi_1_list_madt_faults)
     }
@@ -271,7 +271,7 @@ impl<'k> AcpiTables<'k> {
         self.list(raw::zacpi_1_list_nmi_lines)
     }
 
-    /// How one of the 16 ISA interrupts comes to the I/O APICs: as its last override of bus 0 says, or as the interrupt
+    /// How one of the 16 ISA interrupts comes to the I/O APICs: by its last override of bus 0, or as the interrupt
     /// of the same number, active high and by edge (section 5.2.12.5). `None` for an interrupt above 15, and for one
     /// without an override whose number another one's override has taken. Fails with `InvalidMadt` if the flags of its
     /// override are reserved.
@@ -289,7 +289,7 @@ impl<'k> AcpiTables<'k> {
     }
 
     /// How the System Control Interrupt, SCI_INT of the first valid FADT, comes to the I/O APICs: active low and by
-    /// level, unless its override says otherwise (sections 5.2.9 and 5.2.12.5). Fails with `TableMissing` for the FADT
+    /// level, unless its override has others (sections 5.2.9 and 5.2.12.5). Fails with `TableMissing` for the FADT
     /// too, and with `InvalidMadt` if the flags of its override are reserved.
     pub fn sci_interrupt(&self) -> AcpiResult<Interrupt> {
         raw::zacpi_1_sci_interrupt(&self.source()).map(Interrupt::from)

@@ -1,4 +1,4 @@
-//! What a kernel asks at boot: the power profile, the interrupt model, the processors and the timer.
+//! What a kernel needs at boot: the power profile, the interrupt model, the processors and the timer.
 
 pub mod interrupt;
 
@@ -79,7 +79,7 @@ pub struct PmTimer {
 impl PmTimer {
     /// The timer of the first valid FADT, if there is one.
     ///
-    /// Refuses with `TableMissing` for the FADT, and with `InvalidGenericAddress` if its address has a reserved code.
+    /// Fails with `TableMissing` for the FADT, and with `InvalidGenericAddress` if its address has a reserved code.
     pub fn new(tables: &AcpiTables<'_>) -> AcpiResult<Option<PmTimer>> {
         let raw = raw::zacpi_1_get_pm_timer(&tables.source())?;
         present(raw.present, PmTimer { base: raw.base.into(), supports_32bit: raw.is_32_bit != 0 })
@@ -94,19 +94,19 @@ pub struct ProcessorInfo<'b> {
 }
 
 impl ProcessorInfo<'_> {
-    /// The boot processor, if there was room for it.
+    /// The boot processor, if it fits the capacity.
     pub fn boot_processor(&self) -> Option<Processor> {
         self.processors.get(0)
     }
 
-    /// All others that there was room for.
+    /// All others that fit the capacity.
     pub fn application_processors(&self) -> impl Iterator<Item = Processor> + '_ {
         self.processors.iter().skip(1)
     }
 }
 
-/// Room for the lists of a platform; none by default. A list that is longer than its room has as many items, and
-/// [`List::count`] says how many there are.
+/// Capacity for the lists of a platform; none by default. A list that is longer has as many items as fit, and
+/// [`List::count`] tells how many there are.
 #[derive(Debug, Default)]
 pub struct PlatformRoom<'b> {
     /// For the processors.
@@ -136,7 +136,7 @@ pub struct PlatformCounts {
     pub local_apic_nmi_lines: usize,
 }
 
-/// What a kernel asks at boot.
+/// What a kernel needs at boot.
 #[derive(Debug)]
 pub struct PlatformInfo<'b> {
     /// Preferred_PM_Profile of the first valid FADT.
@@ -167,7 +167,7 @@ impl<'b> PlatformInfo<'b> {
     }
 }
 
-/// A refusal because the model isn't known is none here.
+/// An error because the model isn't known isn't one here.
 fn unless_unknown<T>(asked: AcpiResult<T>) -> AcpiResult<Option<T>> {
     match asked {
         Err(AcpiError::NoApics) => Ok(None),
@@ -178,8 +178,8 @@ fn unless_unknown<T>(asked: AcpiResult<T>) -> AcpiResult<Option<T>> {
 impl<'k> AcpiTables<'k> {
     /// The platform: power profile, interrupt model with its lists, processors and timer (sections 5.2.9 and 5.2.12).
     ///
-    /// Refuses with `TableMissing` for the FADT, with `InvalidMadt` for the first entry of the MADT at fault, and with
-    /// `InvalidGenericAddress` as [`PmTimer::new`] does.
+    /// Fails with `TableMissing` for the FADT, with `InvalidMadt` for the first entry of the MADT with an error, and
+    /// with `InvalidGenericAddress` as [`PmTimer::new`] does.
     pub fn platform_info<'b>(&self, room: PlatformRoom<'b>) -> AcpiResult<PlatformInfo<'b>> {
         let model = unless_unknown(raw::platform(
             &self.source(),
@@ -204,7 +204,7 @@ impl<'k> AcpiTables<'k> {
         PlatformInfo::new(self, found)
     }
 
-    /// How much room the lists of [`AcpiTables::platform_info`] take: none if the model isn't known. Refuses as that
+    /// How much capacity the lists of [`AcpiTables::platform_info`] take: none if the model isn't known. Fails as that
     /// does.
     pub fn platform_counts(&self) -> AcpiResult<PlatformCounts> {
         let model = raw::zacpi_1_get_interrupt_model(&self.source())?;
@@ -217,7 +217,7 @@ impl<'k> AcpiTables<'k> {
         })
     }
 
-    /// The platform, with all items of its lists. Refuses as [`AcpiTables::platform_info`] does, and with `AllocError`
+    /// The platform, with all items of its lists. Fails as [`AcpiTables::platform_info`] does, and with `AllocError`
     /// if there is no memory for a list.
     #[cfg(feature = "alloc")]
     pub fn platform_info_alloc(&self) -> AcpiResult<PlatformInfo<'static>> {
@@ -253,8 +253,8 @@ impl<'k> AcpiTables<'k> {
 
     /// The processors, the boot processor first, also if it is disabled (sections 5.2.12.1, 5.2.12.2 and 5.2.12.12).
     ///
-    /// Entries at fault change nothing. Fails with `TableMissing` for the MADT, and with `NoApics` if no entry is of a
-    /// machine with APICs.
+    /// Entries with errors change nothing. Fails with `TableMissing` for the MADT, and with `NoApics` if no entry is of
+    /// a machine with APICs.
     pub fn processors(&self) -> Listing<'k, Processor> {
         self.list(raw::zacpi_1_list_processors)
     }

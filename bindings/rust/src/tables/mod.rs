@@ -1,8 +1,8 @@
-//! Every table's fields, as views over its bytes, by the names of its specification: for tables that this package has no
-//! calls for. `scripts/tables_rust` makes the views of the layouts by which `acpi_dump` shows tables.
+//! Every table's fields, as views over its bytes, by the names of its specification: for tables that this package has
+//! no calls for. `scripts/tables_rust` makes the views of the layouts by which `acpi_dump` shows tables.
 //!
 //! A view reads each field as a little-endian number, of which bytes past the end of the table or entry are 0;
-//! `is_whole` says whether all of its fixed fields are there. What follows them is a list of [`Entries`], which stays
+//! `is_whole` tells whether all of its fixed fields are there. What follows them is a list of [`Entries`], which stays
 //! inside the bytes: it ends at the first entry whose length is 0 or reaches too far. Tables' bytes come from
 //! [`AcpiTables::bytes`](crate::AcpiTables::bytes), which checked their sum.
 //!
@@ -44,7 +44,7 @@ pub(crate) fn length(number: u64) -> usize {
     usize::try_from(number).unwrap_or(usize::MAX)
 }
 
-/// What stands one after the other in a table.
+/// What is one after the other in a table.
 #[derive(Clone, Copy, Debug)]
 pub struct Entries<'a, V> {
     rest: &'a [u8],
@@ -54,7 +54,7 @@ pub struct Entries<'a, V> {
 }
 
 impl<'a, V> Entries<'a, V> {
-    /// The entries from an offset on, up to so many, each as long as `length` says of the bytes from its first on.
+    /// The entries from an offset on, up to so many, each as long as `length` returns for the bytes from its first on.
     pub(crate) fn new(bytes: &'a [u8], offset: usize, left: usize, length: fn(&[u8]) -> usize) -> Self {
         Entries { rest: bytes.get(offset..).unwrap_or(&[]), left, length, views: PhantomData }
     }

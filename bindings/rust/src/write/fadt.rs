@@ -9,13 +9,13 @@ use crate::PowerProfile;
 
 /// A FADT of version 6.4, 276 bytes (section 5.2.9).
 ///
-/// An address or a block stands in its X_ field, and in its field of 32 bits if it fits, a block if it is one of ports.
+/// An address or a block is in its X_ field, and in its field of 32 bits if it fits, a block if it is one of ports.
 /// Of fixed hardware that is reduced, of what isn't there, and of reserved flags nothing is written.
 #[derive(Clone, Copy, Debug)]
 pub struct Fadt {
     /// Who made it.
     pub ids: TableIds,
-    /// What it says. [`dsdt_address`](super::dsdt_address) has the DSDT's address in a machine.
+    /// What it contains. [`dsdt_address`](super::dsdt_address) has the DSDT's address in a machine.
     pub hardware: fadt::Fadt,
 }
 
@@ -45,7 +45,7 @@ macro_rules! registers {
     )* };
 }
 
-/// What a FADT is to say, a piece at a time: the fields, which are public, are set one by one.
+/// What a FADT is to contain, a piece at a time: the fields, which are public, are set one by one.
 impl fadt::Fadt {
     /// The fixed hardware of a machine with this DSDT, that has neither C2 nor C3, and nothing else yet.
     pub fn new(dsdt_address: u64) -> Self {

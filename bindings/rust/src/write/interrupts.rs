@@ -15,13 +15,13 @@ const ENTRIES_AT: usize = 44;
 ///
 /// A processor whose uid and id are below 255 is a Processor Local APIC, any other a Processor Local x2APIC; an NMI
 /// line of a uid of 255 or above is a Local x2APIC NMI, any other a Local APIC NMI. A local APIC address of 2^32 or
-/// above stands in an override of it after the processors.
+/// above is in an override of it after the processors.
 #[derive(Clone, Copy, Debug, Default)]
 #[non_exhaustive]
 pub struct Madt<'a> {
     /// Who made it.
     pub ids: TableIds,
-    /// The processors, of which the first is the boot processor, whatever `is_ap` says. Enabled is set unless the state
+    /// The processors, of which the first is the boot processor, whatever `is_ap` is. Enabled is set unless the state
     /// is `Disabled`.
     pub processors: &'a [Slot<Processor>],
     /// The I/O APICs.

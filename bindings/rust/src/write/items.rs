@@ -221,7 +221,7 @@ written! {
     };
 }
 
-/// An interrupt, or number 0, which stands for none, with flags of 0.
+/// An interrupt, or number 0, which means none, with flags of 0.
 fn or_none(interrupt: Option<TimerInterrupt>) -> TimerInterrupt {
     let none = TimerInterrupt { interrupt: 0, polarity: Polarity::ActiveHigh, trigger_mode: TriggerMode::Edge };
     interrupt.unwrap_or(none)

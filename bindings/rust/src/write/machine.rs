@@ -45,30 +45,31 @@ impl<'a> Machine<'a> {
 }
 
 /// Where [`Machine::write`] lays the DSDT for this address if the machine lists so many tables, as the FADT, which is
-/// one of them, has to say. Fails with `NoAddress` if that is 2^64 or above, or an XSDT can't list so many.
+/// one of them, has to contain. Fails with `NoAddress` if that is 2^64 or above, or an XSDT can't list so many.
 pub fn dsdt_address(address: u64, tables: usize) -> Result<u64, WriteError> {
     raw::dsdt_address(address, tables)
 }
 
 /// Where [`Machine::write`] lays the FACS for this address if the machine lists so many tables and has this DSDT, as
-/// the FADT has to say: at the first multiple of 64 after the DSDT. Fails with `NoAddress` as [`dsdt_address`] does.
+/// the FADT has to contain: at the first multiple of 64 after the DSDT. Fails with `NoAddress` as [`dsdt_address`]
+/// does.
 pub fn facs_address(address: u64, tables: usize, dsdt: Option<Aml<'_>>) -> Result<u64, WriteError> {
     let length = dsdt.map_or(0, |dsdt| dsdt.size()) as u64;
     let end = dsdt_address(address, tables)?.checked_add(length).and_then(|end| end.checked_next_multiple_of(64));
     end.ok_or(WriteError::NoAddress)
 }
 
-/// Room for the tables of a machine before they are laid together: each is written after the one before it.
+/// Memory for the tables of a machine before they are laid together: each is written after the one before it.
 #[derive(Debug)]
 pub struct Room<'m>(&'m mut [u8]);
 
 impl<'m> Room<'m> {
-    /// The room that these bytes are.
+    /// The memory that these bytes are.
     pub fn new(bytes: &'m mut [u8]) -> Self {
         Room(bytes)
     }
 
-    /// The table that `write` writes to the front of the room that is left. Fails as that does, and takes no room
+    /// The table that `write` writes to the front of what is left. Fails as that does, and takes nothing
     /// then.
     pub fn table(
         &mut self,

@@ -1,9 +1,10 @@
 //! Writes tables, as a hypervisor or a test needs them: one by one, or a whole [`Machine`] in guest memory.
 //!
-//! Each struct here is what a table says. `write` writes it to the front of a slice and returns how many bytes it took;
-//! `size` says how many those are. After an error the slice is as it was. What is written is what reading returns: the
-//! lists are slices of [`Slot`](crate::Slot)s, which are made of the items that reading returns by [`From`], or with
-//! which [`Listing::fill`](crate::Listing::fill) filled a slice, so that nothing is copied and no allocator is needed.
+//! Each struct here is what a table contains. `write` writes it to the front of a slice and returns how many bytes it
+//! took; `size` returns how many those are. After an error the slice is as it was. What is written is what reading
+//! returns: the lists are slices of [`Slot`](crate::Slot)s, which are made of the items that reading returns by
+//! [`From`], or with which [`Listing::fill`](crate::Listing::fill) filled a slice, so that nothing is copied and no
+//! allocator is needed.
 //!
 //! ```
 //! use zacpi::write::{Machine, Room, Slit, TableIds};
@@ -48,7 +49,7 @@ use core::fmt;
 /// The bytes of a table's header (section 5.2.6).
 const HEADER: usize = 36;
 
-/// The sum of these, or the largest number if that is larger still, for which no slice has room.
+/// The sum of these, or the largest number if that is larger still, which no slice has.
 fn total(sizes: impl IntoIterator<Item = usize>) -> usize {
     sizes.into_iter().fold(0, usize::saturating_add)
 }
@@ -82,20 +83,20 @@ errors! {
     60 = UnknownCode,
     /// A MADT without a processor.
     61 = NoProcessor,
-    /// A processor whose uid or id is 0xffffffff, which stands for all.
+    /// A processor whose uid or id is 0xffffffff, which means all.
     62 = IdOfAll,
-    /// An NMI line of the processor whose uid is 0xffffffff, which stands for all.
+    /// An NMI line of the processor whose uid is 0xffffffff, which means all.
     63 = UidOfAll,
     /// A SLIT without a distance for each pair of localities.
     64 = BadMatrix,
-    /// An RSDP or a FADT that leads to address 0, a console's registers there, or an address at which a machine's
+    /// An RSDP or a FADT that points to address 0, a console's registers there, or an address at which a machine's
     /// tables can't lie.
     65 = NoAddress,
     /// OEMID, OEM Table ID or Creator ID isn't UTF-8.
     66 = BadName,
     /// The slice is shorter than the table.
     67 = NoRoom,
-    /// The table has 2^32 bytes or more, which Length can't say.
+    /// The table has 2^32 bytes or more, which Length can't count.
     68 = TooLong,
     /// A register of a FADT at address 0, or a block without bytes.
     69 = BadRegister,
@@ -103,7 +104,7 @@ errors! {
     70 = BadRange,
     /// A trigger mode or a polarity of an Arm machine as the bus has it.
     71 = SameAsBus,
-    /// A GT Block with more frames than its Length can say.
+    /// A GT Block with more frames than its Length can count.
     72 = TooManyFrames,
     /// A listed table whose bytes aren't one table.
     73 = BadTable,

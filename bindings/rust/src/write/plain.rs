@@ -3,7 +3,7 @@
 use super::{raw, TableIds, WriteError, HEADER};
 use crate::sdt::Signature;
 
-/// An RSDP of revision 2, which leads to an XSDT (section 5.2.5.3). Of `ids` it has OEMID alone.
+/// An RSDP of revision 2, which points to an XSDT (section 5.2.5.3). Of `ids` it has OEMID alone.
 #[derive(Clone, Copy, Debug, Default)]
 pub struct Rsdp {
     /// Who made it.
@@ -93,7 +93,7 @@ pub struct Bytes<'a> {
     pub signature: Signature,
     /// Revision: of the table's layout.
     pub revision: u8,
-    /// What stands after the header.
+    /// What is after the header.
     pub bytes: &'a [u8],
 }
 

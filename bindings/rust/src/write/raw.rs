@@ -1,5 +1,5 @@
 //! The calls of `include/zacpi.h` that write, made safe: each is passed references and slices, whose pointers and
-//! lengths are what the header asks for. All `unsafe` code of writing stands in this module, and so does what makes the
+//! lengths are what the header requires. All `unsafe` code of writing is in this module, and so is what makes the
 //! pointers in its records, whose fields nothing else can set.
 #![allow(unsafe_code)]
 

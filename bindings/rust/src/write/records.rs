@@ -1,4 +1,4 @@
-//! What tables are written from, laid out as the structs of `include/zacpi.h`, whose comments say what each field is.
+//! What tables are written from, laid out as the structs of `include/zacpi.h`, whose comments tell what each field is.
 //! A list is a pointer and how many items it has; [`super::raw`] makes them of slices.
 use crate::raw::records::{
     ArmTimers, Console, GicCpuInterface, GicDistributor, GicMsiFrame, GicTranslationService, GtFrame,
@@ -6,7 +6,7 @@ use crate::raw::records::{
 };
 use core::marker::PhantomData;
 
-/// Who made a table, as its header says (section 5.2.6). Each name is text, filled up with spaces or zeros.
+/// Who made a table, by its header (section 5.2.6). Each name is text, filled up with spaces or zeros.
 #[repr(C)]
 #[derive(Clone, Copy, Debug, Default, PartialEq, Eq)]
 pub struct TableIds {
