@@ -14,8 +14,10 @@ void *memmove(void *to, const void *from, size_t n) {
     volatile uint8_t *t = to;
     const volatile uint8_t *f = from;
     size_t i;
-    if (t < f) for (i = 0; i < n; i++) t[i] = f[i];
-    else while (n--) t[n] = f[n];
+    if (t < f)
+        for (i = 0; i < n; i++) t[i] = f[i];
+    else
+        while (n--) t[n] = f[n];
     return to;
 }
 void *memcpy(void *to, const void *from, size_t n) { return memmove(to, from, n); }
@@ -26,7 +28,8 @@ void *memset(void *to, int x, size_t n) {
 }
 int memcmp(const void *a, const void *b, size_t n) {
     const volatile uint8_t *x = a, *y = b;
-    for (; n--; x++, y++) if (*x != *y) return *x - *y;
+    for (; n--; x++, y++)
+        if (*x != *y) return *x - *y;
     return 0;
 }
 
@@ -37,7 +40,9 @@ static long system_call(long number, long a, long b, long c) {
     return answer;
 }
 
-static void to_output(void *to, const char *bytes, size_t length) { system_call(1, *(long *)to, (long)bytes, (long)length); }
+static void to_output(void *to, const char *bytes, size_t length) {
+    system_call(1, *(long *)to, (long)bytes, (long)length);
+}
 
 /* Where the program begins: _start calls it. */
 void begin(void) {

@@ -49,7 +49,8 @@ static int character(const uint8_t *bytes, int length) {
     const uint8_t first = bytes[0];
     int n = first < 0x80 ? 1 : first < 0xc2 ? 0 : first < 0xe0 ? 2 : first < 0xf0 ? 3 : first < 0xf5 ? 4 : 0, i;
     if (n > length) return 0;
-    for (i = 1; i < n; i++) if ((bytes[i] & 0xc0) != 0x80) return 0;
+    for (i = 1; i < n; i++)
+        if ((bytes[i] & 0xc0) != 0x80) return 0;
     if ((first == 0xe0 && bytes[1] < 0xa0) || (first == 0xf0 && bytes[1] < 0x90)) return 0; /* too long a form */
     if ((first == 0xed && bytes[1] > 0x9f) || (first == 0xf4 && bytes[1] > 0x8f)) return 0; /* no character */
     return n;
@@ -64,7 +65,8 @@ void say_signature(const struct printer *p, const uint8_t letters[4]) {
         i += n;
     }
     if (is_text) p->write(p->to, (const char *)letters, 4);
-    else for (i = 0; i < 4; i++) say_hex(p, letters[i], 2);
+    else
+        for (i = 0; i < 4; i++) say_hex(p, letters[i], 2);
 }
 
 static void say_status(const struct printer *p, zacpi_status status, const uint8_t letters[4]) {
@@ -305,7 +307,7 @@ static void faults(const struct zacpi_source *source, const char *letters, const
 }
 
 zacpi_status print_lines(const struct zacpi_source *source, const uint8_t *revision, const struct printer *p,
-                        const struct printer *skipped, struct zacpi_signature *named) {
+                         const struct printer *skipped, struct zacpi_signature *named) {
     static const char *const looked_up[] = {"FACP", "APIC", "MCFG", "HPET", "BGRT", "SPCR"};
     struct zacpi_root root = {0};
     size_t i;

@@ -21,5 +21,5 @@ void say_refused(const struct printer *p, const char *what, zacpi_status status,
  * tables passed over, unless it is null. The revision is the one at `revision`, or that of zacpi_open if it is null.
  * Answers ZACPI_OK, or the refusal of opening the tables, and has then printed nothing. */
 zacpi_status print_lines(const struct zacpi_source *source, const uint8_t *revision, const struct printer *p,
-                        const struct printer *skipped, struct zacpi_signature *named);
+                         const struct printer *skipped, struct zacpi_signature *named);
 #endif

@@ -22,7 +22,12 @@ static uint64_t unit;
 
 /* What the mapper has mapped, also what it unmapped since, how many of these are mapped now, and how many were at most
  * when one more was asked for or the run ended: as many regions there were. */
-static struct { uint64_t address, length; uint8_t *base; const void *at; int is_mapped; } mapped[MOST];
+static struct {
+    uint64_t address, length;
+    uint8_t *base;
+    const void *at;
+    int is_mapped;
+} mapped[MOST];
 static size_t mapped_count, mapped_now, mapped_most;
 /* Whether a range was unmapped that no other holds. */
 static int is_lost;

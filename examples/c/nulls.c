@@ -5,7 +5,10 @@
 #include <string.h>
 
 static int failed;
-#define EXPECT(holds) do { if (!(holds)) failed = 1, printf("FAILED: line %d: %s\n", __LINE__, #holds); } while (0)
+#define EXPECT(holds) \
+    do { \
+        if (!(holds)) failed = 1, printf("FAILED: line %d: %s\n", __LINE__, #holds); \
+    } while (0)
 
 static uint8_t memory[4096];
 static const struct zacpi_table_ids ids = {"ZACPI", "NULLS", 1, {'Z', 'F', 'I', 'R'}, 1};
@@ -38,7 +41,7 @@ static void write_nothing(void) {
     size_t length;
     fadt.dsdt_address = 0x20000;
     EXPECT(!zacpi_write_fadt(&ids, &fadt, table, sizeof table, &length) && length == 276);
-    EXPECT(table[112] == 0 && table[114] == 0x10); /* Flags: HW_REDUCED_ACPI */
+    EXPECT(table[112] == 0 && table[114] == 0x10);                   /* Flags: HW_REDUCED_ACPI */
     EXPECT(table[96] == 101 && table[98] == 0xe9 && table[99] == 3); /* P_LVL2_LAT, P_LVL3_LAT */
     EXPECT(!zacpi_write_srat(&ids, &srat, table, sizeof table, &length) && length == 48);
     EXPECT(!zacpi_write_mcfg(&ids, NULL, 0, table, sizeof table, &length) && length == 44);

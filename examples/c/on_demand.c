@@ -8,7 +8,10 @@
 #include <sys/mman.h>
 #include <sys/stat.h>
 
-static struct { int file; uint64_t length; } memory;
+static struct {
+    int file;
+    uint64_t length;
+} memory;
 
 static const void *map(void *context, uint64_t address, uint64_t length) {
     void *at;

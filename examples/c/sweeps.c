@@ -8,13 +8,15 @@
 #include <string.h>
 
 #define PAINT 0xa5
-#define AT(address, table) {address, table, sizeof table}
+#define AT(address, table) \
+    { address, table, sizeof table }
 enum { LENGTH = 4, REVISION = 8, OEMID = 10, OEM_TABLE_ID = 16, OEM_REVISION = 24 }; /* fields (section 5.2.6) */
 
 /* ---- Tables ------------------------------------------------------------------------------------------- */
 
 /* One table of each type that has a lookup of its own, each shorter than its layout, or ending in the front of an
  * entry, and an RSDT that lists them. Byte 9 is Checksum. */
+/* clang-format off */
 static uint8_t rsdt[64] = {'R', 'S', 'D', 'T', 64, [9] = 0xe3, [37] = 0x20, [41] = 0x30, [45] = 0x40, [49] = 0x60,
     [53] = 0x80, [57] = 0x90, [61] = 0xa0};
 static uint8_t facp[116] = {'F', 'A', 'C', 'P', 116, [8] = 0x02, 0xeb, [41] = 0x70, [45] = 0x02, [76] = 0x08, 0x06,
@@ -25,12 +27,14 @@ static uint8_t hpet[56] = {'H', 'P', 'E', 'T', 56, [9] = 0xee, [41] = 0x40, [43]
     [53] = 0x80, 0x00, 0x12};
 static uint8_t mcfg[75] = {'M', 'C', 'F', 'G', 75, [9] = 0x8a, [47] = 0xe0, [55] = 0x0f, [63] = 0xf0,
     [70] = 0x10, 0x1f};
+/* clang-format on */
 static uint8_t dsdt[40] = {'D', 'S', 'D', 'T', 40, [9] = 0x9f, [36] = 0x01, 0x02, 0x03, 0x04};
 static uint8_t bgrt[56] = {'B', 'G', 'R', 'T', 56, [9] = 0x93, [36] = 0x01, 0x00, 0x05};
 static uint8_t spcr[80] = {'S', 'P', 'C', 'R', 80, [8] = 0x02, 0x6a, [52] = 0x01, 0x04, [58] = 0x07};
 static uint8_t ssdt[40] = {'S', 'S', 'D', 'T', 40, [9] = 0x90, [36] = 0x01, 0x02, 0x03, 0x04};
-static const struct zacpi_region each_type[] = {AT(0x1000, rsdt), AT(0x2000, facp), AT(0x3000, apic), AT(0x4000, hpet),
-    AT(0x6000, mcfg), AT(0x7000, dsdt), AT(0x8000, bgrt), AT(0x9000, spcr), AT(0xa000, ssdt)};
+static const struct zacpi_region each_type[] = {AT(0x1000, rsdt), AT(0x2000, facp), AT(0x3000, apic),
+                                                AT(0x4000, hpet), AT(0x6000, mcfg), AT(0x7000, dsdt),
+                                                AT(0x8000, bgrt), AT(0x9000, spcr), AT(0xa000, ssdt)};
 
 /* A boot graphic alone, and its RSDT. */
 static uint8_t short_rsdt[40] = {'R', 'S', 'D', 'T', 40, [9] = 0x7b, [37] = 0x20};
@@ -78,9 +82,9 @@ static const struct swept {
     lookup *find;
     zacpi_status found; /* what it answers over the memory as it is: this MADT describes no GIC */
 } tables[] = {
-    {"FACP", each_type, 9, 1, find_facp, ZACPI_OK},   {"APIC", each_type, 9, 2, find_apic, ZACPI_NO_GIC},
-    {"HPET", each_type, 9, 3, find_hpet, ZACPI_OK},   {"MCFG", each_type, 9, 4, find_mcfg, ZACPI_OK},
-    {"BGRT", each_type, 9, 6, find_bgrt, ZACPI_OK},   {"SPCR", each_type, 9, 7, find_spcr, ZACPI_OK},
+    {"FACP", each_type, 9, 1, find_facp, ZACPI_OK}, {"APIC", each_type, 9, 2, find_apic, ZACPI_NO_GIC},
+    {"HPET", each_type, 9, 3, find_hpet, ZACPI_OK}, {"MCFG", each_type, 9, 4, find_mcfg, ZACPI_OK},
+    {"BGRT", each_type, 9, 6, find_bgrt, ZACPI_OK}, {"SPCR", each_type, 9, 7, find_spcr, ZACPI_OK},
     {"BGRT", graphic, 2, 1, find_bgrt, ZACPI_OK},
 };
 
@@ -105,14 +109,15 @@ static struct zacpi_signature signature_of(const struct swept *table) {
 /* Whether bytes are painted. */
 static int are_painted(const void *bytes, size_t length) {
     const uint8_t *byte = bytes;
-    while (length--) if (*byte++ != PAINT) return 0;
+    while (length--)
+        if (*byte++ != PAINT) return 0;
     return 1;
 }
 
 /* Whether a refusal says that the table is missing, and writes nothing but its signature. */
 static int says_missing(const struct swept *table, zacpi_status status) {
-    return status == ZACPI_TABLE_MISSING && !memcmp(named.letters, table->name, 4) && are_painted(&out, sizeof out)
-        && are_painted(&count, sizeof count);
+    return status == ZACPI_TABLE_MISSING && !memcmp(named.letters, table->name, 4) && are_painted(&out, sizeof out) &&
+           are_painted(&count, sizeof count);
 }
 
 /* Whether no lookup takes the table, and it is listed with this fault alone, or not at all if this is 0. */
@@ -124,8 +129,8 @@ static int is_passed_over(const struct swept *table, const struct zacpi_source *
     paint();
     if (zacpi_list_faults(source, signature_of(table), out.faults, 2, &count, &named)) return 0;
     if (!fault) return count == 0 && are_painted(&out, sizeof out);
-    return count == 1 && out.faults[0].address == table->regions[table->index].address && out.faults[0].status == fault
-        && are_painted(&out.faults[1], sizeof out.faults[1]);
+    return count == 1 && out.faults[0].address == table->regions[table->index].address &&
+           out.faults[0].status == fault && are_painted(&out.faults[1], sizeof out.faults[1]);
 }
 
 /* Whether each lookup takes the table as it is, and passes over nothing: else a refusal would show nothing. */

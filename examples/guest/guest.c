@@ -48,9 +48,14 @@ static struct zacpi_fixed_hardware hardware(void) {
 /* Writes the tables of a machine with so many processors into `memory`, and says how many bytes they have. */
 static zacpi_status write_machine(size_t count, size_t *length) {
     const struct zacpi_table_ids ids = {"ZACPI", "GUEST", 1, {'Z', 'F', 'I', 'R'}, 1};
-    const struct zacpi_madt_contents madt = {
-        .processors = processors, .processors_length = count, .io_apics = &io_apic, .io_apics_length = 1,
-        .overrides = overrides, .overrides_length = 2, .local_apic_address = 0xfee00000, .also_has_8259 = 1};
+    const struct zacpi_madt_contents madt = {.processors = processors,
+                                             .processors_length = count,
+                                             .io_apics = &io_apic,
+                                             .io_apics_length = 1,
+                                             .overrides = overrides,
+                                             .overrides_length = 2,
+                                             .local_apic_address = 0xfee00000,
+                                             .also_has_8259 = 1};
     const struct zacpi_srat_contents srat = {
         .apics = domains, .apics_length = count, .ranges = halves, .ranges_length = 2};
     const struct zacpi_aml_contents dsdt = {soft_off, sizeof soft_off, 2};

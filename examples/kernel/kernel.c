@@ -116,8 +116,7 @@ static void pins(const struct zacpi_source *source) {
         const struct zacpi_isa_route *route = isa.routes + irq;
         if (!route->present) continue;
         named_number("isa ", irq), named_number(" gsi ", route->interrupt.global_system_interrupt);
-        if (route->has_pin)
-            named_number(" ioapic ", route->pin.io_apic.id), named_number(" pin ", route->pin.pin);
+        if (route->has_pin) named_number(" ioapic ", route->pin.io_apic.id), named_number(" pin ", route->pin.pin);
         line();
     }
 }
@@ -126,7 +125,10 @@ static void first_function(const struct zacpi_source *source) {
     struct zacpi_signature named = {{0}};
     uint64_t address = 0;
     zacpi_status refused = zacpi_pci_ecam_address(source, 0, 0, 0, 0, &address, &named);
-    if (refused) { say_refused(&serial, "ecam", refused, &named); return; }
+    if (refused) {
+        say_refused(&serial, "ecam", refused, &named);
+        return;
+    }
     say(&serial, "ecam "), say_address(&serial, address);
     if (address >> 32) say(&serial, " not mapped");
     else say(&serial, " vendor "), say_address(&serial, *(const volatile uint16_t *)at(address));
@@ -147,19 +149,20 @@ static void first_unit(const struct zacpi_source *source) {
     else if (refused != ZACPI_TABLE_MISSING) say_refused(&serial, "unit of 0:00.0 ivrs", refused, &named);
 }
 /* A call's depth of the stack, and its cycles the first time and at best. */
-#define FIGURE(name, ...) do { \
-    uint64_t began_, first_ = 0, best_ = UINT64_MAX, from_ = paint(), depth_; \
-    for (int i_ = 0; i_ < 9; i_++) { \
-        began_ = cycles(); \
-        zacpi_status status_ = name(__VA_ARGS__); \
-        began_ = cycles() - began_, (void)status_; \
-        if (!i_) first_ = began_; \
-        if (began_ < best_) best_ = began_; \
-    } \
-    depth_ = painted_depth(from_); \
-    named_number("call " #name " stack ", depth_); \
-    named_number(" cycles ", first_), named_number(" ", best_), line(); \
-} while (0)
+#define FIGURE(name, ...) \
+    do { \
+        uint64_t began_, first_ = 0, best_ = UINT64_MAX, from_ = paint(), depth_; \
+        for (int i_ = 0; i_ < 9; i_++) { \
+            began_ = cycles(); \
+            zacpi_status status_ = name(__VA_ARGS__); \
+            began_ = cycles() - began_, (void)status_; \
+            if (!i_) first_ = began_; \
+            if (began_ < best_) best_ = began_; \
+        } \
+        depth_ = painted_depth(from_); \
+        named_number("call " #name " stack ", depth_); \
+        named_number(" cycles ", first_), named_number(" ", best_), line(); \
+    } while (0)
 /* The source from the root table on that this one led to. The search costs more than all else, and each call would make
  * it anew. */
 static struct zacpi_source from_root(const struct zacpi_source *source, const struct zacpi_root *root) {

@@ -33,7 +33,10 @@ void to_serial(void *to, const char *bytes, size_t length) {
         out8(0x3f8, (uint8_t)*bytes);
     }
 }
-void wait_for_byte(void) { while (!(in8(0x3fd) & 1)) {} } /* bit 0 of LSR: a byte has come */
+/* Waits until a byte has come: bit 0 of LSR. */
+void wait_for_byte(void) {
+    while (!(in8(0x3fd) & 1)) {}
+}
 
 void leave(uint32_t status) {
     out32(0xf4, status);
@@ -42,8 +45,14 @@ void leave(uint32_t status) {
 
 /* One gate for each exception: without them a fault is a silent end of the machine. */
 void catch_faults(void) {
-    static struct { uint16_t low, selector, kind, middle; uint32_t high, zero; } gates[32];
-    struct { uint16_t limit; uint64_t base; } __attribute__((packed)) idt = {sizeof gates - 1, (uint64_t)gates};
+    static struct {
+        uint16_t low, selector, kind, middle;
+        uint32_t high, zero;
+    } gates[32];
+    struct {
+        uint16_t limit;
+        uint64_t base;
+    } __attribute__((packed)) idt = {sizeof gates - 1, (uint64_t)gates};
     for (int i = 0; i < 32; i++) {
         uint64_t a = (uint64_t)stubs + 16 * i;
         gates[i].low = (uint16_t)a, gates[i].selector = 8, gates[i].kind = 0x8e00;

@@ -62,7 +62,8 @@ static void gic(const struct zacpi_source *source) {
             say(&serial, interfaces[i].is_enabled ? " enabled\n" : " disabled\n");
         }
     if (!zacpi_list_gic_redistributors(source, ranges, MOST, &count, &named))
-        for (size_t i = 0; i < count && i < MOST; i++) named_range("gicr ", ranges[i].address, ranges[i].length), line();
+        for (size_t i = 0; i < count && i < MOST; i++)
+            named_range("gicr ", ranges[i].address, ranges[i].length), line();
 }
 
 uint64_t efi_main(void *image, struct system_table *system);
