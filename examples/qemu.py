@@ -1,3 +1,4 @@
+# SPDX-License-Identifier: MIT
 """What the runners of `kernel` and `uefi` share: a machine of QEMU, what its serial port says, and its memory."""
 import os
 import re

@@ -1,3 +1,4 @@
+/* SPDX-License-Identifier: MIT */
 /* zacpi.h: reads and writes a machine's ACPI tables, for C and C++. The least that a caller does:
  *
  *     #include "zacpi.h"

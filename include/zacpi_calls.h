@@ -1,3 +1,4 @@
+/* SPDX-License-Identifier: MIT */
 /* The inlines of zacpi.h, which includes this file. scripts/calls made it of the prototypes there, and says what they are
  * for. */
 #define ZACPI_NOTHING ((void *)(uintptr_t)16) /* where the items of a list of none are: aligned for any type */

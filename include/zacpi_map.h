@@ -1,3 +1,4 @@
+/* SPDX-License-Identifier: MIT */
 /* zacpi_map.h: maps the memory that the tables need while they are found, for a kernel that hasn't mapped all of it
  * (C.md). Plain C over the calls of zacpi.h, which takes no memory and keeps nothing but what it is passed. */
 #ifndef ZACPI_MAP_H
@@ -105,8 +106,8 @@ static inline zacpi_status zacpi_map_joined(const struct zacpi_mapper *mapper, s
  * `capacity` regions or `room` ranges aren't enough. Unless a search skips RSDPs because of their Length, eight
  * of each are, and a region and two ranges more for each pointer of the root table. */
 static inline zacpi_status zacpi_map_tables(const struct zacpi_mapper *mapper, struct zacpi_source *source,
-                                            struct zacpi_region *regions, size_t capacity,
-                                            struct zacpi_range *ranges, size_t room) {
+                                            struct zacpi_region *regions, size_t capacity, struct zacpi_range *ranges,
+                                            size_t room) {
     const uint64_t page = mapper->page ? mapper->page : 4096;
     struct zacpi_signature named;
     zacpi_status status;

@@ -1,3 +1,4 @@
+# SPDX-License-Identifier: MIT
 # What the checks of this folder share: they count what they try, and run callers over the sample images beside
 # acpi_view. It is read by `.` at the top of the repository, with a folder in $made, and what looks at images also with
 # $ACPI_VIEW.

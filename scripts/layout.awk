@@ -1,3 +1,4 @@
+# SPDX-License-Identifier: MIT
 # Reads the crate's records, `#[repr(C)] pub struct`s, lays them out as C does, and prints what a compiler is to check:
 # of the header a C file, with one assertion for each size and each offset; or, if `records` names the file of the Rust
 # bindings' records, a Rust program that asserts the same of them. A record `IoApic` is `struct zacpi_io_apic` of the

@@ -1,3 +1,4 @@
+# SPDX-License-Identifier: MIT
 """The layouts of acpi_dump, as crates/acpi_dump_lib/src/language.rt describes their language: for the scripts that
 check them, and that make other texts of them."""
 import os

@@ -1,3 +1,4 @@
+# SPDX-License-Identifier: MIT
 # Compares the numbers of refusals, and fails if they differ: those of enum zacpi_refusal in include/zacpi.h with those
 # that the crate's refusal.rt gives out, with the names that zacpi_status_name shows, and with those that error.rs and
 # write/mod.rs of the Rust bindings know. These four files are what it reads, in this order. Names are compared in the manner of Rust,

@@ -1,3 +1,4 @@
+# SPDX-License-Identifier: MIT
 """The structs and constants that the layouts of acpi_dump give tables and their parts: for the scripts that write them
 as C and as Rust."""
 import re

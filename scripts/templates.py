@@ -1,3 +1,4 @@
+# SPDX-License-Identifier: MIT
 """iasl's templates of tables, and what acpi_dump shows of a table: for the scripts that compare both."""
 import os
 import subprocess

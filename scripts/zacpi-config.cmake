@@ -1,3 +1,4 @@
+# SPDX-License-Identifier: MIT
 # zacpi::zacpi for programs, zacpi::kernel for kernels. The folder is LIBDIR/cmake/zacpi, and LIBDIR stands beside
 # include/.
 get_filename_component(zacpi_libdir "${CMAKE_CURRENT_LIST_DIR}/../.." ABSOLUTE)

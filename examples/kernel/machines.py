@@ -1,4 +1,5 @@
 #!/usr/bin/env python3
+# SPDX-License-Identifier: MIT
 """machines.py KERNEL ACPI_VIEW ACPI_PACK GUEST [PART]: boots the kernel on every machine below, or on those whose
 names have PART, takes memory from the same machine while the kernel holds, and compares what the kernel
 printed with what acpi_view prints of an image of that memory, line by line, and with checks.py. On one machine the

@@ -1,4 +1,5 @@
 #!/usr/bin/env python3
+# SPDX-License-Identifier: MIT
 """machines.py PROCESSOR APP ACPI_VIEW ACPI_PACK: boots the application by UEFI's firmware on the machines below, takes
 memory from the same machine after its last line, and compares what it printed with what acpi_view prints of an
 image of that memory, line by line, and with the memory map and the bytes of the MADT.
