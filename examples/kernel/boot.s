@@ -1,38 +1,30 @@
-# Multiboot 1 entry: 32-bit, protected, no paging. Goes to long mode in the upper half, and calls kernel(magic, info).
-# The first GiB is mapped at base, where the kernel is linked, and the first 4 GiB at 0xffff800000000000; nothing is at 0.
+# The entries: 32-bit, protected, no paging. Each goes to long mode in the upper half, and calls kernel(magic, info).
+# The first GiB is mapped at base, where the kernel is linked, and after it lies the window through which memory is
+# mapped on demand (window.c): 2 MiB at 0xffffffffc0000000, nothing in it yet. Nothing is at 0.
         .set base, 0xffffffff80000000   # as in link.ld
-        .set flags, 0x00010002          # memory map wanted; the addresses below are used, not the ELF headers
-        .section .multiboot, "a"
-        .balign 4
-header: .long 0x1BADB002, flags, -(0x1BADB002 + flags)
-        .long header - base, load_start, load_end, bss_end, start
-
         .section .text
         .code32
-        .globl entry
-entry:  cld
+        .globl entry, entry_pvh
+entry_pvh:                              # PVH: the magic number is in the information (start_info) that ebx leads to
+        mov (%ebx), %eax
+entry:                                  # multiboot 1 and 2: the magic number is in eax, the information at ebx
+        cld
         mov $(stack_top - base), %esp
         mov %eax, %edi                  # first argument: the loader's magic number
         mov %ebx, %esi                  # second: multiboot's information
-        mov $(directories - base + 3), %eax      # four page directories below one table below one root
-        mov $(pointers - base), %ebx
-        xor %ecx, %ecx
-1:      mov %eax, (%ebx,%ecx,8)
-        add $4096, %eax
-        inc %ecx
-        cmp $4, %ecx
-        jb 1b
-        movl $(pointers - base + 3), root - base               # at 0 too, until the jump to `high`
-        movl $(pointers - base + 3), root - base + 256 * 8     # at 0xffff800000000000
+        movl $(upper - base + 3), root - base                  # at 0 too, until the jump to `high`
         movl $(upper - base + 3), root - base + 511 * 8
-        movl $(directories - base + 3), upper - base + 510 * 8 # at base
-        mov $0x83, %eax                 # 2048 pages of 2 MiB: present, writable, large
+        movl $(directory - base + 3), upper - base
+        movl $(directory - base + 3), upper - base + 510 * 8   # at base
+        movl $(window_directory - base + 3), upper - base + 511 * 8
+        movl $(window_pages - base + 3), window_directory - base
+        mov $0x83, %eax                 # 512 pages of 2 MiB: present, writable, large
         xor %ecx, %ecx
-2:      mov %eax, directories - base(,%ecx,8)
+1:      mov %eax, directory - base(,%ecx,8)
         add $0x200000, %eax
         inc %ecx
-        cmp $2048, %ecx
-        jb 2b
+        cmp $512, %ecx
+        jb 1b
         mov %cr4, %eax
         or $0x20, %eax                  # PAE, and no OSFXSR: SSE is #UD
         mov %eax, %cr4
@@ -43,7 +35,7 @@ entry:  cld
         or $0x100, %eax
         wrmsr
         mov %cr0, %eax
-        or $0x8000000e, %eax            # PG, MP, EM, TS: x87 and MMX fault too
+        or $0x8001000e, %eax            # PG, WP, MP, EM, TS: writes to the window, x87 and MMX fault
         mov %eax, %cr0
         lgdt gdt_at - base
         ljmp $8, $(long - base)
@@ -56,13 +48,14 @@ long:   mov $16, %eax
         jmp *%rax
 high:   lgdt gdt_high
         movq $0, root                   # nothing at 0 any more
+        movq $0, upper
         mov %cr3, %rax
         mov %rax, %cr3
         mov $stack_top, %rsp            # aligned to 16 before the call
         xor %ebp, %ebp
         call kernel
-3:      hlt
-        jmp 3b
+2:      hlt
+        jmp 2b
 
 # One stub of 16 bytes for each exception; those without an error code push a zero.
         .globl stubs
@@ -92,11 +85,19 @@ gdt_high: .word 23
 
         .section .bss
         .balign 4096
+        .globl window_pages
 root:   .skip 4096
-pointers: .skip 4096
 upper:  .skip 4096
-directories: .skip 4 * 4096
+directory: .skip 4096
+window_directory: .skip 4096
+window_pages: .skip 4096
         .globl stack, stack_top
 stack:  .skip 16384
 stack_top:
+        # PVH's entry: a note of "Xen", type 18 (XEN_ELFNOTE_PHYS32_ENTRY).
+        .section .note.Xen, "a", @note
+        .balign 4
+        .long 4, 8, 18
+        .asciz "Xen"
+        .quad start_pvh
         .section .note.GNU-stack, "", @progbits

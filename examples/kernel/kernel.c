@@ -1,11 +1,16 @@
-/* A kernel that reads the machine's ACPI tables out of physical memory and prints them on the serial port. */
-#include "lines.h"
+/* A kernel that reads the machine's ACPI tables out of physical memory, which it maps on demand through a window, and
+ * prints them on the serial port. */
+#include "loader.h"
 #include "machine.h"
+#include "window.h"
 
 extern uint8_t load_start[], bss_end[]; /* physical addresses, by link.ld */
 static const struct printer serial = {to_serial, 0};
-static struct zacpi_range map[128], kept[128];
-static struct zacpi_region regions[128];
+static struct loaded loaded;
+static struct zacpi_range kept[128], missing[256];
+static struct zacpi_region regions[64];
+static struct window_memory memory = {kept, 0};
+static const struct zacpi_mapper mapper = {&memory, map_window, unmap_window, 4096};
 static void line(void) { say(&serial, "\n"); }
 static void named_number(const char *name, uint64_t number) { say(&serial, name), say_number(&serial, number); }
 static void named_range(const char *name, uint64_t address, uint64_t length) {
@@ -22,71 +27,81 @@ void on_fault(uint64_t number, uint64_t code, uint64_t instruction) {
     say(&serial, " at "), say_address(&serial, instruction), line();
     leave(LEAVE_FAULT);
 }
-/* The first KiB of the extended BIOS data area (EBDA), whose segment is the word at 0x40e, as far as it lies below video
- * memory (section 5.2.5.1). */
-static struct zacpi_range ebda(void) {
-    struct zacpi_range area = {low(at(0x40e), 2) << 4, 0x400};
-    if (area.address < 0x400 || area.address >= 0xa0000) area.length = 0;
-    else if (area.length > 0xa0000 - area.address) area.length = 0xa0000 - area.address;
-    return area;
-}
-
-/* What the loader's map names, free or not, and what the search looks at, which it may leave out: that word and the BIOS
- * areas. Of multiboot's information mmap_length is at 44 and mmap_addr at 48; of an entry size is at 0, base_addr at 4,
- * length at 12 and type at 20. */
-static size_t memory_map(const volatile uint8_t *info) {
-    const struct zacpi_range areas[] = {{0x400, 0x100}, ebda(), {0xe0000, 0x20000}};
-    const volatile uint8_t *entry = at(low(info + 48, 4)), *end = entry + low(info + 44, 4);
-    size_t n = 0;
-    for (; entry < end; entry += 4 + low(entry, 4), n++) { /* an entry's size doesn't count itself */
-        if (n == sizeof map / sizeof *map - 3) stop("too long a memory map");
-        map[n].address = low(entry + 4, 8), map[n].length = low(entry + 12, 8);
-        named_range("map ", map[n].address, map[n].length);
-        named_number(" type ", low(entry + 20, 4)), line();
+/* Of ranges the pages that have a byte of them, joined; of these at most `capacity`. */
+static size_t pages_of(struct zacpi_range *ranges, size_t n, const struct zacpi_range *without, size_t without_length,
+                       struct zacpi_range *out, size_t capacity) {
+    const struct zacpi_range all = {0, 1ull << 40};
+    size_t count = 0;
+    for (size_t i = 0; i < n; i++) {
+        const uint64_t in_page = ranges[i].address % 4096;
+        ranges[i].address -= in_page, ranges[i].length = (ranges[i].length + in_page + 4095) / 4096 * 4096;
     }
-    for (size_t i = 0; i < 3; i++) map[n++] = areas[i];
-    return n;
-}
-
-/* The regions: all of the map below 4 GiB, which is what boot.s maps, from the end of the real-mode vectors on,
- * and without this kernel itself, whose stack and lists are written while calls run. */
-static size_t make_regions(const volatile uint8_t *info) {
-    const struct zacpi_range window = {0x400, 0x100000000 - 0x400};
-    const struct zacpi_range own = {(uint64_t)load_start, (uint64_t)bss_end - (uint64_t)load_start};
-    const size_t room = sizeof kept / sizeof *kept;
-    size_t count = 0, n = memory_map(info);
-    if (zacpi_clip_ranges(map, n, &own, 1, &window, kept, room, &count)) stop("a range ends too high");
-    if (count > room) stop("too many regions");
-    for (size_t i = 0; i < count; i++) {
-        regions[i] = (struct zacpi_region){kept[i].address, (const uint8_t *)at(kept[i].address), kept[i].length};
-        named_range("region ", kept[i].address, kept[i].length), line();
-    }
+    if (zacpi_clip_ranges(ranges, n, without, without_length, &all, out, capacity, &count))
+        stop("a range ends too high");
+    if (count > capacity) stop("too many ranges");
     return count;
 }
-
-/* What follows a name that a word of the command line begins with. The kernel's path is the first word, so a name
- * inside a word doesn't count. Of multiboot's information cmdline is at 16, and there if bit 2 of the flags is set. */
-static const volatile uint8_t *word_after(const volatile uint8_t *info, const char *name) {
-    const volatile uint8_t *p = low(info, 4) & 4 ? at(low(info + 16, 4)) : (const volatile uint8_t *)"";
-    for (uint8_t before = ' '; *p; before = *p++) {
-        int i = 0;
-        while (name[i] && p[i] == (uint8_t)name[i]) i++;
-        if (before == ' ' && !name[i]) return p + i;
-    }
-    return 0;
+/* What a search looks at, which the loader's map may leave out: the word at 0x40e, the first KiB of the extended BIOS
+ * data area (EBDA), whose segment that is, as far as it lies below video memory (section 5.2.5.1), and the BIOS area
+ * with the 16 bytes after it, in which an RSDP may end. */
+static size_t bios_areas(struct zacpi_range *out) {
+    struct zacpi_range ebda = {low(at(0x40e), 2) << 4, 0x400};
+    if (ebda.address < 0x400 || ebda.address >= 0xa0000) ebda.length = 0;
+    else if (ebda.length > 0xa0000 - ebda.address) ebda.length = 0xa0000 - ebda.address;
+    out[0] = (struct zacpi_range){0x400, 0x100}, out[1] = ebda, out[2] = (struct zacpi_range){0xe0000, 0x20010};
+    return 3;
 }
-/* The RSDP by the search of the BIOS areas. If that finds none (booted by UEFI), it lies where the loader says it
- * does by `rsdp=0x...` on the command line. */
-static void choose_start(struct zacpi_source *source, const volatile uint8_t *info) {
-    const volatile uint8_t *p = word_after(info, "rsdp=0x");
-    struct zacpi_signature named = {{0}};
-    struct zacpi_root root = {0};
-    if (p && zacpi_open(source, &root, &named) == ZACPI_NO_VALID_RSDP) {
-        source->start = ZACPI_START_RSDP;
-        for (; (*p >= '0' && *p <= '9') || (*p >= 'a' && *p <= 'f'); p++)
-            source->address = source->address << 4 | (uint64_t)(*p <= '9' ? *p - '0' : *p - 'a' + 10);
-        say(&serial, "rsdp "), say_address(&serial, source->address), line();
+/* The memory that may be looked at: what the loader's map names, free or not, and what a search looks at, without this
+ * kernel itself, whose stack and lists are written while calls run. */
+static void make_memory(void) {
+    const uint64_t start = (uint64_t)load_start, end = ((uint64_t)bss_end + 4095) / 4096 * 4096; /* whole pages */
+    const struct zacpi_range own = {start, end - start};
+    static struct zacpi_range all[sizeof loaded.memory / sizeof *loaded.memory + 3];
+    size_t n = 0;
+    for (; n < loaded.memory_length; n++) all[n] = loaded.memory[n];
+    n += bios_areas(all + n);
+    memory.length = pages_of(all, n, &own, 1, kept, sizeof kept / sizeof *kept);
+}
+/* Maps what a search looks at. */
+static void map_areas(struct zacpi_source *source) {
+    struct zacpi_range areas[3], pages[3];
+    const size_t count = pages_of(areas, bios_areas(areas), 0, 0, pages, 3);
+    source->regions_length = 0;
+    for (size_t i = 0; i < count; i++) {
+        const uint8_t *bytes = map_window(&memory, pages[i].address, pages[i].length);
+        if (bytes) regions[source->regions_length++] = (struct zacpi_region){pages[i].address, bytes, pages[i].length};
     }
+}
+static zacpi_status map_tables(struct zacpi_source *source) {
+    return zacpi_map_tables(&mapper, source, regions, sizeof regions / sizeof *regions, missing,
+                            sizeof missing / sizeof *missing);
+}
+/* A number that the command line has after a name, in hexadecimal digits. */
+static uint64_t number_after(const volatile uint8_t *p) {
+    uint64_t number = 0;
+    for (; (*p >= '0' && *p <= '9') || (*p >= 'a' && *p <= 'f'); p++)
+        number = number << 4 | (uint64_t)(*p <= '9' ? *p - '0' : *p - 'a' + 10);
+    return number;
+}
+/* Maps the tables: from the RSDP that the loader says, else from that which a search of the BIOS areas finds, else
+ * (booted by UEFI) from where the command line says by `rsdp=0x...`. */
+static void find_tables(struct zacpi_source *source) {
+    const volatile uint8_t *p = word_after(&loaded, "rsdp=0x");
+    struct zacpi_signature named;
+    struct zacpi_root root;
+    source->start = loaded.rsdp ? ZACPI_START_RSDP : ZACPI_START_SEARCH, source->address = loaded.rsdp;
+    if (!loaded.rsdp) map_areas(source);
+    zacpi_status status = map_tables(source);
+    if (p && zacpi_open(source, &root, &named) == ZACPI_NO_VALID_RSDP) {
+        zacpi_unmap_tables(&mapper, source);
+        source->start = ZACPI_START_RSDP, source->address = number_after(p);
+        status = map_tables(source);
+    }
+    if (status) stop(zacpi_status_name(status));
+    if (source->start == ZACPI_START_RSDP) say(&serial, "rsdp "), say_address(&serial, source->address), line();
+    for (size_t i = 0; i < source->regions_length; i++)
+        named_range("region ", regions[i].address, regions[i].length), line();
+    named_number("window ", window_most()), line();
 }
 static struct zacpi_table tables[256];
 static struct zacpi_range ranges[512];
@@ -130,8 +145,9 @@ static void first_function(const struct zacpi_source *source) {
         return;
     }
     say(&serial, "ecam "), say_address(&serial, address);
-    if (address >> 32) say(&serial, " not mapped");
-    else say(&serial, " vendor "), say_address(&serial, *(const volatile uint16_t *)at(address));
+    const volatile uint16_t *vendor = address >> 32 ? 0 : map_register(address);
+    if (!vendor) say(&serial, " not mapped");
+    else say(&serial, " vendor "), say_address(&serial, *vendor);
     line();
 }
 /* The unit that remaps that function, on a machine with a DMAR (its registers, and how many bytes they have) or with an
@@ -191,7 +207,6 @@ static void figures(const struct zacpi_source *source, struct zacpi_source known
 }
 
 void kernel(uint32_t magic, uint32_t information) {
-    const volatile uint8_t *info = at(information);
     struct zacpi_source source = {regions, 0, 0, ZACPI_START_SEARCH};
     struct zacpi_source known = source;
     struct zacpi_signature named = {{0}};
@@ -199,10 +214,11 @@ void kernel(uint32_t magic, uint32_t information) {
     zacpi_status refused;
     open_serial();
     catch_faults();
-    /* bit 6 of the flags of multiboot's information: it has a memory map */
-    if (magic != 0x2badb002 || !(low(info, 4) & 0x40)) stop("no memory map of a multiboot loader");
-    source.regions_length = make_regions(info);
-    choose_start(&source, info);
+    ask_loader(magic, information, &serial, &loaded);
+    if (!loaded.by || !loaded.memory_length) stop("no memory map of a loader");
+    say(&serial, "loader "), say(&serial, loaded.by), line();
+    make_memory();
+    find_tables(&source);
     refused = zacpi_open(&source, &root, &named);
     if (!refused) {
         known = from_root(&source, &root);
@@ -218,6 +234,6 @@ void kernel(uint32_t magic, uint32_t information) {
         figures(&source, known);
     }
     say(&serial, "end\n");
-    if (word_after(info, "hold")) wait_for_byte(); /* so that memory can be looked at from outside */
+    if (word_after(&loaded, "hold")) wait_for_byte(); /* so that memory can be looked at from outside */
     leave(refused ? LEAVE_REFUSED : LEAVE_GOOD);
 }

@@ -68,7 +68,7 @@ uint64_t cycles(void) {
 }
 const volatile uint8_t *at(uint64_t address) {
     __asm__("" : "+r"(address));
-    return (const volatile uint8_t *)(address + 0xffff800000000000); /* where boot.s maps the first 4 GiB */
+    return (const volatile uint8_t *)(address + 0xffffffff80000000); /* where boot.s maps the first GiB */
 }
 uint64_t low(const volatile uint8_t *p, int bytes) {
     uint64_t x = 0;

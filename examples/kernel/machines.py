@@ -18,7 +18,7 @@ import time
 
 sys.path.append(os.path.join(os.path.dirname(os.path.abspath(__file__)), '..'))
 from checks import check, rsdp_in
-from qemu import Memory, connect, lines_until, save
+from qemu import Memory, connect, lines_until, numbers, save
 
 KERNEL, VIEW, PACK, GUEST, PART = (sys.argv[1:] + [''] * 4)[:5]
 FILES = tempfile.TemporaryDirectory()
@@ -29,6 +29,9 @@ SECOND_ROOT = ['-device', 'pxb-pcie,id=root2,bus_nr=32,bus=pcie.0',
                '-device', 'pcie-root-port,id=port2,bus=root2,chassis=1']
 # What the kernel says of the first PCI function: that of q35 is made by Intel, and pc has no MCFG.
 Q35_ECAM, NO_MCFG = 'ecam 0xb0000000 vendor 0x8086', 'ecam: TableMissing MCFG'
+# GRUB for a BIOS, and the program that makes a disc of it.
+GRUB = '/usr/lib/grub/i386-pc'
+HAS_GRUB = shutil.which('grub-mkrescue') and shutil.which('xorriso') and os.path.isdir(GRUB)
 # Where the tables of the guest's program lie.
 TABLES = 0x7000000
 # What it says of the unit that remaps this function: that of the DMAR has a device scope of an endpoint for it, and
@@ -65,6 +68,28 @@ def machines():
     return all_of
 
 
+def other_loaders():
+    """Machines on which the kernel is entered otherwise than by multiboot 1: by the start_info of PVH, and by GRUB's
+    multiboot 2."""
+    all_of = {'microvm by PVH': ('PVH', ['-machine', 'microvm,acpi=on', '-m', '128M', '-smp', '4'])}
+    for m in ('pc', 'q35'):
+        for loader in ('PVH', 'multiboot2'):
+            all_of['%s by %s' % (m, loader)] = (loader, ['-machine', m, '-m', '128M', '-smp', '4'])
+    all_of['q35 6G by multiboot2'] = ('multiboot2', ['-machine', 'q35', '-m', '6G', '-smp', '2'])
+    return all_of
+
+
+def grub_image(words):
+    """What QEMU boots so that GRUB loads the kernel by multiboot 2: a disc."""
+    folder, disc = os.path.join(FILES.name, 'disc'), os.path.join(FILES.name, 'disc.iso')
+    os.makedirs(os.path.join(folder, 'boot', 'grub'), exist_ok=True)
+    shutil.copyfile(KERNEL, os.path.join(folder, 'boot', 'kernel'))
+    with open(os.path.join(folder, 'boot', 'grub', 'grub.cfg'), 'w') as f:
+        f.write('set timeout=0\nmultiboot2 /boot/kernel %s\nboot\n' % words)
+    subprocess.run(['grub-mkrescue', '-d', GRUB, '-o', disc, folder], check=True, capture_output=True)
+    return disc
+
+
 def change(path, where, writes):
     """Lets the machine run to an address, and writes into its physical memory: the firmware has made its
     tables by then. QEMU's monitor has no command that writes memory, so its gdb stub does it."""
@@ -91,8 +116,10 @@ def change(path, where, writes):
 
 
 def spans(lines):
-    """The memory where tables may lie: the BIOS areas, and what the map calls not free, below 4 GiB."""
+    """The memory where tables may lie: the BIOS areas, what the map calls not free, below 4 GiB, and the page of the
+    RSDP or its copy."""
     answer = [(0x400, 0x100010 - 0x400)]
+    answer += [(a & -4096, 4096) for a, in numbers(lines, 'rsdp') if 0x101000 <= a < 0x200000]
     for line in lines:
         m = re.match(r'map (\S+) (\S+) type (\d+)', line)
         if m and m[3] != '1' and 0x100000 <= int(m[1], 16) < 1 << 32 and int(m[2], 16) <= 1 << 24:
@@ -100,13 +127,15 @@ def spans(lines):
     return answer
 
 
-def boot(args, folder, writes=None, words='hold', kernel=KERNEL, more=()):
+def boot(args, folder, writes=None, words='hold', kernel=KERNEL, more=(), loader='multiboot'):
     """What the kernel prints, the dumps, with those of more memory, and QEMU's status."""
+    by = {'multiboot': ['-kernel', kernel, '-append', words], 'PVH': ['-kernel', kernel + '.pvh', '-append', words]}
     monitor, gdb = os.path.join(folder, 'monitor'), os.path.join(folder, 'gdb')
     # By one thread: 255 processors, each of which the firmware wakes, take twice as long with a thread each.
     command = ['qemu-system-x86_64', '-nodefaults', '-no-user-config', '-display', 'none', '-no-reboot',
                '-accel', 'tcg,thread=single', '-serial', 'stdio', '-monitor', 'unix:%s,server=on,wait=off' % monitor,
-               '-device', 'isa-debug-exit,iobase=0xf4,iosize=4', '-kernel', kernel, '-append', words] + args
+               '-device', 'isa-debug-exit,iobase=0xf4,iosize=4'] + args
+    command += by[loader] if loader in by else ['-cdrom', grub_image(words)]
     if writes is not None:
         command += ['-S', '-gdb', 'unix:%s,server=on,wait=off' % gdb]
     errors = open(os.path.join(folder, 'errors'), 'w')
@@ -228,14 +257,16 @@ def asked(memory):
         'asked': subprocess.run([lines, '4'], check=True, capture_output=True, text=True).stdout.splitlines()}}
 
 
-def tried(name, machine, ecam, writes=None, words='hold', kernel=KERNEL, told=None, args=(), more=(), asked=None):
+def tried(name, machine, ecam, writes=None, words='hold', kernel=KERNEL, told=None, args=(), more=(), asked=None,
+          loader='multiboot'):
     """Boots a machine, prints whether all is right, and answers that with the lines and the memory."""
     with tempfile.TemporaryDirectory() as folder:
         began = time.time()
         lines, files = [], []
         try:
-            lines, files, status = boot(machine + list(args), folder, writes, words, kernel, more)
-            wrong = check(lines, files, status, folder, (VIEW, PACK), IMAGE, ecam, UNITS.get(name, ()), told, asked)
+            lines, files, status = boot(machine + list(args), folder, writes, words, kernel, more, loader)
+            wrong = check(lines, files, status, folder, (VIEW, PACK), IMAGE, ecam, UNITS.get(name, ()), loader, told,
+                          asked)
         except Exception as error:  # QEMU didn't start, or a line can't be read: the other machines still run
             wrong = [repr(error)]
         depth = max([int(l.split()[3]) for l in lines if l.startswith('call')] or [0])
@@ -276,6 +307,12 @@ def main():
             passed, failed = passed + good, failed + (not good)
             if good and name == 'q35 4 128M':
                 changed = {**cases(lines, memory), **told(lines, memory), **asked(memory)}
+    for name, (loader, args) in other_loaders().items():
+        if loader == 'multiboot2' and not HAS_GRUB:
+            print('skipped: %s, since grub-mkrescue, xorriso and %s are not all there' % (name, GRUB))
+        elif PART in name:
+            good, _, _ = tried(name, args, Q35_ECAM if name.startswith('q35') else NO_MCFG, loader=loader)
+            passed, failed = passed + good, failed + (not good)
     for name, change in changed.items():
         good, _, _ = tried('q35 with ' + name, machines()['q35 4 128M'], ECAM.get(name, Q35_ECAM), **change)
         passed, failed = passed + good, failed + (not good)

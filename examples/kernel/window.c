@@ -1,0 +1,52 @@
+#include "window.h"
+
+enum { PRESENT = 1, UNCACHED = 1 << 4 | 1 << 3, PAGE = 4096, PAGES = 512 };
+extern volatile uint64_t window_pages[PAGES]; /* the page table (boot.s) */
+static uint8_t *const window = (uint8_t *)0xffffffffc0000000;
+static uint64_t mapped, most;
+
+uint64_t window_most(void) { return most; }
+
+/* The first of so many pages that are free one after the other; PAGES if there aren't. */
+static uint64_t free_pages(uint64_t count) {
+    uint64_t first = 0, i;
+    for (i = 0; i < PAGES && i - first < count; i++)
+        if (window_pages[i]) first = i + 1;
+    return i - first == count ? first : PAGES;
+}
+
+/* Pages can be read and not written. */
+static uint8_t *map_pages(uint64_t address, uint64_t count, uint64_t flags) {
+    const uint64_t first = count && count <= PAGES ? free_pages(count) : PAGES;
+    if (first == PAGES) return 0;
+    for (uint64_t i = 0; i < count; i++) window_pages[first + i] = (address + i * PAGE) | flags;
+    mapped += count;
+    if (mapped > most) most = mapped;
+    return window + first * PAGE;
+}
+
+const void *map_window(void *context, uint64_t address, uint64_t length) {
+    const struct window_memory *memory = (const struct window_memory *)context;
+    for (size_t i = 0; i < memory->length; i++) {
+        const struct zacpi_range *range = memory->ranges + i;
+        if (address >= range->address && length <= range->length &&
+            address - range->address <= range->length - length)
+            return map_pages(address, length / PAGE, PRESENT);
+    }
+    return 0;
+}
+
+void unmap_window(void *context, const void *at, uint64_t address, uint64_t length) {
+    const uint64_t first = (uint64_t)((const uint8_t *)at - window) / PAGE, count = length / PAGE;
+    (void)context, (void)address;
+    for (uint64_t i = first; i < first + count; i++) {
+        window_pages[i] = 0;
+        __asm__ volatile("invlpg (%0)" ::"r"(window + i * PAGE) : "memory");
+    }
+    mapped -= count;
+}
+
+const volatile void *map_register(uint64_t address) {
+    const uint8_t *page = map_pages(address / PAGE * PAGE, 1, PRESENT | UNCACHED);
+    return page ? page + address % PAGE : 0;
+}
