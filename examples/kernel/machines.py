@@ -118,7 +118,7 @@ def change(path, where, writes):
 def spans(lines):
     """The memory where tables may lie: the BIOS areas, what the map calls not free, below 4 GiB, and the page of the
     RSDP or its copy."""
-    answer = [(0x400, 0x100010 - 0x400)]
+    answer = [(0, 0x100010)]
     answer += [(a & -4096, 4096) for a, in numbers(lines, 'rsdp') if 0x101000 <= a < 0x200000]
     for line in lines:
         m = re.match(r'map (\S+) (\S+) type (\d+)', line)
