@@ -7,8 +7,8 @@ struct loaded {
     const char *by;                 /* the loader's protocol; null if it is none of the three */
     struct zacpi_range memory[128]; /* what its memory map names, free or not */
     size_t memory_length;
-    const volatile uint8_t *words;  /* the command line */
-    uint64_t rsdp;                  /* where it says that the RSDP is, or a copy of it; 0 if it doesn't */
+    const volatile uint8_t *words; /* the command line */
+    uint64_t rsdp;                 /* where it says that the RSDP is, or a copy of it; 0 if it doesn't */
 };
 
 /* Reads the loader's information, and prints its memory map. More ranges than there is room for are left out: memory

@@ -29,8 +29,7 @@ const void *map_window(void *context, uint64_t address, uint64_t length) {
     const struct window_memory *memory = (const struct window_memory *)context;
     for (size_t i = 0; i < memory->length; i++) {
         const struct zacpi_range *range = memory->ranges + i;
-        if (address >= range->address && length <= range->length &&
-            address - range->address <= range->length - length)
+        if (address >= range->address && length <= range->length && address - range->address <= range->length - length)
             return map_pages(address, length / PAGE, PRESENT);
     }
     return 0;
