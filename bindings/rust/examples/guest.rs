@@ -5,7 +5,7 @@ use std::error::Error;
 use zacpi::address::{AccessSize, AddressSpace, GenericAddress};
 use zacpi::hpet::PageProtection;
 use zacpi::mcfg::PciConfigEntry;
-use zacpi::platform::{interrupt::IoApic, Processor, ProcessorState};
+use zacpi::platform::{interrupt::IoApic, Processor};
 use zacpi::spcr::SpcrInterfaceType;
 use zacpi::srat::MemoryAffinity;
 use zacpi::write::{self, Aml, ApicDomain, Hpet, Machine, Madt, Mcfg, Room, Slit, Spcr, Srat, TableIds};
@@ -17,21 +17,11 @@ const HALF: u64 = 2 << 30;
 /// The guest's tables, for memory from [`TABLES`] on.
 pub fn guest() -> Result<Vec<u8>, Box<dyn Error>> {
     let ids = TableIds { oem_id: *b"ZACPI ", oem_table_id: *b"GUEST   ", oem_revision: 1, ..TableIds::default() };
-    let processors = [0, 1, 2, 3].map(|id| {
-        let state = ProcessorState::WaitingForSipi;
-        let (is_online_capable, is_x2apic) = (false, false);
-        Slot::from(Processor {
-            processor_uid: id,
-            local_apic_id: id,
-            state,
-            is_ap: id != 0,
-            is_online_capable,
-            is_x2apic,
-        })
-    });
+    let processors = [0, 1, 2, 3].map(|id| Processor::application(id, id).into());
+    let io_apics = [IoApic::new(0, 0xfec0_0000, 0)];
     let mut madt = Madt::new(ids, &processors);
-    madt.io_apics = &[IoApic { address: 0xfec0_0000, global_system_interrupt_base: 0, id: 0 }];
-    let pci = [PciConfigEntry { segment_group: 0, bus_range: 0..=255, physical_address: 0xb000_0000 }.into()];
+    madt.io_apics = &io_apics;
+    let pci = [PciConfigEntry::new(0, 0..=255, 0xb000_0000).into()];
     let info = HpetInfo {
         event_timer_block_id: 0x8086_a201,
         base_address: 0xfed0_0000,
@@ -47,11 +37,8 @@ pub fn guest() -> Result<Vec<u8>, Box<dyn Error>> {
         address: 0x3f8,
     };
     let console = spcr::Spcr::new(SpcrInterfaceType::Full16550).with_base_address(com1).with_baud_rate(115_200);
-    let memory = [0, 1].map(|domain| {
-        let address = u64::from(domain) * HALF;
-        Slot::from(MemoryAffinity { address, length: HALF, domain, is_hot_pluggable: false, is_non_volatile: false })
-    });
-    let apics = [0, 1, 2, 3].map(|id| ApicDomain { local_apic_id: id, domain: id / 2 });
+    let memory = [0, 1].map(|domain| MemoryAffinity::new(u64::from(domain) * HALF, HALF, domain).into());
+    let apics = [0, 1, 2, 3].map(|id| ApicDomain::new(id, id / 2));
     let mut srat = Srat::new(ids, &memory);
     srat.apics = &apics;
     let fadt = fadt::Fadt::reduced(write::dsdt_address(TABLES, 7)?);

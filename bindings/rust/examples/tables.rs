@@ -72,12 +72,14 @@ fn flags(polarity: Polarity, trigger: TriggerMode) -> String {
     let polarity = match polarity {
         Polarity::ActiveHigh => "high",
         Polarity::ActiveLow => "low",
-        _ => "bus",
+        Polarity::Reserved => "reserved",
+        Polarity::SameAsBus => "bus",
     };
     let trigger = match trigger {
         TriggerMode::Edge => "edge",
         TriggerMode::Level => "level",
-        _ => "bus",
+        TriggerMode::Reserved => "reserved",
+        TriggerMode::SameAsBus => "bus",
     };
     format!("{polarity} {trigger}")
 }
@@ -98,7 +100,7 @@ fn print_apic(apic: &Apic<'_>) {
         let line = match n.line {
             LocalInterruptLine::Lint0 => 0,
             LocalInterruptLine::Lint1 => 1,
-            LocalInterruptLine::Other(line) => line,
+            LocalInterruptLine::Reserved(line) => line,
         };
         println!("line {of} lint{line}")
     });
@@ -109,7 +111,6 @@ fn print_processor(p: Processor) {
         ProcessorState::Disabled => "disabled",
         ProcessorState::WaitingForSipi => "waiting",
         ProcessorState::Running => "running",
-        ProcessorState::Other(_) => "unknown",
     };
     println!("processor {} {} {state}", p.processor_uid, p.local_apic_id)
 }

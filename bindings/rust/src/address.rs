@@ -10,7 +10,7 @@
 //!     access_size: AccessSize::ByteAccess,
 //!     address: 0x3f8,
 //! };
-//! assert_eq!((AddressSpace::from(1), AccessSize::from(1)), (serial.address_space, serial.access_size));
+//! assert_eq!((AddressSpace::try_from(1), AccessSize::try_from(1)), (Ok(serial.address_space), Ok(serial.access_size)));
 //! ```
 
 use crate::error::{AcpiError, AcpiResult};
@@ -46,13 +46,14 @@ pub enum AddressSpace {
     FunctionalFixedHardware,
     /// 0xc0 to 0xff: the machine's maker defines it.
     OemDefined(u8),
-    /// Any other code, which is reserved.
-    Other(u8),
 }
 
-impl From<u8> for AddressSpace {
-    fn from(code: u8) -> Self {
-        match code {
+/// Fails with [`AcpiError::InvalidGenericAddress`] for a code that is reserved.
+impl TryFrom<u8> for AddressSpace {
+    type Error = AcpiError;
+
+    fn try_from(code: u8) -> AcpiResult<Self> {
+        Ok(match code {
             0 => AddressSpace::SystemMemory,
             1 => AddressSpace::SystemIo,
             2 => AddressSpace::PciConfigSpace,
@@ -66,8 +67,8 @@ impl From<u8> for AddressSpace {
             0xa => AddressSpace::PlatformCommunicationsChannel,
             0x7f => AddressSpace::FunctionalFixedHardware,
             0xc0..=0xff => AddressSpace::OemDefined(code),
-            _ => AddressSpace::Other(code),
-        }
+            _ => return Err(AcpiError::InvalidGenericAddress),
+        })
     }
 }
 
@@ -84,20 +85,21 @@ pub enum AccessSize {
     DWordAccess,
     /// 4: eight bytes.
     QWordAccess,
-    /// Any other code, which is reserved.
-    Other(u8),
 }
 
-impl From<u8> for AccessSize {
-    fn from(code: u8) -> Self {
-        match code {
+/// Fails with [`AcpiError::InvalidGenericAddress`] for a code that is reserved.
+impl TryFrom<u8> for AccessSize {
+    type Error = AcpiError;
+
+    fn try_from(code: u8) -> AcpiResult<Self> {
+        Ok(match code {
             0 => AccessSize::Undefined,
             1 => AccessSize::ByteAccess,
             2 => AccessSize::WordAccess,
             3 => AccessSize::DWordAccess,
             4 => AccessSize::QWordAccess,
-            _ => AccessSize::Other(code),
-        }
+            _ => return Err(AcpiError::InvalidGenericAddress),
+        })
     }
 }
 
@@ -116,28 +118,25 @@ pub struct GenericAddress {
     pub address: u64,
 }
 
-impl From<records::GenericAddress> for GenericAddress {
-    fn from(raw: records::GenericAddress) -> Self {
-        GenericAddress {
-            address_space: raw.space.into(),
-            bit_width: raw.bit_width,
-            bit_offset: raw.bit_offset,
-            access_size: raw.access_size.into(),
-            address: raw.address,
-        }
-    }
-}
-
 /// A register that may not be there: none, or `InvalidGenericAddress` for a reserved code.
 pub(crate) fn register(raw: records::Register) -> AcpiResult<Option<GenericAddress>> {
-    present(raw.present, raw.at.into())
+    let at = raw.at;
+    present(raw.present, || {
+        Ok(GenericAddress {
+            address_space: at.space.try_into()?,
+            bit_width: at.bit_width,
+            bit_offset: at.bit_offset,
+            access_size: at.access_size.try_into()?,
+            address: at.address,
+        })
+    })
 }
 
 /// What is there, by a record's `present`: 0 none, 1 it is there, 2 its address is an error.
-pub(crate) fn present<T>(present: u8, value: T) -> AcpiResult<Option<T>> {
+pub(crate) fn present<T>(present: u8, value: impl FnOnce() -> AcpiResult<T>) -> AcpiResult<Option<T>> {
     match present {
         0 => Ok(None),
-        1 => Ok(Some(value)),
+        1 => value().map(Some),
         _ => Err(AcpiError::InvalidGenericAddress),
     }
 }

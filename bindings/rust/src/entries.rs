@@ -8,7 +8,8 @@
 //! # let mut memory = [0; 512];
 //! # zacpi::write::Xsdt { ids, addresses: &[0x1040] }.write(&mut memory).unwrap();
 //! # let mut table = zacpi::write::Srat::new(ids, &[]);
-//! # table.giccs = &[zacpi::write::GiccDomain { processor_uid: 0, domain: 1 }];
+//! # let giccs = [zacpi::write::GiccDomain::new(0, 1)];
+//! # table.giccs = &giccs;
 //! # table.write(&mut memory[0x40..]).unwrap();
 //! # let regions = [zacpi::Region::new(0x1000, &memory)];
 //! # let tables = zacpi::AcpiTables::open(&regions, zacpi::Start::Xsdt(0x1000))?;
@@ -19,9 +20,9 @@
 //! # Ok::<(), zacpi::AcpiError>(())
 //! ```
 
+use crate::acpi_tables::{AcpiTables, Table};
 use crate::error::AcpiResult;
 use crate::raw::{self, records};
-use crate::acpi_tables::{AcpiTables, Table};
 
 /// How many bytes Type has, and Length has, at the front of each entry.
 #[derive(Clone, Copy, Debug, PartialEq, Eq)]

@@ -190,8 +190,10 @@ pub struct GpeBlock {
 }
 
 fn gpe_block(raw: records::GpeBlock) -> AcpiResult<Option<GpeBlock>> {
-    let block = GpeBlock { address: raw.address, address_space: raw.space.into(), byte_length: raw.byte_length };
-    present(raw.present, block)
+    present(raw.present, || {
+        let address_space = raw.space.try_into()?;
+        Ok(GpeBlock { address: raw.address, address_space, byte_length: raw.byte_length })
+    })
 }
 
 /// The fixed hardware of the first valid FADT. All of its fields are read when it is looked up; those past the end of a

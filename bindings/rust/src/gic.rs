@@ -6,9 +6,8 @@
 //! # let ids = zacpi::write::TableIds::default();
 //! # let mut memory = [0; 512];
 //! # zacpi::write::Xsdt { ids, addresses: &[0x1040] }.write(&mut memory).unwrap();
-//! # let version = Some(3);
-//! # let distributor = zacpi::gic::GicDistributor { address: 0x800_0000, id: 0, system_vector_base: 0, version };
-//! # let processors = [zacpi::gic::GicCpuInterface { is_enabled: true, ..Default::default() }.into()];
+//! # let distributor = zacpi::gic::GicDistributor::new(0x800_0000, Some(3));
+//! # let processors = [zacpi::gic::GicCpuInterface::new(0, 0, 0).into()];
 //! # zacpi::write::GicMadt::new(ids, distributor, &processors).write(&mut memory[0x40..]).unwrap();
 //! # let regions = [zacpi::Region::new(0x1000, &memory)];
 //! # let tables = zacpi::AcpiTables::open(&regions, zacpi::Start::Xsdt(0x1000))?;
@@ -20,15 +19,16 @@
 //! # Ok::<(), zacpi::AcpiError>(())
 //! ```
 
+use crate::acpi_tables::AcpiTables;
 use crate::error::AcpiResult;
 use crate::list::{items, Listing};
-use crate::platform::interrupt::TriggerMode;
+use crate::platform::interrupt::InputTrigger;
 pub use crate::raw::records::GicTranslationService;
 use crate::raw::{self, records, records::Range};
-use crate::acpi_tables::AcpiTables;
 
 /// The distributor (GICD, section 5.2.12.15).
 #[derive(Clone, Copy, Debug, PartialEq, Eq)]
+#[non_exhaustive]
 pub struct GicDistributor {
     /// Physical Base Address: of its registers.
     pub address: u64,
@@ -40,8 +40,9 @@ pub struct GicDistributor {
     pub version: Option<u8>,
 }
 
-/// A processor and its interface to the GIC (GICC, section 5.2.12.14): by default a disabled one, which has nothing.
-#[derive(Clone, Copy, Debug, Default, PartialEq, Eq)]
+/// A processor and its interface to the GIC (GICC, section 5.2.12.14).
+#[derive(Clone, Copy, Debug, PartialEq, Eq)]
+#[non_exhaustive]
 pub struct GicCpuInterface {
     /// MPIDR.
     pub mpidr: u64,
@@ -66,9 +67,9 @@ pub struct GicCpuInterface {
     /// Parking Protocol Version. `None`: processors are woken by PSCI.
     pub parking_protocol_version: Option<u32>,
     /// Performance Interrupt GSIV, and what signals it (bit 1 of Flags).
-    pub performance_interrupt: Option<(u32, TriggerMode)>,
+    pub performance_interrupt: Option<(u32, InputTrigger)>,
     /// VGIC Maintenance interrupt, and what signals it (bit 2 of Flags).
-    pub maintenance_interrupt: Option<(u32, TriggerMode)>,
+    pub maintenance_interrupt: Option<(u32, InputTrigger)>,
     /// SPE overflow Interrupt.
     pub spe_overflow_interrupt: Option<u16>,
     /// TRBE Interrupt, since ACPI 6.5.
@@ -79,6 +80,7 @@ pub struct GicCpuInterface {
 
 /// A frame that turns messages into interrupts (GIC MSI Frame, section 5.2.12.16).
 #[derive(Clone, Copy, Debug, PartialEq, Eq)]
+#[non_exhaustive]
 pub struct GicMsiFrame {
     /// Physical Base Address: of its registers.
     pub address: u64,
@@ -86,6 +88,35 @@ pub struct GicMsiFrame {
     pub id: u32,
     /// SPI Base and SPI Count, unless the frame's registers tell them (SPI Count/Base Select, bit 0 of Flags).
     pub spis: Option<(u16, u16)>,
+}
+
+impl GicDistributor {
+    /// A distributor of id 0 and this address and version.
+    pub const fn new(address: u64, version: Option<u8>) -> Self {
+        GicDistributor { address, id: 0, system_vector_base: 0, version }
+    }
+}
+
+impl GicCpuInterface {
+    /// The interface of this number of an enabled processor, without addresses or interrupts.
+    pub fn new(number: u32, processor_uid: u32, mpidr: u64) -> Self {
+        let raw = records::GicCpuInterface { mpidr, number, processor_uid, is_enabled: 1, ..Default::default() };
+        raw.into()
+    }
+}
+
+impl GicMsiFrame {
+    /// A frame of this id and address, and SPI Base and SPI Count unless its registers tell them.
+    pub const fn new(id: u32, address: u64, spis: Option<(u16, u16)>) -> Self {
+        GicMsiFrame { address, id, spis }
+    }
+}
+
+impl GicTranslationService {
+    /// A service of this id and address.
+    pub const fn new(id: u32, address: u64) -> Self {
+        GicTranslationService { address, id }
+    }
 }
 
 impl From<records::GicDistributor> for GicDistributor {
@@ -106,7 +137,7 @@ fn unless_zero<T: Default + PartialEq>(number: T) -> Option<T> {
 
 impl From<records::GicCpuInterface> for GicCpuInterface {
     fn from(raw: records::GicCpuInterface) -> Self {
-        let with = |interrupt, trigger: u8| unless_zero(interrupt).map(|number| (number, trigger.into()));
+        let with = |interrupt, trigger: u8| unless_zero(interrupt).map(|number| (number, InputTrigger::of(trigger)));
         GicCpuInterface {
             mpidr: raw.mpidr,
             number: raw.number,

@@ -15,11 +15,11 @@
 //! # Ok::<(), zacpi::AcpiError>(())
 //! ```
 
+use crate::acpi_tables::{read::Read, AcpiTables};
 use crate::error::AcpiResult;
 use crate::list::{items, Listing};
-use crate::platform::interrupt::{Polarity, TriggerMode};
+use crate::platform::interrupt::{InputPolarity, InputTrigger};
 use crate::raw::{self, records};
-use crate::acpi_tables::{read::Read, AcpiTables};
 
 /// How a timer interrupts.
 #[derive(Clone, Copy, Debug, PartialEq, Eq)]
@@ -27,24 +27,33 @@ pub struct TimerInterrupt {
     /// GSIV: as the number of the GIC.
     pub interrupt: u32,
     /// At which level it is active.
-    pub polarity: Polarity,
+    pub polarity: InputPolarity,
     /// What signals it.
-    pub trigger_mode: TriggerMode,
+    pub trigger_mode: InputTrigger,
 }
 
 impl TimerInterrupt {
     fn new(interrupt: u32, polarity: u8, trigger: u8) -> Self {
-        TimerInterrupt { interrupt, polarity: polarity.into(), trigger_mode: trigger.into() }
+        let (polarity, trigger_mode) = (InputPolarity::of(polarity), InputTrigger::of(trigger));
+        TimerInterrupt { interrupt, polarity, trigger_mode }
     }
 }
 
 /// A timer of every processor.
 #[derive(Clone, Copy, Debug, PartialEq, Eq)]
+#[non_exhaustive]
 pub struct ArmTimer {
     /// How it interrupts, unless its GSIV is 0.
     pub interrupt: Option<TimerInterrupt>,
     /// Always-on Capability, bit 2 of the timer's flags.
     pub always_on: bool,
+}
+
+impl ArmTimer {
+    /// A timer that interrupts so, and stops while its processor sleeps.
+    pub const fn new(interrupt: Option<TimerInterrupt>) -> Self {
+        ArmTimer { interrupt, always_on: false }
+    }
 }
 
 fn timer(raw: records::ArmTimer) -> Option<ArmTimer> {
@@ -54,6 +63,7 @@ fn timer(raw: records::ArmTimer) -> Option<ArmTimer> {
 
 /// A frame of a GT Block (section 5.2.24.1.1).
 #[derive(Clone, Copy, Debug, PartialEq, Eq)]
+#[non_exhaustive]
 pub struct GtFrame {
     /// GT Block Physical Address: of the block's control frame.
     pub block_address: u64,
@@ -75,6 +85,7 @@ pub struct GtFrame {
 
 /// A watchdog of the Server Base System Architecture (section 5.2.24.1.2).
 #[derive(Clone, Copy, Debug, PartialEq, Eq)]
+#[non_exhaustive]
 pub struct Watchdog {
     /// RefreshFrame Physical Address.
     pub refresh_frame: u64,
@@ -84,6 +95,29 @@ pub struct Watchdog {
     pub interrupt: TimerInterrupt,
     /// Secure Timer, bit 2 of Watchdog Timer Flags.
     pub is_secure: bool,
+}
+
+impl GtFrame {
+    /// A frame of this number in the block of a control frame, with its registers at `address` and neither timer.
+    pub const fn new(block_address: u64, number: u8, address: u64) -> Self {
+        GtFrame {
+            block_address,
+            address,
+            el0_address: None,
+            number,
+            physical_interrupt: None,
+            virtual_interrupt: None,
+            is_secure: false,
+            is_always_on: false,
+        }
+    }
+}
+
+impl Watchdog {
+    /// A watchdog of these frames, that isn't secure.
+    pub const fn new(refresh_frame: u64, control_frame: u64, interrupt: TimerInterrupt) -> Self {
+        Watchdog { refresh_frame, control_frame, interrupt, is_secure: false }
+    }
 }
 
 /// An address, unless all its bits are ones.

@@ -17,9 +17,9 @@
 //! # Ok::<(), zacpi::AcpiError>(())
 //! ```
 
+use crate::acpi_tables::{read::Read, AcpiTables};
 use crate::error::AcpiResult;
 use crate::raw::{self, records};
-use crate::acpi_tables::{read::Read, AcpiTables};
 
 /// Page Protection: what may be accessed beside the block's registers.
 #[derive(Clone, Copy, Debug, PartialEq, Eq)]

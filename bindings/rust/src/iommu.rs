@@ -18,11 +18,11 @@
 //! # Ok::<(), zacpi::AcpiError>(())
 //! ```
 
+use crate::acpi_tables::{read::Read, AcpiTables, Table};
 use crate::error::{AcpiError, AcpiResult};
 use crate::list::{List, Slot};
 use crate::raw::{self, records, records_of};
 use crate::sdt::Signature;
-use crate::acpi_tables::{read::Read, AcpiTables, Table};
 
 pub use records::{DmarReserved, Hop, IvrsMemory};
 
@@ -31,6 +31,7 @@ const LEAST: u32 = 48;
 
 /// A unit of the DMAR (DRHD, section 8.3).
 #[derive(Clone, Copy, Debug, PartialEq, Eq)]
+#[non_exhaustive]
 pub struct DmarUnit {
     /// Register Base Address: the physical address of its registers.
     pub register_base: u64,
@@ -55,6 +56,7 @@ impl From<records::DmarUnit> for DmarUnit {
 
 /// A unit of the DMAR, and how it knows a device that sends it interrupts (section 8.3.1).
 #[derive(Clone, Copy, Debug, PartialEq, Eq)]
+#[non_exhaustive]
 pub struct DmarSource {
     /// The unit that remaps the device's interrupts.
     pub unit: DmarUnit,
@@ -72,6 +74,7 @@ impl From<records::DmarSource> for DmarSource {
 
 /// A unit of the IVRS (IVHD, section 5.2).
 #[derive(Clone, Copy, Debug, PartialEq, Eq)]
+#[non_exhaustive]
 pub struct IvrsUnit {
     /// IOMMU Base Address: the physical address of its registers.
     pub base: u64,
@@ -111,6 +114,7 @@ impl From<records::IvrsUnit> for IvrsUnit {
 
 /// A unit of the IVRS, and how it treats a device (section 5.2).
 #[derive(Clone, Copy, Debug, PartialEq, Eq)]
+#[non_exhaustive]
 pub struct IvrsDevice {
     /// The unit that remaps the device.
     pub unit: IvrsUnit,

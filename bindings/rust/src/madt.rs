@@ -7,13 +7,10 @@
 //! # let ids = zacpi::write::TableIds::default();
 //! # let mut memory = [0; 512];
 //! # zacpi::write::Xsdt { ids, addresses: &[0x1040] }.write(&mut memory).unwrap();
-//! # use zacpi::platform::{interrupt::IoApic, Processor, ProcessorState};
-//! # let state = ProcessorState::Running;
-//! # let (is_ap, is_online_capable, is_x2apic) = (false, false, false);
-//! # let one = Processor { processor_uid: 0, local_apic_id: 0, state, is_ap, is_online_capable, is_x2apic };
-//! # let processors = [one.into()];
+//! # let processors = [zacpi::platform::Processor::boot(0, 0).into()];
 //! # let mut table = zacpi::write::Madt::new(ids, &processors);
-//! # table.io_apics = &[IoApic { address: 0xfec0_0000, global_system_interrupt_base: 0, id: 0 }];
+//! # let io_apics = [zacpi::platform::interrupt::IoApic::new(0, 0xfec0_0000, 0)];
+//! # table.io_apics = &io_apics;
 //! # table.write(&mut memory[0x40..]).unwrap();
 //! # let regions = [zacpi::Region::new(0x1000, &memory)];
 //! # let tables = zacpi::AcpiTables::open(&regions, zacpi::Start::Xsdt(0x1000))?;
@@ -26,11 +23,11 @@
 //! # Ok::<(), zacpi::AcpiError>(())
 //! ```
 
+use crate::acpi_tables::{read::Read, AcpiTables, Table};
 use crate::entries::{Entries, Entry, EntryWidth};
 pub use crate::error::MadtError;
 use crate::error::{AcpiError, AcpiResult};
 use crate::sdt::Signature;
-use crate::acpi_tables::{read::Read, AcpiTables, Table};
 
 /// The least length of a MADT: its entries begin there.
 const ENTRIES_AT: u32 = 44;
@@ -99,6 +96,7 @@ macro_rules! entries {
     }))*) => {
         $($(#[$doc])*
         #[derive(Clone, Copy, Debug, PartialEq, Eq)]
+        #[non_exhaustive]
         pub struct $name {
             $($(#[$field_doc])* pub $field: $type,)*
         })*

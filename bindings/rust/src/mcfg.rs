@@ -7,7 +7,7 @@
 //! # let mut memory = [0; 512];
 //! # zacpi::write::Xsdt { ids, addresses: &[0x1040] }.write(&mut memory).unwrap();
 //! # use zacpi::mcfg::PciConfigEntry;
-//! # let regions = [PciConfigEntry { segment_group: 0, bus_range: 0..=255, physical_address: 0xb000_0000 }.into()];
+//! # let regions = [PciConfigEntry::new(0, 0..=255, 0xb000_0000).into()];
 //! # zacpi::write::Mcfg { ids, regions: &regions }.write(&mut memory[0x40..]).unwrap();
 //! # let regions = [zacpi::Region::new(0x1000, &memory)];
 //! # let tables = zacpi::AcpiTables::open(&regions, zacpi::Start::Xsdt(0x1000))?;
@@ -16,14 +16,15 @@
 //! # Ok::<(), zacpi::AcpiError>(())
 //! ```
 
+use crate::acpi_tables::{read::Read, AcpiTables};
 use crate::error::AcpiResult;
 use crate::list::{items, Listing};
 use crate::raw::{self, records};
-use crate::acpi_tables::{read::Read, AcpiTables};
 use core::ops::RangeInclusive;
 
 /// A region of configuration space: an allocation of the MCFG.
 #[derive(Clone, Debug, PartialEq, Eq)]
+#[non_exhaustive]
 pub struct PciConfigEntry {
     /// PCI Segment Group Number.
     pub segment_group: u16,
@@ -31,6 +32,13 @@ pub struct PciConfigEntry {
     pub bus_range: RangeInclusive<u8>,
     /// Base Address: where bus 0 of the segment group would lie.
     pub physical_address: u64,
+}
+
+impl PciConfigEntry {
+    /// The region of these buses.
+    pub const fn new(segment_group: u16, bus_range: RangeInclusive<u8>, physical_address: u64) -> Self {
+        PciConfigEntry { segment_group, bus_range, physical_address }
+    }
 }
 
 impl From<records::PciRegion> for PciConfigEntry {

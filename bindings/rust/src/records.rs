@@ -50,6 +50,7 @@ records! {
         length: u64,
     }
     /// A stream of AML: a DSDT or an SSDT without its header (section 5.2.11).
+    #[non_exhaustive]
     AmlTable {
         /// The physical address of the first byte after the table's 36 bytes of header.
         address: u64,
@@ -57,6 +58,7 @@ records! {
         length: u32,
     }
     /// An I/O APIC (section 5.2.12.3).
+    #[non_exhaustive]
     IoApic {
         /// I/O APIC Address: of its registers.
         address: u32,
@@ -80,6 +82,7 @@ records! {
         function: u8,
     }
     /// Memory that is reserved for a device (DMAR; Reserved Memory Region Reporting, section 8.4).
+    #[non_exhaustive]
     DmarReserved {
         /// Reserved Memory Region Base Address: the first byte.
         base: u64,
@@ -89,6 +92,7 @@ records! {
         segment: u16,
     }
     /// Memory that has its own rules for devices (IVRS; I/O Virtualization Memory Definition, section 5.2).
+    #[non_exhaustive]
     IvrsMemory {
         /// IVMD start address.
         start: u64,
@@ -104,6 +108,7 @@ records! {
         flags: u8,
     }
     /// A service that translates interrupts (GIC ITS, section 5.2.12.18).
+    #[non_exhaustive]
     GicTranslationService {
         /// Physical Base Address: of its registers.
         address: u64,

@@ -15,9 +15,9 @@
 //! # Ok::<(), zacpi::AcpiError>(())
 //! ```
 
+use crate::acpi_tables::{read::Read, AcpiTables};
 use crate::error::AcpiResult;
 use crate::raw;
-use crate::acpi_tables::{read::Read, AcpiTables};
 
 /// The distances of the first valid SLIT.
 #[derive(Clone, Copy, Debug)]

@@ -7,7 +7,8 @@
 //! # let mut memory = [0; 512];
 //! # zacpi::write::Xsdt { ids, addresses: &[0x1040] }.write(&mut memory).unwrap();
 //! # let mut table = zacpi::write::Srat::new(ids, &[]);
-//! # table.apics = &[zacpi::write::ApicDomain { local_apic_id: 3, domain: 1 }];
+//! # let apics = [zacpi::write::ApicDomain::new(3, 1)];
+//! # table.apics = &apics;
 //! # table.write(&mut memory[0x40..]).unwrap();
 //! # let regions = [zacpi::Region::new(0x1000, &memory)];
 //! # let tables = zacpi::AcpiTables::open(&regions, zacpi::Start::Xsdt(0x1000))?;
@@ -16,17 +17,18 @@
 //! # Ok::<(), zacpi::AcpiError>(())
 //! ```
 
+use crate::acpi_tables::{read::Read, AcpiTables, Table};
 use crate::error::{AcpiError, AcpiResult};
 use crate::list::{items, Listing};
 use crate::raw::{self, records};
 use crate::sdt::Signature;
-use crate::acpi_tables::{read::Read, AcpiTables, Table};
 
 /// The least length of an SRAT: its entries begin there.
 const LEAST: u32 = 48;
 
 /// A range of memory that is in a domain (section 5.2.16.2).
 #[derive(Clone, Copy, Debug, PartialEq, Eq)]
+#[non_exhaustive]
 pub struct MemoryAffinity {
     /// Base Address.
     pub address: u64,
@@ -38,6 +40,13 @@ pub struct MemoryAffinity {
     pub is_hot_pluggable: bool,
     /// NonVolatile, bit 2 of Flags.
     pub is_non_volatile: bool,
+}
+
+impl MemoryAffinity {
+    /// A range of memory that is always there, and volatile.
+    pub const fn new(address: u64, length: u64, domain: u32) -> Self {
+        MemoryAffinity { address, length, domain, is_hot_pluggable: false, is_non_volatile: false }
+    }
 }
 
 impl From<records::MemoryAffinity> for MemoryAffinity {

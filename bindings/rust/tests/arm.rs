@@ -3,7 +3,7 @@ mod common;
 use common::{Memory, ROOT};
 use zacpi::gic::{GicCpuInterface, GicDistributor, GicMsiFrame, GicTranslationService};
 use zacpi::gtdt::{ArmTimer, GtFrame, Gtdt, TimerInterrupt, Watchdog};
-use zacpi::platform::interrupt::{Polarity, TriggerMode};
+use zacpi::platform::interrupt::{InputPolarity, InputTrigger};
 use zacpi::{AcpiError, GicModel, MadtError, Range, Signature, Slot};
 
 const TABLE: u64 = ROOT + 0x1000;
@@ -33,27 +33,19 @@ fn reads_a_gic() {
     memory.table(TABLE, "APIC", 6, 310, &fields);
     memory.ask(|tables| {
         let gic = GicModel::new(&tables).unwrap();
-        let distributor = GicDistributor { address: 0x800_0000, id: 1, system_vector_base: 2, version: Some(3) };
+        let mut distributor = GicDistributor::new(0x800_0000, Some(3));
+        (distributor.id, distributor.system_vector_base) = (1, 2);
         assert_eq!(gic.distributor, distributor);
-        let first = GicCpuInterface {
-            mpidr: 0x101,
-            number: 1,
-            processor_uid: 2,
-            is_enabled: true,
-            is_online_capable: true,
-            address: Some(0x801_0000),
-            virtual_address: Some(0x802_0000),
-            hypervisor_address: Some(0x803_0000),
-            redistributor_address: Some(0x80a_0000),
-            parked_address: Some(0x4000_0000),
-            parking_protocol_version: Some(3),
-            performance_interrupt: Some((23, TriggerMode::Edge)),
-            maintenance_interrupt: Some((25, TriggerMode::Level)),
-            spe_overflow_interrupt: Some(21),
-            trace_buffer_interrupt: Some(22),
-            efficiency_class: 4,
-        };
-        let second = GicCpuInterface { is_online_capable: true, ..GicCpuInterface::default() };
+        let mut first = GicCpuInterface::new(1, 2, 0x101);
+        (first.is_online_capable, first.efficiency_class) = (true, 4);
+        (first.address, first.virtual_address) = (Some(0x801_0000), Some(0x802_0000));
+        (first.hypervisor_address, first.redistributor_address) = (Some(0x803_0000), Some(0x80a_0000));
+        (first.parked_address, first.parking_protocol_version) = (Some(0x4000_0000), Some(3));
+        first.performance_interrupt = Some((23, InputTrigger::Edge));
+        first.maintenance_interrupt = Some((25, InputTrigger::Level));
+        (first.spe_overflow_interrupt, first.trace_buffer_interrupt) = (Some(21), Some(22));
+        let mut second = GicCpuInterface::new(0, 0, 0);
+        (second.is_enabled, second.is_online_capable) = (false, true);
         let mut room = [Slot::default(); 4];
         let list = gic.cpu_interfaces().fill(&mut room).unwrap();
         assert_eq!(list.iter().collect::<Vec<_>>(), [first, second]);
@@ -62,13 +54,10 @@ fn reads_a_gic() {
         assert_eq!(list.iter().collect::<Vec<_>>(), [Range { address: 0x80a_0000, length: 0x4_0000 }]);
         let mut room = [Slot::default(); 4];
         let list = gic.translation_services().fill(&mut room).unwrap();
-        assert_eq!(list.iter().collect::<Vec<_>>(), [GicTranslationService { address: 0x808_0000, id: 5 }]);
+        assert_eq!(list.iter().collect::<Vec<_>>(), [GicTranslationService::new(5, 0x808_0000)]);
         let mut room = [Slot::default(); 4];
         let list = gic.msi_frames().fill(&mut room).unwrap();
-        let frames = [
-            GicMsiFrame { address: 0x802_0000, id: 6, spis: Some((80, 64)) },
-            GicMsiFrame { address: 0x803_0000, id: 7, spis: None },
-        ];
+        let frames = [GicMsiFrame::new(6, 0x802_0000, Some((80, 64))), GicMsiFrame::new(7, 0x803_0000, None)];
         assert_eq!(list.iter().collect::<Vec<_>>(), frames);
     });
     // Two bytes after a GICD in which no entry begins; no GICD at all; no MADT.
@@ -85,7 +74,7 @@ fn reads_a_gic() {
     Memory::rsdt(&[]).ask(|tables| assert_eq!(GicModel::new(&tables).unwrap_err(), missing));
 }
 
-fn interrupt(interrupt: u32, polarity: Polarity, trigger_mode: TriggerMode) -> TimerInterrupt {
+fn interrupt(interrupt: u32, polarity: InputPolarity, trigger_mode: InputTrigger) -> TimerInterrupt {
     TimerInterrupt { interrupt, polarity, trigger_mode }
 }
 
@@ -113,35 +102,29 @@ fn reads_generic_timers() {
     memory.ask(|tables| {
         let timers = tables.find_table::<Gtdt>().unwrap();
         assert_eq!((timers.control_base, timers.read_base), (None, Some(0x2a80_0000)));
-        let timer = |interrupt, always_on| Some(ArmTimer { interrupt, always_on });
-        let secure = interrupt(29, Polarity::ActiveLow, TriggerMode::Level);
-        let non_secure = interrupt(30, Polarity::ActiveHigh, TriggerMode::Edge);
+        let timer = |interrupt, always_on| {
+            let mut timer = ArmTimer::new(interrupt);
+            timer.always_on = always_on;
+            Some(timer)
+        };
+        let secure = interrupt(29, InputPolarity::ActiveLow, InputTrigger::Level);
+        let non_secure = interrupt(30, InputPolarity::ActiveHigh, InputTrigger::Edge);
         assert_eq!(timers.secure_el1, timer(Some(secure), false));
         assert_eq!(timers.non_secure_el1, timer(Some(non_secure), true));
-        let level = interrupt(27, Polarity::ActiveHigh, TriggerMode::Level);
+        let level = interrupt(27, InputPolarity::ActiveHigh, InputTrigger::Level);
         assert_eq!(timers.virtual_el1, timer(Some(level), false));
         assert_eq!(timers.el2, timer(None, true));
-        let el2 = interrupt(28, Polarity::ActiveLow, TriggerMode::Edge);
+        let el2 = interrupt(28, InputPolarity::ActiveLow, InputTrigger::Edge);
         assert_eq!(timers.virtual_el2, timer(Some(el2), false));
         assert!(!timers.platform_timers_malformed);
-        let frame = GtFrame {
-            block_address: 0x2a81_0000,
-            address: 0x2a82_0000,
-            el0_address: None,
-            number: 1,
-            physical_interrupt: Some(interrupt(57, Polarity::ActiveHigh, TriggerMode::Edge)),
-            virtual_interrupt: None,
-            is_secure: false,
-            is_always_on: true,
-        };
+        let mut frame = GtFrame::new(0x2a81_0000, 1, 0x2a82_0000);
+        frame.physical_interrupt = Some(interrupt(57, InputPolarity::ActiveHigh, InputTrigger::Edge));
+        frame.is_always_on = true;
         let mut room = [Slot::default(); 4];
         assert_eq!(timers.frames().fill(&mut room).unwrap().iter().collect::<Vec<_>>(), [frame]);
-        let watchdog = Watchdog {
-            refresh_frame: 0x2a45_0000,
-            control_frame: 0x2a44_0000,
-            interrupt: interrupt(59, Polarity::ActiveLow, TriggerMode::Level),
-            is_secure: true,
-        };
+        let level = interrupt(59, InputPolarity::ActiveLow, InputTrigger::Level);
+        let mut watchdog = Watchdog::new(0x2a45_0000, 0x2a44_0000, level);
+        watchdog.is_secure = true;
         let mut room = [Slot::default(); 4];
         assert_eq!(timers.watchdogs().fill(&mut room).unwrap().iter().collect::<Vec<_>>(), [watchdog]);
     });

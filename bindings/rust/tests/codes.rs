@@ -1,8 +1,6 @@
 //! Codes and names: each byte of firmware has a value, and each refusal a text.
 use zacpi::address::{AccessSize, AddressSpace};
 use zacpi::list::Slot;
-use zacpi::platform::interrupt::{LocalInterruptLine, Polarity, TriggerMode};
-use zacpi::platform::ProcessorState;
 use zacpi::spcr::SpcrInterfaceType;
 use zacpi::{AcpiError, MadtError, PowerProfile, Range, Signature};
 
@@ -12,13 +10,10 @@ fn every_code_has_a_value() {
         assert_eq!(u8::from(PowerProfile::from(code)), code);
         assert_eq!(matches!(PowerProfile::from(code), PowerProfile::Reserved(n) if n == code), code > 8);
         let reserved = matches!(code, 0x0b..=0x7e | 0x80..=0xbf);
-        assert_eq!(AddressSpace::from(code) == AddressSpace::Other(code), reserved);
-        assert_eq!(AddressSpace::from(code) == AddressSpace::OemDefined(code), code >= 0xc0);
-        assert_eq!(AccessSize::from(code) == AccessSize::Other(code), code > 4);
-        assert_eq!(Polarity::from(code) == Polarity::Other(code), !matches!(code, 0 | 1 | 3));
-        assert_eq!(TriggerMode::from(code) == TriggerMode::Other(code), !matches!(code, 0 | 1 | 3));
-        assert_eq!(LocalInterruptLine::from(code) == LocalInterruptLine::Other(code), code > 1);
-        assert_eq!(ProcessorState::from(code) == ProcessorState::Other(code), code > 2);
+        let refusal = Err(AcpiError::InvalidGenericAddress);
+        assert_eq!(AddressSpace::try_from(code).map(u8::from), if reserved { refusal } else { Ok(code) });
+        assert_eq!(AddressSpace::try_from(code) == Ok(AddressSpace::OemDefined(code)), code >= 0xc0);
+        assert_eq!(AccessSize::try_from(code).map(u8::from), if code > 4 { refusal } else { Ok(code) });
         let unknown = code == 7 || code > 0x15;
         assert_eq!(SpcrInterfaceType::from(code) == SpcrInterfaceType::Unknown(code), unknown);
     }
@@ -36,9 +31,9 @@ fn every_code_has_a_value() {
         AddressSpace::PlatformCommunicationsChannel,
     ];
     for (code, space) in spaces.into_iter().enumerate() {
-        assert_eq!(AddressSpace::from(code as u8), space);
+        assert_eq!(AddressSpace::try_from(code as u8), Ok(space));
     }
-    assert_eq!(AddressSpace::from(0x7f), AddressSpace::FunctionalFixedHardware);
+    assert_eq!(AddressSpace::try_from(0x7f), Ok(AddressSpace::FunctionalFixedHardware));
     let profiles = [
         PowerProfile::Unspecified,
         PowerProfile::Desktop,

@@ -120,12 +120,10 @@ fn reads_pci_configuration_space() {
     ];
     with("MCFG", 1, 93, &fields).ask(|tables| {
         let pci = PciConfigRegions::new(&tables).unwrap();
-        let entry =
-            |segment_group, bus_range, physical_address| PciConfigEntry { segment_group, bus_range, physical_address };
         let entries = [
-            entry(0, 0..=63, 0xb000_0000),
-            entry(2, 64..=127, 0x1_0000_0000),
-            entry(3, RangeInclusive::new(9, 8), 0xc000_0000),
+            PciConfigEntry::new(0, 0..=63, 0xb000_0000),
+            PciConfigEntry::new(2, 64..=127, 0x1_0000_0000),
+            PciConfigEntry::new(3, RangeInclusive::new(9, 8), 0xc000_0000),
         ];
         let mut room = [Slot::default(); 4];
         assert_eq!(pci.entries().fill(&mut room).unwrap().iter().collect::<Vec<_>>(), entries);

@@ -1,7 +1,7 @@
 //! The units that remap what devices ask of memory.
 mod common;
 use common::{Memory, ROOT};
-use zacpi::iommu::{Dmar, DmarReserved, DmarSource, DmarUnit, Hop, Ivrs, IvrsDevice, IvrsMemory, IvrsUnit};
+use zacpi::iommu::{Dmar, Hop, Ivrs};
 use zacpi::{AcpiError, Signature, Slot};
 
 const TABLE: u64 = ROOT + 0x1000;
@@ -29,21 +29,23 @@ fn reads_a_dmar() {
     memory.ask(|tables| {
         let dmar = tables.find_table::<Dmar>().unwrap();
         assert_eq!((dmar.table.address, dmar.table.length), (TABLE, 166));
-        let first =
-            DmarUnit { register_base: 0x1_fed9_0000, register_bytes: 4096, segment: 0, includes_pci_all: false };
-        let second =
-            DmarUnit { register_base: 0x1_fed9_1000, register_bytes: 32768, segment: 0, includes_pci_all: true };
-        assert_eq!(dmar.unit_for(0, 0, &[hop(2, 0)]), Ok(Some(first)));
-        assert_eq!(dmar.unit_for(0, 0, &[hop(2, 0), hop(0, 0)]), Ok(Some(second)));
+        let first = dmar.unit_for(0, 0, &[hop(2, 0)]).unwrap().unwrap();
+        assert_eq!((first.register_base, first.register_bytes), (0x1_fed9_0000, 4096));
+        assert_eq!((first.segment, first.includes_pci_all), (0, false));
+        let second = dmar.unit_for(0, 0, &[hop(2, 0), hop(0, 0)]).unwrap().unwrap();
+        assert_eq!((second.register_base, second.register_bytes), (0x1_fed9_1000, 32768));
+        assert_eq!((second.segment, second.includes_pci_all), (0, true));
         assert_eq!(dmar.unit_for(1, 0, &[hop(2, 0)]), Ok(None));
-        let io_apic = DmarSource { unit: second, bus: 0xf0, hop: Some(hop(0x1f, 0)) };
-        let hpet = DmarSource { unit: second, bus: 0, hop: None };
-        assert_eq!((dmar.unit_of_io_apic(2), dmar.unit_of_io_apic(1)), (Ok(Some(io_apic)), Ok(None)));
-        assert_eq!((dmar.unit_of_hpet(1), dmar.unit_of_hpet(2)), (Ok(Some(hpet)), Ok(None)));
+        let io_apic = dmar.unit_of_io_apic(2).unwrap().unwrap();
+        assert_eq!((io_apic.unit, io_apic.bus, io_apic.hop), (second, 0xf0, Some(hop(0x1f, 0))));
+        let hpet = dmar.unit_of_hpet(1).unwrap().unwrap();
+        assert_eq!((hpet.unit, hpet.bus, hpet.hop), (second, 0, None));
+        assert_eq!((dmar.unit_of_io_apic(1), dmar.unit_of_hpet(2)), (Ok(None), Ok(None)));
         let mut room = [Slot::default(); 2];
         let list = dmar.reserved_for(0, 0, &[hop(2, 0)], &mut room).unwrap();
-        let expected = DmarReserved { base: 0x7b80_0000, limit: 0x7fff_ffff, segment: 0 };
-        assert_eq!((list.count(), list.get(0), list.get(1)), (1, Some(expected), None));
+        assert_eq!((list.count(), list.len()), (1, 1));
+        let reserved = list.get(0).unwrap();
+        assert_eq!((reserved.base, reserved.limit, reserved.segment), (0x7b80_0000, 0x7fff_ffff, 0));
         let inverted = dmar.reserved_for(0, 0, &[hop(3, 0)], &mut []);
         assert_eq!(inverted.unwrap_err(), AcpiError::InvalidMemoryRange);
     });
@@ -80,31 +82,21 @@ fn reads_an_ivrs() {
     memory.ask(|tables| {
         let ivrs = tables.find_table::<Ivrs>().unwrap();
         assert_eq!((ivrs.table.address, ivrs.table.length), (TABLE, 164));
-        let unit = IvrsUnit {
-            base: 0x1_feb8_0000,
-            extended_features: Some(0x2465_77ef_a225_4afa),
-            features: 0x8004_8f6e,
-            segment: 0,
-            device_id: 2,
-            capability_offset: 0x40,
-            info: 0x105,
-            block_type: 0x11,
-            flags: 0xb0,
-        };
-        let device = |source_id, settings| Ok(Some(IvrsDevice { unit, source_id, settings }));
-        assert_eq!((ivrs.block_for(0, 0x10), ivrs.block_for(0, 0x300)), (device(0x10, 0xd7), device(0x308, 2)));
+        let device = ivrs.block_for(0, 0x10).unwrap().unwrap();
+        assert_eq!((device.source_id, device.settings), (0x10, 0xd7));
+        let unit = device.unit;
+        assert_eq!((unit.base, unit.extended_features), (0x1_feb8_0000, Some(0x2465_77ef_a225_4afa)));
+        assert_eq!((unit.features, unit.segment, unit.device_id), (0x8004_8f6e, 0, 2));
+        assert_eq!((unit.capability_offset, unit.info, unit.block_type, unit.flags), (0x40, 0x105, 0x11, 0xb0));
+        let alias = ivrs.block_for(0, 0x300).unwrap().unwrap();
+        assert_eq!((alias.unit, alias.source_id, alias.settings), (unit, 0x308, 2));
         assert_eq!((ivrs.block_for(0, 0x11), ivrs.block_for(1, 0x10)), (Ok(None), Ok(None)));
         let mut room = [Slot::default(); 2];
         let list = ivrs.memory_for(0x180, &mut room).unwrap();
-        let expected = IvrsMemory {
-            start: 0x1_0000_0000,
-            length: 0x2_0000,
-            device_id: 0x100,
-            auxiliary: 0x1ff,
-            block_type: 0x22,
-            flags: 8,
-        };
-        assert_eq!((list.count(), list.get(0), list.get(1)), (1, Some(expected), None));
+        assert_eq!((list.count(), list.len()), (1, 1));
+        let memory = list.get(0).unwrap();
+        assert_eq!((memory.start, memory.length, memory.device_id), (0x1_0000_0000, 0x2_0000, 0x100));
+        assert_eq!((memory.auxiliary, memory.block_type, memory.flags), (0x1ff, 0x22, 8));
         assert_eq!(ivrs.memory_for(0x300, &mut []).unwrap_err(), AcpiError::InvalidMemoryRange);
     });
     // Type 0x10 has no image, and an entry for all devices. Then a byte after the fixed fields.

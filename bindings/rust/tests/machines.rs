@@ -22,20 +22,15 @@ const IDS: TableIds = TableIds {
 const AT: u64 = 0x700_0000;
 
 fn processors(count: u32) -> Vec<Processor> {
-    let state = |n| match n {
-        0 => ProcessorState::Running,
-        n if n % 3 == 1 => ProcessorState::WaitingForSipi,
-        _ => ProcessorState::Disabled,
-    };
-    let processor = |n| Processor {
-        processor_uid: n,
-        local_apic_id: 2 * n,
-        state: state(n),
-        is_ap: n != 0,
-        is_online_capable: n % 5 == 2,
-        is_x2apic: 2 * n >= 255, // what a Processor Local APIC has no room for
-    };
-    (0..count).map(processor).collect()
+    let others = (1..count).map(|n| {
+        let mut processor = Processor::application(n, 2 * n);
+        if n % 3 != 1 {
+            processor.state = ProcessorState::Disabled;
+        }
+        processor.is_online_capable = n % 5 == 2;
+        processor
+    });
+    [Processor::boot(0, 0)].into_iter().chain(others).collect()
 }
 
 /// A machine of so many processors in two domains is read back as it was written.
@@ -49,22 +44,13 @@ fn is_read_back() {
 fn read_back(count: u32) {
     let processors = processors(count);
     let slots: Vec<_> = processors.iter().copied().map(Slot::from).collect();
-    let io_apics = [IoApic { address: 0xfec0_0000, global_system_interrupt_base: 0, id: 7 }];
-    let overrides = [InterruptSourceOverride {
-        bus: 0,
-        isa_source: 9,
-        global_system_interrupt: 20,
-        polarity: Polarity::ActiveLow,
-        trigger_mode: TriggerMode::Level,
-    }];
-    let nmi_source =
-        NmiSource { global_system_interrupt: 2, polarity: Polarity::ActiveHigh, trigger_mode: TriggerMode::Edge };
-    let (polarity, trigger_mode) = (Polarity::SameAsBus, TriggerMode::SameAsBus);
-    let line = |processor, line| NmiLine { processor, line, polarity, trigger_mode };
+    let io_apics = [IoApic::new(7, 0xfec0_0000, 0)];
+    let overrides = [InterruptSourceOverride::new(9, 20, Polarity::ActiveLow, TriggerMode::Level)];
+    let nmi_source = NmiSource::new(2, Polarity::ActiveHigh, TriggerMode::Edge);
     let lines = [
-        line(NmiProcessor::All, LocalInterruptLine::Lint1),
-        line(NmiProcessor::ProcessorUid(3), LocalInterruptLine::Lint0),
-        line(NmiProcessor::ProcessorUid(300), LocalInterruptLine::Lint1),
+        NmiLine::new(NmiProcessor::All, LocalInterruptLine::Lint1),
+        NmiLine::new(NmiProcessor::ProcessorUid(3), LocalInterruptLine::Lint0),
+        NmiLine::new(NmiProcessor::ProcessorUid(300), LocalInterruptLine::Lint1),
     ];
     let (override_slots, nmi_slots) = (overrides.map(Slot::from), [nmi_source.into()]);
     let line_slots = lines.map(Slot::from);
@@ -74,16 +60,9 @@ fn read_back(count: u32) {
     madt.nmi_sources = &nmi_slots;
     madt.local_apic_nmi_lines = &line_slots;
     madt.also_has_legacy_pics = true;
-    let apics: Vec<_> =
-        processors.iter().map(|p| ApicDomain { local_apic_id: p.local_apic_id, domain: p.processor_uid % 2 }).collect();
-    let range = |address, domain| MemoryAffinity {
-        address,
-        length: 1 << 26,
-        domain,
-        is_hot_pluggable: domain == 1,
-        is_non_volatile: false,
-    };
-    let ranges = [range(0, 0), range(1 << 26, 1)];
+    let apics: Vec<_> = processors.iter().map(|p| ApicDomain::new(p.local_apic_id, p.processor_uid % 2)).collect();
+    let mut ranges = [MemoryAffinity::new(0, 1 << 26, 0), MemoryAffinity::new(1 << 26, 1 << 26, 1)];
+    ranges[1].is_hot_pluggable = true;
     let range_slots = ranges.map(Slot::from);
     let mut srat = write::Srat::new(IDS, &range_slots);
     srat.apics = &apics;
@@ -166,7 +145,7 @@ fn reads_the_example() {
 /// The same tables without an RSDP, and a machine of an MCFG and an HPET alone.
 #[test]
 fn lies_without_an_rsdp() {
-    let entry = PciConfigEntry { segment_group: 1, bus_range: 0..=63, physical_address: 0xb000_0000 };
+    let entry = PciConfigEntry::new(1, 0..=63, 0xb000_0000);
     let regions = [entry.clone().into()];
     let mcfg = write::Mcfg { ids: IDS, regions: &regions };
     let info = HpetInfo {

@@ -27,14 +27,8 @@ fn reads_domains() {
     memory.ask(|tables| {
         let srat = tables.find_table::<Srat>().unwrap();
         assert_eq!((srat.table.address, srat.table.length), (TABLE, 226));
-        let memory = |address, length, domain, is_hot_pluggable, is_non_volatile| MemoryAffinity {
-            address,
-            length,
-            domain,
-            is_hot_pluggable,
-            is_non_volatile,
-        };
-        let expected = [memory(0x1000, 0x1000, 1, false, false), memory(0x2000, 0x2000, 2, true, true)];
+        let mut expected = [MemoryAffinity::new(0x1000, 0x1000, 1), MemoryAffinity::new(0x2000, 0x2000, 2)];
+        (expected[1].is_hot_pluggable, expected[1].is_non_volatile) = (true, true);
         let mut room = [Slot::default(); 4];
         let list = srat.memory_affinities().fill(&mut room).unwrap();
         assert_eq!(list.iter().collect::<Vec<_>>(), expected);

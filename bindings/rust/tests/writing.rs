@@ -5,8 +5,11 @@ use zacpi::address::{AccessSize, AddressSpace, GenericAddress};
 use zacpi::fadt::{Fadt, FixedFeatureFlags, GpeBlock, IaPcBootArchFlags};
 use zacpi::gic::{GicCpuInterface, GicDistributor, GicMsiFrame, GicTranslationService};
 use zacpi::gtdt::{ArmTimer, GtFrame, Gtdt, TimerInterrupt, Watchdog};
-use zacpi::platform::interrupt::{LocalInterruptLine, NmiLine, NmiProcessor, Polarity, TriggerMode};
-use zacpi::platform::{Processor, ProcessorState};
+use zacpi::platform::interrupt::{
+    InputPolarity, InputTrigger, InterruptSourceOverride, LocalInterruptLine, NmiLine, NmiProcessor, Polarity,
+    TriggerMode,
+};
+use zacpi::platform::Processor;
 use zacpi::spcr::{Spcr, SpcrInterfaceType};
 use zacpi::srat::{MemoryAffinity, Srat};
 use zacpi::write::{self, Aml, ApicDomain, Bytes, GiccDomain, PlatformTimer, TableIds, WriteError};
@@ -131,7 +134,7 @@ fn writes_fixed_hardware() {
     assert_eq!(read, table.hardware);
     let table = write::Fadt { ids: IDS, hardware: Fadt::new(1).with_pm1a_event_block(ports(0, 32)) };
     assert_eq!(fails(|at| table.write(at), 276), WriteError::BadRegister);
-    let space = GenericAddress { address_space: AddressSpace::Other(0x0b), ..ports(0x600, 32) };
+    let space = GenericAddress { address_space: AddressSpace::OemDefined(0x0b), ..ports(0x600, 32) };
     let table = write::Fadt { ids: IDS, hardware: hardware.with_pm1a_event_block(space) };
     assert_eq!(fails(|at| table.write(at), 276), WriteError::UnknownCode);
     let table = write::Fadt { ids: IDS, hardware: Fadt::reduced(0) };
@@ -163,7 +166,6 @@ fn writes_a_console() {
     assert_eq!(read, console);
     for code in 0..=u8::MAX {
         assert_eq!(u8::from(SpcrInterfaceType::from(code)), code);
-        assert_eq!((u8::from(AddressSpace::from(code)), u8::from(AccessSize::from(code))), (code, code));
     }
     let plain = write::Spcr::new(IDS, Spcr::new(SpcrInterfaceType::ArmPL011));
     let read = read_back(plain.size(), |at| plain.write(at), |tables| tables.find_table::<Spcr>().unwrap());
@@ -188,29 +190,23 @@ fn writes_an_image() {
 
 #[test]
 fn writes_a_gic() {
-    let distributor = GicDistributor { address: 0x0800_0000, id: 1, system_vector_base: 0, version: Some(3) };
-    let interface = |n: u32| GicCpuInterface {
-        mpidr: n.into(),
-        number: n,
-        processor_uid: n,
-        is_enabled: true,
-        hypervisor_address: Some(0x0803_0000),
-        performance_interrupt: Some((23, TriggerMode::Level)),
-        maintenance_interrupt: (n == 0).then_some((25, TriggerMode::Edge)),
-        spe_overflow_interrupt: Some(21),
-        trace_buffer_interrupt: (n == 1).then_some(22),
-        efficiency_class: 5,
-        ..GicCpuInterface::default()
+    let mut distributor = GicDistributor::new(0x0800_0000, Some(3));
+    distributor.id = 1;
+    let interface = |n: u32| {
+        let mut interface = GicCpuInterface::new(n, n, n.into());
+        interface.hypervisor_address = Some(0x0803_0000);
+        interface.performance_interrupt = Some((23, InputTrigger::Level));
+        interface.maintenance_interrupt = (n == 0).then_some((25, InputTrigger::Edge));
+        (interface.spe_overflow_interrupt, interface.efficiency_class) = (Some(21), 5);
+        interface.trace_buffer_interrupt = (n == 1).then_some(22);
+        interface
     };
     let interfaces = [interface(0), interface(1)];
-    let frames = [
-        GicMsiFrame { address: 0x0802_0000, id: 2, spis: Some((64, 32)) },
-        GicMsiFrame { address: 0x0802_1000, id: 3, spis: None },
-    ];
+    let frames = [GicMsiFrame::new(2, 0x0802_0000, Some((64, 32))), GicMsiFrame::new(3, 0x0802_1000, None)];
     let slots = interfaces.map(Slot::from);
     let frame_slots = frames.map(Slot::from);
     let redistributors = [Range { address: 0x080a_0000, length: 0x10_0000 }];
-    let services = [GicTranslationService { address: 0x0808_0000, id: 4 }];
+    let services = [GicTranslationService::new(4, 0x0808_0000)];
     let mut table = write::GicMadt::new(IDS, distributor, &slots);
     table.redistributors = &redistributors;
     table.translation_services = &services;
@@ -236,28 +232,28 @@ fn writes_a_gic() {
     let mut table = write::GicMadt::new(IDS, distributor, &slots);
     table.redistributors = &[Range { address: 0, length: 1 << 32 }];
     assert_eq!(fails(|at| table.write(at), 1000), WriteError::BadRange);
-    let odd = [GicCpuInterface { performance_interrupt: Some((23, TriggerMode::SameAsBus)), ..interface(0) }.into()];
-    let table = write::GicMadt::new(IDS, distributor, &odd);
-    assert_eq!(fails(|at| table.write(at), 1000), WriteError::SameAsBus);
 }
 
 #[test]
 fn writes_timers() {
-    let level =
-        |interrupt| TimerInterrupt { interrupt, polarity: Polarity::ActiveLow, trigger_mode: TriggerMode::Level };
-    let timer = |interrupt| ArmTimer { interrupt: Some(level(interrupt)), always_on: true };
-    let frame = |number, block_address| GtFrame {
-        block_address,
-        address: 0x2000 + u64::from(number),
-        el0_address: (number == 1).then_some(0x3000),
-        number,
-        physical_interrupt: Some(level(40)),
-        virtual_interrupt: (number == 0).then_some(level(41)),
-        is_secure: false,
-        is_always_on: true,
+    let (polarity, trigger_mode) = (InputPolarity::ActiveLow, InputTrigger::Level);
+    let level = |interrupt| TimerInterrupt { interrupt, polarity, trigger_mode };
+    let timer = |interrupt| {
+        let mut timer = ArmTimer::new(Some(level(interrupt)));
+        timer.always_on = true;
+        timer
+    };
+    let frame = |number, block_address| {
+        let mut frame = GtFrame::new(block_address, number, 0x2000 + u64::from(number));
+        frame.el0_address = (number == 1).then_some(0x3000);
+        frame.physical_interrupt = Some(level(40));
+        frame.virtual_interrupt = (number == 0).then_some(level(41));
+        frame.is_always_on = true;
+        frame
     };
     let frames = [frame(0, 0x1000), frame(1, 0x1000)];
-    let watchdog = Watchdog { refresh_frame: 0x5000, control_frame: 0x6000, interrupt: level(42), is_secure: true };
+    let mut watchdog = Watchdog::new(0x5000, 0x6000, level(42));
+    watchdog.is_secure = true;
     let slots = frames.map(Slot::from);
     let platform = [PlatformTimer::block(0x1000, &slots), PlatformTimer::watchdog(watchdog)];
     let mut table = write::Gtdt::new(IDS);
@@ -269,7 +265,7 @@ fn writes_timers() {
         |at| table.write(at),
         |tables| {
             let read = tables.find_table::<Gtdt>().unwrap();
-            let none = Some(ArmTimer { interrupt: None, always_on: false });
+            let none = Some(ArmTimer::new(None));
             assert_eq!(
                 (read.control_base, read.read_base, read.platform_timers_malformed),
                 (Some(0x7000), None, false)
@@ -286,25 +282,16 @@ fn writes_timers() {
     let platform = [PlatformTimer::block(0x1000, &many)];
     table.platform_timers = &platform;
     assert_eq!(fails(|at| table.write(at), 100_000), WriteError::TooManyFrames);
-    let as_the_bus = TimerInterrupt { polarity: Polarity::SameAsBus, ..level(42) };
-    let platform = [PlatformTimer::watchdog(Watchdog { interrupt: as_the_bus, ..watchdog })];
-    table.platform_timers = &platform;
-    assert_eq!(fails(|at| table.write(at), 1000), WriteError::SameAsBus);
 }
 
 #[test]
 fn writes_domains() {
-    let range = MemoryAffinity {
-        address: 0x1000,
-        length: u64::MAX - 0x1000,
-        domain: 0x1234_5678,
-        is_hot_pluggable: false,
-        is_non_volatile: true,
-    };
+    let mut range = MemoryAffinity::new(0x1000, u64::MAX - 0x1000, 0x1234_5678);
+    range.is_non_volatile = true;
     let ranges = [range.into()];
     let mut table = write::Srat::new(IDS, &ranges);
-    table.apics = &[ApicDomain { local_apic_id: 254, domain: 1 }, ApicDomain { local_apic_id: 255, domain: 2 }];
-    table.giccs = &[GiccDomain { processor_uid: 9, domain: 3 }];
+    let (apics, giccs) = ([ApicDomain::new(254, 1), ApicDomain::new(255, 2)], [GiccDomain::new(9, 3)]);
+    (table.apics, table.giccs) = (&apics, &giccs);
     assert_eq!(table.size(), 48 + 16 + 24 + 18 + 40);
     read_back(
         table.size(),
@@ -317,9 +304,10 @@ fn writes_domains() {
             assert_eq!(srat.memory_affinities().fill(&mut room).unwrap().get(0), Some(range));
         },
     );
-    table.apics = &[ApicDomain { local_apic_id: u32::MAX, domain: 1 }];
+    let of_all = [ApicDomain::new(u32::MAX, 1)];
+    table.apics = &of_all;
     assert_eq!(fails(|at| table.write(at), 1000), WriteError::IdOfAll);
-    let none = [MemoryAffinity { length: 0, ..range }.into()];
+    let none = [MemoryAffinity::new(0x1000, 0, 1).into()];
     let table = write::Srat::new(IDS, &none);
     assert_eq!(fails(|at| table.write(at), 1000), WriteError::BadRange);
     let table = write::Slit { ids: IDS, localities: 2, distances: &[10, 20, 255, 10] };
@@ -338,11 +326,7 @@ fn writes_domains() {
 /// The errors of a MADT, a register and a name; and an error's text.
 #[test]
 fn errors_have_names() {
-    let processor = |id| {
-        let state = ProcessorState::WaitingForSipi;
-        let (is_ap, is_online_capable, is_x2apic) = (false, false, false);
-        Slot::from(Processor { processor_uid: 0, local_apic_id: id, state, is_ap, is_online_capable, is_x2apic })
-    };
+    let processor = |id| Slot::from(Processor::boot(0, id));
     let table = write::Madt::new(IDS, &[]);
     assert_eq!(fails(|at| table.write(at), 1000), WriteError::NoProcessor);
     let all = [processor(u32::MAX)];
@@ -350,11 +334,20 @@ fn errors_have_names() {
     assert_eq!(fails(|at| table.write(at), 1000), WriteError::IdOfAll);
     let one = [processor(0)];
     let mut table = write::Madt::new(IDS, &one);
-    let (polarity, trigger_mode) = (Polarity::SameAsBus, TriggerMode::SameAsBus);
-    let (processor, line) = (NmiProcessor::ProcessorUid(u32::MAX), LocalInterruptLine::Lint1);
-    let lines = [NmiLine { processor, line, polarity, trigger_mode }.into()];
+    let lines = [NmiLine::new(NmiProcessor::ProcessorUid(u32::MAX), LocalInterruptLine::Lint1).into()];
     table.local_apic_nmi_lines = &lines;
     assert_eq!(fails(|at| table.write(at), 1000), WriteError::UidOfAll);
+    // What only a list of entries at fault has isn't written.
+    let reserved = [NmiLine::new(NmiProcessor::All, LocalInterruptLine::Reserved(2)).into()];
+    table.local_apic_nmi_lines = &reserved;
+    assert_eq!(fails(|at| table.write(at), 1000), WriteError::UnknownCode);
+    table.local_apic_nmi_lines = &[];
+    for (polarity, trigger) in [(Polarity::Reserved, TriggerMode::Edge), (Polarity::ActiveLow, TriggerMode::Reserved)] {
+        let overrides = [InterruptSourceOverride::new(9, 9, polarity, trigger).into()];
+        let mut table = table;
+        table.interrupt_source_overrides = &overrides;
+        assert_eq!(fails(|at| table.write(at), 1000), WriteError::UnknownCode);
+    }
     let mut table = write::Madt::new(TableIds { creator_id: [0xff; 4], ..IDS }, &one);
     assert_eq!(fails(|at| table.write(at), 1000), WriteError::BadName);
     table.ids = IDS;

@@ -1,10 +1,10 @@
 //! The interrupt model of a machine with APICs (MADT, section 5.2.12), and how interrupts come to the I/O APICs.
 
+use crate::acpi_tables::AcpiTables;
 use crate::error::{AcpiError, AcpiResult};
 use crate::list::{items, List, Listing};
 pub use crate::raw::records::{IoApic, IoApicPin};
 use crate::raw::{self, records};
-use crate::acpi_tables::AcpiTables;
 use crate::sdt::Signature;
 
 /// At which level an interrupt is active: Polarity, bits 0 and 1 of MPS INTI Flags (table 5.26).
@@ -14,19 +14,20 @@ pub enum Polarity {
     SameAsBus,
     /// 1: active high.
     ActiveHigh,
+    /// 2: reserved. Only a list of the MADT's entries has it, since [`AcpiTables::platform_info`] fails for it.
+    Reserved,
     /// 3: active low.
     ActiveLow,
-    /// Any other code, which is reserved.
-    Other(u8),
 }
 
-impl From<u8> for Polarity {
-    fn from(code: u8) -> Self {
-        match code {
+impl Polarity {
+    /// That of a code, which has two bits.
+    fn of(code: u8) -> Self {
+        match code & 3 {
             0 => Polarity::SameAsBus,
             1 => Polarity::ActiveHigh,
-            3 => Polarity::ActiveLow,
-            _ => Polarity::Other(code),
+            2 => Polarity::Reserved,
+            _ => Polarity::ActiveLow,
         }
     }
 }
@@ -38,25 +39,74 @@ pub enum TriggerMode {
     SameAsBus,
     /// 1: an edge.
     Edge,
+    /// 2: reserved. Only a list of the MADT's entries has it, since [`AcpiTables::platform_info`] fails for it.
+    Reserved,
     /// 3: a level.
     Level,
-    /// Any other code, which is reserved.
-    Other(u8),
 }
 
-impl From<u8> for TriggerMode {
-    fn from(code: u8) -> Self {
-        match code {
+impl TriggerMode {
+    /// That of a code, which has two bits.
+    fn of(code: u8) -> Self {
+        match code & 3 {
             0 => TriggerMode::SameAsBus,
             1 => TriggerMode::Edge,
-            3 => TriggerMode::Level,
-            _ => TriggerMode::Other(code),
+            2 => TriggerMode::Reserved,
+            _ => TriggerMode::Level,
         }
+    }
+}
+
+/// At which level an input of an interrupt controller is active, whatever the bus of the device.
+#[derive(Clone, Copy, Debug, PartialEq, Eq)]
+pub enum InputPolarity {
+    /// Active high.
+    ActiveHigh,
+    /// Active low.
+    ActiveLow,
+}
+
+impl InputPolarity {
+    /// That of a code of MPS INTI Flags.
+    pub(crate) fn of(code: u8) -> Self {
+        if code == 3 {
+            InputPolarity::ActiveLow
+        } else {
+            InputPolarity::ActiveHigh
+        }
+    }
+}
+
+/// What signals an interrupt at an input of an interrupt controller, whatever the bus of the device.
+#[derive(Clone, Copy, Debug, PartialEq, Eq)]
+pub enum InputTrigger {
+    /// An edge.
+    Edge,
+    /// A level.
+    Level,
+}
+
+impl InputTrigger {
+    /// That of a code of MPS INTI Flags.
+    pub(crate) fn of(code: u8) -> Self {
+        if code == 3 {
+            InputTrigger::Level
+        } else {
+            InputTrigger::Edge
+        }
+    }
+}
+
+impl IoApic {
+    /// An I/O APIC of this id and address, and the interrupt of its first pin.
+    pub const fn new(id: u8, address: u32, global_system_interrupt_base: u32) -> Self {
+        IoApic { address, global_system_interrupt_base, id }
     }
 }
 
 /// An interrupt of a bus that comes to another global system interrupt, or in another way (section 5.2.12.5).
 #[derive(Clone, Copy, Debug, PartialEq, Eq)]
+#[non_exhaustive]
 pub struct InterruptSourceOverride {
     /// Bus: 0 is ISA, and other numbers are reserved.
     pub bus: u8,
@@ -70,20 +120,33 @@ pub struct InterruptSourceOverride {
     pub trigger_mode: TriggerMode,
 }
 
+impl InterruptSourceOverride {
+    /// An interrupt of the ISA bus that comes to this global system interrupt.
+    pub const fn new(
+        isa_source: u8,
+        global_system_interrupt: u32,
+        polarity: Polarity,
+        trigger_mode: TriggerMode,
+    ) -> Self {
+        InterruptSourceOverride { bus: 0, isa_source, global_system_interrupt, polarity, trigger_mode }
+    }
+}
+
 impl From<records::InterruptSourceOverride> for InterruptSourceOverride {
     fn from(raw: records::InterruptSourceOverride) -> Self {
         InterruptSourceOverride {
             bus: raw.bus,
             isa_source: raw.isa_source,
             global_system_interrupt: raw.global_system_interrupt,
-            polarity: raw.polarity.into(),
-            trigger_mode: raw.trigger.into(),
+            polarity: Polarity::of(raw.polarity),
+            trigger_mode: TriggerMode::of(raw.trigger),
         }
     }
 }
 
 /// An I/O APIC pin that is non-maskable (section 5.2.12.6).
 #[derive(Clone, Copy, Debug, PartialEq, Eq)]
+#[non_exhaustive]
 pub struct NmiSource {
     /// Global System Interrupt.
     pub global_system_interrupt: u32,
@@ -93,12 +156,19 @@ pub struct NmiSource {
     pub trigger_mode: TriggerMode,
 }
 
+impl NmiSource {
+    /// The pin of this global system interrupt.
+    pub const fn new(global_system_interrupt: u32, polarity: Polarity, trigger_mode: TriggerMode) -> Self {
+        NmiSource { global_system_interrupt, polarity, trigger_mode }
+    }
+}
+
 impl From<records::NmiSource> for NmiSource {
     fn from(raw: records::NmiSource) -> Self {
         NmiSource {
             global_system_interrupt: raw.global_system_interrupt,
-            polarity: raw.polarity.into(),
-            trigger_mode: raw.trigger.into(),
+            polarity: Polarity::of(raw.polarity),
+            trigger_mode: TriggerMode::of(raw.trigger),
         }
     }
 }
@@ -119,22 +189,24 @@ pub enum LocalInterruptLine {
     Lint0,
     /// 1.
     Lint1,
-    /// Any other number, of which there is no input.
-    Other(u8),
+    /// Any other number, of which there is no input. Only [`AcpiTables::local_apic_nmi_lines`] has it, since
+    /// [`AcpiTables::platform_info`] fails for it.
+    Reserved(u8),
 }
 
-impl From<u8> for LocalInterruptLine {
-    fn from(code: u8) -> Self {
-        match code {
+impl LocalInterruptLine {
+    fn of(number: u8) -> Self {
+        match number {
             0 => LocalInterruptLine::Lint0,
             1 => LocalInterruptLine::Lint1,
-            _ => LocalInterruptLine::Other(code),
+            _ => LocalInterruptLine::Reserved(number),
         }
     }
 }
 
 /// The input of local APICs that NMIs come to (sections 5.2.12.7 and 5.2.12.13).
 #[derive(Clone, Copy, Debug, PartialEq, Eq)]
+#[non_exhaustive]
 pub struct NmiLine {
     /// Whose local APIC.
     pub processor: NmiProcessor,
@@ -146,10 +218,18 @@ pub struct NmiLine {
     pub trigger_mode: TriggerMode,
 }
 
+impl NmiLine {
+    /// This input of a processor's local APIC, signalled as the bus has it.
+    pub const fn new(processor: NmiProcessor, line: LocalInterruptLine) -> Self {
+        NmiLine { processor, line, polarity: Polarity::SameAsBus, trigger_mode: TriggerMode::SameAsBus }
+    }
+}
+
 impl From<records::NmiLine> for NmiLine {
     fn from(raw: records::NmiLine) -> Self {
         let processor = if raw.of_all != 0 { NmiProcessor::All } else { NmiProcessor::ProcessorUid(raw.processor_uid) };
-        NmiLine { processor, line: raw.lint.into(), polarity: raw.polarity.into(), trigger_mode: raw.trigger.into() }
+        let line = LocalInterruptLine::of(raw.lint);
+        NmiLine { processor, line, polarity: Polarity::of(raw.polarity), trigger_mode: TriggerMode::of(raw.trigger) }
     }
 }
 
@@ -157,6 +237,7 @@ items! { InterruptSourceOverride = InterruptSourceOverride, NmiSource = NmiSourc
 
 /// APICs: where they are, and how interrupts come to them. Each list is in the order of the first valid MADT.
 #[derive(Debug)]
+#[non_exhaustive]
 pub struct Apic<'b> {
     /// The physical address of each processor's local APIC: Local APIC Address of the last override of it (section
     /// 5.2.12.8), or else Local Interrupt Controller Address of the MADT.
@@ -183,23 +264,23 @@ pub enum InterruptModel<'b> {
     Apic(Apic<'b>),
 }
 
-/// How an interrupt comes to the I/O APICs: its polarity and trigger are never as the bus has it.
+/// How an interrupt comes to the I/O APICs.
 #[derive(Clone, Copy, Debug, PartialEq, Eq)]
 pub struct Interrupt {
     /// The global system interrupt.
     pub global_system_interrupt: u32,
     /// At which level it is active.
-    pub polarity: Polarity,
+    pub polarity: InputPolarity,
     /// What signals it.
-    pub trigger_mode: TriggerMode,
+    pub trigger_mode: InputTrigger,
 }
 
 impl From<records::Interrupt> for Interrupt {
     fn from(raw: records::Interrupt) -> Self {
         Interrupt {
             global_system_interrupt: raw.global_system_interrupt,
-            polarity: raw.polarity.into(),
-            trigger_mode: raw.trigger.into(),
+            polarity: InputPolarity::of(raw.polarity),
+            trigger_mode: InputTrigger::of(raw.trigger),
         }
     }
 }

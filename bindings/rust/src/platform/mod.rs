@@ -2,13 +2,13 @@
 
 pub mod interrupt;
 
-use crate::address::{present, GenericAddress};
+use crate::acpi_tables::AcpiTables;
+use crate::address::{register, GenericAddress};
 use crate::error::{AcpiError, AcpiResult};
 use crate::fadt::{Fadt, PowerProfile};
 use crate::list::{items, List, Listing, Slot};
 use crate::raw::{self, records, records_of};
 use crate::sdt::Signature;
-use crate::acpi_tables::AcpiTables;
 use interrupt::{Apic, InterruptModel, InterruptSourceOverride, IoApic, NmiLine, NmiSource};
 
 /// What a processor does.
@@ -20,23 +20,22 @@ pub enum ProcessorState {
     WaitingForSipi,
     /// The boot processor, which runs.
     Running,
-    /// A code that this version doesn't know.
-    Other(u8),
 }
 
-impl From<u8> for ProcessorState {
-    fn from(code: u8) -> Self {
+impl ProcessorState {
+    /// That of a code, of which there are three.
+    fn of(code: u8) -> Self {
         match code {
             0 => ProcessorState::Disabled,
             1 => ProcessorState::WaitingForSipi,
-            2 => ProcessorState::Running,
-            _ => ProcessorState::Other(code),
+            _ => ProcessorState::Running,
         }
     }
 }
 
 /// A processor with a local APIC or an x2APIC (sections 5.2.12.2 and 5.2.12.12).
 #[derive(Clone, Copy, Debug, PartialEq, Eq)]
+#[non_exhaustive]
 pub struct Processor {
     /// ACPI Processor UID.
     pub processor_uid: u32,
@@ -52,12 +51,32 @@ pub struct Processor {
     pub is_x2apic: bool,
 }
 
+impl Processor {
+    /// The boot processor, as it is read.
+    pub const fn boot(processor_uid: u32, local_apic_id: u32) -> Self {
+        Processor {
+            processor_uid,
+            local_apic_id,
+            state: ProcessorState::Running,
+            is_ap: false,
+            is_online_capable: false,
+            is_x2apic: processor_uid >= 255 || local_apic_id >= 255,
+        }
+    }
+
+    /// An application processor that waits to be started, as it is read.
+    pub const fn application(processor_uid: u32, local_apic_id: u32) -> Self {
+        let state = ProcessorState::WaitingForSipi;
+        Processor { state, is_ap: true, ..Processor::boot(processor_uid, local_apic_id) }
+    }
+}
+
 impl From<records::Processor> for Processor {
     fn from(raw: records::Processor) -> Self {
         Processor {
             processor_uid: raw.uid,
             local_apic_id: raw.local_apic_id,
-            state: raw.state.into(),
+            state: ProcessorState::of(raw.state),
             is_ap: raw.is_boot == 0,
             is_online_capable: raw.is_online_capable != 0,
             is_x2apic: raw.is_x2apic != 0,
@@ -69,6 +88,7 @@ items! { Processor = Processor }
 
 /// The power management timer (section 4.8.3.3), which counts at 3.579545 MHz.
 #[derive(Clone, Copy, Debug, PartialEq, Eq)]
+#[non_exhaustive]
 pub struct PmTimer {
     /// X_PM_TMR_BLK or PM_TMR_BLK: its register.
     pub base: GenericAddress,
@@ -82,12 +102,14 @@ impl PmTimer {
     /// Fails with `TableMissing` for the FADT, and with `InvalidGenericAddress` if its address has a reserved code.
     pub fn new(tables: &AcpiTables<'_>) -> AcpiResult<Option<PmTimer>> {
         let raw = raw::zacpi_1_get_pm_timer(&tables.source())?;
-        present(raw.present, PmTimer { base: raw.base.into(), supports_32bit: raw.is_32_bit != 0 })
+        let base = register(records::Register { at: raw.base, present: raw.present })?;
+        Ok(base.map(|base| PmTimer { base, supports_32bit: raw.is_32_bit != 0 }))
     }
 }
 
 /// The processors, the boot processor first, also if it is disabled (section 5.2.12.1).
 #[derive(Debug)]
+#[non_exhaustive]
 pub struct ProcessorInfo<'b> {
     /// All of them, in the order of the MADT.
     pub processors: List<'b, Processor>,
@@ -138,6 +160,7 @@ pub struct PlatformCounts {
 
 /// What a kernel needs at boot.
 #[derive(Debug)]
+#[non_exhaustive]
 pub struct PlatformInfo<'b> {
     /// Preferred_PM_Profile of the first valid FADT.
     pub power_profile: PowerProfile,

@@ -141,7 +141,7 @@ pub struct Gtdt<'a> {
 impl<'a> Gtdt<'a> {
     /// A GTDT of no timer.
     pub fn new(ids: TableIds) -> Self {
-        let none = ArmTimer { interrupt: None, always_on: false };
+        let none = ArmTimer::new(None);
         Gtdt {
             ids,
             control_base: None,
@@ -160,7 +160,7 @@ impl<'a> Gtdt<'a> {
         total(self.platform_timers.iter().map(PlatformTimer::size).chain([104]))
     }
 
-    /// Writes it. Fails with `UnknownCode`, `SameAsBus`, `TooManyFrames`, `BadName`, `NoRoom` or `TooLong`.
+    /// Writes it. Fails with `TooManyFrames`, `BadName`, `NoRoom` or `TooLong`.
     pub fn write(&self, memory: &mut [u8]) -> Result<usize, WriteError> {
         raw::zacpi_1_write_gtdt(&self.ids, &GtdtContents::new(self), memory)
     }

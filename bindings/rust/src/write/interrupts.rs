@@ -117,7 +117,7 @@ impl<'a> GicMadt<'a> {
         total(interfaces.chain(others))
     }
 
-    /// Writes it. Fails with `UnknownCode`, `BadRange`, `NoProcessor`, `SameAsBus`, `BadName`, `NoRoom` or `TooLong`.
+    /// Writes it. Fails with `BadRange`, `NoProcessor`, `BadName`, `NoRoom` or `TooLong`.
     pub fn write(&self, memory: &mut [u8]) -> Result<usize, WriteError> {
         raw::zacpi_1_write_gic_madt(&self.ids, &GicContents::new(self), memory)
     }

@@ -8,7 +8,8 @@ use crate::hpet::{HpetInfo, PageProtection};
 use crate::list::{sealed::Record, Item};
 use crate::mcfg::PciConfigEntry;
 use crate::platform::interrupt::{
-    InterruptSourceOverride, LocalInterruptLine, NmiLine, NmiProcessor, NmiSource, Polarity, TriggerMode,
+    InputPolarity, InputTrigger, InterruptSourceOverride, LocalInterruptLine, NmiLine, NmiProcessor, NmiSource,
+    Polarity, TriggerMode,
 };
 use crate::platform::{Processor, ProcessorState};
 use crate::raw::records;
@@ -23,8 +24,8 @@ impl From<Polarity> for u8 {
         match code {
             Polarity::SameAsBus => 0,
             Polarity::ActiveHigh => 1,
+            Polarity::Reserved => 2,
             Polarity::ActiveLow => 3,
-            Polarity::Other(code) => code,
         }
     }
 }
@@ -34,8 +35,26 @@ impl From<TriggerMode> for u8 {
         match code {
             TriggerMode::SameAsBus => 0,
             TriggerMode::Edge => 1,
+            TriggerMode::Reserved => 2,
             TriggerMode::Level => 3,
-            TriggerMode::Other(code) => code,
+        }
+    }
+}
+
+impl From<InputPolarity> for u8 {
+    fn from(code: InputPolarity) -> u8 {
+        match code {
+            InputPolarity::ActiveHigh => 1,
+            InputPolarity::ActiveLow => 3,
+        }
+    }
+}
+
+impl From<InputTrigger> for u8 {
+    fn from(code: InputTrigger) -> u8 {
+        match code {
+            InputTrigger::Edge => 1,
+            InputTrigger::Level => 3,
         }
     }
 }
@@ -45,7 +64,7 @@ impl From<LocalInterruptLine> for u8 {
         match code {
             LocalInterruptLine::Lint0 => 0,
             LocalInterruptLine::Lint1 => 1,
-            LocalInterruptLine::Other(code) => code,
+            LocalInterruptLine::Reserved(number) => number,
         }
     }
 }
@@ -56,7 +75,6 @@ impl From<ProcessorState> for u8 {
             ProcessorState::Disabled => 0,
             ProcessorState::WaitingForSipi => 1,
             ProcessorState::Running => 2,
-            ProcessorState::Other(code) => code,
         }
     }
 }
@@ -76,7 +94,7 @@ impl From<AddressSpace> for u8 {
             AddressSpace::GenericSerialBus => 9,
             AddressSpace::PlatformCommunicationsChannel => 10,
             AddressSpace::FunctionalFixedHardware => 0x7f,
-            AddressSpace::OemDefined(code) | AddressSpace::Other(code) => code,
+            AddressSpace::OemDefined(code) => code,
         }
     }
 }
@@ -89,7 +107,6 @@ impl From<AccessSize> for u8 {
             AccessSize::WordAccess => 2,
             AccessSize::DWordAccess => 3,
             AccessSize::QWordAccess => 4,
-            AccessSize::Other(code) => code,
         }
     }
 }
@@ -156,7 +173,7 @@ written! {
     };
     GicCpuInterface |it| {
         // The trigger of an interrupt that isn't there is an edge, 0 in the table.
-        let interrupt = |given: Option<(u32, TriggerMode)>| given.unwrap_or((0, TriggerMode::Edge));
+        let interrupt = |given: Option<(u32, InputTrigger)>| given.unwrap_or((0, InputTrigger::Edge));
         let (performance_interrupt, performance_trigger) = interrupt(it.performance_interrupt);
         let (maintenance_interrupt, maintenance_trigger) = interrupt(it.maintenance_interrupt);
         records::GicCpuInterface {
@@ -223,7 +240,7 @@ written! {
 
 /// An interrupt, or number 0, which means none, with flags of 0.
 fn or_none(interrupt: Option<TimerInterrupt>) -> TimerInterrupt {
-    let none = TimerInterrupt { interrupt: 0, polarity: Polarity::ActiveHigh, trigger_mode: TriggerMode::Edge };
+    let none = TimerInterrupt { interrupt: 0, polarity: InputPolarity::ActiveHigh, trigger_mode: InputTrigger::Edge };
     interrupt.unwrap_or(none)
 }
 

@@ -4,7 +4,8 @@
 //! took; `size` returns how many those are. After an error the slice is as it was. What is written is what reading
 //! returns: the lists are slices of [`Slot`](crate::Slot)s, which are made of the items that reading returns by
 //! [`From`], or with which [`Listing::fill`](crate::Listing::fill) filled a slice, so that nothing is copied and no
-//! allocator is needed.
+//! allocator is needed. A later version of the specification may add fields to an item, so one is made by its `new`,
+//! and the other fields are set one by one.
 //!
 //! ```
 //! use zacpi::write::{Machine, Room, Slit, TableIds};
@@ -102,7 +103,7 @@ errors! {
     69 = BadRegister,
     /// A range of memory that has no byte or ends above 2^64 - 1, or one of redistributors that has 2^32 bytes or more.
     70 = BadRange,
-    /// A trigger mode or a polarity of an Arm machine as the bus has it.
+    /// A trigger mode or a polarity of an Arm machine as the bus has it, which nothing here can be made to say.
     71 = SameAsBus,
     /// A GT Block with more frames than its Length can count.
     72 = TooManyFrames,

@@ -5,6 +5,20 @@ use super::{total, ApicDomain, GiccDomain, TableIds, WriteError};
 use crate::list::Slot;
 use crate::srat::MemoryAffinity;
 
+impl ApicDomain {
+    /// The domain of the processor with this APIC ID or X2APIC ID.
+    pub const fn new(local_apic_id: u32, domain: u32) -> Self {
+        ApicDomain { local_apic_id, domain }
+    }
+}
+
+impl GiccDomain {
+    /// The domain of the processor with this ACPI Processor UID.
+    pub const fn new(processor_uid: u32, domain: u32) -> Self {
+        GiccDomain { processor_uid, domain }
+    }
+}
+
 /// A SRAT of revision 3 (section 5.2.16), with its entries sort by sort in the order of these lists, all enabled. A
 /// processor whose APIC id is below 255 has a Processor Local APIC/SAPIC Affinity, any other a Processor Local x2APIC
 /// Affinity.

@@ -33,6 +33,7 @@ macro_rules! records {
 
 records! {
     /// The domain of a processor with a local APIC or an x2APIC (sections 5.2.16.1 and 5.2.16.3).
+    #[non_exhaustive]
     ApicDomain {
         /// APIC ID or X2APIC ID.
         local_apic_id: u32,
@@ -40,6 +41,7 @@ records! {
         domain: u32,
     }
     /// The domain of a processor with an interface to a GIC (section 5.2.16.4).
+    #[non_exhaustive]
     GiccDomain {
         /// ACPI Processor UID.
         processor_uid: u32,
