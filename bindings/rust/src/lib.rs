@@ -22,6 +22,7 @@ pub mod mcfg;
 mod memory;
 pub mod platform;
 mod raw;
+mod room;
 pub mod sdt;
 pub mod slit;
 pub mod spcr;

@@ -3,11 +3,12 @@
 #![allow(unsafe_code)]
 
 use crate::acpi_tables::{AcpiTables, Root};
-use crate::error::{AcpiError, AcpiResult};
-use crate::list::Slot;
+use crate::error::AcpiResult;
+use crate::list::{List, Slot};
 use crate::memory::{join, missing_ranges, replace, Region, Start};
 use crate::raw;
-use crate::raw::records::Range;
+use crate::raw::records::{Range, Signature};
+use crate::room::Room;
 use core::fmt;
 use core::ptr::NonNull;
 
@@ -48,11 +49,12 @@ const PAGE: u64 = 4096;
 
 /// Tables, with the memory that they lie in, which is unmapped when this is dropped. [`MappedTables::tables`] reads
 /// them. It has capacity for so many regions, for as many ranges that are missing at a time, and for as many that can't
-/// be mapped: eight of each are enough, and one more for each pointer of the root table.
+/// be mapped: eight of each are enough, and one more for each pointer of the root table. With the feature `alloc` the
+/// capacity grows where that isn't enough.
 pub struct MappedTables<M: PhysicalMapper, const ROOM: usize = 64> {
     mapper: M,
     /// The first `count` are mapped by `mapper`, in ascending order, and stay so until they are replaced or dropped.
-    regions: [Region<'static>; ROOM],
+    regions: Room<Region<'static>, ROOM>,
     count: usize,
     root: Root,
 }
@@ -61,8 +63,9 @@ impl<M: PhysicalMapper, const ROOM: usize> MappedTables<M, ROOM> {
     /// Maps what the tables from a start need: the RSDP, the root table, the listed tables, the DSDT and the FACS. What
     /// `map` returned `None` for, or a range that holds it, isn't requested again: that table is skipped.
     ///
-    /// Fails as [`AcpiTables::open`] does, and with [`AcpiError::AllocError`] if there is no capacity for a region or a
-    /// range. Then all is unmapped again. [`Start::Search`] looks at what is mapped alone, which is nothing here.
+    /// Fails as [`AcpiTables::open`] does, and with [`AllocError`](crate::AcpiError::AllocError) if there is no capacity
+    /// for a region or a range, or with the feature `alloc` no memory for it. Then all is unmapped again.
+    /// [`Start::Search`] looks at what is mapped alone, which is nothing here.
     ///
     /// # Safety
     ///
@@ -70,7 +73,7 @@ impl<M: PhysicalMapper, const ROOM: usize> MappedTables<M, ROOM> {
     /// written by nobody while the tables are read (see [`Region::from_raw`]).
     pub unsafe fn open(mapper: M, start: Start) -> AcpiResult<Self> {
         let root = Root { address: 0, length: 0, revision: 0, is_xsdt: false };
-        let mut tables = MappedTables { mapper, regions: [Region::default(); ROOM], count: 0, root };
+        let mut tables = MappedTables { mapper, regions: Room::new(), count: 0, root };
         tables.map_missing(start)?;
         tables.root = AcpiTables::open(tables.regions(), start)?.root();
         Ok(tables)
@@ -83,19 +86,21 @@ impl<M: PhysicalMapper, const ROOM: usize> MappedTables<M, ROOM> {
 
     /// The memory that is mapped, in ascending order.
     pub fn regions(&self) -> &[Region<'_>] {
-        &self.regions[..self.count]
+        &self.regions.items()[..self.count]
     }
 
     /// Maps round by round, until no new range is missing.
     fn map_missing(&mut self, start: Start) -> AcpiResult<()> {
-        let mut missing = [Slot::default(); ROOM];
-        let mut refused = [Range::default(); ROOM];
+        let mut missing = Room::<Slot<Range>, ROOM>::new();
+        let mut refused = Room::<Range, ROOM>::new();
         let mut refused_count = 0;
         loop {
-            let list = missing_ranges(self.regions(), start).fill(&mut missing)?;
-            if !list.is_whole() {
-                return Err(AcpiError::AllocError);
+            let count = missing_ranges(self.regions(), start).fill(missing.items_mut())?.count();
+            if count > missing.items().len() {
+                missing.grow()?;
+                continue;
             }
+            let list = List::written(missing.items(), count, Signature::default());
             let mut is_new = false;
             for range in &list {
                 // An earlier range of this round may have brought it.
@@ -103,23 +108,25 @@ impl<M: PhysicalMapper, const ROOM: usize> MappedTables<M, ROOM> {
                     continue;
                 }
                 let Some(joined) = join(self.regions(), range, PAGE) else { continue };
-                if refused[..refused_count].iter().any(|refused| holds(joined.range, *refused)) {
+                if refused.items()[..refused_count].iter().any(|refused| holds(joined.range, *refused)) {
                     continue;
                 }
                 is_new = true;
                 let Some(at) = self.map(joined.range) else {
-                    *refused.get_mut(refused_count).ok_or(AcpiError::AllocError)? = joined.range;
+                    if refused_count == refused.items().len() {
+                        refused.grow()?;
+                    }
+                    refused.items_mut()[refused_count] = joined.range;
                     refused_count += 1;
                     continue;
                 };
-                if self.count - joined.count >= ROOM {
-                    self.mapper.unmap(at, joined.range);
-                    return Err(AcpiError::AllocError);
+                if self.count - joined.count >= self.regions.items().len() {
+                    self.regions.grow().inspect_err(|_| self.mapper.unmap(at, joined.range))?;
                 }
                 self.unmap(joined.first, joined.count);
                 // SAFETY: the mapper has mapped so many bytes there, as the caller of `open` promised.
                 let region = unsafe { Region::from_raw(joined.range.address, at, joined.range.length as usize) };
-                replace(&mut self.regions, &mut self.count, &joined, region)?;
+                replace(self.regions.items_mut(), &mut self.count, &joined, region)?;
             }
             if !is_new {
                 return Ok(());
@@ -136,7 +143,7 @@ impl<M: PhysicalMapper, const ROOM: usize> MappedTables<M, ROOM> {
 
     /// Unmaps so many regions from one on.
     fn unmap(&self, first: usize, count: usize) {
-        for region in &self.regions[first..first + count] {
+        for region in &self.regions.items()[first..first + count] {
             let range = Range { address: region.address(), length: region.length() as u64 };
             if let Some(at) = NonNull::new(region.as_ptr().cast_mut()) {
                 self.mapper.unmap(at, range);

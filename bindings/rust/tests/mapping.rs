@@ -92,13 +92,22 @@ fn starts_at_a_root_table() {
     assert_eq!(mapper.held.borrow().len(), 0);
 }
 
+/// With room for one region and one range, of which two are needed.
 #[test]
-fn says_that_there_is_no_room() {
+fn needs_room_or_makes_it() {
     let memory = machine();
     let mapper = Mapper::new(&memory);
     // SAFETY: as above.
-    let refused = unsafe { MappedTables::<_, 1>::open(&mapper, Start::Rsdp(RSDP)) }.unwrap_err();
-    assert_eq!(refused, AcpiError::AllocError);
+    let opened = unsafe { MappedTables::<_, 1>::open(&mapper, Start::Rsdp(RSDP)) };
+    if cfg!(feature = "alloc") {
+        let mapped = opened.unwrap();
+        assert_eq!((mapped.regions().len(), mapper.held.borrow().len()), (2, 2));
+        // SAFETY: as above.
+        let whole = unsafe { AcpiTables::from_rsdp(&mapper, RSDP) }.unwrap();
+        assert_eq!(answers(&mapped.tables()), answers(&whole.tables()));
+    } else {
+        assert_eq!(opened.unwrap_err(), AcpiError::AllocError);
+    }
     assert_eq!(mapper.held.borrow().len(), 0);
 }
 
