@@ -273,3 +273,42 @@ pub(crate) fn slots<T: Item>(count: usize) -> AcpiResult<Vec<Slot<T>>> {
     room.resize(count, Slot::default());
     Ok(room)
 }
+
+/// What needs no library, so that Miri can look at it.
+#[cfg(test)]
+mod tests {
+    use super::*;
+    use crate::srat::MemoryAffinity;
+    use crate::Region;
+
+    /// Writes what there is room for of three ranges, as a call does.
+    fn three(_: &Source<'_>, _: Signature, out: &mut [records::MemoryAffinity]) -> AcpiResult<usize> {
+        for (record, domain) in out.iter_mut().zip(0..3) {
+            *record = MemoryAffinity::new(domain << 30, 1 << 30, domain as u32).into();
+        }
+        Ok(3)
+    }
+
+    #[test]
+    fn fills_what_there_is_room_for() {
+        let listing = Listing::<MemoryAffinity>::new(Source::new(&[], 0, 0), Signature::default(), three);
+        assert_eq!(listing.count(), Ok(3));
+        let mut room = [Slot::default(); 4];
+        let whole = listing.fill(&mut room).unwrap();
+        assert_eq!((whole.len(), whole.is_whole(), whole.get(3)), (3, true, None));
+        assert!(whole.iter().eq((0..3).map(|domain| MemoryAffinity::new(domain << 30, 1 << 30, domain as u32))));
+        let list = listing.fill(&mut room[..2]).unwrap();
+        assert_eq!((list.len(), list.count(), list.is_whole()), (2, 3, false));
+        assert_eq!(room[1].item().domain, 1);
+        #[cfg(feature = "alloc")]
+        assert_eq!(listing.to_vec().unwrap().len(), 3);
+    }
+
+    #[test]
+    fn slices_regions() {
+        let bytes = [1, 2, 3, 4];
+        let region = Region::new(0x1000, &bytes);
+        assert_eq!((region.slice(1, 3), region.slice(4, 0)), (Some(&bytes[1..]), Some(&bytes[4..])));
+        assert_eq!((region.slice(2, 3), region.slice(5, 0)), (None, None));
+    }
+}

@@ -1,4 +1,27 @@
 //! The interrupt model of a machine with APICs (MADT, section 5.2.12), and how interrupts come to the I/O APICs.
+//!
+//! ```
+//! use zacpi::platform::interrupt::InputTrigger;
+//!
+//! # use zacpi::platform::{interrupt::{InterruptSourceOverride, IoApic, Polarity, TriggerMode}, Processor};
+//! # let ids = zacpi::write::TableIds::default();
+//! # let mut memory = [0; 512];
+//! # zacpi::write::Xsdt { ids, addresses: &[0x1040] }.write(&mut memory).unwrap();
+//! # let processors = [Processor::boot(0, 0).into()];
+//! # let io_apics = [IoApic::new(2, 0xfec0_0000, 0)];
+//! # let overrides = [InterruptSourceOverride::new(9, 20, Polarity::ActiveLow, TriggerMode::Level).into()];
+//! # let mut table = zacpi::write::Madt::new(ids, &processors);
+//! # (table.io_apics, table.interrupt_source_overrides) = (&io_apics, &overrides);
+//! # table.write(&mut memory[0x40..]).unwrap();
+//! # let regions = [zacpi::Region::new(0x1000, &memory)];
+//! # let tables = zacpi::AcpiTables::open(&regions, zacpi::Start::Xsdt(0x1000))?;
+//! let keyboard = tables.isa_interrupt(1)?.unwrap();
+//! assert_eq!((keyboard.global_system_interrupt, keyboard.trigger_mode), (1, InputTrigger::Edge));
+//! let ninth = tables.isa_interrupt(9)?.unwrap(); // which has an override
+//! let pin = tables.io_apic_for(ninth.global_system_interrupt)?.unwrap();
+//! assert_eq!((ninth.trigger_mode, pin.io_apic.id, pin.pin), (InputTrigger::Level, 2, 20));
+//! # Ok::<(), zacpi::AcpiError>(())
+//! ```
 
 use crate::acpi_tables::AcpiTables;
 use crate::error::{AcpiError, AcpiResult};

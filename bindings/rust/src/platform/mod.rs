@@ -1,4 +1,25 @@
 //! What a kernel needs at boot: the power profile, the interrupt model, the processors and the timer.
+//!
+//! ```
+//! use zacpi::{PlatformRoom, Slot};
+//!
+//! # use zacpi::platform::Processor;
+//! # let ids = zacpi::write::TableIds::default();
+//! # let mut memory = [0; 512];
+//! # zacpi::write::Xsdt { ids, addresses: &[0x1040, 0x1180] }.write(&mut memory).unwrap();
+//! # zacpi::write::Fadt { ids, hardware: zacpi::fadt::Fadt::reduced(0x2000) }.write(&mut memory[0x40..]).unwrap();
+//! # let written = [Processor::boot(0, 4).into(), Processor::application(1, 6).into()];
+//! # zacpi::write::Madt::new(ids, &written).write(&mut memory[0x180..]).unwrap();
+//! # let regions = [zacpi::Region::new(0x1000, &memory)];
+//! # let tables = zacpi::AcpiTables::open(&regions, zacpi::Start::Xsdt(0x1000))?;
+//! let mut processors = [Slot::default(); 256];
+//! let room = PlatformRoom { processors: &mut processors, ..PlatformRoom::default() };
+//! let platform = tables.platform_info(room)?;
+//! let info = platform.processor_info.unwrap();
+//! let others: Vec<u32> = info.application_processors().map(|processor| processor.local_apic_id).collect();
+//! assert_eq!((info.processors.count(), others), (2, vec![6]));
+//! # Ok::<(), zacpi::AcpiError>(())
+//! ```
 
 pub mod interrupt;
 
