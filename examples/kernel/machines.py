@@ -3,7 +3,8 @@
 """machines.py KERNEL ACPI_VIEW ACPI_PACK GUEST [PART]: boots the kernel on every machine below, or on those whose
 names have PART, takes memory from the same machine while the kernel holds, and compares what the kernel
 printed with what acpi_view prints of an image of that memory, line by line, and with checks.py. On one machine the
-tables are those that GUEST, the program of `guest`, wrote, and the lines have to be those of the machine it wrote.
+tables are those that GUEST, the program of `guest`, wrote, and the lines have to be those of the machine it wrote; on
+another those of $RUST_GUEST, the program of the Rust package's examples/guest.rs, if it is named.
 
 machines.py KERNEL --faults: boots a kernel on one machine, on which it has to end with an invalid opcode."""
 import os
@@ -245,16 +246,25 @@ def told(lines, memory):
     }
 
 
+def written(memory, name, command, lines):
+    """A machine whose kernel is told of the tables that a guest's program wrote, which lie in free memory."""
+    path = os.path.join(FILES.name, name)
+    subprocess.run(command + [path], check=True, stdout=subprocess.DEVNULL)
+    return {'writes': [(rsdp_in(memory), bytes(8))], 'words': 'hold rsdp=%#x' % TABLES, 'told': TABLES,
+            'args': ['-device', 'loader,file=%s,addr=%#x,force-raw=on' % (path, TABLES)],
+            'more': [(TABLES, os.path.getsize(path))], 'asked': lines.splitlines()}
+
+
 def asked(memory):
-    """A machine whose kernel is told of the tables that the guest's program wrote, which lie in free memory."""
-    path = os.path.join(FILES.name, 'guest')
-    lines = os.path.join(os.path.dirname(os.path.abspath(__file__)), '..', 'guest', 'lines')
-    subprocess.run([GUEST, '4', path], check=True, stdout=subprocess.DEVNULL)
-    return {'the tables of guest.c': {
-        'writes': [(rsdp_in(memory), bytes(8))], 'words': 'hold rsdp=%#x' % TABLES, 'told': TABLES,
-        'args': ['-device', 'loader,file=%s,addr=%#x,force-raw=on' % (path, TABLES)],
-        'more': [(TABLES, os.path.getsize(path))],
-        'asked': subprocess.run([lines, '4'], check=True, capture_output=True, text=True).stdout.splitlines()}}
+    """The machines of the programs that write a guest's tables."""
+    examples = os.path.join(os.path.dirname(os.path.abspath(__file__)), '..')
+    lines = subprocess.run([os.path.join(examples, 'guest', 'lines'), '4'], check=True, capture_output=True, text=True)
+    all_of = {'the tables of guest.c': written(memory, 'guest', [GUEST, '4'], lines.stdout)}
+    rust = os.environ.get('RUST_GUEST')
+    if rust:
+        with open(os.path.join(examples, '..', 'bindings', 'rust', 'examples', 'guest.lines')) as f:
+            all_of['the tables of guest.rs'] = written(memory, 'guest_rs', [rust], f.read())
+    return all_of
 
 
 def tried(name, machine, ecam, writes=None, words='hold', kernel=KERNEL, told=None, args=(), more=(), asked=None,

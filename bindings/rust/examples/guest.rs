@@ -2,14 +2,14 @@
 //! 0x7000000 on, where the RSDP lies, and reads them back: four processors and 4 GiB in two domains, an I/O APIC, PCI,
 //! an HPET, a console and reduced hardware.
 use std::error::Error;
-use zacpi::address::{AccessSize, AddressSpace, GenericAddress};
+use zacpi::address::GenericAddress;
 use zacpi::hpet::PageProtection;
 use zacpi::mcfg::PciConfigEntry;
 use zacpi::platform::{interrupt::IoApic, Processor};
 use zacpi::spcr::SpcrInterfaceType;
 use zacpi::srat::MemoryAffinity;
 use zacpi::write::{self, Aml, ApicDomain, Hpet, Machine, Madt, Mcfg, Room, Slit, Spcr, Srat, TableIds};
-use zacpi::{fadt, spcr, AcpiTables, HpetInfo, Region, Slot, Start};
+use zacpi::{fadt, spcr, AcpiTables, HpetInfo, Region, Start};
 
 pub const TABLES: u64 = 0x700_0000;
 const HALF: u64 = 2 << 30;
@@ -29,14 +29,10 @@ pub fn guest() -> Result<Vec<u8>, Box<dyn Error>> {
         clock_tick_unit: 100,
         page_protection: PageProtection::None,
     };
-    let com1 = GenericAddress {
-        address_space: AddressSpace::SystemIo,
-        bit_width: 8,
-        bit_offset: 0,
-        access_size: AccessSize::ByteAccess,
-        address: 0x3f8,
-    };
-    let console = spcr::Spcr::new(SpcrInterfaceType::Full16550).with_base_address(com1).with_baud_rate(115_200);
+    let console = spcr::Spcr::new(SpcrInterfaceType::Full16550)
+        .with_base_address(GenericAddress::port(0x3f8, 8))
+        .with_global_system_interrupt(4)
+        .with_baud_rate(115_200);
     let memory = [0, 1].map(|domain| MemoryAffinity::new(u64::from(domain) * HALF, HALF, domain).into());
     let apics = [0, 1, 2, 3].map(|id| ApicDomain::new(id, id / 2));
     let mut srat = Srat::new(ids, &memory);
@@ -65,10 +61,7 @@ fn main() -> Result<(), Box<dyn Error>> {
     let written = guest()?;
     let regions = [Region::new(TABLES, &written)];
     let tables = AcpiTables::open(&regions, Start::Rsdp(TABLES))?;
-    println!("{} processors", tables.processors().count()?);
-    for table in &tables.headers().fill(&mut [Slot::default(); 8])? {
-        println!("{} {:#x} {}", table.signature, table.address, table.length);
-    }
-    println!("{} bytes for {TABLES:#x}", written.len());
+    let (processors, listed) = (tables.processors().count()?, tables.headers().count()?);
+    println!("{processors} processors and {listed} tables, {} bytes for {TABLES:#x}", written.len());
     std::env::args().nth(1).map_or(Ok(()), |file| std::fs::write(file, &written).map_err(Into::into))
 }

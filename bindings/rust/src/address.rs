@@ -3,13 +3,7 @@
 //! ```
 //! use zacpi::address::{AccessSize, AddressSpace, GenericAddress};
 //!
-//! let serial = GenericAddress {
-//!     address_space: AddressSpace::SystemIo,
-//!     bit_width: 8,
-//!     bit_offset: 0,
-//!     access_size: AccessSize::ByteAccess,
-//!     address: 0x3f8,
-//! };
+//! let serial = GenericAddress::port(0x3f8, 8);
 //! assert_eq!((AddressSpace::try_from(1), AccessSize::try_from(1)), (Ok(serial.address_space), Ok(serial.access_size)));
 //! ```
 
@@ -116,6 +110,20 @@ pub struct GenericAddress {
     pub access_size: AccessSize,
     /// Address: in its space.
     pub address: u64,
+}
+
+impl GenericAddress {
+    /// A register of 8, 16 or 32 bits at an I/O port, that is read and written as a whole.
+    pub const fn port(address: u16, bit_width: u8) -> Self {
+        let access_size = match bit_width {
+            8 => AccessSize::ByteAccess,
+            16 => AccessSize::WordAccess,
+            32 => AccessSize::DWordAccess,
+            _ => AccessSize::Undefined,
+        };
+        let (address_space, address) = (AddressSpace::SystemIo, address as u64);
+        GenericAddress { address_space, bit_width, bit_offset: 0, access_size, address }
+    }
 }
 
 /// A register that may not be there: none, or `InvalidGenericAddress` for a reserved code.

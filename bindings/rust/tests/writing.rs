@@ -48,14 +48,8 @@ fn fails(write: impl Fn(&mut [u8]) -> Result<usize, WriteError>, length: usize) 
     error
 }
 
-fn ports(address: u64, bit_width: u8) -> GenericAddress {
-    GenericAddress {
-        address_space: AddressSpace::SystemIo,
-        bit_width,
-        bit_offset: 0,
-        access_size: AccessSize::Undefined,
-        address,
-    }
+fn ports(address: u16, bit_width: u8) -> GenericAddress {
+    GenericAddress { access_size: AccessSize::Undefined, ..GenericAddress::port(address, bit_width) }
 }
 
 #[test]
