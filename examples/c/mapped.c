@@ -5,6 +5,7 @@
  * Its mapper counts what it maps. Pages without access stand before and after each range that it maps, and what it
  * unmaps becomes such pages, so reading them ends the program. */
 #define _DEFAULT_SOURCE
+#include "chance.h"
 #include "image.h"
 #include "start.h"
 #include "zacpi_map.h"
@@ -194,15 +195,6 @@ static int agrees(const struct zacpi_source *over) {
         if (status != ZACPI_NO_ROOM && !(status == ZACPI_OK && same())) return wrong("few ranges");
     }
     return 1;
-}
-
-/* Numbers that are the same each time (Marsaglia's xorshift64). */
-static uint64_t seed = 88172645463325252u;
-static size_t below(size_t limit) {
-    seed ^= seed << 13;
-    seed ^= seed >> 7;
-    seed ^= seed << 17;
-    return (size_t)(seed % limit);
 }
 
 /* Changes one to four bytes of the records, and then as many bytes at the same places. */

@@ -10,22 +10,22 @@ use zacpi::{
 };
 
 /// How many items of a list are printed; more are counted, and said to be left out.
-const MOST: usize = 256;
+const MOST: usize = 1024;
 
 /// The first bytes, if there are so many, and the rest.
-fn split(bytes: &[u8], length: u64) -> Option<(&[u8], &[u8])> {
+pub fn split(bytes: &[u8], length: u64) -> Option<(&[u8], &[u8])> {
     let length = usize::try_from(length).ok()?;
     Some((bytes.get(..length)?, bytes.get(length..)?))
 }
 
 /// The number that the first eight bytes are, the lowest byte first.
-fn eight(bytes: &[u8]) -> u64 {
+pub fn eight(bytes: &[u8]) -> u64 {
     u64::from_le_bytes(bytes[..8].try_into().unwrap())
 }
 
 /// The regions of an image, in ascending order and without those of no byte, or what acpi_view says of an image that
 /// it refuses. crates/acpi_dump/data/README.md has the layout of images.
-fn regions(mut image: &[u8]) -> Result<Vec<Region<'_>>, &'static str> {
+pub fn regions(mut image: &[u8]) -> Result<Vec<Region<'_>>, &'static str> {
     let mut found: Vec<Region<'_>> = Vec::new();
     let end = |r: &Region<'_>| r.address() + r.length() as u64;
     while !image.is_empty() {
@@ -188,14 +188,34 @@ fn print_faults(tables: &AcpiTables<'_>) {
     }
 }
 
-fn opened<'k>(regions: &'k [Region<'k>], start: &[&str]) -> Option<AcpiResult<AcpiTables<'k>>> {
+/// Where the tables are looked for, and the revision that is printed in place of an RSDP's, if one is given.
+pub fn start_of(words: &[&str]) -> Option<(Start, Option<u8>)> {
     let address = |text: &str| u64::from_str_radix(text.trim_start_matches("0x"), 16).ok();
-    Some(match start {
-        ["rsdt", revision, at] => AcpiTables::open_root(regions, revision.parse().ok()?, address(at)?),
-        ["rsdp", at] => AcpiTables::open(regions, Start::Rsdp(address(at)?)),
-        ["bios"] => AcpiTables::open(regions, Start::BiosSearch),
+    Some(match words {
+        ["rsdt", revision, at] => match revision.parse().ok()? {
+            0 => (Start::Rsdt(address(at)?), Some(0)),
+            revision => (Start::Xsdt(address(at)?), Some(revision)),
+        },
+        ["rsdp", at] => (Start::Rsdp(address(at)?), None),
+        ["bios"] => (Start::BiosSearch, None),
         _ => return None,
     })
+}
+
+pub fn opened<'k>(regions: &'k [Region<'k>], start: (Start, Option<u8>)) -> AcpiResult<AcpiTables<'k>> {
+    match start {
+        (Start::Rsdt(at) | Start::Xsdt(at), Some(revision)) => AcpiTables::open_root(regions, revision, at),
+        (start, _) => AcpiTables::open(regions, start),
+    }
+}
+
+/// Prints the lines of tables that are opened.
+pub fn print(tables: &AcpiTables<'_>) {
+    println!("revision {}", tables.revision());
+    print_tables(tables);
+    print_platform(tables);
+    print_devices(tables);
+    print_faults(tables);
 }
 
 fn refused(why: impl std::fmt::Display) -> ExitCode {
@@ -205,29 +225,19 @@ fn refused(why: impl std::fmt::Display) -> ExitCode {
 
 fn main() -> ExitCode {
     let arguments: Vec<String> = std::env::args().skip(1).collect();
-    let arguments: Vec<&str> = arguments.iter().map(|argument| argument.as_str()).collect();
-    let (name, start) = match arguments.split_first() {
-        Some(parts) => parts,
-        None => return ExitCode::from(2),
-    };
-    let image = match std::fs::read(name) {
-        Ok(bytes) => bytes,
-        Err(_) => return refused("Unreadable"),
-    };
+    let arguments: Vec<&str> = arguments.iter().map(String::as_str).collect();
+    let Some((name, start)) = arguments.split_first() else { return ExitCode::from(2) };
+    let Some(start) = start_of(start) else { return ExitCode::from(2) };
+    let Ok(image) = std::fs::read(name) else { return refused("Unreadable") };
     let regions = match regions(&image) {
         Ok(found) => found,
         Err(why) => return refused(why),
     };
     match opened(&regions, start) {
-        Some(Ok(tables)) => {
-            println!("revision {}", tables.revision());
-            print_tables(&tables);
-            print_platform(&tables);
-            print_devices(&tables);
-            print_faults(&tables);
+        Ok(tables) => {
+            print(&tables);
             ExitCode::SUCCESS
         }
-        Some(Err(why)) => refused(why),
-        None => ExitCode::from(2),
+        Err(why) => refused(why),
     }
 }

@@ -1,0 +1,309 @@
+#include "answers.h"
+#include <stdio.h>
+#include <string.h>
+
+enum { MOST = 1024 }; /* items of a list that are printed */
+
+typedef unsigned long long wide;
+
+/* `NAME: ERROR`. Of an error of the SRAT or an IOMMU's table, the call says which table it is. */
+static void print_error(const char *name, zacpi_status status, const struct zacpi_signature *named) {
+    const char *error = zacpi_status_name(status);
+    if (status >= ZACPI_NUMA_INVALID_ENTRY_LENGTH && strchr(error, ' ')) error = strchr(error, ' ') + 1;
+    printf("%s: %s", name, error);
+    if (status >= ZACPI_SDT_INVALID_SIGNATURE && status <= ZACPI_TABLE_MISSING) printf(" %.4s", named->letters);
+    putchar('\n');
+}
+
+/* A list: how many items there are, and a line for each, `it`, of those that there was room for. Between the list's
+ * name and its room may stand what is asked for. */
+#define LIST(NAME, TYPE, CALL, ASKED, ...) do { \
+    static struct TYPE items[MOST]; \
+    struct zacpi_signature named = {{0}}; \
+    size_t count = 0; \
+    const struct TYPE *it; \
+    const zacpi_status refused = CALL ASKED; \
+    if (refused) print_error(NAME, refused, &named); \
+    else printf("%s %lu\n", NAME, (unsigned long)count); \
+    for (it = items; !refused && it < items + (count < MOST ? count : MOST); it++) printf("  " __VA_ARGS__); \
+} while (0)
+#define ALL (source, items, MOST, &count, &named)
+
+/* One item, `it`, and its line, or an error. */
+#define ONE(NAME, TYPE, CALL, ASKED, ...) do { \
+    TYPE item; \
+    const TYPE *const it = &item; \
+    struct zacpi_signature named = {{0}}; \
+    const zacpi_status refused = CALL ASKED; \
+    if (refused) print_error(NAME, refused, &named); \
+    else printf(NAME " " __VA_ARGS__); \
+} while (0)
+#define IT (source, &item, &named)
+
+/* Whether a table isn't there, or nothing of it: then that is the one line. */
+static int is_missing(const char *name, zacpi_status status, const struct zacpi_signature *named) {
+    if (status) print_error(name, status, named);
+    return status != ZACPI_OK;
+}
+
+void print_missing(const struct zacpi_source *source) {
+    LIST("missing", zacpi_range, zacpi_list_missing_ranges, ALL, "%llx %llx\n", (wide)it->address, (wide)it->length);
+}
+
+static void print_tables(const struct zacpi_source *source) {
+    static const char *const looked_up[] = {"SSDT", "SRAT", "GTDT", "DMAR", "OEM1"};
+    size_t i, k;
+    ONE("root", struct zacpi_root, zacpi_open, IT, "%llx %u %u\n", (wide)it->address, it->length, it->pointer_width);
+    LIST("tables", zacpi_table, zacpi_list_tables, ALL, "%llx %u %u\n", (wide)it->address, it->length, it->revision);
+    LIST("ranges", zacpi_range, zacpi_list_ranges, ALL, "%llx %llx\n", (wide)it->address, (wide)it->length);
+    for (i = 0; i < sizeof looked_up / sizeof *looked_up; i++) {
+        const struct zacpi_signature wanted = zacpi_signature_of(looked_up[i]);
+        ONE("find", struct zacpi_table, zacpi_find_table, (source, wanted, &item, &named), "%llx %u %u\n",
+            (wide)it->address, it->length, it->revision);
+        for (k = 0; k < 3; k++)
+            ONE("nth", struct zacpi_table, zacpi_find_nth_table, (source, wanted, k, &item, &named), "%llx\n",
+                (wide)it->address);
+        LIST("faults", zacpi_fault, zacpi_list_faults, (source, wanted, items, MOST, &count, &named), "%llx %s\n",
+             (wide)it->address, zacpi_status_name(it->status));
+    }
+}
+
+/* The entries of each table of a kind, from its byte `first` on, and the sum of their bytes. */
+static void print_entries(const struct zacpi_source *source, const char *letters, uint32_t first, uint32_t bytes_each) {
+    static struct zacpi_entry items[MOST];
+    struct zacpi_signature named = {{0}};
+    struct zacpi_table table;
+    size_t count = 0, i, k;
+    uint8_t malformed = 0;
+    zacpi_status refused = zacpi_find_table(source, zacpi_signature_of(letters), &table, &named);
+    if (!refused)
+        refused = zacpi_list_entries(source->regions, source->regions_length, table.address, first, bytes_each, items,
+                                     MOST, &count, &malformed, &named);
+    if (is_missing("entries", refused, &named)) return;
+    printf("entries %lu %u\n", (unsigned long)count, malformed);
+    for (i = 0; i < count && i < MOST; i++) {
+        struct zacpi_place at;
+        unsigned sum = 0;
+        if (zacpi_locate(source->regions, source->regions_length, items[i].address, items[i].length, &at)) return;
+        for (k = 0; k < items[i].length; k++) sum += source->regions[at.region].bytes[at.offset + k];
+        printf("  %llx %u %u %u\n", (wide)items[i].address, items[i].entry_type, items[i].length, sum);
+    }
+}
+
+static void print_register(const char *name, const struct zacpi_register *r) {
+    if (!r->present) printf("%s none\n", name);
+    else if (r->present != 1) printf("%s: %s\n", name, zacpi_status_name(ZACPI_INVALID_GENERIC_ADDRESS));
+    else printf("%s %llx %u %u %u %u\n", name, (wide)r->at.address, r->at.space, r->at.bit_width, r->at.bit_offset,
+                r->at.access_size);
+}
+static void print_block(const char *name, const struct zacpi_gpe_block *b) {
+    if (!b->present) printf("%s none\n", name);
+    else if (b->present != 1) printf("%s: %s\n", name, zacpi_status_name(ZACPI_INVALID_GENERIC_ADDRESS));
+    else printf("%s %llx %u %u\n", name, (wide)b->address, b->space, b->byte_length);
+}
+
+static void print_fixed_hardware(const struct zacpi_source *source) {
+    struct zacpi_signature named = {{0}};
+    struct zacpi_fixed_hardware f;
+    if (is_missing("fixed", zacpi_get_fixed_hardware(source, &f, &named), &named)) return;
+    printf("fixed %llx %llx %u %x %x %x %x\n", (wide)f.facs_address, (wide)f.dsdt_address, f.sci_interrupt,
+           f.smi_command, f.flags, f.x86_boot_flags, f.arm_boot_flags);
+    printf("fixed %u %u %u %u %u %u %u %u %u\n", f.power_profile, f.acpi_enable, f.acpi_disable, f.s4bios_request,
+           f.pstate_control, f.c_state_control, f.gpe1_base, f.reset_value, f.century);
+    printf("fixed %u %u %u %u %u %u %u %u\n", f.c2_latency, f.c3_latency, f.flush_size, f.flush_stride, f.duty_offset,
+           f.duty_width, f.day_alarm, f.month_alarm);
+    print_register("pm1a_event", &f.pm1a_event);
+    print_register("pm1b_event", &f.pm1b_event);
+    print_register("pm1a_control", &f.pm1a_control);
+    print_register("pm1b_control", &f.pm1b_control);
+    print_register("pm2_control", &f.pm2_control);
+    print_register("pm_timer", &f.pm_timer);
+    print_register("gpe0", &f.gpe0);
+    print_register("gpe1", &f.gpe1);
+    print_block("gpe0_block", &f.gpe0_block);
+    print_block("gpe1_block", &f.gpe1_block);
+    print_register("reset", &f.reset);
+    print_register("sleep_control", &f.sleep_control);
+    print_register("sleep_status", &f.sleep_status);
+}
+
+static void print_devices(const struct zacpi_source *source) {
+    unsigned i;
+    size_t count;
+    struct zacpi_signature named = {{0}};
+    struct zacpi_console console;
+    ONE("timers", struct zacpi_hpet_info, zacpi_hpet, IT, "%x %u\n", it->event_timer_block_id, it->page_protection);
+    ONE("image", struct zacpi_boot_graphic, zacpi_get_boot_graphic, IT, "%llx %u\n", (wide)it->address,
+        it->image_type);
+    if (!zacpi_get_console(source, &console, &named)) {
+        print_register("console", &console.base);
+        printf("console %u %u %u %u %x\n", console.interface, console.parity, console.stop_bits,
+               console.clock_frequency, console.pci_flags);
+        printf("console %x %x %u %u %u %u\n", console.pci_vendor_id, console.pci_device_id, console.pci_segment,
+               console.pci_bus, console.pci_device, console.pci_function);
+    }
+    if (is_missing("pci", zacpi_list_pci_regions(source, NULL, 0, &count, &named), &named)) return;
+    LIST("ecam", zacpi_ecam_range, zacpi_list_ecam_ranges, ALL, "%u %u %llx %llx\n", it->segment_group, it->present,
+         (wide)it->address, (wide)it->length);
+    for (i = 0; i < 256; i += 51)
+        ONE("function", uint64_t, zacpi_pci_ecam_address,
+            (source, i / 204, (uint8_t)i, (uint8_t)(i % 33), (uint8_t)(i % 9), &item, &named), "%llx\n", (wide)*it);
+}
+
+static void print_interrupts(const struct zacpi_source *source) {
+    unsigned i;
+    struct zacpi_isa_interrupts all;
+    struct zacpi_signature named = {{0}};
+    LIST("processors", zacpi_processor, zacpi_list_processors, ALL, "%u %u %u %u %u %u\n", it->uid, it->local_apic_id,
+         it->state, it->is_boot, it->is_online_capable, it->is_x2apic);
+    LIST("io_apics", zacpi_io_apic, zacpi_list_io_apics, ALL, "%u %x %u\n", it->id, it->address,
+         it->global_system_interrupt_base);
+    LIST("overrides", zacpi_interrupt_source_override, zacpi_list_overrides, ALL, "%u %u %u %u %u\n", it->bus,
+         it->isa_source, it->global_system_interrupt, it->polarity, it->trigger);
+    LIST("nmi_sources", zacpi_nmi_source, zacpi_list_nmi_sources, ALL, "%u %u %u\n", it->global_system_interrupt,
+         it->polarity, it->trigger);
+    LIST("nmi_lines", zacpi_nmi_line, zacpi_list_nmi_lines, ALL, "%u %u %u %u %u\n", it->of_all, it->processor_uid,
+         it->lint, it->polarity, it->trigger);
+    LIST("madt_faults", zacpi_madt_fault, zacpi_list_madt_faults, ALL, "%llx %u %s\n", (wide)it->address,
+         it->entry_type, zacpi_status_name(it->status));
+    ONE("sci", struct zacpi_interrupt, zacpi_sci_interrupt, IT, "%u %u %u\n", it->global_system_interrupt,
+        it->polarity, it->trigger);
+    for (i = 0; i < 17; i++)
+        ONE("isa", struct zacpi_interrupt, zacpi_isa_interrupt, (source, (uint8_t)i, &item, &named), "%u %u %u\n",
+            it->global_system_interrupt, it->polarity, it->trigger);
+    for (i = 0; i < 64; i += 9)
+        ONE("pin", struct zacpi_io_apic_pin, zacpi_get_io_apic_pin, (source, i, &item, &named), "%u %u\n",
+            it->io_apic.id, it->pin);
+    if (zacpi_list_isa_interrupts(source, &all, &named)) return;
+    for (i = 0; i < 16; i++) {
+        const struct zacpi_isa_route *r = &all.routes[i];
+        printf("route %u %u %u %u %u %u %u\n", r->present, r->interrupt.global_system_interrupt, r->interrupt.polarity,
+               r->interrupt.trigger, r->has_pin, r->pin.io_apic.id, r->pin.pin);
+    }
+}
+
+static void print_gic(const struct zacpi_source *source) {
+    struct zacpi_signature named = {{0}};
+    struct zacpi_gic_distributor gic;
+    if (is_missing("gic", zacpi_get_gic_distributor(source, &gic, &named), &named)) return;
+    printf("gic %llx %u %u %u\n", (wide)gic.address, gic.id, gic.system_vector_base, gic.version);
+    LIST("interfaces", zacpi_gic_cpu_interface, zacpi_list_gic_cpu_interfaces, ALL,
+         "%llx %llx %llx %llx %llx %llx %u %u %u %u %u %u %u %u %u %u %u %u\n", (wide)it->mpidr,
+         (wide)it->parked_address, (wide)it->address, (wide)it->virtual_address, (wide)it->hypervisor_address,
+         (wide)it->redistributor_address, it->number, it->processor_uid, it->performance_interrupt,
+         it->performance_interrupt ? it->performance_trigger : 0, it->maintenance_interrupt,
+         it->maintenance_interrupt ? it->maintenance_trigger : 0, it->parking_protocol_version,
+         it->spe_overflow_interrupt, it->trace_buffer_interrupt, it->is_enabled, it->is_online_capable,
+         it->efficiency_class);
+    LIST("redistributors", zacpi_range, zacpi_list_gic_redistributors, ALL, "%llx %llx\n", (wide)it->address,
+         (wide)it->length);
+    LIST("services", zacpi_gic_translation_service, zacpi_list_gic_translation_services, ALL, "%llx %u\n",
+         (wide)it->address, it->id);
+    LIST("msi_frames", zacpi_gic_msi_frame, zacpi_list_gic_msi_frames, ALL, "%llx %u %u %u %u\n", (wide)it->address,
+         it->id, it->has_spis, it->spi_base, it->spi_count);
+}
+
+static void print_timer(const struct zacpi_arm_timer *t) {
+    if (!t->present) puts("timer none");
+    else if (!t->interrupt) printf("timer %u\n", t->always_on);
+    else printf("timer %u %u %u %u\n", t->always_on, t->interrupt, t->polarity, t->trigger);
+}
+static void print_timers(const struct zacpi_source *source) {
+    struct zacpi_signature named = {{0}};
+    struct zacpi_arm_timers timers;
+    if (is_missing("gtdt", zacpi_get_arm_timers(source, &timers, &named), &named)) return;
+    printf("gtdt %llx %llx %u\n", (wide)timers.control_base, (wide)timers.read_base, timers.platform_timers_malformed);
+    print_timer(&timers.secure_el1);
+    print_timer(&timers.non_secure_el1);
+    print_timer(&timers.virtual_el1);
+    print_timer(&timers.el2);
+    print_timer(&timers.virtual_el2);
+    LIST("frames", zacpi_gt_frame, zacpi_list_gt_frames, ALL, "%llx %llx %llx %u %u %u %u %u %u %u %u %u\n",
+         (wide)it->block_address, (wide)it->address, (wide)it->el0_address, it->number, it->is_secure,
+         it->is_always_on, it->physical_interrupt, it->physical_interrupt ? it->physical_polarity : 0,
+         it->physical_interrupt ? it->physical_trigger : 0, it->virtual_interrupt,
+         it->virtual_interrupt ? it->virtual_polarity : 0, it->virtual_interrupt ? it->virtual_trigger : 0);
+    LIST("watchdogs", zacpi_watchdog, zacpi_list_watchdogs, ALL, "%llx %llx %u %u %u %u\n", (wide)it->refresh_frame,
+         (wide)it->control_frame, it->interrupt, it->polarity, it->trigger, it->is_secure);
+}
+
+static void print_domains(const struct zacpi_source *source) {
+    unsigned i, k;
+    uint32_t domain;
+    struct zacpi_signature missing = {{0}};
+    const zacpi_status status = zacpi_domain_of_apic(source, 0, &domain, &missing);
+    const int is_there = status == ZACPI_NO_DOMAIN || !is_missing("srat", status, &missing);
+    if (is_there)
+        LIST("memory", zacpi_memory_affinity, zacpi_list_memory_affinities, ALL, "%llx %llx %u %u %u\n",
+             (wide)it->address, (wide)it->length, it->domain, it->is_hot_pluggable, it->is_non_volatile);
+    for (i = 0; is_there && i < 5; i++) {
+        ONE("near", uint32_t, zacpi_domain_of_address, (source, (uint64_t)i << 30, &item, &named), "%u\n", *it);
+        ONE("apic", uint32_t, zacpi_domain_of_apic, (source, i, &item, &named), "%u\n", *it);
+        ONE("uid", uint32_t, zacpi_domain_of_processor, (source, i, &item, &named), "%u\n", *it);
+    }
+    ONE("slit", struct zacpi_localities, zacpi_get_localities, IT, "%llx %u\n", (wide)it->localities, it->is_sane);
+    for (i = 0; i < 4; i++)
+        for (k = 0; k < 4; k++) {
+            struct zacpi_signature named = {{0}};
+            uint8_t distance;
+            if (!zacpi_distance(source, i, k, &distance, &named)) printf("distance %u %u %u\n", i, k, distance);
+        }
+}
+
+static void print_dmar(const struct zacpi_source *source) {
+    static const struct zacpi_hop paths[][2] = {{{0x1f, 2}, {0, 0}}, {{0, 0}, {3, 1}}, {{2, 0}, {0, 0}}};
+    unsigned i;
+    size_t count;
+    struct zacpi_signature named = {{0}};
+    const zacpi_status status = zacpi_list_dmar_reserved(source, 0, 0, NULL, 0, NULL, 0, &count, &named);
+    if (status == ZACPI_TABLE_MISSING && is_missing("dmar", status, &named)) return;
+    for (i = 0; i < 6; i++) {
+        const struct zacpi_hop *hops = paths[i / 2];
+        ONE("unit", struct zacpi_dmar_unit, zacpi_get_dmar_unit, (source, 0, 0, hops, 1 + i % 2, &item, &named),
+            "%llx %llx %u %u\n", (wide)it->register_base, (wide)it->register_bytes, it->segment, it->includes_pci_all);
+        LIST("reserved", zacpi_dmar_reserved, zacpi_list_dmar_reserved,
+             (source, 0, 0, hops, 1 + i % 2, items, MOST, &count, &named), "%llx %llx %u\n", (wide)it->base,
+             (wide)it->limit, it->segment);
+    }
+    for (i = 0; i < 9; i++)
+        ONE("of_io_apic", struct zacpi_dmar_source, zacpi_dmar_io_apic, (source, (uint8_t)i, &item, &named),
+            "%llx %u %u %u %u\n", (wide)it->unit.register_base, it->bus, it->has_hop, it->hop.device,
+            it->hop.function);
+    for (i = 0; i < 2; i++)
+        ONE("of_hpet", struct zacpi_dmar_source, zacpi_dmar_hpet, (source, (uint8_t)i, &item, &named),
+            "%llx %u %u %u %u\n", (wide)it->unit.register_base, it->bus, it->has_hop, it->hop.device,
+            it->hop.function);
+}
+
+static void print_ivrs(const struct zacpi_source *source) {
+    unsigned i;
+    size_t count;
+    struct zacpi_signature named = {{0}};
+    const zacpi_status status = zacpi_list_ivrs_memory(source, 0, NULL, 0, &count, &named);
+    if (status == ZACPI_TABLE_MISSING && is_missing("ivrs", status, &named)) return;
+    for (i = 0; i < 0x200; i += 0x28) {
+        ONE("ivrs", struct zacpi_ivrs_device, zacpi_get_ivrs_unit, (source, 0, (uint16_t)i, &item, &named),
+            "%llx %u %llx %x %u %u %u %u %u %u %u %u\n", (wide)it->unit.base, it->unit.has_extended_features,
+            (wide)it->unit.extended_features, it->unit.features, it->unit.segment, it->unit.device_id,
+            it->unit.capability_offset, it->unit.info, it->unit.block_type, it->unit.flags, it->source_id,
+            it->settings);
+        LIST("rules", zacpi_ivrs_memory, zacpi_list_ivrs_memory,
+             (source, (uint16_t)i, items, MOST, &count, &named), "%llx %llx %u %u %u %u\n", (wide)it->start,
+             (wide)it->length, it->device_id, it->auxiliary, it->block_type, it->flags);
+    }
+}
+
+void print_answers(const struct zacpi_source *source) {
+    print_tables(source);
+    print_entries(source, "APIC", 44, 1);
+    print_entries(source, "SRAT", 48, 1);
+    print_entries(source, "DMAR", 48, 2);
+    print_fixed_hardware(source);
+    print_devices(source);
+    print_interrupts(source);
+    print_gic(source);
+    print_timers(source);
+    print_domains(source);
+    print_dmar(source);
+    print_ivrs(source);
+}

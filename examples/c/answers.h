@@ -1,0 +1,10 @@
+/* What the calls answer that acpi_view doesn't print, a line for each item or error. */
+#ifndef ANSWERS_H
+#define ANSWERS_H
+#include "lines.h"
+
+/* The memory that is missing, also if the tables aren't opened. */
+void print_missing(const struct zacpi_source *source);
+/* What every other call answers that reads tables. */
+void print_answers(const struct zacpi_source *source);
+#endif
