@@ -17,27 +17,29 @@ static void print_error(const char *name, zacpi_status status, const struct zacp
 
 /* A list: how many items there are, and a line for each, `it`, of those that there was room for. Between the list's
  * name and its room may stand what is asked for. */
-#define LIST(NAME, TYPE, CALL, ASKED, ...) do { \
-    static struct TYPE items[MOST]; \
-    struct zacpi_signature named = {{0}}; \
-    size_t count = 0; \
-    const struct TYPE *it; \
-    const zacpi_status refused = CALL ASKED; \
-    if (refused) print_error(NAME, refused, &named); \
-    else printf("%s %lu\n", NAME, (unsigned long)count); \
-    for (it = items; !refused && it < items + (count < MOST ? count : MOST); it++) printf("  " __VA_ARGS__); \
-} while (0)
+#define LIST(NAME, TYPE, CALL, ASKED, ...) \
+    do { \
+        static struct TYPE items[MOST]; \
+        struct zacpi_signature named = {{0}}; \
+        size_t count = 0; \
+        const struct TYPE *it; \
+        const zacpi_status refused = CALL ASKED; \
+        if (refused) print_error(NAME, refused, &named); \
+        else printf("%s %lu\n", NAME, (unsigned long)count); \
+        for (it = items; !refused && it < items + (count < MOST ? count : MOST); it++) printf("  " __VA_ARGS__); \
+    } while (0)
 #define ALL (source, items, MOST, &count, &named)
 
 /* One item, `it`, and its line, or an error. */
-#define ONE(NAME, TYPE, CALL, ASKED, ...) do { \
-    TYPE item; \
-    const TYPE *const it = &item; \
-    struct zacpi_signature named = {{0}}; \
-    const zacpi_status refused = CALL ASKED; \
-    if (refused) print_error(NAME, refused, &named); \
-    else printf(NAME " " __VA_ARGS__); \
-} while (0)
+#define ONE(NAME, TYPE, CALL, ASKED, ...) \
+    do { \
+        TYPE item; \
+        const TYPE *const it = &item; \
+        struct zacpi_signature named = {{0}}; \
+        const zacpi_status refused = CALL ASKED; \
+        if (refused) print_error(NAME, refused, &named); \
+        else printf(NAME " " __VA_ARGS__); \
+    } while (0)
 #define IT (source, &item, &named)
 
 /* Whether a table isn't there, or nothing of it: then that is the one line. */
@@ -93,8 +95,9 @@ static void print_entries(const struct zacpi_source *source, const char *letters
 static void print_register(const char *name, const struct zacpi_register *r) {
     if (!r->present) printf("%s none\n", name);
     else if (r->present != 1) printf("%s: %s\n", name, zacpi_status_name(ZACPI_INVALID_GENERIC_ADDRESS));
-    else printf("%s %llx %u %u %u %u\n", name, (wide)r->at.address, r->at.space, r->at.bit_width, r->at.bit_offset,
-                r->at.access_size);
+    else
+        printf("%s %llx %u %u %u %u\n", name, (wide)r->at.address, r->at.space, r->at.bit_width, r->at.bit_offset,
+               r->at.access_size);
 }
 static void print_block(const char *name, const struct zacpi_gpe_block *b) {
     if (!b->present) printf("%s none\n", name);
@@ -133,8 +136,7 @@ static void print_devices(const struct zacpi_source *source) {
     struct zacpi_signature named = {{0}};
     struct zacpi_console console;
     ONE("timers", struct zacpi_hpet_info, zacpi_hpet, IT, "%x %u\n", it->event_timer_block_id, it->page_protection);
-    ONE("image", struct zacpi_boot_graphic, zacpi_get_boot_graphic, IT, "%llx %u\n", (wide)it->address,
-        it->image_type);
+    ONE("image", struct zacpi_boot_graphic, zacpi_get_boot_graphic, IT, "%llx %u\n", (wide)it->address, it->image_type);
     if (!zacpi_get_console(source, &console, &named)) {
         print_register("console", &console.base);
         printf("console %u %u %u %u %x\n", console.interface, console.parity, console.stop_bits,
@@ -166,8 +168,8 @@ static void print_interrupts(const struct zacpi_source *source) {
          it->lint, it->polarity, it->trigger);
     LIST("madt_faults", zacpi_madt_fault, zacpi_list_madt_faults, ALL, "%llx %u %s\n", (wide)it->address,
          it->entry_type, zacpi_status_name(it->status));
-    ONE("sci", struct zacpi_interrupt, zacpi_sci_interrupt, IT, "%u %u %u\n", it->global_system_interrupt,
-        it->polarity, it->trigger);
+    ONE("sci", struct zacpi_interrupt, zacpi_sci_interrupt, IT, "%u %u %u\n", it->global_system_interrupt, it->polarity,
+        it->trigger);
     for (i = 0; i < 17; i++)
         ONE("isa", struct zacpi_interrupt, zacpi_isa_interrupt, (source, (uint8_t)i, &item, &named), "%u %u %u\n",
             it->global_system_interrupt, it->polarity, it->trigger);
@@ -219,8 +221,8 @@ static void print_timers(const struct zacpi_source *source) {
     print_timer(&timers.el2);
     print_timer(&timers.virtual_el2);
     LIST("frames", zacpi_gt_frame, zacpi_list_gt_frames, ALL, "%llx %llx %llx %u %u %u %u %u %u %u %u %u\n",
-         (wide)it->block_address, (wide)it->address, (wide)it->el0_address, it->number, it->is_secure,
-         it->is_always_on, it->physical_interrupt, it->physical_interrupt ? it->physical_polarity : 0,
+         (wide)it->block_address, (wide)it->address, (wide)it->el0_address, it->number, it->is_secure, it->is_always_on,
+         it->physical_interrupt, it->physical_interrupt ? it->physical_polarity : 0,
          it->physical_interrupt ? it->physical_trigger : 0, it->virtual_interrupt,
          it->virtual_interrupt ? it->virtual_polarity : 0, it->virtual_interrupt ? it->virtual_trigger : 0);
     LIST("watchdogs", zacpi_watchdog, zacpi_list_watchdogs, ALL, "%llx %llx %u %u %u %u\n", (wide)it->refresh_frame,
@@ -267,12 +269,10 @@ static void print_dmar(const struct zacpi_source *source) {
     }
     for (i = 0; i < 9; i++)
         ONE("of_io_apic", struct zacpi_dmar_source, zacpi_dmar_io_apic, (source, (uint8_t)i, &item, &named),
-            "%llx %u %u %u %u\n", (wide)it->unit.register_base, it->bus, it->has_hop, it->hop.device,
-            it->hop.function);
+            "%llx %u %u %u %u\n", (wide)it->unit.register_base, it->bus, it->has_hop, it->hop.device, it->hop.function);
     for (i = 0; i < 2; i++)
         ONE("of_hpet", struct zacpi_dmar_source, zacpi_dmar_hpet, (source, (uint8_t)i, &item, &named),
-            "%llx %u %u %u %u\n", (wide)it->unit.register_base, it->bus, it->has_hop, it->hop.device,
-            it->hop.function);
+            "%llx %u %u %u %u\n", (wide)it->unit.register_base, it->bus, it->has_hop, it->hop.device, it->hop.function);
 }
 
 static void print_ivrs(const struct zacpi_source *source) {
@@ -287,9 +287,9 @@ static void print_ivrs(const struct zacpi_source *source) {
             (wide)it->unit.extended_features, it->unit.features, it->unit.segment, it->unit.device_id,
             it->unit.capability_offset, it->unit.info, it->unit.block_type, it->unit.flags, it->source_id,
             it->settings);
-        LIST("rules", zacpi_ivrs_memory, zacpi_list_ivrs_memory,
-             (source, (uint16_t)i, items, MOST, &count, &named), "%llx %llx %u %u %u %u\n", (wide)it->start,
-             (wide)it->length, it->device_id, it->auxiliary, it->block_type, it->flags);
+        LIST("rules", zacpi_ivrs_memory, zacpi_list_ivrs_memory, (source, (uint16_t)i, items, MOST, &count, &named),
+             "%llx %llx %u %u %u %u\n", (wide)it->start, (wide)it->length, it->device_id, it->auxiliary, it->block_type,
+             it->flags);
     }
 }
 
