@@ -20,12 +20,12 @@ same_numbers width (p ∷ ps) (q ∷ qs) w a b e =
     sym (take_at (spelling width p) (flat_map (spelling width) ps) width (length-spelling width p))
     ∙ ap (take width) e ∙ take_at (spelling width q) (flat_map (spelling width) qs) width
     (length-spelling width q) in
-    let behind : flat_map (spelling width) ps ≡ flat_map (spelling width) qs =
+    let rest : flat_map (spelling width) ps ≡ flat_map (spelling width) qs =
     sym (drop_at (spelling width p) (flat_map (spelling width) ps) width (length-spelling width p))
     ∙ ap (drop width) e ∙ drop_at (spelling width q) (flat_map (spelling width) qs) width
     (length-spelling width q) in
     let first : p ≡ q = sym (number-spelling width p a.0) ∙ ap number front ∙ number-spelling width q b.0 in
-    let others : ps ≡ qs = same_numbers width ps qs w a.1 b.1 behind in
+    let others : ps ≡ qs = same_numbers width ps qs w a.1 b.1 rest in
     cc
 
 add_one_le : (i j : ℕ) → i < j → i + 1 ≤ j

@@ -1,7 +1,7 @@
 -- Regions as a caller has them mapped, and which of them are a memory.
-use Rattle.std.specs.Prelude.{ℕ, ◌+◌, ◌^◌, ◌≤◌, nat_le, nat_lt, List, [], ◌∷◌, codes, length, map, Result, Ok}
+use Rattle.std.specs.Prelude.{ℕ, ◌≤◌, nat_le, List, [], ◌∷◌, codes, length, map, Result, Ok}
 use Rattle.acpi_base.specs.FromStd.{×_prop, Unit-prop, le_prop, AllByRecursion, AllByRecursion-prop}
-use Rattle.acpi_base.specs.Words.{Memory, Region, end_of, one_region, ◌>>=◌, holds}
+use Rattle.acpi_base.specs.Words.{Memory, Region, end_of, one_region, range_fits, ◌>>=◌, holds}
 use Rattle.acpi.specs.declared.handler.region.MappedRegion.{MappedRegion}
 use Rattle.acpi.specs.declared.handler.region.RegionError.{RegionError}
 use Rattle.acpi.specs.declared.handler.region.RegionError.TheVariants.{EndTooLarge, NotAscending, Overlap}
@@ -19,7 +19,7 @@ regions_of regions = map region_of regions
 -- the memory of one region, or why it is none
 abbrev pub one_memory : ℕ → List ℕ → Result Memory RegionError
 one_memory start bytes = do
-  _ ← holds (nat_lt (start + length bytes) (2 ^ 64)) EndTooLarge
+  _ ← holds (range_fits start (length bytes)) EndTooLarge
   Ok (one_region start bytes)
 
 -- each region starts at the end of each one before it, or above that

@@ -3,7 +3,7 @@ ghost use Rattle.std.specs.Prelude.{◌≡◌, ◌<◌, ◌≤◌, length, Some,
 ghost use Rattle.acpi_base.specs.Words.{IsMemory, IsMemory-prop, at, rest_from, one_region, Gives};
 ghost use Rattle.acpi.specs.Types.{MapFailed};
 
-use acpi_base::{AcpiError, AcpiHandler, AcpiResult};
+use acpi_base::{AcpiError, AcpiHandler, AcpiResult, AddressRange};
 use std::fmt;
 
 /// The refusals of `MappedRegion::new` and `MappedRegions::new`: why regions are no memory.
@@ -54,7 +54,7 @@ impl<'k> MappedRegion<'k> {
     pub fn new(start: u64, bytes: &'k [u8]) -> Result<Self, RegionError>
         ensures exact { Gives (λ r. region_memory r) result (one_memory start bytes.now) }
     {
-        if bytes.len() as u64 > u64::MAX - start {
+        if !AddressRange::new(start, bytes.len() as u64).fits() {
             return Err(RegionError::EndTooLarge);
         }
         Ok(MappedRegion { start, bytes })
