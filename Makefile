@@ -2,7 +2,7 @@
 #
 #   make                    out/TARGET/libzacpi.a for the processor and system that $(CC) compiles for
 #   make TARGET=...-kernel  the same for a kernel
-#   make check              calls of it by programs of examples/c; elsewhere RUN=qemu-aarch64 LDFLAGS=-static
+#   make check              calls of it by programs of examples/c and tests/c; elsewhere RUN=qemu-aarch64 LDFLAGS=-static
 #   make install            the header, libzacpi.a, libzacpi-kernel.a, what leads pkg-config and CMake to them, examples
 #   make install-programs   the programs of $(PROGRAMS), a release's bin/, with their manual pages and completions
 #
@@ -37,7 +37,7 @@ CHECKED = $(OUT)/$(TARGET)/libzacpi.a
 LINKED = $(CC) -std=c99 $(CFLAGS) -Iinclude $(1) $(CHECKED) $(LDFLAGS) -o $(OUT)/$(TARGET)/$(2)
 check: $(CHECKED)
 	$(call LINKED,examples/c/first.c,first)
-	$(call LINKED,examples/c/rows.c,rows)
+	$(call LINKED,tests/c/rows.c,rows)
 	$(call LINKED,examples/c/show.c examples/c/lines.c,show)
 	test "$$(tail -c +17 examples/c/data/ten_tables.image | $(RUN) $(OUT)/$(TARGET)/first)" = "16 processors"
 	$(RUN) $(OUT)/$(TARGET)/rows

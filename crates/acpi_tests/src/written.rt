@@ -1,5 +1,5 @@
 //! Tests of the tables that `acpi_writer` writes, in Rattle's words, worked out by hand from the layouts.
-//! `examples/c/rows_written.h` has the bytes that C can pass too, over the same calls.
+//! `tests/c/rows_written.h` has the bytes that C can pass too, over the same calls.
 
 mod machine;
 mod refused;

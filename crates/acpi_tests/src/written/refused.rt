@@ -1,4 +1,4 @@
-//! What is refused, for what C can't pass: `examples/c/rows_written.h` has all else, and with each call a byte less of
+//! What is refused, for what C can't pass: `tests/c/rows_written.h` has all else, and with each call a byte less of
 //! room, and names that aren't UTF-8. `TooLong` isn't tried: it needs a slice of 4 GiB.
 
 use super::tables::{FADT, GTDT, HARDWARE, IDS, PORT, SECURE, SPCR};

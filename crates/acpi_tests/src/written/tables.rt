@@ -1,6 +1,6 @@
 //! A table of each kind, as Rattle says what it is to say, byte by byte (ACPI 6.4, section 5.2; the SPCR's layout is
 //! Microsoft's, the MCFG's the PCI Firmware Specification's, the HPET's the IA-PC HPET Specification's).
-//! `examples/c/rows_written.h` has more bytes of each, but for what C can't say: FADTs by the names of flags, timers of
+//! `tests/c/rows_written.h` has more bytes of each, but for what C can't say: FADTs by the names of flags, timers of
 //! the platform in a GTDT, and an SPCR's name and interfaces.
 
 use acpi::HpetInfo;

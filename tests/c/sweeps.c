@@ -2,7 +2,7 @@
  * of a table but its Length changed to each other value. No lookup may take such a table: that by its signature and
  * that of its own type refuse, nothing is written but the signature, and the list of faults has why it is passed over.
  * Prints those that fail, and how many memories were tried. The status is 0 if all hold.
- * cc -std=c99 -Iinclude examples/c/sweeps.c ARCHIVE */
+ * cc -std=c99 -Iinclude tests/c/sweeps.c ARCHIVE */
 #include "zacpi.h"
 #include <stdio.h>
 #include <string.h>
