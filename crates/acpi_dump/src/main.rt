@@ -13,7 +13,7 @@ fn main(rt: HostRuntime) -> ExitCode {
 
 /// The process's arguments after the program's name, in order.
 ///
-/// Fails if one of them is no UTF-8, or memory for them is refused.
+/// Fails if one of them is not UTF-8, or memory for them is refused.
 fn arguments(rt: &HostRuntime) -> io::Result<Vec<String>> {
     let mut all = env::args(rt)?;
     all.next();

@@ -2,10 +2,9 @@
 
 use crate::contents::print_name;
 use crate::entries::Entry;
-use crate::fault::Fault;
 use crate::fields::{print_hex, print_meaning, print_value};
 use crate::out::Out;
-use crate::walk::{Field, Group, Show, walk_table};
+use crate::walk::{Field, Show, walk_table};
 use std::alloc::{AllocError, Global};
 
 /// A field or a run of bytes of a table: where it is, its name, and where its value stands in the text of all values.
@@ -55,9 +54,9 @@ impl Items {
 impl Show for Items {
     fn field(&mut self, shown: &Field<'_>) {
         let start = self.values.length();
-        print_value(shown.bytes, shown.meaning, &mut self.values);
-        print_meaning(shown.bytes, shown.meaning, &mut self.values);
-        self.add(shown.offset, shown.name, start);
+        print_value(shown, &mut self.values);
+        print_meaning(shown, &mut self.values);
+        self.add(shown.offset, shown.label.name, start);
     }
 
     fn bytes(&mut self, offset: u64, bytes: &[u8]) {
@@ -69,12 +68,6 @@ impl Show for Items {
             offset = offset.saturating_add(16);
         }
     }
-
-    fn begin(&mut self, _group: &Group) {}
-
-    fn end(&mut self) {}
-
-    fn malformed(&mut self, _offset: u64, _fault: Fault) {}
 }
 
 /// The items of a table, with the text that their values stand in.

@@ -162,19 +162,19 @@ impl Document {
 impl Show for Document {
     fn field(&mut self, shown: &Field<'_>) {
         self.token(Token::BeginObject);
-        if let Meaning::Flags(_) = shown.meaning {
+        if let Meaning::Flags = shown.label.meaning {
             add_flags(self, shown);
         }
         self.number("length", shown.bytes.len() as u64);
-        if !matches!(shown.meaning, Meaning::Decimal(_)) {
+        if !matches!(shown.label.meaning, Meaning::Decimal) {
             add_meaning(self, shown);
         }
-        self.text("name", shown.name);
+        self.text("name", shown.label.name);
         if let Some(number) = shown.number {
             self.number("number", number);
         }
         self.number("offset", shown.offset);
-        if let Meaning::Register = shown.meaning {
+        if let Meaning::Register = shown.label.meaning {
             add_parts(self, shown.bytes);
         }
         add_value(self, shown);
@@ -227,7 +227,7 @@ impl Show for Document {
 /// Adds the names of the flags that are set.
 fn add_flags(document: &mut Document, shown: &Field<'_>) {
     let mut text = Out::new(document.alloc);
-    print_meaning(shown.bytes, shown.meaning, &mut text);
+    print_meaning(shown, &mut text);
     document.begin_list("flags");
     for name in text.printed().unwrap_or("").trim().split(", ") {
         if !name.is_empty() {
@@ -255,14 +255,14 @@ fn add_parts(document: &mut Document, bytes: &[u8]) {
 /// Adds the value of a field: a number of up to four bytes as one, and else hexadecimal text.
 fn add_value(document: &mut Document, shown: &Field<'_>) {
     let is_number = !matches!(
-        shown.meaning,
-        Meaning::Text | Meaning::Wide | Meaning::Row | Meaning::Guid(_)
+        shown.label.meaning,
+        Meaning::Text | Meaning::Wide | Meaning::Row | Meaning::Guid
     );
     if is_number && shown.bytes.len() <= 4 {
         document.number("value", number_of(shown.bytes));
     } else {
         let mut text = Out::new(document.alloc);
-        print_value(shown.bytes, shown.meaning, &mut text);
+        print_value(shown, &mut text);
         document.printed("value", &text);
     }
 }
@@ -270,7 +270,7 @@ fn add_value(document: &mut Document, shown: &Field<'_>) {
 /// Adds the meaning of a field, if it has one.
 fn add_meaning(document: &mut Document, shown: &Field<'_>) {
     let mut text = Out::new(document.alloc);
-    print_meaning(shown.bytes, shown.meaning, &mut text);
+    print_meaning(shown, &mut text);
     match text.printed() {
         None => document.is_refused = true,
         Some(meaning) => {

@@ -32,10 +32,10 @@ const VALUES: usize = 46;
 /// Prints one field, in a structure so deep in others.
 pub(crate) fn print_field(shown: &Field<'_>, depth: usize, out: &mut Out) {
     print_indent(depth, out);
-    write!(out, "{:04x}  {}", shown.offset, shown.name);
+    write!(out, "{:04x}  {}", shown.offset, shown.label.name);
     let mut column = depth
         .saturating_mul(2)
-        .saturating_add(shown.name.len())
+        .saturating_add(shown.label.name.len())
         .saturating_add(8);
     if let Some(number) = shown.number {
         write!(out, " {number:<3}");
@@ -45,14 +45,15 @@ pub(crate) fn print_field(shown: &Field<'_>, depth: usize, out: &mut Out) {
         out.text(" ");
     }
     out.text("  ");
-    print_value(shown.bytes, shown.meaning, out);
-    print_meaning(shown.bytes, shown.meaning, out);
+    print_value(shown, out);
+    print_meaning(shown, out);
     out.text("\n")
 }
 
 /// Prints a number of up to eight bytes as one, the highest digit first, and a text or more bytes
 /// in their order.
-pub(crate) fn print_value(value: &[u8], meaning: Meaning, out: &mut Out) {
+pub(crate) fn print_value(shown: &Field<'_>, out: &mut Out) {
+    let (value, meaning) = (shown.bytes, shown.label.meaning);
     if value.len() > 8 || matches!(meaning, Meaning::Text | Meaning::Wide | Meaning::Row) {
         return print_hex(value, out);
     }
@@ -72,25 +73,27 @@ pub(crate) fn number_of(value: &[u8]) -> u64 {
 }
 
 /// Prints the meaning of a field's value, if it means more than itself.
-pub(crate) fn print_meaning(value: &[u8], meaning: Meaning, out: &mut Out) {
-    match meaning {
+pub(crate) fn print_meaning(shown: &Field<'_>, out: &mut Out) {
+    let (value, items) = (shown.bytes, shown.label.items);
+    let number = number_of(value);
+    match shown.label.meaning {
         Meaning::Plain => {}
-        Meaning::Decimal(codes) => {
-            write!(out, "  {}", number_of(value));
-            print_code(number_of(value), codes, out)
+        Meaning::Decimal => {
+            write!(out, "  {number}");
+            print_name(name_of(number, items), out)
         }
-        Meaning::LessOne => write!(out, "  {}", number_of(value).saturating_add(1)),
+        Meaning::LessOne => write!(out, "  {}", number.saturating_add(1)),
         Meaning::Text => {
             out.text("  ");
             print_text(value, out)
         }
         Meaning::Wide => print_wide(value, out),
         Meaning::Row => print_row(value, out),
-        Meaning::Guid(names) => print_guid(value, names, out),
-        Meaning::Function => print_function(number_of(value), out),
+        Meaning::Guid => print_guid(value, items, out),
+        Meaning::Function => print_function(number, out),
         Meaning::Path => print_path(value, out),
-        Meaning::Codes(codes) => print_code(number_of(value), codes, out),
-        Meaning::Flags(flags) => print_flags(number_of(value), flags, out),
+        Meaning::Codes => print_name(name_of(number, items), out),
+        Meaning::Flags => print_flags(number, items, out),
         Meaning::Register => print_register(value, out),
     }
 }
@@ -107,14 +110,22 @@ pub(crate) fn print_text(bytes: &[u8], out: &mut Out) {
     }
 }
 
-/// Prints the meaning of a number that is a code.
-fn print_code(number: u64, codes: &'static str, out: &mut Out) {
+/// The name of a number that is a code, or no letters if it is none.
+fn name_of(number: u64, codes: &'static str) -> &'static str {
     for item in codes.split(['|', '\n']) {
         let (code, name) = next_word(item);
         if language::number_of(code) == Some(number) {
-            out.text("  ");
-            return out.text(name.trim_ascii());
+            return name.trim_ascii();
         }
+    }
+    ""
+}
+
+/// Prints a name after two spaces, unless it has no letters.
+fn print_name(name: &str, out: &mut Out) {
+    if !name.is_empty() {
+        out.text("  ");
+        out.text(name);
     }
 }
 
@@ -216,11 +227,7 @@ fn print_guid(value: &[u8], names: &'static str, out: &mut Out) {
     print_hex(&value[8..10], out);
     out.text("-");
     print_hex(&value[10..], out);
-    let name = name_in(names, out.since(start));
-    if !name.is_empty() {
-        out.text("  ");
-        out.text(name);
-    }
+    print_name(name_in(names, out.since(start)), out)
 }
 
 /// The name of the item that begins with a word, or no letters if none does.
@@ -250,6 +257,11 @@ fn print_function(number: u64, out: &mut Out) {
     write!(out, "  {bus:02x}:{device:02x}.{function}")
 }
 
+/// The names of address spaces (table 5.1).
+const SPACES: &str =
+    "0 (memory)|1 (I/O)|2 (PCI configuration)|3 (embedded controller)|4 (SMBus)|5 (CMOS)|6 (PCI BAR)
+7 (IPMI)|8 (general-purpose I/O)|9 (serial bus)|10 (PCC)|11 (PRM)|0x7f (fixed hardware)";
+
 /// Prints the parts of a generic address, if it isn't all zeros.
 fn print_register(value: &[u8], out: &mut Out) {
     let [space, width, offset, size, address @ ..] = value else {
@@ -260,7 +272,7 @@ fn print_register(value: &[u8], out: &mut Out) {
         return;
     }
     write!(out, "  space {space}");
-    let name = space_name(*space);
+    let name = name_of(*space as u64, SPACES);
     if !name.is_empty() {
         write!(out, " {name}");
     }
@@ -268,24 +280,4 @@ fn print_register(value: &[u8], out: &mut Out) {
         out,
         " width {width} offset {offset} access {size} address 0x{address:x}"
     )
-}
-
-/// The name of an address space (table 5.1), or no letters if it has none.
-fn space_name(space: u8) -> &'static str {
-    match space {
-        0 => "(memory)",
-        1 => "(I/O)",
-        2 => "(PCI configuration)",
-        3 => "(embedded controller)",
-        4 => "(SMBus)",
-        5 => "(CMOS)",
-        6 => "(PCI BAR)",
-        7 => "(IPMI)",
-        8 => "(general-purpose I/O)",
-        9 => "(serial bus)",
-        10 => "(PCC)",
-        11 => "(PRM)",
-        0x7f => "(fixed hardware)",
-        _ => "",
-    }
 }

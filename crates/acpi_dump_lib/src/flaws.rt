@@ -2,7 +2,7 @@
 
 use crate::entries::own_signature;
 use crate::fault::Fault;
-use crate::walk::{Field, Group, Show, walk_table};
+use crate::walk::{Show, walk_table};
 
 /// Whether a part of a table is malformed.
 #[derive(Clone, Copy)]
@@ -11,14 +11,6 @@ struct Flaws {
 }
 
 impl Show for Flaws {
-    fn field(&mut self, _shown: &Field<'_>) {}
-
-    fn bytes(&mut self, _offset: u64, _bytes: &[u8]) {}
-
-    fn begin(&mut self, _group: &Group) {}
-
-    fn end(&mut self) {}
-
     fn malformed(&mut self, _offset: u64, _fault: Fault) {
         self.are_some = true;
     }

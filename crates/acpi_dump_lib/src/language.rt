@@ -35,13 +35,13 @@
 use crate::fault::Fault;
 use acpi::sdt::field;
 
-/// The meaning of a field's bytes. What follows the name of a field is the text of its codes or flags.
+/// The meaning of a field's bytes.
 #[derive(Clone, Copy)]
 pub(crate) enum Meaning {
     /// The number itself.
     Plain,
-    /// The number itself, which is easier read in decimal digits, and may be one of these codes.
-    Decimal(&'static str),
+    /// The number itself, which is easier read in decimal digits, and may be one of the codes.
+    Decimal,
     /// The number of what is counted, less 1.
     LessOne,
     /// The bytes are a text.
@@ -50,18 +50,26 @@ pub(crate) enum Meaning {
     Wide,
     /// The bytes are numbers of a byte each, which are easier read in decimal digits.
     Row,
-    /// The bytes are a GUID (section 19.6.142), which may be one of these.
-    Guid(&'static str),
+    /// The bytes are a GUID (section 19.6.142), which may have one of the names.
+    Guid,
     /// The number is a PCI function: the bus in bits 15:8, the device in bits 7:3, the function in bits 2:0.
     Function,
     /// The bytes are the numbers of a device and a function.
     Path,
-    /// The number is one of these codes.
-    Codes(&'static str),
-    /// The number is a set of these flags.
-    Flags(&'static str),
+    /// The number is one of the codes.
+    Codes,
+    /// The number is a set of the flags.
+    Flags,
     /// The bytes are a generic address (section 5.2.3.2).
     Register,
+}
+
+/// What a line says of a field: its name, its meaning, and the codes, flags or names that the meaning takes.
+#[derive(Clone, Copy)]
+pub(crate) struct Label {
+    pub(crate) name: &'static str,
+    pub(crate) meaning: Meaning,
+    pub(crate) items: &'static str,
 }
 
 /// A block: the parts of its first line, and the others.
@@ -290,15 +298,18 @@ impl Blocks {
         self.find(name, None).ok_or(Fault::Unread(name))
     }
 
-    /// The meaning of a field, and its name, by what a line says after the length.
-    pub(crate) fn field(&self, rest: &'static str) -> Result<(Meaning, &'static str), Fault> {
+    /// What a line says of a field after its length.
+    pub(crate) fn label(&self, rest: &'static str) -> Result<Label, Fault> {
         let (word, rest) = next_word(rest);
         let (name, items) = cut_at(rest, '|');
-        let meaning = Meaning::read(word, self.items(items)?);
-        Ok((meaning.ok_or(Fault::Unread(word))?, name.trim_ascii()))
+        Ok(Label {
+            name: name.trim_ascii(),
+            items: self.items(items)?,
+            meaning: Meaning::read(word)?,
+        })
     }
 
-    /// The codes or flags that a line gives, or those of the block that it names.
+    /// The codes, flags or names that a line gives, or those of the block that it names.
     fn items(&self, items: &'static str) -> Result<&'static str, Fault> {
         match items.trim_ascii().strip_prefix('@') {
             Some(name) => Ok(self.named(name)?.lines),
@@ -307,23 +318,32 @@ impl Blocks {
     }
 }
 
+/// The words of meanings.
+const MEANINGS: [(&str, Meaning); 12] = [
+    ("-", Meaning::Plain),
+    ("dec", Meaning::Decimal),
+    ("dec+1", Meaning::LessOne),
+    ("text", Meaning::Text),
+    ("wide", Meaning::Wide),
+    ("row", Meaning::Row),
+    ("guid", Meaning::Guid),
+    ("fn", Meaning::Function),
+    ("path", Meaning::Path),
+    ("gas", Meaning::Register),
+    ("codes", Meaning::Codes),
+    ("flags", Meaning::Flags),
+];
+
 impl Meaning {
-    /// The meaning that a word names, with these codes or flags.
-    fn read(word: &str, items: &'static str) -> Option<Meaning> {
-        match word {
-            "-" => Some(Meaning::Plain),
-            "dec" => Some(Meaning::Decimal(items)),
-            "dec+1" => Some(Meaning::LessOne),
-            "text" => Some(Meaning::Text),
-            "wide" => Some(Meaning::Wide),
-            "row" => Some(Meaning::Row),
-            "guid" => Some(Meaning::Guid(items)),
-            "fn" => Some(Meaning::Function),
-            "path" => Some(Meaning::Path),
-            "gas" => Some(Meaning::Register),
-            "codes" => Some(Meaning::Codes(items)),
-            "flags" => Some(Meaning::Flags(items)),
-            _ => None,
+    /// The meaning that a word names.
+    ///
+    /// Fails if it names none.
+    fn read(word: &'static str) -> Result<Meaning, Fault> {
+        for (name, meaning) in &MEANINGS {
+            if *name == word {
+                return Ok(*meaning);
+            }
         }
+        Err(Fault::Unread(word))
     }
 }

@@ -152,7 +152,7 @@ fn gather_named<S: Sources>(
     gather(output.alloc, names, reading, sources, log)
 }
 
-/// Says that the process's arguments can't be had, as when one is no UTF-8, and answers the status.
+/// Says that the process's arguments can't be had, as when one is not UTF-8, and answers the status.
 ///
 /// Fails if the writer refuses that.
 pub fn refuse_arguments<E: Write + Drop>(refusal: &io::Error, mut err: E) -> io::Result<u8> {

@@ -19,7 +19,7 @@ pub enum Kind {
 pub struct Listing {
     /// The names, in no order.
     pub names: Vec<String>,
-    /// How many names there are besides that are no UTF-8.
+    /// How many names there are besides that are not UTF-8.
     pub unnamed: usize,
 }
 

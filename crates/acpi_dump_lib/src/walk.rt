@@ -6,7 +6,7 @@ mod parts;
 ghost use Rattle.std.specs.Prelude.{◌<◌, length};
 
 use crate::fault::Fault;
-use crate::language::{Meaning, is_chosen, is_number, next_word, sum_of};
+use crate::language::{Label, is_chosen, is_number, next_word, sum_of};
 use crate::layouts::{HEADER, layout_of};
 use acpi::sdt::Signature;
 use entry::next_entry;
@@ -15,15 +15,14 @@ use parts::{Extent, Piece, list_extent, show_fields, show_gap, show_missing, sho
 /// How deep structures lie in structures at most.
 const DEEPEST: u32 = 16;
 
-/// A field of a table: its offset in the table, its bytes, its name, its number if it is one of
-/// several of this name, and its meaning.
+/// A field of a table: its offset in the table, its bytes, its number if it is one of several of its name, and what the
+/// layout says of it.
 #[derive(Clone, Copy)]
 pub(crate) struct Field<'a> {
     pub(crate) offset: u64,
     pub(crate) bytes: &'a [u8],
-    pub(crate) name: &'static str,
     pub(crate) number: Option<u64>,
-    pub(crate) meaning: Meaning,
+    pub(crate) label: Label,
 }
 
 /// A structure in a table: its offset in the table, its length, its number in its list from 0 on, its
@@ -37,23 +36,23 @@ pub(crate) struct Group {
     pub(crate) kind: Option<u64>,
 }
 
-/// What a walk shows a table to, in the order of the bytes.
+/// What a walk shows a table to, in the order of the bytes. What it has no function for is skipped.
 pub(crate) trait Show {
     /// Shows a field.
-    fn field(&mut self, shown: &Field<'_>);
+    fn field(&mut self, _shown: &Field<'_>) {}
 
     /// Shows bytes at an offset of the table that no field covers.
-    fn bytes(&mut self, offset: u64, bytes: &[u8]);
+    fn bytes(&mut self, _offset: u64, _bytes: &[u8]) {}
 
     /// Shows that a structure begins.
-    fn begin(&mut self, group: &Group);
+    fn begin(&mut self, _group: &Group) {}
 
     /// Shows that the structure ends that began last and hasn't ended.
-    fn end(&mut self);
+    fn end(&mut self) {}
 
     /// Shows why bytes from an offset of the table on aren't shown by the layout. The bytes, if there are
     /// some, come next.
-    fn malformed(&mut self, offset: u64, fault: Fault);
+    fn malformed(&mut self, _offset: u64, _fault: Fault) {}
 }
 
 /// Shows a table.
@@ -127,14 +126,15 @@ fn walk_line<S: Show>(
     let (word, rest) = next_word(line);
     let start = match word {
         "" => return Ok(shown),
-        "if" | "with" => {
+        "if" | "with" | "then" => {
+            let (base, from) = if word == "then" {
+                (shown, 0)
+            } else {
+                (0, shown)
+            };
             let lines = chosen_lines(piece, word, rest)?;
-            return Ok(walk_lines(piece, lines, shown, depth, show));
-        }
-        "then" => {
-            let lines = chosen_lines(piece, word, rest)?;
-            let end = walk_lines(piece.from(shown), lines, 0, depth, show);
-            return Ok(shown.saturating_add(end));
+            let end = walk_lines(piece.from(base), lines, from, depth, show);
+            return Ok(base.saturating_add(end));
         }
         ">" => shown,
         _ => sum_of(word, piece.bytes).size()?,

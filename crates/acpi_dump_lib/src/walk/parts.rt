@@ -2,7 +2,7 @@
 
 use super::{Field, Show};
 use crate::fault::Fault;
-use crate::language::{Blocks, Meaning, cut_at, is_number, sum_of};
+use crate::language::{Blocks, Label, cut_at, is_number, sum_of};
 
 /// A structure: where it begins in the table, its bytes, and the blocks that its layout is of.
 #[derive(Clone, Copy)]
@@ -146,28 +146,27 @@ pub(super) fn show_fields<S: Show>(
     rest: &'static str,
     show: &mut S,
 ) -> Result<usize, Fault> {
-    let (meaning, name) = piece.blocks.field(rest)?;
+    let label = piece.blocks.label(rest)?;
     let (length, count) = cut_at(word, '[');
     let is_one = count.is_empty();
     let extent = if is_one {
-        field_extent(piece.bytes, start, length)?
+        field_extent(piece.bytes, start, length)
     } else {
-        counted_extent(piece.bytes, start, cut_at(count, ']').0)?
-    };
+        counted_extent(piece.bytes, start, cut_at(count, ']').0)
+    }?;
     let is_optional = is_fixed && is_one && is_number(length);
     let is_there = shown <= start && extent.end <= piece.bytes.len();
     if is_optional && !is_there || !show_start(piece, shown, extent, show)? {
         return Ok(shown);
     }
     if !is_one {
-        return show_numbers(piece, extent, length, meaning, name, show);
+        return show_numbers(piece, extent, length, label, show);
     }
     show.field(&Field {
         offset: piece.at(start),
         bytes: piece.bytes.get(start..extent.end).unwrap_or(&[]),
-        name,
         number: None,
-        meaning,
+        label,
     });
     Ok(extent.end)
 }
@@ -198,8 +197,7 @@ fn show_numbers<S: Show>(
     piece: Piece<'_>,
     extent: Extent,
     word: &'static str,
-    meaning: Meaning,
-    name: &'static str,
+    label: Label,
     show: &mut S,
 ) -> Result<usize, Fault> {
     let mut shown = extent.start;
@@ -213,9 +211,8 @@ fn show_numbers<S: Show>(
             show.field(&Field {
                 offset: piece.at(shown),
                 bytes,
-                name,
                 number: Some(number),
-                meaning,
+                label,
             });
             shown = shown.saturating_add(length);
             number = number.saturating_add(1);
