@@ -1,7 +1,7 @@
 -- Which unit of an IVRS remaps a device, and which memory has its own rules for it (section 5.2).
-use Rattle.std.specs.Prelude.{ℕ, ◌+◌, ◌^◌, ◌==◌, ◌&&◌, ◌||◌, Bool, not, nat_le, nat_lt, find, filter, List, map, slice_get, Option, None, Result, Ok, if◌then◌else◌, filter_map, option_map}
+use Rattle.std.specs.Prelude.{ℕ, ◌==◌, ◌&&◌, ◌||◌, Bool, not, nat_le, find, filter, List, map, slice_get, Option, None, Result, Ok, if◌then◌else◌, filter_map, option_map}
 use Rattle.acpi_base.specs.FromStd.{list_all, list_any}
-use Rattle.acpi_base.specs.Words.{◌>>=◌, holds, is_left}
+use Rattle.acpi_base.specs.Words.{range_fits, ◌>>=◌, holds, is_left}
 use Rattle.acpi_iommu.specs.Ivrs.{block_kind, blocks_cut, blocks_left, blocks_of, ivhd_at, ivmd_at}
 use Rattle.acpi_iommu.specs.IvrsEntries.{covers, entries_cut, entries_of, settings_of, source_for}
 use Rattle.acpi_iommu.specs.declared.error.IommuError.{IommuError}
@@ -71,7 +71,7 @@ is_memory_for id b =
 
 -- its memory ends below 2^64
 abbrev pub ends_below : Ivmd → Bool
-ends_below m = nat_lt (m.start + m.length) (2 ^ 64)
+ends_below m = range_fits m.start m.length
 
 -- those among these blocks, in order
 abbrev pub memory_in : ℕ → List (List ℕ) → List Ivmd

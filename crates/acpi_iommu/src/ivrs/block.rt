@@ -7,8 +7,8 @@ use super::Ivrs;
 use super::blocks::DeviceUnit;
 use super::entry::DeviceEntryIter;
 use crate::pieces::{PieceIter, PieceKind, said};
-use acpi_base::PhysicalRecord;
 use acpi_base::bytes::{field, skip};
+use acpi_base::{AddressRange, PhysicalRecord};
 
 /// I/O Virtualization Hardware Definition (IVHD, section 5.2): a unit that remaps.
 #[derive(Clone, Copy, Debug, PartialEq, Eq)]
@@ -140,7 +140,7 @@ impl Ivmd {
     pub(super) fn ends_below(&self) -> bool
         ensures { result ≡ ends_below self.now }
     {
-        self.length <= u64::MAX - self.start
+        AddressRange::new(self.start, self.length).fits()
     }
 }
 
