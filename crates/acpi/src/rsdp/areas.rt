@@ -49,12 +49,7 @@ fn candidates(area: &AddressRange) -> (u64, u64)
     ensures low { result.0 + 16 * result.1 < 2 ^ 64 }
 {
     let skipped = (16 - area.address % 16) % 16;
-    let above = u64::MAX - area.address;
-    let room = if area.length < above {
-        area.length
-    } else {
-        above
-    };
+    let room = area.length.min(u64::MAX - area.address);
     if room < skipped + 20 {
         return (0, 0);
     }
