@@ -1,5 +1,5 @@
 -- Waking a processor by the mailbox (ACPI 6.4, section 5.2.12.19).
-use Rattle.std.specs.Prelude.{◌≡◌, ◌≢◌, ◌<◌, ◌+◌, ◌++◌, ℕ, List, [], ◌∷◌, Result, MatchResult, replicate}
+use Rattle.std.specs.Prelude.{◌≡◌, ◌≢◌, ◌<◌, ◌+◌, ◌++◌, ℕ, List, [], ◌∷◌, Option, Some, Result, Ok, Err, MatchResult, OnOk, replicate}
 use Rattle.acpi_base.specs.Words.{mailbox_of, Memory, ◌>>=◌}
 use Rattle.acpi.specs.Types.{AcpiError, InvalidMadt, WakeupApsTimeout}
 use Rattle.acpi.specs.Lookup.{lookup}
@@ -79,3 +79,22 @@ abbrev pub MakesAndReads : {Mailbox : Type 0} → (Mailbox → MailboxCall → M
 MakesAndReads called answer before calls n result after =
     MatchResult result (λ _. MakesUntilWoken called answer before calls after)
     (λ _. Makes called before (calls ++ reads n) after)
+
+-- ---- a call that wakes a processor
+
+-- what a call that answers with `result` does to a mailbox, whose address was looked for with the outcome `found`
+pub record IsWakeup {Mailbox : Type 0} (open_answer : Mailbox → ℕ → Result (Unit {0}) AcpiError)
+    (opened : Mailbox → Option ℕ) (writes : Mailbox → List MailboxWrite) (answer : Mailbox → ℕ → ℕ)
+    (called : Mailbox → MailboxCall → Mailbox → Type 0) (found : Result ℕ AcpiError) (id vector most : ℕ)
+    (before : Mailbox) (result : Result (Unit {0}) AcpiError) (after : Mailbox) : Type 0 where
+  -- with none that opens nothing is done
+  pub refused : (e : AcpiError) → opening (open_answer before) found ≡ Err e → (result ≡ Err e) × (after ≡ before)
+  -- these calls are made of it, in this order, and no others
+  pub made : (a : ℕ) → found ≡ Ok a
+      → OnOk (open_answer before a)
+      (MakesAndReads called (answer before) before (wakes_by a id vector) most result after)
+  pub answers_kept : (a : ℕ) → open_answer after a ≡ open_answer before a
+  pub is_open : (a : ℕ) → found ≡ Ok a → OnOk (open_answer before a) (opened after ≡ Some a)
+  pub is_written : OnOk (opening (open_answer before) found) (writes after ≡ commands id vector)
+  pub is_answered :
+      OnOk (opening (open_answer before) found) (WakesOrWaits (answer before) most result (answer after))

@@ -33,7 +33,7 @@ unfoldable pub use Rattle.acpi.specs.Search.{found_in, found_rsdp, word_in}
 pub use Rattle.acpi.specs.Tables.{SpellsPointers, kind_of, lender_of, may_of, memory_of, of_tables, pointers_of, revision_of, root_address_of, root_of}
 pub use Rattle.acpi.specs.Timer.{timer_from, timer_of}
 pub use Rattle.acpi.specs.Types.{Area, RootKind, RootPointer, Rsdt, TableFault, Xsdt}
-pub use Rattle.acpi.specs.Wake.{AfterReads, Makes, MakesAndReads, MakesUntilWoken, NoneBelow, WakesOrWaits, commands, mailbox_found, opening, reads, wakes_by}
+pub use Rattle.acpi.specs.Wake.{AfterReads, IsWakeup, Makes, MakesAndReads, MakesUntilWoken, NoneBelow, WakesOrWaits, commands, mailbox_found, opening, reads, wakes_by}
 pub use Rattle.acpi.specs.Walks.{faults_left, headers_left, ssdts_left}
 pub use Rattle.acpi.specs.declared.handler.region.MappedRegion.{MappedRegion}
 pub use Rattle.acpi.specs.declared.platform.mailbox.MailboxCall.{MailboxCall}

@@ -1,7 +1,6 @@
 //! Waking a processor by the Multiprocessor Wakeup Mailbox (section 5.2.12.19).
-ghost use Rattle.std.specs.Prelude.{◌≡◌, ℕ, [], OnOk, MatchResult, Some, Ok, Err};
-ghost use Rattle.acpi.specs.Types.{AcpiError};
-ghost use Rattle.acpi.specs.Words.{AllowsBelow, FootprintBelow, lookup_ranges, madt_kind, of_tables, Makes, MakesAndReads, MakesUntilWoken, WakesOrWaits, commands, mailbox_found, opening, reads, wakes_by};
+ghost use Rattle.std.specs.Prelude.{◌≡◌, ℕ, [], MatchResult, Ok};
+ghost use Rattle.acpi.specs.Words.{AllowsBelow, FootprintBelow, IsWakeup, lookup_ranges, madt_kind, of_tables, Makes, MakesUntilWoken, WakesOrWaits, mailbox_found, reads};
 
 use super::mailbox::Mailbox;
 use crate::tables::AcpiTables;
@@ -25,19 +24,8 @@ pub fn wakeup_aps<H: Lender, M: Mailbox>(
     timeout_loops: u64,
 ) -> AcpiResult<()>
     requires { AllowsBelow tables.now (λ m. lookup_ranges m madt_kind) }
-    ensures refused { (e : AcpiError) → opening (M.open_answer mailbox.old) (of_tables tables.now mailbox_found) ≡ Err e
-        → (result ≡ Err e) × (mailbox.new ≡ mailbox.old) }
-    // These calls are made of the mailbox, in this order, and no others.
-    ensures made { (a : ℕ) → of_tables tables.now mailbox_found ≡ Ok a → OnOk (M.open_answer mailbox.old a)
-        (MakesAndReads M.called (M.answer mailbox.old) mailbox.old (wakes_by a apic_id wakeup_vector) timeout_loops
-        result mailbox.new) }
-    ensures answers_kept { (a : ℕ) → M.open_answer mailbox.new a ≡ M.open_answer mailbox.old a }
-    ensures opened { (a : ℕ) → of_tables tables.now mailbox_found ≡ Ok a
-        → OnOk (M.open_answer mailbox.old a) (M.opened mailbox.new ≡ Some a) }
-    ensures written { OnOk (opening (M.open_answer mailbox.old) (of_tables tables.now mailbox_found))
-        (M.writes mailbox.new ≡ commands apic_id wakeup_vector) }
-    ensures answered { OnOk (opening (M.open_answer mailbox.old) (of_tables tables.now mailbox_found))
-        (WakesOrWaits (M.answer mailbox.old) timeout_loops result (M.answer mailbox.new)) }
+    ensures woken { IsWakeup M.open_answer M.opened M.writes M.answer M.called (of_tables tables.now mailbox_found)
+        apic_id wakeup_vector timeout_loops mailbox.old result mailbox.new }
     // Where the mailbox lies, or why none is found, depends on what the lookup of the MADT depends on.
     ensures footprint { FootprintBelow tables.now (λ m. lookup_ranges m madt_kind) mailbox_found
         (λ said. of_tables tables.now mailbox_found ≡ said) }
@@ -66,15 +54,8 @@ fn wake<M: Mailbox>(
     wakeup_vector: u64,
     timeout_loops: u64,
 ) -> AcpiResult<()>
-    ensures refused { (e : AcpiError) → M.open_answer mailbox.old address ≡ Err e
-        → (result ≡ Err e) × (mailbox.new ≡ mailbox.old) }
-    ensures made { OnOk (M.open_answer mailbox.old address) (MakesAndReads M.called (M.answer mailbox.old) mailbox.old
-        (wakes_by address apic_id wakeup_vector) timeout_loops result mailbox.new) }
-    ensures answers_kept { (a : ℕ) → M.open_answer mailbox.new a ≡ M.open_answer mailbox.old a }
-    ensures opened { OnOk (M.open_answer mailbox.old address) (M.opened mailbox.new ≡ Some address) }
-    ensures written { OnOk (M.open_answer mailbox.old address) (M.writes mailbox.new ≡ commands apic_id wakeup_vector) }
-    ensures answered { OnOk (M.open_answer mailbox.old address)
-        (WakesOrWaits (M.answer mailbox.old) timeout_loops result (M.answer mailbox.new)) }
+    ensures { IsWakeup M.open_answer M.opened M.writes M.answer M.called (Ok address) apic_id wakeup_vector
+        timeout_loops mailbox.old result mailbox.new }
 {
     mailbox.open(address)?;
     mailbox.write_command(MpProtectedModeWakeupCommand::Noop as u16);
