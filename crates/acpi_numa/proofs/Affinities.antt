@@ -1,15 +1,16 @@
 -- What the first valid SRAT says depends on what its lookup depends on, wherever the tables lie; the domain that is
 -- computed is that of the first range in which the address lies; and there are few ranges.
-use Rattle.std.proofs.Common.{Result, Ok, lit≤, ◌≡◌, ℕ, true, false, List, [], ◌∷◌, Option, Some, None, refl, ap, arith, suc, ◌-◌, ◌≤◌, ◌++◌, length, length-drop, drop, length-append, find, option_map, filter_map}
+use Rattle.std.proofs.Common.{Result, Ok, lit≤, ◌≡◌, ℕ, true, false, List, [], ◌∷◌, Option, Some, None, refl, ap, arith, ◌-◌, ◌≤◌, ◌++◌, length, length-drop, drop, length-append, find, option_map}
 use Rattle.acpi_base.specs.Words.{DependsOn, ◌>>=◌, IsEntry, cut}
 use Rattle.acpi.specs.Types.{AcpiError, SRAT}
 use Rattle.acpi.proofs.Agreed.{same_said}
+use Rattle.acpi.proofs.First.{filter_map_few}
 use Rattle.acpi.proofs.Moved.{said_follows}
 use Rattle.acpi.specs.Words.{lookup_ranges, FollowsTables}
 use Rattle.acpi_numa.specs.Words.{affinities_of, found_affinities, srat_kind, IsDomainOf, LiesIn, domain_at, lies_in, range_in, ranges_of, MemoryRange, entries_of, entry_of, revision_of, srat_grammar, srat_layout}
 use Rattle.acpi_base.proofs.FromStd.{nat_tests}
 use Rattle.std.proofs.lemmas.Bool.{cond_both}
-use Rattle.acpi_base.specs.FromStd.{concat, AllByRecursion, cons_option}
+use Rattle.acpi_base.specs.FromStd.{concat, AllByRecursion}
 use Rattle.acpi_base.proofs.Words.{cut_is_cut}
 
 abbrev done : {A : Type 0} → A → Result A AcpiError
@@ -69,14 +70,6 @@ one_each : (es : List (List ℕ)) → AllByRecursion (IsEntry srat_layout) es �
 one_each [] a = omega arith
 one_each (e ∷ es) a = omega (arith, one_each es a.1, a.0.header, length-append e (concat es))
 
-length-cons_option : {X : Type 0} (o : Option X) (xs : List X) → length (cons_option o xs) ≤ suc (length xs)
-length-cons_option None xs = omega arith
-length-cons_option (Some x) xs = omega arith
-
-length-filter_map : {X Y : Type 0} (f : X → Option Y) (xs : List X) → length (filter_map f xs) ≤ length xs
-length-filter_map f [] = omega arith
-length-filter_map f (x ∷ xs) = omega (arith, length-filter_map f xs, length-cons_option (f x) (filter_map f xs))
-
 cut_few : (bytes : List ℕ) → length (cut srat_grammar bytes).0 ≤ length bytes
 cut_few bytes =
     let c = cut_is_cut 7 srat_grammar bytes in
@@ -93,10 +86,10 @@ pub entries_few : (table : List ℕ) → length (entries_of table) ≤ length ta
 entries_few table =
     omega (
       arith,
-      length-filter_map (entry_of (revision_of table)) (cut srat_grammar (drop 48 table)).0,
+      filter_map_few (entry_of (revision_of table)) (cut srat_grammar (drop 48 table)).0,
       cut_few (drop 48 table),
       length-drop 48 table,
     )
 
 pub ranges_few : (table : List ℕ) → length (ranges_of table) ≤ length table - 48
-ranges_few table = omega (arith, length-filter_map range_in (entries_of table), entries_few table)
+ranges_few table = omega (arith, filter_map_few range_in (entries_of table), entries_few table)

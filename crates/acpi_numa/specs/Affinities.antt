@@ -1,7 +1,7 @@
 -- Which domain each range of memory is in (signature SRAT; ACPI 6.4, section 5.2.16.2).
-use Rattle.std.specs.Prelude.{◌≡◌, ℕ, ◌+◌, ◌^◌, ◌<◌, ◌≤◌, ◌&&◌, Bool, not, List, ◌∷◌, ◌++◌, length, find, nat_le, nat_lt, Option, Some, None, Result, Ok, if◌then◌else◌, filter_map, option_map}
+use Rattle.std.specs.Prelude.{◌≡◌, ℕ, ◌+◌, ◌<◌, ◌≤◌, ◌&&◌, Bool, not, List, ◌∷◌, ◌++◌, length, find, nat_lt, Option, Some, None, Result, Ok, if◌then◌else◌, filter_map, option_map}
 use Rattle.acpi_base.specs.FromStd.{AllByRecursion, list_all}
-use Rattle.acpi_base.specs.Words.{has_bit, is_left, Memory, ◌>>=◌, holds, Kind, sdt_kind}
+use Rattle.acpi_base.specs.Words.{has_bit, is_left, Memory, range_fits, range_holds, ◌>>=◌, holds, Kind, sdt_kind}
 use Rattle.acpi.specs.Types.{AcpiError, SRAT}
 use Rattle.acpi.specs.Words.{lookup}
 use Rattle.acpi_numa.specs.Answers.{joined}
@@ -37,7 +37,7 @@ ranges_of table = filter_map range_in (entries_of table)
 
 -- a range ends below 2^64
 abbrev pub ends_below : MemoryRange → Bool
-ends_below r = nat_lt (r.base + r.length) (2 ^ 64)
+ends_below r = range_fits r.base r.length
 
 -- the ranges, if the entries take all bytes of the table and then each range ends below 2^64
 abbrev pub affinities_of : List ℕ → Result (List MemoryRange) NumaError
@@ -94,7 +94,7 @@ IsDomainOf ranges address None = AllByRecursion (λ r. LiesIn r address → ⊥)
 
 -- computed: whether an address lies in a range, and the domain of the first range in which it does
 abbrev pub lies_in : ℕ → MemoryRange → Bool
-lies_in address r = nat_le r.base address && nat_lt address (r.base + r.length)
+lies_in address r = range_holds r.base r.length address
 
 abbrev pub domain_at : List MemoryRange → ℕ → Option ℕ
 domain_at ranges address = option_map (λ r. r.domain) (find (lies_in address) ranges)

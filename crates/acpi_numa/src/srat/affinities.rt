@@ -7,8 +7,8 @@ use super::Srat;
 use super::domains::Domains;
 use crate::error::{NumaError, NumaResult};
 use acpi::AcpiTables;
-use acpi_base::Lender;
 use acpi_base::managed_slice::ManagedSlice;
+use acpi_base::{AddressRange, Lender};
 use std::alloc::{AllocError, Allocator, Global};
 use std::marker::Model;
 
@@ -34,14 +34,14 @@ impl MemoryRange {
     pub fn holds(&self, address: u64) -> bool
         ensures { result ≡ lies_in address self.now }
     {
-        self.base <= address && address - self.base < self.length
+        AddressRange::new(self.base, self.length).holds(address)
     }
 
     /// Whether the range ends below 2^64.
     fn ends_below(&self) -> bool
         ensures { result ≡ ends_below self.now }
     {
-        self.length <= u64::MAX - self.base
+        AddressRange::new(self.base, self.length).fits()
     }
 }
 
