@@ -34,8 +34,8 @@ pub enum Contents<'a> {
 
 /// Writes the table that is to say this.
 ///
-/// Returns `UnknownCode` if the record has a code that is reserved, of a GIC `BadRange` if a range of redistributors has
-/// 2^32 bytes or more, and then the errors of the call of `acpi_writer` for such a table, in its order.
+/// Returns `UnknownCode` if the record has a code that is reserved, of a GIC `BadRange` if a range of redistributors
+/// has 2^32 bytes or more, and then the errors of the call of `acpi_writer` for such a table, in its order.
 #[tactic(auto, using(crate::proofs::WrittenTables::named), unfolding(acpi_writer::specs::Spcr::spcr_written, acpi_writer::specs::Spcr::fixed_list))]
 pub fn write_contents(
     out: &mut [u8],
@@ -141,7 +141,8 @@ fn are_tables(listed: &[ListedTable<'_>]) -> bool
 
 /// Writes all tables of a machine to the front of a buffer that is to lie at this physical address.
 ///
-/// Returns `BadTable` if bytes that are listed aren't a table, and then those of `acpi_writer::write_tables`, in its order.
+/// Returns `BadTable` if bytes that are listed aren't a table, and then the errors of `acpi_writer::write_tables`, in its
+/// order.
 pub fn write_tables(out: &mut [u8], address: u64, machine: &Machine<'_>) -> Result<usize, Refusal>
     ensures exact { Gives (λ n. take n out.new) result
         (whole.machine_said (length out.old) address machine.now) }
@@ -151,7 +152,10 @@ pub fn write_tables(out: &mut [u8], address: u64, machine: &Machine<'_>) -> Resu
     Ok(acpi_writer::write_tables(out, address, &machine.whole())?)
 }
 
-/// The same but for the RSDP.
+/// Writes all tables of a machine but the RSDP to the front of a buffer that is to lie at this physical address.
+///
+/// Returns `BadTable` if bytes that are listed aren't a table, and then the errors of
+/// `acpi_writer::write_tables_without_rsdp`, in its order.
 pub fn write_tables_without_rsdp(
     out: &mut [u8],
     address: u64,
