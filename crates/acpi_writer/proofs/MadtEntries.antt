@@ -6,7 +6,7 @@ use Rattle.acpi_base.proofs.Words.{said_faults, said_items, number-spelling}
 use Rattle.acpi_base.specs.Words.{said_of, cut_of, entries_of, entry_of, madt_at, madt_grammar, madt_layout, mailbox_in, Model, fault_in, fault_of, first_fault, items_of, model_from, model_of, field_of, spelling, item_of, line_code, polarity_of, trigger_mode_of}
 use Rattle.acpi.specs.Types.{AcpiError, InvalidMadt, MadtError, Madt, MadtEntry, MadtItem, InterruptSourceOverride, IoApic, LocalInterruptLine, Lint0, Lint1, NmiLine, NmiProcessor, NmiSource, Polarity, TriggerMode}
 use Rattle.acpi_writer.proofs.Rows.{Speaks, in_map, in_none, in_same, in_some, speaks_nothing, speaks_row, spoken, spoken_cut}
-use Rattle.acpi_writer.specs.Words.{Fits, MadtProcessor, inti_flags, io_apic_fields, nmi_source_fields, override_fields, address_entries, apic_nmi_fields, io_apic_entry, is_small, local_apic_fields, local_x2apic_fields, long_uid, names_one, nmi_fields, nmi_line_entry, nmi_source_entry, override_address_fields, override_entry, processor_entry, short_uid, wakeup_entries, wakeup_fields, x2apic_nmi_fields, FitsField, fields_bytes}
+use Rattle.acpi_writer.specs.Words.{Fits, MadtProcessor, inti_flags, io_apic_fields, nmi_source_fields, override_fields, address_entries, apic_nmi_fields, io_apic_entry, is_small, local_apic_fields, local_x2apic_fields, names_one, nmi_fields, nmi_line_entry, nmi_source_entry, override_address_fields, override_entry, processor_entry, wakeup_entries, wakeup_fields, x2apic_nmi_fields, FitsField, fields_bytes}
 use Rattle.acpi_writer.specs.MadtBytes.{address_fields, mailbox_fields, processor_fields}
 use Rattle.acpi_writer.proofs.FieldsRead.{read_at}
 use Rattle.acpi_writer.proofs.Bits.{one, two_bits}
@@ -206,13 +206,13 @@ x2apic_nmi_one o uid Lint1 h = speaks_row (lit≤ tt) (lit≤ tt) refl (lit≤ t
     (for_other 0xffffffff _ uid Lint1 (number-spelling 4 uid (omega (arith, h))) h, refl)
 
 one_line_says : (o : Option ℕ) (small : Bool) (uid : ℕ) (l : LocalInterruptLine) → uid < 0xffffffff
-    → nat_lt uid 255 ≡ small → Says o (fields_bytes (nmi_fields (if small then Some uid else None) uid (line_code l)))
-    (line_item (nmi.ProcessorUid uid) l ∷ [])
+    → nat_lt uid 255 ≡ small → Says o (fields_bytes (if small then apic_nmi_fields uid (line_code l)
+    else x2apic_nmi_fields uid (line_code l))) (line_item (nmi.ProcessorUid uid) l ∷ [])
 one_line_says o true uid l h e = apic_nmi_one o uid l (ltb-true uid 255 e)
 one_line_says o false uid l h e = x2apic_nmi_one o uid l h
 
 line_by : (o : Option ℕ) (p : NmiProcessor) (l : LocalInterruptLine) → names_one p ≡ true
-    → Says o (fields_bytes (nmi_fields (short_uid p) (long_uid p) (line_code l))) (line_item p l ∷ [])
+    → Says o (fields_bytes (nmi_fields p (line_code l))) (line_item p l ∷ [])
 line_by o nmi.All l f = apic_nmi_all o l
 line_by o (nmi.ProcessorUid uid) l f = one_line_says o (nat_lt uid 255) uid l (ltb-true uid 0xffffffff f) refl
 

@@ -103,22 +103,14 @@ x2apic_nmi_fields uid line =
     ∷ U8 line ∷ Zeros 3  -- 8: Local x2APIC LINT#, 9: Reserved
     ∷ []
 
--- the uid in the first, in which 255 stands for all, if it has a place there
-abbrev pub short_uid : NmiProcessor → Option ℕ
-short_uid nmi.All = Some 255
-short_uid (nmi.ProcessorUid uid) = if nat_lt uid 255 then Some uid else None
-
--- the uid in the second, in which 2^32 - 1 stands for all
-abbrev pub long_uid : NmiProcessor → ℕ
-long_uid nmi.All = 0xffffffff
-long_uid (nmi.ProcessorUid uid) = uid
-
-abbrev pub nmi_fields : Option ℕ → ℕ → ℕ → List Field
-nmi_fields (Some uid) long line = apic_nmi_fields uid line
-nmi_fields None long line = x2apic_nmi_fields long line
+-- the first if the uid has a place there, in which 255 stands for all
+abbrev pub nmi_fields : NmiProcessor → ℕ → List Field
+nmi_fields nmi.All line = apic_nmi_fields 255 line
+nmi_fields (nmi.ProcessorUid uid) line =
+    if nat_lt uid 255 then apic_nmi_fields uid line else x2apic_nmi_fields uid line
 
 abbrev pub nmi_line_fields : NmiLine → List Field
-nmi_line_fields x = nmi_fields (short_uid x.processor) (long_uid x.processor) (line_code x.line)
+nmi_line_fields x = nmi_fields x.processor (line_code x.line)
 
 abbrev pub nmi_line_entry : NmiLine → List ℕ
 nmi_line_entry x = fields_bytes (nmi_line_fields x)

@@ -25,7 +25,7 @@ pub use Rattle.acpi_writer.specs.Laid.{addresses, gap, laid, padded, rounded}
 pub use Rattle.acpi_writer.specs.Machine.{FacsFits, Machine, MachineOf, after_dsdt, check_each, check_tables, dsdt_address, dsdt_at, dsdt_end, dsdt_length, dsdt_of, dsdt_written, facs_address, facs_at, facs_from, facs_gap, facs_laid, facs_room, listed, listed_by, listed_sized, machine_size, machine_written, pointers_of, rest_bytes, tables_address, tree_bytes, tree_size, tree_written, xsdt_by, xsdt_bytes, xsdt_from, xsdt_length}
 unfoldable pub use Rattle.acpi_writer.specs.Machine.{check_by, machine_by, size_by, tree_by}
 pub use Rattle.acpi_writer.specs.MachineLaws.{AreValid, HasFacs, HasFadt, HasTable, IsOpened, IsWritable, LaidAreFound, MachineIsRead, Says, TreeIsRead, first_at, first_of, place_of, platform_read}
-pub use Rattle.acpi_writer.specs.MadtBytes.{address_entries, inti_flags, io_apic_entry, is_empty, is_single, is_small, long_uid, madt_body, madt_checked, madt_entries, madt_fixed, madt_meant, names_one, nmi_fields, nmi_line_entry, nmi_source_entry, override_entry, processor_entry, short_uid, wakeup_entries}
+pub use Rattle.acpi_writer.specs.MadtBytes.{address_entries, inti_flags, io_apic_entry, is_empty, is_single, is_small, madt_body, madt_checked, madt_entries, madt_fixed, madt_meant, names_one, nmi_fields, nmi_line_entry, nmi_source_entry, override_entry, processor_entry, wakeup_entries}
 unfoldable pub use Rattle.acpi_writer.specs.MadtBytes.{apic_nmi_fields, io_apic_fields, local_apic_fields, local_x2apic_fields, madt_fields, madt_written, nmi_source_fields, override_address_fields, override_fields, wakeup_fields, x2apic_nmi_fields}
 pub use Rattle.acpi_writer.specs.MadtLaws.{AreFit, IsMadt, MadtIsRead, MadtIsValid, MailboxIsRead, apic_read, model_read, processor_read, processors_read}
 pub use Rattle.acpi_writer.specs.Mcfg.{mcfg_body, mcfg_entry, mcfg_reserved, mcfg_written, FitsMcfg, IsMcfg, McfgIsRead, McfgIsValid}

@@ -168,24 +168,19 @@ impl Record for NmiSource {
     }
 }
 
-/// The uid in a Local APIC NMI, of which 255 stands for all processors, or `None` if it has no place there.
-fn short_uid(processor: NmiProcessor) -> Option<u8>
-    ensures { result ≡ bytes.short_uid processor }
+/// A Local APIC NMI, of whose uids 255 stands for all processors.
+#[tactic(auto, unfolding(crate::specs::MadtBytes::apic_nmi_fields))]
+fn apic_nmi(uid: u8, line: u8) -> [Field; 6]
+    ensures { result ≡ bytes.apic_nmi_fields uid line }
 {
-    match processor {
-        NmiProcessor::All => Some(255),
-        NmiProcessor::ProcessorUid(uid) => { if uid < 255 { Some(uid as u8) } else { None } }
-    }
-}
-
-/// The uid in a Local x2APIC NMI, of which 2^32 - 1 stands for all processors.
-fn long_uid(processor: NmiProcessor) -> u32
-    ensures { result ≡ bytes.long_uid processor }
-{
-    match processor {
-        NmiProcessor::All => 0xffffffff,
-        NmiProcessor::ProcessorUid(uid) => uid,
-    }
+    [
+        Field::U8(4),
+        Field::U8(6),
+        Field::U8(uid),
+        Field::Zeros(2),
+        Field::U8(line),
+        Field::Zeros(0),
+    ]
 }
 
 impl Record for NmiLine {
@@ -193,23 +188,17 @@ impl Record for NmiLine {
 
     ghost fields_of = { bytes.nmi_line_fields };
 
-    #[tactic(auto, unfolding(crate::specs::MadtBytes::apic_nmi_fields, crate::specs::MadtBytes::x2apic_nmi_fields))]
+    #[tactic(auto, unfolding(crate::specs::MadtBytes::x2apic_nmi_fields))]
     fn fields(&self) -> [Field; 6] {
         let line = self.line.code();
-        match short_uid(self.processor) {
-            Some(uid) => [
-                Field::U8(4),
-                Field::U8(6),
-                Field::U8(uid),
-                Field::Zeros(2),
-                Field::U8(line),
-                Field::Zeros(0),
-            ],
-            None => [
+        match self.processor {
+            NmiProcessor::All => apic_nmi(255, line),
+            NmiProcessor::ProcessorUid(uid) if uid < 255 => apic_nmi(uid as u8, line),
+            NmiProcessor::ProcessorUid(uid) => [
                 Field::U8(10),
                 Field::U8(12),
                 Field::Zeros(2),
-                Field::U32(long_uid(self.processor)),
+                Field::U32(uid),
                 Field::U8(line),
                 Field::Zeros(3),
             ],
