@@ -1,0 +1,31 @@
+/* What a program that is called with IMAGE START looks at: one table, and its bytes. */
+#ifndef TABLE_H
+#define TABLE_H
+#include "image.h"
+#include "start.h"
+
+static struct zacpi_source source;
+static struct zacpi_table table;
+static const uint8_t *bytes;
+
+/* Finds the first valid table of a signature. Returns how many arguments were taken; without one the program ends. */
+static int open_table(int argc, char **argv, const char *letters) {
+    static struct zacpi_region regions[1024];
+    uint8_t revision;
+    size_t length = 0;
+    const int taken = start_of(argc, argv, &source, &revision);
+    const uint8_t *image = taken ? contents(argv[1], &length) : NULL;
+    source.regions = regions;
+    if (image && !regions_of(image, length, regions, 1024, &source.regions_length) &&
+        !zacpi_find_table(&source, zacpi_signature_of(letters), &table, NULL))
+        bytes = zacpi_table_bytes(source.regions, source.regions_length, &table);
+    if (bytes) return taken;
+    fputs("no such table\n", stderr);
+    exit(1);
+}
+
+/* What lies at an offset of the table, if so many bytes do. */
+static inline const void *at(uint32_t offset, size_t length) {
+    return offset <= table.length && length <= table.length - offset ? bytes + offset : NULL;
+}
+#endif
