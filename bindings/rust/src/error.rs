@@ -43,6 +43,8 @@ pub enum AcpiError {
     InvalidFacsAddress,
     /// X_DSDT and DSDT of the FADT are 0 (section 5.2.9).
     InvalidDsdtAddress,
+    /// NamespaceString of the SPCR reaches past the table's end or isn't UTF-8.
+    InvalidNamespaceString,
     /// A register's address has a reserved code (section 5.2.3.2), or an HPET's registers don't lie in memory.
     InvalidGenericAddress,
     /// No region of configuration space holds this PCI function.

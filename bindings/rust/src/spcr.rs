@@ -17,8 +17,10 @@
 
 use crate::acpi_tables::{read::Read, AcpiTables};
 use crate::address::{register, GenericAddress};
-use crate::error::AcpiResult;
+use crate::error::{AcpiError, AcpiResult};
 use crate::raw::{self, records};
+use crate::sdt::Signature;
+use crate::tables::number;
 
 macro_rules! interfaces {
     ($($(#[$doc:meta])* $code:literal = $name:ident,)*) => {
@@ -103,16 +105,31 @@ pub struct Spcr {
     pub parity: u8,
     /// Stop Bits. 1: one stop bit.
     pub stop_bits: u8,
+    /// Flow Control: bit 0 DCD, bit 1 RTS and CTS, bit 2 XON and XOFF.
+    pub flow_control: u8,
+    /// Terminal Type: 0 VT100, 1 VT100+, 2 VT-UTF8, 3 ANSI.
+    pub terminal_type: u8,
     /// PCI Flags. Bit 0: neither switch the device off nor look for its like.
     pub pci_flags: u32,
     /// PCI Segment.
     pub pci_segment: u8,
+    language: u8,
     raw: records::Console,
 }
 
+/// The least length of an SPCR: its fields of revision 2 end there.
+const LEAST: u32 = 80;
+
+/// The bytes of the first valid SPCR.
+fn bytes<'k>(tables: &AcpiTables<'k>) -> AcpiResult<&'k [u8]> {
+    let missing = AcpiError::TableMissing(Signature::SPCR);
+    let table = tables.find_all(Signature::SPCR).find(|table| table.length >= LEAST).ok_or(missing)?;
+    tables.bytes(&table).ok_or(AcpiError::MapFailed)
+}
+
 impl Spcr {
-    /// A console of this type, to be written: no PCI device, with one stop bit and no parity, and none of what the
-    /// calls below add.
+    /// A console of this type, to be written: no PCI device, with one stop bit and no parity, for a terminal of type
+    /// ANSI without flow control, and none of what the calls below add.
     pub fn new(interface: SpcrInterfaceType) -> Self {
         let none = 0xffff; // of PCI Device ID and PCI Vendor ID
         let raw = records::Console {
@@ -121,7 +138,30 @@ impl Spcr {
             pci_vendor_id: none,
             ..Default::default()
         };
-        Spcr { parity: 0, stop_bits: 1, pci_flags: 0, pci_segment: 0, raw }
+        Spcr {
+            parity: 0,
+            stop_bits: 1,
+            flow_control: 0,
+            terminal_type: 3,
+            pci_flags: 0,
+            pci_segment: 0,
+            language: 0,
+            raw,
+        }
+    }
+
+    /// NamespaceString of the first valid SPCR, without the zero that ends it: the name of the port's object, or `.` if
+    /// it has none. Empty if the table ends before NamespaceStringLength and NamespaceStringOffset.
+    ///
+    /// Fails with `TableMissing`, and with [`AcpiError::InvalidNamespaceString`] if the string reaches past the table's
+    /// end or isn't UTF-8.
+    pub fn namespace_string<'k>(tables: &AcpiTables<'k>) -> AcpiResult<&'k str> {
+        let bytes = bytes(tables)?;
+        // NamespaceStringLength is at 84, and NamespaceStringOffset at 86.
+        let (length, offset) = (number(bytes, 84, 2) as usize, number(bytes, 86, 2) as usize);
+        let text = bytes.get(offset..offset + length).ok_or(AcpiError::InvalidNamespaceString)?;
+        let text = core::str::from_utf8(text).map_err(|_| AcpiError::InvalidNamespaceString)?;
+        Ok(text.strip_suffix('\0').unwrap_or(text))
     }
 
     /// The same with this Base Address.
@@ -169,6 +209,11 @@ impl Spcr {
             pci_segment: self.pci_segment,
             ..self.raw
         }
+    }
+
+    /// Language: of what the firmware printed, 0 by the layout.
+    pub fn language(&self) -> u8 {
+        self.language
     }
 
     /// Interface Type.
@@ -228,22 +273,21 @@ impl Spcr {
     }
 }
 
-impl From<records::Console> for Spcr {
-    fn from(raw: records::Console) -> Self {
-        // What a public field holds isn't held twice.
-        let rest = records::Console { parity: 0, stop_bits: 0, pci_flags: 0, pci_segment: 0, ..raw };
-        Spcr {
-            parity: raw.parity,
-            stop_bits: raw.stop_bits,
-            pci_flags: raw.pci_flags,
-            pci_segment: raw.pci_segment,
-            raw: rest,
-        }
-    }
-}
-
 impl Read<'_> for Spcr {
     fn find(tables: &AcpiTables<'_>) -> AcpiResult<Self> {
-        raw::zacpi_1_get_console(&tables.source()).map(Spcr::from)
+        let raw = raw::zacpi_1_get_console(&tables.source())?;
+        let bytes = bytes(tables)?;
+        let byte = |at| number(bytes, at, 1) as u8;
+        Ok(Spcr {
+            parity: raw.parity,
+            stop_bits: raw.stop_bits,
+            flow_control: byte(61),
+            terminal_type: byte(62),
+            pci_flags: raw.pci_flags,
+            pci_segment: raw.pci_segment,
+            language: byte(63),
+            // What a public field holds isn't held twice.
+            raw: records::Console { parity: 0, stop_bits: 0, pci_flags: 0, pci_segment: 0, ..raw },
+        })
     }
 }

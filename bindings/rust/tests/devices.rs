@@ -65,17 +65,19 @@ fn reads_a_boot_graphic() {
 #[test]
 fn reads_a_console() {
     // Interface Type at 36, Base Address at 40, Interrupt Type at 52, IRQ at 53, Global System Interrupt at 54,
-    // Configured Baud Rate at 58, Parity at 59, Stop Bits at 60, PCI Device ID at 64, PCI Vendor ID at 66, PCI Bus
-    // Number at 68, PCI Device Number at 69, PCI Function Number at 70, PCI Flags at 71, PCI Segment at 75, UART Clock
-    // Frequency at 76, Precise Baud Rate at 80.
+    // Configured Baud Rate at 58, Parity at 59, Stop Bits at 60, Flow Control at 61, Terminal Type at 62, Language at
+    // 63, PCI Device ID at 64, PCI Vendor ID at 66, PCI Bus Number at 68, PCI Device Number at 69, PCI Function Number
+    // at 70, PCI Flags at 71, PCI Segment at 75, UART Clock Frequency at 76, Precise Baud Rate at 80,
+    // NamespaceStringLength at 84, NamespaceStringOffset at 86.
     #[rustfmt::skip]
     let mut fields = vec![
         (36, 1, 3), (52, 1, 9), (53, 1, 4), (54, 4, 33), (58, 1, 7), (59, 1, 0), (60, 1, 1), (64, 2, 0x1234),
         (66, 2, 0x8086), (68, 1, 2), (69, 1, 3), (70, 1, 4), (71, 4, 1), (75, 1, 5), (76, 4, 48_000_000),
-        (80, 4, 1_500_000),
+        (61, 1, 6), (62, 1, 2), (63, 1, 1), (80, 4, 1_500_000), (84, 2, 9), (86, 2, 88),
+        (88, 8, u64::from_le_bytes(*b"\\_SB.COM")),
     ];
     fields.extend(generic(40, 0, 32, 0, 3, 0x900_0000));
-    with("SPCR", 4, 88, &fields).ask(|tables| {
+    with("SPCR", 4, 97, &fields).ask(|tables| {
         let console = tables.find_table::<Spcr>().unwrap();
         let base = GenericAddress {
             address_space: AddressSpace::SystemMemory,
@@ -89,6 +91,8 @@ fn reads_a_console() {
         assert_eq!((console.irq(), console.global_system_interrupt()), (Some(4), Some(33)));
         assert_eq!((console.baud_rate(), console.uart_clock_frequency()), (Some(1_500_000), Some(48_000_000)));
         assert_eq!((console.parity, console.stop_bits, console.pci_flags, console.pci_segment), (0, 1, 1, 5));
+        assert_eq!((console.flow_control, console.terminal_type, console.language()), (6, 2, 1));
+        assert_eq!(Spcr::namespace_string(&tables), Ok("\\_SB.COM"));
         assert_eq!((console.pci_device_id(), console.pci_vendor_id()), (Some(0x1234), Some(0x8086)));
         assert_eq!((console.pci_bus_number(), console.pci_device_number()), (2, 3));
         assert_eq!(console.pci_function_number(), 4);
@@ -99,6 +103,7 @@ fn reads_a_console() {
         assert_eq!(console.interface_type(), SpcrInterfaceType::Unknown(7));
         assert_eq!((console.irq(), console.global_system_interrupt()), (None, None));
         assert_eq!((console.baud_rate(), console.uart_clock_frequency()), (Some(9600), None));
+        assert_eq!(Spcr::namespace_string(&tables), Ok(""));
         assert_eq!((console.pci_device_id(), console.pci_vendor_id()), (None, None));
     });
     with("SPCR", 2, 80, &generic(40, 0x0b, 8, 0, 0, 0x3f8)).ask(|tables| {
@@ -106,6 +111,11 @@ fn reads_a_console() {
         assert_eq!(console.base_address(), Some(Err(AcpiError::InvalidGenericAddress)));
         assert_eq!(console.baud_rate(), None);
     });
+    // A string of a byte after the table's end, and one that isn't UTF-8.
+    for name in [[(84, 2, 1), (86, 2, 90), (88, 2, 0)], [(84, 2, 2), (86, 2, 88), (88, 2, 0x80ff)]] {
+        let tables = with("SPCR", 4, 90, &name);
+        tables.ask(|tables| assert_eq!(Spcr::namespace_string(&tables), Err(AcpiError::InvalidNamespaceString)));
+    }
 }
 
 #[test]

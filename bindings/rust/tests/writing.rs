@@ -145,6 +145,7 @@ fn writes_a_console() {
         .with_uart_clock_frequency(1_843_200)
         .with_pci_device((0x8086, 0x1234), (1, 2, 3));
     (console.parity, console.pci_flags, console.pci_segment) = (0, 1, 4);
+    (console.flow_control, console.terminal_type) = (2, 1);
     let table = write::Spcr::new(IDS, console);
     let read = read_back(
         table.size(),
@@ -152,8 +153,9 @@ fn writes_a_console() {
         |tables| {
             let found = tables.find(Signature::SPCR).unwrap();
             let bytes = tables.bytes(&found).unwrap();
-            // Interrupt Type: an 8259 and an I/O APIC; Flow Control; Terminal Type: ANSI.
-            assert_eq!((bytes[52], bytes[61], bytes[62]), (3, 0, 3));
+            // Interrupt Type: an 8259 and an I/O APIC; Flow Control: RTS and CTS; Terminal Type: VT100+.
+            assert_eq!((bytes[52], bytes[61], bytes[62]), (3, 2, 1));
+            assert_eq!(Spcr::namespace_string(&tables), Ok("."));
             tables.find_table::<Spcr>().unwrap()
         },
     );

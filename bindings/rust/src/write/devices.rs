@@ -85,16 +85,12 @@ pub struct Spcr {
     /// Bits 1 to 4 of Interrupt Type: 2 an I/O APIC, 4 an I/O SAPIC, 8 a GIC, 16 a PLIC or an APLIC, or a sum of these.
     /// Isn't looked at if the console has no global system interrupt.
     pub interrupt_controllers: u8,
-    /// Flow Control.
-    pub flow_control: u8,
-    /// Terminal Type: 0 VT100, 1 VT100+, 2 VT-UTF8, 3 ANSI.
-    pub terminal_type: u8,
 }
 
 impl Spcr {
-    /// An SPCR of this console at an I/O APIC, without flow control, for a terminal of type ANSI.
+    /// An SPCR of this console at an I/O APIC.
     pub fn new(ids: TableIds, console: spcr::Spcr) -> Self {
-        Spcr { ids, console, interrupt_controllers: 2, flow_control: 0, terminal_type: 3 }
+        Spcr { ids, console, interrupt_controllers: 2 }
     }
 
     /// How many bytes [`Spcr::write`] writes.
@@ -107,8 +103,8 @@ impl Spcr {
         let contents = SpcrContents {
             console: self.console.record(),
             interrupt_controllers: self.interrupt_controllers,
-            flow_control: self.flow_control,
-            terminal_type: self.terminal_type,
+            flow_control: self.console.flow_control,
+            terminal_type: self.console.terminal_type,
         };
         raw::zacpi_1_write_spcr(&self.ids, &contents, memory)
     }
