@@ -50,7 +50,6 @@ records! {
         length: u64,
     }
     /// A stream of AML: a DSDT or an SSDT without its header (section 5.2.11).
-    #[non_exhaustive]
     AmlTable {
         /// The physical address of the first byte after the table's 36 bytes of header.
         address: u64,

@@ -2,7 +2,7 @@
 mod common;
 use common::{Memory, ROOT};
 use zacpi::entries::EntryWidth;
-use zacpi::{AcpiError, AcpiTables, Fault, Range, Region, Root, Signature, Slot, Start, Table};
+use zacpi::{AcpiError, AcpiTables, AmlTable, Fault, Range, Region, Root, Signature, Slot, Start, Table};
 
 const FADT: u64 = ROOT + 0x1000;
 const DSDT: u64 = ROOT + 0x2000;
@@ -140,15 +140,14 @@ fn finds_and_lists_tables() {
 fn answers_where_bytes_are() {
     machine().ask(|tables| {
         let dsdt = tables.dsdt().unwrap();
-        assert_eq!((dsdt.address, dsdt.length), (DSDT + 36, 4));
+        assert_eq!(dsdt, AmlTable { address: DSDT + 36, length: 4 });
         assert_eq!(tables.aml(&dsdt), Some(&[1, 2, 3, 4][..]));
         let mut room = [Slot::default(); 4];
         let ssdts = tables.ssdts().fill(&mut room).unwrap();
-        let listed: Vec<_> = ssdts.iter().collect();
-        let places: Vec<_> = listed.iter().map(|aml| (aml.address, aml.length)).collect();
-        assert_eq!(places, [(SSDT + 36, 1), (OTHER_SSDT + 36, 0)]);
-        assert_eq!(tables.ssdts().into_iter().collect::<Vec<_>>(), listed);
-        assert_eq!((tables.aml(&listed[0]), tables.aml(&listed[1])), (Some(&[0xa3][..]), Some(&[][..])));
+        let expected = [AmlTable { address: SSDT + 36, length: 1 }, AmlTable { address: OTHER_SSDT + 36, length: 0 }];
+        assert_eq!(ssdts.iter().collect::<Vec<_>>(), expected);
+        assert_eq!(tables.ssdts().into_iter().collect::<Vec<_>>(), expected);
+        assert_eq!((tables.aml(&expected[0]), tables.aml(&expected[1])), (Some(&[0xa3][..]), Some(&[][..])));
         let dmar = tables.find(Signature::DMAR).unwrap();
         let bytes = tables.bytes(&dmar).unwrap();
         assert_eq!((bytes.len(), &bytes[..4], &bytes[48..52]), (61, &b"DMAR"[..], &[1, 0, 4, 0][..]));
