@@ -6,12 +6,14 @@
 
 mod all;
 mod gathered;
+mod guarded;
 mod kept;
 mod scene;
 mod types;
 mod ways;
 
 use crate::ask::{Asked, call_of};
+use crate::numbers::is;
 use crate::rows::{Handlers, Row};
 use crate::text::Text;
 use acpi::AcpiHandler;
@@ -66,7 +68,7 @@ fn over_each(asked: &mut Asked<'_>, row: &Row, image: &MemoryImage<'_>, file: &[
     let generous = Recording::new(image);
     let mut out = Text::new(alloc, generous.cell(), false);
     let (call, rest) = call_of(line);
-    if call == "fronts" {
+    if is(call, "fronts") {
         fronts(&mut out, file);
     } else {
         alone(&mut out, &generous, row, (call, rest));

@@ -5,22 +5,20 @@
 //!   for, and `after_last`: how many headers and SSDTs there are, and what is given after the last;
 //! - `dsdt`, `facs`, `sdt SIGNATURE` (where the first of these lies), `fadt_view` (where the FADT lies, and then, while
 //!   its bytes are lent, where it places the DSDT) and `checks` (how often the table was checked that is given);
-//! - `hpet_info`, `mailbox`, `wake READS` and `distance APIC ADDRESS`;
+//! - `hpet_info`, `mailbox` and `wake READS`;
 //! - those that need memory (`gathered`), and `platforms`, the answer of each of the four calls for a platform;
 //! - `KIND CALL` and `each CALL`, about a type of table, or those of six (`types`).
 
 use super::gathered::{InMemory, print_platform};
 use super::types;
 use crate::heaps::{self, Gathers};
-use crate::numbers::{first_word, id_of, number_of};
+use crate::numbers::{first_word, match_word, number_of};
 use crate::rows::signature_of;
 use crate::text::Text;
 use crate::watched::Watched;
 use acpi::platform::{PlatformInfo, ScriptedMailbox, wakeup_aps};
 use acpi::sdt::{SdtHeader, Signature};
 use acpi::{AcpiHandler, AcpiResult, AcpiTables, HpetInfo, TableMember};
-use acpi_cli::parse_address;
-use acpi_numa::{Distances, Domains, MemoryAffinities, NumaResult, Slit, Srat};
 
 /// Prints what a call gives over tables.
 pub(super) fn answer<H: AcpiHandler>(
@@ -30,11 +28,11 @@ pub(super) fn answer<H: AcpiHandler>(
     rest: &str,
 ) {
     let most = rest.parse::<u16>().unwrap_or(u16::MAX) as usize;
-    match call {
+    match_word!(call, {
         "root" => {
             let place = (tables.root_address(), tables.root_length());
             out.show(&(tables.revision(), place, tables.root_signature()));
-        }
+        },
         "headers" => out.list(tables.headers().map(front_of).take(most)),
         "whole_headers" => out.list(tables.headers().take(most)),
         "members" => out.list(tables.members().map(member_of).take(most)),
@@ -48,13 +46,13 @@ pub(super) fn answer<H: AcpiHandler>(
             Err(refusal) => out.show(&refusal),
         },
         _ => alone(out, tables, call, rest),
-    }
+    })
 }
 
 /// Prints what a call gives that sums tables up, or is about a type of table.
 fn alone<H: AcpiHandler>(out: &mut Text<'_>, tables: &AcpiTables<'_, H>, call: &str, rest: &str) {
     let alloc = out.alloc;
-    match call {
+    match_word!(call, {
         "fadt_view" => view_fadt(out, tables),
         "checks" => match tables.find_table::<Watched>() {
             Ok(table) => out.show(&table.checks()),
@@ -63,21 +61,17 @@ fn alone<H: AcpiHandler>(out: &mut Text<'_>, tables: &AcpiTables<'_, H>, call: &
         "hpet_info" => print_timers(out, HpetInfo::new(tables)),
         "mailbox" => wake(out, tables, 7, 1),
         "wake" => wake(out, tables, 1, number_of(rest)),
-        "distance" => {
-            let distance = distance(out, tables, rest);
-            out.show(&distance);
-        }
         "platforms" => platforms(out, tables),
         "platform" | "regions" | "gic" | "memory" | "address" | "ecam" | "domain" | "processor" => {
             InMemory { tables, call, rest }.gather(out, alloc, None);
-        }
+        },
         "heap" => {
             let (size, rest) = first_word(rest);
             heaps::over(out, &InMemory::of(tables, rest), number_of(size) as usize);
-        }
+        },
         "heaps" => heaps::over_all(out, &InMemory::of(tables, rest)),
         _ => types::answer(out, tables, call, rest),
-    }
+    })
 }
 
 /// The signature, length, revision and checksum in a header.
@@ -131,27 +125,6 @@ fn wake<H: AcpiHandler>(out: &mut Text<'_>, tables: &AcpiTables<'_, H>, apic_id:
     let mut mailbox = ScriptedMailbox::new(&[0]);
     let woken = wakeup_aps(tables, &mut mailbox, apic_id, 0x8000, reads);
     out.show(&(woken, mailbox.opened(), mailbox.writes().len()));
-}
-
-/// How far the memory at an address is from the processor of a local APIC, by the SLIT, as a kernel asks: 10 is
-/// near. It is `None` if one of the two is in no domain, or if the SLIT doesn't have their distance.
-fn distance<H: AcpiHandler>(
-    out: &Text<'_>,
-    tables: &AcpiTables<'_, H>,
-    rest: &str,
-) -> NumaResult<Option<u8>> {
-    let (apic, address) = first_word(rest);
-    let address = parse_address(address).unwrap_or(0);
-    let to = MemoryAffinities::new(out.alloc, tables)?.domain_of(address);
-    let srat = tables.find_table::<Srat>()?;
-    let from = Domains::over(srat.bytes()).domain_of_apic(id_of(apic));
-    let slit = tables.find_table::<Slit>()?;
-    match (from, to) {
-        (Some(from), Some(to)) => {
-            Ok(Distances::over(slit.bytes()).distance(u64::from(from), u64::from(to)))
-        }
-        _ => Ok(None),
-    }
 }
 
 /// Prints what each of the four calls for a platform answers, if all answer the same.

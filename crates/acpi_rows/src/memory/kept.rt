@@ -1,5 +1,6 @@
 //! Mappings that a scene keeps.
 
+use crate::numbers::{is, match_word};
 use crate::rows::signature_of;
 use crate::text::Text;
 use acpi::bgrt::Bgrt;
@@ -47,16 +48,23 @@ pub(super) fn mapped<'h, H: AcpiHandler>(
     name: &str,
     address: u64,
 ) -> AcpiResult<Kept<'h, H>> {
-    if call == "table" {
+    if is(call, "table") {
         return Ok(Kept::Graphic(map_table(handler, address)?));
     }
-    Ok(Kept::Header(match call {
-        "named" => map_sdt(handler, address, signature_of(name))?,
-        "own" => map_own_sdt(handler, address)?,
-        "given" => {
-            let bytes = handler.map_physical_region(address, 40)?;
-            PhysicalMapping::new(address, bytes, 40, handler)
-        }
-        _ => PhysicalMapping::map(handler, address, 36)?,
-    }))
+    let header = match_word!(call, {
+        "named" => map_sdt(handler, address, signature_of(name)),
+        "own" => map_own_sdt(handler, address),
+        "given" => given(handler, address),
+        _ => PhysicalMapping::map(handler, address, 36),
+    });
+    Ok(Kept::Header(header?))
+}
+
+/// A header at an address, in 40 bytes that are lent there.
+fn given<H: AcpiHandler>(
+    handler: &H,
+    address: u64,
+) -> AcpiResult<PhysicalMapping<'_, H, SdtHeader>> {
+    let bytes = handler.map_physical_region(address, 40)?;
+    Ok(PhysicalMapping::new(address, bytes, 40, handler))
 }

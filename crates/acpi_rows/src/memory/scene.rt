@@ -3,19 +3,20 @@
 //! - `rsdt REVISION ADDRESS`, `rsdp ADDRESS`, `bios`, `areas ADDRESS LENGTH, ..` and `validated` open tables (`ways`).
 //!   `close` drops them.
 //! - `search` and `within ADDRESS LENGTH, ..` look an RSDP up and drop it, and `bios_areas EBDA` says where the former
-//!   looks.
+//!   looks. `lend ADDRESS LENGTH, ..` asks for bytes, and prints those that are lent to their end;
+//!   `guarded` asks for two numbers, as it may (`guarded`).
 //! - `keep` finds the boot graphic and keeps its mapping. `table ADDRESS`, `named NAME ADDRESS`, `own ADDRESS`, `given
 //!   ADDRESS` and `map ADDRESS` keep what they map (`kept`). `show` prints what was kept last, and `release PLACE`
 //!   drops one, or else the first.
 //! - All other steps ask the tables (`all`).
 
-use super::all;
 use super::kept::{Kept, mapped};
-use super::ways::{found, open};
-use crate::numbers::number_of;
+use super::ways::{areas_of, found, open};
+use super::{all, guarded};
+use crate::numbers::{is, match_word, number_of};
 use crate::text::Text;
 use acpi::rsdp::bios_areas;
-use acpi::{AcpiHandler, AcpiResult, AcpiTables, Lender};
+use acpi::{AcpiHandler, AcpiResult, AcpiTables, AddressRange, Lender};
 use acpi_cli::parse_address;
 use std::alloc::Global;
 
@@ -44,7 +45,7 @@ impl<'r, H: AcpiHandler> Scene<'r, H> {
         (way, place): (&str, &str),
         (call, rest): (&str, &str),
     ) {
-        if matches!(call, "search" | "within" | "bios_areas") {
+        if is(call, "search") || is(call, "within") || is(call, "bios_areas") {
             self.perform(out, call, rest);
             return;
         }
@@ -56,33 +57,38 @@ impl<'r, H: AcpiHandler> Scene<'r, H> {
 
     /// Does a step.
     pub(super) fn perform(&mut self, out: &mut Text<'_>, call: &str, rest: &str) {
-        match call {
+        match_word!(call, {
             "rsdt" | "rsdp" | "bios" | "areas" | "validated" => self.open(out, call, rest),
             "search" | "within" => match found(out.alloc, self.handler, call, rest) {
                 Ok(rsdp) => out.place(&rsdp),
                 Err(refusal) => out.show(&refusal),
             },
             "bios_areas" => out.show(&bios_areas(parse_address(rest))),
+            "lend" => match areas_of(out.alloc, rest) {
+                Ok(areas) => lend(out, self.handler, &areas),
+                Err(refusal) => out.show(&refusal),
+            },
+            "guarded" => guarded::numbers(out, self.handler),
             "close" => self.tables = None,
             "release" => self.release(number_of(rest) as usize),
             "show" => {
                 if let Some(kept) = self.kept.last() {
                     kept.show(out);
                 }
-            }
+            },
             "keep" => self.keep_graphic(out),
             "table" | "named" | "own" | "given" | "map" => {
                 let (name, address) = rest.split_once(' ').unwrap_or(("", rest));
                 let address = parse_address(address).unwrap_or(0);
                 let mapping = mapped(self.handler, call, name, address);
                 self.keep(out, mapping);
-            }
+            },
             _ => {
                 if let Some(tables) = &self.tables {
                     all::answer(out, tables, call, rest);
                 }
-            }
-        }
+            },
+        })
     }
 
     /// Opens tables, and keeps them if there are any.
@@ -119,6 +125,22 @@ impl<'r, H: AcpiHandler> Scene<'r, H> {
     fn release(&mut self, place: usize) {
         if place < self.kept.len() {
             self.kept.remove(place);
+        }
+    }
+}
+
+/// Asks for each of these ranges, and lets go what is lent.
+fn lend<H: AcpiHandler>(out: &mut Text<'_>, handler: &H, areas: &[AddressRange]) {
+    for area in areas {
+        let (address, size) = (area.address, area.length as usize);
+        if size != 0 {
+            match handler.map_physical_region(address, size) {
+                Err(refusal) => out.show(&refusal),
+                Ok(bytes) => {
+                    out.bytes(bytes);
+                    handler.unmap_physical_region(address, size, bytes.len());
+                }
+            }
         }
     }
 }

@@ -1,6 +1,6 @@
 //! Calls over small tables and structures: each prints all that these say.
 
-use crate::numbers::number_of;
+use crate::numbers::{is, number_of};
 use crate::rows::signature_of;
 use crate::text::Text;
 use acpi::address::{AccessSize, AddressSpace, GenericAddress};
@@ -12,24 +12,8 @@ use acpi::{AcpiTable, PhysicalRecord};
 use acpi_base::madt::MpProtectedModeWakeupCommand;
 use acpi_testkit::samples::front;
 
-/// Prints what bytes of a kind say.
-pub(super) fn answer(out: &mut Text<'_>, kind: &str, bytes: &[u8], (call, rest): (&str, &str)) {
-    match (kind, bytes) {
-        ("address", [..]) => address(out, bytes),
-        ("command", [low, high]) => command(out, u16::from_le_bytes([*low, *high])),
-        ("bytes", _) => sums(out, bytes, call, number_of(rest) as usize),
-        ("bgrt", _) => graphic(out, bytes),
-        ("header", _) if bytes.len() >= SdtHeader::MIN_LENGTH => {
-            out.show(&SdtHeader::read(bytes).validate(signature_of(rest), bytes));
-        }
-        ("mcfg", _) => regions(out, bytes),
-        ("rsdp", _) => rsdp(out, bytes),
-        _ => out.print(&"short"),
-    }
-}
-
 /// The codes in a generic address, and the address.
-fn address(out: &mut Text<'_>, bytes: &[u8]) {
+pub(super) fn address(out: &mut Text<'_>, bytes: &[u8]) {
     if let Some(raw) = bytes.first_chunk::<12>() {
         out.show(&AddressSpace::try_from(raw[0]));
         out.show(&AccessSize::try_from(raw[3]));
@@ -38,16 +22,27 @@ fn address(out: &mut Text<'_>, bytes: &[u8]) {
 }
 
 /// A wakeup command of a number, and its own number.
-fn command(out: &mut Text<'_>, number: u16) {
-    match MpProtectedModeWakeupCommand::try_from(number) {
-        Ok(command) => out.show(&(command, command as u16)),
-        Err(refusal) => out.show(&refusal),
+pub(super) fn command(out: &mut Text<'_>, bytes: &[u8]) {
+    if let Some(number) = bytes.first_chunk::<2>() {
+        match MpProtectedModeWakeupCommand::try_from(u16::from_le_bytes(*number)) {
+            Ok(command) => out.show(&(command, command as u16)),
+            Err(refusal) => out.show(&refusal),
+        }
     }
 }
 
+/// Whether the bytes are a valid table of a signature.
+pub(super) fn header(out: &mut Text<'_>, bytes: &[u8], name: &str) {
+    if bytes.len() < SdtHeader::MIN_LENGTH {
+        return out.print(&"short");
+    }
+    out.show(&SdtHeader::read(bytes).validate(signature_of(name), bytes));
+}
+
 /// The sum of the first bytes (`sum`), or those of the first 0 to 131 of the bytes after an offset (`sums`).
-fn sums(out: &mut Text<'_>, bytes: &[u8], call: &str, number: usize) {
-    if call == "sum" {
+pub(super) fn sums(out: &mut Text<'_>, bytes: &[u8], call: &str, number: &str) {
+    let number = number_of(number) as usize;
+    if is(call, "sum") {
         out.show(&byte_sum(front(bytes, number)));
         return;
     }
@@ -57,7 +52,7 @@ fn sums(out: &mut Text<'_>, bytes: &[u8], call: &str, number: usize) {
     }
 }
 
-fn graphic(out: &mut Text<'_>, bytes: &[u8]) {
+pub(super) fn graphic(out: &mut Text<'_>, bytes: &[u8]) {
     if bytes.len() < 56 {
         return out.print(&"short");
     }
@@ -69,7 +64,7 @@ fn graphic(out: &mut Text<'_>, bytes: &[u8]) {
 }
 
 /// How many regions there are, each region, and how many are left before the first, after it and after the second.
-fn regions(out: &mut Text<'_>, bytes: &[u8]) {
+pub(super) fn regions(out: &mut Text<'_>, bytes: &[u8]) {
     let mut regions = McfgEntryIter::over(bytes);
     let before = regions.len();
     let first = (regions.next(), regions.len());
@@ -82,7 +77,7 @@ fn regions(out: &mut Text<'_>, bytes: &[u8]) {
 }
 
 /// Revision and length, both checksums, and the addresses of both root tables.
-fn rsdp(out: &mut Text<'_>, bytes: &[u8]) {
+pub(super) fn rsdp(out: &mut Text<'_>, bytes: &[u8]) {
     if bytes.len() < 36 {
         return out.print(&"short");
     }

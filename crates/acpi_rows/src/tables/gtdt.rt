@@ -1,5 +1,6 @@
 //! The timers that a GTDT describes: `record`, those of each processor, and `platform`, those of the machine.
 
+use crate::numbers::is;
 use crate::text::Text;
 use acpi::{AcpiTable, PhysicalRecord};
 use acpi_arm::gtdt::{Gtdt, PlatformTimer, PlatformTimerIter};
@@ -9,7 +10,7 @@ pub(super) fn answer(out: &mut Text<'_>, bytes: &[u8], call: &str) {
     if bytes.len() < 96 {
         return out.print(&"short");
     }
-    if call == "platform" {
+    if is(call, "platform") {
         return platform(out, PlatformTimerIter::over(bytes));
     }
     let table = Gtdt::read(bytes);
