@@ -1,6 +1,4 @@
 //! The examples: the tables that they find and write.
-ghost use Rattle.std.specs.Prelude.{◌≡◌, true};
-ghost use Rattle.acpi_base.specs.Words.{is_listed};
 
 use crate::checks::{check, check_same};
 use crate::image::{FILE, graphic, memory};
@@ -8,7 +6,7 @@ use acpi::handler::MappedRegion;
 use acpi::madt::Madt;
 use acpi::platform::interrupt::InterruptModel;
 use acpi::sdt::Signature;
-use acpi::{AcpiError, AcpiHandler, AcpiResult, AcpiTables, Guarded, Lender, PhysicalMapping};
+use acpi::{AcpiError, AcpiResult, AcpiTables};
 use acpi_examples::caller::graphic_address;
 use acpi_examples::processors::print_processors;
 use acpi_examples::reserved::{MemoryMap, reserve_tables};
@@ -16,54 +14,9 @@ use acpi_examples::resolved::isa_pin;
 use acpi_examples::table_type::find_both;
 use acpi_examples::writer::{GuestError, tables_of_guest};
 use acpi_image::{MemoryImage, PlacedTable, WriteError};
-use acpi_testkit::handlers::Recording;
-use acpi_testkit::history::Event;
 use acpi_testkit::samples::front;
 use std::alloc::Global;
 use std::test::Fail;
-
-/// The number of eight bytes at an address, from a lender that may be asked for it.
-fn number_at<L: Lender>(lender: &L, address: u64) -> AcpiResult<u64>
-    requires { L.may lender.now address 8 ≡ true }
-{
-    let number = PhysicalMapping::<L, u64>::map(lender, address, 8)?;
-    Ok(*number.get())
-}
-
-/// The number of eight bytes at an address, over a handler that may be asked only for the ranges of a list.
-/// For a number that isn't listed there is no proof.
-fn number_within<H: AcpiHandler>(
-    memory: &H,
-    ranges: &[(u64, usize)],
-    address: u64,
-) -> AcpiResult<u64>
-    requires { is_listed ranges.now address 8 ≡ true }
-{
-    number_at(&Guarded::new(memory, ranges), address)
-}
-
-/// What a handler is asked of the memory through a list of two numbers, the second of which has only four bytes there.
-#[rattlefmt::skip]
-static ASKED: [Event; 3] = [
-    Event::Lent { address: 0x1000, size: 8, whole: 8, lent: 416 },
-    Event::Ended { address: 0x1000, shown: 8, lent: 416 },
-    Event::Refused { address: 0x119C, size: 8 },
-];
-
-#[test]
-fn a_guarded_handler_is_asked_for_what_is_listed(rt: HostRuntime) -> Result<(), Fail> {
-    let region = MappedRegion::new(0x1000, memory())?;
-    let recording = Recording::new(&region);
-    let listed = [(0x1000, 8), (0x119C, 8)];
-    // The memory begins with "RSDT" and the length 52.
-    let first = number_within(&recording, &listed, 0x1000);
-    check(&rt, "first", first, Ok(0x34_5444_5352));
-    let second = number_within(&recording, &listed, 0x119C);
-    check(&rt, "second", second, Err(AcpiError::MapFailed));
-    let history = recording.history();
-    check(&rt, "requests", history.events(), ASKED.as_slice());
-    Ok(())
-}
 
 /// How many bytes a kernel maps from 0x1000 on, the address at which it looks for the root table, and its answer.
 #[rattlefmt::skip]

@@ -1,17 +1,12 @@
-//! Refusals as they are printed. `crates/acpi_pack/runs` has those of files, and `acpi_rows` the others of images.
+//! Refusals as they are printed. `crates/acpi_pack/runs` has those of files, and `acpi_rows` those of images.
 
 use crate::checks::check;
-use acpi_image::{ImageError, WriteError};
-use acpi_pack_lib::{FileError, Refusal};
+use acpi_image::WriteError;
+use acpi_pack_lib::Refusal;
 use std::alloc::Global;
 use std::fmt::Display;
 use std::process::Abort;
 use std::test::Fail;
-
-static IMAGES: [(ImageError, &str); 2] = [
-    (ImageError::EndTooLarge, "EndTooLarge"),
-    (ImageError::Overlap, "Overlap"),
-];
 
 static WRITES: [(WriteError, &str); 7] = [
     (WriteError::ZeroRoot, "ZeroRoot"),
@@ -23,8 +18,7 @@ static WRITES: [(WriteError, &str); 7] = [
     (WriteError::OutOfMemory, "OutOfMemory"),
 ];
 
-static PACKS: [(Refusal, &str); 3] = [
-    (Refusal::File(7, FileError::Long), "Long"),
+static PACKS: [(Refusal, &str); 2] = [
     (Refusal::NoRoom, "NoRoom"),
     (Refusal::OutOfMemory, "OutOfMemory"),
 ];
@@ -44,7 +38,6 @@ fn check_texts<T: Display>(
 
 #[test]
 fn refusals_print_their_names(rt: HostRuntime) -> Result<(), Fail> {
-    check_texts(&rt, rt.alloc(), &IMAGES)?;
     check_texts(&rt, rt.alloc(), &WRITES)?;
     check_texts(&rt, rt.alloc(), &PACKS)
 }
