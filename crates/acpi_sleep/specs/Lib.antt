@@ -1,0 +1,9 @@
+pub mod Apart
+pub mod Arguments
+pub mod Blocks
+pub mod ErrorText
+pub mod Names
+pub mod Sleep
+pub mod Steps
+pub mod Terms
+pub mod Words

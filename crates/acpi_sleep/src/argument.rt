@@ -1,0 +1,140 @@
+//! Arguments of terms, and what a name is set to: where they end (sections 20.2.3 and 20.2.5).
+ghost use Rattle.std.specs.Prelude.{◌≡◌, ◌+◌, ◌<◌, ◌≤◌, ◌==◌, length, position, IfOk, IfSome};
+ghost use Rattle.acpi_sleep.specs.Words.{argument_end, begins_name, integer_at, integer_width, is_operator, is_single, operand_end, text_end};
+
+use crate::block::{block_at, byte_at, bytes_end};
+use crate::error::AmlError;
+use crate::name::{begins_name, name_at};
+use acpi_base::bytes::{field, skip};
+
+/// How many bytes follow the first of an integer constant.
+fn integer_width(lead: u8) -> Option<usize>
+    ensures exact { result ≡ integer_width lead }
+    ensures few { IfSome result (λ n. n ≤ 8) }
+{
+    match lead {
+        0x00 | 0x01 | 0xFF => Some(0),
+        0x0A => Some(1),
+        0x0B => Some(2),
+        0x0C => Some(4),
+        0x0E => Some(8),
+        _ => None,
+    }
+}
+
+/// An integer constant.
+#[derive(Clone, Copy)]
+pub(crate) struct Integer {
+    /// Its value.
+    pub(crate) value: u64,
+    /// The offset after it.
+    pub(crate) end: usize,
+}
+
+/// The integer constant that begins at an offset.
+#[tactic(auto, unfolding(crate::specs::Arguments::integer_at))]
+pub(crate) fn integer_at(aml: &[u8], at: usize) -> Result<Integer, AmlError>
+    requires { at ≤ length aml.now }
+    ensures exact { result ≡ integer_at aml.now at }
+    ensures within { IfOk result (λ i. i.end ≤ length aml.now) }
+{
+    let lead = byte_at(aml, at)?;
+    let Some(width) = integer_width(lead) else {
+        return Err(AmlError::NotConstant(at));
+    };
+    let end = bytes_end(aml, at + 1, width)?;
+    let value = match lead {
+        0x00 => 0,
+        0x01 => 1,
+        0xFF => u64::MAX,
+        _ => field(aml, at + 1, width),
+    };
+    Ok(Integer { value, end })
+}
+
+/// The offset of the first zero.
+fn first_zero(bytes: &[u8]) -> Option<usize>
+    ensures exact { result ≡ position (λ b. b == 0) bytes.now }
+    ensures within { IfSome result (λ n. n < length bytes.now) }
+{
+    bytes.iter().position(|b| *b == 0)
+}
+
+/// Where a text ends that begins at an offset: after its zero.
+fn text_end(aml: &[u8], at: usize) -> Result<usize, AmlError>
+    requires { at ≤ length aml.now }
+    ensures exact { result ≡ text_end aml.now at }
+    ensures after { IfOk result (λ end. at < end) }
+    ensures within { IfOk result (λ end. end ≤ length aml.now) }
+{
+    match first_zero(skip(aml, at)) {
+        Some(n) => Ok(at + n + 1),
+        None => Err(AmlError::PastEnd(at)),
+    }
+}
+
+/// Whether a byte is a local or an argument of a method, which is no longer.
+fn is_single(lead: u8) -> bool
+    ensures { result ≡ is_single lead }
+{
+    0x60 <= lead && lead <= 0x6E
+}
+
+/// Where the argument ends that begins at an offset and is no operator.
+#[tactic(auto, unfolding(crate::specs::Arguments::operand_end))]
+fn operand_end(aml: &[u8], at: usize) -> Result<usize, AmlError>
+    requires { at ≤ length aml.now }
+    ensures exact { result ≡ operand_end aml.now at }
+    ensures after { IfOk result (λ end. at < end) }
+    ensures within { IfOk result (λ end. end ≤ length aml.now) }
+{
+    let lead = byte_at(aml, at)?;
+    if let Some(width) = integer_width(lead) {
+        return bytes_end(aml, at + 1, width);
+    }
+    if is_single(lead) {
+        return Ok(at + 1);
+    }
+    if lead == 0x0D {
+        return text_end(aml, at + 1);
+    }
+    if 0x11 <= lead && lead <= 0x13 {
+        let block = block_at(aml, at + 1)?;
+        return Ok(block.end);
+    }
+    if !begins_name(lead) {
+        return Err(AmlError::UnknownTerm(at));
+    }
+    let name = name_at(aml, at)?;
+    Ok(name.end)
+}
+
+/// Whether a byte is an operator of two operands and a target.
+fn is_operator(lead: u8) -> bool
+    ensures { result ≡ is_operator lead }
+{
+    matches!(lead, 0x72 | 0x74 | 0x79 | 0x7A | 0x7B | 0x7D)
+}
+
+/// Where the argument ends that begins at an offset.
+#[tactic(auto, using(crate::proofs::Walks::argument_steps))]
+pub(crate) fn argument_end(aml: &[u8], at: usize) -> Result<usize, AmlError>
+    requires { at ≤ length aml.now }
+    ensures exact { result ≡ argument_end aml.now at }
+    ensures after { IfOk result (λ end. at < end) }
+    ensures within { IfOk result (λ end. end ≤ length aml.now) }
+{
+    let mut end = at;
+    let mut left: usize = 1;
+    while left > 0 {
+        let lead = byte_at(aml, end)?;
+        if is_operator(lead) {
+            end += 1;
+            left += 2;
+        } else {
+            end = operand_end(aml, end)?;
+            left -= 1;
+        }
+    }
+    Ok(end)
+}

@@ -1,0 +1,21 @@
+//! The sleep types of a machine: what its AML says to write to the power management registers, to sleep or to power
+//! off (ACPI 6.4, section 7.4.2).
+//!
+//! AML is not run. A walk goes along the objects at the root of one block of AML, a DSDT's or an SSDT's, skips what has
+//! a length, and ends with an error where it doesn't know how long an object is.
+//!
+//! Section numbers are those of the ACPI Specification, version 6.4.
+#![tactic(auto)]
+
+mod argument;
+mod block;
+pub mod error;
+pub mod laws;
+mod name;
+mod package;
+pub mod sleep;
+mod step;
+mod term;
+
+pub use error::AmlError;
+pub use sleep::{SleepAnswer, SleepTypes, sleep_types};

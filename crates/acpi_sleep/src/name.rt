@@ -1,0 +1,148 @@
+//! Names (section 20.2.2).
+ghost use Rattle.std.specs.Prelude.{◌≡◌, ◌+◌, ◌*◌, ◌<◌, ◌≤◌, ◌==◌, length, IfOk};
+ghost use Rattle.std.specs.List.{take_while};
+ghost use Rattle.acpi_sleep.specs.Words.{begins_name, carets, is_lead, is_letter, name_at, name_of, segment_end, segments_end};
+
+use crate::block::byte_at;
+use crate::error::AmlError;
+use acpi_base::bytes::skip;
+
+/// Whether a name's segment may begin with a character: a capital letter, or an underscore.
+fn is_lead(character: u8) -> bool
+    ensures { result ≡ is_lead character }
+{
+    (b'A' <= character && character <= b'Z') || character == b'_'
+}
+
+/// Whether a character may stand in a name's segment: one that it may begin with, or a digit.
+fn is_letter(character: u8) -> bool
+    ensures { result ≡ is_letter character }
+{
+    is_lead(character) || (b'0' <= character && character <= b'9')
+}
+
+/// Whether a name may begin with a byte: `\\`, `^`, a prefix of several segments, or a segment's first.
+pub(crate) fn begins_name(lead: u8) -> bool
+    ensures { result ≡ begins_name lead }
+{
+    is_lead(lead) || matches!(lead, b'\\' | b'^' | 0x2E | 0x2F)
+}
+
+/// Where the segment ends that begins at an offset.
+#[tactic(auto, unfolding(crate::specs::Names::segment_end))]
+fn segment_end(aml: &[u8], at: usize) -> Result<usize, AmlError>
+    requires { at ≤ length aml.now }
+    ensures exact { result ≡ segment_end aml.now at }
+    ensures after { IfOk result (λ end. end ≡ at + 4) }
+    ensures within { IfOk result (λ end. end ≤ length aml.now) }
+{
+    if at + 4 > aml.len() {
+        return Err(AmlError::PastEnd(at));
+    }
+    if is_lead(aml[at])
+        && is_letter(aml[at + 1])
+        && is_letter(aml[at + 2])
+        && is_letter(aml[at + 3])
+    {
+        Ok(at + 4)
+    } else {
+        Err(AmlError::InvalidName(at))
+    }
+}
+
+/// Where so many segments end of which the first begins at an offset.
+#[tactic(auto, using(crate::proofs::Walks::one_segment))]
+fn segments_end(aml: &[u8], count: u8, at: usize) -> Result<usize, AmlError>
+    requires { at ≤ length aml.now }
+    ensures exact { result ≡ segments_end count aml.now at }
+    ensures after { IfOk result (λ end. end ≡ at + 4 * count) }
+    ensures within { IfOk result (λ end. end ≤ length aml.now) }
+{
+    let mut end = at;
+    for i in 0..count {
+        end = segment_end(aml, end)?;
+    }
+    Ok(end)
+}
+
+/// A name: how many scopes up from the current one, and segments from there.
+#[derive(Clone, Copy)]
+pub(crate) struct Name {
+    /// How many `^` it begins with.
+    pub(crate) ups: usize,
+    /// The offset of its first segment.
+    pub(crate) first: usize,
+    /// How many segments it has.
+    pub(crate) segments: u8,
+    /// The offset after it.
+    pub(crate) end: usize,
+}
+
+impl Name {
+    ghost use Rattle.acpi_sleep.specs.Words.{is_root};
+
+    /// Whether it names the root, where it stands at the root.
+    pub(crate) fn is_root(&self) -> bool
+        ensures { result ≡ is_root self.now }
+    {
+        self.ups == 0 && self.segments == 0
+    }
+}
+
+/// The name of so many segments.
+fn name_of(aml: &[u8], ups: usize, segments: u8, first: usize) -> Result<Name, AmlError>
+    requires { first ≤ length aml.now }
+    ensures exact { result ≡ name_of aml.now ups segments first }
+    ensures after { IfOk result (λ name. name.end ≡ first + 4 * segments) }
+    ensures within { IfOk result (λ name. name.end ≤ length aml.now) }
+{
+    let end = segments_end(aml, segments, first)?;
+    Ok(Name {
+        ups,
+        first,
+        segments,
+        end,
+    })
+}
+
+/// How many `^` bytes begin with.
+fn first_carets(bytes: &[u8]) -> usize
+    ensures exact { result ≡ length (take_while (λ c. c == 94) bytes.now) }
+    ensures within { result ≤ length bytes.now }
+{
+    bytes.iter().take_while(|c| **c == b'^').count()
+}
+
+/// How many `^` stand at an offset.
+fn carets(aml: &[u8], at: usize) -> usize
+    requires { at ≤ length aml.now }
+    ensures exact { result ≡ carets aml.now at }
+    ensures within { at + result ≤ length aml.now }
+{
+    first_carets(skip(aml, at))
+}
+
+/// The name that begins at an offset.
+#[tactic(auto, unfolding(crate::specs::Names::name_at))]
+pub(crate) fn name_at(aml: &[u8], at: usize) -> Result<Name, AmlError>
+    requires { at ≤ length aml.now }
+    ensures exact { result ≡ name_at aml.now at }
+    ensures after { IfOk result (λ name. at < name.end) }
+    ensures within { IfOk result (λ name. name.end ≤ length aml.now) }
+{
+    let ups = carets(aml, at);
+    let root = if byte_at(aml, at)? == b'\\' { 1 } else { 0 };
+    let path = at + ups + root;
+    match byte_at(aml, path)? {
+        0x00 => name_of(aml, ups, 0, path + 1),
+        0x2E => name_of(aml, ups, 2, path + 1),
+        0x2F => {
+            let segments = byte_at(aml, path + 1)?;
+            if segments == 0 {
+                return Err(AmlError::InvalidName(path));
+            }
+            name_of(aml, ups, segments, path + 2)
+        }
+        _ => name_of(aml, ups, 1, path),
+    }
+}

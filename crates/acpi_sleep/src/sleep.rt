@@ -1,0 +1,62 @@
+//! The sleep types of a sleep state (section 7.4.2).
+ghost use Rattle.std.specs.Prelude.{◌≡◌, ◌≤◌};
+ghost use Rattle.acpi_sleep.specs.Words.{IsAnswer, sleep_types_of};
+
+use crate::error::AmlError;
+use crate::step::{Place, Step, step_at};
+
+/// What to write to SLP_TYP of the PM1a and the PM1b control register to enter a sleep state (section 4.8.3.2.1).
+#[derive(Clone, Copy, Debug, PartialEq, Eq)]
+pub struct SleepTypes {
+    /// SLP_TYPa: that of PM1a_CNT.
+    pub a: u8,
+    /// SLP_TYPb: that of PM1b_CNT.
+    pub b: u8,
+}
+
+/// What a block of AML says of a sleep state.
+#[derive(Clone, Copy, Debug, PartialEq, Eq)]
+pub enum SleepAnswer {
+    /// It can be entered with these sleep types.
+    Types(SleepTypes),
+    /// The block doesn't define its name, as far as no `Alias` or other scope does.
+    Absent,
+    /// The name may be defined if AML is run: the first `If`, `Else` or `While` at the root, or `Method` of that name
+    /// there, begins at this offset.
+    NotSeen(usize),
+}
+
+/// The sleep types of a sleep state, 0 to 5, in one block of AML: the bytes of a DSDT or an SSDT after its header. They
+/// are those of the first `_S0_` to `_S5_` that a `Name` at the root, or in a `Scope (\)` there, sets to a package
+/// whose first elements are integer constants: the low bytes of its first two elements, or of an only one the two low
+/// bytes.
+///
+/// Methods, devices, other scopes, and what stands under an `If` are passed by their length, so a name in one of them
+/// isn't found.
+///
+/// Fails with an `AmlError` where the walk meets what it can't pass, or a package of the name has other elements.
+#[tactic(auto, using(crate::proofs::Walks::walk_steps))]
+pub fn sleep_types(aml: &[u8], state: u8) -> Result<SleepAnswer, AmlError>
+    requires { state ≤ 5 }
+    // The answer is that of the walk.
+    ensures exact { result ≡ sleep_types_of aml.now state }
+    // It stands at a place that the walk comes to, and that there is none at the end of the bytes.
+    ensures answer { IsAnswer aml.now state result }
+{
+    let mut place = Place { at: 0, scope: None };
+    let mut unseen: Option<usize> = None;
+    while place.at < aml.len() {
+        match step_at(aml, state, place)? {
+            Step::Found(types) => return Ok(SleepAnswer::Types(types)),
+            Step::On(next) => place = next,
+            Step::Unseen(next) => {
+                unseen = unseen.or(Some(place.at));
+                place = next;
+            }
+        }
+    }
+    match unseen {
+        None => Ok(SleepAnswer::Absent),
+        Some(at) => Ok(SleepAnswer::NotSeen(at)),
+    }
+}

@@ -1,0 +1,108 @@
+//! Terms: what follows each opcode (section 20.2.5).
+ghost use Rattle.std.specs.Prelude.{◌≡◌, ◌<◌, ◌≤◌, length, IfOk, MatchOption, None, Some};
+ghost use Rattle.acpi_sleep.specs.Words.{opcode_at, part_end, parts_end, parts_of};
+
+use crate::argument::argument_end;
+use crate::block::{block_at, byte_at, bytes_end};
+use crate::error::AmlError;
+use crate::name::name_at;
+
+/// A part of a term.
+#[derive(Clone, Copy)]
+pub(crate) enum Part {
+    /// A name.
+    Name,
+    /// One byte.
+    Byte,
+    /// An argument.
+    Argument,
+    /// A PkgLength, and all that it stands before.
+    Block,
+}
+
+/// An opcode.
+#[derive(Clone, Copy)]
+pub(crate) struct Opcode {
+    /// Its number: of an opcode of two bytes, the first is the higher one.
+    pub(crate) code: u16,
+    /// The offset after it.
+    pub(crate) end: usize,
+}
+
+/// The opcode that stands at an offset.
+#[tactic(auto, unfolding(crate::specs::Terms::opcode_at))]
+pub(crate) fn opcode_at(aml: &[u8], at: usize) -> Result<Opcode, AmlError>
+    requires { at ≤ length aml.now }
+    ensures exact { result ≡ opcode_at aml.now at }
+    ensures after { IfOk result (λ op. at < op.end) }
+    ensures within { IfOk result (λ op. op.end ≤ length aml.now) }
+{
+    let first = byte_at(aml, at)?;
+    if first == 0x5B {
+        let second = byte_at(aml, at + 1)?;
+        return Ok(Opcode {
+            code: 0x5B00 + second as u16,
+            end: at + 2,
+        });
+    }
+    Ok(Opcode {
+        code: first as u16,
+        end: at + 1,
+    })
+}
+
+/// The parts that follow an opcode, or `None` if that is none of those that are known.
+#[tactic(auto, unfolding(crate::specs::Terms::parts_of))]
+pub(crate) fn parts_of(code: u16) -> Option<&'static [Part]>
+    ensures { MatchOption result (parts_of code ≡ None) (λ parts. parts_of code ≡ Some parts.now) }
+{
+    match code {
+        0x06 => Some(&[Part::Name, Part::Name]),
+        0x15 => Some(&[Part::Name, Part::Byte, Part::Byte]),
+        0x8A | 0x8B | 0x8C | 0x8D | 0x8F => Some(&[Part::Argument, Part::Argument, Part::Name]),
+        0xA0 | 0xA1 | 0xA2 => Some(&[Part::Block]),
+        0xA3 => Some(&[]),
+        0x5B01 => Some(&[Part::Name, Part::Byte]),
+        0x5B02 => Some(&[Part::Name]),
+        0x5B13 => Some(&[Part::Argument, Part::Argument, Part::Argument, Part::Name]),
+        0x5B80 => Some(&[Part::Name, Part::Byte, Part::Argument, Part::Argument]),
+        0x5B81 | 0x5B82 | 0x5B83 | 0x5B84 | 0x5B85 | 0x5B86 | 0x5B87 => Some(&[Part::Block]),
+        0x5B88 => Some(&[Part::Name, Part::Argument, Part::Argument, Part::Argument]),
+        _ => None,
+    }
+}
+
+/// Where the part ends that begins at an offset.
+fn part_end(part: Part, aml: &[u8], at: usize) -> Result<usize, AmlError>
+    requires { at ≤ length aml.now }
+    ensures exact { result ≡ part_end part aml.now at }
+    ensures after { IfOk result (λ end. at < end) }
+    ensures within { IfOk result (λ end. end ≤ length aml.now) }
+{
+    match part {
+        Part::Name => {
+            let name = name_at(aml, at)?;
+            Ok(name.end)
+        }
+        Part::Byte => bytes_end(aml, at, 1),
+        Part::Argument => argument_end(aml, at),
+        Part::Block => {
+            let block = block_at(aml, at)?;
+            Ok(block.end)
+        }
+    }
+}
+
+/// Where the last of parts ends of which the first begins at an offset.
+pub(crate) fn parts_end(parts: &[Part], aml: &[u8], at: usize) -> Result<usize, AmlError>
+    requires { at ≤ length aml.now }
+    ensures exact { result ≡ parts_end parts.now aml.now at }
+    ensures after { IfOk result (λ end. at ≤ end) }
+    ensures within { IfOk result (λ end. end ≤ length aml.now) }
+{
+    let mut end = at;
+    for part in parts {
+        end = part_end(*part, aml, end)?;
+    }
+    Ok(end)
+}
