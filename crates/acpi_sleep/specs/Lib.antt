@@ -1,5 +1,6 @@
 pub mod Apart
 pub mod Arguments
+pub mod Behind
 pub mod Blocks
 pub mod ErrorText
 pub mod Names

@@ -79,9 +79,9 @@ object_at aml state scope at = do
 -- the object at a place. At the end of a scope of the root the walk has left it
 unfoldable pub step_at : List ℕ → ℕ → Place → Result Step AmlError
 step_at aml state place = elim place.scope [
-  | None ↦ object_at aml state None place.at
   | Some end ↦ if nat_lt place.at end then object_at (take end aml) state (Some end) place.at
       else object_at aml state None place.at
+  | None ↦ object_at aml state None place.at
 ]
 
 -- the first object

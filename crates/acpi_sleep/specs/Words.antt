@@ -1,11 +1,12 @@
 -- This crate's words: what proofs, contracts and the crates above bring in from its specs.
 pub use Rattle.acpi_sleep.specs.Apart.{ArgumentsBeginNoTerm, begins_argument}
-pub use Rattle.acpi_sleep.specs.Arguments.{arguments_end, integer_width, is_operator, is_single, text_end}
+pub use Rattle.acpi_sleep.specs.Arguments.{arguments_end, block_end, integer_width, is_operator, is_single, name_end, other_end, text_end}
 unfoldable pub use Rattle.acpi_sleep.specs.Arguments.{argument_end, integer_at, operand_end}
+pub use Rattle.acpi_sleep.specs.Behind.{NothingBehindMatters}
 pub use Rattle.acpi_sleep.specs.Blocks.{byte_at, bytes_end, package_size}
 unfoldable pub use Rattle.acpi_sleep.specs.Blocks.{block_at}
 pub use Rattle.acpi_sleep.specs.ErrorText.{aml_error_text}
-pub use Rattle.acpi_sleep.specs.Names.{begins_name, carets, is_lead, is_letter, is_root, name_of, segments_end}
+pub use Rattle.acpi_sleep.specs.Names.{begins_name, carets, is_lead, is_letter, is_root, many_at, name_of, path_at, segments_end}
 unfoldable pub use Rattle.acpi_sleep.specs.Names.{name_at, segment_end}
 pub use Rattle.acpi_sleep.specs.Sleep.{elements_at, state_code}
 unfoldable pub use Rattle.acpi_sleep.specs.Sleep.{types_at}
@@ -13,10 +14,14 @@ pub use Rattle.acpi_sleep.specs.Steps.{IsAfter, IsAnswer, IsInside, IsReached, I
 unfoldable pub use Rattle.acpi_sleep.specs.Steps.{method_at, named_at, object_at, passed_at, scope_at, sleep_types_of, step_at}
 pub use Rattle.acpi_sleep.specs.Terms.{part_end, parts_end}
 unfoldable pub use Rattle.acpi_sleep.specs.Terms.{opcode_at, parts_of}
+pub use Rattle.acpi_sleep.specs.declared.block.Block.{Block}
 pub use Rattle.acpi_sleep.specs.declared.error.AmlError.{AmlError}
+pub use Rattle.acpi_sleep.specs.declared.error.AmlError.TheVariants.{NotPackage, PastEnd, UnknownTerm}
+pub use Rattle.acpi_sleep.specs.declared.name.Name.{Name}
 pub use Rattle.acpi_sleep.specs.declared.sleep.SleepAnswer.{SleepAnswer}
 pub use Rattle.acpi_sleep.specs.declared.sleep.SleepAnswer.TheVariants.{Absent, NotSeen, Types}
 pub use Rattle.acpi_sleep.specs.declared.sleep.SleepTypes.{SleepTypes}
 pub use Rattle.acpi_sleep.specs.declared.step.Place.{Place}
 pub use Rattle.acpi_sleep.specs.declared.step.Step.{Step}
 pub use Rattle.acpi_sleep.specs.declared.step.Step.TheVariants.{Found, On, Unseen}
+pub use Rattle.acpi_sleep.specs.declared.term.Part.{Part}
