@@ -2,9 +2,9 @@
 -- of the same entries.
 use Rattle.std.proofs.Common.{◌≡◌, ℕ, suc, ◌+◌, ◌<◌, ◌≤◌, List, [], ◌∷◌, length, get_or, slice_set, subst, true, refl, add-one, arith, ◌∙◌, sym, ap, filter_map, Option, Some, None, Result, Ok, Err}
 use Rattle.std.specs.Prelude.{option_and_then}
-use Rattle.acpi_base.specs.FromStd.{cons_option, list_any, result_ok}
-use Rattle.acpi_base.specs.Words.{item_in, item_of, ◌>>=◌}
-use Rattle.acpi_base.specs.Interrupts.{nmi_source_of, override_of}
+use Rattle.acpi_base.specs.FromStd.{cons_option, list_any, result_err, result_ok}
+use Rattle.acpi_base.specs.Words.{item_in, item_of, line_of}
+use Rattle.acpi_base.specs.Interrupts.{flags_fault, nmi_line_of, nmi_source_of, override_fault, override_of, unless_fault}
 use Rattle.acpi_base.specs.Model.{is_of_apic}
 use Rattle.acpi_base.specs.Model as base
 use Rattle.acpi.specs.Types.{MadtEntry, MadtError, MadtItem}
@@ -82,18 +82,19 @@ any_said (e ∷ es) any = any_with e es (any_said es) any
 -- ---- the address of the local APICs
 
 -- an entry that says another thing has none
-none_said : {X : Type 0} (k : X → MadtItem) (x : Result X MadtError)
-    → ((y : X) → base.local_apic_address_in (k y) ≡ None)
-    → None ≡ option_and_then base.local_apic_address_in (result_ok (x >>= λ y. Ok (k y)))
-none_said k (Ok y) none = sym (none y)
-none_said k (Err e) none = refl
+none_said : (o : Option MadtError) (x : MadtItem) → base.local_apic_address_in x ≡ None
+    → None ≡ option_and_then base.local_apic_address_in (result_ok (unless_fault o x))
+none_said None x none = sym none
+none_said (Some fault) x none = refl
 
 one_address : (e : MadtEntry) → local_apic_address_in e ≡ option_and_then base.local_apic_address_in (item_in e)
 unfolding item_of
-one_address (entry.InterruptSourceOverride e) = none_said item.Override (override_of e) (λ y. refl)
-one_address (entry.NmiSource e) = none_said item.NmiSource (nmi_source_of e) (λ y. refl)
-one_address (entry.LocalApicNmi e) = none_said item.NmiLine _ (λ y. refl)
-one_address (entry.X2ApicNmi e) = none_said item.NmiLine _ (λ y. refl)
+one_address (entry.InterruptSourceOverride e) = none_said (override_fault e) (item.Override (override_of e)) refl
+one_address (entry.NmiSource e) = none_said (flags_fault e.flags) (item.NmiSource (nmi_source_of e)) refl
+one_address (entry.LocalApicNmi e) =
+    none_said (result_err (line_of e.nmi_line)) (item.NmiLine (nmi_line_of _ e.nmi_line)) refl
+one_address (entry.X2ApicNmi e) =
+    none_said (result_err (line_of e.nmi_line)) (item.NmiLine (nmi_line_of _ e.nmi_line)) refl
 one_address _ = refl
 
 address_first : (i : Option MadtItem) (items : List MadtItem)

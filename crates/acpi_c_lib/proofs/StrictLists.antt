@@ -1,16 +1,18 @@
 -- Of a MADT none of whose entries is at fault, the lists are those of the strict model.
 use Rattle.std.proofs.Common.{◌≡◌, ℕ, List, [], ◌∷◌, map, Bool, true, false, Option, Some, None, Result, Ok, Err, refl, ap, sym, ◌∙◌, filter_map, option_map}
 use Rattle.std.specs.Prelude.{◌==◌, option_and_then, if◌then◌else◌}
-use Rattle.acpi_base.specs.FromStd.{cons_option, result_err, result_ok}
+use Rattle.acpi_base.specs.FromStd.{cons_option, result_err, result_ok, result_unwrap_or}
 use Rattle.acpi_base.proofs.FromStd.{eqb-true}
 use Rattle.acpi_base.specs.Words.{all_apics, all_x2apics, line_of, processor_for}
-use Rattle.acpi_base.specs.Interrupts.{item_of, nmi_line_of, nmi_source_of, override_of, polarity_of, trigger_mode_of}
-use Rattle.acpi_base.specs.Words.{bits_of, cut_of, entries_of, has_bit, uid_code, ◌>>=◌, holds}
+use Rattle.acpi_base.specs.Interrupts.{flags_fault, item_of, nmi_line_of, nmi_source_of, override_fault, override_of, polarity_of, trigger_mode_of, unless_fault}
+use Rattle.acpi_base.specs.Words.{bits_of, cut_of, entries_of, has_bit, polarity_code, trigger_code, uid_code, ◌>>=◌}
 use Rattle.acpi_base.specs.Model as base
 use Rattle.acpi_base.proofs.Words.{codes_decode}
-use Rattle.acpi.specs.Types.{All, InterruptSourceOverride, LocalInterruptLine, MadtEntry, MadtError, MadtItem, NmiLine, NmiSource, Polarity, ProcessorUid, TriggerMode}
+use Rattle.acpi.specs.Types.{All, Lint0, LocalInterruptLine, MadtEntry, MadtError, MadtItem, Polarity, ProcessorUid, TriggerMode}
 use Rattle.acpi_base.specs.declared.error.MadtError.TheVariants.{InterruptOverrideEntryHasInvalidBus}
 use Rattle.acpi_base.specs.declared.model.item.MadtItem.TheVariants as item
+use Rattle.acpi_base.specs.declared.model.interrupt.Polarity.TheVariants as polarity
+use Rattle.acpi_base.specs.declared.model.interrupt.TriggerMode.TheVariants as trigger
 use Rattle.acpi_base.specs.declared.tables.madt.apic.InterruptSourceOverrideEntry.{InterruptSourceOverrideEntry}
 use Rattle.acpi_base.specs.declared.tables.madt.apic.NmiSourceEntry.{NmiSourceEntry}
 use Rattle.acpi_base.specs.declared.tables.madt.entry.MadtEntry.TheVariants as entry
@@ -57,40 +59,55 @@ agree f s g r each (e ∷ es) h =
     ∙ sym (said_first g r (base.item_in e) (filter_map base.item_in es))
 
 -- an entry of another sort has no record
-other : {X B R : Type 0} (g : MadtItem → Option B) (r : B → R) (k : X → MadtItem) (x : Result X MadtError)
-    → ((y : X) → g (k y) ≡ None) → None ≡ option_map r (option_and_then g (result_ok (x >>= λ y. Ok (k y))))
-other g r k (Ok y) none = rw (none y) refl
-other g r k (Err e) none = refl
+other : {B R : Type 0} (g : MadtItem → Option B) (r : B → R) (o : Option MadtError) (x : MadtItem)
+    → g x ≡ None → None ≡ option_map r (option_and_then g (result_ok (unless_fault o x)))
+other g r None x none = rw none refl
+other g r (Some fault) x none = refl
+
+-- the fault of an entry that has none
+unfaulted : (o : Option MadtError) (x : MadtItem) → result_err (unless_fault o x) ≡ None → o ≡ None
+unfaulted None x h = refl
+unfaulted (Some fault) x h = absurd cc
 
 -- ---- I/O APICs
 
 io_apics : Agree io_apic_in (λ x. x) base.io_apic_in io_apic_record
 unfolding item_of
 io_apics (entry.InterruptSourceOverride e) h =
-    other base.io_apic_in io_apic_record item.Override (override_of e) (λ y. refl)
+    other base.io_apic_in io_apic_record (override_fault e) (item.Override (override_of e)) refl
 io_apics (entry.NmiSource e) h =
-    other base.io_apic_in io_apic_record item.NmiSource (nmi_source_of e) (λ y. refl)
+    other base.io_apic_in io_apic_record (flags_fault e.flags) (item.NmiSource (nmi_source_of e)) refl
 io_apics (entry.LocalApicNmi e) h =
-    other base.io_apic_in io_apic_record item.NmiLine (nmi_line_of (processor_for all_apics e.processor_id) e.nmi_line)
-    (λ y. refl)
+    other base.io_apic_in io_apic_record (result_err (line_of e.nmi_line))
+    (item.NmiLine (nmi_line_of (processor_for all_apics e.processor_id) e.nmi_line)) refl
 io_apics (entry.X2ApicNmi e) h =
-    other base.io_apic_in io_apic_record item.NmiLine
-    (nmi_line_of (processor_for all_x2apics e.processor_uid) e.nmi_line) (λ y. refl)
+    other base.io_apic_in io_apic_record (result_err (line_of e.nmi_line))
+    (item.NmiLine (nmi_line_of (processor_for all_x2apics e.processor_uid) e.nmi_line)) refl
 io_apics _ h = refl
 
 -- ---- polarity and trigger mode
 
-wired : {X : Type 0} (p : Result Polarity MadtError) (t : Result TriggerMode MadtError)
-    (k : Polarity → TriggerMode → X) (x : X) → (p >>= λ a. t >>= λ b. Ok (k a b)) ≡ Ok x
-    → (a : Polarity) × (b : TriggerMode) × (p ≡ Ok a) × (t ≡ Ok b) × (k a b ≡ x)
-wired (Ok a) (Ok b) k x h = (a, b, refl, refl, cc)
-wired (Ok a) (Err e) k x h = absurd cc
-wired (Err e) t k x h = absurd cc
+wired : (p : Result Polarity MadtError) (t : Result TriggerMode MadtError) → result_err (p >>= λ a. t) ≡ None
+    → (a : Polarity) × (b : TriggerMode) × (p ≡ Ok a) × (t ≡ Ok b)
+wired (Ok a) (Ok b) h = (a, b, refl, refl)
+wired (Ok a) (Err e) h = absurd cc
+wired (Err e) t h = absurd cc
 
-on_bus : {X : Type 0} (b : Bool) (r : Result X MadtError) (x : X)
-    → (holds b InterruptOverrideEntryHasInvalidBus >>= λ _. r) ≡ Ok x → (b ≡ true) × (r ≡ Ok x)
-on_bus true r x h = (refl, h)
-on_bus false r x h = absurd cc
+-- the code that is read of flags that are no fault
+as_polarity : (p : Result Polarity MadtError) (a : Polarity) → p ≡ Ok a
+    → polarity_code (result_unwrap_or p polarity.SameAsBus) ≡ polarity_code a
+as_polarity (Ok b) a h = cc
+as_polarity (Err e) a h = absurd cc
+
+as_trigger : (t : Result TriggerMode MadtError) (a : TriggerMode) → t ≡ Ok a
+    → trigger_code (result_unwrap_or t trigger.SameAsBus) ≡ trigger_code a
+as_trigger (Ok b) a h = cc
+as_trigger (Err e) a h = absurd cc
+
+on_bus : (b : Bool) (o : Option MadtError)
+    → (if b then o else Some InterruptOverrideEntryHasInvalidBus) ≡ None → (b ≡ true) × (o ≡ None)
+on_bus true o h = (refl, h)
+on_bus false o h = absurd cc
 
 -- a record of an override, by its codes
 abbrev overriding : InterruptSourceOverrideEntry → ℕ → ℕ → ℕ → records.InterruptSourceOverride
@@ -106,34 +123,29 @@ same_override : (e : InterruptSourceOverrideEntry) (p q t u bus : ℕ) → p ≡
     → overriding e p t bus ≡ overriding e q u 0
 same_override e p q t u bus polarity trigger isa = rw (polarity, trigger, isa) refl
 
-overrides_said : (e : InterruptSourceOverrideEntry) (x : InterruptSourceOverride) → override_of e ≡ Ok x
-    → override_in (entry.InterruptSourceOverride e) ≡ Some (override_record x)
-overrides_said e x h =
-    let s = on_bus (e.bus == 0) _ x h in
-    let w = wired (polarity_of e.flags) (trigger_mode_of e.flags) _ x s.1 in
+overrides_said : (e : InterruptSourceOverrideEntry) → override_fault e ≡ None
+    → override_in (entry.InterruptSourceOverride e) ≡ Some (override_record (override_of e))
+overrides_said e h =
+    let s = on_bus (e.bus == 0) (flags_fault e.flags) h in
+    let w = wired (polarity_of e.flags) (trigger_mode_of e.flags) s.1 in
     let p = codes_decode.polarities.only (bits_of e.flags 0 2) w.0 w.2 in
     let t = codes_decode.triggers.only (bits_of e.flags 2 2) w.1 w.3 in
-    ap Some (same_override e _ _ _ _ _ (sym p.1) (sym t.1) (eqb-true e.bus 0 s.0))
-    ∙ ap (λ y. Some (override_record y)) w.4
-
-overrides_by : (e : InterruptSourceOverrideEntry) (o : Result InterruptSourceOverride MadtError) → override_of e ≡ o
-    → result_err (o >>= λ y. Ok (item.Override y)) ≡ None
-    → override_in (entry.InterruptSourceOverride e)
-    ≡ option_map override_record (option_and_then base.override_in (result_ok (o >>= λ y. Ok (item.Override y))))
-overrides_by e (Ok x) is h = overrides_said e x is
-overrides_by e (Err f) is h = absurd cc
+    ap Some (same_override e _ _ _ _ _ (sym p.1 ∙ sym (as_polarity _ _ w.2)) (sym t.1 ∙ sym (as_trigger _ _ w.3))
+    (eqb-true e.bus 0 s.0))
 
 overrides : Agree override_in (λ x. x) base.override_in override_record
 unfolding item_of
-overrides (entry.InterruptSourceOverride e) h = overrides_by e (override_of e) refl h
+overrides (entry.InterruptSourceOverride e) h =
+    let none = unfaulted (override_fault e) _ h in
+    rw none (overrides_said e none)
 overrides (entry.NmiSource e) h =
-    other base.override_in override_record item.NmiSource (nmi_source_of e) (λ y. refl)
+    other base.override_in override_record (flags_fault e.flags) (item.NmiSource (nmi_source_of e)) refl
 overrides (entry.LocalApicNmi e) h =
-    other base.override_in override_record item.NmiLine
-    (nmi_line_of (processor_for all_apics e.processor_id) e.nmi_line) (λ y. refl)
+    other base.override_in override_record (result_err (line_of e.nmi_line))
+    (item.NmiLine (nmi_line_of (processor_for all_apics e.processor_id) e.nmi_line)) refl
 overrides (entry.X2ApicNmi e) h =
-    other base.override_in override_record item.NmiLine
-    (nmi_line_of (processor_for all_x2apics e.processor_uid) e.nmi_line) (λ y. refl)
+    other base.override_in override_record (result_err (line_of e.nmi_line))
+    (item.NmiLine (nmi_line_of (processor_for all_x2apics e.processor_uid) e.nmi_line)) refl
 overrides _ h = refl
 
 -- ---- NMI sources
@@ -144,28 +156,27 @@ sourcing e p t = record { global_system_interrupt = e.global_system_interrupt; p
 same_source : (e : NmiSourceEntry) (p q t u : ℕ) → p ≡ q → t ≡ u → sourcing e p t ≡ sourcing e q u
 same_source e p q t u polarity trigger = rw (polarity, trigger) refl
 
-sources_by : (e : NmiSourceEntry) (o : Result NmiSource MadtError) → nmi_source_of e ≡ o
-    → result_err (o >>= λ y. Ok (item.NmiSource y)) ≡ None
-    → nmi_source_in (entry.NmiSource e)
-    ≡ option_map nmi_source_record (option_and_then base.nmi_source_in (result_ok (o >>= λ y. Ok (item.NmiSource y))))
-sources_by e (Ok x) is h =
-    let w = wired (polarity_of e.flags) (trigger_mode_of e.flags) _ x is in
+sources_said : (e : NmiSourceEntry) → flags_fault e.flags ≡ None
+    → nmi_source_in (entry.NmiSource e) ≡ Some (nmi_source_record (nmi_source_of e))
+sources_said e h =
+    let w = wired (polarity_of e.flags) (trigger_mode_of e.flags) h in
     let p = codes_decode.polarities.only (bits_of e.flags 0 2) w.0 w.2 in
     let t = codes_decode.triggers.only (bits_of e.flags 2 2) w.1 w.3 in
-    ap Some (same_source e _ _ _ _ (sym p.1) (sym t.1)) ∙ ap (λ y. Some (nmi_source_record y)) w.4
-sources_by e (Err f) is h = absurd cc
+    ap Some (same_source e _ _ _ _ (sym p.1 ∙ sym (as_polarity _ _ w.2)) (sym t.1 ∙ sym (as_trigger _ _ w.3)))
 
 nmi_sources : Agree nmi_source_in (λ x. x) base.nmi_source_in nmi_source_record
 unfolding item_of
 nmi_sources (entry.InterruptSourceOverride e) h =
-    other base.nmi_source_in nmi_source_record item.Override (override_of e) (λ y. refl)
-nmi_sources (entry.NmiSource e) h = sources_by e (nmi_source_of e) refl h
+    other base.nmi_source_in nmi_source_record (override_fault e) (item.Override (override_of e)) refl
+nmi_sources (entry.NmiSource e) h =
+    let none = unfaulted (flags_fault e.flags) _ h in
+    rw none (sources_said e none)
 nmi_sources (entry.LocalApicNmi e) h =
-    other base.nmi_source_in nmi_source_record item.NmiLine
-    (nmi_line_of (processor_for all_apics e.processor_id) e.nmi_line) (λ y. refl)
+    other base.nmi_source_in nmi_source_record (result_err (line_of e.nmi_line))
+    (item.NmiLine (nmi_line_of (processor_for all_apics e.processor_id) e.nmi_line)) refl
 nmi_sources (entry.X2ApicNmi e) h =
-    other base.nmi_source_in nmi_source_record item.NmiLine
-    (nmi_line_of (processor_for all_x2apics e.processor_uid) e.nmi_line) (λ y. refl)
+    other base.nmi_source_in nmi_source_record (result_err (line_of e.nmi_line))
+    (item.NmiLine (nmi_line_of (processor_for all_x2apics e.processor_uid) e.nmi_line)) refl
 nmi_sources _ h = refl
 
 -- ---- LINT pins
@@ -177,7 +188,10 @@ same_processor true uid n = refl
 same_processor false uid n = refl
 
 lines_by : (all uid number flags : ℕ) (o : Result LocalInterruptLine MadtError) → line_of number ≡ o
-    → let said = (o >>= λ line. Ok (record { processor = processor_for all uid; line = line })) >>= λ y. Ok (item.NmiLine y) in
+    → let said = unless_fault (result_err o) (item.NmiLine (record {
+      processor = processor_for all uid;
+      line = result_unwrap_or o Lint0;
+    })) in
     result_err said ≡ None
     → Some (line_shown (nmi_line all uid number flags))
     ≡ option_map line_said (option_and_then base.nmi_line_in (result_ok said))
@@ -189,8 +203,8 @@ lines_by all uid number flags (Err f) is h = absurd cc
 nmi_lines : Agree nmi_line_in line_shown base.nmi_line_in line_said
 unfolding item_of
 nmi_lines (entry.InterruptSourceOverride e) h =
-    other base.nmi_line_in line_said item.Override (override_of e) (λ y. refl)
-nmi_lines (entry.NmiSource e) h = other base.nmi_line_in line_said item.NmiSource (nmi_source_of e) (λ y. refl)
+    other base.nmi_line_in line_said (override_fault e) (item.Override (override_of e)) refl
+nmi_lines (entry.NmiSource e) h = other base.nmi_line_in line_said (flags_fault e.flags) (item.NmiSource (nmi_source_of e)) refl
 nmi_lines (entry.LocalApicNmi e) h = lines_by all_apics e.processor_id e.nmi_line e.flags (line_of e.nmi_line) refl h
 nmi_lines (entry.X2ApicNmi e) h =
     lines_by all_x2apics e.processor_uid e.nmi_line e.flags (line_of e.nmi_line) refl h
@@ -208,15 +222,15 @@ unfolding item_of
 waiting (entry.LocalApic e) h = waits (has_bit e.flags 0) e.processor_id e.apic_id
 waiting (entry.LocalX2Apic e) h = waits (has_bit e.flags 0) e.processor_uid e.x2apic_id
 waiting (entry.InterruptSourceOverride e) h =
-    other (base.processor_in true) processor_said item.Override (override_of e) (λ y. refl)
+    other (base.processor_in true) processor_said (override_fault e) (item.Override (override_of e)) refl
 waiting (entry.NmiSource e) h =
-    other (base.processor_in true) processor_said item.NmiSource (nmi_source_of e) (λ y. refl)
+    other (base.processor_in true) processor_said (flags_fault e.flags) (item.NmiSource (nmi_source_of e)) refl
 waiting (entry.LocalApicNmi e) h =
-    other (base.processor_in true) processor_said item.NmiLine
-    (nmi_line_of (processor_for all_apics e.processor_id) e.nmi_line) (λ y. refl)
+    other (base.processor_in true) processor_said (result_err (line_of e.nmi_line))
+    (item.NmiLine (nmi_line_of (processor_for all_apics e.processor_id) e.nmi_line)) refl
 waiting (entry.X2ApicNmi e) h =
-    other (base.processor_in true) processor_said item.NmiLine
-    (nmi_line_of (processor_for all_x2apics e.processor_uid) e.nmi_line) (λ y. refl)
+    other (base.processor_in true) processor_said (result_err (line_of e.nmi_line))
+    (item.NmiLine (nmi_line_of (processor_for all_x2apics e.processor_uid) e.nmi_line)) refl
 waiting _ h = refl
 
 runs : (b : Bool) (uid id : ℕ) (xs ys : List (ℕ × ℕ × ℕ × ℕ)) → xs ≡ ys
@@ -233,11 +247,10 @@ one_passed : (x : MadtItem) (items : List MadtItem) → base.processor_in false 
 one_passed (item.Processor uid id is_enabled) items none = absurd cc
 one_passed _ items none = refl
 
-passed : {X : Type 0} (k : X → MadtItem) (x : Result X MadtError) → ((y : X) → base.processor_in false (k y) ≡ None)
-    → (items : List MadtItem)
-    → said_by items ≡ said_by (cons_option (result_ok (x >>= λ y. Ok (k y))) items)
-passed k (Ok y) none items = one_passed (k y) items (none y)
-passed k (Err e) none items = refl
+passed : (o : Option MadtError) (x : MadtItem) → base.processor_in false x ≡ None → (items : List MadtItem)
+    → said_by items ≡ said_by (cons_option (result_ok (unless_fault o x)) items)
+passed None x none items = one_passed x items none
+passed (Some fault) x none items = refl
 
 later : (e : MadtEntry) (es : List MadtEntry) → filter_map base.fault_in (e ∷ es) ≡ []
     → filter_map base.fault_in es ≡ []
@@ -257,17 +270,17 @@ processors (entry.LocalX2Apic e ∷ es) h =
     (later (entry.LocalX2Apic e) es h))
 processors (entry.InterruptSourceOverride e ∷ es) h =
     processors es (later (entry.InterruptSourceOverride e) es h)
-    ∙ passed item.Override (override_of e) (λ y. refl) (filter_map base.item_in es)
+    ∙ passed (override_fault e) (item.Override (override_of e)) refl (filter_map base.item_in es)
 processors (entry.NmiSource e ∷ es) h =
     processors es (later (entry.NmiSource e) es h)
-    ∙ passed item.NmiSource (nmi_source_of e) (λ y. refl) (filter_map base.item_in es)
+    ∙ passed (flags_fault e.flags) (item.NmiSource (nmi_source_of e)) refl (filter_map base.item_in es)
 processors (entry.LocalApicNmi e ∷ es) h =
     processors es (later (entry.LocalApicNmi e) es h)
-    ∙ passed item.NmiLine (nmi_line_of (processor_for all_apics e.processor_id) e.nmi_line) (λ y. refl)
+    ∙ passed (result_err (line_of e.nmi_line)) (item.NmiLine (nmi_line_of (processor_for all_apics e.processor_id) e.nmi_line)) refl
     (filter_map base.item_in es)
 processors (entry.X2ApicNmi e ∷ es) h =
     processors es (later (entry.X2ApicNmi e) es h)
-    ∙ passed item.NmiLine (nmi_line_of (processor_for all_x2apics e.processor_uid) e.nmi_line) (λ y. refl)
+    ∙ passed (result_err (line_of e.nmi_line)) (item.NmiLine (nmi_line_of (processor_for all_x2apics e.processor_uid) e.nmi_line)) refl
     (filter_map base.item_in es)
 processors (e ∷ es) h = processors es (later e es h)
 

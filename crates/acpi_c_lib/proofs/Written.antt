@@ -6,7 +6,7 @@ use Rattle.acpi.proofs.First.{filter_map_few}
 use Rattle.acpi_base.specs.FromStd.{concat, AllByRecursion, cons_option, list_all}
 use Rattle.acpi_base.specs.Words.{processor_in, processors_of, IsBytes, field_of, IsEntry, after_one, cut, number_in, width_of, with_entry, ◌>>=◌, holds}
 use Rattle.acpi_base.proofs.Words.{cut_is_cut}
-use Rattle.acpi.specs.Types.{Width, One, Two}
+use Rattle.acpi.specs.Types.{Width, One, Two, Four}
 use Rattle.acpi_arm.specs.Timers.{Timer, frame_count, frames_fit, is_sound, kind_of, sound_front, timer_bytes, timer_count, timer_of, timers_grammar, timers_layout, watchdog_at}
 use Rattle.acpi_iommu.specs.Words.{is_range, rmrr_at, structure_size, structures_of, is_reserved_for, reserved_for, block_size, blocks_of, ivmd_at, ends_below, is_memory_for, memory_for, front, pieces, pieces_within}
 use Rattle.acpi_c_lib.specs.Types.{Rmrr, Hop, InvalidStructureLength, Ivmd}
@@ -48,12 +48,13 @@ as_many (x ∷ items) = grind (arith, as_many items)
 
 -- ---- entries of any table
 
--- a number of at most two bytes
-pub number_small : (w : Width) (at : ℕ) (bytes : List ℕ) → IsBytes bytes → number_in w at bytes < 65536
+-- a number of at most four bytes
+pub number_small : (w : Width) (at : ℕ) (bytes : List ℕ) → IsBytes bytes → number_in w at bytes < 4294967296
 number_small One at bytes h = omega (arith, h at)
 number_small Two at bytes h = omega (arith, h at, h (at + 1))
+number_small Four at bytes h = omega (arith, h at, h (at + 1), h (at + 2), h (at + 3))
 
-pub entry_small : (w : Width) (e : List ℕ) → IsBytes e → IsEntry (plain_layout w) e → length e < 65536
+pub entry_small : (w : Width) (e : List ℕ) → IsBytes e → IsEntry (plain_layout w) e → length e < 4294967296
 entry_small w e h entry = omega (arith, number_small w (width_of w) e h, entry.size)
 
 -- the bytes of an entry and those after it are all bytes

@@ -1,7 +1,7 @@
 -- The entries of any table as C gets them.
 use Rattle.std.specs.Prelude.{ℕ, ◌+◌, ◌==◌, nat_le, nat_lt, List, [], ◌∷◌, drop, length, None, Result, Ok, Err, if◌then◌else◌}
 use Rattle.acpi_base.specs.Words.{cut, number_at, width_of, header_at, ◌>>=◌, holds, own_table_at}
-use Rattle.acpi.specs.Types.{EntryLayout, Grammar, Width, One, Two, SdtInvalidLength}
+use Rattle.acpi.specs.Types.{EntryLayout, Grammar, Width, One, Two, Four, SdtInvalidLength}
 use Rattle.acpi_c_lib.specs.Below.{Refusal, refused_as}
 use Rattle.acpi_c_lib.specs.Devices.{flag}
 use Rattle.acpi_c_lib.specs.Regions.{Region, memory_in}
@@ -41,7 +41,7 @@ entries_at w address bytes =
 
 -- the width of the two numbers, by how many bytes each has
 abbrev pub width_of_bytes : ℕ → Result Width Refusal
-width_of_bytes n = if n == 1 then Ok One else if n == 2 then Ok Two else Err UnknownWidth
+width_of_bytes n = if n == 1 then Ok One else if n == 2 then Ok Two else if n == 4 then Ok Four else Err UnknownWidth
 
 -- those of the table at an address, from an offset on: its fixed fields end there, so a shorter one has not all of them
 abbrev pub entries_below : List Region → ℕ → ℕ → ℕ → Result (List Entry × ℕ) Refusal

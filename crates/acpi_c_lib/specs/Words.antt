@@ -21,7 +21,7 @@ pub use Rattle.acpi_c_lib.specs.Listed.{lists_by, lists_each, lists_found, lists
 pub use Rattle.acpi_c_lib.specs.Located.{LiesOnlyAt, Place, located, spot_from}
 pub use Rattle.acpi_c_lib.specs.Missing.{Areas, CandidatesHaveHoles, Fits, IsUnlent, LedHaveHoles, MembersHaveHoles, OpeningHasHole, areas_holes, areas_of, hole, last_range, member_hole, missing_below, missing_in, no_areas, opening_ranges, pieces, range_of, stretch}
 unfoldable pub use Rattle.acpi_c_lib.specs.Missing.{candidate_hole, candidate_holes, has_valid, opened_as_lent_ranges, walk_holes}
-pub use Rattle.acpi_c_lib.specs.MadtFaults.{error_of, fault, faults_from, faults_of, flags_error, madt_faults_below}
+pub use Rattle.acpi_c_lib.specs.MadtFaults.{fault, faults_from, faults_of, madt_faults_below}
 unfoldable pub use Rattle.acpi_c_lib.specs.MadtFaults.{found_madt}
 pub use Rattle.acpi_c_lib.specs.Model.{MadtItem, apics_by, below_platform, counts_of, io_apic_record, listed, model_by, platform_model}
 pub use Rattle.acpi_c_lib.specs.Numa.{IsLocalities, affinities_below, affinity_record, distance_below, domain_of_address_below, domain_of_apic_below, domain_of_processor_below, numa_refusal, slit_in}

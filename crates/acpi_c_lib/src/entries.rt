@@ -51,6 +51,7 @@ fn width_of_bytes(bytes_each: u32) -> Result<Width, Refusal>
     match bytes_each {
         1 => Ok(Width::One),
         2 => Ok(Width::Two),
+        4 => Ok(Width::Four),
         _ => Err(Refusal::UnknownWidth),
     }
 }
@@ -62,6 +63,7 @@ fn plain_grammar(width: Width) -> Grammar<0>
     let length_at = match width {
         Width::One => 1,
         Width::Two => 2,
+        Width::Four => 4,
     };
     Grammar {
         layout: EntryLayout {
@@ -106,7 +108,7 @@ fn entry_record(width: Width, address: u64, entry: &[u8]) -> Entry
 {
     Entry {
         address,
-        entry_type: number_at(Place { at: 0, width }, entry) as u16,
-        length: entry.len() as u16,
+        entry_type: number_at(Place { at: 0, width }, entry) as u32,
+        length: entry.len() as u32,
     }
 }

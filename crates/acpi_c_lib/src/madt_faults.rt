@@ -1,8 +1,7 @@
 //! The entries of a MADT at fault, and the malformed front that ends them.
 ghost use Rattle.std.specs.Prelude.{◌≡◌, ◌+◌, ◌^◌, ◌<◌, ◌≤◌, length, IfOk};
-ghost use Rattle.acpi_base.specs.FromStd.{result_err};
-ghost use Rattle.acpi_base.specs.Words.{IsEntry, madt_grammar, madt_layout, bytes_of, start_of, Gives, line_of};
-ghost use Rattle.acpi_c_lib.specs.Words.{Fills, Writes, mapped_memory, error_of, fault, flags_error, faults_of, found_madt, madt_faults_below, memory_in};
+ghost use Rattle.acpi_base.specs.Words.{bytes_of, start_of, Gives};
+ghost use Rattle.acpi_c_lib.specs.Words.{Fills, Writes, mapped_memory, fault, faults_of, found_madt, madt_faults_below, memory_in};
 
 use crate::interrupt_records::MadtFault;
 use crate::lists::put;
@@ -12,12 +11,10 @@ use crate::refusal::{Refusal, madt_code};
 use crate::regions::Mapped;
 use acpi::madt::Madt;
 use acpi::{MadtError, PhysicalMapping};
-use acpi_base::PhysicalRecord;
-use acpi_base::bytes::{bits, skip};
-use acpi_base::entries::{EntryLayout, Grammar, Place, Width, split_front};
-use acpi_base::madt::{
-    InterruptSourceOverrideEntry, LocalApicNmiEntry, NmiSourceEntry, X2ApicNmiEntry,
-};
+use acpi_base::bytes::skip;
+use acpi_base::entries::split_front;
+use acpi_base::madt::MADT_GRAMMAR;
+use acpi_base::model::MadtItem;
 
 /// Lists the entries of the first valid MADT at fault and, last, the malformed front.
 pub fn madt_faults(source: &Source<'_>, out: &mut [MadtFault]) -> Result<usize, Refusal>
@@ -56,12 +53,12 @@ fn fill_faults(table: &[u8], address: u64, out: &mut [MadtFault]) -> usize
     requires ends { address + length table.now < 2 ^ 64 }
     ensures { Writes result out.old out.new (faults_of (address, table.now)) }
 {
-    let grammar = madt_grammar();
+    let grammar = MADT_GRAMMAR;
     let mut rest = skip(table, 44);
     let mut at = address + 44;
     let mut count = 0;
     while let Some((entry, others)) = split_front(&grammar, rest) {
-        if let Some(error) = error_of(entry) {
+        if let Some(error) = MadtItem::fault(entry) {
             put(out, count, fault(at, entry[0], error));
             count += 1;
         }
@@ -83,61 +80,4 @@ fn fault(address: u64, entry_type: u8, error: MadtError) -> MadtFault
         entry_type,
         status: madt_code(error),
     }
-}
-
-/// How a MADT's bytes are cut into entries.
-fn madt_grammar() -> Grammar<17>
-    ensures { result ≡ madt_grammar }
-{
-    let byte = Width::One;
-    Grammar {
-        layout: EntryLayout {
-            kind_place: Place { at: 0, width: byte },
-            length_place: Place { at: 1, width: byte },
-            least_lengths: [
-                8, 12, 10, 8, 6, 12, 16, 16, 16, 16, 12, 76, 24, 24, 16, 20, 16,
-            ],
-            least_of_others: 2,
-        },
-        most: None,
-    }
-}
-
-/// Why an entry is refused, if it is.
-#[tactic(auto, unfolding(acpi_base::specs::Interrupts::item_of, acpi_base::specs::Items::said_of))]
-fn error_of(entry: &[u8]) -> Option<MadtError>
-    requires { IsEntry madt_layout entry.now }
-    ensures { result ≡ error_of entry.now }
-{
-    match entry[0] {
-        0x02 => {
-            let e = InterruptSourceOverrideEntry::read(entry);
-            if e.bus != 0 {
-                return Some(MadtError::InterruptOverrideEntryHasInvalidBus);
-            }
-            flags_error(e.flags)
-        }
-        0x03 => flags_error(NmiSourceEntry::read(entry).flags),
-        0x04 => line_error(LocalApicNmiEntry::read(entry).nmi_line),
-        0x0a => line_error(X2ApicNmiEntry::read(entry).nmi_line),
-        0x06..=0x08 | 0x0b..=0x0f => Some(MadtError::UnexpectedEntry),
-        _ => None,
-    }
-}
-
-/// Why MPS INTI Flags are refused, if they are.
-fn flags_error(flags: u16) -> Option<MadtError>
-    ensures { result ≡ flags_error flags }
-{
-    if bits(flags as u64, 0, 2) == 2 {
-        return Some(MadtError::MpsIntiInvalidPolarity);
-    }
-    (bits(flags as u64, 2, 2) == 2).then_some(MadtError::MpsIntiInvalidTriggerMode)
-}
-
-/// Why the number of an input of a local APIC is refused, if it is.
-fn line_error(number: u8) -> Option<MadtError>
-    ensures { result ≡ result_err (line_of number) }
-{
-    (number > 1).then_some(MadtError::InvalidLocalNmiLine)
 }

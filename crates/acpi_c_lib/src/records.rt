@@ -59,8 +59,8 @@ pub struct Fault {
 #[derive(Clone, Copy)]
 pub struct Entry {
     pub address: u64,
-    pub entry_type: u16,
-    pub length: u16,
+    pub entry_type: u32,
+    pub length: u32,
 }
 
 /// A stream of AML (section 5.2.11).
