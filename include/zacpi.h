@@ -62,7 +62,7 @@
 extern "C" {
 #endif
 
-/* ---- Errors ---------------------------------------------------------------------------------- */
+/* Errors --------------------------------------------------------------------------------------- */
 
 typedef uint32_t zacpi_status; /* of enum zacpi_refusal; numbers stay */
 
@@ -74,7 +74,7 @@ enum zacpi_refusal {
     ZACPI_REGION_TOO_HIGH = 2,       /* a region ends at 2^64 or above */
     ZACPI_UNKNOWN_START = 3,         /* `start` isn't one of enum zacpi_start */
     ZACPI_RANGE_TOO_HIGH = 4,        /* a range ends at 2^64 or above */
-    ZACPI_UNKNOWN_WIDTH = 5,         /* `bytes_each` isn't 1 or 2 */
+    ZACPI_UNKNOWN_WIDTH = 5,         /* `bytes_each` isn't 1, 2 or 4 */
 
     /* Memory and the RSDP (section 5.2.5). */
     ZACPI_MAP_FAILED = 10,               /* bytes are needed that no one region contains */
@@ -148,27 +148,25 @@ enum zacpi_refusal {
     ZACPI_BAD_TABLE = 73        /* a listed table's bytes aren't one table */
 };
 
-/* Returns the name of a status, as acpi_view prints it ("MapFailed"), or "Unknown" for any other
- * number. */
+/* Returns the name of a status, as acpi_view prints it ("MapFailed"), or "Unknown". */
 static inline const char *zacpi_status_name(zacpi_status status) {
     /* One text: a table of pointers would have to be relocated first. */
-    static const char names[] = "0:Ok\0"
-        "1:RegionsNotAscending\0" "2:RegionTooHigh\0" "3:UnknownStart\0" "4:RangeTooHigh\0"
-        "5:UnknownWidth\0" "10:MapFailed\0" "11:NoValidRsdp\0" "12:RsdpIncorrectSignature\0"
-        "13:RsdpInvalidOemId\0" "14:RsdpInvalidChecksum\0" "20:SdtInvalidSignature\0"
-        "21:SdtInvalidOemId\0" "22:SdtInvalidTableId\0" "23:SdtInvalidLength\0"
-        "24:SdtInvalidChecksum\0" "25:TableMissing\0" "30:InvalidDsdtAddress\0"
-        "31:InvalidGenericAddress\0" "32:NoSuchFunction\0" "40:NoApics\0" "41:NoGic\0"
-        "42:NoSuchInterrupt\0" "43:NoSuchIoApic\0" "44:InvalidMadt UnexpectedEntry\0"
-        "45:InvalidMadt InterruptOverrideEntryHasInvalidBus\0"
-        "46:InvalidMadt InvalidLocalNmiLine\0" "47:InvalidMadt MpsIntiInvalidPolarity\0"
-        "48:InvalidMadt MpsIntiInvalidTriggerMode\0" "49:InvalidMadt InvalidEntryLength\0"
-        "50:InvalidSrat InvalidEntryLength\0" "51:InvalidSrat InvalidMemoryRange\0" "52:NoDomain\0"
-        "53:NoDistance\0" "54:InvalidIommu InvalidStructureLength\0"
-        "55:InvalidIommu InvalidMemoryRange\0" "56:NoIommu\0" "60:UnknownCode\0" "61:NoProcessor\0"
-        "62:IdOfAll\0" "63:UidOfAll\0" "64:BadMatrix\0" "65:NoAddress\0" "66:BadName\0"
-        "67:NoRoom\0" "68:TooLong\0" "69:BadRegister\0" "70:BadRange\0" "71:SameAsBus\0"
-        "72:TooManyFrames\0" "73:BadTable\0";
+    static const char names[] =
+        "0:Ok\0""1:RegionsNotAscending\0""2:RegionTooHigh\0""3:UnknownStart\0""4:RangeTooHigh\0"
+        "5:UnknownWidth\0""10:MapFailed\0""11:NoValidRsdp\0""12:RsdpIncorrectSignature\0"
+        "13:RsdpInvalidOemId\0""14:RsdpInvalidChecksum\0""20:SdtInvalidSignature\0"
+        "21:SdtInvalidOemId\0""22:SdtInvalidTableId\0""23:SdtInvalidLength\0"
+        "24:SdtInvalidChecksum\0""25:TableMissing\0""30:InvalidDsdtAddress\0"
+        "31:InvalidGenericAddress\0""32:NoSuchFunction\0""40:NoApics\0""41:NoGic\0"
+        "42:NoSuchInterrupt\0""43:NoSuchIoApic\0""44:InvalidMadt UnexpectedEntry\0"
+        "45:InvalidMadt InterruptOverrideEntryHasInvalidBus\0""46:InvalidMadt InvalidLocalNmiLine\0"
+        "47:InvalidMadt MpsIntiInvalidPolarity\0""48:InvalidMadt MpsIntiInvalidTriggerMode\0"
+        "49:InvalidMadt InvalidEntryLength\0""50:InvalidSrat InvalidEntryLength\0"
+        "51:InvalidSrat InvalidMemoryRange\0""52:NoDomain\0""53:NoDistance\0"
+        "54:InvalidIommu InvalidStructureLength\0""55:InvalidIommu InvalidMemoryRange\0"
+        "56:NoIommu\0""60:UnknownCode\0""61:NoProcessor\0""62:IdOfAll\0""63:UidOfAll\0"
+        "64:BadMatrix\0""65:NoAddress\0""66:BadName\0""67:NoRoom\0""68:TooLong\0""69:BadRegister\0"
+        "70:BadRange\0""71:SameAsBus\0""72:TooManyFrames\0""73:BadTable\0";
     const char *name = names;
     while (*name) {
         zacpi_status number = 0;
@@ -180,7 +178,7 @@ static inline const char *zacpi_status_name(zacpi_status status) {
     return "Unknown";
 }
 
-/* ---- Memory ---------------------------------------------------------------------------------- */
+/* Memory --------------------------------------------------------------------------------------- */
 
 /* Physical memory from `address` on, and the pointer to it, which is never null: with an identity
  * map the first region begins above address 0. */
@@ -220,8 +218,7 @@ ZACPI_STATUS zacpi_clip_ranges(const struct zacpi_range *ranges, size_t ranges_l
                                size_t capacity, size_t *count);
 
 struct zacpi_place {
-    size_t region;
-    size_t offset;
+    size_t region, offset;
 };
 
 /* Returns where memory is in the regions: the byte at `address` is regions[region].bytes[offset],
@@ -231,7 +228,7 @@ struct zacpi_place {
 ZACPI_STATUS zacpi_locate(const struct zacpi_region *regions, size_t regions_length,
                           uint64_t address, uint64_t length, struct zacpi_place *out);
 
-/* ---- Tables ---------------------------------------------------------------------------------- */
+/* Tables --------------------------------------------------------------------------------------- */
 
 struct zacpi_signature {
     uint8_t letters[4]; /* as "APIC", without a zero after it */
@@ -250,12 +247,16 @@ struct zacpi_root {
     uint32_t length;
     uint8_t revision;      /* of the RSDP; 0 if opened at an RSDT, 2 if at an XSDT */
     uint8_t pointer_width; /* 4 for an RSDT, 8 for an XSDT */
+    uint64_t rsdp_address; /* 0 if opened at a root table, and so is the length */
+    uint32_t rsdp_length;
 };
 struct zacpi_table {
     uint64_t address;
     uint32_t length;
-    uint8_t signature[4];
-    uint8_t revision;
+    uint8_t signature[4], revision, oem_id[6], oem_table_id[8];
+    uint32_t oem_revision;
+    uint8_t creator_id[4];
+    uint32_t creator_revision;
 };
 struct zacpi_fault {
     uint64_t address;
@@ -264,12 +265,14 @@ struct zacpi_fault {
 };
 struct zacpi_entry {
     uint64_t address;
-    uint16_t entry_type;
-    uint16_t length; /* with Type and Length */
+    uint32_t entry_type;
+    uint32_t length; /* with Type and Length */
 };
 struct zacpi_aml_table {
     uint64_t address; /* of the byte after the table's header */
     uint32_t length;  /* Length less 36 */
+    uint8_t revision; /* of a DSDT: below 2 integers have 32 bits, else 64 */
+    uint64_t table_address;
 };
 
 /* Returns the root table (sections 5.2.7 and 5.2.8). Fails with an opening error (C.md), in this
@@ -309,17 +312,16 @@ static inline const uint8_t *zacpi_table_bytes(const struct zacpi_region *region
     return regions[place.region].bytes + place.offset;
 }
 
-/* Returns the `index`-th valid table of the wanted signature, from 0 on in the order of the root
- * table (section 5.2.6). Fails with an opening error, or ZACPI_TABLE_MISSING with that
- * signature. */
+/* Returns the `index`-th valid table of the wanted signature, from 0 on (section 5.2.6). Fails with
+ * an opening error, or ZACPI_TABLE_MISSING with that signature. */
 ZACPI_STATUS zacpi_find_nth_table(const struct zacpi_source *source, struct zacpi_signature wanted,
                                   size_t index, struct zacpi_table *out,
                                   struct zacpi_signature *signature);
 
 /* Lists the entries of the table at address `table`, listed or not, from its byte `first` on. Each
  * begins with Type and Length, of `bytes_each` bytes each: 1 in a MADT (from byte 44) and an SRAT
- * (48), 2 in an NFIT (40) and a DMAR (48). Length is at least that of these two and at most the
- * bytes left; `malformed` is 1 if bytes are left in which no entry begins. Fails with
+ * (48), 2 in an NFIT (40) and a DMAR (48), 4 in an LPIT (36). Length is at least that of these two
+ * and at most the bytes left; `malformed` is 1 if bytes are left in which no entry begins. Fails with
  * ZACPI_REGIONS_NOT_ASCENDING, ZACPI_REGION_TOO_HIGH, ZACPI_UNKNOWN_WIDTH, an error of a table,
  * with its own signature, or ZACPI_SDT_INVALID_LENGTH if its Length is below `first`. */
 ZACPI_STATUS zacpi_list_entries(const struct zacpi_region *regions, size_t regions_length,
@@ -344,20 +346,19 @@ ZACPI_STATUS zacpi_dsdt(const struct zacpi_source *source, struct zacpi_aml_tabl
 ZACPI_STATUS zacpi_list_ssdts(const struct zacpi_source *source, struct zacpi_aml_table *out,
                               size_t capacity, size_t *count, struct zacpi_signature *signature);
 
-/* Lists the memory of the tables, which isn't to be given away: of the root table, of each listed
- * table that is valid under its own signature, and of the FADT's DSDT if it is valid and FACS if it
- * is mapped, has the signature "FACS" and a Length of at least 64 (sections 5.2.6 to 5.2.11). The
- * ranges may overlap; C.md has what isn't among them. Fails with an opening error. */
+/* Lists the memory of the tables, which isn't to be given away: of the RSDP, the root table, each
+ * listed table that is valid under its own signature, and the DSDT and FACS that zacpi_dsdt and
+ * zacpi_get_facs return (sections 5.2.5 to 5.2.11). The ranges may overlap; C.md has what isn't
+ * among them. Fails with an opening error. */
 ZACPI_STATUS zacpi_list_ranges(const struct zacpi_source *source, struct zacpi_range *out,
                                size_t capacity, size_t *count, struct zacpi_signature *signature);
 
-/* ---- Fixed hardware and devices -------------------------------------------------------------- */
+/* Fixed hardware and devices ------------------------------------------------------------------- */
 
 struct zacpi_generic_address { /* Generic Address Structure, section 5.2.3.2 */
     uint64_t address;    /* in its space */
     uint8_t space;       /* of enum zacpi_address_space */
-    uint8_t bit_width;
-    uint8_t bit_offset;
+    uint8_t bit_width, bit_offset;
     uint8_t access_size; /* 0 unspecified, 1 one byte, 2 two, 3 four, 4 eight */
 };
 enum zacpi_address_space { /* section 5.2.3.2 */
@@ -386,9 +387,9 @@ struct zacpi_hpet_info {
 };
 enum { /* of event_timer_block_id */
     ZACPI_HPET_HARDWARE_REV_ID = 0xff,
-    ZACPI_HPET_NUMBER_OF_COMPARATORS = 0x1f << 8, /* less one */
-    ZACPI_HPET_COUNT_SIZE_CAP = 1 << 13,          /* the counter has 64 bits */
-    ZACPI_HPET_LEGACY_REPLACEMENT = 1 << 15       /* in bits 16 to 31 is the PCI Vendor ID */
+    ZACPI_HPET_NUMBER_OF_COMPARATORS = 0x1f00, /* less one */
+    ZACPI_HPET_COUNT_SIZE_CAP = 0x2000,        /* the counter has 64 bits */
+    ZACPI_HPET_LEGACY_REPLACEMENT = 0x8000     /* in bits 16 to 31 is the PCI Vendor ID */
 };
 struct zacpi_boot_graphic {
     uint64_t address;
@@ -408,20 +409,19 @@ struct zacpi_gpe_block { /* general purpose events (sections 4.8.4.1 and 5.2.9),
     uint8_t present;     /* 0: none, also if GPEn_BLK_LEN is 0. 1: there is one. 2: its Address
                           * Space ID is reserved; Access Size isn't looked at */
 };
-/* FADT, section 5.2.9. An X_ field is read as 0 below revision 2, and if the table hasn't all its
- * bytes. An address is that of the X_ field unless it is 0, and a block that of the X_ field unless
- * its Address is 0. Else a block is I/O ports at the other field, of eight bits for each byte of
- * its length (PM1_EVT_LEN to GPE1_BLK_LEN), which may be 0; from 32 bytes on it is an error, but
- * for gpe0_block and gpe1_block. */
+/* FADT, section 5.2.9. Where a field has an X_ field (X_DSDT), that counts unless it is 0, or the
+ * Address in it; it is read as 0 below revision 2, and if the table hasn't all its bytes. Else a
+ * block is I/O ports, of eight bits for each byte of its length (PM1_EVT_LEN to GPE1_BLK_LEN),
+ * which may be 0; from 32 bytes on it is an error, but for gpe0_block and gpe1_block. */
 struct zacpi_fixed_hardware {
-    uint64_t facs_address;                   /* X_FIRMWARE_CTRL or FIRMWARE_CTRL. 0: none */
-    uint64_t dsdt_address;                   /* X_DSDT or DSDT. 0: none */
-    struct zacpi_register pm1a_event, pm1b_event; /* X_PM1n_EVT_BLK or PM1n_EVT_BLK */
-    struct zacpi_register pm1a_control, pm1b_control; /* X_PM1n_CNT_BLK or PM1n_CNT_BLK */
-    struct zacpi_register pm2_control;       /* X_PM2_CNT_BLK or PM2_CNT_BLK */
-    struct zacpi_register pm_timer;          /* X_PM_TMR_BLK or PM_TMR_BLK (section 4.8.3.3). None
-                                              * if PM_TMR_LEN isn't 4 */
-    struct zacpi_register gpe0, gpe1;        /* X_GPEn_BLK or GPEn_BLK, also if GPEn_BLK_LEN is 0 */
+    uint64_t facs_address;                   /* FIRMWARE_CTRL. 0: none */
+    uint64_t dsdt_address;                   /* DSDT. 0: none */
+    struct zacpi_register pm1a_event, pm1b_event; /* PM1n_EVT_BLK */
+    struct zacpi_register pm1a_control, pm1b_control; /* PM1n_CNT_BLK */
+    struct zacpi_register pm2_control;       /* PM2_CNT_BLK */
+    struct zacpi_register pm_timer;          /* PM_TMR_BLK (section 4.8.3.3). None if PM_TMR_LEN
+                                              * isn't 4 */
+    struct zacpi_register gpe0, gpe1;        /* GPEn_BLK, also if GPEn_BLK_LEN is 0 */
     struct zacpi_register reset;             /* RESET_REG: counts only with
                                               * ZACPI_FADT_RESET_REG_SUP */
     struct zacpi_register sleep_control;     /* of reduced hardware */
@@ -440,32 +440,40 @@ struct zacpi_fixed_hardware {
     uint16_t flush_size;                     /* strides to read to write back all caches */
     uint16_t flush_stride;                   /* their width in bytes */
     uint8_t power_profile;                   /* Preferred_PM_Profile: 0 to 8, others are reserved */
-    uint8_t acpi_enable, acpi_disable;
-    uint8_t s4bios_request;
+    uint8_t acpi_enable, acpi_disable, s4bios_request;
     uint8_t pstate_control;                  /* PSTATE_CNT. 0: none */
     uint8_t c_state_control;                 /* CST_CNT */
     uint8_t gpe1_base;
     uint8_t duty_offset, duty_width;         /* in the processor's control register, in bits */
     uint8_t day_alarm, month_alarm, century; /* registers of the clock. 0: none */
-    uint8_t reset_value;
+    uint8_t reset_value, revision;
+    uint8_t minor_revision;                  /* FADT Minor Version */
+    uint64_t hypervisor_id;                  /* Hypervisor Vendor Identity; 0 below revision 6 */
+};
+struct zacpi_facs { /* section 5.2.10 */
+    uint64_t address;
+    uint64_t waking_vector_64; /* X_Firmware_Waking_Vector */
+    uint32_t length, hardware_signature, waking_vector;
+    uint32_t flags;            /* bit 0 S4BIOS_F, 1 64BIT_WAKE_SUPPORTED_F */
+    uint8_t version;
 };
 enum zacpi_fadt_flag { /* Flags, section 5.2.9 */
-    ZACPI_FADT_WBINVD = 1 << 0, ZACPI_FADT_WBINVD_FLUSH = 1 << 1, ZACPI_FADT_PROC_C1 = 1 << 2,
-    ZACPI_FADT_P_LVL2_UP = 1 << 3, ZACPI_FADT_PWR_BUTTON = 1 << 4, ZACPI_FADT_SLP_BUTTON = 1 << 5,
-    ZACPI_FADT_FIX_RTC = 1 << 6, ZACPI_FADT_RTC_S4 = 1 << 7, ZACPI_FADT_TMR_VAL_EXT = 1 << 8,
-    ZACPI_FADT_DCK_CAP = 1 << 9, ZACPI_FADT_RESET_REG_SUP = 1 << 10,
-    ZACPI_FADT_SEALED_CASE = 1 << 11, ZACPI_FADT_HEADLESS = 1 << 12,
-    ZACPI_FADT_CPU_SW_SLP = 1 << 13, ZACPI_FADT_PCI_EXP_WAK = 1 << 14,
-    ZACPI_FADT_USE_PLATFORM_CLOCK = 1 << 15, ZACPI_FADT_S4_RTC_STS_VALID = 1 << 16,
-    ZACPI_FADT_REMOTE_POWER_ON_CAPABLE = 1 << 17, ZACPI_FADT_FORCE_APIC_CLUSTER_MODEL = 1 << 18,
-    ZACPI_FADT_FORCE_APIC_PHYSICAL_DESTINATION_MODE = 1 << 19, ZACPI_FADT_HW_REDUCED_ACPI = 1 << 20,
-    ZACPI_FADT_LOW_POWER_S0_IDLE_CAPABLE = 1 << 21
+    ZACPI_FADT_WBINVD = 0x1, ZACPI_FADT_WBINVD_FLUSH = 0x2, ZACPI_FADT_PROC_C1 = 0x4,
+    ZACPI_FADT_P_LVL2_UP = 0x8, ZACPI_FADT_PWR_BUTTON = 0x10, ZACPI_FADT_SLP_BUTTON = 0x20,
+    ZACPI_FADT_FIX_RTC = 0x40, ZACPI_FADT_RTC_S4 = 0x80, ZACPI_FADT_TMR_VAL_EXT = 0x100,
+    ZACPI_FADT_DCK_CAP = 0x200, ZACPI_FADT_RESET_REG_SUP = 0x400,
+    ZACPI_FADT_SEALED_CASE = 0x800, ZACPI_FADT_HEADLESS = 0x1000,
+    ZACPI_FADT_CPU_SW_SLP = 0x2000, ZACPI_FADT_PCI_EXP_WAK = 0x4000,
+    ZACPI_FADT_USE_PLATFORM_CLOCK = 0x8000, ZACPI_FADT_S4_RTC_STS_VALID = 0x10000,
+    ZACPI_FADT_REMOTE_POWER_ON_CAPABLE = 0x20000, ZACPI_FADT_FORCE_APIC_CLUSTER_MODEL = 0x40000,
+    ZACPI_FADT_FORCE_APIC_PHYSICAL_DESTINATION_MODE = 0x80000,
+    ZACPI_FADT_HW_REDUCED_ACPI = 0x100000, ZACPI_FADT_LOW_POWER_S0_IDLE_CAPABLE = 0x200000
 };
 enum zacpi_boot_flag { /* IAPC_BOOT_ARCH and ARM_BOOT_ARCH, sections 5.2.9.3 and 5.2.9.4 */
-    ZACPI_X86_LEGACY_DEVICES = 1 << 0, ZACPI_X86_8042 = 1 << 1, ZACPI_X86_VGA_NOT_PRESENT = 1 << 2,
-    ZACPI_X86_MSI_NOT_SUPPORTED = 1 << 3, ZACPI_X86_PCIE_ASPM_CONTROLS = 1 << 4,
-    ZACPI_X86_CMOS_RTC_NOT_PRESENT = 1 << 5,
-    ZACPI_ARM_PSCI_COMPLIANT = 1 << 0, ZACPI_ARM_PSCI_USE_HVC = 1 << 1
+    ZACPI_X86_LEGACY_DEVICES = 0x1, ZACPI_X86_8042 = 0x2, ZACPI_X86_VGA_NOT_PRESENT = 0x4,
+    ZACPI_X86_MSI_NOT_SUPPORTED = 0x8, ZACPI_X86_PCIE_ASPM_CONTROLS = 0x10,
+    ZACPI_X86_CMOS_RTC_NOT_PRESENT = 0x20,
+    ZACPI_ARM_PSCI_COMPLIANT = 0x1, ZACPI_ARM_PSCI_USE_HVC = 0x2
 };
 enum zacpi_power_profile { /* Preferred_PM_Profile, section 5.2.9.1 */
     ZACPI_PROFILE_UNSPECIFIED = 0, ZACPI_PROFILE_DESKTOP = 1, ZACPI_PROFILE_MOBILE = 2,
@@ -490,8 +498,7 @@ struct zacpi_console { /* SPCR, whose layout and names of fields are Microsoft's
     uint8_t has_global_system_interrupt;   /* one of bits 1 to 4 of Interrupt Type is set */
     uint8_t has_baud_rate;
     uint8_t parity, stop_bits;             /* 0: no parity. 1: one stop bit */
-    uint8_t pci_segment, pci_bus;
-    uint8_t pci_device, pci_function;
+    uint8_t pci_segment, pci_bus, pci_device, pci_function;
 };
 
 enum zacpi_console_type {
@@ -506,16 +513,21 @@ enum zacpi_console_type {
     ZACPI_CONSOLE_RISCV_SBI = 0x15
 };
 
-/* Returns the fixed hardware of the FADT (section 5.2.9). A register whose address is an error has
- * a `present` of 2. Those of pm1a and reset are present at address 0 too, and those of sleep if the
- * table is of revision 2 or above and has all their bytes: 0 means none. Fails with an opening
- * error, or ZACPI_TABLE_MISSING "FACP". */
+/* Returns the fixed hardware of the FADT. The registers of pm1a and reset are present at address 0
+ * too, and those of sleep if the table is of revision 2 or above and has all their bytes: 0 stands
+ * for none. Fails with an opening error, or ZACPI_TABLE_MISSING "FACP". */
 ZACPI_STATUS zacpi_get_fixed_hardware(const struct zacpi_source *source,
                                       struct zacpi_fixed_hardware *out,
                                       struct zacpi_signature *signature);
 
-/* Returns the serial console that the firmware used, by the SPCR. If the base's address is an error
- * its `present` is 2. Fails with an opening error, or ZACPI_TABLE_MISSING "SPCR". */
+/* Returns the FACS of the FADT. Fails with an opening error, ZACPI_TABLE_MISSING "FACP",
+ * ZACPI_TABLE_MISSING "FACS" if no field gives an address, ZACPI_MAP_FAILED, or with "FACS"
+ * ZACPI_SDT_INVALID_SIGNATURE, or ZACPI_SDT_INVALID_LENGTH below 64. */
+ZACPI_STATUS zacpi_get_facs(const struct zacpi_source *source, struct zacpi_facs *out,
+                            struct zacpi_signature *signature);
+
+/* Returns the serial console that the firmware used, by the SPCR. Fails with an opening error, or
+ * ZACPI_TABLE_MISSING "SPCR". */
 ZACPI_STATUS zacpi_get_console(const struct zacpi_source *source, struct zacpi_console *out,
                                struct zacpi_signature *signature);
 
@@ -531,13 +543,17 @@ ZACPI_STATUS zacpi_get_pm_timer(const struct zacpi_source *source, struct zacpi_
 ZACPI_STATUS zacpi_hpet(const struct zacpi_source *source, struct zacpi_hpet_info *out,
                         struct zacpi_signature *signature);
 
+/* Lists the blocks of all HPETs, but those that aren't in memory. Fails with an opening error. */
+ZACPI_STATUS zacpi_list_hpets(const struct zacpi_source *source, struct zacpi_hpet_info *out,
+                              size_t capacity, size_t *count, struct zacpi_signature *signature);
+
 /* Returns the image that the firmware showed, by the BGRT (section 5.2.22). Fails with an opening
  * error, or ZACPI_TABLE_MISSING "BGRT". */
 ZACPI_STATUS zacpi_get_boot_graphic(const struct zacpi_source *source,
                                     struct zacpi_boot_graphic *out,
                                     struct zacpi_signature *signature);
 
-/* ---- PCI ------------------------------------------------------------------------------------- */
+/* PCI ------------------------------------------------------------------------------------------ */
 
 struct zacpi_pci_region { /* an allocation of the MCFG (PCI Firmware Specification, section
                            * 4.1.2) */
@@ -572,7 +588,7 @@ ZACPI_STATUS zacpi_pci_ecam_address(const struct zacpi_source *source, uint16_t 
                                     uint8_t bus, uint8_t device, uint8_t function, uint64_t *out,
                                     struct zacpi_signature *signature);
 
-/* ---- Interrupts and processors of a PC (MADT, section 5.2.12) -------------------------------- */
+/* Interrupts and processors of a PC (MADT, section 5.2.12) ------------------------------------- */
 
 /* `polarity` and `trigger` are codes of MPS INTI Flags (section 5.2.12.5, table 5.26): Polarity,
  * bits 0 and 1, and Trigger Mode, bits 2 and 3. 0 is as the bus has it. */
@@ -672,6 +688,13 @@ ZACPI_STATUS zacpi_list_processors(const struct zacpi_source *source, struct zac
                                    size_t capacity, size_t *count,
                                    struct zacpi_signature *signature);
 
+/* Returns MailBoxAddress of the first Multiprocessor Wakeup: where the mailbox lies by which
+ * processors are woken (section 5.2.12.19). Fails with an opening error, ZACPI_TABLE_MISSING
+ * "APIC", or without one with ZACPI_MADT_INVALID_ENTRY_LENGTH if bytes are left in which no entry
+ * begins, else ZACPI_MADT_UNEXPECTED_ENTRY. */
+ZACPI_STATUS zacpi_mailbox_address(const struct zacpi_source *source, uint64_t *out,
+                                   struct zacpi_signature *signature);
+
 struct zacpi_madt_fault {
     uint64_t address;   /* of the entry, or of the first byte at which none begins */
     uint32_t status;    /* a ZACPI_MADT_ error */
@@ -747,7 +770,7 @@ ZACPI_STATUS zacpi_list_isa_interrupts(const struct zacpi_source *source,
                                        struct zacpi_isa_interrupts *out,
                                        struct zacpi_signature *signature);
 
-/* ---- Arm: the generic interrupt controller (MADT, section 5.2.12) ---------------------------- */
+/* Arm: the generic interrupt controller (MADT, section 5.2.12) --------------------------------- */
 
 /* On Arm no `polarity` or `trigger` is as the bus has it. */
 
@@ -767,18 +790,12 @@ struct zacpi_gic_cpu_interface { /* GIC CPU Interface (GICC), section 5.2.12.14.
     uint64_t virtual_address;          /* GICV */
     uint64_t hypervisor_address;       /* GICH */
     uint64_t redistributor_address;    /* GICR Base Address */
-    uint32_t number;
-    uint32_t processor_uid;
-    uint32_t performance_interrupt;
-    uint32_t maintenance_interrupt;
+    uint32_t number, processor_uid, performance_interrupt, maintenance_interrupt;
     uint32_t parking_protocol_version; /* 0: none; PSCI wakes processors */
     uint16_t spe_overflow_interrupt;
     uint16_t trace_buffer_interrupt;   /* TRBE Interrupt, since ACPI 6.5: 0 below revision 6 of the
                                         * table, and if the entry hasn't both bytes */
-    uint8_t is_enabled;
-    uint8_t is_online_capable;
-    uint8_t performance_trigger;
-    uint8_t maintenance_trigger;
+    uint8_t is_enabled, is_online_capable, performance_trigger, maintenance_trigger;
     uint8_t efficiency_class;          /* Processor Power Efficiency Class: less is less power */
 };
 struct zacpi_gic_translation_service { /* GIC Interrupt Translation Service (ITS), section
@@ -799,8 +816,8 @@ struct zacpi_gic_msi_frame { /* GIC MSI Frame, section 5.2.12.16 */
 ZACPI_STATUS zacpi_get_gic_distributor(const struct zacpi_source *source,
                                        struct zacpi_gic_distributor *out,
                                        struct zacpi_signature *signature);
-/* Lists the processors' interfaces: the GICCs. Fails with an opening error, ZACPI_TABLE_MISSING
- * "APIC", ZACPI_MADT_INVALID_ENTRY_LENGTH, or ZACPI_NO_GIC. */
+/* Lists the GICCs. Fails with an opening error, ZACPI_TABLE_MISSING "APIC",
+ * ZACPI_MADT_INVALID_ENTRY_LENGTH, or ZACPI_NO_GIC. */
 ZACPI_STATUS zacpi_list_gic_cpu_interfaces(const struct zacpi_source *source,
                                            struct zacpi_gic_cpu_interface *out, size_t capacity,
                                            size_t *count, struct zacpi_signature *signature);
@@ -810,25 +827,23 @@ ZACPI_STATUS zacpi_list_gic_cpu_interfaces(const struct zacpi_source *source,
 ZACPI_STATUS zacpi_list_gic_redistributors(const struct zacpi_source *source,
                                            struct zacpi_range *out, size_t capacity, size_t *count,
                                            struct zacpi_signature *signature);
-/* Lists the services that translate interrupts: the ITS entries. Fails with an opening error,
- * ZACPI_TABLE_MISSING "APIC", ZACPI_MADT_INVALID_ENTRY_LENGTH, or ZACPI_NO_GIC. */
+/* Lists the ITS entries. Fails with an opening error, ZACPI_TABLE_MISSING "APIC",
+ * ZACPI_MADT_INVALID_ENTRY_LENGTH, or ZACPI_NO_GIC. */
 ZACPI_STATUS zacpi_list_gic_translation_services(const struct zacpi_source *source,
                                                  struct zacpi_gic_translation_service *out,
                                                  size_t capacity, size_t *count,
                                                  struct zacpi_signature *signature);
-/* Lists the frames that turn messages into interrupts: the GIC MSI Frames. Fails with an opening
- * error, ZACPI_TABLE_MISSING "APIC", ZACPI_MADT_INVALID_ENTRY_LENGTH, or ZACPI_NO_GIC. */
+/* Lists the GIC MSI Frames. Fails with an opening error, ZACPI_TABLE_MISSING "APIC",
+ * ZACPI_MADT_INVALID_ENTRY_LENGTH, or ZACPI_NO_GIC. */
 ZACPI_STATUS zacpi_list_gic_msi_frames(const struct zacpi_source *source,
                                        struct zacpi_gic_msi_frame *out, size_t capacity,
                                        size_t *count, struct zacpi_signature *signature);
 
-/* ---- Arm: the generic timers (GTDT, section 5.2.24) ------------------------------------------ */
+/* Arm: the generic timers (GTDT, section 5.2.24) ----------------------------------------------- */
 
 struct zacpi_arm_timer { /* its flags: bit 0 trigger, 1 polarity, 2 always_on */
     uint32_t interrupt; /* GSIV: of the GIC; 0: none */
-    uint8_t polarity;
-    uint8_t trigger;
-    uint8_t always_on;
+    uint8_t polarity, trigger, always_on;
     uint8_t present;    /* 0: the table hasn't this timer's fields, and all else is 0 */
 };
 struct zacpi_arm_timers {
@@ -853,23 +868,18 @@ struct zacpi_gt_frame { /* a frame of a GT Block, section 5.2.24.1.1. GTx Common
     uint32_t physical_interrupt; /* 0: no such timer */
     uint32_t virtual_interrupt;  /* 0: no such timer */
     uint8_t number;              /* in the block, from 0 to 7 */
-    uint8_t physical_polarity, physical_trigger;
-    uint8_t virtual_polarity, virtual_trigger;
-    uint8_t is_secure;
+    uint8_t physical_polarity, physical_trigger, virtual_polarity, virtual_trigger, is_secure;
     uint8_t is_always_on;
 };
 struct zacpi_watchdog { /* Arm Generic Watchdog, section 5.2.24.1.2. Watchdog Timer Flags: bit 0
                          * trigger, 1 polarity, 2 is_secure */
-    uint64_t refresh_frame;
-    uint64_t control_frame;
+    uint64_t refresh_frame, control_frame;
     uint32_t interrupt;
-    uint8_t polarity;
-    uint8_t trigger;
-    uint8_t is_secure;
+    uint8_t polarity, trigger, is_secure;
 };
 
-/* Returns the timers of every processor (section 5.2.24). Fails with an opening error, or
- * ZACPI_TABLE_MISSING "GTDT". */
+/* Returns the timers of every processor. Fails with an opening error, or ZACPI_TABLE_MISSING
+ * "GTDT". */
 ZACPI_STATUS zacpi_get_arm_timers(const struct zacpi_source *source, struct zacpi_arm_timers *out,
                                   struct zacpi_signature *signature);
 /* Lists the frames of the GT Blocks, up to a malformed structure; none below revision 2 of the
@@ -883,15 +893,14 @@ ZACPI_STATUS zacpi_list_watchdogs(const struct zacpi_source *source, struct zacp
                                   size_t capacity, size_t *count,
                                   struct zacpi_signature *signature);
 
-/* ---- NUMA: domains (SRAT, section 5.2.16) and distances (SLIT, section 5.2.17) --------------- */
+/* NUMA: domains (SRAT, section 5.2.16) and distances (SLIT, section 5.2.17) -------------------- */
 
 struct zacpi_memory_affinity { /* Memory Affinity, section 5.2.16.2. Flags: bit 0 Enabled, 1
                                 * is_hot_pluggable, 2 is_non_volatile */
     uint64_t address;
     uint64_t length; /* at least one */
     uint32_t domain; /* Proximity Domain; below revision 2 of the table its lowest byte */
-    uint8_t is_hot_pluggable;
-    uint8_t is_non_volatile;
+    uint8_t is_hot_pluggable, is_non_volatile;
 };
 struct zacpi_localities {
     uint64_t localities; /* Number of System Localities: rows and columns of the matrix, counted
@@ -934,14 +943,18 @@ ZACPI_STATUS zacpi_get_localities(const struct zacpi_source *source, struct zacp
 ZACPI_STATUS zacpi_distance(const struct zacpi_source *source, uint64_t from, uint64_t to,
                             uint8_t *out, struct zacpi_signature *signature);
 
-/* ---- IOMMUs: units that remap devices' accesses to memory ------------------------------------ */
+/* IOMMUs: units that remap what devices ask of memory ------------------------------------------ */
 
 /* The DMAR (Intel Virtualization Technology for Directed I/O 4.0, chapter 8). Its structures begin
  * at byte 48, each with a Length of at least 16, 24, 8, 20, 8, 8 and 8 for Types 0 to 6, and 4
  * for others; device scopes have at least 6 bytes (section 8.3.1). */
 enum zacpi_dmar_flag { /* Flags of the DMAR, section 8.1 */
-    ZACPI_DMAR_INTR_REMAP = 1 << 0, ZACPI_DMAR_X2APIC_OPT_OUT = 1 << 1,
-    ZACPI_DMAR_DMA_CTRL_PLATFORM_OPT_IN_FLAG = 1 << 2
+    ZACPI_DMAR_INTR_REMAP = 0x1, ZACPI_DMAR_X2APIC_OPT_OUT = 0x2,
+    ZACPI_DMAR_DMA_CTRL_PLATFORM_OPT_IN_FLAG = 0x4
+};
+struct zacpi_dmar_flags {
+    uint16_t address_bits; /* Host Address Width and 1 */
+    uint8_t flags;         /* of enum zacpi_dmar_flag */
 };
 struct zacpi_hop { /* a step of Path, from a bus to a device on it */
     uint8_t device, function;
@@ -964,6 +977,10 @@ struct zacpi_dmar_reserved { /* Reserved Memory Region Reporting (RMRR), section
     uint16_t segment;
 };
 
+/* Returns what the DMAR says of all units (section 8.1). Fails with an opening error, or
+ * ZACPI_TABLE_MISSING "DMAR". */
+ZACPI_STATUS zacpi_get_dmar_flags(const struct zacpi_source *source, struct zacpi_dmar_flags *out,
+                                  struct zacpi_signature *signature);
 /* Returns the unit that remaps the device that the hops reach from a bus of a segment: the first
  * DRHD of the segment with a device scope that names it, else the first with INCLUDE_PCI_ALL. A
  * scope whose Start Bus Number is the bus names it by Type 1 if its Path is the hops, and by Type 2
@@ -1002,20 +1019,18 @@ struct zacpi_ivrs_unit { /* I/O Virtualization Hardware Definition (IVHD) */
                                     * Attributes */
     uint16_t segment;
     uint16_t device_id;            /* the unit's own */
-    uint16_t capability_offset;
-    uint16_t info;
-    uint8_t block_type;
-    uint8_t flags;
+    uint16_t capability_offset, info;
+    uint8_t block_type, flags;
     uint8_t has_extended_features; /* 0 for Type 0x10 */
 };
 enum zacpi_ivhd_flag { /* Flags of an IVHD; the last two are of Type 0x10 alone */
-    ZACPI_IVHD_HT_TUN_EN = 1 << 0, ZACPI_IVHD_PASS_PW = 1 << 1, ZACPI_IVHD_RES_PASS_PW = 1 << 2,
-    ZACPI_IVHD_ISOC = 1 << 3, ZACPI_IVHD_IOTLB_SUP = 1 << 4, ZACPI_IVHD_COHERENT = 1 << 5,
-    ZACPI_IVHD_PREF_SUP = 1 << 6, ZACPI_IVHD_PPR_SUP = 1 << 7
+    ZACPI_IVHD_HT_TUN_EN = 0x1, ZACPI_IVHD_PASS_PW = 0x2, ZACPI_IVHD_RES_PASS_PW = 0x4,
+    ZACPI_IVHD_ISOC = 0x8, ZACPI_IVHD_IOTLB_SUP = 0x10, ZACPI_IVHD_COHERENT = 0x20,
+    ZACPI_IVHD_PREF_SUP = 0x40, ZACPI_IVHD_PPR_SUP = 0x80
 };
 enum zacpi_ivmd_flag { /* Flags of an IVMD */
-    ZACPI_IVMD_UNITY = 1 << 0, ZACPI_IVMD_IR = 1 << 1, ZACPI_IVMD_IW = 1 << 2,
-    ZACPI_IVMD_EXCLUSION_RANGE = 1 << 3
+    ZACPI_IVMD_UNITY = 0x1, ZACPI_IVMD_IR = 0x2, ZACPI_IVMD_IW = 0x4,
+    ZACPI_IVMD_EXCLUSION_RANGE = 0x8
 };
 struct zacpi_ivrs_device {
     struct zacpi_ivrs_unit unit;
@@ -1024,8 +1039,7 @@ struct zacpi_ivrs_device {
     uint8_t settings;   /* DTE Setting of the entry */
 };
 struct zacpi_ivrs_memory { /* I/O Virtualization Memory Definition (IVMD) */
-    uint64_t start;
-    uint64_t length;
+    uint64_t start, length;
     uint16_t device_id;
     uint16_t auxiliary; /* Auxiliary Data: of Type 0x22 the last device */
     uint8_t block_type; /* 0x20 for all devices, 0x21 for one, 0x22 for a range */
@@ -1047,15 +1061,14 @@ ZACPI_STATUS zacpi_list_ivrs_memory(const struct zacpi_source *source, uint16_t 
                                     struct zacpi_ivrs_memory *out, size_t capacity, size_t *count,
                                     struct zacpi_signature *signature);
 
-/* ---- Tables that are written ----------------------------------------------------------------- */
+/* Tables that are written ---------------------------------------------------------------------- */
 
 /* Each call writes one table to the front of `out`, which has `capacity` bytes, and its length to
  * `length`; the rest of `out` is left as it is. The calls above then read what was passed, unless a
  * comment has otherwise. */
 
 struct zacpi_table_ids { /* section 5.2.6. Names are filled up with spaces or zeros */
-    uint8_t oem_id[6];
-    uint8_t oem_table_id[8];
+    uint8_t oem_id[6], oem_table_id[8];
     uint32_t oem_revision;
     uint8_t creator_id[4];
     uint32_t creator_revision;
@@ -1096,8 +1109,7 @@ struct zacpi_apic_domain { /* sections 5.2.16.1 and 5.2.16.3 */
     uint32_t domain;
 };
 struct zacpi_gicc_domain { /* section 5.2.16.4 */
-    uint32_t processor_uid;
-    uint32_t domain;
+    uint32_t processor_uid, domain;
 };
 struct zacpi_srat_contents {
     const struct zacpi_apic_domain *apics;
@@ -1112,8 +1124,7 @@ struct zacpi_spcr_contents {
     uint8_t interrupt_controllers; /* bits 1 to 4 of Interrupt Type: 2 an I/O APIC, 4 an I/O SAPIC,
                                     * 8 a GIC, 16 a PLIC or an APLIC, or a sum of these, if
                                     * has_global_system_interrupt */
-    uint8_t flow_control;
-    uint8_t terminal_type;
+    uint8_t flow_control, terminal_type;
 };
 struct zacpi_platform_timer { /* section 5.2.24.1: a GT Block or a watchdog */
     uint32_t kind;                       /* 0: the block. 1: the watchdog. The other isn't looked
@@ -1130,10 +1141,8 @@ struct zacpi_gtdt_contents {
 };
 struct zacpi_facs_contents { /* section 5.2.10 */
     uint64_t waking_vector_64; /* X_Firmware_Waking_Vector */
-    uint32_t hardware_signature;
-    uint32_t waking_vector;
-    uint8_t supports_s4bios;
-    uint8_t supports_64_bit_wake;
+    uint32_t hardware_signature, waking_vector;
+    uint8_t supports_s4bios, supports_64_bit_wake;
 };
 
 /* Writes an RSDP of revision 2 that points to an XSDT (section 5.2.5.3): 36 bytes. Of `ids` it has
@@ -1236,9 +1245,9 @@ static inline struct zacpi_fixed_hardware zacpi_fadt_reduced(void) {
  * is the whole bytes of bit_width, and X_GPEn_BLK of 32 bytes or more has a width of 255. A
  * register is there by `present` 1 and an address that isn't 0, pm1a unless the hardware is
  * reduced, and the reset by ZACPI_FADT_RESET_REG_SUP. What isn't there, and reduced fixed hardware,
- * is written as 0 and not looked at, nor are `gpe0`, `gpe1` and reserved flags; sleep_control and
- * sleep_status are read as present. Fails with ZACPI_UNKNOWN_CODE, ZACPI_NO_ADDRESS if dsdt_address
- * is 0, ZACPI_BAD_REGISTER, ZACPI_BAD_NAME or ZACPI_NO_ROOM. */
+ * is written as 0 and not looked at, nor are `gpe0`, `gpe1`, the last three fields and reserved
+ * flags; sleep registers are read as present. Fails with ZACPI_UNKNOWN_CODE, ZACPI_NO_ADDRESS if
+ * dsdt_address is 0, ZACPI_BAD_REGISTER, ZACPI_BAD_NAME or ZACPI_NO_ROOM. */
 ZACPI_STATUS zacpi_write_fadt(const struct zacpi_table_ids *ids,
                               const struct zacpi_fixed_hardware *fadt, uint8_t *out,
                               size_t capacity, size_t *length);
@@ -1247,7 +1256,7 @@ ZACPI_STATUS zacpi_write_fadt(const struct zacpi_table_ids *ids,
 ZACPI_STATUS zacpi_write_facs(const struct zacpi_facs_contents *contents, uint8_t *out,
                               size_t capacity, size_t *length);
 
-/* ---- A whole machine that is written --------------------------------------------------------- */
+/* A whole machine that is written -------------------------------------------------------------- */
 
 struct zacpi_aml_contents {
     const uint8_t *aml;

@@ -227,6 +227,16 @@ ZACPI_STATUS zacpi_get_fixed_hardware(const struct zacpi_source *source,
     return zacpi_1_get_fixed_hardware(&kept_source, out, signature ? signature : &unasked);
 }
 
+zacpi_status zacpi_1_get_facs(const struct zacpi_source *source, struct zacpi_facs *out,
+                              struct zacpi_signature *signature);
+ZACPI_NONNULL((1, 2))
+ZACPI_STATUS zacpi_get_facs(const struct zacpi_source *source, struct zacpi_facs *out,
+                            struct zacpi_signature *signature) {
+    const struct zacpi_source kept_source = zacpi_source_kept(source);
+    struct zacpi_signature unasked;
+    return zacpi_1_get_facs(&kept_source, out, signature ? signature : &unasked);
+}
+
 zacpi_status zacpi_1_get_console(const struct zacpi_source *source, struct zacpi_console *out,
                                  struct zacpi_signature *signature);
 ZACPI_NONNULL((1, 2))
@@ -255,6 +265,18 @@ ZACPI_STATUS zacpi_hpet(const struct zacpi_source *source, struct zacpi_hpet_inf
     const struct zacpi_source kept_source = zacpi_source_kept(source);
     struct zacpi_signature unasked;
     return zacpi_1_hpet(&kept_source, out, signature ? signature : &unasked);
+}
+
+zacpi_status zacpi_1_list_hpets(const struct zacpi_source *source, struct zacpi_hpet_info *out,
+                                size_t capacity, size_t *count, struct zacpi_signature *signature);
+ZACPI_NONNULL((1, 4))
+ZACPI_STATUS zacpi_list_hpets(const struct zacpi_source *source, struct zacpi_hpet_info *out,
+                              size_t capacity, size_t *count, struct zacpi_signature *signature) {
+    const struct zacpi_source kept_source = zacpi_source_kept(source);
+    struct zacpi_signature unasked;
+    return zacpi_1_list_hpets(&kept_source,
+                              capacity ? out : (struct zacpi_hpet_info *)ZACPI_NOTHING, capacity,
+                              count, signature ? signature : &unasked);
 }
 
 zacpi_status zacpi_1_get_boot_graphic(const struct zacpi_source *source,
@@ -390,6 +412,16 @@ ZACPI_STATUS zacpi_list_processors(const struct zacpi_source *source, struct zac
     return zacpi_1_list_processors(&kept_source,
                                    capacity ? out : (struct zacpi_processor *)ZACPI_NOTHING,
                                    capacity, count, signature ? signature : &unasked);
+}
+
+zacpi_status zacpi_1_mailbox_address(const struct zacpi_source *source, uint64_t *out,
+                                     struct zacpi_signature *signature);
+ZACPI_NONNULL((1, 2))
+ZACPI_STATUS zacpi_mailbox_address(const struct zacpi_source *source, uint64_t *out,
+                                   struct zacpi_signature *signature) {
+    const struct zacpi_source kept_source = zacpi_source_kept(source);
+    struct zacpi_signature unasked;
+    return zacpi_1_mailbox_address(&kept_source, out, signature ? signature : &unasked);
 }
 
 zacpi_status zacpi_1_list_madt_faults(const struct zacpi_source *source,
@@ -653,6 +685,16 @@ ZACPI_STATUS zacpi_distance(const struct zacpi_source *source, uint64_t from, ui
     const struct zacpi_source kept_source = zacpi_source_kept(source);
     struct zacpi_signature unasked;
     return zacpi_1_distance(&kept_source, from, to, out, signature ? signature : &unasked);
+}
+
+zacpi_status zacpi_1_get_dmar_flags(const struct zacpi_source *source, struct zacpi_dmar_flags *out,
+                                    struct zacpi_signature *signature);
+ZACPI_NONNULL((1, 2))
+ZACPI_STATUS zacpi_get_dmar_flags(const struct zacpi_source *source, struct zacpi_dmar_flags *out,
+                                  struct zacpi_signature *signature) {
+    const struct zacpi_source kept_source = zacpi_source_kept(source);
+    struct zacpi_signature unasked;
+    return zacpi_1_get_dmar_flags(&kept_source, out, signature ? signature : &unasked);
 }
 
 zacpi_status zacpi_1_get_dmar_unit(const struct zacpi_source *source, uint16_t segment, uint8_t bus,

@@ -71,6 +71,9 @@ static const uint8_t srat_whole[104] = {'S', 'R', 'A', 'T', 104, [9] = 0x25, [48
 /* Type and Length have two bytes each: a DRHD of 16 bytes, an RMRR of 24, and one of Type 0x102 of four. */
 static const uint8_t dmar_whole[92] = {'D', 'M', 'A', 'R', 92, [9] = 0x50, [48] = 0, 0, 16, 0, [64] = 1, 0, 24, 0,
                                        [88] = 2, 1, 4, 0};
+/* Type and Length have four bytes each: one of Type 0x10002 of twelve bytes, and one of Type 0xffffffff of eight. */
+static const uint8_t lpit_whole[56] = {'L', 'P', 'I', 'T', 56, [9] = 0x7c, [36] = 2, 0, 1, 0, 12, [48] = 0xff, 0xff,
+                                       0xff, 0xff, 8};
 /* The second entry is longer than the ten bytes that are left. */
 static const uint8_t madt_long[62] = {'A', 'P', 'I', 'C', 62, [9] = 0x90, [44] = 0, 8, [52] = 1, 12};
 /* The second entry is shorter than its Type and Length. */
@@ -90,11 +93,11 @@ static const uint8_t oem_lost[65] = {'O', 'E', 'M', '4', 66, [9] = 0xa9};
 #define TABLE(n) (0x10000u * ((n) + 1u)) /* where table N lies */
 #define LAID(n, table) {TABLE(n), table, sizeof table}
 enum { IN_APIC, IN_SRAT, IN_DMAR, IN_LONG, IN_SHORT, IN_HALF, IN_THREE, IN_ZEROS, IN_35, IN_OTHER, IN_SUM, IN_LOST,
-       NOWHERE };
+       IN_LPIT, NOWHERE };
 static const struct zacpi_region laid[] = {LAID(IN_APIC, madt_whole), LAID(IN_SRAT, srat_whole),
     LAID(IN_DMAR, dmar_whole), LAID(IN_LONG, madt_long), LAID(IN_SHORT, madt_short), LAID(IN_HALF, nfit_half),
     LAID(IN_THREE, oem_three), LAID(IN_ZEROS, oem_zeros), LAID(IN_35, oem_35), LAID(IN_OTHER, oem_other),
-    LAID(IN_SUM, oem_sum), LAID(IN_LOST, oem_lost)};
+    LAID(IN_SUM, oem_sum), LAID(IN_LOST, oem_lost), LAID(IN_LPIT, lpit_whole)};
 
 static const struct entries_row {
     const struct zacpi_region *regions;
@@ -120,6 +123,10 @@ static const struct entries_row {
     {REGIONS(laid), IN_SRAT, 48, 1, ZACPI_OK, NULL, 2, 0, {TABLE(IN_SRAT) + 48, 1, 40, TABLE(IN_SRAT) + 88, 0, 16}},
     {REGIONS(laid), IN_DMAR, 48, 2, ZACPI_OK, NULL, 3, 0,
      {TABLE(IN_DMAR) + 48, 0, 16, TABLE(IN_DMAR) + 64, 1, 24, TABLE(IN_DMAR) + 88, 0x102, 4}},
+    {REGIONS(laid), IN_LPIT, 36, 4, ZACPI_OK, NULL, 2, 0,
+     {TABLE(IN_LPIT) + 36, 0x10002, 12, TABLE(IN_LPIT) + 48, 0xffffffff, 8}},
+    {REGIONS(laid), IN_LPIT, 40, 4, ZACPI_OK, NULL, 0, 1, {0}}, /* a Type of 12, and a Length of 0 */
+    {REGIONS(laid), IN_LPIT, 49, 4, ZACPI_OK, NULL, 0, 1, {0}}, /* seven bytes are left */
     {REGIONS(laid), IN_LONG, 44, 1, ZACPI_OK, NULL, 1, 1, {TABLE(IN_LONG) + 44, 0, 8}},
     {REGIONS(laid), IN_SHORT, 44, 1, ZACPI_OK, NULL, 1, 1, {TABLE(IN_SHORT) + 44, 0, 8}},
     {REGIONS(laid), IN_HALF, 40, 2, ZACPI_OK, NULL, 1, 1, {TABLE(IN_HALF) + 40, 7, 4}},
@@ -130,9 +137,9 @@ static const struct entries_row {
     {REGIONS(laid), IN_SUM, 41, 1, ZACPI_SDT_INVALID_CHECKSUM, "OEM1", 0, 0, {0}},
     {REGIONS(laid), IN_LOST, 36, 1, ZACPI_MAP_FAILED, NULL, 0, 0, {0}},
     {REGIONS(laid), NOWHERE, 36, 1, ZACPI_MAP_FAILED, NULL, 0, 0, {0}},
-    {REGIONS(laid), NOWHERE, 36, 4, ZACPI_UNKNOWN_WIDTH, NULL, 0, 0, {0}},
-    {REGIONS(placed_over), IN_APIC, 44, 4, ZACPI_REGIONS_NOT_ASCENDING, NULL, 0, 0, {0}},
-    {REGIONS(placed_too_high), IN_APIC, 44, 4, ZACPI_REGION_TOO_HIGH, NULL, 0, 0, {0}}};
+    {REGIONS(laid), NOWHERE, 36, 8, ZACPI_UNKNOWN_WIDTH, NULL, 0, 0, {0}},
+    {REGIONS(placed_over), IN_APIC, 44, 8, ZACPI_REGIONS_NOT_ASCENDING, NULL, 0, 0, {0}},
+    {REGIONS(placed_too_high), IN_APIC, 44, 8, ZACPI_REGION_TOO_HIGH, NULL, 0, 0, {0}}};
 
 FIELDS(of_entry, F(struct zacpi_entry, address), F(struct zacpi_entry, entry_type), F(struct zacpi_entry, length));
 static const struct call call_entries = {"list_entries", NULL, of_entry, sizeof(struct zacpi_entry), 1};

@@ -5,6 +5,9 @@
 #define ROWS_EXPECTED_H
 
 #define VALUES(...) (const uint64_t[]){__VA_ARGS__}
+/* OEMID, OEM Table ID, OEM Revision, Creator ID and Creator Revision of a table: zeros, and those of the table HPET. */
+#define NO_IDS 0, 0, 0, 0, 0
+#define HPET_IDS 0x464544434241, 0x4e4d4c4b4a494847, 0x12345678, LETTERS('O', 'P', 'Q', 'R'), 0x9abcdef0
 #define ABSENT 0, 0, 0, 0, 0, 0
 #define REFUSED_REGISTER 0, 0, 0, 0, 0, 2
 #define GOOD(call, machine, letters, arguments, count, ...) \
@@ -19,7 +22,7 @@
 #define PROFILE(machine, facs, dsdt, profile) \
     GOOD(get_fixed_hardware, machine, NULL, NO, 1, facs, dsdt, 0, 1, 0, 0, 0, 1, ABSENT, 0, 1, 0, 0, 0, 1, ABSENT, \
          ABSENT, ABSENT, ABSENT, ABSENT, 0, 0, 0, 0, 0, 1, ABSENT, ABSENT, 0, 0, 0, 0, 0, 0, 0, 0, \
-         0, 0, 0, 0, 0, 0, 0, 0, 0, profile, 0, 0, 0, 0, 0, 0, 0, 0, 0, 0, 0, 0)
+         0, 0, 0, 0, 0, 0, 0, 0, 0, profile, 0, 0, 0, 0, 0, 0, 0, 0, 0, 0, 0, 0, 1, 0, 0)
 /* An ISA interrupt that is active high and by edge: at PC's first I/O APIC, whose base is 0, and at none, since the
  * base of DESKTOP's is 48. */
 #define PINNED(number) number, ZACPI_POLARITY_HIGH, ZACPI_TRIGGER_EDGE, 0xfec00000, 0, 2, number, 1, 1
@@ -38,35 +41,36 @@
     GOOD(list_faults, LEAST, letters, NO, 1, AT(short_one), ZACPI_SDT_INVALID_LENGTH)
 
 static const struct row rows[] = {
-    GOOD(open, PC, NULL, NO, 1, AT(PC), 68, 2, 8),
-    GOOD(open, ARM, NULL, NO, 1, AT(ARM), 56, 0, 4),
+    GOOD(open, PC, NULL, NO, 1, AT(PC), 68, 2, 8, 0, 0),
+    GOOD(open, ARM, NULL, NO, 1, AT(ARM), 56, 0, 4, 0, 0),
     REFUSED(open, START_RSDP, NULL, NO, ZACPI_MAP_FAILED, NULL),
-    GOOD(open, RSDP_0, NULL, NO, 1, AT(ARM), 56, 0, 4),
-    GOOD(open, RSDP_2, NULL, NO, 1, AT(PC), 68, 2, 8),
-    GOOD(open, RSDP_MIXED, NULL, NO, 1, AT(ARM), 56, 2, 4), /* XsdtAddress is 0 */
+    GOOD(open, RSDP_0, NULL, NO, 1, AT(ARM), 56, 0, 4, AT(RSDP_0), 20),
+    GOOD(open, RSDP_2, NULL, NO, 1, AT(PC), 68, 2, 8, AT(RSDP_2), 36),
+    GOOD(open, RSDP_40, NULL, NO, 1, AT(PC), 68, 2, 8, AT(RSDP_40), 40),
+    GOOD(open, RSDP_MIXED, NULL, NO, 1, AT(ARM), 56, 2, 4, AT(RSDP_MIXED), 36), /* XsdtAddress is 0 */
     REFUSED(open, RSDP_LONG, NULL, NO, ZACPI_MAP_FAILED, NULL),
     REFUSED(open, RSDP_LOST, NULL, NO, ZACPI_MAP_FAILED, NULL),
     REFUSED(open, RSDP_CUT, NULL, NO, ZACPI_MAP_FAILED, NULL),
     REFUSED(open, RSDP_SHORT, NULL, NO, ZACPI_RSDP_INVALID_CHECKSUM, NULL),
     REFUSED(open, RSDP_NONE, NULL, NO, ZACPI_RSDP_INCORRECT_SIGNATURE, NULL),
-    GOOD(open, FOUND, NULL, NO, 1, BIOS + 0x10000, 36, 0, 4),
+    GOOD(open, FOUND, NULL, NO, 1, BIOS + 0x10000, 36, 0, 4, BIOS + 0x1ffe0, 20),
     REFUSED(open, NO_BIOS, NULL, NO, ZACPI_MAP_FAILED, NULL),
     REFUSED(open, NO_EBDA, NULL, NO, ZACPI_MAP_FAILED, NULL),
     REFUSED(open, NO_RSDP, NULL, NO, ZACPI_NO_VALID_RSDP, NULL),
     REFUSED(open, NO_ROOT, NULL, NO, ZACPI_MAP_FAILED, NULL),
     REFUSED(open, EMPTY_INSIDE, NULL, NO, ZACPI_REGIONS_NOT_ASCENDING, NULL),
-    GOOD(open, EMPTY_AFTER, NULL, NO, 1, AT(EMPTY), 36, 0, 4),
+    GOOD(open, EMPTY_AFTER, NULL, NO, 1, AT(EMPTY), 36, 0, 4, 0, 0),
     REFUSED(open, LENT_NONE, NULL, NO, ZACPI_NO_VALID_RSDP, NULL),
     REFUSED(open, LENT_NO_ROOT, NULL, NO, ZACPI_MAP_FAILED, NULL), /* the RSDP of the EBDA comes first */
-    GOOD(open, LENT_BIOS, NULL, NO, 1, BIOS + 0x10000, 36, 0, 4),
+    GOOD(open, LENT_BIOS, NULL, NO, 1, BIOS + 0x10000, 36, 0, 4, BIOS + 0x1ffe0, 20),
     REFUSED(open, LENT_20_BYTES, NULL, NO, ZACPI_NO_VALID_RSDP, NULL), /* an RSDP is asked for with 36 bytes */
-    GOOD(open, LENT_36_BYTES, NULL, NO, 1, BIOS + 0x10000, 36, 0, 4),
+    GOOD(open, LENT_36_BYTES, NULL, NO, 1, BIOS + 0x10000, 36, 0, 4, BIOS + 0x1ffe0, 20),
     REFUSED(open, LENT_LONG, NULL, NO, ZACPI_NO_VALID_RSDP, NULL),
-    GOOD(open, LENT_LONG_EBDA, NULL, NO, 1, BIOS + 0x10000, 36, 0, 4),
-    GOOD(open, LENT_TABLES, NULL, NO, 1, 0x200000, 36, 0, 4),
+    GOOD(open, LENT_LONG_EBDA, NULL, NO, 1, BIOS + 0x10000, 36, 0, 4, BIOS + 0x1ffe0, 20),
+    GOOD(open, LENT_TABLES, NULL, NO, 1, 0x200000, 36, 0, 4, EBDA + 0x40, 20),
     REFUSED(open, LONG_ALONE, NULL, NO, ZACPI_MAP_FAILED, NULL),
     REFUSED(open, LONG_BEFORE_ROOT, NULL, NO, ZACPI_MAP_FAILED, NULL),
-    GOOD(open, LONG_AND_TABLES, NULL, NO, 1, 0x200000, 36, 0, 4),
+    GOOD(open, LONG_AND_TABLES, NULL, NO, 1, 0x200000, 36, 0, 4, EBDA + 0x40, 20),
 
     /* The header of a member, a table whose header is lent, and the DSDT and the FACS of the FADT. */
     GOOD(list_missing_ranges, HOLES, NULL, NO, 4, 0x200000, 36, TAIL, 80, 0x300000, 36, 0x400000, 36),
@@ -105,23 +109,25 @@ static const struct row rows[] = {
     NOTHING(list_missing_ranges, SUM), /* it is refused, but nothing is missing */
 
     /* A table too short for zacpi_hpet is one for zacpi_find_table. */
-    GOOD(find_table, PC, "HPET", NO, 1, AT(HPET_SHORT), 48, LETTERS('H', 'P', 'E', 'T'), 3),
-    GOOD(find_nth_table, PC, "HPET", A(0), 1, AT(HPET_SHORT), 48, LETTERS('H', 'P', 'E', 'T'), 3),
-    GOOD(find_nth_table, PC, "HPET", A(1), 1, AT(HPET), 56, LETTERS('H', 'P', 'E', 'T'), 1),
+    GOOD(find_table, PC, "HPET", NO, 1, AT(HPET_SHORT), 48, LETTERS('H', 'P', 'E', 'T'), 3, NO_IDS),
+    GOOD(find_nth_table, PC, "HPET", A(0), 1, AT(HPET_SHORT), 48, LETTERS('H', 'P', 'E', 'T'), 3, NO_IDS),
+    GOOD(find_nth_table, PC, "HPET", A(1), 1, AT(HPET), 56, LETTERS('H', 'P', 'E', 'T'), 1, HPET_IDS),
     GOOD(list_faults, PC, "HPET", NO, 1, AT(HPET_SHORT), ZACPI_SDT_INVALID_LENGTH),
     GOOD(list_faults, HOLES, "OEM1", NO, 2, 0x200000, ZACPI_MAP_FAILED, TAIL, ZACPI_MAP_FAILED),
     LEAST_OF("FACP", FADT_115), LEAST_OF("APIC", MADT_43), LEAST_OF("MCFG", MCFG_43), LEAST_OF("HPET", HPET_55),
     LEAST_OF("BGRT", BGRT_55), LEAST_OF("SPCR", SPCR_79), LEAST_OF("GTDT", GTDT_95), LEAST_OF("SRAT", SRAT_47),
     LEAST_OF("SLIT", SLIT_43), LEAST_OF("OEM2", OEM2_35), LEAST_OF("DMAR", DMAR_47), LEAST_OF("IVRS", IVRS_47),
-    GOOD(find_table, LEAST, "OEM2", NO, 1, AT(OEM2_36), 36, LETTERS('O', 'E', 'M', '2'), 1),
-    GOOD(list_tables, PC, NULL, NO, 4, AT(FADT), 276, LETTERS('F', 'A', 'C', 'P'), 6,
-         AT(MADT_PC), 96, LETTERS('A', 'P', 'I', 'C'), 4, AT(HPET_SHORT), 48, LETTERS('H', 'P', 'E', 'T'), 3,
-         AT(HPET), 56, LETTERS('H', 'P', 'E', 'T'), 1),
+    GOOD(find_table, LEAST, "OEM2", NO, 1, AT(OEM2_36), 36, LETTERS('O', 'E', 'M', '2'), 1, NO_IDS),
+    GOOD(list_tables, PC, NULL, NO, 4, AT(FADT), 276, LETTERS('F', 'A', 'C', 'P'), 6, NO_IDS,
+         AT(MADT_PC), 96, LETTERS('A', 'P', 'I', 'C'), 4, NO_IDS,
+         AT(HPET_SHORT), 48, LETTERS('H', 'P', 'E', 'T'), 3, NO_IDS,
+         AT(HPET), 56, LETTERS('H', 'P', 'E', 'T'), 1, HPET_IDS),
     NOTHING(list_tables, EMPTY),
     /* A Signature that isn't UTF-8 is no table's, and no fault, whichever is looked for. */
-    GOOD(list_tables, OLD, NULL, NO, 4, AT(FADT_OLD), 276, LETTERS('F', 'A', 'C', 'P'), 1,
-         AT(MADT_OLD), 150, LETTERS('A', 'P', 'I', 'C'), 5, AT(GTDT_OLD), 192, LETTERS('G', 'T', 'D', 'T'), 1,
-         AT(SRAT_OLD), 146, LETTERS('S', 'R', 'A', 'T'), 1),
+    GOOD(list_tables, OLD, NULL, NO, 4, AT(FADT_OLD), 276, LETTERS('F', 'A', 'C', 'P'), 1, NO_IDS,
+         AT(MADT_OLD), 150, LETTERS('A', 'P', 'I', 'C'), 5, NO_IDS,
+         AT(GTDT_OLD), 192, LETTERS('G', 'T', 'D', 'T'), 1, NO_IDS,
+         AT(SRAT_OLD), 146, LETTERS('S', 'R', 'A', 'T'), 1, NO_IDS),
     GOOD(list_faults, OLD, "OEM1", NO, 1, 0x1234, ZACPI_MAP_FAILED),
     GOOD(list_faults, OLD, "\377OEM", NO, 1, 0x1234, ZACPI_MAP_FAILED),
     REFUSED(find_table, OLD, "\377OEM", NO, ZACPI_TABLE_MISSING, "\377OEM"),
@@ -131,6 +137,11 @@ static const struct row rows[] = {
     GOOD(hpet, WORKSTATION, NULL, NO, 1, 0xfed20000, 0x10de8203, 0x5678, 4, 3),
     GOOD(hpet, SERVER, NULL, NO, 1, 0xfed30000, 0x10de8204, 0x9abc, 5, 3), /* 11 is reserved too */
     GOOD(hpet, LEAST, NULL, NO, 1, 0, 0, 0, 0, 0),
+    GOOD(list_hpets, PC, NULL, NO, 1, 0x1fed00000, 0x8086a201, 0x80, 1, 2),
+    GOOD(list_hpets, HPETS, NULL, NO, 3, 0xfed00000, 0x10de8201, 0x90f3, 2, 0, 0xfed20000, 0x10de8203, 0x5678, 4, 3,
+         0xfed00000, 0x10de8201, 0x90f3, 2, 0),
+    NOTHING(list_hpets, SOHO), /* in ports */
+    NOTHING(list_hpets, EMPTY),
     REFUSED(hpet, SOHO, NULL, NO, ZACPI_INVALID_GENERIC_ADDRESS, NULL),
     GOOD(get_boot_graphic, DESKTOP, NULL, NO, 1, 0x2abcdef00, 800, 600, 90, 1, 0),
     GOOD(get_boot_graphic, MOBILE, NULL, NO, 1, 0x7f000000, 1, 70000, 270, 0, 1),
@@ -152,16 +163,30 @@ static const struct row rows[] = {
     REFUSED(find_nth_table, PC, "HPET", A(2), ZACPI_TABLE_MISSING, "HPET"),
     REFUSED(hpet, EMPTY, NULL, NO, ZACPI_TABLE_MISSING, "HPET"),
     REFUSED(dsdt, PC, NULL, NO, ZACPI_MAP_FAILED, NULL), /* X_DSDT is 0, and at DSDT nothing is lent */
-    GOOD(dsdt, APPLIANCE, NULL, NO, 1, AT(DSDT) + 36, 24),
+    GOOD(dsdt, APPLIANCE, NULL, NO, 1, AT(DSDT) + 36, 24, 2, AT(DSDT)),
     REFUSED(dsdt, SOHO, NULL, NO, ZACPI_MAP_FAILED, NULL), /* its header is lent */
     REFUSED(dsdt, PERFORMANCE, NULL, NO, ZACPI_SDT_INVALID_SIGNATURE, "DSDT"),
     REFUSED(dsdt, TABLET, NULL, NO, ZACPI_INVALID_DSDT_ADDRESS, NULL),
     REFUSED(dsdt, OLD, NULL, NO, ZACPI_INVALID_DSDT_ADDRESS, NULL), /* X_DSDT doesn't count */
     REFUSED(dsdt, EMPTY, NULL, NO, ZACPI_TABLE_MISSING, "FACP"),
     /* The second has no AML, and the first is listed twice. */
-    GOOD(list_ssdts, APPLIANCE, NULL, NO, 3, AT(SSDT_12) + 36, 12, AT(SSDT_0) + 36, 0, AT(SSDT_12) + 36, 12),
+    GOOD(list_ssdts, APPLIANCE, NULL, NO, 3, AT(SSDT_12) + 36, 12, 2, AT(SSDT_12), AT(SSDT_0) + 36, 0, 1, AT(SSDT_0),
+         AT(SSDT_12) + 36, 12, 2, AT(SSDT_12)),
     NOTHING(list_ssdts, PC),
 
+    GOOD(get_facs, APPLIANCE, NULL, NO, 1, AT(FACS), 0x1234567890, 64, 0x11223344, 0x55667788, 3, 2),
+    REFUSED(get_facs, PERFORMANCE, NULL, NO, ZACPI_SDT_INVALID_LENGTH, "FACS"),
+    REFUSED(get_facs, RESERVED, NULL, NO, ZACPI_SDT_INVALID_SIGNATURE, "FACS"), /* a DSDT */
+    REFUSED(get_facs, SOHO, NULL, NO, ZACPI_MAP_FAILED, NULL), /* 40 of its 64 bytes are lent */
+    REFUSED(get_facs, WIDE, NULL, NO, ZACPI_MAP_FAILED, NULL), /* X_FIRMWARE_CTRL counts, where nothing is lent */
+    REFUSED(get_facs, TABLET, NULL, NO, ZACPI_TABLE_MISSING, "FACS"),
+    REFUSED(get_facs, EMPTY, NULL, NO, ZACPI_TABLE_MISSING, "FACP"),
+
+    /* The RSDP first, unless the start is at a root table. */
+    GOOD(list_ranges, RSDP_40, NULL, NO, 6, AT(RSDP_40), 40, AT(PC), 68, AT(FADT), 276, AT(MADT_PC), 96,
+         AT(HPET_SHORT), 48, AT(HPET), 56),
+    GOOD(list_ranges, FOUND, NULL, NO, 2, BIOS + 0x1ffe0, 20, BIOS + 0x10000, 36),
+    GOOD(list_ranges, LENT_TABLES, NULL, NO, 2, EBDA + 0x40, 20, 0x200000, 36),
     /* The root table and its members: neither the DSDT nor the FACS is lent. */
     GOOD(list_ranges, PC, NULL, NO, 5, AT(PC), 68, AT(FADT), 276, AT(MADT_PC), 96, AT(HPET_SHORT), 48, AT(HPET), 56),
     /* All of them, repeats kept, and then the DSDT and the FACS. */
@@ -176,14 +201,15 @@ static const struct row rows[] = {
          0x620, 1, 128, 0, 0, 1, REFUSED_REGISTER,                     /* GPE1_BLK: 32 bytes are too many bits */
          0xcf9, 1, 8, 0, 1, 1, 0x405, 1, 8, 2, 1, 1, 0, 0, 0, 0, 0, 1, /* SLEEP_STATUS_REG: there, and zeros */
          0x620, 1, 16, 1, 0x640, 1, 32, 1, 0xb2, 0x4a5, 9, 0x13, 3, 101, 1001, 1024, 16, 4, 0xa1, 0xa0, 0xf2, 0x80,
-         0xe3, 0x40, 1, 3, 13, 14, 50, 6),
+         0xe3, 0x40, 1, 3, 13, 14, 50, 6, 6, 0x14, 0x564b4d564b4d564b),
     GOOD(get_fixed_hardware, HOLES, NULL, NO, 1, 0x400000, 0x300000,
          0, 1, 0, 0, 0, 1, ABSENT, 0, 1, 0, 0, 0, 1, ABSENT, /* PM1a: present at port 0 */
          ABSENT, ABSENT, ABSENT, ABSENT, 0, 0, 0, 0, 0, 1,   /* RESET_REG is past the end */
-         ABSENT, ABSENT, 0, 0, 0, 0, 0, 0, 0, 0, ABSENT, ABSENT, ABSENT, 0, 0, 0, 0),
+         ABSENT, ABSENT, 0, 0, 0, 0, 0, 0, 0, 0, ABSENT, ABSENT, ABSENT, 0, 0, 0, 0, 1, 0, 0),
     PROFILE(DESKTOP, 0, 0, 1), PROFILE(MOBILE, 0, 0, 2), PROFILE(WORKSTATION, 0, 0, 3), PROFILE(SERVER, 0, 0, 4),
     PROFILE(SOHO, CUT(0), CUT(1), 5), PROFILE(APPLIANCE, AT(FACS), AT(DSDT), 6),
-    PROFILE(PERFORMANCE, AT(FACS_SHORT), AT(DSDT_OTHER), 7), PROFILE(TABLET, 0, 0, 8), PROFILE(RESERVED, 0, 0, 9),
+    PROFILE(PERFORMANCE, AT(FACS_SHORT), AT(DSDT_OTHER), 7), PROFILE(TABLET, 0, 0, 8),
+    PROFILE(RESERVED, AT(DSDT), 0, 9),
     PROFILE(LEAST, 0, 0, 0),
     GOOD(get_fixed_hardware, WIDE, NULL, NO, 1, 0x500001000, 0x500002000,
          0x500003000, 0, 32, 0, 3, 1, 0x500004000, 0, 31, 1, 2, 1, /* PM1a_EVT, PM1b_EVT */
@@ -192,20 +218,21 @@ static const struct row rows[] = {
          0x500000000, 0, 26, 6, 1, 1, 0x50000a000, 0, 25, 7, 2, 1, /* GPE0, GPE1 */
          0x50000d000, 2, 22, 10, 1, 1, 0x50000b000, 0, 24, 8, 3, 1, 0x50000c000, 0, 23, 9, 4, 1, /* RESET, SLEEP */
          0x500000000, 0, 8, 1, 0x50000a000, 0, 16, 1, 0, 0x100, 0, 0, 0, 0, 0, 0, 0, 0, 0, 0, 0, 0, 0, 0, 0, 0, 0, 0,
-         0, 0),
+         0, 0, 6, 0, 0),
     GOOD(get_fixed_hardware, OLD, NULL, NO, 1, 0, 0, REFUSED_REGISTER, REFUSED_REGISTER, /* PM1_EVT: 32 bytes */
          0x620, 1, 248, 0, 0, 1, ABSENT, REFUSED_REGISTER, ABSENT,                   /* PM1_CNT, PM2_CNT, PM_TMR */
          0x660, 1, 0, 0, 0, 1, REFUSED_REGISTER, 0xcf9, 1, 8, 0, 1, 1, ABSENT, ABSENT, /* GPE0 has no bytes */
-         0, 0, 0, 0, 0x670, 1, 33, 1, 0, 0x100, 0, 0, 0x203, 0, 0, 0, 0, 0, 0, 0, 0, 0, 0, 0, 0, 0, 0, 0, 0, 6),
+         0, 0, 0, 0, 0x670, 1, 33, 1, 0, 0x100, 0, 0, 0x203, 0, 0, 0, 0, 0, 0, 0, 0, 0, 0, 0, 0, 0, 0, 0, 0, 6,
+         1, 0x21, 0), /* the other is of revision 6 on */
     /* Of ARM_BOOT_ARCH there is one byte, and no X_ field. */
     GOOD(get_fixed_hardware, HALF, NULL, NO, 1, 0, 0, 0, 1, 0, 0, 0, 1, ABSENT, 0, 1, 0, 0, 0, 1, ABSENT,
          ABSENT, ABSENT, ABSENT, ABSENT, 0, 0, 0, 0, 0, 1, ABSENT, ABSENT, 0, 0, 0, 0, 0, 0, 0, 0,
-         0, 0, 0, 0, 3, 0, 0, 0, 0, 0, 0, 0, 0, 0, 0, 0, 0, 0, 0, 0, 0, 0),
+         0, 0, 0, 0, 3, 0, 0, 0, 0, 0, 0, 0, 0, 0, 0, 0, 0, 0, 0, 0, 0, 0, 6, 0, 0),
     /* X_GPE1_BLK isn't there as a whole, so that GPE1_BLK counts. */
     GOOD(get_fixed_hardware, HALF_X, NULL, NO, 1, 0, 0, 0, 1, 0, 0, 0, 1, ABSENT, 0, 1, 0, 0, 0, 1, ABSENT,
          ABSENT, ABSENT, 0x500000000, 0, 26, 6, 1, 1, 0x670, 1, 128, 0, 0, 1, 0, 0, 0, 0, 0, 1, ABSENT, ABSENT,
          0x500000000, 0, 8, 1, 0x670, 1, 16, 1,
-         0, 0, 0, 0, 0, 0, 0, 0, 0, 0, 0, 0, 0, 0, 0, 0, 0, 0, 0, 0, 0, 0),
+         0, 0, 0, 0, 0, 0, 0, 0, 0, 0, 0, 0, 0, 0, 0, 0, 0, 0, 0, 0, 0, 0, 6, 0, 0),
     REFUSED(get_fixed_hardware, EMPTY, NULL, NO, ZACPI_TABLE_MISSING, "FACP"),
     GOOD(get_pm_timer, PC, NULL, NO, 1, 0x608, 1, 32, 0, 0, 1, 0),
     GOOD(get_pm_timer, WIDE, NULL, NO, 1, 0x500008000, 0, 27, 5, 3, 1, 1),
@@ -309,6 +336,10 @@ static const struct row rows[] = {
     REFUSED(list_nmi_lines, HOLES, NULL, NO, ZACPI_TABLE_MISSING, "APIC"),
     REFUSED(list_nmi_lines, SERVER, NULL, NO, ZACPI_NO_APICS, NULL),
     REFUSED(list_nmi_lines, EMPTY, NULL, NO, ZACPI_TABLE_MISSING, "APIC"),
+    GOOD(mailbox_address, MAILBOX, NULL, NO, 1, 0x17a000000),
+    REFUSED(mailbox_address, PC, NULL, NO, ZACPI_MADT_UNEXPECTED_ENTRY, NULL),
+    REFUSED(mailbox_address, LENGTH_0, NULL, NO, ZACPI_MADT_INVALID_ENTRY_LENGTH, NULL),
+    REFUSED(mailbox_address, EMPTY, NULL, NO, ZACPI_TABLE_MISSING, "APIC"),
     /* The boot processor is the first, and here it is disabled. */
     GOOD(list_processors, DESKTOP, NULL, NO, 5,
          0x21, 0x42, ZACPI_PROCESSOR_DISABLED, 1, 0, 0, 0x22, 0x44, ZACPI_PROCESSOR_WAITING, 0, 0, 0,

@@ -3,12 +3,14 @@
 #ifndef ROWS_IOMMU_H
 #define ROWS_IOMMU_H
 
+typedef struct zacpi_dmar_flags dmar_flags;
 typedef struct zacpi_dmar_unit dmar_unit;
 typedef struct zacpi_dmar_source dmar_source;
 typedef struct zacpi_dmar_reserved dmar_reserved;
 typedef struct zacpi_ivrs_device ivrs_device;
 typedef struct zacpi_ivrs_memory ivrs_memory;
 
+FIELDS(of_dmar_flags, F(dmar_flags, address_bits), F(dmar_flags, flags));
 FIELDS(of_dmar_unit, F(dmar_unit, register_base), F(dmar_unit, register_bytes), F(dmar_unit, segment),
        F(dmar_unit, includes_pci_all));
 FIELDS(of_dmar_source, F(dmar_source, unit.register_base), F(dmar_source, unit.register_bytes),
@@ -33,6 +35,7 @@ static const struct zacpi_hop *hops(const struct row *row) {
     }
     return all;
 }
+ONE(get_dmar_flags, dmar_flags, of_dmar_flags, )
 ONE(get_dmar_unit, dmar_unit, of_dmar_unit, DEVICE)
 ONE(dmar_io_apic, dmar_source, of_dmar_source, ARGUMENT(0, uint8_t))
 ONE(dmar_hpet, dmar_source, of_dmar_source, ARGUMENT(0, uint8_t))
@@ -48,9 +51,14 @@ LIST(list_ivrs_memory, ivrs_memory, of_ivrs_memory, ARGUMENT(0, uint16_t))
 #define FIRST_UNIT 0xfed90000, 4096, 0, 0
 #define UNIT_OF_ALL 0x1fed91000, 8192, 0, 1
 #define BLOCK_11 0x1feb80000, 0x246577efa2254afa, 0x80048f6e, 0, 2, 0x48, 0x105, 0x11, 0xb0, 1
+#define OTHER_BLOCK_11 0x1fec00000, 0x55, 7, 1, 0x4002, 0x44, 0x206, 0x11, 0x31, 1
+#define BLOCK_10 0xfeb80000, 0, 0x11223344, 0, 2, 0x40, 3, 0x10, 1, 0
 #define MEMORY_OF_ALL 0x70000000, 0x1000, 0, 0, 0x20, 1
 
 static const struct row unit_rows[] = {
+    GOOD(get_dmar_flags, UNITS, NULL, NO, 1, 39, ZACPI_DMAR_INTR_REMAP),
+    GOOD(get_dmar_flags, LEAST, NULL, NO, 1, 1, 0),
+    REFUSED(get_dmar_flags, EMPTY, NULL, NO, ZACPI_TABLE_MISSING, "DMAR"),
     GOOD(get_dmar_unit, UNITS, NULL, A(0, 0, 1, HOP_2_0), 1, FIRST_UNIT),
     GOOD(get_dmar_unit, UNITS, NULL, A(0, 0, 1, HOP_1_0), 1, FIRST_UNIT), /* the front of a sub-hierarchy */
     GOOD(get_dmar_unit, UNITS, NULL, A(0, 0, 2, HOP_1_0), 1, FIRST_UNIT), /* and 00.0 below it */
@@ -91,10 +99,8 @@ static const struct row unit_rows[] = {
     GOOD(get_ivrs_unit, UNITS, NULL, A(0, 0x500), 1, BLOCK_11, 0x500, 4),
     GOOD(get_ivrs_unit, UNITS, NULL, A(0, 0xa0), 1, BLOCK_11, 0xa0, 6),
     GOOD(get_ivrs_unit, UNITS, NULL, A(0, 0x600), 1, BLOCK_11, 0x600, 5),
-    GOOD(get_ivrs_unit, UNITS, NULL, A(1, 0xffff), 1, 0x1fec00000, 0x55, 7, 1, 0x4002, 0x44, 0x206, 0x11, 0x31, 1,
-         0xffff, 9),
-    GOOD(get_ivrs_unit, UNITS_10, NULL, A(0, 0x1234), 1, 0xfeb80000, 0, 0x11223344, 0, 2, 0x40, 3, 0x10, 1, 0,
-         0x1234, 0xd7),
+    GOOD(get_ivrs_unit, UNITS, NULL, A(1, 0xffff), 1, OTHER_BLOCK_11, 0xffff, 9),
+    GOOD(get_ivrs_unit, UNITS_10, NULL, A(0, 0x1234), 1, BLOCK_10, 0x1234, 0xd7),
     REFUSED(get_ivrs_unit, UNITS, NULL, A(0, 0), ZACPI_NO_IOMMU, NULL), /* in padding, and in a block of Type 0x10 */
     REFUSED(get_ivrs_unit, UNITS, NULL, A(0, 0x200), ZACPI_NO_IOMMU, NULL),
     REFUSED(get_ivrs_unit, UNITS, NULL, A(2, 0x10), ZACPI_NO_IOMMU, NULL),

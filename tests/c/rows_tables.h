@@ -32,8 +32,8 @@ struct put {
 enum { EMPTY, ARM, PC, ODD, HOLES, SUM, DESKTOP, MOBILE, WORKSTATION, SERVER, SOHO, APPLIANCE, PERFORMANCE, TABLET,
        RESERVED, WIDE, TIMER_5, LEAST, OLD, HALF, HALF_X, UNITS, UNITS_10, UNITS_CUT,
        UNITS_END, SAPIC_BETWEEN, NMI_2, LENGTH_0, NO_FADT, BUS_1, TRIGGER_2,
-       LINT_2, /* root tables, in the order of `tables` */
-       RSDP_0, RSDP_2, RSDP_MIXED, RSDP_LONG, RSDP_LOST, RSDP_CUT, RSDP_SHORT,
+       LINT_2, HPETS, MAILBOX, /* root tables, in the order of `tables` */
+       RSDP_0, RSDP_2, RSDP_40, RSDP_MIXED, RSDP_LONG, RSDP_LOST, RSDP_CUT, RSDP_SHORT,
        RSDP_NONE, /* RSDPs, and the last one is none */
        MADT_GIC, GTDT, SRAT, SLIT, MCFG, FADT, MADT_PC, HPET_SHORT, HPET, MADT_CUT, GTDT_CUT, SRAT_CUT, SLIT_ODD,
        FADT_1, SRAT_HIGH, FADT_DESKTOP, FADT_MOBILE, FADT_WORKSTATION, FADT_SERVER, FADT_SOHO, FADT_APPLIANCE,
@@ -43,7 +43,7 @@ enum { EMPTY, ARM, PC, ODD, HOLES, SUM, DESKTOP, MOBILE, WORKSTATION, SERVER, SO
        HPET_55, HPET_56, BGRT_55, BGRT_56, SPCR_79, SPCR_80, GTDT_95, GTDT_96, SRAT_47, SRAT_48, SLIT_43, SLIT_44,
        OEM2_35, OEM2_36, FADT_OLD, MADT_OLD, GTDT_OLD, SRAT_OLD, OEM_BYTE, FADT_HALF, SPCR_HALF, GTDT_HALF, MADT_HALF,
        MCFG_HALF, FADT_HALF_X, DMAR, DMAR_CUT, DMAR_END, DMAR_47, DMAR_48, IVRS, IVRS_10, IVRS_CUT, IVRS_END, IVRS_47,
-       IVRS_48, MADT_SAPIC_BETWEEN, MADT_NMI_2, MADT_LENGTH_0, MADT_BUS_1, MADT_TRIGGER_2, MADT_LINT_2 };
+       IVRS_48, MADT_SAPIC_BETWEEN, MADT_NMI_2, MADT_LENGTH_0, MADT_BUS_1, MADT_TRIGGER_2, MADT_LINT_2, MADT_MAILBOX };
 
 /* Entry[n] of an RSDT, from 36 on (section 5.2.7), and of an XSDT (section 5.2.8). */
 PUTS(no_fields, {36, 0, 0});
@@ -87,6 +87,9 @@ PUTS(no_fadt, {36, 4, AT(MADT_PC)});
 PUTS(bus_1, {36, 4, AT(FADT)}, {40, 4, AT(MADT_BUS_1)});
 PUTS(trigger_2, {36, 4, AT(FADT)}, {40, 4, AT(MADT_TRIGGER_2)});
 PUTS(lint_2, {36, 4, AT(FADT)}, {40, 4, AT(MADT_LINT_2)});
+/* Four blocks of event timers, of which the second isn't in memory, and the first is listed twice. */
+PUTS(hpets, {36, 4, AT(HPET_0)}, {40, 4, AT(HPET_PORT)}, {44, 4, AT(HPET_3)}, {48, 4, AT(HPET_0)});
+PUTS(mailbox, {36, 4, AT(MADT_MAILBOX)});
 
 PUTS(madt_gic,
     {44, 2, HEADER(0x0c, 24)}, {44 + 4, 4, 7} /* GIC ID */, {44 + 8, 8, 0x2f000000} /* Physical Base Address */,
@@ -230,6 +233,7 @@ static const struct table {
     {AT(SAPIC_BETWEEN), "RSDT", 1, 44, sapic_between}, {AT(NMI_2), "RSDT", 1, 44, nmi_2},
     {AT(LENGTH_0), "RSDT", 1, 44, length_0}, {AT(NO_FADT), "RSDT", 1, 40, no_fadt}, {AT(BUS_1), "RSDT", 1, 44, bus_1},
     {AT(TRIGGER_2), "RSDT", 1, 44, trigger_2}, {AT(LINT_2), "RSDT", 1, 44, lint_2},
+    {AT(HPETS), "RSDT", 1, 52, hpets}, {AT(MAILBOX), "RSDT", 1, 40, mailbox},
     {AT(MADT_GIC), "APIC", 6, 346, madt_gic}, {AT(GTDT), "GTDT", 3, 260, gtdt}, {AT(SRAT), "SRAT", 3, 274, srat},
     {AT(SLIT), "SLIT", 1, 48, slit}, {AT(MCFG), "MCFG", 1, 108, mcfg}, {AT(FADT), "FACP", 6, 276, fadt},
     {AT(MADT_PC), "APIC", 4, 96, madt_pc}, {AT(HPET_SHORT), "HPET", 3, 48, no_fields}, {AT(HPET), "HPET", 1, 56, hpet},
@@ -251,8 +255,8 @@ static const struct table {
     {AT(HPET_3), "HPET", 1, 56, hpet_3}, {AT(HPET_11), "HPET", 1, 56, hpet_11},
     {AT(HPET_PORT), "HPET", 1, 56, hpet_port},
     {AT(DSDT), "DSDT", 2, 60, no_fields}, {AT(DSDT_OTHER), "SSDT", 2, 60, no_fields},
-    {AT(SSDT_12), "SSDT", 2, 48, no_fields}, {AT(SSDT_0), "SSDT", 2, 36, no_fields},
-    {AT(FACS), "FACS", 0, 64, no_fields},
+    {AT(SSDT_12), "SSDT", 2, 48, no_fields}, {AT(SSDT_0), "SSDT", 1, 36, no_fields},
+    {AT(FACS), "FACS", 0, 64, facs_64},
     {AT(FACS_SHORT), "FACS", 0, 63, no_fields}, {CUT(0), "FACS", 0, 64, no_fields}, {CUT(1), "DSDT", 2, 60, no_fields},
     {CUT(2), "RSDT", 1, 52, no_fields}, {AT(FADT_115), "FACP", 1, 115, no_fields},
     {AT(FADT_116), "FACP", 1, 116, no_fields},
@@ -279,6 +283,7 @@ static const struct table {
     {AT(MADT_SAPIC_BETWEEN), "APIC", 5, 76, madt_sapic_between}, {AT(MADT_NMI_2), "APIC", 5, 70, madt_nmi_2},
     {AT(MADT_LENGTH_0), "APIC", 5, 72, madt_length_0}, {AT(MADT_BUS_1), "APIC", 5, 82, madt_bus_1},
     {AT(MADT_TRIGGER_2), "APIC", 5, 84, madt_trigger_2}, {AT(MADT_LINT_2), "APIC", 5, 78, madt_lint_2},
+    {AT(MADT_MAILBOX), "APIC", 5, 84, madt_mailbox},
     {BIOS + 0x10000, "RSDT", 1, 36, no_fields}};
 
 /* RSDPs: the first byte of OEMID at 9, Revision at 15, RsdtAddress at 16, Length at 20, XsdtAddress at 24 (section
@@ -289,6 +294,7 @@ static const struct rsdp {
     uint64_t xsdt_address;
 } rsdps[] = {
     {AT(RSDP_0), 0, 0, AT(ARM), 0, 0}, {AT(RSDP_2), 0, 2, AT(EMPTY), 36, AT(PC)},
+    {AT(RSDP_40), 0, 2, 0, 40, AT(PC)},
     {AT(RSDP_MIXED), 0, 2, AT(ARM), 36, 0}, {AT(RSDP_LONG), 0, 2, 0, SIZE, AT(PC)},
     {AT(RSDP_LOST), 0, 2, 0, 36, 0x300000000}, {AT(RSDP_CUT), 0, 0, CUT(2), 0, 0},
     {AT(RSDP_SHORT), 0, 2, 0, 35, AT(PC)}, {BIOS + 0x1ffe0, 0, 0, BIOS + 0x10000, 0, 0},

@@ -30,6 +30,7 @@ PUTS(fadt,
     {107, 1, 14} /* MON_ALRM */, {108, 1, 50} /* CENTURY */, {109, 2, 0x13} /* IAPC_BOOT_ARCH */,
     {112, 4, 0x4a5} /* Flags */,
     GENERIC(116, 1, 8, 0, 1, 0xcf9) /* RESET_REG */, {128, 1, 6} /* RESET_VALUE */, {129, 2, 3} /* ARM_BOOT_ARCH */,
+    {131, 1, 0x14} /* FADT Minor Version */, {268, 8, 0x564b4d564b4d564b} /* Hypervisor Vendor Identity: KVMKVMKV */,
     {132, 8, 0x123456000} /* X_FIRMWARE_CTRL; X_DSDT is 0 */,
     GENERIC(148, 0, 32, 0, 3, 0x200000600) /* X_PM1a_EVT_BLK */,
     GENERIC(172, 1, 16, 0, 5, 0x604) /* X_PM1a_CNT_BLK: Access Size 5 is reserved */,
@@ -62,6 +63,7 @@ PUTS(fadt_old,
     {91, 1, 4} /* PM_TMR_LEN */, {92, 1, 0} /* GPE0_BLK_LEN */, {93, 1, 33} /* GPE1_BLK_LEN */,
     {112, 4, 0x100} /* Flags: TMR_VAL_EXT */, GENERIC(116, 1, 8, 0, 1, 0xcf9) /* RESET_REG */,
     {128, 1, 6} /* RESET_VALUE */, {129, 2, 0x203} /* ARM_BOOT_ARCH */,
+    {131, 1, 0x21} /* FADT Minor Version */, {268, 8, ONES} /* Hypervisor Vendor Identity */,
     {132, 8, 0x500001000} /* X_FIRMWARE_CTRL */, {140, 8, 0x500002000} /* X_DSDT */,
     GENERIC(148, 0, 32, 0, 3, 0x500003000) /* X_PM1a_EVT_BLK */,
     GENERIC(208, 0, 32, 0, 3, 0x500008000) /* X_PM_TMR_BLK */, GENERIC(220, 0, 26, 6, 1, 0x500000000) /* X_GPE0_BLK */,
@@ -84,8 +86,18 @@ PUTS(fadt_soho, {45, 1, 5}, {36, 4, CUT(0)}, {40, 4, CUT(1)});
 PUTS(fadt_appliance, {45, 1, 6}, {36, 4, AT(FACS)}, {40, 4, AT(DSDT)});
 PUTS(fadt_performance, {45, 1, 7}, {36, 4, AT(FACS_SHORT)}, {40, 4, AT(DSDT_OTHER)});
 PUTS(fadt_tablet, {45, 1, 8});
-PUTS(fadt_reserved, {45, 1, 9});
+PUTS(fadt_reserved, {45, 1, 9}, {36, 4, AT(DSDT)});
 
+/* The bytes of a FACS (section 5.2.10). */
+PUTS(facs_64,
+    {8, 4, 0x11223344} /* Hardware Signature */, {12, 4, 0x55667788} /* Firmware_Waking_Vector */,
+    {16, 4, 0x99aabbcc} /* Global Lock */, {20, 4, 3} /* Flags */, {24, 8, 0x1234567890} /* X_Firmware_Waking_Vector */,
+    {32, 1, 2} /* Version */, {36, 4, 0xddeeff00} /* OSPM Flags */);
+
+/* A processor, and two mailboxes. */
+PUTS(madt_mailbox,
+    {44, 2, HEADER(0, 8)}, {52, 2, HEADER(0x10, 16)}, {52 + 2, 2, 1} /* MailBoxVersion */,
+    {52 + 8, 8, 0x17a000000} /* MailBoxAddress */, {68, 2, HEADER(0x10, 16)}, {68 + 8, 8, 0x27b000000});
 PUTS(madt_pc,
     {44, 2, HEADER(0, 8)}, {44 + 2, 1, 1} /* ACPI Processor UID */, {44 + 3, 1, 33} /* APIC ID */,
     {44 + 4, 4, 1} /* Flags */,
@@ -186,7 +198,11 @@ PUTS(madt_lint_2,
 
 /* Event Timer Block ID at 36, BASE_ADDRESS at 40, HPET Number at 52, Main Counter Minimum Clock_tick at 53, Page
  * Protection in the low four bits at 55, of which 3 to 15 are reserved. HPET_SHORT ends before BASE_ADDRESS does. */
-PUTS(hpet, {36, 4, 0x8086a201}, GENERIC(40, 0, 64, 0, 0, 0x1fed00000), {52, 1, 1}, {53, 2, 0x80}, {55, 1, 2});
+PUTS(hpet,
+    {10, 6, 0x464544434241} /* OEMID: ABCDEF */, {16, 8, 0x4e4d4c4b4a494847} /* OEM Table ID: GHIJKLMN */,
+    {24, 4, 0x12345678} /* OEM Revision */, {28, 4, 0x5251504f} /* Creator ID: OPQR */,
+    {32, 4, 0x9abcdef0} /* Creator Revision */,
+    {36, 4, 0x8086a201}, GENERIC(40, 0, 64, 0, 0, 0x1fed00000), {52, 1, 1}, {53, 2, 0x80}, {55, 1, 2});
 PUTS(hpet_0, {36, 4, 0x10de8201}, GENERIC(40, 0, 64, 0, 0, 0xfed00000), {52, 1, 2}, {53, 2, 0x90f3}, {55, 1, 0x30});
 PUTS(hpet_1, {36, 4, 0x10de8202}, GENERIC(40, 0, 64, 0, 0, 0xfed10000), {52, 1, 3}, {53, 2, 0x1234}, {55, 1, 0xf1});
 PUTS(hpet_3, {36, 4, 0x10de8203}, GENERIC(40, 0, 64, 0, 0, 0xfed20000), {52, 1, 4}, {53, 2, 0x5678}, {55, 1, 3});

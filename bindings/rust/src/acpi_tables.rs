@@ -5,7 +5,7 @@ use crate::error::{AcpiError, AcpiResult};
 use crate::list::{items, sealed::Sealed, Item, Listing};
 use crate::memory::{Region, Start};
 use crate::raw;
-use crate::raw::records::{self, AmlTable, Range, Signature, Source};
+use crate::raw::records::{self, AmlTable, Facs, Range, Signature, Source};
 
 /// The root table (sections 5.2.7 and 5.2.8).
 #[derive(Clone, Copy, Debug, PartialEq, Eq)]
@@ -216,6 +216,13 @@ impl<'k> AcpiTables<'k> {
         self.list(raw::zacpi_1_list_ssdts)
     }
 
+    /// The FACS that the first valid FADT names (section 5.2.10). Refuses with `TableMissing` for the FADT, and for the
+    /// FACS if no field gives its address, with `MapFailed`, and for the FACS with `SdtInvalidSignature` and
+    /// `SdtInvalidLength`.
+    pub fn facs(&self) -> AcpiResult<Facs> {
+        raw::zacpi_1_get_facs(&self.source())
+    }
+
     /// The memory that the tables take, and that isn't to be given away: the root table, the listed tables, the DSDT
     /// and the FACS. The ranges may overlap (sections 5.2.6 to 5.2.11).
     pub fn ranges(&self) -> Listing<'k, Range> {
@@ -262,7 +269,13 @@ impl Iterator for Ssdts<'_> {
     fn next(&mut self) -> Option<AmlTable> {
         let table = raw::zacpi_1_find_nth_table(&self.source, Signature::SSDT, self.index).ok()?;
         self.index += 1;
-        Some(AmlTable { address: table.address.checked_add(36)?, length: table.length.checked_sub(36)? })
+        let records::Table { address: table_address, length, revision, .. } = table;
+        Some(AmlTable {
+            address: table_address.checked_add(36)?,
+            length: length.checked_sub(36)?,
+            revision,
+            table_address,
+        })
     }
 }
 

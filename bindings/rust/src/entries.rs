@@ -15,7 +15,7 @@
 //! # let tables = zacpi::AcpiTables::open(&regions, zacpi::Start::Xsdt(0x1000))?;
 //! let srat = tables.find(Signature::SRAT)?;
 //! let entries = tables.entries(&srat, 48, EntryWidth::One)?;
-//! let types: Vec<u16> = entries.map(|entry| entry.entry_type).collect();
+//! let types: Vec<u32> = entries.map(|entry| entry.entry_type).collect();
 //! assert_eq!(types, [3]); // GICC Affinity
 //! # Ok::<(), zacpi::AcpiError>(())
 //! ```
@@ -31,6 +31,8 @@ pub enum EntryWidth {
     One,
     /// Two bytes each, as in a DMAR or an NFIT.
     Two,
+    /// Four bytes each, as in an LPIT.
+    Four,
 }
 
 /// An entry of a table.
@@ -39,7 +41,7 @@ pub struct Entry<'k> {
     /// Its physical address.
     pub address: u64,
     /// Type.
-    pub entry_type: u16,
+    pub entry_type: u32,
     /// Its bytes, with Type and Length.
     pub bytes: &'k [u8],
 }
@@ -72,6 +74,7 @@ impl<'k> Entries<'k> {
         let bytes_each = match self.width {
             EntryWidth::One => 1,
             EntryWidth::Two => 2,
+            EntryWidth::Four => 4,
         };
         let regions = self.tables.regions();
         (self.left, self.is_malformed) =

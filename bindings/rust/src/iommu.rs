@@ -24,7 +24,7 @@ use crate::raw::{self, records, records_of};
 use crate::sdt::Signature;
 use crate::acpi_tables::{read::Read, AcpiTables, Table};
 
-pub use records::{DmarReserved, Hop, IvrsMemory};
+pub use records::{DmarFlags, DmarReserved, Hop, IvrsMemory};
 
 /// The least length of a DMAR, and of an IVRS: what they list begins there.
 const LEAST: u32 = 48;
@@ -153,6 +153,11 @@ pub struct Dmar<'k> {
 }
 
 impl Dmar<'_> {
+    /// What it says of all units (section 8.1).
+    pub fn flags(&self) -> AcpiResult<DmarFlags> {
+        raw::zacpi_1_get_dmar_flags(&self.tables.source())
+    }
+
     /// The unit that remaps a device: the first DRHD of the segment with a device scope that names it, or the first of
     /// the segment with INCLUDE_PCI_ALL. The scope of an endpoint names the device of its Path, and that of a bridge
     /// each device that is reached through it (section 8.3).

@@ -40,5 +40,5 @@ pub use mapper::{MappedTables, PhysicalMapper};
 pub use mcfg::PciConfigRegions;
 pub use memory::{clip_ranges, map_missing, missing_ranges, Mapped, Region, Start};
 pub use platform::{interrupt::InterruptModel, PlatformInfo, PlatformRoom};
-pub use raw::records::{AmlTable, Range};
+pub use raw::records::{AmlTable, Facs, Range};
 pub use sdt::Signature;

@@ -136,6 +136,7 @@ ones! {
     zacpi_1_find_table(signature: Signature) -> Table;
     zacpi_1_find_nth_table(signature: Signature, index: usize) -> Table;
     zacpi_1_dsdt() -> AmlTable;
+    zacpi_1_get_facs() -> Facs;
     zacpi_1_get_pm_timer() -> PmTimer;
     zacpi_1_hpet() -> HpetInfo;
     zacpi_1_get_boot_graphic() -> BootGraphic;
@@ -154,6 +155,7 @@ ones! {
     zacpi_1_domain_of_processor(uid: u32) -> u32;
     zacpi_1_get_localities() -> Localities;
     zacpi_1_distance(from: u64, to: u64) -> u8;
+    zacpi_1_get_dmar_flags() -> DmarFlags;
     zacpi_1_dmar_io_apic(id: u8) -> DmarSource;
     zacpi_1_dmar_hpet(number: u8) -> DmarSource;
     zacpi_1_get_ivrs_unit(segment: u16, device_id: u16) -> IvrsDevice;

@@ -55,6 +55,27 @@ records! {
         address: u64,
         /// Length of the table less 36.
         length: u32,
+        /// Revision of the table: by that of a DSDT below 2 integers have 32 bits, else 64.
+        revision: u8,
+        /// The physical address of the table.
+        table_address: u64,
+    }
+    /// The Firmware ACPI Control Structure (FACS, section 5.2.10).
+    Facs {
+        /// Its physical address.
+        address: u64,
+        /// X_Firmware_Waking_Vector.
+        waking_vector_64: u64,
+        /// Length.
+        length: u32,
+        /// Hardware Signature.
+        hardware_signature: u32,
+        /// Firmware_Waking_Vector.
+        waking_vector: u32,
+        /// Flags: bit 0 S4BIOS_F, bit 1 64BIT_WAKE_SUPPORTED_F.
+        flags: u32,
+        /// Version.
+        version: u8,
     }
     /// An I/O APIC (section 5.2.12.3).
     #[non_exhaustive]
@@ -79,6 +100,13 @@ records! {
         device: u8,
         /// The number of its function.
         function: u8,
+    }
+    /// What a DMAR says of all units (Intel Virtualization Technology for Directed I/O 4.0, section 8.1).
+    DmarFlags {
+        /// How many bits an address has that a device can reach: Host Address Width and 1.
+        address_bits: u16,
+        /// Flags: bit 0 INTR_REMAP, bit 1 X2APIC_OPT_OUT, bit 2 DMA_CTRL_PLATFORM_OPT_IN_FLAG.
+        flags: u8,
     }
     /// Memory that is reserved for a device (DMAR; Reserved Memory Region Reporting, section 8.4).
     #[non_exhaustive]
@@ -118,9 +146,10 @@ records! {
 
 records! {
     Place { region: usize, offset: usize, }
-    Entry { address: u64, entry_type: u16, length: u16, }
-    Root { address: u64, length: u32, revision: u8, pointer_width: u8, }
-    Table { address: u64, length: u32, signature: [u8; 4], revision: u8, }
+    Entry { address: u64, entry_type: u32, length: u32, }
+    Root { address: u64, length: u32, revision: u8, pointer_width: u8, rsdp_address: u64, rsdp_length: u32, }
+    Table { address: u64, length: u32, signature: [u8; 4], revision: u8, oem_id: [u8; 6], oem_table_id: [u8; 8],
+        oem_revision: u32, creator_id: [u8; 4], creator_revision: u32, }
     Fault { address: u64, status: u32, }
     GenericAddress { address: u64, space: u8, bit_width: u8, bit_offset: u8, access_size: u8, }
     PmTimer { base: GenericAddress, present: u8, is_32_bit: u8, }
@@ -134,7 +163,8 @@ records! {
         gpe1_block: GpeBlock, smi_command: u32, flags: u32, sci_interrupt: u16, x86_boot_flags: u16,
         arm_boot_flags: u16, c2_latency: u16, c3_latency: u16, flush_size: u16, flush_stride: u16, power_profile: u8,
         acpi_enable: u8, acpi_disable: u8, s4bios_request: u8, pstate_control: u8, c_state_control: u8, gpe1_base: u8,
-        duty_offset: u8, duty_width: u8, day_alarm: u8, month_alarm: u8, century: u8, reset_value: u8, }
+        duty_offset: u8, duty_width: u8, day_alarm: u8, month_alarm: u8, century: u8, reset_value: u8,
+        revision: u8, minor_revision: u8, hypervisor_id: u64, }
     Console { base: Register, baud_rate: u32, global_system_interrupt: u32, clock_frequency: u32, pci_flags: u32,
         pci_device_id: u16, pci_vendor_id: u16, interface: u8, irq: u8, has_irq: u8, has_global_system_interrupt: u8,
         has_baud_rate: u8, parity: u8, stop_bits: u8, pci_segment: u8, pci_bus: u8, pci_device: u8,

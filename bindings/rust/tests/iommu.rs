@@ -1,7 +1,7 @@
 //! The units that remap what devices ask of memory.
 mod common;
 use common::{Memory, ROOT};
-use zacpi::iommu::{Dmar, Hop, Ivrs};
+use zacpi::iommu::{Dmar, DmarFlags, Hop, Ivrs};
 use zacpi::{AcpiError, Signature, Slot};
 
 const TABLE: u64 = ROOT + 0x1000;
@@ -14,9 +14,10 @@ fn hop(device: u8, function: u8) -> Hop {
 fn reads_a_dmar() {
     #[rustfmt::skip]
     let fields = [
+        // Host Address Width at 36, Flags at 37.
         // DRHD (section 8.3): Type, Length at 2, Flags at 4, Segment Number at 6, Register Base Address at 8; and its
         // scope (section 8.3.1): Type, Length at 1, Enumeration ID at 4, Start Bus Number at 5, Path at 6.
-        (48, 4, 0x18_0000), (56, 8, 0x1_fed9_0000), (64, 2, 0x0801), (70, 2, 0x0002),
+        (36, 2, 0x0326), (48, 4, 0x18_0000), (56, 8, 0x1_fed9_0000), (64, 2, 0x0801), (70, 2, 0x0002),
         // Size at 5. An I/O APIC with the id 2 and an HPET with the number 1, whose path is missing.
         (72, 4, 0x1e_0000), (76, 1, 1), (77, 1, 3), (80, 8, 0x1_fed9_1000),
         (88, 2, 0x0803), (92, 1, 2), (93, 1, 0xf0), (94, 2, 0x001f), (96, 2, 0x0604), (100, 1, 1),
@@ -29,6 +30,7 @@ fn reads_a_dmar() {
     memory.ask(|tables| {
         let dmar = tables.find_table::<Dmar>().unwrap();
         assert_eq!((dmar.table.address, dmar.table.length), (TABLE, 166));
+        assert_eq!(dmar.flags(), Ok(DmarFlags { address_bits: 39, flags: 3 }));
         let first = dmar.unit_for(0, 0, &[hop(2, 0)]).unwrap().unwrap();
         assert_eq!((first.register_base, first.register_bytes), (0x1_fed9_0000, 4096));
         assert_eq!((first.segment, first.includes_pci_all), (0, false));

@@ -140,11 +140,15 @@ fn finds_and_lists_tables() {
 fn answers_where_bytes_are() {
     machine().ask(|tables| {
         let dsdt = tables.dsdt().unwrap();
-        assert_eq!(dsdt, AmlTable { address: DSDT + 36, length: 4 });
+        assert_eq!(dsdt, AmlTable { address: DSDT + 36, length: 4, revision: 2, table_address: DSDT });
         assert_eq!(tables.aml(&dsdt), Some(&[1, 2, 3, 4][..]));
+        assert_eq!(tables.facs(), Err(AcpiError::TableMissing(Signature::new("FACS"))));
         let mut room = [Slot::default(); 4];
         let ssdts = tables.ssdts().fill(&mut room).unwrap();
-        let expected = [AmlTable { address: SSDT + 36, length: 1 }, AmlTable { address: OTHER_SSDT + 36, length: 0 }];
+        let expected = [
+            AmlTable { address: SSDT + 36, length: 1, revision: 2, table_address: SSDT },
+            AmlTable { address: OTHER_SSDT + 36, length: 0, revision: 1, table_address: OTHER_SSDT },
+        ];
         assert_eq!(ssdts.iter().collect::<Vec<_>>(), expected);
         assert_eq!(tables.ssdts().into_iter().collect::<Vec<_>>(), expected);
         assert_eq!((tables.aml(&expected[0]), tables.aml(&expected[1])), (Some(&[0xa3][..]), Some(&[][..])));

@@ -1,12 +1,13 @@
 //! The fixed hardware, the serial console, and devices that tables of their own describe.
-ghost use Rattle.acpi_c_lib.specs.Words.{Answers, console_below, graphic_below, timer_below, fixed_below, hpet_below};
+ghost use Rattle.acpi_c_lib.specs.Words.{Answers, AnswersList, console_below, facs_below, graphic_below, timer_below, fixed_below, hpet_below, hpets_below};
 
 use acpi_c_lib::answer::answer;
 use acpi_c_lib::console::console;
-use acpi_c_lib::devices::{graphic, hpet, timer};
+use acpi_c_lib::devices::{graphic, hpet, hpets, timer};
+use acpi_c_lib::facs::facs;
 use acpi_c_lib::fixed::fixed;
 use acpi_c_lib::fixed_records::{Console, FixedHardware};
-use acpi_c_lib::records::{BootGraphic, HpetInfo, PmTimer, Signature, Source};
+use acpi_c_lib::records::{BootGraphic, Facs, HpetInfo, PmTimer, Signature, Source};
 
 /// The fixed hardware (section 5.2.9).
 #[unsafe(no_mangle)]
@@ -30,6 +31,32 @@ pub extern "C" fn zacpi_1_get_console(
     ensures { Answers result out.old out.new named.old named.new (console_below source.now) }
 {
     answer(console(source), out, named)
+}
+
+/// The memory that the firmware and the system share (FACS, section 5.2.10).
+#[unsafe(no_mangle)]
+pub extern "C" fn zacpi_1_get_facs(
+    source: &Source<'_>,
+    out: &mut Facs,
+    named: &mut Signature,
+) -> u32
+    ensures { Answers result out.old out.new named.old named.new (facs_below source.now) }
+{
+    answer(facs(source), out, named)
+}
+
+/// All blocks of event timers (HPET).
+#[unsafe(no_mangle)]
+pub extern "C" fn zacpi_1_list_hpets(
+    source: &Source<'_>,
+    out: &mut [HpetInfo],
+    count: &mut usize,
+    named: &mut Signature,
+) -> u32
+    ensures { AnswersList result out.old out.new count.old count.new named.old named.new
+        (hpets_below source.now) }
+{
+    answer(hpets(source, out), count, named)
 }
 
 /// The block of event timers (HPET).

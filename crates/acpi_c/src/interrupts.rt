@@ -1,9 +1,9 @@
 //! The interrupt model and the processors, and how interrupts come to the I/O APICs.
 ghost use Rattle.std.specs.Prelude.{◌≡◌, filter_map};
-ghost use Rattle.acpi_c_lib.specs.Words.{Answers, AnswersList, items_beside, put_from, isa_list_below, below_platform, counts_of, io_apic_in, madt_faults_below, nmi_line_in, nmi_source_in, override_in, processors_of, below_apics, below_known, isa_below, pin_below, sci_below};
+ghost use Rattle.acpi_c_lib.specs.Words.{Answers, AnswersList, items_beside, put_from, isa_list_below, below_platform, counts_of, io_apic_in, madt_faults_below, nmi_line_in, nmi_source_in, override_in, processors_of, below_apics, below_known, isa_below, mailbox_below, pin_below, sci_below};
 
 use acpi_c_lib::answer::answer;
-use acpi_c_lib::apics::{entries, processors};
+use acpi_c_lib::apics::{entries, mailbox, processors};
 use acpi_c_lib::interrupt_records::{
     Interrupt, InterruptModel, InterruptSourceOverride, IoApic, IoApicPin, IsaInterrupts,
     MadtFault, NmiLine, NmiSource, Processor,
@@ -25,6 +25,18 @@ pub extern "C" fn zacpi_1_get_interrupt_model(
     ensures { Answers result out.old out.new named.old named.new (below_platform source.now counts_of) }
 {
     answer(model(source), out, named)
+}
+
+/// Where the mailbox lies by which processors are woken (section 5.2.12.19).
+#[unsafe(no_mangle)]
+pub extern "C" fn zacpi_1_mailbox_address(
+    source: &Source<'_>,
+    out: &mut u64,
+    named: &mut Signature,
+) -> u32
+    ensures { Answers result out.old out.new named.old named.new (mailbox_below source.now) }
+{
+    answer(mailbox(source), out, named)
 }
 
 /// The processors, the boot processor first (sections 5.2.12.2 and 5.2.12.12).

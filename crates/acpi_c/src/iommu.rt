@@ -1,13 +1,27 @@
 //! The units that remap what devices ask of memory, by the DMAR (Intel Virtualization Technology for Directed I/O 4.0)
 //! and by the IVRS (AMD I/O Virtualization Technology (IOMMU) Specification 3.08).
-ghost use Rattle.acpi_c_lib.specs.Words.{Answers, AnswersList, dmar_hpet_below, dmar_io_apic_below, dmar_reserved_below, dmar_unit_below, ivrs_memory_below, ivrs_unit_below};
+ghost use Rattle.acpi_c_lib.specs.Words.{Answers, AnswersList, dmar_flags_below, dmar_hpet_below, dmar_io_apic_below, dmar_reserved_below, dmar_unit_below, ivrs_memory_below, ivrs_unit_below};
 
 use acpi_c_lib::answer::answer;
 use acpi_c_lib::iommu::{
-    dmar_hpet, dmar_io_apic, dmar_reserved, dmar_unit, ivrs_memory, ivrs_unit,
+    dmar_flags, dmar_hpet, dmar_io_apic, dmar_reserved, dmar_unit, ivrs_memory, ivrs_unit,
 };
-use acpi_c_lib::iommu_records::{DmarReserved, DmarSource, DmarUnit, Hop, IvrsDevice, IvrsMemory};
+use acpi_c_lib::iommu_records::{
+    DmarFlags, DmarReserved, DmarSource, DmarUnit, Hop, IvrsDevice, IvrsMemory,
+};
 use acpi_c_lib::records::{Signature, Source};
+
+/// What the DMAR says of all units (section 8.1).
+#[unsafe(no_mangle)]
+pub extern "C" fn zacpi_1_get_dmar_flags(
+    source: &Source<'_>,
+    out: &mut DmarFlags,
+    named: &mut Signature,
+) -> u32
+    ensures { Answers result out.old out.new named.old named.new (dmar_flags_below source.now) }
+{
+    answer(dmar_flags(source), out, named)
+}
 
 /// The unit that remaps a device (DMAR, section 8.3).
 #[unsafe(no_mangle)]

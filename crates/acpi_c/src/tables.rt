@@ -5,8 +5,8 @@ use acpi_c_lib::answer::answer;
 use acpi_c_lib::faults::faults;
 use acpi_c_lib::opening::root;
 use acpi_c_lib::records::{AmlTable, Fault, Range, Root, Signature, Source, Table};
-use acpi_c_lib::tables::{dsdt, find, tables};
-use acpi_c_lib::walks::{nth, ranges, ssdts};
+use acpi_c_lib::tables::{dsdt, find, ssdts, tables};
+use acpi_c_lib::walks::{nth, ranges};
 
 /// The root table (sections 5.2.7 and 5.2.8).
 #[unsafe(no_mangle)]
@@ -83,7 +83,7 @@ pub extern "C" fn zacpi_1_list_ssdts(
     answer(ssdts(source, out), count, named)
 }
 
-/// The memory that the tables take (sections 5.2.6, 5.2.9 and 5.2.10).
+/// The memory that the RSDP and the tables take (sections 5.2.5, 5.2.6, 5.2.9 and 5.2.10).
 #[unsafe(no_mangle)]
 pub extern "C" fn zacpi_1_list_ranges(
     source: &Source<'_>,

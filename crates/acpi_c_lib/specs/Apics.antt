@@ -2,15 +2,21 @@
 -- says, or why the strict model refuses it, changes nothing.
 use Rattle.std.specs.Prelude.{ℕ, ◌==◌, Bool, true, false, List, [], ◌∷◌, Option, Some, None, Result, Ok, if◌then◌else◌, filter_map}
 use Rattle.acpi_base.specs.FromStd.{list_any}
-use Rattle.acpi_base.specs.Words.{all_apics, all_x2apics, bits_of, has_bit, entries_of, ◌>>=◌, holds}
+use Rattle.acpi_base.specs.Words.{all_apics, all_x2apics, bits_of, has_bit, entries_of, mailbox_of, ◌>>=◌, holds}
 pub use Rattle.acpi.specs.Types.{MadtEntry}
 use Rattle.acpi_base.specs.declared.tables.madt.entry.MadtEntry.TheVariants as entry
 use Rattle.acpi.specs.Words.{madt_kind}
 use Rattle.acpi_c_lib.specs.Answers.{result_map}
-use Rattle.acpi_c_lib.specs.Below.{Refusal, Source, first_table}
+use Rattle.acpi_c_lib.specs.Below.{Refusal, Source, first_table, refused_as}
 use Rattle.acpi_c_lib.specs.Devices.{flag}
 use Rattle.acpi_c_lib.specs.Records as records
 use Rattle.acpi_c_lib.specs.Types.{NoApics}
+
+-- the mailbox by which processors are woken: MailBoxAddress of the first Multiprocessor Wakeup (section 5.2.12.19)
+abbrev pub mailbox_below : Source → Result ℕ Refusal
+mailbox_below s = do
+  table ← first_table madt_kind s
+  refused_as (mailbox_of table)
 
 -- whether an entry is of APICs: Types 0 to 5, 9 and 0xa
 abbrev pub is_of_apics : MadtEntry → Bool

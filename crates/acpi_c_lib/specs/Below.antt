@@ -1,9 +1,9 @@
 -- The tables that a caller names.
-use Rattle.std.specs.Prelude.{ℕ, ◌*◌, ◌==◌, List, drop, Option, Result, Ok, Err, if◌then◌else◌, option_map}
+use Rattle.std.specs.Prelude.{ℕ, ◌*◌, ◌==◌, List, drop, Option, None, Result, Ok, Err, if◌then◌else◌, option_map, unwrap_or}
 use Rattle.acpi_base.specs.FromStd.{result_ok}
 use Rattle.acpi_base.specs.Words.{Memory, ◌>>=◌, Kind}
 pub use Rattle.acpi_base.specs.declared.error.AcpiError.{AcpiError}
-use Rattle.acpi.specs.Words.{bios_areas, opened_in_areas, lookup, Opened, opened_at, opened_by_rsdp, opened_by_search, pointers, width_of, word_in}
+use Rattle.acpi.specs.Words.{bios_areas, extended_length_of, found_in_areas, found_rsdp, opened_in_areas, lookup, rsdp_at, rsdp_of, Opened, opened_at, opened_by_rsdp, opened_by_search, pointers, width_of, word_in}
 use Rattle.acpi_c_lib.specs.Answers.{result_map}
 use Rattle.acpi_c_lib.specs.Regions.{memory_in}
 pub use Rattle.acpi_c_lib.specs.declared.records.Source.{Source}
@@ -33,6 +33,22 @@ opened_in m s =
     else if s.start == 3 then refused_as (opened_by_search m)
     else if s.start == 4 then refused_as (opened_as_lent m)
     else Err UnknownStart
+
+-- how many bytes an RSDP has (section 5.2.5.3): Length, which revision 0 lacks, or 20
+abbrev pub rsdp_length : List ℕ → ℕ
+rsdp_length bytes = unwrap_or (extended_length_of (rsdp_of bytes)) 20
+
+-- the RSDP that a start leads to, as its address and its first 36 bytes; none if it is at a root table
+abbrev pub rsdp_in : Memory → Source → Option (ℕ × List ℕ)
+rsdp_in m s =
+    if s.start == 0 then result_ok (result_map (λ bytes. (s.address, bytes)) (rsdp_at m s.address))
+    else if s.start == 3 then result_ok (found_rsdp m)
+    else if s.start == 4 then result_ok (found_in_areas m (bios_areas (ebda_in m)))
+    else None
+
+-- its address and how many bytes it has
+abbrev pub rsdp_place_in : Memory → Source → Option (ℕ × ℕ)
+rsdp_place_in m s = option_map (λ found. (found.0, rsdp_length found.1)) (rsdp_in m s)
 
 -- what a definition over a memory and the root table in it says of the tables that a caller names
 abbrev pub opened_below : {A : Type 0} → Source → (Memory → Opened → Result A Refusal) → Result A Refusal

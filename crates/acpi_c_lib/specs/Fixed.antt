@@ -1,7 +1,7 @@
 -- The fixed hardware (FADT, section 5.2.9) as C gets it.
-use Rattle.std.specs.Prelude.{ℕ, Option, Some, None, Result, Ok, Err}
+use Rattle.std.specs.Prelude.{ℕ, List, nat_lt, if◌then◌else◌, Option, Some, None, Result, Ok, Err}
 use Rattle.acpi_base.specs.FromStd.{result_unwrap_or}
-use Rattle.acpi_base.specs.Words.{generic_address_of, space_code}
+use Rattle.acpi_base.specs.Words.{field_of, generic_address_of, space_code}
 use Rattle.acpi_fixed.specs.Words.{dsdt_address_of, facs_address_of, fadt_at, pm_timer_of, profile_code, profile_of, registers_of, arm_bits, feature_bits, pc_bits, gpe_of, block_of, optional_block_of, register_of}
 use Rattle.acpi.specs.Types.{Fadt, GpeBlock}
 use Rattle.acpi.specs.Words.{fadt_kind}
@@ -20,8 +20,20 @@ gpe_record (Ok (Some b)) =
 gpe_record (Ok None) = no_gpe 0
 gpe_record (Err e) = no_gpe 2
 
-abbrev pub fixed_record : Fadt → FixedHardware
-fixed_record f = record {
+-- Revision: the FADT Major Version
+abbrev pub revision_in : List ℕ → ℕ
+revision_in table = field_of table 8 1
+
+-- FADT Minor Version
+abbrev pub minor_revision_in : List ℕ → ℕ
+minor_revision_in table = field_of table 131 1
+
+-- Hypervisor Vendor Identity, which a FADT has from revision 6 on
+abbrev pub hypervisor_id_in : List ℕ → ℕ
+hypervisor_id_in table = if nat_lt (revision_in table) 6 then 0 else field_of table 268 8
+
+abbrev pub fixed_record : Fadt → ℕ → ℕ → ℕ → FixedHardware
+fixed_record f revision minor_revision hypervisor_id = record {
   -- an address is refused only if it is 0
   facs_address = result_unwrap_or (facs_address_of f) 0;
   dsdt_address = result_unwrap_or (dsdt_address_of f) 0;
@@ -60,8 +72,12 @@ fixed_record f = record {
   month_alarm = f.month_alarm;
   century = f.century;
   reset_value = f.reset_value;
+  revision = revision;
+  minor_revision = minor_revision;
+  hypervisor_id = hypervisor_id;
 }
 
 -- the fixed hardware of the first valid FADT
 abbrev pub fixed_below : Source → Result FixedHardware Refusal
-fixed_below s = below_first fadt_kind s (λ table. fixed_record (fadt_at table))
+fixed_below s = below_first fadt_kind s (λ table.
+    fixed_record (fadt_at table) (revision_in table) (minor_revision_in table) (hypervisor_id_in table))

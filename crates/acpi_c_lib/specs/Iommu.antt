@@ -1,11 +1,12 @@
 -- The units that remap what devices ask of memory, as C gets them.
-use Rattle.std.specs.Prelude.{ℕ, List, Option, Some, None, map, Result, Ok, Err, unwrap_or}
+use Rattle.std.specs.Prelude.{ℕ, ◌+◌, List, Option, Some, None, map, Result, Ok, Err, unwrap_or}
 use Rattle.acpi_base.specs.FromStd.{is_some}
 use Rattle.acpi_base.specs.Words.{◌>>=◌, sdt_kind}
 use Rattle.acpi.specs.Types.{DMAR, IVRS}
-use Rattle.acpi_iommu.specs.Words.{includes_pci_all, register_bytes, reserved_for, unit_for, unit_of_hpet, unit_of_io_apic, block_for, memory_for}
-use Rattle.acpi_c_lib.specs.Types.{Drhd, Rmrr, Hop, UnitSource, IommuError, Ivhd, Ivmd, DeviceUnit, DmarReserved, DmarSource, DmarUnit, IvrsDevice, IvrsMemory, IvrsUnit, InvalidIommuMemoryRange, InvalidIommuStructureLength, NoIommu}
+use Rattle.acpi_iommu.specs.Words.{dmar_at, includes_pci_all, register_bytes, reserved_for, unit_for, unit_of_hpet, unit_of_io_apic, block_for, memory_for}
+use Rattle.acpi_c_lib.specs.Types.{Dmar, DmarFlags, Drhd, Rmrr, Hop, UnitSource, IommuError, Ivhd, Ivmd, DeviceUnit, DmarReserved, DmarSource, DmarUnit, IvrsDevice, IvrsMemory, IvrsUnit, InvalidIommuMemoryRange, InvalidIommuStructureLength, NoIommu}
 use Rattle.acpi_iommu.specs.declared.error.IommuError.TheVariants as iommu
+use Rattle.acpi_c_lib.specs.Answers.{result_map}
 use Rattle.acpi_c_lib.specs.Below.{Refusal, Source, first_table}
 use Rattle.acpi_c_lib.specs.Devices.{flag}
 
@@ -31,6 +32,15 @@ found show (Err e) = Err (iommu_refusal e)
 -- the bytes of the first valid DMAR
 abbrev pub dmar_in : Source → Result (List ℕ) Refusal
 dmar_in s = first_table (sdt_kind DMAR 48) s
+
+abbrev pub dmar_flags_record : Dmar → DmarFlags
+dmar_flags_record d = record {
+  address_bits = d.host_address_width + 1;
+  flags = d.flags;
+}
+
+abbrev pub dmar_flags_below : Source → Result DmarFlags Refusal
+dmar_flags_below s = result_map (λ table. dmar_flags_record (dmar_at table)) (dmar_in s)
 
 abbrev pub unit_record : Drhd → DmarUnit
 unit_record d = record {

@@ -9,6 +9,7 @@ pub mod Codes
 pub mod Console
 pub mod Devices
 pub mod Entries
+pub mod Facs
 pub mod Faults
 pub mod Fixed
 pub mod Held

@@ -1,26 +1,33 @@
 -- What the calls answer of the tables that a caller names.
 use Rattle.std.specs.Prelude.{ℕ, List, filter_map, length, map, Option, Result, Ok, ok_or, unwrap_or}
 use Rattle.acpi_base.specs.FromStd.{is_some, result_ok}
-use Rattle.acpi_base.specs.Words.{ecam_range, header_at, mcfg_entries_of, Memory, ◌>>=◌, own_table_at, plain_kind, letters_of}
+use Rattle.acpi_base.specs.Words.{ecam_range, filled_part, header_at, mcfg_entries_of, Memory, ◌>>=◌, own_table_at, plain_kind, table_at, letters_of}
 pub use Rattle.acpi_base.specs.declared.table.signature.Signature.{Signature}
-use Rattle.acpi.specs.Types.{McfgEntry}
-use Rattle.acpi.specs.Words.{ecam_address, hpet_of, dsdt_stream, lookup, mcfg_kind, protection_code, width_of}
-use Rattle.acpi_c_lib.specs.Types.{HpetInfo, AmlTable, EcamRange, PciRegion, Root, NoSuchFunction}
+use Rattle.acpi.specs.Types.{DSDT, HPET, McfgEntry, SSDT}
+use Rattle.acpi_fixed.specs.Words.{dsdt_address_of, fadt_at}
+use Rattle.acpi.specs.Words.{Opened, ecam_address, fadt_kind, hpet_at, hpet_kind, hpet_of, info_of, lookup, mcfg_kind, protection_code, stream_of, width_of}
+use Rattle.acpi_c_lib.specs.Types.{HpetInfo, EcamRange, PciRegion, Root, NoSuchFunction}
 use Rattle.acpi_c_lib.specs.Answers.{result_map}
-use Rattle.acpi_c_lib.specs.Below.{Refusal, Source, below_first, below_source, first_table, opened_below}
+use Rattle.acpi_c_lib.specs.Below.{AcpiError, Refusal, Source, below_first, below_source, first_table, opened_below, rsdp_place_in}
 use Rattle.acpi_c_lib.specs.Devices.{flag}
 use Rattle.acpi_c_lib.specs.Records as records
 pub use Rattle.acpi_c_lib.specs.declared.records.Table.{Table}
 
 -- ---- the root table
 
-abbrev pub root_below : Source → Result Root Refusal
-root_below s = opened_below s (λ m o. Ok (record {
+-- the root table, with the RSDP's address and length, or zeros if none led to it
+abbrev pub root_record : Opened → ℕ × ℕ → Root
+root_record o rsdp = record {
   address = o.address;
   length = length o.root;
   revision = o.revision;
   pointer_width = width_of o.kind;
-}))
+  rsdp_address = rsdp.0;
+  rsdp_length = rsdp.1;
+}
+
+abbrev pub root_below : Source → Result Root Refusal
+root_below s = opened_below s (λ m o. Ok (root_record o (unwrap_or (rsdp_place_in m s) (0, 0))))
 
 -- ---- tables
 
@@ -31,6 +38,11 @@ table_record found = record {
   length = (header_at found.1).length;
   signature = letters_of (header_at found.1).signature;
   revision = (header_at found.1).revision;
+  oem_id = (header_at found.1).oem_id;
+  oem_table_id = (header_at found.1).oem_table_id;
+  oem_revision = (header_at found.1).oem_revision;
+  creator_id = filled_part found.1 28 4;  -- Creator ID
+  creator_revision = (header_at found.1).creator_revision;
 }
 
 -- the table of a member, if it is valid under its own signature
@@ -52,11 +64,38 @@ signature_named name = record { 0 = name.letters }
 abbrev pub table_below : Source → records.Signature → Result Table Refusal
 table_below s name = below_source s (λ m ps. result_map table_record (lookup m (plain_kind (signature_named name)) ps))
 
-abbrev pub aml_record : AmlTable → records.AmlTable
-aml_record s = record { address = s.address; length = s.length }
+-- the AML of a table, which is given by its address and its bytes
+abbrev pub aml_record : ℕ × List ℕ → records.AmlTable
+aml_record found = record {
+  address = (stream_of found.0 found.1).address;
+  length = (stream_of found.0 found.1).length;
+  revision = (header_at found.1).revision;
+  table_address = found.0;
+}
+
+-- that of the table at an address, if it is valid under a signature
+abbrev pub aml_at : Memory → Signature → ℕ → Result records.AmlTable AcpiError
+aml_at m s p = result_map (λ b. aml_record (p, b)) (table_at m (plain_kind s) p)
+
+-- that of the DSDT to which the first valid FADT leads
+abbrev pub dsdt_in : Memory → List ℕ → Result records.AmlTable AcpiError
+dsdt_in m ps = do
+  found ← lookup m fadt_kind ps
+  address ← dsdt_address_of (fadt_at found.1)
+  aml_at m DSDT address
 
 abbrev pub dsdt_below : Source → Result records.AmlTable Refusal
-dsdt_below s = below_source s (λ m ps. result_map aml_record (dsdt_stream m ps))
+dsdt_below s = below_source s dsdt_in
+
+-- that of the SSDT of a member, if it is a valid one
+abbrev pub ssdt_in : Memory → ℕ → Option records.AmlTable
+ssdt_in m p = result_ok (aml_at m SSDT p)
+
+abbrev pub ssdts_in : Memory → List ℕ → List records.AmlTable
+ssdts_in m ps = filter_map (ssdt_in m) ps
+
+abbrev pub ssdts_below : Source → Result (List records.AmlTable) Refusal
+ssdts_below s = below_source s (λ m ps. Ok (ssdts_in m ps))
 
 -- ---- PCI configuration space (MCFG; PCI Firmware Specification, section 4.1.2)
 
@@ -105,3 +144,17 @@ hpet_record i = record {
 
 abbrev pub hpet_below : Source → Result records.HpetInfo Refusal
 hpet_below s = below_source s (λ m ps. result_map hpet_record (hpet_of m ps))
+
+-- what the bytes of an HPET say, if its registers lie in memory
+abbrev pub hpet_shown : List ℕ → Result records.HpetInfo AcpiError
+hpet_shown table = result_map hpet_record (info_of (hpet_at table))
+
+-- that of a member, if it is a valid HPET
+abbrev pub hpet_in : Memory → ℕ → Option records.HpetInfo
+hpet_in m p = result_ok (table_at m hpet_kind p >>= hpet_shown)
+
+abbrev pub hpets_in : Memory → List ℕ → List records.HpetInfo
+hpets_in m ps = filter_map (hpet_in m) ps
+
+abbrev pub hpets_below : Source → Result (List records.HpetInfo) Refusal
+hpets_below s = below_source s (λ m ps. Ok (hpets_in m ps))

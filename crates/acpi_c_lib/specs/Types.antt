@@ -23,6 +23,7 @@ pub use Rattle.acpi_c_lib.specs.declared.fixed_records.Console.{Console}
 pub use Rattle.acpi_c_lib.specs.declared.fixed_records.EcamRange.{EcamRange}
 pub use Rattle.acpi_c_lib.specs.declared.fixed_records.FixedHardware.{FixedHardware}
 pub use Rattle.acpi_c_lib.specs.declared.interrupt_records.InterruptModel.{InterruptModel}
+pub use Rattle.acpi_c_lib.specs.declared.iommu_records.DmarFlags.{DmarFlags}
 pub use Rattle.acpi_c_lib.specs.declared.iommu_records.DmarReserved.{DmarReserved}
 pub use Rattle.acpi_c_lib.specs.declared.iommu_records.DmarSource.{DmarSource}
 pub use Rattle.acpi_c_lib.specs.declared.iommu_records.DmarUnit.{DmarUnit}
@@ -33,6 +34,7 @@ pub use Rattle.acpi_c_lib.specs.declared.numa_records.Localities.{Localities}
 pub use Rattle.acpi_c_lib.specs.declared.numa_records.MemoryAffinity.{MemoryAffinity}
 pub use Rattle.acpi_c_lib.specs.declared.records.BootGraphic.{BootGraphic}
 pub use Rattle.acpi_c_lib.specs.declared.records.Entry.{Entry}
+pub use Rattle.acpi_c_lib.specs.declared.records.Facs.{Facs}
 pub use Rattle.acpi_c_lib.specs.declared.records.Fault.{Fault}
 pub use Rattle.acpi_c_lib.specs.declared.records.PciRegion.{PciRegion}
 pub use Rattle.acpi_c_lib.specs.declared.records.Range.{Range}
@@ -45,6 +47,7 @@ pub use Rattle.acpi_c_lib.specs.declared.written_records.GicContents.{GicContent
 pub use Rattle.acpi_c_lib.specs.declared.written_records.ListedTable.{ListedTable}
 pub use Rattle.acpi_c_lib.specs.declared.written_records.MadtContents.{MadtContents}
 pub use Rattle.acpi_c_lib.specs.declared.written_records.SratContents.{SratContents}
+pub use Rattle.acpi_iommu.specs.declared.dmar.Dmar.{Dmar}
 pub use Rattle.acpi_iommu.specs.declared.dmar.fields.Drhd.{Drhd}
 pub use Rattle.acpi_iommu.specs.declared.dmar.fields.Rmrr.{Rmrr}
 pub use Rattle.acpi_iommu.specs.declared.dmar.scope.Hop.{Hop}

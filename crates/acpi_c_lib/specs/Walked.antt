@@ -1,11 +1,13 @@
 -- What walks along the members of the root table answer.
-use Rattle.std.specs.Prelude.{ℕ, List, drop, length, map, slice_get, Result, Ok, ok_or}
+use Rattle.std.specs.Prelude.{ℕ, List, drop, length, map, option_map, slice_get, Result, Ok, ok_or}
+use Rattle.acpi_base.specs.FromStd.{cons_option}
 use Rattle.acpi_base.specs.Words.{Memory, ◌>>=◌, plain_kind}
 use Rattle.acpi.specs.Types.{TableMissing, AddressRange}
-use Rattle.acpi.specs.Words.{ssdt_streams, tables_found, Opened, places_of, pointers, width_of}
-use Rattle.acpi_c_lib.specs.Below.{AcpiError, Refusal, Source, below_source, opened_below}
+use Rattle.acpi.specs.Words.{tables_found, Opened, places_of, pointers, width_of}
+use Rattle.acpi_c_lib.specs.Below.{AcpiError, Refusal, Source, below_source, opened_below, rsdp_place_in}
+use Rattle.acpi_c_lib.specs.Missing.{range_of}
 use Rattle.acpi_c_lib.specs.Records as records
-use Rattle.acpi_c_lib.specs.Shown.{Signature, Table, aml_record, signature_named, table_record}
+use Rattle.acpi_c_lib.specs.Shown.{Signature, Table, signature_named, table_record}
 use Rattle.acpi_c_lib.specs.Types.{Range}
 
 -- the valid table of a signature with so many before it, or that it is missing
@@ -17,9 +19,6 @@ nth_in m s index ps = do
 abbrev pub nth_below : Source → records.Signature → ℕ → Result Table Refusal
 nth_below s name index = below_source s (λ m ps. nth_in m (signature_named name) index ps)
 
-abbrev pub ssdts_below : Source → Result (List records.AmlTable) Refusal
-ssdts_below s = below_source s (λ m ps. Ok (map aml_record (ssdt_streams m ps)))
-
 abbrev pub range_record : AddressRange → Range
 range_record r = record { address = r.address; length = r.length }
 
@@ -27,6 +26,7 @@ range_record r = record { address = r.address; length = r.length }
 abbrev pub root_range : Opened → AddressRange
 root_range o = record { address = o.address; length = length o.root }
 
+-- the RSDP if one led to the root table, and then the tables
 abbrev pub ranges_below : Source → Result (List Range) Refusal
-ranges_below s = opened_below s (λ m o.
-    Ok (map range_record (places_of (root_range o) m (pointers (width_of o.kind) (drop 36 o.root)))))
+ranges_below s = opened_below s (λ m o. Ok (cons_option (option_map range_of (rsdp_place_in m s))
+    (map range_record (places_of (root_range o) m (pointers (width_of o.kind) (drop 36 o.root))))))

@@ -1,20 +1,21 @@
 -- This crate's words: what proofs, contracts and the crates above bring in from its specs.
 pub use Rattle.acpi_c_lib.specs.Answers.{Answers, AnswersList, AnswersPlain, AnswersSome, Fills, GivesSome, Writes, items_beside, items_said, name_or, put_from, result_map}
 pub use Rattle.acpi_c_lib.specs.ApicLaws.{ListsAreModels}
-pub use Rattle.acpi_c_lib.specs.Apics.{MadtEntry, below_apics, boot_first, booted, io_apic_in, is_of_apics, local_apic_address_in, nmi_line, nmi_line_in, nmi_source_in, override_in, processor, processor_in, processors_of}
+pub use Rattle.acpi_c_lib.specs.Apics.{MadtEntry, below_apics, mailbox_below, boot_first, booted, io_apic_in, is_of_apics, local_apic_address_in, nmi_line, nmi_line_in, nmi_source_in, override_in, processor, processor_in, processors_of}
 unfoldable pub use Rattle.acpi_c_lib.specs.Apics.{apic_entries}
 pub use Rattle.acpi_c_lib.specs.Arm.{below_gic, cpu_interfaces_shown, distributor_shown, msi_frames_shown, redistributors_shown, translation_services_shown}
 pub use Rattle.acpi_c_lib.specs.ArmTimers.{GtFrame, arm_timer_or, arm_timer_record, frame_record, frames_in, frames_of, frames_shown, gtdt_below, or_ones, timers_record, timers_shown, watchdog_in, watchdogs_of, watchdogs_shown}
-pub use Rattle.acpi_c_lib.specs.Below.{AcpiError, Refusal, Source, ebda_in, opened_in, refused_as}
+pub use Rattle.acpi_c_lib.specs.Below.{AcpiError, Refusal, Source, ebda_in, opened_in, refused_as, rsdp_length, rsdp_place_in}
 unfoldable pub use Rattle.acpi_c_lib.specs.Below.{first_table, opened_as_lent}
 pub use Rattle.acpi_c_lib.specs.Clip.{AnswersClip, AreInOrder, FillsClipped, IsNext, Range, all_fit, any_holds, change_in, change_of, fits, holds, wanted}
 pub use Rattle.acpi_c_lib.specs.Console.{console_below, console_record}
 pub use Rattle.acpi_c_lib.specs.Devices.{generic_record, graphic_below, graphic_record, optional_register, register_if, required_register, timer_below, timer_record}
 pub use Rattle.acpi_c_lib.specs.Entries.{entries_below, entries_from, entries_said, entry_record, left_said, plain_grammar, plain_layout, width_of_bytes}
+pub use Rattle.acpi_c_lib.specs.Facs.{facs_below, facs_in}
 pub use Rattle.acpi_c_lib.specs.Faults.{fault_record, faults_below, kind_named}
-pub use Rattle.acpi_c_lib.specs.Fixed.{fixed_below, fixed_record, gpe_record}
+pub use Rattle.acpi_c_lib.specs.Fixed.{fixed_below, fixed_record, gpe_record, hypervisor_id_in, minor_revision_in, revision_in}
 pub use Rattle.acpi_c_lib.specs.Held.{mapped_memory}
-pub use Rattle.acpi_c_lib.specs.Iommu.{block_record, dmar_hpet_below, dmar_io_apic_below, dmar_reserved_below, dmar_unit_below, iommu_refusal, ivrs_memory_below, ivrs_unit_below, memory_record, reserved_record, source_record, unit_record}
+pub use Rattle.acpi_c_lib.specs.Iommu.{block_record, dmar_flags_below, dmar_flags_record, dmar_hpet_below, dmar_io_apic_below, dmar_reserved_below, dmar_unit_below, iommu_refusal, ivrs_memory_below, ivrs_unit_below, memory_record, reserved_record, source_record, unit_record}
 pub use Rattle.acpi_c_lib.specs.IsaList.{IsaInterrupts, IsaRoute, ItemsAreAnswers, isa_list, isa_list_below, isa_route, nearer_of, no_route, number_of, route_by, route_of}
 unfoldable pub use Rattle.acpi_c_lib.specs.IsaList.{isa_numbers}
 pub use Rattle.acpi_c_lib.specs.Listed.{lists_by, lists_each, lists_found, lists_some}
@@ -28,9 +29,9 @@ pub use Rattle.acpi_c_lib.specs.Numa.{IsLocalities, affinities_below, affinity_r
 pub use Rattle.acpi_c_lib.specs.Regions.{Region, check_from, check_regions, memory_in, memory_of, region_of}
 pub use Rattle.acpi_c_lib.specs.Routes.{AreWirings, Interrupt, IoApicPin, apic_in, below_known, has_codes, interrupt_or, interrupt_record, is_nearer, isa_below, isa_in, isa_override_in, last_override, own_override, pin_below, pin_in, pin_or, sci_below, sci_in, wirings_of}
 unfoldable pub use Rattle.acpi_c_lib.specs.Routes.{known_platform}
-pub use Rattle.acpi_c_lib.specs.Shown.{aml_record, dsdt_below, ecam_below, ecam_ranges_below, ecam_record, hpet_below, pci_record, pci_regions_below, root_below, signature_named, table_below, table_in, table_record, tables_below, tables_in}
+pub use Rattle.acpi_c_lib.specs.Shown.{aml_at, dsdt_below, ecam_below, ecam_ranges_below, ecam_record, hpet_below, hpet_in, hpet_shown, hpets_below, hpets_in, pci_record, pci_regions_below, root_below, signature_named, ssdt_in, ssdts_below, ssdts_in, table_below, table_in, table_record, tables_below, tables_in}
 pub use Rattle.acpi_c_lib.specs.Types.{Acpi, ArmTimers, Bgrt, Fadt, Gic, Hpet, Madt, Mcfg, Spcr, Srat, UnknownStart, Writer}
-pub use Rattle.acpi_c_lib.specs.Walked.{nth_below, nth_in, range_record, ranges_below, ssdts_below}
+pub use Rattle.acpi_c_lib.specs.Walked.{nth_below, nth_in, range_record, ranges_below}
 pub use Rattle.acpi_c_lib.specs.Writing.{IsKeptOr, TableIds, WriterError, WritesTable, hpet_info_of, is_wiring, madt_of, writer_refused}
 pub use Rattle.acpi_c_lib.specs.WrittenFadt.{facs_contents}
 pub use Rattle.acpi_c_lib.specs.WrittenGic.{gic_of}

@@ -81,5 +81,6 @@ gic_of c = gic_meant cpu_interface_of redistributors_of translation_service_of m
 -- each trigger mode is one that there is, and no range of redistributors has 2^32 bytes or more
 abbrev pub checked : GicContents → Result (Unit {0}) Refusal
 checked c = do
-  _ ← holds (list_all (λ x. is_wiring x.performance_trigger && is_wiring x.maintenance_trigger) c.cpu_interfaces.now) UnknownCode
+  _ ← holds (list_all (λ x. is_wiring x.performance_trigger && is_wiring x.maintenance_trigger) c.cpu_interfaces.now)
+      UnknownCode
   holds (list_all is_short c.redistributors.now) (Writer BadRange)

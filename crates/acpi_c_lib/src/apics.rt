@@ -2,7 +2,7 @@
 ghost use Rattle.std.specs.Prelude.{◌≡◌, Option, length, filter_map};
 ghost use Rattle.acpi_base.specs.FromStd.{list_any};
 ghost use Rattle.acpi_base.specs.Words.{entries_of, bytes_of, entries_left, Gives};
-ghost use Rattle.acpi_c_lib.specs.Words.{Fills, Writes, put_from, MadtEntry, apic_entries, below_apics, boot_first, booted, io_apic_in, is_of_apics, nmi_line, nmi_line_in, nmi_source_in, override_in, processor, processor_in, processors_of, mapped_memory, lists_some, memory_in};
+ghost use Rattle.acpi_c_lib.specs.Words.{Fills, Writes, put_from, MadtEntry, apic_entries, below_apics, boot_first, booted, io_apic_in, is_of_apics, mailbox_below, nmi_line, nmi_line_in, nmi_source_in, override_in, processor, processor_in, processors_of, mapped_memory, lists_some, memory_in};
 
 use crate::interrupt_records::{InterruptSourceOverride, IoApic, NmiLine, NmiSource, Processor};
 use crate::lists::{Listing, fill};
@@ -15,6 +15,16 @@ use acpi::madt::Madt;
 use acpi::platform::interrupt::NmiProcessor;
 use acpi_base::bytes::{bits, has_bit};
 use acpi_base::madt::{MadtEntry, MadtEntryIter};
+
+/// Where the mailbox lies by which processors are woken, by the first valid MADT (section 5.2.12.19).
+pub fn mailbox(source: &Source<'_>) -> Result<u64, Refusal>
+    ensures { result ≡ mailbox_below source.now }
+{
+    let memory = Mapped::new(source.regions);
+    let madt = first::<Madt>(&memory, source)?;
+    let address = madt.get_mpwk_mailbox_addr()?;
+    Ok(address)
+}
 
 /// The first valid MADT, if one of its entries is of APICs.
 ///

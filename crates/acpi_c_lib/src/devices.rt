@@ -1,30 +1,78 @@
 //! Devices that tables of their own describe.
-ghost use Rattle.std.specs.Prelude.{◌≡◌};
-ghost use Rattle.acpi_c_lib.specs.Words.{generic_record, graphic_below, graphic_record, optional_register, register_if, required_register, timer_below, timer_record, hpet_below};
+ghost use Rattle.std.specs.Prelude.{◌≡◌, ◌≤◌, length};
+ghost use Rattle.acpi_c_lib.specs.Words.{generic_record, graphic_below, graphic_record, optional_register, register_if, required_register, timer_below, timer_record, Fills, hpet_below, hpet_in, hpet_shown, hpets_below, hpets_in, lists_some};
+ghost use Rattle.acpi.specs.Words.{pointers_left};
 
+use crate::lists::{Listing, fill};
 use crate::opening::{first, open};
-use crate::records::{self, BootGraphic, Register, Source};
+use crate::records::{self, BootGraphic, HpetInfo, Register, Source};
 use crate::refusal::Refusal;
 use crate::regions::Mapped;
 use acpi::address::GenericAddress;
 use acpi::bgrt::{Bgrt, ImageType};
+use acpi::hpet::{HpetTable, PageProtection};
 use acpi::platform::PmTimer;
-use acpi::{AcpiResult, HpetInfo};
+use acpi::sdt::map_table;
+use acpi::{AcpiError, AcpiHandler, AcpiResult, Pointers};
+use acpi_base::bytes::{bits, field_in, u8_in, u16_in, u32_in};
 
 /// The block of event timers that the first valid HPET describes.
-pub fn hpet(source: &Source<'_>) -> Result<records::HpetInfo, Refusal>
+pub fn hpet(source: &Source<'_>) -> Result<HpetInfo, Refusal>
     ensures { result ≡ hpet_below source.now }
 {
     let memory = Mapped::new(source.regions)?;
     let tables = open(&memory, source)?;
-    let info = HpetInfo::new(&tables)?;
-    Ok(records::HpetInfo {
-        base_address: info.base_address,
-        event_timer_block_id: info.event_timer_block_id,
-        clock_tick_unit: info.clock_tick_unit,
-        number: info.hpet_number,
-        page_protection: info.page_protection.code(),
+    let table = tables.find_table::<HpetTable>()?;
+    let block = hpet_shown(table.bytes())?;
+    Ok(block)
+}
+
+/// The block of event timers that the bytes of an HPET describe.
+///
+/// Fails with `InvalidGenericAddress` if its registers don't lie in memory.
+#[tactic(auto, unfolding(acpi::specs::Hpet::hpet_at))]
+fn hpet_shown(table: &[u8]) -> AcpiResult<HpetInfo>
+    requires { 56 ≤ length table.now }
+    ensures { result ≡ hpet_shown table.now }
+{
+    // BASE_ADDRESS: Address Space ID, system memory
+    if u8_in(table, 40) != 0 {
+        return Err(AcpiError::InvalidGenericAddress);
+    }
+    // Page Protection And OEM Attribute, of which bits 0 to 3 are the former
+    let protection = PageProtection::from(bits(u8_in(table, 55) as u64, 0, 4) as u8);
+    Ok(HpetInfo {
+        base_address: field_in(table, 44, 8), // BASE_ADDRESS: Address
+        event_timer_block_id: u32_in(table, 36), // Event Timer Block ID
+        clock_tick_unit: u16_in(table, 53), // Main Counter Minimum Clock_tick in Periodic Mode
+        number: u8_in(table, 52), // HPET Number
+        page_protection: protection.code(),
     })
+}
+
+/// Lists the blocks of event timers of all valid HPETs whose registers lie in memory.
+#[tactic(auto, using(acpi::proofs::First::filter_map_few))]
+pub fn hpets(source: &Source<'_>, out: &mut [HpetInfo]) -> Result<usize, Refusal>
+    ensures { Fills result out.old out.new (hpets_below source.now) }
+{
+    let memory = Mapped::new(source.regions)?;
+    let tables = open(&memory, source)?;
+    Ok(fill(tables.addresses(), &memory, out))
+}
+
+impl<H: AcpiHandler> Listing<H, HpetInfo> for Pointers<'_> {
+    ghost record_of = { λ handler p. hpet_in (H.memory handler) p };
+
+    ghost left = { λ handler s. hpets_in (H.memory handler) (pointers_left s) };
+
+    ghost gives_first = { λ handler. lists_some (hpet_in (H.memory handler)) (λ s. pointers_left s) };
+
+    fn record(handler: &H, address: u64) -> Option<HpetInfo>
+        ensures { result ≡ hpet_in (H.memory handler.now) address }
+    {
+        let table = map_table::<H, HpetTable>(handler, address).ok()?;
+        hpet_shown(table.bytes()).ok()
+    }
 }
 
 /// The power management timer of the first valid FADT.

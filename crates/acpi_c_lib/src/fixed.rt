@@ -1,7 +1,7 @@
 //! The fixed hardware.
 ghost use Rattle.std.specs.Prelude.{◌≡◌, ◌≤◌, length};
 ghost use Rattle.acpi_fixed.specs.Words.{fadt_at, arm_bits, feature_bits, pc_bits};
-ghost use Rattle.acpi_c_lib.specs.Words.{fixed_below, fixed_record, gpe_record};
+ghost use Rattle.acpi_c_lib.specs.Words.{fixed_below, fixed_record, gpe_record, hypervisor_id_in, minor_revision_in, revision_in};
 
 use crate::devices::{optional_register, required_register};
 use crate::fixed_records as records;
@@ -12,7 +12,7 @@ use crate::refusal::Refusal;
 use crate::regions::Mapped;
 use acpi::AcpiResult;
 use acpi::fadt::{Fadt, GpeBlock};
-use acpi_base::bytes::{field, u16_in, u32_in};
+use acpi_base::bytes::{field, u8_in, u16_in, u32_in};
 
 /// The fixed hardware of the first valid FADT.
 pub fn fixed(source: &Source<'_>) -> Result<FixedHardware, Refusal>
@@ -20,38 +20,52 @@ pub fn fixed(source: &Source<'_>) -> Result<FixedHardware, Refusal>
 {
     let memory = Mapped::new(source.regions);
     let fadt = first::<Fadt>(&memory, source)?;
-    let flags = flags_in(fadt.bytes());
-    Ok(fixed_record(&fadt, flags))
+    let raw = raw_in(fadt.bytes());
+    Ok(fixed_record(&fadt, raw))
 }
 
-/// The three sets of flags, as numbers.
+/// Fields of a FADT, as numbers.
 #[derive(Clone, Copy)]
-struct RawFlags {
-    feature: u32,
-    pc: u16,
-    arm: u16,
+struct RawFields {
+    feature_flags: u32,
+    pc_flags: u16,
+    arm_flags: u16,
+    revision: u8,
+    minor_revision: u8,
+    hypervisor_id: u64,
 }
 
-/// The flags that a FADT's bytes have: Flags at 112, IAPC_BOOT_ARCH at 109 and ARM_BOOT_ARCH at 129 (section 5.2.9).
+/// Those that a FADT's bytes have (section 5.2.9).
 #[tactic(auto, unfolding(acpi_fixed::specs::Fadt::fadt_at))]
-fn flags_in(table: &[u8]) -> RawFlags
+fn raw_in(table: &[u8]) -> RawFields
     requires { 116 ≤ length table.now }
-    ensures feature { result.feature ≡ feature_bits (fadt_at table.now).flags }
-    ensures pc { result.pc ≡ pc_bits (fadt_at table.now).iapc_boot_arch }
-    ensures arm { result.arm ≡ arm_bits (fadt_at table.now).arm_boot_arch }
+    ensures feature { result.feature_flags ≡ feature_bits (fadt_at table.now).flags }
+    ensures pc { result.pc_flags ≡ pc_bits (fadt_at table.now).iapc_boot_arch }
+    ensures arm { result.arm_flags ≡ arm_bits (fadt_at table.now).arm_boot_arch }
+    ensures revision { result.revision ≡ revision_in table.now }
+    ensures minor { result.minor_revision ≡ minor_revision_in table.now }
+    ensures hypervisor { result.hypervisor_id ≡ hypervisor_id_in table.now }
 {
-    RawFlags {
-        feature: u32_in(table, 112),
-        pc: u16_in(table, 109),
-        arm: field(table, 129, 2) as u16,
+    let revision = u8_in(table, 8); // Revision: FADT Major Version
+    RawFields {
+        feature_flags: u32_in(table, 112), // Flags
+        pc_flags: u16_in(table, 109), // IAPC_BOOT_ARCH
+        arm_flags: field(table, 129, 2) as u16, // ARM_BOOT_ARCH
+        revision,
+        minor_revision: field(table, 131, 1) as u8, // FADT Minor Version
+        hypervisor_id: if revision < 6 {
+            0
+        } else {
+            field(table, 268, 8)
+        }, // Hypervisor Vendor Identity
     }
 }
 
-fn fixed_record(fadt: &Fadt, flags: RawFlags) -> FixedHardware
-    requires feature { flags.feature ≡ feature_bits fadt.now.flags }
-    requires pc { flags.pc ≡ pc_bits fadt.now.iapc_boot_arch }
-    requires arm { flags.arm ≡ arm_bits fadt.now.arm_boot_arch }
-    ensures { result ≡ fixed_record fadt.now }
+fn fixed_record(fadt: &Fadt, raw: RawFields) -> FixedHardware
+    requires feature { raw.feature_flags ≡ feature_bits fadt.now.flags }
+    requires pc { raw.pc_flags ≡ pc_bits fadt.now.iapc_boot_arch }
+    requires arm { raw.arm_flags ≡ arm_bits fadt.now.arm_boot_arch }
+    ensures { result ≡ fixed_record fadt.now raw.revision raw.minor_revision raw.hypervisor_id }
 {
     FixedHardware {
         facs_address: fadt.facs_address().unwrap_or(0),
@@ -70,10 +84,10 @@ fn fixed_record(fadt: &Fadt, flags: RawFlags) -> FixedHardware
         gpe0_block: gpe_record(fadt.gpe0()),
         gpe1_block: gpe_record(fadt.gpe1()),
         smi_command: fadt.smi_cmd_port,
-        flags: flags.feature,
+        flags: raw.feature_flags,
         sci_interrupt: fadt.sci_interrupt,
-        x86_boot_flags: flags.pc,
-        arm_boot_flags: flags.arm,
+        x86_boot_flags: raw.pc_flags,
+        arm_boot_flags: raw.arm_flags,
         c2_latency: fadt.worst_c2_latency,
         c3_latency: fadt.worst_c3_latency,
         flush_size: fadt.flush_size,
@@ -91,6 +105,9 @@ fn fixed_record(fadt: &Fadt, flags: RawFlags) -> FixedHardware
         month_alarm: fadt.month_alarm,
         century: fadt.century,
         reset_value: fadt.reset_value,
+        revision: raw.revision,
+        minor_revision: raw.minor_revision,
+        hypervisor_id: raw.hypervisor_id,
     }
 }
 

@@ -53,6 +53,9 @@ pub struct FixedHardware {
     pub month_alarm: u8,
     pub century: u8,
     pub reset_value: u8,
+    pub revision: u8,
+    pub minor_revision: u8,
+    pub hypervisor_id: u64,
 }
 
 /// The serial console that the firmware used (SPCR).

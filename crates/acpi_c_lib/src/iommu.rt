@@ -2,10 +2,10 @@
 //! I/O 4.0, chapter 8) and by the IVRS (AMD I/O Virtualization Technology (IOMMU) Specification 3.08, section 5.2).
 ghost use Rattle.std.specs.Prelude.{◌≡◌, Some, map};
 ghost use Rattle.acpi_iommu.specs.Words.{reserved_left, memory_left};
-ghost use Rattle.acpi_c_lib.specs.Words.{Fills, block_record, dmar_hpet_below, dmar_io_apic_below, dmar_reserved_below, dmar_unit_below, iommu_refusal, ivrs_memory_below, ivrs_unit_below, memory_record, reserved_record, source_record, unit_record, lists_each};
+ghost use Rattle.acpi_c_lib.specs.Words.{Fills, block_record, dmar_flags_below, dmar_flags_record, dmar_hpet_below, dmar_io_apic_below, dmar_reserved_below, dmar_unit_below, iommu_refusal, ivrs_memory_below, ivrs_unit_below, memory_record, reserved_record, source_record, unit_record, lists_each};
 
 use crate::iommu_records::{
-    DmarReserved, DmarSource, DmarUnit, Hop, IvrsDevice, IvrsMemory, IvrsUnit,
+    DmarFlags, DmarReserved, DmarSource, DmarUnit, Hop, IvrsDevice, IvrsMemory, IvrsUnit,
 };
 use crate::lists::{Listing, fill};
 use crate::opening::first;
@@ -67,6 +67,24 @@ pub fn dmar_hpet(source: &Source<'_>, number: u8) -> Result<DmarSource, Refusal>
     let units = DmarUnits::over(dmar.bytes());
     let found = units.unit_of_hpet(number)?.ok_or(Refusal::NoIommu)?;
     Ok(source_record(&found))
+}
+
+/// What the first valid DMAR says of all units (section 8.1).
+pub fn dmar_flags(source: &Source<'_>) -> Result<DmarFlags, Refusal>
+    ensures { result ≡ dmar_flags_below source.now }
+{
+    let memory = Mapped::new(source.regions);
+    let dmar = first::<Dmar>(&memory, source)?;
+    Ok(dmar_flags_record(&dmar))
+}
+
+fn dmar_flags_record(dmar: &Dmar) -> DmarFlags
+    ensures { result ≡ dmar_flags_record dmar.now }
+{
+    DmarFlags {
+        address_bits: dmar.address_bits(),
+        flags: dmar.flags,
+    }
 }
 
 fn unit_record(unit: &Drhd) -> DmarUnit

@@ -4,6 +4,14 @@
 
 pub use acpi_iommu::Hop;
 
+/// What the DMAR says of all units (section 8.1).
+#[repr(C)]
+#[derive(Clone, Copy)]
+pub struct DmarFlags {
+    pub address_bits: u16,
+    pub flags: u8,
+}
+
 /// A unit of the DMAR (DMA Remapping Hardware Unit Definition, section 8.3).
 #[repr(C)]
 #[derive(Clone, Copy)]

@@ -1,5 +1,5 @@
-//! The calls of the library for C. The crate `acpi_c` exports each of them, and `include/zacpi.h` says in which order it
-//! refuses. Sections are those of ACPI 6.4 unless another document is named.
+//! The calls of the library for C. The crate `acpi_c` exports each of them, and `include/zacpi.h` says in which order
+//! it refuses. Sections are those of ACPI 6.4 unless another document is named.
 //!
 //! Each call can be called with any numbers. One that is passed a source checks the regions, opens the tables anew, and
 //! answers what it found, or a refusal. No call takes memory or keeps a state. A list writes as many items as there is
@@ -15,6 +15,7 @@ pub mod clip;
 pub mod console;
 pub mod devices;
 pub mod entries;
+pub mod facs;
 pub mod faults;
 pub mod fixed;
 pub mod fixed_records;

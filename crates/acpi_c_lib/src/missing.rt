@@ -57,8 +57,8 @@ fn others<H: AcpiHandler>(
     }
 }
 
-/// Writes where the members are refused that aren't lent, and then a pair of ranges, from an index on, and says where the
-/// next would stand.
+/// Writes where the members are refused that aren't lent, and then a pair of ranges, from an index on, and says where
+/// the next would stand.
 #[tactic(auto, using(acpi::proofs::First::filter_map_few, crate::proofs::Written::put_parts))]
 fn fill<H: AcpiHandler>(
     handler: &H,
@@ -241,7 +241,8 @@ fn search_hole<H: AcpiHandler>(handler: &H) -> Range
     }
 }
 
-/// Where opening by the search in the areas as far as they are lent is refused so: the root table that the RSDP leads to.
+/// Where opening by the search in the areas as far as they are lent is refused so: the root table that the RSDP leads
+/// to.
 fn areas_root_hole<H: AcpiHandler>(handler: &H) -> Range
     requires { opened_as_lent (H.memory handler.now) ≡ Err MapFailed }
     ensures { last_range (opened_as_lent_ranges (H.memory handler.now)) ≡ Some result }

@@ -1,13 +1,13 @@
 //! How the tables that a caller names are opened.
 ghost use Rattle.std.specs.Prelude.{◌≡◌, Ok, IfOk};
-ghost use Rattle.acpi_base.specs.Words.{bytes_of, Gives};
-ghost use Rattle.acpi.specs.Words.{opened_of, word_in, lender_of};
-ghost use Rattle.acpi_c_lib.specs.Words.{ebda_in, first_table, opened_as_lent, opened_in, mapped_memory, memory_in, root_below};
+ghost use Rattle.acpi_base.specs.Words.{bytes_of, start_of, Gives};
+ghost use Rattle.acpi.specs.Words.{bios_areas, found_in_areas, lender_of, opened_of, placed, word_in};
+ghost use Rattle.acpi_c_lib.specs.Words.{ebda_in, first_table, opened_as_lent, opened_in, mapped_memory, memory_in, root_below, rsdp_length, rsdp_place_in};
 
 use crate::records::{Root, Source};
 use crate::refusal::Refusal;
 use crate::regions::Mapped;
-use acpi::rsdp::bios_areas;
+use acpi::rsdp::{Rsdp, bios_areas, map_rsdp};
 use acpi::{AcpiHandler, AcpiResult, AcpiTable, AcpiTables, PhysicalMapping};
 
 /// The tables below what a source's start says: 0 the RSDP at its address (section 5.2.5.3), 1 the RSDT there (section
@@ -40,6 +40,33 @@ fn search_as_lent<'h, H: AcpiHandler>(handler: &'h H) -> AcpiResult<AcpiTables<'
     ensures opened { Gives (λ t. opened_of t) result (opened_as_lent (H.memory handler.now)) }
 {
     AcpiTables::search_in(handler, &bios_areas(ebda(handler)))
+}
+
+/// The address and the length of the RSDP that a source's start leads to, if it is valid and the start isn't at a root
+/// table.
+pub(crate) fn rsdp_place<H: AcpiHandler>(handler: &H, source: &Source<'_>) -> Option<(u64, u32)>
+    ensures { result ≡ rsdp_place_in (H.memory handler.now) source.now }
+{
+    match source.start {
+        0 => Some(place_of(&map_rsdp(handler, source.address).ok()?)),
+        3 => Some(place_of(&Rsdp::search_for_on_bios(handler).ok()?)),
+        4 => Some(place_of(&rsdp_as_lent(handler).ok()?)),
+        _ => None,
+    }
+}
+
+/// The RSDP that the BIOS areas hold as far as they are lent (section 5.2.5.1).
+fn rsdp_as_lent<'h, H: AcpiHandler>(handler: &'h H) -> AcpiResult<PhysicalMapping<'h, H, Rsdp>>
+    ensures { let m = H.memory handler.now in Gives placed result (found_in_areas m (bios_areas (ebda_in m))) }
+{
+    Rsdp::search_in(handler, &bios_areas(ebda(handler)))
+}
+
+/// The address and the length of an RSDP.
+fn place_of<H: AcpiHandler>(rsdp: &PhysicalMapping<'_, H, Rsdp>) -> (u64, u32)
+    ensures { result ≡ (start_of rsdp.now, rsdp_length (bytes_of rsdp.now)) }
+{
+    (rsdp.physical_start(), rsdp.length().unwrap_or(20))
 }
 
 /// The segment of the extended BIOS data area (EBDA), which is the word at 0x40e (section 5.2.5.1).
@@ -85,10 +112,13 @@ pub fn root(source: &Source<'_>) -> Result<Root, Refusal>
 {
     let memory = Mapped::new(source.regions)?;
     let tables = open(&memory, source)?;
+    let (rsdp_address, rsdp_length) = rsdp_place(&memory, source).unwrap_or((0, 0));
     Ok(Root {
         address: tables.root_address(),
         length: tables.root_length(),
         revision: tables.revision(),
         pointer_width: tables.root_kind().width() as u8,
+        rsdp_address,
+        rsdp_length,
     })
 }

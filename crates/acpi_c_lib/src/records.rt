@@ -34,6 +34,8 @@ pub struct Root {
     pub length: u32,
     pub revision: u8,
     pub pointer_width: u8,
+    pub rsdp_address: u64,
+    pub rsdp_length: u32,
 }
 
 /// A table that is listed and valid (section 5.2.6).
@@ -44,6 +46,11 @@ pub struct Table {
     pub length: u32,
     pub signature: [u8; 4],
     pub revision: u8,
+    pub oem_id: [u8; 6],
+    pub oem_table_id: [u8; 8],
+    pub oem_revision: u32,
+    pub creator_id: [u8; 4],
+    pub creator_revision: u32,
 }
 
 /// A member of the root table that a lookup passes over for another reason than its signature.
@@ -69,6 +76,21 @@ pub struct Entry {
 pub struct AmlTable {
     pub address: u64,
     pub length: u32,
+    pub revision: u8,
+    pub table_address: u64,
+}
+
+/// The Firmware ACPI Control Structure (FACS, section 5.2.10).
+#[repr(C)]
+#[derive(Clone, Copy)]
+pub struct Facs {
+    pub address: u64,
+    pub waking_vector_64: u64,
+    pub length: u32,
+    pub hardware_signature: u32,
+    pub waking_vector: u32,
+    pub flags: u32,
+    pub version: u8,
 }
 
 /// A range of physical addresses.

@@ -2,15 +2,16 @@
 ghost use Rattle.std.specs.Prelude.{◌≡◌};
 ghost use Rattle.acpi_base.specs.Words.{bytes_of, start_of};
 ghost use Rattle.acpi.specs.Words.{pointers_left};
-ghost use Rattle.acpi_c_lib.specs.Words.{Fills, dsdt_below, signature_named, table_below, table_record, tables_below, table_in, tables_in, lists_some};
+ghost use Rattle.acpi_c_lib.specs.Words.{Fills, aml_at, dsdt_below, signature_named, ssdt_in, ssdts_below, ssdts_in, table_below, table_record, tables_below, table_in, tables_in, lists_some};
 
 use crate::lists::{Listing, fill};
 use crate::opening::open;
 use crate::records::{self, AmlTable, Source, Table};
 use crate::refusal::Refusal;
 use crate::regions::Mapped;
-use acpi::sdt::{SdtHeader, Signature, map_own_sdt};
-use acpi::{AcpiHandler, PhysicalMapping, Pointers};
+use acpi::sdt::{SdtHeader, Signature, map_own_sdt, map_sdt};
+use acpi::{AcpiHandler, AcpiResult, PhysicalMapping, PhysicalRecord, Pointers};
+use acpi_base::bytes::filled;
 
 /// A table, by its mapping.
 pub(crate) fn entry<H: AcpiHandler>(table: &PhysicalMapping<'_, H, SdtHeader>) -> Table
@@ -22,6 +23,11 @@ pub(crate) fn entry<H: AcpiHandler>(table: &PhysicalMapping<'_, H, SdtHeader>) -
         length: header.length,
         signature: header.signature.to_bytes(),
         revision: header.revision,
+        oem_id: header.oem_id,
+        oem_table_id: header.oem_table_id,
+        oem_revision: header.oem_revision,
+        creator_id: filled(table.bytes(), 28), // Creator ID
+        creator_revision: header.creator_revision,
     }
 }
 
@@ -74,9 +80,44 @@ pub fn dsdt(source: &Source<'_>) -> Result<AmlTable, Refusal>
 {
     let memory = Mapped::new(source.regions)?;
     let tables = open(&memory, source)?;
-    let stream = tables.dsdt()?;
+    let fadt = tables.find_fadt()?;
+    let aml = aml_at(&memory, Signature::DSDT, fadt.dsdt_address()?)?;
+    Ok(aml)
+}
+
+/// The AML of the table at an address, if it is valid under a signature.
+fn aml_at<H: AcpiHandler>(handler: &H, signature: Signature, address: u64) -> AcpiResult<AmlTable>
+    ensures { result ≡ aml_at (H.memory handler.now) signature address }
+{
+    let table = map_sdt(handler, address, signature)?;
     Ok(AmlTable {
-        address: stream.address,
-        length: stream.length,
+        address: address + SdtHeader::MIN_LENGTH as u64,
+        length: (table.bytes().len() - SdtHeader::MIN_LENGTH) as u32,
+        revision: table.revision,
+        table_address: address,
     })
+}
+
+/// Lists the AML of all valid SSDTs.
+#[tactic(auto, using(acpi::proofs::First::filter_map_few))]
+pub fn ssdts(source: &Source<'_>, out: &mut [AmlTable]) -> Result<usize, Refusal>
+    ensures { Fills result out.old out.new (ssdts_below source.now) }
+{
+    let memory = Mapped::new(source.regions)?;
+    let tables = open(&memory, source)?;
+    Ok(fill(tables.addresses(), &memory, out))
+}
+
+impl<H: AcpiHandler> Listing<H, AmlTable> for Pointers<'_> {
+    ghost record_of = { λ handler p. ssdt_in (H.memory handler) p };
+
+    ghost left = { λ handler s. ssdts_in (H.memory handler) (pointers_left s) };
+
+    ghost gives_first = { λ handler. lists_some (ssdt_in (H.memory handler)) (λ s. pointers_left s) };
+
+    fn record(handler: &H, address: u64) -> Option<AmlTable>
+        ensures { result ≡ ssdt_in (H.memory handler.now) address }
+    {
+        aml_at(handler, Signature::SSDT, address).ok()
+    }
 }

@@ -1,20 +1,18 @@
-//! Walks along the members of the root table: all tables of a signature, SSDTs, and the memory that the
-//! tables take.
+//! Walks along the members of the root table: all tables of a signature, and the memory that the tables
+//! take.
 ghost use Rattle.std.specs.Prelude.{◌≡◌, Some, map};
-ghost use Rattle.acpi.specs.Words.{pointers_left, places_left, ssdts_left};
-ghost use Rattle.acpi_c_lib.specs.Words.{Fills, nth_below, nth_in, ranges_below, ssdts_below, range_record, lists_each, aml_record};
+ghost use Rattle.acpi.specs.Words.{pointers_left, places_left};
+ghost use Rattle.acpi_c_lib.specs.Words.{Fills, nth_below, nth_in, ranges_below, range_record, lists_each};
 
-use crate::lists::{Listing, fill};
-use crate::opening::open;
+use crate::lists::{Listing, fill_from};
+use crate::missing::{put_pair, range};
+use crate::opening::{open, rsdp_place};
 use crate::records::{self, Range, Source, Table};
 use crate::refusal::Refusal;
 use crate::regions::Mapped;
 use crate::tables::{entry, signature_named};
 use acpi::sdt::{Signature, map_sdt};
-use acpi::{
-    AcpiError, AcpiHandler, AcpiResult, AddressRange, AmlTable, Lender, Pointers, SsdtIterator,
-    TableRanges,
-};
+use acpi::{AcpiError, AcpiHandler, AcpiResult, AddressRange, Lender, Pointers, TableRanges};
 
 /// The `index`-th valid table with this signature, counted from 0.
 pub fn nth(source: &Source<'_>, name: records::Signature, index: usize) -> Result<Table, Refusal>
@@ -48,39 +46,19 @@ fn nth_of<H: AcpiHandler>(
     Err(AcpiError::TableMissing(signature))
 }
 
-/// Lists the AML of all valid SSDTs.
-pub fn ssdts(source: &Source<'_>, out: &mut [records::AmlTable]) -> Result<usize, Refusal>
-    ensures { Fills result out.old out.new (ssdts_below source.now) }
-{
-    let memory = Mapped::new(source.regions)?;
-    let tables = open(&memory, source)?;
-    Ok(fill(tables.ssdts(), &(), out))
-}
-
-impl<H: Lender> Listing<(), records::AmlTable> for SsdtIterator<'_, '_, H> {
-    ghost record_of = { λ known x. Some (aml_record x) };
-
-    ghost left = { λ known s. map aml_record (ssdts_left H.memory s) };
-
-    ghost gives_first = { λ known. lists_each aml_record (ssdts_left H.memory) };
-
-    fn record(_known: &(), table: AmlTable) -> Option<records::AmlTable>
-        ensures { result ≡ Some (aml_record table) }
-    {
-        Some(records::AmlTable {
-            address: table.address,
-            length: table.length,
-        })
-    }
-}
-
-/// Lists the memory that the tables take.
+/// Lists the memory that the RSDP and the tables take.
+#[tactic(auto, using(crate::proofs::Written::put_parts))]
 pub fn ranges(source: &Source<'_>, out: &mut [Range]) -> Result<usize, Refusal>
     ensures { Fills result out.old out.new (ranges_below source.now) }
 {
     let memory = Mapped::new(source.regions)?;
     let tables = open(&memory, source)?;
-    Ok(fill(tables.ranges(), &(), out))
+    let rsdp = match rsdp_place(&memory, source) {
+        Some((address, length)) => Some(range(address, length)),
+        None => None,
+    };
+    let after_rsdp = put_pair((rsdp, None), out, 0);
+    Ok(fill_from(tables.ranges(), &(), out, after_rsdp))
 }
 
 impl<H: Lender> Listing<(), Range> for TableRanges<'_, '_, H> {

@@ -97,7 +97,8 @@ impl StandsFor<gic::GicMsiFrame> for GicMsiFrame {
 }
 
 fn has_codes(interfaces: &[GicCpuInterface]) -> bool
-    ensures { result ≡ list_all (λ x. is_wiring x.performance_trigger && is_wiring x.maintenance_trigger) interfaces.now }
+    ensures { result ≡ list_all (λ x. is_wiring x.performance_trigger && is_wiring x.maintenance_trigger)
+        interfaces.now }
 {
     interfaces.iter().all(|x| is_wiring(x.performance_trigger) && is_wiring(x.maintenance_trigger))
 }
