@@ -1,6 +1,6 @@
 //! The lines of files of rows, and the calls among them.
 
-use crate::numbers::{first_word, is};
+use crate::numbers::first_word;
 use crate::rows::{Row, Rows};
 use crate::text::Text;
 use crate::{memory, tables};
@@ -33,9 +33,9 @@ impl Asked<'_> {
             self.keep(Err(io::Error::from(AllocError)));
         }
         let (rt, name, fact) = (self.rt, row.name.as_str(), text.line());
-        let (_, wanted) = line.split_once(": ").unwrap_or(("", ""));
-        if !is(wanted, fact) {
-            self.keep(println!(rt; "{name}: {line}, but it is {fact}"));
+        match line.split_once(": ") {
+            Some((_, wanted)) if wanted == fact => {}
+            _ => self.keep(println!(rt; "{name}: {line}, but it is {fact}")),
         }
     }
 }

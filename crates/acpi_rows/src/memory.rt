@@ -13,7 +13,6 @@ mod types;
 mod ways;
 
 use crate::ask::{Asked, call_of};
-use crate::numbers::is;
 use crate::rows::{Handlers, Row};
 use crate::text::Text;
 use acpi::AcpiHandler;
@@ -68,7 +67,7 @@ fn over_each(asked: &mut Asked<'_>, row: &Row, image: &MemoryImage<'_>, file: &[
     let generous = Recording::new(image);
     let mut out = Text::new(alloc, generous.cell(), false);
     let (call, rest) = call_of(line);
-    if is(call, "fronts") {
+    if call == "fronts" {
         fronts(&mut out, file);
     } else {
         alone(&mut out, &generous, row, (call, rest));

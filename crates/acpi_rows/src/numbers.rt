@@ -1,20 +1,6 @@
-//! Words and numbers in texts.
+//! Numbers in texts.
 
 use std::alloc::AllocError;
-
-/// Whether two words are the same. It is called since a comparison is long to prove where it stands, as a pattern too.
-pub(crate) fn is(word: &str, other: &str) -> bool {
-    word == other
-}
-
-/// What `match` gives for a word.
-macro_rules! match_word {
-    ($word:expr, { $($($name:literal)|+ => $arm:expr,)+ _ => $rest:expr $(,)? }) => {
-        $(if $($crate::numbers::is($word, $name))||+ { $arm } else)+ { $rest }
-    };
-}
-
-pub(crate) use match_word;
 
 /// The first word of a text, and what stands after the blank that ends it.
 pub(crate) fn first_word(text: &str) -> (&str, &str) {

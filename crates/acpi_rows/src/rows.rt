@@ -24,7 +24,7 @@
 
 mod region;
 
-use crate::numbers::{first_word, hex_of, is, match_word};
+use crate::numbers::{first_word, hex_of};
 use acpi::sdt::Signature;
 use acpi_cli::parse_address;
 use acpi_testkit::samples::placed::{Margins, add_record};
@@ -83,10 +83,9 @@ impl Row {
 
     /// How tables are opened.
     pub(crate) fn way(&self) -> (&str, &str) {
-        if self.way.is_empty() {
-            ("rsdt", "0 0x1000")
-        } else {
-            first_word(self.way.as_str())
+        match self.way.as_str() {
+            "" => ("rsdt", "0 0x1000"),
+            way => first_word(way),
         }
     }
 
@@ -197,21 +196,21 @@ impl Row {
         let Some(region) = self.regions.last_mut() else {
             return false;
         };
-        match_word!(word, {
+        match word {
             "sum" => region.sum(rest),
             "flip" => {
                 flip(&mut region.bytes);
                 true
-            },
+            }
             "cut" => {
                 region.bytes.truncate(length_of(rest));
                 true
-            },
+            }
             _ => match word.parse::<u32>() {
                 Ok(offset) => region.put(offset as usize, rest),
                 Err(_) => false,
             },
-        })
+        }
     }
 
     /// Sets what lies around each region.
@@ -264,7 +263,7 @@ impl Rows {
     /// Fails if memory for it is refused.
     pub(crate) fn take(&mut self, line: &str) -> Result<bool, AllocError> {
         let (first, rest) = first_word(line);
-        match_word!(first, {
+        match first {
             "" | "#" => Ok(true),
             "=" => self.begin(rest),
             "like" => self.copy(rest),
@@ -274,16 +273,14 @@ impl Rows {
             "open" => {
                 self.row.way.clear();
                 self.row.way.push_str(rest).and(Ok(true))
-            },
+            }
             "each" => self.play(Handlers::Each),
             "exact" => self.play(Handlers::Exact),
             "generous" => self.play(Handlers::Generous),
             "sum" | "flip" | "cut" => Ok(self.row.change(first, rest)),
-            _ => match first.parse::<u32>() {
-                Ok(_) => Ok(self.row.change(first, rest)),
-                Err(_) => self.row.begin_table(self.alloc, first, rest),
-            },
-        })
+            _ if first.parse::<u32>().is_ok() => Ok(self.row.change(first, rest)),
+            _ => self.row.begin_table(self.alloc, first, rest),
+        }
     }
 
     /// Sets the handlers over which calls are made.
@@ -316,7 +313,7 @@ impl Rows {
 /// The row of a name.
 fn row_of<'r>(rows: &'r [Row], name: &str) -> Option<&'r Row> {
     for row in rows {
-        if is(row.name.as_str(), name) {
+        if row.name.as_str() == name {
             return Some(row);
         }
     }

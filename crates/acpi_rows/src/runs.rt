@@ -12,7 +12,6 @@
 
 mod refusing;
 
-use crate::numbers::match_word;
 use crate::text::Text;
 use acpi::{AcpiTables, ManagedSlice};
 use acpi_cli::root::Root;
@@ -31,14 +30,14 @@ pub(crate) fn answer(out: &mut Text<'_>, kind: &str, bytes: &[u8], (call, rest):
     let Ok(words) = split_words(alloc, rest) else {
         return out.require(false);
     };
-    match_word!(kind, {
+    match kind {
         "file" => with_file(out, call, Program::new(alloc, &words, Some(bytes))),
         "unreadable" => with_file(out, call, Program::new(alloc, &words, None)),
         _ => match written(alloc, bytes, kind) {
             Some(file) => with_file(out, call, Program::new(alloc, &words, Some(&file))),
             None => out.print(&"no such call"),
         },
-    })
+    }
 }
 
 /// The words, without what stands before the first `|`.
@@ -63,7 +62,7 @@ fn written(alloc: Global, table: &[u8], kind: &str) -> Option<Vec<u8>> {
 
 /// Prints what a call gives over words and a file.
 fn with_file(out: &mut Text<'_>, call: &str, program: Program<'_, '_>) {
-    match_word!(call, {
+    match call {
         "command" => command(out, program.words),
         "writes" => program.writes(out),
         "heaps" => {
@@ -71,14 +70,14 @@ fn with_file(out: &mut Text<'_>, call: &str, program: Program<'_, '_>) {
                 over_heap(out, &image, 16, 16);
                 over_heap(out, &image, 65536, 0);
             }
-        },
+        }
         "no_memory" => {
             let Ok(report) = refused(out.alloc, ImageError::OutOfMemory) else {
                 return out.require(false);
             };
             out.show(&Some(report.status));
             out.show(&report.complaints.as_str());
-        },
+        }
         _ => {
             let (alloc, words) = (out.alloc, program.words);
             let (mut printed, mut errors) = (Vec::new(alloc), Vec::new(alloc));
@@ -89,8 +88,8 @@ fn with_file(out: &mut Text<'_>, call: &str, program: Program<'_, '_>) {
             }
             quote(out, &printed);
             quote(out, &errors);
-        },
-    })
+        }
+    }
 }
 
 /// Prints bytes as they are debugged as a text.

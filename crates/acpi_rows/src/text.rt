@@ -1,7 +1,7 @@
 //! What calls print, and what their handler is asked for and told meanwhile.
 ghost use Rattle.acpi_base.specs.FromStd.{IsFinite};
 
-use crate::numbers::{add_in_hex, is};
+use crate::numbers::add_in_hex;
 use acpi::{AcpiHandler, PhysicalMapping, PhysicalRecord};
 use acpi_testkit::history::{Event, History};
 use std::alloc::Global;
@@ -83,7 +83,7 @@ impl<'r> Text<'r> {
 
     /// Whether both have the same answers.
     pub(crate) fn is_like(&self, other: &Text<'_>) -> bool {
-        is(self.text.as_str(), other.text.as_str())
+        self.text.as_str() == other.text.as_str()
     }
 
     fn add(&mut self, text: &str) {
@@ -261,7 +261,9 @@ impl<'r> Text<'r> {
     /// The line, or `none` if nothing was answered.
     pub(crate) fn line(&self) -> &str {
         let line = self.text.as_str();
-        let line = line.strip_suffix(", ").unwrap_or(line);
-        if line.is_empty() { "none" } else { line }
+        match line.strip_suffix(", ").unwrap_or(line) {
+            "" => "none",
+            line => line,
+        }
     }
 }

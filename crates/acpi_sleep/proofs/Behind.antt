@@ -271,8 +271,8 @@ unfolding opcode_at
 opcode_stays xs ys at op e =
     let first = bind_ok (byte_at xs at) _ op e in
     rw (byte_stays xs ys at first.0 first.1) (stays_if (first.0 == 0x5B) _ _ _ _ op (λ e.
-        let second = bind_ok (byte_at xs (at + 1)) _ op e in
-        rw (byte_stays xs ys (at + 1) second.0 second.1) second.2) (λ e. e) first.2)
+    let second = bind_ok (byte_at xs (at + 1)) _ op e in
+    rw (byte_stays xs ys (at + 1) second.0 second.1) second.2) (λ e. e) first.2)
 
 part_stays : (p : Part) (xs ys : List ℕ) (at end : ℕ) → part_end p xs at ≡ Ok end → part_end p (xs ++ ys) at ≡ Ok end
 part_stays part.Name xs ys at end e = name_end_stays xs ys at end e
@@ -293,17 +293,17 @@ same_if false b c same = refl
 state_stays : (xs ys : List ℕ) (state : ℕ) (name : Name) → Single xs name → is_state (xs ++ ys) state name ≡ is_state xs state name
 state_stays xs ys state name single =
     same_if (name.ups == 0 && name.segments == 1) (field_of (xs ++ ys) name.first 4 == state_code state) (field_of xs name.first 4 == state_code state) (λ is.
-        ap (λ f. f == state_code state) (field_stays xs ys name.first 4 (single (eqb-true name.segments 1 (and_parts (name.ups == 0) (name.segments == 1) is).1))))
+    ap (λ f. f == state_code state) (field_stays xs ys name.first 4 (single (eqb-true name.segments 1 (and_parts (name.ups == 0) (name.segments == 1) is).1))))
 
 named_stays : (xs ys : List ℕ) (state : ℕ) (scope : Option ℕ) (at : ℕ) (s : Step) → named_at xs state scope at ≡ Ok s → named_at (xs ++ ys) state scope at ≡ Ok s
 unfolding named_at
 named_stays xs ys state scope at s e =
     let name = bind_ok (name_at xs at) _ s e in
     rw (name_stays xs ys at name.0 name.1, state_stays xs ys state name.0 (single_name xs at name.0 name.1)) (stays_if (is_state xs state name.0) _ _ _ _ s (λ e.
-        let types = bind_ok (types_at xs name.0.end) _ s e in
-        rw (types_stay xs ys name.0.end types.0 types.1) types.2) (λ e.
-        let next = bind_ok (argument_end xs name.0.end) _ s e in
-        rw (argument_stays xs ys name.0.end next.0 next.1) next.2) name.2)
+    let types = bind_ok (types_at xs name.0.end) _ s e in
+    rw (types_stay xs ys name.0.end types.0 types.1) types.2) (λ e.
+    let next = bind_ok (argument_end xs name.0.end) _ s e in
+    rw (argument_stays xs ys name.0.end next.0 next.1) next.2) name.2)
 
 scope_stays : (xs ys : List ℕ) (scope : Option ℕ) (at : ℕ) (s : Step) → scope_at xs scope at ≡ Ok s → scope_at (xs ++ ys) scope at ≡ Ok s
 unfolding scope_at

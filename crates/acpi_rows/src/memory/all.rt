@@ -12,7 +12,7 @@
 use super::gathered::{InMemory, print_platform};
 use super::types;
 use crate::heaps::{self, Gathers};
-use crate::numbers::{first_word, match_word, number_of};
+use crate::numbers::{first_word, number_of};
 use crate::rows::signature_of;
 use crate::text::Text;
 use crate::watched::Watched;
@@ -28,11 +28,11 @@ pub(super) fn answer<H: AcpiHandler>(
     rest: &str,
 ) {
     let most = rest.parse::<u16>().unwrap_or(u16::MAX) as usize;
-    match_word!(call, {
+    match call {
         "root" => {
             let place = (tables.root_address(), tables.root_length());
             out.show(&(tables.revision(), place, tables.root_signature()));
-        },
+        }
         "headers" => out.list(tables.headers().map(front_of).take(most)),
         "whole_headers" => out.list(tables.headers().take(most)),
         "members" => out.list(tables.members().map(member_of).take(most)),
@@ -46,13 +46,13 @@ pub(super) fn answer<H: AcpiHandler>(
             Err(refusal) => out.show(&refusal),
         },
         _ => alone(out, tables, call, rest),
-    })
+    }
 }
 
 /// Prints what a call gives that sums tables up, or is about a type of table.
 fn alone<H: AcpiHandler>(out: &mut Text<'_>, tables: &AcpiTables<'_, H>, call: &str, rest: &str) {
     let alloc = out.alloc;
-    match_word!(call, {
+    match call {
         "fadt_view" => view_fadt(out, tables),
         "checks" => match tables.find_table::<Watched>() {
             Ok(table) => out.show(&table.checks()),
@@ -64,14 +64,14 @@ fn alone<H: AcpiHandler>(out: &mut Text<'_>, tables: &AcpiTables<'_, H>, call: &
         "platforms" => platforms(out, tables),
         "platform" | "regions" | "gic" | "memory" | "address" | "ecam" | "domain" | "processor" => {
             InMemory { tables, call, rest }.gather(out, alloc, None);
-        },
+        }
         "heap" => {
             let (size, rest) = first_word(rest);
             heaps::over(out, &InMemory::of(tables, rest), number_of(size) as usize);
-        },
+        }
         "heaps" => heaps::over_all(out, &InMemory::of(tables, rest)),
         _ => types::answer(out, tables, call, rest),
-    })
+    }
 }
 
 /// The signature, length, revision and checksum in a header.

@@ -9,7 +9,7 @@
 
 use crate::heaps::{Gathers, held};
 use crate::models::{print_apics, print_gic, print_model, print_ranges};
-use crate::numbers::{first_word, is, match_word, number_of};
+use crate::numbers::{first_word, number_of};
 use crate::text::Text;
 use acpi::mcfg::PciConfigRegions;
 use acpi::platform::PlatformInfo;
@@ -45,7 +45,7 @@ impl<H: AcpiHandler> Gathers for InMemory<'_, '_, H> {
         heap: Option<&LocalHeap>,
     ) {
         let (tables, rest) = (self.tables, self.rest);
-        match_word!(self.call, {
+        match self.call {
             "regions" => print_regions(out, PciConfigRegions::new_in(tables, allocator), heap),
             "address" | "ecam" => {
                 print_place(
@@ -54,14 +54,14 @@ impl<H: AcpiHandler> Gathers for InMemory<'_, '_, H> {
                     self.call,
                     rest,
                 );
-            },
+            }
             "gic" => print_gic(out, GicModel::new_in(tables, allocator)),
             "memory" | "domain" => {
                 print_ranges(out, MemoryAffinities::new_in(tables, allocator), rest);
-            },
+            }
             "platform" => print_platform(out, tables.platform_info_in(allocator), heap),
-            _ => print_part(out, tables.platform_info_in(allocator), self.call, rest),
-        })
+            call => print_part(out, tables.platform_info_in(allocator), call, rest),
+        }
     }
 }
 
@@ -93,7 +93,7 @@ fn print_place<A: Allocator>(
     let [high, low, bus, device, number] = bytes;
     let segment = u16::from_be_bytes([high, low]);
     match regions {
-        Ok(regions) if is_read && is(call, "ecam") => {
+        Ok(regions) if is_read && call == "ecam" => {
             out.show(&regions.ecam_address(segment, bus, device, number));
         }
         Ok(regions) => out.show(&regions.physical_address(segment, bus, device, number)),
@@ -137,14 +137,14 @@ fn print_part<A: Allocator + Clone>(
     index: &str,
 ) {
     if let Ok(platform) = answer {
-        match_word!(call, {
+        match call {
             "clone" => print_platform(out, platform.clone(), None),
             "clone_model" => match platform.interrupt_model.clone() {
                 Ok(model) => print_model(out, &model, &None),
                 Err(refusal) => out.show(&refusal),
             },
             _ => print_list(out, &platform, call, index),
-        });
+        }
         let_go(platform);
     }
 }
@@ -163,7 +163,7 @@ fn print_list<A: Allocator + Clone>(
         return;
     };
     let others = processors.application_processors.as_slice();
-    match_word!(call, {
+    match call {
         "processor" => out.show(&(others.len(), others.get(number_of(index) as usize))),
         "clone_apics" => match apic.clone() {
             Ok(clone) => print_apics(out, &clone),
@@ -177,5 +177,5 @@ fn print_list<A: Allocator + Clone>(
             Ok(clone) => print_model(out, &InterruptModel::Unknown::<A>, &Some(clone)),
             Err(refusal) => out.show(&refusal),
         },
-    })
+    }
 }

@@ -1,6 +1,5 @@
 //! Mappings that a scene keeps.
 
-use crate::numbers::{is, match_word};
 use crate::rows::signature_of;
 use crate::text::Text;
 use acpi::bgrt::Bgrt;
@@ -48,15 +47,15 @@ pub(super) fn mapped<'h, H: AcpiHandler>(
     name: &str,
     address: u64,
 ) -> AcpiResult<Kept<'h, H>> {
-    if is(call, "table") {
+    if call == "table" {
         return Ok(Kept::Graphic(map_table(handler, address)?));
     }
-    let header = match_word!(call, {
+    let header = match call {
         "named" => map_sdt(handler, address, signature_of(name)),
         "own" => map_own_sdt(handler, address),
         "given" => given(handler, address),
         _ => PhysicalMapping::map(handler, address, 36),
-    });
+    };
     Ok(Kept::Header(header?))
 }
 

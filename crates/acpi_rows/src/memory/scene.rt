@@ -13,7 +13,7 @@
 use super::kept::{Kept, mapped};
 use super::ways::{areas_of, found, open};
 use super::{all, guarded};
-use crate::numbers::{is, match_word, number_of};
+use crate::numbers::number_of;
 use crate::text::Text;
 use acpi::rsdp::bios_areas;
 use acpi::{AcpiHandler, AcpiResult, AcpiTables, AddressRange, Lender};
@@ -45,7 +45,7 @@ impl<'r, H: AcpiHandler> Scene<'r, H> {
         (way, place): (&str, &str),
         (call, rest): (&str, &str),
     ) {
-        if is(call, "search") || is(call, "within") || is(call, "bios_areas") {
+        if matches!(call, "search" | "within" | "bios_areas") {
             self.perform(out, call, rest);
             return;
         }
@@ -57,7 +57,7 @@ impl<'r, H: AcpiHandler> Scene<'r, H> {
 
     /// Does a step.
     pub(super) fn perform(&mut self, out: &mut Text<'_>, call: &str, rest: &str) {
-        match_word!(call, {
+        match call {
             "rsdt" | "rsdp" | "bios" | "areas" | "validated" => self.open(out, call, rest),
             "search" | "within" => match found(out.alloc, self.handler, call, rest) {
                 Ok(rsdp) => out.place(&rsdp),
@@ -75,20 +75,20 @@ impl<'r, H: AcpiHandler> Scene<'r, H> {
                 if let Some(kept) = self.kept.last() {
                     kept.show(out);
                 }
-            },
+            }
             "keep" => self.keep_graphic(out),
             "table" | "named" | "own" | "given" | "map" => {
                 let (name, address) = rest.split_once(' ').unwrap_or(("", rest));
                 let address = parse_address(address).unwrap_or(0);
                 let mapping = mapped(self.handler, call, name, address);
                 self.keep(out, mapping);
-            },
+            }
             _ => {
                 if let Some(tables) = &self.tables {
                     all::answer(out, tables, call, rest);
                 }
-            },
-        })
+            }
+        }
     }
 
     /// Opens tables, and keeps them if there are any.

@@ -2,7 +2,7 @@
 //! number of the most that are asked for), `whole` (its bytes), `lent` (how many are lent of it), and those over
 //! its bytes (`tables`).
 
-use crate::numbers::{first_word, is, match_word};
+use crate::numbers::first_word;
 use crate::tables;
 use crate::text::Text;
 use crate::wsmt::Wsmt;
@@ -24,7 +24,7 @@ pub(super) fn answer<H: AcpiHandler>(
     kind: &str,
     call: &str,
 ) {
-    if is(kind, "each") {
+    if kind == "each" {
         for kind in &["fadt", "madt", "hpet", "mcfg", "bgrt", "spcr"] {
             answer_one(out, tables, kind, call);
         }
@@ -39,7 +39,7 @@ fn answer_one<H: AcpiHandler>(
     kind: &str,
     call: &str,
 ) {
-    match_word!(kind, {
+    match kind {
         "fadt" => of_type::<Fadt, H>(out, tables, kind, call),
         "madt" => of_type::<Madt, H>(out, tables, kind, call),
         "hpet" => of_type::<HpetTable, H>(out, tables, kind, call),
@@ -53,7 +53,7 @@ fn answer_one<H: AcpiHandler>(
         "dmar" => of_type::<Dmar, H>(out, tables, kind, call),
         "ivrs" => of_type::<Ivrs, H>(out, tables, kind, call),
         _ => out.print(&"no such call"),
-    })
+    }
 }
 
 fn of_type<T: AcpiTable, H: AcpiHandler>(
@@ -64,21 +64,21 @@ fn of_type<T: AcpiTable, H: AcpiHandler>(
 ) {
     let (call, rest) = first_word(call);
     let most = rest.parse::<u16>().unwrap_or(u16::MAX) as usize;
-    match_word!(call, {
+    match call {
         "faults" => out.list(tables.faults::<T>().take(most)),
         "all" => {
             for table in tables.find_tables::<T>().take(most) {
                 out.place(&table);
             }
-        },
+        }
         _ => match tables.find_table::<T>() {
             Err(refusal) => out.show(&refusal),
-            Ok(table) => match_word!(call, {
+            Ok(table) => match call {
                 "find" => out.place(&table),
                 "whole" => out.bytes(table.bytes()),
                 "lent" => out.show(&table.mapped_length()),
                 _ => tables::answer(out, kind, table.bytes(), (call, rest)),
-            }),
+            },
         },
-    })
+    }
 }

@@ -1,6 +1,6 @@
 //! Ways to the tables in a memory, and searches for an RSDP.
 
-use crate::numbers::{first_word, match_word, number_of};
+use crate::numbers::{first_word, number_of};
 use crate::text::Text;
 use acpi::rsdp::Rsdp;
 use acpi::{AcpiHandler, AcpiResult, AcpiTables, AddressRange, PhysicalMapping};
@@ -17,15 +17,15 @@ pub(super) fn open<'h, H: AcpiHandler>(
 ) -> AcpiResult<AcpiTables<'h, H>> {
     let (number, address) = place.rsplit_once(' ').unwrap_or(("", place));
     let address = parse_address(address).unwrap_or(0);
-    match_word!(way, {
+    match way {
         "areas" => AcpiTables::search_in(handler, &areas_of(alloc, place)?),
         "bios" => AcpiTables::search_for_rsdp_bios(handler),
         "validated" => {
             AcpiTables::from_validated_rsdp(handler, Rsdp::search_for_on_bios(handler)?)
-        },
+        }
         "rsdp" => AcpiTables::from_rsdp(handler, address),
         _ => AcpiTables::from_rsdt(handler, parse_revision(number).unwrap_or(0), address),
-    })
+    }
 }
 
 /// The RSDP that a search finds in the BIOS areas, or in the areas that a text lists.
@@ -35,10 +35,10 @@ pub(super) fn found<'h, H: AcpiHandler>(
     call: &str,
     areas: &str,
 ) -> AcpiResult<PhysicalMapping<'h, H, Rsdp>> {
-    match_word!(call, {
+    match call {
         "search" => Rsdp::search_for_on_bios(handler),
         _ => Rsdp::search_in(handler, &areas_of(alloc, areas)?),
-    })
+    }
 }
 
 /// The areas that a text lists: the address and the length of each, and `, ` between them.

@@ -7,7 +7,7 @@
 //! - `unit DEVICE`, `io_apic ID`, `hpet NUMBER`, `reserved DEVICE`. A device is `SEGMENT BUS` and the hops from there
 //!   to it, as `0 0 1c.0 00.1`: segments and buses are decimal, the two numbers of a hop hexadecimal.
 
-use crate::numbers::{first_word, hex_of, is, match_word, number_of};
+use crate::numbers::{first_word, hex_of, number_of};
 use crate::text::Text;
 use acpi_base::PhysicalRecord;
 use acpi_iommu::{Dmar, DmarFields, DmarStructure, DmarUnits, Hop};
@@ -17,13 +17,13 @@ use std::alloc::{AllocError, Global};
 pub(super) fn answer(out: &mut Text<'_>, table: &[u8], call: &str, rest: &str) {
     let units = DmarUnits::over(table);
     let number = (number_of(rest) % 0x100) as u8;
-    match_word!(call, {
+    match call {
         "record" => record(out, table),
         "structures" => structures(out, &units),
         "io_apic" => out.show(&units.unit_of_io_apic(number)),
         "hpet" => out.show(&units.unit_of_hpet(number)),
         _ => of_device(out, &units, call, rest),
-    })
+    }
 }
 
 fn record(out: &mut Text<'_>, table: &[u8]) {
@@ -96,7 +96,7 @@ fn of_device(out: &mut Text<'_>, units: &DmarUnits<'_>, call: &str, rest: &str) 
     let Ok(hops) = hops_of(out.alloc, rest) else {
         return out.require(false);
     };
-    if is(call, "unit") {
+    if call == "unit" {
         return out.show(&units.unit_for(segment, bus, &hops));
     }
     match units.reserved_for(segment, bus, &hops) {

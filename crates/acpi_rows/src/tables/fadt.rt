@@ -5,7 +5,6 @@
 //! - `blocks`: the blocks of registers, but for those that it doesn't have;
 //! - `flags`: the names of the flags that are set.
 
-use crate::numbers::match_word;
 use crate::text::Text;
 use acpi::address::GenericAddress;
 use acpi::fadt::Fadt;
@@ -18,25 +17,25 @@ pub(super) fn answer(out: &mut Text<'_>, bytes: &[u8], call: &str) {
         return out.print(&"short");
     }
     let table = Fadt::read(bytes);
-    match_word!(call, {
+    match call {
         "record" => {
             out.show(&table.validate(bytes));
             out.show(table.header());
             out.show(&table);
-        },
+        }
         "facts" => {
             out.show(&table.power_profile());
             out.show(&(table.facs_address(), table.dsdt_address()));
             out.show(&PmTimer::new(&table));
             out.show(&(table.gpe0(), table.gpe1(), table.gpe1_base()));
-        },
+        }
         "blocks" => blocks(out, &table),
         _ => {
             set(out, &POWER_FLAGS, &power_flags(&table));
             set(out, &MACHINE_FLAGS, &machine_flags(&table));
             set(out, &BOOT_FLAGS, &boot_flags(&table));
-        },
-    })
+        }
+    }
 }
 
 /// Prints the names of the flags that are set.

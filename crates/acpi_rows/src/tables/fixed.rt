@@ -1,6 +1,6 @@
 //! Calls over small tables and structures: each prints all that these say.
 
-use crate::numbers::{is, number_of};
+use crate::numbers::number_of;
 use crate::rows::signature_of;
 use crate::text::Text;
 use acpi::address::{AccessSize, AddressSpace, GenericAddress};
@@ -12,8 +12,24 @@ use acpi::{AcpiTable, PhysicalRecord};
 use acpi_base::madt::MpProtectedModeWakeupCommand;
 use acpi_testkit::samples::front;
 
+/// Prints what bytes of a kind say.
+pub(super) fn answer(out: &mut Text<'_>, kind: &str, bytes: &[u8], (call, rest): (&str, &str)) {
+    match (kind, bytes) {
+        ("address", [..]) => address(out, bytes),
+        ("command", [low, high]) => command(out, u16::from_le_bytes([*low, *high])),
+        ("bytes", _) => sums(out, bytes, call, number_of(rest) as usize),
+        ("bgrt", _) => graphic(out, bytes),
+        ("header", _) if bytes.len() >= SdtHeader::MIN_LENGTH => {
+            out.show(&SdtHeader::read(bytes).validate(signature_of(rest), bytes));
+        }
+        ("mcfg", _) => regions(out, bytes),
+        ("rsdp", _) => rsdp(out, bytes),
+        _ => out.print(&"short"),
+    }
+}
+
 /// The codes in a generic address, and the address.
-pub(super) fn address(out: &mut Text<'_>, bytes: &[u8]) {
+fn address(out: &mut Text<'_>, bytes: &[u8]) {
     if let Some(raw) = bytes.first_chunk::<12>() {
         out.show(&AddressSpace::try_from(raw[0]));
         out.show(&AccessSize::try_from(raw[3]));
@@ -22,27 +38,16 @@ pub(super) fn address(out: &mut Text<'_>, bytes: &[u8]) {
 }
 
 /// A wakeup command of a number, and its own number.
-pub(super) fn command(out: &mut Text<'_>, bytes: &[u8]) {
-    if let Some(number) = bytes.first_chunk::<2>() {
-        match MpProtectedModeWakeupCommand::try_from(u16::from_le_bytes(*number)) {
-            Ok(command) => out.show(&(command, command as u16)),
-            Err(refusal) => out.show(&refusal),
-        }
+fn command(out: &mut Text<'_>, number: u16) {
+    match MpProtectedModeWakeupCommand::try_from(number) {
+        Ok(command) => out.show(&(command, command as u16)),
+        Err(refusal) => out.show(&refusal),
     }
-}
-
-/// Whether the bytes are a valid table of a signature.
-pub(super) fn header(out: &mut Text<'_>, bytes: &[u8], name: &str) {
-    if bytes.len() < SdtHeader::MIN_LENGTH {
-        return out.print(&"short");
-    }
-    out.show(&SdtHeader::read(bytes).validate(signature_of(name), bytes));
 }
 
 /// The sum of the first bytes (`sum`), or those of the first 0 to 131 of the bytes after an offset (`sums`).
-pub(super) fn sums(out: &mut Text<'_>, bytes: &[u8], call: &str, number: &str) {
-    let number = number_of(number) as usize;
-    if is(call, "sum") {
+fn sums(out: &mut Text<'_>, bytes: &[u8], call: &str, number: usize) {
+    if call == "sum" {
         out.show(&byte_sum(front(bytes, number)));
         return;
     }
@@ -52,7 +57,7 @@ pub(super) fn sums(out: &mut Text<'_>, bytes: &[u8], call: &str, number: &str) {
     }
 }
 
-pub(super) fn graphic(out: &mut Text<'_>, bytes: &[u8]) {
+fn graphic(out: &mut Text<'_>, bytes: &[u8]) {
     if bytes.len() < 56 {
         return out.print(&"short");
     }
@@ -64,7 +69,7 @@ pub(super) fn graphic(out: &mut Text<'_>, bytes: &[u8]) {
 }
 
 /// How many regions there are, each region, and how many are left before the first, after it and after the second.
-pub(super) fn regions(out: &mut Text<'_>, bytes: &[u8]) {
+fn regions(out: &mut Text<'_>, bytes: &[u8]) {
     let mut regions = McfgEntryIter::over(bytes);
     let before = regions.len();
     let first = (regions.next(), regions.len());
@@ -77,7 +82,7 @@ pub(super) fn regions(out: &mut Text<'_>, bytes: &[u8]) {
 }
 
 /// Revision and length, both checksums, and the addresses of both root tables.
-pub(super) fn rsdp(out: &mut Text<'_>, bytes: &[u8]) {
+fn rsdp(out: &mut Text<'_>, bytes: &[u8]) {
     if bytes.len() < 36 {
         return out.print(&"short");
     }

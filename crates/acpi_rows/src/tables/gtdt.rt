@@ -1,6 +1,5 @@
 //! The timers that a GTDT describes: `record`, those of each processor, and `platform`, those of the machine.
 
-use crate::numbers::is;
 use crate::text::Text;
 use acpi::{AcpiTable, PhysicalRecord};
 use acpi_arm::gtdt::{Gtdt, PlatformTimer, PlatformTimerIter};
@@ -10,7 +9,7 @@ pub(super) fn answer(out: &mut Text<'_>, bytes: &[u8], call: &str) {
     if bytes.len() < 96 {
         return out.print(&"short");
     }
-    if is(call, "platform") {
+    if call == "platform" {
         return platform(out, PlatformTimerIter::over(bytes));
     }
     let table = Gtdt::read(bytes);

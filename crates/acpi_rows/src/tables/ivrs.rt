@@ -7,7 +7,7 @@
 //! - `best`: the fields of the blocks of the best type;
 //! - `unit SEGMENT ID`, `memory ID`, ids in hexadecimal.
 
-use crate::numbers::{first_word, hex_of, match_word, number_of};
+use crate::numbers::{first_word, hex_of, number_of};
 use crate::text::Text;
 use acpi_base::PhysicalRecord;
 use acpi_iommu::{DeviceEntry, Ivrs, IvrsBlock, IvrsBlocks};
@@ -16,8 +16,9 @@ use acpi_iommu::{DeviceEntry, Ivrs, IvrsBlock, IvrsBlocks};
 pub(super) fn answer(out: &mut Text<'_>, table: &[u8], call: &str, rest: &str) {
     let all = IvrsBlocks::over(table);
     let (segment, id) = first_word(rest);
-    match_word!(call, {
-        "record" => record(out, table),
+    match call {
+        "record" if table.len() < Ivrs::MIN_LENGTH => out.print(&"short"),
+        "record" => out.show(&Ivrs::read(table).info),
         "blocks" => blocks(out, &all),
         "best" => match all.blocks_of_best_type() {
             Err(refusal) => out.show(&refusal),
@@ -30,19 +31,12 @@ pub(super) fn answer(out: &mut Text<'_>, table: &[u8], call: &str, rest: &str) {
         "unit" => {
             let segment = (number_of(segment) % 0x10000) as u16;
             out.show(&all.block_for(segment, (hex_of(id) % 0x10000) as u16));
-        },
+        }
         _ => match all.memory_for((hex_of(rest) % 0x10000) as u16) {
             Err(refusal) => out.show(&refusal),
             Ok(ranges) => out.list(ranges),
         },
-    })
-}
-
-fn record(out: &mut Text<'_>, table: &[u8]) {
-    if table.len() < Ivrs::MIN_LENGTH {
-        return out.print(&"short");
     }
-    out.show(&Ivrs::read(table).info);
 }
 
 fn blocks(out: &mut Text<'_>, all: &IvrsBlocks<'_>) {

@@ -12,7 +12,7 @@
 
 use crate::heaps::{self, Gathers};
 use crate::models::{print_gic, print_model};
-use crate::numbers::{first_word, id_of, is, match_word, number_of};
+use crate::numbers::{first_word, id_of, number_of};
 use crate::text::Text;
 use acpi::handler::MappedRegion;
 use acpi::platform::interrupt::{Apic, InterruptModel};
@@ -24,7 +24,7 @@ use std::alloc::{Allocator, Global};
 
 /// Prints what a MADT says.
 pub(super) fn answer(out: &mut Text<'_>, bytes: &[u8], call: &str, rest: &str) {
-    match_word!(call, {
+    match call {
         "entries" => entries(out, bytes),
         "steps" => steps(out, MadtEntryIter::over(bytes)),
         "trace_interrupt" => trace_interrupt(out, bytes, number_of(rest)),
@@ -39,7 +39,7 @@ pub(super) fn answer(out: &mut Text<'_>, bytes: &[u8], call: &str, rest: &str) {
                 },
                 number_of(size) as usize,
             );
-        },
+        }
         "heaps" => heaps::over_all(
             out,
             &InBytes {
@@ -51,8 +51,8 @@ pub(super) fn answer(out: &mut Text<'_>, bytes: &[u8], call: &str, rest: &str) {
         _ => {
             let alloc = out.alloc;
             InBytes { bytes, call, rest }.gather(out, alloc, None);
-        },
-    })
+        }
+    }
 }
 
 fn entries(out: &mut Text<'_>, bytes: &[u8]) {
@@ -110,14 +110,14 @@ impl Gathers for InBytes<'_> {
         _heap: Option<&LocalHeap>,
     ) {
         let bytes = self.bytes;
-        if is(self.call, "gic") {
+        if self.call == "gic" {
             print_gic(out, GicModel::of(bytes, allocator));
         } else if let (true, Ok(region)) = (
             bytes.len() >= Madt::MIN_LENGTH,
             MappedRegion::new(0, bytes),
         ) {
             let madt = PhysicalMapping::<_, Madt>::new(0, bytes, bytes.len(), &region);
-            if is(self.call, "record") {
+            if self.call == "record" {
                 out.show(&(madt.entries().count(), madt.get_mpwk_mailbox_addr()));
                 out.show(&madt.supports_8259());
                 out.show(madt.get());
@@ -137,7 +137,7 @@ fn of_model<A: Allocator + Copy>(
 ) {
     match madt.parse_interrupt_model_in(allocator) {
         Err(refusal) => out.show(&refusal),
-        Ok((model, processors)) if is(call, "model") => print_model(out, &model, &processors),
+        Ok((model, processors)) if call == "model" => print_model(out, &model, &processors),
         Ok((model, _processors)) => match &model {
             InterruptModel::Apic(apic) => of_apics(out, apic, call, id_of(rest)),
             InterruptModel::Unknown => out.print(&"unknown model"),
@@ -147,7 +147,7 @@ fn of_model<A: Allocator + Copy>(
 
 /// Prints where an interrupt comes to.
 fn of_apics<A: Allocator>(out: &mut Text<'_>, apic: &Apic<A>, call: &str, number: u32) {
-    match_word!(call, {
+    match call {
         "lines" => out.list(apic.local_nmi_lines_for(number)),
         "isa" => out.show(&apic.isa_interrupt((number % 0x100) as u8)),
         "sci" => out.show(&apic.sci_interrupt((number % 0x10000) as u16)),
@@ -155,5 +155,5 @@ fn of_apics<A: Allocator>(out: &mut Text<'_>, apic: &Apic<A>, call: &str, number
             Some(it) => out.show(&(it.io_apic.id, it.pin)),
             None => out.print(&"no APIC"),
         },
-    })
+    }
 }

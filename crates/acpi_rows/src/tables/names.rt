@@ -1,6 +1,5 @@
 //! Signatures and refusals, and their texts.
 
-use crate::numbers::match_word;
 use crate::rows::signature_of;
 use crate::text::Text;
 use acpi::sdt::Signature;
@@ -57,19 +56,19 @@ pub(super) fn answer(out: &mut Text<'_>, bytes: &[u8], call: &str, rest: &str) {
         return;
     };
     let signature = Signature::from_bytes(*letters);
-    match_word!(call, {
+    match call {
         "against" => {
             let other = signature_of(rest);
             out.show(&(signature.cmp(&other), signature == other));
-        },
+        }
         "constants" => print_constants(out),
         "others" => print_others(out),
         "refusals" => print_refusals(out, signature),
         _ => {
             out.print(&signature);
             out.show(&(signature, signature.as_str(), signature.to_bytes()));
-        },
-    })
+        }
+    }
 }
 
 fn print_constants(out: &mut Text<'_>) {

@@ -7,7 +7,6 @@
 //!   bits stand for.
 ghost use Rattle.std.specs.Prelude.{◌≤◌, length};
 
-use crate::numbers::{is, match_word};
 use crate::text::Text;
 use acpi::handler::MappedRegion;
 use acpi::spcr::{Spcr, SpcrFlowControl, SpcrInterruptType, SpcrTerminalType};
@@ -18,24 +17,21 @@ use bitflags::parser::to_writer;
 
 /// Prints what the table of a serial console says.
 pub(super) fn answer(out: &mut Text<'_>, bytes: &[u8], call: &str, rest: &str) {
-    match_word!(call, {
+    match call {
         "interrupt_type" => out.show(&bits_of::<SpcrInterruptType>(rest)),
         "terminal_type" => out.show(&bits_of::<SpcrTerminalType>(rest)),
         "flow_control" => out.show(&bits_of::<SpcrFlowControl>(rest)),
-        _ => {
-            if bytes.len() < 80 {
-                return out.print(&"short");
-            }
+        _ if bytes.len() < 80 => out.print(&"short"),
+        "record" => {
             let table = Spcr::read(bytes);
-            if is(call, "record") {
-                out.show(&table.validate(bytes));
-                out.show(&table);
-            } else {
-                console(out, &table);
-                name(out, bytes);
-            }
-        },
-    })
+            out.show(&table.validate(bytes));
+            out.show(&table);
+        }
+        _ => {
+            console(out, &Spcr::read(bytes));
+            name(out, bytes);
+        }
+    }
 }
 
 /// The bits of the set that a word stands for.

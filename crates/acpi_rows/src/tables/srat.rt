@@ -6,19 +6,19 @@
 //! - `ranges`: those of memory, `domain ADDRESS`, the domain of an address.
 
 use crate::models::print_ranges;
-use crate::numbers::{id_of, match_word};
+use crate::numbers::id_of;
 use crate::text::Text;
 use acpi_numa::{Domains, MemoryAffinities, SratEntry};
 
 /// Prints what a SRAT says.
 pub(super) fn answer(out: &mut Text<'_>, table: &[u8], call: &str, rest: &str) {
     let (alloc, domains) = (out.alloc, Domains::over(table));
-    match_word!(call, {
+    match call {
         "apic" => out.show(&domains.domain_of_apic(id_of(rest))),
         "processor" => out.show(&domains.domain_of_processor(id_of(rest))),
         "entries" => entries(out, &domains),
         _ => print_ranges(out, MemoryAffinities::over(table, alloc), rest),
-    })
+    }
 }
 
 fn entries(out: &mut Text<'_>, domains: &Domains<'_>) {
