@@ -321,9 +321,9 @@ ZACPI_STATUS zacpi_find_nth_table(const struct zacpi_source *source, struct zacp
 /* Lists the entries of the table at address `table`, listed or not, from its byte `first` on. Each
  * begins with Type and Length, of `bytes_each` bytes each: 1 in a MADT (from byte 44) and an SRAT
  * (48), 2 in an NFIT (40) and a DMAR (48), 4 in an LPIT (36). Length is at least that of these two
- * and at most the bytes left; `malformed` is 1 if bytes are left in which no entry begins. Fails with
- * ZACPI_REGIONS_NOT_ASCENDING, ZACPI_REGION_TOO_HIGH, ZACPI_UNKNOWN_WIDTH, an error of a table,
- * with its own signature, or ZACPI_SDT_INVALID_LENGTH if its Length is below `first`. */
+ * and at most the bytes left; `malformed` is 1 if bytes are left in which no entry begins. Fails
+ * with ZACPI_REGIONS_NOT_ASCENDING, ZACPI_REGION_TOO_HIGH, ZACPI_UNKNOWN_WIDTH, an error of a
+ * table, with its own signature, or ZACPI_SDT_INVALID_LENGTH if its Length is below `first`. */
 ZACPI_STATUS zacpi_list_entries(const struct zacpi_region *regions, size_t regions_length,
                                 uint64_t table, uint32_t first, uint32_t bytes_each,
                                 struct zacpi_entry *out, size_t capacity, size_t *count,
@@ -514,8 +514,8 @@ enum zacpi_console_type {
 };
 
 /* Returns the fixed hardware of the FADT. The registers of pm1a and reset are present at address 0
- * too, and those of sleep if the table is of revision 2 or above and has all their bytes: 0 stands
- * for none. Fails with an opening error, or ZACPI_TABLE_MISSING "FACP". */
+ * too, and those of sleep if the table is of revision 2 or above and has all their bytes: 0 means
+ * none. Fails with an opening error, or ZACPI_TABLE_MISSING "FACP". */
 ZACPI_STATUS zacpi_get_fixed_hardware(const struct zacpi_source *source,
                                       struct zacpi_fixed_hardware *out,
                                       struct zacpi_signature *signature);
@@ -977,7 +977,7 @@ struct zacpi_dmar_reserved { /* Reserved Memory Region Reporting (RMRR), section
     uint16_t segment;
 };
 
-/* Returns what the DMAR says of all units (section 8.1). Fails with an opening error, or
+/* Returns what the DMAR has for all units (section 8.1). Fails with an opening error, or
  * ZACPI_TABLE_MISSING "DMAR". */
 ZACPI_STATUS zacpi_get_dmar_flags(const struct zacpi_source *source, struct zacpi_dmar_flags *out,
                                   struct zacpi_signature *signature);
