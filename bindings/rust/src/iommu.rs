@@ -18,11 +18,11 @@
 //! # Ok::<(), zacpi::AcpiError>(())
 //! ```
 
+use crate::acpi_tables::{read::Read, AcpiTables, Table};
 use crate::error::{AcpiError, AcpiResult};
 use crate::list::{List, Slot};
 use crate::raw::{self, records, records_of};
 use crate::sdt::Signature;
-use crate::acpi_tables::{read::Read, AcpiTables, Table};
 
 pub use records::{DmarFlags, DmarReserved, Hop, IvrsMemory};
 

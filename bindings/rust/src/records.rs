@@ -61,6 +61,7 @@ records! {
         table_address: u64,
     }
     /// The Firmware ACPI Control Structure (FACS, section 5.2.10).
+    #[non_exhaustive]
     Facs {
         /// Its physical address.
         address: u64,
@@ -102,6 +103,7 @@ records! {
         function: u8,
     }
     /// What a DMAR says of all units (Intel Virtualization Technology for Directed I/O 4.0, section 8.1).
+    #[non_exhaustive]
     DmarFlags {
         /// How many bits an address has that a device can reach: Host Address Width and 1.
         address_bits: u16,

@@ -1,7 +1,7 @@
 //! The units that remap what devices ask of memory.
 mod common;
 use common::{Memory, ROOT};
-use zacpi::iommu::{Dmar, DmarFlags, Hop, Ivrs};
+use zacpi::iommu::{Dmar, Hop, Ivrs};
 use zacpi::{AcpiError, Signature, Slot};
 
 const TABLE: u64 = ROOT + 0x1000;
@@ -30,7 +30,8 @@ fn reads_a_dmar() {
     memory.ask(|tables| {
         let dmar = tables.find_table::<Dmar>().unwrap();
         assert_eq!((dmar.table.address, dmar.table.length), (TABLE, 166));
-        assert_eq!(dmar.flags(), Ok(DmarFlags { address_bits: 39, flags: 3 }));
+        let flags = dmar.flags().unwrap();
+        assert_eq!((flags.address_bits, flags.flags), (39, 3));
         let first = dmar.unit_for(0, 0, &[hop(2, 0)]).unwrap().unwrap();
         assert_eq!((first.register_base, first.register_bytes), (0x1_fed9_0000, 4096));
         assert_eq!((first.segment, first.includes_pci_all), (0, false));
