@@ -1,4 +1,4 @@
-//! The HPET: the first valid table's block of event timers. Its layout is that of the IA-PC HPET Specification.
+//! The HPETs: blocks of event timers, one in each table. Their layout is that of the IA-PC HPET Specification.
 //!
 //! ```
 //! use zacpi::HpetInfo;
@@ -19,6 +19,7 @@
 
 use crate::acpi_tables::{read::Read, AcpiTables};
 use crate::error::AcpiResult;
+use crate::list::{items, Listing};
 use crate::raw::{self, records};
 
 /// Page Protection: what may be accessed beside the block's registers.
@@ -97,6 +98,16 @@ impl From<records::HpetInfo> for HpetInfo {
                 _ => PageProtection::Other,
             },
         }
+    }
+}
+
+items! { HpetInfo = HpetInfo }
+
+impl<'k> AcpiTables<'k> {
+    /// The blocks of all valid HPETs, in the order of the root table, but for those whose registers don't lie in
+    /// memory. [`HpetInfo::hpet_number`] tells one from another.
+    pub fn hpets(&self) -> Listing<'k, HpetInfo> {
+        self.list(raw::zacpi_1_list_hpets)
     }
 }
 

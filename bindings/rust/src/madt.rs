@@ -27,6 +27,7 @@ use crate::acpi_tables::{read::Read, AcpiTables, Table};
 use crate::entries::{Entries, Entry, EntryWidth};
 pub use crate::error::MadtError;
 use crate::error::{AcpiError, AcpiResult};
+use crate::raw;
 use crate::sdt::Signature;
 
 /// The least length of a MADT: its entries begin there.
@@ -65,6 +66,20 @@ impl<'k> Read<'k> for Madt<'k> {
         // Local Interrupt Controller Address is at 36 and Flags are at 40.
         let (local_apic_address, flags) = (u32::at(bytes, 36), u32::at(bytes, 40));
         Ok(Madt { table, local_apic_address, flags, tables: *tables })
+    }
+}
+
+impl AcpiTables<'_> {
+    /// MailBoxAddress of the first Multiprocessor Wakeup entry of the first valid MADT: the physical address of the
+    /// mailbox by which processors are woken (section 5.2.12.19). `None` if the MADT has no such entry.
+    ///
+    /// Fails with `TableMissing` for the MADT and, if it has no such entry but bytes are left in which no entry begins,
+    /// with `InvalidMadt`, whose error is `InvalidEntryLength`.
+    pub fn mailbox_address(&self) -> AcpiResult<Option<u64>> {
+        match raw::zacpi_1_mailbox_address(&self.source()) {
+            Err(AcpiError::InvalidMadt(MadtError::UnexpectedEntry)) => Ok(None),
+            other => other.map(Some),
+        }
     }
 }
 

@@ -144,6 +144,7 @@ ones! {
     zacpi_1_get_console() -> Console;
     zacpi_1_get_interrupt_model() -> InterruptModel;
     zacpi_1_pci_ecam_address(segment_group: u16, bus: u8, device: u8, function: u8) -> u64;
+    zacpi_1_mailbox_address() -> u64;
     zacpi_1_isa_interrupt(irq: u8) -> Interrupt;
     zacpi_1_sci_interrupt() -> Interrupt;
     zacpi_1_get_io_apic_pin(global_system_interrupt: u32) -> IoApicPin;
@@ -167,6 +168,7 @@ lists! {
     zacpi_1_list_ssdts() -> AmlTable;
     zacpi_1_list_ranges() -> Range;
     zacpi_1_list_missing_ranges() -> Range;
+    zacpi_1_list_hpets() -> HpetInfo;
     zacpi_1_list_pci_regions() -> PciRegion;
     zacpi_1_list_ecam_ranges() -> EcamRange;
     zacpi_1_list_io_apics() -> IoApic;

@@ -45,6 +45,31 @@ fn reads_an_hpet() {
     });
 }
 
+/// Three blocks, of which the second has its registers in ports.
+#[test]
+fn lists_blocks_of_timers() {
+    let mut memory = Memory::rsdt(&[TABLE, TABLE + 0x100, TABLE + 0x200]);
+    for (n, space) in [(0, 0), (1, 1), (2, 0)] {
+        let mut fields = vec![(36, 4, 0x8086_a201), (52, 1, 2 * n), (53, 2, 0x80 + n), (55, 1, n)];
+        fields.extend(generic(40, space, 64, 0, 0, 0xfed0_0000 + (n << 12)));
+        memory.table(TABLE + (n << 8), "HPET", 1, 56, &fields);
+    }
+    memory.ask(|tables| {
+        let mut room = [Slot::default(); 4];
+        let hpets = tables.hpets().fill(&mut room).unwrap();
+        assert_eq!(hpets.count(), 2);
+        assert_eq!(hpets.get(0), HpetInfo::new(&tables).ok());
+        let last = hpets.get(1).unwrap();
+        assert_eq!((last.event_timer_block_id, last.base_address), (0x8086_a201, 0xfed0_2000));
+        assert_eq!((last.hpet_number, last.clock_tick_unit), (4, 0x82));
+        assert_eq!(last.page_protection, PageProtection::Protected64K);
+        let mut little = [Slot::default(); 1];
+        let hpets = tables.hpets().fill(&mut little).unwrap();
+        assert_eq!((hpets.count(), hpets.is_whole(), hpets.get(0)), (2, false, HpetInfo::new(&tables).ok()));
+    });
+    Memory::rsdt(&[]).ask(|tables| assert_eq!(tables.hpets().count(), Ok(0)));
+}
+
 #[test]
 fn reads_a_boot_graphic() {
     // Status at 38: displayed, 180 degrees; Image Type at 39, Image Address at 40, Offset X at 48, Offset Y at 52.

@@ -349,7 +349,7 @@ fn errors_have_names() {
     table.ids = IDS;
     (table.local_apic_address, table.wakeup_mailbox) = (1 << 32, Some(0x1000));
     assert_eq!(table.size(), 44 + 8 + 12 + 16);
-    read_back(table.size(), |at| table.write(at), |tables| assert!(tables.find(Signature::MADT).is_ok()));
+    read_back(table.size(), |at| table.write(at), |tables| assert_eq!(tables.mailbox_address(), Ok(Some(0x1000))));
     let rsdp = write::Rsdp { ids: IDS, xsdt: 0 };
     assert_eq!(fails(|at| rsdp.write(at), 36), WriteError::NoAddress);
     let error: &dyn core::error::Error = &WriteError::TooManyFrames;
