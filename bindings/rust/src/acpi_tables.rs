@@ -6,6 +6,7 @@ use crate::list::{items, sealed::Sealed, Item, Listing};
 use crate::memory::{Region, Start};
 use crate::raw;
 use crate::raw::records::{self, AmlTable, Facs, Range, Signature, Source};
+use crate::write::TableIds;
 
 /// The root table (sections 5.2.7 and 5.2.8).
 #[derive(Clone, Copy, Debug, PartialEq, Eq)]
@@ -19,11 +20,20 @@ pub struct Root {
     pub revision: u8,
     /// Whether it is an XSDT, whose pointers have eight bytes.
     pub is_xsdt: bool,
+    /// The memory of the RSDP (section 5.2.5.3), unless the tables were opened at a root table.
+    pub rsdp: Option<Range>,
 }
 
 impl From<records::Root> for Root {
     fn from(raw: records::Root) -> Self {
-        Root { address: raw.address, length: raw.length, revision: raw.revision, is_xsdt: raw.pointer_width == 8 }
+        let rsdp = Range { address: raw.rsdp_address, length: raw.rsdp_length.into() };
+        Root {
+            address: raw.address,
+            length: raw.length,
+            revision: raw.revision,
+            is_xsdt: raw.pointer_width == 8,
+            rsdp: (rsdp.length != 0).then_some(rsdp),
+        }
     }
 }
 
@@ -38,12 +48,21 @@ pub struct Table {
     pub signature: Signature,
     /// Revision: of the table's layout.
     pub revision: u8,
+    /// Who made it.
+    pub ids: TableIds,
 }
 
 impl From<records::Table> for Table {
     fn from(raw: records::Table) -> Self {
         let signature = Signature { letters: raw.signature };
-        Table { address: raw.address, length: raw.length, signature, revision: raw.revision }
+        let ids = TableIds {
+            oem_id: raw.oem_id,
+            oem_table_id: raw.oem_table_id,
+            oem_revision: raw.oem_revision,
+            creator_id: raw.creator_id,
+            creator_revision: raw.creator_revision,
+        };
+        Table { address: raw.address, length: raw.length, signature, revision: raw.revision, ids }
     }
 }
 
@@ -216,17 +235,20 @@ impl<'k> AcpiTables<'k> {
         self.list(raw::zacpi_1_list_ssdts)
     }
 
-    /// The FACS that the first valid FADT names (section 5.2.10). Refuses with `TableMissing` for the FADT, and for the
+    /// The FACS that the first valid FADT names (section 5.2.10). Fails with `TableMissing` for the FADT, and for the
     /// FACS if no field gives its address, with `MapFailed`, and for the FACS with `SdtInvalidSignature` and
     /// `SdtInvalidLength`.
     pub fn facs(&self) -> AcpiResult<Facs> {
         raw::zacpi_1_get_facs(&self.source())
     }
 
-    /// The memory that the tables take, and that isn't to be given away: the root table, the listed tables, the DSDT
-    /// and the FACS. The ranges may overlap (sections 5.2.6 to 5.2.11).
+    /// The memory that the tables take, and that isn't to be given away: the RSDP, unless the tables were opened at a
+    /// root table, the root table, the listed tables, the DSDT and the FACS. The ranges may overlap (sections 5.2.5 to
+    /// 5.2.11).
     pub fn ranges(&self) -> Listing<'k, Range> {
-        self.list(raw::zacpi_1_list_ranges)
+        let by_rsdp = self.root.rsdp.map(|rsdp| Start::Rsdp(rsdp.address).source(self.regions));
+        let source = by_rsdp.unwrap_or_else(|| self.source());
+        Listing::new(source, Signature::default(), raw::zacpi_1_list_ranges)
     }
 
     /// The bytes of a table, with its header, if they lie in one region: those of a table from these tables do.
@@ -246,7 +268,8 @@ impl<'k> AcpiTables<'k> {
         self.regions.get(place.region)?.slice(place.offset, usize::try_from(length).ok()?)
     }
 
-    /// The entries of a table of any type, from an offset in it on, whose Type and Length have one or two bytes each.
+    /// The entries of a table of any type, from an offset in it on, whose Type and Length have one, two or four bytes
+    /// each.
     ///
     /// Fails, if the table isn't one of these tables, with the error of its address (`MapFailed`, `SdtInvalidOemId`,
     /// `SdtInvalidTableId`, `SdtInvalidLength`, `SdtInvalidChecksum`), and with `SdtInvalidLength` if it ends before

@@ -70,7 +70,7 @@ pub enum AcpiError {
     NoDomain,
     /// The SLIT has no distance of these two localities (section 5.2.17).
     NoDistance,
-    /// Type and Length of an entry have one byte or two each, and no other number.
+    /// Type and Length of an entry have one, two or four bytes each, and no other number.
     UnknownWidth,
     /// Bytes of the DMAR or the IVRS are left in which no structure, block, scope or entry begins.
     InvalidStructureLength,

@@ -236,6 +236,12 @@ pub struct Fadt {
     pub century: u8,
     /// RESET_VALUE: what to write to [`Fadt::reset_register`].
     pub reset_value: u8,
+    /// Revision: the first number of the version, 6 in 6.4.
+    pub revision: u8,
+    /// FADT Minor Version: in bits 0 to 3 the second number of the version, 4 in 6.4.
+    pub minor_revision: u8,
+    /// Hypervisor Vendor Identity: eight letters, the first in the lowest byte. 0: none, or a revision below 6.
+    pub hypervisor_id: u64,
     /// IAPC_BOOT_ARCH.
     pub iapc_boot_arch: IaPcBootArchFlags,
     /// ARM_BOOT_ARCH.
@@ -365,6 +371,9 @@ impl From<records::FixedHardware> for Fadt {
             month_alarm: raw.month_alarm,
             century: raw.century,
             reset_value: raw.reset_value,
+            revision: raw.revision,
+            minor_revision: raw.minor_revision,
+            hypervisor_id: raw.hypervisor_id,
             iapc_boot_arch: raw.x86_boot_flags.into(),
             arm_boot_arch: raw.arm_boot_flags.into(),
             flags: raw.flags.into(),

@@ -72,7 +72,7 @@ impl<M: PhysicalMapper, const ROOM: usize> MappedTables<M, ROOM> {
     /// A range that the mapper returns a pointer for is mapped there, can be read until it is passed to `unmap`, and is
     /// written by nobody while the tables are read (see [`Region::from_raw`]).
     pub unsafe fn open(mapper: M, start: Start) -> AcpiResult<Self> {
-        let root = Root { address: 0, length: 0, revision: 0, is_xsdt: false };
+        let root = Root { address: 0, length: 0, revision: 0, is_xsdt: false, rsdp: None };
         let mut tables = MappedTables { mapper, regions: Room::new(), count: 0, root };
         tables.map_missing(start)?;
         tables.root = AcpiTables::open(tables.regions(), start)?.root();

@@ -88,6 +88,7 @@ fn reads_the_fields_of_the_first_revision() {
         assert_eq!(f.gpe0_block_bytes(), Ok(Some(events(0x620, 8))));
         assert_eq!(f.gpe1_block_bytes(), Ok(Some(events(0x630, 6))));
         assert_eq!((f.sleep_control_register(), f.sleep_status_register()), (Ok(None), Ok(None)));
+        assert_eq!((f.revision, f.minor_revision, f.hypervisor_id), (1, 0, 0));
     });
 }
 
@@ -97,10 +98,12 @@ fn reads_the_fields_of_later_revisions() {
     let mut fields = vec![
         (128, 1, 6),                  // RESET_VALUE
         (129, 2, 3),                  // ARM_BOOT_ARCH
+        (131, 1, 0x14),               // FADT Minor Version
         (132, 8, 0x1_0000_1000),      // X_FIRMWARE_CTRL
         (140, 8, 0x1_0000_2000),      // X_DSDT
         (45, 1, 9),                   // Preferred_PM_Profile, reserved
         (91, 1, 4),                   // PM_TMR_LEN
+        (268, 8, 0x4d56_4b4d_564b),   // Hypervisor Vendor Identity
     ];
     fields.extend(generic(116, 1, 8, 0, 1, 0xcf9)); // RESET_REG
     fields.extend(generic(148, 0, 32, 0, 3, 0x1_0000_3000)); // X_PM1a_EVT_BLK
@@ -121,6 +124,7 @@ fn reads_the_fields_of_later_revisions() {
         assert_eq!((f.facs_address(), f.dsdt_address()), (Ok(0x1_0000_1000), Ok(0x1_0000_2000)));
         assert_eq!(f.power_profile(), PowerProfile::Reserved(9));
         assert_eq!((f.reset_value, f.arm_boot_arch.bits()), (6, 3));
+        assert_eq!((f.revision, f.minor_revision, f.hypervisor_id), (6, 0x14, 0x4d56_4b4d_564b));
         assert_eq!(f.reset_register(), Ok(at(AddressSpace::SystemIo, 8, 0, AccessSize::ByteAccess, 0xcf9)));
         let event = at(AddressSpace::SystemMemory, 32, 0, AccessSize::DWordAccess, 0x1_0000_3000);
         assert_eq!(f.pm1a_event_block(), Ok(event));
@@ -137,6 +141,13 @@ fn reads_the_fields_of_later_revisions() {
         let none = at(AddressSpace::SystemIo, 8, 0, AccessSize::Undefined, 0);
         assert_eq!(f.sleep_status_register(), Ok(Some(none)));
     });
+}
+
+/// Hypervisor Vendor Identity counts from revision 6 on.
+#[test]
+fn reads_no_hypervisor_of_an_older_revision() {
+    let fields = [(131, 1, 1), (268, 8, 0x4d56_4b4d_564b)];
+    fadt(5, 276, &fields, |f| assert_eq!((f.revision, f.minor_revision, f.hypervisor_id), (5, 1, 0)));
 }
 
 #[test]

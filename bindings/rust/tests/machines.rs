@@ -113,6 +113,8 @@ fn read_back(count: u32) {
     let mut expected = [0; 64];
     assert_eq!((facs.write(&mut expected), facs.size(), facs_at % 64), (Ok(64), 64, 0));
     assert_eq!(read.bytes_at(facs_at, 64), Some(&expected[..]));
+    let found = read.facs().unwrap();
+    assert_eq!((found.address, found.version, found.hardware_signature), (facs_at, 2, facs.hardware_signature));
     // What was read is written again, from the slots as they were filled.
     let mut room = vec![Slot::default(); processors.len()];
     let _ = read.processors().fill(&mut room).unwrap();

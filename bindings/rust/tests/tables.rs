@@ -2,6 +2,7 @@
 mod common;
 use common::{Memory, ROOT};
 use zacpi::entries::EntryWidth;
+use zacpi::write::TableIds;
 use zacpi::{AcpiError, AcpiTables, AmlTable, Fault, Range, Region, Root, Signature, Slot, Start, Table};
 
 const FADT: u64 = ROOT + 0x1000;
@@ -32,8 +33,17 @@ fn machine() -> Memory {
     memory
 }
 
+/// Who made the tables of [`Memory`].
+const IDS: TableIds = TableIds {
+    oem_id: *b"OEMID ",
+    oem_table_id: *b"HANDMADE",
+    oem_revision: 0,
+    creator_id: [0; 4],
+    creator_revision: 0,
+};
+
 fn table(address: u64, signature: &str, length: u32, revision: u8) -> Table {
-    Table { address, length, signature: Signature::new(signature), revision }
+    Table { address, length, signature: Signature::new(signature), revision, ids: IDS }
 }
 
 #[test]
@@ -41,7 +51,7 @@ fn opens_a_root_table() {
     let mut memory = machine();
     let length = 36 + 5 * 4;
     memory.ask(|tables| {
-        assert_eq!(tables.root(), Root { address: ROOT, length, revision: 0, is_xsdt: false });
+        assert_eq!(tables.root(), Root { address: ROOT, length, revision: 0, is_xsdt: false, rsdp: None });
         assert_eq!(tables.revision(), 0);
         assert_eq!(tables.regions()[0].address(), ROOT);
     });
@@ -56,17 +66,24 @@ fn opens_a_root_table() {
     memory.table(xsdt, "XSDT", 1, 52, &[(36, 8, SSDT), (44, 8, DSDT)]);
     let regions = memory.regions();
     let old = AcpiTables::open(&regions, Start::Rsdp(rsdp)).unwrap();
-    assert_eq!(old.root(), Root { address: ROOT, length, revision: 0, is_xsdt: false });
+    let old_rsdp = Some(Range { address: rsdp, length: 20 });
+    assert_eq!(old.root(), Root { address: ROOT, length, revision: 0, is_xsdt: false, rsdp: old_rsdp });
     let new = AcpiTables::open(&regions, Start::Rsdp(rsdp_2)).unwrap();
-    assert_eq!(new.root(), Root { address: xsdt, length: 52, revision: 2, is_xsdt: true });
+    let new_rsdp = Some(Range { address: rsdp_2, length: 36 });
+    assert_eq!(new.root(), Root { address: xsdt, length: 52, revision: 2, is_xsdt: true, rsdp: new_rsdp });
     assert_eq!(new.headers().count(), Ok(2));
+    // The RSDP comes first, then the XSDT and what it lists.
+    let mut room = [Slot::default(); 4];
+    let ranges = new.ranges().fill(&mut room).unwrap();
+    assert_eq!((ranges.count(), ranges.get(0)), (4, new_rsdp));
+    let without_rsdp = Root { rsdp: None, ..new.root() };
     let by_xsdt = AcpiTables::open_root(&regions, 2, xsdt).unwrap();
-    assert_eq!(by_xsdt.root(), new.root());
+    assert_eq!((by_xsdt.root(), by_xsdt.ranges().count()), (without_rsdp, Ok(3)));
     for revision in [1, 5] {
         let tables = AcpiTables::open_root(&regions, revision, xsdt).unwrap();
         assert_eq!((tables.revision(), tables.root().address), (revision, xsdt));
     }
-    assert_eq!(AcpiTables::open(&regions, Start::Xsdt(xsdt)).unwrap().root(), new.root());
+    assert_eq!(AcpiTables::open(&regions, Start::Xsdt(xsdt)).unwrap().root(), without_rsdp);
     let refused = |start| AcpiTables::open(&regions, start).unwrap_err();
     assert_eq!(refused(Start::Rsdt(xsdt)), AcpiError::SdtInvalidSignature(Signature::RSDT));
     assert_eq!(refused(Start::Rsdp(ROOT)), AcpiError::RsdpIncorrectSignature);
@@ -90,14 +107,70 @@ fn searches() {
     memory.bytes.copy_within(..40, 0x10);
     let rest = &memory.bytes[0x10..];
     let regions = [Region::new(0x40e, &[0, 0]), Region::new(0xe0000, &area), Region::new(ROOT + 0x10, rest)];
-    let root = Root { address: ROOT + 0x10, length: 40, revision: 0, is_xsdt: false };
-    assert_eq!(AcpiTables::open(&regions, Start::BiosSearch).unwrap().root(), root);
+    let rsdp = Some(Range { address: 0xfffe0, length: 20 });
+    let root = Root { address: ROOT + 0x10, length: 40, revision: 0, is_xsdt: false, rsdp };
+    let tables = AcpiTables::open(&regions, Start::BiosSearch).unwrap();
+    assert_eq!((tables.root(), tables.ranges().count()), (root, Ok(3)));
     // The part of the area from 0xf0000 on is enough for the search of what is lent.
     let part = [Region::new(0xf0000, &area[0x10000..]), regions[2]];
     assert_eq!(AcpiTables::open(&part, Start::BiosSearch).unwrap_err(), AcpiError::MapFailed);
     let tables = AcpiTables::open(&part, Start::Search).unwrap();
-    assert_eq!(tables.root(), root);
+    assert_eq!((tables.root(), tables.ranges().count()), (root, Ok(3)));
     assert_eq!(tables.find(Signature::SSDT), Ok(table(SSDT, "SSDT", 36, 2)));
+}
+
+/// OEM Revision at 24, Creator ID at 28, Creator Revision at 32; the names are those of [`Memory::table`].
+#[test]
+fn says_who_made_a_table() {
+    let mut memory = Memory::rsdt(&[SSDT]);
+    let creator = u64::from(u32::from_le_bytes(*b"HAND"));
+    memory.table(SSDT, "OEM7", 3, 36, &[(24, 4, 0x1234_5678), (28, 4, creator), (32, 4, 0x2026_0001)]);
+    memory.ask(|tables| {
+        let ids = TableIds { oem_revision: 0x1234_5678, creator_id: *b"HAND", creator_revision: 0x2026_0001, ..IDS };
+        let expected = Table { ids, ..table(SSDT, "OEM7", 36, 3) };
+        assert_eq!(tables.find(Signature::new("OEM7")), Ok(expected));
+        assert_eq!(tables.find_all(Signature::new("OEM7")).next(), Some(expected));
+        let mut room = [Slot::default(); 1];
+        assert_eq!(tables.headers().fill(&mut room).unwrap().get(0), Some(expected));
+    });
+}
+
+/// Signature at 0, Length at 4, Hardware Signature at 8, Firmware_Waking_Vector at 12, Global Lock at 16, Flags at 20,
+/// X_Firmware_Waking_Vector at 24, Version at 32 (section 5.2.10). A FACS has no checksum.
+#[test]
+fn reads_a_facs() {
+    const FACS: u64 = ROOT + 0x7000;
+    let signature = u64::from(u32::from_le_bytes(*b"FACS"));
+    #[rustfmt::skip]
+    let fields = [
+        (0, 4, signature), (4, 4, 64), (8, 4, 0x1122_3344), (12, 4, 0x5566_7788), (16, 4, 1), (20, 4, 3),
+        (24, 8, 0x12_3456_7890), (32, 1, 2),
+    ];
+    let mut memory = Memory::rsdt(&[FADT]);
+    memory.table(FADT, "FACP", 1, 116, &[(36, 4, FACS)]);
+    memory.put(FACS, &fields);
+    memory.ask(|tables| {
+        let facs = tables.facs().unwrap();
+        assert_eq!((facs.address, facs.length, facs.version), (FACS, 64, 2));
+        assert_eq!((facs.hardware_signature, facs.flags), (0x1122_3344, 3));
+        assert_eq!((facs.waking_vector, facs.waking_vector_64), (0x5566_7788, 0x12_3456_7890));
+        let mut room = [Slot::default(); 4];
+        let ranges = tables.ranges().fill(&mut room).unwrap();
+        assert_eq!((ranges.count(), ranges.get(2)), (3, Some(Range { address: FACS, length: 64 })));
+    });
+    let facs = Signature::FACS;
+    for (field, refusal) in [
+        ((4, 4, 63), AcpiError::SdtInvalidLength(facs)),
+        ((4, 4, 0x9001), AcpiError::MapFailed), // one byte more than there is memory
+        ((0, 1, 0x66), AcpiError::SdtInvalidSignature(facs)),
+    ] {
+        memory.put(FACS, &fields);
+        memory.put(FACS, &[field]);
+        memory.ask(|tables| assert_eq!((tables.facs(), tables.ranges().count()), (Err(refusal), Ok(2))));
+    }
+    Memory::rsdt(&[]).ask(|tables| {
+        assert_eq!(tables.facs(), Err(AcpiError::TableMissing(Signature::FADT)));
+    });
 }
 
 #[test]
@@ -142,7 +215,7 @@ fn answers_where_bytes_are() {
         let dsdt = tables.dsdt().unwrap();
         assert_eq!(dsdt, AmlTable { address: DSDT + 36, length: 4, revision: 2, table_address: DSDT });
         assert_eq!(tables.aml(&dsdt), Some(&[1, 2, 3, 4][..]));
-        assert_eq!(tables.facs(), Err(AcpiError::TableMissing(Signature::new("FACS"))));
+        assert_eq!(tables.facs(), Err(AcpiError::TableMissing(Signature::FACS)));
         let mut room = [Slot::default(); 4];
         let ssdts = tables.ssdts().fill(&mut room).unwrap();
         let expected = [
@@ -196,6 +269,31 @@ fn walks_entries() {
         assert_eq!(refused, AcpiError::SdtInvalidLength(Signature::DMAR));
         let nowhere = Table { address: 0, ..dmar };
         assert_eq!(tables.entries(&nowhere, 48, EntryWidth::Two).unwrap_err(), AcpiError::MapFailed);
+    });
+}
+
+/// Type and Length of four bytes each, as in an LPIT: 12 bytes of type 0x10002, 8 of the greatest type, then 4 bytes
+/// that are none.
+#[test]
+fn walks_wide_entries() {
+    let mut memory = Memory::rsdt(&[SSDT]);
+    #[rustfmt::skip]
+    let fields = [
+        (36, 4, 0x0001_0002), (40, 4, 12), (44, 4, 0x0403_0201), (48, 4, 0xffff_ffff), (52, 4, 8), (56, 4, 1),
+    ];
+    memory.table(SSDT, "LPIT", 1, 60, &fields);
+    memory.ask(|tables| {
+        let lpit = tables.find(Signature::LPIT).unwrap();
+        let mut entries = tables.entries(&lpit, 36, EntryWidth::Four).unwrap();
+        assert_eq!((entries.count_left(), entries.is_malformed()), (2, true));
+        let first = entries.next().unwrap();
+        assert_eq!((first.address, first.entry_type, &first.bytes[8..]), (SSDT + 36, 0x1_0002, &[1, 2, 3, 4][..]));
+        let second = entries.next().unwrap();
+        assert_eq!((second.address, second.entry_type, second.bytes.len()), (SSDT + 48, u32::MAX, 8));
+        assert_eq!(entries.next(), None);
+        // A Length of 1 is too short.
+        let short = tables.entries(&lpit, 52, EntryWidth::Four).unwrap();
+        assert_eq!((short.is_malformed(), short.count()), (true, 0));
     });
 }
 

@@ -69,6 +69,7 @@ fn writes_a_header_and_bytes() {
             let mut bytes = tables.bytes(&found).unwrap().to_vec();
             bytes.remove(9); // Checksum, which reading has looked at
             assert_eq!(bytes, expected);
+            assert_eq!((found.revision, found.ids), (3, IDS));
         },
     );
 }
@@ -126,6 +127,7 @@ fn writes_fixed_hardware() {
     let table = write::Fadt { ids: IDS, hardware: Fadt::reduced(0x1000) };
     let read = read_back(table.size(), |at| table.write(at), |tables| tables.find_table::<Fadt>().unwrap());
     assert_eq!(read, table.hardware);
+    assert_eq!((read.revision, read.minor_revision, read.hypervisor_id), (6, 4, 0));
     let table = write::Fadt { ids: IDS, hardware: Fadt::new(1).with_pm1a_event_block(ports(0, 32)) };
     assert_eq!(fails(|at| table.write(at), 276), WriteError::BadRegister);
     let space = GenericAddress { address_space: AddressSpace::OemDefined(0x0b), ..ports(0x600, 32) };
