@@ -52,22 +52,37 @@ void print_missing(const struct zacpi_source *source) {
     LIST("missing", zacpi_range, zacpi_list_missing_ranges, ALL, "%llx %llx\n", (wide)it->address, (wide)it->length);
 }
 
+/* Bytes as one number, the first the highest. */
+static wide number_of(const uint8_t *bytes, size_t length) {
+    wide number = 0;
+    while (length--) number = number << 8 | *bytes++;
+    return number;
+}
+#define IDS "%llx %llx %x %llx %x"
+#define IDS_OF(it) \
+    number_of((it)->oem_id, 6), number_of((it)->oem_table_id, 8), (it)->oem_revision, number_of((it)->creator_id, 4), \
+        (it)->creator_revision
+
 static void print_tables(const struct zacpi_source *source) {
     static const char *const looked_up[] = {"SSDT", "SRAT", "GTDT", "DMAR", "OEM1"};
     size_t i, k;
-    ONE("root", struct zacpi_root, zacpi_open, IT, "%llx %u %u\n", (wide)it->address, it->length, it->pointer_width);
-    LIST("tables", zacpi_table, zacpi_list_tables, ALL, "%llx %u %u\n", (wide)it->address, it->length, it->revision);
+    ONE("root", struct zacpi_root, zacpi_open, IT, "%llx %u %u %llx %u\n", (wide)it->address, it->length,
+        it->pointer_width, (wide)it->rsdp_address, it->rsdp_length);
+    LIST("tables", zacpi_table, zacpi_list_tables, ALL, "%llx %u %u " IDS "\n", (wide)it->address, it->length,
+         it->revision, IDS_OF(it));
     LIST("ranges", zacpi_range, zacpi_list_ranges, ALL, "%llx %llx\n", (wide)it->address, (wide)it->length);
     for (i = 0; i < sizeof looked_up / sizeof *looked_up; i++) {
         const struct zacpi_signature wanted = zacpi_signature_of(looked_up[i]);
-        ONE("find", struct zacpi_table, zacpi_find_table, (source, wanted, &item, &named), "%llx %u %u\n",
-            (wide)it->address, it->length, it->revision);
+        ONE("find", struct zacpi_table, zacpi_find_table, (source, wanted, &item, &named), "%llx %u %u " IDS "\n",
+            (wide)it->address, it->length, it->revision, IDS_OF(it));
         for (k = 0; k < 3; k++)
             ONE("nth", struct zacpi_table, zacpi_find_nth_table, (source, wanted, k, &item, &named), "%llx\n",
                 (wide)it->address);
         LIST("faults", zacpi_fault, zacpi_list_faults, (source, wanted, items, MOST, &count, &named), "%llx %s\n",
              (wide)it->address, zacpi_status_name(it->status));
     }
+    ONE("aml", struct zacpi_aml_table, zacpi_dsdt, IT, "%u %llx\n", it->revision, (wide)it->table_address);
+    LIST("ssdts", zacpi_aml_table, zacpi_list_ssdts, ALL, "%u %llx\n", it->revision, (wide)it->table_address);
 }
 
 /* The entries of each table of a kind, from its byte `first` on, and the sum of their bytes. */
@@ -115,6 +130,7 @@ static void print_fixed_hardware(const struct zacpi_source *source) {
            f.pstate_control, f.c_state_control, f.gpe1_base, f.reset_value, f.century);
     printf("fixed %u %u %u %u %u %u %u %u\n", f.c2_latency, f.c3_latency, f.flush_size, f.flush_stride, f.duty_offset,
            f.duty_width, f.day_alarm, f.month_alarm);
+    printf("fixed %u %u %llx\n", f.revision, f.minor_revision, (wide)f.hypervisor_id);
     print_register("pm1a_event", &f.pm1a_event);
     print_register("pm1b_event", &f.pm1b_event);
     print_register("pm1a_control", &f.pm1a_control);
@@ -135,7 +151,11 @@ static void print_devices(const struct zacpi_source *source) {
     size_t count;
     struct zacpi_signature named = {{0}};
     struct zacpi_console console;
+    ONE("facs", struct zacpi_facs, zacpi_get_facs, IT, "%llx %llx %u %x %x %x %u\n", (wide)it->address,
+        (wide)it->waking_vector_64, it->length, it->hardware_signature, it->waking_vector, it->flags, it->version);
     ONE("timers", struct zacpi_hpet_info, zacpi_hpet, IT, "%x %u\n", it->event_timer_block_id, it->page_protection);
+    LIST("hpets", zacpi_hpet_info, zacpi_list_hpets, ALL, "%llx %x %u %u %u\n", (wide)it->base_address,
+         it->event_timer_block_id, it->clock_tick_unit, it->number, it->page_protection);
     ONE("image", struct zacpi_boot_graphic, zacpi_get_boot_graphic, IT, "%llx %u\n", (wide)it->address, it->image_type);
     if (!zacpi_get_console(source, &console, &named)) {
         print_register("console", &console.base);
@@ -168,6 +188,7 @@ static void print_interrupts(const struct zacpi_source *source) {
          it->lint, it->polarity, it->trigger);
     LIST("madt_faults", zacpi_madt_fault, zacpi_list_madt_faults, ALL, "%llx %u %s\n", (wide)it->address,
          it->entry_type, zacpi_status_name(it->status));
+    ONE("mailbox", uint64_t, zacpi_mailbox_address, IT, "%llx\n", (wide)*it);
     ONE("sci", struct zacpi_interrupt, zacpi_sci_interrupt, IT, "%u %u %u\n", it->global_system_interrupt, it->polarity,
         it->trigger);
     for (i = 0; i < 17; i++)
@@ -259,6 +280,7 @@ static void print_dmar(const struct zacpi_source *source) {
     struct zacpi_signature named = {{0}};
     const zacpi_status status = zacpi_list_dmar_reserved(source, 0, 0, NULL, 0, NULL, 0, &count, &named);
     if (status == ZACPI_TABLE_MISSING && is_missing("dmar", status, &named)) return;
+    ONE("dmar_flags", struct zacpi_dmar_flags, zacpi_get_dmar_flags, IT, "%u %u\n", it->address_bits, it->flags);
     for (i = 0; i < 6; i++) {
         const struct zacpi_hop *hops = paths[i / 2];
         ONE("unit", struct zacpi_dmar_unit, zacpi_get_dmar_unit, (source, 0, 0, hops, 1 + i % 2, &item, &named),
@@ -298,6 +320,7 @@ void print_answers(const struct zacpi_source *source) {
     print_entries(source, "APIC", 44, 1);
     print_entries(source, "SRAT", 48, 1);
     print_entries(source, "DMAR", 48, 2);
+    print_entries(source, "APIC", 0, 4); /* one: its Signature and its Length */
     print_fixed_hardware(source);
     print_devices(source);
     print_interrupts(source);
