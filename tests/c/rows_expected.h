@@ -174,11 +174,14 @@ static const struct row rows[] = {
          AT(SSDT_12) + 36, 12, 2, AT(SSDT_12)),
     NOTHING(list_ssdts, PC),
 
-    GOOD(get_facs, APPLIANCE, NULL, NO, 1, AT(FACS), 0x1234567890, 64, 0x11223344, 0x55667788, 3, 2),
+    GOOD(get_facs, APPLIANCE, NULL, NO, 1, AT(FACS), 0x123456789abcdef, 64, 0x11223344, 0x55667788, 0x8d7c6b03, 2),
+    /* X_FIRMWARE_CTRL counts, and not FIRMWARE_CTRL, where one of 63 bytes is. */
+    GOOD(get_facs, HALF_X, NULL, NO, 1, AT(FACS), 0x123456789abcdef, 64, 0x11223344, 0x55667788, 0x8d7c6b03, 2),
     REFUSED(get_facs, PERFORMANCE, NULL, NO, ZACPI_SDT_INVALID_LENGTH, "FACS"),
     REFUSED(get_facs, RESERVED, NULL, NO, ZACPI_SDT_INVALID_SIGNATURE, "FACS"), /* a DSDT */
     REFUSED(get_facs, SOHO, NULL, NO, ZACPI_MAP_FAILED, NULL), /* 40 of its 64 bytes are lent */
-    REFUSED(get_facs, WIDE, NULL, NO, ZACPI_MAP_FAILED, NULL), /* X_FIRMWARE_CTRL counts, where nothing is lent */
+    REFUSED(get_facs, WIDE, NULL, NO, ZACPI_MAP_FAILED, NULL), /* nothing is lent there */
+    REFUSED(get_facs, OLD, NULL, NO, ZACPI_TABLE_MISSING, "FACS"), /* X_FIRMWARE_CTRL doesn't count in revision 1 */
     REFUSED(get_facs, TABLET, NULL, NO, ZACPI_TABLE_MISSING, "FACS"),
     REFUSED(get_facs, EMPTY, NULL, NO, ZACPI_TABLE_MISSING, "FACP"),
 
@@ -229,7 +232,7 @@ static const struct row rows[] = {
          ABSENT, ABSENT, ABSENT, ABSENT, 0, 0, 0, 0, 0, 1, ABSENT, ABSENT, 0, 0, 0, 0, 0, 0, 0, 0,
          0, 0, 0, 0, 3, 0, 0, 0, 0, 0, 0, 0, 0, 0, 0, 0, 0, 0, 0, 0, 0, 0, 6, 0, 0),
     /* X_GPE1_BLK isn't there as a whole, so that GPE1_BLK counts. */
-    GOOD(get_fixed_hardware, HALF_X, NULL, NO, 1, 0, 0, 0, 1, 0, 0, 0, 1, ABSENT, 0, 1, 0, 0, 0, 1, ABSENT,
+    GOOD(get_fixed_hardware, HALF_X, NULL, NO, 1, AT(FACS), 0, 0, 1, 0, 0, 0, 1, ABSENT, 0, 1, 0, 0, 0, 1, ABSENT,
          ABSENT, ABSENT, 0x500000000, 0, 26, 6, 1, 1, 0x670, 1, 128, 0, 0, 1, 0, 0, 0, 0, 0, 1, ABSENT, ABSENT,
          0x500000000, 0, 8, 1, 0x670, 1, 16, 1,
          0, 0, 0, 0, 0, 0, 0, 0, 0, 0, 0, 0, 0, 0, 0, 0, 0, 0, 0, 0, 0, 0, 6, 0, 0),

@@ -71,6 +71,7 @@ PUTS(fadt_old,
     GENERIC(256, 0, 23, 9, 4, 0x50000c000) /* SLEEP_STATUS_REG */);
 PUTS(fadt_half, {129, 2, 0x203} /* ARM_BOOT_ARCH: one byte of two */);
 PUTS(fadt_half_x,
+    {36, 4, AT(FACS_SHORT)} /* FIRMWARE_CTRL */, {132, 8, AT(FACS)} /* X_FIRMWARE_CTRL */,
     {80, 4, 0x660} /* GPE0_BLK */, {84, 4, 0x670} /* GPE1_BLK */, {92, 1, 8} /* GPE0_BLK_LEN */,
     {93, 1, 16} /* GPE1_BLK_LEN */, GENERIC(220, 0, 26, 6, 1, 0x500000000) /* X_GPE0_BLK */,
     GENERIC(232, 0, 25, 7, 2, 0x50000a000) /* X_GPE1_BLK: six bytes of twelve */);
@@ -91,8 +92,8 @@ PUTS(fadt_reserved, {45, 1, 9}, {36, 4, AT(DSDT)});
 /* The bytes of a FACS (section 5.2.10). */
 PUTS(facs_64,
     {8, 4, 0x11223344} /* Hardware Signature */, {12, 4, 0x55667788} /* Firmware_Waking_Vector */,
-    {16, 4, 0x99aabbcc} /* Global Lock */, {20, 4, 3} /* Flags */, {24, 8, 0x1234567890} /* X_Firmware_Waking_Vector */,
-    {32, 1, 2} /* Version */, {36, 4, 0xddeeff00} /* OSPM Flags */);
+    {16, 4, 0x99aabbcc} /* Global Lock */, {20, 4, 0x8d7c6b03} /* Flags */,
+    {24, 8, 0x123456789abcdef} /* X_Firmware_Waking_Vector */, {32, 1, 2} /* Version */, {36, 4, 0xddeeff00} /* OSPM Flags */);
 
 /* A processor, and two mailboxes. */
 PUTS(madt_mailbox,
