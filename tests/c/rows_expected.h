@@ -236,6 +236,10 @@ static const struct row rows[] = {
          ABSENT, ABSENT, 0x500000000, 0, 26, 6, 1, 1, 0x670, 1, 128, 0, 0, 1, 0, 0, 0, 0, 0, 1, ABSENT, ABSENT,
          0x500000000, 0, 8, 1, 0x670, 1, 16, 1,
          0, 0, 0, 0, 0, 0, 0, 0, 0, 0, 0, 0, 0, 0, 0, 0, 0, 0, 0, 0, 0, 0, 6, 0, 0),
+    /* In revision 5 all is zeros but the timer's reserved Access Size and the version. */
+    GOOD(get_fixed_hardware, TIMER_5, NULL, NO, 1, 0, 0, 0, 1, 0, 0, 0, 1, ABSENT, 0, 1, 0, 0, 0, 1, ABSENT,
+         ABSENT, REFUSED_REGISTER, ABSENT, ABSENT, 0, 0, 0, 0, 0, 1, 0, 0, 0, 0, 0, 1, 0, 0, 0, 0, 0, 1,
+         0, 0, 0, 0, 0, 0, 0, 0, 0, 0, 0, 0, 0, 0, 0, 0, 0, 0, 0, 0, 0, 0, 0, 0, 0, 0, 0, 0, 0, 0, 5, 1, 0),
     REFUSED(get_fixed_hardware, EMPTY, NULL, NO, ZACPI_TABLE_MISSING, "FACP"),
     GOOD(get_pm_timer, PC, NULL, NO, 1, 0x608, 1, 32, 0, 0, 1, 0),
     GOOD(get_pm_timer, WIDE, NULL, NO, 1, 0x500008000, 0, 27, 5, 3, 1, 1),

@@ -246,7 +246,7 @@ static const struct table {
     {AT(FADT_SOHO), "FACP", 1, 116, fadt_soho}, {AT(FADT_APPLIANCE), "FACP", 1, 116, fadt_appliance},
     {AT(FADT_PERFORMANCE), "FACP", 1, 116, fadt_performance}, {AT(FADT_TABLET), "FACP", 1, 116, fadt_tablet},
     {AT(FADT_RESERVED), "FACP", 1, 116, fadt_reserved}, {AT(FADT_WIDE), "FACP", 6, 276, fadt_wide},
-    {AT(FADT_TIMER_5), "FACP", 6, 276, fadt_timer_5}, {AT(MADT_MANY), "APIC", 5, 221, madt_many},
+    {AT(FADT_TIMER_5), "FACP", 5, 276, fadt_timer_5}, {AT(MADT_MANY), "APIC", 5, 221, madt_many},
     {AT(MADT_FIRST), "APIC", 4, 68, madt_first}, {AT(MADT_UNKNOWN), "APIC", 5, 64, madt_unknown},
     {AT(MADT_SAPIC), "APIC", 4, 60, madt_sapic}, {AT(SPCR_3), "SPCR", 3, 88, spcr_3},
     {AT(SPCR_2), "SPCR", 2, 80, spcr_2},

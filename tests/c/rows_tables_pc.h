@@ -75,7 +75,9 @@ PUTS(fadt_half_x,
     {80, 4, 0x660} /* GPE0_BLK */, {84, 4, 0x670} /* GPE1_BLK */, {92, 1, 8} /* GPE0_BLK_LEN */,
     {93, 1, 16} /* GPE1_BLK_LEN */, GENERIC(220, 0, 26, 6, 1, 0x500000000) /* X_GPE0_BLK */,
     GENERIC(232, 0, 25, 7, 2, 0x50000a000) /* X_GPE1_BLK: six bytes of twelve */);
-PUTS(fadt_timer_5, {91, 1, 4} /* PM_TMR_LEN */,
+/* Revision 5, which has no Hypervisor Vendor Identity. */
+PUTS(fadt_timer_5,
+    {91, 1, 4} /* PM_TMR_LEN */, {131, 1, 1} /* FADT Minor Version */, {268, 8, ONES} /* reserved */,
     GENERIC(208, 0, 32, 0, 5, 0x5000) /* X_PM_TMR_BLK: Access Size 5 is reserved */);
 
 /* Preferred_PM_Profile, at 45, of which 9 is reserved; FIRMWARE_CTRL at 36 and DSDT at 40. */
