@@ -343,7 +343,7 @@ static const struct row rows[] = {
     REFUSED(list_nmi_lines, HOLES, NULL, NO, ZACPI_TABLE_MISSING, "APIC"),
     REFUSED(list_nmi_lines, SERVER, NULL, NO, ZACPI_NO_APICS, NULL),
     REFUSED(list_nmi_lines, EMPTY, NULL, NO, ZACPI_TABLE_MISSING, "APIC"),
-    GOOD(mailbox_address, MAILBOX, NULL, NO, 1, 0x17a000000),
+    GOOD(mailbox_address, MAILBOX, NULL, NO, 1, 0x1827364554637000),
     REFUSED(mailbox_address, PC, NULL, NO, ZACPI_MADT_UNEXPECTED_ENTRY, NULL),
     REFUSED(mailbox_address, LENGTH_0, NULL, NO, ZACPI_MADT_INVALID_ENTRY_LENGTH, NULL),
     REFUSED(mailbox_address, EMPTY, NULL, NO, ZACPI_TABLE_MISSING, "APIC"),

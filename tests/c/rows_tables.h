@@ -283,7 +283,7 @@ static const struct table {
     {AT(MADT_SAPIC_BETWEEN), "APIC", 5, 76, madt_sapic_between}, {AT(MADT_NMI_2), "APIC", 5, 70, madt_nmi_2},
     {AT(MADT_LENGTH_0), "APIC", 5, 72, madt_length_0}, {AT(MADT_BUS_1), "APIC", 5, 82, madt_bus_1},
     {AT(MADT_TRIGGER_2), "APIC", 5, 84, madt_trigger_2}, {AT(MADT_LINT_2), "APIC", 5, 78, madt_lint_2},
-    {AT(MADT_MAILBOX), "APIC", 5, 84, madt_mailbox},
+    {AT(MADT_MAILBOX), "APIC", 5, 85, madt_mailbox},
     {BIOS + 0x10000, "RSDT", 1, 36, no_fields}};
 
 /* RSDPs: the first byte of OEMID at 9, Revision at 15, RsdtAddress at 16, Length at 20, XsdtAddress at 24 (section

@@ -97,10 +97,10 @@ PUTS(facs_64,
     {16, 4, 0x99aabbcc} /* Global Lock */, {20, 4, 0x8d7c6b03} /* Flags */,
     {24, 8, 0x123456789abcdef} /* X_Firmware_Waking_Vector */, {32, 1, 2} /* Version */, {36, 4, 0xddeeff00} /* OSPM Flags */);
 
-/* A processor, and two mailboxes. */
+/* A processor, two mailboxes, and a byte in which no entry begins. */
 PUTS(madt_mailbox,
     {44, 2, HEADER(0, 8)}, {52, 2, HEADER(0x10, 16)}, {52 + 2, 2, 1} /* MailBoxVersion */,
-    {52 + 8, 8, 0x17a000000} /* MailBoxAddress */, {68, 2, HEADER(0x10, 16)}, {68 + 8, 8, 0x27b000000});
+    {52 + 8, 8, 0x1827364554637000} /* MailBoxAddress */, {68, 2, HEADER(0x10, 16)}, {68 + 8, 8, 0x27b000000});
 PUTS(madt_pc,
     {44, 2, HEADER(0, 8)}, {44 + 2, 1, 1} /* ACPI Processor UID */, {44 + 3, 1, 33} /* APIC ID */,
     {44 + 4, 4, 1} /* Flags */,
