@@ -57,6 +57,7 @@ LIST(list_ivrs_memory, ivrs_memory, of_ivrs_memory, ARGUMENT(0, uint16_t))
 
 static const struct row unit_rows[] = {
     GOOD(get_dmar_flags, UNITS, NULL, NO, 1, 39, ZACPI_DMAR_INTR_REMAP),
+    GOOD(get_dmar_flags, UNITS_CUT, NULL, NO, 1, 256, 0x86), /* its malformed scope doesn't count */
     GOOD(get_dmar_flags, LEAST, NULL, NO, 1, 1, 0),
     REFUSED(get_dmar_flags, EMPTY, NULL, NO, ZACPI_TABLE_MISSING, "DMAR"),
     GOOD(get_dmar_unit, UNITS, NULL, A(0, 0, 1, HOP_2_0), 1, FIRST_UNIT),

@@ -36,7 +36,9 @@ PUTS(dmar,
     RMRR(176, 0, 0x100000000, 0x100000000), SCOPE(200, 2, 8, 0, 0), HOP(206, 2, 0) /* a sub-hierarchy */,
     RMRR(208, 3, 5, 4), SCOPE(232, 1, 8, 0, 5), HOP(238, 4, 1) /* an endpoint; the last byte is before the first */);
 /* A scope that is a byte too short. */
-PUTS(dmar_cut, DRHD(48, 24, 1, 0, 0, 0xfed90000), SCOPE(64, 1, 5, 0, 0));
+PUTS(dmar_cut,
+    {36, 1, 255} /* Host Address Width */, {37, 1, 0x86} /* Flags: all but INTR_REMAP, and a reserved bit */,
+    DRHD(48, 24, 1, 0, 0, 0xfed90000), SCOPE(64, 1, 5, 0, 0));
 /* Four zeros after a whole structure: a Length of 0. */
 PUTS(dmar_end, DRHD(48, 24, 1, 0, 0, 0xfed90000), SCOPE(64, 1, 8, 0, 0), HOP(70, 2, 0));
 
