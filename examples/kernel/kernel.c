@@ -33,7 +33,7 @@ static size_t pages_of(struct zacpi_range *ranges, size_t n, const struct zacpi_
     const struct zacpi_range all = {0, 1ull << 40};
     size_t count = 0;
     for (size_t i = 0; i < n; i++) {
-        const uint64_t in_page = ranges[i].address % 4096;
+        const uint64_t in_page = ranges[i].length ? ranges[i].address % 4096 : 0;
         ranges[i].address -= in_page, ranges[i].length = (ranges[i].length + in_page + 4095) / 4096 * 4096;
     }
     if (zacpi_clip_ranges(ranges, n, without, without_length, &all, out, capacity, &count))
