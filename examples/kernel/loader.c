@@ -32,7 +32,9 @@ static void read_multiboot2(const volatile uint8_t *info, uint64_t address, cons
         if (!type || size < 8) break;
         if (type == 1) out->words = info + tag + 8;
         if (type == 15 || (type == 14 && !out->rsdp)) out->rsdp = address + tag + 8;
-        for (uint64_t entry = 16; type == 6 && entry + 20 <= size; entry += low(info + tag + 8, 4))
+        if (type != 6 || size < 16) continue;
+        const uint64_t each = low(info + tag + 8, 4);
+        for (uint64_t entry = 16; each >= 20 && entry + 20 <= size; entry += each)
             add_range(info + tag + entry, p, out);
     }
 }
