@@ -26,7 +26,7 @@ entry:                                  # multiboot 1 and 2: the magic number is
         cmp $512, %ecx
         jb 1b
         mov %cr4, %eax
-        or $0x20, %eax                  # PAE, and no OSFXSR: SSE is #UD
+        or $0x20, %eax                  # PAE
         mov %eax, %cr4
         mov $(root - base), %eax
         mov %eax, %cr3
@@ -35,7 +35,7 @@ entry:                                  # multiboot 1 and 2: the magic number is
         or $0x100, %eax
         wrmsr
         mov %cr0, %eax
-        or $0x8001000e, %eax            # PG, WP, MP, EM, TS: writes to the window, x87 and MMX fault
+        or $0x8001000e, %eax            # PG, WP, MP, EM, TS: writes to the window, x87, MMX and SSE fault
         mov %eax, %cr0
         lgdt gdt_at - base
         ljmp $8, $(long - base)
