@@ -35,7 +35,7 @@ static const struct zacpi_processor listed[] = {{7, 2, ZACPI_PROCESSOR_RUNNING, 
                                                 {255, 0x1234, ZACPI_PROCESSOR_DISABLED, 0, 1, 0},
                                                 {255, 254, ZACPI_PROCESSOR_WAITING, 0, 0, 0},
                                                 {254, 255, ZACPI_PROCESSOR_WAITING, 0, 0, 0},
-                                                {254, 254, ZACPI_PROCESSOR_WAITING, 1, 0, 0}};
+                                                {254, 254, ZACPI_PROCESSOR_DISABLED, 1, 1, 0}};
 static const struct zacpi_io_apic controllers[] = {{0xfec00000, 24, 3}, {0xfe020304, 0x05060708, 0}};
 static const struct zacpi_interrupt_source_override wirings[] = {
     {20, 9, ZACPI_POLARITY_LOW, ZACPI_TRIGGER_LEVEL, 0}, {0x01020304, 0, ZACPI_POLARITY_HIGH, ZACPI_TRIGGER_BUS, 0},
@@ -154,12 +154,12 @@ static const uint8_t protected_64k_bytes[] = HPET(0xa3, 2);
 static const uint8_t reserved_hpet_bytes[] = {HEAD('H', 'P', 'E', 'T', 56, 1, 0x69), 1, 0xa2, 0x86, 0x80,
     0, 0, 0, 0, 0, 0, 0xd0, 0xfe, 0, 0, 0, 0, 2, 0x80, 0, 3};
 static const uint8_t slit_bytes[] = {HEAD('S', 'L', 'I', 'T', 48, 1, 0x23), 2, 0, 0, 0, 0, 0, 0, 0, 10, 20, 21, 10};
-static const uint8_t madt_bytes[] = {HEAD('A', 'P', 'I', 'C', 242, 5, 0xa0), 0, 0, 0, 0, 1, 0, 0, 0,
+static const uint8_t madt_bytes[] = {HEAD('A', 'P', 'I', 'C', 242, 5, 0x9f), 0, 0, 0, 0, 1, 0, 0, 0,
     0, 8, 7, 2, 1, 0, 0, 0,                                  /* Processor Local APIC: uid 7, id 2 */
     9, 16, 0, 0, 0x34, 0x12, 0, 0, 2, 0, 0, 0, 255, 0, 0, 0, /* Processor Local x2APIC: disabled, Online Capable */
     9, 16, 0, 0, 254, 0, 0, 0, 1, 0, 0, 0, 255, 0, 0, 0,
     9, 16, 0, 0, 255, 0, 0, 0, 1, 0, 0, 0, 254, 0, 0, 0,
-    0, 8, 254, 254, 1, 0, 0, 0,
+    0, 8, 254, 254, 2, 0, 0, 0,                              /* Processor Local APIC: disabled, Online Capable */
     5, 12, 0, 0, 0, 0, 0xe0, 0xfe, 1, 0, 0, 0,               /* Local APIC Address Override */
     1, 12, 3, 0, 0, 0, 0xc0, 0xfe, 24, 0, 0, 0,              /* I/O APIC */
     1, 12, 0, 0, 4, 3, 2, 0xfe, 8, 7, 6, 5,
