@@ -108,7 +108,8 @@ static struct zacpi_range ranges[512];
 static struct zacpi_processor processors[512];
 static struct zacpi_io_apic io_apics[64];
 
-/* Where the listed tables lie, and the memory that isn't to be given away. */
+/* Where the listed tables lie, and the memory that the tables take. From the root table on the RSDP isn't among it,
+ * which isn't to be given away either. */
 static void places(const struct zacpi_source *source) {
     struct zacpi_signature named = {{0}};
     size_t count = 0;
