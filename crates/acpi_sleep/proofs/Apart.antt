@@ -22,7 +22,8 @@ at_each (suc n) p e k less =
 
 -- whether no term begins with a byte, as far as an argument may
 abbrev is_apart : ℕ → Bool
-is_apart lead = not (begins_argument lead) || ((((not (lead == 0x08) && not (lead == 0x10)) && not (lead == 0x14)) && not (lead == 0x5B)) && is_none (parts_of lead))
+is_apart lead = not (begins_argument lead) || (((((not (lead == 0x08) && not (lead == 0x10)) && not (lead == 0x14)) && not (lead == 0x06)) && not (lead == 0x5B))
+    && is_none (parts_of lead))
 
 all_apart : each_below 256 is_apart ≡ true
 unfolding parts_of
@@ -46,4 +47,11 @@ arguments_begin_no_term lead byte begins =
     let q = and_parts _ _ p.0 in
     let r = and_parts _ _ q.0 in
     let s = and_parts _ _ r.0 in
-    record { no_name = differs lead 0x08 s.0; no_scope = differs lead 0x10 s.1; no_method = differs lead 0x14 r.1; no_prefix = differs lead 0x5B q.1; no_other = no_parts _ p.1 }
+    let t = and_parts _ _ s.0 in record {
+      no_name = differs lead 0x08 t.0;
+      no_scope = differs lead 0x10 t.1;
+      no_method = differs lead 0x14 s.1;
+      no_alias = differs lead 0x06 r.1;
+      no_prefix = differs lead 0x5B q.1;
+      no_other = no_parts _ p.1;
+    }

@@ -10,7 +10,7 @@ use Rattle.std.proofs.lemmas.List.Folds.{length-prefix_len}
 use Rattle.std.proofs.lemmas.Option.{slice_get_within}
 use Rattle.acpi_base.proofs.Words.{bind_ok, holds_ok, same_ok}
 use Rattle.acpi_base.specs.Words.{field_of, number, ◌>>=◌, holds}
-use Rattle.acpi_sleep.specs.Words.{Absent, AmlError, Block, Found, Name, NotPackage, NotSeen, NothingBehindMatters, On, Part, PastEnd, Place, SleepAnswer, SleepTypes, Step, Types, UnknownTerm, Unseen, answer_past, argument_end, arguments_end, begins_name, block_at, block_end, byte_at, bytes_end, carets, elements_at, first_place, integer_width, is_conditional, is_lead, is_letter, is_operator, is_root, is_single, is_state, many_at, method_at, name_at, name_end, name_of, named_at, object_at, opcode_at, operand_end, other_end, package_size, part_end, parts_end, parts_of, passed_at, path_at, scope_at, segment_end, segments_end, sleep_types_of, state_code, step_at, text_end, types_at, walked}
+use Rattle.acpi_sleep.specs.Words.{Absent, AmlError, Block, Found, Name, NotPackage, NotSeen, NothingBehindMatters, On, Part, PastEnd, Place, SleepAnswer, SleepTypes, Step, Types, UnknownTerm, Unseen, alias_at, answer_past, argument_end, arguments_end, begins_name, block_at, block_end, byte_at, bytes_end, carets, elements_at, first_place, integer_width, is_conditional, is_lead, is_letter, is_operator, is_root, is_single, is_state, many_at, method_at, name_at, name_end, name_of, named_at, object_at, opcode_at, operand_end, other_end, package_size, part_end, parts_end, parts_of, passed_at, path_at, scope_at, segment_end, segments_end, sleep_types_of, state_code, step_at, text_end, types_at, walked}
 use Rattle.acpi_sleep.specs.declared.term.Opcode.{Opcode}
 use Rattle.acpi_sleep.specs.declared.term.Part.TheVariants as part
 
@@ -320,6 +320,13 @@ method_stays xs ys state scope at s e =
     let single : Single xs name.0 = λ one. omega (arith, within, length-take-le block.0.end xs within, single_name (take block.0.end xs) block.0.start name.0 name.1 one) in
     rw (block_stays xs ys at block.0 block.1, take-append-le block.0.end xs ys within, name.1, state_stays xs ys state name.0 single) name.2
 
+alias_stays : (xs ys : List ℕ) (state : ℕ) (scope : Option ℕ) (at : ℕ) (s : Step) → alias_at xs state scope at ≡ Ok s → alias_at (xs ++ ys) state scope at ≡ Ok s
+unfolding alias_at
+alias_stays xs ys state scope at s e =
+    let object = bind_ok (name_at xs at) _ s e in
+    let name = bind_ok (name_at xs object.0.end) _ s object.2 in
+    rw (name_stays xs ys at object.0 object.1, name_stays xs ys object.0.end name.0 name.1, state_stays xs ys state name.0 (single_name xs object.0.end name.0 name.1)) name.2
+
 passed_stays : (xs ys : List ℕ) (code : ℕ) (scope : Option ℕ) (at after : ℕ) (s : Step) → passed_at xs code scope at after ≡ Ok s → passed_at (xs ++ ys) code scope at after ≡ Ok s
 unfolding passed_at
 passed_stays xs ys code scope at after s e =
@@ -331,7 +338,8 @@ object_stays : (xs ys : List ℕ) (state : ℕ) (scope : Option ℕ) (at : ℕ) 
 unfolding object_at
 object_stays xs ys state scope at s e =
     let op = bind_ok (opcode_at xs at) _ s e in
-    let method = stays_if (op.0.code == 0x14) _ _ _ _ s (method_stays xs ys state scope op.0.end s) (passed_stays xs ys op.0.code scope at op.0.end s) in
+    let alias = stays_if (op.0.code == 0x06) _ _ _ _ s (alias_stays xs ys state scope op.0.end s) (passed_stays xs ys op.0.code scope at op.0.end s) in
+    let method = stays_if (op.0.code == 0x14) _ _ _ _ s (method_stays xs ys state scope op.0.end s) alias in
     let other = stays_if (op.0.code == 0x10) _ _ _ _ s (scope_stays xs ys scope op.0.end s) method in
     rw (opcode_stays xs ys at op.0 op.1) (stays_if (op.0.code == 0x08) _ _ _ _ s (named_stays xs ys state scope op.0.end s) other op.2)
 

@@ -12,11 +12,13 @@ begins_argument lead =
     ((((is_some (integer_width lead) || is_single lead) || lead == 0x0D) || (nat_le 0x11 lead && nat_le lead 0x13))
     || begins_name lead) || is_operator lead
 
--- no term begins so: neither a name, nor a scope, nor a method, nor one of two bytes, nor another that is passed
+-- no term begins so: neither a name, nor a scope, nor a method, nor an alias, nor one of two bytes, nor another that is
+-- passed
 pub record BeginsNoTerm (lead : ℕ) : Type 0 where
   pub no_name : lead ≢ 0x08
   pub no_scope : lead ≢ 0x10
   pub no_method : lead ≢ 0x14
+  pub no_alias : lead ≢ 0x06
   pub no_prefix : lead ≢ 0x5B
   pub no_other : parts_of lead ≡ None
 

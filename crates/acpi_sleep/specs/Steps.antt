@@ -46,6 +46,14 @@ scope_at aml scope at = do
     Ok (On (record { at = name.end; scope = Some block.end })))
       else Ok (On (record { at = block.end; scope = scope }))
 
+-- DefAlias: another name of an object is passed. What the state's name is then isn't seen
+unfoldable pub alias_at : List ℕ → ℕ → Option ℕ → ℕ → Result Step AmlError
+alias_at aml state scope at = do
+  object ← name_at aml at
+  name ← name_at aml object.end
+  let next : Place = record { at = name.end; scope = scope }
+  if is_state aml state name then Ok (Unseen next) else Ok (On next)
+
 -- DefMethod: a method is passed. What one of the state's name returns isn't seen
 unfoldable pub method_at : List ℕ → ℕ → Option ℕ → ℕ → Result Step AmlError
 method_at aml state scope at = do
@@ -72,6 +80,7 @@ object_at aml state scope at = do
   if opcode.code == 0x08 then named_at aml state scope opcode.end
       else if opcode.code == 0x10 then scope_at aml scope opcode.end
       else if opcode.code == 0x14 then method_at aml state scope opcode.end
+      else if opcode.code == 0x06 then alias_at aml state scope opcode.end
       else passed_at aml opcode.code scope at opcode.end
 
 -- ---- the walk

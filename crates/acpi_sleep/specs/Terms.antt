@@ -17,11 +17,10 @@ opcode_at aml at = do
     Ok (record { code = 0x5B00 + second; end = at + 2 }))
       else Ok (record { code = first; end = at + 1 })
 
--- what follows the opcode of a term; a name, a scope and a method are not among these
+-- what follows the opcode of a term; an alias, a name, a scope and a method are not among these
 unfoldable pub parts_of : ℕ → Option (List Part)
 parts_of code =
-    if code == 0x06 then Some (part.Name ∷ part.Name ∷ [])  -- DefAlias
-    else if code == 0x15 then Some (part.Name ∷ part.Byte ∷ part.Byte ∷ [])  -- DefExternal
+    if code == 0x15 then Some (part.Name ∷ part.Byte ∷ part.Byte ∷ [])  -- DefExternal
     else if nat_le 0x8A code && nat_le code 0x8D || code == 0x8F
     then Some (part.Argument ∷ part.Argument ∷ part.Name ∷ [])  -- DefCreateDWordField and the like
     else if nat_le 0xA0 code && nat_le code 0xA2 then Some (part.Block ∷ [])  -- DefIfElse, DefWhile

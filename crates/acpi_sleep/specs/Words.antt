@@ -11,7 +11,7 @@ unfoldable pub use Rattle.acpi_sleep.specs.Names.{name_at, segment_end}
 pub use Rattle.acpi_sleep.specs.Sleep.{elements_at, state_code}
 unfoldable pub use Rattle.acpi_sleep.specs.Sleep.{types_at}
 pub use Rattle.acpi_sleep.specs.Steps.{IsAfter, IsAnswer, IsInside, IsReached, IsWithin, after_step, after_unseen, answer_past, at_start, first_place, is_conditional, is_state, walked}
-unfoldable pub use Rattle.acpi_sleep.specs.Steps.{method_at, named_at, object_at, passed_at, scope_at, sleep_types_of, step_at}
+unfoldable pub use Rattle.acpi_sleep.specs.Steps.{alias_at, method_at, named_at, object_at, passed_at, scope_at, sleep_types_of, step_at}
 pub use Rattle.acpi_sleep.specs.Terms.{part_end, parts_end}
 unfoldable pub use Rattle.acpi_sleep.specs.Terms.{opcode_at, parts_of}
 pub use Rattle.acpi_sleep.specs.declared.block.Block.{Block}

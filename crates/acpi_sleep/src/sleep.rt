@@ -19,10 +19,10 @@ pub struct SleepTypes {
 pub enum SleepAnswer {
     /// It can be entered with these sleep types.
     Types(SleepTypes),
-    /// The block doesn't define its name, as far as no `Alias` or other scope does.
+    /// The block doesn't define its name at the root, unless by an object in another scope.
     Absent,
-    /// The name may be defined if AML is run: the first `If`, `Else` or `While` at the root, or `Method` of that name
-    /// there, begins at this offset.
+    /// The name may be defined if AML is run: the first `If`, `Else` or `While` at the root, or `Method` or `Alias` of
+    /// that name there, begins at this offset.
     NotSeen(usize),
 }
 
@@ -40,7 +40,7 @@ pub fn sleep_types(aml: &[u8], state: u8) -> Result<SleepAnswer, AmlError>
     requires { state ≤ 5 }
     // The answer is that of the walk.
     ensures exact { result ≡ sleep_types_of aml.now state }
-    // It stands at a place that the walk comes to, and that there is none at the end of the bytes.
+    // The types are those of a name that the walk reaches, and without one it has reached the end of the bytes.
     ensures answer { IsAnswer aml.now state result }
 {
     let mut place = Place { at: 0, scope: None };

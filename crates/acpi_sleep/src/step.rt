@@ -1,6 +1,6 @@
 //! One step of the walk: the object at a place (sections 20.2.5.1 and 20.2.5.2).
 ghost use Rattle.std.specs.Prelude.{◌≡◌, ◌<◌, ◌≤◌, length, IfOk, IfSome};
-ghost use Rattle.acpi_sleep.specs.Words.{IsAfter, IsWithin, is_conditional, is_state, method_at, named_at, object_at, scope_at, state_code, step_at};
+ghost use Rattle.acpi_sleep.specs.Words.{IsAfter, IsWithin, alias_at, is_conditional, is_state, method_at, named_at, object_at, scope_at, state_code, step_at};
 
 use crate::argument::argument_end;
 use crate::block::block_at;
@@ -115,6 +115,29 @@ fn method_at(aml: &[u8], state: u8, scope: Option<usize>, at: usize) -> Result<S
     }
 }
 
+/// The step at an alias whose opcode ends at an offset.
+#[tactic(auto, unfolding(crate::specs::Steps::alias_at))]
+fn alias_at(aml: &[u8], state: u8, scope: Option<usize>, at: usize) -> Result<Step, AmlError>
+    requires state { state ≤ 5 }
+    requires scope { IfSome scope (λ end. end ≤ length aml.now) }
+    requires at { at ≤ length aml.now }
+    ensures exact { result ≡ alias_at aml.now state scope at }
+    ensures after { IfOk result (IsAfter at) }
+    ensures within { IfOk result (IsWithin (length aml.now)) }
+{
+    let object = name_at(aml, at)?;
+    let name = name_at(aml, object.end)?;
+    let next = Place {
+        at: name.end,
+        scope,
+    };
+    if is_state(aml, state, &name) {
+        Ok(Step::Unseen(next))
+    } else {
+        Ok(Step::On(next))
+    }
+}
+
 /// Whether an opcode is that of an `If`, an `Else` or a `While`.
 fn is_conditional(code: u16) -> bool
     ensures { result ≡ is_conditional code }
@@ -141,6 +164,9 @@ fn object_at(aml: &[u8], state: u8, scope: Option<usize>, at: usize) -> Result<S
     }
     if opcode.code == 0x14 {
         return method_at(aml, state, scope, opcode.end);
+    }
+    if opcode.code == 0x06 {
+        return alias_at(aml, state, scope, opcode.end);
     }
     let Some(parts) = parts_of(opcode.code) else {
         return Err(AmlError::UnknownTerm(at));

@@ -57,7 +57,6 @@ pub(crate) fn parts_of(code: u16) -> Option<&'static [Part]>
     ensures { MatchOption result (parts_of code ≡ None) (λ parts. parts_of code ≡ Some parts.now) }
 {
     match code {
-        0x06 => Some(&[Part::Name, Part::Name]),
         0x15 => Some(&[Part::Name, Part::Byte, Part::Byte]),
         0x8A | 0x8B | 0x8C | 0x8D | 0x8F => Some(&[Part::Argument, Part::Argument, Part::Name]),
         0xA0 | 0xA1 | 0xA2 => Some(&[Part::Block]),

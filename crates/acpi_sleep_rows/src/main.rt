@@ -7,8 +7,8 @@
 //! - `STATE of COUNT: ANSWER` has what its first bytes say, so many.
 //! - `STATE with OFFSET HEX: ANSWER` has what they say with another byte at an offset.
 //!
-//! It prints each line that has another answer, by its number, and then how many answers there were. Answers are worked out by hand
-//! from the grammar (ACPI 6.4, section 20.2).
+//! It prints each line that has another answer, by its number, and then how many answers there were. Answers are worked
+//! out by hand from the grammar (ACPI 6.4, section 20.2).
 #![tactic(auto)]
 
 use acpi_sleep::{SleepAnswer, sleep_types};
