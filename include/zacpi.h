@@ -447,7 +447,7 @@ struct zacpi_fixed_hardware {
     uint8_t duty_offset, duty_width;         /* in the processor's control register, in bits */
     uint8_t day_alarm, month_alarm, century; /* registers of the clock. 0: none */
     uint8_t reset_value, revision;
-    uint8_t minor_revision;                  /* FADT Minor Version */
+    uint8_t minor_revision;                  /* FADT Minor Version: errata in bits 4 to 7 */
     uint64_t hypervisor_id;                  /* Hypervisor Vendor Identity; 0 below revision 6 */
 };
 struct zacpi_facs { /* section 5.2.10 */
@@ -645,8 +645,8 @@ struct zacpi_processor { /* Processor Local APIC and Processor Local x2APIC, sec
     uint32_t local_apic_id;    /* APIC ID or X2APIC ID */
     uint8_t state;             /* one of enum zacpi_processor_state */
     uint8_t is_boot;
-    uint8_t is_online_capable; /* bit 1 of Flags: it can be enabled later; reserved below revision
-                                * 5 */
+    uint8_t is_online_capable; /* bit 1 of Flags: disabled, it can be enabled later; reserved
+                                * below revision 5 */
     uint8_t is_x2apic;         /* the entry is a Processor Local x2APIC */
 };
 
