@@ -12,7 +12,11 @@ each_below zero p = true
 each_below (suc n) p = p n && each_below n p
 
 either : (k n : ℕ) → k < suc n → (k ≡ n) ⊎ (k < n)
-either k n less = elim (eqb_tells k n) [ inl same ↦ inl same.1 | inr other ↦ inr (let ne : k ≡ n → ⊥ = other.1 in omega arith) ]
+either k n less = elim (eqb_tells k n) [
+  | inl same ↦ inl same.1
+  | inr other ↦ inr (let ne : k ≡ n
+      → ⊥ = other.1 in omega arith)
+]
 
 at_each : (n : ℕ) (p : ℕ → Bool) → each_below n p ≡ true → (k : ℕ) → k < n → p k ≡ true
 at_each zero p e k less = absurd (omega arith)
@@ -22,7 +26,9 @@ at_each (suc n) p e k less =
 
 -- whether no term begins with a byte, as far as an argument may
 abbrev is_apart : ℕ → Bool
-is_apart lead = not (begins_argument lead) || (((((not (lead == 0x08) && not (lead == 0x10)) && not (lead == 0x14)) && not (lead == 0x06)) && not (lead == 0x5B))
+is_apart lead = not (begins_argument lead) ||
+    (((((not (lead == 0x08) && not (lead == 0x10)) && not (lead == 0x14)) && not (lead == 0x06)) && not
+    (lead == 0x5B))
     && is_none (parts_of lead))
 
 all_apart : each_below 256 is_apart ≡ true

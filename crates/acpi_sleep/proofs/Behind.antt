@@ -21,7 +21,8 @@ some_of None d x e = absurd cc
 some_of (Some y) d x e = cc
 
 -- each way that is taken stays
-stays_if : {A : Type 0} (b : Bool) (r s t u : Result A AmlError) (y : A) → (r ≡ Ok y → t ≡ Ok y) → (s ≡ Ok y → u ≡ Ok y) → cond b r s ≡ Ok y → cond b t u ≡ Ok y
+stays_if : {A : Type 0} (b : Bool) (r s t u : Result A AmlError) (y : A) → (r ≡ Ok y → t ≡ Ok y) → (s ≡ Ok y
+    → u ≡ Ok y) → cond b r s ≡ Ok y → cond b t u ≡ Ok y
 stays_if true r s t u y one other e = one e
 stays_if false r s t u y one other e = other e
 
@@ -49,9 +50,11 @@ bytes_stay xs ys at n end e =
 field_stays : (xs ys : List ℕ) (at n : ℕ) → at + n ≤ length xs → field_of (xs ++ ys) at n ≡ field_of xs at n
 unfolding field_of
 field_stays xs ys at n fits =
-    ap (λ l. number (take n l)) (drop-append-le at xs ys (omega (arith, fits))) ∙ ap number (take-append-le n (drop at xs) ys (omega (arith, fits, length-drop at xs)))
+    ap (λ l. number (take n l)) (drop-append-le at xs ys (omega (arith, fits))) ∙ ap number
+    (take-append-le n (drop at xs) ys (omega (arith, fits, length-drop at xs)))
 
-size_stays : (xs ys : List ℕ) (at lead : ℕ) → at + 1 + lead / 64 ≤ length xs → package_size (xs ++ ys) at lead ≡ package_size xs at lead
+size_stays : (xs ys : List ℕ) (at lead : ℕ) → at + 1 + lead / 64 ≤ length xs
+    → package_size (xs ++ ys) at lead ≡ package_size xs at lead
 size_stays xs ys at lead fits =
     ap (λ n. cond (nat_lt lead 64) lead (lead % 16 + 16 * n)) (field_stays xs ys (at + 1) (lead / 64) fits)
 
@@ -66,7 +69,8 @@ block_of : (xs : List ℕ) (at : ℕ) (b : Block) → block_at xs at ≡ Ok b �
 unfolding block_at
 block_of xs at b e =
     let lead = bind_ok (byte_at xs at) _ b e in
-    let fits = holds_ok (nat_le (at + 1 + lead.0 / 64) (at + package_size xs at lead.0) && nat_le (at + package_size xs at lead.0) (length xs)) _ _ b lead.2 in
+    let fits = holds_ok (nat_le (at + 1 + lead.0 / 64) (at + package_size xs at lead.0) && nat_le
+    (at + package_size xs at lead.0) (length xs)) _ _ b lead.2 in
     let both = and_parts _ _ fits.0 in
     record { lead = lead.0; read = lead.1; ordered = both.0; fits = both.1; same = cc }
 
@@ -89,16 +93,26 @@ unfolding segment_end
 segment_stays xs ys at end e =
     let long = holds_ok (nat_le (at + 4) (length xs)) _ _ end e in
     let fits : at + 4 ≤ length xs = leb-true (at + 4) (length xs) long.0 in
-    rw (le_stays xs ys (at + 4) long.0, get_or-append xs ys 0 at (omega (arith, fits)), get_or-append xs ys 0 (at + 1) (omega (arith, fits)), get_or-append xs ys 0 (at + 2) (omega (arith, fits)), get_or-append xs ys 0 (at + 3) (omega (arith, fits))) long.1
+    rw (
+      le_stays xs ys (at + 4) long.0,
+      get_or-append xs ys 0 at (omega (arith, fits)),
+      get_or-append xs ys 0
+          (at + 1) (omega (arith, fits)),
+      get_or-append xs ys 0 (at + 2) (omega (arith, fits)),
+      get_or-append xs ys 0
+          (at + 3) (omega (arith, fits)),
+    ) long.1
 
 segment_within : (xs : List ℕ) (at end : ℕ) → segment_end xs at ≡ Ok end → (end ≡ at + 4) × (at + 4 ≤ length xs)
 unfolding segment_end
 segment_within xs at end e =
     let long = holds_ok (nat_le (at + 4) (length xs)) _ _ end e in
-    let chars = holds_ok (is_lead (slice_index xs at) && is_letter (slice_index xs (at + 1)) && is_letter (slice_index xs (at + 2)) && is_letter (slice_index xs (at + 3))) _ _ end long.1 in
+    let chars = holds_ok (is_lead (slice_index xs at) && is_letter (slice_index xs (at + 1)) && is_letter
+    (slice_index xs (at + 2)) && is_letter (slice_index xs (at + 3))) _ _ end long.1 in
     (sym (same_ok (at + 4) end chars.1), leb-true (at + 4) (length xs) long.0)
 
-segments_stay : (n : ℕ) (xs ys : List ℕ) (at end : ℕ) → segments_end n xs at ≡ Ok end → segments_end n (xs ++ ys) at ≡ Ok end
+segments_stay : (n : ℕ) (xs ys : List ℕ) (at end : ℕ) → segments_end n xs at ≡ Ok end
+    → segments_end n (xs ++ ys) at ≡ Ok end
 segments_stay zero xs ys at end e = e
 segments_stay (suc n) xs ys at end e =
     let first = bind_ok (segment_end xs at) _ end e in
@@ -108,7 +122,8 @@ segments_stay (suc n) xs ys at end e =
 abbrev Single : List ℕ → Name → Type 0
 Single xs name = name.segments ≡ 1 → name.first + 4 ≤ length xs
 
-single_of : (xs : List ℕ) (ups segments first : ℕ) (name : Name) → name_of xs ups segments first ≡ Ok name → Single xs name
+single_of : (xs : List ℕ) (ups segments first : ℕ) (name : Name) → name_of xs ups segments first ≡ Ok name
+    → Single xs name
 single_of xs ups segments first name e one =
     let end = bind_ok (segments_end segments xs first) _ name e in
     let same = same_ok (record { ups = ups; first = first; segments = segments; end = end.0 }) name end.2 in
@@ -117,26 +132,32 @@ single_of xs ups segments first name e one =
     let at : first ≡ name.first = ap (λ (n : Name). n.first) same in
     omega (arith, at, (segment_within xs first head.0 head.1).1)
 
-name_of_stays : (xs ys : List ℕ) (ups segments first : ℕ) (name : Name) → name_of xs ups segments first ≡ Ok name → name_of (xs ++ ys) ups segments first ≡ Ok name
+name_of_stays : (xs ys : List ℕ) (ups segments first : ℕ) (name : Name) → name_of xs ups segments first ≡ Ok name
+    → name_of (xs ++ ys) ups segments first ≡ Ok name
 name_of_stays xs ys ups segments first name e =
     let end = bind_ok (segments_end segments xs first) _ name e in
     rw (segments_stay segments xs ys first end.0 end.1) end.2
 
-many_stays : (xs ys : List ℕ) (ups path : ℕ) (name : Name) → many_at xs ups path ≡ Ok name → many_at (xs ++ ys) ups path ≡ Ok name
+many_stays : (xs ys : List ℕ) (ups path : ℕ) (name : Name) → many_at xs ups path ≡ Ok name
+    → many_at (xs ++ ys) ups path ≡ Ok name
 many_stays xs ys ups path name e =
     let count = bind_ok (byte_at xs (path + 1)) _ name e in
     let some = holds_ok (nat_lt 0 count.0) _ _ name count.2 in
     rw (byte_stays xs ys (path + 1) count.0 count.1, some.0) (name_of_stays xs ys ups count.0 (path + 2) name some.1)
 
-path_stays : (xs ys : List ℕ) (ups path : ℕ) (name : Name) → path_at xs ups path ≡ Ok name → path_at (xs ++ ys) ups path ≡ Ok name
+path_stays : (xs ys : List ℕ) (ups path : ℕ) (name : Name) → path_at xs ups path ≡ Ok name
+    → path_at (xs ++ ys) ups path ≡ Ok name
 path_stays xs ys ups path name e =
     let lead = bind_ok (byte_at xs path) _ name e in
-    let one = stays_if (lead.0 == 0x2F) _ _ _ _ name (many_stays xs ys ups path name) (name_of_stays xs ys ups 1 path name) in
+    let one = stays_if (lead.0 == 0x2F) _ _ _ _ name (many_stays xs ys ups path name)
+    (name_of_stays xs ys ups 1 path name) in
     let two = stays_if (lead.0 == 0x2E) _ _ _ _ name (name_of_stays xs ys ups 2 (path + 1) name) one in
-    rw (byte_stays xs ys path lead.0 lead.1) (stays_if (lead.0 == 0x00) _ _ _ _ name (name_of_stays xs ys ups 0 (path + 1) name) two lead.2)
+    rw (byte_stays xs ys path lead.0 lead.1) (stays_if (lead.0 == 0x00) _ _ _ _ name
+    (name_of_stays xs ys ups 0 (path + 1) name) two lead.2)
 
 -- what holds whichever way is taken
-either_way : {A : Type 0} (P : Type 0) (b : Bool) (r s : Result A AmlError) (y : A) → (r ≡ Ok y → P) → (s ≡ Ok y → P) → cond b r s ≡ Ok y → P
+either_way : {A : Type 0} (P : Type 0) (b : Bool) (r s : Result A AmlError) (y : A) → (r ≡ Ok y → P) → (s ≡ Ok y
+    → P) → cond b r s ≡ Ok y → P
 either_way P true r s y one other e = one e
 either_way P false r s y one other e = other e
 
@@ -149,7 +170,8 @@ single_many xs ups path name e =
 single_path : (xs : List ℕ) (ups path : ℕ) (name : Name) → path_at xs ups path ≡ Ok name → Single xs name
 single_path xs ups path name e =
     let lead = bind_ok (byte_at xs path) _ name e in
-    let one = either_way (Single xs name) (lead.0 == 0x2F) _ _ name (single_many xs ups path name) (single_of xs ups 1 path name) in
+    let one = either_way (Single xs name) (lead.0 == 0x2F) _ _ name (single_many xs ups path name)
+    (single_of xs ups 1 path name) in
     let two = either_way (Single xs name) (lead.0 == 0x2E) _ _ name (single_of xs ups 2 (path + 1) name) one in
     either_way (Single xs name) (lead.0 == 0x00) _ _ name (single_of xs ups 0 (path + 1) name) two lead.2
 
@@ -160,7 +182,9 @@ single_name xs at name e =
     single_path xs (carets xs at) (at + carets xs at + cond (first.0 == 92) 1 0) name first.2
 
 -- a front of elements that pass ends where it did, if it ends before the list
-front_next : (p : ℕ → Bool) (x : ℕ) (xs ys : List ℕ) (b : Bool) → p x ≡ b → (prefix_len p xs < length xs → prefix_len p (xs ++ ys) ≡ prefix_len p xs) → prefix_len p (x ∷ xs) < length (x ∷ xs) → prefix_len p (x ∷ (xs ++ ys)) ≡ prefix_len p (x ∷ xs)
+front_next : (p : ℕ → Bool) (x : ℕ) (xs ys : List ℕ) (b : Bool) → p x ≡ b → (prefix_len p xs < length xs
+    → prefix_len p (xs ++ ys) ≡ prefix_len p xs) → prefix_len p (x ∷ xs) < length (x ∷ xs)
+    → prefix_len p (x ∷ (xs ++ ys)) ≡ prefix_len p (x ∷ xs)
 front_next p x xs ys false e rest less = rw e refl
 front_next p x xs ys true e rest less =
     let n : prefix_len p (x ∷ xs) ≡ 1 + prefix_len p xs = ap (λ b. cond b (1 + prefix_len p xs) 0) e in
@@ -173,7 +197,9 @@ front_stays p (x ∷ xs) ys less = front_next p x xs ys (p x) refl (front_stays 
 carets_stay : (xs ys : List ℕ) (at : ℕ) → at + carets xs at < length xs → carets (xs ++ ys) at ≡ carets xs at
 carets_stay xs ys at less =
     let n = length-prefix_len (λ (c : ℕ). c == 94) (drop at xs) in
-    ap (λ l. length (take_while (λ (c : ℕ). c == 94) l)) (drop-append-le at xs ys (omega (arith, less))) ∙ length-prefix_len (λ (c : ℕ). c == 94) (drop at xs ++ ys) ∙ front_stays (λ (c : ℕ). c == 94) (drop at xs) ys (omega (arith, less, n, length-drop at xs)) ∙ sym n
+    ap (λ l. length (take_while (λ (c : ℕ). c == 94) l)) (drop-append-le at xs ys (omega (arith, less))) ∙
+    length-prefix_len (λ (c : ℕ). c == 94) (drop at xs ++ ys) ∙ front_stays (λ (c : ℕ). c == 94) (drop at xs) ys
+    (omega (arith, less, n, length-drop at xs)) ∙ sym n
 
 name_stays : (xs ys : List ℕ) (at : ℕ) (name : Name) → name_at xs at ≡ Ok name → name_at (xs ++ ys) at ≡ Ok name
 unfolding name_at
@@ -182,7 +208,8 @@ name_stays xs ys at name e =
     let path = at + carets xs at + cond (first.0 == 92) 1 0 in
     let lead = bind_ok (byte_at xs path) _ name first.2 in
     let less : at + carets xs at < length xs = omega (arith, byte_within xs path lead.0 lead.1) in
-    rw (byte_stays xs ys at first.0 first.1, carets_stay xs ys at less) (path_stays xs ys (carets xs at) path name first.2)
+    rw (byte_stays xs ys at first.0 first.1, carets_stay xs ys at less)
+    (path_stays xs ys (carets xs at) path name first.2)
 
 -- ---- arguments
 
@@ -190,11 +217,17 @@ some_left : (p : ℕ → Bool) (xs : List ℕ) (n : ℕ) → position p xs ≡ S
 some_left p [] n e = absurd cc
 some_left p (x ∷ xs) n e = omega arith
 
-position_if : (p : ℕ → Bool) (xs ys : List ℕ) (n : ℕ) (b : Bool) → nat_lt (prefix_len (λ x. not (p x)) xs) (length xs) ≡ b → cond b (Some (prefix_len (λ x. not (p x)) xs)) None ≡ Some n → position p (xs ++ ys) ≡ Some n
+position_if : (p : ℕ → Bool) (xs ys : List ℕ) (n : ℕ) (b : Bool)
+    → nat_lt (prefix_len (λ x. not (p x)) xs) (length xs) ≡ b
+    → cond b (Some (prefix_len (λ x. not (p x)) xs)) None ≡ Some n → position p (xs ++ ys) ≡ Some n
 position_if p xs ys n false h e = absurd cc
 position_if p xs ys n true h e =
     let less = ltb-true (prefix_len (λ x. not (p x)) xs) (length xs) h in
-    rw (front_stays (λ x. not (p x)) xs ys less, lt-ltb (prefix_len (λ x. not (p x)) xs) (length (xs ++ ys)) (omega (arith, less, length-append xs ys))) e
+    rw (
+      front_stays (λ x. not (p x)) xs ys less,
+      lt-ltb (prefix_len (λ x. not (p x)) xs) (length (xs ++ ys))
+          (omega (arith, less, length-append xs ys)),
+    ) e
 
 position_stays : (p : ℕ → Bool) (xs ys : List ℕ) (n : ℕ) → position p xs ≡ Some n → position p (xs ++ ys) ≡ Some n
 position_stays p xs ys n e = position_if p xs ys n (nat_lt (prefix_len (λ x. not (p x)) xs) (length xs)) refl e
@@ -203,7 +236,12 @@ text_stays : (xs ys : List ℕ) (at end : ℕ) → text_end xs at ≡ Ok end →
 text_stays xs ys at end e =
     let n = bind_ok (ok_or (position (λ (b : ℕ). b == 0) (drop at xs)) (PastEnd at)) _ end e in
     let found = some_of (position (λ (b : ℕ). b == 0) (drop at xs)) (PastEnd at) n.0 n.1 in
-    let within : at ≤ length xs = omega (arith, some_left (λ (b : ℕ). b == 0) (drop at xs) n.0 found, length-drop at xs) in
+    let within : at ≤ length xs = omega (
+      arith,
+      some_left (λ (b : ℕ). b == 0) (drop at xs) n.0 found,
+      length-drop at
+          xs,
+    ) in
     rw (drop-append-le at xs ys within, position_stays (λ (b : ℕ). b == 0) (drop at xs) ys n.0 found) n.2
 
 block_end_stays : (xs ys : List ℕ) (at end : ℕ) → block_end xs at ≡ Ok end → block_end (xs ++ ys) at ≡ Ok end
@@ -218,12 +256,16 @@ name_end_stays xs ys at end e =
 
 other_stays : (xs ys : List ℕ) (at lead end : ℕ) → other_end xs at lead ≡ Ok end → other_end (xs ++ ys) at lead ≡ Ok end
 other_stays xs ys at lead end e =
-    let name = stays_if (begins_name lead) _ _ _ _ end (name_end_stays xs ys at end) (λ (e : Err (UnknownTerm at) ≡ Ok end). e) in
+    let name = stays_if (begins_name lead) _ _ _ _ end (name_end_stays xs ys at end)
+    (λ (e : Err (UnknownTerm at) ≡ Ok end). e) in
     let block = stays_if (nat_le 0x11 lead && nat_le lead 0x13) _ _ _ _ end (block_end_stays xs ys (at + 1) end) name in
     let text = stays_if (lead == 0x0D) _ _ _ _ end (text_stays xs ys (at + 1) end) block in
     stays_if (is_single lead) (Ok (at + 1)) _ (Ok (at + 1)) _ end (λ e. e) text e
 
-stays_option : {A : Type 0} (o : Option ℕ) (f g : ℕ → Result A AmlError) (r s : Result A AmlError) (y : A) → ((n : ℕ) → f n ≡ Ok y → g n ≡ Ok y) → (r ≡ Ok y → s ≡ Ok y) → ◌≡◌ {A = Result A AmlError} (elim o [ Some n ↦ f n | None ↦ r ]) (Ok y) → ◌≡◌ {A = Result A AmlError} (elim o [ Some n ↦ g n | None ↦ s ]) (Ok y)
+stays_option : {A : Type 0} (o : Option ℕ) (f g : ℕ → Result A AmlError) (r s : Result A AmlError) (y : A)
+    → ((n : ℕ) → f n ≡ Ok y → g n ≡ Ok y) → (r ≡ Ok y → s ≡ Ok y)
+    → ◌≡◌ {A = Result A AmlError} (elim o [ Some n ↦ f n | None ↦ r ]) (Ok y)
+    → ◌≡◌ {A = Result A AmlError} (elim o [ Some n ↦ g n | None ↦ s ]) (Ok y)
 stays_option None f g r s y one other e = other e
 stays_option (Some n) f g r s y one other e = one n e
 
@@ -231,33 +273,48 @@ operand_stays : (xs ys : List ℕ) (at end : ℕ) → operand_end xs at ≡ Ok e
 unfolding operand_end
 operand_stays xs ys at end e =
     let lead = bind_ok (byte_at xs at) _ end e in
-    rw (byte_stays xs ys at lead.0 lead.1) (stays_option (integer_width lead.0) (λ w. bytes_end xs (at + 1) w) (λ w. bytes_end (xs ++ ys) (at + 1) w) (other_end xs at lead.0) (other_end (xs ++ ys) at lead.0) end (λ w. bytes_stay xs ys (at + 1) w end) (other_stays xs ys at lead.0 end) lead.2)
+    rw (byte_stays xs ys at lead.0 lead.1) (stays_option (integer_width lead.0) (λ w. bytes_end xs (at + 1) w)
+    (λ w. bytes_end (xs ++ ys) (at + 1) w) (other_end xs at lead.0) (other_end (xs ++ ys) at lead.0) end
+    (λ w. bytes_stay xs ys (at + 1) w end) (other_stays xs ys at lead.0 end) lead.2)
 
-none_are_left : (m left : ℕ) (ys : List ℕ) (at end : ℕ) (b : Bool) → eqb left 0 ≡ b → cond b (Ok at) (Err (PastEnd at)) ≡ Ok end → arguments_end m left ys at ≡ Ok end
+none_are_left : (m left : ℕ) (ys : List ℕ) (at end : ℕ) (b : Bool) → eqb left 0 ≡ b
+    → cond b (Ok at) (Err (PastEnd at)) ≡ Ok end → arguments_end m left ys at ≡ Ok end
 none_are_left zero left ys at end true h e = rw h e
 none_are_left (suc m) left ys at end true h e = rw h e
 none_are_left m left ys at end false h e = absurd cc
 
-argument_next : (n m left : ℕ) (xs ys : List ℕ) (at end lead : ℕ) → ((left at : ℕ) → arguments_end n left xs at ≡ Ok end → arguments_end m left (xs ++ ys) at ≡ Ok end) → cond (is_operator lead) (arguments_end n (left + 2) xs (at + 1)) (operand_end xs at >>= (λ next. arguments_end n (left - 1) xs next)) ≡ Ok end → cond (is_operator lead) (arguments_end m (left + 2) (xs ++ ys) (at + 1)) (operand_end (xs ++ ys) at >>= (λ next. arguments_end m (left - 1) (xs ++ ys) next)) ≡ Ok end
-argument_next n m left xs ys at end lead rest e = stays_if (is_operator lead) _ _ _ _ end (rest (left + 2) (at + 1)) (λ e.
+argument_next : (n m left : ℕ) (xs ys : List ℕ) (at end lead : ℕ) → ((left at : ℕ)
+    → arguments_end n left xs at ≡ Ok end → arguments_end m left (xs ++ ys) at ≡ Ok end)
+    → cond (is_operator lead) (arguments_end n (left + 2) xs (at + 1))
+    (operand_end xs at >>= (λ next. arguments_end n (left - 1) xs next)) ≡ Ok end
+    → cond (is_operator lead) (arguments_end m (left + 2) (xs ++ ys) (at + 1))
+    (operand_end (xs ++ ys) at >>= (λ next. arguments_end m (left - 1) (xs ++ ys) next)) ≡ Ok end
+argument_next n m left xs ys at end lead rest e = stays_if (is_operator lead) _ _ _ _ end (rest (left + 2) (at + 1))
+    (λ e.
     let next = bind_ok (operand_end xs at) _ end e in
     rw (operand_stays xs ys at next.0 next.1) (rest (left - 1) next.0 next.2)) e
 
-arguments_stay : (n m left : ℕ) (xs ys : List ℕ) (at end : ℕ) → n ≤ m → arguments_end n left xs at ≡ Ok end → arguments_end m left (xs ++ ys) at ≡ Ok end
+arguments_stay : (n m left : ℕ) (xs ys : List ℕ) (at end : ℕ) → n ≤ m → arguments_end n left xs at ≡ Ok end
+    → arguments_end m left (xs ++ ys) at ≡ Ok end
 arguments_stay zero m left xs ys at end le e = none_are_left m left (xs ++ ys) at end (eqb left 0) refl e
 arguments_stay (suc n) zero left xs ys at end le e = absurd (omega (arith, le))
-arguments_stay (suc n) (suc m) left xs ys at end le e = stays_if (left == 0) _ _ _ _ end (λ (e : Ok at ≡ Ok end). e) (λ e.
-    let lead = bind_ok (byte_at xs at) (λ lead. cond (is_operator lead) (arguments_end n (left + 2) xs (at + 1)) (operand_end xs at >>= (λ next. arguments_end n (left - 1) xs next))) end e in
+arguments_stay (suc n) (suc m) left xs ys at end le e = stays_if (left == 0) _ _ _ _ end (λ (e : Ok at ≡ Ok end). e)
+    (λ e.
+    let lead = bind_ok (byte_at xs at) (λ lead. cond (is_operator lead) (arguments_end n (left + 2) xs (at + 1))
+    (operand_end xs at >>= (λ next. arguments_end n (left - 1) xs next))) end e in
     let less : n ≤ m = omega (arith, le) in
-    rw (byte_stays xs ys at lead.0 lead.1) (argument_next n m left xs ys at end lead.0 (λ left at e. arguments_stay n m left xs ys at end less e) lead.2)) e
+    rw (byte_stays xs ys at lead.0 lead.1) (argument_next n m left xs ys at end lead.0
+    (λ left at e. arguments_stay n m left xs ys at end less e) lead.2)) e
 
 argument_stays : (xs ys : List ℕ) (at end : ℕ) → argument_end xs at ≡ Ok end → argument_end (xs ++ ys) at ≡ Ok end
 unfolding argument_end
-argument_stays xs ys at end e = arguments_stay (length xs + 1) (length (xs ++ ys) + 1) 1 xs ys at end (omega (arith, length-append xs ys)) e
+argument_stays xs ys at end e = arguments_stay (length xs + 1) (length (xs ++ ys) + 1) 1 xs ys at end
+    (omega (arith, length-append xs ys)) e
 
 -- ---- objects
 
-types_stay : (xs ys : List ℕ) (at : ℕ) (types : SleepTypes) → types_at xs at ≡ Ok types → types_at (xs ++ ys) at ≡ Ok types
+types_stay : (xs ys : List ℕ) (at : ℕ) (types : SleepTypes) → types_at xs at ≡ Ok types
+    → types_at (xs ++ ys) at ≡ Ok types
 unfolding types_at
 types_stay xs ys at types e =
     let lead = bind_ok (byte_at xs at) _ types e in
@@ -280,7 +337,8 @@ part_stays part.Byte xs ys at end e = bytes_stay xs ys at 1 end e
 part_stays part.Argument xs ys at end e = argument_stays xs ys at end e
 part_stays part.Block xs ys at end e = block_end_stays xs ys at end e
 
-parts_stay : (ps : List Part) (xs ys : List ℕ) (at end : ℕ) → parts_end ps xs at ≡ Ok end → parts_end ps (xs ++ ys) at ≡ Ok end
+parts_stay : (ps : List Part) (xs ys : List ℕ) (at end : ℕ) → parts_end ps xs at ≡ Ok end
+    → parts_end ps (xs ++ ys) at ≡ Ok end
 parts_stay [] xs ys at end e = e
 parts_stay (p ∷ ps) xs ys at end e =
     let first = bind_ok (part_end p xs at) _ end e in
@@ -290,58 +348,88 @@ same_if : (a b c : Bool) → (a ≡ true → b ≡ c) → (a && b) ≡ (a && c)
 same_if true b c same = same refl
 same_if false b c same = refl
 
-state_stays : (xs ys : List ℕ) (state : ℕ) (name : Name) → Single xs name → is_state (xs ++ ys) state name ≡ is_state xs state name
+state_stays : (xs ys : List ℕ) (state : ℕ) (name : Name) → Single xs name
+    → is_state (xs ++ ys) state name ≡ is_state xs state name
 state_stays xs ys state name single =
-    same_if (name.ups == 0 && name.segments == 1) (field_of (xs ++ ys) name.first 4 == state_code state) (field_of xs name.first 4 == state_code state) (λ is.
-    ap (λ f. f == state_code state) (field_stays xs ys name.first 4 (single (eqb-true name.segments 1 (and_parts (name.ups == 0) (name.segments == 1) is).1))))
+    same_if (name.ups == 0 && name.segments == 1) (field_of (xs ++ ys) name.first 4 == state_code state)
+    (field_of xs name.first 4 == state_code state) (λ is.
+    ap (λ f. f == state_code state) (field_stays xs ys name.first 4
+    (single (eqb-true name.segments 1 (and_parts (name.ups == 0) (name.segments == 1) is).1))))
 
-named_stays : (xs ys : List ℕ) (state : ℕ) (scope : Option ℕ) (at : ℕ) (s : Step) → named_at xs state scope at ≡ Ok s → named_at (xs ++ ys) state scope at ≡ Ok s
+named_stays : (xs ys : List ℕ) (state : ℕ) (scope : Option ℕ) (at : ℕ) (s : Step)
+    → named_at xs state scope at ≡ Ok s → named_at (xs ++ ys) state scope at ≡ Ok s
 unfolding named_at
 named_stays xs ys state scope at s e =
     let name = bind_ok (name_at xs at) _ s e in
-    rw (name_stays xs ys at name.0 name.1, state_stays xs ys state name.0 (single_name xs at name.0 name.1)) (stays_if (is_state xs state name.0) _ _ _ _ s (λ e.
+    rw (name_stays xs ys at name.0 name.1, state_stays xs ys state name.0 (single_name xs at name.0 name.1))
+    (stays_if (is_state xs state name.0) _ _ _ _ s (λ e.
     let types = bind_ok (types_at xs name.0.end) _ s e in
     rw (types_stay xs ys name.0.end types.0 types.1) types.2) (λ e.
     let next = bind_ok (argument_end xs name.0.end) _ s e in
     rw (argument_stays xs ys name.0.end next.0 next.1) next.2) name.2)
 
-scope_stays : (xs ys : List ℕ) (scope : Option ℕ) (at : ℕ) (s : Step) → scope_at xs scope at ≡ Ok s → scope_at (xs ++ ys) scope at ≡ Ok s
+scope_stays : (xs ys : List ℕ) (scope : Option ℕ) (at : ℕ) (s : Step) → scope_at xs scope at ≡ Ok s
+    → scope_at (xs ++ ys) scope at ≡ Ok s
 unfolding scope_at
 scope_stays xs ys scope at s e =
     let block = bind_ok (block_at xs at) _ s e in
-    rw (block_stays xs ys at block.0 block.1, take-append-le block.0.end xs ys (block_within xs at block.0 block.1)) block.2
+    rw (block_stays xs ys at block.0 block.1, take-append-le block.0.end xs ys (block_within xs at block.0 block.1))
+    block.2
 
-method_stays : (xs ys : List ℕ) (state : ℕ) (scope : Option ℕ) (at : ℕ) (s : Step) → method_at xs state scope at ≡ Ok s → method_at (xs ++ ys) state scope at ≡ Ok s
+method_stays : (xs ys : List ℕ) (state : ℕ) (scope : Option ℕ) (at : ℕ) (s : Step)
+    → method_at xs state scope at ≡ Ok s → method_at (xs ++ ys) state scope at ≡ Ok s
 unfolding method_at
 method_stays xs ys state scope at s e =
     let block = bind_ok (block_at xs at) _ s e in
     let within = block_within xs at block.0 block.1 in
     let name = bind_ok (name_at (take block.0.end xs) block.0.start) _ s block.2 in
-    let single : Single xs name.0 = λ one. omega (arith, within, length-take-le block.0.end xs within, single_name (take block.0.end xs) block.0.start name.0 name.1 one) in
-    rw (block_stays xs ys at block.0 block.1, take-append-le block.0.end xs ys within, name.1, state_stays xs ys state name.0 single) name.2
+    let single : Single xs name.0 = λ one. omega (
+      arith,
+      within,
+      length-take-le block.0.end xs within,
+      single_name (take block.0.end xs) block.0.start name.0
+          name.1 one,
+    ) in
+    rw (
+      block_stays xs ys at block.0 block.1,
+      take-append-le block.0.end xs ys within,
+      name.1,
+      state_stays xs ys
+          state name.0 single,
+    ) name.2
 
-alias_stays : (xs ys : List ℕ) (state : ℕ) (scope : Option ℕ) (at : ℕ) (s : Step) → alias_at xs state scope at ≡ Ok s → alias_at (xs ++ ys) state scope at ≡ Ok s
+alias_stays : (xs ys : List ℕ) (state : ℕ) (scope : Option ℕ) (at : ℕ) (s : Step)
+    → alias_at xs state scope at ≡ Ok s → alias_at (xs ++ ys) state scope at ≡ Ok s
 unfolding alias_at
 alias_stays xs ys state scope at s e =
     let object = bind_ok (name_at xs at) _ s e in
     let name = bind_ok (name_at xs object.0.end) _ s object.2 in
-    rw (name_stays xs ys at object.0 object.1, name_stays xs ys object.0.end name.0 name.1, state_stays xs ys state name.0 (single_name xs object.0.end name.0 name.1)) name.2
+    rw (
+      name_stays xs ys at object.0 object.1,
+      name_stays xs ys object.0.end name.0 name.1,
+      state_stays xs ys state
+          name.0 (single_name xs object.0.end name.0 name.1),
+    ) name.2
 
-passed_stays : (xs ys : List ℕ) (code : ℕ) (scope : Option ℕ) (at after : ℕ) (s : Step) → passed_at xs code scope at after ≡ Ok s → passed_at (xs ++ ys) code scope at after ≡ Ok s
+passed_stays : (xs ys : List ℕ) (code : ℕ) (scope : Option ℕ) (at after : ℕ) (s : Step)
+    → passed_at xs code scope at after ≡ Ok s → passed_at (xs ++ ys) code scope at after ≡ Ok s
 unfolding passed_at
 passed_stays xs ys code scope at after s e =
     let parts = bind_ok (ok_or (parts_of code) (UnknownTerm at)) _ s e in
     let end = bind_ok (parts_end parts.0 xs after) _ s parts.2 in
     rw (parts.1, parts_stay parts.0 xs ys after end.0 end.1) end.2
 
-object_stays : (xs ys : List ℕ) (state : ℕ) (scope : Option ℕ) (at : ℕ) (s : Step) → object_at xs state scope at ≡ Ok s → object_at (xs ++ ys) state scope at ≡ Ok s
+object_stays : (xs ys : List ℕ) (state : ℕ) (scope : Option ℕ) (at : ℕ) (s : Step)
+    → object_at xs state scope at ≡ Ok s → object_at (xs ++ ys) state scope at ≡ Ok s
 unfolding object_at
 object_stays xs ys state scope at s e =
     let op = bind_ok (opcode_at xs at) _ s e in
-    let alias = stays_if (op.0.code == 0x06) _ _ _ _ s (alias_stays xs ys state scope op.0.end s) (passed_stays xs ys op.0.code scope at op.0.end s) in
+    let alias = stays_if (op.0.code == 0x06) _ _ _ _ s (alias_stays xs ys state scope op.0.end s)
+    (passed_stays xs ys op.0.code scope at op.0.end s) in
     let method = stays_if (op.0.code == 0x14) _ _ _ _ s (method_stays xs ys state scope op.0.end s) alias in
     let other = stays_if (op.0.code == 0x10) _ _ _ _ s (scope_stays xs ys scope op.0.end s) method in
-    rw (opcode_stays xs ys at op.0 op.1) (stays_if (op.0.code == 0x08) _ _ _ _ s (named_stays xs ys state scope op.0.end s) other op.2)
+    rw (opcode_stays xs ys at op.0 op.1) (stays_if (op.0.code == 0x08) _ _ _ _ s
+    (named_stays xs ys state scope op.0.end s) other op.2)
 
 -- ---- the walk
 
@@ -352,15 +440,22 @@ front_of_both (suc n) (x ∷ xs) ys =
     let rest = front_of_both n xs ys in
     (rest.0, ap (λ l. x ∷ l) rest.1)
 
-inside_stays : (xs ys : List ℕ) (state end at : ℕ) (s : Step) → object_at (take end xs) state (Some end) at ≡ Ok s → object_at (take end (xs ++ ys)) state (Some end) at ≡ Ok s
+inside_stays : (xs ys : List ℕ) (state end at : ℕ) (s : Step) → object_at (take end xs) state (Some end) at ≡ Ok s
+    → object_at (take end (xs ++ ys)) state (Some end) at ≡ Ok s
 inside_stays xs ys state end at s e =
     let front = front_of_both end xs ys in
     ap (λ l. object_at l state (Some end) at) front.1 ∙ object_stays (take end xs) front.0 state (Some end) at s e
 
-step_stays : (xs ys : List ℕ) (state : ℕ) (place : Place) (s : Step) → step_at xs state place ≡ Ok s → step_at (xs ++ ys) state place ≡ Ok s
+step_stays : (xs ys : List ℕ) (state : ℕ) (place : Place) (s : Step) → step_at xs state place ≡ Ok s
+    → step_at (xs ++ ys) state place ≡ Ok s
 unfolding step_at
 step_stays xs ys state place s e =
-    stays_option place.scope (λ end. cond (nat_lt place.at end) (object_at (take end xs) state (Some end) place.at) (object_at xs state None place.at)) (λ end. cond (nat_lt place.at end) (object_at (take end (xs ++ ys)) state (Some end) place.at) (object_at (xs ++ ys) state None place.at)) (object_at xs state None place.at) (object_at (xs ++ ys) state None place.at) s (λ end. stays_if (nat_lt place.at end) _ _ _ _ s (inside_stays xs ys state end place.at s) (object_stays xs ys state None place.at s)) (object_stays xs ys state None place.at s) e
+    stays_option place.scope (λ end. cond (nat_lt place.at end) (object_at (take end xs) state (Some end) place.at)
+    (object_at xs state None place.at)) (λ end. cond (nat_lt place.at end)
+    (object_at (take end (xs ++ ys)) state (Some end) place.at) (object_at (xs ++ ys) state None place.at))
+    (object_at xs state None place.at) (object_at (xs ++ ys) state None place.at) s
+    (λ end. stays_if (nat_lt place.at end) _ _ _ _ s (inside_stays xs ys state end place.at s)
+    (object_stays xs ys state None place.at s)) (object_stays xs ys state None place.at s) e
 
 -- what is answered after a step
 abbrev found_after : ℕ → List ℕ → ℕ → ℕ → Option ℕ → Step → Result SleepAnswer AmlError
@@ -377,24 +472,38 @@ no_types : (unseen : Option ℕ) (types : SleepTypes) → answered (answer_past 
 no_types None types e = cc
 no_types (Some at) types e = cc
 
-walk_after : (n m : ℕ) (xs ys : List ℕ) (state at : ℕ) (unseen : Option ℕ) (types : SleepTypes) (s : Step) → ((place : Place) (unseen : Option ℕ) → walked n xs state place unseen ≡ Ok (Types types) → walked m (xs ++ ys) state place unseen ≡ Ok (Types types)) → found_after n xs state at unseen s ≡ Ok (Types types) → found_after m (xs ++ ys) state at unseen s ≡ Ok (Types types)
+walk_after : (n m : ℕ) (xs ys : List ℕ) (state at : ℕ) (unseen : Option ℕ) (types : SleepTypes) (s : Step)
+    → ((place : Place) (unseen : Option ℕ) → walked n xs state place unseen ≡ Ok (Types types)
+    → walked m (xs ++ ys) state place unseen ≡ Ok (Types types))
+    → found_after n xs state at unseen s ≡ Ok (Types types)
+    → found_after m (xs ++ ys) state at unseen s ≡ Ok (Types types)
 walk_after n m xs ys state at unseen types (Found found) rest e = e
 walk_after n m xs ys state at unseen types (On next) rest e = rest next unseen e
 walk_after n m xs ys state at unseen types (Unseen next) rest e = rest next (option_or unseen (Some at)) e
 
-walk_from : (n m : ℕ) (xs ys : List ℕ) (state : ℕ) (place : Place) (unseen : Option ℕ) (types : SleepTypes) (b : Bool) → ((place : Place) (unseen : Option ℕ) → walked n xs state place unseen ≡ Ok (Types types) → walked m (xs ++ ys) state place unseen ≡ Ok (Types types)) → leb (length xs) place.at ≡ b → cond b (Ok (answer_past unseen)) (step_at xs state place >>= found_after n xs state place.at unseen) ≡ Ok (Types types) → walked (suc m) (xs ++ ys) state place unseen ≡ Ok (Types types)
+walk_from : (n m : ℕ) (xs ys : List ℕ) (state : ℕ) (place : Place) (unseen : Option ℕ) (types : SleepTypes)
+    (b : Bool) → ((place : Place) (unseen : Option ℕ) → walked n xs state place unseen ≡ Ok (Types types)
+    → walked m (xs ++ ys) state place unseen ≡ Ok (Types types)) → leb (length xs) place.at ≡ b
+    → cond b (Ok (answer_past unseen)) (step_at xs state place >>= found_after n xs state place.at unseen) ≡ Ok
+    (Types types) → walked (suc m) (xs ++ ys) state place unseen ≡ Ok (Types types)
 walk_from n m xs ys state place unseen types true rest h e = absurd (no_types unseen types e)
 walk_from n m xs ys state place unseen types false rest h e =
-    let past : leb (length (xs ++ ys)) place.at ≡ false = lt-leb (length (xs ++ ys)) place.at (omega (arith, leb-false (length xs) place.at h, length-append xs ys)) in
+    let past : leb (length (xs ++ ys)) place.at ≡ false = lt-leb (length (xs ++ ys)) place.at
+    (omega (arith, leb-false (length xs) place.at h, length-append xs ys)) in
     let s = bind_ok (step_at xs state place) (found_after n xs state place.at unseen) (Types types) e in
     rw (past, step_stays xs ys state place s.0 s.1) (walk_after n m xs ys state place.at unseen types s.0 rest s.2)
 
-walk_stays : (n m : ℕ) (xs ys : List ℕ) (state : ℕ) (place : Place) (unseen : Option ℕ) (types : SleepTypes) → n ≤ m → walked n xs state place unseen ≡ Ok (Types types) → walked m (xs ++ ys) state place unseen ≡ Ok (Types types)
+walk_stays : (n m : ℕ) (xs ys : List ℕ) (state : ℕ) (place : Place) (unseen : Option ℕ) (types : SleepTypes)
+    → n ≤ m → walked n xs state place unseen ≡ Ok (Types types)
+    → walked m (xs ++ ys) state place unseen ≡ Ok (Types types)
 walk_stays zero m xs ys state place unseen types le e = absurd (no_types unseen types e)
 walk_stays (suc n) zero xs ys state place unseen types le e = absurd (omega (arith, le))
-walk_stays (suc n) (suc m) xs ys state place unseen types le e = walk_from n m xs ys state place unseen types (leb (length xs) place.at) (λ place unseen e. walk_stays n m xs ys state place unseen types (omega (arith, le)) e) refl e
+walk_stays (suc n) (suc m) xs ys state place unseen types le e = walk_from n m xs ys state place unseen types
+    (leb (length xs) place.at) (λ place unseen e. walk_stays n m xs ys state place unseen types (omega (arith, le))
+    e) refl e
 
 pub nothing_behind_matters : NothingBehindMatters
 unfolding sleep_types_of
 nothing_behind_matters aml more state types e =
-    walk_stays (length aml) (length (aml ++ more)) aml more state first_place None types (omega (arith, length-append aml more)) e
+    walk_stays (length aml) (length (aml ++ more)) aml more state first_place None types
+    (omega (arith, length-append aml more)) e

@@ -5,4 +5,5 @@ use Rattle.acpi_sleep.specs.declared.sleep.SleepAnswer.TheVariants.{Types}
 use Rattle.acpi_sleep.specs.declared.sleep.SleepTypes.{SleepTypes}
 
 abbrev pub NothingBehindMatters : Type 0
-NothingBehindMatters = (aml more : List ℕ) (state : ℕ) (types : SleepTypes) → sleep_types_of aml state ≡ Ok (Types types) → sleep_types_of (aml ++ more) state ≡ Ok (Types types)
+NothingBehindMatters = (aml more : List ℕ) (state : ℕ) (types : SleepTypes)
+    → sleep_types_of aml state ≡ Ok (Types types) → sleep_types_of (aml ++ more) state ≡ Ok (Types types)

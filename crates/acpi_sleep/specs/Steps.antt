@@ -124,16 +124,20 @@ sleep_types_of aml state = walked (length aml) aml state first_place None
 -- a place that the walk comes to, and where the first object on the way stands that isn't seen
 pub data IsReached (aml : List ℕ) (state : ℕ) : Place → Option ℕ → Type 0 where
   at_start : IsReached aml state first_place None
-  after_step : (here there : Place) (unseen : Option ℕ) → IsReached aml state here unseen → step_at aml state here ≡ Ok (On there) → IsReached aml state there unseen
-  after_unseen : (here there : Place) (unseen : Option ℕ) → IsReached aml state here unseen → step_at aml state here ≡ Ok (Unseen there) → IsReached aml state there (option_or unseen (Some here.at))
+  after_step : (here there : Place) (unseen : Option ℕ) → IsReached aml state here unseen
+      → step_at aml state here ≡ Ok (On there) → IsReached aml state there unseen
+  after_unseen : (here there : Place) (unseen : Option ℕ) → IsReached aml state here unseen
+      → step_at aml state here ≡ Ok (Unseen there) → IsReached aml state there (option_or unseen (Some here.at))
 
 -- what is answered stands at a place that the walk comes to: the types or the error of the object there, and at the end
 -- of the bytes alone whether an object wasn't seen
 abbrev pub IsAnswer : List ℕ → ℕ → Result SleepAnswer AmlError → Type 0
-IsAnswer aml state (Ok (Types types)) = (place : Place) × (unseen : Option ℕ) × IsReached aml state place unseen × (step_at aml state place ≡ Ok (Found types))
+IsAnswer aml state (Ok (Types types)) = (place : Place) × (unseen : Option ℕ) × IsReached aml state place unseen ×
+    (step_at aml state place ≡ Ok (Found types))
 IsAnswer aml state (Ok Absent) = (place : Place) × IsReached aml state place None × (place.at ≡ length aml)
 IsAnswer aml state (Ok (NotSeen at)) = (place : Place) × IsReached aml state place (Some at) × (place.at ≡ length aml)
-IsAnswer aml state (Err error) = (place : Place) × (unseen : Option ℕ) × IsReached aml state place unseen × (step_at aml state place ≡ Err error)
+IsAnswer aml state (Err error) = (place : Place) × (unseen : Option ℕ) × IsReached aml state place unseen ×
+    (step_at aml state place ≡ Err error)
 
 -- ---- for the code
 
