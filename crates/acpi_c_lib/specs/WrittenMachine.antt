@@ -1,5 +1,5 @@
 -- The tables of a whole machine that are written for C.
-use Rattle.std.specs.Prelude.{ℕ, ◌==◌, ◌&&◌, ◌^◌, Bool, List, [], ◌∷◌, map, length, nat_le, nat_lt, Option, Some, None, Result, ok_or}
+use Rattle.std.specs.Prelude.{ℕ, ◌==◌, ◌&&◌, ◌^◌, Bool, List, [], ◌∷◌, map, length, nat_le, nat_lt, Option, Some, None, Result, Ok, ok_or}
 use Rattle.acpi_base.specs.FromStd.{list_all}
 use Rattle.acpi_base.specs.Words.{◌>>=◌, field_of, holds, sum_of}
 use Rattle.acpi_c_lib.specs.WrittenBgrt as bgrt
@@ -16,7 +16,7 @@ use Rattle.acpi_c_lib.specs.declared.writing.machine.Contents.TheVariants.{Gtdt}
 use Rattle.acpi_c_lib.specs.declared.written_records.AmlContents as aml
 use Rattle.acpi_c_lib.specs.declared.written_records.FacsContents as facs
 use Rattle.acpi_c_lib.specs.declared.written_records.Machine as record_of
-use Rattle.acpi_writer.specs.Words.{bgrt_written, fadt_written, hpet_written, MachineOf, dsdt_at, front_written, gic_written, machine_size, machine_written, tree_written, madt_written, mcfg_written, srat_written}
+use Rattle.acpi_writer.specs.Words.{bgrt_written, fadt_written, hpet_written, MachineOf, dsdt_at, gic_written, machine_size, machine_written, tree_written, madt_written, mcfg_written, srat_written}
 
 -- ---- a table
 
@@ -51,10 +51,10 @@ is_table t =
     && (field_of t.bytes.now 4 4 == length t.bytes.now && sum_of t.bytes.now == 0)
 
 -- a listed table is written as it is
-abbrev pub listed_written : ℕ → TableIds → ListedTable → Result (List ℕ) WriterError
-listed_written room ids t = do
+abbrev pub listed_written : TableIds → ListedTable → Result (List ℕ) WriterError
+listed_written ids t = do
   _ ← holds (nat_lt (length t.bytes.now) (2 ^ 32)) TooLong
-  front_written room t.bytes.now
+  Ok t.bytes.now
 
 -- ---- the machine
 

@@ -7,7 +7,10 @@ mod tables;
 
 use crate::checks::{check, check_same};
 use acpi_examples::machine::write_processors;
-use acpi_writer::{Listed, WriterError};
+use acpi_writer::{
+    TableContents, TableIds, WriterError, write_bgrt, write_fadt, write_gic_madt, write_gtdt,
+    write_hpet, write_madt, write_mcfg, write_slit, write_spcr, write_srat, write_ssdt,
+};
 use machine::MACHINE;
 use tables::{IDS, MADT_BYTES, PROCESSORS, WRITTEN};
 
@@ -20,14 +23,35 @@ fn before_sevens(bytes: &[u8]) -> [u8; 288] {
     left
 }
 
+/// Writes a table by the function of its name.
+fn write(
+    out: &mut [u8],
+    ids: &TableIds,
+    contents: &TableContents<'_>,
+) -> Result<usize, WriterError> {
+    match contents {
+        TableContents::Madt(contents) => write_madt(out, ids, contents),
+        TableContents::Mcfg(regions) => write_mcfg(out, ids, regions),
+        TableContents::Hpet(info) => write_hpet(out, ids, info),
+        TableContents::Slit(slit) => write_slit(out, ids, slit.localities, slit.distances),
+        TableContents::Ssdt(aml) => write_ssdt(out, ids, aml.revision, aml.bytes),
+        TableContents::Fadt(contents) => write_fadt(out, ids, contents),
+        TableContents::Srat(contents) => write_srat(out, ids, contents),
+        TableContents::Spcr(contents) => write_spcr(out, ids, contents),
+        TableContents::Bgrt(contents) => write_bgrt(out, ids, contents),
+        TableContents::Gtdt(contents) => write_gtdt(out, ids, contents),
+        TableContents::GicMadt(contents) => write_gic_madt(out, ids, contents),
+    }
+}
+
 #[test]
 fn each_table_is_written_in_its_room(rt: HostRuntime) {
     for (contents, (name, _, bytes)) in MACHINE.tables.iter().zip(&WRITTEN) {
         let count = bytes.len().min(288);
         let mut out = [7; 288];
-        let less = contents.write(&mut out[..count.saturating_sub(1)], &IDS);
+        let less = write(&mut out[..count.saturating_sub(1)], &IDS, contents);
         check_same(&rt, name, &out, &[7; 288]);
-        let whole = contents.write(&mut out[..count], &IDS);
+        let whole = write(&mut out[..count], &IDS, contents);
         let wanted = [Err(WriterError::NoRoom), Ok(bytes.len())];
         check(&rt, name, [less, whole], wanted);
         check_same(&rt, name, &out, &before_sevens(bytes));

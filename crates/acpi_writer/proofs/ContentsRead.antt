@@ -57,7 +57,7 @@ checked_table checked s revision ids body t are e =
     (table_of s revision ids body t are both.2, both.1)
 
 contents_of : (ids : TableIds) (c : TableContents) (t : List ℕ) → AreIds ids → FitsContents c
-    → contents_written most ids c ≡ Ok t → IsContents ids c t
+    → contents_written ids c ≡ Ok t → IsContents ids c t
 unfolding fadt_written gic_written gtdt_written_by madt_written slit_written spcr_written srat_written
 contents_of ids (Madt c) t are fit e =
     let both = checked_table (madt_checked c) MADT 5 ids (madt_body c) t are e in
@@ -136,7 +136,7 @@ pub all_contents : (ids : TableIds) (cs : List TableContents) → AreIds ids →
     → check_tables ids cs ≡ Ok tt → AllByRecursion (λ c. IsContents ids c (bytes_of ids c)) cs
 all_contents ids [] are fit e = tt
 all_contents ids (c ∷ cs) are fit e =
-    let first = bind_ok (contents_written most ids c) (λ _. check_tables ids cs) tt e in
+    let first = bind_ok (contents_written ids c) (λ _. check_tables ids cs) tt e in
     let same : bytes_of ids c ≡ first.0 = ap or_none first.1 in (
       subst (IsContents ids c) (sym same) (contents_of ids c first.0 are fit.0 first.1),
       all_contents ids cs are fit.1 first.2,

@@ -6,7 +6,7 @@ use Rattle.acpi_base.proofs.Words.{holds_ok, same_ok, length-spelling}
 use Rattle.acpi_base.specs.Words.{◌>>=◌, letters_of, spelling}
 use Rattle.acpi.specs.Types.{Signature, BGRT, FADT, GTDT, HPET, MADT, MCFG, SLIT, SPCR, SRAT, SSDT, XSDT}
 use Rattle.acpi_writer.specs.Types.{Xsdt}
-use Rattle.acpi_writer.specs.Words.{bgrt_body, Moves, contents_written, most, or_none, Written, bytes_by, placed_by, sized, fadt_body, fadt_checked, fadt_written, gic_body, gic_checked, gic_written, gtdt_body, gtdt_checked, hpet_body, is_empty, gap, padded, addresses, laid, rounded, madt_body, madt_checked, madt_written, mcfg_body, slit_body, slit_checked, slit_written, spcr_body, spcr_checked, spcr_written, srat_body, srat_checked, srat_written, AreIds, are_texts, table_bytes, table_written, TableContents, Bgrt, Fadt, GicMadt, Gtdt, Hpet, Madt, Mcfg, Slit, Spcr, Srat, Ssdt, WriterError, FadtContents, TableIds, SpcrContents, SratContents, GicContents, MadtContents, gic_meant, madt_meant, srat_meant, MachineOf, after_dsdt, check_each, dsdt_address, dsdt_end, dsdt_of, facs_laid, listed_by, rest_bytes, size_by, tables_address, tree_by, xsdt_by, xsdt_from, xsdt_length, root_body, Measures, gtdt_written_by}
+use Rattle.acpi_writer.specs.Words.{contents_written, most, or_none, Written, bytes_by, placed_by, sized, fadt_body, fadt_checked, fadt_written, gic_body, gic_checked, gic_written, gtdt_body, gtdt_checked, hpet_body, is_empty, gap, padded, addresses, laid, rounded, madt_body, madt_checked, madt_written, mcfg_body, slit_body, slit_checked, slit_written, spcr_body, spcr_checked, spcr_written, srat_body, srat_checked, srat_written, AreIds, are_texts, table_bytes, table_written, TableContents, Bgrt, Fadt, GicMadt, Gtdt, Hpet, Madt, Mcfg, Slit, Spcr, Srat, Ssdt, WriterError, FadtContents, TableIds, SpcrContents, SratContents, GicContents, MadtContents, gic_meant, madt_meant, srat_meant, MachineOf, after_dsdt, check_each, dsdt_address, dsdt_end, dsdt_of, facs_laid, listed_by, rest_bytes, size_by, tables_address, tree_by, xsdt_by, xsdt_from, xsdt_length, root_body, Measures, gtdt_written_by}
 use Rattle.acpi_writer.proofs.Tables.{it_fits, table_length}
 use Rattle.acpi_writer.proofs.FieldsRead.{each_long}
 use borrow.Rule.Slice.PartMut.{post_of, put_mid}
@@ -38,83 +38,35 @@ wrote room s revision ids body t e =
       bytes = sym (same_ok {E = WriterError} (table_bytes s revision ids body) t short.1);
     }
 
--- ---- in another room
+-- ---- a table that is as long as its size says
 
-pub moved_table : (s : Signature) (revision : ℕ) (ids : TableIds) (body : List ℕ) → length (letters_of s) ≡ 4
-    → AreIds ids → Moves (λ room. table_written room s revision ids body)
-moved_table s revision ids body letters are room other t e fits =
-    let w = wrote room s revision ids body t e in
-    let long : length t ≡ 36 + length body = ap length w.bytes ∙ table_length s revision ids body letters are in
-    it_fits other s revision ids body w.texts (omega (arith, long, fits)) w.short ∙ sym (ap done w.bytes)
+-- what is written, if it has a size
+pub written_of : (w : Result (List ℕ) WriterError) (n : ℕ) → sized w ≡ Ok n → w ≡ Ok (or_none w) × (length (or_none w) ≡ n)
+written_of (Ok t) n e = (refl, cc)
+written_of (Err d) n e = absurd cc
 
-pub through : (r : Result (Unit {0}) WriterError) (f g : Result (List ℕ) WriterError) (t : List ℕ)
-    → (f ≡ Ok t → g ≡ Ok t) → (r >>= λ _. f) ≡ Ok t → (r >>= λ _. g) ≡ Ok t
-through (Ok passed) f g t h p = h p
-through (Err e) f g t h p = absurd cc
+past : (r : Result (Unit {0}) WriterError) (w : Result (List ℕ) WriterError) (t : List ℕ)
+    → (r >>= λ _. w) ≡ Ok t → w ≡ Ok t
+past (Ok passed) w t e = e
+past (Err d) w t e = absurd cc
 
--- of contents that are checked first
-pub moved_checked : (checked : Result (Unit {0}) WriterError) (s : Signature) (revision : ℕ) (ids : TableIds)
-    (body : List ℕ) → length (letters_of s) ≡ 4 → AreIds ids
-    → Moves (λ room. checked >>= λ _. table_written room s revision ids body)
-moved_checked checked s revision ids body letters are room other t e fits =
-    through checked (table_written room s revision ids body) (table_written other s revision ids body) t
-    (λ p. moved_table s revision ids body letters are room other t p fits) e
-
-pub moved_slit : (ids : TableIds) (n : ℕ) (distances : List ℕ) → AreIds ids
-    → Moves (λ room. slit_written room ids n distances)
-unfolding slit_written
-moved_slit ids n distances are = moved_checked (slit_checked n distances) SLIT 1 ids (slit_body n distances) refl are
-
-pub moved_fadt : (ids : TableIds) (c : FadtContents) → AreIds ids → Moves (λ room. fadt_written room ids c)
-unfolding fadt_written
-moved_fadt ids c are = moved_checked (fadt_checked c) FADT 6 ids (fadt_body c) refl are
-
-pub moved_spcr : (ids : TableIds) (c : SpcrContents) → AreIds ids → Moves (λ room. spcr_written room ids c)
-unfolding spcr_written
-moved_spcr ids c are = moved_checked (spcr_checked c) SPCR 4 ids (spcr_body c) refl are
-
-pub moved_contents : (ids : TableIds) (c : TableContents) → AreIds ids → Moves (λ room. contents_written room ids c)
-unfolding gic_written gtdt_written_by madt_written srat_written
-moved_contents ids (Madt c) are = moved_checked (madt_checked c) MADT 5 ids (madt_body c) refl are
-moved_contents ids (Mcfg regions) are = moved_table MCFG 1 ids (mcfg_body regions.now) refl are
-moved_contents ids (Hpet info) are = moved_table HPET 1 ids (hpet_body info) refl are
-moved_contents ids (Slit c) are = moved_slit ids c.localities c.distances.now are
-moved_contents ids (Ssdt c) are = moved_table SSDT c.revision ids c.bytes.now refl are
-moved_contents ids (Fadt c) are = moved_fadt ids c are
-moved_contents ids (Srat c) are = moved_checked (srat_checked c) SRAT 3 ids (srat_body c) refl are
-moved_contents ids (Spcr c) are = moved_spcr ids c are
-moved_contents ids (Bgrt c) are = moved_table BGRT 1 ids (bgrt_body c) refl are
-moved_contents ids (Gtdt c) are = moved_checked (gtdt_checked c) GTDT 3 ids (gtdt_body c) refl are
-moved_contents ids (GicMadt c) are = moved_checked (gic_checked c) MADT 6 ids (gic_body c) refl are
+pub said_long : (checked : Result (Unit {0}) WriterError) (s : Signature) (revision : ℕ) (ids : TableIds)
+    (body : List ℕ) (n : ℕ) → sized (checked >>= λ _. table_written most s revision ids body) ≡ Ok n
+    → (n ≡ length (table_bytes s revision ids body)) × (36 + length body < 2 ^ 32)
+    × (or_none (checked >>= λ _. table_written most s revision ids body) ≡ table_bytes s revision ids body)
+said_long checked s revision ids body n e =
+    let all = checked >>= λ _. table_written most s revision ids body in
+    let is = written_of all n e in
+    let w = wrote most s revision ids body (or_none all)
+    (past checked (table_written most s revision ids body) (or_none all) is.0) in
+    (sym is.1 ∙ ap length w.bytes, w.short, w.bytes)
 
 -- ---- filled up
 
 pub padded_long : (t : List ℕ) → length (padded t) ≡ rounded (length t)
 padded_long t = simp (length-append, length-replicate) (omega arith)
 
--- ---- what a call wrote, and what it didn't
-
-pub put_is : (written : ℕ → Result (List ℕ) WriterError) → Moves written → (room size : ℕ) (new : List ℕ)
-    → written room ≡ Ok (take size new) → size ≤ room → room ≤ length new → room ≤ most
-    → (or_none (written most) ≡ take size new) × (rounded size ≡ length (padded (or_none (written most))))
-put_is written moves room size new e within long small =
-    let kept = length-take-le size new (omega (arith, within, long)) in
-    let is : or_none (written most) ≡ take size new =
-    ap or_none (moves room most (take size new) e (omega (arith, kept, within, small))) in
-    (is, sym (padded_long (or_none (written most)) ∙ ap rounded (ap length is ∙ kept)))
-
-unwritten_by : (written : ℕ → Result (List ℕ) WriterError) → Moves written
-    → (room : ℕ) (e : WriterError) (w : Result (List ℕ) WriterError) → written most ≡ w → written room ≡ Err e
-    → length (padded (or_none w)) ≤ room → or_none w ≡ []
-unwritten_by written moves room e (Ok t) all none within =
-    let there : written room ≡ Ok t = moves most room t all
-    (omega (arith, within, length-append t (replicate (gap (length t)) 0))) in
-    absurd cc
-unwritten_by written moves room e (Err d) all none within = refl
-
-pub unwritten : (written : ℕ → Result (List ℕ) WriterError) → Moves written → (room : ℕ) (e : WriterError)
-    → written room ≡ Err e → length (padded (or_none (written most))) ≤ room → or_none (written most) ≡ []
-unwritten written moves room e none within = unwritten_by written moves room e (written most) refl none within
+-- ---- what is put
 
 abbrev pub count : ℕ → Result ℕ WriterError
 count n = Ok n
@@ -164,21 +116,21 @@ opens : {A : Type 0} (cs : List A) (i : ℕ) (x : A) → x ≡ get_or cs i x →
 opens cs i x is less = drop_more cs i x less ∙ ap (λ y. y ∷ drop (i + 1) cs) (sym is)
 
 pub listed_error : {A : Type 0} (w : Written A) (ids : TableIds) (cs : List A) (i size : ℕ) (x : A) (e : WriterError)
-    → x ≡ get_or cs i x → i < length cs → sized (w most ids x) ≡ Err e
+    → x ≡ get_or cs i x → i < length cs → sized (w ids x) ≡ Err e
     → listed_after w size ids (drop i cs) ≡ Err e
 listed_error w ids cs i size x e is less same =
-    ap (listed_after w size ids) (opens cs i x is less) ∙ after_error (w most ids x) size e
+    ap (listed_after w size ids) (opens cs i x is less) ∙ after_error (w ids x) size e
     (check_each w ids (drop (i + 1) cs)) (laid (map (bytes_by w ids) (drop (i + 1) cs))) same
 
 pub listed_step : {A : Type 0} (w : Written A) (Fits : A → Type 0) (ids : TableIds) (cs : List A) (i size more r : ℕ)
-    (total : Result ℕ WriterError) (x : A) → x ≡ get_or cs i x → i < length cs → sized (w most ids x) ≡ Ok more
+    (total : Result ℕ WriterError) (x : A) → x ≡ get_or cs i x → i < length cs → sized (w ids x) ≡ Ok more
     → Fits x → more < 2 ^ 32 → r ≡ rounded more
     → (listed_after w size ids (drop i cs) ≡ total) × (size ≤ i * 2 ^ 32) × All Fits (take i cs)
     → (listed_after w (size + r) ids (drop (i + 1) cs) ≡ total) × (size + r ≤ (i + 1) * 2 ^ 32)
     × All Fits (take (i + 1) cs)
 listed_step w Fits ids cs i size more r total x is less e fit short same before =
     let rest = drop (i + 1) cs in
-    let one = after_one (w most ids x) size more (check_each w ids rest) (laid (map (bytes_by w ids) rest)) e in (
+    let one = after_one (w ids x) size more (check_each w ids rest) (laid (map (bytes_by w ids) rest)) e in (
       ap (λ n. listed_after w (size + n) ids rest) same ∙ sym one
           ∙ sym (ap (listed_after w size ids) (opens cs i x is less)) ∙ before.0,
       omega (arith, before.1, short, same),

@@ -17,19 +17,23 @@ use Rattle.acpi_writer.specs.Srat as srat
 use Rattle.acpi_writer.specs.Table.{table_written}
 use Rattle.acpi_writer.specs.Types.{TableContents, Bgrt, Fadt, GicMadt, Gtdt, Hpet, Madt, Mcfg, Slit, Spcr, Srat, Ssdt, WriterError, TableIds}
 
--- the table in so much room, or the first error
-abbrev pub contents_written : ℕ → TableIds → TableContents → Result (List ℕ) WriterError
-contents_written room ids (Madt c) = madt_written room ids c
-contents_written room ids (Mcfg regions) = mcfg_written room ids regions.now
-contents_written room ids (Hpet info) = hpet_written room ids info
-contents_written room ids (Slit c) = slit_written room ids c.localities c.distances.now
-contents_written room ids (Ssdt c) = table_written room SSDT c.revision ids c.bytes.now
-contents_written room ids (Fadt c) = fadt_written room ids c
-contents_written room ids (Srat c) = srat_written room ids c
-contents_written room ids (Spcr c) = spcr_written room ids c
-contents_written room ids (Bgrt c) = bgrt_written room ids c
-contents_written room ids (Gtdt c) = gtdt_written room ids c
-contents_written room ids (GicMadt c) = gic_written room ids c
+-- all the room that a slice can have
+abbrev pub most : ℕ
+most = 2 ^ 64 - 1
+
+-- the table, or the first error
+abbrev pub contents_written : TableIds → TableContents → Result (List ℕ) WriterError
+contents_written ids (Madt c) = madt_written most ids c
+contents_written ids (Mcfg regions) = mcfg_written most ids regions.now
+contents_written ids (Hpet info) = hpet_written most ids info
+contents_written ids (Slit c) = slit_written most ids c.localities c.distances.now
+contents_written ids (Ssdt c) = table_written most SSDT c.revision ids c.bytes.now
+contents_written ids (Fadt c) = fadt_written most ids c
+contents_written ids (Srat c) = srat_written most ids c
+contents_written ids (Spcr c) = spcr_written most ids c
+contents_written ids (Bgrt c) = bgrt_written most ids c
+contents_written ids (Gtdt c) = gtdt_written most ids c
+contents_written ids (GicMadt c) = gic_written most ids c
 
 -- the numbers have a place
 abbrev pub FitsContents : TableContents → Type 0
@@ -68,21 +72,13 @@ abbrev pub or_none : Result (List ℕ) WriterError → List ℕ
 or_none (Ok table) = table
 or_none (Err e) = []
 
--- all the room that a slice can have
-abbrev pub most : ℕ
-most = 2 ^ 64 - 1
-
--- how things of a type are written as tables: in so much room, with these ids, or the first error
+-- how things of a type are written as tables: with these ids, or the first error
 abbrev pub Written : Type 0 → Type 0
-Written A = ℕ → TableIds → A → Result (List ℕ) WriterError
-
--- what is written in some room is written in any other that it fits into
-abbrev pub Moves : (ℕ → Result (List ℕ) WriterError) → Type 0
-Moves written = (room other : ℕ) (t : List ℕ) → written room ≡ Ok t → length t ≤ other → written other ≡ Ok t
+Written A = TableIds → A → Result (List ℕ) WriterError
 
 -- the bytes of one thing, and these filled up
 abbrev pub bytes_by : {A : Type 0} → Written A → TableIds → A → List ℕ
-bytes_by written ids c = or_none (written most ids c)
+bytes_by written ids c = or_none (written ids c)
 
 abbrev pub placed_by : {A : Type 0} → Written A → TableIds → A → List ℕ
 placed_by written ids c = padded (bytes_by written ids c)

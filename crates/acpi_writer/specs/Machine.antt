@@ -132,7 +132,7 @@ pub record Fit {A : Type 0} (Fits : A → Type 0) (m : MachineOf A) : Type 0 whe
 abbrev pub check_each : {A : Type 0} → Written A → TableIds → List A → Result (Unit {0}) WriterError
 check_each written ids [] = Ok tt
 check_each written ids (c ∷ cs) = do
-  _ ← written most ids c
+  _ ← written ids c
   check_each written ids cs
 
 unfoldable pub check_by : {A : Type 0} → Written A → MachineOf A → Result (Unit {0}) WriterError

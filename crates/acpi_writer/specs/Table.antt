@@ -37,11 +37,12 @@ table_written room s revision ids body = do
   _ ← holds (nat_lt (36 + length body) (2 ^ 32)) TooLong
   Ok (table_bytes s revision ids body)
 
--- what is written of contents that pass their checks, or their first error
-abbrev pub if_checked : {X : Type 0} → Result (Unit {0}) WriterError → Result X WriterError → Result X WriterError
-if_checked checked written = do
-  _ ← checked
-  written
+-- what is written of contents, by their check, Signature and Revision, and body, or their first error
+abbrev pub said_written : {X : Type 0} → (X → Result (Unit {0}) WriterError) → (X → Signature × ℕ) → (X → List ℕ)
+    → ℕ → TableIds → X → Result (List ℕ) WriterError
+said_written checked head body room ids c = do
+  _ ← checked c
+  table_written room (head c).0 (head c).1 ids (body c)
 
 -- bytes in so much room, or the error
 abbrev pub front_written : ℕ → List ℕ → Result (List ℕ) WriterError

@@ -4,7 +4,7 @@ pub use Rattle.acpi_writer.specs.Arm.{base_checked, flags_of, has_polarity, has_
 pub use Rattle.acpi_writer.specs.Bgrt.{BgrtIsRead, BgrtIsValid, IsBgrt, SaysImage, bgrt_body, bgrt_written, degrees_of, orientation_code}
 unfoldable pub use Rattle.acpi_writer.specs.Bgrt.{bgrt_fields}
 pub use Rattle.acpi_writer.specs.Checked.{all_checked}
-pub use Rattle.acpi_writer.specs.Contents.{FitsContents, Moves, Written, bytes_by, bytes_of, contents_written, most, or_none, placed, placed_by, signature_of, sized}
+pub use Rattle.acpi_writer.specs.Contents.{FitsContents, Written, bytes_by, bytes_of, contents_written, most, or_none, placed, placed_by, signature_of, sized}
 pub use Rattle.acpi_writer.specs.Facs.{FacsIsRead, FitsFacs, IsReadAs}
 unfoldable pub use Rattle.acpi_writer.specs.Facs.{facs_bytes, facs_written}
 pub use Rattle.acpi_writer.specs.Fadt.{address_or_zero, are_blocks, are_placed, arm_flags, body_with, bytes_wide, fadt_body, fadt_checked, feature_flags, fixed_of, gpe_length, gpe_register, has_address, is_given, narrow, pc_flags, port_of, registers, are_registers, is_block, optional_blocks, AreFitFor, FitsFadt, FadtIsRead, FadtIsValid, HasFields, HasFlags, HasHardware, HasLegacy, HasNeededBlocks, IsFadt}
@@ -40,7 +40,7 @@ unfoldable pub use Rattle.acpi_writer.specs.Spcr.{fixed_list, spcr_written}
 pub use Rattle.acpi_writer.specs.Spelled.{Measures, items_of}
 pub use Rattle.acpi_writer.specs.Srat.{apic_entry, is_one_apic, is_one_gicc, is_range, memory_entry, range_flags, srat_body, srat_checked, srat_entries, srat_meant, srat_reserved, IsSrat, SaysDomains, SratIsRead, SratIsValid}
 unfoldable pub use Rattle.acpi_writer.specs.Srat.{memory_fields, srat_written}
-pub use Rattle.acpi_writer.specs.Table.{AreIds, HasIds, IdsAreRead, IsTableOf, IsValid, Keeps, are_texts, bit_of, front_written, if_checked, unsummed}
+pub use Rattle.acpi_writer.specs.Table.{AreIds, HasIds, IdsAreRead, IsTableOf, IsValid, Keeps, are_texts, bit_of, front_written, said_written, unsummed}
 unfoldable pub use Rattle.acpi_writer.specs.Table.{table_bytes, table_head, table_written}
 pub use Rattle.acpi_writer.specs.Types.{AmlContents, BadCode, BadName, BadProfile, Bgrt, BgrtContents, BgrtOrientation, FacsContents, Fadt, FadtContents, FadtHardware, Fixed, FixedHardware, GicContents, GicMadt, Gtdt, GtdtContents, Hpet, IdOfAll, Madt, MadtContents, MadtProcessor, Mcfg, NoAddress, NoProcessor, PlatformTimerContents, Reduced, Slit, Spcr, SpcrContents, Srat, SratContents, Ssdt, TableContents, TableIds, TooLong, TooManyFrames, WriterError, GtdtOf, TimerOf}
 pub use Rattle.acpi_writer.specs.declared.contents.SlitContents.{SlitContents}

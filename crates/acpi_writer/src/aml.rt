@@ -1,5 +1,5 @@
 //! Tables of AML: the DSDT (section 5.2.11.1) and SSDTs (section 5.2.11.2), from AML bytes, taken as they are.
-ghost use Rattle.std.specs.Prelude.{◌≡◌, length, take, IfOk};
+ghost use Rattle.std.specs.Prelude.{◌≡◌, length, take, IfOk, Ok};
 ghost use Rattle.acpi_base.specs.Words.{Gives};
 ghost use Rattle.acpi.specs.Types.{DSDT, SSDT};
 ghost use Rattle.acpi_writer.specs.Words.{IsTableOf, Keeps, table_written};
@@ -7,9 +7,8 @@ ghost use Rattle.acpi_writer.specs.Words.{IsTableOf, Keeps, table_written};
 use crate::contents::AmlContents;
 use crate::error::WriterError;
 use crate::ids::TableIds;
-use crate::listed::Listed;
 use crate::spelled::Bytes;
-use crate::table::{table_size, write_table};
+use crate::table::{Table, write_table};
 use acpi_base::Signature;
 
 /// Writes a DSDT to the front of a slice, and returns how many bytes it has: 36, and the AML bytes. By a revision of 1
@@ -54,25 +53,30 @@ pub fn write_ssdt(
     write_table(out, Signature::SSDT, revision, ids, &Bytes(aml))
 }
 
-/// A DSDT, among the tables of a machine.
+/// A table of AML with this signature.
 #[derive(Clone, Copy)]
-pub(crate) struct Dsdt<'a>(pub(crate) AmlContents<'a>);
+pub(crate) struct Aml<'a>(pub(crate) Signature, pub(crate) AmlContents<'a>);
 
-impl Listed for Dsdt<'_> {
-    ghost written = { λ room ids d. table_written room DSDT d.0.revision ids d.0.bytes.now };
+impl<'a> Table for Aml<'a> {
+    type Body = Bytes<'a>;
+
+    ghost head_of = { λ t. (t.0, t.1.revision) };
+
+    ghost checked = { λ _. Ok tt };
+
+    ghost body_of = { λ t. t.1.bytes.now };
 
     ghost fits = { λ _. Unit {0} };
 
-    fn size(&self, ids: &TableIds) -> Result<usize, WriterError> {
-        table_size(Signature::DSDT, self.0.revision, ids, &Bytes(self.0.bytes))
+    fn head(&self) -> (Signature, u8) {
+        (self.0, self.1.revision)
     }
 
-    fn write(&self, out: &mut [u8], ids: &TableIds) -> Result<usize, WriterError> {
-        write_dsdt(out, ids, self.0.revision, self.0.bytes)
+    fn check(&self) -> Result<(), WriterError> {
+        Ok(())
     }
 
-    #[tactic(auto, using(crate::proofs::Sized::moved_table))]
-    fn moves(&self, ids: &TableIds) {
-        ids.fit();
+    fn body(&self) -> Bytes<'a> {
+        Bytes(self.1.bytes)
     }
 }

@@ -1,5 +1,6 @@
 //! The Boot Graphics Resource Table (BGRT, section 5.2.22), from what it says of an image.
-ghost use Rattle.std.specs.Prelude.{◌≡◌, ◌≤◌, length, take, IfOk};
+ghost use Rattle.std.specs.Prelude.{◌≡◌, ◌≤◌, length, take, IfOk, Ok};
+ghost use Rattle.acpi.specs.Types.{BGRT};
 ghost use Rattle.acpi_base.specs.Words.{Gives};
 ghost use Rattle.acpi_writer.specs.Bgrt as bgrt;
 ghost use Rattle.acpi_writer.specs.Words.{Keeps};
@@ -8,7 +9,7 @@ use crate::error::WriterError;
 use crate::fields::{Field, Record};
 use crate::ids::TableIds;
 use crate::numbers::bit_of;
-use crate::table::write_table;
+use crate::table::{Table, write};
 use acpi_base::Signature;
 
 /// Orientation Offset: by how many degrees an image was turned clockwise before it was drawn (section 5.2.22).
@@ -77,6 +78,30 @@ impl Record for BgrtContents {
     }
 }
 
+impl Table for BgrtContents {
+    type Body = BgrtContents;
+
+    ghost head_of = { λ _. (BGRT, 1) };
+
+    ghost checked = { λ _. Ok tt };
+
+    ghost body_of = { bgrt.bgrt_body };
+
+    ghost fits = { bgrt.FitsBgrt };
+
+    fn head(&self) -> (Signature, u8) {
+        (Signature::BGRT, 1)
+    }
+
+    fn check(&self) -> Result<(), WriterError> {
+        Ok(())
+    }
+
+    fn body(&self) -> BgrtContents {
+        *self
+    }
+}
+
 /// Writes a BGRT of revision 1, whose Version is 1 and whose image is a bitmap, to the front of a slice, and returns
 /// how many bytes it has, 56. Whether there is an image at its address isn't asked.
 ///
@@ -95,5 +120,5 @@ pub fn write_bgrt(
     // The numbers that were given fit, so that what was given is what is read (`tables_are_read`).
     ensures fits { IfOk result (λ n. bgrt.IsBgrt ids.now contents.now (take n out.new)) }
 {
-    write_table(out, Signature::BGRT, 1, ids, contents)
+    write(out, ids, contents)
 }

@@ -2,22 +2,18 @@
 ghost use Rattle.std.specs.Prelude.{◌≡◌, ◌+◌, ◌^◌, ◌<◌, ◌≤◌, ◌++◌, length, take, drop, replicate};
 ghost use Rattle.acpi_writer.specs.Words.{FitsContents, contents_written, gap, rounded};
 
-use crate::aml::write_ssdt;
-use crate::bgrt::{BgrtContents, write_bgrt};
+use crate::aml::Aml;
+use crate::bgrt::BgrtContents;
 use crate::error::WriterError;
-use crate::fadt::{FadtContents, fadt_size, write_fadt};
-use crate::gtdt::{GtdtContents, gtdt_size, write_gtdt};
-use crate::hpet::write_hpet;
+use crate::fadt::FadtContents;
+use crate::gtdt::GtdtContents;
 use crate::ids::TableIds;
 use crate::listed::Listed;
-use crate::madt::gic::{GicContents, gic_size, write_gic_madt};
-use crate::madt::{MadtContents, madt_size, write_madt};
-use crate::mcfg::{mcfg_size, write_mcfg};
-use crate::slit::{slit_size, write_slit};
-use crate::spcr::{SpcrContents, spcr_size, write_spcr};
-use crate::spelled::Bytes;
-use crate::srat::{SratContents, srat_size, write_srat};
-use crate::table::table_size;
+use crate::madt::MadtContents;
+use crate::madt::gic::GicContents;
+use crate::mcfg::Regions;
+use crate::spcr::SpcrContents;
+use crate::srat::SratContents;
 use acpi::HpetInfo;
 use acpi_base::Signature;
 use acpi_base::mcfg::McfgEntry;
@@ -91,44 +87,37 @@ impl Listed for TableContents<'_> {
 
     ghost fits = { FitsContents };
 
-    #[tactic(auto, using(crate::proofs::Sized::itself))]
+    #[tactic(auto, using(crate::proofs::Sized::itself), unfolding(crate::specs::Fadt::fadt_written, crate::specs::GicMadt::gic_written, crate::specs::Gtdt::gtdt_written_by, crate::specs::MadtBytes::madt_written, crate::specs::Slit::slit_written, crate::specs::Spcr::spcr_written, crate::specs::Srat::srat_written))]
     fn size(&self, ids: &TableIds) -> Result<usize, WriterError> {
         match self {
-            TableContents::Madt(contents) => madt_size(ids, contents),
-            TableContents::Mcfg(regions) => mcfg_size(ids, regions),
-            TableContents::Hpet(info) => table_size(Signature::HPET, 1, ids, info),
-            TableContents::Slit(slit) => slit_size(ids, slit.localities, slit.distances),
-            TableContents::Ssdt(aml) => {
-                table_size(Signature::SSDT, aml.revision, ids, &Bytes(aml.bytes))
-            }
-            TableContents::Fadt(contents) => fadt_size(ids, contents),
-            TableContents::Srat(contents) => srat_size(ids, contents),
-            TableContents::Spcr(contents) => spcr_size(ids, contents),
-            TableContents::Bgrt(contents) => table_size(Signature::BGRT, 1, ids, contents),
-            TableContents::Gtdt(contents) => gtdt_size(ids, contents),
-            TableContents::GicMadt(contents) => gic_size(ids, contents),
+            TableContents::Madt(contents) => contents.size(ids),
+            TableContents::Mcfg(regions) => Regions(regions).size(ids),
+            TableContents::Hpet(info) => info.size(ids),
+            TableContents::Slit(contents) => contents.size(ids),
+            TableContents::Ssdt(contents) => Aml(Signature::SSDT, *contents).size(ids),
+            TableContents::Fadt(contents) => contents.size(ids),
+            TableContents::Srat(contents) => contents.size(ids),
+            TableContents::Spcr(contents) => contents.size(ids),
+            TableContents::Bgrt(contents) => contents.size(ids),
+            TableContents::Gtdt(contents) => contents.size(ids),
+            TableContents::GicMadt(contents) => contents.size(ids),
         }
     }
 
-    #[tactic(auto, using(crate::proofs::Sized::itself))]
-    fn write(&self, out: &mut [u8], ids: &TableIds) -> Result<usize, WriterError> {
+    #[tactic(auto, using(crate::proofs::Sized::itself), unfolding(crate::specs::Fadt::fadt_written, crate::specs::GicMadt::gic_written, crate::specs::Gtdt::gtdt_written_by, crate::specs::MadtBytes::madt_written, crate::specs::Slit::slit_written, crate::specs::Spcr::spcr_written, crate::specs::Srat::srat_written))]
+    fn put(&self, out: &mut [u8], ids: &TableIds) {
         match self {
-            TableContents::Madt(contents) => write_madt(out, ids, contents),
-            TableContents::Mcfg(regions) => write_mcfg(out, ids, regions),
-            TableContents::Hpet(info) => write_hpet(out, ids, info),
-            TableContents::Slit(slit) => write_slit(out, ids, slit.localities, slit.distances),
-            TableContents::Ssdt(aml) => write_ssdt(out, ids, aml.revision, aml.bytes),
-            TableContents::Fadt(contents) => write_fadt(out, ids, contents),
-            TableContents::Srat(contents) => write_srat(out, ids, contents),
-            TableContents::Spcr(contents) => write_spcr(out, ids, contents),
-            TableContents::Bgrt(contents) => write_bgrt(out, ids, contents),
-            TableContents::Gtdt(contents) => write_gtdt(out, ids, contents),
-            TableContents::GicMadt(contents) => write_gic_madt(out, ids, contents),
+            TableContents::Madt(contents) => contents.put(out, ids),
+            TableContents::Mcfg(regions) => Regions(regions).put(out, ids),
+            TableContents::Hpet(info) => Listed::put(info, out, ids),
+            TableContents::Slit(contents) => contents.put(out, ids),
+            TableContents::Ssdt(contents) => Aml(Signature::SSDT, *contents).put(out, ids),
+            TableContents::Fadt(contents) => contents.put(out, ids),
+            TableContents::Srat(contents) => contents.put(out, ids),
+            TableContents::Spcr(contents) => Listed::put(contents, out, ids),
+            TableContents::Bgrt(contents) => Listed::put(contents, out, ids),
+            TableContents::Gtdt(contents) => Listed::put(contents, out, ids),
+            TableContents::GicMadt(contents) => contents.put(out, ids),
         }
-    }
-
-    #[tactic(auto, using(crate::proofs::Sized::moved_contents))]
-    fn moves(&self, ids: &TableIds) {
-        ids.fit();
     }
 }

@@ -1,8 +1,9 @@
 //! The Fixed ACPI Description Table (FADT, section 5.2.9), from the hardware and the features that it is to say.
-ghost use Rattle.std.specs.Prelude.{◌≡◌, ◌^◌, ◌<◌, length, take, IfOk};
+ghost use Rattle.std.specs.Prelude.{◌≡◌, length, take, IfOk};
+ghost use Rattle.acpi.specs.Types.{FADT};
 ghost use Rattle.acpi_base.specs.FromStd.{list_all};
 ghost use Rattle.acpi_base.specs.Words.{Gives};
-ghost use Rattle.acpi_writer.specs.Words.{most, sized, IsFadt, Keeps, FitsFadt};
+ghost use Rattle.acpi_writer.specs.Words.{IsFadt, Keeps, FitsFadt};
 ghost use Rattle.acpi_fixed.specs.Words.{is_profile};
 ghost use Rattle.acpi_writer.specs.Fadt as bytes;
 
@@ -10,13 +11,13 @@ mod contents;
 mod features;
 mod parts;
 
-use crate::checked::{Checked, require};
+use crate::checked::require;
 use crate::error::WriterError;
 use crate::fields::Field;
 use crate::generic::is_register;
 use crate::ids::TableIds;
-use crate::spelled::{Spelled, Then};
-use crate::table::{checked_size, write_checked};
+use crate::spelled::Then;
+use crate::table::{Table, write};
 use acpi_base::Signature;
 use acpi_base::address::GenericAddress;
 use acpi_fixed::fadt::PowerProfile;
@@ -94,49 +95,34 @@ fn are_registers(contents: &FadtContents) -> bool
         && is_register(contents.sleep_status)
 }
 
-impl Checked for FadtContents {
+impl Table for FadtContents {
+    type Body = Then<Front, Then<Option<GenericAddress>, Then<Wide, Then<WideRegisters, Field>>>>;
+
+    ghost head_of = { λ _. (FADT, 6) };
+
     ghost checked = { bytes.fadt_checked };
+
+    ghost body_of = { bytes.fadt_body };
+
+    ghost fits = { FitsFadt };
+
+    fn head(&self) -> (Signature, u8) {
+        (Signature::FADT, 6)
+    }
 
     fn check(&self) -> Result<(), WriterError> {
         require(are_placed(self), WriterError::NoAddress)?;
         require(is_profile(self.power_profile), WriterError::BadProfile)?;
         require(are_registers(self), WriterError::BadRegister)
     }
-}
 
-/// All after the header of a FADT.
-impl Spelled for FadtContents {
-    ghost spelled = { bytes.fadt_body };
-
-    ghost fits = { FitsFadt };
-
-    fn measure(&self, room: usize) -> Option<usize> {
-        let last = Then(WideRegisters(self), Field::Zeros(8));
+    fn body(&self) -> Self::Body {
+        let last = Then(WideRegisters(*self), Field::Zeros(8));
         Then(
-            Front(self),
-            Then(self.reset_register, Then(Wide(self), last)),
+            Front(*self),
+            Then(self.reset_register, Then(Wide(*self), last)),
         )
-        .measure(room)
     }
-
-    fn put(&self, out: &mut [u8]) {
-        let last = Then(WideRegisters(self), Field::Zeros(8));
-        Then(
-            Front(self),
-            Then(self.reset_register, Then(Wide(self), last)),
-        )
-        .put(out);
-    }
-}
-
-/// How many bytes the FADT has, or the first error of `write_fadt` in a slice of any length.
-#[tactic(auto, unfolding(crate::specs::Fadt::fadt_written))]
-pub fn fadt_size(ids: &TableIds, contents: &FadtContents) -> Result<usize, WriterError>
-    ensures exact { result ≡ sized (bytes.fadt_written most ids.now contents.now) }
-    ensures short { IfOk result (λ n. n < 2 ^ 32) }
-    ensures fits { IfOk result (λ n. FitsFadt contents.now) }
-{
-    checked_size(Signature::FADT, 6, ids, contents, contents)
 }
 
 /// Writes a FADT of version 6.4, 276 bytes, to the front of a slice, and returns how many bytes it has. Each address
@@ -164,5 +150,5 @@ pub fn write_fadt(
     // The numbers that were given fit, so that what was given is what is read (`tables_are_read`).
     ensures fits { IfOk result (λ n. IsFadt ids.now contents.now (take n out.new)) }
 {
-    write_checked(out, Signature::FADT, 6, ids, contents, contents)
+    write(out, ids, contents)
 }

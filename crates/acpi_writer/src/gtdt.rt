@@ -1,7 +1,8 @@
 //! The Generic Timer Description Table (GTDT, section 5.2.24), from the timers of an Arm machine.
-ghost use Rattle.std.specs.Prelude.{◌≡◌, ◌^◌, ◌<◌, length, take, IfOk};
+ghost use Rattle.std.specs.Prelude.{◌≡◌, length, take, IfOk};
+ghost use Rattle.acpi.specs.Types.{GTDT};
 ghost use Rattle.acpi_base.specs.Words.{Gives};
-ghost use Rattle.acpi_writer.specs.Words.{most, sized, AreTimersFitBy, IsGtdtBy, gtdt_checked_by, gtdt_written_by, Keeps};
+ghost use Rattle.acpi_writer.specs.Words.{AreTimersFitBy, IsGtdtBy, gtdt_body_by, gtdt_checked_by, gtdt_written_by, Keeps};
 
 mod structures;
 
@@ -10,7 +11,7 @@ use crate::checked::{Checked, check_all};
 use crate::error::WriterError;
 use crate::ids::TableIds;
 use crate::spelled::{Each, Spelled, Then};
-use crate::table::{checked_size, write_checked};
+use crate::table::{Table, write};
 use acpi_arm::gtdt::{ArmTimer, GtFrame, SbsaWatchdog};
 use acpi_base::Signature;
 
@@ -53,8 +54,20 @@ pub struct GtdtContents<'a, T = PlatformTimerContents<'a>> {
     pub platform_timers: &'a [T],
 }
 
-impl<T: Checked> Checked for GtdtContents<'_, T> {
+impl<'a, T: Checked + Copy + Spelled> Table for GtdtContents<'a, T> {
+    type Body = Then<GtdtContents<'a, T>, Each<'a, T>>;
+
+    ghost head_of = { λ _. (GTDT, 3) };
+
     ghost checked = { gtdt_checked_by T.checked };
+
+    ghost body_of = { gtdt_body_by T.spelled };
+
+    ghost fits = { AreTimersFitBy T.fits };
+
+    fn head(&self) -> (Signature, u8) {
+        (Signature::GTDT, 3)
+    }
 
     fn check(&self) -> Result<(), WriterError> {
         check_base(self.counter_control_base)?;
@@ -66,20 +79,10 @@ impl<T: Checked> Checked for GtdtContents<'_, T> {
         self.virtual_el2_timer.check()?;
         check_all(self.platform_timers)
     }
-}
 
-/// How many bytes the GTDT has, or the first error of `write_gtdt` in a slice of any length.
-#[tactic(auto, unfolding(crate::specs::Gtdt::gtdt_written_by))]
-pub fn gtdt_size<T: Checked + Copy + Spelled>(
-    ids: &TableIds,
-    contents: &GtdtContents<'_, T>,
-) -> Result<usize, WriterError>
-    ensures exact { result ≡ sized (gtdt_written_by T.spelled T.checked most ids.now contents.now) }
-    ensures short { IfOk result (λ n. n < 2 ^ 32) }
-    ensures fits { IfOk result (λ n. AreTimersFitBy T.fits contents.now) }
-{
-    let body = Then(*contents, Each(contents.platform_timers));
-    checked_size(Signature::GTDT, 3, ids, contents, &body)
+    fn body(&self) -> Then<GtdtContents<'a, T>, Each<'a, T>> {
+        Then(*self, Each(self.platform_timers))
+    }
 }
 
 /// Writes a GTDT of revision 3 to the front of a slice, and returns how many bytes it has: 104, and 28 for each
@@ -106,6 +109,5 @@ pub fn write_gtdt<T: Checked + Copy + Spelled>(
     ensures fits { IfOk result (λ n.
         IsGtdtBy T.spelled T.checked T.fits ids.now contents.now (take n out.new)) }
 {
-    let body = Then(*contents, Each(contents.platform_timers));
-    write_checked(out, Signature::GTDT, 3, ids, contents, &body)
+    write(out, ids, contents)
 }

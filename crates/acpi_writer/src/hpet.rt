@@ -1,5 +1,6 @@
 //! The High Precision Event Timer table (HPET), from what it says of its event timer block.
-ghost use Rattle.std.specs.Prelude.{◌≡◌, length, take, IfOk};
+ghost use Rattle.std.specs.Prelude.{◌≡◌, length, take, IfOk, Ok};
+ghost use Rattle.acpi.specs.Types.{HPET};
 ghost use Rattle.acpi_base.specs.Words.{Gives};
 ghost use Rattle.acpi_writer.specs.Hpet as bytes;
 ghost use Rattle.acpi_writer.specs.Words.{IsHpet, Keeps};
@@ -7,7 +8,7 @@ ghost use Rattle.acpi_writer.specs.Words.{IsHpet, Keeps};
 use crate::error::WriterError;
 use crate::fields::{Field, Record};
 use crate::ids::TableIds;
-use crate::table::write_table;
+use crate::table::{Table, write};
 use acpi::HpetInfo;
 use acpi_base::Signature;
 
@@ -30,6 +31,30 @@ impl Record for HpetInfo {
     }
 }
 
+impl Table for HpetInfo {
+    type Body = HpetInfo;
+
+    ghost head_of = { λ _. (HPET, 1) };
+
+    ghost checked = { λ _. Ok tt };
+
+    ghost body_of = { bytes.hpet_body };
+
+    ghost fits = { bytes.FitsHpet };
+
+    fn head(&self) -> (Signature, u8) {
+        (Signature::HPET, 1)
+    }
+
+    fn check(&self) -> Result<(), WriterError> {
+        Ok(())
+    }
+
+    fn body(&self) -> HpetInfo {
+        *self
+    }
+}
+
 /// Writes an HPET of revision 1, 56 bytes, to the front of a slice, and returns how many bytes it has. A page
 /// protection of `Other` is written as 3. OEM Attribute is 0, and so is all of BASE_ADDRESS but its address, which is
 /// one in memory: Register Bit Width too.
@@ -45,5 +70,5 @@ pub fn write_hpet(out: &mut [u8], ids: &TableIds, info: &HpetInfo) -> Result<usi
     // The numbers that were given fit, so that what was given is what is read (`tables_are_read`).
     ensures fits { IfOk result (λ n. IsHpet ids.now info.now (take n out.new)) }
 {
-    write_table(out, Signature::HPET, 1, ids, info)
+    write(out, ids, info)
 }

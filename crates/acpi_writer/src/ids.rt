@@ -23,20 +23,11 @@ pub struct TableIds {
 
 impl TableIds {
     /// Whether each name is valid UTF-8.
-    pub fn are_texts(&self) -> bool
-        ensures { result ≡ are_texts self.now }
+    pub fn are_texts(self) -> bool
+        ensures texts { result ≡ are_texts self }
+        // The names and numbers are as long as their types say.
+        ensures fit { AreIds self }
     {
         is_text(&self.oem_id) && is_text(&self.oem_table_id) && is_text(&self.creator_id)
-    }
-
-    /// The names and numbers are as long as their types say.
-    pub fn fit(&self)
-        ensures { AreIds self.now }
-    {
-        let _oem_id = self.oem_id;
-        let _oem_table_id = self.oem_table_id;
-        let _oem_revision = self.oem_revision;
-        let _creator_id = self.creator_id;
-        let _creator_revision = self.creator_revision;
     }
 }

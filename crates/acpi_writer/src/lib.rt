@@ -53,4 +53,4 @@ pub use rsdp::write_rsdp;
 pub use slit::write_slit;
 pub use spcr::{SpcrContents, SpcrPciDevice, write_spcr};
 pub use srat::{ApicDomain, GiccDomain, SratContents, write_srat};
-pub use table::{table_size, write_table};
+pub use table::write_table;

@@ -4,7 +4,7 @@ ghost use Rattle.acpi_base.specs.Words.{spelling, Gives};
 ghost use Rattle.acpi_writer.specs.Words.{bytes_by, addresses, laid, padded, rounded, rsdp_bytes, Keeps};
 ghost use Rattle.acpi_writer.specs.Machine as whole;
 
-use crate::aml::Dsdt;
+use crate::aml::Aml;
 use crate::checked::require;
 use crate::contents::{AmlContents, TableContents, rounded};
 use crate::error::WriterError;
@@ -92,7 +92,7 @@ fn dsdt_size<T>(machine: &Machine<'_, T>) -> Result<usize, WriterError>
     ensures short { IfOk result (λ n. n ≤ 2 ^ 32) }
 {
     match machine.dsdt {
-        Some(dsdt) => Ok(rounded(Dsdt(dsdt).size(&machine.ids)?)),
+        Some(dsdt) => Ok(rounded(Aml(Signature::DSDT, dsdt).size(&machine.ids)?)),
         None => Ok(0),
     }
 }
@@ -103,7 +103,7 @@ fn dsdt_place<T>(machine: &Machine<'_, T>) -> usize
     ensures short { result ≤ 2 ^ 32 }
 {
     match machine.dsdt {
-        Some(dsdt) => listed::place(&Dsdt(dsdt), &machine.ids),
+        Some(dsdt) => listed::place(&Aml(Signature::DSDT, dsdt), &machine.ids),
         None => 0,
     }
 }
@@ -131,7 +131,6 @@ fn tree_size<T: Listed>(machine: &Machine<'_, T>) -> Result<usize, WriterError>
     let count = machine.tables.len();
     require(count <= 0x1ffffffb, WriterError::TooLong)?;
     let dsdt = dsdt_size(machine)?;
-    machine.ids.fit();
     let listed = listed_size(&machine.ids, machine.tables)?;
     let facs = facs_room(machine.facs);
     Ok(rounded(36 + 8 * count) + dsdt + facs + listed)
@@ -177,7 +176,7 @@ fn put_dsdt<T>(out: &mut [u8], machine: &Machine<'_, T>)
     ensures { out.new ≡ padded (whole.dsdt_of machine.now) }
 {
     if let Some(dsdt) = machine.dsdt {
-        listed::put(&Dsdt(dsdt), out, &machine.ids);
+        listed::put(&Aml(Signature::DSDT, dsdt), out, &machine.ids);
     }
 }
 

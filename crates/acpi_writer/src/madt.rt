@@ -1,18 +1,19 @@
 //! The Multiple APIC Description Table (MADT, section 5.2.12), from lists of processors and interrupt controllers.
-ghost use Rattle.std.specs.Prelude.{◌≡◌, ◌^◌, ◌<◌, length, map, not, take, IfOk};
+ghost use Rattle.std.specs.Prelude.{◌≡◌, length, map, not, take, IfOk};
 ghost use Rattle.acpi_base.specs.FromStd.{list_all};
 ghost use Rattle.acpi_base.specs.Words.{Gives};
-ghost use Rattle.acpi_writer.specs.Words.{most, sized, AreFit, IsMadt, Keeps};
+ghost use Rattle.acpi_writer.specs.Words.{AreFit, IsMadt, Keeps};
+ghost use Rattle.acpi.specs.Types.{MADT};
 ghost use Rattle.acpi_writer.specs.MadtBytes as bytes;
 
 mod entries;
 pub mod gic;
 
-use crate::checked::{Checked, require};
+use crate::checked::require;
 use crate::error::WriterError;
 use crate::ids::TableIds;
 use crate::spelled::{EachItem, StandsFor, Then};
-use crate::table::{checked_size, write_checked};
+use crate::table::{Table, write};
 use acpi_base::Signature;
 use acpi_base::model::{InterruptSourceOverride, IoApic, NmiLine, NmiProcessor, NmiSource};
 pub use entries::Fixed;
@@ -114,7 +115,7 @@ pub(crate) fn has_some<T>(xs: &[T]) -> bool
     }
 }
 
-impl<P, I, O, S, L> Checked for MadtContents<'_, P, I, O, S, L>
+impl<'a, P, I, O, S, L> Table for MadtContents<'a, P, I, O, S, L>
 where
     P: StandsFor<MadtProcessor>,
     I: StandsFor<IoApic>,
@@ -122,7 +123,34 @@ where
     S: StandsFor<NmiSource>,
     L: StandsFor<NmiLine>,
 {
+    type Body = Then<
+        Fixed,
+        Then<
+            EachItem<'a, MadtProcessor, P>,
+            Then<
+                AddressOverride,
+                Then<
+                    EachItem<'a, IoApic, I>,
+                    Then<
+                        EachItem<'a, InterruptSourceOverride, O>,
+                        Then<EachItem<'a, NmiSource, S>, Then<EachItem<'a, NmiLine, L>, Wakeup>>,
+                    >,
+                >,
+            >,
+        >,
+    >;
+
+    ghost head_of = { λ _. (MADT, 5) };
+
     ghost checked = { λ c. bytes.madt_checked (bytes.madt_meant P.meant I.meant O.meant S.meant L.meant c) };
+
+    ghost body_of = { λ c. bytes.madt_body (bytes.madt_meant P.meant I.meant O.meant S.meant L.meant c) };
+
+    ghost fits = { λ c. AreFit (bytes.madt_meant P.meant I.meant O.meant S.meant L.meant c) };
+
+    fn head(&self) -> (Signature, u8) {
+        (Signature::MADT, 5)
+    }
 
     #[tactic(auto, using(crate::proofs::Sized::some_meant))]
     fn check(&self) -> Result<(), WriterError> {
@@ -130,45 +158,21 @@ where
         require(processors_fit(self.processors), WriterError::IdOfAll)?;
         require(lines_fit(self.local_apic_nmi_lines), WriterError::UidOfAll)
     }
-}
 
-/// All after the header of a MADT: the fixed fields, and the entries sort by sort.
-macro_rules! body_of {
-    ($contents:expr) => {{
+    /// The fixed fields, and the entries sort by sort.
+    fn body(&self) -> Self::Body {
         let fixed = Fixed {
-            local_apic_address: $contents.local_apic_address,
-            also_has_legacy_pics: $contents.also_has_legacy_pics,
+            local_apic_address: self.local_apic_address,
+            also_has_legacy_pics: self.also_has_legacy_pics,
         };
-        let wakeup = Wakeup($contents.wakeup_mailbox);
-        let lines = Then(EachItem($contents.local_apic_nmi_lines, PhantomData), wakeup);
-        let nmis = Then(EachItem($contents.nmi_sources, PhantomData), lines);
-        let wirings = Then(EachItem($contents.interrupt_source_overrides, PhantomData), nmis);
-        let controllers = Then(EachItem($contents.io_apics, PhantomData), wirings);
-        let address = Then(AddressOverride($contents.local_apic_address), controllers);
-        Then(fixed, Then(EachItem($contents.processors, PhantomData), address))
-    }};
-}
-
-/// How many bytes the MADT has, or the first error of `write_madt` in a slice of any length.
-#[tactic(auto, unfolding(crate::specs::MadtBytes::madt_written))]
-pub fn madt_size<P, I, O, S, L>(
-    ids: &TableIds,
-    contents: &MadtContents<'_, P, I, O, S, L>,
-) -> Result<usize, WriterError>
-where
-    P: StandsFor<MadtProcessor>,
-    I: StandsFor<IoApic>,
-    O: StandsFor<InterruptSourceOverride>,
-    S: StandsFor<NmiSource>,
-    L: StandsFor<NmiLine>,
-    ensures exact { result ≡ sized (bytes.madt_written most ids.now
-        (bytes.madt_meant P.meant I.meant O.meant S.meant L.meant contents.now)) }
-    ensures short { IfOk result (λ n. n < 2 ^ 32) }
-    ensures fits { IfOk result (λ n.
-        AreFit (bytes.madt_meant P.meant I.meant O.meant S.meant L.meant contents.now)) }
-{
-    let body = body_of!(contents);
-    checked_size(Signature::MADT, 5, ids, contents, &body)
+        let wakeup = Wakeup(self.wakeup_mailbox);
+        let lines = Then(EachItem(self.local_apic_nmi_lines, PhantomData), wakeup);
+        let nmis = Then(EachItem(self.nmi_sources, PhantomData), lines);
+        let wirings = Then(EachItem(self.interrupt_source_overrides, PhantomData), nmis);
+        let controllers = Then(EachItem(self.io_apics, PhantomData), wirings);
+        let address = Then(AddressOverride(self.local_apic_address), controllers);
+        Then(fixed, Then(EachItem(self.processors, PhantomData), address))
+    }
 }
 
 /// Writes a MADT of revision 5 to the front of a slice, and returns how many bytes it has. Its entries stand sort by
@@ -202,6 +206,5 @@ where
     ensures fits { IfOk result (λ n. IsMadt ids.now
         (bytes.madt_meant P.meant I.meant O.meant S.meant L.meant contents.now) (take n out.new)) }
 {
-    let body = body_of!(contents);
-    write_checked(out, Signature::MADT, 5, ids, contents, &body)
+    write(out, ids, contents)
 }

@@ -1,14 +1,15 @@
 //! The PCI Express memory mapped configuration space table (MCFG), from its regions.
-ghost use Rattle.std.specs.Prelude.{◌≡◌, ◌^◌, ◌<◌, length, map, take, IfOk, All};
+ghost use Rattle.std.specs.Prelude.{◌≡◌, length, map, take, IfOk, Ok, All};
+ghost use Rattle.acpi.specs.Types.{MCFG};
 ghost use Rattle.acpi_base.specs.Words.{Gives};
-ghost use Rattle.acpi_writer.specs.Words.{most, sized, FitsMcfg, IsMcfg, Keeps};
+ghost use Rattle.acpi_writer.specs.Words.{FitsMcfg, IsMcfg, Keeps};
 ghost use Rattle.acpi_writer.specs.Mcfg as bytes;
 
 use crate::error::WriterError;
 use crate::fields::{Field, Record};
 use crate::ids::TableIds;
 use crate::spelled::{EachItem, StandsFor, Then};
-use crate::table::{table_size, write_table};
+use crate::table::{Table, write};
 use acpi_base::Signature;
 use acpi_base::mcfg::McfgEntry;
 use std::marker::PhantomData;
@@ -30,23 +31,32 @@ impl Record for McfgEntry {
     }
 }
 
-/// All after the header of an MCFG: Reserved, and the regions.
-macro_rules! body_of {
-    ($regions:expr) => {
-        Then(Field::Zeros(8), EachItem($regions, PhantomData))
-    };
-}
+/// The regions of an MCFG.
+#[derive(Clone, Copy)]
+pub(crate) struct Regions<'a, E>(pub(crate) &'a [E]);
 
-/// How many bytes the MCFG has, or the first error of `write_mcfg` in a slice of any length.
-pub fn mcfg_size<E: StandsFor<McfgEntry>>(
-    ids: &TableIds,
-    regions: &[E],
-) -> Result<usize, WriterError>
-    ensures exact { result ≡ sized (bytes.mcfg_written most ids.now (map E.meant regions.now)) }
-    ensures short { IfOk result (λ n. n < 2 ^ 32) }
-    ensures fits { IfOk result (λ n. All FitsMcfg (map E.meant regions.now)) }
-{
-    table_size(Signature::MCFG, 1, ids, &body_of!(regions))
+impl<'a, E: StandsFor<McfgEntry>> Table for Regions<'a, E> {
+    type Body = Then<Field, EachItem<'a, McfgEntry, E>>;
+
+    ghost head_of = { λ _. (MCFG, 1) };
+
+    ghost checked = { λ _. Ok tt };
+
+    ghost body_of = { λ t. bytes.mcfg_body (map E.meant t.0.now) };
+
+    ghost fits = { λ t. All FitsMcfg (map E.meant t.0.now) };
+
+    fn head(&self) -> (Signature, u8) {
+        (Signature::MCFG, 1)
+    }
+
+    fn check(&self) -> Result<(), WriterError> {
+        Ok(())
+    }
+
+    fn body(&self) -> Then<Field, EachItem<'a, McfgEntry, E>> {
+        Then(Field::Zeros(8), EachItem(self.0, PhantomData)) // Reserved
+    }
 }
 
 /// Writes an MCFG of revision 1 to the front of a slice, and returns how many bytes it has: 44, and 16 for each region.
@@ -67,5 +77,5 @@ pub fn write_mcfg<E: StandsFor<McfgEntry>>(
     // The numbers that were given fit, so that what was given is what is read (`tables_are_read`).
     ensures fits { IfOk result (λ n. IsMcfg ids.now (map E.meant regions.now) (take n out.new)) }
 {
-    write_table(out, Signature::MCFG, 1, ids, &body_of!(regions))
+    write(out, ids, &Regions(regions))
 }

@@ -37,7 +37,6 @@ pub fn write_rsdp(out: &mut [u8], ids: &TableIds, xsdt: u64) -> Result<usize, Wr
     if !ids.are_texts() {
         return Err(WriterError::BadName);
     }
-    ids.fit();
     write_front(out, &rsdp_bytes(ids, xsdt))
 }
 

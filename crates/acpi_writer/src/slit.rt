@@ -1,14 +1,15 @@
 //! The System Locality Information Table (SLIT, section 5.2.17), from the distances between localities.
 ghost use Rattle.std.specs.Prelude.{◌≡◌, ◌*◌, ◌==◌, ◌^◌, ◌<◌, length, take, IfOk};
+ghost use Rattle.acpi.specs.Types.{SLIT};
 ghost use Rattle.acpi_base.specs.Words.{Gives};
-ghost use Rattle.acpi_writer.specs.Words.{most, sized, IsSlit, slit_checked, slit_written, Keeps};
+ghost use Rattle.acpi_writer.specs.Words.{IsSlit, slit_body, slit_checked, slit_written, Keeps};
 
-use crate::checked::{Checked, require};
+use crate::checked::require;
 use crate::contents::SlitContents;
 use crate::error::WriterError;
 use crate::ids::TableIds;
 use crate::spelled::{Bytes, Then};
-use crate::table::{checked_size, write_checked};
+use crate::table::{Table, write};
 use acpi_base::Signature;
 
 /// Whether there are as many distances as pairs of localities.
@@ -21,8 +22,20 @@ fn is_square(localities: u64, distances: &[u8]) -> bool
     }
 }
 
-impl Checked for SlitContents<'_> {
+impl<'a> Table for SlitContents<'a> {
+    type Body = Then<u64, Bytes<'a>>;
+
+    ghost head_of = { λ _. (SLIT, 1) };
+
     ghost checked = { λ c. slit_checked c.localities c.distances.now };
+
+    ghost body_of = { λ c. slit_body c.localities c.distances.now };
+
+    ghost fits = { λ c. c.localities < 2 ^ 64 };
+
+    fn head(&self) -> (Signature, u8) {
+        (Signature::SLIT, 1)
+    }
 
     fn check(&self) -> Result<(), WriterError> {
         require(
@@ -30,26 +43,10 @@ impl Checked for SlitContents<'_> {
             WriterError::BadMatrix,
         )
     }
-}
 
-/// How many bytes the SLIT has, or the first error of `write_slit` in a slice of any length.
-#[tactic(auto, unfolding(crate::specs::Slit::slit_written))]
-pub fn slit_size(ids: &TableIds, localities: u64, distances: &[u8]) -> Result<usize, WriterError>
-    ensures exact { result ≡ sized (slit_written most ids.now localities distances.now) }
-    ensures short { IfOk result (λ n. n < 2 ^ 32) }
-    ensures fits { IfOk result (λ n. localities < 2 ^ 64) }
-{
-    let contents = SlitContents {
-        localities,
-        distances,
-    };
-    checked_size(
-        Signature::SLIT,
-        1,
-        ids,
-        &contents,
-        &Then(localities, Bytes(distances)),
-    )
+    fn body(&self) -> Then<u64, Bytes<'a>> {
+        Then(self.localities, Bytes(self.distances))
+    }
 }
 
 /// Writes a SLIT of revision 1 to the front of a slice, and returns how many bytes it has: 44, and one for each
@@ -78,12 +75,5 @@ pub fn write_slit(
         localities,
         distances,
     };
-    write_checked(
-        out,
-        Signature::SLIT,
-        1,
-        ids,
-        &contents,
-        &Then(localities, Bytes(distances)),
-    )
+    write(out, ids, &contents)
 }

@@ -1,19 +1,20 @@
 //! The Serial Port Console Redirection Table (SPCR, section 5.2.6), from what it says of a serial port. Its layout is
 //! Microsoft's.
-ghost use Rattle.std.specs.Prelude.{◌≡◌, ◌^◌, ◌<◌, ◌&&◌, length, take, IfOk, IsUtf8, ◌++◌, [], ◌∷◌};
+ghost use Rattle.std.specs.Prelude.{◌≡◌, ◌&&◌, length, take, IfOk, IsUtf8, ◌++◌, [], ◌∷◌};
 ghost use Rattle.acpi_base.specs.Words.{Gives, is_interface};
-ghost use Rattle.acpi_writer.specs.Words.{most, sized, Keeps};
+ghost use Rattle.acpi_writer.specs.Words.{Keeps};
+ghost use Rattle.acpi.specs.Types.{SPCR};
 ghost use Rattle.acpi_writer.specs.Spcr as spcr;
 
 mod fields;
 
-use crate::checked::{Checked, require};
+use crate::checked::require;
 use crate::error::WriterError;
 use crate::fields::Field;
 use crate::generic::is_named_space;
 use crate::ids::TableIds;
 use crate::spelled::{Bytes, Spelled, Then};
-use crate::table::{checked_size, write_checked};
+use crate::table::{Table, write};
 use acpi_base::Signature;
 use acpi_base::address::GenericAddress;
 use acpi_base::spcr::{SpcrFlowControl, SpcrInterfaceType, SpcrInterruptType, SpcrTerminalType};
@@ -110,19 +111,35 @@ fn is_somewhere(address: Option<GenericAddress>) -> bool
     }
 }
 
-impl Checked for SpcrContents<'_> {
+impl<'a> Table for SpcrContents<'a> {
+    type Body = Then<SpcrContents<'a>, Name<'a>>;
+
+    ghost head_of = { λ _. (SPCR, 4) };
+
     ghost checked = { spcr.spcr_checked };
+
+    ghost body_of = { spcr.spcr_body };
+
+    ghost fits = { spcr.FitsSpcr };
+
+    fn head(&self) -> (Signature, u8) {
+        (Signature::SPCR, 4)
+    }
 
     fn check(&self) -> Result<(), WriterError> {
         require(has_codes(self), WriterError::BadCode)?;
         require(is_somewhere(self.base_address), WriterError::NoAddress)?;
         require(self.namespace_string.len() < 0xffff, WriterError::LongName)
     }
+
+    fn body(&self) -> Then<SpcrContents<'a>, Name<'a>> {
+        Then(*self, Name(self.namespace_string))
+    }
 }
 
 /// NamespaceString, which a zero ends.
 #[derive(Clone, Copy)]
-struct Name<'a>(&'a str);
+pub(crate) struct Name<'a>(&'a str);
 
 impl Spelled for Name<'_> {
     ghost spelled = { λ s. s.0.now ++ (0 ∷ []) };
@@ -138,17 +155,6 @@ impl Spelled for Name<'_> {
     fn put(&self, out: &mut [u8]) {
         Then(Bytes(self.0.as_bytes()), Field::U8(0)).put(out);
     }
-}
-
-/// How many bytes the SPCR has, or the first error of `write_spcr` in a slice of any length.
-#[tactic(auto, unfolding(crate::specs::Spcr::spcr_written))]
-pub(crate) fn spcr_size(ids: &TableIds, contents: &SpcrContents<'_>) -> Result<usize, WriterError>
-    ensures exact { result ≡ sized (spcr.spcr_written most ids.now contents.now) }
-    ensures short { IfOk result (λ n. n < 2 ^ 32) }
-    ensures fits { IfOk result (λ n. spcr.FitsSpcr contents.now) }
-{
-    let body = Then(*contents, Name(contents.namespace_string));
-    checked_size(Signature::SPCR, 4, ids, contents, &body)
 }
 
 /// Writes an SPCR of revision 4 to the front of a slice, and returns how many bytes it has: 88, and those of its name
@@ -171,6 +177,5 @@ pub fn write_spcr(
     // The numbers that were given fit, so that what was given is what is read (`tables_are_read`).
     ensures fits { IfOk result (λ n. spcr.IsSpcr ids.now contents.now (take n out.new)) }
 {
-    let body = Then(*contents, Name(contents.namespace_string));
-    write_checked(out, Signature::SPCR, 4, ids, contents, &body)
+    write(out, ids, contents)
 }

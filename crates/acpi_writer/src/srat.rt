@@ -1,18 +1,18 @@
 //! The System Resource Affinity Table (SRAT, section 5.2.16), from the domains of processors and of ranges of memory.
-ghost use Rattle.std.specs.Prelude.{◌≡◌, ◌^◌, ◌<◌, length, map, take, IfOk};
+ghost use Rattle.std.specs.Prelude.{◌≡◌, length, map, take, IfOk};
 ghost use Rattle.acpi_base.specs.FromStd.{list_all};
 ghost use Rattle.acpi_base.specs.Words.{Gives};
-ghost use Rattle.acpi_writer.specs.Contents.{most, sized};
+ghost use Rattle.acpi.specs.Types.{SRAT};
 ghost use Rattle.acpi_writer.specs.Srat as srat;
 ghost use Rattle.acpi_writer.specs.Table.{Keeps};
 
-use crate::checked::{Checked, require};
+use crate::checked::require;
 use crate::error::WriterError;
 use crate::fields::{Field, Record};
 use crate::ids::TableIds;
 use crate::numbers::bit_of;
 use crate::spelled::{Bytes, Each, EachItem, StandsFor, Then};
-use crate::table::{checked_size, write_checked};
+use crate::table::{Table, write};
 use acpi_base::Signature;
 use acpi_numa::MemoryRange;
 use std::marker::PhantomData;
@@ -170,39 +170,36 @@ fn ranges_fit<R: StandsFor<MemoryRange>>(ranges: &[R]) -> bool
     true
 }
 
-impl<R: StandsFor<MemoryRange>> Checked for SratContents<'_, R> {
+impl<'a, R: StandsFor<MemoryRange>> Table for SratContents<'a, R> {
+    type Body = Then<
+        Bytes<'a>,
+        Then<Each<'a, ApicDomain>, Then<Each<'a, GiccDomain>, EachItem<'a, MemoryRange, R>>>,
+    >;
+
+    ghost head_of = { λ _. (SRAT, 3) };
+
     ghost checked = { λ c. srat.srat_checked (srat.srat_meant R.meant c) };
+
+    ghost body_of = { λ c. srat.srat_body (srat.srat_meant R.meant c) };
+
+    ghost fits = { λ c. srat.AreFit (srat.srat_meant R.meant c) };
+
+    fn head(&self) -> (Signature, u8) {
+        (Signature::SRAT, 3)
+    }
 
     fn check(&self) -> Result<(), WriterError> {
         require(apics_fit(self.apics), WriterError::IdOfAll)?;
         require(giccs_fit(self.giccs), WriterError::IdOfAll)?;
         require(ranges_fit(self.ranges), WriterError::BadRange)
     }
-}
 
-/// All after the header of a SRAT.
-macro_rules! body_of {
-    ($contents:expr) => {{
-        let others = Then(Each($contents.giccs), EachItem($contents.ranges, PhantomData));
-        let entries = Then(Each($contents.apics), others);
+    fn body(&self) -> Self::Body {
+        let others = Then(Each(self.giccs), EachItem(self.ranges, PhantomData));
+        let entries = Then(Each(self.apics), others);
         // Reserved, of which the first is 1.
-        let reserved = Bytes(&[1, 0, 0, 0, 0, 0, 0, 0, 0, 0, 0, 0]);
-        Then(reserved, entries)
-    }};
-}
-
-/// How many bytes the SRAT has, or the first error of `write_srat` in a slice of any length.
-#[tactic(auto, unfolding(crate::specs::Srat::srat_written))]
-pub fn srat_size<R: StandsFor<MemoryRange>>(
-    ids: &TableIds,
-    contents: &SratContents<'_, R>,
-) -> Result<usize, WriterError>
-    ensures exact { result ≡ sized (srat.srat_written most ids.now (srat.srat_meant R.meant contents.now)) }
-    ensures short { IfOk result (λ n. n < 2 ^ 32) }
-    ensures fits { IfOk result (λ n. srat.AreFit (srat.srat_meant R.meant contents.now)) }
-{
-    let body = body_of!(contents);
-    checked_size(Signature::SRAT, 3, ids, contents, &body)
+        Then(Bytes(&[1, 0, 0, 0, 0, 0, 0, 0, 0, 0, 0, 0]), entries)
+    }
 }
 
 /// Writes a SRAT of revision 3 to the front of a slice, and returns how many bytes it has: 48, and those of its
@@ -229,6 +226,5 @@ pub fn write_srat<R: StandsFor<MemoryRange>>(
     ensures fits { IfOk result (λ n.
         srat.IsSrat ids.now (srat.srat_meant R.meant contents.now) (take n out.new)) }
 {
-    let body = body_of!(contents);
-    write_checked(out, Signature::SRAT, 3, ids, contents, &body)
+    write(out, ids, contents)
 }

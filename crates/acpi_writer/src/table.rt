@@ -1,12 +1,15 @@
 //! A table from its header's fields and the bytes after its header (section 5.2.6).
-ghost use Rattle.std.specs.Prelude.{◌≡◌, ◌+◌, ◌^◌, ◌<◌, ◌≤◌, ◌++◌, drop, length, take, IfOk, Ok};
+ghost use Rattle.std.specs.Prelude.{◌≡◌, ℕ, ◌+◌, ◌^◌, ◌<◌, ◌≤◌, ◌++◌, drop, length, take, true, IfOk, List, Ok, Result};
 ghost use Rattle.acpi_base.specs.Words.{Gives, letters_of};
 ghost use Rattle.acpi_image.specs.Words.{with_sum};
-ghost use Rattle.acpi_writer.specs.Words.{most, sized, IsTableOf, Keeps, if_checked, table_bytes, table_head, table_written};
+ghost use Rattle.acpi_writer.specs.Words.{most, AreIds, are_texts, sized, IsTableOf, Keeps, said_written, table_bytes, table_head, table_written};
+ghost use Rattle.acpi.specs.Types.{Signature};
+ghost use Rattle.acpi_writer.specs.Types.{WriterError};
 
-use crate::checked::Checked;
+use crate::checked::require;
 use crate::error::WriterError;
 use crate::ids::TableIds;
+use crate::listed::Listed;
 use crate::numbers::dword;
 use crate::spelled::Spelled;
 use acpi_base::Signature;
@@ -40,51 +43,44 @@ fn join<B: Spelled>(table: &mut [u8], head: &[u8], body: &B)
 }
 
 /// Fills a slice with a table.
-#[tactic(auto, unfolding(crate::specs::Table::table_bytes))]
-fn fill<B: Spelled>(table: &mut [u8], signature: Signature, revision: u8, ids: &TableIds, body: &B)
-    requires whole { length table.old ≡ 36 + length (B.spelled body.now) }
-    requires short { length table.old < 2 ^ 32 }
-    ensures bytes { table.new ≡ table_bytes signature revision ids.now (B.spelled body.now) }
+#[tactic(auto, using(crate::proofs::Tables::table_length), unfolding(crate::specs::Table::table_bytes))]
+fn fill<B: Spelled>(table: &mut [u8], signature: Signature, revision: u8, ids: TableIds, body: &B)
+    requires whole { length table.old ≡ length (table_bytes signature revision ids (B.spelled body.now)) }
+    requires short { 36 + length (B.spelled body.now) < 2 ^ 32 }
+    ensures bytes { table.new ≡ table_bytes signature revision ids (B.spelled body.now) }
     ensures length { length table.new ≡ length table.old }
 {
-    let head = table_head(signature, revision, ids, table.len() as u32);
+    let head = table_head(signature, revision, &ids, table.len() as u32);
     join(table, &head, body);
     set_sum(table, 9); // Checksum
 }
 
-/// How many bytes a table has, or the first error of `write_table` in a slice of any length.
+/// How many bytes a table has, or the first error of `write_table` in a slice of so many bytes.
 #[tactic(auto, using(crate::proofs::Tables::table_length), unfolding(crate::specs::Table::table_written))]
-pub fn table_size<B: Spelled>(
+fn table_size<B: Spelled>(
+    room: usize,
     signature: Signature,
     revision: u8,
     ids: &TableIds,
     body: &B,
 ) -> Result<usize, WriterError>
-    ensures exact { result ≡ sized (table_written most signature revision ids.now (B.spelled body.now)) }
-    ensures short { IfOk result (λ n. n < 2 ^ 32) }
+    ensures exact { result ≡ sized (table_written room signature revision ids.now (B.spelled body.now)) }
+    ensures size { IfOk result (λ n. (n ≡ 36 + length (B.spelled body.now)) × (n ≤ room) × (n < 2 ^ 32)) }
+    ensures ids { IfOk result (λ n. AreIds ids.now × (are_texts ids.now ≡ true)) }
     ensures fits { IfOk result (λ n. B.fits body.now) }
 {
-    if !ids.are_texts() {
-        return Err(WriterError::BadName);
-    }
-    match body.measure(usize::MAX - 36) {
-        Some(size) => {
-            let end = 36 + size;
-            if end > u32::MAX as usize {
-                return Err(WriterError::TooLong);
-            }
-            ids.fit();
-            Ok(end)
-        }
-        None => Err(WriterError::NoRoom),
-    }
+    require(ids.are_texts(), WriterError::BadName)?;
+    require(room >= 36, WriterError::NoRoom)?;
+    let size = body.measure(room - 36).ok_or(WriterError::NoRoom)?;
+    require(size < 0xffffffdc, WriterError::TooLong)?;
+    Ok(36 + size)
 }
 
 /// Writes a table to the front of a slice, and returns how many bytes it has.
 ///
 /// Returns, in this order, `BadName` if a name of the ids is not valid UTF-8, `NoRoom` if the slice is shorter than
 /// the table, and `TooLong` if the table has 2^32 bytes or more.
-#[tactic(auto, unfolding(crate::specs::Table::table_written))]
+#[tactic(auto, using(crate::proofs::Tables::table_length), unfolding(crate::specs::Table::table_written))]
 pub fn write_table<B: Spelled>(
     out: &mut [u8],
     signature: Signature,
@@ -99,62 +95,76 @@ pub fn write_table<B: Spelled>(
         IsTableOf signature revision ids.now (B.spelled body.now) (take n out.new)) }
     ensures fits { IfOk result (λ n. B.fits body.now) }
 {
-    if !ids.are_texts() {
-        return Err(WriterError::BadName);
-    }
-    if out.len() < 36 {
-        return Err(WriterError::NoRoom);
-    }
-    match body.measure(out.len() - 36) {
-        Some(size) => {
-            let end = 36 + size;
-            if end > u32::MAX as usize {
-                return Err(WriterError::TooLong);
-            }
-            ids.fit();
-            fill(&mut out[..end], signature, revision, ids, body);
-            Ok(end)
-        }
-        None => Err(WriterError::NoRoom),
-    }
+    let size = table_size(out.len(), signature, revision, ids, body)?;
+    fill(&mut out[..size], signature, revision, *ids, body);
+    Ok(size)
 }
 
-/// How many bytes a table of contents has, or the first error of `write_checked` in a slice of any length.
-pub(crate) fn checked_size<C: Checked, B: Spelled>(
-    signature: Signature,
-    revision: u8,
-    ids: &TableIds,
-    contents: &C,
-    body: &B,
-) -> Result<usize, WriterError>
-    ensures exact { result ≡ sized (if_checked (C.checked contents.now)
-        (table_written most signature revision ids.now (B.spelled body.now))) }
-    ensures short { IfOk result (λ n. n < 2 ^ 32) }
-    ensures fits { IfOk result (λ n. B.fits body.now) }
-{
-    contents.check()?;
-    table_size(signature, revision, ids, body)
+/// What a table is to say.
+pub(crate) trait Table {
+    /// All after the header.
+    type Body: Spelled + Copy;
+
+    // Signature and Revision.
+    ghost head_of: { Self → Signature × ℕ };
+
+    // The error, if a table has no place for it.
+    ghost checked: { Self → Result (Unit {0}) WriterError };
+
+    // The bytes after the header.
+    ghost body_of: { Self → List ℕ };
+
+    // Each of its numbers has a place there.
+    ghost fits: { Self → Type 0 };
+
+    /// Signature and Revision.
+    fn head(&self) -> (Signature, u8)
+        ensures { result ≡ head_of self.now };
+
+    /// Returns an error if a table has no place for it.
+    fn check(&self) -> Result<(), WriterError>
+        ensures { result ≡ checked self.now };
+
+    /// All after the header.
+    fn body(&self) -> Self::Body
+        ensures bytes { Self.Body.spelled result ≡ body_of self.now }
+        ensures fits { Self.Body.fits result → fits self.now };
 }
 
-/// Writes a table of contents to the front of a slice, and returns how many bytes it has.
+/// Writes the table that is to say this to the front of a slice, and returns how many bytes it has.
 ///
 /// Returns the error of the contents, if a table has no place for them, and then those of `write_table`.
-pub(crate) fn write_checked<C: Checked, B: Spelled>(
+pub(crate) fn write<T: Table>(
     out: &mut [u8],
-    signature: Signature,
-    revision: u8,
     ids: &TableIds,
-    contents: &C,
-    body: &B,
+    contents: &T,
 ) -> Result<usize, WriterError>
-    ensures exact { Gives (λ n. take n out.new) result (if_checked (C.checked contents.now)
-        (table_written (length out.old) signature revision ids.now (B.spelled body.now))) }
+    ensures exact { Gives (λ n. take n out.new) result
+        (said_written T.checked T.head_of T.body_of (length out.old) ids.now contents.now) }
     ensures keeps { Keeps result out.old out.new }
-    ensures table { IfOk result (λ n.
-        IsTableOf signature revision ids.now (B.spelled body.now) (take n out.new)) }
-    ensures fits { IfOk result (λ n. B.fits body.now) }
-    ensures checked { IfOk result (λ n. C.checked contents.now ≡ Ok tt) }
+    ensures table { IfOk result (λ n. IsTableOf (T.head_of contents.now).0 (T.head_of contents.now).1 ids.now
+        (T.body_of contents.now) (take n out.new)) }
+    ensures fits { IfOk result (λ n. T.fits contents.now) }
+    ensures checked { IfOk result (λ n. T.checked contents.now ≡ Ok tt) }
 {
     contents.check()?;
-    write_table(out, signature, revision, ids, body)
+    let (signature, revision) = contents.head();
+    write_table(out, signature, revision, ids, &contents.body())
+}
+
+impl<T: Table> Listed for T {
+    ghost written = { λ ids c. said_written T.checked T.head_of T.body_of most ids c };
+
+    ghost fits = { λ c. T.Table.fits c };
+
+    fn size(&self, ids: &TableIds) -> Result<usize, WriterError> {
+        self.check()?;
+        let (signature, revision) = self.head();
+        table_size(usize::MAX, signature, revision, ids, &self.body())
+    }
+
+    fn put(&self, out: &mut [u8], ids: &TableIds) {
+        let (signature, revision) = self.head();
+        fill(out, signature, revision, *ids, &self.body());
+    }
 }

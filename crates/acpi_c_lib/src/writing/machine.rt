@@ -99,15 +99,9 @@ impl Listed for ListedTable<'_> {
         Ok(self.bytes.len())
     }
 
-    fn write(&self, out: &mut [u8], _: &TableIds) -> Result<usize, WriterError> {
-        let size = self.bytes.len();
-        require(size < 1 << 32, WriterError::TooLong)?;
-        require(size <= out.len(), WriterError::NoRoom)?;
-        out[..size].copy_from_slice(self.bytes);
-        Ok(size)
+    fn put(&self, out: &mut [u8], _: &TableIds) {
+        out.copy_from_slice(self.bytes);
     }
-
-    fn moves(&self, _: &TableIds) {}
 }
 
 impl<'a> Machine<'a> {

@@ -2,6 +2,7 @@
 //! room, and names that aren't UTF-8. `TooLong` isn't tried: it needs a slice of 4 GiB.
 
 use super::tables::{FADT, GTDT, HARDWARE, IDS, PORT, SECURE, SPCR};
+use super::write;
 use crate::checks::{check, check_same};
 use acpi_arm::gtdt::{GtFrame, TimerInterrupt};
 use acpi_base::address::{AddressSpace, GenericAddress};
@@ -10,8 +11,8 @@ use acpi_base::spcr::SpcrInterfaceType;
 use acpi_fixed::fadt::PowerProfile;
 use acpi_writer::fadt::FixedHardware;
 use acpi_writer::{
-    FadtContents, FadtHardware, GtBlockContents, GtdtContents, Listed, PlatformTimerContents,
-    SpcrContents, TableContents, TableIds, WriterError,
+    FadtContents, FadtHardware, GtBlockContents, GtdtContents, PlatformTimerContents, SpcrContents,
+    TableContents, TableIds, WriterError,
 };
 
 /// A byte that begins no text.
@@ -86,7 +87,7 @@ static REFUSED: [(&TableIds, TableContents<'static>, WriterError); 13] = [
 fn bad_contents_are_refused(rt: HostRuntime) {
     for (index, (ids, contents, error)) in REFUSED.iter().enumerate() {
         let mut out = [7; 8];
-        let found = contents.write(&mut out, ids);
+        let found = write(&mut out, ids, contents);
         check(&rt, "row", (index, found), (index, Err(*error)));
         check_same(&rt, "row", &out, &[7; 8]);
     }

@@ -174,16 +174,16 @@ fn feature_number(contents: &FadtContents) -> u32
 
 /// The fields before RESET_REG.
 #[derive(Clone, Copy)]
-pub(super) struct Front<'a>(pub(super) &'a FadtContents);
+pub(crate) struct Front(pub(super) FadtContents);
 
-impl Record for Front<'_> {
+impl Record for Front {
     type Fields = [Field; 38];
 
-    ghost fields_of = { λ s. bytes.front_fields s.0.now (bytes.fixed_of s.0.now.hardware) };
+    ghost fields_of = { λ s. bytes.front_fields s.0 (bytes.fixed_of s.0.hardware) };
 
     #[tactic(auto, unfolding(crate::specs::Fadt::front_fields))]
     fn fields(&self) -> [Field; 38] {
-        let c = self.0;
+        let c = &self.0;
         let h = fixed_of(&c.hardware);
         [
             Field::U32(narrow(address_or_zero(c.facs))),
@@ -230,16 +230,16 @@ impl Record for Front<'_> {
 
 /// The fields between RESET_REG and the registers.
 #[derive(Clone, Copy)]
-pub(super) struct Wide<'a>(pub(super) &'a FadtContents);
+pub(crate) struct Wide(pub(super) FadtContents);
 
-impl Record for Wide<'_> {
+impl Record for Wide {
     type Fields = [Field; 5];
 
-    ghost fields_of = { λ s. bytes.wide_fields s.0.now };
+    ghost fields_of = { λ s. bytes.wide_fields s.0 };
 
     #[tactic(auto, unfolding(crate::specs::Fadt::wide_fields))]
     fn fields(&self) -> [Field; 5] {
-        let c = self.0;
+        let c = &self.0;
         [
             Field::U8(c.reset_value),
             Field::U16(arm_number(&c.arm_boot)),
@@ -271,18 +271,18 @@ fn registers(c: &FadtContents) -> [Option<GenericAddress>; 10]
 
 /// The registers from X_PM1a_EVT_BLK to SLEEP_STATUS_REG, each with its bytes.
 #[derive(Clone, Copy)]
-pub(super) struct WideRegisters<'a>(pub(super) &'a FadtContents);
+pub(crate) struct WideRegisters(pub(super) FadtContents);
 
-impl Spelled for WideRegisters<'_> {
-    ghost spelled = { λ s. flat_map register_bytes (bytes.registers s.0.now (bytes.fixed_of s.0.now.hardware)) };
+impl Spelled for WideRegisters {
+    ghost spelled = { λ s. flat_map register_bytes (bytes.registers s.0 (bytes.fixed_of s.0.hardware)) };
 
-    ghost fits = { λ s. All FitsRegister (bytes.registers s.0.now (bytes.fixed_of s.0.now.hardware)) };
+    ghost fits = { λ s. All FitsRegister (bytes.registers s.0 (bytes.fixed_of s.0.hardware)) };
 
     fn measure(&self, room: usize) -> Option<usize> {
-        Each(&registers(self.0)).measure(room)
+        Each(&registers(&self.0)).measure(room)
     }
 
     fn put(&self, out: &mut [u8]) {
-        Each(&registers(self.0)).put(out);
+        Each(&registers(&self.0)).put(out);
     }
 }

@@ -87,7 +87,7 @@ impl Record for MadtProcessor {
 
 /// The address of the local APICs, as an entry if the fixed fields have no place for it.
 #[derive(Clone, Copy)]
-pub(super) struct AddressOverride(pub(super) u64);
+pub(crate) struct AddressOverride(pub(super) u64);
 
 impl Record for AddressOverride {
     type Fields = Option<[Field; 4]>;
@@ -208,7 +208,7 @@ impl Record for NmiLine {
 
 /// A mailbox, if processors are woken by one.
 #[derive(Clone, Copy)]
-pub(super) struct Wakeup(pub(super) Option<u64>);
+pub(crate) struct Wakeup(pub(super) Option<u64>);
 
 impl Record for Wakeup {
     type Fields = Option<[Field; 5]>;

@@ -1,7 +1,8 @@
 //! The MADT of an Arm machine, from its Generic Interrupt Controller (GIC, sections 5.2.12.14 to 5.2.12.18).
-ghost use Rattle.std.specs.Prelude.{◌≡◌, ◌^◌, ◌<◌, length, map, take, IfOk};
+ghost use Rattle.std.specs.Prelude.{◌≡◌, length, map, take, IfOk};
+ghost use Rattle.acpi.specs.Types.{MADT};
 ghost use Rattle.acpi_base.specs.Words.{Gives};
-ghost use Rattle.acpi_writer.specs.Words.{most, sized, all_checked, AreGicFit, IsGicMadt, gic_checked, gic_meant, gic_written, interface_checked, Keeps};
+ghost use Rattle.acpi_writer.specs.Words.{all_checked, AreGicFit, IsGicMadt, gic_body, gic_checked, gic_meant, gic_written, interface_checked, Keeps};
 
 mod entries;
 
@@ -11,7 +12,7 @@ use crate::checked::{Checked, require};
 use crate::error::WriterError;
 use crate::ids::TableIds;
 use crate::spelled::{EachItem, StandsFor, Then};
-use crate::table::{checked_size, write_checked};
+use crate::table::{Table, write};
 use acpi_arm::gic::{
     GicCpuInterface, GicDistributor, GicMsiFrame, GicRedistributors, GicTranslationService,
 };
@@ -50,56 +51,56 @@ fn check_interfaces<C: StandsFor<GicCpuInterface>>(interfaces: &[C]) -> Result<(
     Ok(())
 }
 
-impl<C, R, T, F> Checked for GicContents<'_, C, R, T, F>
+impl<'a, C, R, T, F> Table for GicContents<'a, C, R, T, F>
 where
     C: StandsFor<GicCpuInterface>,
     R: StandsFor<GicRedistributors>,
     T: StandsFor<GicTranslationService>,
     F: StandsFor<GicMsiFrame>,
 {
+    type Body = Then<
+        Fixed,
+        Then<
+            GicDistributor,
+            Then<
+                EachItem<'a, GicCpuInterface, C>,
+                Then<
+                    EachItem<'a, GicRedistributors, R>,
+                    Then<EachItem<'a, GicTranslationService, T>, EachItem<'a, GicMsiFrame, F>>,
+                >,
+            >,
+        >,
+    >;
+
+    ghost head_of = { λ _. (MADT, 6) };
+
     ghost checked = { λ c. gic_checked (gic_meant C.meant R.meant T.meant F.meant c) };
+
+    ghost body_of = { λ c. gic_body (gic_meant C.meant R.meant T.meant F.meant c) };
+
+    ghost fits = { λ c. AreGicFit (gic_meant C.meant R.meant T.meant F.meant c) };
+
+    fn head(&self) -> (Signature, u8) {
+        (Signature::MADT, 6)
+    }
 
     #[tactic(auto, using(crate::proofs::Sized::some_meant))]
     fn check(&self) -> Result<(), WriterError> {
         require(has_some(self.cpu_interfaces), WriterError::NoProcessor)?;
         check_interfaces(self.cpu_interfaces)
     }
-}
 
-/// All after the header of such a MADT.
-macro_rules! body_of {
-    ($contents:expr) => {{
+    fn body(&self) -> Self::Body {
         let fixed = Fixed {
             local_apic_address: 0,
             also_has_legacy_pics: false,
         };
-        let services = EachItem($contents.translation_services, PhantomData);
-        let messages = Then(services, EachItem($contents.msi_frames, PhantomData));
-        let redistributors = Then(EachItem($contents.redistributors, PhantomData), messages);
-        let interfaces = Then(EachItem($contents.cpu_interfaces, PhantomData), redistributors);
-        Then(fixed, Then($contents.distributor, interfaces))
-    }};
-}
-
-/// How many bytes the MADT has, or the first error of `write_gic_madt` in a slice of any length.
-#[tactic(auto, unfolding(crate::specs::GicMadt::gic_written))]
-pub fn gic_size<C, R, T, F>(
-    ids: &TableIds,
-    contents: &GicContents<'_, C, R, T, F>,
-) -> Result<usize, WriterError>
-where
-    C: StandsFor<GicCpuInterface>,
-    R: StandsFor<GicRedistributors>,
-    T: StandsFor<GicTranslationService>,
-    F: StandsFor<GicMsiFrame>,
-    ensures exact { result ≡ sized (gic_written most ids.now
-        (gic_meant C.meant R.meant T.meant F.meant contents.now)) }
-    ensures short { IfOk result (λ n. n < 2 ^ 32) }
-    ensures fits { IfOk result (λ n.
-        AreGicFit (gic_meant C.meant R.meant T.meant F.meant contents.now)) }
-{
-    let body = body_of!(contents);
-    checked_size(Signature::MADT, 6, ids, contents, &body)
+        let services = EachItem(self.translation_services, PhantomData);
+        let messages = Then(services, EachItem(self.msi_frames, PhantomData));
+        let redistributors = Then(EachItem(self.redistributors, PhantomData), messages);
+        let interfaces = Then(EachItem(self.cpu_interfaces, PhantomData), redistributors);
+        Then(fixed, Then(self.distributor, interfaces))
+    }
 }
 
 /// Writes the MADT of an Arm machine, of revision 6, to the front of a slice, and returns how many bytes it has. Its
@@ -130,6 +131,5 @@ where
     ensures fits { IfOk result (λ n. IsGicMadt ids.now
         (gic_meant C.meant R.meant T.meant F.meant contents.now) (take n out.new)) }
 {
-    let body = body_of!(contents);
-    write_checked(out, Signature::MADT, 6, ids, contents, &body)
+    write(out, ids, contents)
 }
