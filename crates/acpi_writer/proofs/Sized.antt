@@ -3,11 +3,11 @@ use Rattle.std.proofs.Common.{◌≡◌, ℕ, ◌+◌, ◌^◌, ◌<◌, ◌≤�
 use Rattle.acpi_base.proofs.FromStd.{leb-true, ltb-true, All-more, take-put_mid, drop-drop, drop_more, length-map, append-nil, length-replicate, length-take-le, take_at, flat_map-append, take_at_read, length-flat_map-take}
 use Rattle.std.proofs.lemmas.List.{get_or-map}
 use Rattle.acpi_base.proofs.Words.{holds_ok, same_ok, length-spelling}
-use Rattle.acpi_base.specs.Words.{◌>>=◌, letters_of, spelling}
-use Rattle.acpi.specs.Types.{Signature, BGRT, FADT, GTDT, HPET, MADT, MCFG, SLIT, SPCR, SRAT, SSDT, XSDT}
+use Rattle.acpi_base.specs.Words.{◌>>=◌, spelling}
+use Rattle.acpi.specs.Types.{Signature, XSDT}
 use Rattle.acpi_writer.specs.Types.{Xsdt}
-use Rattle.acpi_writer.specs.Words.{contents_written, most, or_none, Written, bytes_by, placed_by, sized, fadt_body, fadt_checked, fadt_written, gic_body, gic_checked, gic_written, gtdt_body, gtdt_checked, hpet_body, is_empty, gap, padded, addresses, laid, rounded, madt_body, madt_checked, madt_written, mcfg_body, slit_body, slit_checked, slit_written, spcr_body, spcr_checked, spcr_written, srat_body, srat_checked, srat_written, AreIds, are_texts, table_bytes, table_written, TableContents, Bgrt, Fadt, GicMadt, Gtdt, Hpet, Madt, Mcfg, Slit, Spcr, Srat, Ssdt, WriterError, FadtContents, TableIds, SpcrContents, SratContents, GicContents, MadtContents, gic_meant, madt_meant, srat_meant, MachineOf, after_dsdt, check_each, dsdt_address, dsdt_end, dsdt_of, facs_laid, listed_by, rest_bytes, size_by, tables_address, tree_by, xsdt_by, xsdt_from, xsdt_length, root_body, Measures, gtdt_written_by}
-use Rattle.acpi_writer.proofs.Tables.{it_fits, table_length}
+use Rattle.acpi_writer.specs.Words.{most, or_none, Written, bytes_by, placed_by, sized, is_empty, gap, padded, addresses, laid, rounded, AreIds, are_texts, table_bytes, table_written, said_written, WriterError, TableIds, SratContents, GicContents, MadtContents, gic_meant, madt_meant, srat_meant, MachineOf, after_dsdt, check_each, dsdt_address, dsdt_end, dsdt_of, facs_laid, listed_by, rest_bytes, size_by, tables_address, tree_by, xsdt_by, xsdt_from, xsdt_length, root_body, Measures}
+use Rattle.acpi_writer.proofs.Tables.{table_length}
 use Rattle.acpi_writer.proofs.FieldsRead.{each_long}
 use borrow.Rule.Slice.PartMut.{post_of, put_mid}
 use Rattle.acpi_writer.proofs.Headless.{laid_long}
@@ -41,7 +41,8 @@ wrote room s revision ids body t e =
 -- ---- a table that is as long as its size says
 
 -- what is written, if it has a size
-pub written_of : (w : Result (List ℕ) WriterError) (n : ℕ) → sized w ≡ Ok n → w ≡ Ok (or_none w) × (length (or_none w) ≡ n)
+pub written_of : (w : Result (List ℕ) WriterError) (n : ℕ) → sized w ≡ Ok n
+    → w ≡ Ok (or_none w) × (length (or_none w) ≡ n)
 written_of (Ok t) n e = (refl, cc)
 written_of (Err d) n e = absurd cc
 
@@ -50,15 +51,15 @@ past : (r : Result (Unit {0}) WriterError) (w : Result (List ℕ) WriterError) (
 past (Ok passed) w t e = e
 past (Err d) w t e = absurd cc
 
-pub said_long : (checked : Result (Unit {0}) WriterError) (s : Signature) (revision : ℕ) (ids : TableIds)
-    (body : List ℕ) (n : ℕ) → sized (checked >>= λ _. table_written most s revision ids body) ≡ Ok n
-    → (n ≡ length (table_bytes s revision ids body)) × (36 + length body < 2 ^ 32)
-    × (or_none (checked >>= λ _. table_written most s revision ids body) ≡ table_bytes s revision ids body)
-said_long checked s revision ids body n e =
-    let all = checked >>= λ _. table_written most s revision ids body in
+pub said_long : {X : Type 0} (checked : X → Result (Unit {0}) WriterError) (head : X → Signature × ℕ)
+    (body : X → List ℕ) (ids : TableIds) (c : X) (n : ℕ) → sized (said_written checked head body most ids c) ≡ Ok n
+    → (n ≡ length (table_bytes (head c).0 (head c).1 ids (body c))) × (36 + length (body c) < 2 ^ 32)
+    × (or_none (said_written checked head body most ids c) ≡ table_bytes (head c).0 (head c).1 ids (body c))
+said_long checked head body ids c n e =
+    let all = said_written checked head body most ids c in
     let is = written_of all n e in
-    let w = wrote most s revision ids body (or_none all)
-    (past checked (table_written most s revision ids body) (or_none all) is.0) in
+    let w = wrote most (head c).0 (head c).1 ids (body c) (or_none all)
+    (past (checked c) (table_written most (head c).0 (head c).1 ids (body c)) (or_none all) is.0) in
     (sym is.1 ∙ ap length w.bytes, w.short, w.bytes)
 
 -- ---- filled up

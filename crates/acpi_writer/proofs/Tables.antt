@@ -1,24 +1,15 @@
 -- What every table that is written has: that it is valid, and what its header says of its makers.
-use Rattle.std.proofs.Common.{◌≡◌, ℕ, zero, suc, ◌+◌, ◌^◌, ◌<◌, ◌≤◌, true, List, [], ◌∷◌, ◌++◌, length, take, drop, get_or, set, Ok, refl, sym, ap, ◌∙◌, arith, eq-eqb, length-append}
+use Rattle.std.proofs.Common.{◌≡◌, ℕ, zero, suc, ◌+◌, true, List, [], ◌∷◌, ◌++◌, length, take, drop, get_or, set, Ok, refl, sym, ap, ◌∙◌, arith, eq-eqb, length-append}
 use Rattle.acpi_base.specs.FromStd.{is_utf8}
-use Rattle.acpi_base.proofs.FromStd.{and_from, and_parts, bytes_eq-Decides, le-leb, lt-ltb, take_all}
+use Rattle.acpi_base.proofs.FromStd.{and_from, and_parts, bytes_eq-Decides, le-leb, take_all}
 use Rattle.acpi_base.proofs.Words.{number-spelling}
 use Rattle.acpi_base.specs.Words.{field_of, number, part, spelling, sum_of, check_names, check_table, header_at, letters_of}
 use Rattle.acpi.specs.Types.{Signature}
 use Rattle.acpi_image.proofs.Written.{sum_is_set, length-with_sum, IsTable}
 use Rattle.acpi_image.specs.Words.{is_table, sum_byte, with_sum}
-use Rattle.acpi_writer.specs.Words.{is_named, AreIds, IsTableOf, IsValid, are_texts, table_bytes, table_head, table_written, unsummed, HasIds, IdsAreRead, TableIds}
+use Rattle.acpi_writer.specs.Words.{is_named, AreIds, IsTableOf, IsValid, table_bytes, table_head, unsummed, HasIds, IdsAreRead, TableIds}
 use Rattle.acpi_writer.proofs.Bits.{one}
 use Rattle.acpi_writer.proofs.FieldsRead.{part_in}
-
--- ---- whether it is written
-
-pub it_fits : (room : ℕ) (s : Signature) (revision : ℕ) (ids : TableIds) (body : List ℕ) → are_texts ids ≡ true
-    → 36 + length body ≤ room → 36 + length body < 2 ^ 32
-    → table_written room s revision ids body ≡ Ok (table_bytes s revision ids body)
-unfolding table_written
-it_fits room s revision ids body texts within short =
-    rw (texts, le-leb (36 + length body) room within, lt-ltb (36 + length body) (2 ^ 32) short) refl
 
 -- ---- its length
 

@@ -1,5 +1,5 @@
 -- The bytes of a table that an XSDT can list, by what it is to say.
-use Rattle.std.specs.Prelude.{◌≡◌, ℕ, ◌-◌, ◌^◌, ◌<◌, ◌≤◌, List, [], length, Result, Ok, Err, All}
+use Rattle.std.specs.Prelude.{ℕ, ◌-◌, ◌^◌, ◌<◌, List, [], length, Result, Ok, Err, All}
 use Rattle.acpi.specs.Types.{Signature, BGRT, FADT, GTDT, HPET, MADT, MCFG, SLIT, SPCR, SRAT, SSDT}
 use Rattle.acpi_writer.specs.Bgrt.{FitsBgrt, bgrt_written}
 use Rattle.acpi_writer.specs.Fadt.{fadt_written, FitsFadt}

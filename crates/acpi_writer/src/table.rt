@@ -72,7 +72,7 @@ fn table_size<B: Spelled>(
     require(ids.are_texts(), WriterError::BadName)?;
     require(room >= 36, WriterError::NoRoom)?;
     let size = body.measure(room - 36).ok_or(WriterError::NoRoom)?;
-    require(size < 0xffffffdc, WriterError::TooLong)?;
+    require(size < 0xffffffdc, WriterError::TooLong)?; // 2^32, less the header
     Ok(36 + size)
 }
 
