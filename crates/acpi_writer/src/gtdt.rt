@@ -14,6 +14,7 @@ use crate::spelled::{Each, Spelled, Then};
 use crate::table::{Table, write};
 use acpi_arm::gtdt::{ArmTimer, GtFrame, SbsaWatchdog};
 use acpi_base::Signature;
+use std::alloc::AllocError;
 
 /// A GT Block (section 5.2.24.1.1), in the words of `GtBlock`, as which it is read, or with what stands for its frames.
 #[derive(Clone, Copy)]
@@ -34,7 +35,7 @@ pub enum PlatformTimerContents<'a, F = GtFrame> {
 }
 
 /// What a GTDT is to say, in the words of `Gtdt`, as which it is read, or with what stands for its timers.
-#[derive(Clone, Copy)]
+#[derive(Copy)]
 pub struct GtdtContents<'a, T = PlatformTimerContents<'a>> {
     /// CntControlBase Physical Address, if there is one.
     pub counter_control_base: Option<u64>,
@@ -52,6 +53,16 @@ pub struct GtdtContents<'a, T = PlatformTimerContents<'a>> {
     pub virtual_el2_timer: ArmTimer,
     /// Platform Timer Structures.
     pub platform_timers: &'a [T],
+}
+
+impl<T: Copy> Clone for GtdtContents<'_, T> {
+    ghost is_clone = { λ x y. y ≡ x };
+
+    ghost is_infallible = { λ _. Unit {0} };
+
+    fn clone(&self) -> Result<Self, AllocError> {
+        Ok(*self)
+    }
 }
 
 impl<'a, T: Checked + Copy + Spelled> Table for GtdtContents<'a, T> {

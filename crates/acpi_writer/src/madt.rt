@@ -18,6 +18,7 @@ use acpi_base::Signature;
 use acpi_base::model::{InterruptSourceOverride, IoApic, NmiLine, NmiProcessor, NmiSource};
 pub use entries::Fixed;
 use entries::{AddressOverride, Wakeup};
+use std::alloc::AllocError;
 use std::marker::PhantomData;
 
 /// A processor that a MADT is to list (sections 5.2.12.2 and 5.2.12.12).
@@ -36,7 +37,7 @@ pub struct MadtProcessor {
 
 /// What a MADT is to say, in the words of `InterruptModel` and `ProcessorInfo`, as which it is read; or of what stands
 /// for them.
-#[derive(Clone, Copy)]
+#[derive(Copy)]
 pub struct MadtContents<
     'a,
     P = MadtProcessor,
@@ -62,6 +63,16 @@ pub struct MadtContents<
     /// MailBoxAddress: the physical address of the mailbox by which the firmware's processors are woken, if they are
     /// woken so (section 5.2.12.19).
     pub wakeup_mailbox: Option<u64>,
+}
+
+impl<P: Copy, I: Copy, O: Copy, S: Copy, L: Copy> Clone for MadtContents<'_, P, I, O, S, L> {
+    ghost is_clone = { λ x y. y ≡ x };
+
+    ghost is_infallible = { λ _. Unit {0} };
+
+    fn clone(&self) -> Result<Self, AllocError> {
+        Ok(*self)
+    }
 }
 
 /// Whether neither the uid nor the id is the one that stands for all processors.

@@ -17,11 +17,12 @@ use acpi_arm::gic::{
     GicCpuInterface, GicDistributor, GicMsiFrame, GicRedistributors, GicTranslationService,
 };
 use acpi_base::Signature;
+use std::alloc::AllocError;
 use std::marker::PhantomData;
 
 /// What the MADT of an Arm machine is to say, in the fields of `GicModel`, as which it is read; or of what stands for
 /// them.
-#[derive(Clone, Copy)]
+#[derive(Copy)]
 pub struct GicContents<
     'a,
     C = GicCpuInterface,
@@ -39,6 +40,16 @@ pub struct GicContents<
     pub translation_services: &'a [T],
     /// GIC MSI Frames.
     pub msi_frames: &'a [F],
+}
+
+impl<C: Copy, R: Copy, T: Copy, F: Copy> Clone for GicContents<'_, C, R, T, F> {
+    ghost is_clone = { λ x y. y ≡ x };
+
+    ghost is_infallible = { λ _. Unit {0} };
+
+    fn clone(&self) -> Result<Self, AllocError> {
+        Ok(*self)
+    }
 }
 
 /// Returns the first error of an interface.
