@@ -4,7 +4,9 @@ pub mod Behind
 pub mod Blocks
 pub mod ErrorText
 pub mod Names
+pub mod Plans
 pub mod Sleep
 pub mod Steps
+pub mod Tables
 pub mod Terms
 pub mod Words

@@ -1,5 +1,6 @@
 //! The refusals of this crate.
 
+use acpi_base::{AcpiError, Signature};
 use std::fmt;
 
 /// Why a walk along AML ends. Each has the offset in the AML where it ended.
@@ -38,5 +39,51 @@ impl fmt::Display for AmlError {
             AmlError::NotPackage(at) => write!(f, "NotPackage {at}"),
             AmlError::NotConstant(at) => write!(f, "NotConstant {at}"),
         }
+    }
+}
+
+/// Why the tables of a machine give no answer about a sleep state.
+#[derive(Clone, Copy, Debug, PartialEq, Eq)]
+pub enum SleepError {
+    /// The state is above 5.
+    NoSuchState,
+    /// The walk along the AML of a table of this signature, `DSDT` or `SSDT`, ends with this error.
+    Aml(Signature, AmlError),
+    /// The DSDT isn't found.
+    Acpi(AcpiError),
+}
+
+impl From<AcpiError> for SleepError {
+    ghost use Rattle.std.specs.Prelude.{◌≡◌};
+    ghost use Rattle.acpi_sleep.specs.Words.{Acpi};
+
+    ghost from_gives = { λ refused e. e ≡ Acpi refused };
+
+    /// Makes `Acpi` of a refusal.
+    fn from(refused: AcpiError) -> SleepError {
+        SleepError::Acpi(refused)
+    }
+}
+
+/// Why there is no plan.
+#[derive(Clone, Copy, Debug, PartialEq, Eq)]
+pub enum PlanError {
+    /// The FADT has no PM1a_CNT, or on reduced hardware no SLEEP_CONTROL_REG (section 5.2.9).
+    NoRegister,
+    /// The machine can't be reset by its FADT (section 4.8.3.6).
+    NoReset,
+    /// A register's address has a reserved code.
+    BadRegister(AcpiError),
+}
+
+impl From<AcpiError> for PlanError {
+    ghost use Rattle.std.specs.Prelude.{◌≡◌};
+    ghost use Rattle.acpi_sleep.specs.Words.{BadRegister};
+
+    ghost from_gives = { λ refused e. e ≡ BadRegister refused };
+
+    /// Makes `BadRegister` of a refusal.
+    fn from(refused: AcpiError) -> PlanError {
+        PlanError::BadRegister(refused)
     }
 }

@@ -13,9 +13,13 @@ pub mod error;
 pub mod laws;
 mod name;
 mod package;
+pub mod plan;
 pub mod sleep;
 mod step;
+pub mod tables;
 mod term;
 
-pub use error::AmlError;
+pub use error::{AmlError, PlanError, SleepError};
+pub use plan::{Plan, PlanStep, StepKind, enable_plan, pm_timer_ticks, reset_plan, sleep_plan};
 pub use sleep::{SleepAnswer, SleepTypes, sleep_types};
+pub use tables::SleepTables;

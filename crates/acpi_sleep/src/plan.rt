@@ -1,0 +1,217 @@
+//! What to write, and where, to sleep or to power off, to enable ACPI and to reset (sections 4.8.3.2, 4.8.3.6, 4.8.3.7
+//! and 16.1). Nothing is written here: a caller has the registers' spaces mapped, and takes the steps in order.
+//!
+//! Sleep states have methods of AML besides: before the first step an interpreter runs `_TTS` and `_PTS` with the
+//! state's number, and `_GTS` where a machine still has it, and after a sleep `_WAK` (section 7.4).
+ghost use Rattle.std.specs.Prelude.{◌≡◌};
+ghost use Rattle.acpi_sleep.specs.Words.{byte_step, enable_plan, pm1_step, pm1a_control, port, reset_plan, sci_step, sleep_control, sleep_control_step, sleep_plan, timer_bits, timer_ticks, unless_zero};
+
+use crate::error::PlanError;
+use crate::sleep::SleepTypes;
+use acpi::address::{AccessSize, AddressSpace, GenericAddress};
+use acpi::fadt::Fadt;
+
+/// What a step does with its register.
+#[derive(Clone, Copy, Debug, PartialEq, Eq)]
+pub enum StepKind {
+    /// It gives the bits of the mask those of the value, and keeps the others: it reads first, unless the mask has all
+    /// bits of the register.
+    Write,
+    /// It reads until the bits of the mask are those of the value.
+    Wait,
+}
+
+/// A step of a plan.
+#[derive(Clone, Copy, Debug, PartialEq, Eq)]
+pub struct PlanStep {
+    /// The register.
+    pub register: GenericAddress,
+    /// How many bits of the register are read and written at once, from its first on: 8 or 16.
+    pub width: u8,
+    /// The bits that the step is about.
+    pub mask: u32,
+    /// The value of these bits.
+    pub value: u32,
+    /// What it does with them.
+    pub kind: StepKind,
+}
+
+/// Steps to take in order: two, one or none.
+#[derive(Clone, Copy, Debug, PartialEq, Eq)]
+pub struct Plan {
+    /// The first step.
+    pub first: Option<PlanStep>,
+    /// The second one, which there is only after a first.
+    pub second: Option<PlanStep>,
+}
+
+/// That PM1 control gets a sleep type and SLP_EN (section 4.8.3.2.1).
+fn pm1_step(register: GenericAddress, sleep_type: u8) -> PlanStep
+    ensures { result ≡ pm1_step register sleep_type }
+{
+    PlanStep {
+        register,
+        width: 16,
+        mask: 7 * (1 << 10) + (1 << 13),
+        value: sleep_type as u32 % 8 * (1 << 10) + (1 << 13), // SLP_TYPx, SLP_EN
+        kind: StepKind::Write,
+    }
+}
+
+/// That SLEEP_CONTROL_REG gets a sleep type and SLP_EN (section 4.8.3.7).
+fn sleep_control_step(register: GenericAddress, sleep_type: u8) -> PlanStep
+    ensures { result ≡ sleep_control_step register sleep_type }
+{
+    PlanStep {
+        register,
+        width: 8,
+        mask: 7 * (1 << 2) + (1 << 5),
+        value: sleep_type as u32 % 8 * (1 << 2) + (1 << 5), // SLP_TYPx, SLP_EN
+        kind: StepKind::Write,
+    }
+}
+
+/// That SCI_EN of PM1 control is set (section 4.8.3.2.1).
+fn sci_step(register: GenericAddress) -> PlanStep
+    ensures { result ≡ sci_step register }
+{
+    PlanStep {
+        register,
+        width: 16,
+        mask: 1,
+        value: 1,
+        kind: StepKind::Wait,
+    }
+}
+
+/// That a register gets a whole byte.
+fn byte_step(register: GenericAddress, value: u8) -> PlanStep
+    ensures { result ≡ byte_step register value }
+{
+    PlanStep {
+        register,
+        width: 8,
+        mask: 0xFF,
+        value: value as u32,
+        kind: StepKind::Write,
+    }
+}
+
+/// A port of one byte.
+fn port(address: u32) -> GenericAddress
+    ensures { result ≡ port address }
+{
+    GenericAddress {
+        address_space: AddressSpace::SystemIo,
+        bit_width: 8,
+        bit_offset: 0,
+        access_size: AccessSize::ByteAccess,
+        address: address as u64,
+    }
+}
+
+/// A register, or an error if its address is 0.
+fn unless_zero(error: PlanError, register: GenericAddress) -> Result<GenericAddress, PlanError>
+    ensures { result ≡ unless_zero error register }
+{
+    if register.address == 0 {
+        Err(error)
+    } else {
+        Ok(register)
+    }
+}
+
+/// PM1a_CNT (section 5.2.9).
+#[tactic(auto, unfolding(crate::specs::Plans::pm1a_control))]
+fn pm1a_control(fadt: &Fadt) -> Result<GenericAddress, PlanError>
+    ensures { result ≡ pm1a_control fadt.now }
+{
+    unless_zero(PlanError::NoRegister, fadt.pm1a_control_block()?)
+}
+
+/// SLEEP_CONTROL_REG (section 5.2.9).
+#[tactic(auto, unfolding(crate::specs::Plans::sleep_control))]
+fn sleep_control(fadt: &Fadt) -> Result<GenericAddress, PlanError>
+    ensures { result ≡ sleep_control fadt.now }
+{
+    match fadt.sleep_control_register()? {
+        Some(register) => unless_zero(PlanError::NoRegister, register),
+        None => Err(PlanError::NoRegister),
+    }
+}
+
+/// Enters the sleep state of these sleep types (section 16.1), or with those of S5 powers the machine off: SLP_TYP and
+/// SLP_EN of PM1a_CNT, and then of PM1b_CNT if the machine has it, each with its own type; on reduced hardware
+/// those of SLEEP_CONTROL_REG, with the type of PM1a_CNT. Of a type only the three low bits count.
+///
+/// Fails with `NoRegister` if the FADT has no PM1a_CNT, or on reduced hardware no SLEEP_CONTROL_REG, and with
+/// `BadRegister` if a register's address has a reserved code.
+#[tactic(auto, unfolding(crate::specs::Plans::sleep_plan))]
+pub fn sleep_plan(fadt: &Fadt, types: SleepTypes) -> Result<Plan, PlanError>
+    ensures exact { result ≡ sleep_plan fadt.now types }
+{
+    if fadt.flags.system_is_hw_reduced_acpi() {
+        let control = sleep_control(fadt)?;
+        return Ok(Plan {
+            first: Some(sleep_control_step(control, types.a)),
+            second: None,
+        });
+    }
+    let a = pm1a_control(fadt)?;
+    let second = match fadt.pm1b_control_block()? {
+        Some(b) => Some(pm1_step(b, types.b)),
+        None => None,
+    };
+    Ok(Plan {
+        first: Some(pm1_step(a, types.a)),
+        second,
+    })
+}
+
+/// Enables ACPI: ACPI_ENABLE to the port SMI_CMD, and then until SCI_EN of PM1a_CNT is set (section 4.8.3.2.1). It has
+/// no step on reduced hardware, nor if SMI_CMD is 0.
+///
+/// Fails as `sleep_plan` does over PM1a_CNT.
+#[tactic(auto, unfolding(crate::specs::Plans::enable_plan))]
+pub fn enable_plan(fadt: &Fadt) -> Result<Plan, PlanError>
+    ensures exact { result ≡ enable_plan fadt.now }
+{
+    if fadt.flags.system_is_hw_reduced_acpi() || fadt.smi_cmd_port == 0 {
+        return Ok(Plan {
+            first: None,
+            second: None,
+        });
+    }
+    let control = pm1a_control(fadt)?;
+    Ok(Plan {
+        first: Some(byte_step(port(fadt.smi_cmd_port), fadt.acpi_enable)),
+        second: Some(sci_step(control)),
+    })
+}
+
+/// Resets the machine (section 4.8.3.6): RESET_VALUE to RESET_REG.
+///
+/// Fails with `NoReset` if RESET_REG_SUP isn't set or RESET_REG is at address 0, and with `BadRegister` if its
+/// address has a reserved code.
+#[tactic(auto, unfolding(crate::specs::Plans::reset_plan))]
+pub fn reset_plan(fadt: &Fadt) -> Result<Plan, PlanError>
+    ensures exact { result ≡ reset_plan fadt.now }
+{
+    if !fadt.flags.supports_system_reset_via_fadt() {
+        return Err(PlanError::NoReset);
+    }
+    let register = unless_zero(PlanError::NoReset, fadt.reset_register()?)?;
+    Ok(Plan {
+        first: Some(byte_step(register, fadt.reset_value)),
+        second: None,
+    })
+}
+
+/// How many ticks of the power management timer there are from one value of TMR_VAL to a later one, if it went around
+/// less than once (section 4.8.3.3): it has 32 bits, or else 24.
+pub fn pm_timer_ticks(before: u32, after: u32, is_32_bit: bool) -> u32
+    ensures exact { result ≡ timer_ticks before after (timer_bits is_32_bit) }
+{
+    let ticks = after.wrapping_sub(before);
+    if is_32_bit { ticks } else { ticks % (1 << 24) }
+}
