@@ -28,8 +28,8 @@
  * A call can be passed any numbers, over any bytes. It keeps no state, takes no memory and calls
  * nobody: any number may run at once, each with outputs of its own. It returns ZACPI_OK, with all
  * its outputs written, or fails with the first error of its comment, with none written; only a
- * ZACPI_SDT_ error and ZACPI_TABLE_MISSING write `signature`. Opening errors are those of
- * zacpi_open. A call about a table goes by the first valid one that is listed.
+ * ZACPI_SDT_ error, ZACPI_TABLE_MISSING and ZACPI_AML_INVALID write `signature`. Opening errors are
+ * those of zacpi_open. A call about a table goes by the first valid one that is listed.
  *
  * A list has its items in the table's order. It writes the first `capacity` of them to `out`, and
  * how many there are in all to `count`: with a capacity of 0 it only counts.
@@ -75,6 +75,7 @@ enum zacpi_refusal {
     ZACPI_UNKNOWN_START = 3,         /* `start` isn't one of enum zacpi_start */
     ZACPI_RANGE_TOO_HIGH = 4,        /* a range ends at 2^64 or above */
     ZACPI_UNKNOWN_WIDTH = 5,         /* `bytes_each` isn't 1, 2 or 4 */
+    ZACPI_NO_SUCH_STATE = 6,         /* a sleep state above 5 */
 
     /* Memory and the RSDP (section 5.2.5). */
     ZACPI_MAP_FAILED = 10,               /* bytes are needed that no one region contains */
@@ -91,11 +92,17 @@ enum zacpi_refusal {
     ZACPI_SDT_INVALID_CHECKSUM = 24,  /* the bytes don't sum to 0 */
     ZACPI_TABLE_MISSING = 25,         /* no valid table of the signature is listed */
 
-    /* The FADT, the HPET and the MCFG. */
+    /* The FADT, the HPET, the MCFG, and AML. */
     ZACPI_INVALID_DSDT_ADDRESS = 30,    /* X_DSDT and DSDT are 0 (section 5.2.9) */
     ZACPI_INVALID_GENERIC_ADDRESS = 31, /* a reserved code in a register's address (section
                                          * 5.2.3.2), or an HPET that isn't in memory */
     ZACPI_NO_SUCH_FUNCTION = 32,        /* no region of configuration space contains it */
+    ZACPI_NO_REGISTER = 33,             /* PM1a_CNT, on reduced hardware SLEEP_CONTROL_REG */
+    ZACPI_NO_RESET = 34,                /* RESET_REG_SUP is clear, or RESET_REG at address 0 */
+    ZACPI_SLEEP_STATE_ABSENT = 35,      /* no table has the state's package */
+    ZACPI_SLEEP_STATE_NOT_SEEN = 36,    /* a table may have it, if its AML is run */
+    ZACPI_AML_INVALID = 37,             /* the AML of the table whose signature is written can't be
+                                         * passed, or the package isn't one of constants */
 
     /* The MADT (section 5.2.12). An entry begins, from byte 44 on, where its Length is at most the
      * bytes left and at least 8, 12, 10, 8, 6, 12, 16, 16, 16, 16, 12, 76, 24, 24, 16, 20 and 16
@@ -153,11 +160,12 @@ static inline const char *zacpi_status_name(zacpi_status status) {
     /* One text: a table of pointers would have to be relocated first. */
     static const char names[] =
         "0:Ok\0""1:RegionsNotAscending\0""2:RegionTooHigh\0""3:UnknownStart\0""4:RangeTooHigh\0"
-        "5:UnknownWidth\0""10:MapFailed\0""11:NoValidRsdp\0""12:RsdpIncorrectSignature\0"
-        "13:RsdpInvalidOemId\0""14:RsdpInvalidChecksum\0""20:SdtInvalidSignature\0"
-        "21:SdtInvalidOemId\0""22:SdtInvalidTableId\0""23:SdtInvalidLength\0"
-        "24:SdtInvalidChecksum\0""25:TableMissing\0""30:InvalidDsdtAddress\0"
-        "31:InvalidGenericAddress\0""32:NoSuchFunction\0""40:NoApics\0""41:NoGic\0"
+        "5:UnknownWidth\0""6:NoSuchState\0""10:MapFailed\0""11:NoValidRsdp\0"
+        "12:RsdpIncorrectSignature\0""13:RsdpInvalidOemId\0""14:RsdpInvalidChecksum\0"
+        "20:SdtInvalidSignature\0""21:SdtInvalidOemId\0""22:SdtInvalidTableId\0"
+        "23:SdtInvalidLength\0""24:SdtInvalidChecksum\0""25:TableMissing\0""30:InvalidDsdtAddress\0"
+        "31:InvalidGenericAddress\0""32:NoSuchFunction\0""33:NoRegister\0""34:NoReset\0"
+        "35:SleepStateAbsent\0""36:SleepStateNotSeen\0""37:AmlInvalid\0""40:NoApics\0""41:NoGic\0"
         "42:NoSuchInterrupt\0""43:NoSuchIoApic\0""44:InvalidMadt UnexpectedEntry\0"
         "45:InvalidMadt InterruptOverrideEntryHasInvalidBus\0""46:InvalidMadt InvalidLocalNmiLine\0"
         "47:InvalidMadt MpsIntiInvalidPolarity\0""48:InvalidMadt MpsIntiInvalidTriggerMode\0"
@@ -552,6 +560,66 @@ ZACPI_STATUS zacpi_list_hpets(const struct zacpi_source *source, struct zacpi_hp
 ZACPI_STATUS zacpi_get_boot_graphic(const struct zacpi_source *source,
                                     struct zacpi_boot_graphic *out,
                                     struct zacpi_signature *signature);
+
+/* Power ---------------------------------------------------------------------------------------- */
+
+enum zacpi_step_kind { ZACPI_STEP_WRITE = 0, ZACPI_STEP_WAIT = 1 };
+struct zacpi_step {
+    struct zacpi_register at; /* present */
+    uint32_t mask, value;     /* write: the bits of `mask` get those of `value`, and the others are
+                               * kept; with all bits of `width` in `mask` nothing is read first.
+                               * wait: until the bits of `mask` are those of `value` */
+    uint8_t width;            /* of one access, in bits: 8 or 16 */
+    uint8_t kind;             /* of enum zacpi_step_kind */
+};
+struct zacpi_plan { /* steps to take in order; the caller writes, the library touches no port */
+    struct zacpi_step steps[8]; /* zeros from `count` on */
+    uint32_t count;
+};
+struct zacpi_sleep_types {
+    uint8_t a, b; /* SLP_TYPa and SLP_TYPb */
+};
+
+/* Returns the sleep types of S0 to S5, constants in the AML (section 7.4.2): of the first of the
+ * DSDT and the SSDTs that has the state's package. AML isn't run: ZACPI_SLEEP_STATE_NOT_SEEN if an
+ * interpreter could find it. Fails with an opening error, ZACPI_NO_SUCH_STATE; if no table has it,
+ * with what keeps the first such table from telling: the errors of zacpi_dsdt, ZACPI_AML_INVALID
+ * with "DSDT" or "SSDT", or ZACPI_SLEEP_STATE_NOT_SEEN; else with ZACPI_SLEEP_STATE_ABSENT. */
+ZACPI_STATUS zacpi_get_sleep_types(const struct zacpi_source *source, uint32_t state,
+                                   struct zacpi_sleep_types *out,
+                                   struct zacpi_signature *signature);
+
+/* Returns what to write to enter a sleep state (section 16.1): SLP_TYP and SLP_EN to PM1a_CNT and
+ * PM1b_CNT, on reduced hardware to SLEEP_CONTROL_REG. Before it an interpreter still has to run
+ * \_TTS and \_PTS, and \_GTS of old machines, with the state. Fails as zacpi_get_sleep_types, with
+ * ZACPI_TABLE_MISSING "FACP", ZACPI_NO_REGISTER if PM1a_CNT or SLEEP_CONTROL_REG is absent or at
+ * address 0, or ZACPI_INVALID_GENERIC_ADDRESS. */
+ZACPI_STATUS zacpi_get_sleep_plan(const struct zacpi_source *source, uint32_t state,
+                                  struct zacpi_plan *out, struct zacpi_signature *signature);
+
+/* Returns what to write to power the machine off: zacpi_get_sleep_plan of S5. An interpreter would
+ * still have to run \_TTS, \_PTS and \_GTS with 5 before. Fails as that does. */
+ZACPI_STATUS zacpi_get_power_off_plan(const struct zacpi_source *source, struct zacpi_plan *out,
+                                      struct zacpi_signature *signature);
+
+/* Returns what to write to reset the machine: RESET_VALUE to RESET_REG (section 4.8.3.6). Fails
+ * with an opening error, ZACPI_TABLE_MISSING "FACP", ZACPI_NO_RESET if RESET_REG_SUP is clear or
+ * the register at address 0, or ZACPI_INVALID_GENERIC_ADDRESS. */
+ZACPI_STATUS zacpi_get_reset_plan(const struct zacpi_source *source, struct zacpi_plan *out,
+                                  struct zacpi_signature *signature);
+
+/* Returns what to write to enable ACPI: ACPI_ENABLE to the port SMI_CMD, then until SCI_EN of
+ * PM1a_CNT is set (section 4.8.3.2.1). No step on reduced hardware, nor if SMI_CMD is 0. Fails with
+ * an opening error, ZACPI_TABLE_MISSING "FACP", ZACPI_NO_REGISTER if PM1a_CNT is at address 0, or
+ * ZACPI_INVALID_GENERIC_ADDRESS. */
+ZACPI_STATUS zacpi_get_enable_plan(const struct zacpi_source *source, struct zacpi_plan *out,
+                                   struct zacpi_signature *signature);
+
+/* Returns the ticks from one value of the power management timer to a later one, if it went around
+ * less than once: it counts in 32 bits, or else in 24 (section 4.8.3.3). */
+static inline uint32_t zacpi_pm_timer_ticks(uint32_t before, uint32_t after, uint8_t is_32_bit) {
+    return (after - before) & (is_32_bit ? 0xffffffffu : 0xffffffu);
+}
 
 /* PCI ------------------------------------------------------------------------------------------ */
 

@@ -291,6 +291,58 @@ ZACPI_STATUS zacpi_get_boot_graphic(const struct zacpi_source *source,
     return zacpi_1_get_boot_graphic(&kept_source, out, signature ? signature : &unasked);
 }
 
+zacpi_status zacpi_1_get_sleep_types(const struct zacpi_source *source, uint32_t state,
+                                     struct zacpi_sleep_types *out,
+                                     struct zacpi_signature *signature);
+ZACPI_NONNULL((1, 3))
+ZACPI_STATUS zacpi_get_sleep_types(const struct zacpi_source *source, uint32_t state,
+                                   struct zacpi_sleep_types *out,
+                                   struct zacpi_signature *signature) {
+    const struct zacpi_source kept_source = zacpi_source_kept(source);
+    struct zacpi_signature unasked;
+    return zacpi_1_get_sleep_types(&kept_source, state, out, signature ? signature : &unasked);
+}
+
+zacpi_status zacpi_1_get_sleep_plan(const struct zacpi_source *source, uint32_t state,
+                                    struct zacpi_plan *out, struct zacpi_signature *signature);
+ZACPI_NONNULL((1, 3))
+ZACPI_STATUS zacpi_get_sleep_plan(const struct zacpi_source *source, uint32_t state,
+                                  struct zacpi_plan *out, struct zacpi_signature *signature) {
+    const struct zacpi_source kept_source = zacpi_source_kept(source);
+    struct zacpi_signature unasked;
+    return zacpi_1_get_sleep_plan(&kept_source, state, out, signature ? signature : &unasked);
+}
+
+zacpi_status zacpi_1_get_power_off_plan(const struct zacpi_source *source, struct zacpi_plan *out,
+                                        struct zacpi_signature *signature);
+ZACPI_NONNULL((1, 2))
+ZACPI_STATUS zacpi_get_power_off_plan(const struct zacpi_source *source, struct zacpi_plan *out,
+                                      struct zacpi_signature *signature) {
+    const struct zacpi_source kept_source = zacpi_source_kept(source);
+    struct zacpi_signature unasked;
+    return zacpi_1_get_power_off_plan(&kept_source, out, signature ? signature : &unasked);
+}
+
+zacpi_status zacpi_1_get_reset_plan(const struct zacpi_source *source, struct zacpi_plan *out,
+                                    struct zacpi_signature *signature);
+ZACPI_NONNULL((1, 2))
+ZACPI_STATUS zacpi_get_reset_plan(const struct zacpi_source *source, struct zacpi_plan *out,
+                                  struct zacpi_signature *signature) {
+    const struct zacpi_source kept_source = zacpi_source_kept(source);
+    struct zacpi_signature unasked;
+    return zacpi_1_get_reset_plan(&kept_source, out, signature ? signature : &unasked);
+}
+
+zacpi_status zacpi_1_get_enable_plan(const struct zacpi_source *source, struct zacpi_plan *out,
+                                     struct zacpi_signature *signature);
+ZACPI_NONNULL((1, 2))
+ZACPI_STATUS zacpi_get_enable_plan(const struct zacpi_source *source, struct zacpi_plan *out,
+                                   struct zacpi_signature *signature) {
+    const struct zacpi_source kept_source = zacpi_source_kept(source);
+    struct zacpi_signature unasked;
+    return zacpi_1_get_enable_plan(&kept_source, out, signature ? signature : &unasked);
+}
+
 zacpi_status zacpi_1_list_pci_regions(const struct zacpi_source *source,
                                       struct zacpi_pci_region *out, size_t capacity, size_t *count,
                                       struct zacpi_signature *signature);

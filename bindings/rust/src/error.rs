@@ -49,6 +49,18 @@ pub enum AcpiError {
     InvalidGenericAddress,
     /// No region of configuration space holds this PCI function.
     NoSuchFunction,
+    /// A sleep state is above 5.
+    NoSuchState,
+    /// No table has the package of the sleep state (section 7.4.2).
+    SleepStateAbsent,
+    /// A table may have the package of the sleep state, if its AML is run.
+    SleepStateNotSeen,
+    /// The AML of a table can't be passed, or the package of the sleep state isn't one of constants.
+    AmlInvalid(Signature),
+    /// The FADT has no PM1a_CNT, or on reduced hardware no SLEEP_CONTROL_REG (section 5.2.9).
+    NoRegister,
+    /// RESET_REG_SUP of the FADT is clear, or RESET_REG is at address 0 (section 4.8.3.6).
+    NoReset,
     /// The address after a range's last byte is above 2^64 - 1.
     RangeTooHigh,
     /// No valid MADT has an entry of a machine with APICs: the interrupt model is unknown (section 5.2.12).
@@ -110,6 +122,7 @@ impl AcpiError {
             2 => RegionTooHigh,
             4 => RangeTooHigh,
             5 => UnknownWidth,
+            6 => NoSuchState,
             10 => MapFailed,
             11 => NoValidRsdp,
             12 => RsdpIncorrectSignature,
@@ -124,6 +137,11 @@ impl AcpiError {
             30 => InvalidDsdtAddress,
             31 => InvalidGenericAddress,
             32 => NoSuchFunction,
+            33 => NoRegister,
+            34 => NoReset,
+            35 => SleepStateAbsent,
+            36 => SleepStateNotSeen,
+            37 => AmlInvalid(named),
             40 => NoApics,
             41 => NoGic,
             42 => NoSuchInterrupt,
@@ -157,6 +175,7 @@ impl fmt::Display for AcpiError {
             SdtInvalidLength(s) => write!(f, "SdtInvalidLength {s}"),
             SdtInvalidChecksum(s) => write!(f, "SdtInvalidChecksum {s}"),
             TableMissing(s) => write!(f, "TableMissing {s}"),
+            AmlInvalid(s) => write!(f, "AmlInvalid {s}"),
             InvalidMadt(e) => write!(f, "InvalidMadt {e}"),
             Other(number) => write!(f, "Refused {number}"),
             plain => write!(f, "{plain:?}"),

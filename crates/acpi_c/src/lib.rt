@@ -16,5 +16,6 @@ mod iommu;
 mod missing;
 mod numa;
 mod pci;
+mod power;
 mod tables;
 mod writing;

@@ -62,7 +62,13 @@ code_of refusal.RegionTooHigh = 2
 code_of refusal.UnknownStart = 3
 code_of refusal.RangeTooHigh = 4
 code_of refusal.UnknownWidth = 5
+code_of refusal.NoSuchState = 6
 code_of refusal.NoSuchFunction = 32
+code_of refusal.NoRegister = 33
+code_of refusal.NoReset = 34
+code_of refusal.SleepStateAbsent = 35
+code_of refusal.SleepStateNotSeen = 36
+code_of (refusal.AmlInvalid s) = 37
 code_of refusal.NoApics = 40
 code_of refusal.NoGic = 41
 code_of refusal.NoSuchInterrupt = 42
@@ -92,4 +98,5 @@ carried _ = None
 
 abbrev pub signature_of : Refusal → Option Signature
 signature_of (refusal.Acpi e) = carried e
+signature_of (refusal.AmlInvalid s) = Some s
 signature_of _ = None

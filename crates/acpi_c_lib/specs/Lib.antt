@@ -21,6 +21,7 @@ pub mod MadtFaults
 pub mod Missing
 pub mod Model
 pub mod Numa
+pub mod Power
 pub mod Records
 pub mod Regions
 pub mod Routes

@@ -12,6 +12,8 @@ pub use Rattle.acpi_c_lib.specs.declared.interrupt_records.IoApic.{IoApic}
 pub use Rattle.acpi_c_lib.specs.declared.interrupt_records.NmiLine.{NmiLine}
 pub use Rattle.acpi_c_lib.specs.declared.interrupt_records.NmiSource.{NmiSource}
 pub use Rattle.acpi_c_lib.specs.declared.interrupt_records.Processor.{Processor}
+pub use Rattle.acpi_c_lib.specs.declared.power_records.Plan.{Plan}
+pub use Rattle.acpi_c_lib.specs.declared.power_records.SleepTypes.{SleepTypes}
 pub use Rattle.acpi_c_lib.specs.declared.records.AmlTable.{AmlTable}
 pub use Rattle.acpi_c_lib.specs.declared.records.GenericAddress.{GenericAddress}
 pub use Rattle.acpi_c_lib.specs.declared.records.HpetInfo.{HpetInfo}

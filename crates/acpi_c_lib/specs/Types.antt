@@ -32,6 +32,7 @@ pub use Rattle.acpi_c_lib.specs.declared.iommu_records.IvrsMemory.{IvrsMemory}
 pub use Rattle.acpi_c_lib.specs.declared.iommu_records.IvrsUnit.{IvrsUnit}
 pub use Rattle.acpi_c_lib.specs.declared.numa_records.Localities.{Localities}
 pub use Rattle.acpi_c_lib.specs.declared.numa_records.MemoryAffinity.{MemoryAffinity}
+pub use Rattle.acpi_c_lib.specs.declared.power_records.Step.{Step}
 pub use Rattle.acpi_c_lib.specs.declared.records.BootGraphic.{BootGraphic}
 pub use Rattle.acpi_c_lib.specs.declared.records.Entry.{Entry}
 pub use Rattle.acpi_c_lib.specs.declared.records.Facs.{Facs}
@@ -41,7 +42,7 @@ pub use Rattle.acpi_c_lib.specs.declared.records.Range.{Range}
 pub use Rattle.acpi_c_lib.specs.declared.records.Register.{Register}
 pub use Rattle.acpi_c_lib.specs.declared.records.Root.{Root}
 pub use Rattle.acpi_c_lib.specs.declared.refusal.Refusal.{Refusal}
-pub use Rattle.acpi_c_lib.specs.declared.refusal.Refusal.TheVariants.{Acpi, InvalidIommuMemoryRange, InvalidIommuStructureLength, InvalidMemoryRange, InvalidSratEntryLength, NoApics, NoDistance, NoDomain, NoGic, NoIommu, NoSuchFunction, NoSuchInterrupt, NoSuchIoApic, RangeTooHigh, RegionTooHigh, RegionsNotAscending, UnknownCode, UnknownStart, BadTable, UnknownWidth, Writer}
+pub use Rattle.acpi_c_lib.specs.declared.refusal.Refusal.TheVariants.{Acpi, AmlInvalid, InvalidIommuMemoryRange, InvalidIommuStructureLength, InvalidMemoryRange, InvalidSratEntryLength, NoApics, NoDistance, NoDomain, NoGic, NoIommu, NoRegister, NoReset, NoSuchFunction, NoSuchInterrupt, NoSuchIoApic, NoSuchState, RangeTooHigh, RegionTooHigh, RegionsNotAscending, SleepStateAbsent, SleepStateNotSeen, UnknownCode, UnknownStart, BadTable, UnknownWidth, Writer}
 pub use Rattle.acpi_c_lib.specs.declared.writing.machine.Contents.TheVariants.{Bgrt, Fadt, Gic, Hpet, Madt, Mcfg, Spcr, Srat}
 pub use Rattle.acpi_c_lib.specs.declared.written_records.GicContents.{GicContents}
 pub use Rattle.acpi_c_lib.specs.declared.written_records.ListedTable.{ListedTable}
@@ -59,6 +60,12 @@ pub use Rattle.acpi_iommu.specs.declared.ivrs.block.Ivmd.{Ivmd}
 pub use Rattle.acpi_iommu.specs.declared.ivrs.blocks.DeviceUnit.{DeviceUnit}
 pub use Rattle.acpi_numa.specs.declared.error.NumaError.{NumaError}
 pub use Rattle.acpi_numa.specs.declared.srat.affinities.MemoryRange.{MemoryRange}
+pub use Rattle.acpi_sleep.specs.declared.error.PlanError.{PlanError}
+pub use Rattle.acpi_sleep.specs.declared.error.SleepError.{SleepError}
+pub use Rattle.acpi_sleep.specs.declared.plan.Plan.{Plan}
+pub use Rattle.acpi_sleep.specs.declared.plan.PlanStep.{PlanStep}
+pub use Rattle.acpi_sleep.specs.declared.plan.StepKind.{StepKind}
+pub use Rattle.acpi_sleep.specs.declared.sleep.SleepTypes.{SleepTypes}
 pub use Rattle.acpi_writer.specs.declared.bgrt.BgrtContents.{BgrtContents}
 pub use Rattle.acpi_writer.specs.declared.bgrt.BgrtOrientation.{BgrtOrientation}
 pub use Rattle.acpi_writer.specs.declared.bgrt.BgrtOrientation.TheVariants.{Degrees0, Degrees180, Degrees270, Degrees90}

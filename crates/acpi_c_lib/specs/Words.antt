@@ -26,6 +26,7 @@ pub use Rattle.acpi_c_lib.specs.MadtFaults.{fault, faults_from, faults_of, madt_
 unfoldable pub use Rattle.acpi_c_lib.specs.MadtFaults.{found_madt}
 pub use Rattle.acpi_c_lib.specs.Model.{MadtItem, apics_by, below_platform, counts_of, io_apic_record, listed, model_by, platform_model}
 pub use Rattle.acpi_c_lib.specs.Numa.{IsLocalities, affinities_below, affinity_record, distance_below, domain_of_address_below, domain_of_apic_below, domain_of_processor_below, numa_refusal, slit_in}
+pub use Rattle.acpi_c_lib.specs.Power.{enable_plan_below, kind_code, plan_record, plan_refusal, plan_said, reset_plan_below, sleep_plan_below, sleep_refusal, sleep_types_below, step_record, types_below}
 pub use Rattle.acpi_c_lib.specs.Regions.{Region, check_from, check_regions, memory_in, memory_of, region_of}
 pub use Rattle.acpi_c_lib.specs.Routes.{AreWirings, Interrupt, IoApicPin, apic_in, below_known, has_codes, interrupt_or, interrupt_record, is_nearer, isa_below, isa_in, isa_override_in, last_override, own_override, pin_below, pin_in, pin_or, sci_below, sci_in, wirings_of}
 unfoldable pub use Rattle.acpi_c_lib.specs.Routes.{known_platform}

@@ -34,6 +34,8 @@ pub mod numa_records;
 pub mod opening;
 pub mod pci;
 pub mod platform;
+pub mod power;
+pub mod power_records;
 pub mod processors;
 pub mod records;
 pub mod refusal;

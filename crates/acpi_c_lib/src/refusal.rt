@@ -1,10 +1,11 @@
 //! Why a call refuses, the number that C gets for it, and the signature that it carries.
 ghost use Rattle.std.specs.Prelude.{◌≡◌};
 ghost use Rattle.acpi_c_lib.specs.Codes as codes;
-ghost use Rattle.acpi_c_lib.specs.Words.{Acpi, Writer};
+ghost use Rattle.acpi_c_lib.specs.Words.{Acpi, Writer, plan_refusal, sleep_refusal};
 
 use acpi::sdt::Signature;
 use acpi::{AcpiError, MadtError};
+use acpi_sleep::{PlanError, SleepError};
 use acpi_writer::WriterError;
 
 /// Why a call refuses. What each means is said once, at `enum zacpi_refusal` of `include/zacpi.h`.
@@ -15,7 +16,14 @@ pub enum Refusal {
     UnknownStart,
     RangeTooHigh,
     UnknownWidth,
+    NoSuchState,
     NoSuchFunction,
+    NoRegister,
+    NoReset,
+    SleepStateAbsent,
+    SleepStateNotSeen,
+    /// The AML is that of a table of this signature.
+    AmlInvalid(Signature),
     NoApics,
     NoGic,
     NoSuchInterrupt,
@@ -51,6 +59,30 @@ impl From<WriterError> for Refusal {
     }
 }
 
+impl From<SleepError> for Refusal {
+    ghost from_gives = { λ error e. e ≡ sleep_refusal error };
+
+    fn from(error: SleepError) -> Refusal {
+        match error {
+            SleepError::NoSuchState => Refusal::NoSuchState,
+            SleepError::Aml(signature, _) => Refusal::AmlInvalid(signature),
+            SleepError::Acpi(error) => Refusal::Acpi(error),
+        }
+    }
+}
+
+impl From<PlanError> for Refusal {
+    ghost from_gives = { λ error e. e ≡ plan_refusal error };
+
+    fn from(error: PlanError) -> Refusal {
+        match error {
+            PlanError::NoRegister => Refusal::NoRegister,
+            PlanError::NoReset => Refusal::NoReset,
+            PlanError::BadRegister(error) => Refusal::Acpi(error),
+        }
+    }
+}
+
 impl Refusal {
     /// The number of the refusal, as `enum zacpi_refusal` of `include/zacpi.h` has it.
     pub(crate) fn code(self) -> u32
@@ -62,7 +94,13 @@ impl Refusal {
             Refusal::UnknownStart => 3,
             Refusal::RangeTooHigh => 4,
             Refusal::UnknownWidth => 5,
+            Refusal::NoSuchState => 6,
             Refusal::NoSuchFunction => 32,
+            Refusal::NoRegister => 33,
+            Refusal::NoReset => 34,
+            Refusal::SleepStateAbsent => 35,
+            Refusal::SleepStateNotSeen => 36,
+            Refusal::AmlInvalid(_) => 37,
             Refusal::NoApics => 40,
             Refusal::NoGic => 41,
             Refusal::NoSuchInterrupt => 42,
@@ -81,12 +119,13 @@ impl Refusal {
         }
     }
 
-    /// The signature that the refusal carries, if it carries one: numbers 20 to 25 do.
+    /// The signature that the refusal carries, if it carries one: numbers 20 to 25 and 37 do.
     pub(crate) fn signature(self) -> Option<Signature>
         ensures { result ≡ codes.signature_of self }
     {
         match self {
             Refusal::Acpi(error) => carried(error),
+            Refusal::AmlInvalid(signature) => Some(signature),
             _ => None,
         }
     }

@@ -1,0 +1,93 @@
+-- Sleep types, and what to write to sleep, to enable ACPI and to reset, as C gets them.
+use Rattle.std.specs.Prelude.{ℕ, ◌+◌, ◌∷◌, replicate, Option, Some, None, Result, Ok, Err}
+use Rattle.std.specs.Option.{is_some}
+use Rattle.acpi_base.specs.Words.{◌>>=◌}
+use Rattle.acpi.specs.Types.{Fadt}
+use Rattle.acpi.specs.Words.{fadt_kind}
+use Rattle.acpi_fixed.specs.Words.{fadt_at}
+use Rattle.acpi_sleep.specs.Words as sleep
+use Rattle.acpi_sleep.specs.declared.error.PlanError.TheVariants as plans
+use Rattle.acpi_sleep.specs.declared.error.SleepError.TheVariants as errors
+use Rattle.acpi_sleep.specs.declared.plan.StepKind.TheVariants as kinds
+use Rattle.acpi_sleep.specs.declared.sleep.SleepAnswer.TheVariants as answers
+use Rattle.acpi_c_lib.specs.Answers.{result_map}
+use Rattle.acpi_c_lib.specs.Below.{Refusal, Source, below, first_table}
+use Rattle.acpi_c_lib.specs.Devices.{flag, optional_register}
+use Rattle.acpi_c_lib.specs.Types.{Acpi, AmlInvalid, NoRegister, NoReset, NoSuchState, Plan, PlanError, PlanStep, SleepError, SleepStateAbsent, SleepStateNotSeen, SleepTypes, Step, StepKind}
+use Rattle.acpi_c_lib.specs.Records as records
+
+-- ---- errors
+
+-- of AML an error carries the signature of the table that the AML is of
+abbrev pub sleep_refusal : SleepError → Refusal
+sleep_refusal errors.NoSuchState = NoSuchState
+sleep_refusal (errors.Aml s e) = AmlInvalid s
+sleep_refusal (errors.Acpi e) = Acpi e
+
+abbrev pub plan_refusal : PlanError → Refusal
+plan_refusal plans.NoRegister = NoRegister
+plan_refusal plans.NoReset = NoReset
+plan_refusal (plans.BadRegister e) = Acpi e
+
+-- ---- sleep types
+
+-- that a state can't be entered, or that it isn't known whether it can, is an error too
+abbrev pub types_said : sleep.Answer → Result SleepTypes Refusal
+types_said (Ok (answers.Types types)) = Ok types
+types_said (Ok answers.Absent) = Err SleepStateAbsent
+types_said (Ok (answers.NotSeen at)) = Err SleepStateNotSeen
+types_said (Err e) = Err (sleep_refusal e)
+
+abbrev pub types_below : Source → ℕ → Result SleepTypes Refusal
+types_below s state = below s (λ m ps. types_said (sleep.tables_answer state m ps))
+
+abbrev pub types_record : SleepTypes → records.SleepTypes
+types_record types = record { a = types.a; b = types.b }
+
+abbrev pub sleep_types_below : Source → ℕ → Result records.SleepTypes Refusal
+sleep_types_below s state = result_map types_record (types_below s state)
+
+-- ---- plans
+
+abbrev pub kind_code : StepKind → ℕ
+kind_code kinds.Write = 0
+kind_code kinds.Wait = 1
+
+-- a step, or zeros
+abbrev pub step_record : Option PlanStep → Step
+step_record (Some s) = record {
+  at = optional_register (Ok (Some s.register));
+  mask = s.mask;
+  value = s.value;
+  width = s.width;
+  kind = kind_code s.kind;
+}
+step_record None = record { at = optional_register (Ok None); mask = 0; value = 0; width = 0; kind = 0 }
+
+-- eight steps, of which those behind the last are zeros
+abbrev pub plan_record : Plan → records.Plan
+plan_record p = record {
+  steps = step_record p.first ∷ step_record p.second ∷ replicate 6 (step_record None);
+  count = flag (is_some p.first) + flag (is_some p.second);
+}
+
+abbrev pub plan_said : Result Plan PlanError → Result records.Plan Refusal
+plan_said (Ok p) = Ok (plan_record p)
+plan_said (Err e) = Err (plan_refusal e)
+
+-- a plan by the first valid FADT
+abbrev pub plan_below : Source → (Fadt → Result Plan PlanError) → Result records.Plan Refusal
+plan_below s plan = do
+  table ← first_table fadt_kind s
+  plan_said (plan (fadt_at table))
+
+abbrev pub sleep_plan_below : Source → ℕ → Result records.Plan Refusal
+sleep_plan_below s state = do
+  types ← types_below s state
+  plan_below s (λ f. sleep.sleep_plan f types)
+
+abbrev pub enable_plan_below : Source → Result records.Plan Refusal
+enable_plan_below s = plan_below s sleep.enable_plan
+
+abbrev pub reset_plan_below : Source → Result records.Plan Refusal
+reset_plan_below s = plan_below s sleep.reset_plan

@@ -1,0 +1,128 @@
+//! Sleep types, and what to write to sleep, to power off, to enable ACPI and to reset.
+ghost use Rattle.std.specs.Prelude.{◌≡◌};
+ghost use Rattle.acpi_c_lib.specs.Words.{enable_plan_below, kind_code, plan_record, plan_said, reset_plan_below, sleep_plan_below, sleep_types_below, step_record, types_below};
+
+use crate::devices::optional_register;
+use crate::opening::{first, open};
+use crate::power_records::{Plan, SleepTypes, Step};
+use crate::records::Source;
+use crate::refusal::Refusal;
+use crate::regions::Mapped;
+use acpi::fadt::Fadt;
+use acpi_sleep::tables::SleepTables;
+use acpi_sleep::{PlanError, PlanStep, SleepAnswer, StepKind};
+
+/// The sleep types of a sleep state, by the DSDT and the SSDTs.
+pub fn sleep_types(source: &Source<'_>, state: u32) -> Result<SleepTypes, Refusal>
+    ensures { result ≡ sleep_types_below source.now state }
+{
+    let types = types_of(source, state)?;
+    Ok(SleepTypes {
+        a: types.a,
+        b: types.b,
+    })
+}
+
+/// The same as the library has them.
+fn types_of(source: &Source<'_>, state: u32) -> Result<acpi_sleep::SleepTypes, Refusal>
+    ensures { result ≡ types_below source.now state }
+{
+    let memory = Mapped::new(source.regions)?;
+    let tables = open(&memory, source)?;
+    if state > 5 {
+        return Err(Refusal::NoSuchState);
+    }
+    match tables.sleep_types(state as u8)? {
+        SleepAnswer::Types(types) => Ok(types),
+        SleepAnswer::Absent => Err(Refusal::SleepStateAbsent),
+        SleepAnswer::NotSeen(_) => Err(Refusal::SleepStateNotSeen),
+    }
+}
+
+/// What to write to enter a sleep state, or with S5 to power the machine off, by the first valid FADT.
+pub fn sleep_plan(source: &Source<'_>, state: u32) -> Result<Plan, Refusal>
+    ensures { result ≡ sleep_plan_below source.now state }
+{
+    let types = types_of(source, state)?;
+    let memory = Mapped::new(source.regions);
+    let fadt = first::<Fadt>(&memory, source)?;
+    plan_said(acpi_sleep::sleep_plan(&fadt, types))
+}
+
+/// What to write to enable ACPI, by the first valid FADT.
+pub fn enable_plan(source: &Source<'_>) -> Result<Plan, Refusal>
+    ensures { result ≡ enable_plan_below source.now }
+{
+    let memory = Mapped::new(source.regions);
+    let fadt = first::<Fadt>(&memory, source)?;
+    plan_said(acpi_sleep::enable_plan(&fadt))
+}
+
+/// What to write to reset the machine, by the first valid FADT.
+pub fn reset_plan(source: &Source<'_>) -> Result<Plan, Refusal>
+    ensures { result ≡ reset_plan_below source.now }
+{
+    let memory = Mapped::new(source.regions);
+    let fadt = first::<Fadt>(&memory, source)?;
+    plan_said(acpi_sleep::reset_plan(&fadt))
+}
+
+/// A plan, or why there is none.
+fn plan_said(said: Result<acpi_sleep::Plan, PlanError>) -> Result<Plan, Refusal>
+    ensures { result ≡ plan_said said }
+{
+    let plan = said?;
+    Ok(plan_record(plan))
+}
+
+/// A plan under C's names.
+fn plan_record(plan: acpi_sleep::Plan) -> Plan
+    ensures { result ≡ plan_record plan }
+{
+    let none = step_record(None);
+    Plan {
+        steps: [
+            step_record(plan.first),
+            step_record(plan.second),
+            none,
+            none,
+            none,
+            none,
+            none,
+            none,
+        ],
+        count: plan.first.is_some() as u32 + plan.second.is_some() as u32,
+    }
+}
+
+/// A step under C's names, or zeros.
+fn step_record(step: Option<PlanStep>) -> Step
+    ensures { result ≡ step_record step }
+{
+    match step {
+        Some(step) => Step {
+            at: optional_register(Ok(Some(step.register))),
+            mask: step.mask,
+            value: step.value,
+            width: step.width,
+            kind: kind_code(step.kind),
+        },
+        None => Step {
+            at: optional_register(Ok(None)),
+            mask: 0,
+            value: 0,
+            width: 0,
+            kind: 0,
+        },
+    }
+}
+
+/// The number of a step's kind.
+fn kind_code(kind: StepKind) -> u8
+    ensures { result ≡ kind_code kind }
+{
+    match kind {
+        StepKind::Write => 0,
+        StepKind::Wait => 1,
+    }
+}
