@@ -92,7 +92,7 @@ static void find_tables(struct zacpi_source *source) {
     source->start = loaded.rsdp ? ZACPI_START_RSDP : ZACPI_START_SEARCH, source->address = loaded.rsdp;
     if (!loaded.rsdp) map_areas(source);
     zacpi_status status = map_tables(source);
-    if (p && zacpi_open(source, &root, &named) == ZACPI_NO_VALID_RSDP) {
+    if (!status && p && zacpi_open(source, &root, &named) == ZACPI_NO_VALID_RSDP) {
         zacpi_unmap_tables(&mapper, source);
         source->start = ZACPI_START_RSDP, source->address = number_after(p);
         status = map_tables(source);
