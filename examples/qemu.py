@@ -45,6 +45,21 @@ def connect(s, path):
         time.sleep(0.05)
 
 
+class Ending:
+    """How a machine ends, by QEMU's machine protocol (QMP) at a socket, which is there before the machine runs."""
+    def __init__(self, path):
+        self.stream = socket.socket(socket.AF_UNIX)
+        connect(self.stream, path)
+        self.stream.sendall(b'{"execute": "qmp_capabilities"}\n')
+
+    def how(self):
+        """What the guest did, in order, of `reset` and `shutdown`, once QEMU has ended."""
+        with self.stream:
+            said = until(self.stream, b'no end of it')
+        events = rb'"event": "(RESET|SHUTDOWN)", "data": \{"guest": true, "reason": "guest-(\w+)"'
+        return [why.decode() for _, why in re.findall(events, said)]
+
+
 def until(stream, end):
     said = b''
     while not said.endswith(end):

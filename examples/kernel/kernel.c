@@ -1,7 +1,8 @@
-/* A kernel that reads the machine's ACPI tables out of physical memory, which it maps on demand through a window, and
- * prints them on the serial port. */
+/* A kernel that reads the machine's ACPI tables out of physical memory, which it maps on demand through a window,
+ * prints them on the serial port, enables ACPI, and powers the machine off. */
 #include "loader.h"
 #include "machine.h"
+#include "power.h"
 #include "window.h"
 
 extern uint8_t load_start[], bss_end[]; /* physical addresses, by link.ld */
@@ -207,6 +208,29 @@ static void figures(const struct zacpi_source *source, struct zacpi_source known
     FIGURE(zacpi_list_ranges, &known, ranges, 512, &count, &named);
 }
 
+/* Runs a plan after which there is no machine to go on with. */
+__attribute__((noreturn)) static void finish(const char *what, const struct zacpi_plan *plan) {
+    say(&serial, what), line();
+    if (run_plan(plan, map_register) < plan->count) leave(LEAVE_FAULT);
+    halt();
+}
+/* Powers the machine off, after a reset if there is to be one, and a plan for it: the kernel that starts then knows by
+ * a byte that it was reset. Without a plan to power it off the machine is left by QEMU's device. */
+__attribute__((noreturn)) static void end_machine(const struct zacpi_source *source) {
+    enum { WAS_RESET = 0x52 };
+    const int was_reset = kept_byte() == WAS_RESET;
+    struct zacpi_plan plan;
+    keep_byte(0);
+    if (was_reset) {
+        say(&serial, "was reset\n");
+    } else if (word_after(&loaded, "reset") && !zacpi_get_reset_plan(source, &plan, 0)) {
+        keep_byte(WAS_RESET);
+        finish("resets", &plan);
+    }
+    if (zacpi_get_power_off_plan(source, &plan, 0)) leave(LEAVE_GOOD);
+    finish("powers off", &plan);
+}
+
 void kernel(uint32_t magic, uint32_t information) {
     struct zacpi_source source = {regions, 0, 0, ZACPI_START_SEARCH};
     struct zacpi_source known = source;
@@ -233,8 +257,10 @@ void kernel(uint32_t magic, uint32_t information) {
         first_function(&known);
         first_unit(&known);
         figures(&source, known);
+        enable_acpi(&known, &serial, map_register);
     }
     say(&serial, "end\n");
     if (word_after(&loaded, "hold")) wait_for_byte(); /* so that memory can be looked at from outside */
-    leave(refused ? LEAVE_REFUSED : LEAVE_GOOD);
+    if (refused) leave(LEAVE_REFUSED);
+    end_machine(&known);
 }

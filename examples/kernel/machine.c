@@ -38,10 +38,21 @@ void wait_for_byte(void) {
     while (!(in8(0x3fd) & 1)) {}
 }
 
-void leave(uint32_t status) {
-    out32(0xf4, status);
+void halt(void) {
     for (;;) __asm__ volatile("cli; hlt");
 }
+void leave(uint32_t status) {
+    out32(0xf4, status);
+    halt();
+}
+
+/* The clock's memory (CMOS): the number of a byte goes to port 0x70, and the byte is read and written by 0x71. QEMU's
+ * firmware doesn't use byte 0x70. */
+uint8_t kept_byte(void) {
+    out8(0x70, 0x70);
+    return in8(0x71);
+}
+void keep_byte(uint8_t x) { out8(0x70, 0x70), out8(0x71, x); }
 
 /* One gate for each exception: without them a fault is a silent end of the machine. */
 void catch_faults(void) {

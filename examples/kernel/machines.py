@@ -2,9 +2,10 @@
 # SPDX-License-Identifier: MIT
 """machines.py KERNEL ACPI_VIEW ACPI_PACK GUEST [PART]: boots the kernel on every machine below, or on those whose
 names have PART, takes memory from the same machine while the kernel holds, and compares what the kernel
-printed with what acpi_view prints of an image of that memory, line by line, and with checks.py. On one machine the
-tables are those that GUEST, the program of `guest`, wrote, and the lines have to be those of the machine it wrote; on
-another those of $RUST_GUEST, the program of the Rust package's examples/guest.rs, if it is named.
+printed with what acpi_view prints of an image of that memory, line by line, and with checks.py. Then the kernel has to
+power the machine off, so that QEMU ends; on some machines it is told to reset them first. On one machine the tables
+are those that GUEST, the program of `guest`, wrote, and the lines have to be those of the machine it wrote; on another
+those of $RUST_GUEST, the program of the Rust package's examples/guest.rs, if it is named.
 
 machines.py KERNEL --faults: boots a kernel on one machine, on which it has to end with an invalid opcode."""
 import os
@@ -18,8 +19,8 @@ import tempfile
 import time
 
 sys.path.append(os.path.join(os.path.dirname(os.path.abspath(__file__)), '..'))
-from checks import check, rsdp_in
-from qemu import Memory, connect, lines_until, numbers, save
+from checks import check, check_reset, rsdp_in
+from qemu import Ending, Memory, connect, lines_until, numbers, save
 
 KERNEL, VIEW, PACK, GUEST, PART = (sys.argv[1:] + [''] * 4)[:5]
 FILES = tempfile.TemporaryDirectory()
@@ -80,6 +81,17 @@ def other_loaders():
     return all_of
 
 
+def resets():
+    """Machines that the kernel is told to reset. The FADT of pc has no register for that."""
+    size = ['-m', '128M', '-smp', '2']
+    return {
+        'pc that is not reset': ('multiboot', ['-machine', 'pc'] + size),
+        'q35 reset': ('multiboot', ['-machine', 'q35'] + size),
+        'q35 reset by multiboot2': ('multiboot2', ['-machine', 'q35'] + size),
+        'microvm reset by PVH': ('PVH', ['-machine', 'microvm,acpi=on'] + size),
+    }
+
+
 def grub_image(words):
     """What QEMU boots so that GRUB loads the kernel by multiboot 2: a disc."""
     folder, disc = os.path.join(FILES.name, 'disc'), os.path.join(FILES.name, 'disc.iso')
@@ -129,28 +141,33 @@ def spans(lines):
 
 
 def boot(args, folder, writes=None, words='hold', kernel=KERNEL, more=(), loader='multiboot'):
-    """What the kernel prints, the dumps, with those of more memory, and QEMU's status."""
+    """What the kernel prints, the dumps, with those of more memory, if it is told to hold for these, and how the
+    machine ends: QEMU's status, and what the guest did for that. Only a kernel that resets the machine may reboot."""
     by = {'multiboot': ['-kernel', kernel, '-append', words], 'PVH': ['-kernel', kernel + '.pvh', '-append', words]}
-    monitor, gdb = os.path.join(folder, 'monitor'), os.path.join(folder, 'gdb')
+    monitor, gdb, qmp = (os.path.join(folder, name) for name in ('monitor', 'gdb', 'qmp'))
     # By one thread: 255 processors, each of which the firmware wakes, take twice as long with a thread each.
-    command = ['qemu-system-x86_64', '-nodefaults', '-no-user-config', '-display', 'none', '-no-reboot',
+    command = ['qemu-system-x86_64', '-nodefaults', '-no-user-config', '-display', 'none',
                '-accel', 'tcg,thread=single', '-serial', 'stdio', '-monitor', 'unix:%s,server=on,wait=off' % monitor,
-               '-device', 'isa-debug-exit,iobase=0xf4,iosize=4'] + args
+               '-qmp', 'unix:%s,server=on' % qmp, '-device', 'isa-debug-exit,iobase=0xf4,iosize=4'] + args
+    command += [] if words == 'reset' else ['-no-reboot']
     command += by[loader] if loader in by else ['-cdrom', grub_image(words)]
     if writes is not None:
         command += ['-S', '-gdb', 'unix:%s,server=on,wait=off' % gdb]
     errors = open(os.path.join(folder, 'errors'), 'w')
     p = subprocess.Popen(command, stdin=subprocess.PIPE, stdout=subprocess.PIPE, stderr=errors)
     try:
+        ending = Ending(qmp)
         if writes is not None:
             change(gdb, ENTRY, writes)
-        lines = lines_until(p, b'end', 180)
-        files = []
+        lines, files = [], []
+        if words != 'reset':
+            lines = lines_until(p, b'end', 180)
         if p.poll() is None and lines and lines[-1] == 'end':
             files = save(monitor, spans(lines) + list(more), folder)
             p.stdin.write(b'\n')
             p.stdin.flush()
-        return lines, files, p.wait(60)
+        lines += lines_until(p, b'no such line', 120)
+        return lines, files, (p.wait(60), ending.how())
     finally:
         errors.close()
         if p.poll() is None:
@@ -274,9 +291,12 @@ def tried(name, machine, ecam, writes=None, words='hold', kernel=KERNEL, told=No
         began = time.time()
         lines, files = [], []
         try:
-            lines, files, status = boot(machine + list(args), folder, writes, words, kernel, more, loader)
-            wrong = check(lines, files, status, folder, (VIEW, PACK), IMAGE, ecam, UNITS.get(name, ()), loader, told,
-                          asked)
+            lines, files, ended = boot(machine + list(args), folder, writes, words, kernel, more, loader)
+            if words == 'reset':
+                wrong = check_reset(lines, ended)
+            else:
+                wrong = check(lines, files, ended, folder, (VIEW, PACK), IMAGE, ecam, UNITS.get(name, ()), loader, told,
+                              asked)
         except Exception as error:  # QEMU didn't start, or a line can't be read: the other machines still run
             wrong = [repr(error)]
         depth = max([int(l.split()[3]) for l in lines if l.startswith('call')] or [0])
@@ -299,8 +319,8 @@ ENTRY, IMAGE = symbol('start'), (symbol('load_start'), symbol('bss_end'))
 def faults():
     """Whether a kernel whose library uses SSE ends as boot.s has it: by fault 6, with the status 37."""
     with tempfile.TemporaryDirectory() as folder:
-        lines, _, status = boot(machines()['q35 4 128M'], folder)
-    good = status == 37 and lines[-1].startswith('fault 6 ')
+        lines, _, ended = boot(machines()['q35 4 128M'], folder)
+    good = ended == (37, []) and lines[-1].startswith('fault 6 ')
     print('%s: the control, a library that uses SSE: %s' % ('ok' if good else 'FAILED', lines[-1:]))
     print('%d passed, %d failed' % (1 + good, not good))  # the build was the first
     return 0 if good else 1
@@ -322,6 +342,10 @@ def main():
             print('skipped: %s, since grub-mkrescue, xorriso and %s are not all there' % (name, GRUB))
         elif PART in name:
             good, _, _ = tried(name, args, Q35_ECAM if name.startswith('q35') else NO_MCFG, loader=loader)
+            passed, failed = passed + good, failed + (not good)
+    for name, (loader, args) in resets().items():
+        if PART in name and (loader != 'multiboot2' or HAS_GRUB):
+            good, _, _ = tried(name, args, None, words='reset', loader=loader)
             passed, failed = passed + good, failed + (not good)
     for name, change in changed.items():
         good, _, _ = tried('q35 with ' + name, machines()['q35 4 128M'], ECAM.get(name, Q35_ECAM), **change)

@@ -1,6 +1,6 @@
 #include "window.h"
 
-enum { PRESENT = 1, UNCACHED = 1 << 4 | 1 << 3, PAGE = 4096, PAGES = 512 };
+enum { PRESENT = 1, WRITABLE = 2, UNCACHED = 1 << 4 | 1 << 3, PAGE = 4096, PAGES = 512 };
 extern volatile uint64_t window_pages[PAGES]; /* the page table (boot.s) */
 static uint8_t *const window = (uint8_t *)0xffffffffc0000000;
 static uint64_t mapped, most;
@@ -15,7 +15,6 @@ static uint64_t free_pages(uint64_t count) {
     return i - first == count ? first : PAGES;
 }
 
-/* Pages can be read and not written. */
 static uint8_t *map_pages(uint64_t address, uint64_t count, uint64_t flags) {
     const uint64_t first = count && count <= PAGES ? free_pages(count) : PAGES;
     if (first == PAGES) return 0;
@@ -45,7 +44,7 @@ void unmap_window(void *context, const void *at, uint64_t address, uint64_t leng
     mapped -= count;
 }
 
-const volatile void *map_register(uint64_t address) {
-    const uint8_t *page = map_pages(address / PAGE * PAGE, 1, PRESENT | UNCACHED);
+volatile void *map_register(uint64_t address) {
+    uint8_t *page = address >> 52 ? 0 : map_pages(address / PAGE * PAGE, 1, PRESENT | WRITABLE | UNCACHED);
     return page ? page + address % PAGE : 0;
 }

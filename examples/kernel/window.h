@@ -9,12 +9,13 @@ struct window_memory {
     size_t length;
 };
 
-/* Maps by pages what the memory (`context`, a struct window_memory) has, and unmaps it (zacpi_map.h). Null if the range
- * isn't whole in one of its ranges, or the window has no room. */
+/* Maps by pages what the memory (`context`, a struct window_memory) has, to be read, and unmaps it (zacpi_map.h). Null
+ * if the range isn't whole in one of its ranges, or the window has no room. */
 const void *map_window(void *context, uint64_t address, uint64_t length);
 void unmap_window(void *context, const void *at, uint64_t address, uint64_t length);
 /* The most pages of the 512 that were mapped at once. */
 uint64_t window_most(void);
-/* Maps the page of a device's register, uncached, whatever the memory map has there; null if there is no room. */
-const volatile void *map_register(uint64_t address);
+/* Maps the page of a device's register, to be written, uncached, whatever the memory map has there; null if there is no
+ * room. */
+volatile void *map_register(uint64_t address);
 #endif

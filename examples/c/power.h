@@ -1,0 +1,9 @@
+/* Prints and runs the library's plans. */
+#ifndef POWER_H
+#define POWER_H
+#include "lines.h"
+#include "plan.h"
+
+/* Prints each plan's steps, or why there is none, and runs that which enables ACPI. */
+void enable_acpi(const struct zacpi_source *source, const struct printer *p, plan_map *map);
+#endif
