@@ -1,8 +1,10 @@
-/* A UEFI application for x86-64 and AArch64 that prints on the serial port what the machine's ACPI tables say: the RSDP
- * is in the firmware's configuration table, and the regions are what its memory map keeps for ACPI. */
+/* A UEFI application for x86-64 and AArch64 that prints on the serial port what the machine's ACPI tables contain, and
+ * then powers the machine off, if it has a register for that (Arm's have PSCI). The RSDP is in the firmware's
+ * configuration table, and the regions are what its memory map keeps for ACPI. */
 #include "efi.h"
 #include "lines.h"
 #include "machine.h"
+#include "power.h"
 
 #define MOST 1024
 static const struct printer serial = {to_serial, 0};
@@ -66,6 +68,16 @@ static void gic(const struct zacpi_source *source) {
             named_range("gicr ", ranges[i].address, ranges[i].length), line();
 }
 
+/* The firmware has devices mapped, at their own addresses. */
+static volatile void *map_register(uint64_t address) { return (volatile void *)address; }
+
+static void power_off(const struct zacpi_source *source) {
+    struct zacpi_plan plan;
+    if (zacpi_get_power_off_plan(source, &plan, 0)) return;
+    say(&serial, "powers off\n");
+    run_plan(&plan, map_register);
+}
+
 uint64_t efi_main(void *image, struct system_table *system);
 uint64_t efi_main(void *image, struct system_table *system) {
     struct zacpi_source source = {regions, 0, 0, ZACPI_START_RSDP};
@@ -79,8 +91,9 @@ uint64_t efi_main(void *image, struct system_table *system) {
     forbid_vectors();
     refused = print_lines(&source, 0, &serial, &serial, &named);
     if (refused) say_refused(&serial, "refused", refused, &named);
-    else gic(&source);
-    allow_vectors();
+    else gic(&source), enable_acpi(&source, &serial, map_register);
     say(&serial, "end\n");
-    for (;;) {} /* so that memory can be looked at from outside */
+    wait_for_byte(); /* so that memory can be looked at from outside */
+    if (!refused) power_off(&source);
+    for (;;) {}
 }

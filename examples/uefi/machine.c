@@ -13,15 +13,24 @@ static void put(uint8_t c) {
     __asm__ volatile("outb %0, %1" ::"a"(c), "Nd"((uint16_t)0x3f8));
 }
 
+void wait_for_byte(void) {
+    __asm__ volatile("cli");
+    while (!(in8(0x3fd) & 1)) {} /* bit 0 of LSR */
+}
+
 /* The example kernel does this. */
 void forbid_vectors(void) {}
-void allow_vectors(void) {}
 #else
 /* The PL011 of QEMU's virt at 0x9000000. Of UARTFR, bit 5: it can take no byte. */
 static volatile uint32_t *const uart = (volatile uint32_t *)0x9000000;
 static void put(uint8_t c) {
     while (uart[6] & 0x20) {}
     uart[0] = c;
+}
+
+void wait_for_byte(void) {
+    __asm__ volatile("msr daifset, #15");
+    while (uart[6] & 0x10) {} /* bit 4 of UARTFR */
 }
 
 /* The firmware's handler of exceptions uses vector registers, so it couldn't say what happened: this one can. */
@@ -34,15 +43,9 @@ void on_fault(void) {
     for (;;) {}
 }
 
-static uint64_t control, flags, table; /* CPACR_EL1, DAIF, VBAR_EL1 */
 void forbid_vectors(void) {
-    __asm__ volatile("mrs %0, cpacr_el1\n mrs %1, daif\n mrs %2, vbar_el1\n msr daifset, #15"
-                     : "=r"(control), "=r"(flags), "=r"(table)::"memory");
-    __asm__ volatile("msr vbar_el1, %0\n msr cpacr_el1, xzr\n isb" ::"r"(vectors) : "memory"); /* FPEN is 0 */
-}
-void allow_vectors(void) {
-    __asm__ volatile("msr cpacr_el1, %0\n msr vbar_el1, %2\n isb\n msr daif, %1" ::"r"(control), "r"(flags), "r"(table)
-                     : "memory");
+    __asm__ volatile("msr daifset, #15\n msr vbar_el1, %0\n msr cpacr_el1, xzr\n isb" ::"r"(vectors)
+                     : "memory"); /* FPEN is 0 */
 }
 #endif
 

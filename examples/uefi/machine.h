@@ -6,7 +6,9 @@
 
 void to_serial(void *to, const char *bytes, size_t length);
 /* On AArch64: from here on every instruction of a floating-point or vector register is a fault, which is printed, and
- * nothing interrupts. Then all as it was. */
+ * nothing interrupts. */
 void forbid_vectors(void);
-void allow_vectors(void);
+/* Waits until the serial port has got a byte, with nothing that interrupts from then on: the firmware reads the port
+ * too. */
+void wait_for_byte(void);
 #endif

@@ -1,8 +1,10 @@
 #!/usr/bin/env python3
 # SPDX-License-Identifier: MIT
 """machines.py PROCESSOR APP ACPI_VIEW ACPI_PACK: boots the application by UEFI's firmware on the machines below, takes
-memory from the same machine after its last line, and compares what it printed with what acpi_view prints of an
-image of that memory, line by line, and with the memory map and the bytes of the MADT.
+memory from the same machine while the application holds, and compares what it printed with what acpi_view prints of an
+image of that memory, line by line, and with the memory map and the bytes of the MADT, the FADT and the DSDT. Then the
+application has to power the machine off, if that can be; QEMU's monitor ends an Arm machine, which has no such
+register.
 
 machines.py aarch64 APP --faults: boots an application on one machine, on which it has to end with the fault of an
 instruction of vector registers."""
@@ -16,10 +18,11 @@ import tempfile
 import time
 
 sys.path.append(os.path.join(os.path.dirname(os.path.abspath(__file__)), '..'))
-from qemu import Memory, lines_until, numbers, save
+from plans import plans
+from qemu import Ending, Memory, lines_until, numbers, save
 
 PROCESSOR, APP, VIEW, PACK = (sys.argv[1:] + [''])[:4]
-OWN = re.compile(r'(map|region|rsdp|gicc|gicr|begin|end)\b')
+OWN = re.compile(r'(map|region|rsdp|gicc|gicr|begin|plan|enabled|end|powers)\b')
 CODE, VARIABLES, NAME = {
     'x86_64': ('/usr/share/OVMF/OVMF_CODE_4M.fd', '/usr/share/OVMF/OVMF_VARS_4M.fd', 'BOOTX64.EFI'),
     'aarch64': ('/usr/share/AAVMF/AAVMF_CODE.fd', '/usr/share/AAVMF/AAVMF_VARS.fd', 'BOOTAA64.EFI'),
@@ -34,23 +37,31 @@ MACHINES = {
 
 
 def boot(args, folder):
-    """What the application prints, and the files of the memory of its regions."""
-    monitor, disk = os.path.join(folder, 'monitor'), os.path.join(folder, 'disk')
+    """What the application prints, the files of the memory of its regions, and, if it can power the machine off, QEMU's
+    status and what the guest did."""
+    monitor, qmp, disk = (os.path.join(folder, name) for name in ('monitor', 'qmp', 'disk'))
     os.makedirs(os.path.join(disk, 'EFI', 'BOOT'))
     shutil.copyfile(APP, os.path.join(disk, 'EFI', 'BOOT', NAME))
     shutil.copyfile(VARIABLES, os.path.join(folder, 'variables'))
     flash = 'if=pflash,format=raw,file='
     command = ['qemu-system-' + PROCESSOR, '-display', 'none', '-no-reboot', '-net', 'none', '-accel', 'tcg',
                '-serial', 'stdio', '-monitor', 'unix:%s,server=on,wait=off' % monitor,
-               '-drive', flash + CODE + ',readonly=on', '-drive', flash + os.path.join(folder, 'variables'),
+               '-qmp', 'unix:%s,server=on' % qmp, '-drive', flash + CODE + ',readonly=on',
+               '-drive', flash + os.path.join(folder, 'variables'),
                '-drive', 'if=none,id=disk,format=raw,file=fat:rw:' + disk, '-device', 'virtio-blk-pci,drive=disk']
-    p = subprocess.Popen(command + args, stdin=subprocess.DEVNULL, stdout=subprocess.PIPE, stderr=subprocess.STDOUT)
+    p = subprocess.Popen(command + args, stdin=subprocess.PIPE, stdout=subprocess.PIPE, stderr=subprocess.STDOUT)
     try:
+        ending, ended = Ending(qmp), None
         lines, files = lines_until(p, b'end|fault .*', 120), []
         if lines and lines[-1] == 'end':
             lines = lines[lines.index('begin'):]
             files = save(monitor, [tuple(span) for span in numbers(lines, 'region')], folder)
-        return lines, files
+            if any(l.startswith('plan off steps ') for l in lines):
+                p.stdin.write(b'\n')
+                p.stdin.flush()
+                lines += lines_until(p, b'no such line', 60)
+                ended = p.wait(60), ending.how()
+        return lines, files, ended
     finally:
         p.kill()
         p.wait()
@@ -67,12 +78,16 @@ def regions(lines):
     return ['region %#x %#x' % (a, n) for a, n in answer]
 
 
-def gic(memory, rsdp):
-    """The lines of the MADT's entries. Of the RSDP, XsdtAddress is at 24. Of GICC, type 11, ACPI Processor UID is at 8,
-    Flags at 12 and MPIDR at 68; of GICR, type 14, the range is at 4 and its length at 12 (sections 5.2.12.14 and 17)."""
+def table(memory, rsdp, signature):
+    """The first table of the XSDT, whose address the RSDP has at 24, that has the signature."""
     xsdt = memory.table_at(struct.unpack_from('<Q', memory.bytes_at(rsdp), 24)[0])
     tables = [memory.table_at(a) for a, in struct.iter_unpack('<Q', xsdt[36:])]
-    madt = next(t for t in tables if t[:4] == b'APIC')
+    return next(t for t in tables if t[:4] == signature)
+
+
+def gic(madt):
+    """The lines of the MADT's entries. Of GICC, type 11, ACPI Processor UID is at 8, Flags at 12 and MPIDR at 68; of
+    GICR, type 14, the range is at 4 and its length at 12 (sections 5.2.12.14 and 17)."""
     processors, redistributors, at = [], [], 44
     while at < len(madt):
         if madt[at] == 11:
@@ -84,7 +99,14 @@ def gic(memory, rsdp):
     return processors + redistributors
 
 
-def check(lines, files, folder):
+def power(lines, memory, rsdp):
+    """The last lines: the plans, and that the machine is powered off, if there is a plan for that."""
+    dsdt = memory.table_at(numbers(lines, 'dsdt')[0][0] - 36)
+    right = plans(table(memory, rsdp, b'FACP'), dsdt)
+    return right + ['end'] + ['powers off'] * ('plan off steps 1' in right)
+
+
+def check(lines, files, ended, folder):
     """What is wrong with the lines, and how many of them were compared with acpi_view's."""
     if not files:
         return ['no dump: it said last %r' % lines[-4:]], 0
@@ -95,7 +117,11 @@ def check(lines, files, folder):
     mine, theirs = [l for l in lines if not OWN.match(l)], view.stdout.splitlines() + view.stderr.splitlines()
     if mine != theirs or view.returncode or not any(l.startswith('table APIC ') for l in mine):
         wrong.append('application %r acpi_view %r' % (mine, theirs))
-    for right, words in ((regions(lines), 'region'), (gic(memory, rsdp), 'gic[cr]')):
+    last = power(lines, memory, rsdp)
+    if ended != ((0, ['shutdown']) if last[-1] == 'powers off' else None):
+        wrong.append('ended by %r' % (ended,))
+    for right, words in ((regions(lines), 'region'), (gic(table(memory, rsdp, b'APIC')), 'gic[cr]'),
+                         (last, '(plan|enabled|end|powers)')):
         got = [l for l in lines if re.match(words + r'\b', l)]
         if got != right:
             wrong.append('%s: %r, not %r' % (words, got, right))
@@ -108,13 +134,14 @@ def main():
     for name, args in machines.items():
         began = time.time()
         with tempfile.TemporaryDirectory() as folder:
-            lines, files = boot(args, folder)
+            lines, files, ended = boot(args, folder)
             if VIEW == '--faults':
                 wrong = [] if lines[-1:] == ['fault vectors'] else ['it said last %r' % lines[-4:]]
                 what = 'the control, a library that uses vector registers: %r' % lines[-1:]
             else:
-                wrong, compared = check(lines, files, folder)
+                wrong, compared = check(lines, files, ended, folder)
                 what = '%d lines as acpi_view, %d of the GIC' % (compared, len([l for l in lines if l.startswith('gic')]))
+                what += ', powered off' if ended else ', not powered off'
         print('%s: %s, UEFI: %s (%.1f s)' % ('FAILED' if wrong else 'ok', name, what, time.time() - began))
         for w in wrong:
             print('   ', w)
