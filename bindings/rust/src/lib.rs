@@ -21,6 +21,7 @@ mod mapper;
 pub mod mcfg;
 mod memory;
 pub mod platform;
+pub mod power;
 mod raw;
 mod room;
 pub mod sdt;

@@ -141,6 +141,11 @@ ones! {
     zacpi_1_hpet() -> HpetInfo;
     zacpi_1_get_boot_graphic() -> BootGraphic;
     zacpi_1_get_fixed_hardware() -> FixedHardware;
+    zacpi_1_get_sleep_types(state: u32) -> SleepTypes;
+    zacpi_1_get_sleep_plan(state: u32) -> Plan;
+    zacpi_1_get_power_off_plan() -> Plan;
+    zacpi_1_get_reset_plan() -> Plan;
+    zacpi_1_get_enable_plan() -> Plan;
     zacpi_1_get_console() -> Console;
     zacpi_1_get_interrupt_model() -> InterruptModel;
     zacpi_1_pci_ecam_address(segment_group: u16, bus: u8, device: u8, function: u8) -> u64;

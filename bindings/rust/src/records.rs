@@ -78,6 +78,13 @@ records! {
         /// Version.
         version: u8,
     }
+    /// The sleep types of a sleep state (section 7.4.2).
+    SleepTypes {
+        /// SLP_TYPa: for PM1a_CNT, or on reduced hardware for SLEEP_CONTROL_REG.
+        a: u8,
+        /// SLP_TYPb: for PM1b_CNT.
+        b: u8,
+    }
     /// An I/O APIC (section 5.2.12.3).
     #[non_exhaustive]
     IoApic {
@@ -167,6 +174,8 @@ records! {
         acpi_enable: u8, acpi_disable: u8, s4bios_request: u8, pstate_control: u8, c_state_control: u8, gpe1_base: u8,
         duty_offset: u8, duty_width: u8, day_alarm: u8, month_alarm: u8, century: u8, reset_value: u8,
         revision: u8, minor_revision: u8, hypervisor_id: u64, }
+    Step { at: Register, mask: u32, value: u32, width: u8, kind: u8, }
+    Plan { steps: [Step; 8], count: u32, }
     Console { base: Register, baud_rate: u32, global_system_interrupt: u32, clock_frequency: u32, pci_flags: u32,
         pci_device_id: u16, pci_vendor_id: u16, interface: u8, irq: u8, has_irq: u8, has_global_system_interrupt: u8,
         has_baud_rate: u8, parity: u8, stop_bits: u8, pci_segment: u8, pci_bus: u8, pci_device: u8,

@@ -90,6 +90,7 @@ fn names_are_shown() {
     assert_eq!((odd.as_str(), odd.to_string(), format!("{odd:?}")), (None, "ff000141".into(), "\"ff000141\"".into()));
     assert_eq!(AcpiError::TableMissing(Signature::HPET).to_string(), "TableMissing HPET");
     assert_eq!(AcpiError::SdtInvalidChecksum(odd).to_string(), "SdtInvalidChecksum ff000141");
+    assert_eq!(AcpiError::AmlInvalid(Signature::DSDT).to_string(), "AmlInvalid DSDT");
     assert_eq!(AcpiError::InvalidMadt(MadtError::UnexpectedEntry).to_string(), "InvalidMadt UnexpectedEntry");
     assert_eq!(AcpiError::NoValidRsdp.to_string(), "NoValidRsdp");
     assert_eq!(AcpiError::Other(99).to_string(), "Refused 99");

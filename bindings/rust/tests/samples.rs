@@ -3,6 +3,7 @@ use std::fs;
 use std::path::Path;
 use zacpi::fadt::Fadt;
 use zacpi::platform::interrupt::InterruptModel;
+use zacpi::power::{Plan, SleepTypes};
 use zacpi::{AcpiTables, PlatformRoom, PowerProfile, Region, Signature, Slot, Start};
 
 /// A sample, unless the package stands elsewhere than in the repository.
@@ -50,6 +51,20 @@ fn ten_tables() {
     let InterruptModel::Apic(apic) = platform.interrupt_model else { panic!("the model is known") };
     assert_eq!((apic.io_apics.len(), apic.interrupt_source_overrides.count()), (2, 2));
     assert_eq!((apic.nmi_sources.count(), apic.local_apic_nmi_lines.count()), (0, 1));
+}
+
+/// QEMU's q35: its DSDT has Name (_S3, Package {1, 1, 0, 0}) and Name (_S5, Package {0, 0, 0, 0}).
+#[test]
+fn the_machine_of_qemu() {
+    let Some(image) = sample("crates/acpi_dump/data/q35.image") else { return };
+    let regions = regions(&image);
+    let tables = AcpiTables::open(&regions, Start::Rsdp(0xf_59e0)).unwrap();
+    let written = |plan: Plan| plan.into_iter().map(|it| (it.at.address, it.mask, it.value)).collect::<Vec<_>>();
+    assert_eq!(tables.sleep_types(3), Ok(SleepTypes { a: 1, b: 1 }));
+    assert_eq!(written(tables.power_off_plan().unwrap()), [(0x604, 0x3c00, 0x2000)]);
+    assert_eq!(written(tables.sleep_plan(3).unwrap()), [(0x604, 0x3c00, 0x2400)]);
+    assert_eq!(written(tables.enable_plan().unwrap()), [(0xb2, 0xff, 2), (0x604, 1, 1)]);
+    assert_eq!(written(tables.reset_plan().unwrap()), [(0xcf9, 0xff, 0xf)]);
 }
 
 /// The table at 0x4180 has a signature that isn't UTF-8 or isn't printable; the root table lists nine tables.

@@ -126,6 +126,11 @@ impl PmTimer {
         let base = register(records::Register { at: raw.base, present: raw.present })?;
         Ok(base.map(|base| PmTimer { base, supports_32bit: raw.is_32_bit != 0 }))
     }
+
+    /// How many ticks there are from one value of the timer to a later one, if it went around less than once.
+    pub const fn ticks(&self, before: u32, after: u32) -> u32 {
+        after.wrapping_sub(before) & if self.supports_32bit { u32::MAX } else { 0xff_ffff }
+    }
 }
 
 /// The processors, the boot processor first, also if it is disabled (section 5.2.12.1).
