@@ -71,7 +71,7 @@ void say_signature(const struct printer *p, const uint8_t letters[4]) {
 
 static void say_status(const struct printer *p, zacpi_status status, const uint8_t letters[4]) {
     say(p, zacpi_status_name(status));
-    if (status >= ZACPI_SDT_INVALID_SIGNATURE && status <= ZACPI_TABLE_MISSING) {
+    if ((status >= ZACPI_SDT_INVALID_SIGNATURE && status <= ZACPI_TABLE_MISSING) || status == ZACPI_AML_INVALID) {
         say(p, " ");
         say_signature(p, letters);
     }

@@ -11,7 +11,8 @@ static void print_error(const char *name, zacpi_status status, const struct zacp
     const char *error = zacpi_status_name(status);
     if (status >= ZACPI_NUMA_INVALID_ENTRY_LENGTH && strchr(error, ' ')) error = strchr(error, ' ') + 1;
     printf("%s: %s", name, error);
-    if (status >= ZACPI_SDT_INVALID_SIGNATURE && status <= ZACPI_TABLE_MISSING) printf(" %.4s", named->letters);
+    if ((status >= ZACPI_SDT_INVALID_SIGNATURE && status <= ZACPI_TABLE_MISSING) || status == ZACPI_AML_INVALID)
+        printf(" %.4s", named->letters);
     putchar('\n');
 }
 
@@ -144,6 +145,30 @@ static void print_fixed_hardware(const struct zacpi_source *source) {
     print_register("reset", &f.reset);
     print_register("sleep_control", &f.sleep_control);
     print_register("sleep_status", &f.sleep_status);
+}
+
+/* A plan: how many steps it has, and a line for each. */
+static void print_plan(const char *name, zacpi_status status, const struct zacpi_plan *plan,
+                       const struct zacpi_signature *named) {
+    const struct zacpi_step *it;
+    if (is_missing(name, status, named)) return;
+    printf("%s %u\n", name, plan->count);
+    for (it = plan->steps; it < plan->steps + plan->count; it++) {
+        print_register("  step", &it->at);
+        printf("  %u %u %x %x\n", it->kind, it->width, it->mask, it->value);
+    }
+}
+static void print_power(const struct zacpi_source *source) {
+    unsigned i;
+    struct zacpi_signature named = {{0}};
+    struct zacpi_plan plan;
+    for (i = 0; i < 7; i++)
+        ONE("sleep_types", struct zacpi_sleep_types, zacpi_get_sleep_types, (source, i, &item, &named), "%u %u\n",
+            it->a, it->b);
+    for (i = 1; i < 7; i += 2) print_plan("sleep", zacpi_get_sleep_plan(source, i, &plan, &named), &plan, &named);
+    print_plan("power_off", zacpi_get_power_off_plan(source, &plan, &named), &plan, &named);
+    print_plan("reset_plan", zacpi_get_reset_plan(source, &plan, &named), &plan, &named);
+    print_plan("enable", zacpi_get_enable_plan(source, &plan, &named), &plan, &named);
 }
 
 static void print_devices(const struct zacpi_source *source) {
@@ -322,6 +347,7 @@ void print_answers(const struct zacpi_source *source) {
     print_entries(source, "DMAR", 48, 2);
     print_entries(source, "APIC", 0, 4); /* one: its Signature and its Length */
     print_fixed_hardware(source);
+    print_power(source);
     print_devices(source);
     print_interrupts(source);
     print_gic(source);
