@@ -166,7 +166,7 @@ def boot(args, folder, writes=None, words='hold', kernel=KERNEL, more=(), loader
             files = save(monitor, spans(lines) + list(more), folder)
             p.stdin.write(b'\n')
             p.stdin.flush()
-        lines += lines_until(p, b'no such line', 120)
+        lines += lines_until(p, b'no such line', 60)
         return lines, files, (p.wait(60), ending.how())
     finally:
         errors.close()
