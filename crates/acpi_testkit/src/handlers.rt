@@ -62,11 +62,6 @@ impl<'a, H: AcpiHandler> Recording<'a, H> {
         }
     }
 
-    /// The history so far.
-    pub fn history(&self) -> History {
-        self.history.get()
-    }
-
     /// The cell that the history is kept in. If another history is put there, it is continued.
     pub fn cell(&self) -> &Cell<History> {
         &self.history

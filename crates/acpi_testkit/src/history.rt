@@ -4,7 +4,7 @@
 const ROOM: usize = 64;
 
 /// An event at a handler: a request, or a notice.
-#[derive(Clone, Copy, Debug, PartialEq, Eq)]
+#[derive(Clone, Copy)]
 pub enum Event {
     /// A request for `size` bytes from an address on was granted, and `lent` bytes were lent. If a table's
     /// header was asked for and all of the table was lent, `whole` is how many bytes the table has, else it
