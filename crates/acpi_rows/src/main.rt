@@ -1,8 +1,8 @@
 //! Checks what tables' bytes and memories answer, and what `acpi_view` prints of files, against the rows of the
 //! files that its arguments name, whose lines `rows` describes.
 //!
-//! The bytes of a row are a memory, a table by itself, or a file. Expected values are worked out by hand from the
-//! layouts of the tables. Numbers in an answer are decimal below 10, and else hexadecimal.
+//! The bytes of a row are a memory, a table or a block of AML by itself, or a file. Expected values are worked out by
+//! hand from the layouts of the tables. Numbers in an answer are decimal below 10, and else hexadecimal.
 #![tactic(auto)]
 
 mod ask;

@@ -14,6 +14,8 @@ use crate::numbers::{first_word, number_of};
 use crate::runs;
 use crate::text::Text;
 use acpi_numa::Distances;
+use acpi_sleep::sleep_types;
+use acpi_testkit::samples::front;
 
 /// Prints what a call gives over a table's bytes.
 pub(crate) fn answer(out: &mut Text<'_>, kind: &str, table: &[u8], (call, rest): (&str, &str)) {
@@ -21,6 +23,7 @@ pub(crate) fn answer(out: &mut Text<'_>, kind: &str, table: &[u8], (call, rest):
         "address" | "command" | "bytes" | "bgrt" | "header" | "mcfg" | "rsdp" => {
             fixed::answer(out, kind, table, (call, rest));
         }
+        "aml" => sleep_state(out, table, rest),
         "dmar" => dmar::answer(out, table, call, rest),
         "fadt" => fadt::answer(out, table, call),
         "gtdt" => gtdt::answer(out, table, call),
@@ -41,5 +44,17 @@ fn slit(out: &mut Text<'_>, table: &[u8], call: &str, rest: &str) {
     match call {
         "distance" => out.show(&distances.distance(number_of(from), number_of(to))),
         _ => out.show(&(distances.localities(), distances.is_sane())),
+    }
+}
+
+/// `state STATE` and `state STATE of COUNT`: the sleep types that a block of AML, or its first bytes, so many, contain.
+fn sleep_state(out: &mut Text<'_>, aml: &[u8], rest: &str) {
+    let (state, count) = match rest.split_once(" of ") {
+        Some((state, count)) => (state, number_of(count) as usize),
+        None => (rest, aml.len()),
+    };
+    match sleep_types(front(aml, count), (number_of(state) % 6) as u8) {
+        Ok(types) => out.show(&types),
+        Err(error) => out.print(&error),
     }
 }

@@ -19,6 +19,8 @@ use crate::watched::Watched;
 use acpi::platform::{PlatformInfo, ScriptedMailbox, wakeup_aps};
 use acpi::sdt::{SdtHeader, Signature};
 use acpi::{AcpiHandler, AcpiResult, AcpiTables, HpetInfo, TableMember};
+use std::alloc::Global;
+use std::fmt::Debug;
 
 /// Prints what a call gives over tables.
 pub(super) fn answer<H: AcpiHandler>(
@@ -131,13 +133,14 @@ fn wake<H: AcpiHandler>(out: &mut Text<'_>, tables: &AcpiTables<'_, H>, apic_id:
 fn platforms<H: AcpiHandler>(out: &mut Text<'_>, tables: &AcpiTables<'_, H>) {
     let alloc = out.alloc;
     print_platform(out, PlatformInfo::new(alloc, tables), None);
-    let mut again = out.part();
-    print_platform(&mut again, PlatformInfo::new_in(tables, alloc), None);
-    out.add_other(&again);
-    let mut again = out.part();
-    print_platform(&mut again, tables.platform_info(alloc), None);
-    out.add_other(&again);
-    let mut again = out.part();
-    print_platform(&mut again, tables.platform_info_in(alloc), None);
-    out.add_other(&again);
+    again(out, PlatformInfo::new_in(tables, alloc));
+    again(out, tables.platform_info(alloc));
+    again(out, tables.platform_info_in(alloc));
+}
+
+/// Prints what a further call for a platform answers, unless it is all that is printed.
+fn again<E: Debug + Drop>(out: &mut Text<'_>, answer: Result<PlatformInfo<Global>, E>) {
+    let mut part = out.part();
+    print_platform(&mut part, answer, None);
+    out.add_other(&part);
 }
