@@ -8,13 +8,11 @@ use acpi::{AcpiResult, AcpiTables, HpetInfo};
 use acpi_base::AddressRange;
 use acpi_numa::{Distances, Domains, Slit, Srat};
 use acpi_testkit::samples::front;
-use acpi_writer::{
-    Machine, dsdt_address, facs_address, tables_size, write_tables, write_tables_without_rsdp,
-};
+use acpi_writer::{Machine, facs_address, tables_size, write_tables, write_tables_without_rsdp};
 use std::process::Abort;
 use std::test::Fail;
 
-pub(super) static MACHINE: Machine<'static> = Machine {
+static MACHINE: Machine<'static> = Machine {
     ids: IDS,
     dsdt: Some(AML),
     facs: Some(FACS),
@@ -102,17 +100,25 @@ fn numa_of(tables: &Opened<'_, '_>) -> AcpiResult<[Option<u32>; 3]> {
     ])
 }
 
+/// Where AML begins and where the FACS lies, the number of the HPET, and what `numa_of` returns.
+type Found = (u64, AddressRange, u8, [Option<u32>; 3]);
+
+/// What is found from the RSDP at 0x1000.
+fn found_in(region: &MappedRegion<'_>) -> AcpiResult<Found> {
+    let tables = AcpiTables::from_rsdp(region, 0x1000)?;
+    let (aml, facs) = (tables.dsdt()?.address, tables.facs()?);
+    let timers = HpetInfo::new(&tables)?;
+    Ok((aml, facs, timers.hpet_number, numa_of(&tables)?))
+}
+
 #[test]
 fn a_reader_finds_what_was_passed(rt: HostRuntime) -> Result<(), Fail> {
     let mut out = [7; 1616];
     write_tables(&mut out, 0x1000, &MACHINE)?;
     let region = MappedRegion::new(0x1000, &out)?;
-    let tables = AcpiTables::from_rsdp(&region, 0x1000)?;
-    check(&rt, "AML", tables.dsdt()?.address, 0x10d4);
-    check(&rt, "FACS", tables.facs()?, AT_1100);
-    check(&rt, "HPET", HpetInfo::new(&tables)?.hpet_number, 2);
-    let wanted = Ok([Some(0x01020304), Some(5), Some(21)]);
-    check(&rt, "domains and distance", numa_of(&tables), wanted);
+    let domains = [Some(0x01020304), Some(5), Some(21)];
+    let wanted = Ok((0x10d4, AT_1100, 2, domains));
+    check(&rt, "found", found_in(&region), wanted);
     Ok(())
 }
 
@@ -131,22 +137,27 @@ static PLACES: [(u64, Option<u64>); 6] = [
 static OFFSETS: [(u64, usize); 4] = [(0x1000, 0x20), (0x1010, 0x10), (0x1020, 0), (0x1030, 0x30)];
 
 #[test]
-fn the_addresses_are_known_before_and_the_facs_stands_between_zeros(
-    rt: HostRuntime,
-) -> Result<(), Fail> {
-    let dsdt = [dsdt_address(0x1000, 3), dsdt_address(0x1000, 11)];
-    check(&rt, "DSDT", dsdt, [Some(0x1070), Some(0x10b0)]);
+fn the_address_of_the_facs_is_known_before(rt: HostRuntime) {
     for (address, wanted) in &PLACES {
         check(&rt, "FACS", facs_address(*address, 3, Some(AML)), *wanted);
     }
+}
+
+/// The FACS at an offset of 128 zeros.
+fn facs_at(offset: usize) -> [u8; 128] {
+    let mut bytes = [0; 128];
+    for (there, byte) in bytes.iter_mut().skip(offset).zip(&FACS_BYTES) {
+        *there = *byte;
+    }
+    bytes
+}
+
+#[test]
+fn the_facs_stands_between_zeros(rt: HostRuntime) {
     for (address, offset) in &OFFSETS {
         let mut out = [7; 1616];
-        write_tables(&mut out, *address, &MACHINE)?;
-        let mut bytes = [0; 128];
-        for (there, byte) in bytes.iter_mut().skip(*offset).zip(&FACS_BYTES) {
-            *there = *byte;
-        }
-        check_same(&rt, "FACS", &out[0xe0..0x160], &bytes);
+        let written = write_tables(&mut out, *address, &MACHINE);
+        check(&rt, "machine", written, Ok(1616));
+        check_same(&rt, "FACS", &out[0xe0..0x160], &facs_at(*offset));
     }
-    Ok(())
 }
