@@ -1,5 +1,5 @@
 -- The timers of the platform, in structures that the GTDT counts (ACPI 6.4, section 5.2.24.1).
-use Rattle.std.specs.Prelude.{◌≡◌, ◌⊎◌, ℕ, zero, suc, ◌+◌, ◌-◌, ◌*◌, ◌==◌, ◌&&◌, ◌||◌, Bool, not, nat_le, nat_lt, List, [], ◌∷◌, length, drop, Option, Some, None, if◌then◌else◌, filter_map}
+use Rattle.std.specs.Prelude.{◌≡◌, ◌⊎◌, ℕ, zero, suc, ◌+◌, ◌-◌, ◌*◌, ◌/◌, ◌==◌, ◌&&◌, ◌||◌, Bool, min, not, nat_le, nat_lt, List, [], ◌∷◌, length, drop, Option, Some, None, if◌then◌else◌, filter_map}
 use Rattle.std.proofs.Common.{inl, inr}
 use Rattle.acpi_base.specs.Words.{has_bit, field_of, cut}
 use Rattle.acpi.specs.Types.{EntryLayout, Grammar, One, Two}
@@ -7,6 +7,7 @@ use Rattle.acpi_arm.specs.Gtdt.{polarity_in, trigger_in, unless_ones}
 use Rattle.acpi_arm.specs.declared.frames.GtFrame.{GtFrame}
 use Rattle.acpi_arm.specs.declared.frames.GtFrameIter.{GtFrameIter}
 use Rattle.acpi_arm.specs.declared.frames.TimerInterrupt.{TimerInterrupt}
+use Rattle.acpi_arm.specs.declared.structures.TimerStructureIter.{TimerStructureIter}
 use Rattle.acpi_arm.specs.declared.timers.PlatformTimer.{PlatformTimer}
 use Rattle.acpi_arm.specs.declared.timers.PlatformTimer.TheVariants as kinds
 use Rattle.acpi_arm.specs.declared.timers.PlatformTimerIter.{PlatformTimerIter}
@@ -65,8 +66,17 @@ frame_count e = field_of e 12 4  -- GT Block Timer Count
 abbrev pub frames_offset : List ℕ → ℕ
 frames_offset e = field_of e 16 4  -- GT Block Timer Offset
 
+-- how many of them lie between the block's 20 fixed bytes and its end
+abbrev pub frames_there : List ℕ → ℕ
+frames_there e =
+    if nat_lt (frames_offset e) 20 then 0 else min (frame_count e) ((length e - frames_offset e) / 40)
+
+-- the first n of them
+abbrev pub first_frames : ℕ → List ℕ → List GtFrame
+first_frames n e = frames_in n (drop (frames_offset e) e)
+
 abbrev pub frames_of : List ℕ → List GtFrame
-frames_of e = frames_in (frame_count e) (drop (frames_offset e) e)
+frames_of e = first_frames (frame_count e) e
 
 -- the frames, if there are some, lie between the block's 20 fixed bytes and its end
 abbrev pub frames_fit : List ℕ → Bool
@@ -93,12 +103,19 @@ watchdog_at e = record {
 abbrev pub Timer : Type 0
 Timer = (ℕ × List GtFrame) ⊎ SbsaWatchdog
 
--- what a structure says; nothing for a type that isn't defined
-abbrev pub timer_of : List ℕ → Option Timer
-timer_of e =
-    if kind_of e == 0 then Some (inl (field_of e 4 8, frames_of e))
+-- what a structure says, a block with its first n frames; nothing for a type that isn't defined
+abbrev pub timer_with : ℕ → List ℕ → Option Timer
+timer_with n e =
+    if kind_of e == 0 then Some (inl (field_of e 4 8, first_frames n e))
     else if kind_of e == 1 then Some (inr (watchdog_at e))
     else None
+
+-- with all of them, and with those that are there
+abbrev pub timer_of : List ℕ → Option Timer
+timer_of e = timer_with (frame_count e) e
+
+abbrev pub timer_there : List ℕ → Option Timer
+timer_there e = timer_with (frames_there e) e
 
 -- ---- all structures of a table
 
@@ -110,6 +127,13 @@ timer_count table = if nat_lt (field_of table 8 1) 2 then 0 else field_of table 
 abbrev pub timer_bytes : List ℕ → List ℕ
 timer_bytes table =
     if nat_lt (field_of table 92 4) 96 then [] else drop (field_of table 92 4) table
+
+-- what each structure by itself says, up to the first malformed front
+abbrev pub each_in : ℕ → List ℕ → List Timer
+each_in count bytes = filter_map timer_there (cut (timers_grammar count) bytes).0
+
+abbrev pub each_of : List ℕ → List Timer
+each_of table = each_in (timer_count table) (timer_bytes table)
 
 -- those before the first one that is malformed
 abbrev pub sound_front : List (List ℕ) → List (List ℕ)
@@ -147,6 +171,9 @@ shown_in (kinds.SbsaWatchdog watchdog) = inr watchdog
 -- the timers still to come
 abbrev pub timers_left : PlatformTimerIter → List Timer
 timers_left s = timers_in s.left s.rest.now
+
+abbrev pub each_left : TimerStructureIter → List Timer
+each_left s = each_in s.left s.rest.now
 
 -- how many structures will be missing
 abbrev pub missing_left : PlatformTimerIter → ℕ

@@ -16,7 +16,7 @@ use collect::collected;
 pub use collect::distributor_of;
 pub use part::{
     GicCpuInterface, GicDistributor, GicMsiFrame, GicPart, GicRedistributors,
-    GicTranslationService, SpiRange,
+    GicTranslationService, SpiRange, distributor_in,
 };
 use std::alloc::{AllocError, Allocator, Global};
 

@@ -5,7 +5,11 @@ ghost use Rattle.acpi_arm.specs.Gtdt.{arm_timer_at};
 
 pub use crate::frames::{GtFrame, GtFrameIter, TimerInterrupt};
 use crate::interrupt::{polarity_in, trigger_in, unless_ones};
-pub use crate::timers::{GtBlock, PlatformTimer, PlatformTimerIter, SbsaWatchdog};
+pub use crate::structures::TimerStructureIter;
+pub use crate::timers::{
+    GtBlock, PlatformTimer, PlatformTimerIter, SbsaWatchdog, is_sound, timer_bytes, timer_count,
+    timers_grammar,
+};
 use acpi_base::bytes::{field_in, has_bit, u32_in};
 use acpi_base::extended::ExtendedField;
 use acpi_base::model::{Polarity, TriggerMode};

@@ -8,4 +8,5 @@ mod frames;
 pub mod gic;
 pub mod gtdt;
 mod interrupt;
+mod structures;
 mod timers;

@@ -1,6 +1,6 @@
 //! The Platform Timer Structures of a GTDT, one at a time (section 5.2.24.1).
 ghost use Rattle.std.specs.Prelude.{◌≡◌, option_map};
-ghost use Rattle.acpi_arm.specs.Timers.{frames_fit, is_sound, shown_in, timer_bytes, timer_count, timer_of, timers_grammar, watchdog_at};
+ghost use Rattle.acpi_arm.specs.Timers.{frames_fit, frames_there, is_sound, shown_in, timer_bytes, timer_count, timer_with, timers_grammar, watchdog_at};
 
 use crate::frames::{FRAME_LENGTH, GtFrameIter};
 use crate::interrupt::{polarity_in, trigger_in};
@@ -47,7 +47,7 @@ pub enum PlatformTimer<'a> {
 
 /// How so many structures of platform timers are cut.
 #[inline(always)]
-fn timers_grammar(count: u32) -> Grammar<2>
+pub fn timers_grammar(count: u32) -> Grammar<2>
     ensures { result ≡ timers_grammar count }
 {
     Grammar {
@@ -76,17 +76,31 @@ fn frames_fit(block: &[u8]) -> bool
     count == 0 || (offset >= 20 && offset + FRAME_LENGTH as u64 * count <= block.len() as u64)
 }
 
-/// Whether a structure isn't malformed.
-fn is_sound(structure: &[u8]) -> bool
+/// How many of a block's frames lie between its 20 fixed bytes and its end.
+pub(crate) fn frames_there(block: &[u8]) -> u32
+    ensures { result ≡ frames_there block.now }
+{
+    let count = field(block, 12, 4); // GT Block Timer Count
+    let offset = field(block, 16, 4) as usize; // GT Block Timer Offset
+    if offset < 20 {
+        return 0;
+    }
+    let room = block.len().saturating_sub(offset) / FRAME_LENGTH;
+    count.min(room as u64) as u32
+}
+
+/// Whether a structure isn't malformed: only a GT Block can still be, whose frames have to lie between its 20 fixed
+/// bytes and its end.
+pub fn is_sound(structure: &[u8]) -> bool
     ensures { result ≡ is_sound structure.now }
 {
     field(structure, 0, 1) != 0 || frames_fit(structure) // Type
 }
 
 impl<'a> PlatformTimer<'a> {
-    /// The timer that a structure describes, or `None` if its type isn't defined.
-    fn read(structure: &'a [u8]) -> Option<PlatformTimer<'a>>
-        ensures { option_map shown_in result ≡ timer_of structure.now }
+    /// The timer that a structure describes, a block with so many frames, or `None` if its type isn't defined.
+    pub(crate) fn read(structure: &'a [u8], frame_count: u32) -> Option<PlatformTimer<'a>>
+        ensures { option_map shown_in result ≡ timer_with frame_count structure.now }
     {
         // Type.
         match field(structure, 0, 1) {
@@ -95,7 +109,7 @@ impl<'a> PlatformTimer<'a> {
                 let frames = skip(structure, field(structure, 16, 4) as usize);
                 Some(PlatformTimer::GtBlock(GtBlock {
                     address: field(structure, 4, 8), // GT Block Physical address
-                    frames: GtFrameIter::over(frames, field(structure, 12, 4) as u32), // GT Block Timer Count
+                    frames: GtFrameIter::over(frames, frame_count),
                 }))
             }
             1 => Some(PlatformTimer::SbsaWatchdog(watchdog_in(structure))),
@@ -160,7 +174,7 @@ impl<'a> PlatformTimerIter<'a> {
 }
 
 /// How many structures a table says there are; below revision 2 there are none.
-fn timer_count(table: &[u8]) -> u32
+pub fn timer_count(table: &[u8]) -> u32
     ensures { result ≡ timer_count table.now }
 {
     // Revision.
@@ -172,7 +186,7 @@ fn timer_count(table: &[u8]) -> u32
 }
 
 /// The bytes from Platform Timer Offset on, or none if that is before byte 96.
-fn timer_bytes(table: &[u8]) -> &[u8]
+pub fn timer_bytes(table: &[u8]) -> &[u8]
     ensures { result.now ≡ timer_bytes table.now }
 {
     let offset = field(table, 92, 4) as usize; // Platform Timer Offset
@@ -200,7 +214,8 @@ impl<'a> Iterator for PlatformTimerIter<'a> {
             }
             self.rest = others;
             self.left = self.left.saturating_sub(1);
-            if let Some(found) = PlatformTimer::read(structure) {
+            let frame_count = field(structure, 12, 4) as u32; // GT Block Timer Count
+            if let Some(found) = PlatformTimer::read(structure, frame_count) {
                 return Some(found);
             }
         }

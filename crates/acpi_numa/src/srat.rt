@@ -11,7 +11,7 @@ use acpi_base::sdt::SdtHeader;
 use acpi_base::{PhysicalRecord, SdtTable, Signature};
 pub use affinities::{MemoryAffinities, MemoryRange, counted as affinities_count};
 pub use domains::Domains;
-pub use entry::SratEntry;
+pub use entry::{SRAT_GRAMMAR, SratEntry};
 pub use kinds::{
     GenericAffinity, GicItsAffinity, GiccAffinity, LocalApicAffinity, LocalX2ApicAffinity,
     MemoryAffinity,

@@ -109,7 +109,7 @@ pub struct GicMsiFrame {
 }
 
 /// The distributor that an entry describes, or `None` if it is of another kind.
-pub(crate) fn distributor_in(entry: &MadtEntry) -> Option<GicDistributor>
+pub fn distributor_in(entry: &MadtEntry) -> Option<GicDistributor>
     ensures { result ≡ distributor_in entry.now }
 {
     match entry {

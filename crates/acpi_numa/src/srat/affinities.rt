@@ -38,7 +38,7 @@ impl MemoryRange {
     }
 
     /// Whether the range ends below 2^64.
-    fn ends_below(&self) -> bool
+    pub fn ends_below(&self) -> bool
         ensures { result ≡ ends_below self.now }
     {
         AddressRange::new(self.base, self.length).fits()

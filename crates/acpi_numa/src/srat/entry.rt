@@ -66,7 +66,7 @@ impl SratEntry {
     ghost use Rattle.acpi_numa.specs.Words.{apic_domain, domain_in, entry_of, is_enabled, processor_domain, srat_layout, range_in};
 
     /// The entry that bytes mean in a table of a revision, or `None` if its type isn't one of 0 to 6.
-    pub(super) fn read(revision: u8, entry: &[u8]) -> Option<SratEntry>
+    pub fn read(revision: u8, entry: &[u8]) -> Option<SratEntry>
         requires { IsEntry srat_layout entry.now }
         ensures { result ≡ entry_of revision entry.now }
     {
