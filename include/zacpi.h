@@ -109,7 +109,7 @@ enum zacpi_refusal {
      * for Types 0 to 0x10, and 2 for others, which are skipped. */
     ZACPI_NO_APICS = 40,              /* the MADT has no entry of Types 0 to 5, 9 and 0xa; for
                                        * zacpi_platform also: there is no MADT */
-    ZACPI_NO_GIC = 41,                /* the MADT has no GICD entry (section 5.2.12.15) */
+    ZACPI_NO_GIC = 41,                /* the MADT has no entry of Types 0xb to 0xf, or no GICD */
     ZACPI_NO_SUCH_INTERRUPT = 42,     /* the ISA interrupt comes to no I/O APIC */
     ZACPI_NO_SUCH_IO_APIC = 43,       /* no I/O APIC has this global system interrupt */
     ZACPI_MADT_UNEXPECTED_ENTRY = 44, /* Type is 6 to 8, of SAPICs, or 0xb to 0xf, of a GIC */
@@ -132,6 +132,10 @@ enum zacpi_refusal {
     ZACPI_IOMMU_INVALID_MEMORY_RANGE = 55, /* an RMRR's last byte is before its first, or an IVMD's
                                             * memory ends at 2^64 or above */
     ZACPI_NO_IOMMU = 56,                   /* the table has no unit for the device */
+    /* The GTDT (section 5.2.24.1): Platform Timer Offset is below 96, a Length is above the bytes
+     * left or below 20 (GT Block), 28 (watchdog) or 4 (others), or frames of a GT Block don't lie
+     * between its byte 20 and its end. */
+    ZACPI_INVALID_TIMER_LENGTH = 57,
 
     /* A table that is written. */
     ZACPI_UNKNOWN_CODE = 60,    /* a number that isn't one of the codes: of a polarity, trigger
@@ -172,7 +176,8 @@ static inline const char *zacpi_status_name(zacpi_status status) {
         "49:InvalidMadt InvalidEntryLength\0""50:InvalidSrat InvalidEntryLength\0"
         "51:InvalidSrat InvalidMemoryRange\0""52:NoDomain\0""53:NoDistance\0"
         "54:InvalidIommu InvalidStructureLength\0""55:InvalidIommu InvalidMemoryRange\0"
-        "56:NoIommu\0""60:UnknownCode\0""61:NoProcessor\0""62:IdOfAll\0""63:UidOfAll\0"
+        "56:NoIommu\0""57:InvalidTimerLength\0""60:UnknownCode\0"
+        "61:NoProcessor\0""62:IdOfAll\0""63:UidOfAll\0"
         "64:BadMatrix\0""65:NoAddress\0""66:BadName\0""67:NoRoom\0""68:TooLong\0""69:BadRegister\0"
         "70:BadRange\0""71:SameAsBus\0""72:TooManyFrames\0""73:BadTable\0";
     const char *name = names;
@@ -682,7 +687,7 @@ struct zacpi_interrupt_model {
                                   * Interrupt Controller Address */
     /* how many each list below has */
     size_t io_apics, overrides, nmi_sources, nmi_lines, processors;
-    uint8_t known;         /* 1 if APICs are described; if not, all else is 0 */
+    uint8_t known;         /* 1 if a MADT has an entry of Types 0 to 5, 9 or 0xa; else all is 0 */
     uint8_t also_has_8259; /* PCAT_COMPAT, bit 0 of Flags: there is a pair of 8259s to be masked */
 };
 struct zacpi_io_apic { /* I/O APIC, section 5.2.12.3 */
@@ -719,15 +724,14 @@ struct zacpi_processor { /* Processor Local APIC and Processor Local x2APIC, sec
 };
 
 /* Returns which controllers interrupts come to, and how many items the lists of zacpi_platform
- * have. Without a MADT, or if it has no entry of Types 0 to 5, 9 and 0xa, `known` is 0. Fails with
- * an opening error, ZACPI_TABLE_MISSING "FACP", the ZACPI_MADT_ error of the first entry with one
- * (of several the least), or ZACPI_INVALID_GENERIC_ADDRESS if zacpi_get_pm_timer does. */
+ * have. Fails with an opening error, ZACPI_TABLE_MISSING "FACP", the ZACPI_MADT_ error of the first
+ * entry with one (of several the least), or ZACPI_INVALID_GENERIC_ADDRESS if zacpi_get_pm_timer
+ * does. */
 ZACPI_STATUS zacpi_get_interrupt_model(const struct zacpi_source *source,
                                        struct zacpi_interrupt_model *out,
                                        struct zacpi_signature *signature);
 
-/* The five lists below have their entries as they are, with errors too, up to the first byte
- * at which no entry begins. No other entry changes them. */
+/* The five lists below have their entries as they are, up to where none begins. */
 
 /* Lists the I/O APICs. Fails with an opening error, ZACPI_TABLE_MISSING "APIC", or
  * ZACPI_NO_APICS. */
@@ -758,21 +762,19 @@ ZACPI_STATUS zacpi_list_processors(const struct zacpi_source *source, struct zac
 
 /* Returns MailBoxAddress of the first Multiprocessor Wakeup: where the mailbox lies by which
  * processors are woken (section 5.2.12.19). Fails with an opening error, ZACPI_TABLE_MISSING
- * "APIC", or without one with ZACPI_MADT_INVALID_ENTRY_LENGTH if bytes are left in which no entry
- * begins, else ZACPI_MADT_UNEXPECTED_ENTRY. */
+ * "APIC", or without one ZACPI_MADT_INVALID_ENTRY_LENGTH, else ZACPI_MADT_UNEXPECTED_ENTRY. */
 ZACPI_STATUS zacpi_mailbox_address(const struct zacpi_source *source, uint64_t *out,
                                    struct zacpi_signature *signature);
 
-struct zacpi_madt_fault {
-    uint64_t address;   /* of the entry, or of the first byte at which none begins */
-    uint32_t status;    /* a ZACPI_MADT_ error */
-    uint8_t entry_type; /* Type: the byte at that address */
+struct zacpi_entry_fault {
+    uint64_t address;
+    uint32_t status;
+    uint8_t entry_type; /* Type: the byte there; 0 at the table's end */
 };
-/* Lists the entries with an error, each with that which zacpi_platform would fail with for it, and
- * last, if there is one, the first byte at which no entry begins. Fails with an opening error, or
- * ZACPI_TABLE_MISSING "APIC". */
-ZACPI_STATUS zacpi_list_madt_faults(const struct zacpi_source *source, struct zacpi_madt_fault *out,
-                                    size_t capacity, size_t *count,
+/* Lists the entries with an error, that of zacpi_platform, and last, if bytes are left, where none
+ * begins. Fails with an opening error, or ZACPI_TABLE_MISSING "APIC". */
+ZACPI_STATUS zacpi_list_madt_faults(const struct zacpi_source *source,
+                                    struct zacpi_entry_fault *out, size_t capacity, size_t *count,
                                     struct zacpi_signature *signature);
 
 /* Returns what zacpi_get_interrupt_model returns, and writes the first items of the five lists
@@ -855,14 +857,13 @@ struct zacpi_gic_cpu_interface { /* GIC CPU Interface (GICC), section 5.2.12.14.
     uint64_t mpidr;
     uint64_t parked_address;           /* the parking protocol's mailbox */
     uint64_t address;                  /* Physical Base Address */
-    uint64_t virtual_address;          /* GICV */
-    uint64_t hypervisor_address;       /* GICH */
-    uint64_t redistributor_address;    /* GICR Base Address */
+    /* GICV, GICH, GICR Base Address */
+    uint64_t virtual_address, hypervisor_address, redistributor_address;
     uint32_t number, processor_uid, performance_interrupt, maintenance_interrupt;
     uint32_t parking_protocol_version; /* 0: none; PSCI wakes processors */
     uint16_t spe_overflow_interrupt;
-    uint16_t trace_buffer_interrupt;   /* TRBE Interrupt, since ACPI 6.5: 0 below revision 6 of the
-                                        * table, and if the entry hasn't both bytes */
+    uint16_t trace_buffer_interrupt;   /* TRBE Interrupt, since ACPI 6.5: 0 below revision 6, and if
+                                        * the entry hasn't both bytes */
     uint8_t is_enabled, is_online_capable, performance_trigger, maintenance_trigger;
     uint8_t efficiency_class;          /* Processor Power Efficiency Class: less is less power */
 };
@@ -880,29 +881,30 @@ struct zacpi_gic_msi_frame { /* GIC MSI Frame, section 5.2.12.16 */
 };
 
 /* Returns the distributor of the first GICD. Fails with an opening error, ZACPI_TABLE_MISSING
- * "APIC", ZACPI_MADT_INVALID_ENTRY_LENGTH, or ZACPI_NO_GIC. */
+ * "APIC", or without one ZACPI_MADT_INVALID_ENTRY_LENGTH, else ZACPI_NO_GIC. */
 ZACPI_STATUS zacpi_get_gic_distributor(const struct zacpi_source *source,
                                        struct zacpi_gic_distributor *out,
                                        struct zacpi_signature *signature);
-/* Lists the GICCs. Fails with an opening error, ZACPI_TABLE_MISSING "APIC",
- * ZACPI_MADT_INVALID_ENTRY_LENGTH, or ZACPI_NO_GIC. */
+/* zacpi_list_madt_faults has where the four lists below end. */
+
+/* Lists the GICCs. Fails with an opening error, ZACPI_TABLE_MISSING "APIC", or ZACPI_NO_GIC. */
 ZACPI_STATUS zacpi_list_gic_cpu_interfaces(const struct zacpi_source *source,
                                            struct zacpi_gic_cpu_interface *out, size_t capacity,
                                            size_t *count, struct zacpi_signature *signature);
 /* Lists the memory that contains redistributors: Discovery Range Base Address and Discovery Range
  * Length, which can be 0, of the GICRs (section 5.2.12.17). Fails with an opening error,
- * ZACPI_TABLE_MISSING "APIC", ZACPI_MADT_INVALID_ENTRY_LENGTH, or ZACPI_NO_GIC. */
+ * ZACPI_TABLE_MISSING "APIC", or ZACPI_NO_GIC. */
 ZACPI_STATUS zacpi_list_gic_redistributors(const struct zacpi_source *source,
                                            struct zacpi_range *out, size_t capacity, size_t *count,
                                            struct zacpi_signature *signature);
-/* Lists the ITS entries. Fails with an opening error, ZACPI_TABLE_MISSING "APIC",
- * ZACPI_MADT_INVALID_ENTRY_LENGTH, or ZACPI_NO_GIC. */
+/* Lists the ITS entries. Fails with an opening error, ZACPI_TABLE_MISSING "APIC", or
+ * ZACPI_NO_GIC. */
 ZACPI_STATUS zacpi_list_gic_translation_services(const struct zacpi_source *source,
                                                  struct zacpi_gic_translation_service *out,
                                                  size_t capacity, size_t *count,
                                                  struct zacpi_signature *signature);
-/* Lists the GIC MSI Frames. Fails with an opening error, ZACPI_TABLE_MISSING "APIC",
- * ZACPI_MADT_INVALID_ENTRY_LENGTH, or ZACPI_NO_GIC. */
+/* Lists the GIC MSI Frames. Fails with an opening error, ZACPI_TABLE_MISSING "APIC", or
+ * ZACPI_NO_GIC. */
 ZACPI_STATUS zacpi_list_gic_msi_frames(const struct zacpi_source *source,
                                        struct zacpi_gic_msi_frame *out, size_t capacity,
                                        size_t *count, struct zacpi_signature *signature);
@@ -916,15 +918,11 @@ struct zacpi_arm_timer { /* its flags: bit 0 trigger, 1 polarity, 2 always_on */
 };
 struct zacpi_arm_timers {
     uint64_t control_base; /* CntControlBase Physical Address; all ones: none */
-    uint64_t read_base;    /* CntReadBase Physical Address; all ones: none, also below revision 2 of
-                            * the table */
+    uint64_t read_base;    /* CntReadBase Physical Address; all ones: none, also below revision 2 */
     /* virtual_el2 is present from revision 3 on, if the table has all its eight bytes, and Platform
      * Timer Count is 0 or Platform Timer Offset at least 104. */
     struct zacpi_arm_timer secure_el1, non_secure_el1, virtual_el1, el2, virtual_el2;
-    /* 1: one of Platform Timer Count structures is malformed; the two lists below end before the
-     * first: Platform Timer Offset is below 96, a Length is above the bytes left or below 20 (GT
-     * Block), 28 (watchdog) or 4 (others), or frames of a GT Block don't lie between its byte 20
-     * and its end. 0 below revision 2. */
+    /* 1: zacpi_list_gtdt_faults has an item. */
     uint8_t platform_timers_malformed;
 };
 struct zacpi_gt_frame { /* a frame of a GT Block, section 5.2.24.1.1. GTx Common Flags: bit 0
@@ -933,11 +931,10 @@ struct zacpi_gt_frame { /* a frame of a GT Block, section 5.2.24.1.1. GTx Common
     uint64_t address;
     uint64_t el0_address;        /* CntEL0BaseX: of the registers as EL0 sees them; all ones:
                                   * none */
-    uint32_t physical_interrupt; /* 0: no such timer */
-    uint32_t virtual_interrupt;  /* 0: no such timer */
-    uint8_t number;              /* in the block, from 0 to 7 */
-    uint8_t physical_polarity, physical_trigger, virtual_polarity, virtual_trigger, is_secure;
-    uint8_t is_always_on;
+    uint32_t physical_interrupt, virtual_interrupt; /* 0: no such timer */
+    uint8_t number; /* in the block, from 0 to 7 */
+    uint8_t physical_polarity, physical_trigger, virtual_polarity, virtual_trigger, is_secure,
+        is_always_on;
 };
 struct zacpi_watchdog { /* Arm Generic Watchdog, section 5.2.24.1.2. Watchdog Timer Flags: bit 0
                          * trigger, 1 polarity, 2 is_secure */
@@ -950,16 +947,23 @@ struct zacpi_watchdog { /* Arm Generic Watchdog, section 5.2.24.1.2. Watchdog Ti
  * "GTDT". */
 ZACPI_STATUS zacpi_get_arm_timers(const struct zacpi_source *source, struct zacpi_arm_timers *out,
                                   struct zacpi_signature *signature);
-/* Lists the frames of the GT Blocks, up to a malformed structure; none below revision 2 of the
- * table. Fails with an opening error, or ZACPI_TABLE_MISSING "GTDT". */
+/* Lists the frames that lie in their GT Blocks, up to where no structure begins; below revision 2
+ * none. Fails with an opening error, or ZACPI_TABLE_MISSING "GTDT". */
 ZACPI_STATUS zacpi_list_gt_frames(const struct zacpi_source *source, struct zacpi_gt_frame *out,
                                   size_t capacity, size_t *count,
                                   struct zacpi_signature *signature);
-/* Lists the Arm Generic Watchdogs, up to a malformed structure; none below revision 2 of the table.
- * Fails with an opening error, or ZACPI_TABLE_MISSING "GTDT". */
+/* Lists the Arm Generic Watchdogs, up to where no structure begins; below revision 2 none. Fails
+ * with an opening error, or ZACPI_TABLE_MISSING "GTDT". */
 ZACPI_STATUS zacpi_list_watchdogs(const struct zacpi_source *source, struct zacpi_watchdog *out,
                                   size_t capacity, size_t *count,
                                   struct zacpi_signature *signature);
+
+/* Lists the GT Blocks with frames that don't lie in them, and last, if structures are missing,
+ * where none begins; below revision 2 none. Fails with an opening error, or ZACPI_TABLE_MISSING
+ * "GTDT". */
+ZACPI_STATUS zacpi_list_gtdt_faults(const struct zacpi_source *source,
+                                    struct zacpi_entry_fault *out, size_t capacity, size_t *count,
+                                    struct zacpi_signature *signature);
 
 /* NUMA: domains (SRAT, section 5.2.16) and distances (SLIT, section 5.2.17) -------------------- */
 
@@ -967,47 +971,50 @@ struct zacpi_memory_affinity { /* Memory Affinity, section 5.2.16.2. Flags: bit 
                                 * is_hot_pluggable, 2 is_non_volatile */
     uint64_t address;
     uint64_t length; /* at least one */
-    uint32_t domain; /* Proximity Domain; below revision 2 of the table its lowest byte */
+    uint32_t domain; /* Proximity Domain; below revision 2 its lowest byte */
     uint8_t is_hot_pluggable, is_non_volatile;
 };
 struct zacpi_localities {
-    uint64_t localities; /* Number of System Localities: rows and columns of the matrix, counted
-                          * from 0 */
+    uint64_t localities; /* Number of System Localities: rows of the matrix, from 0 on */
     uint8_t is_sane;     /* 1: there are localities, the table has all distances, 10 of each
                           * locality from itself, and more than 10 of others */
 };
 
 /* Lists the memory that the SRAT puts into domains: its Memory Affinity entries that are enabled
- * and have a byte. They may overlap. Fails with an opening error, ZACPI_TABLE_MISSING "SRAT",
- * ZACPI_NUMA_INVALID_ENTRY_LENGTH, or ZACPI_NUMA_INVALID_MEMORY_RANGE of an item. */
+ * and have a byte, up to where no entry begins. They may overlap. Fails with an opening error, or
+ * ZACPI_TABLE_MISSING "SRAT". */
 ZACPI_STATUS zacpi_list_memory_affinities(const struct zacpi_source *source,
                                           struct zacpi_memory_affinity *out, size_t capacity,
                                           size_t *count, struct zacpi_signature *signature);
+/* Lists the entries of such memory that ends at 2^64 or above, and last, if bytes are left, where
+ * none begins. Fails with an opening error, or ZACPI_TABLE_MISSING "SRAT". */
+ZACPI_STATUS zacpi_list_srat_faults(const struct zacpi_source *source,
+                                    struct zacpi_entry_fault *out, size_t capacity, size_t *count,
+                                    struct zacpi_signature *signature);
 /* Returns the domain of the memory at an address: of the first item of zacpi_list_memory_affinities
  * that contains it. Fails with an opening error, ZACPI_TABLE_MISSING "SRAT",
- * ZACPI_NUMA_INVALID_ENTRY_LENGTH, ZACPI_NUMA_INVALID_MEMORY_RANGE of an item, or
- * ZACPI_NO_DOMAIN. */
+ * ZACPI_NUMA_INVALID_MEMORY_RANGE of that item, or without one ZACPI_NUMA_INVALID_ENTRY_LENGTH,
+ * else ZACPI_NO_DOMAIN. */
 ZACPI_STATUS zacpi_domain_of_address(const struct zacpi_source *source, uint64_t address,
                                      uint32_t *out, struct zacpi_signature *signature);
 /* Returns the domain of the processor with this APIC ID or X2APIC ID: of the last enabled entry for
- * it before a malformed one (sections 5.2.16.1 and 5.2.16.3). For an APIC ID it is Proximity Domain
- * [7:0] alone below revision 2 of the table. Fails with an opening error, ZACPI_TABLE_MISSING
- * "SRAT", or ZACPI_NO_DOMAIN. */
+ * it (sections 5.2.16.1, whose domain has 8 bits below revision 2, and 5.2.16.3). Fails with an
+ * opening error, ZACPI_TABLE_MISSING "SRAT", or without an entry ZACPI_NUMA_INVALID_ENTRY_LENGTH,
+ * else ZACPI_NO_DOMAIN. */
 ZACPI_STATUS zacpi_domain_of_apic(const struct zacpi_source *source, uint32_t local_apic_id,
                                   uint32_t *out, struct zacpi_signature *signature);
-/* Returns the domain of the processor with this ACPI Processor UID on a machine with a GIC: of the
- * last enabled GICC Affinity entry for it before a malformed one (section 5.2.16.4). Fails with an
- * opening error, ZACPI_TABLE_MISSING "SRAT", or ZACPI_NO_DOMAIN. */
+/* Returns the domain of the processor of a GIC with this ACPI Processor UID: of the last enabled
+ * GICC Affinity entry for it (section 5.2.16.4). Fails with an opening error, ZACPI_TABLE_MISSING
+ * "SRAT", or without an entry ZACPI_NUMA_INVALID_ENTRY_LENGTH, else ZACPI_NO_DOMAIN. */
 ZACPI_STATUS zacpi_domain_of_processor(const struct zacpi_source *source, uint32_t uid,
                                        uint32_t *out, struct zacpi_signature *signature);
-/* Returns how many localities the SLIT has distances of, and whether it can be believed. Fails with
- * an opening error, or ZACPI_TABLE_MISSING "SLIT". */
+/* Returns the size of the SLIT, and whether it can be believed. Fails with an opening error, or
+ * ZACPI_TABLE_MISSING "SLIT". */
 ZACPI_STATUS zacpi_get_localities(const struct zacpi_source *source, struct zacpi_localities *out,
                                   struct zacpi_signature *signature);
-/* Returns how far one locality is from another: 10 is the distance of a locality from itself, 255
- * means unreachable. Fails with an opening error, ZACPI_TABLE_MISSING "SLIT", or
- * ZACPI_NO_DISTANCE if one isn't below Number of System Localities, or the table ends before their
- * byte. */
+/* Returns how far one locality is from another: 10 from itself, 255 unreachable. Fails with an
+ * opening error, ZACPI_TABLE_MISSING "SLIT", or ZACPI_NO_DISTANCE if one isn't below Number of
+ * System Localities, or the table ends before their byte. */
 ZACPI_STATUS zacpi_distance(const struct zacpi_source *source, uint64_t from, uint64_t to,
                             uint8_t *out, struct zacpi_signature *signature);
 

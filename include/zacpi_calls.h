@@ -477,16 +477,16 @@ ZACPI_STATUS zacpi_mailbox_address(const struct zacpi_source *source, uint64_t *
 }
 
 zacpi_status zacpi_1_list_madt_faults(const struct zacpi_source *source,
-                                      struct zacpi_madt_fault *out, size_t capacity, size_t *count,
+                                      struct zacpi_entry_fault *out, size_t capacity, size_t *count,
                                       struct zacpi_signature *signature);
 ZACPI_NONNULL((1, 4))
-ZACPI_STATUS zacpi_list_madt_faults(const struct zacpi_source *source, struct zacpi_madt_fault *out,
-                                    size_t capacity, size_t *count,
+ZACPI_STATUS zacpi_list_madt_faults(const struct zacpi_source *source,
+                                    struct zacpi_entry_fault *out, size_t capacity, size_t *count,
                                     struct zacpi_signature *signature) {
     const struct zacpi_source kept_source = zacpi_source_kept(source);
     struct zacpi_signature unasked;
     return zacpi_1_list_madt_faults(&kept_source,
-                                    capacity ? out : (struct zacpi_madt_fault *)ZACPI_NOTHING,
+                                    capacity ? out : (struct zacpi_entry_fault *)ZACPI_NOTHING,
                                     capacity, count, signature ? signature : &unasked);
 }
 
@@ -674,6 +674,20 @@ ZACPI_STATUS zacpi_list_watchdogs(const struct zacpi_source *source, struct zacp
                                   count, signature ? signature : &unasked);
 }
 
+zacpi_status zacpi_1_list_gtdt_faults(const struct zacpi_source *source,
+                                      struct zacpi_entry_fault *out, size_t capacity, size_t *count,
+                                      struct zacpi_signature *signature);
+ZACPI_NONNULL((1, 4))
+ZACPI_STATUS zacpi_list_gtdt_faults(const struct zacpi_source *source,
+                                    struct zacpi_entry_fault *out, size_t capacity, size_t *count,
+                                    struct zacpi_signature *signature) {
+    const struct zacpi_source kept_source = zacpi_source_kept(source);
+    struct zacpi_signature unasked;
+    return zacpi_1_list_gtdt_faults(&kept_source,
+                                    capacity ? out : (struct zacpi_entry_fault *)ZACPI_NOTHING,
+                                    capacity, count, signature ? signature : &unasked);
+}
+
 zacpi_status zacpi_1_list_memory_affinities(const struct zacpi_source *source,
                                             struct zacpi_memory_affinity *out, size_t capacity,
                                             size_t *count, struct zacpi_signature *signature);
@@ -686,6 +700,20 @@ ZACPI_STATUS zacpi_list_memory_affinities(const struct zacpi_source *source,
     return zacpi_1_list_memory_affinities(&kept_source,
                                           capacity ? out : (struct zacpi_memory_affinity *)ZACPI_NOTHING,
                                           capacity, count, signature ? signature : &unasked);
+}
+
+zacpi_status zacpi_1_list_srat_faults(const struct zacpi_source *source,
+                                      struct zacpi_entry_fault *out, size_t capacity, size_t *count,
+                                      struct zacpi_signature *signature);
+ZACPI_NONNULL((1, 4))
+ZACPI_STATUS zacpi_list_srat_faults(const struct zacpi_source *source,
+                                    struct zacpi_entry_fault *out, size_t capacity, size_t *count,
+                                    struct zacpi_signature *signature) {
+    const struct zacpi_source kept_source = zacpi_source_kept(source);
+    struct zacpi_signature unasked;
+    return zacpi_1_list_srat_faults(&kept_source,
+                                    capacity ? out : (struct zacpi_entry_fault *)ZACPI_NOTHING,
+                                    capacity, count, signature ? signature : &unasked);
 }
 
 zacpi_status zacpi_1_domain_of_address(const struct zacpi_source *source, uint64_t address,

@@ -6,11 +6,15 @@ enum { MOST = 1024 }; /* items of a list that are printed */
 
 typedef unsigned long long wide;
 
-/* `NAME: ERROR`. Of an error of the SRAT or an IOMMU's table, the call says which table it is. */
-static void print_error(const char *name, zacpi_status status, const struct zacpi_signature *named) {
+/* The name of an error. Of one of the SRAT, the GTDT or an IOMMU's table, the call says which table it is. */
+static const char *error_name(zacpi_status status) {
     const char *error = zacpi_status_name(status);
-    if (status >= ZACPI_NUMA_INVALID_ENTRY_LENGTH && strchr(error, ' ')) error = strchr(error, ' ') + 1;
-    printf("%s: %s", name, error);
+    return status >= ZACPI_NUMA_INVALID_ENTRY_LENGTH && strchr(error, ' ') ? strchr(error, ' ') + 1 : error;
+}
+
+/* `NAME: ERROR`. */
+static void print_error(const char *name, zacpi_status status, const struct zacpi_signature *named) {
+    printf("%s: %s", name, error_name(status));
     if ((status >= ZACPI_SDT_INVALID_SIGNATURE && status <= ZACPI_TABLE_MISSING) || status == ZACPI_AML_INVALID)
         printf(" %.4s", named->letters);
     putchar('\n');
@@ -211,7 +215,7 @@ static void print_interrupts(const struct zacpi_source *source) {
          it->polarity, it->trigger);
     LIST("nmi_lines", zacpi_nmi_line, zacpi_list_nmi_lines, ALL, "%u %u %u %u %u\n", it->of_all, it->processor_uid,
          it->lint, it->polarity, it->trigger);
-    LIST("madt_faults", zacpi_madt_fault, zacpi_list_madt_faults, ALL, "%llx %u %s\n", (wide)it->address,
+    LIST("madt_faults", zacpi_entry_fault, zacpi_list_madt_faults, ALL, "%llx %u %s\n", (wide)it->address,
          it->entry_type, zacpi_status_name(it->status));
     ONE("mailbox", uint64_t, zacpi_mailbox_address, IT, "%llx\n", (wide)*it);
     ONE("sci", struct zacpi_interrupt, zacpi_sci_interrupt, IT, "%u %u %u\n", it->global_system_interrupt, it->polarity,
@@ -273,17 +277,22 @@ static void print_timers(const struct zacpi_source *source) {
          it->virtual_interrupt ? it->virtual_polarity : 0, it->virtual_interrupt ? it->virtual_trigger : 0);
     LIST("watchdogs", zacpi_watchdog, zacpi_list_watchdogs, ALL, "%llx %llx %u %u %u %u\n", (wide)it->refresh_frame,
          (wide)it->control_frame, it->interrupt, it->polarity, it->trigger, it->is_secure);
+    LIST("gtdt_faults", zacpi_entry_fault, zacpi_list_gtdt_faults, ALL, "%llx %u %s\n", (wide)it->address,
+         it->entry_type, error_name(it->status));
 }
 
 static void print_domains(const struct zacpi_source *source) {
     unsigned i, k;
-    uint32_t domain;
+    size_t count;
     struct zacpi_signature missing = {{0}};
-    const zacpi_status status = zacpi_domain_of_apic(source, 0, &domain, &missing);
-    const int is_there = status == ZACPI_NO_DOMAIN || !is_missing("srat", status, &missing);
+    const zacpi_status status = zacpi_list_srat_faults(source, NULL, 0, &count, &missing);
+    const int is_there = !is_missing("srat", status, &missing);
     if (is_there)
         LIST("memory", zacpi_memory_affinity, zacpi_list_memory_affinities, ALL, "%llx %llx %u %u %u\n",
              (wide)it->address, (wide)it->length, it->domain, it->is_hot_pluggable, it->is_non_volatile);
+    if (is_there)
+        LIST("srat_faults", zacpi_entry_fault, zacpi_list_srat_faults, ALL, "%llx %u %s\n", (wide)it->address,
+             it->entry_type, error_name(it->status));
     for (i = 0; is_there && i < 5; i++) {
         ONE("near", uint32_t, zacpi_domain_of_address, (source, (uint64_t)i << 30, &item, &named), "%u\n", *it);
         ONE("apic", uint32_t, zacpi_domain_of_apic, (source, i, &item, &named), "%u\n", *it);

@@ -32,8 +32,7 @@ struct put {
 enum { EMPTY, ARM, PC, ODD, HOLES, SUM, DESKTOP, MOBILE, WORKSTATION, SERVER, SOHO, APPLIANCE, PERFORMANCE, TABLET,
        RESERVED, WIDE, TIMER_5, LEAST, OLD, HALF, HALF_X, UNITS, UNITS_10, UNITS_CUT,
        UNITS_END, SAPIC_BETWEEN, NMI_2, LENGTH_0, NO_FADT, BUS_1, TRIGGER_2,
-       LINT_2, HPETS, MAILBOX, POWER, REDUCED, PLAIN, BARE, BROKEN,
-       FADTLESS, /* root tables, in the order of `tables` */
+       LINT_2, HPETS, MAILBOX, POWER, REDUCED, PLAIN, BARE, BROKEN, FADTLESS, FAULTS, FRONTS, /* root tables, in the order of `tables` */
        RSDP_0, RSDP_2, RSDP_40, RSDP_MIXED, RSDP_LONG, RSDP_LOST, RSDP_CUT, RSDP_SHORT,
        RSDP_NONE, /* RSDPs, and the last one is none */
        MADT_GIC, GTDT, SRAT, SLIT, MCFG, FADT, MADT_PC, HPET_SHORT, HPET, MADT_CUT, GTDT_CUT, SRAT_CUT, SLIT_ODD,
@@ -45,7 +44,8 @@ enum { EMPTY, ARM, PC, ODD, HOLES, SUM, DESKTOP, MOBILE, WORKSTATION, SERVER, SO
        OEM2_35, OEM2_36, FADT_OLD, MADT_OLD, GTDT_OLD, SRAT_OLD, OEM_BYTE, FADT_HALF, SPCR_HALF, GTDT_HALF, MADT_HALF,
        MCFG_HALF, FADT_HALF_X, DMAR, DMAR_CUT, DMAR_END, DMAR_47, DMAR_48, IVRS, IVRS_10, IVRS_CUT, IVRS_END, IVRS_47,
        IVRS_48, MADT_SAPIC_BETWEEN, MADT_NMI_2, MADT_LENGTH_0, MADT_BUS_1, MADT_TRIGGER_2, MADT_LINT_2, MADT_MAILBOX,
-       FADT_POWER, FADT_REDUCED, FADT_PLAIN, FADT_BARE, FADT_BROKEN, DSDT_POWER, DSDT_S5, SSDT_S5 };
+       FADT_POWER, FADT_REDUCED, FADT_PLAIN, FADT_BARE, FADT_BROKEN, DSDT_POWER, DSDT_S5, SSDT_S5, MADT_NO_GICD,
+       MADT_FRONT, GTDT_FAULTS, GTDT_FRONT, SRAT_FAULTS, SRAT_FRONT };
 
 /* Entry[n] of an RSDT, from 36 on (section 5.2.7), and of an XSDT (section 5.2.8). */
 PUTS(no_fields, {36, 0, 0});
@@ -213,6 +213,7 @@ PUTS(srat_high,
 PUTS(slit, {36, 8, 2}, {44, 1, 10}, {45, 1, 20}, {46, 1, 30}, {47, 1, 10});
 PUTS(slit_odd, {36, 8, 3}, {44, 1, 10}, {45, 1, 9}, {46, 1, 8}, {47, 1, 255}); /* of nine it has four */
 
+#include "rows_tables_faults.h"
 #include "rows_tables_iommu.h"
 #include "rows_tables_pc.h"
 #include "rows_tables_power.h"
@@ -238,7 +239,8 @@ static const struct table {
     {AT(TRIGGER_2), "RSDT", 1, 44, trigger_2}, {AT(LINT_2), "RSDT", 1, 44, lint_2},
     {AT(HPETS), "RSDT", 1, 52, hpets}, {AT(MAILBOX), "RSDT", 1, 40, mailbox}, {AT(POWER), "RSDT", 1, 48, power},
     {AT(REDUCED), "RSDT", 1, 40, reduced}, {AT(PLAIN), "RSDT", 1, 40, plain}, {AT(BARE), "RSDT", 1, 40, bare},
-    {AT(BROKEN), "RSDT", 1, 44, broken}, {AT(FADTLESS), "RSDT", 1, 40, fadtless},
+    {AT(BROKEN), "RSDT", 1, 44, broken}, {AT(FADTLESS), "RSDT", 1, 40, fadtless}, {AT(FAULTS), "RSDT", 1, 48, faults},
+    {AT(FRONTS), "RSDT", 1, 48, fronts},
     {AT(MADT_GIC), "APIC", 6, 346, madt_gic}, {AT(GTDT), "GTDT", 3, 260, gtdt}, {AT(SRAT), "SRAT", 3, 274, srat},
     {AT(SLIT), "SLIT", 1, 48, slit}, {AT(MCFG), "MCFG", 1, 108, mcfg}, {AT(FADT), "FACP", 6, 276, fadt},
     {AT(MADT_PC), "APIC", 4, 96, madt_pc}, {AT(HPET_SHORT), "HPET", 3, 48, no_fields}, {AT(HPET), "HPET", 1, 56, hpet},
@@ -293,6 +295,9 @@ static const struct table {
     {AT(FADT_PLAIN), "FACP", 3, 244, fadt_plain}, {AT(FADT_BARE), "FACP", 3, 244, fadt_bare},
     {AT(FADT_BROKEN), "FACP", 1, 116, fadt_broken}, {AT(DSDT_POWER), "DSDT", 2, 43, dsdt_power},
     {AT(DSDT_S5), "DSDT", 2, 47, dsdt_s5}, {AT(SSDT_S5), "SSDT", 2, 50, ssdt_s5},
+    {AT(MADT_NO_GICD), "APIC", 6, 146, madt_no_gicd}, {AT(MADT_FRONT), "APIC", 6, 146, madt_front},
+    {AT(GTDT_FAULTS), "GTDT", 2, 256, gtdt_faults}, {AT(GTDT_FRONT), "GTDT", 2, 188, gtdt_front},
+    {AT(SRAT_FAULTS), "SRAT", 3, 244, srat_faults}, {AT(SRAT_FRONT), "SRAT", 3, 186, srat_front},
     {BIOS + 0x10000, "RSDT", 1, 36, no_fields}};
 
 /* RSDPs: the first byte of OEMID at 9, Revision at 15, RsdtAddress at 16, Length at 20, XsdtAddress at 24 (section

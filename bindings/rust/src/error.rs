@@ -76,7 +76,7 @@ pub enum AcpiError {
     /// A range of memory in the SRAT (section 5.2.16.2) or the IVRS ends above 2^64 - 1, or one in the DMAR has its
     /// last byte before its first.
     InvalidMemoryRange,
-    /// The MADT has no GICD entry: it describes no distributor of a GIC (section 5.2.12.15).
+    /// The MADT has no entry of a GIC, or no GICD (section 5.2.12.15).
     NoGic,
     /// The SRAT puts the address or the processor into no domain (section 5.2.16).
     NoDomain,
@@ -88,6 +88,8 @@ pub enum AcpiError {
     InvalidStructureLength,
     /// The DMAR or the IVRS has no unit for the device.
     NoIommu,
+    /// A platform timer of the GTDT has a Length that doesn't fit, or frames that don't lie in it (section 5.2.24.1).
+    InvalidTimerLength,
     /// There is no memory for a list, or no capacity for a region.
     AllocError,
     /// The library fails with a number that this version doesn't know.
@@ -159,6 +161,7 @@ impl AcpiError {
             54 => InvalidStructureLength,
             55 => InvalidMemoryRange,
             56 => NoIommu,
+            57 => InvalidTimerLength,
             other => Other(other),
         }
     }

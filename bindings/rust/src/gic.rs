@@ -168,7 +168,8 @@ impl From<records::GicMsiFrame> for GicMsiFrame {
 
 items! { GicCpuInterface = GicCpuInterface, GicMsiFrame = GicMsiFrame }
 
-/// The GIC of the first valid MADT. Its lists are in the order of the table, and fail as [`GicModel::new`] does.
+/// The GIC of the first valid MADT. Its lists are in the order of the table, and end at the first byte at which no
+/// entry begins, which [`AcpiTables::madt_faults`] has.
 #[derive(Clone, Copy, Debug)]
 pub struct GicModel<'k> {
     /// The distributor: that of the first GICD entry.
@@ -179,8 +180,8 @@ pub struct GicModel<'k> {
 impl<'k> GicModel<'k> {
     /// The GIC of the first valid MADT.
     ///
-    /// Fails with `TableMissing`, with `InvalidMadt` if bytes are left in which no entry begins, and with `NoGic` if
-    /// no entry describes a distributor, as on a machine with APICs.
+    /// Fails with `TableMissing` and, if no entry describes a distributor, with `InvalidMadt` if bytes are left in
+    /// which no entry begins, and else with `NoGic`, as on a machine with APICs.
     pub fn new(tables: &AcpiTables<'k>) -> AcpiResult<Self> {
         let distributor = raw::zacpi_1_get_gic_distributor(&tables.source())?.into();
         Ok(GicModel { distributor, tables: *tables })

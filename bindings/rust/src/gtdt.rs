@@ -18,6 +18,7 @@
 use crate::acpi_tables::{read::Read, AcpiTables};
 use crate::error::AcpiResult;
 use crate::list::{items, Listing};
+pub use crate::platform::interrupt::EntryFault;
 use crate::platform::interrupt::{InputPolarity, InputTrigger};
 use crate::raw::{self, records};
 
@@ -172,21 +173,28 @@ pub struct Gtdt<'k> {
     pub el2: Option<ArmTimer>,
     /// The virtual timer of EL2, since revision 3 of the table.
     pub virtual_el2: Option<ArmTimer>,
-    /// Whether the two lists below end at a structure that doesn't fit.
+    /// Whether [`Gtdt::faults`] has an item.
     pub platform_timers_malformed: bool,
     tables: AcpiTables<'k>,
 }
 
 impl<'k> Gtdt<'k> {
-    /// The frames of the blocks of timers, block by block, in order (section 5.2.24.1.1). None below revision 2 of the
-    /// table. Fails with `TableMissing`.
+    /// The frames of the blocks of timers, block by block, in order, as far as they lie in their block, up to the first
+    /// byte at which no structure begins (section 5.2.24.1.1). None below revision 2 of the table.
     pub fn frames(&self) -> Listing<'k, GtFrame> {
         self.tables.list(raw::zacpi_1_list_gt_frames)
     }
 
-    /// The watchdogs, in order (section 5.2.24.1.2). None below revision 2 of the table. Fails with `TableMissing`.
+    /// The watchdogs, in order, up to the first byte at which no structure begins (section 5.2.24.1.2). None below
+    /// revision 2 of the table.
     pub fn watchdogs(&self) -> Listing<'k, Watchdog> {
         self.tables.list(raw::zacpi_1_list_watchdogs)
+    }
+
+    /// The blocks with frames that don't lie in them and, last, the first byte at which no structure begins, if there
+    /// are fewer structures than the table counts. None below revision 2 of the table.
+    pub fn faults(&self) -> Listing<'k, EntryFault> {
+        self.tables.list(raw::zacpi_1_list_gtdt_faults)
     }
 }
 

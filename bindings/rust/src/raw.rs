@@ -181,14 +181,16 @@ lists! {
     zacpi_1_list_nmi_sources() -> NmiSource;
     zacpi_1_list_nmi_lines() -> NmiLine;
     zacpi_1_list_processors() -> Processor;
-    zacpi_1_list_madt_faults() -> MadtFault;
+    zacpi_1_list_madt_faults() -> EntryFault;
     zacpi_1_list_gic_cpu_interfaces() -> GicCpuInterface;
     zacpi_1_list_gic_redistributors() -> Range;
     zacpi_1_list_gic_translation_services() -> GicTranslationService;
     zacpi_1_list_gic_msi_frames() -> GicMsiFrame;
     zacpi_1_list_gt_frames() -> GtFrame;
     zacpi_1_list_watchdogs() -> Watchdog;
+    zacpi_1_list_gtdt_faults() -> EntryFault;
     zacpi_1_list_memory_affinities() -> MemoryAffinity;
+    zacpi_1_list_srat_faults() -> EntryFault;
 }
 
 unsafe extern "C" {

@@ -188,7 +188,7 @@ records! {
     NmiSource { global_system_interrupt: u32, polarity: u8, trigger: u8, }
     NmiLine { processor_uid: u32, of_all: u8, lint: u8, polarity: u8, trigger: u8, }
     Processor { uid: u32, local_apic_id: u32, state: u8, is_boot: u8, is_online_capable: u8, is_x2apic: u8, }
-    MadtFault { address: u64, status: u32, entry_type: u8, }
+    EntryFault { address: u64, status: u32, entry_type: u8, }
     Interrupt { global_system_interrupt: u32, polarity: u8, trigger: u8, }
     IsaRoute { interrupt: Interrupt, pin: IoApicPin, present: u8, has_pin: u8, }
     IsaInterrupts { routes: [IsaRoute; 16], }

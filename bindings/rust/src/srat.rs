@@ -20,6 +20,7 @@
 use crate::acpi_tables::{read::Read, AcpiTables, Table};
 use crate::error::{AcpiError, AcpiResult};
 use crate::list::{items, Listing};
+pub use crate::platform::interrupt::EntryFault;
 use crate::raw::{self, records};
 use crate::sdt::Signature;
 
@@ -81,28 +82,34 @@ fn domain(asked: AcpiResult<u32>) -> AcpiResult<Option<u32>> {
 
 impl<'k> Srat<'k> {
     /// The ranges of memory that are in a domain, in order: of the enabled entries of memory that have at least one
-    /// byte. They may overlap.
-    ///
-    /// Fails with `InvalidEntryLength` if bytes are left in which no entry begins, and with `InvalidMemoryRange` if a
-    /// range ends above 2^64 - 1.
+    /// byte. They may overlap. They end at the first byte at which no entry begins.
     pub fn memory_affinities(&self) -> Listing<'k, MemoryAffinity> {
         self.tables.list(raw::zacpi_1_list_memory_affinities)
     }
 
-    /// The domain of the memory at a physical address: that of the first range that holds it. Fails as
-    /// [`Srat::memory_affinities`] does.
+    /// The entries of ranges that end above 2^64 - 1 and, last, the first byte at which no entry begins, if bytes are
+    /// left there.
+    pub fn faults(&self) -> Listing<'k, EntryFault> {
+        self.tables.list(raw::zacpi_1_list_srat_faults)
+    }
+
+    /// The domain of the memory at a physical address: that of the first range that holds it.
+    ///
+    /// Fails with `InvalidMemoryRange` if that range ends above 2^64 - 1, and with `InvalidEntryLength` if no range
+    /// holds it and bytes are left in which no entry begins.
     pub fn domain_of_address(&self, address: u64) -> AcpiResult<Option<u32>> {
         domain(raw::zacpi_1_domain_of_address(&self.tables.source(), address))
     }
 
     /// The domain of the processor whose local APIC or x2APIC has an id: that of the last enabled entry for it
-    /// (sections 5.2.16.1 and 5.2.16.3). Entries after a malformed one aren't looked at. Never fails.
+    /// (sections 5.2.16.1 and 5.2.16.3). Fails with `InvalidEntryLength` if no entry is for it and bytes are left in
+    /// which none begins.
     pub fn domain_of_apic(&self, local_apic_id: u32) -> AcpiResult<Option<u32>> {
         domain(raw::zacpi_1_domain_of_apic(&self.tables.source(), local_apic_id))
     }
 
-    /// The domain of the processor of an ACPI Processor UID on a machine with a GIC (section 5.2.16.4). Entries after a
-    /// malformed one aren't looked at. Never fails.
+    /// The domain of the processor of an ACPI Processor UID on a machine with a GIC (section 5.2.16.4). Fails as
+    /// [`Srat::domain_of_apic`] does.
     pub fn domain_of_processor(&self, uid: u32) -> AcpiResult<Option<u32>> {
         domain(raw::zacpi_1_domain_of_processor(&self.tables.source(), uid))
     }

@@ -2,7 +2,7 @@
 mod common;
 use common::{Memory, ROOT};
 use zacpi::gic::{GicCpuInterface, GicDistributor, GicMsiFrame, GicTranslationService};
-use zacpi::gtdt::{ArmTimer, GtFrame, Gtdt, TimerInterrupt, Watchdog};
+use zacpi::gtdt::{ArmTimer, EntryFault, GtFrame, Gtdt, TimerInterrupt, Watchdog};
 use zacpi::platform::interrupt::{InputPolarity, InputTrigger};
 use zacpi::{AcpiError, GicModel, MadtError, Range, Signature, Slot};
 
@@ -60,9 +60,12 @@ fn reads_a_gic() {
         let frames = [GicMsiFrame::new(6, 0x802_0000, Some((80, 64))), GicMsiFrame::new(7, 0x803_0000, None)];
         assert_eq!(list.iter().collect::<Vec<_>>(), frames);
     });
-    // Two bytes after a GICD in which no entry begins; no GICD at all; no MADT.
+    // Two bytes after a GICD in which no entry begins, and before one; no GICD at all; no MADT.
     let mut memory = Memory::rsdt(&[TABLE]);
     memory.table(TABLE, "APIC", 6, 70, &[(44, 2, 0x180c)]);
+    memory.ask(|tables| assert_eq!(GicModel::new(&tables).unwrap().cpu_interfaces().count(), Ok(0)));
+    let mut memory = Memory::rsdt(&[TABLE]);
+    memory.table(TABLE, "APIC", 6, 70, &[(46, 2, 0x180c)]);
     memory.ask(|tables| {
         let refusal = AcpiError::InvalidMadt(MadtError::InvalidEntryLength);
         assert_eq!(GicModel::new(&tables).unwrap_err(), refusal);
@@ -136,6 +139,9 @@ fn reads_generic_timers() {
         assert_eq!((timers.control_base, timers.read_base, timers.virtual_el2), (Some(0), Some(0), None));
         assert!(timers.platform_timers_malformed);
         assert_eq!((timers.frames().count(), timers.watchdogs().count()), (Ok(0), Ok(0)));
+        let fault = EntryFault { address: TABLE + 96, entry_type: 0, refusal: AcpiError::InvalidTimerLength };
+        let mut room = [Slot::default(); 2];
+        assert_eq!(timers.faults().fill(&mut room).unwrap().iter().collect::<Vec<_>>(), [fault]);
     });
     let missing = AcpiError::TableMissing(Signature::GTDT);
     Memory::rsdt(&[]).ask(|tables| assert_eq!(tables.find_table::<Gtdt>().unwrap_err(), missing));

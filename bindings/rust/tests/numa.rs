@@ -2,7 +2,7 @@
 mod common;
 use common::{Memory, ROOT};
 use zacpi::slit::Slit;
-use zacpi::srat::{MemoryAffinity, Srat};
+use zacpi::srat::{EntryFault, MemoryAffinity, Srat};
 use zacpi::{AcpiError, Signature, Slot};
 
 const TABLE: u64 = ROOT + 0x1000;
@@ -38,19 +38,20 @@ fn reads_domains() {
         assert_eq!(srat.domain_of_apic(4), Ok(None));
         assert_eq!((srat.domain_of_processor(9), srat.domain_of_processor(3)), (Ok(Some(7)), Ok(None)));
     });
-    // A byte after the fixed fields; a range that ends above 2^64 - 1; a table that is too short.
+    // A range that ends above 2^64 - 1, and a byte after it; a table that is too short.
     let mut memory = Memory::rsdt(&[TABLE]);
-    memory.table(TABLE, "SRAT", 3, 49, &[]);
+    memory.table(TABLE, "SRAT", 3, 89, &[(48, 2, 0x2801), (56, 8, u64::MAX), (64, 8, 1), (76, 4, 1)]);
     memory.ask(|tables| {
         let srat = tables.find_table::<Srat>().unwrap();
-        assert_eq!(srat.memory_affinities().count(), Err(AcpiError::InvalidEntryLength));
-        assert_eq!(srat.domain_of_apic(0), Ok(None));
-    });
-    let mut memory = Memory::rsdt(&[TABLE]);
-    memory.table(TABLE, "SRAT", 3, 88, &[(48, 2, 0x2801), (56, 8, u64::MAX), (64, 8, 1), (76, 4, 1)]);
-    memory.ask(|tables| {
-        let srat = tables.find_table::<Srat>().unwrap();
-        assert_eq!(srat.domain_of_address(0), Err(AcpiError::InvalidMemoryRange));
+        assert_eq!(srat.memory_affinities().count(), Ok(1));
+        let fault = |offset, entry_type, refusal| EntryFault { address: TABLE + offset, entry_type, refusal };
+        let faults = [fault(48, 1, AcpiError::InvalidMemoryRange), fault(88, 0, AcpiError::InvalidEntryLength)];
+        let mut room = [Slot::default(); 3];
+        assert_eq!(srat.faults().fill(&mut room).unwrap().iter().collect::<Vec<_>>(), faults);
+        assert_eq!(srat.domain_of_address(u64::MAX), Err(AcpiError::InvalidMemoryRange));
+        assert_eq!(srat.domain_of_address(0), Err(AcpiError::InvalidEntryLength));
+        assert_eq!(srat.domain_of_apic(0), Err(AcpiError::InvalidEntryLength));
+        assert_eq!(srat.domain_of_processor(0), Err(AcpiError::InvalidEntryLength));
     });
     let mut memory = Memory::rsdt(&[TABLE]);
     memory.table(TABLE, "SRAT", 3, 47, &[]);

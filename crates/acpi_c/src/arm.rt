@@ -1,5 +1,5 @@
 //! The generic interrupt controller (GIC) and the generic timers of an Arm machine.
-ghost use Rattle.acpi_c_lib.specs.Words.{Answers, AnswersList, below_gic, cpu_interfaces_shown, distributor_shown, msi_frames_shown, redistributors_shown, translation_services_shown, frames_shown, gtdt_below, timers_shown, watchdogs_shown};
+ghost use Rattle.acpi_c_lib.specs.Words.{Answers, AnswersList, below_gic, cpu_interfaces_shown, distributor_below, msi_frames_shown, redistributors_shown, translation_services_shown, frames_shown, gtdt_below, gtdt_faults_below, timers_shown, watchdogs_shown};
 
 use acpi_c_lib::answer::answer;
 use acpi_c_lib::arm_records::{
@@ -7,7 +7,9 @@ use acpi_c_lib::arm_records::{
     Watchdog,
 };
 use acpi_c_lib::arm_timers::{arm_timers, frames, watchdogs};
+use acpi_c_lib::entry_faults::EntryFault;
 use acpi_c_lib::gic::{distributor, parts};
+use acpi_c_lib::gtdt_faults::gtdt_faults;
 use acpi_c_lib::records::{Range, Signature, Source};
 
 /// The distributor of the GIC (section 5.2.12.15).
@@ -18,7 +20,7 @@ pub extern "C" fn zacpi_1_get_gic_distributor(
     named: &mut Signature,
 ) -> u32
     ensures { Answers result out.old out.new named.old named.new
-        (below_gic source.now distributor_shown) }
+        (distributor_below source.now) }
 {
     answer(distributor(source), out, named)
 }
@@ -117,4 +119,18 @@ pub extern "C" fn zacpi_1_list_watchdogs(
         (gtdt_below source.now watchdogs_shown) }
 {
     answer(watchdogs(source, out), count, named)
+}
+
+/// The structures of the GTDT at fault.
+#[unsafe(no_mangle)]
+pub extern "C" fn zacpi_1_list_gtdt_faults(
+    source: &Source<'_>,
+    out: &mut [EntryFault],
+    count: &mut usize,
+    named: &mut Signature,
+) -> u32
+    ensures { AnswersList result out.old out.new count.old count.new named.old named.new
+        (gtdt_faults_below source.now) }
+{
+    answer(gtdt_faults(source, out), count, named)
 }

@@ -4,9 +4,10 @@ ghost use Rattle.acpi_c_lib.specs.Words.{Answers, AnswersList, items_beside, put
 
 use acpi_c_lib::answer::answer;
 use acpi_c_lib::apics::{entries, mailbox, processors};
+use acpi_c_lib::entry_faults::EntryFault;
 use acpi_c_lib::interrupt_records::{
-    Interrupt, InterruptModel, InterruptSourceOverride, IoApic, IoApicPin, IsaInterrupts,
-    MadtFault, NmiLine, NmiSource, Processor,
+    Interrupt, InterruptModel, InterruptSourceOverride, IoApic, IoApicPin, IsaInterrupts, NmiLine,
+    NmiSource, Processor,
 };
 use acpi_c_lib::isa_list::isa_list;
 use acpi_c_lib::madt_faults::madt_faults;
@@ -203,7 +204,7 @@ pub extern "C" fn zacpi_1_list_isa_interrupts(
 #[unsafe(no_mangle)]
 pub extern "C" fn zacpi_1_list_madt_faults(
     source: &Source<'_>,
-    out: &mut [MadtFault],
+    out: &mut [EntryFault],
     count: &mut usize,
     named: &mut Signature,
 ) -> u32

@@ -1,12 +1,14 @@
 //! The domains that memory and processors are in, by the SRAT, and the distances between localities, by the SLIT.
-ghost use Rattle.acpi_c_lib.specs.Words.{Answers, AnswersList, AnswersSome, IsLocalities, affinities_below, distance_below, slit_in, domain_of_address_below, domain_of_apic_below, domain_of_processor_below};
+ghost use Rattle.acpi_c_lib.specs.Words.{Answers, AnswersList, AnswersSome, IsLocalities, affinities_below, distance_below, slit_in, domain_of_address_below, domain_of_apic_below, domain_of_processor_below, srat_faults_below};
 
 use acpi_c_lib::answer::answer;
+use acpi_c_lib::entry_faults::EntryFault;
 use acpi_c_lib::numa::{
     affinities, distance, domain_of_address, domain_of_apic, domain_of_processor, localities,
 };
 use acpi_c_lib::numa_records::{Localities, MemoryAffinity};
 use acpi_c_lib::records::{Signature, Source};
+use acpi_c_lib::srat_faults::srat_faults;
 
 /// The ranges of memory that the SRAT puts into domains (section 5.2.16.2).
 #[unsafe(no_mangle)]
@@ -62,6 +64,20 @@ pub extern "C" fn zacpi_1_domain_of_processor(
         (domain_of_processor_below source.now uid) }
 {
     answer(domain_of_processor(source, uid), out, named)
+}
+
+/// The entries of the SRAT at fault.
+#[unsafe(no_mangle)]
+pub extern "C" fn zacpi_1_list_srat_faults(
+    source: &Source<'_>,
+    out: &mut [EntryFault],
+    count: &mut usize,
+    named: &mut Signature,
+) -> u32
+    ensures { AnswersList result out.old out.new count.old count.new named.old named.new
+        (srat_faults_below source.now) }
+{
+    answer(srat_faults(source, out), count, named)
 }
 
 /// How far one locality is from another (section 5.2.17).

@@ -1,18 +1,19 @@
--- The bytes of a MADT's entries.
+-- The bytes of a table's entries.
 use Rattle.std.proofs.Common.{◌≡◌, ◌+◌, ◌≤◌, ℕ, List, ◌∷◌, ◌++◌, drop, length, length-append, length-drop, ap, arith}
+use Rattle.acpi.specs.Types.{Grammar}
 use Rattle.acpi_base.specs.FromStd.{concat}
 use Rattle.acpi_base.proofs.Words.{cut_is_cut}
-use Rattle.acpi_base.specs.Words.{after_one, cut, madt_grammar, with_entry}
+use Rattle.acpi_base.specs.Words.{after_one, cut, with_entry}
 
 -- the bytes of an entry and those after it are all bytes
-pub front_whole : (rest e others : List ℕ)
-    → cut madt_grammar rest ≡ with_entry e (cut (after_one madt_grammar) others)
+pub front_whole : (n : ℕ) (g : Grammar n) (rest e others : List ℕ)
+    → cut g rest ≡ with_entry e (cut (after_one g) others)
     → length rest ≡ length e + length others
-front_whole rest e others front =
-    let all = cut_is_cut 17 madt_grammar rest in
-    let more = cut_is_cut 17 madt_grammar others in
-    let left = (cut madt_grammar others).0 in
-    let end = (cut madt_grammar others).1 in
+front_whole n g rest e others front =
+    let all = cut_is_cut n g rest in
+    let more = cut_is_cut n (after_one g) others in
+    let left = (cut (after_one g) others).0 in
+    let end = (cut (after_one g) others).1 in
     let here : rest ≡ concat (e ∷ left) ++ end = rw front at all.whole in
     let long = ap length here in
     let later = ap length more.whole in
@@ -26,5 +27,6 @@ front_whole rest e others front =
     )
 
 -- the bytes after the fixed ones
-pub after_fixed : (table : List ℕ) → 44 ≤ length table → length (drop 44 table) + 44 ≡ length table
-after_fixed table long = omega (arith, length-drop 44 table, long)
+pub after_fixed : (fixed : ℕ) (table : List ℕ) → fixed ≤ length table
+    → length (drop fixed table) + fixed ≡ length table
+after_fixed fixed table long = omega (arith, length-drop fixed table, long)

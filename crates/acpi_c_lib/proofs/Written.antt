@@ -1,13 +1,14 @@
 -- Lists that are written, in one part or in two, and how many items they have at most.
-use Rattle.std.proofs.Common.{◌≡◌, ◌∙◌, ◌+◌, ℕ, List, [], ◌∷◌, ◌++◌, length, length-append, slice_set, ap, sym, arith, drop, zero, suc, map, Some, None, true, refl, ◌<◌, ◌*◌, ◌≤◌, Bool, false, Option, length-drop, inl, inr, take, ◌==◌, ◌&&◌, ◌||◌, not, nat_le, if◌then◌else◌, filter, Ok, filter_map}
-use Rattle.acpi_base.proofs.FromStd.{append-nil, length-map, nat_tests, length-filter, count_by-le-length}
+use Rattle.std.proofs.Common.{◌≡◌, ◌∙◌, ◌+◌, ℕ, List, [], ◌∷◌, ◌++◌, length, length-append, slice_set, ap, sym, arith, drop, zero, suc, map, Some, None, true, refl, ◌<◌, ◌≤◌, Bool, false, Option, length-drop, inl, inr, take, ◌-◌, ◌/◌, ◌==◌, min, nat_lt, if◌then◌else◌, filter, Ok, filter_map}
+use Rattle.acpi_base.proofs.FromStd.{append-nil, length-map, length-filter, count_by-le-length}
 use Rattle.acpi_c_lib.specs.Words.{Writes, put_from, MadtItem, listed, plain_grammar, plain_layout, GtFrame, frame_record, frames_in, frames_of, frames_shown, watchdog_in, watchdogs_shown}
+use Rattle.std.proofs.Math.Nat.{div-le_self, min-le_right}
 use Rattle.acpi.proofs.First.{filter_map_few}
 use Rattle.acpi_base.specs.FromStd.{concat, AllByRecursion, cons_option, list_all}
 use Rattle.acpi_base.specs.Words.{processor_in, processors_of, IsBytes, field_of, IsEntry, after_one, cut, number_in, width_of, with_entry, ◌>>=◌, holds}
 use Rattle.acpi_base.proofs.Words.{cut_is_cut}
 use Rattle.acpi.specs.Types.{Width, One, Two, Four}
-use Rattle.acpi_arm.specs.Timers.{Timer, frame_count, frames_fit, is_sound, kind_of, sound_front, timer_bytes, timer_count, timer_of, timers_grammar, timers_layout, watchdog_at}
+use Rattle.acpi_arm.specs.Timers.{Timer, first_frames, frame_count, frames_there, kind_of, timer_bytes, timer_count, timer_there, timers_grammar, timers_layout, watchdog_at}
 use Rattle.acpi_iommu.specs.Words.{is_range, rmrr_at, structure_size, structures_of, is_reserved_for, reserved_for, block_size, blocks_of, ivmd_at, ends_below, is_memory_for, memory_for, front, pieces, pieces_within}
 use Rattle.acpi_c_lib.specs.Types.{Rmrr, Hop, InvalidStructureLength, Ivmd}
 use Rattle.acpi_iommu.specs.declared.error.IommuError.TheVariants.{InvalidMemoryRange}
@@ -84,41 +85,40 @@ length_frames : (n : ℕ) (bytes : List ℕ) → length (arm.frames_in n bytes) 
 length_frames zero bytes = refl
 length_frames (suc n) bytes = ap suc (length_frames n (drop 40 bytes))
 
-few : (n offset most : ℕ) → ((n == 0) || (nat_le 20 offset && nat_le (offset + 40 * n) most)) ≡ true → n ≤ most
-few n offset most h = grind (arith, nat_tests)
+-- no more of a block are there than it has bytes
+there_few : (b : Bool) (n room : ℕ) → (if b then 0 else min n (room / 40)) ≤ room
+there_few true n room = omega arith
+there_few false n room = omega (arith, div-le_self room 40, min-le_right n (room / 40))
 
 abbrev said : Option Timer → List records.GtFrame
 said (Some t) = frames_in t
 said None = []
 
-by_kind : (e : List ℕ) (b c : Bool) → (not b || frames_fit e) ≡ true
-    → length (said (if b then Some (inl (field_of e 4 8, arm.frames_of e)) else if c then Some (inr (watchdog_at e))
+by_kind : (e : List ℕ) (b c : Bool)
+    → length (said (if b then Some (inl (field_of e 4 8, first_frames (frames_there e) e))
+    else if c then Some (inr (watchdog_at e))
     else None)) ≤ length e
-by_kind e true c h =
-    let many = length-map (arm.frames_of e) (frame_record (field_of e 4 8))
-    ∙ length_frames (frame_count e) (drop (arm.frames_offset e) e) in
-    omega (arith, many, few (frame_count e) (arm.frames_offset e) (length e) h)
-by_kind e false true h = omega arith
-by_kind e false false h = omega arith
+by_kind e true c =
+    let many = length-map (first_frames (frames_there e) e) (frame_record (field_of e 4 8))
+    ∙ length_frames (frames_there e) (drop (arm.frames_offset e) e) in
+    omega (arith, many, there_few (nat_lt (arm.frames_offset e) 20) (frame_count e) (length e - arm.frames_offset e))
+by_kind e false true = omega arith
+by_kind e false false = omega arith
 
 with_said : (o : Option Timer) (timers : List Timer) (n m : ℕ) → length (said o) ≤ n → length (frames_of timers) ≤ m
     → length (frames_of (cons_option o timers)) ≤ n + m
 with_said (Some t) timers n m h k = omega (arith, h, k, length-append (frames_in t) (frames_of timers))
 with_said None timers n m h k = omega (arith, k)
 
-abbrev frames_among : List (List ℕ) → List records.GtFrame
-frames_among es = frames_of (filter_map timer_of es)
-
-by_sound : (b : Bool) (e : List ℕ) (es : List (List ℕ)) → is_sound e ≡ b
-    → length (frames_among (sound_front es)) ≤ length (concat es)
-    → length (frames_among (if b then e ∷ sound_front es else [])) ≤ length e + length (concat es)
-by_sound true e es h k = with_said (timer_of e) (filter_map timer_of (sound_front es)) (length e) (length (concat es))
-    (by_kind e (kind_of e == 0) (kind_of e == 1) h) k
-by_sound false e es h k = omega arith
-
-frames_sound : (es : List (List ℕ)) → length (frames_among (sound_front es)) ≤ length (concat es)
-frames_sound [] = omega arith
-frames_sound (e ∷ es) = omega (arith, by_sound (is_sound e) e es refl (frames_sound es), length-append e (concat es))
+frames_among : (es : List (List ℕ)) → length (frames_of (filter_map timer_there es)) ≤ length (concat es)
+frames_among [] = omega arith
+frames_among (e ∷ es) =
+    omega (
+      arith,
+      with_said (timer_there e) (filter_map timer_there es) (length e) (length (concat es))
+          (by_kind e (kind_of e == 0) (kind_of e == 1)) (frames_among es),
+      length-append e (concat es),
+    )
 
 cut_whole : (count : ℕ) (bytes : List ℕ) → length (concat (cut (timers_grammar count) bytes).0) ≤ length bytes
 cut_whole count bytes =
@@ -136,14 +136,14 @@ few_bytes : (b : Bool) (table : List ℕ) (n : ℕ) → length (if b then [] els
 few_bytes true table n = omega arith
 few_bytes false table n = omega (arith, length-drop n table)
 
-bytes_few : (table : List ℕ) → length (timer_bytes table) ≤ length table
+pub bytes_few : (table : List ℕ) → length (timer_bytes table) ≤ length table
 bytes_few table = few_bytes _ table (field_of table 92 4)
 
 pub frames_few : (table : List ℕ) → length (frames_shown table) ≤ length table
 frames_few table =
     omega (
       arith,
-      frames_sound (cut (timers_grammar (timer_count table)) (timer_bytes table)).0,
+      frames_among (cut (timers_grammar (timer_count table)) (timer_bytes table)).0,
       cut_whole (timer_count table) (timer_bytes table),
       bytes_few table,
     )
@@ -154,24 +154,14 @@ one_each : (es : List (List ℕ)) → AllByRecursion (IsEntry timers_layout) es 
 one_each [] a = omega arith
 one_each (e ∷ es) a = omega (arith, one_each es a.1, a.0.header, length-append e (concat es))
 
-by_front : (b : Bool) (e : List ℕ) (es fs : List (List ℕ)) → length fs ≤ length es
-    → length (if b then e ∷ fs else []) ≤ suc (length es)
-by_front true e es fs h = omega (arith, h)
-by_front false e es fs h = omega arith
-
-front_few : (es : List (List ℕ)) → length (sound_front es) ≤ length es
-front_few [] = omega arith
-front_few (e ∷ es) = by_front (is_sound e) e es (sound_front es) (front_few es)
-
 pub watchdogs_few : (table : List ℕ) → length (watchdogs_shown table) ≤ length table
 watchdogs_few table =
     let es = (cut (timers_grammar (timer_count table)) (timer_bytes table)).0 in
     let c = cut_is_cut 2 (timers_grammar (timer_count table)) (timer_bytes table) in
     omega (
       arith,
-      filter_map_few watchdog_in (filter_map timer_of (sound_front es)),
-      filter_map_few timer_of (sound_front es),
-      front_few es,
+      filter_map_few watchdog_in (filter_map timer_there es),
+      filter_map_few timer_there es,
       one_each es c.entries,
       cut_whole (timer_count table) (timer_bytes table),
       bytes_few table,

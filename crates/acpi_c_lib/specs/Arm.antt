@@ -1,29 +1,42 @@
--- The generic interrupt controller (GIC) of an Arm machine as C gets it.
-use Rattle.std.specs.Prelude.{List, map, Option, Result, ok_or, unwrap_or}
-use Rattle.acpi_base.specs.FromStd.{is_some}
-use Rattle.acpi_base.specs.Words.{trigger_code, ◌>>=◌}
+-- The generic interrupt controller (GIC) of an Arm machine as C gets it: what the entries of a MADT say of it, each by
+-- itself.
+use Rattle.std.specs.Prelude.{ℕ, Bool, false, true, List, map, slice_get, Option, Result, Ok, if◌then◌else◌, filter_map, ok_or, unwrap_or}
+use Rattle.acpi_base.specs.FromStd.{is_some, list_any}
+use Rattle.acpi_base.specs.Words.{cut_of, entries_of, holds, is_left, trigger_code, ◌>>=◌}
+use Rattle.acpi.specs.Types.{InvalidEntryLength, InvalidMadt, MadtEntry}
+use Rattle.acpi_base.specs.declared.tables.madt.entry.MadtEntry.TheVariants as kinds
 use Rattle.acpi.specs.Words.{madt_kind}
-use Rattle.acpi_arm.specs.Gic.{gic_of}
-use Rattle.acpi_c_lib.specs.Types.{GicModel, GicCpuInterface, GicDistributor, GicMsiFrame, GicRedistributors, GicTranslationService, SpiRange, Range, NoGic}
+use Rattle.acpi_arm.specs.Gic.{cpu_interface_in, distributor_in, items_of, msi_frame_in, redistributors_in, translation_service_in}
+use Rattle.acpi_c_lib.specs.Types.{Acpi, GicCpuInterface, GicDistributor, GicMsiFrame, GicRedistributors, GicTranslationService, SpiRange, Range, NoGic}
 use Rattle.acpi_c_lib.specs.Answers.{result_map}
-use Rattle.acpi_c_lib.specs.Below.{Refusal, Source, first_table, refused_as}
+use Rattle.acpi_c_lib.specs.Below.{Refusal, Source, first_table}
 use Rattle.acpi_c_lib.specs.Devices.{flag}
 use Rattle.acpi_c_lib.specs.Records as records
 
--- a GIC, of no allocator
-abbrev pub Gic : Type 0
-Gic = GicModel (Unit {0})
+-- whether an entry is of a GIC: Types 0xb to 0xf
+abbrev pub is_of_gic : MadtEntry → Bool
+is_of_gic (kinds.Gicc e) = true
+is_of_gic (kinds.Gicd e) = true
+is_of_gic (kinds.GicMsiFrame e) = true
+is_of_gic (kinds.GicRedistributor e) = true
+is_of_gic (kinds.GicInterruptTranslationService e) = true
+is_of_gic _ = false
 
--- the GIC that the first valid MADT describes
-unfoldable pub known_gic : Source → Result Gic Refusal
-known_gic s = do
+-- the bytes of a table, if one of its entries up to the first malformed front is of a GIC
+abbrev pub gic_among : List ℕ → Result (List ℕ) Refusal
+gic_among table = do
+  _ ← holds (list_any is_of_gic (entries_of table)) NoGic
+  Ok table
+
+-- those of the first valid MADT
+unfoldable pub gic_table : Source → Result (List ℕ) Refusal
+gic_table s = do
   table ← first_table madt_kind s
-  found ← refused_as (gic_of table)
-  ok_or found NoGic
+  gic_among table
 
--- what is shown of it
-abbrev pub below_gic : {A : Type 0} → Source → (Gic → A) → Result A Refusal
-below_gic s show = result_map show (known_gic s)
+-- what is shown of them
+abbrev pub below_gic : {A : Type 0} → Source → (List ℕ → A) → Result A Refusal
+below_gic s show = result_map show (gic_table s)
 
 -- ---- the distributor (section 5.2.12.15)
 
@@ -35,8 +48,16 @@ distributor_record d = record {
   version = d.version;
 }
 
-abbrev pub distributor_shown : Gic → records.GicDistributor
-distributor_shown gic = distributor_record gic.distributor
+-- why a table has no distributor: none of its entries is one, or the malformed front might be
+abbrev pub no_distributor : List ℕ → Refusal
+no_distributor table = if is_left (cut_of table).1 then Acpi (InvalidMadt InvalidEntryLength) else NoGic
+
+-- that of the first GICD of the first valid MADT
+abbrev pub distributor_below : Source → Result records.GicDistributor Refusal
+distributor_below s = do
+  table ← first_table madt_kind s
+  found ← ok_or (slice_get (filter_map distributor_in (entries_of table)) 0) (no_distributor table)
+  Ok (distributor_record found)
 
 -- ---- processors' interfaces (section 5.2.12.14)
 
@@ -62,24 +83,24 @@ cpu_interface_record x = record {
   efficiency_class = x.efficiency_class;
 }
 
-abbrev pub cpu_interfaces_shown : Gic → List records.GicCpuInterface
-cpu_interfaces_shown gic = map cpu_interface_record gic.cpu_interfaces
+abbrev pub cpu_interfaces_shown : List ℕ → List records.GicCpuInterface
+cpu_interfaces_shown table = map cpu_interface_record (items_of cpu_interface_in table)
 
 -- ---- redistributors (section 5.2.12.17)
 
 abbrev pub redistributors_record : GicRedistributors → Range
 redistributors_record r = record { address = r.address; length = r.length }
 
-abbrev pub redistributors_shown : Gic → List Range
-redistributors_shown gic = map redistributors_record gic.redistributors
+abbrev pub redistributors_shown : List ℕ → List Range
+redistributors_shown table = map redistributors_record (items_of redistributors_in table)
 
 -- ---- services that translate interrupts (section 5.2.12.18)
 
 abbrev pub translation_service_record : GicTranslationService → records.GicTranslationService
 translation_service_record t = record { address = t.address; id = t.id }
 
-abbrev pub translation_services_shown : Gic → List records.GicTranslationService
-translation_services_shown gic = map translation_service_record gic.translation_services
+abbrev pub translation_services_shown : List ℕ → List records.GicTranslationService
+translation_services_shown table = map translation_service_record (items_of translation_service_in table)
 
 -- ---- frames of messages (section 5.2.12.16)
 
@@ -96,5 +117,5 @@ msi_frame_record f = record {
   has_spis = flag (is_some f.spis);
 }
 
-abbrev pub msi_frames_shown : Gic → List records.GicMsiFrame
-msi_frames_shown gic = map msi_frame_record gic.msi_frames
+abbrev pub msi_frames_shown : List ℕ → List records.GicMsiFrame
+msi_frames_shown table = map msi_frame_record (items_of msi_frame_in table)

@@ -3,7 +3,7 @@ use Rattle.std.specs.Prelude.{ℕ, ◌-◌, ◌^◌, nat_lt, Bool, List, [], ◌
 use Rattle.std.proofs.Common.{inl, inr}
 use Rattle.acpi_base.specs.Words.{polarity_code, trigger_code}
 use Rattle.acpi_arm.specs.Gtdt.{control_base_of, gtdt_at, gtdt_kind, read_base_of, virtual_el2_of}
-use Rattle.acpi_arm.specs.Timers.{Timer, missing_of, timers_of}
+use Rattle.acpi_arm.specs.Timers.{Timer, each_of, missing_of}
 pub use Rattle.acpi_arm.specs.declared.frames.GtFrame.{GtFrame}
 use Rattle.acpi_c_lib.specs.Types.{ArmTimer, Gtdt, SbsaWatchdog, ArmTimers, Watchdog}
 use Rattle.acpi_c_lib.specs.Below.{Refusal, Source, below_first}
@@ -79,7 +79,7 @@ frames_of [] = []
 frames_of (t ∷ timers) = frames_in t ++ frames_of timers
 
 abbrev pub frames_shown : List ℕ → List records.GtFrame
-frames_shown table = frames_of (timers_of table)
+frames_shown table = frames_of (each_of table)
 
 -- ---- watchdogs (section 5.2.24.1.2)
 
@@ -103,4 +103,4 @@ abbrev pub watchdogs_of : List Timer → List Watchdog
 watchdogs_of timers = filter_map watchdog_in timers
 
 abbrev pub watchdogs_shown : List ℕ → List Watchdog
-watchdogs_shown table = watchdogs_of (timers_of table)
+watchdogs_shown table = watchdogs_of (each_of table)

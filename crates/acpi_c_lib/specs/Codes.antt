@@ -80,6 +80,7 @@ code_of refusal.NoDistance = 53
 code_of refusal.InvalidIommuStructureLength = 54
 code_of refusal.InvalidIommuMemoryRange = 55
 code_of refusal.NoIommu = 56
+code_of refusal.InvalidTimerLength = 57
 code_of refusal.UnknownCode = 60
 code_of refusal.BadTable = 73
 code_of (refusal.Writer e) = writer_code e

@@ -9,9 +9,11 @@ pub mod Codes
 pub mod Console
 pub mod Devices
 pub mod Entries
+pub mod EntryFaults
 pub mod Facs
 pub mod Faults
 pub mod Fixed
+pub mod GtdtFaults
 pub mod Held
 pub mod Iommu
 pub mod IsaList

@@ -1,31 +1,16 @@
--- Domains and distances as C gets them.
-use Rattle.std.specs.Prelude.{◌≡◌, ◌≤◌, ◌↔◌, ℕ, List, map, Result, Ok, Err, ok_or}
-use Rattle.acpi_base.specs.Words.{◌>>=◌, Kind, sdt_kind}
+-- Domains and distances as C gets them. What an entry of a SRAT says changes no answer that isn't about it.
+use Rattle.std.specs.Prelude.{◌≡◌, ◌+◌, ◌≤◌, ◌↔◌, ℕ, List, find, map, Option, Some, None, Result, Ok, Err, if◌then◌else◌, ok_or, option_and_then}
+use Rattle.acpi_base.specs.Words.{◌>>=◌, Kind, is_left, sdt_kind}
 use Rattle.acpi.specs.Types.{SLIT}
-use Rattle.acpi_numa.specs.Words.{affinities_of, domain_at, srat_kind, IsSane, distance_of, localities_of, domain_of_apic, domain_of_processor}
-use Rattle.acpi_c_lib.specs.Types.{NumaError, MemoryRange, Localities, MemoryAffinity, Acpi, InvalidMemoryRange, InvalidSratEntryLength, NoDistance, NoDomain}
-use Rattle.acpi_numa.specs.declared.error.NumaError.TheVariants as numa
+use Rattle.acpi_numa.specs.Words.{cut_of, ends_below, entry_of, lies_in, range_in, ranges_of, revision_of, srat_kind, IsSane, distance_of, localities_of, domain_of_apic, domain_of_processor}
+use Rattle.acpi_c_lib.specs.Types.{MemoryRange, Localities, MemoryAffinity, InvalidMemoryRange, InvalidSratEntryLength, NoDistance, NoDomain}
 use Rattle.acpi_c_lib.specs.Answers.{result_map}
 use Rattle.acpi_c_lib.specs.Below.{Refusal, Source, below_first, first_table}
 use Rattle.acpi_c_lib.specs.Devices.{flag}
-
--- a refusal of the crate for domains is one of the call's
-abbrev pub numa_refusal : NumaError → Refusal
-numa_refusal (numa.Acpi e) = Acpi e
-numa_refusal numa.InvalidEntryLength = InvalidSratEntryLength
-numa_refusal numa.InvalidMemoryRange = InvalidMemoryRange
-
-abbrev pub numa_refused : {A : Type 0} → Result A NumaError → Result A Refusal
-numa_refused (Ok x) = Ok x
-numa_refused (Err e) = Err (numa_refusal e)
+use Rattle.acpi_c_lib.specs.EntryFaults.{faults_from, found_table, rest_faults}
+use Rattle.acpi_c_lib.specs.declared.entry_faults.EntryFault.{EntryFault}
 
 -- ---- ranges of memory
-
--- the ranges of memory that the first valid SRAT puts into domains (section 5.2.16.2)
-abbrev pub affinities_in : Source → Result (List MemoryRange) Refusal
-affinities_in s = do
-  table ← first_table srat_kind s
-  numa_refused (affinities_of table)
 
 abbrev pub affinity_record : MemoryRange → MemoryAffinity
 affinity_record r = record {
@@ -36,26 +21,54 @@ affinity_record r = record {
   is_non_volatile = flag r.is_non_volatile;
 }
 
+-- the ranges of memory that the first valid SRAT puts into domains, up to the first malformed front (section 5.2.16.2)
 abbrev pub affinities_below : Source → Result (List MemoryAffinity) Refusal
-affinities_below s = result_map (map affinity_record) (affinities_in s)
+affinities_below s = below_first srat_kind s (λ table. map affinity_record (ranges_of table))
+
+-- ---- entries at fault
+
+-- why a range is at fault: it ends at 2^64 or above
+abbrev pub range_fault : MemoryRange → Option Refusal
+range_fault r = if ends_below r then None else Some InvalidMemoryRange
+
+-- why an entry of a table of a revision is
+abbrev pub srat_fault : ℕ → List ℕ → Option Refusal
+srat_fault revision e = option_and_then range_fault (option_and_then range_in (entry_of revision e))
+
+-- those of the table at an address
+abbrev pub srat_faults_of : ℕ × List ℕ → List EntryFault
+srat_faults_of found = faults_from (srat_fault (revision_of found.1))
+    (rest_faults InvalidSratEntryLength (cut_of found.1).1) (found.0 + 48) (cut_of found.1).0
+
+abbrev pub srat_faults_below : Source → Result (List EntryFault) Refusal
+srat_faults_below s = result_map srat_faults_of (found_table srat_kind s)
 
 -- ---- domains
 
--- the domain of the first range in which an address lies
+-- why a table puts something into no domain: none of its entries does, or the malformed front might
+abbrev pub no_domain : List ℕ → Refusal
+no_domain table = if is_left (cut_of table).1 then InvalidSratEntryLength else NoDomain
+
+-- the domain of a range that isn't at fault
+abbrev pub range_domain : MemoryRange → Result ℕ Refusal
+range_domain r = if ends_below r then Ok r.domain else Err InvalidMemoryRange
+
+-- that of the first range in which an address lies
 abbrev pub domain_of_address_below : Source → ℕ → Result ℕ Refusal
 domain_of_address_below s address = do
-  ranges ← affinities_in s
-  ok_or (domain_at ranges address) NoDomain
+  table ← first_table srat_kind s
+  range ← ok_or (find (lies_in address) (ranges_of table)) (no_domain table)
+  range_domain range
 
 abbrev pub domain_of_apic_below : Source → ℕ → Result ℕ Refusal
 domain_of_apic_below s id = do
-  found ← below_first srat_kind s (λ table. domain_of_apic table id)
-  ok_or found NoDomain
+  table ← first_table srat_kind s
+  ok_or (domain_of_apic table id) (no_domain table)
 
 abbrev pub domain_of_processor_below : Source → ℕ → Result ℕ Refusal
 domain_of_processor_below s uid = do
-  found ← below_first srat_kind s (λ table. domain_of_processor table uid)
-  ok_or found NoDomain
+  table ← first_table srat_kind s
+  ok_or (domain_of_processor table uid) (no_domain table)
 
 -- ---- distances (SLIT, section 5.2.17)
 

@@ -6,7 +6,6 @@ pub use Rattle.acpi.specs.declared.platform.timer.PmTimer.{PmTimer}
 pub use Rattle.acpi.specs.declared.records.AmlTable.{AmlTable}
 pub use Rattle.acpi.specs.declared.records.TableFault.{TableFault}
 pub use Rattle.acpi.specs.declared.rsdp.Rsdp.{Rsdp}
-pub use Rattle.acpi_arm.specs.declared.gic.GicModel.{GicModel}
 pub use Rattle.acpi_arm.specs.declared.gic.part.GicCpuInterface.{GicCpuInterface}
 pub use Rattle.acpi_arm.specs.declared.gic.part.GicDistributor.{GicDistributor}
 pub use Rattle.acpi_arm.specs.declared.gic.part.GicMsiFrame.{GicMsiFrame}
@@ -42,7 +41,7 @@ pub use Rattle.acpi_c_lib.specs.declared.records.Range.{Range}
 pub use Rattle.acpi_c_lib.specs.declared.records.Register.{Register}
 pub use Rattle.acpi_c_lib.specs.declared.records.Root.{Root}
 pub use Rattle.acpi_c_lib.specs.declared.refusal.Refusal.{Refusal}
-pub use Rattle.acpi_c_lib.specs.declared.refusal.Refusal.TheVariants.{Acpi, AmlInvalid, InvalidIommuMemoryRange, InvalidIommuStructureLength, InvalidMemoryRange, InvalidSratEntryLength, NoApics, NoDistance, NoDomain, NoGic, NoIommu, NoRegister, NoReset, NoSuchFunction, NoSuchInterrupt, NoSuchIoApic, NoSuchState, RangeTooHigh, RegionTooHigh, RegionsNotAscending, SleepStateAbsent, SleepStateNotSeen, UnknownCode, UnknownStart, BadTable, UnknownWidth, Writer}
+pub use Rattle.acpi_c_lib.specs.declared.refusal.Refusal.TheVariants.{Acpi, AmlInvalid, InvalidIommuMemoryRange, InvalidIommuStructureLength, InvalidMemoryRange, InvalidSratEntryLength, InvalidTimerLength, NoApics, NoDistance, NoDomain, NoGic, NoIommu, NoRegister, NoReset, NoSuchFunction, NoSuchInterrupt, NoSuchIoApic, NoSuchState, RangeTooHigh, RegionTooHigh, RegionsNotAscending, SleepStateAbsent, SleepStateNotSeen, UnknownCode, UnknownStart, BadTable, UnknownWidth, Writer}
 pub use Rattle.acpi_c_lib.specs.declared.writing.machine.Contents.TheVariants.{Bgrt, Fadt, Gic, Hpet, Madt, Mcfg, Spcr, Srat}
 pub use Rattle.acpi_c_lib.specs.declared.written_records.GicContents.{GicContents}
 pub use Rattle.acpi_c_lib.specs.declared.written_records.ListedTable.{ListedTable}
@@ -58,7 +57,6 @@ pub use Rattle.acpi_iommu.specs.declared.error.IommuError.TheVariants.{InvalidSt
 pub use Rattle.acpi_iommu.specs.declared.ivrs.block.Ivhd.{Ivhd}
 pub use Rattle.acpi_iommu.specs.declared.ivrs.block.Ivmd.{Ivmd}
 pub use Rattle.acpi_iommu.specs.declared.ivrs.blocks.DeviceUnit.{DeviceUnit}
-pub use Rattle.acpi_numa.specs.declared.error.NumaError.{NumaError}
 pub use Rattle.acpi_numa.specs.declared.srat.affinities.MemoryRange.{MemoryRange}
 pub use Rattle.acpi_sleep.specs.declared.error.PlanError.{PlanError}
 pub use Rattle.acpi_sleep.specs.declared.error.SleepError.{SleepError}

@@ -3,7 +3,7 @@ pub use Rattle.acpi_c_lib.specs.Answers.{Answers, AnswersList, AnswersPlain, Ans
 pub use Rattle.acpi_c_lib.specs.ApicLaws.{ListsAreModels}
 pub use Rattle.acpi_c_lib.specs.Apics.{MadtEntry, below_apics, mailbox_below, boot_first, booted, io_apic_in, is_of_apics, local_apic_address_in, nmi_line, nmi_line_in, nmi_source_in, override_in, processor, processor_in, processors_of}
 unfoldable pub use Rattle.acpi_c_lib.specs.Apics.{apic_entries}
-pub use Rattle.acpi_c_lib.specs.Arm.{below_gic, cpu_interfaces_shown, distributor_shown, msi_frames_shown, redistributors_shown, translation_services_shown}
+pub use Rattle.acpi_c_lib.specs.Arm.{below_gic, cpu_interfaces_shown, distributor_below, is_of_gic, msi_frames_shown, redistributors_shown, translation_services_shown}
 pub use Rattle.acpi_c_lib.specs.ArmTimers.{GtFrame, arm_timer_or, arm_timer_record, frame_record, frames_in, frames_of, frames_shown, gtdt_below, or_ones, timers_record, timers_shown, watchdog_in, watchdogs_of, watchdogs_shown}
 pub use Rattle.acpi_c_lib.specs.Below.{AcpiError, Refusal, Source, ebda_in, opened_in, refused_as, rsdp_length, rsdp_place_in}
 unfoldable pub use Rattle.acpi_c_lib.specs.Below.{first_table, opened_as_lent}
@@ -11,9 +11,12 @@ pub use Rattle.acpi_c_lib.specs.Clip.{AnswersClip, AreInOrder, FillsClipped, IsN
 pub use Rattle.acpi_c_lib.specs.Console.{console_below, console_record}
 pub use Rattle.acpi_c_lib.specs.Devices.{generic_record, graphic_below, graphic_record, optional_register, register_if, required_register, timer_below, timer_record}
 pub use Rattle.acpi_c_lib.specs.Entries.{entries_below, entries_from, entries_said, entry_record, left_said, plain_grammar, plain_layout, width_of_bytes}
+pub use Rattle.acpi_c_lib.specs.EntryFaults.{entry_fault, faults_from, rest_faults}
+unfoldable pub use Rattle.acpi_c_lib.specs.EntryFaults.{found_table}
 pub use Rattle.acpi_c_lib.specs.Facs.{facs_below, facs_in}
 pub use Rattle.acpi_c_lib.specs.Faults.{fault_record, faults_below, kind_named}
 pub use Rattle.acpi_c_lib.specs.Fixed.{fixed_below, fixed_record, gpe_record, hypervisor_id_in, minor_revision_in, revision_in}
+pub use Rattle.acpi_c_lib.specs.GtdtFaults.{gtdt_faults_below, gtdt_faults_of, last_faults, timer_fault, timers_cut}
 pub use Rattle.acpi_c_lib.specs.Held.{mapped_memory}
 pub use Rattle.acpi_c_lib.specs.Iommu.{block_record, dmar_flags_below, dmar_flags_record, dmar_hpet_below, dmar_io_apic_below, dmar_reserved_below, dmar_unit_below, iommu_refusal, ivrs_memory_below, ivrs_unit_below, memory_record, reserved_record, source_record, unit_record}
 pub use Rattle.acpi_c_lib.specs.IsaList.{IsaInterrupts, IsaRoute, ItemsAreAnswers, isa_list, isa_list_below, isa_route, nearer_of, no_route, number_of, route_by, route_of}
@@ -22,10 +25,9 @@ pub use Rattle.acpi_c_lib.specs.Listed.{lists_by, lists_each, lists_found, lists
 pub use Rattle.acpi_c_lib.specs.Located.{LiesOnlyAt, Place, located, spot_from}
 pub use Rattle.acpi_c_lib.specs.Missing.{Areas, CandidatesHaveHoles, Fits, IsUnlent, LedHaveHoles, MembersHaveHoles, OpeningHasHole, areas_holes, areas_of, hole, last_range, member_hole, missing_below, missing_in, no_areas, opening_ranges, pieces, range_of, stretch}
 unfoldable pub use Rattle.acpi_c_lib.specs.Missing.{candidate_hole, candidate_holes, has_valid, opened_as_lent_ranges, walk_holes}
-pub use Rattle.acpi_c_lib.specs.MadtFaults.{fault, faults_from, faults_of, madt_faults_below}
-unfoldable pub use Rattle.acpi_c_lib.specs.MadtFaults.{found_madt}
+pub use Rattle.acpi_c_lib.specs.MadtFaults.{madt_fault, madt_faults_below, madt_faults_of, madt_refusal}
 pub use Rattle.acpi_c_lib.specs.Model.{MadtItem, apics_by, below_platform, counts_of, io_apic_record, listed, model_by, platform_model}
-pub use Rattle.acpi_c_lib.specs.Numa.{IsLocalities, affinities_below, affinity_record, distance_below, domain_of_address_below, domain_of_apic_below, domain_of_processor_below, numa_refusal, slit_in}
+pub use Rattle.acpi_c_lib.specs.Numa.{IsLocalities, affinities_below, affinity_record, distance_below, domain_of_address_below, domain_of_apic_below, domain_of_processor_below, no_domain, slit_in, srat_fault, srat_faults_below, srat_faults_of}
 pub use Rattle.acpi_c_lib.specs.Power.{enable_plan_below, kind_code, plan_record, plan_refusal, plan_said, reset_plan_below, sleep_plan_below, sleep_refusal, sleep_types_below, step_record, types_below}
 pub use Rattle.acpi_c_lib.specs.Regions.{Region, check_from, check_regions, memory_in, memory_of, region_of}
 pub use Rattle.acpi_c_lib.specs.Routes.{AreWirings, Interrupt, IoApicPin, apic_in, below_known, has_codes, interrupt_or, interrupt_record, is_nearer, isa_below, isa_in, isa_override_in, last_override, own_override, pin_below, pin_in, pin_or, sci_below, sci_in, wirings_of}

@@ -1,6 +1,6 @@
 //! The generic timers of an Arm machine, by the GTDT.
 ghost use Rattle.std.specs.Prelude.{◌≡◌, nat_lt, Some, map, refl};
-ghost use Rattle.acpi_arm.specs.Timers.{missing_left, frames_left, shown_in, timers_left};
+ghost use Rattle.acpi_arm.specs.Timers.{each_left, missing_left, frames_left, shown_in};
 ghost use Rattle.acpi_c_lib.specs.Words.{Fills, Writes, arm_timer_or, arm_timer_record, frame_record, frames_shown, gtdt_below, or_ones, timers_record, timers_shown, watchdog_in, watchdogs_of, watchdogs_shown, lists_each, lists_by};
 
 use crate::arm_records as records;
@@ -10,7 +10,9 @@ use crate::opening::first;
 use crate::records::Source;
 use crate::refusal::Refusal;
 use crate::regions::Mapped;
-use acpi_arm::gtdt::{ArmTimer, GtFrame, GtFrameIter, Gtdt, PlatformTimer, PlatformTimerIter};
+use acpi_arm::gtdt::{
+    ArmTimer, GtFrame, GtFrameIter, Gtdt, PlatformTimer, PlatformTimerIter, TimerStructureIter,
+};
 
 /// The timers of every processor, as the first valid GTDT has them.
 pub fn arm_timers(source: &Source<'_>) -> Result<ArmTimers, Refusal>
@@ -90,7 +92,7 @@ fn fill_frames(table: &[u8], out: &mut [records::GtFrame]) -> usize
     ensures { Writes result out.old out.new (frames_shown table.now) }
 {
     let mut count = 0;
-    for timer in PlatformTimerIter::over(table) {
+    for timer in TimerStructureIter::over(table) {
         if let PlatformTimer::GtBlock(block) = timer {
             count = fill_from(block.frames, &block.address, out, count);
         }
@@ -132,16 +134,16 @@ pub fn watchdogs(source: &Source<'_>, out: &mut [Watchdog]) -> Result<usize, Ref
 {
     let memory = Mapped::new(source.regions);
     let gtdt = first::<Gtdt>(&memory, source)?;
-    Ok(fill(PlatformTimerIter::over(gtdt.bytes()), &(), out))
+    Ok(fill(TimerStructureIter::over(gtdt.bytes()), &(), out))
 }
 
-impl Listing<(), Watchdog> for PlatformTimerIter<'_> {
+impl Listing<(), Watchdog> for TimerStructureIter<'_> {
     ghost record_of = { λ known x. watchdog_in (shown_in x) };
 
-    ghost left = { λ known s. watchdogs_of (timers_left s) };
+    ghost left = { λ known s. watchdogs_of (each_left s) };
 
-    ghost gives_first = { λ known s item t given. lists_by shown_in watchdog_in watchdogs_of (λ x. timers_left x)
-        refl (λ x xs. refl) s item t given.0 };
+    ghost gives_first = { λ known s item t given. lists_by shown_in watchdog_in watchdogs_of (λ x. each_left x)
+        refl (λ x xs. refl) s item t given };
 
     fn record(_known: &(), timer: PlatformTimer<'_>) -> Option<Watchdog> {
         match timer {

@@ -1,13 +1,13 @@
 //! The generic interrupt controller (GIC) of an Arm machine, with no heap: each list is written by a walk along the
 //! entries of the MADT.
-ghost use Rattle.std.specs.Prelude.{◌≡◌, map, refl, ℕ, List, filter_map, option_map};
-ghost use Rattle.acpi_base.specs.Words.{bytes_of, Gives, entries_left};
-ghost use Rattle.acpi_arm.specs.Gic.{items_of, model_beside};
-ghost use Rattle.acpi_c_lib.specs.Types.{GicDistributor};
+ghost use Rattle.std.specs.Prelude.{◌≡◌, map, filter_map, ok_or, option_map, slice_get};
+ghost use Rattle.acpi_base.specs.FromStd.{list_any};
+ghost use Rattle.acpi_base.specs.Words.{bytes_of, entries_of, Gives, entries_left};
+ghost use Rattle.acpi_arm.specs.Gic.{distributor_in, items_of};
 ghost use Rattle.acpi_c_lib.specs.Answers.{Fills, Writes};
 ghost use Rattle.acpi_c_lib.specs.Held.{mapped_memory};
 ghost use Rattle.acpi_c_lib.specs.Regions.{memory_in};
-ghost use Rattle.acpi_c_lib.specs.Arm.{below_gic, distributor_shown, known_gic, cpu_interface_record, cpu_interfaces_shown, msi_frame_record, msi_frames_shown, redistributors_record, redistributors_shown, translation_service_record, translation_services_shown, Gic};
+ghost use Rattle.acpi_c_lib.specs.Arm.{below_gic, cpu_interface_record, distributor_below, gic_table, is_of_gic, msi_frame_record, no_distributor, redistributors_record, translation_service_record};
 ghost use Rattle.acpi_c_lib.specs.Listed.{lists_found};
 
 use crate::arm_records as records;
@@ -17,50 +17,88 @@ use crate::records::{Range, Source};
 use crate::refusal::Refusal;
 use crate::regions::Mapped;
 use acpi::madt::Madt;
-use acpi::{Lender, PhysicalMapping};
+use acpi::{AcpiError, MadtError, PhysicalMapping};
 use acpi_arm::gic::{
     GicCpuInterface, GicDistributor, GicMsiFrame, GicPart, GicRedistributors,
-    GicTranslationService, distributor_of,
+    GicTranslationService, distributor_in,
 };
 use acpi_base::bytes::field;
 use acpi_base::madt::{MadtEntry, MadtEntryIter};
 
-/// A MADT that describes a GIC, and the GIC's distributor.
-#[derive(Drop)]
-struct GicMadt<'h, H: Lender> {
-    madt: PhysicalMapping<'h, H, Madt>,
-    distributor: GicDistributor,
-}
-
-/// The first valid MADT, if it describes a GIC.
+/// The first valid MADT, if one of its entries is of a GIC.
 ///
-/// Fails as `first` does, with `InvalidMadt(InvalidEntryLength)` if its entries end
-/// malformed, and with `NoGic` if none of them describes a distributor.
-#[tactic(auto, unfolding(crate::specs::Arm::known_gic))]
+/// Fails as `first` does, and then with `NoGic`.
+#[tactic(auto, unfolding(crate::specs::Arm::gic_table))]
 fn gic_madt<'h, 'k>(
     memory: &'h Result<Mapped<'k>, Refusal>,
     source: &Source<'_>,
-) -> Result<GicMadt<'h, Mapped<'k>>, Refusal>
+) -> Result<PhysicalMapping<'h, Mapped<'k>, Madt>, Refusal>
     requires { Gives (λ m. mapped_memory m) memory.now (memory_in source.now.regions.now) }
-    ensures { Gives (λ x. model_beside (bytes_of x.madt) x.distributor) result (known_gic source.now) }
+    ensures { Gives (λ m. bytes_of m) result (gic_table source.now) }
 {
     let madt = first::<Madt>(memory, source)?;
-    let distributor = distributor_of(madt.bytes())?.ok_or(Refusal::NoGic)?;
-    Ok(GicMadt { madt, distributor })
+    if !describes_gic(madt.bytes()) {
+        return Err(Refusal::NoGic);
+    }
+    Ok(madt)
+}
+
+/// Whether an entry of a MADT is of a GIC.
+fn describes_gic(table: &[u8]) -> bool
+    ensures { result ≡ list_any is_of_gic (entries_of table.now) }
+{
+    for entry in MadtEntryIter::over(table) {
+        if is_of_gic(&entry) {
+            return true;
+        }
+    }
+    false
+}
+
+/// Whether an entry is of a GIC.
+fn is_of_gic(entry: &MadtEntry) -> bool
+    ensures { result ≡ is_of_gic entry.now }
+{
+    match entry {
+        MadtEntry::Gicc(_)
+        | MadtEntry::Gicd(_)
+        | MadtEntry::GicMsiFrame(_)
+        | MadtEntry::GicRedistributor(_)
+        | MadtEntry::GicInterruptTranslationService(_) => true,
+        _ => false,
+    }
 }
 
 /// The distributor of the GIC that the first valid MADT describes.
 pub fn distributor(source: &Source<'_>) -> Result<records::GicDistributor, Refusal>
-    ensures { result ≡ below_gic source.now distributor_shown }
+    ensures { result ≡ distributor_below source.now }
 {
     let memory = Mapped::new(source.regions);
-    let distributor = gic_madt(&memory, source)?.distributor;
+    let madt = first::<Madt>(&memory, source)?;
+    let distributor = first_distributor(madt.bytes())?;
     Ok(records::GicDistributor {
         address: distributor.address,
         id: distributor.id,
         system_vector_base: distributor.system_vector_base,
         version: distributor.version,
     })
+}
+
+/// The first distributor of a MADT's bytes, or why there is none: the malformed front might be it.
+fn first_distributor(table: &[u8]) -> Result<GicDistributor, Refusal>
+    ensures { result ≡ ok_or (slice_get (filter_map distributor_in (entries_of table.now)) 0)
+        (no_distributor table.now) }
+{
+    let mut entries = MadtEntryIter::over(table);
+    while let Some(entry) = entries.next() {
+        if let Some(distributor) = distributor_in(&entry) {
+            return Ok(distributor);
+        }
+    }
+    if entries.ended_malformed() {
+        return Err(Refusal::Acpi(AcpiError::InvalidMadt(MadtError::InvalidEntryLength)));
+    }
+    Err(Refusal::NoGic)
 }
 
 /// A record of C's of a part of a GIC.
@@ -71,25 +109,19 @@ pub trait GicRecord: Copy {
     // The record of a part.
     ghost record_of: { Self.Part → Self };
 
-    // The records of the parts that a GIC has.
-    ghost shown: { Gic → List Self };
-
     /// The record of a part.
     fn of(part: &Self::Part) -> Self
         ensures { result ≡ record_of part.now };
-
-    // They are those that the entries of its MADT say.
-    ghost of_entries: { (table : List ℕ) (distributor : GicDistributor)
-        → shown (model_beside table distributor) ≡ map record_of (items_of Self.Part.said_in table) };
 }
 
 /// Lists the parts of one sort of the GIC that the first valid MADT describes.
 pub fn parts<R: GicRecord>(source: &Source<'_>, out: &mut [R]) -> Result<usize, Refusal>
-    ensures { Fills result out.old out.new (below_gic source.now R.shown) }
+    ensures { Fills result out.old out.new
+        (below_gic source.now (λ table. map R.record_of (items_of R.Part.said_in table))) }
 {
     let memory = Mapped::new(source.regions);
-    let found = gic_madt(&memory, source)?;
-    Ok(fill_parts(found.madt.bytes(), out))
+    let madt = gic_madt(&memory, source)?;
+    Ok(fill_parts(madt.bytes(), out))
 }
 
 #[tactic(auto, using(crate::proofs::Written::found_few))]
@@ -121,10 +153,6 @@ impl GicRecord for records::GicCpuInterface {
 
     ghost record_of = { cpu_interface_record };
 
-    ghost shown = { cpu_interfaces_shown };
-
-    ghost of_entries = { λ table distributor. refl };
-
     #[tactic(auto, unfolding(crate::specs::Arm::cpu_interface_record))]
     fn of(part: &GicCpuInterface) -> records::GicCpuInterface {
         records::GicCpuInterface {
@@ -155,10 +183,6 @@ impl GicRecord for Range {
 
     ghost record_of = { redistributors_record };
 
-    ghost shown = { redistributors_shown };
-
-    ghost of_entries = { λ table distributor. refl };
-
     fn of(part: &GicRedistributors) -> Range {
         Range {
             address: part.address,
@@ -172,10 +196,6 @@ impl GicRecord for records::GicTranslationService {
 
     ghost record_of = { translation_service_record };
 
-    ghost shown = { translation_services_shown };
-
-    ghost of_entries = { λ table distributor. refl };
-
     fn of(part: &GicTranslationService) -> records::GicTranslationService {
         records::GicTranslationService {
             address: part.address,
@@ -188,10 +208,6 @@ impl GicRecord for records::GicMsiFrame {
     type Part = GicMsiFrame;
 
     ghost record_of = { msi_frame_record };
-
-    ghost shown = { msi_frames_shown };
-
-    ghost of_entries = { λ table distributor. refl };
 
     fn of(part: &GicMsiFrame) -> records::GicMsiFrame {
         let (spi_base, spi_count, has_spis) = match part.spis {

@@ -99,12 +99,3 @@ pub struct IsaRoute {
 pub struct IsaInterrupts {
     pub routes: [IsaRoute; 16],
 }
-
-/// An entry of a MADT at fault, or the malformed front that ends its entries (section 5.2.12).
-#[repr(C)]
-#[derive(Clone, Copy)]
-pub struct MadtFault {
-    pub address: u64,
-    pub status: u32,
-    pub entry_type: u8,
-}

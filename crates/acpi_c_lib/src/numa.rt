@@ -1,7 +1,7 @@
 //! The domains that memory and processors are in, by the SRAT, and the distances between localities, by the SLIT.
-ghost use Rattle.std.specs.Prelude.{◌≡◌, map, filter_map, option_map};
-ghost use Rattle.acpi_numa.specs.Words.{domain_at, ranges_of, range_in, entries_left};
-ghost use Rattle.acpi_c_lib.specs.Words.{Fills, GivesSome, IsLocalities, affinities_below, distance_below, slit_in, numa_refusal, affinity_record, domain_of_address_below, domain_of_apic_below, domain_of_processor_below, lists_found};
+ghost use Rattle.std.specs.Prelude.{◌≡◌, find, map, filter_map, option_map};
+ghost use Rattle.acpi_numa.specs.Words.{lies_in, ranges_of, range_in, entries_left};
+ghost use Rattle.acpi_c_lib.specs.Words.{Fills, GivesSome, IsLocalities, affinities_below, distance_below, slit_in, no_domain, affinity_record, domain_of_address_below, domain_of_apic_below, domain_of_processor_below, lists_found};
 
 use crate::lists::{Listing, fill};
 use crate::numa_records::{Localities, MemoryAffinity};
@@ -9,20 +9,8 @@ use crate::opening::first;
 use crate::records::Source;
 use crate::refusal::Refusal;
 use crate::regions::Mapped;
-use acpi_numa::srat::{SratEntry, SratEntryIter, affinities_count};
-use acpi_numa::{Distances, Domains, NumaError, Slit, Srat};
-
-impl From<NumaError> for Refusal {
-    ghost from_gives = { λ error e. e ≡ numa_refusal error };
-
-    fn from(error: NumaError) -> Refusal {
-        match error {
-            NumaError::Acpi(error) => Refusal::Acpi(error),
-            NumaError::InvalidEntryLength => Refusal::InvalidSratEntryLength,
-            NumaError::InvalidMemoryRange => Refusal::InvalidMemoryRange,
-        }
-    }
-}
+use acpi_numa::srat::{SratEntry, SratEntryIter};
+use acpi_numa::{Distances, Domains, MemoryRange, Slit, Srat};
 
 /// Lists the ranges of memory that the first valid SRAT puts into domains.
 #[tactic(auto, using(crate::proofs::Written::found_few))]
@@ -31,7 +19,6 @@ pub fn affinities(source: &Source<'_>, out: &mut [MemoryAffinity]) -> Result<usi
 {
     let memory = Mapped::new(source.regions);
     let srat = first::<Srat>(&memory, source)?;
-    affinities_count(srat.bytes())?;
     Ok(fill(Domains::over(srat.bytes()).entries(), &(), out))
 }
 
@@ -63,23 +50,39 @@ pub fn domain_of_address(source: &Source<'_>, address: u64) -> Result<u32, Refus
 {
     let memory = Mapped::new(source.regions);
     let srat = first::<Srat>(&memory, source)?;
-    affinities_count(srat.bytes())?;
-    domain_in(srat.bytes(), address).ok_or(Refusal::NoDomain)
+    match range_at(srat.bytes(), address) {
+        Some(range) if range.ends_below() => Ok(range.domain),
+        Some(_) => Err(Refusal::InvalidMemoryRange),
+        None => Err(no_domain(srat.bytes())),
+    }
 }
 
-/// The domain of the first range in a SRAT's bytes that holds an address.
-fn domain_in(table: &[u8], address: u64) -> Option<u32>
-    ensures { result ≡ domain_at (ranges_of table.now) address }
+/// The first range in a SRAT's bytes that holds an address.
+fn range_at(table: &[u8], address: u64) -> Option<MemoryRange>
+    ensures { result ≡ find (lies_in address) (ranges_of table.now) }
 {
     let mut entries = Domains::over(table).entries();
     while let Some(entry) = entries.next() {
         if let Some(range) = entry.memory_range()
             && range.holds(address)
         {
-            return Some(range.domain);
+            return Some(range);
         }
     }
     None
+}
+
+/// Why a SRAT's bytes put something into no domain: the malformed front might.
+fn no_domain(table: &[u8]) -> Refusal
+    ensures { result ≡ no_domain table.now }
+{
+    let mut entries = Domains::over(table).entries();
+    'all: while let Some(_) = entries.next() {}
+    if entries.ended_malformed() {
+        Refusal::InvalidSratEntryLength
+    } else {
+        Refusal::NoDomain
+    }
 }
 
 /// The domain of the processor whose local APIC or x2APIC has an id, by the first valid SRAT.
@@ -88,10 +91,10 @@ pub fn domain_of_apic(source: &Source<'_>, local_apic_id: u32) -> Result<u32, Re
 {
     let memory = Mapped::new(source.regions);
     let srat = first::<Srat>(&memory, source)?;
-    let domains = Domains::over(srat.bytes());
-    domains
-        .domain_of_apic(local_apic_id)
-        .ok_or(Refusal::NoDomain)
+    match Domains::over(srat.bytes()).domain_of_apic(local_apic_id) {
+        Some(domain) => Ok(domain),
+        None => Err(no_domain(srat.bytes())),
+    }
 }
 
 /// The domain of the processor of a uid, which has an interface to the GIC, by the first valid SRAT.
@@ -100,8 +103,10 @@ pub fn domain_of_processor(source: &Source<'_>, uid: u32) -> Result<u32, Refusal
 {
     let memory = Mapped::new(source.regions);
     let srat = first::<Srat>(&memory, source)?;
-    let domains = Domains::over(srat.bytes());
-    domains.domain_of_processor(uid).ok_or(Refusal::NoDomain)
+    match Domains::over(srat.bytes()).domain_of_processor(uid) {
+        Some(domain) => Ok(domain),
+        None => Err(no_domain(srat.bytes())),
+    }
 }
 
 /// How far one locality is from another, by the first valid SLIT.

@@ -35,6 +35,7 @@ pub enum Refusal {
     InvalidIommuStructureLength,
     InvalidIommuMemoryRange,
     NoIommu,
+    InvalidTimerLength,
     UnknownCode,
     BadTable,
     /// The error is one of a table that is written.
@@ -112,6 +113,7 @@ impl Refusal {
             Refusal::InvalidIommuStructureLength => 54,
             Refusal::InvalidIommuMemoryRange => 55,
             Refusal::NoIommu => 56,
+            Refusal::InvalidTimerLength => 57,
             Refusal::UnknownCode => 60,
             Refusal::BadTable => 73,
             Refusal::Writer(error) => writer_code(error),

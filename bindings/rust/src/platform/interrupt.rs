@@ -322,25 +322,25 @@ fn route(raw: records::IsaRoute) -> Option<IsaRoute> {
     (raw.present != 0).then(|| IsaRoute { interrupt: raw.interrupt.into(), pin })
 }
 
-/// An entry of the MADT with an error, or the first byte at which no entry begins.
+/// An entry of the MADT, the SRAT or the GTDT with an error, or the first byte at which no entry begins.
 #[derive(Clone, Copy, Debug, PartialEq, Eq)]
-pub struct MadtFault {
+pub struct EntryFault {
     /// The physical address of its first byte.
     pub address: u64,
-    /// Type: the byte at that address.
+    /// Type: the byte at that address, or 0 if the table ends there.
     pub entry_type: u8,
-    /// The error that [`AcpiTables::platform_info`] has for it.
+    /// Its error: in a MADT that which [`AcpiTables::platform_info`] has for it.
     pub refusal: AcpiError,
 }
 
-impl From<records::MadtFault> for MadtFault {
-    fn from(raw: records::MadtFault) -> Self {
+impl From<records::EntryFault> for EntryFault {
+    fn from(raw: records::EntryFault) -> Self {
         let refusal = AcpiError::of(raw.status, Signature::default());
-        MadtFault { address: raw.address, entry_type: raw.entry_type, refusal }
+        EntryFault { address: raw.address, entry_type: raw.entry_type, refusal }
     }
 }
 
-items! { MadtFault = MadtFault }
+items! { EntryFault = EntryFault }
 
 /// What the entries of the first valid MADT contain, each by itself: one with an error is listed as it is, and changes
 /// nothing of the others. The lists end before the first byte at which no entry begins.
@@ -350,7 +350,7 @@ items! { MadtFault = MadtFault }
 impl<'k> AcpiTables<'k> {
     /// The entries of the first valid MADT that have errors and, last, the first byte at which no entry begins, if
     /// bytes are left there (section 5.2.12).
-    pub fn madt_faults(&self) -> Listing<'k, MadtFault> {
+    pub fn madt_faults(&self) -> Listing<'k, EntryFault> {
         self.list(raw::zacpi_1_list_madt_faults)
     }
 

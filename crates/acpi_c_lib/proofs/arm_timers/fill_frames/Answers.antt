@@ -5,13 +5,13 @@ use Rattle.acpi_c_lib.proofs.arm_timers.fill_frames.Goals as goal
 
 pub fill_from-count-requires-clause-few : goal.fill_from-count-requires-clause-few
 fill_from-count-requires-clause-few c =
-    let front = rw c.in-GtBlock.is at c.in-Some.ensures.steps.0 in
+    let front = rw c.in-GtBlock.is at c.in-Some.ensures.steps in
     let first = block_first _ _ _ _ _ _ front c.loop-timer.invariant.1 in
     omega (arith, first, frames_few c.args.table.now)
 
 pub loop-timer-preserved-in-GtBlock : goal.loop-timer-preserved-in-GtBlock
 loop-timer-preserved-in-GtBlock c =
-    let front = rw c.in-GtBlock.is at c.in-Some.ensures.steps.0 in (
+    let front = rw c.in-GtBlock.is at c.in-Some.ensures.steps in (
       rw (c.fill_from-count.ensures.items, c.fill_from-count.ensures.count)
           (block_written c.args.out.now _ (frames_shown c.args.table.now) _ _ _ _ _ front c.loop-timer.invariant.0),
       rw c.fill_from-count.ensures.count (block_first _ _ _ _ _ _ front c.loop-timer.invariant.1),

@@ -1,6 +1,7 @@
 use Rattle.std.proofs.Common.{◌≡◌, ◌+◌, ◌≤◌, length}
 use Rattle.acpi_base.specs.Words.{cut, madt_grammar}
-use Rattle.acpi_c_lib.specs.Words.{put_from, faults_from, faults_of}
+use Rattle.acpi.specs.Types.{InvalidEntryLength}
+use Rattle.acpi_c_lib.specs.Words.{put_from, faults_from, madt_fault, madt_faults_of, madt_refusal, rest_faults}
 use Rattle.acpi_c_lib.proofs.madt_faults.fill_faults.Given as goal
 
 -- what is written and what is left are the whole, the address is that of what is left, and no more are counted than
@@ -8,8 +9,8 @@ use Rattle.acpi_c_lib.proofs.madt_faults.fill_faults.Given as goal
 abbrev pub invariant-loop-entry : goal.invariant-loop-entry
 invariant-loop-entry l =
     let left = cut madt_grammar l.rest in
-    let faults = faults_from l.at left.0 left.1 in
-    let all = faults_of (l.address, l.table) in
+    let faults = faults_from madt_fault (rest_faults (madt_refusal InvalidEntryLength) left.1) l.at left.0 in
+    let all = madt_faults_of (l.address, l.table) in
     (put_from l.out l.count faults ≡ put_from l.initial.out 0 all)
     × (l.count + length faults ≡ length all)
     × (l.grammar ≡ madt_grammar)

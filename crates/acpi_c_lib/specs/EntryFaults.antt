@@ -1,0 +1,29 @@
+-- The entries of a table at fault, as C gets them.
+use Rattle.std.specs.Prelude.{ℕ, ◌+◌, List, [], ◌∷◌, length, slice_index, Option, Result, option_map}
+use Rattle.acpi_base.specs.FromStd.{cons_option}
+use Rattle.acpi_base.specs.Words.{Kind}
+use Rattle.acpi.specs.Words.{lookup}
+use Rattle.acpi_c_lib.specs.Below.{Refusal, Source, below_source}
+use Rattle.acpi_c_lib.specs.Codes.{code_of}
+use Rattle.acpi_c_lib.specs.declared.entry_faults.EntryFault.{EntryFault}
+
+-- an entry of a Type, at an address, with its error
+abbrev pub entry_fault : ℕ → ℕ → Refusal → EntryFault
+entry_fault address entry_type error =
+    record { address = address; entry_type = entry_type; status = code_of error }
+
+-- those at fault among entries one after the other, from an address on, and then the last ones, from their end on
+abbrev pub faults_from : (List ℕ → Option Refusal) → (ℕ → List EntryFault) → ℕ → List (List ℕ) → List EntryFault
+faults_from fault_in last address [] = last address
+faults_from fault_in last address (e ∷ es) =
+    cons_option (option_map (entry_fault address (slice_index e 0)) (fault_in e))
+    (faults_from fault_in last (address + length e) es)
+
+-- a rest at an address, if it isn't empty: no entry begins in it
+abbrev pub rest_faults : Refusal → List ℕ → ℕ → List EntryFault
+rest_faults error [] address = []
+rest_faults error (b ∷ rest) address = entry_fault address b error ∷ []
+
+-- the first valid table of a kind: where it lies, and its bytes
+unfoldable pub found_table : Kind → Source → Result (ℕ × List ℕ) Refusal
+found_table kind s = below_source s (λ m. lookup m kind)

@@ -1,0 +1,35 @@
+-- The structures of platform timers at fault, as C gets them (GTDT, ACPI 6.4, section 5.2.24.1).
+use Rattle.std.specs.Prelude.{ℕ, ◌+◌, ◌-◌, List, [], ◌∷◌, length, nat_lt, Option, Some, None, Result, if◌then◌else◌}
+use Rattle.acpi_base.specs.Words.{cut, field_of}
+use Rattle.acpi_arm.specs.Gtdt.{gtdt_kind}
+use Rattle.acpi_arm.specs.Timers.{is_sound, timer_bytes, timer_count, timers_grammar}
+use Rattle.acpi_c_lib.specs.Answers.{result_map}
+use Rattle.acpi_c_lib.specs.Below.{Refusal, Source}
+use Rattle.acpi_c_lib.specs.EntryFaults.{entry_fault, faults_from, found_table}
+use Rattle.acpi_c_lib.specs.Types.{InvalidTimerLength}
+use Rattle.acpi_c_lib.specs.declared.entry_faults.EntryFault.{EntryFault}
+
+-- why a structure is at fault: it is a GT Block whose frames don't lie between its 20 fixed bytes and its end
+abbrev pub timer_fault : List ℕ → Option Refusal
+timer_fault e = if is_sound e then None else Some InvalidTimerLength
+
+-- the malformed front, a rest at an address, if structures are missing; Type is 0 if no byte is left
+abbrev pub front_faults : ℕ → List ℕ → ℕ → List EntryFault
+front_faults missing rest address =
+    if nat_lt 0 missing then entry_fault address (field_of rest 0 1) InvalidTimerLength ∷ [] else []
+
+-- the structures up to the malformed front, and the rest
+abbrev pub timers_cut : List ℕ → List (List ℕ) × List ℕ
+timers_cut table = cut (timers_grammar (timer_count table)) (timer_bytes table)
+
+-- what is at fault at the end of a table's structures
+abbrev pub last_faults : List ℕ → ℕ → List EntryFault
+last_faults table = front_faults (timer_count table - length (timers_cut table).0) (timers_cut table).1
+
+-- those of the table at an address, whose structures are its last bytes
+abbrev pub gtdt_faults_of : ℕ × List ℕ → List EntryFault
+gtdt_faults_of found = faults_from timer_fault (last_faults found.1)
+    (found.0 + (length found.1 - length (timer_bytes found.1))) (timers_cut found.1).0
+
+abbrev pub gtdt_faults_below : Source → Result (List EntryFault) Refusal
+gtdt_faults_below s = result_map gtdt_faults_of (found_table gtdt_kind s)

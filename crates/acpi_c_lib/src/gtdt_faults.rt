@@ -1,0 +1,56 @@
+//! The structures of platform timers of a GTDT at fault, and the malformed front that ends them.
+ghost use Rattle.std.specs.Prelude.{◌≡◌, ◌+◌, ◌^◌, ◌<◌, length};
+ghost use Rattle.acpi_c_lib.specs.Words.{Fills, Writes, gtdt_faults_below, gtdt_faults_of};
+
+use crate::entry_faults::{EntryFault, entry_fault, found_table};
+use crate::lists::put;
+use crate::records::Source;
+use crate::refusal::Refusal;
+use crate::regions::Mapped;
+use acpi_arm::gtdt::{Gtdt, is_sound, timer_bytes, timer_count, timers_grammar};
+use acpi_base::bytes::field;
+use acpi_base::entries::split_front;
+
+/// Lists the structures of the first valid GTDT at fault and, last, the malformed front.
+pub fn gtdt_faults(source: &Source<'_>, out: &mut [EntryFault]) -> Result<usize, Refusal>
+    ensures { Fills result out.old out.new (gtdt_faults_below source.now) }
+{
+    let memory = Mapped::new(source.regions);
+    let gtdt = found_table::<Gtdt>(&memory, source)?;
+    Ok(fill_faults(gtdt.bytes(), gtdt.physical_start(), out))
+}
+
+/// Writes the faults of a GTDT's bytes at an address.
+#[tactic(auto, using(crate::proofs::FaultLists::front_whole))]
+fn fill_faults(table: &[u8], address: u64, out: &mut [EntryFault]) -> usize
+    requires { address + length table.now < 2 ^ 64 }
+    ensures { Writes result out.old out.new (gtdt_faults_of (address, table.now)) }
+{
+    let mut rest = timer_bytes(table);
+    let mut left = timer_count(table);
+    let mut at = address + (table.len() - rest.len()) as u64;
+    let mut count = 0;
+    while let Some((structure, others)) = split_front(&timers_grammar(left), rest) {
+        if !is_sound(structure) {
+            put(
+                out,
+                count,
+                entry_fault(at, structure[0], Refusal::InvalidTimerLength),
+            );
+            count += 1;
+        }
+        at += structure.len() as u64;
+        left = left.saturating_sub(1);
+        rest = others;
+    }
+    if left > 0 {
+        let kind = field(rest, 0, 1) as u8; // Type
+        put(
+            out,
+            count,
+            entry_fault(at, kind, Refusal::InvalidTimerLength),
+        );
+        count += 1;
+    }
+    count
+}

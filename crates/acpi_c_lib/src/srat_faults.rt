@@ -1,0 +1,67 @@
+//! The entries of a SRAT at fault, and the malformed front that ends them.
+ghost use Rattle.std.specs.Prelude.{◌≡◌, ◌+◌, ◌^◌, ◌<◌, ◌≤◌, length};
+ghost use Rattle.acpi_base.specs.Words.{IsEntry};
+ghost use Rattle.acpi_numa.specs.Words.{srat_layout};
+ghost use Rattle.acpi_c_lib.specs.Words.{Fills, Writes, srat_fault, srat_faults_below, srat_faults_of};
+
+use crate::entry_faults::{EntryFault, entry_fault, found_table};
+use crate::lists::put;
+use crate::records::Source;
+use crate::refusal::Refusal;
+use crate::regions::Mapped;
+use acpi_base::bytes::{field, skip};
+use acpi_base::entries::split_front;
+use acpi_numa::Srat;
+use acpi_numa::srat::{SRAT_GRAMMAR, SratEntry};
+
+/// Lists the entries of the first valid SRAT at fault and, last, the malformed front.
+pub fn srat_faults(source: &Source<'_>, out: &mut [EntryFault]) -> Result<usize, Refusal>
+    ensures { Fills result out.old out.new (srat_faults_below source.now) }
+{
+    let memory = Mapped::new(source.regions);
+    let srat = found_table::<Srat>(&memory, source)?;
+    Ok(fill_faults(srat.bytes(), srat.physical_start(), out))
+}
+
+/// Writes the faults of a SRAT's bytes at an address.
+#[tactic(auto, using(crate::proofs::FaultLists::front_whole))]
+fn fill_faults(table: &[u8], address: u64, out: &mut [EntryFault]) -> usize
+    requires fixed { 48 ≤ length table.now }
+    requires ends { address + length table.now < 2 ^ 64 }
+    ensures { Writes result out.old out.new (srat_faults_of (address, table.now)) }
+{
+    let grammar = SRAT_GRAMMAR;
+    let revision = field(table, 8, 1) as u8; // Revision
+    let mut rest = skip(table, 48);
+    let mut at = address + 48;
+    let mut count = 0;
+    while let Some((entry, others)) = split_front(&grammar, rest) {
+        if let Some(error) = fault_in(revision, entry) {
+            put(out, count, entry_fault(at, entry[0], error));
+            count += 1;
+        }
+        at += entry.len() as u64;
+        rest = others;
+    }
+    if let [kind, ..] = rest {
+        put(
+            out,
+            count,
+            entry_fault(at, *kind, Refusal::InvalidSratEntryLength),
+        );
+        count += 1;
+    }
+    count
+}
+
+/// Why an entry is at fault in a table of a revision, or `None` if it isn't.
+fn fault_in(revision: u8, entry: &[u8]) -> Option<Refusal>
+    requires { IsEntry srat_layout entry.now }
+    ensures { result ≡ srat_fault revision entry.now }
+{
+    let range = SratEntry::read(revision, entry)?.memory_range()?;
+    if range.ends_below() {
+        return None;
+    }
+    Some(Refusal::InvalidMemoryRange)
+}
