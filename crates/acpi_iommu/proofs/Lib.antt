@@ -1,2 +1,3 @@
 mod Cuts
+mod Sure
 mod Units

@@ -1,9 +1,10 @@
 -- Which unit of a DMAR remaps a device, and which memory is reserved for it (sections 8.3 and 8.4).
-use Rattle.std.specs.Prelude.{ℕ, ◌==◌, ◌&&◌, Bool, not, find, filter, List, map, slice_get, Option, None, Result, Ok, if◌then◌else◌, filter_map, option_map}
-use Rattle.acpi_base.specs.FromStd.{list_all, option_or}
+use Rattle.std.specs.Prelude.{ℕ, ◌==◌, ◌&&◌, ◌||◌, Bool, not, find, filter, List, map, slice_get, Option, None, Some, Result, Ok, if◌then◌else◌, filter_map, option_map}
+use Rattle.acpi_base.specs.FromStd.{list_all, list_any, option_or}
 use Rattle.acpi_base.specs.Words.{◌>>=◌, holds, is_left}
 use Rattle.acpi_iommu.specs.Dmar.{cut_of, drhd_at, includes_pci_all, is_range, kind_of, rmrr_at, segment_of, structures_left, structures_of}
 use Rattle.acpi_iommu.specs.DmarScopes.{is_numbered, last_hop, names_device, scopes_of, scopes_rest, start_bus}
+use Rattle.acpi_iommu.specs.Pieces.{first_sure}
 use Rattle.acpi_iommu.specs.declared.dmar.fields.Drhd.{Drhd}
 use Rattle.acpi_iommu.specs.declared.dmar.fields.Rmrr.{Rmrr}
 use Rattle.acpi_iommu.specs.declared.dmar.reserved.ReservedIter.{ReservedIter}
@@ -43,6 +44,23 @@ unit_for table segment bus hops = do
   _ ← holds (is_whole table) InvalidStructureLength
   Ok (option_map drhd_at (option_or (unit_that_names table segment bus hops) (unit_of_others table segment)))
 
+-- whether a unit of the segment names the device
+abbrev pub is_named : List ℕ → ℕ → ℕ → List Hop → Bool
+is_named table segment bus hops = list_any (λ e. is_unit_of segment e && names_device bus hops e) (structures_of table)
+
+-- the unit, if it names the device; or if it has INCLUDE_PCI_ALL, and no unit names the device
+abbrev pub drhd_in : ℕ → ℕ → List Hop → Bool → List ℕ → Option Drhd
+drhd_in segment bus hops named e =
+    if is_unit_of segment e && (if named then names_device bus hops e else includes_pci_all (drhd_at e))
+    then Some (drhd_at e) else None
+
+-- the same unit, unless a scope is malformed in one of the segment before it. Those after one with INCLUDE_PCI_ALL are
+-- of other segments, as it is the last of its own (section 8.3)
+abbrev pub find_unit : List ℕ → ℕ → ℕ → List Hop → Result (Option Drhd) IommuError
+find_unit table segment bus hops =
+    first_sure (drhd_in segment bus hops (is_named table segment bus hops))
+    (λ e. not (is_unit_of segment e) || has_whole_scopes e) (structures_of table) (cut_of table).1
+
 -- ---- the unit of an I/O APIC or an HPET
 
 -- what a DRHD and a scope of it say: the unit, and the bus and the last hop by which it knows the device
@@ -69,6 +87,12 @@ unit_of_io_apic = source_of 3
 abbrev pub unit_of_hpet : List ℕ → ℕ → Result (Option UnitSource) IommuError
 unit_of_hpet = source_of 4
 
+-- the same, unless a scope is malformed in a DRHD before it
+abbrev pub find_source : ℕ → List ℕ → ℕ → Result (Option UnitSource) IommuError
+find_source kind table id =
+    first_sure (source_in kind id) (λ e. not (kind_of e == 0) || has_whole_scopes e) (structures_of table)
+    (cut_of table).1
+
 -- ---- memory that is reserved
 
 -- an RMRR, type 1, of this segment one of whose scopes names the device
@@ -86,6 +110,17 @@ reserved_for table segment bus hops = do
   _ ← holds (is_whole table) InvalidStructureLength
   _ ← holds (list_all is_range (reserved_in segment bus hops (structures_of table))) InvalidMemoryRange
   Ok (reserved_in segment bus hops (structures_of table))
+
+-- ---- faults
+
+-- why a structure is at fault: its scopes end before it does, or it is an RMRR, type 1, that is no range
+abbrev pub structure_fault : List ℕ → Option IommuError
+structure_fault e =
+    if not (has_whole_scopes e) then Some InvalidStructureLength
+    else if (kind_of e == 1) && not (is_range (rmrr_at e)) then Some InvalidMemoryRange
+    else None
+
+-- ---- walks
 
 -- the ranges that are still to come in a walk
 abbrev pub reserved_left : ReservedIter → List Rmrr

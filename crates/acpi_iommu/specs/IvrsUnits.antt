@@ -1,9 +1,10 @@
 -- Which unit of an IVRS remaps a device, and which memory has its own rules for it (section 5.2).
-use Rattle.std.specs.Prelude.{ℕ, ◌==◌, ◌&&◌, ◌||◌, Bool, not, nat_le, find, filter, List, map, slice_get, Option, None, Result, Ok, if◌then◌else◌, filter_map, option_map}
+use Rattle.std.specs.Prelude.{ℕ, ◌==◌, ◌&&◌, ◌||◌, Bool, not, nat_le, find, filter, List, map, slice_get, Option, None, Some, Result, Ok, if◌then◌else◌, filter_map, option_map}
 use Rattle.acpi_base.specs.FromStd.{list_all, list_any}
 use Rattle.acpi_base.specs.Words.{range_fits, ◌>>=◌, holds, is_left}
-use Rattle.acpi_iommu.specs.Ivrs.{block_kind, blocks_cut, blocks_left, blocks_of, ivhd_at, ivmd_at}
+use Rattle.acpi_iommu.specs.Ivrs.{block_kind, blocks_cut, blocks_left, blocks_of, is_ivmd, ivhd_at, ivmd_at}
 use Rattle.acpi_iommu.specs.IvrsEntries.{covers, entries_cut, entries_of, settings_of, source_for}
+use Rattle.acpi_iommu.specs.Pieces.{first_sure}
 use Rattle.acpi_iommu.specs.declared.error.IommuError.{IommuError}
 use Rattle.acpi_iommu.specs.declared.error.IommuError.TheVariants.{InvalidMemoryRange, InvalidStructureLength}
 use Rattle.acpi_iommu.specs.declared.ivrs.block.Ivmd.{Ivmd}
@@ -48,10 +49,14 @@ blocks_of_best_type table = do
 abbrev pub unit_at : ℕ → List ℕ → List ℕ → DeviceUnit
 unit_at id b e = record { unit = ivhd_at b; settings = settings_of e; source = source_for id e }
 
--- if a block is of this type and segment, what its first entry that covers the device says
+-- a block of this type and segment
+abbrev pub is_ivhd_of : ℕ → ℕ → List ℕ → Bool
+is_ivhd_of kind segment b = is_of_kind kind b && ((ivhd_at b).segment == segment)
+
+-- if a block is such a one, what its first entry that covers the device says
 abbrev pub unit_in : ℕ → ℕ → ℕ → List ℕ → Option DeviceUnit
 unit_in kind segment id b =
-    if is_of_kind kind b && ((ivhd_at b).segment == segment)
+    if is_ivhd_of kind segment b
     then option_map (unit_at id b) (find (covers id) (entries_of b)) else None
 
 -- what the first block of the best type that has one says
@@ -59,6 +64,12 @@ abbrev pub block_for : List ℕ → ℕ → ℕ → Result (Option DeviceUnit) I
 block_for table segment id = do
   _ ← holds (is_whole table) InvalidStructureLength
   Ok (slice_get (filter_map (unit_in (best_kind table) segment id) (blocks_of table)) 0)
+
+-- the same, unless an entry is malformed in a block of that type and segment before it
+abbrev pub find_block : List ℕ → ℕ → ℕ → Result (Option DeviceUnit) IommuError
+find_block table segment id =
+    first_sure (unit_in (best_kind table) segment id)
+    (λ b. not (is_ivhd_of (best_kind table) segment b) || has_whole_entries b) (blocks_of table) (blocks_cut table).1
 
 -- ---- memory
 
@@ -83,6 +94,15 @@ memory_for table id = do
   _ ← holds (is_whole table) InvalidStructureLength
   _ ← holds (list_all ends_below (memory_in id (blocks_of table))) InvalidMemoryRange
   Ok (memory_in id (blocks_of table))
+
+-- ---- faults
+
+-- why a block is at fault: its entries end before it does, or it is an IVMD whose memory doesn't end below 2^64
+abbrev pub block_fault : List ℕ → Option IommuError
+block_fault b =
+    if not (has_whole_entries b) then Some InvalidStructureLength
+    else if is_ivmd (block_kind b) && not (ends_below (ivmd_at b)) then Some InvalidMemoryRange
+    else None
 
 -- ---- walks
 

@@ -1,8 +1,10 @@
 -- How bytes are cut into pieces, each of which says by its first bytes how long it is, and what a walk along them
 -- shows.
-use Rattle.std.specs.Prelude.{◌≡◌, ◌↔◌, ℕ, zero, suc, ◌≤◌, ◌&&◌, ◌++◌, Bool, nat_le, List, [], length, take, drop, Option, Some, None, option_and_then, if◌then◌else◌}
+use Rattle.std.specs.Prelude.{◌≡◌, ◌↔◌, ℕ, zero, suc, ◌≤◌, ◌&&◌, ◌++◌, Bool, nat_le, List, [], ◌∷◌, length, take, drop, Option, Some, None, Result, Ok, Err, option_and_then, if◌then◌else◌}
 use Rattle.acpi_base.specs.FromStd.{concat, AllByRecursion}
 use Rattle.acpi_base.specs.Words.{with_entry, is_left}
+use Rattle.acpi_iommu.specs.declared.error.IommuError.{IommuError}
+use Rattle.acpi_iommu.specs.declared.error.IommuError.TheVariants.{InvalidStructureLength}
 use Rattle.acpi_iommu.specs.declared.pieces.PieceIter.{PieceIter}
 
 -- ---- one piece
@@ -51,6 +53,19 @@ abbrev pub OneCut : (List ℕ → Option ℕ) → Type 0
 OneCut size = (bytes : List ℕ) (ps : List (List ℕ)) (rest : List ℕ)
     → IsCut size bytes ps rest ↔ (pieces size bytes ≡ (ps, rest))
 
+-- ---- a lookup
+
+-- what the first piece says that says something; a piece before it that may say more than it does, and without one a
+-- rest in which no piece begins, is an error
+abbrev pub first_sure : {A : Type 0} → (List ℕ → Option A) → (List ℕ → Bool) → List (List ℕ) → List ℕ
+    → Result (Option A) IommuError
+first_sure says is_sure [] [] = Ok None
+first_sure says is_sure [] (b ∷ rest) = Err InvalidStructureLength
+first_sure says is_sure (p ∷ ps) rest = elim (says p) [
+  | Some a ↦ Ok (Some a)
+  | None ↦ if is_sure p then first_sure says is_sure ps rest else Err InvalidStructureLength
+]
+
 -- ---- a walk
 
 -- the pieces that are still to come
@@ -60,6 +75,10 @@ left size s = (pieces size s.rest.now).0
 -- the rest after them
 abbrev pub rest_after : {K : Type 0} → (List ℕ → Option ℕ) → PieceIter K → List ℕ
 rest_after size s = (pieces size s.rest.now).1
+
+-- the bytes that it hasn't given
+abbrev pub bytes_left : {K : Type 0} → PieceIter K → List ℕ
+bytes_left s = s.rest.now
 
 -- whether it has returned that no piece is left
 abbrev pub has_ended : {K : Type 0} → PieceIter K → Bool

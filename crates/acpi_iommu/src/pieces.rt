@@ -1,10 +1,12 @@
 //! Bytes that are pieces one after the other, each of which says by its first bytes how long it is: the structures and
 //! blocks of a table, the device scopes and entries of one.
-ghost use Rattle.std.specs.Prelude.{◌≡◌, ◌&&◌, IfSome, IfNone, [], false, not};
+ghost use Rattle.std.specs.Prelude.{◌≡◌, ◌&&◌, IfSome, IfNone, [], false, not, None, Ok, Err, if◌then◌else◌};
 ghost use Rattle.acpi_base.specs.FromStd.{list_all};
+ghost use Rattle.acpi_iommu.specs.Words.{InvalidStructureLength};
 ghost use Rattle.acpi_base.specs.Words.{with_entry, is_left};
-ghost use Rattle.acpi_iommu.specs.Pieces.{front, has_ended, is_malformed, left, pieces, rest_after, said};
+ghost use Rattle.acpi_iommu.specs.Pieces.{bytes_left, front, has_ended, is_malformed, left, pieces, rest_after, said};
 
+use crate::error::{IommuError, IommuResult};
 use std::marker::PhantomData;
 
 /// A kind of pieces.
@@ -93,6 +95,24 @@ impl<'a, K: PieceKind<'a>> PieceIter<'a, K> {
         match self.rest {
             [] => false,
             _ => self.ended,
+        }
+    }
+
+    /// The bytes that it hasn't given. Once `next` has returned `None` they are those in which no piece begins.
+    pub fn rest(&self) -> &'a [u8]
+        ensures { result.now ≡ bytes_left self.now }
+    {
+        self.rest
+    }
+
+    /// That nothing was found, once `next` has returned `None`: an error if bytes are left in which no piece begins.
+    pub(crate) fn none_found<T>(&self) -> IommuResult<Option<T>>
+        ensures { result ≡ (if is_malformed self.now then Err InvalidStructureLength else Ok None) }
+    {
+        if self.ended_malformed() {
+            Err(IommuError::InvalidStructureLength)
+        } else {
+            Ok(None)
         }
     }
 

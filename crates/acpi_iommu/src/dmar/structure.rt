@@ -1,12 +1,13 @@
 //! One structure of a DMAR (section 8.2).
-ghost use Rattle.std.specs.Prelude.{◌≡◌, false, Some, None, if◌then◌else◌};
+ghost use Rattle.std.specs.Prelude.{◌≡◌, length, false, Some, None, if◌then◌else◌};
 ghost use Rattle.acpi_base.specs.Words.{IsTextOf};
-ghost use Rattle.acpi_iommu.specs.Words.{drhd_at, fields_of, kind_of, least_of, name_of, rmrr_at, scope_bytes, structure_bytes, names_device, scopes_left, scopes_of, scopes_rest, is_reserved_for, is_unit_of, source_in, has_ended};
+ghost use Rattle.acpi_iommu.specs.Words.{drhd_at, fields_of, includes_pci_all, kind_of, least_of, name_of, rmrr_at, scope_bytes, structure_bytes, names_device, scopes_left, scopes_of, scopes_rest, is_reserved_for, is_unit_of, source_in, has_ended, has_whole_scopes, structure_fault};
 
 use super::Dmar;
 use super::fields::{DmarFields, Drhd, Rmrr, fields_of, kind_of, segment_of};
 use super::scope::{DeviceScopeIter, Hop};
 use super::units::UnitSource;
+use crate::error::IommuError;
 use crate::pieces::{PieceIter, PieceKind, said};
 use crate::texts::up_to_zero;
 use acpi_base::PhysicalRecord;
@@ -26,6 +27,13 @@ impl<'a> DmarStructure<'a> {
         ensures { result ≡ kind_of (structure_bytes self.now) }
     {
         kind_of(self.bytes)
+    }
+
+    /// How many bytes the structure has.
+    pub fn length(&self) -> usize
+        ensures { result ≡ length (structure_bytes self.now) }
+    {
+        self.bytes.len()
     }
 
     /// What the fixed bytes say, or `None` if the type isn't one of 0 to 6.
@@ -67,6 +75,41 @@ impl<'a> DmarStructure<'a> {
             }
         }
         false
+    }
+
+    /// Whether this unit remaps the device that these hops reach from a bus: it names it, or has INCLUDE_PCI_ALL, if no
+    /// unit names it.
+    pub(super) fn remaps(&self, unit: &Drhd, bus: u8, hops: &[Hop], is_named: bool) -> bool
+        ensures { result ≡ (if is_named then names_device bus hops.now (structure_bytes self.now)
+            else includes_pci_all unit.now) }
+    {
+        if is_named {
+            self.names(bus, hops)
+        } else {
+            unit.includes_pci_all()
+        }
+    }
+
+    /// Whether its scopes take all bytes that are theirs.
+    #[tactic(auto, using(crate::proofs::Cuts::all_pass))]
+    pub(super) fn has_whole_scopes(&self) -> bool
+        ensures { result ≡ has_whole_scopes (structure_bytes self.now) }
+    {
+        self.scopes().is_whole()
+    }
+
+    /// Why the structure is at fault: `InvalidStructureLength` if its scopes end before it does, else
+    /// `InvalidMemoryRange` if the last byte of an RMRR lies before its first, or `None`.
+    pub fn fault(&self) -> Option<IommuError>
+        ensures { result ≡ structure_fault (structure_bytes self.now) }
+    {
+        if !self.has_whole_scopes() {
+            return Some(IommuError::InvalidStructureLength);
+        }
+        if self.kind() == 1 && !Rmrr::read(self.bytes).is_range() {
+            return Some(IommuError::InvalidMemoryRange);
+        }
+        None
     }
 
     /// The unit, if it is one of a segment.
@@ -165,9 +208,8 @@ impl<'a> PieceKind<'a> for Structures {
         DmarStructure { bytes }
     }
 
-    #[tactic(auto, using(crate::proofs::Cuts::all_pass))]
     fn is_whole(structure: &DmarStructure<'a>) -> bool {
-        structure.scopes().is_whole()
+        structure.has_whole_scopes()
     }
 }
 

@@ -1,7 +1,7 @@
 //! Which unit remaps a device (section 8.3), and which memory is reserved for it (section 8.4).
 ghost use Rattle.std.specs.Prelude.{◌≡◌, false};
 ghost use Rattle.acpi_base.specs.Words.{Gives};
-ghost use Rattle.acpi_iommu.specs.Words.{cut_of, rest_left, structures_left, structures_of, dmar_bytes, is_whole, reserved_for, reserved_left, source_of, unit_for, unit_of_hpet, unit_of_io_apic, has_ended};
+ghost use Rattle.acpi_iommu.specs.Words.{cut_of, rest_left, structures_left, structures_of, dmar_bytes, find_source, find_unit, is_named, is_whole, reserved_for, reserved_in, reserved_left, source_of, unit_for, unit_of_hpet, unit_of_io_apic, has_ended};
 
 use super::fields::Drhd;
 use super::reserved::ReservedIter;
@@ -63,19 +63,42 @@ impl<'a> DmarUnits<'a> {
         if !self.is_whole() {
             return Err(IommuError::InvalidStructureLength);
         }
-        let mut of_others = None;
+        self.find_unit(segment, bus, hops)
+    }
+
+    /// The same unit, also of a table that is malformed elsewhere.
+    ///
+    /// Fails with `InvalidStructureLength` if a scope is malformed in a DRHD of the segment before the unit; if there
+    /// is no unit, in any of them, or if the structures end before the table does.
+    pub fn find_unit(&self, segment: u16, bus: u8, hops: &[Hop]) -> IommuResult<Option<Drhd>>
+        ensures { result ≡ find_unit (dmar_bytes self.now) segment bus hops.now }
+    {
+        let is_named = self.is_named(segment, bus, hops);
         let mut structures = self.structures();
         while let Some(structure) = structures.next() {
             if let Some(unit) = structure.unit_of(segment) {
-                if structure.names(bus, hops) {
+                if structure.remaps(&unit, bus, hops, is_named) {
                     return Ok(Some(unit));
                 }
-                if of_others.is_none() && unit.includes_pci_all() {
-                    of_others = Some(unit);
+                if !structure.has_whole_scopes() {
+                    return Err(IommuError::InvalidStructureLength);
                 }
             }
         }
-        Ok(of_others)
+        structures.none_found()
+    }
+
+    /// Whether a unit of a segment names a device.
+    fn is_named(&self, segment: u16, bus: u8, hops: &[Hop]) -> bool
+        ensures { result ≡ is_named (dmar_bytes self.now) segment bus hops.now }
+    {
+        let mut structures = self.structures();
+        while let Some(structure) = structures.next() {
+            if structure.unit_of(segment).is_some() && structure.names(bus, hops) {
+                return true;
+            }
+        }
+        false
     }
 
     /// The unit that remaps the interrupts of the I/O APIC with this id (section 8.3.1): the first DRHD with a scope of
@@ -105,13 +128,28 @@ impl<'a> DmarUnits<'a> {
         if !self.is_whole() {
             return Err(IommuError::InvalidStructureLength);
         }
+        self.find_source(kind, id)
+    }
+
+    /// What the first DRHD says that has a scope of a type with an Enumeration ID (section 8.3.1): of an I/O APIC, type
+    /// 3, or an HPET, type 4. It is what `unit_of_io_apic` and `unit_of_hpet` return, also of a table that is
+    /// malformed elsewhere.
+    ///
+    /// Fails with `InvalidStructureLength` if a scope is malformed in a DRHD before it; if there is none, in any DRHD,
+    /// or if the structures end before the table does.
+    pub fn find_source(&self, kind: u8, id: u8) -> IommuResult<Option<UnitSource>>
+        ensures { result ≡ find_source kind (dmar_bytes self.now) id }
+    {
         let mut structures = self.structures();
         while let Some(structure) = structures.next() {
             if let Some(source) = structure.source(kind, id) {
                 return Ok(Some(source));
             }
+            if structure.kind() == 0 && !structure.has_whole_scopes() {
+                return Err(IommuError::InvalidStructureLength);
+            }
         }
-        Ok(None)
+        structures.none_found()
     }
 
     /// The ranges of memory that are reserved for a device (section 8.4), which is named as for `unit_for`: each RMRR
@@ -130,7 +168,7 @@ impl<'a> DmarUnits<'a> {
         if !self.is_whole() {
             return Err(IommuError::InvalidStructureLength);
         }
-        let ranges = ReservedIter::over(self.structures(), segment, bus, hops);
+        let ranges = self.each_reserved(segment, bus, hops);
         let mut rest = ranges;
         while let Some(range) = rest.next() {
             if !range.is_range() {
@@ -138,5 +176,13 @@ impl<'a> DmarUnits<'a> {
             }
         }
         Ok(ranges)
+    }
+
+    /// The same ranges as they stand, also of a table that is malformed: those before the place where no structure
+    /// begins, each by its scopes before the place where none begins.
+    pub fn each_reserved<'b>(&self, segment: u16, bus: u8, hops: &'b [Hop]) -> ReservedIter<'a, 'b>
+        ensures { reserved_left result ≡ reserved_in segment bus hops.now (structures_of (dmar_bytes self.now)) }
+    {
+        ReservedIter::over(self.structures(), segment, bus, hops)
     }
 }

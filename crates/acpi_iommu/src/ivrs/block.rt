@@ -1,11 +1,12 @@
 //! The blocks of an IVRS, one at a time (section 5.2).
-ghost use Rattle.std.specs.Prelude.{◌≡◌, Some, None, false, if◌then◌else◌};
-ghost use Rattle.acpi_iommu.specs.Words.{block_bytes, block_fields, block_kind, is_ivhd, is_ivmd, ivhd_at, ivmd_at, is_memory_for, unit_in, has_ended};
+ghost use Rattle.std.specs.Prelude.{◌≡◌, length, Some, None, false, if◌then◌else◌};
+ghost use Rattle.acpi_iommu.specs.Words.{block_bytes, block_fault, block_fields, block_kind, is_ivhd, is_ivmd, ivhd_at, ivmd_at, is_memory_for, unit_in, has_ended, has_whole_entries, is_ivhd_of};
 ghost use Rattle.acpi_iommu.specs.Ivrs.{least_of};
 
 use super::Ivrs;
 use super::blocks::DeviceUnit;
 use super::entry::DeviceEntryIter;
+use crate::error::IommuError;
 use crate::pieces::{PieceIter, PieceKind, said};
 use acpi_base::bytes::{field, skip};
 use acpi_base::{AddressRange, PhysicalRecord};
@@ -161,6 +162,13 @@ impl<'a> IvrsBlock<'a> {
         kind_of(self.bytes)
     }
 
+    /// How many bytes the block has.
+    pub fn length(&self) -> usize
+        ensures { result ≡ length (block_bytes self.now) }
+    {
+        self.bytes.len()
+    }
+
     /// What the fixed bytes say, or `None` if the type is neither one of an IVHD nor one of an IVMD.
     pub fn fields(&self) -> Option<IvrsFields>
         ensures { result ≡ block_fields (block_bytes self.now) }
@@ -187,6 +195,36 @@ impl<'a> IvrsBlock<'a> {
         } else {
             &[]
         })
+    }
+
+    /// Whether its entries take all bytes that are theirs.
+    #[tactic(auto, using(crate::proofs::Cuts::all_pass))]
+    pub(super) fn has_whole_entries(&self) -> bool
+        ensures { result ≡ has_whole_entries (block_bytes self.now) }
+    {
+        self.entries().is_whole()
+    }
+
+    /// Why the block is at fault: `InvalidStructureLength` if its entries end before it does, else
+    /// `InvalidMemoryRange` if start and length of an IVMD add up to more than 2^64 - 1, or `None`.
+    pub fn fault(&self) -> Option<IommuError>
+        ensures { result ≡ block_fault (block_bytes self.now) }
+    {
+        if !self.has_whole_entries() {
+            return Some(IommuError::InvalidStructureLength);
+        }
+        if is_ivmd(self.kind()) && !Ivmd::read(self.bytes).ends_below() {
+            return Some(IommuError::InvalidMemoryRange);
+        }
+        None
+    }
+
+    /// Whether this is a block of a type and a segment.
+    pub(super) fn is_of(&self, kind: u8, segment: u16) -> bool
+        ensures { result ≡ is_ivhd_of kind segment (block_bytes self.now) }
+    {
+        let unit = Ivhd::read(self.bytes);
+        unit.kind == kind && unit.segment == segment
     }
 
     /// What the first entry says that covers a device, if this is a block of a type and a segment that has one.
@@ -252,9 +290,8 @@ impl<'a> PieceKind<'a> for Blocks {
         IvrsBlock { bytes }
     }
 
-    #[tactic(auto, using(crate::proofs::Cuts::all_pass))]
     fn is_whole(block: &IvrsBlock<'a>) -> bool {
-        block.entries().is_whole()
+        block.has_whole_entries()
     }
 }
 

@@ -1,7 +1,7 @@
 //! Which unit remaps a device, and which memory has its own rules for it (section 5.2).
 ghost use Rattle.std.specs.Prelude.{◌≡◌, false};
 ghost use Rattle.acpi_base.specs.Words.{Gives};
-ghost use Rattle.acpi_iommu.specs.Words.{blocks_cut, blocks_left, blocks_of, best_kind, best_left, block_for, blocks_of_best_type, is_of_kind, ivrs_bytes, memory_for, memory_left, has_ended};
+ghost use Rattle.acpi_iommu.specs.Words.{blocks_cut, blocks_left, blocks_of, best_kind, best_left, block_for, blocks_of_best_type, find_block, is_of_kind, ivrs_bytes, memory_for, memory_in, memory_left, has_ended};
 ghost use Rattle.acpi_iommu.specs.Ivrs.{rest_left};
 ghost use Rattle.acpi_base.specs.FromStd.{list_any};
 ghost use Rattle.acpi_iommu.specs.IvrsUnits.{is_whole};
@@ -155,14 +155,27 @@ impl<'a> IvrsBlocks<'a> {
         if !self.is_whole() {
             return Err(IommuError::InvalidStructureLength);
         }
+        self.find_block(segment, device_id)
+    }
+
+    /// The same unit, also of a table that is malformed elsewhere.
+    ///
+    /// Fails with `InvalidStructureLength` if a device entry is malformed in a block of that type and segment before
+    /// it; if there is none, in any of them, or if the blocks end before the table does.
+    pub fn find_block(&self, segment: u16, device_id: u16) -> IommuResult<Option<DeviceUnit>>
+        ensures { result ≡ find_block (ivrs_bytes self.now) segment device_id }
+    {
         let kind = self.best_kind();
         let mut blocks = self.blocks();
         while let Some(block) = blocks.next() {
             if let Some(unit) = block.unit(kind, segment, device_id) {
                 return Ok(Some(unit));
             }
+            if block.is_of(kind, segment) && !block.has_whole_entries() {
+                return Err(IommuError::InvalidStructureLength);
+            }
         }
-        Ok(None)
+        blocks.none_found()
     }
 
     /// The memory that has its own rules for a device (section 5.2), by its id: each IVMD for all devices, for this
@@ -176,10 +189,7 @@ impl<'a> IvrsBlocks<'a> {
         if !self.is_whole() {
             return Err(IommuError::InvalidStructureLength);
         }
-        let memory = MemoryIter {
-            blocks: self.blocks(),
-            device_id,
-        };
+        let memory = self.each_memory(device_id);
         let mut rest = memory;
         while let Some(range) = rest.next() {
             if !range.ends_below() {
@@ -187,5 +197,16 @@ impl<'a> IvrsBlocks<'a> {
             }
         }
         Ok(memory)
+    }
+
+    /// The same memory as it stands, also of a table that is malformed: the IVMDs before the place where no block
+    /// begins.
+    pub fn each_memory(&self, device_id: u16) -> MemoryIter<'a>
+        ensures { memory_left result ≡ memory_in device_id (blocks_of (ivrs_bytes self.now)) }
+    {
+        MemoryIter {
+            blocks: self.blocks(),
+            device_id,
+        }
     }
 }

@@ -26,6 +26,13 @@ pub struct DeviceEntry<'a> {
 }
 
 impl<'a> DeviceEntry<'a> {
+    /// The bytes of the entry, with those of the end of a range.
+    pub fn bytes(&self) -> &'a [u8]
+        ensures { result.now ≡ bytes_of_entry self.now }
+    {
+        self.bytes
+    }
+
     /// Type: 1 all devices, 2 one device, 3 a range of devices, 0x42 and 0x43 one and a range with an alias, 0x46 and
     /// 0x47 one and a range with extended settings, 0x48 a special device, 0xF0 a device by its ACPI HID. Others are
     /// kept.
