@@ -2,6 +2,7 @@ pub mod ApicLists
 pub mod Ascending
 pub mod Clipping
 pub mod FaultLists
+pub mod IommuLists
 pub mod IsaList
 pub mod StrictLists
 pub mod Unlent

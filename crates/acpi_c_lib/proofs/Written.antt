@@ -1,21 +1,16 @@
 -- Lists that are written, in one part or in two, and how many items they have at most.
-use Rattle.std.proofs.Common.{◌≡◌, ◌∙◌, ◌+◌, ℕ, List, [], ◌∷◌, ◌++◌, length, length-append, slice_set, ap, sym, arith, drop, zero, suc, map, Some, None, true, refl, ◌<◌, ◌≤◌, Bool, false, Option, length-drop, inl, inr, take, ◌-◌, ◌/◌, ◌==◌, min, nat_lt, if◌then◌else◌, filter, Ok, filter_map}
-use Rattle.acpi_base.proofs.FromStd.{append-nil, length-map, length-filter, count_by-le-length}
+use Rattle.std.proofs.Common.{◌≡◌, ◌∙◌, ◌+◌, ℕ, List, [], ◌∷◌, ◌++◌, length, length-append, slice_set, ap, sym, arith, drop, zero, suc, map, Some, None, true, refl, ◌<◌, ◌≤◌, Bool, false, Option, length-drop, inl, inr, ◌-◌, ◌/◌, ◌==◌, min, nat_lt, if◌then◌else◌, filter_map}
+use Rattle.acpi_base.proofs.FromStd.{append-nil, length-map, length-filter, count_by-le-lengthnat_tests}
 use Rattle.acpi_c_lib.specs.Words.{Writes, put_from, MadtItem, listed, plain_grammar, plain_layout, GtFrame, frame_record, frames_in, frames_of, frames_shown, watchdog_in, watchdogs_shown}
 use Rattle.std.proofs.Math.Nat.{div-le_self, min-le_right}
 use Rattle.acpi.proofs.First.{filter_map_few}
-use Rattle.acpi_base.specs.FromStd.{concat, AllByRecursion, cons_option, list_all}
-use Rattle.acpi_base.specs.Words.{processor_in, processors_of, IsBytes, field_of, IsEntry, after_one, cut, number_in, width_of, with_entry, ◌>>=◌, holds}
+use Rattle.acpi_base.specs.FromStd.{concat, AllByRecursion, cons_option}
+use Rattle.acpi_base.specs.Words.{processor_in, processors_of, IsBytes, field_of, IsEntry, after_one, cut, number_in, width_of, with_entry}
 use Rattle.acpi_base.proofs.Words.{cut_is_cut}
 use Rattle.acpi.specs.Types.{Width, One, Two, Four}
 use Rattle.acpi_arm.specs.Timers.{Timer, first_frames, frame_count, frames_there, kind_of, timer_bytes, timer_count, timer_there, timers_grammar, timers_layout, watchdog_at}
-use Rattle.acpi_iommu.specs.Words.{is_range, rmrr_at, structure_size, structures_of, is_reserved_for, reserved_for, block_size, blocks_of, ivmd_at, ends_below, is_memory_for, memory_for, front, pieces, pieces_within}
-use Rattle.acpi_c_lib.specs.Types.{Rmrr, Hop, InvalidStructureLength, Ivmd}
-use Rattle.acpi_iommu.specs.declared.error.IommuError.TheVariants.{InvalidMemoryRange}
 use Rattle.acpi_arm.specs.Timers as arm
 use Rattle.acpi_c_lib.specs.Records as records
-use Rattle.acpi_iommu.specs.DmarUnits as dmar
-use Rattle.acpi_iommu.specs.IvrsUnits as ivrs
 
 -- what is written from where the first part ends on is the second part
 pub put_parts : {X : Type 0} (old : List X) (n : ℕ) (xs ys : List X)
@@ -186,67 +181,3 @@ pub block_written : (old out : List records.GtFrame) (all : List records.GtFrame
 block_written old out all count block frames left more e h =
     let whole = rw e at h in
     sym (put_parts out count (map (frame_record block) frames) (frames_of more)) ∙ whole
-
--- ---- what tables of IOMMUs reserve
-
--- ---- pieces
-
--- what begins the bytes, and what follows it
-abbrev step : List ℕ → (ℕ → List (List ℕ) × List ℕ) → Option ℕ → List (List ℕ) × List ℕ
-step bytes next o = elim o [ Some n ↦ with_entry (take n bytes) (next n) | None ↦ ([], bytes) ]
-
-one_more : (most : ℕ) (bytes : List ℕ) (next : ℕ → List (List ℕ) × List ℕ) (o : Option ℕ)
-    → ((n : ℕ) → length (next n).0 ≤ most) → length (step bytes next o).0 ≤ suc most
-one_more most bytes next None h = omega arith
-one_more most bytes next (Some n) h = omega (arith, h n)
-
-within_few : (size : List ℕ → Option ℕ) (most : ℕ) (bytes : List ℕ) → length (pieces_within size most bytes).0 ≤ most
-within_few size zero bytes = omega arith
-within_few size (suc most) bytes =
-    one_more most bytes (λ n. pieces_within size most (drop n bytes)) (front size bytes)
-    (λ n. within_few size most (drop n bytes))
-
-pieces_few : (size : List ℕ → Option ℕ) (table : List ℕ) → length (pieces size (drop 48 table)).0 ≤ length table
-unfolding pieces
-pieces_few size table = omega (arith, within_few size (length (drop 48 table)) (drop 48 table), length-drop 48 table)
-
--- ---- ranges
-
--- what is listed after two checks that hold
-after_two : {A E : Type 0} (a b : Bool) (e f : E) (xs ys : List A)
-    → (holds a e >>= λ _. holds b f >>= λ _. Ok xs) ≡ Ok ys → xs ≡ ys
-after_two true true e f xs ys p = cc
-after_two true false e f xs ys p = absurd cc
-after_two false b e f xs ys p = absurd cc
-
-pub reserved_few : {R : Type 0} (f : Rmrr → R) (table : List ℕ) (segment bus : ℕ) (hops : List Hop) (rs : List Rmrr)
-    → reserved_for table segment bus hops ≡ Ok rs → length (map f rs) ≤ length table
-reserved_few f table segment bus hops rs said =
-    let some = filter (is_reserved_for segment bus hops) (structures_of table) in
-    let same = after_two (dmar.is_whole table) (list_all is_range (map rmrr_at some)) InvalidStructureLength
-    InvalidMemoryRange (map rmrr_at some) rs said in
-    omega (
-      arith,
-      length-map rs f,
-      ap length same,
-      length-map some rmrr_at,
-      length-filter (is_reserved_for segment bus hops) (structures_of table),
-      count_by-le-length (is_reserved_for segment bus hops) (structures_of table),
-      pieces_few structure_size table,
-    )
-
-pub memory_few : {R : Type 0} (f : Ivmd → R) (table : List ℕ) (id : ℕ) (ms : List Ivmd) → memory_for table id ≡ Ok ms
-    → length (map f ms) ≤ length table
-memory_few f table id ms said =
-    let some = filter (is_memory_for id) (blocks_of table) in
-    let same = after_two (ivrs.is_whole table) (list_all ends_below (map ivmd_at some)) InvalidStructureLength
-    InvalidMemoryRange (map ivmd_at some) ms said in
-    omega (
-      arith,
-      length-map ms f,
-      ap length same,
-      length-map some ivmd_at,
-      length-filter (is_memory_for id) (blocks_of table),
-      count_by-le-length (is_memory_for id) (blocks_of table),
-      pieces_few block_size table,
-    )

@@ -3,7 +3,7 @@ use Rattle.std.specs.Prelude.{ℕ, ◌+◌, List, Option, Some, None, map, Resul
 use Rattle.acpi_base.specs.FromStd.{is_some}
 use Rattle.acpi_base.specs.Words.{◌>>=◌, sdt_kind}
 use Rattle.acpi.specs.Types.{DMAR, IVRS}
-use Rattle.acpi_iommu.specs.Words.{dmar_at, includes_pci_all, register_bytes, reserved_for, unit_for, unit_of_hpet, unit_of_io_apic, block_for, memory_for}
+use Rattle.acpi_iommu.specs.Words.{blocks_of, dmar_at, find_block, find_source, find_unit, includes_pci_all, memory_in, register_bytes, reserved_in, structures_of}
 use Rattle.acpi_c_lib.specs.Types.{Dmar, DmarFlags, Drhd, Rmrr, Hop, UnitSource, IommuError, Ivhd, Ivmd, DeviceUnit, DmarReserved, DmarSource, DmarUnit, IvrsDevice, IvrsMemory, IvrsUnit, InvalidIommuMemoryRange, InvalidIommuStructureLength, NoIommu}
 use Rattle.acpi_iommu.specs.declared.error.IommuError.TheVariants as iommu
 use Rattle.acpi_c_lib.specs.Answers.{result_map}
@@ -15,11 +15,6 @@ use Rattle.acpi_c_lib.specs.Devices.{flag}
 abbrev pub iommu_refusal : IommuError → Refusal
 iommu_refusal iommu.InvalidStructureLength = InvalidIommuStructureLength
 iommu_refusal iommu.InvalidMemoryRange = InvalidIommuMemoryRange
-
--- what is shown of an answer, or its error
-abbrev pub shown : {A B : Type 0} → (A → B) → Result A IommuError → Result B Refusal
-shown show (Ok x) = Ok (show x)
-shown show (Err e) = Err (iommu_refusal e)
 
 -- what is shown of what is found, or that there is no unit
 abbrev pub found : {A B : Type 0} → (A → B) → Result (Option A) IommuError → Result B Refusal
@@ -48,6 +43,8 @@ unit_record d = record {
   register_bytes = register_bytes d;
   segment = d.segment;
   includes_pci_all = flag (includes_pci_all d);
+  flags = d.flags;
+  size = d.size;
 }
 
 abbrev pub source_record : UnitSource → DmarSource
@@ -61,25 +58,24 @@ source_record u = record {
 abbrev pub dmar_unit_below : Source → ℕ → ℕ → List Hop → Result DmarUnit Refusal
 dmar_unit_below s segment bus hops = do
   table ← dmar_in s
-  found unit_record (unit_for table segment bus hops)
+  found unit_record (find_unit table segment bus hops)
 
 abbrev pub dmar_io_apic_below : Source → ℕ → Result DmarSource Refusal
 dmar_io_apic_below s id = do
   table ← dmar_in s
-  found source_record (unit_of_io_apic table id)
+  found source_record (find_source 3 table id)
 
 abbrev pub dmar_hpet_below : Source → ℕ → Result DmarSource Refusal
 dmar_hpet_below s number = do
   table ← dmar_in s
-  found source_record (unit_of_hpet table number)
+  found source_record (find_source 4 table number)
 
 abbrev pub reserved_record : Rmrr → DmarReserved
 reserved_record r = record { base = r.base; limit = r.limit; segment = r.segment }
 
 abbrev pub dmar_reserved_below : Source → ℕ → ℕ → List Hop → Result (List DmarReserved) Refusal
-dmar_reserved_below s segment bus hops = do
-  table ← dmar_in s
-  shown (map reserved_record) (reserved_for table segment bus hops)
+dmar_reserved_below s segment bus hops =
+    result_map (λ table. map reserved_record (reserved_in segment bus hops (structures_of table))) (dmar_in s)
 
 -- ---- the IVRS (AMD I/O Virtualization Technology (IOMMU) Specification 3.08, section 5.2)
 
@@ -111,7 +107,7 @@ device_record d = record {
 abbrev pub ivrs_unit_below : Source → ℕ → ℕ → Result IvrsDevice Refusal
 ivrs_unit_below s segment id = do
   table ← ivrs_in s
-  found device_record (block_for table segment id)
+  found device_record (find_block table segment id)
 
 abbrev pub memory_record : Ivmd → IvrsMemory
 memory_record m = record {
@@ -124,6 +120,4 @@ memory_record m = record {
 }
 
 abbrev pub ivrs_memory_below : Source → ℕ → Result (List IvrsMemory) Refusal
-ivrs_memory_below s id = do
-  table ← ivrs_in s
-  shown (map memory_record) (memory_for table id)
+ivrs_memory_below s id = result_map (λ table. map memory_record (memory_in id (blocks_of table))) (ivrs_in s)

@@ -16,6 +16,8 @@ pub mod Fixed
 pub mod GtdtFaults
 pub mod Held
 pub mod Iommu
+pub mod IommuFaults
+pub mod IommuLists
 pub mod IsaList
 pub mod Listed
 pub mod Located

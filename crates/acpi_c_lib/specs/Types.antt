@@ -24,9 +24,12 @@ pub use Rattle.acpi_c_lib.specs.declared.fixed_records.FixedHardware.{FixedHardw
 pub use Rattle.acpi_c_lib.specs.declared.interrupt_records.InterruptModel.{InterruptModel}
 pub use Rattle.acpi_c_lib.specs.declared.iommu_records.DmarFlags.{DmarFlags}
 pub use Rattle.acpi_c_lib.specs.declared.iommu_records.DmarReserved.{DmarReserved}
+pub use Rattle.acpi_c_lib.specs.declared.iommu_records.DmarScope.{DmarScope}
 pub use Rattle.acpi_c_lib.specs.declared.iommu_records.DmarSource.{DmarSource}
 pub use Rattle.acpi_c_lib.specs.declared.iommu_records.DmarUnit.{DmarUnit}
 pub use Rattle.acpi_c_lib.specs.declared.iommu_records.IvrsDevice.{IvrsDevice}
+pub use Rattle.acpi_c_lib.specs.declared.iommu_records.IommuFault.{IommuFault}
+pub use Rattle.acpi_c_lib.specs.declared.iommu_records.IvrsEntry.{IvrsEntry}
 pub use Rattle.acpi_c_lib.specs.declared.iommu_records.IvrsMemory.{IvrsMemory}
 pub use Rattle.acpi_c_lib.specs.declared.iommu_records.IvrsUnit.{IvrsUnit}
 pub use Rattle.acpi_c_lib.specs.declared.numa_records.Localities.{Localities}
@@ -57,6 +60,7 @@ pub use Rattle.acpi_iommu.specs.declared.error.IommuError.TheVariants.{InvalidSt
 pub use Rattle.acpi_iommu.specs.declared.ivrs.block.Ivhd.{Ivhd}
 pub use Rattle.acpi_iommu.specs.declared.ivrs.block.Ivmd.{Ivmd}
 pub use Rattle.acpi_iommu.specs.declared.ivrs.blocks.DeviceUnit.{DeviceUnit}
+pub use Rattle.acpi_iommu.specs.declared.ivrs.entry.SpecialDevice.{SpecialDevice}
 pub use Rattle.acpi_numa.specs.declared.srat.affinities.MemoryRange.{MemoryRange}
 pub use Rattle.acpi_sleep.specs.declared.error.PlanError.{PlanError}
 pub use Rattle.acpi_sleep.specs.declared.error.SleepError.{SleepError}

@@ -1,8 +1,8 @@
 //! The units that remap what devices ask of memory (IOMMUs), by the DMAR (Intel Virtualization Technology for Directed
 //! I/O 4.0, chapter 8) and by the IVRS (AMD I/O Virtualization Technology (IOMMU) Specification 3.08, section 5.2).
 ghost use Rattle.std.specs.Prelude.{◌≡◌, Some, map};
-ghost use Rattle.acpi_iommu.specs.Words.{reserved_left, memory_left};
-ghost use Rattle.acpi_c_lib.specs.Words.{Fills, block_record, dmar_flags_below, dmar_flags_record, dmar_hpet_below, dmar_io_apic_below, dmar_reserved_below, dmar_unit_below, iommu_refusal, ivrs_memory_below, ivrs_unit_below, memory_record, reserved_record, source_record, unit_record, lists_each};
+ghost use Rattle.acpi_iommu.specs.Words.{blocks_of, memory_in, memory_left, reserved_in, reserved_left, structures_of};
+ghost use Rattle.acpi_c_lib.specs.Words.{Fills, Writes, block_record, dmar_flags_below, dmar_flags_record, dmar_hpet_below, dmar_io_apic_below, dmar_reserved_below, dmar_unit_below, iommu_refusal, ivrs_memory_below, ivrs_unit_below, memory_record, reserved_record, source_record, unit_record, lists_each};
 
 use crate::iommu_records::{
     DmarFlags, DmarReserved, DmarSource, DmarUnit, Hop, IvrsDevice, IvrsMemory, IvrsUnit,
@@ -43,7 +43,9 @@ pub fn dmar_unit(
     let memory = Mapped::new(source.regions);
     let dmar = first::<Dmar>(&memory, source)?;
     let units = DmarUnits::over(dmar.bytes());
-    let unit = units.unit_for(segment, bus, hops)?.ok_or(Refusal::NoIommu)?;
+    let unit = units
+        .find_unit(segment, bus, hops)?
+        .ok_or(Refusal::NoIommu)?;
     Ok(unit_record(&unit))
 }
 
@@ -54,7 +56,7 @@ pub fn dmar_io_apic(source: &Source<'_>, id: u8) -> Result<DmarSource, Refusal>
     let memory = Mapped::new(source.regions);
     let dmar = first::<Dmar>(&memory, source)?;
     let units = DmarUnits::over(dmar.bytes());
-    let found = units.unit_of_io_apic(id)?.ok_or(Refusal::NoIommu)?;
+    let found = units.find_source(3, id)?.ok_or(Refusal::NoIommu)?;
     Ok(source_record(&found))
 }
 
@@ -65,7 +67,7 @@ pub fn dmar_hpet(source: &Source<'_>, number: u8) -> Result<DmarSource, Refusal>
     let memory = Mapped::new(source.regions);
     let dmar = first::<Dmar>(&memory, source)?;
     let units = DmarUnits::over(dmar.bytes());
-    let found = units.unit_of_hpet(number)?.ok_or(Refusal::NoIommu)?;
+    let found = units.find_source(4, number)?.ok_or(Refusal::NoIommu)?;
     Ok(source_record(&found))
 }
 
@@ -87,7 +89,7 @@ fn dmar_flags_record(dmar: &Dmar) -> DmarFlags
     }
 }
 
-fn unit_record(unit: &Drhd) -> DmarUnit
+pub(crate) fn unit_record(unit: &Drhd) -> DmarUnit
     ensures { result ≡ unit_record unit.now }
 {
     DmarUnit {
@@ -95,6 +97,8 @@ fn unit_record(unit: &Drhd) -> DmarUnit
         register_bytes: unit.register_bytes(),
         segment: unit.segment,
         includes_pci_all: unit.includes_pci_all() as u8,
+        flags: unit.flags,
+        size: unit.size,
     }
 }
 
@@ -125,8 +129,22 @@ pub fn dmar_reserved(
 {
     let memory = Mapped::new(source.regions);
     let dmar = first::<Dmar>(&memory, source)?;
-    let ranges = DmarUnits::over(dmar.bytes()).reserved_for(segment, bus, hops)?;
-    Ok(fill(ranges, &(), out))
+    Ok(fill_reserved(dmar.bytes(), segment, bus, hops, out))
+}
+
+/// Writes the memory that a DMAR reserves for a device.
+fn fill_reserved(
+    table: &[u8],
+    segment: u16,
+    bus: u8,
+    hops: &[Hop],
+    out: &mut [DmarReserved],
+) -> usize
+    ensures { Writes result out.old out.new
+        (map reserved_record (reserved_in segment bus hops.now (structures_of table.now))) }
+{
+    let ranges = DmarUnits::over(table).each_reserved(segment, bus, hops);
+    fill(ranges, &(), out)
 }
 
 impl Listing<(), DmarReserved> for ReservedIter<'_, '_> {
@@ -157,7 +175,7 @@ pub fn ivrs_unit(source: &Source<'_>, segment: u16, device_id: u16) -> Result<Iv
     let ivrs = first::<Ivrs>(&memory, source)?;
     let blocks = IvrsBlocks::over(ivrs.bytes());
     let found = blocks
-        .block_for(segment, device_id)?
+        .find_block(segment, device_id)?
         .ok_or(Refusal::NoIommu)?;
     Ok(IvrsDevice {
         unit: block_record(&found.unit),
@@ -166,7 +184,7 @@ pub fn ivrs_unit(source: &Source<'_>, segment: u16, device_id: u16) -> Result<Iv
     })
 }
 
-fn block_record(block: &Ivhd) -> IvrsUnit
+pub(crate) fn block_record(block: &Ivhd) -> IvrsUnit
     ensures { result ≡ block_record block.now }
 {
     IvrsUnit {
@@ -193,8 +211,14 @@ pub fn ivrs_memory(
 {
     let memory = Mapped::new(source.regions);
     let ivrs = first::<Ivrs>(&memory, source)?;
-    let ranges = IvrsBlocks::over(ivrs.bytes()).memory_for(device_id)?;
-    Ok(fill(ranges, &(), out))
+    Ok(fill_memory(ivrs.bytes(), device_id, out))
+}
+
+/// Writes the memory of an IVRS that has its own rules for a device.
+fn fill_memory(table: &[u8], device_id: u16, out: &mut [IvrsMemory]) -> usize
+    ensures { Writes result out.old out.new (map memory_record (memory_in device_id (blocks_of table.now))) }
+{
+    fill(IvrsBlocks::over(table).each_memory(device_id), &(), out)
 }
 
 impl Listing<(), IvrsMemory> for MemoryIter<'_> {

@@ -20,6 +20,20 @@ pub struct DmarUnit {
     pub register_bytes: u64,
     pub segment: u16,
     pub includes_pci_all: u8,
+    pub flags: u8,
+    pub size: u8,
+}
+
+/// A device scope of a unit of the DMAR (section 8.3.1).
+#[repr(C)]
+#[derive(Clone, Copy)]
+pub struct DmarScope {
+    pub path_length: usize,
+    pub scope_type: u8,
+    pub flags: u8,
+    pub enumeration_id: u8,
+    pub bus: u8,
+    pub path: [Hop; 16],
 }
 
 /// A unit of the DMAR, and how it knows a device that sends it interrupts (section 8.3.1).
@@ -76,4 +90,32 @@ pub struct IvrsMemory {
     pub auxiliary: u16,
     pub block_type: u8,
     pub flags: u8,
+}
+
+/// A device entry of a unit of the IVRS (section 5.2).
+#[repr(C)]
+#[derive(Clone, Copy)]
+pub struct IvrsEntry {
+    pub unique_id_length: usize,
+    pub extended_settings: u32,
+    pub first: u16,
+    pub last: u16,
+    pub source_id: u16,
+    pub entry_type: u8,
+    pub settings: u8,
+    pub handle: u8,
+    pub variety: u8,
+    pub hardware_id: [u8; 8],
+    pub compatible_id: [u8; 8],
+    pub unique_id_format: u8,
+    pub unique_id: [u8; 32],
+}
+
+/// A structure of a DMAR or a block of an IVRS at fault, or the bytes in which none begins.
+#[repr(C)]
+#[derive(Clone, Copy)]
+pub struct IommuFault {
+    pub address: u64,
+    pub status: u32,
+    pub entry_type: u16,
 }

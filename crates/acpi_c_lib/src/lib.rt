@@ -25,6 +25,8 @@ pub mod gtdt_faults;
 pub mod interrupt_records;
 pub mod interrupts;
 pub mod iommu;
+pub mod iommu_faults;
+pub mod iommu_lists;
 pub mod iommu_records;
 pub mod isa_list;
 pub mod laws;

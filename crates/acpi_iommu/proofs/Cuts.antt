@@ -153,6 +153,40 @@ one_cut size says bytes ps rest = (
       (is_cut size says (length bytes) bytes (omega arith) (front size bytes) refl),
 )
 
+-- the pieces and the rest are all bytes
+pub cut_whole : (size : List ℕ → Option ℕ) → SaysItself size → (bytes : List ℕ)
+    → length (concat (pieces size bytes).0) + length (pieces size bytes).1 ≡ length bytes
+cut_whole size says bytes =
+    let c = (one_cut size says bytes (pieces size bytes).0 (pieces size bytes).1).1 refl in
+    let all = ap length c.whole in
+    omega (arith, all, length-append (concat (pieces size bytes).0) (pieces size bytes).1)
+
+-- what is left where no piece begins is the rest
+pub stuck_rest : (size : List ℕ → Option ℕ) → SaysItself size → (bytes : List ℕ) → (pieces size bytes).0 ≡ []
+    → (pieces size bytes).1 ≡ bytes
+stuck_rest size says bytes none =
+    let c = (one_cut size says bytes (pieces size bytes).0 (pieces size bytes).1).1 refl in
+    sym (rw none at c.whole)
+
+-- no more pieces begin in bytes than there are of these
+abbrev step : List ℕ → (ℕ → List (List ℕ) × List ℕ) → Option ℕ → List (List ℕ) × List ℕ
+step bytes next o = elim o [ Some n ↦ with_entry (take n bytes) (next n) | None ↦ ([], bytes) ]
+
+one_at_most : (most : ℕ) (bytes : List ℕ) (next : ℕ → List (List ℕ) × List ℕ) (o : Option ℕ)
+    → ((n : ℕ) → length (next n).0 ≤ most) → length (step bytes next o).0 ≤ suc most
+one_at_most most bytes next None h = omega arith
+one_at_most most bytes next (Some n) h = omega (arith, h n)
+
+within_few : (size : List ℕ → Option ℕ) (most : ℕ) (bytes : List ℕ) → length (pieces_within size most bytes).0 ≤ most
+within_few size zero bytes = omega arith
+within_few size (suc most) bytes =
+    one_at_most most bytes (λ n. pieces_within size most (drop n bytes)) (front size bytes)
+    (λ n. within_few size most (drop n bytes))
+
+pub pieces_few : (size : List ℕ → Option ℕ) (bytes : List ℕ) → length (pieces size bytes).0 ≤ length bytes
+unfolding pieces
+pieces_few size bytes = within_few size (length bytes) bytes
+
 -- ---- fields in the front of bytes
 
 -- a field among the first n bytes is the same whatever comes after them

@@ -1,3 +1,3 @@
-mod Cuts
+pub mod Cuts
 mod Sure
 mod Units

@@ -1,5 +1,5 @@
 //! One structure of a DMAR (section 8.2).
-ghost use Rattle.std.specs.Prelude.{◌≡◌, length, false, Some, None, if◌then◌else◌};
+ghost use Rattle.std.specs.Prelude.{◌≡◌, ◌==◌, length, false, Some, None, if◌then◌else◌};
 ghost use Rattle.acpi_base.specs.Words.{IsTextOf};
 ghost use Rattle.acpi_iommu.specs.Words.{drhd_at, fields_of, includes_pci_all, kind_of, least_of, name_of, rmrr_at, scope_bytes, structure_bytes, names_device, scopes_left, scopes_of, scopes_rest, is_reserved_for, is_unit_of, source_in, has_ended, has_whole_scopes, structure_fault};
 
@@ -110,6 +110,14 @@ impl<'a> DmarStructure<'a> {
             return Some(IommuError::InvalidMemoryRange);
         }
         None
+    }
+
+    /// The unit, if this is a DRHD.
+    pub fn drhd(&self) -> Option<Drhd>
+        ensures { result ≡ (if kind_of (structure_bytes self.now) == 0
+            then Some (drhd_at (structure_bytes self.now)) else None) }
+    {
+        if self.kind() == 0 { Some(Drhd::read(self.bytes)) } else { None }
     }
 
     /// The unit, if it is one of a segment.

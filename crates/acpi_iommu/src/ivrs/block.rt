@@ -183,6 +183,18 @@ impl<'a> IvrsBlock<'a> {
         }
     }
 
+    /// The unit, if this is an IVHD.
+    pub fn ivhd(&self) -> Option<Ivhd>
+        ensures { result ≡ (if is_ivhd (block_kind (block_bytes self.now))
+            then Some (ivhd_at (block_bytes self.now)) else None) }
+    {
+        if is_ivhd(self.kind()) {
+            Some(Ivhd::read(self.bytes))
+        } else {
+            None
+        }
+    }
+
     /// The device entries of an IVHD, in order; other blocks have none.
     pub fn entries(&self) -> DeviceEntryIter<'a>
         ensures items { entries_left result ≡ entries_of (block_bytes self.now) }

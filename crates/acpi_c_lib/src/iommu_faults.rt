@@ -1,0 +1,120 @@
+//! The structures of a DMAR and the blocks of an IVRS at fault, and the bytes in which none begins.
+ghost use Rattle.std.specs.Prelude.{◌≡◌, ◌+◌, ◌^◌, ◌<◌, ◌≤◌, length, IfOk};
+ghost use Rattle.acpi_base.specs.Words.{bytes_of, start_of, Gives};
+ghost use Rattle.acpi_c_lib.specs.Words.{Fills, Writes, dmar_faults_below, dmar_faults_of, found_at, iommu_fault, ivrs_faults_below, ivrs_faults_of, mapped_memory, memory_in};
+
+use crate::iommu_records::IommuFault;
+use crate::lists::put;
+use crate::opening::open;
+use crate::records::Source;
+use crate::refusal::Refusal;
+use crate::regions::Mapped;
+use acpi::{AcpiTable, PhysicalMapping};
+use acpi_base::bytes::field;
+use acpi_iommu::{Dmar, DmarUnits, IommuError, Ivrs, IvrsBlocks};
+
+/// Lists the structures of the first valid DMAR at fault and, last, the bytes in which none begins.
+pub fn dmar_faults(source: &Source<'_>, out: &mut [IommuFault]) -> Result<usize, Refusal>
+    ensures { Fills result out.old out.new (dmar_faults_below source.now) }
+{
+    let memory = Mapped::new(source.regions);
+    let dmar = found::<Dmar>(&memory, source)?;
+    Ok(fill_dmar_faults(dmar.bytes(), dmar.physical_start(), out))
+}
+
+/// Lists the blocks of the first valid IVRS at fault and, last, the bytes in which none begins.
+pub fn ivrs_faults(source: &Source<'_>, out: &mut [IommuFault]) -> Result<usize, Refusal>
+    ensures { Fills result out.old out.new (ivrs_faults_below source.now) }
+{
+    let memory = Mapped::new(source.regions);
+    let ivrs = found::<Ivrs>(&memory, source)?;
+    Ok(fill_ivrs_faults(ivrs.bytes(), ivrs.physical_start(), out))
+}
+
+/// The first valid table of a type, as `first` finds it.
+#[tactic(auto, using(crate::proofs::Unlent::table_ends), unfolding(crate::specs::IommuFaults::found_at))]
+fn found<'h, 'k, T: AcpiTable>(
+    memory: &'h Result<Mapped<'k>, Refusal>,
+    source: &Source<'_>,
+) -> Result<PhysicalMapping<'h, Mapped<'k>, T>, Refusal>
+    requires memory { Gives (λ m. mapped_memory m) memory.now (memory_in source.now.regions.now) }
+    requires some { 0 < T.kind.least }
+    ensures found { Gives (λ t. (start_of t, bytes_of t)) result (found_at T.kind source.now) }
+    ensures ends { IfOk result (λ t. start_of t + length (bytes_of t) < 2 ^ 64) }
+{
+    let memory = match memory {
+        Ok(memory) => memory,
+        Err(refusal) => return Err(*refusal),
+    };
+    let tables = open(memory, source)?;
+    let table = tables.find_table::<T>()?;
+    Ok(table)
+}
+
+/// Writes the faults of a DMAR's bytes at an address.
+fn fill_dmar_faults(table: &[u8], address: u64, out: &mut [IommuFault]) -> usize
+    requires fixed { 48 ≤ length table.now }
+    requires ends { address + length table.now < 2 ^ 64 }
+    ensures { Writes result out.old out.new (dmar_faults_of (address, table.now)) }
+{
+    let mut structures = DmarUnits::over(table).structures();
+    let mut at = address + 48;
+    let mut count = 0;
+    while let Some(structure) = structures.next() {
+        if let Some(error) = structure.fault() {
+            put(out, count, fault(at, structure.kind(), error));
+            count += 1;
+        }
+        at += structure.length() as u64;
+    }
+    let rest = structures.rest();
+    if !rest.is_empty() {
+        let structure_type = field(rest, 0, 2) as u16; // Type
+        put(
+            out,
+            count,
+            fault(at, structure_type, IommuError::InvalidStructureLength),
+        );
+        count += 1;
+    }
+    count
+}
+
+/// Writes the faults of an IVRS' bytes at an address.
+fn fill_ivrs_faults(table: &[u8], address: u64, out: &mut [IommuFault]) -> usize
+    requires fixed { 48 ≤ length table.now }
+    requires ends { address + length table.now < 2 ^ 64 }
+    ensures { Writes result out.old out.new (ivrs_faults_of (address, table.now)) }
+{
+    let mut blocks = IvrsBlocks::over(table).blocks();
+    let mut at = address + 48;
+    let mut count = 0;
+    while let Some(block) = blocks.next() {
+        if let Some(error) = block.fault() {
+            put(out, count, fault(at, block.kind() as u16, error));
+            count += 1;
+        }
+        at += block.length() as u64;
+    }
+    let rest = blocks.rest();
+    if !rest.is_empty() {
+        let block_type = field(rest, 0, 1) as u16; // Type
+        put(
+            out,
+            count,
+            fault(at, block_type, IommuError::InvalidStructureLength),
+        );
+        count += 1;
+    }
+    count
+}
+
+fn fault(address: u64, entry_type: u16, error: IommuError) -> IommuFault
+    ensures { result ≡ iommu_fault address entry_type error }
+{
+    IommuFault {
+        address,
+        entry_type,
+        status: Refusal::from(error).code(),
+    }
+}

@@ -1,0 +1,266 @@
+//! The lists of the units that remap what devices ask of memory, each as it stands, and of what each names.
+ghost use Rattle.std.specs.Prelude.{◌≡◌, Some, map, filter_map, option_map, refl};
+ghost use Rattle.acpi_iommu.specs.Words.{block_bytes, blocks_left, bytes_of_entry, bytes_of_scope, entries_left, entries_of, hops_left, path_of, scopes_left, scopes_of, structure_bytes, structures_left};
+ghost use Rattle.acpi_c_lib.specs.Words.{Fills, Writes, dmar_scopes_below, dmar_units_below, dmar_units_in, drhd_in, drhd_shown, entry_shown, hid_part, ivhd_in, ivhd_shown, ivrs_entries_below, ivrs_units_below, ivrs_units_in, lists_by, path_shown, scope_record, special_or};
+
+use crate::iommu::{block_record, unit_record};
+use crate::iommu_records::{DmarScope, DmarUnit, Hop, IvrsEntry, IvrsUnit};
+use crate::lists::{Listing, fill};
+use crate::opening::first;
+use crate::records::Source;
+use crate::refusal::Refusal;
+use crate::regions::Mapped;
+use acpi_base::bytes::filled;
+use acpi_iommu::{
+    DeviceEntry, DeviceEntryIter, DeviceScope, DeviceScopeIter, Dmar, DmarStructure,
+    DmarStructureIter, DmarUnits, HopIter, Ivrs, IvrsBlock, IvrsBlockIter, IvrsBlocks,
+    SpecialDevice,
+};
+
+// ---- the DMAR
+
+/// Lists the units of the first valid DMAR (section 8.3).
+pub fn dmar_units(source: &Source<'_>, out: &mut [DmarUnit]) -> Result<usize, Refusal>
+    ensures { Fills result out.old out.new (dmar_units_below source.now) }
+{
+    let memory = Mapped::new(source.regions);
+    let dmar = first::<Dmar>(&memory, source)?;
+    Ok(fill_drhds(dmar.bytes(), out))
+}
+
+/// Writes the units of a DMAR.
+fn fill_drhds(table: &[u8], out: &mut [DmarUnit]) -> usize
+    ensures { Writes result out.old out.new (dmar_units_in table.now) }
+{
+    fill(DmarUnits::over(table).structures(), &(), out)
+}
+
+impl Listing<(), DmarUnit> for DmarStructureIter<'_> {
+    ghost record_of = { λ known x. drhd_shown (structure_bytes x) };
+
+    ghost left = { λ known s. filter_map drhd_shown (structures_left s) };
+
+    ghost gives_first = { λ known s item t given. lists_by structure_bytes drhd_shown (filter_map drhd_shown)
+        (λ u. structures_left u) refl (λ x xs. refl) s item t given.0 };
+
+    fn record(_known: &(), structure: DmarStructure<'_>) -> Option<DmarUnit>
+        ensures { result ≡ drhd_shown (structure_bytes structure.entry) }
+    {
+        Some(unit_record(&structure.drhd()?))
+    }
+}
+
+/// Lists the device scopes of a unit of the first valid DMAR, which has so many before it (section 8.3.1).
+pub fn dmar_scopes(
+    source: &Source<'_>,
+    index: usize,
+    out: &mut [DmarScope],
+) -> Result<usize, Refusal>
+    ensures { Fills result out.old out.new (dmar_scopes_below source.now index) }
+{
+    let memory = Mapped::new(source.regions);
+    let dmar = first::<Dmar>(&memory, source)?;
+    let unit = nth_drhd(dmar.bytes(), index).ok_or(Refusal::NoIommu)?;
+    Ok(fill_scopes(&unit, out))
+}
+
+/// The unit of a DMAR with so many before it.
+fn nth_drhd(table: &[u8], index: usize) -> Option<DmarStructure<'_>>
+    ensures { option_map (λ e. structure_bytes e) result ≡ drhd_in table.now index }
+{
+    let mut before = index;
+    let mut structures = DmarUnits::over(table).structures();
+    while let Some(structure) = structures.next() {
+        if structure.kind() == 0 {
+            if before == 0 {
+                return Some(structure);
+            }
+            before -= 1;
+        }
+    }
+    None
+}
+
+/// Writes the scopes of a structure.
+fn fill_scopes(structure: &DmarStructure<'_>, out: &mut [DmarScope]) -> usize
+    ensures { Writes result out.old out.new (map scope_record (scopes_of (structure_bytes structure.now))) }
+{
+    fill(structure.scopes(), &(), out)
+}
+
+impl Listing<(), DmarScope> for DeviceScopeIter<'_> {
+    ghost record_of = { λ known x. Some (scope_record (bytes_of_scope x)) };
+
+    ghost left = { λ known s. map scope_record (scopes_left s) };
+
+    ghost gives_first = { λ known s item t given. lists_by bytes_of_scope (λ x. Some (scope_record x))
+        (map scope_record) (λ u. scopes_left u) refl (λ x xs. refl) s item t given.0 };
+
+    fn record(_known: &(), scope: DeviceScope<'_>) -> Option<DmarScope>
+        ensures { result ≡ Some (scope_record (bytes_of_scope scope.entry)) }
+    {
+        let none = Hop {
+            device: 0,
+            function: 0,
+        };
+        let mut path = [none; 16];
+        let path_length = fill_path(&scope, &mut path);
+        Some(DmarScope {
+            path_length,
+            scope_type: scope.kind(),
+            flags: scope.flags(),
+            enumeration_id: scope.enumeration_id(),
+            bus: scope.start_bus(),
+            path,
+        })
+    }
+}
+
+/// Writes the hops of a scope's path.
+#[tactic(auto, using(crate::proofs::IommuLists::path_few))]
+fn fill_path(scope: &DeviceScope<'_>, out: &mut [Hop]) -> usize
+    ensures { Writes result out.old out.new (path_of (bytes_of_scope scope.now)) }
+{
+    fill(scope.hops(), &(), out)
+}
+
+impl Listing<(), Hop> for HopIter<'_> {
+    ghost record_of = { λ known x. Some x };
+
+    ghost left = { λ known s. hops_left s };
+
+    ghost gives_first = { λ known s item t given. lists_by (λ x. x) (λ x. Some x) (λ xs. xs) (λ u. hops_left u) refl
+        (λ x xs. refl) s item t given };
+
+    fn record(_known: &(), hop: Hop) -> Option<Hop>
+        ensures { result ≡ Some hop }
+    {
+        Some(hop)
+    }
+}
+
+// ---- the IVRS
+
+/// Lists the units of the first valid IVRS, of all types (section 5.2).
+pub fn ivrs_units(source: &Source<'_>, out: &mut [IvrsUnit]) -> Result<usize, Refusal>
+    ensures { Fills result out.old out.new (ivrs_units_below source.now) }
+{
+    let memory = Mapped::new(source.regions);
+    let ivrs = first::<Ivrs>(&memory, source)?;
+    Ok(fill_ivhds(ivrs.bytes(), out))
+}
+
+/// Writes the units of an IVRS.
+fn fill_ivhds(table: &[u8], out: &mut [IvrsUnit]) -> usize
+    ensures { Writes result out.old out.new (ivrs_units_in table.now) }
+{
+    fill(IvrsBlocks::over(table).blocks(), &(), out)
+}
+
+impl Listing<(), IvrsUnit> for IvrsBlockIter<'_> {
+    ghost record_of = { λ known x. ivhd_shown (block_bytes x) };
+
+    ghost left = { λ known s. filter_map ivhd_shown (blocks_left s) };
+
+    ghost gives_first = { λ known s item t given. lists_by block_bytes ivhd_shown (filter_map ivhd_shown)
+        (λ u. blocks_left u) refl (λ x xs. refl) s item t given.0 };
+
+    fn record(_known: &(), block: IvrsBlock<'_>) -> Option<IvrsUnit>
+        ensures { result ≡ ivhd_shown (block_bytes block.entry) }
+    {
+        Some(block_record(&block.ivhd()?))
+    }
+}
+
+/// Lists the device entries of a unit of the first valid IVRS, which has so many before it (section 5.2).
+pub fn ivrs_entries(
+    source: &Source<'_>,
+    index: usize,
+    out: &mut [IvrsEntry],
+) -> Result<usize, Refusal>
+    ensures { Fills result out.old out.new (ivrs_entries_below source.now index) }
+{
+    let memory = Mapped::new(source.regions);
+    let ivrs = first::<Ivrs>(&memory, source)?;
+    let unit = nth_ivhd(ivrs.bytes(), index).ok_or(Refusal::NoIommu)?;
+    Ok(fill_entries(&unit, out))
+}
+
+/// The unit of an IVRS with so many before it.
+fn nth_ivhd(table: &[u8], index: usize) -> Option<IvrsBlock<'_>>
+    ensures { option_map (λ b. block_bytes b) result ≡ ivhd_in table.now index }
+{
+    let mut before = index;
+    let mut blocks = IvrsBlocks::over(table).blocks();
+    while let Some(block) = blocks.next() {
+        if block.ivhd().is_some() {
+            if before == 0 {
+                return Some(block);
+            }
+            before -= 1;
+        }
+    }
+    None
+}
+
+/// Writes the device entries of a block.
+#[tactic(auto, using(crate::proofs::IommuLists::entries_few))]
+fn fill_entries(block: &IvrsBlock<'_>, out: &mut [IvrsEntry]) -> usize
+    ensures { Writes result out.old out.new (map entry_shown (entries_of (block_bytes block.now))) }
+{
+    fill(block.entries(), &(), out)
+}
+
+impl Listing<(), IvrsEntry> for DeviceEntryIter<'_> {
+    ghost record_of = { λ known x. Some (entry_shown (bytes_of_entry x)) };
+
+    ghost left = { λ known s. map entry_shown (entries_left s) };
+
+    ghost gives_first = { λ known s item t given. lists_by bytes_of_entry (λ x. Some (entry_shown x))
+        (map entry_shown) (λ u. entries_left u) refl (λ x xs. refl) s item t given.0 };
+
+    fn record(_known: &(), entry: DeviceEntry<'_>) -> Option<IvrsEntry>
+        ensures { result ≡ Some (entry_shown (bytes_of_entry entry.entry)) }
+    {
+        let special = special_or(&entry);
+        let unique_id = entry.unique_id();
+        Some(IvrsEntry {
+            unique_id_length: unique_id.len(),
+            extended_settings: entry.extended_settings().unwrap_or(0),
+            first: entry.first(),
+            last: entry.last(),
+            source_id: special.source,
+            entry_type: entry.kind(),
+            settings: entry.settings(),
+            handle: special.handle,
+            variety: special.variety,
+            hardware_id: hid_part(&entry, 4), // Hardware ID
+            compatible_id: hid_part(&entry, 12), // Compatible ID
+            unique_id_format: entry.unique_id_format().unwrap_or(0),
+            unique_id: filled(unique_id, 0),
+        })
+    }
+}
+
+/// A special device's fields, or of another entry zeros and the alias, if it has one.
+fn special_or(entry: &DeviceEntry<'_>) -> SpecialDevice
+    ensures { result ≡ special_or (bytes_of_entry entry.now) }
+{
+    let none = SpecialDevice {
+        handle: 0,
+        source: entry.alias().unwrap_or(0),
+        variety: 0,
+    };
+    entry.special().unwrap_or(none)
+}
+
+/// Eight bytes of an ACPI HID device, type 0xf0; zeros of others.
+fn hid_part(entry: &DeviceEntry<'_>, offset: usize) -> [u8; 8]
+    ensures { result ≡ hid_part (bytes_of_entry entry.now) offset }
+{
+    if entry.kind() == 0xf0 {
+        filled(entry.bytes(), offset)
+    } else {
+        [0; 8]
+    }
+}
