@@ -131,7 +131,7 @@ enum zacpi_refusal {
                                                 * device entry */
     ZACPI_IOMMU_INVALID_MEMORY_RANGE = 55, /* an RMRR's last byte is before its first, or an IVMD's
                                             * memory ends at 2^64 or above */
-    ZACPI_NO_IOMMU = 56,                   /* the table has no unit for the device */
+    ZACPI_NO_IOMMU = 56,                   /* the table has no such unit, or none for the device */
     /* The GTDT (section 5.2.24.1): Platform Timer Offset is below 96, a Length is above the bytes
      * left or below 20 (GT Block), 28 (watchdog) or 4 (others), or frames of a GT Block don't lie
      * between its byte 20 and its end. */
@@ -1039,6 +1039,13 @@ struct zacpi_dmar_unit { /* DMA Remapping Hardware Unit Definition (DRHD), secti
     uint64_t register_bytes;  /* 2^n pages of 4 KiB, with n in bits 0 to 3 of Size */
     uint16_t segment;
     uint8_t includes_pci_all; /* bit 0 of Flags */
+    uint8_t flags, size;
+};
+struct zacpi_dmar_scope {
+    size_t path_length; /* how many hops Path has; `path` has the first 16, and zeros after them */
+    uint8_t scope_type, flags, enumeration_id;
+    uint8_t bus;        /* Start Bus Number */
+    struct zacpi_hop path[16];
 };
 struct zacpi_dmar_source { /* how a unit knows a device that sends interrupts, section 8.3.1 */
     struct zacpi_dmar_unit unit;
@@ -1051,32 +1058,56 @@ struct zacpi_dmar_reserved { /* Reserved Memory Region Reporting (RMRR), section
     uint64_t limit; /* the last byte */
     uint16_t segment;
 };
+struct zacpi_iommu_fault {
+    uint64_t address;    /* of the structure or block, or of the first byte at which none begins */
+    uint32_t status;     /* a ZACPI_IOMMU_ error */
+    uint16_t entry_type; /* Type */
+};
 
 /* Returns what the DMAR has for all units (section 8.1). Fails with an opening error, or
  * ZACPI_TABLE_MISSING "DMAR". */
 ZACPI_STATUS zacpi_get_dmar_flags(const struct zacpi_source *source, struct zacpi_dmar_flags *out,
                                   struct zacpi_signature *signature);
+/* Lists the DRHDs, up to the first byte at which no structure begins. Fails with an opening error,
+ * or ZACPI_TABLE_MISSING "DMAR". */
+ZACPI_STATUS zacpi_list_dmar_units(const struct zacpi_source *source, struct zacpi_dmar_unit *out,
+                                   size_t capacity, size_t *count,
+                                   struct zacpi_signature *signature);
+/* Lists the device scopes of the `index`-th of these units, from 0 on, up to the first byte at
+ * which none begins. Fails with an opening error, ZACPI_TABLE_MISSING "DMAR", or ZACPI_NO_IOMMU. */
+ZACPI_STATUS zacpi_list_dmar_scopes(const struct zacpi_source *source, size_t index,
+                                    struct zacpi_dmar_scope *out, size_t capacity, size_t *count,
+                                    struct zacpi_signature *signature);
+/* Lists the structures with an error: device scopes that end early, else an RMRR that is no range;
+ * and last, if there is one, the first byte at which none begins. Fails with an opening error, or
+ * ZACPI_TABLE_MISSING "DMAR". */
+ZACPI_STATUS zacpi_list_dmar_faults(const struct zacpi_source *source,
+                                    struct zacpi_iommu_fault *out, size_t capacity, size_t *count,
+                                    struct zacpi_signature *signature);
 /* Returns the unit that remaps the device that the hops reach from a bus of a segment: the first
  * DRHD of the segment with a device scope that names it, else the first with INCLUDE_PCI_ALL. A
  * scope whose Start Bus Number is the bus names it by Type 1 if its Path is the hops, and by Type 2
  * if these begin with its Path, of at least one (section 8.3.1). Fails with an opening error,
- * ZACPI_TABLE_MISSING "DMAR", ZACPI_IOMMU_INVALID_STRUCTURE_LENGTH, or ZACPI_NO_IOMMU. */
+ * ZACPI_TABLE_MISSING "DMAR", ZACPI_IOMMU_INVALID_STRUCTURE_LENGTH of a DRHD of the segment before
+ * it (without it of any, or of the table), or ZACPI_NO_IOMMU. */
 ZACPI_STATUS zacpi_get_dmar_unit(const struct zacpi_source *source, uint16_t segment, uint8_t bus,
                                  const struct zacpi_hop *hops, size_t hops_length,
                                  struct zacpi_dmar_unit *out, struct zacpi_signature *signature);
 /* Returns the unit that remaps the interrupts of an I/O APIC: the first DRHD with a device scope of
  * Type 3 whose Enumeration ID is `id`. Fails with an opening error, ZACPI_TABLE_MISSING "DMAR",
- * ZACPI_IOMMU_INVALID_STRUCTURE_LENGTH, or ZACPI_NO_IOMMU. */
+ * ZACPI_IOMMU_INVALID_STRUCTURE_LENGTH of a DRHD before it (without it of any, or of the table), or
+ * ZACPI_NO_IOMMU. */
 ZACPI_STATUS zacpi_dmar_io_apic(const struct zacpi_source *source, uint8_t id,
                                 struct zacpi_dmar_source *out, struct zacpi_signature *signature);
 /* Returns the unit that remaps the interrupts of an HPET: the first DRHD with a device scope of
  * Type 4 whose Enumeration ID is `number`. Fails with an opening error, ZACPI_TABLE_MISSING "DMAR",
- * ZACPI_IOMMU_INVALID_STRUCTURE_LENGTH, or ZACPI_NO_IOMMU. */
+ * ZACPI_IOMMU_INVALID_STRUCTURE_LENGTH of a DRHD before it (without it of any, or of the table), or
+ * ZACPI_NO_IOMMU. */
 ZACPI_STATUS zacpi_dmar_hpet(const struct zacpi_source *source, uint8_t number,
                              struct zacpi_dmar_source *out, struct zacpi_signature *signature);
 /* Lists the memory that is reserved for a device: each RMRR of the segment with a device scope that
- * names it as for zacpi_get_dmar_unit. Fails with an opening error, ZACPI_TABLE_MISSING "DMAR",
- * ZACPI_IOMMU_INVALID_STRUCTURE_LENGTH, or ZACPI_IOMMU_INVALID_MEMORY_RANGE of an item. */
+ * names it as for zacpi_get_dmar_unit, also one that is no range. Fails with an opening error, or
+ * ZACPI_TABLE_MISSING "DMAR". */
 ZACPI_STATUS zacpi_list_dmar_reserved(const struct zacpi_source *source, uint16_t segment,
                                       uint8_t bus, const struct zacpi_hop *hops, size_t hops_length,
                                       struct zacpi_dmar_reserved *out, size_t capacity,
@@ -1121,17 +1152,43 @@ struct zacpi_ivrs_memory { /* I/O Virtualization Memory Definition (IVMD) */
     uint8_t flags;      /* of enum zacpi_ivmd_flag */
 };
 
+struct zacpi_ivrs_entry { /* a device entry; a field that its Type lacks is 0 */
+    size_t unique_id_length; /* `unique_id` has the first 32 bytes of Unique ID, and zeros */
+    uint32_t extended_settings;
+    uint16_t first, last;    /* DeviceID; of a range, that of its end */
+    uint16_t source_id;      /* Source DeviceID of Types 0x42, 0x43 and 0x48 */
+    uint8_t entry_type, settings;
+    uint8_t handle, variety; /* of Type 0x48, and those below of 0xf0 */
+    uint8_t hardware_id[8], compatible_id[8], unique_id_format, unique_id[32];
+};
+
+/* Lists the IVHDs of all Types, up to the first byte at which no block begins. Fails with an
+ * opening error, or ZACPI_TABLE_MISSING "IVRS". */
+ZACPI_STATUS zacpi_list_ivrs_units(const struct zacpi_source *source, struct zacpi_ivrs_unit *out,
+                                   size_t capacity, size_t *count,
+                                   struct zacpi_signature *signature);
+/* Lists the device entries of the `index`-th of these units, from 0 on, up to the first byte at
+ * which none begins. Fails with an opening error, ZACPI_TABLE_MISSING "IVRS", or ZACPI_NO_IOMMU. */
+ZACPI_STATUS zacpi_list_ivrs_entries(const struct zacpi_source *source, size_t index,
+                                     struct zacpi_ivrs_entry *out, size_t capacity, size_t *count,
+                                     struct zacpi_signature *signature);
+/* Lists the blocks with an error: device entries that end early, else an IVMD whose memory ends at
+ * 2^64 or above; and last, if there is one, the first byte at which none begins. Fails with an
+ * opening error, or ZACPI_TABLE_MISSING "IVRS". */
+ZACPI_STATUS zacpi_list_ivrs_faults(const struct zacpi_source *source,
+                                    struct zacpi_iommu_fault *out, size_t capacity, size_t *count,
+                                    struct zacpi_signature *signature);
 /* Returns the unit that remaps a device. Of the IVHDs of the greatest Type in the table (0x10, 0x11
  * or 0x40) it is the first of the segment with an entry for all devices, for this one, for a range
  * that it lies in, or of a special device with it as Source DeviceID; the first such entry counts.
- * Fails with an opening error, ZACPI_TABLE_MISSING "IVRS", ZACPI_IOMMU_INVALID_STRUCTURE_LENGTH, or
- * ZACPI_NO_IOMMU. */
+ * Fails with an opening error, ZACPI_TABLE_MISSING "IVRS", ZACPI_IOMMU_INVALID_STRUCTURE_LENGTH of
+ * such an IVHD before it (without it of any, or of the table), or ZACPI_NO_IOMMU. */
 ZACPI_STATUS zacpi_get_ivrs_unit(const struct zacpi_source *source, uint16_t segment,
                                  uint16_t device_id, struct zacpi_ivrs_device *out,
                                  struct zacpi_signature *signature);
 /* Lists the memory that has its own rules for a device: each IVMD for it, for all devices or for a
- * range that it lies in, whatever its segment. Fails with an opening error, ZACPI_TABLE_MISSING
- * "IVRS", ZACPI_IOMMU_INVALID_STRUCTURE_LENGTH, or ZACPI_IOMMU_INVALID_MEMORY_RANGE of an item. */
+ * range that it lies in, whatever its segment and length. Fails with an opening error, or
+ * ZACPI_TABLE_MISSING "IVRS". */
 ZACPI_STATUS zacpi_list_ivrs_memory(const struct zacpi_source *source, uint16_t device_id,
                                     struct zacpi_ivrs_memory *out, size_t capacity, size_t *count,
                                     struct zacpi_signature *signature);

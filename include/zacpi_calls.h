@@ -777,6 +777,48 @@ ZACPI_STATUS zacpi_get_dmar_flags(const struct zacpi_source *source, struct zacp
     return zacpi_1_get_dmar_flags(&kept_source, out, signature ? signature : &unasked);
 }
 
+zacpi_status zacpi_1_list_dmar_units(const struct zacpi_source *source, struct zacpi_dmar_unit *out,
+                                     size_t capacity, size_t *count,
+                                     struct zacpi_signature *signature);
+ZACPI_NONNULL((1, 4))
+ZACPI_STATUS zacpi_list_dmar_units(const struct zacpi_source *source, struct zacpi_dmar_unit *out,
+                                   size_t capacity, size_t *count,
+                                   struct zacpi_signature *signature) {
+    const struct zacpi_source kept_source = zacpi_source_kept(source);
+    struct zacpi_signature unasked;
+    return zacpi_1_list_dmar_units(&kept_source,
+                                   capacity ? out : (struct zacpi_dmar_unit *)ZACPI_NOTHING,
+                                   capacity, count, signature ? signature : &unasked);
+}
+
+zacpi_status zacpi_1_list_dmar_scopes(const struct zacpi_source *source, size_t index,
+                                      struct zacpi_dmar_scope *out, size_t capacity, size_t *count,
+                                      struct zacpi_signature *signature);
+ZACPI_NONNULL((1, 5))
+ZACPI_STATUS zacpi_list_dmar_scopes(const struct zacpi_source *source, size_t index,
+                                    struct zacpi_dmar_scope *out, size_t capacity, size_t *count,
+                                    struct zacpi_signature *signature) {
+    const struct zacpi_source kept_source = zacpi_source_kept(source);
+    struct zacpi_signature unasked;
+    return zacpi_1_list_dmar_scopes(&kept_source, index,
+                                    capacity ? out : (struct zacpi_dmar_scope *)ZACPI_NOTHING,
+                                    capacity, count, signature ? signature : &unasked);
+}
+
+zacpi_status zacpi_1_list_dmar_faults(const struct zacpi_source *source,
+                                      struct zacpi_iommu_fault *out, size_t capacity, size_t *count,
+                                      struct zacpi_signature *signature);
+ZACPI_NONNULL((1, 4))
+ZACPI_STATUS zacpi_list_dmar_faults(const struct zacpi_source *source,
+                                    struct zacpi_iommu_fault *out, size_t capacity, size_t *count,
+                                    struct zacpi_signature *signature) {
+    const struct zacpi_source kept_source = zacpi_source_kept(source);
+    struct zacpi_signature unasked;
+    return zacpi_1_list_dmar_faults(&kept_source,
+                                    capacity ? out : (struct zacpi_iommu_fault *)ZACPI_NOTHING,
+                                    capacity, count, signature ? signature : &unasked);
+}
+
 zacpi_status zacpi_1_get_dmar_unit(const struct zacpi_source *source, uint16_t segment, uint8_t bus,
                                    const struct zacpi_hop *hops, size_t hops_length,
                                    struct zacpi_dmar_unit *out, struct zacpi_signature *signature);
@@ -828,6 +870,48 @@ ZACPI_STATUS zacpi_list_dmar_reserved(const struct zacpi_source *source, uint16_
                                       hops_length,
                                       capacity ? out : (struct zacpi_dmar_reserved *)ZACPI_NOTHING,
                                       capacity, count, signature ? signature : &unasked);
+}
+
+zacpi_status zacpi_1_list_ivrs_units(const struct zacpi_source *source, struct zacpi_ivrs_unit *out,
+                                     size_t capacity, size_t *count,
+                                     struct zacpi_signature *signature);
+ZACPI_NONNULL((1, 4))
+ZACPI_STATUS zacpi_list_ivrs_units(const struct zacpi_source *source, struct zacpi_ivrs_unit *out,
+                                   size_t capacity, size_t *count,
+                                   struct zacpi_signature *signature) {
+    const struct zacpi_source kept_source = zacpi_source_kept(source);
+    struct zacpi_signature unasked;
+    return zacpi_1_list_ivrs_units(&kept_source,
+                                   capacity ? out : (struct zacpi_ivrs_unit *)ZACPI_NOTHING,
+                                   capacity, count, signature ? signature : &unasked);
+}
+
+zacpi_status zacpi_1_list_ivrs_entries(const struct zacpi_source *source, size_t index,
+                                       struct zacpi_ivrs_entry *out, size_t capacity, size_t *count,
+                                       struct zacpi_signature *signature);
+ZACPI_NONNULL((1, 5))
+ZACPI_STATUS zacpi_list_ivrs_entries(const struct zacpi_source *source, size_t index,
+                                     struct zacpi_ivrs_entry *out, size_t capacity, size_t *count,
+                                     struct zacpi_signature *signature) {
+    const struct zacpi_source kept_source = zacpi_source_kept(source);
+    struct zacpi_signature unasked;
+    return zacpi_1_list_ivrs_entries(&kept_source, index,
+                                     capacity ? out : (struct zacpi_ivrs_entry *)ZACPI_NOTHING,
+                                     capacity, count, signature ? signature : &unasked);
+}
+
+zacpi_status zacpi_1_list_ivrs_faults(const struct zacpi_source *source,
+                                      struct zacpi_iommu_fault *out, size_t capacity, size_t *count,
+                                      struct zacpi_signature *signature);
+ZACPI_NONNULL((1, 4))
+ZACPI_STATUS zacpi_list_ivrs_faults(const struct zacpi_source *source,
+                                    struct zacpi_iommu_fault *out, size_t capacity, size_t *count,
+                                    struct zacpi_signature *signature) {
+    const struct zacpi_source kept_source = zacpi_source_kept(source);
+    struct zacpi_signature unasked;
+    return zacpi_1_list_ivrs_faults(&kept_source,
+                                    capacity ? out : (struct zacpi_iommu_fault *)ZACPI_NOTHING,
+                                    capacity, count, signature ? signature : &unasked);
 }
 
 zacpi_status zacpi_1_get_ivrs_unit(const struct zacpi_source *source, uint16_t segment,

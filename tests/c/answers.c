@@ -307,6 +307,9 @@ static void print_domains(const struct zacpi_source *source) {
         }
 }
 
+/* A fault of a table of units, whose error the list's name tells the table of. */
+static const char *error_of(zacpi_status status) { return strchr(zacpi_status_name(status), ' ') + 1; }
+
 static void print_dmar(const struct zacpi_source *source) {
     static const struct zacpi_hop paths[][2] = {{{0x1f, 2}, {0, 0}}, {{0, 0}, {3, 1}}, {{2, 0}, {0, 0}}};
     unsigned i;
@@ -323,6 +326,15 @@ static void print_dmar(const struct zacpi_source *source) {
              (source, 0, 0, hops, 1 + i % 2, items, MOST, &count, &named), "%llx %llx %u\n", (wide)it->base,
              (wide)it->limit, it->segment);
     }
+    LIST("units", zacpi_dmar_unit, zacpi_list_dmar_units, ALL, "%llx %llx %u %u %u %u\n", (wide)it->register_base,
+         (wide)it->register_bytes, it->segment, it->includes_pci_all, it->flags, it->size);
+    for (i = 0; i < 3; i++)
+        LIST("scopes", zacpi_dmar_scope, zacpi_list_dmar_scopes, (source, i, items, MOST, &count, &named),
+             "%u %u %u %u %lu %u %u %u %u\n", it->scope_type, it->flags, it->enumeration_id, it->bus,
+             (unsigned long)it->path_length, it->path[0].device, it->path[0].function, it->path[15].device,
+             it->path[15].function);
+    LIST("dmar_faults", zacpi_iommu_fault, zacpi_list_dmar_faults, ALL, "%llx %u %s\n", (wide)it->address,
+         it->entry_type, error_of(it->status));
     for (i = 0; i < 9; i++)
         ONE("of_io_apic", struct zacpi_dmar_source, zacpi_dmar_io_apic, (source, (uint8_t)i, &item, &named),
             "%llx %u %u %u %u\n", (wide)it->unit.register_base, it->bus, it->has_hop, it->hop.device, it->hop.function);
@@ -337,6 +349,17 @@ static void print_ivrs(const struct zacpi_source *source) {
     struct zacpi_signature named = {{0}};
     const zacpi_status status = zacpi_list_ivrs_memory(source, 0, NULL, 0, &count, &named);
     if (status == ZACPI_TABLE_MISSING && is_missing("ivrs", status, &named)) return;
+    LIST("ivrs_units", zacpi_ivrs_unit, zacpi_list_ivrs_units, ALL, "%llx %llx %x %u %u %u %u %u %u %u\n",
+         (wide)it->base, (wide)it->extended_features, it->features, it->segment, it->device_id, it->capability_offset,
+         it->info, it->block_type, it->flags, it->has_extended_features);
+    for (i = 0; i < 3; i++)
+        LIST("ivrs_entries", zacpi_ivrs_entry, zacpi_list_ivrs_entries, (source, i, items, MOST, &count, &named),
+             "%u %u %u %u %u %u %u %u %x %llx %llx %lu %llx %u\n", it->entry_type, it->settings, it->handle,
+             it->variety, it->unique_id_format, it->first, it->last, it->source_id, it->extended_settings,
+             number_of(it->hardware_id, 8), number_of(it->compatible_id, 8), (unsigned long)it->unique_id_length,
+             number_of(it->unique_id, 8), it->unique_id[31]);
+    LIST("ivrs_faults", zacpi_iommu_fault, zacpi_list_ivrs_faults, ALL, "%llx %u %s\n", (wide)it->address,
+         it->entry_type, error_of(it->status));
     for (i = 0; i < 0x200; i += 0x28) {
         ONE("ivrs", struct zacpi_ivrs_device, zacpi_get_ivrs_unit, (source, 0, (uint16_t)i, &item, &named),
             "%llx %u %llx %x %u %u %u %u %u %u %u %u\n", (wide)it->unit.base, it->unit.has_extended_features,

@@ -31,8 +31,8 @@ struct put {
 
 enum { EMPTY, ARM, PC, ODD, HOLES, SUM, DESKTOP, MOBILE, WORKSTATION, SERVER, SOHO, APPLIANCE, PERFORMANCE, TABLET,
        RESERVED, WIDE, TIMER_5, LEAST, OLD, HALF, HALF_X, UNITS, UNITS_10, UNITS_CUT,
-       UNITS_END, SAPIC_BETWEEN, NMI_2, LENGTH_0, NO_FADT, BUS_1, TRIGGER_2,
-       LINT_2, HPETS, MAILBOX, POWER, REDUCED, PLAIN, BARE, BROKEN, FADTLESS, FAULTS, FRONTS, /* root tables, in the order of `tables` */
+       UNITS_END, SAPIC_BETWEEN, NMI_2, LENGTH_0, NO_FADT, BUS_1, TRIGGER_2, LINT_2, HPETS, MAILBOX, POWER,
+       REDUCED, PLAIN, BARE, BROKEN, FADTLESS, FAULTS, FRONTS, UNITS_BETWEEN, UNITS_FAULTS, UNITS_LATER, /* root tables, in the order of `tables` */
        RSDP_0, RSDP_2, RSDP_40, RSDP_MIXED, RSDP_LONG, RSDP_LOST, RSDP_CUT, RSDP_SHORT,
        RSDP_NONE, /* RSDPs, and the last one is none */
        MADT_GIC, GTDT, SRAT, SLIT, MCFG, FADT, MADT_PC, HPET_SHORT, HPET, MADT_CUT, GTDT_CUT, SRAT_CUT, SLIT_ODD,
@@ -45,7 +45,8 @@ enum { EMPTY, ARM, PC, ODD, HOLES, SUM, DESKTOP, MOBILE, WORKSTATION, SERVER, SO
        MCFG_HALF, FADT_HALF_X, DMAR, DMAR_CUT, DMAR_END, DMAR_47, DMAR_48, IVRS, IVRS_10, IVRS_CUT, IVRS_END, IVRS_47,
        IVRS_48, MADT_SAPIC_BETWEEN, MADT_NMI_2, MADT_LENGTH_0, MADT_BUS_1, MADT_TRIGGER_2, MADT_LINT_2, MADT_MAILBOX,
        FADT_POWER, FADT_REDUCED, FADT_PLAIN, FADT_BARE, FADT_BROKEN, DSDT_POWER, DSDT_S5, SSDT_S5, MADT_NO_GICD,
-       MADT_FRONT, GTDT_FAULTS, GTDT_FRONT, SRAT_FAULTS, SRAT_FRONT };
+       MADT_FRONT, GTDT_FAULTS, GTDT_FRONT, SRAT_FAULTS, SRAT_FRONT, DMAR_BETWEEN, DMAR_FAULTS, DMAR_LATER,
+       IVRS_BETWEEN, IVRS_FAULTS };
 
 /* Entry[n] of an RSDT, from 36 on (section 5.2.7), and of an XSDT (section 5.2.8). */
 PUTS(no_fields, {36, 0, 0});
@@ -234,6 +235,8 @@ static const struct table {
     {AT(OLD), "RSDT", 1, 58, old}, {AT(HALF), "RSDT", 1, 56, half}, {AT(HALF_X), "RSDT", 1, 40, half_x},
     {AT(UNITS), "RSDT", 1, 44, units}, {AT(UNITS_10), "RSDT", 1, 40, units_10},
     {AT(UNITS_CUT), "RSDT", 1, 44, units_cut}, {AT(UNITS_END), "RSDT", 1, 44, units_end},
+    {AT(UNITS_BETWEEN), "RSDT", 1, 44, units_between}, {AT(UNITS_FAULTS), "RSDT", 1, 44, units_faults},
+    {AT(UNITS_LATER), "RSDT", 1, 40, units_later},
     {AT(SAPIC_BETWEEN), "RSDT", 1, 44, sapic_between}, {AT(NMI_2), "RSDT", 1, 44, nmi_2},
     {AT(LENGTH_0), "RSDT", 1, 44, length_0}, {AT(NO_FADT), "RSDT", 1, 40, no_fadt}, {AT(BUS_1), "RSDT", 1, 44, bus_1},
     {AT(TRIGGER_2), "RSDT", 1, 44, trigger_2}, {AT(LINT_2), "RSDT", 1, 44, lint_2},
@@ -298,6 +301,9 @@ static const struct table {
     {AT(MADT_NO_GICD), "APIC", 6, 146, madt_no_gicd}, {AT(MADT_FRONT), "APIC", 6, 146, madt_front},
     {AT(GTDT_FAULTS), "GTDT", 2, 256, gtdt_faults}, {AT(GTDT_FRONT), "GTDT", 2, 188, gtdt_front},
     {AT(SRAT_FAULTS), "SRAT", 3, 244, srat_faults}, {AT(SRAT_FRONT), "SRAT", 3, 186, srat_front},
+    {AT(DMAR_BETWEEN), "DMAR", 1, 104, dmar_between}, {AT(DMAR_FAULTS), "DMAR", 1, 150, dmar_faults},
+    {AT(DMAR_LATER), "DMAR", 1, 93, dmar_later}, {AT(IVRS_BETWEEN), "IVRS", 2, 132, ivrs_between},
+    {AT(IVRS_FAULTS), "IVRS", 2, 184, ivrs_faults},
     {BIOS + 0x10000, "RSDT", 1, 36, no_fields}};
 
 /* RSDPs: the first byte of OEMID at 9, Revision at 15, RsdtAddress at 16, Length at 20, XsdtAddress at 24 (section

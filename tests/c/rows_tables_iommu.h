@@ -8,6 +8,9 @@ PUTS(units, {36, 4, AT(DMAR)}, {40, 4, AT(IVRS)});
 PUTS(units_10, {36, 4, AT(IVRS_10)});
 PUTS(units_cut, {36, 4, AT(DMAR_CUT)}, {40, 4, AT(IVRS_CUT)});
 PUTS(units_end, {36, 4, AT(DMAR_END)}, {40, 4, AT(IVRS_END)});
+PUTS(units_between, {36, 4, AT(DMAR_BETWEEN)}, {40, 4, AT(IVRS_BETWEEN)});
+PUTS(units_faults, {36, 4, AT(DMAR_FAULTS)}, {40, 4, AT(IVRS_FAULTS)});
+PUTS(units_later, {36, 4, AT(DMAR_LATER)});
 
 /* ---- DMAR ------------------------------------------------------------------------------------------------ */
 
@@ -41,6 +44,24 @@ PUTS(dmar_cut,
     DRHD(48, 24, 1, 0, 0, 0xfed90000), SCOPE(64, 1, 5, 0, 0));
 /* Four zeros after a whole structure: a Length of 0. */
 PUTS(dmar_end, DRHD(48, 24, 1, 0, 0, 0xfed90000), SCOPE(64, 1, 8, 0, 0), HOP(70, 2, 0));
+
+/* An RMRR that is too short, between two units. */
+PUTS(dmar_between,
+    DRHD(48, 24, 0, 0, 0, 0xfed90000), SCOPE(64, 1, 8, 0, 0), HOP(70, 2, 0) /* an endpoint */,
+    STRUCTURE(72, 1, 16), DRHD(88, 16, 1, 0, 0, 0xfed91000));
+/* A scope that is a byte too short after a whole one; an RMRR whose last byte is before its first; reserved bits and
+ * Types. */
+PUTS(dmar_faults,
+    DRHD(48, 30, 0, 0, 0, 0xfed90000), SCOPE(64, 1, 8, 0, 0), HOP(70, 2, 0) /* an endpoint */, SCOPE(72, 3, 5, 7, 0),
+    RMRR(78, 0, 9, 8), SCOPE(102, 1, 8, 0, 0), HOP(108, 2, 0) /* an endpoint */,
+    DRHD(110, 40, 0x81, 0x31, 0, 0x1fed91000) /* INCLUDE_PCI_ALL and bit 7; Size: 2 pages, and reserved bits */,
+    SCOPE(126, 3, 8, 2, 0xf0), HOP(132, 0x1f, 0) /* an I/O APIC */,
+    SCOPE(134, 0x7f, 6, 1, 2), {134 + 2, 1, 0xff} /* a reserved Type, and Flags; no hop */,
+    SCOPE(140, 1, 10, 0, 0), HOP(146, 1, 2), HOP(148, 3, 4) /* an endpoint of two hops */);
+/* A unit whose only scope is a byte too short, after that of all other devices and of an I/O APIC. */
+PUTS(dmar_later,
+    DRHD(48, 24, 1, 0, 0, 0xfed91000), SCOPE(64, 3, 8, 2, 0xf0), HOP(70, 0x1f, 0),
+    DRHD(72, 21, 0, 0, 0, 0xfed92000), {88, 1, 1}, {89, 1, 6} /* Type, Length */);
 
 /* ---- IVRS ------------------------------------------------------------------------------------------------ */
 
@@ -76,4 +97,17 @@ PUTS(ivrs_10, BLOCK(48, 0x10, 1, 28, 2), IVHD(48, 0x40, 0xfeb80000, 0, 3, 0x1122
 PUTS(ivrs_cut, BLOCK(48, 0x10, 1, 32, 2), ENTRY(72, 3, 1, 0), ENTRY(76, 2, 2, 0));
 /* Four zeros after a whole block: a Length of 0. */
 PUTS(ivrs_end, BLOCK(48, 0x10, 1, 28, 2), ENTRY(72, 1, 0, 0xd7));
+/* An IVMD that is too short, between two units. */
+PUTS(ivrs_between,
+    BLOCK(48, 0x10, 1, 28, 2), IVHD(48, 0x40, 0xfeb80000, 0, 3, 0x11223344), ENTRY(72, 1, 0, 0xd7) /* all */,
+    BLOCK(76, 0x20, 0, 16, 0), BLOCK(92, 0x11, 0, 40, 2), IVHD(92, 0x40, 0x1feb80000, 0, 3, 7));
+/* An end of a range without a start, after whole entries, of which one has a reserved Type; an IVMD that ends at 2^64;
+ * and an ACPI HID device with Hardware ID, Unique ID format, its length 2 and Unique ID. */
+PUTS(ivrs_faults,
+    BLOCK(48, 0x10, 0xff, 40, 2), IVHD(48, 0x40, 0xfeb80000, 0, 3, 0),
+    ENTRY(72, 2, 0x10, 1), ENTRY(76, 5, 7, 8), ENTRY(80, 4, 9, 0),
+    BLOCK(88, 0x21, 7, 32, 0x300), IVMD(88, 0x1234, 0xfffffffffffff000, 0x1000),
+    BLOCK(120, 0x40, 0, 64, 3), IVHD(120, 0x48, 0x1feb80000, 0, 5, 6), {120 + 24, 8, 7} /* EFR Register Image */,
+    ENTRY(160, 0xf0, 0x600, 5), {160 + 4, 8, 0x30323030494d41} /* AMI0020 */, {160 + 12, 8, 1} /* Compatible ID */,
+    {160 + 20, 1, 2}, {160 + 21, 1, 2}, {160 + 22, 2, 0x4241});
 #endif

@@ -20,11 +20,11 @@
 
 use crate::acpi_tables::{read::Read, AcpiTables, Table};
 use crate::error::{AcpiError, AcpiResult};
-use crate::list::{List, Slot};
+use crate::list::{items, List, Listing, Slot};
 use crate::raw::{self, records, records_of};
 use crate::sdt::Signature;
 
-pub use records::{DmarFlags, DmarReserved, Hop, IvrsMemory};
+pub use records::{DmarFlags, DmarReserved, DmarScope, Hop, IvrsEntry, IvrsMemory};
 
 /// The least length of a DMAR, and of an IVRS: what they list begins there.
 const LEAST: u32 = 48;
@@ -41,6 +41,10 @@ pub struct DmarUnit {
     pub segment: u16,
     /// INCLUDE_PCI_ALL, bit 0 of Flags: it remaps all devices of the segment that no other unit names.
     pub includes_pci_all: bool,
+    /// Flags.
+    pub flags: u8,
+    /// Size.
+    pub size: u8,
 }
 
 impl From<records::DmarUnit> for DmarUnit {
@@ -50,6 +54,8 @@ impl From<records::DmarUnit> for DmarUnit {
             register_bytes: raw.register_bytes,
             segment: raw.segment,
             includes_pci_all: raw.includes_pci_all != 0,
+            flags: raw.flags,
+            size: raw.size,
         }
     }
 }
@@ -130,7 +136,29 @@ impl From<records::IvrsDevice> for IvrsDevice {
     }
 }
 
-/// What is found, or none if there is no unit for the device.
+/// A structure of the DMAR or a block of the IVRS with an error, or the first byte at which none begins.
+#[derive(Clone, Copy, Debug, PartialEq, Eq)]
+pub struct IommuFault {
+    /// The physical address of its first byte.
+    pub address: u64,
+    /// Type.
+    pub entry_type: u16,
+    /// `InvalidStructureLength` if its device scopes or device entries end early, or no structure or block begins;
+    /// `InvalidMemoryRange` of an RMRR whose last byte is before its first, and an IVMD whose memory ends above
+    /// 2^64 - 1.
+    pub refusal: AcpiError,
+}
+
+impl From<records::IommuFault> for IommuFault {
+    fn from(raw: records::IommuFault) -> Self {
+        let refusal = AcpiError::of(raw.status, Signature::default());
+        IommuFault { address: raw.address, entry_type: raw.entry_type, refusal }
+    }
+}
+
+items! { DmarUnit = DmarUnit, IvrsUnit = IvrsUnit, IommuFault = IommuFault }
+
+/// What is found, or none if there is no such unit, or none for the device.
 fn found<Raw, T: From<Raw>>(asked: AcpiResult<Raw>) -> AcpiResult<Option<T>> {
     match asked {
         Err(AcpiError::NoIommu) => Ok(None),
@@ -152,38 +180,55 @@ pub struct Dmar<'k> {
     tables: AcpiTables<'k>,
 }
 
-impl Dmar<'_> {
+impl<'k> Dmar<'k> {
     /// What it says of all units (section 8.1).
     pub fn flags(&self) -> AcpiResult<DmarFlags> {
         raw::zacpi_1_get_dmar_flags(&self.tables.source())
+    }
+
+    /// The units as they are, in order, up to the first byte at which no structure begins (section 8.3).
+    pub fn units(&self) -> Listing<'k, DmarUnit> {
+        self.tables.list(raw::zacpi_1_list_dmar_units)
+    }
+
+    /// The device scopes of one of these units, by its index, as far as they fit: those up to the first byte at which
+    /// none begins, in order (section 8.3.1).
+    pub fn scopes<'b>(&self, unit: usize, room: &'b mut [Slot<DmarScope>]) -> AcpiResult<Option<List<'b, DmarScope>>> {
+        let count = found(raw::zacpi_1_list_dmar_scopes(&self.tables.source(), unit, records_of(room)))?;
+        Ok(count.map(|count| List::written(room, count, Signature::default())))
+    }
+
+    /// The structures with errors and, last, the first byte at which no structure begins, if bytes are left there.
+    pub fn faults(&self) -> Listing<'k, IommuFault> {
+        self.tables.list(raw::zacpi_1_list_dmar_faults)
     }
 
     /// The unit that remaps a device: the first DRHD of the segment with a device scope that names it, or the first of
     /// the segment with INCLUDE_PCI_ALL. The scope of an endpoint names the device of its Path, and that of a bridge
     /// each device that is reached through it (section 8.3).
     ///
-    /// Fails with `InvalidStructureLength`.
+    /// Fails with `InvalidStructureLength` if device scopes end early in a DRHD of the segment before the unit, and
+    /// without a unit in any of them, or if no structure begins at a byte that is left.
     pub fn unit_for(&self, segment: u16, bus: u8, hops: &[Hop]) -> AcpiResult<Option<DmarUnit>> {
         found(raw::dmar_unit(&self.tables.source(), segment, bus, hops))
     }
 
-    /// The unit that remaps the interrupts of the I/O APIC of an id (section 8.3.1). Fails with
-    /// `InvalidStructureLength`.
+    /// The unit that remaps the interrupts of the I/O APIC of an id (section 8.3.1).
+    ///
+    /// Fails as `unit_for` does, whatever the segment of a DRHD is.
     pub fn unit_of_io_apic(&self, id: u8) -> AcpiResult<Option<DmarSource>> {
         found(raw::zacpi_1_dmar_io_apic(&self.tables.source(), id))
     }
 
-    /// The unit that remaps the interrupts of the HPET of a number (section 8.3.1). Fails with
-    /// `InvalidStructureLength`.
+    /// The unit that remaps the interrupts of the HPET of a number (section 8.3.1).
+    ///
+    /// Fails as `unit_for` does, whatever the segment of a DRHD is.
     pub fn unit_of_hpet(&self, number: u8) -> AcpiResult<Option<DmarSource>> {
         found(raw::zacpi_1_dmar_hpet(&self.tables.source(), number))
     }
 
     /// The memory that is reserved for a device, as far as it fits: each RMRR of the segment with a device scope
-    /// that names it, in order (section 8.4).
-    ///
-    /// Fails with `InvalidStructureLength`, and with `InvalidMemoryRange` if one of these has its last byte before
-    /// its first.
+    /// that names it, in order (section 8.4), also one whose last byte is before its first.
     pub fn reserved_for<'b>(
         &self,
         segment: u16,
@@ -211,21 +256,37 @@ pub struct Ivrs<'k> {
     tables: AcpiTables<'k>,
 }
 
-impl Ivrs<'_> {
+impl<'k> Ivrs<'k> {
+    /// The units as they are, of all Types, in order, up to the first byte at which no block begins.
+    pub fn units(&self) -> Listing<'k, IvrsUnit> {
+        self.tables.list(raw::zacpi_1_list_ivrs_units)
+    }
+
+    /// The device entries of one of these units, by its index, as far as they fit: those up to the first byte at which
+    /// none begins, in order.
+    pub fn entries<'b>(&self, unit: usize, room: &'b mut [Slot<IvrsEntry>]) -> AcpiResult<Option<List<'b, IvrsEntry>>> {
+        let count = found(raw::zacpi_1_list_ivrs_entries(&self.tables.source(), unit, records_of(room)))?;
+        Ok(count.map(|count| List::written(room, count, Signature::default())))
+    }
+
+    /// The blocks with errors and, last, the first byte at which no block begins, if bytes are left there.
+    pub fn faults(&self) -> Listing<'k, IommuFault> {
+        self.tables.list(raw::zacpi_1_list_ivrs_faults)
+    }
+
     /// The unit that remaps a device, and how it treats it: of the IVHDs of the greatest Type, 0x10, 0x11 or 0x40, that
     /// the table has, the first of the segment with an entry for the device. The block's first such entry counts.
     ///
-    /// Fails with `InvalidStructureLength`.
+    /// Fails with `InvalidStructureLength` if device entries end early in such an IVHD before the unit, and without a
+    /// unit in any of them, or if no block begins at a byte that is left.
     pub fn block_for(&self, segment: u16, device_id: u16) -> AcpiResult<Option<IvrsDevice>> {
         found(raw::zacpi_1_get_ivrs_unit(&self.tables.source(), segment, device_id))
     }
 
     /// The memory that has its own rules for a device, as far as it fits: each IVMD for it, for all devices or for
-    /// a range that it lies in, in order, whatever its segment.
-    ///
-    /// Fails with `InvalidStructureLength`, and with `InvalidMemoryRange` if one of these ends above 2^64 - 1.
+    /// a range that it lies in, in order, whatever its segment, also one that ends above 2^64 - 1.
     pub fn memory_for<'b>(&self, device_id: u16, room: &'b mut [Slot<IvrsMemory>]) -> AcpiResult<List<'b, IvrsMemory>> {
-        let count = raw::list_ivrs_memory(&self.tables.source(), device_id, records_of(room))?;
+        let count = raw::zacpi_1_list_ivrs_memory(&self.tables.source(), device_id, records_of(room))?;
         Ok(List::written(room, count, Signature::default()))
     }
 }

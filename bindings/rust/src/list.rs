@@ -77,7 +77,8 @@ macro_rules! items {
 }
 pub(crate) use items;
 
-plain! { Range AmlTable records::IoApic records::GicTranslationService records::DmarReserved records::IvrsMemory }
+plain! { Range AmlTable records::IoApic records::GicTranslationService records::DmarScope records::DmarReserved }
+plain! { records::IvrsEntry records::IvrsMemory }
 
 /// Memory for one item of a list, in the form in which the library writes and reads it. An array of 64 is
 /// `[Slot::default(); 64]`.

@@ -131,6 +131,29 @@ macro_rules! lists {
     };
 }
 
+/// Calls that fill a slice with what an argument names.
+macro_rules! lists_of {
+    ($($name:ident($argument:ident: $type:ty) -> $item:ty;)*) => {
+        mod list_of {
+            use super::records::*;
+            unsafe extern "C" {
+                $(pub(super) fn $name(
+                    source: *const Source<'_>, $argument: $type, out: *mut $item, room: usize, count: *mut usize,
+                    named: *mut Signature,
+                ) -> u32;)*
+            }
+        }
+        $(pub(crate) fn $name(source: &Source<'_>, $argument: $type, out: &mut [$item]) -> AcpiResult<usize> {
+            let (mut count, mut named) = (0, Signature::default());
+            // SAFETY: the source holds live slices of initialised items; the outputs are a live slice with its length,
+            // and two live variables.
+            let status =
+                unsafe { list_of::$name(source, $argument, out.as_mut_ptr(), out.len(), &mut count, &mut named) };
+            answered(status, named).map(|()| count)
+        })*
+    };
+}
+
 ones! {
     zacpi_1_open() -> Root;
     zacpi_1_find_table(signature: Signature) -> Table;
@@ -191,6 +214,16 @@ lists! {
     zacpi_1_list_gtdt_faults() -> EntryFault;
     zacpi_1_list_memory_affinities() -> MemoryAffinity;
     zacpi_1_list_srat_faults() -> EntryFault;
+    zacpi_1_list_dmar_units() -> DmarUnit;
+    zacpi_1_list_dmar_faults() -> IommuFault;
+    zacpi_1_list_ivrs_units() -> IvrsUnit;
+    zacpi_1_list_ivrs_faults() -> IommuFault;
+}
+
+lists_of! {
+    zacpi_1_list_dmar_scopes(index: usize) -> DmarScope;
+    zacpi_1_list_ivrs_entries(index: usize) -> IvrsEntry;
+    zacpi_1_list_ivrs_memory(device_id: u16) -> IvrsMemory;
 }
 
 unsafe extern "C" {
@@ -244,14 +277,6 @@ unsafe extern "C" {
         hops: *const Hop,
         hops_length: usize,
         out: *mut DmarReserved,
-        room: usize,
-        count: *mut usize,
-        named: *mut Signature,
-    ) -> u32;
-    fn zacpi_1_list_ivrs_memory(
-        source: *const Source<'_>,
-        device_id: u16,
-        out: *mut IvrsMemory,
         room: usize,
         count: *mut usize,
         named: *mut Signature,
@@ -368,16 +393,6 @@ pub(crate) fn list_dmar_reserved(
             &mut named,
         )
     };
-    answered(status, named).map(|()| count)
-}
-
-/// The memory with rules for a device, and how many ranges it has.
-pub(crate) fn list_ivrs_memory(source: &Source<'_>, device_id: u16, out: &mut [IvrsMemory]) -> AcpiResult<usize> {
-    let (mut count, mut named) = (0, Signature::default());
-    // SAFETY: the source holds live slices of initialised items; the outputs are a live slice with its length, and two
-    // live variables.
-    let status =
-        unsafe { zacpi_1_list_ivrs_memory(source, device_id, out.as_mut_ptr(), out.len(), &mut count, &mut named) };
     answered(status, named).map(|()| count)
 }
 

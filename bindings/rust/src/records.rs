@@ -117,6 +117,22 @@ records! {
         /// Flags: bit 0 INTR_REMAP, bit 1 X2APIC_OPT_OUT, bit 2 DMA_CTRL_PLATFORM_OPT_IN_FLAG.
         flags: u8,
     }
+    /// A device scope of a unit (DMAR, section 8.3.1). Reserved codes are as they are.
+    #[non_exhaustive]
+    DmarScope {
+        /// How many hops Path has.
+        path_length: usize,
+        /// Type: 1 PCI Endpoint Device, 2 PCI Sub-hierarchy, 3 IOAPIC, 4 MSI_CAPABLE_HPET, 5 ACPI_NAMESPACE_DEVICE.
+        scope_type: u8,
+        /// Flags.
+        flags: u8,
+        /// Enumeration ID.
+        enumeration_id: u8,
+        /// Start Bus Number.
+        bus: u8,
+        /// The first 16 hops of Path, and zeros after them.
+        path: [Hop; 16],
+    }
     /// Memory that is reserved for a device (DMAR; Reserved Memory Region Reporting, section 8.4).
     #[non_exhaustive]
     DmarReserved {
@@ -142,6 +158,37 @@ records! {
         block_type: u8,
         /// Flags: bit 0 Unity, bit 1 IR, bit 2 IW, bit 3 Exclusion Range.
         flags: u8,
+    }
+    /// A device entry of a unit (IVRS, section 5.2). Reserved codes are as they are, and a field that its Type lacks is
+    /// 0.
+    #[non_exhaustive]
+    IvrsEntry {
+        /// How many bytes Unique ID has.
+        unique_id_length: usize,
+        /// Extended DTE Setting.
+        extended_settings: u32,
+        /// DeviceID.
+        first: u16,
+        /// DeviceID of a range's end, or of the entry.
+        last: u16,
+        /// Source DeviceID of Types 0x42, 0x43 and 0x48.
+        source_id: u16,
+        /// Type.
+        entry_type: u8,
+        /// DTE Setting.
+        settings: u8,
+        /// Handle of a special device: of an I/O APIC its id, of an HPET its number.
+        handle: u8,
+        /// Variety of a special device: 1 an I/O APIC, 2 an HPET.
+        variety: u8,
+        /// Hardware ID.
+        hardware_id: [u8; 8],
+        /// Compatible ID.
+        compatible_id: [u8; 8],
+        /// Unique ID format: 0 there is none, 1 a number of eight bytes, 2 a text.
+        unique_id_format: u8,
+        /// The first 32 bytes of Unique ID, and zeros after them.
+        unique_id: [u8; 32],
     }
     /// A service that translates interrupts (GIC ITS, section 5.2.12.18).
     #[non_exhaustive]
@@ -208,7 +255,8 @@ records! {
     Watchdog { refresh_frame: u64, control_frame: u64, interrupt: u32, polarity: u8, trigger: u8, is_secure: u8, }
     MemoryAffinity { address: u64, length: u64, domain: u32, is_hot_pluggable: u8, is_non_volatile: u8, }
     Localities { localities: u64, is_sane: u8, }
-    DmarUnit { register_base: u64, register_bytes: u64, segment: u16, includes_pci_all: u8, }
+    DmarUnit { register_base: u64, register_bytes: u64, segment: u16, includes_pci_all: u8, flags: u8, size: u8, }
+    IommuFault { address: u64, status: u32, entry_type: u16, }
     DmarSource { unit: DmarUnit, bus: u8, hop: Hop, has_hop: u8, }
     IvrsUnit { base: u64, extended_features: u64, features: u32, segment: u16, device_id: u16, capability_offset: u16,
         info: u16, block_type: u8, flags: u8, has_extended_features: u8, }

@@ -1,7 +1,7 @@
 //! The units that remap what devices ask of memory.
 mod common;
 use common::{Memory, ROOT};
-use zacpi::iommu::{Dmar, Hop, Ivrs};
+use zacpi::iommu::{Dmar, Hop, IommuFault, Ivrs};
 use zacpi::{AcpiError, Signature, Slot};
 
 const TABLE: u64 = ROOT + 0x1000;
@@ -49,8 +49,24 @@ fn reads_a_dmar() {
         assert_eq!((list.count(), list.len()), (1, 1));
         let reserved = list.get(0).unwrap();
         assert_eq!((reserved.base, reserved.limit, reserved.segment), (0x7b80_0000, 0x7fff_ffff, 0));
-        let inverted = dmar.reserved_for(0, 0, &[hop(3, 0)], &mut []);
-        assert_eq!(inverted.unwrap_err(), AcpiError::InvalidMemoryRange);
+        let list = dmar.reserved_for(0, 0, &[hop(3, 0)], &mut room).unwrap();
+        let inverted = list.get(0).unwrap();
+        assert_eq!((list.count(), inverted.base, inverted.limit), (1, 2, 1));
+        let fault = IommuFault { address: TABLE + 134, entry_type: 1, refusal: AcpiError::InvalidMemoryRange };
+        let mut faults = [Slot::default(); 2];
+        assert!(dmar.faults().fill(&mut faults).unwrap().iter().eq([fault]));
+        let mut units = [Slot::default(); 3];
+        let units = dmar.units().fill(&mut units).unwrap();
+        assert!(units.iter().eq([first, second]));
+        assert_eq!((first.flags, first.size, second.flags, second.size), (0, 0, 1, 3));
+        let mut scopes = [Slot::default(); 3];
+        let scopes = dmar.scopes(1, &mut scopes).unwrap().unwrap();
+        assert_eq!((scopes.count(), scopes.len()), (2, 2));
+        let scope = scopes.get(0).unwrap();
+        assert_eq!((scope.scope_type, scope.flags, scope.enumeration_id, scope.bus), (3, 0, 2, 0xf0));
+        assert_eq!((scope.path_length, scope.path[0], scope.path[1]), (1, hop(0x1f, 0), hop(0, 0)));
+        assert_eq!(scopes.get(1).unwrap().path_length, 0);
+        assert!(dmar.scopes(2, &mut []).unwrap().is_none());
     });
     // A byte after the fixed fields; a table that is too short.
     let mut memory = Memory::rsdt(&[TABLE]);
@@ -59,6 +75,10 @@ fn reads_a_dmar() {
         let dmar = tables.find_table::<Dmar>().unwrap();
         assert_eq!(dmar.unit_for(0, 0, &[hop(2, 0)]), Err(AcpiError::InvalidStructureLength));
         assert_eq!(dmar.unit_of_io_apic(2), Err(AcpiError::InvalidStructureLength));
+        assert_eq!(dmar.units().count(), Ok(0));
+        assert_eq!(dmar.reserved_for(0, 0, &[hop(2, 0)], &mut []).unwrap().count(), 0);
+        let fault = IommuFault { address: TABLE + 48, entry_type: 0, refusal: AcpiError::InvalidStructureLength };
+        assert!(dmar.faults().fill(&mut [Slot::default(); 1]).unwrap().iter().eq([fault]));
     });
     let mut memory = Memory::rsdt(&[TABLE]);
     memory.table(TABLE, "DMAR", 1, 47, &[]);
@@ -100,7 +120,20 @@ fn reads_an_ivrs() {
         let memory = list.get(0).unwrap();
         assert_eq!((memory.start, memory.length, memory.device_id), (0x1_0000_0000, 0x2_0000, 0x100));
         assert_eq!((memory.auxiliary, memory.block_type, memory.flags), (0x1ff, 0x22, 8));
-        assert_eq!(ivrs.memory_for(0x300, &mut []).unwrap_err(), AcpiError::InvalidMemoryRange);
+        let list = ivrs.memory_for(0x300, &mut room).unwrap();
+        assert_eq!((list.count(), list.get(0).unwrap().start), (1, u64::MAX));
+        let fault = IommuFault { address: TABLE + 132, entry_type: 0x21, refusal: AcpiError::InvalidMemoryRange };
+        assert!(ivrs.faults().fill(&mut [Slot::default(); 2]).unwrap().iter().eq([fault]));
+        assert!(ivrs.units().fill(&mut [Slot::default(); 2]).unwrap().iter().eq([unit]));
+        let mut entries = [Slot::default(); 3];
+        let entries = ivrs.entries(0, &mut entries).unwrap().unwrap();
+        assert_eq!((entries.count(), entries.len()), (2, 2));
+        let select = entries.get(0).unwrap();
+        assert_eq!((select.entry_type, select.first, select.last, select.settings), (2, 0x10, 0x10, 0xd7));
+        let alias = entries.get(1).unwrap();
+        assert_eq!((alias.entry_type, alias.first, alias.source_id, alias.settings), (0x42, 0x300, 0x308, 2));
+        assert_eq!((alias.extended_settings, alias.unique_id_length, alias.hardware_id), (0, 0, [0; 8]));
+        assert!(ivrs.entries(1, &mut []).unwrap().is_none());
     });
     // Type 0x10 has no image, and an entry for all devices. Then a byte after the fixed fields.
     let mut memory = Memory::rsdt(&[TABLE]);
@@ -114,6 +147,6 @@ fn reads_an_ivrs() {
     memory.ask(|tables| {
         let ivrs = tables.find_table::<Ivrs>().unwrap();
         assert_eq!(ivrs.block_for(0, 0), Err(AcpiError::InvalidStructureLength));
-        assert_eq!(ivrs.memory_for(0, &mut []).unwrap_err(), AcpiError::InvalidStructureLength);
+        assert_eq!(ivrs.memory_for(0, &mut []).unwrap().count(), 0);
     });
 }

@@ -1,13 +1,16 @@
 //! The units that remap what devices ask of memory, by the DMAR (Intel Virtualization Technology for Directed I/O 4.0)
 //! and by the IVRS (AMD I/O Virtualization Technology (IOMMU) Specification 3.08).
-ghost use Rattle.acpi_c_lib.specs.Words.{Answers, AnswersList, dmar_flags_below, dmar_hpet_below, dmar_io_apic_below, dmar_reserved_below, dmar_unit_below, ivrs_memory_below, ivrs_unit_below};
+ghost use Rattle.acpi_c_lib.specs.Words.{Answers, AnswersList, dmar_faults_below, dmar_flags_below, dmar_hpet_below, dmar_io_apic_below, dmar_reserved_below, dmar_scopes_below, dmar_unit_below, dmar_units_below, ivrs_entries_below, ivrs_faults_below, ivrs_memory_below, ivrs_unit_below, ivrs_units_below};
 
 use acpi_c_lib::answer::answer;
 use acpi_c_lib::iommu::{
     dmar_flags, dmar_hpet, dmar_io_apic, dmar_reserved, dmar_unit, ivrs_memory, ivrs_unit,
 };
+use acpi_c_lib::iommu_faults::{dmar_faults, ivrs_faults};
+use acpi_c_lib::iommu_lists::{dmar_scopes, dmar_units, ivrs_entries, ivrs_units};
 use acpi_c_lib::iommu_records::{
-    DmarFlags, DmarReserved, DmarSource, DmarUnit, Hop, IvrsDevice, IvrsMemory,
+    DmarFlags, DmarReserved, DmarScope, DmarSource, DmarUnit, Hop, IommuFault, IvrsDevice,
+    IvrsEntry, IvrsMemory, IvrsUnit,
 };
 use acpi_c_lib::records::{Signature, Source};
 
@@ -110,4 +113,90 @@ pub extern "C" fn zacpi_1_list_ivrs_memory(
         (ivrs_memory_below source.now device_id) }
 {
     answer(ivrs_memory(source, device_id, out), count, named)
+}
+
+/// The units (DMAR, section 8.3).
+#[unsafe(no_mangle)]
+pub extern "C" fn zacpi_1_list_dmar_units(
+    source: &Source<'_>,
+    out: &mut [DmarUnit],
+    count: &mut usize,
+    named: &mut Signature,
+) -> u32
+    ensures { AnswersList result out.old out.new count.old count.new named.old named.new
+        (dmar_units_below source.now) }
+{
+    answer(dmar_units(source, out), count, named)
+}
+
+/// The device scopes of a unit (DMAR, section 8.3.1).
+#[unsafe(no_mangle)]
+pub extern "C" fn zacpi_1_list_dmar_scopes(
+    source: &Source<'_>,
+    index: usize,
+    out: &mut [DmarScope],
+    count: &mut usize,
+    named: &mut Signature,
+) -> u32
+    ensures { AnswersList result out.old out.new count.old count.new named.old named.new
+        (dmar_scopes_below source.now index) }
+{
+    answer(dmar_scopes(source, index, out), count, named)
+}
+
+/// The structures of the DMAR at fault and, last, the bytes in which none begins (section 8.2).
+#[unsafe(no_mangle)]
+pub extern "C" fn zacpi_1_list_dmar_faults(
+    source: &Source<'_>,
+    out: &mut [IommuFault],
+    count: &mut usize,
+    named: &mut Signature,
+) -> u32
+    ensures { AnswersList result out.old out.new count.old count.new named.old named.new
+        (dmar_faults_below source.now) }
+{
+    answer(dmar_faults(source, out), count, named)
+}
+
+/// The units (IVRS, section 5.2).
+#[unsafe(no_mangle)]
+pub extern "C" fn zacpi_1_list_ivrs_units(
+    source: &Source<'_>,
+    out: &mut [IvrsUnit],
+    count: &mut usize,
+    named: &mut Signature,
+) -> u32
+    ensures { AnswersList result out.old out.new count.old count.new named.old named.new
+        (ivrs_units_below source.now) }
+{
+    answer(ivrs_units(source, out), count, named)
+}
+
+/// The device entries of a unit (IVRS, section 5.2).
+#[unsafe(no_mangle)]
+pub extern "C" fn zacpi_1_list_ivrs_entries(
+    source: &Source<'_>,
+    index: usize,
+    out: &mut [IvrsEntry],
+    count: &mut usize,
+    named: &mut Signature,
+) -> u32
+    ensures { AnswersList result out.old out.new count.old count.new named.old named.new
+        (ivrs_entries_below source.now index) }
+{
+    answer(ivrs_entries(source, index, out), count, named)
+}
+
+/// The blocks of the IVRS at fault and, last, the bytes in which none begins (section 5.2).
+#[unsafe(no_mangle)]
+pub extern "C" fn zacpi_1_list_ivrs_faults(
+    source: &Source<'_>,
+    out: &mut [IommuFault],
+    count: &mut usize,
+    named: &mut Signature,
+) -> u32
+    ensures { AnswersList result out.old out.new count.old count.new named.old named.new
+        (ivrs_faults_below source.now) }
+{
+    answer(ivrs_faults(source, out), count, named)
 }
