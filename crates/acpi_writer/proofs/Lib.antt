@@ -17,3 +17,4 @@ pub mod FadtRead
 pub mod GicRead
 pub mod GtdtStructures
 pub mod GtdtRead
+pub mod RiscvRead

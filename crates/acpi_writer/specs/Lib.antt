@@ -27,3 +27,4 @@ pub mod Machine
 pub mod MachineLaws
 pub mod Types
 pub mod Words
+pub mod RiscvMadt

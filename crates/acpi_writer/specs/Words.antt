@@ -15,6 +15,9 @@ unfoldable pub use Rattle.acpi_writer.specs.Flags.{flag_number}
 pub use Rattle.acpi_writer.specs.Generic.{FitsAddress, FitsRegister, address_bytes, is_register, register_bytes, register_or_zeros}
 unfoldable pub use Rattle.acpi_writer.specs.Generic.{address_fields}
 pub use Rattle.acpi_writer.specs.GicMadt.{AreGicFit, GicMadtIsRead, GicMadtIsValid, IsGicMadt, gic_body, gic_checked, gic_meant, gic_read, gicc_entry, gicc_fields, gicd_entry, gicr_entry, has_spis, interface_checked, its_entry, msi_entry, spis_of, trace_field}
+pub use Rattle.acpi_writer.specs.RiscvMadt.{AreRiscvFit, IsRiscvMadt, RiscvMadtIsRead, RiscvMadtIsValid, aplic_entry, imsic_entry, plic_entry, rintc_entry, riscv_body, riscv_checked, riscv_read}
+unfoldable pub use Rattle.acpi_writer.specs.RiscvMadt.{aplic_fields, imsic_fields, plic_fields, rintc_fields, riscv_written}
+pub use Rattle.acpi_writer.specs.declared.madt.riscv.RiscvContents.{RiscvContents}
 unfoldable pub use Rattle.acpi_writer.specs.GicMadt.{gic_written, gicc_list, gicd_fields, gicr_fields, its_fields, msi_fields}
 pub use Rattle.acpi_writer.specs.Gtdt.{AreTimersFit, FitsFrame, FitsStructure, FitsWatchdog, GtdtIsRead, GtdtIsValid, IsGtdt, SaysTimers, base_of, frame_bytes, frame_checked, gtdt_body, gtdt_checked, structure_bytes, structure_checked, timer_checked, timer_flags, timer_read, AreTimersFitBy, IsGtdtBy, gtdt_body_by, gtdt_checked_by, gtdt_written, structure_bytes_by, structure_checked_by}
 unfoldable pub use Rattle.acpi_writer.specs.Gtdt.{block_fields, frame_fields, gtdt_fields, watchdog_fields, gtdt_written_by}

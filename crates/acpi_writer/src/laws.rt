@@ -1,5 +1,5 @@
 //! Laws of the tables that are written: each is the contract of a function that does nothing.
-ghost use Rattle.acpi_writer.specs.Words.{DsdtIsRead, SsdtIsRead, BgrtIsRead, BgrtIsValid, FacsIsRead, FadtIsRead, FadtIsValid, GicMadtIsRead, GicMadtIsValid, GtdtIsRead, GtdtIsValid, HpetIsRead, HpetIsValid, HpetInImage, MadtInImage, McfgInImage, PlatformInImage, LaidAreFound, MachineIsRead, TreeIsRead, MadtIsRead, MadtIsValid, MailboxIsRead, McfgIsRead, McfgIsValid, RootIsRead, RootIsValid, RsdpIsRead, SlitIsRead, SlitIsValid, SpcrIsRead, SpcrIsValid, SratIsRead, SratIsValid, IdsAreRead};
+ghost use Rattle.acpi_writer.specs.Words.{DsdtIsRead, SsdtIsRead, BgrtIsRead, BgrtIsValid, FacsIsRead, FadtIsRead, FadtIsValid, GicMadtIsRead, GicMadtIsValid, RiscvMadtIsRead, RiscvMadtIsValid, GtdtIsRead, GtdtIsValid, HpetIsRead, HpetIsValid, HpetInImage, MadtInImage, McfgInImage, PlatformInImage, LaidAreFound, MachineIsRead, TreeIsRead, MadtIsRead, MadtIsValid, MailboxIsRead, McfgIsRead, McfgIsValid, RootIsRead, RootIsValid, RsdpIsRead, SlitIsRead, SlitIsValid, SpcrIsRead, SpcrIsValid, SratIsRead, SratIsValid, IdsAreRead};
 
 use std::alloc::Allocator;
 
@@ -8,6 +8,7 @@ pub fn tables_are_valid()
     ensures fadt { FadtIsValid }
     ensures madt { MadtIsValid }
     ensures gic_madt { GicMadtIsValid }
+    ensures riscv_madt { RiscvMadtIsValid }
     ensures mcfg { McfgIsValid }
     ensures hpet { HpetIsValid }
     ensures bgrt { BgrtIsValid }
@@ -41,6 +42,8 @@ pub fn tables_are_read<A: Allocator>()
     ensures mailbox { MailboxIsRead }
     // The GIC of a MADT of an Arm machine, each list in order.
     ensures gic_madt { GicMadtIsRead A }
+    // The entries of a MADT of a RISC-V machine, in order.
+    ensures riscv_madt { RiscvMadtIsRead }
     // The regions of an MCFG, in order.
     ensures mcfg { McfgIsRead }
     ensures hpet { HpetIsRead }

@@ -46,6 +46,7 @@ pub use machine::{
     Machine, dsdt_address, facs_address, tables_size, write_tables, write_tables_without_rsdp,
 };
 pub use madt::gic::{GicContents, write_gic_madt};
+pub use madt::riscv::{RiscvContents, write_riscv_madt};
 pub use madt::{MadtContents, MadtProcessor, write_madt};
 pub use mcfg::write_mcfg;
 pub use root::{write_rsdt, write_xsdt};

@@ -8,6 +8,7 @@ ghost use Rattle.acpi_writer.specs.MadtBytes as bytes;
 
 mod entries;
 pub mod gic;
+pub mod riscv;
 
 use crate::checked::require;
 use crate::error::WriterError;

@@ -2,6 +2,7 @@ use Rattle.acpi_writer.proofs.ShortTables.{bgrt_read, dsdt_read, hpet_read, mcfg
 use Rattle.acpi_writer.proofs.Headless.{facs_read, rsdp_read}
 use Rattle.acpi_writer.proofs.FadtRead.{fadt_read}
 use Rattle.acpi_writer.proofs.GicRead.{gic_madt_read}
+use Rattle.acpi_writer.proofs.RiscvRead.{riscv_madt_read}
 use Rattle.acpi_writer.proofs.GtdtRead.{gtdt_read}
 use Rattle.acpi_writer.proofs.Tables.{ids_are_read}
 use Rattle.acpi_writer.proofs.MadtRead.{madt_read, mailbox_read}
@@ -21,6 +22,7 @@ returns g c = record {
   madt = madt_read;
   mailbox = mailbox_read;
   gic_madt = gic_madt_read;
+  riscv_madt = riscv_madt_read;
   mcfg = mcfg_read;
   hpet = hpet_read;
   bgrt = bgrt_read;

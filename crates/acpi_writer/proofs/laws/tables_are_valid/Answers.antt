@@ -10,6 +10,7 @@ returns c = record {
   fadt = λ ids d t is. valid refl is.written refl;
   madt = λ ids d t is. valid refl is.written refl;
   gic_madt = λ ids d t is. valid refl is.written refl;
+  riscv_madt = λ ids d t is. valid refl is.written refl;
   mcfg = λ ids d t is. valid refl is.written refl;
   hpet = λ ids d t is. valid refl is.written refl;
   bgrt = λ ids d t is. valid refl is.written refl;

@@ -1,0 +1,172 @@
+//! The MADT of a RISC-V machine, from its harts and interrupt controllers (ACPI 6.6, section 5.2.12).
+ghost use Rattle.std.specs.Prelude.{◌≡◌, ◌^◌, ◌<◌, length, take, IfOk};
+ghost use Rattle.acpi_base.specs.Words.{Gives};
+ghost use Rattle.acpi_writer.specs.Words.{AreRiscvFit, IsRiscvMadt, Keeps, aplic_fields, imsic_fields, most, plic_fields, rintc_fields, riscv_checked, riscv_written, sized};
+
+use super::entries::Fixed;
+use super::has_some;
+use crate::checked::{Checked, require};
+use crate::error::WriterError;
+use crate::fields::{Field, Record};
+use crate::ids::TableIds;
+use crate::spelled::{Each, Spelled, Then};
+use crate::table::{checked_size, write_checked};
+use acpi_base::Signature;
+use acpi_riscv::{Aplic, Imsic, Plic, Rintc};
+
+/// What the MADT of a RISC-V machine is to contain, in the order of its entries.
+#[repr(C)]
+#[derive(Clone, Copy)]
+pub struct RiscvContents<'a> {
+    /// The harts.
+    pub rintcs: &'a [Rintc],
+    /// What the incoming MSI controllers of all harts have in common: at most one, by the specification.
+    pub imsics: &'a [Imsic],
+    /// Advanced platform level interrupt controllers.
+    pub aplics: &'a [Aplic],
+    /// Platform level interrupt controllers.
+    pub plics: &'a [Plic],
+}
+
+impl Record for Rintc {
+    type Fields = [Field; 10];
+
+    ghost fields_of = { rintc_fields };
+
+    #[tactic(auto, unfolding(crate::specs::RiscvMadt::rintc_fields))]
+    fn fields(&self) -> [Field; 10] {
+        [
+            Field::U8(0x18),
+            Field::U8(36),
+            Field::U8(self.version),
+            Field::Zeros(1),
+            Field::U32(self.flags),
+            Field::U64(self.hart_id),
+            Field::U32(self.processor_uid),
+            Field::U32(self.external_interrupt_controller_id),
+            Field::U64(self.imsic_address),
+            Field::U32(self.imsic_size),
+        ]
+    }
+}
+
+impl Record for Imsic {
+    type Fields = [Field; 11];
+
+    ghost fields_of = { imsic_fields };
+
+    #[tactic(auto, unfolding(crate::specs::RiscvMadt::imsic_fields))]
+    fn fields(&self) -> [Field; 11] {
+        [
+            Field::U8(0x19),
+            Field::U8(16),
+            Field::U8(self.version),
+            Field::Zeros(1),
+            Field::U32(self.flags),
+            Field::U16(self.supervisor_identities),
+            Field::U16(self.guest_identities),
+            Field::U8(self.guest_index_bits),
+            Field::U8(self.hart_index_bits),
+            Field::U8(self.group_index_bits),
+            Field::U8(self.group_index_shift),
+        ]
+    }
+}
+
+impl Record for Aplic {
+    type Fields = [Field; 11];
+
+    ghost fields_of = { aplic_fields };
+
+    #[tactic(auto, unfolding(crate::specs::RiscvMadt::aplic_fields))]
+    fn fields(&self) -> [Field; 11] {
+        [
+            Field::U8(0x1a),
+            Field::U8(36),
+            Field::U8(self.version),
+            Field::U8(self.id),
+            Field::U32(self.flags),
+            Field::U64(self.hardware_id),
+            Field::U16(self.idc_count),
+            Field::U16(self.source_count),
+            Field::U32(self.global_system_interrupt_base),
+            Field::U64(self.address),
+            Field::U32(self.size),
+        ]
+    }
+}
+
+impl Record for Plic {
+    type Fields = [Field; 11];
+
+    ghost fields_of = { plic_fields };
+
+    #[tactic(auto, unfolding(crate::specs::RiscvMadt::plic_fields))]
+    fn fields(&self) -> [Field; 11] {
+        [
+            Field::U8(0x1b),
+            Field::U8(36),
+            Field::U8(self.version),
+            Field::U8(self.id),
+            Field::U64(self.hardware_id),
+            Field::U16(self.source_count),
+            Field::U16(self.max_priority),
+            Field::U32(self.flags),
+            Field::U32(self.size),
+            Field::U64(self.address),
+            Field::U32(self.global_system_interrupt_base),
+        ]
+    }
+}
+
+impl Checked for RiscvContents<'_> {
+    ghost checked = { riscv_checked };
+
+    fn check(&self) -> Result<(), WriterError> {
+        require(has_some(self.rintcs), WriterError::NoProcessor)
+    }
+}
+
+/// All after the header: the fields of APICs, which are 0, and the entries.
+macro_rules! body_of {
+    ($contents:expr) => {{
+        let fixed = Fixed {
+            local_apic_address: 0,
+            also_has_legacy_pics: false,
+        };
+        let controllers = Then(Each($contents.aplics), Each($contents.plics));
+        Then(fixed, Then(Each($contents.rintcs), Then(Each($contents.imsics), controllers)))
+    }};
+}
+
+/// How many bytes the MADT has, or the first error of `write_riscv_madt` in a slice of any length.
+#[tactic(auto, unfolding(crate::specs::RiscvMadt::riscv_written))]
+pub fn riscv_size(ids: &TableIds, contents: &RiscvContents<'_>) -> Result<usize, WriterError>
+    ensures exact { result ≡ sized (riscv_written most ids.now contents.now) }
+    ensures short { IfOk result (λ n. n < 2 ^ 32) }
+    ensures fits { IfOk result (λ n. AreRiscvFit contents.now) }
+{
+    checked_size(Signature::MADT, 7, ids, contents, &body_of!(contents))
+}
+
+/// Writes the MADT of a RISC-V machine, of revision 7, to the front of a slice, and returns how many bytes it has. Its
+/// entries stand in the order of the fields, a RINTC with 36 bytes; whether ids and versions are those of the
+/// specification isn't checked. Local Interrupt Controller Address and Flags, which are those of APICs, are 0.
+///
+/// Returns, in this order, `NoProcessor` if there is no hart, `BadName` if a name of the ids is not valid UTF-8,
+/// `NoRoom` if the slice is shorter than the table, and `TooLong` if the table has 2^32 bytes or more.
+#[tactic(auto, unfolding(crate::specs::RiscvMadt::riscv_written))]
+pub fn write_riscv_madt(
+    out: &mut [u8],
+    ids: &TableIds,
+    contents: &RiscvContents<'_>,
+) -> Result<usize, WriterError>
+    // The bytes, or the first error, are those that are defined.
+    ensures exact { Gives (λ n. take n out.new) result (riscv_written (length out.old) ids.now contents.now) }
+    // What stands after the table is unchanged, and after an error the whole slice is.
+    ensures keeps { Keeps result out.old out.new }
+    // The numbers that were passed fit, so that they are what is read (`tables_are_read`).
+    ensures fits { IfOk result (λ n. IsRiscvMadt ids.now contents.now (take n out.new)) }
+{
+    write_checked(out, Signature::MADT, 7, ids, contents, &body_of!(contents))
+}
