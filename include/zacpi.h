@@ -965,6 +965,53 @@ ZACPI_STATUS zacpi_list_gtdt_faults(const struct zacpi_source *source,
                                     struct zacpi_entry_fault *out, size_t capacity, size_t *count,
                                     struct zacpi_signature *signature);
 
+/* RISC-V: harts and interrupt controllers (MADT, ACPI 6.6, section 5.2.12) ---------------------- */
+
+struct zacpi_rintc { /* RISC-V Interrupt Controller, Type 0x18: a hart. An entry of 20
+                      * bytes has neither controller id nor IMSIC: zeros */
+    uint64_t hart_id;
+    uint64_t imsic_address; /* IMSIC Base Address. 0: none */
+    uint32_t flags;         /* bit 0 Enabled, 1 Online Capable */
+    uint32_t processor_uid; /* ACPI Processor UID */
+    uint32_t external_interrupt_controller_id; /* bits 24 to 31 the id of a PLIC or an APLIC, bits 0
+                                                * to 15 the context or the IDC in it */
+    uint32_t imsic_size;
+    uint8_t version;
+};
+struct zacpi_imsic { /* Incoming MSI Controller, Type 0x19: what those of all harts share */
+    uint32_t flags;
+    uint16_t supervisor_identities, guest_identities;
+    uint8_t guest_index_bits, hart_index_bits, group_index_bits, group_index_shift;
+    uint8_t version;
+};
+struct zacpi_aplic { /* Advanced Platform Level Interrupt Controller, Type 0x1a */
+    uint64_t address;
+    uint64_t hardware_id; /* its first byte is the lowest */
+    uint32_t flags, global_system_interrupt_base, size;
+    uint16_t idc_count;   /* Number of IDCs. 0: it sends messages to the IMSICs */
+    uint16_t source_count;
+    uint8_t id, version;
+};
+struct zacpi_plic { /* Platform Level Interrupt Controller, Type 0x1b */
+    uint64_t address;
+    uint64_t hardware_id; /* its first byte is the lowest */
+    uint32_t flags, global_system_interrupt_base, size;
+    uint16_t source_count, max_priority;
+    uint8_t id, version;
+};
+
+/* Each lists the entries of one Type of the first valid MADT, up to the first malformed front. One
+ * with fewer bytes than its type (20, 16, 36 and 36 for 0x18 to 0x1b) is skipped. Fails with an
+ * opening error, or ZACPI_TABLE_MISSING "APIC". */
+ZACPI_STATUS zacpi_list_rintcs(const struct zacpi_source *source, struct zacpi_rintc *out,
+                               size_t capacity, size_t *count, struct zacpi_signature *signature);
+ZACPI_STATUS zacpi_list_imsics(const struct zacpi_source *source, struct zacpi_imsic *out,
+                               size_t capacity, size_t *count, struct zacpi_signature *signature);
+ZACPI_STATUS zacpi_list_aplics(const struct zacpi_source *source, struct zacpi_aplic *out,
+                               size_t capacity, size_t *count, struct zacpi_signature *signature);
+ZACPI_STATUS zacpi_list_plics(const struct zacpi_source *source, struct zacpi_plic *out,
+                              size_t capacity, size_t *count, struct zacpi_signature *signature);
+
 /* NUMA: domains (SRAT, section 5.2.16) and distances (SLIT, section 5.2.17) -------------------- */
 
 struct zacpi_memory_affinity { /* Memory Affinity, section 5.2.16.2. Flags: bit 0 Enabled, 1
@@ -1236,6 +1283,16 @@ struct zacpi_gic_contents {
                                                    * has_spis is 0 */
     size_t msi_frames_length;
 };
+struct zacpi_riscv_contents {
+    const struct zacpi_rintc *rintcs;
+    size_t rintcs_length;
+    const struct zacpi_imsic *imsics;
+    size_t imsics_length;
+    const struct zacpi_aplic *aplics;
+    size_t aplics_length;
+    const struct zacpi_plic *plics;
+    size_t plics_length;
+};
 struct zacpi_apic_domain { /* sections 5.2.16.1 and 5.2.16.3 */
     uint32_t local_apic_id; /* APIC ID or X2APIC ID */
     uint32_t domain;
@@ -1318,6 +1375,12 @@ ZACPI_STATUS zacpi_write_madt(const struct zacpi_table_ids *ids,
 ZACPI_STATUS zacpi_write_gic_madt(const struct zacpi_table_ids *ids,
                                   const struct zacpi_gic_contents *contents, uint8_t *out,
                                   size_t capacity, size_t *length);
+/* Writes a MADT of revision 7 of a RISC-V machine (ACPI 6.6, section 5.2.12): the lists in their
+ * order, a RINTC with 36 bytes. Fails with ZACPI_NO_PROCESSOR, ZACPI_BAD_NAME, ZACPI_NO_ROOM or
+ * ZACPI_TOO_LONG. */
+ZACPI_STATUS zacpi_write_riscv_madt(const struct zacpi_table_ids *ids,
+                                    const struct zacpi_riscv_contents *contents, uint8_t *out,
+                                    size_t capacity, size_t *length);
 /* Writes an MCFG of these regions, in order (PCI Firmware Specification, section 4.1.2). Fails with
  * ZACPI_BAD_NAME, ZACPI_NO_ROOM or ZACPI_TOO_LONG. */
 ZACPI_STATUS zacpi_write_mcfg(const struct zacpi_table_ids *ids,

@@ -38,6 +38,19 @@ static inline struct zacpi_gic_contents zacpi_gic_contents_kept(const struct zac
     return kept;
 }
 
+static inline struct zacpi_riscv_contents zacpi_riscv_contents_kept(const struct zacpi_riscv_contents *given) {
+    struct zacpi_riscv_contents kept = *given;
+    if (!kept.rintcs_length)
+        kept.rintcs = (const struct zacpi_rintc *)ZACPI_NOTHING;
+    if (!kept.imsics_length)
+        kept.imsics = (const struct zacpi_imsic *)ZACPI_NOTHING;
+    if (!kept.aplics_length)
+        kept.aplics = (const struct zacpi_aplic *)ZACPI_NOTHING;
+    if (!kept.plics_length)
+        kept.plics = (const struct zacpi_plic *)ZACPI_NOTHING;
+    return kept;
+}
+
 static inline struct zacpi_srat_contents zacpi_srat_contents_kept(const struct zacpi_srat_contents *given) {
     struct zacpi_srat_contents kept = *given;
     if (!kept.apics_length)
@@ -688,6 +701,50 @@ ZACPI_STATUS zacpi_list_gtdt_faults(const struct zacpi_source *source,
                                     capacity, count, signature ? signature : &unasked);
 }
 
+zacpi_status zacpi_1_list_rintcs(const struct zacpi_source *source, struct zacpi_rintc *out,
+                                 size_t capacity, size_t *count, struct zacpi_signature *signature);
+ZACPI_NONNULL((1, 4))
+ZACPI_STATUS zacpi_list_rintcs(const struct zacpi_source *source, struct zacpi_rintc *out,
+                               size_t capacity, size_t *count, struct zacpi_signature *signature) {
+    const struct zacpi_source kept_source = zacpi_source_kept(source);
+    struct zacpi_signature unasked;
+    return zacpi_1_list_rintcs(&kept_source, capacity ? out : (struct zacpi_rintc *)ZACPI_NOTHING,
+                               capacity, count, signature ? signature : &unasked);
+}
+
+zacpi_status zacpi_1_list_imsics(const struct zacpi_source *source, struct zacpi_imsic *out,
+                                 size_t capacity, size_t *count, struct zacpi_signature *signature);
+ZACPI_NONNULL((1, 4))
+ZACPI_STATUS zacpi_list_imsics(const struct zacpi_source *source, struct zacpi_imsic *out,
+                               size_t capacity, size_t *count, struct zacpi_signature *signature) {
+    const struct zacpi_source kept_source = zacpi_source_kept(source);
+    struct zacpi_signature unasked;
+    return zacpi_1_list_imsics(&kept_source, capacity ? out : (struct zacpi_imsic *)ZACPI_NOTHING,
+                               capacity, count, signature ? signature : &unasked);
+}
+
+zacpi_status zacpi_1_list_aplics(const struct zacpi_source *source, struct zacpi_aplic *out,
+                                 size_t capacity, size_t *count, struct zacpi_signature *signature);
+ZACPI_NONNULL((1, 4))
+ZACPI_STATUS zacpi_list_aplics(const struct zacpi_source *source, struct zacpi_aplic *out,
+                               size_t capacity, size_t *count, struct zacpi_signature *signature) {
+    const struct zacpi_source kept_source = zacpi_source_kept(source);
+    struct zacpi_signature unasked;
+    return zacpi_1_list_aplics(&kept_source, capacity ? out : (struct zacpi_aplic *)ZACPI_NOTHING,
+                               capacity, count, signature ? signature : &unasked);
+}
+
+zacpi_status zacpi_1_list_plics(const struct zacpi_source *source, struct zacpi_plic *out,
+                                size_t capacity, size_t *count, struct zacpi_signature *signature);
+ZACPI_NONNULL((1, 4))
+ZACPI_STATUS zacpi_list_plics(const struct zacpi_source *source, struct zacpi_plic *out,
+                              size_t capacity, size_t *count, struct zacpi_signature *signature) {
+    const struct zacpi_source kept_source = zacpi_source_kept(source);
+    struct zacpi_signature unasked;
+    return zacpi_1_list_plics(&kept_source, capacity ? out : (struct zacpi_plic *)ZACPI_NOTHING,
+                              capacity, count, signature ? signature : &unasked);
+}
+
 zacpi_status zacpi_1_list_memory_affinities(const struct zacpi_source *source,
                                             struct zacpi_memory_affinity *out, size_t capacity,
                                             size_t *count, struct zacpi_signature *signature);
@@ -1032,6 +1089,18 @@ ZACPI_STATUS zacpi_write_gic_madt(const struct zacpi_table_ids *ids,
     const struct zacpi_gic_contents kept_contents = zacpi_gic_contents_kept(contents);
     return zacpi_1_write_gic_madt(ids, &kept_contents, capacity ? out : (uint8_t *)ZACPI_NOTHING,
                                   capacity, length);
+}
+
+zacpi_status zacpi_1_write_riscv_madt(const struct zacpi_table_ids *ids,
+                                      const struct zacpi_riscv_contents *contents, uint8_t *out,
+                                      size_t capacity, size_t *length);
+ZACPI_NONNULL((1, 2, 5))
+ZACPI_STATUS zacpi_write_riscv_madt(const struct zacpi_table_ids *ids,
+                                    const struct zacpi_riscv_contents *contents, uint8_t *out,
+                                    size_t capacity, size_t *length) {
+    const struct zacpi_riscv_contents kept_contents = zacpi_riscv_contents_kept(contents);
+    return zacpi_1_write_riscv_madt(ids, &kept_contents, capacity ? out : (uint8_t *)ZACPI_NOTHING,
+                                    capacity, length);
 }
 
 zacpi_status zacpi_1_write_mcfg(const struct zacpi_table_ids *ids,

@@ -255,6 +255,21 @@ static void print_gic(const struct zacpi_source *source) {
          it->id, it->has_spis, it->spi_base, it->spi_count);
 }
 
+static void print_riscv(const struct zacpi_source *source) {
+    LIST("rintcs", zacpi_rintc, zacpi_list_rintcs, ALL, "%llx %llx %x %u %x %x %u\n", (wide)it->hart_id,
+         (wide)it->imsic_address, it->flags, it->processor_uid, it->external_interrupt_controller_id, it->imsic_size,
+         it->version);
+    LIST("imsics", zacpi_imsic, zacpi_list_imsics, ALL, "%x %u %u %u %u %u %u %u\n", it->flags,
+         it->supervisor_identities, it->guest_identities, it->guest_index_bits, it->hart_index_bits,
+         it->group_index_bits, it->group_index_shift, it->version);
+    LIST("aplics", zacpi_aplic, zacpi_list_aplics, ALL, "%llx %llx %x %u %x %u %u %u %u\n", (wide)it->address,
+         (wide)it->hardware_id, it->flags, it->global_system_interrupt_base, it->size, it->idc_count, it->source_count,
+         it->id, it->version);
+    LIST("plics", zacpi_plic, zacpi_list_plics, ALL, "%llx %llx %x %u %x %u %u %u %u\n", (wide)it->address,
+         (wide)it->hardware_id, it->flags, it->global_system_interrupt_base, it->size, it->source_count,
+         it->max_priority, it->id, it->version);
+}
+
 static void print_timer(const struct zacpi_arm_timer *t) {
     if (!t->present) puts("timer none");
     else if (!t->interrupt) printf("timer %u\n", t->always_on);
@@ -383,6 +398,7 @@ void print_answers(const struct zacpi_source *source) {
     print_devices(source);
     print_interrupts(source);
     print_gic(source);
+    print_riscv(source);
     print_timers(source);
     print_domains(source);
     print_dmar(source);

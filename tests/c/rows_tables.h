@@ -6,7 +6,7 @@
 #include "zacpi.h"
 
 #define BASE 0x100000u
-#define SIZE 0x14000u
+#define SIZE 0x15000u
 #define AT(n) (BASE + 0x200u * (n))       /* where table N lies */
 #define TAIL (BASE + SIZE - 36u)          /* the last 36 bytes: a header whose table isn't lent as a whole */
 #define CUT(n) (0x180000u + 0x1000u * (n)) /* three regions with the first bytes of a table each */
@@ -32,7 +32,8 @@ struct put {
 enum { EMPTY, ARM, PC, ODD, HOLES, SUM, DESKTOP, MOBILE, WORKSTATION, SERVER, SOHO, APPLIANCE, PERFORMANCE, TABLET,
        RESERVED, WIDE, TIMER_5, LEAST, OLD, HALF, HALF_X, UNITS, UNITS_10, UNITS_CUT,
        UNITS_END, SAPIC_BETWEEN, NMI_2, LENGTH_0, NO_FADT, BUS_1, TRIGGER_2, LINT_2, HPETS, MAILBOX, POWER,
-       REDUCED, PLAIN, BARE, BROKEN, FADTLESS, FAULTS, FRONTS, UNITS_BETWEEN, UNITS_FAULTS, UNITS_LATER, /* root tables, in the order of `tables` */
+       REDUCED, PLAIN, BARE, BROKEN, FADTLESS, FAULTS, FRONTS, UNITS_BETWEEN, UNITS_FAULTS, UNITS_LATER, RISCV,
+       RISCV_CUT, /* root tables, in the order of `tables` */
        RSDP_0, RSDP_2, RSDP_40, RSDP_MIXED, RSDP_LONG, RSDP_LOST, RSDP_CUT, RSDP_SHORT,
        RSDP_NONE, /* RSDPs, and the last one is none */
        MADT_GIC, GTDT, SRAT, SLIT, MCFG, FADT, MADT_PC, HPET_SHORT, HPET, MADT_CUT, GTDT_CUT, SRAT_CUT, SLIT_ODD,
@@ -46,7 +47,7 @@ enum { EMPTY, ARM, PC, ODD, HOLES, SUM, DESKTOP, MOBILE, WORKSTATION, SERVER, SO
        IVRS_48, MADT_SAPIC_BETWEEN, MADT_NMI_2, MADT_LENGTH_0, MADT_BUS_1, MADT_TRIGGER_2, MADT_LINT_2, MADT_MAILBOX,
        FADT_POWER, FADT_REDUCED, FADT_PLAIN, FADT_BARE, FADT_BROKEN, DSDT_POWER, DSDT_S5, SSDT_S5, MADT_NO_GICD,
        MADT_FRONT, GTDT_FAULTS, GTDT_FRONT, SRAT_FAULTS, SRAT_FRONT, DMAR_BETWEEN, DMAR_FAULTS, DMAR_LATER,
-       IVRS_BETWEEN, IVRS_FAULTS };
+       IVRS_BETWEEN, IVRS_FAULTS, MADT_RISCV, MADT_RISCV_CUT };
 
 /* Entry[n] of an RSDT, from 36 on (section 5.2.7), and of an XSDT (section 5.2.8). */
 PUTS(no_fields, {36, 0, 0});
@@ -93,6 +94,8 @@ PUTS(lint_2, {36, 4, AT(FADT)}, {40, 4, AT(MADT_LINT_2)});
 /* Four blocks of event timers, of which the second isn't in memory, and the first is listed twice. */
 PUTS(hpets, {36, 4, AT(HPET_0)}, {40, 4, AT(HPET_PORT)}, {44, 4, AT(HPET_3)}, {48, 4, AT(HPET_0)});
 PUTS(mailbox, {36, 4, AT(MADT_MAILBOX)});
+PUTS(riscv, {36, 4, AT(MADT_RISCV)});
+PUTS(riscv_cut, {36, 4, AT(MADT_RISCV_CUT)});
 
 PUTS(madt_gic,
     {44, 2, HEADER(0x0c, 24)}, {44 + 4, 4, 7} /* GIC ID */, {44 + 8, 8, 0x2f000000} /* Physical Base Address */,
@@ -120,6 +123,34 @@ PUTS(madt_gic,
     {310, 2, HEADER(0x0e, 16)}, {310 + 4, 8, 0x12f300000} /* Discovery Range Base Address; Discovery Range Length 0 */,
     {326, 2, HEADER(0x0f, 20)}, {326 + 4, 4, 10} /* GIC ITS ID */,
     {326 + 8, 8, 0x12f050000} /* Physical Base Address */);
+/* Two harts, the second with 20 bytes, between the controllers (ACPI 6.6, section 5.2.12). */
+PUTS(madt_riscv,
+    {44, 2, HEADER(0x18, 36)}, {44 + 2, 1, 1} /* Version */, {44 + 4, 4, 3} /* Flags: Enabled, Online Capable */,
+    {44 + 8, 8, 0x0807060504030201} /* Hart ID */, {44 + 16, 4, 0x14131211} /* ACPI Processor UID */,
+    {44 + 20, 4, 0x02000005} /* External Interrupt Controller ID */,
+    {44 + 24, 8, 0x2827262524232221} /* IMSIC Base Address */, {44 + 32, 4, 0x34333231} /* IMSIC Size */,
+    {80, 2, HEADER(0x1a, 36)}, {80 + 2, 1, 1} /* Version */, {80 + 3, 1, 2} /* APLIC ID */,
+    {80 + 4, 4, 0x47464544} /* Flags */, {80 + 8, 8, 0x4f4e4d4c4b4a4948} /* Hardware ID */,
+    {80 + 16, 2, 0x5150} /* Number of IDCs */, {80 + 18, 2, 0x5352} /* Total External Interrupt Sources Supported */,
+    {80 + 20, 4, 0x57565554} /* Global System Interrupt Base */, {80 + 24, 8, 0x5f5e5d5c5b5a5958} /* APLIC Address */,
+    {80 + 32, 4, 0x63626160} /* APLIC Size */,
+    {116, 2, HEADER(0x18, 20)}, {116 + 2, 1, 9} /* Version */, {116 + 8, 8, 7} /* Hart ID */,
+    {116 + 16, 4, 8} /* ACPI Processor UID */,
+    {136, 2, HEADER(0x1b, 36)}, {136 + 2, 1, 3} /* Version */, {136 + 3, 1, 4} /* PLIC ID */,
+    {136 + 4, 8, 0x7b7a797877767574} /* Hardware ID */,
+    {136 + 12, 2, 0x7d7c} /* Total External Interrupt Sources Supported */, {136 + 14, 2, 0x7f7e} /* Max Priority */,
+    {136 + 16, 4, 0x83828180} /* Flags */, {136 + 20, 4, 0x87868584} /* PLIC Size */,
+    {136 + 24, 8, 0x8f8e8d8c8b8a8988} /* PLIC Address */,
+    {136 + 32, 4, 0x93929190} /* Global System Interrupt Vector Base */,
+    {172, 2, HEADER(0x19, 16)}, {172 + 2, 1, 5} /* Version */, {172 + 4, 4, 0xa7a6a5a4} /* Flags */,
+    {172 + 8, 2, 0xa9a8} /* Number of Supervisor Mode Interrupt Identities */,
+    {172 + 10, 2, 0xabaa} /* Number of Guest Mode Interrupt Identities */, {172 + 12, 1, 0xac} /* Guest Index Bits */,
+    {172 + 13, 1, 0xad} /* Hart Index Bits */, {172 + 14, 1, 0xae} /* Group Index Bits */,
+    {172 + 15, 1, 0xaf} /* Group Index Shift */);
+/* Of each type an entry that is a byte too short for it; a hart; Length 0; and a hart that no walk reaches. */
+PUTS(madt_riscv_cut, {44, 2, HEADER(0x18, 19)}, {63, 2, HEADER(0x19, 15)}, {78, 2, HEADER(0x1a, 35)},
+     {113, 2, HEADER(0x1b, 35)}, {148, 2, HEADER(0x18, 20)}, {148 + 8, 8, 6} /* Hart ID */, {168, 2, HEADER(0x18, 0)},
+     {170, 2, HEADER(0x18, 20)}, {170 + 8, 8, 5} /* Hart ID */);
 /* A distributor, and one byte after it in which no entry begins. */
 PUTS(madt_cut, {44, 2, HEADER(0x0c, 24)});
 /* Revision 5, in which a GICC has no TRBE Interrupt. */
@@ -243,7 +274,7 @@ static const struct table {
     {AT(HPETS), "RSDT", 1, 52, hpets}, {AT(MAILBOX), "RSDT", 1, 40, mailbox}, {AT(POWER), "RSDT", 1, 48, power},
     {AT(REDUCED), "RSDT", 1, 40, reduced}, {AT(PLAIN), "RSDT", 1, 40, plain}, {AT(BARE), "RSDT", 1, 40, bare},
     {AT(BROKEN), "RSDT", 1, 44, broken}, {AT(FADTLESS), "RSDT", 1, 40, fadtless}, {AT(FAULTS), "RSDT", 1, 48, faults},
-    {AT(FRONTS), "RSDT", 1, 48, fronts},
+    {AT(FRONTS), "RSDT", 1, 48, fronts}, {AT(RISCV), "RSDT", 1, 40, riscv}, {AT(RISCV_CUT), "RSDT", 1, 40, riscv_cut},
     {AT(MADT_GIC), "APIC", 6, 346, madt_gic}, {AT(GTDT), "GTDT", 3, 260, gtdt}, {AT(SRAT), "SRAT", 3, 274, srat},
     {AT(SLIT), "SLIT", 1, 48, slit}, {AT(MCFG), "MCFG", 1, 108, mcfg}, {AT(FADT), "FACP", 6, 276, fadt},
     {AT(MADT_PC), "APIC", 4, 96, madt_pc}, {AT(HPET_SHORT), "HPET", 3, 48, no_fields}, {AT(HPET), "HPET", 1, 56, hpet},
@@ -293,17 +324,17 @@ static const struct table {
     {AT(MADT_SAPIC_BETWEEN), "APIC", 5, 76, madt_sapic_between}, {AT(MADT_NMI_2), "APIC", 5, 70, madt_nmi_2},
     {AT(MADT_LENGTH_0), "APIC", 5, 72, madt_length_0}, {AT(MADT_BUS_1), "APIC", 5, 82, madt_bus_1},
     {AT(MADT_TRIGGER_2), "APIC", 5, 84, madt_trigger_2}, {AT(MADT_LINT_2), "APIC", 5, 78, madt_lint_2},
-    {AT(MADT_MAILBOX), "APIC", 5, 85, madt_mailbox},
-    {AT(FADT_POWER), "FACP", 3, 244, fadt_power}, {AT(FADT_REDUCED), "FACP", 5, 268, fadt_reduced},
-    {AT(FADT_PLAIN), "FACP", 3, 244, fadt_plain}, {AT(FADT_BARE), "FACP", 3, 244, fadt_bare},
-    {AT(FADT_BROKEN), "FACP", 1, 116, fadt_broken}, {AT(DSDT_POWER), "DSDT", 2, 43, dsdt_power},
-    {AT(DSDT_S5), "DSDT", 2, 47, dsdt_s5}, {AT(SSDT_S5), "SSDT", 2, 50, ssdt_s5},
-    {AT(MADT_NO_GICD), "APIC", 6, 146, madt_no_gicd}, {AT(MADT_FRONT), "APIC", 6, 146, madt_front},
-    {AT(GTDT_FAULTS), "GTDT", 2, 256, gtdt_faults}, {AT(GTDT_FRONT), "GTDT", 2, 188, gtdt_front},
-    {AT(SRAT_FAULTS), "SRAT", 3, 244, srat_faults}, {AT(SRAT_FRONT), "SRAT", 3, 186, srat_front},
-    {AT(DMAR_BETWEEN), "DMAR", 1, 104, dmar_between}, {AT(DMAR_FAULTS), "DMAR", 1, 150, dmar_faults},
-    {AT(DMAR_LATER), "DMAR", 1, 93, dmar_later}, {AT(IVRS_BETWEEN), "IVRS", 2, 132, ivrs_between},
-    {AT(IVRS_FAULTS), "IVRS", 2, 184, ivrs_faults},
+    {AT(MADT_MAILBOX), "APIC", 5, 85, madt_mailbox}, {AT(FADT_POWER), "FACP", 3, 244, fadt_power},
+    {AT(FADT_REDUCED), "FACP", 5, 268, fadt_reduced}, {AT(FADT_PLAIN), "FACP", 3, 244, fadt_plain},
+    {AT(FADT_BARE), "FACP", 3, 244, fadt_bare}, {AT(FADT_BROKEN), "FACP", 1, 116, fadt_broken},
+    {AT(DSDT_POWER), "DSDT", 2, 43, dsdt_power}, {AT(DSDT_S5), "DSDT", 2, 47, dsdt_s5},
+    {AT(SSDT_S5), "SSDT", 2, 50, ssdt_s5}, {AT(MADT_NO_GICD), "APIC", 6, 146, madt_no_gicd},
+    {AT(MADT_FRONT), "APIC", 6, 146, madt_front}, {AT(GTDT_FAULTS), "GTDT", 2, 256, gtdt_faults},
+    {AT(GTDT_FRONT), "GTDT", 2, 188, gtdt_front}, {AT(SRAT_FAULTS), "SRAT", 3, 244, srat_faults},
+    {AT(SRAT_FRONT), "SRAT", 3, 186, srat_front}, {AT(DMAR_BETWEEN), "DMAR", 1, 104, dmar_between},
+    {AT(DMAR_FAULTS), "DMAR", 1, 150, dmar_faults}, {AT(DMAR_LATER), "DMAR", 1, 93, dmar_later},
+    {AT(IVRS_BETWEEN), "IVRS", 2, 132, ivrs_between}, {AT(IVRS_FAULTS), "IVRS", 2, 184, ivrs_faults},
+    {AT(MADT_RISCV), "APIC", 6, 188, madt_riscv}, {AT(MADT_RISCV_CUT), "APIC", 6, 190, madt_riscv_cut},
     {BIOS + 0x10000, "RSDT", 1, 36, no_fields}};
 
 /* RSDPs: the first byte of OEMID at 9, Revision at 15, RsdtAddress at 16, Length at 20, XsdtAddress at 24 (section

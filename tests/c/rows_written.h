@@ -291,6 +291,8 @@ WRITE(a_gic, gic_madt, &whole_gic)
 WRITE(a_small_gic, gic_madt, &small_gic)
 WRITE(no_interface, gic_madt, &gic_without_processor)
 WRITE(long_range, gic_madt, &gic_of_long_range)
+WRITE(a_riscv_madt, riscv_madt, &whole_riscv)
+WRITE(no_hart, riscv_madt, &riscv_without_hart)
 WRITE(a_fadt, fadt, &pc_fadt)
 WRITE(a_reduced_fadt, fadt, &reduced_fadt)
 WRITE(a_reset_fadt, fadt, &reset_fadt)
@@ -363,7 +365,8 @@ static const struct written_row {
     WRITTEN(a_gtdt_of_zeros, gtdt_without_virtual_el2), WRITTEN(an_arm_machine, arm_machine_bytes),
     NOT_WRITTEN(a_gtdt_as_the_bus, ZACPI_SAME_AS_BUS),
     WRITTEN(a_gic, gic_bytes), WRITTEN(a_small_gic, small_gic_bytes),
-    NOT_WRITTEN(no_interface, ZACPI_NO_PROCESSOR), NOT_WRITTEN(long_range, ZACPI_BAD_RANGE)};
+    NOT_WRITTEN(no_interface, ZACPI_NO_PROCESSOR), NOT_WRITTEN(long_range, ZACPI_BAD_RANGE),
+    WRITTEN(a_riscv_madt, riscv_bytes), NOT_WRITTEN(no_hart, ZACPI_NO_PROCESSOR)};
 
 static void check_written(const struct written_row *row, size_t room, zacpi_status status) {
     size_t length = UNCOUNTED, i, size = status ? 0 : row->length;

@@ -23,6 +23,7 @@ mod memory;
 pub mod platform;
 pub mod power;
 mod raw;
+pub mod riscv;
 mod room;
 pub mod sdt;
 pub mod slit;

@@ -79,6 +79,7 @@ pub(crate) use items;
 
 plain! { Range AmlTable records::IoApic records::GicTranslationService records::DmarScope records::DmarReserved }
 plain! { records::IvrsEntry records::IvrsMemory }
+plain! { records::Rintc records::Imsic records::Aplic records::Plic }
 
 /// Memory for one item of a list, in the form in which the library writes and reads it. An array of 64 is
 /// `[Slot::default(); 64]`.

@@ -209,6 +209,10 @@ lists! {
     zacpi_1_list_gic_redistributors() -> Range;
     zacpi_1_list_gic_translation_services() -> GicTranslationService;
     zacpi_1_list_gic_msi_frames() -> GicMsiFrame;
+    zacpi_1_list_rintcs() -> Rintc;
+    zacpi_1_list_imsics() -> Imsic;
+    zacpi_1_list_aplics() -> Aplic;
+    zacpi_1_list_plics() -> Plic;
     zacpi_1_list_gt_frames() -> GtFrame;
     zacpi_1_list_watchdogs() -> Watchdog;
     zacpi_1_list_gtdt_faults() -> EntryFault;

@@ -60,6 +60,90 @@ records! {
         /// The physical address of the table.
         table_address: u64,
     }
+    /// A hart and its interrupt controller (RINTC, type 0x18). An entry of 20 bytes has neither a controller's id nor
+    /// an IMSIC: zeros.
+    #[non_exhaustive]
+    Rintc {
+        /// Hart ID.
+        hart_id: u64,
+        /// IMSIC Base Address. 0: it has none.
+        imsic_address: u64,
+        /// Flags: bit 0 Enabled, bit 1 Online Capable.
+        flags: u32,
+        /// ACPI Processor UID.
+        processor_uid: u32,
+        /// External Interrupt Controller ID: bits 24 to 31 the id of a PLIC or an APLIC, bits 0 to 15 the context or
+        /// the IDC in it.
+        external_interrupt_controller_id: u32,
+        /// IMSIC Size: in bytes.
+        imsic_size: u32,
+        /// Version.
+        version: u8,
+    }
+    /// What the incoming MSI controllers of all harts have in common (IMSIC, type 0x19).
+    #[non_exhaustive]
+    Imsic {
+        /// Flags: reserved.
+        flags: u32,
+        /// Number of Supervisor Mode Interrupt Identities.
+        supervisor_identities: u16,
+        /// Number of Guest Mode Interrupt Identities.
+        guest_identities: u16,
+        /// Guest Index Bits.
+        guest_index_bits: u8,
+        /// Hart Index Bits.
+        hart_index_bits: u8,
+        /// Group Index Bits.
+        group_index_bits: u8,
+        /// Group Index Shift.
+        group_index_shift: u8,
+        /// Version.
+        version: u8,
+    }
+    /// An advanced platform level interrupt controller (APLIC, type 0x1a).
+    #[non_exhaustive]
+    Aplic {
+        /// APLIC Address: the physical address of its registers.
+        address: u64,
+        /// Hardware ID: its first byte is the lowest.
+        hardware_id: u64,
+        /// Flags: reserved.
+        flags: u32,
+        /// Global System Interrupt Base.
+        global_system_interrupt_base: u32,
+        /// APLIC Size: in bytes.
+        size: u32,
+        /// Number of IDCs. 0: it sends messages to the IMSICs.
+        idc_count: u16,
+        /// Total External Interrupt Sources Supported.
+        source_count: u16,
+        /// APLIC ID.
+        id: u8,
+        /// Version.
+        version: u8,
+    }
+    /// A platform level interrupt controller (PLIC, type 0x1b).
+    #[non_exhaustive]
+    Plic {
+        /// PLIC Address: the physical address of its registers.
+        address: u64,
+        /// Hardware ID: its first byte is the lowest.
+        hardware_id: u64,
+        /// Flags: reserved.
+        flags: u32,
+        /// Global System Interrupt Vector Base.
+        global_system_interrupt_base: u32,
+        /// PLIC Size: in bytes.
+        size: u32,
+        /// Total External Interrupt Sources Supported.
+        source_count: u16,
+        /// Max Priority.
+        max_priority: u16,
+        /// PLIC ID.
+        id: u8,
+        /// Version.
+        version: u8,
+    }
     /// The Firmware ACPI Control Structure (FACS, section 5.2.10).
     #[non_exhaustive]
     Facs {

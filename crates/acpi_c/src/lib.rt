@@ -17,5 +17,6 @@ mod missing;
 mod numa;
 mod pci;
 mod power;
+mod riscv;
 mod tables;
 mod writing;

@@ -1,6 +1,6 @@
 -- The list of processors, whose first is made the boot processor after all are written, and what the strict model says
 -- of the same entries.
-use Rattle.std.proofs.Common.{◌≡◌, ℕ, suc, ◌+◌, ◌<◌, ◌≤◌, List, [], ◌∷◌, length, get_or, slice_set, subst, true, refl, add-one, arith, ◌∙◌, sym, ap, filter_map, Option, Some, None, Result, Ok, Err}
+use Rattle.std.proofs.Common.{◌≡◌, ℕ, suc, ◌+◌, ◌<◌, ◌≤◌, List, [], ◌∷◌, length, get_or, slice_set, subst, true, refl, add-one, arith, ◌∙◌, sym, ap, filter_map, Option, Some, None}
 use Rattle.std.specs.Prelude.{option_and_then}
 use Rattle.acpi_base.specs.FromStd.{cons_option, list_any, result_err, result_ok}
 use Rattle.acpi_base.specs.Words.{item_in, item_of, line_of}

@@ -28,6 +28,7 @@ pub mod Numa
 pub mod Power
 pub mod Records
 pub mod Regions
+pub mod Riscv
 pub mod Routes
 pub mod Shown
 pub mod Types

@@ -3,7 +3,7 @@ use Rattle.std.specs.Prelude.{ℕ, List, filter_map, length, map, Option, Result
 use Rattle.acpi_base.specs.FromStd.{is_some, result_ok}
 use Rattle.acpi_base.specs.Words.{ecam_range, filled_part, header_at, mcfg_entries_of, Memory, ◌>>=◌, own_table_at, plain_kind, table_at, letters_of}
 pub use Rattle.acpi_base.specs.declared.table.signature.Signature.{Signature}
-use Rattle.acpi.specs.Types.{DSDT, HPET, McfgEntry, SSDT}
+use Rattle.acpi.specs.Types.{DSDT, McfgEntry, SSDT}
 use Rattle.acpi_fixed.specs.Words.{dsdt_address_of, fadt_at}
 use Rattle.acpi.specs.Words.{Opened, ecam_address, fadt_kind, hpet_at, hpet_kind, hpet_of, info_of, lookup, mcfg_kind, protection_code, stream_of, width_of}
 use Rattle.acpi_c_lib.specs.Types.{HpetInfo, EcamRange, PciRegion, Root, NoSuchFunction}

@@ -15,6 +15,11 @@ pub use Rattle.acpi_arm.specs.declared.gic.part.SpiRange.{SpiRange}
 pub use Rattle.acpi_arm.specs.declared.gtdt.ArmTimer.{ArmTimer}
 pub use Rattle.acpi_arm.specs.declared.gtdt.Gtdt.{Gtdt}
 pub use Rattle.acpi_arm.specs.declared.timers.SbsaWatchdog.{SbsaWatchdog}
+pub use Rattle.acpi_riscv.specs.declared.entry.Aplic.{Aplic}
+pub use Rattle.acpi_riscv.specs.declared.entry.Imsic.{Imsic}
+pub use Rattle.acpi_riscv.specs.declared.entry.Plic.{Plic}
+pub use Rattle.acpi_riscv.specs.declared.entry.Rintc.{Rintc}
+pub use Rattle.acpi_riscv.specs.declared.entry.RiscvEntry.{RiscvEntry}
 pub use Rattle.acpi_c_lib.specs.declared.arm_records.ArmTimers.{ArmTimers}
 pub use Rattle.acpi_c_lib.specs.declared.arm_records.Watchdog.{Watchdog}
 pub use Rattle.acpi_c_lib.specs.declared.candidates.Candidates.{Candidates}

@@ -1,5 +1,5 @@
 -- The MADT of an Arm machine that is written for C (sections 5.2.12.14 to 5.2.12.18).
-use Rattle.std.specs.Prelude.{ℕ, ◌&&◌, ◌==◌, ◌^◌, Bool, not, nat_lt, List, Option, Some, None, Result, if◌then◌else◌}
+use Rattle.std.specs.Prelude.{ℕ, ◌&&◌, ◌==◌, ◌^◌, Bool, not, nat_lt, Option, Some, None, Result, if◌then◌else◌}
 use Rattle.acpi_base.specs.FromStd.{list_all}
 use Rattle.acpi_base.specs.Words.{◌>>=◌, holds}
 use Rattle.acpi_c_lib.specs.Types.{GicCpuInterface, GicDistributor, GicMsiFrame, GicRedistributors, GicTranslationService, Range, GicContents, BadRange, UnknownCode, Writer}

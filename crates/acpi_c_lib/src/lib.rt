@@ -44,6 +44,7 @@ pub mod processors;
 pub mod records;
 pub mod refusal;
 pub mod regions;
+pub mod riscv;
 pub mod routes;
 pub mod srat_faults;
 pub mod tables;

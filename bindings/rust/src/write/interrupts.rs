@@ -1,11 +1,12 @@
-//! The MADT, of a machine with APICs and of one with a GIC (section 5.2.12).
+//! The MADT, of a machine with APICs, of one with a GIC, and of a RISC-V machine (section 5.2.12).
 
-use super::raw::{self, records::GicContents, records::MadtContents};
+use super::raw::{self, records::GicContents, records::MadtContents, records::RiscvContents};
 use super::{total, TableIds, WriteError};
 use crate::gic::{GicCpuInterface, GicDistributor, GicMsiFrame, GicTranslationService};
 use crate::list::Slot;
 use crate::platform::interrupt::{InterruptSourceOverride, IoApic, NmiLine, NmiProcessor, NmiSource};
 use crate::platform::Processor;
+use crate::riscv::{Aplic, Imsic, Plic, Rintc};
 use crate::Range;
 
 /// The bytes before the entries.
@@ -120,5 +121,40 @@ impl<'a> GicMadt<'a> {
     /// Writes it. Fails with `BadRange`, `NoProcessor`, `BadName`, `NoRoom` or `TooLong`.
     pub fn write(&self, memory: &mut [u8]) -> Result<usize, WriteError> {
         raw::zacpi_1_write_gic_madt(&self.ids, &GicContents::new(self), memory)
+    }
+}
+
+/// A MADT of a RISC-V machine, of revision 7, with its entries sort by sort in the order of these lists (ACPI 6.6,
+/// section 5.2.12). A hart's entry has 36 bytes.
+#[derive(Clone, Copy, Debug, Default)]
+#[non_exhaustive]
+pub struct RiscvMadt<'a> {
+    /// Who made it.
+    pub ids: TableIds,
+    /// The harts.
+    pub rintcs: &'a [Rintc],
+    /// What the incoming MSI controllers of all harts have in common.
+    pub imsics: &'a [Imsic],
+    /// The advanced platform level interrupt controllers.
+    pub aplics: &'a [Aplic],
+    /// The platform level interrupt controllers.
+    pub plics: &'a [Plic],
+}
+
+impl<'a> RiscvMadt<'a> {
+    /// A MADT of these harts, and of nothing else.
+    pub fn new(ids: TableIds, rintcs: &'a [Rintc]) -> Self {
+        RiscvMadt { ids, rintcs, ..RiscvMadt::default() }
+    }
+
+    /// How many bytes [`RiscvMadt::write`] writes.
+    pub fn size(&self) -> usize {
+        let long = [self.rintcs.len(), self.aplics.len(), self.plics.len()].map(|count| count.saturating_mul(36));
+        total(long.into_iter().chain([ENTRIES_AT, self.imsics.len().saturating_mul(16)]))
+    }
+
+    /// Writes it. Fails with `NoProcessor`, `BadName`, `NoRoom` or `TooLong`.
+    pub fn write(&self, memory: &mut [u8]) -> Result<usize, WriteError> {
+        raw::zacpi_1_write_riscv_madt(&self.ids, &RiscvContents::new(self), memory)
     }
 }

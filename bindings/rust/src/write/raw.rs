@@ -6,7 +6,7 @@
 #[path = "records.rs"]
 pub(crate) mod records;
 
-use super::{GicMadt, Gtdt, Madt, Srat, WriteError};
+use super::{GicMadt, Gtdt, Madt, RiscvMadt, Srat, WriteError};
 use crate::list::{Item, Slot};
 use crate::raw::records::{BootGraphic, FixedHardware, HpetInfo, PciRegion, Signature};
 use core::marker::PhantomData;
@@ -56,6 +56,7 @@ writes! {
     zacpi_1_write_table(ids: &TableIds, signature: Signature, revision: u8; body: u8);
     zacpi_1_write_madt(ids: &TableIds, contents: &MadtContents<'_>);
     zacpi_1_write_gic_madt(ids: &TableIds, contents: &GicContents<'_>);
+    zacpi_1_write_riscv_madt(ids: &TableIds, contents: &RiscvContents<'_>);
     zacpi_1_write_mcfg(ids: &TableIds; regions: PciRegion);
     zacpi_1_write_hpet(ids: &TableIds, info: &HpetInfo);
     zacpi_1_write_slit(ids: &TableIds, localities: u64; distances: u8);
@@ -140,6 +141,22 @@ impl<'a> GicContents<'a> {
             translation_services_length: madt.translation_services.len(),
             msi_frames: records_at(madt.msi_frames),
             msi_frames_length: madt.msi_frames.len(),
+            lent: PhantomData,
+        }
+    }
+}
+
+impl<'a> RiscvContents<'a> {
+    pub(super) fn new(madt: &RiscvMadt<'a>) -> Self {
+        RiscvContents {
+            rintcs: madt.rintcs.as_ptr(),
+            rintcs_length: madt.rintcs.len(),
+            imsics: madt.imsics.as_ptr(),
+            imsics_length: madt.imsics.len(),
+            aplics: madt.aplics.as_ptr(),
+            aplics_length: madt.aplics.len(),
+            plics: madt.plics.as_ptr(),
+            plics_length: madt.plics.len(),
             lent: PhantomData,
         }
     }

@@ -1,8 +1,8 @@
 //! What tables are written from, laid out as the structs of `include/zacpi.h`, whose comments tell what each field is.
 //! A list is a pointer and how many items it has; [`super::raw`] makes them of slices.
 use crate::raw::records::{
-    ArmTimers, Console, GicCpuInterface, GicDistributor, GicMsiFrame, GicTranslationService, GtFrame,
-    InterruptSourceOverride, IoApic, MemoryAffinity, NmiLine, NmiSource, Processor, Range, Watchdog,
+    Aplic, ArmTimers, Console, GicCpuInterface, GicDistributor, GicMsiFrame, GicTranslationService, GtFrame, Imsic,
+    InterruptSourceOverride, IoApic, MemoryAffinity, NmiLine, NmiSource, Plic, Processor, Range, Rintc, Watchdog,
 };
 use core::marker::PhantomData;
 
@@ -71,6 +71,8 @@ borrowing! {
         redistributors: *const Range, redistributors_length: usize,
         translation_services: *const GicTranslationService, translation_services_length: usize,
         msi_frames: *const GicMsiFrame, msi_frames_length: usize, }
+    RiscvContents { rintcs: *const Rintc, rintcs_length: usize, imsics: *const Imsic, imsics_length: usize,
+        aplics: *const Aplic, aplics_length: usize, plics: *const Plic, plics_length: usize, }
     SratContents { apics: *const ApicDomain, apics_length: usize, giccs: *const GiccDomain, giccs_length: usize,
         ranges: *const MemoryAffinity, ranges_length: usize, }
     PlatformTimer { kind: u32, block_address: u64, frames: *const GtFrame, frames_length: usize, watchdog: Watchdog, }

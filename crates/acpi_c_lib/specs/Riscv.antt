@@ -1,0 +1,27 @@
+-- The harts and interrupt controllers of a RISC-V machine as C gets them (ACPI 6.6, section 5.2.12).
+use Rattle.std.specs.Prelude.{List, Option, Some, None, Result, filter_map}
+use Rattle.acpi.specs.Words.{madt_kind}
+use Rattle.acpi_riscv.specs.Words.{entries_of}
+use Rattle.acpi_c_lib.specs.Types.{Aplic, Imsic, Plic, Rintc, RiscvEntry}
+use Rattle.acpi_riscv.specs.declared.entry.RiscvEntry.TheVariants as entry
+use Rattle.acpi_c_lib.specs.Below.{Refusal, Source, below_first}
+
+abbrev pub rintc_in : RiscvEntry → Option Rintc
+rintc_in (entry.Rintc e) = Some e
+rintc_in _ = None
+
+abbrev pub imsic_in : RiscvEntry → Option Imsic
+imsic_in (entry.Imsic e) = Some e
+imsic_in _ = None
+
+abbrev pub aplic_in : RiscvEntry → Option Aplic
+aplic_in (entry.Aplic e) = Some e
+aplic_in _ = None
+
+abbrev pub plic_in : RiscvEntry → Option Plic
+plic_in (entry.Plic e) = Some e
+plic_in _ = None
+
+-- the entries of one type of the first valid MADT
+abbrev pub below_riscv : {A : Type 0} → Source → (RiscvEntry → Option A) → Result (List A) Refusal
+below_riscv s record_in = below_first madt_kind s (λ table. filter_map record_in (entries_of table))

@@ -1,0 +1,99 @@
+//! The harts and interrupt controllers of a RISC-V machine, with no heap: each list is written by a walk along the
+//! entries of the MADT.
+ghost use Rattle.std.specs.Prelude.{◌≡◌, Option, filter_map};
+ghost use Rattle.acpi.specs.Words.{madt_kind};
+ghost use Rattle.acpi_riscv.specs.Words.{entries_left, entries_of};
+ghost use Rattle.acpi_c_lib.specs.Types.{RiscvEntry};
+ghost use Rattle.acpi_c_lib.specs.Words.{Fills, Writes, aplic_in, below_riscv, imsic_in, lists_some, plic_in, rintc_in};
+
+use crate::lists::{Listing, fill};
+use crate::opening::first;
+use crate::records::Source;
+use crate::refusal::Refusal;
+use crate::regions::Mapped;
+use acpi::madt::Madt;
+use acpi_riscv::{Aplic, Imsic, Plic, Rintc, RiscvEntry, RiscvEntryIter};
+
+/// What an entry of one type contains.
+pub trait RiscvRecord: Copy {
+    // The record of an entry, if it is of this type.
+    ghost record_in: { RiscvEntry → Option Self };
+
+    /// The record of an entry, if it is of this type.
+    fn of(entry: &RiscvEntry) -> Option<Self>
+        ensures { result ≡ record_in entry.now };
+}
+
+impl<R: RiscvRecord> Listing<(), R> for RiscvEntryIter<'_> {
+    ghost record_of = { λ known. R.record_in };
+
+    ghost left = { λ known s. filter_map R.record_in (entries_left s) };
+
+    ghost gives_first = { λ known s item t given. lists_some R.record_in (λ x. entries_left x) s item t given };
+
+    fn record(_known: &(), entry: RiscvEntry) -> Option<R>
+        ensures { result ≡ R.record_in entry }
+    {
+        R::of(&entry)
+    }
+}
+
+/// Lists the entries of one type of the first valid MADT.
+pub fn riscv_entries<R: RiscvRecord>(source: &Source<'_>, out: &mut [R]) -> Result<usize, Refusal>
+    ensures { Fills result out.old out.new (below_riscv source.now R.record_in) }
+{
+    let memory = Mapped::new(source.regions);
+    let madt = first::<Madt>(&memory, source)?;
+    Ok(fill_entries(madt.bytes(), out))
+}
+
+#[tactic(auto, using(acpi::proofs::First::filter_map_few))]
+fn fill_entries<R: RiscvRecord>(table: &[u8], out: &mut [R]) -> usize
+    ensures { Writes result out.old out.new (filter_map R.record_in (entries_of table.now)) }
+{
+    fill(RiscvEntryIter::over(table), &(), out)
+}
+
+impl RiscvRecord for Rintc {
+    ghost record_in = { rintc_in };
+
+    fn of(entry: &RiscvEntry) -> Option<Rintc> {
+        match entry {
+            RiscvEntry::Rintc(rintc) => Some(*rintc),
+            _ => None,
+        }
+    }
+}
+
+impl RiscvRecord for Imsic {
+    ghost record_in = { imsic_in };
+
+    fn of(entry: &RiscvEntry) -> Option<Imsic> {
+        match entry {
+            RiscvEntry::Imsic(imsic) => Some(*imsic),
+            _ => None,
+        }
+    }
+}
+
+impl RiscvRecord for Aplic {
+    ghost record_in = { aplic_in };
+
+    fn of(entry: &RiscvEntry) -> Option<Aplic> {
+        match entry {
+            RiscvEntry::Aplic(aplic) => Some(*aplic),
+            _ => None,
+        }
+    }
+}
+
+impl RiscvRecord for Plic {
+    ghost record_in = { plic_in };
+
+    fn of(entry: &RiscvEntry) -> Option<Plic> {
+        match entry {
+            RiscvEntry::Plic(plic) => Some(*plic),
+            _ => None,
+        }
+    }
+}
