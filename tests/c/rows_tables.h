@@ -6,7 +6,7 @@
 #include "zacpi.h"
 
 #define BASE 0x100000u
-#define SIZE 0x15000u
+#define SIZE 0x18000u
 #define AT(n) (BASE + 0x200u * (n))       /* where table N lies */
 #define TAIL (BASE + SIZE - 36u)          /* the last 36 bytes: a header whose table isn't lent as a whole */
 #define CUT(n) (0x180000u + 0x1000u * (n)) /* three regions with the first bytes of a table each */

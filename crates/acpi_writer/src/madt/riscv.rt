@@ -1,16 +1,17 @@
 //! The MADT of a RISC-V machine, from its harts and interrupt controllers (ACPI 6.6, section 5.2.12).
-ghost use Rattle.std.specs.Prelude.{◌≡◌, ◌^◌, ◌<◌, length, take, IfOk};
+ghost use Rattle.std.specs.Prelude.{◌≡◌, length, take, IfOk};
+ghost use Rattle.acpi.specs.Types.{MADT};
 ghost use Rattle.acpi_base.specs.Words.{Gives};
-ghost use Rattle.acpi_writer.specs.Words.{AreRiscvFit, IsRiscvMadt, Keeps, aplic_fields, imsic_fields, most, plic_fields, rintc_fields, riscv_checked, riscv_written, sized};
+ghost use Rattle.acpi_writer.specs.Words.{AreRiscvFit, IsRiscvMadt, Keeps, aplic_fields, imsic_fields, plic_fields, rintc_fields, riscv_body, riscv_checked, riscv_written};
 
 use super::entries::Fixed;
 use super::has_some;
-use crate::checked::{Checked, require};
+use crate::checked::require;
 use crate::error::WriterError;
 use crate::fields::{Field, Record};
 use crate::ids::TableIds;
-use crate::spelled::{Each, Spelled, Then};
-use crate::table::{checked_size, write_checked};
+use crate::spelled::{Each, Then};
+use crate::table::{Table, write};
 use acpi_base::Signature;
 use acpi_riscv::{Aplic, Imsic, Plic, Rintc};
 
@@ -119,34 +120,39 @@ impl Record for Plic {
     }
 }
 
-impl Checked for RiscvContents<'_> {
+impl<'a> Table for RiscvContents<'a> {
+    type Body = Then<
+        Fixed,
+        Then<Each<'a, Rintc>, Then<Each<'a, Imsic>, Then<Each<'a, Aplic>, Each<'a, Plic>>>>,
+    >;
+
+    ghost head_of = { λ _. (MADT, 7) };
+
     ghost checked = { riscv_checked };
+
+    ghost body_of = { riscv_body };
+
+    ghost fits = { AreRiscvFit };
+
+    fn head(&self) -> (Signature, u8) {
+        (Signature::MADT, 7)
+    }
 
     fn check(&self) -> Result<(), WriterError> {
         require(has_some(self.rintcs), WriterError::NoProcessor)
     }
-}
 
-/// All after the header: the fields of APICs, which are 0, and the entries.
-macro_rules! body_of {
-    ($contents:expr) => {{
+    fn body(&self) -> Self::Body {
         let fixed = Fixed {
             local_apic_address: 0,
             also_has_legacy_pics: false,
         };
-        let controllers = Then(Each($contents.aplics), Each($contents.plics));
-        Then(fixed, Then(Each($contents.rintcs), Then(Each($contents.imsics), controllers)))
-    }};
-}
-
-/// How many bytes the MADT has, or the first error of `write_riscv_madt` in a slice of any length.
-#[tactic(auto, unfolding(crate::specs::RiscvMadt::riscv_written))]
-pub fn riscv_size(ids: &TableIds, contents: &RiscvContents<'_>) -> Result<usize, WriterError>
-    ensures exact { result ≡ sized (riscv_written most ids.now contents.now) }
-    ensures short { IfOk result (λ n. n < 2 ^ 32) }
-    ensures fits { IfOk result (λ n. AreRiscvFit contents.now) }
-{
-    checked_size(Signature::MADT, 7, ids, contents, &body_of!(contents))
+        let controllers = Then(Each(self.aplics), Each(self.plics));
+        Then(
+            fixed,
+            Then(Each(self.rintcs), Then(Each(self.imsics), controllers)),
+        )
+    }
 }
 
 /// Writes the MADT of a RISC-V machine, of revision 7, to the front of a slice, and returns how many bytes it has. Its
@@ -168,5 +174,5 @@ pub fn write_riscv_madt(
     // The numbers that were passed fit, so that they are what is read (`tables_are_read`).
     ensures fits { IfOk result (λ n. IsRiscvMadt ids.now contents.now (take n out.new)) }
 {
-    write_checked(out, Signature::MADT, 7, ids, contents, &body_of!(contents))
+    write(out, ids, contents)
 }
