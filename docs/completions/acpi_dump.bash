@@ -6,14 +6,15 @@ _acpi_dump() {
         --color) COMPREPLY=($(compgen -W "auto always never" -- "$word")) ;;
         --start) COMPREPLY=($(compgen -W "rsdt: rsdp: bios" -- "$word")) ;;
         --at | --max-bytes | --ignore) COMPREPLY=() ;;
-        --table | --hex)
+        -o | --extract) COMPREPLY=($(compgen -d -- "$word")) ;;
+        -t | --table | --hex)
             local first=
             [[ $word == *,* ]] && first=${word%,*},
             COMPREPLY=($(compgen -P "$first" -W "all APIC DSDT FACP FACS HPET MCFG SPCR SRAT SSDT" -- "${word##*,}"))
             ;;
         *)
             case $word in
-                -*) COMPREPLY=($(compgen -W "--as --at --start --table --hex --summary --find --compare --exit-code --ignore --json --strict --max-bytes --color --help --version" -- "$word")) ;;
+                -*) COMPREPLY=($(compgen -W "--as --at --start --table --hex --text --extract --force --summary --find --compare --exit-code --ignore --json --strict --max-bytes --color --help --version" -- "$word")) ;;
                 *) COMPREPLY=($(compgen -f -- "$word")) ;;
             esac
             ;;

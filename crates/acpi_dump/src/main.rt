@@ -4,6 +4,7 @@
 use acpi_cli::borrowed;
 use acpi_dump_lib::run::{dump, refuse_arguments};
 use acpi_dump_lib::sources::HostSources;
+use acpi_pack_lib::storage::HostStorage;
 use std::process::ExitCode;
 use std::{env, io};
 
@@ -29,11 +30,12 @@ fn status(rt: &HostRuntime) -> io::Result<u8> {
         Ok(arguments) => borrowed(rt.alloc(), arguments)?,
         Err(refusal) => return refuse_arguments(refusal, rt.stderr()),
     };
-    let mut sources = HostSources::new(rt);
+    let (mut sources, mut storage) = (HostSources::new(rt), HostStorage::new(rt));
     dump(
         rt.alloc(),
         &arguments,
         &mut sources,
+        &mut storage,
         io::writer(rt),
         rt.stderr(),
     )

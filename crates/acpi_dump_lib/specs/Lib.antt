@@ -1,2 +1,3 @@
 pub mod DumpText
+pub mod Extract
 pub mod Held

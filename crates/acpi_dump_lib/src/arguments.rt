@@ -14,6 +14,8 @@ pub(crate) enum Contents {
     Fields,
     /// By their bytes.
     Bytes,
+    /// By their bytes, in the text of acpidump.
+    Dumped,
 }
 
 /// Some tables, and the form in which they are shown.
@@ -37,6 +39,8 @@ pub(crate) enum View {
     Summary,
     /// What differs between two inputs.
     Differences,
+    /// Each table as a file.
+    Files,
 }
 
 /// When colors are printed.
@@ -80,6 +84,10 @@ pub(crate) struct Request<'w> {
     pub(crate) view: View,
     /// The tables whose contents are shown, in this order.
     pub(crate) choices: Vec<Choice>,
+    /// The folder in which each table is to be a file.
+    pub(crate) folder: Option<&'w str>,
+    /// Whether these files replace those that are there.
+    pub(crate) is_forced: bool,
     pub(crate) is_json: bool,
     pub(crate) is_strict: bool,
     /// Whether the status is 1 if two inputs differ.
@@ -136,7 +144,12 @@ const VIEWS: [(&str, View); 3] = [
     ("compare", View::Differences),
 ];
 
-const ONE_VIEW: &str = "[--table SIG].. [--hex SIG].. | --summary | --find | --compare";
+const ONE_VIEW: &str =
+    "[--table SIG].. [--hex SIG].. | --text [--table SIG].. | --extract DIR | --summary | --find | --compare";
+
+const DOCUMENTS: &str = "[--table SIG].. [--hex SIG].. | --summary | --find | --compare";
+
+const FOLDER: &str = "DIR, the name of a folder";
 
 const KINDS: &str = "image | memory | text | table";
 
@@ -197,9 +210,14 @@ impl<'w> Request<'w> {
         let start = parse_start(word_of(matches, "start"));
         let most = word_of(matches, "max-bytes").parse::<u64>().ok();
         let color = parse_color(word_of(matches, "color"));
+        let folder = match matches.get_str("extract") {
+            Some("") => None,
+            folder => folder,
+        };
         self.kind = self.checked(matches, "as", kind, KINDS);
         self.at = self.checked(matches, "at", at, AT);
         self.start = self.checked(matches, "start", start, START);
+        self.folder = self.checked(matches, "extract", folder, FOLDER);
         self.most = self
             .checked(matches, "max-bytes", most, MOST)
             .unwrap_or(1 << 30);
@@ -239,20 +257,42 @@ impl<'w> Request<'w> {
         }
     }
 
+    /// Takes a view, which has to be the only one.
+    fn take_view(&mut self, view: View) {
+        if !matches!(self.view, View::Lines) {
+            self.refuse_word("", "two views", ONE_VIEW);
+        }
+        self.view = view;
+    }
+
     /// Adds the view that the options ask for, of which at most one kind may be there.
     fn add_view(&mut self, matches: &ArgMatches<'w>) {
-        let mut is_asked = !self.choices.is_empty();
-        if is_asked {
+        if !self.choices.is_empty() {
             self.view = View::Tables;
         }
         for (option, view) in &VIEWS {
             if matches.get_flag(*option) {
-                if is_asked {
-                    self.refuse_word("", "two views", ONE_VIEW);
-                }
-                self.view = *view;
-                is_asked = true;
+                self.take_view(*view);
             }
+        }
+        if self.folder.is_some() {
+            self.take_view(View::Files);
+        }
+        if self.is_json && (matches.get_flag("text") || self.folder.is_some()) {
+            self.refuse_word("json", "--text and --extract have no document", DOCUMENTS);
+        }
+    }
+
+    /// Adds the tables whose contents are chosen: in acpidump's text all of them, unless some are named.
+    fn add_contents(&mut self, matches: &ArgMatches<'w>) {
+        if !matches.get_flag("text") {
+            self.add_choices(matches, "table", Contents::Fields);
+            return self.add_choices(matches, "hex", Contents::Bytes);
+        }
+        self.add_choices(matches, "table", Contents::Dumped);
+        self.add_choices(matches, "hex", Contents::Dumped);
+        if self.choices.is_empty() {
+            self.add_choice("table", "all", Contents::Dumped);
         }
     }
 
@@ -289,6 +329,8 @@ pub(crate) fn request_of<'w>(alloc: Global, matches: &ArgMatches<'w>) -> Request
         start: None,
         view: View::Lines,
         choices: Vec::new(alloc),
+        folder: None,
+        is_forced: matches.get_flag("force"),
         is_json: matches.get_flag("json"),
         is_strict: matches.get_flag("strict"),
         is_exit_code: matches.get_flag("exit-code"),
@@ -298,8 +340,7 @@ pub(crate) fn request_of<'w>(alloc: Global, matches: &ArgMatches<'w>) -> Request
     };
     request.add_words(matches);
     request.add_inputs(matches);
-    request.add_choices(matches, "table", Contents::Fields);
-    request.add_choices(matches, "hex", Contents::Bytes);
+    request.add_contents(matches);
     request.add_view(matches);
     request.take_root(matches);
     request

@@ -1,6 +1,7 @@
 //! The contents of chosen tables.
 
 use crate::arguments::{Choice, Contents};
+use crate::dumped::print_dumped;
 use crate::entries::{Entry, Place, own_signature};
 use crate::errors::{Log, fail};
 use crate::getters::print_getters;
@@ -71,6 +72,9 @@ pub(crate) fn print_name(entry: &Entry<'_>, out: &mut Out) {
 
 /// Prints the contents of a table, under where it lies and, unless it is valid, what the checks say.
 fn print_table(entry: &Entry<'_>, contents: Contents, paint: Paint, out: &mut Out) {
+    if let Contents::Dumped = contents {
+        return print_dumped(entry, out);
+    }
     print_name(entry, out);
     out.text("\n");
     if !matches!(entry.status, Status::Valid) {
@@ -80,7 +84,7 @@ fn print_table(entry: &Entry<'_>, contents: Contents, paint: Paint, out: &mut Ou
     }
     match contents {
         Contents::Bytes => print_dump(entry.bytes, out),
-        Contents::Fields => print_fields(entry, out),
+        _ => print_fields(entry, out),
     }
 }
 

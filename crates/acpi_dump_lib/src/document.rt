@@ -1,4 +1,4 @@
-//! One JSON document of what is shown. Its form stands in docs/PROGRAMS.md.
+//! One JSON document of what is shown. Its form stands in docs/acpi_dump.1.
 //!
 //! The members of an object stand in the order of their names.
 

@@ -1,15 +1,17 @@
 //! The ACPI tables of an input: one line a table, the fields or the bytes of some, or the machine in short.
 //!
-//! Every function returns for every input, without fault. The tables of acpidump's text are exact by a definition;
-//! which bytes are printed is tested, and not proved.
+//! Every function returns for every input, without fault. The tables of acpidump's text are exact by a definition, and
+//! `--extract` saves files of its folder alone; which bytes are printed and saved is tested, and not proved.
 #![tactic(auto)]
 
 mod arguments;
 mod compare;
 mod contents;
 mod document;
+mod dumped;
 mod entries;
 mod errors;
+mod extract;
 mod fault;
 mod fields;
 mod find;

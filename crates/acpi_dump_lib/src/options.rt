@@ -1,31 +1,39 @@
 //! The options, and what the help says of them.
 
-use crate::language::next_word;
+use crate::language::{cut_at, next_word};
 use clap::{Arg, ArgAction, Command};
 use std::alloc::{AllocError, Global};
 
-/// The options, a line for each: what it is called, what it takes, and what the help says of it. It takes nothing
-/// (`-`), one value, or with `..` after the value's name a value each time that it comes, or several between commas.
+/// The options, a line for each: what it is called, with its letter after a comma if it has one, what it takes, and
+/// what the help says of it. It takes nothing (`-`), one value, or with `..` after the value's name a value each time
+/// that it comes, or several between commas.
 const OPTIONS: &str = "as KIND What the input is: image, memory, text or table
 at ADDRESS The address of raw memory's first byte
 start START The way to the root table: rsdt:REVISION:ADDRESS, rsdp:ADDRESS or bios
-table SIG.. The fields of the tables of a signature, or of all
+table,t SIG.. The fields of the tables of a signature, or of all
 hex SIG.. The bytes of the tables of a signature, or of all
+text - The text of acpidump, of all tables or of those of --table
+extract,o DIR Each table as a file in this folder: SIG.dat, or SIG1.dat and so on
+force - Files of --extract replace those that are there
 summary - The machine in short
 find - Every RSDP in memory, valid or not
-compare - What differs between two inputs
+compare,c - What differs between two inputs
 exit-code - Status 1 if two inputs differ
 ignore FIELD.. Fields that are left out of what differs
-json - One JSON document of what is shown
+json,j - One JSON document of what is shown
 strict - Status 3 if a table is invalid
 max-bytes NUMBER How many bytes an input has at most: 1073741824 if it isn't said
 color WHEN auto, always or never";
 
 /// The option that a line describes.
 fn option<'a>(alloc: Global, line: &'static str) -> Arg<'a> {
-    let (name, line) = next_word(line);
+    let (names, line) = next_word(line);
     let (takes, help) = next_word(line);
-    let option = Arg::new(alloc, name).long(name).help(help);
+    let (name, letter) = cut_at(names, ',');
+    let mut option = Arg::new(alloc, name).long(name).help(help);
+    if let Some(letter) = letter.chars().next() {
+        option = option.short(letter);
+    }
     if takes == "-" {
         return option.action(ArgAction::SetTrue);
     }

@@ -1,4 +1,5 @@
-//! The program over any files and any writers.
+//! The program over any files, any storage and any writers.
+ghost use Rattle.acpi_dump_lib.specs.Extract.{AddsInOne};
 
 use crate::arguments::{Color, Mistake, Request, View, WrongWord, request_of};
 use crate::errors::{Log, Stop, tell, tell_word};
@@ -8,7 +9,8 @@ use crate::options::command;
 use crate::out::Out;
 use crate::paint::Paint;
 use crate::sources::{Sources, reason_of};
-use crate::views::{Output, print_compared, print_input};
+use crate::views::{Output, print_compared, print_input, save_input};
+use acpi_pack_lib::storage::Storage;
 use clap::ArgMatches;
 use std::alloc::{AllocError, Global};
 use std::io;
@@ -20,15 +22,18 @@ use std::io::{ErrorKind, Write};
 ///
 /// Fails if memory runs out, or with the error of the first write or flush of `out`, or else of `err`, that is
 /// refused.
-pub fn dump<S: Sources, W: Write + Drop, E: Write + Drop>(
+pub fn dump<S: Sources, T: Storage, W: Write + Drop, E: Write + Drop>(
     alloc: Global,
     arguments: &[&str],
     sources: &mut S,
+    storage: &mut T,
     out: W,
     err: E,
-) -> io::Result<u8> {
+) -> io::Result<u8>
+    ensures { AddsInOne (T.saved storage.old) (T.saved storage.new) }
+{
     let (mut shown, mut log) = (Out::new(alloc), Log::new(alloc));
-    let status = print_asked(alloc, arguments, sources, &mut shown, &mut log);
+    let status = print_asked(alloc, arguments, sources, storage, &mut shown, &mut log);
     let shown = shown.write_to(out);
     if let Err(refusal) = &shown {
         tell(&mut log, "standard output", &reason_of(refusal));
@@ -45,20 +50,24 @@ pub fn dump<S: Sources, W: Write + Drop, E: Write + Drop>(
 }
 
 /// Prints what the arguments ask for.
-fn print_asked<S: Sources>(
+#[tactic(auto, using(crate::proofs::Within::none_in_one))]
+fn print_asked<S: Sources, T: Storage>(
     alloc: Global,
     arguments: &[&str],
     sources: &mut S,
+    storage: &mut T,
     out: &mut Out,
     log: &mut Log,
-) -> Result<u8, Stop> {
+) -> Result<u8, Stop>
+    ensures { AddsInOne (T.saved storage.old) (T.saved storage.new) }
+{
     let parsed = command(alloc)?.try_get_matches_from(arguments);
     let request = match &parsed {
         Ok(matches) => &request_of(alloc, matches),
         Err(refusal) => return print_refusal(alloc, refusal, out, log),
     };
     match request.mistake {
-        None => print_inputs(alloc, request, sources, out, log),
+        None => print_inputs(alloc, request, sources, storage, out, log),
         Some(Mistake::Word(wrong)) => {
             tell_word(log, wrong);
             Ok(2)
@@ -92,13 +101,17 @@ fn print_refusal(
 }
 
 /// Prints what is asked for of the inputs.
-fn print_inputs<S: Sources>(
+#[tactic(auto, using(crate::proofs::Within::none_in_one, crate::proofs::Within::some_in_one))]
+fn print_inputs<S: Sources, T: Storage>(
     alloc: Global,
     request: &Request<'_>,
     sources: &mut S,
+    storage: &mut T,
     out: &mut Out,
     log: &mut Log,
-) -> Result<u8, Stop> {
+) -> Result<u8, Stop>
+    ensures { AddsInOne (T.saved storage.old) (T.saved storage.new) }
+{
     let is_on = match request.color {
         Color::Auto => sources.takes_color(),
         Color::Always => true,
@@ -113,7 +126,10 @@ fn print_inputs<S: Sources>(
         return print_two(output, sources, out, log);
     }
     let input = &gather_named(output, &request.inputs, sources, log)?;
-    print_input(output, input, out, log)
+    match request.folder {
+        None => print_input(output, input, out, log),
+        Some(folder) => save_input(output, folder, input, sources, storage, out, log),
+    }
 }
 
 /// Prints what differs between the two inputs that are named.

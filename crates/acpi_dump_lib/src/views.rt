@@ -3,11 +3,14 @@
 mod compared;
 mod packed;
 
+ghost use Rattle.acpi_dump_lib.specs.Extract.{AddsWithin};
+
 use crate::arguments::{Request, View};
 use crate::contents::{print_name, print_tables, tell_missing};
 use crate::document::{Document, add_all, add_chosen};
 use crate::entries::{Entry, Place, bytes_from, entries_of, entries_of_files};
 use crate::errors::{Log, Stop, begin, fail, tell};
+use crate::extract::{Saving, save_tables};
 use crate::find::{add_candidates, add_fact_lines, print_candidates, print_facts};
 use crate::input::candidates::{Candidate, candidates, ebda_of, starts};
 use crate::input::gather::Input;
@@ -15,10 +18,12 @@ use crate::input::tables::TableFile;
 use crate::listing::print_lines;
 use crate::out::Out;
 use crate::paint::Paint;
+use crate::sources::Sources;
 use crate::summary::{Facts, add_facts};
 use acpi::{AcpiError, AcpiTables};
 use acpi_cli::root::Root;
 use acpi_image_reader::MemoryImage;
+use acpi_pack_lib::storage::Storage;
 pub(crate) use compared::print_compared;
 use packed::add_facts_of_files;
 use std::alloc::{AllocError, Global};
@@ -176,6 +181,46 @@ pub(crate) fn print_input(
     print_loaded(output, &load(output, 0, input, log)?, out, log)
 }
 
+/// Whether a start is given for tables: it says so.
+fn has_no_start(output: Output<'_, '_>, loaded: &Loaded<'_>, log: &mut Log) -> bool {
+    let is_wrong = matches!(loaded, Loaded::Tables(_)) && output.request.start.is_some();
+    if is_wrong {
+        let why = "tables, which have no start: --start is for memory";
+        tell(log, output.name(0), &why);
+    }
+    is_wrong
+}
+
+/// Saves the tables of an input as files of a folder.
+///
+/// Fails, after saying why, if there are none, or if memory runs out.
+#[tactic(auto, using(crate::proofs::Within::none_added))]
+pub(crate) fn save_input<S: Sources, T: Storage>(
+    output: Output<'_, '_>,
+    folder: &str,
+    input: &Input,
+    sources: &mut S,
+    storage: &mut T,
+    out: &mut Out,
+    log: &mut Log,
+) -> Result<u8, Stop>
+    ensures { AddsWithin folder.now (T.saved storage.old) (T.saved storage.new) }
+{
+    let loaded = &load(output, 0, input, log)?;
+    if has_no_start(output, loaded, log) {
+        return Ok(2);
+    }
+    let entries = &entries_in(output, 0, loaded, log)?;
+    let saving = Saving {
+        alloc: output.alloc,
+        folder,
+        is_forced: output.request.is_forced,
+        inputs: &output.request.inputs,
+    };
+    save_tables(saving, entries, sources, storage, out, log)?;
+    Ok(strict_status(output, entries))
+}
+
 /// Prints what is asked for of memory or of tables.
 fn print_loaded(
     output: Output<'_, '_>,
@@ -183,14 +228,7 @@ fn print_loaded(
     out: &mut Out,
     log: &mut Log,
 ) -> Result<u8, Stop> {
-    if let Loaded::Tables(_) = loaded
-        && output.request.start.is_some()
-    {
-        tell(
-            log,
-            output.name(0),
-            &"tables, which have no start: --start is for memory",
-        );
+    if has_no_start(output, loaded, log) {
         return Ok(2);
     }
     match output.request.view {

@@ -11,7 +11,7 @@ use acpi_cli::borrowed;
 use std::alloc::Global;
 
 /// Adds the tables of a file in a folder. A folder in it is skipped, and so is what is no file or has no tables, with a
-/// message.
+/// message. A file with `.dat` after its name is a table, if it is nothing else.
 fn add_within<S: Sources>(
     alloc: Global,
     tables: &mut Vec<TableFile>,
@@ -26,6 +26,10 @@ fn add_within<S: Sources>(
         _ => {}
     }
     let (kind, bytes) = reading.read(alloc, path, files, log)?;
+    let kind = match kind {
+        None if path.ends_with(".dat") => Some(Kind::Table),
+        kind => kind,
+    };
     if let Some(Kind::Table | Kind::Text) = kind {
         return add_input(alloc, tables, path, kind, bytes, log);
     }

@@ -1,0 +1,24 @@
+-- What --extract saves: files of one folder.
+use Rattle.std.specs.Prelude.{◌≡◌, ℕ, false, ◌==◌, List, ◌++◌, All, codes}
+use Rattle.std.specs.List.{list_any}
+use Rattle.acpi_pack_lib.specs.Saves.{FileSaved}
+
+-- the path of a file of this name in a folder: no slash leads elsewhere, and no zero ends it
+abbrev pub IsNamed : List ℕ → List ℕ → List ℕ → Type 0
+IsNamed folder name path =
+    (list_any (λ c. c == 47) name ≡ false) × (list_any (λ c. c == 0) name ≡ false)
+    × (path ≡ folder ++ codes "/" ++ name ++ codes ".dat")
+
+-- the path of a file in the folder itself
+abbrev pub IsWithin : List ℕ → List ℕ → Type 0
+IsWithin folder path = (name : List ℕ) × IsNamed folder name path
+
+-- what was to be saved grew by files of the folder alone
+pub record AddsWithin (folder : List ℕ) (before after : List FileSaved) : Type 0 where
+  pub added : List FileSaved
+  pub grown : after ≡ before ++ added
+  pub within : All (λ f. IsWithin folder f.name) added
+
+-- what was to be saved grew by files of one folder alone
+abbrev pub AddsInOne : List FileSaved → List FileSaved → Type 0
+AddsInOne before after = (folder : List ℕ) × AddsWithin folder before after
