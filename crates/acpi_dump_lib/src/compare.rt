@@ -1,106 +1,20 @@
 //! What differs between the tables of two inputs.
 
+mod parts;
+
 use crate::contents::print_name;
 use crate::entries::Entry;
-use crate::fields::{print_hex, print_meaning, print_value};
 use crate::out::Out;
-use crate::walk::{Field, Show, walk_table};
+pub(crate) use parts::Side;
+use parts::{Item, Items, items_of, pairs_of};
 use std::alloc::{AllocError, Global};
 
-/// A field or a run of bytes of a table: where it is, its name, and where its value stands in the text of all values.
-#[derive(Clone, Copy)]
-struct Item {
-    offset: u64,
-    name: &'static str,
-    start: usize,
-    end: usize,
-}
-
-/// The items of a table, in the order of its bytes, and their values as one text.
-#[derive(Drop)]
-struct Items {
-    items: Vec<Item>,
-    values: Out,
-    /// Whether memory for an item was refused.
-    is_refused: bool,
-}
-
-impl Items {
-    /// Adds an item, whose value is what was printed from a place of the text on.
-    fn add(&mut self, offset: u64, name: &'static str, start: usize) {
-        let item = Item {
-            offset,
-            name,
-            start,
-            end: self.values.length(),
-        };
-        if self.items.push(item).is_err() {
-            self.is_refused = true;
-        }
-    }
-
-    /// These items, if memory sufficed for them and their values.
-    fn side(&self) -> Result<Side<'_>, AllocError> {
-        match self.values.printed() {
-            Some(values) if !self.is_refused => Ok(Side {
-                items: self.items.as_slice(),
-                values,
-            }),
-            _ => Err(AllocError),
-        }
-    }
-}
-
-impl Show for Items {
-    fn field(&mut self, shown: &Field<'_>) {
-        let start = self.values.length();
-        print_value(shown, &mut self.values);
-        print_meaning(shown, &mut self.values);
-        self.add(shown.offset, shown.label.name, start);
-    }
-
-    fn bytes(&mut self, offset: u64, bytes: &[u8]) {
-        let mut offset = offset;
-        for line in bytes.chunks(16) {
-            let start = self.values.length();
-            print_hex(line, &mut self.values);
-            self.add(offset, "bytes", start);
-            offset = offset.saturating_add(16);
-        }
-    }
-}
-
-/// The items of a table, with the text that their values stand in.
-#[derive(Clone, Copy)]
-struct Side<'a> {
-    items: &'a [Item],
-    values: &'a str,
-}
-
-impl<'a> Side<'a> {
-    /// The value of an item, if there is one.
-    fn value(self, item: Option<Item>) -> Option<&'a str> {
-        let Item { start, end, .. } = item?;
-        self.values.get(start..end)
-    }
-}
-
-/// The items of a table.
-fn items_of(alloc: Global, entry: &Entry<'_>) -> Items {
-    let mut items = Items {
-        items: Vec::new(alloc),
-        values: Out::new(alloc),
-        is_refused: false,
-    };
-    if let Some(signature) = entry.signature() {
-        walk_table(signature, entry.bytes, &mut items);
-    }
-    items
-}
-
-/// A difference: where it is, and the values in the two inputs, if they have it.
+/// A difference: the structure that it is in, where it is, the name of the field, which is empty if one input alone has
+/// the structure, and the values in the two inputs, if they have it.
 #[derive(Clone, Copy)]
 pub(crate) struct Difference<'a> {
+    pub(crate) side: Side<'a>,
+    pub(crate) part: usize,
     pub(crate) offset: u64,
     pub(crate) name: &'static str,
     pub(crate) old: Option<&'a str>,
@@ -110,42 +24,101 @@ pub(crate) struct Difference<'a> {
 /// The item that comes first of those that are left on two sides, with the one beside it if that is the same field.
 fn next_pair(old: Option<Item>, new: Option<Item>) -> (Option<Item>, Option<Item>) {
     match (old, new) {
-        (Some(a), Some(b)) if a.offset == b.offset && a.name == b.name => (old, new),
-        (Some(a), Some(b)) if b.offset < a.offset => (None, new),
+        (Some(a), Some(b)) if a.within == b.within && a.name == b.name => (old, new),
+        (Some(a), Some(b)) if b.within < a.within => (None, new),
         (Some(_), _) => (old, None),
         (None, _) => (None, new),
     }
 }
 
-/// The differences between the items of two tables, less those of the names that are ignored, in the order of their
-/// offsets.
-fn differences<'a>(
-    alloc: Global,
-    old: &'a Items,
-    new: &'a Items,
-    ignored: &[&str],
-) -> Result<Vec<Difference<'a>>, AllocError> {
-    let (old, new) = (old.side()?, new.side()?);
-    let mut found = Vec::new(alloc);
-    let (mut i, mut j) = (0usize, 0usize);
-    for _ in 0..old.items.len().saturating_add(new.items.len()) {
-        let (a, b) = next_pair(old.items.get(i).copied(), new.items.get(j).copied());
-        i = i.saturating_add(a.is_some() as usize);
-        j = j.saturating_add(b.is_some() as usize);
-        let (old, new) = (old.value(a), new.value(b));
+/// The differences between two tables, as they are found.
+#[derive(Drop)]
+struct Found<'a, 'i, 's> {
+    old: Side<'a>,
+    new: Side<'a>,
+    /// The names of the fields that are left out.
+    ignored: &'i [&'s str],
+    differences: Vec<Difference<'a>>,
+}
+
+impl<'a> Found<'a, '_, '_> {
+    /// Adds a difference between two items of a structure of the first table, if they differ.
+    fn add(&mut self, part: usize, a: Option<Item>, b: Option<Item>) -> Result<(), AllocError> {
+        let (old, new) = (self.old.value(a), self.new.value(b));
         if let Some(item) = a.or(b)
             && old != new
-            && !ignored.contains(&item.name)
+            && !self.ignored.contains(&item.name)
         {
-            found.push(Difference {
+            self.differences.push(Difference {
+                side: self.old,
+                part,
                 offset: item.offset,
                 name: item.name,
                 old,
                 new,
             })?;
         }
+        Ok(())
     }
-    Ok(found)
+
+    /// Adds the fields that differ between two structures, in the order of their offsets.
+    fn add_fields(&mut self, part: usize, other: usize) -> Result<(), AllocError> {
+        let (mut old, mut i) = self.old.next_item(part, 0);
+        let (mut new, mut j) = self.new.next_item(other, 0);
+        for _ in 0..self.old.size().saturating_add(self.new.size()) {
+            let (a, b) = next_pair(old, new);
+            if a.or(b).is_none() {
+                break;
+            }
+            self.add(part, a, b)?;
+            if a.is_some() {
+                (old, i) = self.old.next_item(part, i);
+            }
+            if b.is_some() {
+                (new, j) = self.new.next_item(other, j);
+            }
+        }
+        Ok(())
+    }
+
+    /// Adds that one input alone has a structure.
+    fn add_alone(&mut self, side: Side<'a>, part: usize, is_first: bool) -> Result<(), AllocError> {
+        let (old, new) = if is_first {
+            (Some(""), None)
+        } else {
+            (None, Some(""))
+        };
+        Ok(
+            self.differences.push(Difference {
+                side,
+                part,
+                offset: side.offset(part),
+                name: "",
+                old,
+                new,
+            })?,
+        )
+    }
+
+    /// Adds all differences: of the structures of the first table in their order, and then those that the second one
+    /// alone has.
+    fn add_all(&mut self, alloc: Global) -> Result<(), AllocError> {
+        let (old, new) = (self.old, self.new);
+        let pairs = pairs_of(alloc, old, new)?;
+        for part in 0..old.len() {
+            if let Some(other) = pairs.other(part) {
+                self.add_fields(part, other)?;
+            } else if pairs.is_gone(old, part) {
+                self.add_alone(old, part, true)?;
+            }
+        }
+        for part in 0..new.len() {
+            if pairs.is_added(new, part) {
+                self.add_alone(new, part, false)?;
+            }
+        }
+        Ok(())
+    }
 }
 
 /// Whether a table is the same in two inputs, as far as its letters say: its signature and, of an SSDT, its OEM table
@@ -205,24 +178,75 @@ impl ShowDifferences for DifferenceLines<'_> {
     }
 
     fn pair(&mut self, old: &Entry<'_>, new: &Entry<'_>, found: &[Difference<'_>]) {
-        print_found(old, new, found, self.out)
+        print_found(old, new, found, self.names, self.out)
     }
 }
 
-/// Prints differences between two tables, under their names.
-fn print_found(old: &Entry<'_>, new: &Entry<'_>, found: &[Difference<'_>], out: &mut Out) {
+/// Prints differences between two tables, under their names, and those within a structure under what that is called.
+fn print_found(
+    old: &Entry<'_>,
+    new: &Entry<'_>,
+    found: &[Difference<'_>],
+    names: (&str, &str),
+    out: &mut Out,
+) {
     print_name(old, out);
     out.text(" and ");
     print_name(new, out);
     out.text("\n");
+    let mut part = 0usize;
     for difference in found {
-        let (offset, name) = (difference.offset, difference.name);
-        write!(out, "  {offset:04x}  {name:<38}  ");
-        out.text(difference.old.unwrap_or("none"));
-        out.text(" -> ");
-        out.text(difference.new.unwrap_or("none"));
-        out.text("\n");
+        if difference.name.is_empty() {
+            let name = if difference.old.is_some() {
+                names.0
+            } else {
+                names.1
+            };
+            out.text("  only in ");
+            out.escaped(name.as_bytes());
+            out.text(": ");
+            difference.side.print_path(difference.part, out);
+            out.text("\n");
+        } else {
+            if difference.part != part {
+                part = difference.part;
+                out.text("  ");
+                difference.side.print_path(part, out);
+                out.text("\n");
+            }
+            print_difference(difference, out);
+        }
     }
+}
+
+/// Prints a field that differs, within a structure by two blanks more.
+fn print_difference(difference: &Difference<'_>, out: &mut Out) {
+    let (offset, name) = (difference.offset, difference.name);
+    if difference.part > 0 {
+        out.text("  ");
+    }
+    write!(out, "  {offset:04x}  {name:<38}  ");
+    out.text(difference.old.unwrap_or("none"));
+    out.text(" -> ");
+    out.text(difference.new.unwrap_or("none"));
+    out.text("\n");
+}
+
+/// The differences between the structures and items of two tables, less those of the names that are ignored.
+fn differences<'a>(
+    alloc: Global,
+    old: &'a Items,
+    new: &'a Items,
+    ignored: &[&str],
+) -> Result<Vec<Difference<'a>>, AllocError> {
+    let mut found = Found {
+        old: old.side()?,
+        new: new.side()?,
+        ignored,
+        differences: Vec::new(alloc),
+    };
+    found.add_all(alloc)?;
+    Ok(found.differences)
 }
 
 /// Shows the differences between two tables, and answers whether there are some.

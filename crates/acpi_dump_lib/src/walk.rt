@@ -13,7 +13,7 @@ use entry::next_entry;
 use parts::{Extent, Piece, list_extent, show_fields, show_gap, show_missing, show_start};
 
 /// How deep structures lie in structures at most.
-const DEEPEST: u32 = 16;
+pub(crate) const DEEPEST: u32 = 16;
 
 /// A field of a table: its offset in the table, its bytes, its number if it is one of several of its name, and what the
 /// layout says of it.

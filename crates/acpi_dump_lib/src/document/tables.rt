@@ -5,6 +5,7 @@ use crate::arguments::{Choice, Contents};
 use crate::compare::{Difference, ShowDifferences};
 use crate::contents::chooses;
 use crate::entries::{Entry, Place};
+use crate::out::Out;
 use crate::walk::walk_table;
 use acpi::PhysicalRecord;
 use acpi::sdt::SdtHeader;
@@ -112,9 +113,22 @@ fn add_fields(document: &mut Document, entry: &Entry<'_>, part: Part<'_>) {
     }
 }
 
-/// Adds a field that differs between two tables.
+/// Adds a field that differs between two tables, or a structure that one alone has.
 fn add_difference(document: &mut Document, difference: Difference<'_>) {
     document.token(Token::BeginObject);
+    if difference.name.is_empty() {
+        document.number("offset", difference.offset);
+        document.text(
+            "only",
+            if difference.old.is_some() {
+                "first"
+            } else {
+                "second"
+            },
+        );
+        add_path(document, difference);
+        return document.token(Token::EndObject);
+    }
     document.text("name", difference.name);
     if let Some(value) = difference.new {
         document.text("new", value);
@@ -123,7 +137,17 @@ fn add_difference(document: &mut Document, difference: Difference<'_>) {
     if let Some(value) = difference.old {
         document.text("old", value);
     }
+    add_path(document, difference);
     document.token(Token::EndObject);
+}
+
+/// Adds what the structure is called in which two tables differ, unless that is all of them.
+fn add_path(document: &mut Document, difference: Difference<'_>) {
+    if difference.part > 0 {
+        let mut path = Out::new(document.alloc);
+        difference.side.print_path(difference.part, &mut path);
+        document.printed("structure", &path);
+    }
 }
 
 /// Adds tables, without their contents.
