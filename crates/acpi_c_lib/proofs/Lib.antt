@@ -3,6 +3,7 @@ pub mod Ascending
 pub mod Clipping
 pub mod FaultLists
 pub mod IommuLists
+pub mod FoundRsdp
 pub mod IsaList
 pub mod StrictLists
 pub mod Unlent

@@ -3,9 +3,9 @@ use Rattle.std.proofs.Common.{◌≡◌, ℕ, ◌≤◌, List, [], ◌∷◌, �
 use Rattle.acpi_base.specs.FromStd.{last_or, cons_option, is_some, is_ok, result_ok}
 use Rattle.acpi_base.specs.Words.{field_of, check_names, check_table, header_at, Memory, at, IsMemory, rest_from, Ranges, ◌>>=◌, lent, table_at, Kind, own_table_at, plain_kind, letters_of}
 use Rattle.acpi.specs.Types.{MapFailed, NoValidRsdp, SdtHeader, Signature, AddressRange}
-use Rattle.acpi.specs.Words.{areas_ranges, bios_areas, found_among, found_in_areas, count_in, ebda_area, end_of, first_in, Opened, opened_at, opened_by_rsdp, opened_by_search, opened_from, area_ranges, opened_by_rsdp_ranges, opened_by_search_ranges, opened_ranges, or_else_ranges, search_ranges, length_ranges, rsdp_ranges, root_of_revision, check_first, check_sum, extended_length_of, checked_length, root_of_rsdp, rsdp_at, rsdp_of, first_area, found_in, found_rsdp, or_else, room_of, second_area, word_in, area, count_of, walk, or_later}
+use Rattle.acpi.specs.Words.{areas_ranges, bios_areas, found_among, found_in_areas, opened_in_areas, count_in, ebda_area, end_of, first_in, Opened, opened_at, opened_by_rsdp, opened_by_search, opened_from, area_ranges, opened_by_rsdp_ranges, opened_by_search_ranges, opened_ranges, or_else_ranges, search_ranges, length_ranges, rsdp_ranges, root_of_revision, check_first, check_sum, extended_length_of, checked_length, root_of_rsdp, rsdp_at, rsdp_of, first_area, found_in, found_rsdp, or_else, room_of, second_area, word_in, area, count_of, walk, or_later}
 use Rattle.acpi.specs.Areas.{range}
-use Rattle.acpi_c_lib.specs.Words.{AcpiError, Refusal, Source, ebda_in, opened_as_lent, opened_in, refused_as, Acpi, UnknownStart, Areas, IsUnlent, OpeningHasHole, areas_holes, candidate_hole, candidate_holes, has_valid, hole, last_range, missing_below, missing_in, opened_as_lent_ranges, range_of, walk_holes, Fills, Writes, items_said, put_from, result_map, memory_in}
+use Rattle.acpi_c_lib.specs.Words.{AcpiError, Refusal, Source, ebda_in, opened_in, refused_as, Acpi, UnknownStart, Areas, IsUnlent, OpeningHasHole, areas_holes, candidate_hole, candidate_holes, has_valid, hole, last_range, missing_below, missing_in, opened_as_lent_ranges, range_of, walk_holes, Fills, Writes, items_said, put_from, result_map, memory_in}
 use Rattle.acpi_c_lib.specs.Missing.{Range}
 use Rattle.acpi_c_lib.proofs.Written.{two_parts, one_part}
 use Rattle.acpi_base.proofs.FromStd.{bytes_eq-Decides, length-take, cond_some}
@@ -123,8 +123,8 @@ nothing_by m (Some found) e is refused = cc
 nothing_by m None e is refused = cc
 
 pub lent_nothing : (m : Memory) (e : AcpiError) → found_in_areas m (bios_areas (ebda_in m)) ≡ Err e
-    → opened_as_lent m ≡ Err MapFailed → ⊥
-unfolding opened_as_lent found_in_areas
+    → opened_in_areas m (bios_areas (ebda_in m)) ≡ Err MapFailed → ⊥
+unfolding found_in_areas
 lent_nothing m e is refused = nothing_by m (found_among m (bios_areas (ebda_in m))) e is refused
 
 root_by : (m : Memory) (xs : Ranges) (r : Result (ℕ × List ℕ) AcpiError) (found : ℕ × List ℕ) (x : Range) → r ≡ Ok found
@@ -141,11 +141,11 @@ root_by m xs (Ok y) found x is refused last =
 root_by m xs (Err e) found x is refused last = absurd cc
 
 pub lent_root : (m : Memory) (found : ℕ × List ℕ) (x : Range) → found_in_areas m (bios_areas (ebda_in m)) ≡ Ok found
-    → opened_as_lent m ≡ Err MapFailed
+    → opened_in_areas m (bios_areas (ebda_in m)) ≡ Err MapFailed
     → (opened_from m (root_of_rsdp found.1) ≡ Err MapFailed
     → last_range (opened_ranges m (root_of_rsdp found.1)) ≡ Some x)
     → last_range (opened_as_lent_ranges m) ≡ Some x
-unfolding opened_as_lent opened_as_lent_ranges
+unfolding opened_as_lent_ranges
 lent_root m found x is refused last = root_by m (areas_ranges m (bios_areas (ebda_in m)))
     (found_in_areas m (bios_areas (ebda_in m))) found x is refused last
 
@@ -156,8 +156,9 @@ areas_by m xs (Some found) refused =
     (from_unlent m (root_of_rsdp found.1) refused)
 areas_by m xs None refused = absurd cc
 
-by_areas_unlent : (m : Memory) → opened_as_lent m ≡ Err MapFailed → IsUnlent m (last_range (opened_as_lent_ranges m))
-unfolding opened_as_lent opened_as_lent_ranges found_in_areas
+by_areas_unlent : (m : Memory) → opened_by m (found_in_areas m (bios_areas (ebda_in m))) ≡ Err MapFailed
+    → IsUnlent m (last_range (opened_as_lent_ranges m))
+unfolding opened_as_lent_ranges found_in_areas
 by_areas_unlent m e = areas_by m (areas_ranges m (bios_areas (ebda_in m))) (found_among m (bios_areas (ebda_in m))) e
 
 refused_is : {A : Type 0} (r : Result A AcpiError) → refused_as r ≡ Err (Acpi MapFailed) → r ≡ Err MapFailed
@@ -169,17 +170,36 @@ started : {A : Type 0} (m : Memory) (b : Bool) (r : Result A AcpiError) (later :
 started m true r later R S first second e = first (refused_is r e)
 started m false r later R S first second e = second e
 
+-- by the RSDP that is found, or by what is looked for if this isn't the start
+
+led : (m : Memory) (b : Bool) (r : Result (ℕ × List ℕ) AcpiError) (later : Result (ℕ × List ℕ) Refusal) (R S : Ranges)
+    → (opened_by m r ≡ Err MapFailed → IsUnlent m (last_range R))
+    → ((later >>= λ found. refused_as (opened_from m (root_of_rsdp found.1))) ≡ Err (Acpi MapFailed)
+    → IsUnlent m (last_range S))
+    → ((if b then refused_as r else later) >>= λ found. refused_as (opened_from m (root_of_rsdp found.1)))
+    ≡ Err (Acpi MapFailed) → IsUnlent m (last_range (if b then R else S))
+led m true (Ok found) later R S first second e = first (refused_is (opened_from m (root_of_rsdp found.1)) e)
+led m true (Err d) later R S first second e = first (refused_is (Err d) e)
+led m false r later R S first second e = second e
+
+placed_at : (m : Memory) (a : ℕ) (r : Result (List ℕ) AcpiError)
+    → opened_by m (result_map (λ bytes. (a, bytes)) r) ≡ Err MapFailed
+    → (r >>= λ rsdp. opened_from m (root_of_rsdp rsdp)) ≡ Err MapFailed
+placed_at m a (Ok bytes) e = e
+placed_at m a (Err d) e = cc
+
 pub opening_unlent : OpeningHasHole
 opening_unlent m s =
-    started m (s.start == 0) (opened_by_rsdp m s.address) _ (opened_by_rsdp_ranges m s.address) _
-    (rsdp_unlent m s.address)
-    (started m (s.start == 1) (opened_at m (0, s.address)) _ (opened_ranges m (root_of_revision 0 s.address)) _
+    started m (s.start == 1) (opened_at m (0, s.address)) _ (opened_ranges m (root_of_revision 0 s.address)) _
     (from_unlent m (root_of_revision 0 s.address))
     (started m (s.start == 2) (opened_at m (2, s.address)) _ (opened_ranges m (root_of_revision 2 s.address)) _
     (from_unlent m (root_of_revision 2 s.address))
-    (started m (s.start == 3) (opened_by_search m) _ (opened_by_search_ranges m) _ (by_search_unlent m)
-    (started m (s.start == 4) (opened_as_lent m) (Err UnknownStart) (opened_as_lent_ranges m) [] (by_areas_unlent m)
-    (λ q. cc)))))
+    (led m (s.start == 0) (result_map (λ bytes. (s.address, bytes)) (rsdp_at m s.address)) _
+    (opened_by_rsdp_ranges m s.address) _
+    (λ e. rsdp_unlent m s.address (placed_at m s.address (rsdp_at m s.address) e))
+    (led m (s.start == 3) (found_rsdp m) _ (opened_by_search_ranges m) _ (by_search_unlent m)
+    (led m (s.start == 4) (found_in_areas m (bios_areas (ebda_in m))) (Err UnknownStart) (opened_as_lent_ranges m) []
+    (by_areas_unlent m) (λ q. cc)))))
 
 -- ---- the ranges of a search's candidates, and then the others
 

@@ -3,7 +3,7 @@ use Rattle.std.specs.Prelude.{ℕ, ◌*◌, ◌==◌, List, drop, Option, None, 
 use Rattle.acpi_base.specs.FromStd.{result_ok}
 use Rattle.acpi_base.specs.Words.{Memory, ◌>>=◌, Kind}
 pub use Rattle.acpi_base.specs.declared.error.AcpiError.{AcpiError}
-use Rattle.acpi.specs.Words.{bios_areas, extended_length_of, found_in_areas, found_rsdp, opened_in_areas, lookup, rsdp_at, rsdp_of, Opened, opened_at, opened_by_rsdp, opened_by_search, pointers, width_of, word_in}
+use Rattle.acpi.specs.Words.{bios_areas, extended_length_of, found_in_areas, found_rsdp, lookup, root_of_rsdp, rsdp_at, rsdp_of, Opened, opened_at, opened_from, pointers, width_of, word_in}
 use Rattle.acpi_c_lib.specs.Answers.{result_map}
 use Rattle.acpi_c_lib.specs.Regions.{memory_in}
 pub use Rattle.acpi_c_lib.specs.declared.records.Source.{Source}
@@ -19,36 +19,31 @@ refused_as (Err e) = Err (Acpi e)
 abbrev pub ebda_in : Memory → Option ℕ
 ebda_in m = option_map (λ word. 16 * word) (result_ok (word_in m))
 
--- by the search in the BIOS areas as far as they are lent
-unfoldable pub opened_as_lent : Memory → Result Opened AcpiError
-opened_as_lent m = opened_in_areas m (bios_areas (ebda_in m))
+-- the RSDP that a start's number and an address lead to, as its address and its first 36 bytes: the one there (section
+-- 5.2.5.3), by the search of the BIOS areas (5.2.5.1), or by the search in these as far as they are lent
+abbrev pub rsdp_in : Memory → Source → Result (ℕ × List ℕ) Refusal
+rsdp_in m s =
+    if s.start == 0 then refused_as (result_map (λ bytes. (s.address, bytes)) (rsdp_at m s.address))
+    else if s.start == 3 then refused_as (found_rsdp m)
+    else if s.start == 4 then refused_as (found_in_areas m (bios_areas (ebda_in m)))
+    else Err UnknownStart
 
--- the root table that a start's number and an address lead to: by an RSDP (section 5.2.5.3), as an RSDT (5.2.7), as an
--- XSDT (5.2.8), by the search of the BIOS areas (5.2.5.1), or by the search in these as far as they are lent
+-- the root table that they lead to: as an RSDT (section 5.2.7), as an XSDT (5.2.8), or by the RSDP
 abbrev pub opened_in : Memory → Source → Result Opened Refusal
 opened_in m s =
-    if s.start == 0 then refused_as (opened_by_rsdp m s.address)
-    else if s.start == 1 then refused_as (opened_at m (0, s.address))
+    if s.start == 1 then refused_as (opened_at m (0, s.address))
     else if s.start == 2 then refused_as (opened_at m (2, s.address))
-    else if s.start == 3 then refused_as (opened_by_search m)
-    else if s.start == 4 then refused_as (opened_as_lent m)
-    else Err UnknownStart
+    else do
+      found ← rsdp_in m s
+      refused_as (opened_from m (root_of_rsdp found.1))
 
 -- how many bytes an RSDP has (section 5.2.5.3): Length, which revision 0 lacks, or 20
 abbrev pub rsdp_length : List ℕ → ℕ
 rsdp_length bytes = unwrap_or (extended_length_of (rsdp_of bytes)) 20
 
--- the RSDP that a start leads to, as its address and its first 36 bytes; none if it is at a root table
-abbrev pub rsdp_in : Memory → Source → Option (ℕ × List ℕ)
-rsdp_in m s =
-    if s.start == 0 then result_ok (result_map (λ bytes. (s.address, bytes)) (rsdp_at m s.address))
-    else if s.start == 3 then result_ok (found_rsdp m)
-    else if s.start == 4 then result_ok (found_in_areas m (bios_areas (ebda_in m)))
-    else None
-
--- its address and how many bytes it has
+-- its address and how many bytes it has; none if the start is at a root table
 abbrev pub rsdp_place_in : Memory → Source → Option (ℕ × ℕ)
-rsdp_place_in m s = option_map (λ found. (found.0, rsdp_length found.1)) (rsdp_in m s)
+rsdp_place_in m s = result_ok (result_map (λ found. (found.0, rsdp_length found.1)) (rsdp_in m s))
 
 -- what a definition over a memory and the root table in it says of the tables that a caller names
 abbrev pub opened_below : {A : Type 0} → Source → (Memory → Opened → Result A Refusal) → Result A Refusal

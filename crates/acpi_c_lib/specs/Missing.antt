@@ -103,16 +103,16 @@ candidate_holes m s = areas_holes m (areas_of m s)
 
 -- ---- of the tables that a caller names
 
--- those of `opened_as_lent`
+-- those of the search in the BIOS areas as far as they are lent
 unfoldable pub opened_as_lent_ranges : Memory → Ranges
 opened_as_lent_ranges m = opened_in_areas_ranges m (bios_areas (ebda_in m))
 
 -- the ranges of opening, by the number of a start
 abbrev pub opening_ranges : Memory → Source → Ranges
 opening_ranges m s =
-    if s.start == 0 then opened_by_rsdp_ranges m s.address
-    else if s.start == 1 then opened_ranges m (root_of_revision 0 s.address)
+    if s.start == 1 then opened_ranges m (root_of_revision 0 s.address)
     else if s.start == 2 then opened_ranges m (root_of_revision 2 s.address)
+    else if s.start == 0 then opened_by_rsdp_ranges m s.address
     else if s.start == 3 then opened_by_search_ranges m
     else if s.start == 4 then opened_as_lent_ranges m
     else []

@@ -3,9 +3,9 @@ ghost use Rattle.std.specs.Prelude.{◌≡◌, [], ◌+◌, ◌++◌, ◌^◌, �
 ghost use Rattle.acpi_base.specs.FromStd.{cons_option, is_ok};
 ghost use Rattle.acpi_base.specs.Words.{own_table_ranges, table_ranges, lent, own_table_at, plain_kind, table_at};
 ghost use Rattle.acpi.specs.Types.{MapFailed, Signature};
-ghost use Rattle.acpi.specs.Words.{opened_by_rsdp, opened_by_search, opened_from, opened_by_rsdp_ranges, opened_by_search_ranges, opened_ranges, search_ranges, dsdt_place, dsdt_place_ranges, facs_place, facs_place_ranges, pointers_left, found_rsdp, room_of, second_area};
+ghost use Rattle.acpi.specs.Words.{bios_areas, opened_in_areas, opened_by_rsdp, opened_by_search, opened_from, opened_by_rsdp_ranges, opened_by_search_ranges, opened_ranges, search_ranges, dsdt_place, dsdt_place_ranges, facs_place, facs_place_ranges, pointers_left, found_rsdp, room_of, second_area};
 ghost use Rattle.acpi.specs.Rsdp.{root_of};
-ghost use Rattle.acpi_c_lib.specs.Words.{Fills, items_said, put_from, result_map, opened_as_lent, opened_in, hole, last_range, member_hole, missing_below, missing_in, opened_as_lent_ranges, opening_ranges, range_of, Acpi, lists_some};
+ghost use Rattle.acpi_c_lib.specs.Words.{Fills, items_said, put_from, result_map, ebda_in, opened_in, hole, last_range, member_hole, missing_below, missing_in, opened_as_lent_ranges, opening_ranges, range_of, Acpi, lists_some};
 
 use crate::candidates::candidate_holes;
 use crate::lists::{Listing, fill_from, put};
@@ -244,7 +244,7 @@ fn search_hole<H: AcpiHandler>(handler: &H) -> Range
 /// Where opening by the search in the areas as far as they are lent is refused so: the root table that the RSDP leads
 /// to.
 fn areas_root_hole<H: AcpiHandler>(handler: &H) -> Range
-    requires { opened_as_lent (H.memory handler.now) ≡ Err MapFailed }
+    requires { let m = H.memory handler.now in opened_in_areas m (bios_areas (ebda_in m)) ≡ Err MapFailed }
     ensures { last_range (opened_as_lent_ranges (H.memory handler.now)) ≡ Some result }
 {
     match Rsdp::search_in(handler, &bios_areas(ebda(handler))) {

@@ -1,8 +1,8 @@
 //! How the tables that a caller names are opened.
 ghost use Rattle.std.specs.Prelude.{◌≡◌, Ok, IfOk};
 ghost use Rattle.acpi_base.specs.Words.{bytes_of, start_of, Gives};
-ghost use Rattle.acpi.specs.Words.{bios_areas, found_in_areas, lender_of, opened_of, placed, word_in};
-ghost use Rattle.acpi_c_lib.specs.Words.{ebda_in, first_table, opened_as_lent, opened_in, mapped_memory, memory_in, root_below, rsdp_length, rsdp_place_in};
+ghost use Rattle.acpi.specs.Words.{lender_of, opened_of, placed, rsdp_at, word_in};
+ghost use Rattle.acpi_c_lib.specs.Words.{ebda_in, first_table, opened_in, mapped_memory, memory_in, root_below, rsdp_in, rsdp_length, rsdp_place_in};
 
 use crate::records::{Root, Source};
 use crate::refusal::Refusal;
@@ -22,44 +22,53 @@ pub(crate) fn open<'h, H: AcpiHandler>(
     ensures handler { IfOk result (λ t. lender_of t ≡ handler.now) }
     ensures opened { Gives (λ t. opened_of t) result (opened_in (H.memory handler.now) source.now) }
 {
-    let tables = match source.start {
-        0 => AcpiTables::from_rsdp(handler, source.address)?,
-        1 => AcpiTables::from_rsdt(handler, 0, source.address)?,
-        2 => AcpiTables::from_rsdt(handler, 2, source.address)?,
-        3 => AcpiTables::search_for_rsdp_bios(handler)?,
-        4 => search_as_lent(handler)?,
-        _ => return Err(Refusal::UnknownStart),
-    };
+    let (tables, _) = open_placed(handler, source)?;
     Ok(tables)
 }
 
-/// The tables below the RSDP that the BIOS areas hold as far as they are lent (section 5.2.5.1).
-#[tactic(auto, unfolding(crate::specs::Below::opened_as_lent))]
-fn search_as_lent<'h, H: AcpiHandler>(handler: &'h H) -> AcpiResult<AcpiTables<'h, H>>
-    ensures handler { IfOk result (λ t. lender_of t ≡ handler.now) }
-    ensures opened { Gives (λ t. opened_of t) result (opened_as_lent (H.memory handler.now)) }
+/// Those tables, and the address and the length of the RSDP, unless the start is at a root table.
+///
+/// Refuses as `open` does.
+pub(crate) fn open_placed<'h, H: AcpiHandler>(
+    handler: &'h H,
+    source: &Source<'_>,
+) -> Result<(AcpiTables<'h, H>, Option<(u64, u32)>), Refusal>
+    ensures handler { IfOk result (λ t. lender_of t.0 ≡ handler.now) }
+    ensures opened { Gives (λ t. opened_of t.0) result (opened_in (H.memory handler.now) source.now) }
+    ensures place { IfOk result (λ t. t.1 ≡ rsdp_place_in (H.memory handler.now) source.now) }
 {
-    AcpiTables::search_in(handler, &bios_areas(ebda(handler)))
+    let revision = match source.start {
+        1 => 0,
+        2 => 2,
+        _ => {
+            let rsdp = find_rsdp(handler, source)?;
+            let place = place_of(&rsdp);
+            let tables = AcpiTables::from_validated_rsdp(handler, rsdp)?;
+            return Ok((tables, Some(place)));
+        }
+    };
+    let tables = AcpiTables::from_rsdt(handler, revision, source.address)?;
+    Ok((tables, None))
 }
 
-/// The address and the length of the RSDP that a source's start leads to, if it is valid and the start isn't at a root
-/// table.
-pub(crate) fn rsdp_place<H: AcpiHandler>(handler: &H, source: &Source<'_>) -> Option<(u64, u32)>
-    ensures { result ≡ rsdp_place_in (H.memory handler.now) source.now }
+/// The RSDP that a source's start leads to.
+///
+/// Refuses a start at a root table, and an unknown one, with `UnknownStart`.
+#[tactic(auto, using(crate::proofs::FoundRsdp::found_valid, crate::proofs::FoundRsdp::listed_valid))]
+fn find_rsdp<'h, H: AcpiHandler>(
+    handler: &'h H,
+    source: &Source<'_>,
+) -> Result<PhysicalMapping<'h, H, Rsdp>, Refusal>
+    ensures found { Gives placed result (rsdp_in (H.memory handler.now) source.now) }
+    ensures valid { IfOk result (λ r. rsdp_at (H.memory handler.now) (start_of r) ≡ Ok (bytes_of r)) }
 {
-    match source.start {
-        0 => Some(place_of(&map_rsdp(handler, source.address).ok()?)),
-        3 => Some(place_of(&Rsdp::search_for_on_bios(handler).ok()?)),
-        4 => Some(place_of(&rsdp_as_lent(handler).ok()?)),
-        _ => None,
-    }
-}
-
-/// The RSDP that the BIOS areas hold as far as they are lent (section 5.2.5.1).
-fn rsdp_as_lent<'h, H: AcpiHandler>(handler: &'h H) -> AcpiResult<PhysicalMapping<'h, H, Rsdp>>
-    ensures { let m = H.memory handler.now in Gives placed result (found_in_areas m (bios_areas (ebda_in m))) }
-{
-    Rsdp::search_in(handler, &bios_areas(ebda(handler)))
+    let rsdp = match source.start {
+        0 => map_rsdp(handler, source.address)?,
+        3 => Rsdp::search_for_on_bios(handler)?,
+        4 => Rsdp::search_in(handler, &bios_areas(ebda(handler)))?,
+        _ => return Err(Refusal::UnknownStart),
+    };
+    Ok(rsdp)
 }
 
 /// The address and the length of an RSDP.
@@ -111,8 +120,8 @@ pub fn root(source: &Source<'_>) -> Result<Root, Refusal>
     ensures { result ≡ root_below source.now }
 {
     let memory = Mapped::new(source.regions)?;
-    let tables = open(&memory, source)?;
-    let (rsdp_address, rsdp_length) = rsdp_place(&memory, source).unwrap_or((0, 0));
+    let (tables, rsdp) = open_placed(&memory, source)?;
+    let (rsdp_address, rsdp_length) = rsdp.unwrap_or((0, 0));
     Ok(Root {
         address: tables.root_address(),
         length: tables.root_length(),

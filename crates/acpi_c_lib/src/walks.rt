@@ -6,7 +6,7 @@ ghost use Rattle.acpi_c_lib.specs.Words.{Fills, nth_below, nth_in, ranges_below,
 
 use crate::lists::{Listing, fill_from};
 use crate::missing::{put_pair, range};
-use crate::opening::{open, rsdp_place};
+use crate::opening::{open, open_placed};
 use crate::records::{self, Range, Source, Table};
 use crate::refusal::Refusal;
 use crate::regions::Mapped;
@@ -52,8 +52,8 @@ pub fn ranges(source: &Source<'_>, out: &mut [Range]) -> Result<usize, Refusal>
     ensures { Fills result out.old out.new (ranges_below source.now) }
 {
     let memory = Mapped::new(source.regions)?;
-    let tables = open(&memory, source)?;
-    let rsdp = match rsdp_place(&memory, source) {
+    let (tables, place) = open_placed(&memory, source)?;
+    let rsdp = match place {
         Some((address, length)) => Some(range(address, length)),
         None => None,
     };
