@@ -288,6 +288,12 @@ struct zacpi_aml_table {
     uint64_t table_address;
 };
 
+/* Makes the root table that a copy of the RSDP points to (multiboot2's tags 14 and 15) the start of
+ * `source`, whose regions stay. Fails as a start at an RSDP, with ZACPI_MAP_FAILED if the copy is
+ * shorter than 20 bytes for revision 0, or than 36 or its Length for another. */
+ZACPI_STATUS zacpi_start_of_rsdp(const uint8_t *rsdp, size_t rsdp_length,
+                                 struct zacpi_source *source);
+
 /* Returns the root table (sections 5.2.7 and 5.2.8). Fails with an opening error (C.md), in this
  * order:
  *   the regions        ZACPI_REGIONS_NOT_ASCENDING, ZACPI_REGION_TOO_HIGH; then ZACPI_UNKNOWN_START

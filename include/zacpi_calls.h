@@ -106,6 +106,20 @@ ZACPI_STATUS zacpi_locate(const struct zacpi_region *regions, size_t regions_len
                           regions_length, address, length, out);
 }
 
+zacpi_status zacpi_1_start_of_rsdp(const uint8_t *rsdp, size_t rsdp_length,
+                                   struct zacpi_source *source);
+ZACPI_NONNULL((3))
+ZACPI_STATUS zacpi_start_of_rsdp(const uint8_t *rsdp, size_t rsdp_length,
+                                 struct zacpi_source *source) {
+    struct zacpi_source kept_source = zacpi_source_kept(source);
+    const zacpi_status status = zacpi_1_start_of_rsdp(
+                                                      rsdp_length ? rsdp : (const uint8_t *)ZACPI_NOTHING,
+                                                      rsdp_length, &kept_source);
+    source->address = kept_source.address;
+    source->start = kept_source.start;
+    return status;
+}
+
 zacpi_status zacpi_1_open(const struct zacpi_source *source, struct zacpi_root *out,
                           struct zacpi_signature *signature);
 ZACPI_NONNULL((1, 2))

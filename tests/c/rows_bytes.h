@@ -1,4 +1,4 @@
-/* Rows of the two calls that are passed the regions alone, with what each has to answer, worked out by hand from the
+/* Rows of the calls that are passed bytes or regions alone, with what each has to answer, worked out by hand from the
  * bytes below. For rows.c. */
 #ifndef ROWS_BYTES_H
 #define ROWS_BYTES_H
@@ -157,9 +157,66 @@ static void check_entries(const struct entries_row *row, size_t room) {
            && is_written(&call_entries, row->values, items), "list_entries", (int)(row - entry_rows), room, got);
 }
 
+/* ---- zacpi_start_of_rsdp ---------------------------------------------------------------------------------- */
+
+/* Copies of an RSDP: Checksum at 8, OEMID at 9, Revision at 15, RsdtAddress at 16, Length at 20, XsdtAddress at 24,
+ * Extended Checksum at 32 (section 5.2.5.3). The eight bytes of Signature and those of RsdtAddress sum to 0x33. */
+#define RSD_PTR 'R', 'S', 'D', ' ', 'P', 'T', 'R', ' '
+#define TO_RSDT [16] = 0x78, 0x56, 0x34, 0x12
+#define TO_XSDT [24] = 8, 7, 6, 5, 4, 3, 2, 1 /* they sum to 36 */
+static const uint8_t copy_0[36] = {RSD_PTR, 0xcd, TO_RSDT, 0xff, 0xff, 0xff, 0xff, TO_XSDT, 0xee};
+static const uint8_t copy_1[36] = {RSD_PTR, 0xcc, [15] = 1, TO_RSDT, 36, TO_XSDT, 0xb8};
+static const uint8_t copy_2[36] = {RSD_PTR, 0xcb, [15] = 2, TO_RSDT, 36, TO_XSDT, 0xb8};
+static const uint8_t copy_to_rsdt[36] = {RSD_PTR, 0xcb, [15] = 2, TO_RSDT, 36, [32] = 0xdc};
+static const uint8_t copy_long[44] = {RSD_PTR, 0xcb, [15] = 2, TO_RSDT, 40, TO_XSDT, 0xaa, [36] = 1, 2, 3, 4, 99};
+static const uint8_t copy_short[36] = {RSD_PTR, 0xcb, [15] = 2, TO_RSDT, 35, TO_XSDT, 0xb9};
+static const uint8_t copy_other[36] = {'R', 'S', 'D', ' ', 'P', 'T', 'R', '_', 0xcd, TO_RSDT};
+static const uint8_t copy_no_text[36] = {RSD_PTR, 0xcd, 0xff, TO_RSDT};
+static const uint8_t copy_sum[36] = {RSD_PTR, 0xce, TO_RSDT};
+static const uint8_t copy_second_sum[36] = {RSD_PTR, 0xcb, [15] = 2, TO_RSDT, 36, TO_XSDT, 0xb9};
+
+static const struct copy_row {
+    const uint8_t *bytes;
+    size_t length;
+    zacpi_status status;
+    uint64_t address;
+    uint32_t start;
+} copies[] = {
+    {copy_0, 20, ZACPI_OK, 0x12345678, ZACPI_START_RSDT},
+    {copy_0, 36, ZACPI_OK, 0x12345678, ZACPI_START_RSDT}, /* no Length, no XsdtAddress and no other sum */
+    {copy_0, 27, ZACPI_OK, 0x12345678, ZACPI_START_RSDT},
+    {copy_0, 19, ZACPI_MAP_FAILED, 0, 0},
+    {NULL, 0, ZACPI_MAP_FAILED, 0, 0},
+    {copy_1, 36, ZACPI_OK, 0x0102030405060708, ZACPI_START_XSDT},
+    {copy_2, 36, ZACPI_OK, 0x0102030405060708, ZACPI_START_XSDT},
+    {copy_2, 35, ZACPI_MAP_FAILED, 0, 0},
+    {copy_2, 20, ZACPI_MAP_FAILED, 0, 0},
+    {copy_to_rsdt, 36, ZACPI_OK, 0x12345678, ZACPI_START_RSDT},
+    {copy_long, 44, ZACPI_OK, 0x0102030405060708, ZACPI_START_XSDT}, /* bytes after Length don't count */
+    {copy_long, 40, ZACPI_OK, 0x0102030405060708, ZACPI_START_XSDT},
+    {copy_long, 39, ZACPI_MAP_FAILED, 0, 0},
+    {copy_short, 36, ZACPI_RSDP_INVALID_CHECKSUM, 0, 0},
+    {copy_other, 20, ZACPI_RSDP_INCORRECT_SIGNATURE, 0, 0},
+    {copy_no_text, 20, ZACPI_RSDP_INVALID_OEM_ID, 0, 0},
+    {copy_sum, 20, ZACPI_RSDP_INVALID_CHECKSUM, 0, 0},
+    {copy_sum, 36, ZACPI_RSDP_INVALID_CHECKSUM, 0, 0},
+    {copy_second_sum, 36, ZACPI_RSDP_INVALID_CHECKSUM, 0, 0}};
+
+static void check_copy(const struct copy_row *row, const struct zacpi_region *regions, size_t length) {
+    struct zacpi_source source = {regions, length, 0x77, 9};
+    const zacpi_status got = zacpi_start_of_rsdp(row->bytes, row->length, &source);
+    result(got == row->status && source.regions == regions && source.regions_length == length
+           && source.address == (got ? 0x77 : row->address) && source.start == (got ? 9 : row->start),
+           "start_of_rsdp", (int)(row - copies), length, got);
+}
+
 static void check_bytes(void) {
     size_t i, room;
     for (i = 0; i < sizeof places / sizeof *places; i++) check_place(places + i);
+    for (i = 0; i < sizeof copies / sizeof *copies; i++) {
+        check_copy(copies + i, REGIONS(placed));
+        check_copy(copies + i, NULL, 0);
+    }
     for (i = 0; i < sizeof entry_rows / sizeof *entry_rows; i++)
         for (room = 0; room < entry_rows[i].count + 2; room++) check_entries(entry_rows + i, room);
 }

@@ -23,6 +23,15 @@ pub enum Start {
 }
 
 impl Start {
+    /// At the root table that a copy of the RSDP points to, as a loader passes one (section 5.2.5.3).
+    ///
+    /// Fails as a start at an RSDP, with `MapFailed` if the copy is shorter than 20 bytes for revision 0, or than 36 or
+    /// its Length for another.
+    pub fn of_rsdp(copy: &[u8]) -> AcpiResult<Self> {
+        let (start, address) = raw::start_of_rsdp(copy)?;
+        Ok(if start == 1 { Start::Rsdt(address) } else { Start::Xsdt(address) })
+    }
+
     pub(crate) fn source<'k>(self, regions: &'k [Region<'k>]) -> Source<'k> {
         match self {
             Start::Rsdp(address) => Source::new(regions, 0, address),

@@ -238,6 +238,7 @@ unsafe extern "C" {
         length: u64,
         out: *mut Place,
     ) -> u32;
+    fn zacpi_1_start_of_rsdp(rsdp: *const u8, rsdp_length: usize, source: *mut Source<'_>) -> u32;
     fn zacpi_1_list_entries(
         regions: *const Region<'_>,
         regions_length: usize,
@@ -303,6 +304,14 @@ pub(crate) fn locate(regions: &[Region<'_>], address: u64, length: u64) -> AcpiR
     // SAFETY: the regions are a live slice, and the output is a live variable.
     let status = unsafe { zacpi_1_locate(regions.as_ptr(), regions.len(), address, length, &mut place) };
     answered(status, Signature::default()).map(|()| place)
+}
+
+/// The source at the root table that a copy of the RSDP leads to.
+pub(crate) fn start_of_rsdp(copy: &[u8]) -> AcpiResult<(u32, u64)> {
+    let mut source = Source::new(&[], 0, 0);
+    // SAFETY: the copy is a live slice, and the source, a live variable, holds a live slice.
+    let status = unsafe { zacpi_1_start_of_rsdp(copy.as_ptr(), copy.len(), &mut source) };
+    answered(status, Signature::default()).map(|()| (source.start, source.address))
 }
 
 /// The entries of the table at an address, from an offset on: how many there are, and whether bytes are left.

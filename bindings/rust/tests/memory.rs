@@ -127,3 +127,22 @@ fn joins_regions() {
     let refusal = missing_ranges(&overlapping, Start::Rsdt(ROOT)).count().unwrap_err();
     assert_eq!(refusal, AcpiError::RegionsNotAscending);
 }
+
+/// A start by copies of the RSDP of this memory, and of one of revision 2 with a Length of 36.
+#[test]
+fn starts_by_a_copy() {
+    let memory = machine();
+    let copy = map(&memory, range(RSDP, 20)).unwrap();
+    assert_eq!(Start::of_rsdp(copy), Ok(Start::Rsdt(ROOT)));
+    assert_eq!(Start::of_rsdp(&copy[..19]), Err(AcpiError::MapFailed));
+    assert_eq!(Start::of_rsdp(&[]), Err(AcpiError::MapFailed));
+    assert_eq!(Start::of_rsdp(&[0; 20]), Err(AcpiError::RsdpIncorrectSignature));
+    let mut copy = [0; 36];
+    // Signature, Checksum, Revision, Length, XsdtAddress, and Extended Checksum: 0x100 less 36 and 1.
+    copy[..9].copy_from_slice(b"RSD PTR \xdf");
+    (copy[15], copy[20], copy[25], copy[32]) = (2, 36, 1, 0xdb);
+    assert_eq!(Start::of_rsdp(&copy), Ok(Start::Xsdt(0x100)));
+    copy[32] += 1;
+    assert_eq!(Start::of_rsdp(&copy), Err(AcpiError::RsdpInvalidChecksum));
+    assert_eq!(Start::of_rsdp(&copy[..35]), Err(AcpiError::MapFailed));
+}

@@ -1,12 +1,21 @@
-//! The root table and the tables that it lists.
-ghost use Rattle.acpi_c_lib.specs.Words.{Answers, AnswersList, faults_below, dsdt_below, root_below, table_below, tables_below, nth_below, ranges_below, ssdts_below};
+//! The start by a copy of the RSDP, the root table, and the tables that it lists.
+ghost use Rattle.acpi_c_lib.specs.Words.{Answers, AnswersList, AnswersPlain, faults_below, dsdt_below, root_below, source_of_rsdp, table_below, tables_below, nth_below, ranges_below, ssdts_below};
 
-use acpi_c_lib::answer::answer;
+use acpi_c_lib::answer::{answer, answer_plain};
+use acpi_c_lib::copied::start_of_rsdp;
 use acpi_c_lib::faults::faults;
 use acpi_c_lib::opening::root;
 use acpi_c_lib::records::{AmlTable, Fault, Range, Root, Signature, Source, Table};
 use acpi_c_lib::tables::{dsdt, find, ssdts, tables};
 use acpi_c_lib::walks::{nth, ranges};
+
+/// The start at the root table that a copy of the RSDP leads to (section 5.2.5.3).
+#[unsafe(no_mangle)]
+pub extern "C" fn zacpi_1_start_of_rsdp(copy: &[u8], source: &mut Source<'_>) -> u32
+    ensures { AnswersPlain result source.old source.new (source_of_rsdp copy.now source.old) }
+{
+    answer_plain(start_of_rsdp(copy, *source), source)
+}
 
 /// The root table (sections 5.2.7 and 5.2.8).
 #[unsafe(no_mangle)]

@@ -1,6 +1,7 @@
 pub mod ApicLists
 pub mod Ascending
 pub mod Clipping
+pub mod CopiedRsdp
 pub mod FaultLists
 pub mod IommuLists
 pub mod FoundRsdp

@@ -7,6 +7,7 @@ pub mod Below
 pub mod Clip
 pub mod Codes
 pub mod Console
+pub mod Copied
 pub mod Devices
 pub mod Entries
 pub mod EntryFaults

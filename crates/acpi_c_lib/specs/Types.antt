@@ -5,6 +5,8 @@ pub use Rattle.acpi.specs.declared.platform.PlatformInfo.{PlatformInfo}
 pub use Rattle.acpi.specs.declared.platform.timer.PmTimer.{PmTimer}
 pub use Rattle.acpi.specs.declared.records.AmlTable.{AmlTable}
 pub use Rattle.acpi.specs.declared.records.TableFault.{TableFault}
+pub use Rattle.acpi.specs.declared.root.RootKind.{RootKind}
+pub use Rattle.acpi.specs.declared.root.RootKind.TheVariants.{Rsdt, Xsdt}
 pub use Rattle.acpi.specs.declared.rsdp.Rsdp.{Rsdp}
 pub use Rattle.acpi_arm.specs.declared.gic.part.GicCpuInterface.{GicCpuInterface}
 pub use Rattle.acpi_arm.specs.declared.gic.part.GicDistributor.{GicDistributor}

@@ -13,6 +13,7 @@ pub mod arm_timers;
 mod candidates;
 pub mod clip;
 pub mod console;
+pub mod copied;
 pub mod devices;
 pub mod entries;
 pub mod entry_faults;

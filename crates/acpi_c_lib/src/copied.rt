@@ -1,0 +1,63 @@
+//! A start by a copy of the RSDP, as a loader passes it.
+ghost use Rattle.std.specs.Prelude.{◌≡◌, ◌≤◌, ◌++◌, length, replicate, take};
+ghost use Rattle.acpi_c_lib.specs.Words.{padded, source_of_rsdp, started_by};
+
+use crate::records::Source;
+use crate::refusal::Refusal;
+use crate::regions::{Mapped, Region};
+use acpi::rsdp::{Rsdp, map_rsdp};
+use acpi_base::bytes::u8_in;
+
+/// A source with a start at the root table that a copy of the RSDP leads to (section 5.2.5.3). A copy of revision 0 has
+/// at least 20 bytes, and another at least as many as its Length.
+///
+/// Fails as a start at an RSDP does, with `MapFailed` if the copy has too few bytes.
+#[tactic(auto, using(crate::proofs::CopiedRsdp::memory_is))]
+pub fn start_of_rsdp<'k>(copy: &[u8], source: Source<'k>) -> Result<Source<'k>, Refusal>
+    ensures { result ≡ source_of_rsdp copy.now source.entry }
+{
+    let mut first = [0; 36];
+    let regions = [Region {
+        address: 0,
+        bytes: padded(copy, &mut first),
+    }];
+    let memory = Mapped::new(&regions)?;
+    let rsdp = map_rsdp(&memory, 0)?;
+    Ok(started_by(source, &rsdp))
+}
+
+/// The source with a start at the root table that an RSDP leads to.
+fn started_by<'k>(source: Source<'k>, rsdp: &Rsdp) -> Source<'k>
+    ensures { result ≡ started_by source.entry rsdp.now }
+{
+    let (start, address) = match rsdp.xsdt_address() {
+        None | Some(0) => (1, u64::from(rsdp.rsdt_address())),
+        Some(address) => (2, address),
+    };
+    Source {
+        regions: source.regions,
+        address,
+        start,
+    }
+}
+
+/// The bytes of the copy; if its revision is 0, its 20 bytes and zeros, since it ends there.
+fn padded<'a>(copy: &'a [u8], zeros: &'a mut [u8; 36]) -> &'a [u8]
+    requires { zeros.now ≡ replicate 36 0 }
+    ensures { result.now ≡ padded copy.now }
+{
+    if copy.len() < 20 || u8_in(copy, 15) != 0 {
+        return copy;
+    }
+    first_part(copy, zeros)
+}
+
+/// The 20 bytes that the copy begins with, before zeros.
+fn first_part<'a>(copy: &[u8], zeros: &'a mut [u8; 36]) -> &'a [u8]
+    requires long { 20 ≤ length copy.now }
+    requires zeros { zeros.now ≡ replicate 36 0 }
+    ensures { result.now ≡ take 20 copy.now ++ replicate 16 0 }
+{
+    zeros[..20].copy_from_slice(&copy[..20]);
+    zeros
+}
