@@ -74,7 +74,7 @@ enum zacpi_refusal {
     ZACPI_REGION_TOO_HIGH = 2,       /* a region ends at 2^64 or above */
     ZACPI_UNKNOWN_START = 3,         /* `start` isn't one of enum zacpi_start */
     ZACPI_RANGE_TOO_HIGH = 4,        /* a range ends at 2^64 or above */
-    ZACPI_UNKNOWN_WIDTH = 5,         /* `bytes_each` isn't 1, 2 or 4 */
+    ZACPI_UNKNOWN_WIDTH = 5,         /* a width of a walk isn't 1, 2 or 4 */
     ZACPI_NO_SUCH_STATE = 6,         /* a sleep state above 5 */
 
     /* Memory and the RSDP (section 5.2.5). */
@@ -276,6 +276,13 @@ struct zacpi_fault {
     zacpi_status status; /* why it is skipped: ZACPI_MAP_FAILED or a ZACPI_SDT_ error, but for
                           * ZACPI_SDT_INVALID_SIGNATURE */
 };
+/* How the entries of a table are laid out. zacpi_tables.h has the walk of each table that is so, as
+ * ZACPI_WALK_APIC; ZACPI_WALK_IORT(first) and others are passed what a field of the table has. */
+struct zacpi_walk {
+    uint32_t first;                   /* the first entry's offset in the table */
+    uint8_t type_offset, type_width;  /* of Type in an entry; a width is 1, 2 or 4 */
+    uint8_t length_offset, length_width;
+};
 struct zacpi_entry {
     uint64_t address;
     uint32_t entry_type;
@@ -337,14 +344,13 @@ ZACPI_STATUS zacpi_find_nth_table(const struct zacpi_source *source, struct zacp
                                   size_t index, struct zacpi_table *out,
                                   struct zacpi_signature *signature);
 
-/* Lists the entries of the table at address `table`, listed or not, from its byte `first` on. Each
- * begins with Type and Length, of `bytes_each` bytes each: 1 in a MADT (from byte 44) and an SRAT
- * (48), 2 in an NFIT (40) and a DMAR (48), 4 in an LPIT (36). Length is at least that of these two
- * and at most the bytes left; `malformed` is 1 if bytes are left in which no entry begins. Fails
- * with ZACPI_REGIONS_NOT_ASCENDING, ZACPI_REGION_TOO_HIGH, ZACPI_UNKNOWN_WIDTH, an error of a
- * table, with its own signature, or ZACPI_SDT_INVALID_LENGTH if its Length is below `first`. */
+/* Lists the entries of the table at address `table`, listed or not, by a walk of its kind. Each has
+ * Length bytes: at least as many as Type and Length end after, and at most those that are left;
+ * `malformed` is 1 if bytes are left in which no entry begins. Fails with
+ * ZACPI_REGIONS_NOT_ASCENDING, ZACPI_REGION_TOO_HIGH, ZACPI_UNKNOWN_WIDTH, an error of a table,
+ * with its own signature, or ZACPI_SDT_INVALID_LENGTH if its Length is below `first`. */
 ZACPI_STATUS zacpi_list_entries(const struct zacpi_region *regions, size_t regions_length,
-                                uint64_t table, uint32_t first, uint32_t bytes_each,
+                                uint64_t table, const struct zacpi_walk *walk,
                                 struct zacpi_entry *out, size_t capacity, size_t *count,
                                 uint8_t *malformed, struct zacpi_signature *signature);
 

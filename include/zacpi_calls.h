@@ -179,18 +179,18 @@ ZACPI_STATUS zacpi_find_nth_table(const struct zacpi_source *source, struct zacp
 }
 
 zacpi_status zacpi_1_list_entries(const struct zacpi_region *regions, size_t regions_length,
-                                  uint64_t table, uint32_t first, uint32_t bytes_each,
+                                  uint64_t table, const struct zacpi_walk *walk,
                                   struct zacpi_entry *out, size_t capacity, size_t *count,
                                   uint8_t *malformed, struct zacpi_signature *signature);
-ZACPI_NONNULL((8, 9))
+ZACPI_NONNULL((4, 7, 8))
 ZACPI_STATUS zacpi_list_entries(const struct zacpi_region *regions, size_t regions_length,
-                                uint64_t table, uint32_t first, uint32_t bytes_each,
+                                uint64_t table, const struct zacpi_walk *walk,
                                 struct zacpi_entry *out, size_t capacity, size_t *count,
                                 uint8_t *malformed, struct zacpi_signature *signature) {
     struct zacpi_signature unasked;
     return zacpi_1_list_entries(
                                 regions_length ? regions : (const struct zacpi_region *)ZACPI_NOTHING,
-                                regions_length, table, first, bytes_each,
+                                regions_length, table, walk,
                                 capacity ? out : (struct zacpi_entry *)ZACPI_NOTHING, capacity,
                                 count, malformed, signature ? signature : &unasked);
 }

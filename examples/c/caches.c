@@ -25,14 +25,14 @@ static void print_caches(const node *of) {
     }
 }
 int main(int argc, char **argv) {
-    uint32_t offset, depth, up;
-    const uint8_t *any;
+    uint32_t i, depth, up;
+    size_t count;
     open_table(argc, argv, "PPTT");
-    for (offset = sizeof(struct zacpi_raw_pptt); (any = at(offset, 2)) && any[1]; offset += any[1]) {
-        const node *it = structure(offset, 0, sizeof *it);
+    for (i = 0, count = walk_entries((struct zacpi_walk)ZACPI_WALK_PPTT); i < count; i++) {
+        const node *it = structure(offsets[i], 0, sizeof *it);
         if (!it || !(it->flags & FLAG(PROCESSOR_HIERARCHY_NODE_STRUCTURE_FLAGS_ACPI_PROCESSOR_ID_VALID))) continue;
         printf("processor %u", it->acpi_processor_id);
-        for (depth = 0, up = offset; depth < DEPTH && (it = structure(up, 0, sizeof *it)); depth++, up = it->parent)
+        for (depth = 0, up = offsets[i]; depth < DEPTH && (it = structure(up, 0, sizeof *it)); depth++, up = it->parent)
             print_caches(it);
         puts("");
     }

@@ -24,16 +24,16 @@ static uint32_t next(const node *from, uint32_t *id) {
 int main(int argc, char **argv) {
     const int taken = open_table(argc, argv, "IORT");
     const struct zacpi_raw_iort *iort = at(0, sizeof *iort);
-    uint32_t n, id, offset = iort ? iort->offset_to_array_of_iort_nodes : 0;
-    const struct zacpi_raw_iort_node_root_complex *root = NULL;
+    const struct zacpi_walk walk = ZACPI_WALK_IORT(iort ? iort->offset_to_array_of_iort_nodes : 0);
+    const size_t count = iort ? walk_entries(walk) : 0;
     const node *it;
-    for (n = 0; (it = node_at(offset)) && n < iort->number_of_iort_nodes; n++, offset += it->length) {
-        root = it->length < sizeof *root ? NULL : (const void *)it;
-        if (root && it->type == ZACPI_RAW_IORT_NODE_TYPE_ROOT_COMPLEX && !root->pci_segment_number) break;
+    uint32_t n, offset, id = argc == taken ? 0 : (uint32_t)strtoul(argv[taken], NULL, 16);
+    for (n = 0; n < count && n < iort->number_of_iort_nodes; n++) {
+        const struct zacpi_raw_iort_node_root_complex *root = (const void *)(it = node_at(offsets[n]));
+        if (!it || it->length < sizeof *root || it->type != ZACPI_RAW_IORT_NODE_TYPE_ROOT_COMPLEX) continue;
+        if (!root->pci_segment_number) break;
     }
-    if (!it || n == iort->number_of_iort_nodes || argc == taken) return 1;
-    id = (uint32_t)strtoul(argv[taken], NULL, 16);
-    for (n = 0; n < 4 && (it = node_at(offset)); n++, offset = next(it, &id))
+    if (n == count || n == iort->number_of_iort_nodes || argc == taken) return 1;
+    for (offset = offsets[n], n = 0; n < 4 && (it = node_at(offset)); n++, offset = next(it, &id))
         printf("node %u type %u id 0x%x\n", offset, it->type, id);
-    return 0;
 }

@@ -28,4 +28,18 @@ static int open_table(int argc, char **argv, const char *letters) {
 static inline const void *at(uint32_t offset, size_t length) {
     return offset <= table.length && length <= table.length - offset ? bytes + offset : NULL;
 }
+
+/* The offsets of the table's first 1024 entries by a walk, and how many these are. */
+static uint32_t offsets[1024];
+static inline size_t walk_entries(struct zacpi_walk walk) {
+    static struct zacpi_entry entries[1024];
+    size_t count = 0, i;
+    uint8_t malformed;
+    if (zacpi_list_entries(source.regions, source.regions_length, table.address, &walk, entries, 1024, &count,
+                           &malformed, NULL))
+        return 0;
+    if (count > 1024) count = 1024;
+    for (i = 0; i < count; i++) offsets[i] = (uint32_t)(entries[i].address - table.address);
+    return count;
+}
 #endif

@@ -90,8 +90,8 @@ static void print_tables(const struct zacpi_source *source) {
     LIST("ssdts", zacpi_aml_table, zacpi_list_ssdts, ALL, "%u %llx\n", it->revision, (wide)it->table_address);
 }
 
-/* The entries of each table of a kind, from its byte `first` on, and the sum of their bytes. */
-static void print_entries(const struct zacpi_source *source, const char *letters, uint32_t first, uint32_t bytes_each) {
+/* The entries of each table of a kind, by a walk, and the sum of their bytes. */
+static void print_entries(const struct zacpi_source *source, const char *letters, const struct zacpi_walk *walk) {
     static struct zacpi_entry items[MOST];
     struct zacpi_signature named = {{0}};
     struct zacpi_table table;
@@ -99,8 +99,8 @@ static void print_entries(const struct zacpi_source *source, const char *letters
     uint8_t malformed = 0;
     zacpi_status refused = zacpi_find_table(source, zacpi_signature_of(letters), &table, &named);
     if (!refused)
-        refused = zacpi_list_entries(source->regions, source->regions_length, table.address, first, bytes_each, items,
-                                     MOST, &count, &malformed, &named);
+        refused = zacpi_list_entries(source->regions, source->regions_length, table.address, walk, items, MOST, &count,
+                                     &malformed, &named);
     if (is_missing("entries", refused, &named)) return;
     printf("entries %lu %u\n", (unsigned long)count, malformed);
     for (i = 0; i < count && i < MOST; i++) {
@@ -388,11 +388,15 @@ static void print_ivrs(const struct zacpi_source *source) {
 }
 
 void print_answers(const struct zacpi_source *source) {
+    static const struct {
+        const char *letters;
+        struct zacpi_walk walk;
+    } walked[] = {{"APIC", {44, 0, 1, 1, 1}}, {"SRAT", {48, 0, 1, 1, 1}}, {"DMAR", {48, 0, 2, 2, 2}},
+                  {"APIC", {0, 0, 4, 4, 4}}, /* one: its Signature and its Length */
+                  {"APIC", {44, 3, 2, 1, 1}}};
+    unsigned i;
     print_tables(source);
-    print_entries(source, "APIC", 44, 1);
-    print_entries(source, "SRAT", 48, 1);
-    print_entries(source, "DMAR", 48, 2);
-    print_entries(source, "APIC", 0, 4); /* one: its Signature and its Length */
+    for (i = 0; i < sizeof walked / sizeof *walked; i++) print_entries(source, walked[i].letters, &walked[i].walk);
     print_fixed_hardware(source);
     print_power(source);
     print_devices(source);

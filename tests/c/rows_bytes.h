@@ -2,6 +2,7 @@
  * bytes below. For rows.c. */
 #ifndef ROWS_BYTES_H
 #define ROWS_BYTES_H
+#include "zacpi_tables.h"
 
 /* ---- zacpi_locate --------------------------------------------------------------------------------------- */
 
@@ -74,6 +75,19 @@ static const uint8_t dmar_whole[92] = {'D', 'M', 'A', 'R', 92, [9] = 0x50, [48] 
 /* Type and Length have four bytes each: one of Type 0x10002 of twelve bytes, and one of Type 0xffffffff of eight. */
 static const uint8_t lpit_whole[56] = {'L', 'P', 'I', 'T', 56, [9] = 0x7c, [36] = 2, 0, 1, 0, 12, [48] = 0xff, 0xff,
                                        0xff, 0xff, 8};
+/* Type has one byte and Length two: an ITS group of 24 bytes, and an SMMUv3 of 260. */
+static const uint8_t iort_whole[332] = {'I', 'O', 'R', 'T', 0x4c, 1, [9] = 0x54, [48] = 0, 24, 0, [72] = 4, 4, 1};
+/* Type has two bytes, two are reserved, and Length has four: one of Type 1 of eight bytes, one of 0x102 of twelve. */
+static const uint8_t hmat_whole[60] = {'H', 'M', 'A', 'T', 60, [9] = 0xa6, [40] = 1, 0, 0xee, 0xee, 8,
+                                       [48] = 2, 1, 0, 0, 12};
+/* Type has one byte, one is reserved, and Length has two: one of four bytes, and one of Type 1 of six. */
+static const uint8_t cedt_whole[46] = {'C', 'E', 'D', 'T', 46, [9] = 0x30, [36] = 0, 0x77, 4, 0, [40] = 1, 0, 6};
+/* Type has two bytes and Length one: one of Type 1 of 16 bytes, and one of Type 0x102 of three. */
+static const uint8_t fpdt_whole[55] = {'F', 'P', 'D', 'T', 55, [9] = 0x83, [36] = 1, 0, 16, 1, [52] = 2, 1, 3};
+/* At 36 two bytes of Type, two others, and a Length of 7. */
+static const uint8_t oem_seven[44] = {'O', 'E', 'M', '5', 44, [9] = 0xb7, [40] = 7};
+/* Length comes before Type: one of four bytes and Type 9, and one of three and Type 1. */
+static const uint8_t oem_turned[44] = {'O', 'E', 'M', '6', 44, [9] = 0xac, [36] = 4, 0, 9, 0, 3, 0, 1};
 /* The second entry is longer than the ten bytes that are left. */
 static const uint8_t madt_long[62] = {'A', 'P', 'I', 'C', 62, [9] = 0x90, [44] = 0, 8, [52] = 1, 12};
 /* The second entry is shorter than its Type and Length. */
@@ -93,53 +107,82 @@ static const uint8_t oem_lost[65] = {'O', 'E', 'M', '4', 66, [9] = 0xa9};
 #define TABLE(n) (0x10000u * ((n) + 1u)) /* where table N lies */
 #define LAID(n, table) {TABLE(n), table, sizeof table}
 enum { IN_APIC, IN_SRAT, IN_DMAR, IN_LONG, IN_SHORT, IN_HALF, IN_THREE, IN_ZEROS, IN_35, IN_OTHER, IN_SUM, IN_LOST,
-       IN_LPIT, NOWHERE };
+       IN_LPIT, IN_IORT, IN_HMAT, IN_CEDT, IN_FPDT, IN_SEVEN, IN_TURNED, NOWHERE };
 static const struct zacpi_region laid[] = {LAID(IN_APIC, madt_whole), LAID(IN_SRAT, srat_whole),
     LAID(IN_DMAR, dmar_whole), LAID(IN_LONG, madt_long), LAID(IN_SHORT, madt_short), LAID(IN_HALF, nfit_half),
     LAID(IN_THREE, oem_three), LAID(IN_ZEROS, oem_zeros), LAID(IN_35, oem_35), LAID(IN_OTHER, oem_other),
-    LAID(IN_SUM, oem_sum), LAID(IN_LOST, oem_lost), LAID(IN_LPIT, lpit_whole)};
+    LAID(IN_SUM, oem_sum), LAID(IN_LOST, oem_lost), LAID(IN_LPIT, lpit_whole),
+    LAID(IN_IORT, iort_whole), LAID(IN_HMAT, hmat_whole), LAID(IN_CEDT, cedt_whole), LAID(IN_FPDT, fpdt_whole),
+    LAID(IN_SEVEN, oem_seven), LAID(IN_TURNED, oem_turned)};
 
 static const struct entries_row {
     const struct zacpi_region *regions;
     size_t regions_length;
-    uint32_t table, first, bytes_each;
+    uint32_t table;
+    struct zacpi_walk walk;
     zacpi_status status;
     const char *named;
     size_t count;
     uint8_t malformed;
     uint64_t values[9]; /* of each entry its address, its Type and its Length */
 } entry_rows[] = {
-    {REGIONS(laid), IN_APIC, 44, 1, ZACPI_OK, NULL, 3, 0,
+    {REGIONS(laid), IN_APIC, ZACPI_WALK_APIC, ZACPI_OK, NULL, 3, 0,
      {TABLE(IN_APIC) + 44, 0, 8, TABLE(IN_APIC) + 52, 1, 12, TABLE(IN_APIC) + 64, 0x80, 2}},
-    {REGIONS(laid), IN_APIC, 52, 1, ZACPI_OK, NULL, 2, 0, {TABLE(IN_APIC) + 52, 1, 12, TABLE(IN_APIC) + 64, 0x80, 2}},
-    {REGIONS(laid), IN_APIC, 66, 1, ZACPI_OK, NULL, 0, 0, {0}}, /* the table's end */
-    {REGIONS(laid), IN_APIC, 65, 1, ZACPI_OK, NULL, 0, 1, {0}}, /* one byte is left */
-    {REGIONS(laid), IN_APIC, 67, 1, ZACPI_SDT_INVALID_LENGTH, "APIC", 0, 0, {0}},
-    {REGIONS(laid), IN_APIC, UINT32_MAX, 2, ZACPI_SDT_INVALID_LENGTH, "APIC", 0, 0, {0}},
-    {REGIONS(laid), IN_APIC, 44, 2, ZACPI_OK, NULL, 0, 1, {0}}, /* a Type of 0x800, and a Length of 0x201 */
-    {REGIONS(laid), IN_APIC, 0, 2, ZACPI_OK, NULL, 0, 1, {0}}, /* the header as an entry: a Length of "IC", 0x4349 */
-    {REGIONS(laid), IN_APIC, 44, 0, ZACPI_UNKNOWN_WIDTH, NULL, 0, 0, {0}},
-    {REGIONS(laid), IN_APIC, 44, 3, ZACPI_UNKNOWN_WIDTH, NULL, 0, 0, {0}},
-    {REGIONS(laid), IN_SRAT, 48, 1, ZACPI_OK, NULL, 2, 0, {TABLE(IN_SRAT) + 48, 1, 40, TABLE(IN_SRAT) + 88, 0, 16}},
-    {REGIONS(laid), IN_DMAR, 48, 2, ZACPI_OK, NULL, 3, 0,
+    {REGIONS(laid), IN_APIC, {52, 0, 1, 1, 1}, ZACPI_OK, NULL, 2, 0,
+     {TABLE(IN_APIC) + 52, 1, 12, TABLE(IN_APIC) + 64, 0x80, 2}},
+    {REGIONS(laid), IN_APIC, {66, 0, 1, 1, 1}, ZACPI_OK, NULL, 0, 0, {0}}, /* the table's end */
+    {REGIONS(laid), IN_APIC, {65, 0, 1, 1, 1}, ZACPI_OK, NULL, 0, 1, {0}}, /* one byte is left */
+    {REGIONS(laid), IN_APIC, {67, 0, 1, 1, 1}, ZACPI_SDT_INVALID_LENGTH, "APIC", 0, 0, {0}},
+    {REGIONS(laid), IN_APIC, {UINT32_MAX, 0, 2, 2, 2}, ZACPI_SDT_INVALID_LENGTH, "APIC", 0, 0, {0}},
+    {REGIONS(laid), IN_APIC, {44, 0, 2, 2, 2}, ZACPI_OK, NULL, 0, 1, {0}}, /* a Type of 0x800, and a Length of 0x201 */
+    {REGIONS(laid), IN_APIC, {0, 0, 2, 2, 2}, ZACPI_OK, NULL, 0, 1, {0}}, /* the header: a Length of "IC", 0x4349 */
+    {REGIONS(laid), IN_APIC, {44, 0, 0, 0, 0}, ZACPI_UNKNOWN_WIDTH, NULL, 0, 0, {0}},
+    {REGIONS(laid), IN_APIC, {44, 0, 3, 3, 3}, ZACPI_UNKNOWN_WIDTH, NULL, 0, 0, {0}},
+    {REGIONS(laid), IN_SRAT, ZACPI_WALK_SRAT, ZACPI_OK, NULL, 2, 0,
+     {TABLE(IN_SRAT) + 48, 1, 40, TABLE(IN_SRAT) + 88, 0, 16}},
+    {REGIONS(laid), IN_DMAR, ZACPI_WALK_DMAR, ZACPI_OK, NULL, 3, 0,
      {TABLE(IN_DMAR) + 48, 0, 16, TABLE(IN_DMAR) + 64, 1, 24, TABLE(IN_DMAR) + 88, 0x102, 4}},
-    {REGIONS(laid), IN_LPIT, 36, 4, ZACPI_OK, NULL, 2, 0,
+    {REGIONS(laid), IN_LPIT, ZACPI_WALK_LPIT, ZACPI_OK, NULL, 2, 0,
      {TABLE(IN_LPIT) + 36, 0x10002, 12, TABLE(IN_LPIT) + 48, 0xffffffff, 8}},
-    {REGIONS(laid), IN_LPIT, 40, 4, ZACPI_OK, NULL, 0, 1, {0}}, /* a Type of 12, and a Length of 0 */
-    {REGIONS(laid), IN_LPIT, 49, 4, ZACPI_OK, NULL, 0, 1, {0}}, /* seven bytes are left */
-    {REGIONS(laid), IN_LONG, 44, 1, ZACPI_OK, NULL, 1, 1, {TABLE(IN_LONG) + 44, 0, 8}},
-    {REGIONS(laid), IN_SHORT, 44, 1, ZACPI_OK, NULL, 1, 1, {TABLE(IN_SHORT) + 44, 0, 8}},
-    {REGIONS(laid), IN_HALF, 40, 2, ZACPI_OK, NULL, 1, 1, {TABLE(IN_HALF) + 40, 7, 4}},
-    {REGIONS(laid), IN_THREE, 36, 2, ZACPI_OK, NULL, 1, 1, {TABLE(IN_THREE) + 36, 0xff, 4}},
-    {REGIONS(laid), IN_ZEROS, 36, 1, ZACPI_OK, NULL, 0, 1, {0}},
-    {REGIONS(laid), IN_35, 36, 1, ZACPI_SDT_INVALID_LENGTH, "OEM3", 0, 0, {0}},
-    {REGIONS(laid), IN_OTHER, 36, 1, ZACPI_SDT_INVALID_SIGNATURE, "\377OEM", 0, 0, {0}},
-    {REGIONS(laid), IN_SUM, 41, 1, ZACPI_SDT_INVALID_CHECKSUM, "OEM1", 0, 0, {0}},
-    {REGIONS(laid), IN_LOST, 36, 1, ZACPI_MAP_FAILED, NULL, 0, 0, {0}},
-    {REGIONS(laid), NOWHERE, 36, 1, ZACPI_MAP_FAILED, NULL, 0, 0, {0}},
-    {REGIONS(laid), NOWHERE, 36, 8, ZACPI_UNKNOWN_WIDTH, NULL, 0, 0, {0}},
-    {REGIONS(placed_over), IN_APIC, 44, 8, ZACPI_REGIONS_NOT_ASCENDING, NULL, 0, 0, {0}},
-    {REGIONS(placed_too_high), IN_APIC, 44, 8, ZACPI_REGION_TOO_HIGH, NULL, 0, 0, {0}}};
+    {REGIONS(laid), IN_LPIT, {40, 0, 4, 4, 4}, ZACPI_OK, NULL, 0, 1, {0}}, /* a Type of 12, and a Length of 0 */
+    {REGIONS(laid), IN_LPIT, {49, 0, 4, 4, 4}, ZACPI_OK, NULL, 0, 1, {0}}, /* seven bytes are left */
+    /* Type and Length of other widths, and at other places. */
+    {REGIONS(laid), IN_IORT, ZACPI_WALK_IORT(48), ZACPI_OK, NULL, 2, 0,
+     {TABLE(IN_IORT) + 48, 0, 24, TABLE(IN_IORT) + 72, 4, 260}},
+    {REGIONS(laid), IN_IORT, {72, 0, 1, 1, 1}, ZACPI_OK, NULL, 1, 1, {TABLE(IN_IORT) + 72, 4, 4}}, /* then one of 0 */
+    {REGIONS(laid), IN_HMAT, ZACPI_WALK_HMAT, ZACPI_OK, NULL, 2, 0,
+     {TABLE(IN_HMAT) + 40, 1, 8, TABLE(IN_HMAT) + 48, 0x102, 12}},
+    {REGIONS(laid), IN_CEDT, ZACPI_WALK_CEDT, ZACPI_OK, NULL, 2, 0,
+     {TABLE(IN_CEDT) + 36, 0, 4, TABLE(IN_CEDT) + 40, 1, 6}},
+    {REGIONS(laid), IN_FPDT, ZACPI_WALK_FPDT, ZACPI_OK, NULL, 2, 0,
+     {TABLE(IN_FPDT) + 36, 1, 16, TABLE(IN_FPDT) + 52, 0x102, 3}},
+    /* A Length of 7 is less than where a Length of four bytes ends, and more than where one of one byte does. */
+    {REGIONS(laid), IN_SEVEN, {36, 0, 2, 4, 4}, ZACPI_OK, NULL, 0, 1, {0}},
+    {REGIONS(laid), IN_SEVEN, {36, 0, 2, 4, 1}, ZACPI_OK, NULL, 1, 1, {TABLE(IN_SEVEN) + 36, 0, 7}},
+    /* Length comes first: the second entry lacks a byte of Type, or has all of it. */
+    {REGIONS(laid), IN_TURNED, {36, 2, 2, 0, 2}, ZACPI_OK, NULL, 1, 1, {TABLE(IN_TURNED) + 36, 9, 4}},
+    {REGIONS(laid), IN_TURNED, {36, 2, 1, 0, 2}, ZACPI_OK, NULL, 2, 1,
+     {TABLE(IN_TURNED) + 36, 9, 4, TABLE(IN_TURNED) + 40, 1, 3}},
+    /* Type or Length is past the table's end. */
+    {REGIONS(laid), IN_APIC, {44, 255, 4, 1, 1}, ZACPI_OK, NULL, 0, 1, {0}},
+    {REGIONS(laid), IN_APIC, {44, 0, 1, 255, 4}, ZACPI_OK, NULL, 0, 1, {0}},
+    {REGIONS(laid), IN_APIC, {66, 255, 4, 255, 4}, ZACPI_OK, NULL, 0, 0, {0}},
+    {REGIONS(laid), IN_APIC, {44, 0, 3, 1, 1}, ZACPI_UNKNOWN_WIDTH, NULL, 0, 0, {0}},
+    {REGIONS(laid), IN_APIC, {44, 0, 1, 1, 0}, ZACPI_UNKNOWN_WIDTH, NULL, 0, 0, {0}},
+    {REGIONS(laid), IN_APIC, {44, 255, 255, 255, 255}, ZACPI_UNKNOWN_WIDTH, NULL, 0, 0, {0}},
+    {REGIONS(laid), IN_LONG, {44, 0, 1, 1, 1}, ZACPI_OK, NULL, 1, 1, {TABLE(IN_LONG) + 44, 0, 8}},
+    {REGIONS(laid), IN_SHORT, {44, 0, 1, 1, 1}, ZACPI_OK, NULL, 1, 1, {TABLE(IN_SHORT) + 44, 0, 8}},
+    {REGIONS(laid), IN_HALF, ZACPI_WALK_NFIT, ZACPI_OK, NULL, 1, 1, {TABLE(IN_HALF) + 40, 7, 4}},
+    {REGIONS(laid), IN_THREE, {36, 0, 2, 2, 2}, ZACPI_OK, NULL, 1, 1, {TABLE(IN_THREE) + 36, 0xff, 4}},
+    {REGIONS(laid), IN_ZEROS, {36, 0, 1, 1, 1}, ZACPI_OK, NULL, 0, 1, {0}},
+    {REGIONS(laid), IN_35, {36, 0, 1, 1, 1}, ZACPI_SDT_INVALID_LENGTH, "OEM3", 0, 0, {0}},
+    {REGIONS(laid), IN_OTHER, {36, 0, 1, 1, 1}, ZACPI_SDT_INVALID_SIGNATURE, "\377OEM", 0, 0, {0}},
+    {REGIONS(laid), IN_SUM, {41, 0, 1, 1, 1}, ZACPI_SDT_INVALID_CHECKSUM, "OEM1", 0, 0, {0}},
+    {REGIONS(laid), IN_LOST, {36, 0, 1, 1, 1}, ZACPI_MAP_FAILED, NULL, 0, 0, {0}},
+    {REGIONS(laid), NOWHERE, {36, 0, 1, 1, 1}, ZACPI_MAP_FAILED, NULL, 0, 0, {0}},
+    {REGIONS(laid), NOWHERE, {36, 0, 8, 8, 8}, ZACPI_UNKNOWN_WIDTH, NULL, 0, 0, {0}},
+    {REGIONS(placed_over), IN_APIC, {44, 0, 8, 8, 8}, ZACPI_REGIONS_NOT_ASCENDING, NULL, 0, 0, {0}},
+    {REGIONS(placed_too_high), IN_APIC, {44, 0, 8, 8, 8}, ZACPI_REGION_TOO_HIGH, NULL, 0, 0, {0}}};
 
 FIELDS(of_entry, F(struct zacpi_entry, address), F(struct zacpi_entry, entry_type), F(struct zacpi_entry, length));
 static const struct call call_entries = {"list_entries", NULL, of_entry, sizeof(struct zacpi_entry), 1};
@@ -150,7 +193,7 @@ static void check_entries(const struct entries_row *row, size_t room) {
     uint8_t malformed = PAINT;
     zacpi_status got;
     memset(out.bytes, PAINT, sizeof out.bytes);
-    got = zacpi_list_entries(row->regions, row->regions_length, TABLE(row->table), row->first, row->bytes_each,
+    got = zacpi_list_entries(row->regions, row->regions_length, TABLE(row->table), &row->walk,
                              (struct zacpi_entry *)(void *)out.bytes, room, &count, &malformed, &named);
     result(got == row->status && !memcmp(named.letters, row->named ? row->named : "????", 4)
            && count == (row->status ? UNCOUNTED : row->count) && malformed == (row->status ? PAINT : row->malformed)

@@ -1,6 +1,6 @@
 //! The tables below an RSDP.
 
-use crate::entries::{Entries, EntryWidth};
+use crate::entries::{Entries, Walk};
 use crate::error::{AcpiError, AcpiResult};
 use crate::list::{items, sealed::Sealed, Item, Listing};
 use crate::memory::{Region, Start};
@@ -268,14 +268,13 @@ impl<'k> AcpiTables<'k> {
         self.regions.get(place.region)?.slice(place.offset, usize::try_from(length).ok()?)
     }
 
-    /// The entries of a table of any type, from an offset in it on, whose Type and Length have one, two or four bytes
-    /// each.
+    /// The entries of a table of any type, by how they are laid out.
     ///
-    /// Fails, if the table isn't one of these tables, with the error of its address (`MapFailed`, `SdtInvalidOemId`,
+    /// Fails with `UnknownWidth` if Type or Length doesn't have one, two or four bytes; if the table isn't one of these tables, with the error of its address (`MapFailed`, `SdtInvalidOemId`,
     /// `SdtInvalidTableId`, `SdtInvalidLength`, `SdtInvalidChecksum`), and with `SdtInvalidLength` if it ends before
     /// the offset.
-    pub fn entries(&self, table: &Table, first: u32, width: EntryWidth) -> AcpiResult<Entries<'k>> {
-        Entries::new(*self, *table, first, width)
+    pub fn entries(&self, table: &Table, walk: Walk) -> AcpiResult<Entries<'k>> {
+        Entries::new(*self, *table, walk)
     }
 }
 

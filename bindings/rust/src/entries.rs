@@ -1,7 +1,7 @@
-//! The entries of any table, which begin with Type and Length.
+//! The entries of any table, which have Type and Length.
 //!
 //! ```
-//! use zacpi::entries::EntryWidth;
+//! use zacpi::entries::Walk;
 //! use zacpi::Signature;
 //!
 //! # let ids = zacpi::write::TableIds::default();
@@ -14,7 +14,7 @@
 //! # let regions = [zacpi::Region::new(0x1000, &memory)];
 //! # let tables = zacpi::AcpiTables::open(&regions, zacpi::Start::Xsdt(0x1000))?;
 //! let srat = tables.find(Signature::SRAT)?;
-//! let entries = tables.entries(&srat, 48, EntryWidth::One)?;
+//! let entries = tables.entries(&srat, Walk::plain(48, 1))?;
 //! let types: Vec<u32> = entries.map(|entry| entry.entry_type).collect();
 //! assert_eq!(types, [3]); // GICC Affinity
 //! # Ok::<(), zacpi::AcpiError>(())
@@ -22,17 +22,15 @@
 
 use crate::acpi_tables::{AcpiTables, Table};
 use crate::error::AcpiResult;
+pub use crate::raw::records::Walk;
 use crate::raw::{self, records};
 
-/// How many bytes Type has, and Length has, at the front of each entry.
-#[derive(Clone, Copy, Debug, PartialEq, Eq)]
-pub enum EntryWidth {
-    /// One byte each, as in a MADT or an SRAT.
-    One,
-    /// Two bytes each, as in a DMAR or an NFIT.
-    Two,
-    /// Four bytes each, as in an LPIT.
-    Four,
+impl Walk {
+    /// From an offset on, with Type at the front of each entry and then Length, of so many bytes each: of one in a MADT,
+    /// an SRAT or a PPTT, of two in a DMAR, an NFIT or an RHCT, of four in an LPIT.
+    pub const fn plain(first: u32, width: u8) -> Self {
+        Walk { first, type_offset: 0, type_width: width, length_offset: width, length_width: width }
+    }
 }
 
 /// An entry of a table.
@@ -54,7 +52,7 @@ const AT_ONCE: usize = 16;
 pub struct Entries<'k> {
     tables: AcpiTables<'k>,
     table: Table,
-    width: EntryWidth,
+    walk: Walk,
     asked: [records::Entry; AT_ONCE],
     at: usize,
     left: usize,
@@ -62,23 +60,18 @@ pub struct Entries<'k> {
 }
 
 impl<'k> Entries<'k> {
-    pub(crate) fn new(tables: AcpiTables<'k>, table: Table, first: u32, width: EntryWidth) -> AcpiResult<Self> {
+    pub(crate) fn new(tables: AcpiTables<'k>, table: Table, walk: Walk) -> AcpiResult<Self> {
         let asked = [records::Entry::default(); AT_ONCE];
-        let mut entries = Entries { tables, table, width, asked, at: 0, left: 0, is_malformed: false };
-        entries.ask(first)?;
+        let mut entries = Entries { tables, table, walk, asked, at: 0, left: 0, is_malformed: false };
+        entries.ask(walk.first)?;
         Ok(entries)
     }
 
     /// Fetches the entries from an offset on.
     fn ask(&mut self, first: u32) -> AcpiResult<()> {
-        let bytes_each = match self.width {
-            EntryWidth::One => 1,
-            EntryWidth::Two => 2,
-            EntryWidth::Four => 4,
-        };
-        let regions = self.tables.regions();
+        let walk = Walk { first, ..self.walk };
         (self.left, self.is_malformed) =
-            raw::list_entries(regions, self.table.address, first, bytes_each, &mut self.asked)?;
+            raw::list_entries(self.tables.regions(), self.table.address, walk, &mut self.asked)?;
         self.at = 0;
         Ok(())
     }

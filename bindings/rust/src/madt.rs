@@ -24,7 +24,7 @@
 //! ```
 
 use crate::acpi_tables::{read::Read, AcpiTables, Table};
-use crate::entries::{Entries, Entry, EntryWidth};
+use crate::entries::{Entries, Entry, Walk};
 pub use crate::error::MadtError;
 use crate::error::{AcpiError, AcpiResult};
 use crate::raw;
@@ -53,7 +53,7 @@ impl<'k> Madt<'k> {
 
     /// The entries, one after the other, up to the first that is too short for its type or doesn't fit into the table.
     pub fn entries(&self) -> MadtEntryIter<'k> {
-        let entries = Entries::new(self.tables, self.table, ENTRIES_AT, EntryWidth::One).ok();
+        let entries = Entries::new(self.tables, self.table, Walk::plain(ENTRIES_AT, 1)).ok();
         MadtEntryIter { entries, is_malformed: false }
     }
 }

@@ -76,7 +76,13 @@ unsafe impl Sync for Region<'_> {}
 impl<'k> Source<'k> {
     /// The regions, and where to start in them: one of `enum zacpi_start`, and its address.
     pub(crate) const fn new(regions: &'k [Region<'k>], start: u32, address: u64) -> Self {
-        Source { regions: regions.as_ptr(), regions_length: regions.len(), address, start, lent: PhantomData }
+        Source {
+            regions: regions.as_ptr(),
+            regions_length: regions.len(),
+            address,
+            start,
+            lent: PhantomData,
+        }
     }
 }
 
@@ -243,8 +249,7 @@ unsafe extern "C" {
         regions: *const Region<'_>,
         regions_length: usize,
         table: u64,
-        first: u32,
-        bytes_each: u32,
+        walk: *const Walk,
         out: *mut Entry,
         room: usize,
         count: *mut usize,
@@ -314,23 +319,22 @@ pub(crate) fn start_of_rsdp(copy: &[u8]) -> AcpiResult<(u32, u64)> {
     answered(status, Signature::default()).map(|()| (source.start, source.address))
 }
 
-/// The entries of the table at an address, from an offset on: how many there are, and whether bytes are left.
+/// The entries of the table at an address, by a walk: how many there are, and whether bytes are left.
 pub(crate) fn list_entries(
     regions: &[Region<'_>],
     table: u64,
-    first: u32,
-    bytes_each: u32,
+    walk: Walk,
     out: &mut [Entry],
 ) -> AcpiResult<(usize, bool)> {
     let (mut count, mut malformed, mut named) = (0, 0, Signature::default());
-    // SAFETY: the regions are a live slice; the outputs are a live slice with its length, and three live variables.
+    // SAFETY: the regions are a live slice and the walk a live variable; the outputs are a live slice with its length, and
+    // three live variables.
     let status = unsafe {
         zacpi_1_list_entries(
             regions.as_ptr(),
             regions.len(),
             table,
-            first,
-            bytes_each,
+            &walk,
             out.as_mut_ptr(),
             out.len(),
             &mut count,

@@ -49,6 +49,20 @@ records! {
         /// How many bytes it has.
         length: u64,
     }
+    /// How the entries of a table are laid out ([`AcpiTables::entries`](crate::AcpiTables::entries)): as in a HMAT,
+    /// `Walk { first: 40, type_offset: 0, type_width: 2, length_offset: 4, length_width: 4 }`.
+    Walk {
+        /// The offset of the first entry in the table.
+        first: u32,
+        /// The offset of Type in an entry.
+        type_offset: u8,
+        /// How many bytes Type has: 1, 2 or 4.
+        type_width: u8,
+        /// The offset of Length in an entry.
+        length_offset: u8,
+        /// How many bytes Length has: 1, 2 or 4.
+        length_width: u8,
+    }
     /// A stream of AML: a DSDT or an SSDT without its header (section 5.2.11).
     AmlTable {
         /// The physical address of the first byte after the table's 36 bytes of header.

@@ -1,7 +1,7 @@
 //! Opening, lookups, lists, bytes and entries.
 mod common;
 use common::{Memory, ROOT};
-use zacpi::entries::EntryWidth;
+use zacpi::entries::Walk;
 use zacpi::write::TableIds;
 use zacpi::{AcpiError, AcpiTables, AmlTable, Fault, Range, Region, Root, Signature, Slot, Start, Table};
 
@@ -253,7 +253,7 @@ fn answers_where_bytes_are() {
 fn walks_entries() {
     machine().ask(|tables| {
         let dmar = tables.find(Signature::DMAR).unwrap();
-        let mut entries = tables.entries(&dmar, 48, EntryWidth::Two).unwrap();
+        let mut entries = tables.entries(&dmar, Walk::plain(48, 2)).unwrap();
         assert_eq!((entries.count_left(), entries.is_malformed()), (2, true));
         let first = entries.next().unwrap();
         assert_eq!((first.address, first.entry_type, first.bytes), (DMAR + 48, 1, &[1, 0, 4, 0][..]));
@@ -262,13 +262,13 @@ fn walks_entries() {
         assert_eq!((second.address, second.entry_type, second.bytes), (DMAR + 52, 0x102, &bytes[..]));
         assert_eq!(entries.next(), None);
         // From 49 on with one byte each: Type 0 and Length 4, then at 53 Type 1 and Length 6, then Length 0.
-        let narrow: Vec<_> = tables.entries(&dmar, 49, EntryWidth::One).unwrap().map(|e| e.bytes.len()).collect();
+        let narrow: Vec<_> = tables.entries(&dmar, Walk::plain(49, 1)).unwrap().map(|e| e.bytes.len()).collect();
         assert_eq!(narrow, [4, 6]);
-        assert_eq!(tables.entries(&dmar, 61, EntryWidth::One).unwrap().count(), 0);
-        let refused = tables.entries(&dmar, 62, EntryWidth::One).unwrap_err();
+        assert_eq!(tables.entries(&dmar, Walk::plain(61, 1)).unwrap().count(), 0);
+        let refused = tables.entries(&dmar, Walk::plain(62, 1)).unwrap_err();
         assert_eq!(refused, AcpiError::SdtInvalidLength(Signature::DMAR));
         let nowhere = Table { address: 0, ..dmar };
-        assert_eq!(tables.entries(&nowhere, 48, EntryWidth::Two).unwrap_err(), AcpiError::MapFailed);
+        assert_eq!(tables.entries(&nowhere, Walk::plain(48, 2)).unwrap_err(), AcpiError::MapFailed);
     });
 }
 
@@ -284,7 +284,7 @@ fn walks_wide_entries() {
     memory.table(SSDT, "LPIT", 1, 60, &fields);
     memory.ask(|tables| {
         let lpit = tables.find(Signature::LPIT).unwrap();
-        let mut entries = tables.entries(&lpit, 36, EntryWidth::Four).unwrap();
+        let mut entries = tables.entries(&lpit, Walk::plain(36, 4)).unwrap();
         assert_eq!((entries.count_left(), entries.is_malformed()), (2, true));
         let first = entries.next().unwrap();
         assert_eq!((first.address, first.entry_type, &first.bytes[8..]), (SSDT + 36, 0x1_0002, &[1, 2, 3, 4][..]));
@@ -292,7 +292,7 @@ fn walks_wide_entries() {
         assert_eq!((second.address, second.entry_type, second.bytes.len()), (SSDT + 48, u32::MAX, 8));
         assert_eq!(entries.next(), None);
         // A Length of 1 is too short.
-        let short = tables.entries(&lpit, 52, EntryWidth::Four).unwrap();
+        let short = tables.entries(&lpit, Walk::plain(52, 4)).unwrap();
         assert_eq!((short.is_malformed(), short.count()), (true, 0));
     });
 }
@@ -306,7 +306,7 @@ fn walks_many_entries() {
     memory.table(SSDT, "ZZZZ", 0, 36 + 120, &fields);
     memory.ask(|tables| {
         let table = tables.find(Signature::new("ZZZZ")).unwrap();
-        let entries = tables.entries(&table, 36, EntryWidth::One).unwrap();
+        let entries = tables.entries(&table, Walk::plain(36, 1)).unwrap();
         assert!(!entries.is_malformed());
         let mut seen = 0;
         for (n, entry) in entries.enumerate() {

@@ -5,7 +5,7 @@ ghost use Rattle.acpi_c_lib.specs.Words.{AnswersList, AnswersPlain, result_map, 
 
 use acpi_c_lib::answer::{answer, answer_plain};
 use acpi_c_lib::entries::table_entries;
-use acpi_c_lib::records::{Entry, Place, Signature};
+use acpi_c_lib::records::{Entry, Place, Signature, Walk};
 use acpi_c_lib::regions::{Region, locate};
 
 /// Where bytes of physical memory are in the caller's regions.
@@ -21,25 +21,24 @@ pub extern "C" fn zacpi_1_locate(
     answer_plain(locate(regions, address, length), out)
 }
 
-/// The entries of the table at an address, from an offset on, which begin with Type and Length.
+/// The entries of the table at an address, by where Type and Length stand in each.
 #[unsafe(no_mangle)]
 pub extern "C" fn zacpi_1_list_entries(
     regions: &[Region<'_>],
     table: u64,
-    first: u32,
-    bytes_each: u32,
+    walk: &Walk,
     out: &mut [Entry],
     count: &mut usize,
     malformed: &mut u8,
     named: &mut Signature,
 ) -> u32
     ensures list { AnswersList result out.old out.new count.old count.new named.old named.new
-        (result_map entries_said (entries_below regions.now table first bytes_each)) }
+        (result_map entries_said (entries_below regions.now table walk.now)) }
     ensures malformed { malformed.new ≡ result_unwrap_or
-        (result_map left_said (entries_below regions.now table first bytes_each)) malformed.old }
+        (result_map left_said (entries_below regions.now table walk.now)) malformed.old }
 {
     answer(
-        table_entries(regions, table, first, bytes_each, out, malformed),
+        table_entries(regions, table, *walk, out, malformed),
         count,
         named,
     )

@@ -1,13 +1,13 @@
 -- Lists that are written, in one part or in two, and how many items they have at most.
 use Rattle.std.proofs.Common.{◌≡◌, ◌∙◌, ◌+◌, ℕ, List, [], ◌∷◌, ◌++◌, length, length-append, slice_set, ap, sym, arith, drop, zero, suc, map, Some, None, true, refl, ◌<◌, ◌≤◌, Bool, false, Option, length-drop, inl, inr, ◌-◌, ◌/◌, ◌==◌, min, nat_lt, if◌then◌else◌, filter_map}
 use Rattle.acpi_base.proofs.FromStd.{append-nil, length-map, length-filter, count_by-le-length, nat_tests}
-use Rattle.acpi_c_lib.specs.Words.{Writes, put_from, MadtItem, listed, plain_grammar, plain_layout, GtFrame, frame_record, frames_in, frames_of, frames_shown, watchdog_in, watchdogs_shown}
+use Rattle.acpi_c_lib.specs.Words.{Writes, put_from, MadtItem, listed, plain_grammar, GtFrame, frame_record, frames_in, frames_of, frames_shown, watchdog_in, watchdogs_shown}
 use Rattle.std.proofs.Math.Nat.{div-le_self, min-le_right}
 use Rattle.acpi.proofs.First.{filter_map_few}
 use Rattle.acpi_base.specs.FromStd.{concat, AllByRecursion, cons_option}
-use Rattle.acpi_base.specs.Words.{processor_in, processors_of, IsBytes, field_of, IsEntry, after_one, cut, number_in, width_of, with_entry}
+use Rattle.acpi_base.specs.Words.{processor_in, processors_of, IsBytes, field_of, IsEntry, after_one, cut, number_in, with_entry}
 use Rattle.acpi_base.proofs.Words.{cut_is_cut}
-use Rattle.acpi.specs.Types.{Width, One, Two, Four}
+use Rattle.acpi.specs.Types.{Width, One, Two, Four, EntryLayout}
 use Rattle.acpi_arm.specs.Timers.{Timer, first_frames, frame_count, frames_there, kind_of, timer_bytes, timer_count, timer_there, timers_grammar, timers_layout, watchdog_at}
 use Rattle.acpi_arm.specs.Timers as arm
 use Rattle.acpi_c_lib.specs.Records as records
@@ -50,17 +50,17 @@ number_small One at bytes h = omega (arith, h at)
 number_small Two at bytes h = omega (arith, h at, h (at + 1))
 number_small Four at bytes h = omega (arith, h at, h (at + 1), h (at + 2), h (at + 3))
 
-pub entry_small : (w : Width) (e : List ℕ) → IsBytes e → IsEntry (plain_layout w) e → length e < 4294967296
-entry_small w e h entry = omega (arith, number_small w (width_of w) e h, entry.size)
+pub entry_small : (l : EntryLayout 0) (e : List ℕ) → IsBytes e → IsEntry l e → length e < 4294967296
+entry_small l e h entry = omega (arith, number_small l.length_place.width l.length_place.at e h, entry.size)
 
 -- the bytes of an entry and those after it are all bytes
-pub front_whole : (w : Width) (rest e others : List ℕ)
-    → cut (plain_grammar w) rest ≡ with_entry e (cut (after_one (plain_grammar w)) others)
+pub front_whole : (l : EntryLayout 0) (rest e others : List ℕ)
+    → cut (plain_grammar l) rest ≡ with_entry e (cut (after_one (plain_grammar l)) others)
     → length rest ≡ length e + length others
-front_whole w rest e others front =
-    let all = cut_is_cut 0 (plain_grammar w) rest in
-    let more = cut_is_cut 0 (plain_grammar w) others in
-    let here : rest ≡ concat (e ∷ (cut (plain_grammar w) others).0) ++ (cut (plain_grammar w) others).1 =
+front_whole l rest e others front =
+    let all = cut_is_cut 0 (plain_grammar l) rest in
+    let more = cut_is_cut 0 (plain_grammar l) others in
+    let here : rest ≡ concat (e ∷ (cut (plain_grammar l) others).0) ++ (cut (plain_grammar l) others).1 =
     rw front at all.whole in
     let long = ap length here in
     let later = ap length more.whole in
@@ -68,10 +68,10 @@ front_whole w rest e others front =
       arith,
       long,
       later,
-      length-append (concat (e ∷ (cut (plain_grammar w) others).0))
-          (cut (plain_grammar w) others).1,
-      length-append e (concat (cut (plain_grammar w) others).0),
-      length-append (concat (cut (plain_grammar w) others).0) (cut (plain_grammar w) others).1,
+      length-append (concat (e ∷ (cut (plain_grammar l) others).0))
+          (cut (plain_grammar l) others).1,
+      length-append e (concat (cut (plain_grammar l) others).0),
+      length-append (concat (cut (plain_grammar l) others).0) (cut (plain_grammar l) others).1,
     )
 
 -- ---- frames

@@ -1,56 +1,61 @@
--- The entries of any table as C gets them.
+-- The entries of any table as C gets them, by where Type and Length stand in each.
 use Rattle.std.specs.Prelude.{ℕ, ◌+◌, ◌==◌, nat_le, nat_lt, List, [], ◌∷◌, drop, length, None, Result, Ok, Err, if◌then◌else◌}
-use Rattle.acpi_base.specs.Words.{cut, number_at, width_of, header_at, ◌>>=◌, holds, own_table_at}
+use Rattle.acpi_base.specs.Words.{cut, number_at, header_at, ◌>>=◌, holds, own_table_at}
+use Rattle.acpi_base.specs.declared.entries.Place.{Place}
 use Rattle.acpi.specs.Types.{EntryLayout, Grammar, Width, One, Two, Four, SdtInvalidLength}
+use Rattle.acpi_c_lib.specs.Answers.{result_map}
 use Rattle.acpi_c_lib.specs.Below.{Refusal, refused_as}
 use Rattle.acpi_c_lib.specs.Devices.{flag}
 use Rattle.acpi_c_lib.specs.Regions.{Region, memory_in}
-use Rattle.acpi_c_lib.specs.Types.{Entry, Acpi, UnknownWidth}
+use Rattle.acpi_c_lib.specs.Types.{Entry, Acpi, UnknownWidth, Walk}
 
--- an entry that begins with Type and Length, numbers of this width; no type has a least length of its own
-abbrev pub plain_layout : Width → EntryLayout 0
-plain_layout w = record {
-  kind_place = record { at = 0; width = w };  -- Type
-  length_place = record { at = width_of w; width = w };  -- Length
-  least_lengths = [];
-  least_of_others = 0;
-}
+-- the width of a number, by how many bytes it has
+abbrev pub width_of_bytes : ℕ → Result Width Refusal
+width_of_bytes n = if n == 1 then Ok One else if n == 2 then Ok Two else if n == 4 then Ok Four else Err UnknownWidth
+
+-- where a number stands, by its offset and how many bytes it has
+abbrev pub number_place : ℕ → ℕ → Result Place Refusal
+number_place offset n = result_map (λ w. record { at = offset; width = w }) (width_of_bytes n)
+
+-- where Type and Length stand in each entry of a walk; no type has a least length of its own
+abbrev pub walk_layout : Walk → Result (EntryLayout 0) Refusal
+walk_layout w = do
+  kind_place ← number_place w.type_offset w.type_width
+  length_place ← number_place w.length_offset w.length_width
+  Ok (record { kind_place = kind_place; length_place = length_place; least_lengths = []; least_of_others = 0 })
 
 -- any number of them
-abbrev pub plain_grammar : Width → Grammar 0
-plain_grammar w = record { layout = plain_layout w; most = None }
+abbrev pub plain_grammar : EntryLayout 0 → Grammar 0
+plain_grammar l = record { layout = l; most = None }
 
 -- an entry at an address
-abbrev pub entry_record : Width → ℕ → List ℕ → Entry
-entry_record w address e = record {
+abbrev pub entry_record : EntryLayout 0 → ℕ → List ℕ → Entry
+entry_record l address e = record {
   address = address;
-  entry_type = number_at (plain_layout w).kind_place e;
+  entry_type = number_at l.kind_place e;
   length = length e;
 }
 
 -- entries one after the other, from an address on
-abbrev pub entries_from : Width → ℕ → List (List ℕ) → List Entry
-entries_from w address [] = []
-entries_from w address (e ∷ es) = entry_record w address e ∷ entries_from w (address + length e) es
+abbrev pub entries_from : EntryLayout 0 → ℕ → List (List ℕ) → List Entry
+entries_from l address [] = []
+entries_from l address (e ∷ es) = entry_record l address e ∷ entries_from l (address + length e) es
 
 -- the entries that bytes at an address are, and 1 if bytes are left after them, or else 0
-abbrev pub entries_at : Width → ℕ → List ℕ → List Entry × ℕ
-entries_at w address bytes =
-    let c = cut (plain_grammar w) bytes in
-    (entries_from w address c.0, flag (nat_lt 0 (length c.1)))
+abbrev pub entries_at : EntryLayout 0 → ℕ → List ℕ → List Entry × ℕ
+entries_at l address bytes =
+    let c = cut (plain_grammar l) bytes in
+    (entries_from l address c.0, flag (nat_lt 0 (length c.1)))
 
--- the width of the two numbers, by how many bytes each has
-abbrev pub width_of_bytes : ℕ → Result Width Refusal
-width_of_bytes n = if n == 1 then Ok One else if n == 2 then Ok Two else if n == 4 then Ok Four else Err UnknownWidth
-
--- those of the table at an address, from an offset on: its fixed fields end there, so a shorter one has not all of them
-abbrev pub entries_below : List Region → ℕ → ℕ → ℕ → Result (List Entry × ℕ) Refusal
-entries_below regions address first bytes_each = do
+-- those of the table at an address, from a walk's first on: its fixed fields end there, so a shorter one has not all of
+-- them
+abbrev pub entries_below : List Region → ℕ → Walk → Result (List Entry × ℕ) Refusal
+entries_below regions address w = do
   m ← memory_in regions
-  w ← width_of_bytes bytes_each
+  l ← walk_layout w
   table ← refused_as (own_table_at m address)
-  _ ← holds (nat_le first (length table)) (Acpi (SdtInvalidLength (header_at table).signature))
-  Ok (entries_at w (address + first) (drop first table))
+  _ ← holds (nat_le w.first (length table)) (Acpi (SdtInvalidLength (header_at table).signature))
+  Ok (entries_at l (address + w.first) (drop w.first table))
 
 -- the entries alone, and whether bytes are left
 

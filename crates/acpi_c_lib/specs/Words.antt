@@ -11,7 +11,7 @@ pub use Rattle.acpi_c_lib.specs.Clip.{AnswersClip, AreInOrder, FillsClipped, IsN
 pub use Rattle.acpi_c_lib.specs.Console.{console_below, console_record}
 pub use Rattle.acpi_c_lib.specs.Copied.{copied_rsdp, copy_memory, padded, source_of_rsdp, started_by}
 pub use Rattle.acpi_c_lib.specs.Devices.{generic_record, graphic_below, graphic_record, optional_register, register_if, required_register, timer_below, timer_record}
-pub use Rattle.acpi_c_lib.specs.Entries.{entries_below, entries_from, entries_said, entry_record, left_said, plain_grammar, plain_layout, width_of_bytes}
+pub use Rattle.acpi_c_lib.specs.Entries.{entries_below, entries_from, entries_said, entry_record, left_said, plain_grammar, width_of_bytes, number_place, walk_layout}
 pub use Rattle.acpi_c_lib.specs.EntryFaults.{entry_fault, faults_from, rest_faults}
 unfoldable pub use Rattle.acpi_c_lib.specs.EntryFaults.{found_table}
 pub use Rattle.acpi_c_lib.specs.Facs.{facs_below, facs_in}

@@ -1,11 +1,11 @@
-//! The entries of any table, which begin with Type and Length.
+//! The entries of any table, which have Type and Length at places that a walk names.
 ghost use Rattle.std.specs.Prelude.{◌≡◌, ◌+◌, ◌^◌, ◌<◌, length};
 ghost use Rattle.acpi_base.specs.FromStd.{result_unwrap_or};
 ghost use Rattle.acpi_base.specs.Words.{IsEntry, cut};
-ghost use Rattle.acpi_c_lib.specs.Words.{Fills, Writes, result_map, entries_below, entries_from, entries_said, entry_record, left_said, plain_grammar, plain_layout, width_of_bytes};
+ghost use Rattle.acpi_c_lib.specs.Words.{Fills, Writes, result_map, entries_below, entries_from, entries_said, entry_record, left_said, number_place, plain_grammar, walk_layout, width_of_bytes};
 
 use crate::lists::put;
-use crate::records::Entry;
+use crate::records::{Entry, Walk};
 use crate::refusal::Refusal;
 use crate::regions::{Mapped, Region};
 use acpi::AcpiError;
@@ -13,42 +13,35 @@ use acpi::sdt::map_own_sdt;
 use acpi_base::bytes::skip;
 use acpi_base::entries::{EntryLayout, Grammar, Place, Width, number_at, split_front};
 
-/// Lists the entries of the table at an address, from an offset on, with Type and Length of the given width, and
-/// says whether bytes are left after them.
+/// Lists the entries of the table at an address, by a walk, and says whether bytes are left after them.
 pub fn table_entries(
     regions: &[Region<'_>],
     address: u64,
-    first: u32,
-    bytes_each: u32,
+    walk: Walk,
     out: &mut [Entry],
     malformed: &mut u8,
 ) -> Result<usize, Refusal>
-    ensures items { Fills result out.old out.new
-        (result_map entries_said (entries_below regions.now address first bytes_each)) }
+    ensures items { Fills result out.old out.new (result_map entries_said (entries_below regions.now address walk)) }
     ensures malformed { malformed.new ≡ result_unwrap_or
-        (result_map left_said (entries_below regions.now address first bytes_each)) malformed.old }
+        (result_map left_said (entries_below regions.now address walk)) malformed.old }
 {
     let memory = Mapped::new(regions)?;
-    let width = width_of_bytes(bytes_each)?;
+    let layout = walk_layout(walk)?;
     let table = map_own_sdt(&memory, address)?;
     let bytes = table.bytes();
-    if bytes.len() < first as usize {
+    let first = walk.first as usize;
+    if bytes.len() < first {
         return Err(Refusal::Acpi(AcpiError::SdtInvalidLength(table.signature)));
     }
-    let (count, rest) = fill(
-        width,
-        skip(bytes, first as usize),
-        address + first as u64,
-        out,
-    );
+    let (count, rest) = fill(layout, skip(bytes, first), address + first as u64, out);
     *malformed = !rest.is_empty() as u8;
     Ok(count)
 }
 
-fn width_of_bytes(bytes_each: u32) -> Result<Width, Refusal>
-    ensures { result ≡ width_of_bytes bytes_each }
+fn width_of_bytes(bytes: u8) -> Result<Width, Refusal>
+    ensures { result ≡ width_of_bytes bytes }
 {
-    match bytes_each {
+    match bytes {
         1 => Ok(Width::One),
         2 => Ok(Width::Two),
         4 => Ok(Width::Four),
@@ -56,43 +49,46 @@ fn width_of_bytes(bytes_each: u32) -> Result<Width, Refusal>
     }
 }
 
-/// How entries are cut whose Type and Length have this width.
-fn plain_grammar(width: Width) -> Grammar<0>
-    ensures { result ≡ plain_grammar width }
+fn number_place(offset: u8, bytes: u8) -> Result<Place, Refusal>
+    ensures { result ≡ number_place offset bytes }
 {
-    let length_at = match width {
-        Width::One => 1,
-        Width::Two => 2,
-        Width::Four => 4,
-    };
-    Grammar {
-        layout: EntryLayout {
-            kind_place: Place { at: 0, width },
-            length_place: Place {
-                at: length_at,
-                width,
-            },
-            least_lengths: [],
-            least_of_others: 0,
-        },
-        most: None,
-    }
+    let width = width_of_bytes(bytes)?;
+    Ok(Place { at: offset, width })
+}
+
+/// Where Type and Length stand in each entry of a walk.
+///
+/// Fails with `UnknownWidth` if one of these hasn't 1, 2 or 4 bytes.
+fn walk_layout(walk: Walk) -> Result<EntryLayout<0>, Refusal>
+    ensures { result ≡ walk_layout walk }
+{
+    Ok(EntryLayout {
+        kind_place: number_place(walk.type_offset, walk.type_width)?,
+        length_place: number_place(walk.length_offset, walk.length_width)?,
+        least_lengths: [],
+        least_of_others: 0,
+    })
 }
 
 /// Writes the entries of bytes at an address, and answers how many there are, and the bytes after them.
 #[tactic(auto, using(crate::proofs::Written::front_whole))]
-fn fill<'a>(width: Width, bytes: &'a [u8], address: u64, out: &mut [Entry]) -> (usize, &'a [u8])
+fn fill<'a>(
+    layout: EntryLayout<0>,
+    bytes: &'a [u8],
+    address: u64,
+    out: &mut [Entry],
+) -> (usize, &'a [u8])
     requires { address + length bytes.now < 2 ^ 64 }
     ensures items { Writes result.0 out.old out.new
-        (entries_from width address (cut (plain_grammar width) bytes.now).0) }
-    ensures rest { result.1.now ≡ (cut (plain_grammar width) bytes.now).1 }
+        (entries_from layout address (cut (plain_grammar layout) bytes.now).0) }
+    ensures rest { result.1.now ≡ (cut (plain_grammar layout) bytes.now).1 }
 {
-    let grammar = plain_grammar(width);
+    let grammar = Grammar { layout, most: None };
     let mut rest = bytes;
     let mut at = address;
     let mut count = 0;
     while let Some((entry, others)) = split_front(&grammar, rest) {
-        put(out, count, entry_record(width, at, entry));
+        put(out, count, entry_record(&grammar.layout, at, entry));
         at += entry.len() as u64;
         rest = others;
         count += 1;
@@ -102,13 +98,13 @@ fn fill<'a>(width: Width, bytes: &'a [u8], address: u64, out: &mut [Entry]) -> (
 
 /// An entry at an address.
 #[tactic(auto, using(crate::proofs::Written::entry_small, crate::proofs::Written::number_small))]
-fn entry_record(width: Width, address: u64, entry: &[u8]) -> Entry
-    requires { IsEntry (plain_layout width) entry.now }
-    ensures { result ≡ entry_record width address entry.now }
+fn entry_record(layout: &EntryLayout<0>, address: u64, entry: &[u8]) -> Entry
+    requires { IsEntry layout.now entry.now }
+    ensures { result ≡ entry_record layout.now address entry.now }
 {
     Entry {
         address,
-        entry_type: number_at(Place { at: 0, width }, entry) as u32,
+        entry_type: number_at(layout.kind_place, entry) as u32,
         length: entry.len() as u32,
     }
 }

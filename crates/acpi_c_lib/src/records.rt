@@ -61,7 +61,18 @@ pub struct Fault {
     pub status: u32,
 }
 
-/// An entry of a table, which begins with Type and Length.
+/// Where a table's first entry begins, and where Type and Length stand in each.
+#[repr(C)]
+#[derive(Clone, Copy)]
+pub struct Walk {
+    pub first: u32,
+    pub type_offset: u8,
+    pub type_width: u8,
+    pub length_offset: u8,
+    pub length_width: u8,
+}
+
+/// An entry of a table, which has Type and Length.
 #[repr(C)]
 #[derive(Clone, Copy)]
 pub struct Entry {

@@ -7,13 +7,13 @@ use Rattle.acpi_c_lib.proofs.entries.fill.Given as goal
 -- there were bytes
 abbrev pub invariant-loop-entry : goal.invariant-loop-entry
 invariant-loop-entry l =
-    let left = cut (plain_grammar l.width) l.rest in
-    let all = cut (plain_grammar l.width) l.bytes in
-    (put_from l.out l.count (entries_from l.width l.at left.0) ≡ put_from l.initial.out 0
-    (entries_from l.width l.address all.0))
-    × (l.count + length (entries_from l.width l.at left.0) ≡ length (entries_from l.width l.address all.0))
+    let left = cut (plain_grammar l.fn.layout) l.rest in
+    let all = cut (plain_grammar l.fn.layout) l.bytes in
+    (put_from l.out l.count (entries_from l.fn.layout l.at left.0) ≡ put_from l.initial.out 0
+    (entries_from l.fn.layout l.address all.0))
+    × (l.count + length (entries_from l.fn.layout l.at left.0) ≡ length (entries_from l.fn.layout l.address all.0))
     × (left.1 ≡ all.1)
-    × (l.grammar ≡ plain_grammar l.width)
+    × (l.grammar ≡ plain_grammar l.fn.layout)
     × (l.at + length l.rest ≡ l.address + length l.bytes)
     × (l.count + length l.rest ≤ length l.bytes)
 

@@ -23,4 +23,4 @@ fill-count-requires c =
     let fits = ends (mapped_memory c.in_ok-memory.memory) c.args.address bytes (bytes_of c.in_ok-table.table)
     c.in_ok-memory.memory.disjoint c.bytes-bytes.ensures.least c.bytes-bytes.ensures.value
     c.in_ok-table.ensures.table in
-    rw c.skip.ensures (omega (arith, fits, length-drop c.args.first bytes, c.if-bytes-first.false))
+    rw c.skip.ensures (omega (arith, fits, length-drop c.args.walk.first bytes, c.if-bytes-first.false))
