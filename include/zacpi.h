@@ -8,7 +8,7 @@
  *     int main(void) {
  *         static uint8_t bytes[65536]; // in a kernel: where it has mapped the firmware's tables
  *         struct zacpi_region region = {0x70000000, bytes, fread(bytes, 1, sizeof bytes, stdin)};
- *         struct zacpi_source source = {&region, 1, region.address, ZACPI_START_RSDP};
+ *         struct zacpi_source source = {&region, 1, region.address, ZACPI_START_RSDP, 0};
  *         struct zacpi_processor processors[64];
  *         struct zacpi_signature signature;
  *         size_t count;
@@ -76,6 +76,7 @@ enum zacpi_refusal {
     ZACPI_RANGE_TOO_HIGH = 4,        /* a range ends at 2^64 or above */
     ZACPI_UNKNOWN_WIDTH = 5,         /* a width of a walk isn't 1, 2 or 4 */
     ZACPI_NO_SUCH_STATE = 6,         /* a sleep state above 5 */
+    ZACPI_UNKNOWN_POLICY = 7,        /* `accept` isn't 0 */
 
     /* Memory and the RSDP (section 5.2.5). */
     ZACPI_MAP_FAILED = 10,               /* bytes are needed that no one region contains */
@@ -164,7 +165,7 @@ static inline const char *zacpi_status_name(zacpi_status status) {
     /* One text: a table of pointers would have to be relocated first. */
     static const char names[] =
         "0:Ok\0""1:RegionsNotAscending\0""2:RegionTooHigh\0""3:UnknownStart\0""4:RangeTooHigh\0"
-        "5:UnknownWidth\0""6:NoSuchState\0""10:MapFailed\0""11:NoValidRsdp\0"
+        "5:UnknownWidth\0""6:NoSuchState\0""7:UnknownPolicy\0""10:MapFailed\0""11:NoValidRsdp\0"
         "12:RsdpIncorrectSignature\0""13:RsdpInvalidOemId\0""14:RsdpInvalidChecksum\0"
         "20:SdtInvalidSignature\0""21:SdtInvalidOemId\0""22:SdtInvalidTableId\0"
         "23:SdtInvalidLength\0""24:SdtInvalidChecksum\0""25:TableMissing\0""30:InvalidDsdtAddress\0"
@@ -220,6 +221,7 @@ struct zacpi_source {
     size_t regions_length;
     uint64_t address; /* where to start; a search doesn't look at it */
     uint32_t start;   /* one of enum zacpi_start */
+    uint32_t accept;  /* 0: what isn't valid is skipped; no other value has a meaning yet */
 };
 
 /* Lists the ranges to make regions of, from ranges in any order: sorted, joined where they overlap
@@ -303,7 +305,8 @@ ZACPI_STATUS zacpi_start_of_rsdp(const uint8_t *rsdp, size_t rsdp_length,
 
 /* Returns the root table (sections 5.2.7 and 5.2.8). Fails with an opening error (C.md), in this
  * order:
- *   the regions        ZACPI_REGIONS_NOT_ASCENDING, ZACPI_REGION_TOO_HIGH; then ZACPI_UNKNOWN_START
+ *   what is passed     ZACPI_REGIONS_NOT_ASCENDING, ZACPI_REGION_TOO_HIGH, ZACPI_UNKNOWN_POLICY,
+ *                      ZACPI_UNKNOWN_START
  *   a search           ZACPI_MAP_FAILED (a BIOS search), ZACPI_NO_VALID_RSDP
  *   an RSDP at address ZACPI_MAP_FAILED, ZACPI_RSDP_INCORRECT_SIGNATURE, ..._OEM_ID, ..._CHECKSUM
  *   the root table     the errors of a table, with "RSDT" or "XSDT"
@@ -313,8 +316,8 @@ ZACPI_STATUS zacpi_open(const struct zacpi_source *source, struct zacpi_root *ou
 
 /* Lists the memory that the tables still need and no one region contains (C.md). A kernel maps what
  * it can, joins it with its regions' ranges (zacpi_clip_ranges), and repeats, until no new range
- * comes. Each has at least two bytes. Fails with ZACPI_REGIONS_NOT_ASCENDING, ZACPI_REGION_TOO_HIGH
- * or ZACPI_UNKNOWN_START. */
+ * comes. Each has at least two bytes. Fails with ZACPI_REGIONS_NOT_ASCENDING,
+ * ZACPI_REGION_TOO_HIGH, ZACPI_UNKNOWN_POLICY or ZACPI_UNKNOWN_START. */
 ZACPI_STATUS zacpi_list_missing_ranges(const struct zacpi_source *source, struct zacpi_range *out,
                                        size_t capacity, size_t *count,
                                        struct zacpi_signature *signature);

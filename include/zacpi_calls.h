@@ -117,6 +117,7 @@ ZACPI_STATUS zacpi_start_of_rsdp(const uint8_t *rsdp, size_t rsdp_length,
                                                       rsdp_length, &kept_source);
     source->address = kept_source.address;
     source->start = kept_source.start;
+    source->accept = kept_source.accept;
     return status;
 }
 

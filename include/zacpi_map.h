@@ -102,9 +102,9 @@ static inline zacpi_status zacpi_map_joined(const struct zacpi_mapper *mapper, s
  * No range that contains one of the latter is requested. A firmware may list an address that no memory is at, so some
  * may be missing in the end: the calls skip that table, as they would with all memory mapped.
  *
- * With an error all regions are unmapped. Errors: those of the regions, ZACPI_UNKNOWN_START, and ZACPI_NO_ROOM if
- * `capacity` regions or `room` ranges aren't enough. Unless a search skips RSDPs because of their Length, eight
- * of each are, and a region and two ranges more for each pointer of the root table. */
+ * With an error all regions are unmapped. Errors: those of the regions, ZACPI_UNKNOWN_POLICY, ZACPI_UNKNOWN_START, and
+ * ZACPI_NO_ROOM if `capacity` regions or `room` ranges aren't enough. Unless a search skips RSDPs because of their
+ * Length, eight of each are, and a region and two ranges more for each pointer of the root table. */
 static inline zacpi_status zacpi_map_tables(const struct zacpi_mapper *mapper, struct zacpi_source *source,
                                             struct zacpi_region *regions, size_t capacity, struct zacpi_range *ranges,
                                             size_t room) {

@@ -5,7 +5,7 @@
 int main(void) {
     static uint8_t bytes[65536]; // in a kernel: where it has mapped the firmware's tables
     struct zacpi_region region = {0x70000000, bytes, fread(bytes, 1, sizeof bytes, stdin)};
-    struct zacpi_source source = {&region, 1, region.address, ZACPI_START_RSDP};
+    struct zacpi_source source = {&region, 1, region.address, ZACPI_START_RSDP, 0};
     struct zacpi_processor processors[64];
     struct zacpi_signature signature;
     size_t count;

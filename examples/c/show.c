@@ -9,7 +9,7 @@ int main(int argc, char **argv) {
     static struct zacpi_region regions[65536];
     struct printer out = {to_file, NULL}, err = {to_file, NULL};
     struct zacpi_signature named = {{0}};
-    struct zacpi_source source = {regions, 0, 0, ZACPI_START_BIOS_SEARCH};
+    struct zacpi_source source = {regions, 0, 0, ZACPI_START_BIOS_SEARCH, 0};
     uint8_t *image, revision = 0;
     const uint8_t *given; /* a root table has no revision of an RSDP, so the one that is given is printed */
     const char *unread;

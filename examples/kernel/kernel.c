@@ -232,7 +232,7 @@ __attribute__((noreturn)) static void end_machine(const struct zacpi_source *sou
 }
 
 void kernel(uint32_t magic, uint32_t information) {
-    struct zacpi_source source = {regions, 0, 0, ZACPI_START_SEARCH};
+    struct zacpi_source source = {regions, 0, 0, ZACPI_START_SEARCH, 0};
     struct zacpi_source known = source;
     struct zacpi_signature named = {{0}};
     struct zacpi_root root = {0};

@@ -246,11 +246,11 @@ static const struct copy_row {
     {copy_second_sum, 36, ZACPI_RSDP_INVALID_CHECKSUM, 0, 0}};
 
 static void check_copy(const struct copy_row *row, const struct zacpi_region *regions, size_t length) {
-    struct zacpi_source source = {regions, length, 0x77, 9};
+    struct zacpi_source source = {regions, length, 0x77, 9, 1};
     const zacpi_status got = zacpi_start_of_rsdp(row->bytes, row->length, &source);
     result(got == row->status && source.regions == regions && source.regions_length == length
-           && source.address == (got ? 0x77 : row->address) && source.start == (got ? 9 : row->start),
-           "start_of_rsdp", (int)(row - copies), length, got);
+           && source.address == (got ? 0x77 : row->address) && source.start == (got ? 9 : row->start)
+           && source.accept == 1, "start_of_rsdp", (int)(row - copies), length, got);
 }
 
 static void check_bytes(void) {

@@ -135,7 +135,7 @@ static int is_passed_over(const struct swept *table, const struct zacpi_source *
 
 /* Whether each lookup takes the table as it is, and passes over nothing: else a refusal would show nothing. */
 static int is_found(const struct swept *table) {
-    const struct zacpi_source source = {table->regions, table->regions_length, 0x1000, ZACPI_START_RSDT};
+    const struct zacpi_source source = {table->regions, table->regions_length, 0x1000, ZACPI_START_RSDT, 0};
     const struct zacpi_region *region = &table->regions[table->index];
     if (zacpi_find_table(&source, signature_of(table), &out.table, &named)) return 0;
     if (out.table.address != region->address || out.table.length != region->length) return 0;
@@ -146,7 +146,7 @@ static int is_found(const struct swept *table) {
 /* The table in two regions, cut at each place. */
 static void sweep_cuts(const struct swept *table) {
     struct zacpi_region regions[10];
-    const struct zacpi_source source = {regions, table->regions_length + 1, 0x1000, ZACPI_START_RSDT};
+    const struct zacpi_source source = {regions, table->regions_length + 1, 0x1000, ZACPI_START_RSDT, 0};
     struct zacpi_region *front = &regions[table->index], *rest = front + 1;
     size_t after = table->regions_length - table->index, whole = table->regions[table->index].length, cut;
     memcpy(regions, table->regions, table->index * sizeof *regions);
@@ -173,7 +173,7 @@ static zacpi_status fault_of(size_t offset, uint8_t value) {
 /* The table with another value in one byte, each byte but those of Length and each other value. */
 static void sweep_bytes(const struct swept *table) {
     struct zacpi_region regions[9];
-    const struct zacpi_source source = {regions, table->regions_length, 0x1000, ZACPI_START_RSDT};
+    const struct zacpi_source source = {regions, table->regions_length, 0x1000, ZACPI_START_RSDT, 0};
     const struct zacpi_region *region = &table->regions[table->index];
     uint8_t bytes[116];
     size_t offset;

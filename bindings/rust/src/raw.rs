@@ -81,6 +81,7 @@ impl<'k> Source<'k> {
             regions_length: regions.len(),
             address,
             start,
+            accept: 0,
             lent: PhantomData,
         }
     }

@@ -20,6 +20,7 @@ pub struct Source<'k> {
     pub(super) regions_length: usize,
     pub(super) address: u64,
     pub(super) start: u32,
+    pub(super) accept: u32,
     pub(super) lent: PhantomData<&'k [Region<'k>]>,
 }
 

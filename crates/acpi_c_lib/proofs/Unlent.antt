@@ -1,17 +1,17 @@
 -- What isn't lent: of what opening asks for and what leads to a table, and of the candidates of a search.
 use Rattle.std.proofs.Common.{◌≡◌, ℕ, ◌≤◌, List, [], ◌∷◌, ◌++◌, Bool, true, false, Option, Some, None, Result, Ok, Err, arith, refl, sym, ap, subst, ◌∙◌, if◌then◌else◌, ◌+◌, length, ◌^◌, ◌<◌, zero, suc, ◌-◌, ◌*◌, ◌/◌, drop, ◌==◌, ok_or, option_map, bytes_eq}
 use Rattle.acpi_base.specs.FromStd.{last_or, cons_option, is_some, is_ok, result_ok}
-use Rattle.acpi_base.specs.Words.{field_of, check_names, check_table, header_at, Memory, at, IsMemory, rest_from, Ranges, ◌>>=◌, lent, table_at, Kind, own_table_at, plain_kind, letters_of}
+use Rattle.acpi_base.specs.Words.{field_of, check_names, check_table, header_at, Memory, at, IsMemory, rest_from, Ranges, ◌>>=◌, holds, lent, table_at, Kind, own_table_at, plain_kind, letters_of}
 use Rattle.acpi.specs.Types.{MapFailed, NoValidRsdp, SdtHeader, Signature, AddressRange}
 use Rattle.acpi.specs.Words.{areas_ranges, bios_areas, found_among, found_in_areas, opened_in_areas, count_in, ebda_area, end_of, first_in, Opened, opened_at, opened_by_rsdp, opened_by_search, opened_from, area_ranges, opened_by_rsdp_ranges, opened_by_search_ranges, opened_ranges, or_else_ranges, search_ranges, length_ranges, rsdp_ranges, root_of_revision, check_first, check_sum, extended_length_of, checked_length, root_of_rsdp, rsdp_at, rsdp_of, first_area, found_in, found_rsdp, or_else, room_of, second_area, word_in, area, count_of, walk, or_later}
 use Rattle.acpi.specs.Areas.{range}
-use Rattle.acpi_c_lib.specs.Words.{AcpiError, Refusal, Source, ebda_in, opened_in, refused_as, Acpi, UnknownStart, Areas, IsUnlent, OpeningHasHole, areas_holes, candidate_hole, candidate_holes, has_valid, hole, last_range, missing_below, missing_in, opened_as_lent_ranges, range_of, walk_holes, Fills, Writes, items_said, put_from, result_map, memory_in}
-use Rattle.acpi_c_lib.specs.Missing.{Range}
+use Rattle.acpi_c_lib.specs.Words.{AcpiError, Refusal, Source, check_policy, ebda_in, opened_in, refused_as, started_in, Acpi, UnknownStart, Areas, IsUnlent, OpeningHasHole, areas_holes, candidate_hole, candidate_holes, has_valid, hole, last_range, missing_below, missing_in, opened_as_lent_ranges, range_of, walk_holes, Fills, Writes, items_said, put_from, result_map, memory_in}
+use Rattle.acpi_c_lib.specs.Missing.{Range, no_areas, opening_ranges, pieces, stretches}
 use Rattle.acpi_c_lib.proofs.Written.{two_parts, one_part}
 use Rattle.acpi_base.proofs.FromStd.{bytes_eq-Decides, length-take, cond_some}
 use Rattle.acpi_base.proofs.Words.{lent_ends, passed, bind_ok, some_lent}
 use Rattle.acpi_base.specs.Ranges as ranges
-use Rattle.acpi_c_lib.specs.Types.{Rsdp}
+use Rattle.acpi_c_lib.specs.Types.{Rsdp, UnknownPolicy}
 
 -- ---- the checks, which refuse by other errors
 
@@ -188,8 +188,14 @@ placed_at : (m : Memory) (a : ℕ) (r : Result (List ℕ) AcpiError)
 placed_at m a (Ok bytes) e = e
 placed_at m a (Err d) e = cc
 
-pub opening_unlent : OpeningHasHole
-opening_unlent m s =
+policed : (accepts : Bool) (later : Result Opened Refusal)
+    → (holds accepts UnknownPolicy >>= λ _. later) ≡ Err (Acpi MapFailed) → later ≡ Err (Acpi MapFailed)
+policed true later e = e
+policed false later e = absurd cc
+
+started_unlent : (m : Memory) (s : Source) → started_in m s ≡ Err (Acpi MapFailed)
+    → IsUnlent m (last_range (opening_ranges m s))
+started_unlent m s =
     started m (s.start == 1) (opened_at m (0, s.address)) _ (opened_ranges m (root_of_revision 0 s.address)) _
     (from_unlent m (root_of_revision 0 s.address))
     (started m (s.start == 2) (opened_at m (2, s.address)) _ (opened_ranges m (root_of_revision 2 s.address)) _
@@ -201,13 +207,45 @@ opening_unlent m s =
     (led m (s.start == 4) (found_in_areas m (bios_areas (ebda_in m))) (Err UnknownStart) (opened_as_lent_ranges m) []
     (by_areas_unlent m) (λ q. cc)))))
 
+pub opening_unlent : OpeningHasHole
+opening_unlent m s e = started_unlent m s (policed (s.accept == 0) (started_in m s) e)
+
 -- ---- the ranges of a search's candidates, and then the others
 
 -- only an unknown start is refused, and that is no search
-no_candidates : (m : Memory) (s : Source) (e : Refusal) → missing_in m s (opened_in m s) ≡ Err e
+
+root_read : (m : Memory) (s : Source) (r : Result Opened AcpiError) (e : Refusal)
+    → missing_in m s (refused_as r) ≡ Err e → ⊥
+root_read m s (Ok o) e is = cc
+root_read m s (Err d) e is = cc
+
+rsdp_found : (m : Memory) (s : Source) (r : Result (ℕ × List ℕ) AcpiError) (e : Refusal)
+    → missing_in m s (refused_as r >>= λ found. refused_as (opened_from m (root_of_rsdp found.1))) ≡ Err e → ⊥
+rsdp_found m s (Ok found) e is = root_read m s (opened_from m (root_of_rsdp found.1)) e is
+rsdp_found m s (Err d) e is = cc
+
+none_by : (m : Memory) (s : Source) (e : Refusal) (b c d f g : Bool)
+    → missing_in m s (if b then refused_as (opened_at m (0, s.address))
+    else if c then refused_as (opened_at m (2, s.address))
+    else ((if d then refused_as (result_map (λ bytes. (s.address, bytes)) (rsdp_at m s.address))
+    else if f then refused_as (found_rsdp m)
+    else if g then refused_as (found_in_areas m (bios_areas (ebda_in m))) else Err UnknownStart)
+    >>= λ found. refused_as (opened_from m (root_of_rsdp found.1)))) ≡ Err e
+    → areas_holes m (if f then pieces m (word_in m) else if g then stretches (bios_areas (ebda_in m)) else no_areas) ≡ []
+unfolding has_valid walk_holes
+none_by m s e true c d f g is = absurd (root_read m s (opened_at m (0, s.address)) e is)
+none_by m s e false true d f g is = absurd (root_read m s (opened_at m (2, s.address)) e is)
+none_by m s e false false true f g is =
+    absurd (rsdp_found m s (result_map (λ bytes. (s.address, bytes)) (rsdp_at m s.address)) e is)
+none_by m s e false false false true g is = absurd (rsdp_found m s (found_rsdp m) e is)
+none_by m s e false false false false true is =
+    absurd (rsdp_found m s (found_in_areas m (bios_areas (ebda_in m))) e is)
+none_by m s e false false false false false is = refl
+
+no_candidates : (m : Memory) (s : Source) (e : Refusal) → missing_in m s (started_in m s) ≡ Err e
     → candidate_holes m s ≡ []
 unfolding candidate_holes has_valid walk_holes
-no_candidates m s e is = grind arith
+no_candidates m s e is = none_by m s e (s.start == 1) (s.start == 2) (s.start == 0) (s.start == 3) (s.start == 4) is
 
 abbrev both : List Range → Result (List Range) Refusal → Result (List Range) Refusal
 both xs others = others >>= λ ys. Ok (xs ++ ys)
@@ -224,12 +262,12 @@ by_others old mid new xs n said (Err e) none first count items =
     (count, items ∙ first.1 ∙ ap (λ zs. put_from old 0 zs) empty)
 
 pub joined : (s : Source) (m : Memory) (old mid new : List Range) (n : ℕ) (said : Result ℕ Refusal)
-    → memory_in s.regions.now ≡ Ok m → Writes n old mid (candidate_holes m s)
+    → memory_in s.regions.now ≡ Ok m → check_policy s ≡ Ok tt → Writes n old mid (candidate_holes m s)
     → said ≡ result_map (λ ys. n + length ys) (missing_in m s (opened_in m s))
     → new ≡ put_from mid n (items_said (missing_in m s (opened_in m s))) → Fills said old new (missing_below s)
-joined s m old mid new n said is first count items =
-    rw is (by_others old mid new (candidate_holes m s) n said (missing_in m s (opened_in m s)) (no_candidates m s) first
-    count items)
+joined s m old mid new n said is checked first count items =
+    rw (is, checked) (by_others old mid new (candidate_holes m s) n said (missing_in m s (started_in m s))
+    (no_candidates m s) first (rw checked at count) (rw checked at items))
 
 -- ---- a signature is its four bytes, and a table that is lent ends below 2^64
 

@@ -1,14 +1,14 @@
 -- The tables that a caller names.
 use Rattle.std.specs.Prelude.{ℕ, ◌*◌, ◌==◌, List, drop, Option, None, Result, Ok, Err, if◌then◌else◌, option_map, unwrap_or}
 use Rattle.acpi_base.specs.FromStd.{result_ok}
-use Rattle.acpi_base.specs.Words.{Memory, ◌>>=◌, Kind}
+use Rattle.acpi_base.specs.Words.{Memory, ◌>>=◌, Kind, holds}
 pub use Rattle.acpi_base.specs.declared.error.AcpiError.{AcpiError}
 use Rattle.acpi.specs.Words.{bios_areas, extended_length_of, found_in_areas, found_rsdp, lookup, root_of_rsdp, rsdp_at, rsdp_of, Opened, opened_at, opened_from, pointers, width_of, word_in}
 use Rattle.acpi_c_lib.specs.Answers.{result_map}
 use Rattle.acpi_c_lib.specs.Regions.{memory_in}
 pub use Rattle.acpi_c_lib.specs.declared.records.Source.{Source}
 pub use Rattle.acpi_c_lib.specs.declared.refusal.Refusal.{Refusal}
-use Rattle.acpi_c_lib.specs.Types.{Acpi, UnknownStart}
+use Rattle.acpi_c_lib.specs.Types.{Acpi, UnknownPolicy, UnknownStart}
 
 -- a refusal of the library's is one of the call's
 abbrev pub refused_as : {A : Type 0} → Result A AcpiError → Result A Refusal
@@ -29,13 +29,22 @@ rsdp_in m s =
     else Err UnknownStart
 
 -- the root table that they lead to: as an RSDT (section 5.2.7), as an XSDT (5.2.8), or by the RSDP
-abbrev pub opened_in : Memory → Source → Result Opened Refusal
-opened_in m s =
+abbrev pub started_in : Memory → Source → Result Opened Refusal
+started_in m s =
     if s.start == 1 then refused_as (opened_at m (0, s.address))
     else if s.start == 2 then refused_as (opened_at m (2, s.address))
     else do
       found ← rsdp_in m s
       refused_as (opened_from m (root_of_rsdp found.1))
+
+-- what is accepted of a table that isn't valid: there is nothing yet
+abbrev pub check_policy : Source → Result (Unit {0}) Refusal
+check_policy s = holds (s.accept == 0) UnknownPolicy
+
+abbrev pub opened_in : Memory → Source → Result Opened Refusal
+opened_in m s = do
+  _ ← check_policy s
+  started_in m s
 
 -- how many bytes an RSDP has (section 5.2.5.3): Length, which revision 0 lacks, or 20
 abbrev pub rsdp_length : List ℕ → ℕ

@@ -63,6 +63,7 @@ code_of refusal.UnknownStart = 3
 code_of refusal.RangeTooHigh = 4
 code_of refusal.UnknownWidth = 5
 code_of refusal.NoSuchState = 6
+code_of refusal.UnknownPolicy = 7
 code_of refusal.NoSuchFunction = 32
 code_of refusal.NoRegister = 33
 code_of refusal.NoReset = 34

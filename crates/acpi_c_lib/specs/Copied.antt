@@ -31,6 +31,7 @@ started_by s rsdp = record {
   regions = s.regions;
   address = (root_of rsdp).address;
   start = start_at (root_of rsdp).kind;
+  accept = s.accept;
 }
 
 abbrev pub source_of_rsdp : List ℕ → Source → Result Source Refusal

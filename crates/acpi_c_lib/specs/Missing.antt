@@ -5,7 +5,7 @@ use Rattle.acpi_base.specs.Words.{Memory, at, Ranges, own_table_ranges, ◌>>=�
 use Rattle.acpi.specs.Types.{MapFailed, AddressRange, Fadt}
 use Rattle.acpi_fixed.specs.Words.{fadt_at}
 use Rattle.acpi.specs.Words.{bios_areas, count_in, first_in, opened_in_areas_ranges, or_later, fadt_kind, lookup, Opened, opened_by_rsdp_ranges, opened_by_search_ranges, opened_ranges, rsdp_ranges, dsdt_place, dsdt_place_ranges, facs_place, facs_place_ranges, pointers, root_of_revision, width_of, rsdp_at, count_of, first_area, room_of, second_area, walk, word_in}
-use Rattle.acpi_c_lib.specs.Below.{AcpiError, Refusal, Source, ebda_in, opened_in}
+use Rattle.acpi_c_lib.specs.Below.{AcpiError, Refusal, Source, check_policy, ebda_in, opened_in}
 use Rattle.acpi_c_lib.specs.Regions.{memory_in}
 pub use Rattle.acpi_c_lib.specs.declared.candidates.Areas.{Areas}
 use Rattle.acpi_c_lib.specs.Types.{Candidates, Acpi}
@@ -127,6 +127,7 @@ missing_in m s (Err e) = Err e
 abbrev pub missing_below : Source → Result (List Range) Refusal
 missing_below s = do
   m ← memory_in s.regions.now
+  _ ← check_policy s
   others ← missing_in m s (opened_in m s)
   Ok (candidate_holes m s ++ others)
 

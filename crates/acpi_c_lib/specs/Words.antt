@@ -5,7 +5,7 @@ pub use Rattle.acpi_c_lib.specs.Apics.{MadtEntry, below_apics, mailbox_below, bo
 unfoldable pub use Rattle.acpi_c_lib.specs.Apics.{apic_entries}
 pub use Rattle.acpi_c_lib.specs.Arm.{below_gic, cpu_interfaces_shown, distributor_below, is_of_gic, msi_frames_shown, redistributors_shown, translation_services_shown}
 pub use Rattle.acpi_c_lib.specs.ArmTimers.{GtFrame, arm_timer_or, arm_timer_record, frame_record, frames_in, frames_of, frames_shown, gtdt_below, or_ones, timers_record, timers_shown, watchdog_in, watchdogs_of, watchdogs_shown}
-pub use Rattle.acpi_c_lib.specs.Below.{AcpiError, Refusal, Source, ebda_in, opened_in, refused_as, rsdp_in, rsdp_length, rsdp_place_in}
+pub use Rattle.acpi_c_lib.specs.Below.{AcpiError, Refusal, Source, check_policy, ebda_in, opened_in, refused_as, rsdp_in, rsdp_length, rsdp_place_in, started_in}
 unfoldable pub use Rattle.acpi_c_lib.specs.Below.{first_table}
 pub use Rattle.acpi_c_lib.specs.Clip.{AnswersClip, AreInOrder, FillsClipped, IsNext, Range, all_fit, any_holds, change_in, change_of, fits, holds, wanted}
 pub use Rattle.acpi_c_lib.specs.Console.{console_below, console_record}

@@ -38,6 +38,7 @@ fn started_by<'k>(source: Source<'k>, rsdp: &Rsdp) -> Source<'k>
         regions: source.regions,
         address,
         start,
+        accept: source.accept,
     }
 }
 

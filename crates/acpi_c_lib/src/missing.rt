@@ -9,7 +9,7 @@ ghost use Rattle.acpi_c_lib.specs.Words.{Fills, items_said, put_from, result_map
 
 use crate::candidates::candidate_holes;
 use crate::lists::{Listing, fill_from, put};
-use crate::opening::{ebda, open};
+use crate::opening::{check_policy, ebda, open};
 use crate::records::{Range, Source};
 use crate::refusal::Refusal;
 use crate::regions::Mapped;
@@ -23,6 +23,7 @@ pub fn missing(source: &Source<'_>, out: &mut [Range]) -> Result<usize, Refusal>
     ensures { Fills result out.old out.new (missing_below source.now) }
 {
     let memory = Mapped::new(source.regions)?;
+    check_policy(source)?;
     let from = candidate_holes(&memory, source, out);
     others(&memory, source, out, from)
 }

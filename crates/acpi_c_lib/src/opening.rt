@@ -2,7 +2,7 @@
 ghost use Rattle.std.specs.Prelude.{◌≡◌, Ok, IfOk};
 ghost use Rattle.acpi_base.specs.Words.{bytes_of, start_of, Gives};
 ghost use Rattle.acpi.specs.Words.{lender_of, opened_of, placed, rsdp_at, word_in};
-ghost use Rattle.acpi_c_lib.specs.Words.{ebda_in, first_table, opened_in, mapped_memory, memory_in, root_below, rsdp_in, rsdp_length, rsdp_place_in};
+ghost use Rattle.acpi_c_lib.specs.Words.{check_policy, ebda_in, first_table, opened_in, mapped_memory, memory_in, root_below, rsdp_in, rsdp_length, rsdp_place_in};
 
 use crate::records::{Root, Source};
 use crate::refusal::Refusal;
@@ -14,7 +14,7 @@ use acpi::{AcpiHandler, AcpiResult, AcpiTable, AcpiTables, PhysicalMapping};
 /// 5.2.7), 2 the XSDT there (section 5.2.8), 3 the RSDP that the BIOS areas hold (section 5.2.5.1), and 4 that which
 /// they hold as far as they are lent.
 ///
-/// Refuses an unknown start with `UnknownStart`, and else as the constructors of `AcpiTables` do.
+/// Refuses as `check_policy` does, an unknown start with `UnknownStart`, and else as the constructors of `AcpiTables` do.
 pub(crate) fn open<'h, H: AcpiHandler>(
     handler: &'h H,
     source: &Source<'_>,
@@ -37,6 +37,7 @@ pub(crate) fn open_placed<'h, H: AcpiHandler>(
     ensures opened { Gives (λ t. opened_of t.0) result (opened_in (H.memory handler.now) source.now) }
     ensures place { IfOk result (λ t. t.1 ≡ rsdp_place_in (H.memory handler.now) source.now) }
 {
+    check_policy(source)?;
     let revision = match source.start {
         1 => 0,
         2 => 2,
@@ -49,6 +50,16 @@ pub(crate) fn open_placed<'h, H: AcpiHandler>(
     };
     let tables = AcpiTables::from_rsdt(handler, revision, source.address)?;
     Ok((tables, None))
+}
+
+/// Refuses a source that accepts more than valid tables with `UnknownPolicy`.
+pub(crate) fn check_policy(source: &Source<'_>) -> Result<(), Refusal>
+    ensures { result ≡ check_policy source.now }
+{
+    if source.accept != 0 {
+        return Err(Refusal::UnknownPolicy);
+    }
+    Ok(())
 }
 
 /// The RSDP that a source's start leads to.

@@ -9,6 +9,7 @@ pub struct Source<'k> {
     pub regions: &'k [Region<'k>],
     pub address: u64,
     pub start: u32,
+    pub accept: u32,
 }
 
 /// Where bytes lie in a caller's regions.

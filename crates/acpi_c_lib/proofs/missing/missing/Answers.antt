@@ -6,4 +6,5 @@ pub returns : goal.returns
 returns c =
     joined c.args.source.now (mapped_memory c.in_ok-memory.memory) c.args.out.now c.candidate_holes-from.new.out
     c.others.new.out c.candidate_holes-from.result c.others.result
-    c.in_ok-memory.ensures c.candidate_holes-from.ensures.written c.others.ensures.count c.others.ensures.items
+    c.in_ok-memory.ensures c.in_ok-check_policy.ensures c.candidate_holes-from.ensures.written
+    c.others.ensures.count c.others.ensures.items
