@@ -784,7 +784,7 @@ ZACPI_STATUS zacpi_mailbox_address(const struct zacpi_source *source, uint64_t *
 struct zacpi_entry_fault {
     uint64_t address;
     uint32_t status;
-    uint8_t entry_type; /* Type: the byte there; 0 at the table's end */
+    uint16_t entry_type; /* Type there; 0 at the table's end */
 };
 /* Lists the entries with an error, that of zacpi_platform, and last, if bytes are left, where none
  * begins. Fails with an opening error, or ZACPI_TABLE_MISSING "APIC". */
@@ -1120,11 +1120,6 @@ struct zacpi_dmar_reserved { /* Reserved Memory Region Reporting (RMRR), section
     uint64_t limit; /* the last byte */
     uint16_t segment;
 };
-struct zacpi_iommu_fault {
-    uint64_t address;    /* of the structure or block, or of the first byte at which none begins */
-    uint32_t status;     /* a ZACPI_IOMMU_ error */
-    uint16_t entry_type; /* Type */
-};
 
 /* Returns what the DMAR has for all units (section 8.1). Fails with an opening error, or
  * ZACPI_TABLE_MISSING "DMAR". */
@@ -1144,7 +1139,7 @@ ZACPI_STATUS zacpi_list_dmar_scopes(const struct zacpi_source *source, size_t in
  * and last, if there is one, the first byte at which none begins. Fails with an opening error, or
  * ZACPI_TABLE_MISSING "DMAR". */
 ZACPI_STATUS zacpi_list_dmar_faults(const struct zacpi_source *source,
-                                    struct zacpi_iommu_fault *out, size_t capacity, size_t *count,
+                                    struct zacpi_entry_fault *out, size_t capacity, size_t *count,
                                     struct zacpi_signature *signature);
 /* Returns the unit that remaps the device that the hops reach from a bus of a segment: the first
  * DRHD of the segment with a device scope that names it, else the first with INCLUDE_PCI_ALL. A
@@ -1238,7 +1233,7 @@ ZACPI_STATUS zacpi_list_ivrs_entries(const struct zacpi_source *source, size_t i
  * 2^64 or above; and last, if there is one, the first byte at which none begins. Fails with an
  * opening error, or ZACPI_TABLE_MISSING "IVRS". */
 ZACPI_STATUS zacpi_list_ivrs_faults(const struct zacpi_source *source,
-                                    struct zacpi_iommu_fault *out, size_t capacity, size_t *count,
+                                    struct zacpi_entry_fault *out, size_t capacity, size_t *count,
                                     struct zacpi_signature *signature);
 /* Returns the unit that remaps a device. Of the IVHDs of the greatest Type in the table (0x10, 0x11
  * or 0x40) it is the first of the segment with an entry for all devices, for this one, for a range

@@ -878,16 +878,16 @@ ZACPI_STATUS zacpi_list_dmar_scopes(const struct zacpi_source *source, size_t in
 }
 
 zacpi_status zacpi_1_list_dmar_faults(const struct zacpi_source *source,
-                                      struct zacpi_iommu_fault *out, size_t capacity, size_t *count,
+                                      struct zacpi_entry_fault *out, size_t capacity, size_t *count,
                                       struct zacpi_signature *signature);
 ZACPI_NONNULL((1, 4))
 ZACPI_STATUS zacpi_list_dmar_faults(const struct zacpi_source *source,
-                                    struct zacpi_iommu_fault *out, size_t capacity, size_t *count,
+                                    struct zacpi_entry_fault *out, size_t capacity, size_t *count,
                                     struct zacpi_signature *signature) {
     const struct zacpi_source kept_source = zacpi_source_kept(source);
     struct zacpi_signature unasked;
     return zacpi_1_list_dmar_faults(&kept_source,
-                                    capacity ? out : (struct zacpi_iommu_fault *)ZACPI_NOTHING,
+                                    capacity ? out : (struct zacpi_entry_fault *)ZACPI_NOTHING,
                                     capacity, count, signature ? signature : &unasked);
 }
 
@@ -973,16 +973,16 @@ ZACPI_STATUS zacpi_list_ivrs_entries(const struct zacpi_source *source, size_t i
 }
 
 zacpi_status zacpi_1_list_ivrs_faults(const struct zacpi_source *source,
-                                      struct zacpi_iommu_fault *out, size_t capacity, size_t *count,
+                                      struct zacpi_entry_fault *out, size_t capacity, size_t *count,
                                       struct zacpi_signature *signature);
 ZACPI_NONNULL((1, 4))
 ZACPI_STATUS zacpi_list_ivrs_faults(const struct zacpi_source *source,
-                                    struct zacpi_iommu_fault *out, size_t capacity, size_t *count,
+                                    struct zacpi_entry_fault *out, size_t capacity, size_t *count,
                                     struct zacpi_signature *signature) {
     const struct zacpi_source kept_source = zacpi_source_kept(source);
     struct zacpi_signature unasked;
     return zacpi_1_list_ivrs_faults(&kept_source,
-                                    capacity ? out : (struct zacpi_iommu_fault *)ZACPI_NOTHING,
+                                    capacity ? out : (struct zacpi_entry_fault *)ZACPI_NOTHING,
                                     capacity, count, signature ? signature : &unasked);
 }
 

@@ -348,7 +348,7 @@ static void print_dmar(const struct zacpi_source *source) {
              "%u %u %u %u %lu %u %u %u %u\n", it->scope_type, it->flags, it->enumeration_id, it->bus,
              (unsigned long)it->path_length, it->path[0].device, it->path[0].function, it->path[15].device,
              it->path[15].function);
-    LIST("dmar_faults", zacpi_iommu_fault, zacpi_list_dmar_faults, ALL, "%llx %u %s\n", (wide)it->address,
+    LIST("dmar_faults", zacpi_entry_fault, zacpi_list_dmar_faults, ALL, "%llx %u %s\n", (wide)it->address,
          it->entry_type, error_of(it->status));
     for (i = 0; i < 9; i++)
         ONE("of_io_apic", struct zacpi_dmar_source, zacpi_dmar_io_apic, (source, (uint8_t)i, &item, &named),
@@ -373,7 +373,7 @@ static void print_ivrs(const struct zacpi_source *source) {
              it->variety, it->unique_id_format, it->first, it->last, it->source_id, it->extended_settings,
              number_of(it->hardware_id, 8), number_of(it->compatible_id, 8), (unsigned long)it->unique_id_length,
              number_of(it->unique_id, 8), it->unique_id[31]);
-    LIST("ivrs_faults", zacpi_iommu_fault, zacpi_list_ivrs_faults, ALL, "%llx %u %s\n", (wide)it->address,
+    LIST("ivrs_faults", zacpi_entry_fault, zacpi_list_ivrs_faults, ALL, "%llx %u %s\n", (wide)it->address,
          it->entry_type, error_of(it->status));
     for (i = 0; i < 0x200; i += 0x28) {
         ONE("ivrs", struct zacpi_ivrs_device, zacpi_get_ivrs_unit, (source, 0, (uint16_t)i, &item, &named),

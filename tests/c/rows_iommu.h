@@ -12,7 +12,6 @@ typedef struct zacpi_ivrs_memory ivrs_memory;
 typedef struct zacpi_ivrs_unit ivrs_unit;
 typedef struct zacpi_dmar_scope dmar_scope;
 typedef struct zacpi_ivrs_entry ivrs_entry;
-typedef struct zacpi_iommu_fault iommu_fault;
 
 FIELDS(of_dmar_flags, F(dmar_flags, address_bits), F(dmar_flags, flags));
 FIELDS(of_dmar_unit, F(dmar_unit, register_base), F(dmar_unit, register_bytes), F(dmar_unit, segment),
@@ -42,7 +41,6 @@ FIELDS(of_ivrs_entry, F(ivrs_entry, entry_type), F(ivrs_entry, first), F(ivrs_en
        F(ivrs_entry, source_id), F(ivrs_entry, extended_settings), F(ivrs_entry, handle), F(ivrs_entry, variety),
        F(ivrs_entry, hardware_id), F(ivrs_entry, compatible_id), F(ivrs_entry, unique_id_format),
        F(ivrs_entry, unique_id_length), {offsetof(ivrs_entry, unique_id), 8}, F(ivrs_entry, unique_id[31]));
-FIELDS(of_iommu_fault, F(iommu_fault, address), F(iommu_fault, status), F(iommu_fault, entry_type));
 
 /* Its arguments are a device's segment and bus, how many hops it is from there, and two bytes for each hop. */
 #define DEVICE ARGUMENT(0, uint16_t) ARGUMENT(1, uint8_t) hops(r), ARGUMENT(2, size_t)
@@ -64,10 +62,10 @@ ONE(get_ivrs_unit, ivrs_device, of_ivrs_device, ARGUMENT(0, uint16_t) ARGUMENT(1
 LIST(list_ivrs_memory, ivrs_memory, of_ivrs_memory, ARGUMENT(0, uint16_t))
 LIST(list_dmar_units, dmar_unit, of_dmar_unit, )
 LIST(list_dmar_scopes, dmar_scope, of_dmar_scope, ARGUMENT(0, size_t))
-LIST(list_dmar_faults, iommu_fault, of_iommu_fault, )
+LIST(list_dmar_faults, entry_fault, of_entry_fault, )
 LIST(list_ivrs_units, ivrs_unit, of_ivrs_unit, )
 LIST(list_ivrs_entries, ivrs_entry, of_ivrs_entry, ARGUMENT(0, size_t))
-LIST(list_ivrs_faults, iommu_fault, of_iommu_fault, )
+LIST(list_ivrs_faults, entry_fault, of_entry_fault, )
 
 /* Hops of one byte for the device and one for the function, and 00.0 after them. */
 #define HOP_1_0 0x0001

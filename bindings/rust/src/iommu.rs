@@ -24,6 +24,7 @@ use crate::list::{items, List, Listing, Slot};
 use crate::raw::{self, records, records_of};
 use crate::sdt::Signature;
 
+pub use crate::platform::interrupt::EntryFault;
 pub use records::{DmarFlags, DmarReserved, DmarScope, Hop, IvrsEntry, IvrsMemory};
 
 /// The least length of a DMAR, and of an IVRS: what they list begins there.
@@ -136,27 +137,7 @@ impl From<records::IvrsDevice> for IvrsDevice {
     }
 }
 
-/// A structure of the DMAR or a block of the IVRS with an error, or the first byte at which none begins.
-#[derive(Clone, Copy, Debug, PartialEq, Eq)]
-pub struct IommuFault {
-    /// The physical address of its first byte.
-    pub address: u64,
-    /// Type.
-    pub entry_type: u16,
-    /// `InvalidStructureLength` if its device scopes or device entries end early, or no structure or block begins;
-    /// `InvalidMemoryRange` of an RMRR whose last byte is before its first, and an IVMD whose memory ends above
-    /// 2^64 - 1.
-    pub refusal: AcpiError,
-}
-
-impl From<records::IommuFault> for IommuFault {
-    fn from(raw: records::IommuFault) -> Self {
-        let refusal = AcpiError::of(raw.status, Signature::default());
-        IommuFault { address: raw.address, entry_type: raw.entry_type, refusal }
-    }
-}
-
-items! { DmarUnit = DmarUnit, IvrsUnit = IvrsUnit, IommuFault = IommuFault }
+items! { DmarUnit = DmarUnit, IvrsUnit = IvrsUnit }
 
 /// What is found, or none if there is no such unit, or none for the device.
 fn found<Raw, T: From<Raw>>(asked: AcpiResult<Raw>) -> AcpiResult<Option<T>> {
@@ -199,7 +180,7 @@ impl<'k> Dmar<'k> {
     }
 
     /// The structures with errors and, last, the first byte at which no structure begins, if bytes are left there.
-    pub fn faults(&self) -> Listing<'k, IommuFault> {
+    pub fn faults(&self) -> Listing<'k, EntryFault> {
         self.tables.list(raw::zacpi_1_list_dmar_faults)
     }
 
@@ -270,7 +251,7 @@ impl<'k> Ivrs<'k> {
     }
 
     /// The blocks with errors and, last, the first byte at which no block begins, if bytes are left there.
-    pub fn faults(&self) -> Listing<'k, IommuFault> {
+    pub fn faults(&self) -> Listing<'k, EntryFault> {
         self.tables.list(raw::zacpi_1_list_ivrs_faults)
     }
 

@@ -226,9 +226,9 @@ lists! {
     zacpi_1_list_memory_affinities() -> MemoryAffinity;
     zacpi_1_list_srat_faults() -> EntryFault;
     zacpi_1_list_dmar_units() -> DmarUnit;
-    zacpi_1_list_dmar_faults() -> IommuFault;
+    zacpi_1_list_dmar_faults() -> EntryFault;
     zacpi_1_list_ivrs_units() -> IvrsUnit;
-    zacpi_1_list_ivrs_faults() -> IommuFault;
+    zacpi_1_list_ivrs_faults() -> EntryFault;
 }
 
 lists_of! {

@@ -334,7 +334,7 @@ records! {
     NmiSource { global_system_interrupt: u32, polarity: u8, trigger: u8, }
     NmiLine { processor_uid: u32, of_all: u8, lint: u8, polarity: u8, trigger: u8, }
     Processor { uid: u32, local_apic_id: u32, state: u8, is_boot: u8, is_online_capable: u8, is_x2apic: u8, }
-    EntryFault { address: u64, status: u32, entry_type: u8, }
+    EntryFault { address: u64, status: u32, entry_type: u16, }
     Interrupt { global_system_interrupt: u32, polarity: u8, trigger: u8, }
     IsaRoute { interrupt: Interrupt, pin: IoApicPin, present: u8, has_pin: u8, }
     IsaInterrupts { routes: [IsaRoute; 16], }
@@ -355,7 +355,6 @@ records! {
     MemoryAffinity { address: u64, length: u64, domain: u32, is_hot_pluggable: u8, is_non_volatile: u8, }
     Localities { localities: u64, is_sane: u8, }
     DmarUnit { register_base: u64, register_bytes: u64, segment: u16, includes_pci_all: u8, flags: u8, size: u8, }
-    IommuFault { address: u64, status: u32, entry_type: u16, }
     DmarSource { unit: DmarUnit, bus: u8, hop: Hop, has_hop: u8, }
     IvrsUnit { base: u64, extended_features: u64, features: u32, segment: u16, device_id: u16, capability_offset: u16,
         info: u16, block_type: u8, flags: u8, has_extended_features: u8, }

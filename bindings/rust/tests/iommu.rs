@@ -1,7 +1,7 @@
 //! The units that remap what devices ask of memory.
 mod common;
 use common::{Memory, ROOT};
-use zacpi::iommu::{Dmar, Hop, IommuFault, Ivrs};
+use zacpi::iommu::{Dmar, EntryFault, Hop, Ivrs};
 use zacpi::{AcpiError, Signature, Slot};
 
 const TABLE: u64 = ROOT + 0x1000;
@@ -52,7 +52,7 @@ fn reads_a_dmar() {
         let list = dmar.reserved_for(0, 0, &[hop(3, 0)], &mut room).unwrap();
         let inverted = list.get(0).unwrap();
         assert_eq!((list.count(), inverted.base, inverted.limit), (1, 2, 1));
-        let fault = IommuFault { address: TABLE + 134, entry_type: 1, refusal: AcpiError::InvalidMemoryRange };
+        let fault = EntryFault { address: TABLE + 134, entry_type: 1, refusal: AcpiError::InvalidMemoryRange };
         let mut faults = [Slot::default(); 2];
         assert!(dmar.faults().fill(&mut faults).unwrap().iter().eq([fault]));
         let mut units = [Slot::default(); 3];
@@ -77,7 +77,7 @@ fn reads_a_dmar() {
         assert_eq!(dmar.unit_of_io_apic(2), Err(AcpiError::InvalidStructureLength));
         assert_eq!(dmar.units().count(), Ok(0));
         assert_eq!(dmar.reserved_for(0, 0, &[hop(2, 0)], &mut []).unwrap().count(), 0);
-        let fault = IommuFault { address: TABLE + 48, entry_type: 0, refusal: AcpiError::InvalidStructureLength };
+        let fault = EntryFault { address: TABLE + 48, entry_type: 0, refusal: AcpiError::InvalidStructureLength };
         assert!(dmar.faults().fill(&mut [Slot::default(); 1]).unwrap().iter().eq([fault]));
     });
     let mut memory = Memory::rsdt(&[TABLE]);
@@ -122,7 +122,7 @@ fn reads_an_ivrs() {
         assert_eq!((memory.auxiliary, memory.block_type, memory.flags), (0x1ff, 0x22, 8));
         let list = ivrs.memory_for(0x300, &mut room).unwrap();
         assert_eq!((list.count(), list.get(0).unwrap().start), (1, u64::MAX));
-        let fault = IommuFault { address: TABLE + 132, entry_type: 0x21, refusal: AcpiError::InvalidMemoryRange };
+        let fault = EntryFault { address: TABLE + 132, entry_type: 0x21, refusal: AcpiError::InvalidMemoryRange };
         assert!(ivrs.faults().fill(&mut [Slot::default(); 2]).unwrap().iter().eq([fault]));
         assert!(ivrs.units().fill(&mut [Slot::default(); 2]).unwrap().iter().eq([unit]));
         let mut entries = [Slot::default(); 3];

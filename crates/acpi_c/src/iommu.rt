@@ -3,14 +3,15 @@
 ghost use Rattle.acpi_c_lib.specs.Words.{Answers, AnswersList, dmar_faults_below, dmar_flags_below, dmar_hpet_below, dmar_io_apic_below, dmar_reserved_below, dmar_scopes_below, dmar_unit_below, dmar_units_below, ivrs_entries_below, ivrs_faults_below, ivrs_memory_below, ivrs_unit_below, ivrs_units_below};
 
 use acpi_c_lib::answer::answer;
+use acpi_c_lib::entry_faults::EntryFault;
 use acpi_c_lib::iommu::{
     dmar_flags, dmar_hpet, dmar_io_apic, dmar_reserved, dmar_unit, ivrs_memory, ivrs_unit,
 };
 use acpi_c_lib::iommu_faults::{dmar_faults, ivrs_faults};
 use acpi_c_lib::iommu_lists::{dmar_scopes, dmar_units, ivrs_entries, ivrs_units};
 use acpi_c_lib::iommu_records::{
-    DmarFlags, DmarReserved, DmarScope, DmarSource, DmarUnit, Hop, IommuFault, IvrsDevice,
-    IvrsEntry, IvrsMemory, IvrsUnit,
+    DmarFlags, DmarReserved, DmarScope, DmarSource, DmarUnit, Hop, IvrsDevice, IvrsEntry,
+    IvrsMemory, IvrsUnit,
 };
 use acpi_c_lib::records::{Signature, Source};
 
@@ -148,7 +149,7 @@ pub extern "C" fn zacpi_1_list_dmar_scopes(
 #[unsafe(no_mangle)]
 pub extern "C" fn zacpi_1_list_dmar_faults(
     source: &Source<'_>,
-    out: &mut [IommuFault],
+    out: &mut [EntryFault],
     count: &mut usize,
     named: &mut Signature,
 ) -> u32
@@ -191,7 +192,7 @@ pub extern "C" fn zacpi_1_list_ivrs_entries(
 #[unsafe(no_mangle)]
 pub extern "C" fn zacpi_1_list_ivrs_faults(
     source: &Source<'_>,
-    out: &mut [IommuFault],
+    out: &mut [EntryFault],
     count: &mut usize,
     named: &mut Signature,
 ) -> u32

@@ -6,8 +6,9 @@ use Rattle.acpi.proofs.First.{filter_map_few}
 use Rattle.acpi_iommu.proofs.Cuts.{block_is, cut_whole, pieces_few, structure_is}
 use Rattle.acpi_iommu.specs.Words.{block_kind, block_size, blocks_cut, blocks_of, cut_of, entries_of, entry_size, hops_in, is_ivhd, is_memory_for, is_reserved_for, ivmd_at, kind_of, memory_in, path_of, reserved_in, rmrr_at, scope_bytes, scope_size, scopes_of, structure_size, structures_of}
 use Rattle.acpi_iommu.specs.Ivrs.{entry_bytes, least_of}
-use Rattle.acpi_c_lib.specs.Types.{Hop, IommuError, IommuFault, InvalidStructureLength, Ivmd, Rmrr}
+use Rattle.acpi_c_lib.specs.Types.{Hop, IommuError, InvalidStructureLength, Ivmd, Rmrr}
 use Rattle.acpi_c_lib.specs.Words.{iommu_fault, iommu_faults_from, put_from}
+use Rattle.acpi_c_lib.specs.declared.entry_faults.EntryFault.{EntryFault}
 
 pub structures_few : (table : List ℕ) → length (structures_of table) ≤ length table
 structures_few table = omega (arith, pieces_few structure_size (drop 48 table), length-drop 48 table)
@@ -96,7 +97,7 @@ blocks_whole table = cut_whole block_size block_is (drop 48 table)
 
 -- after the last piece the rest is written, and nothing else is left
 pub last_written : (type_of : List ℕ → ℕ) (fault_of : List ℕ → Option IommuError) (at count : ℕ)
-    (old out new all : List IommuFault) (left : List (List ℕ)) (before rest : List ℕ) → left ≡ [] → before ≡ rest
+    (old out new all : List EntryFault) (left : List (List ℕ)) (before rest : List ℕ) → left ≡ [] → before ≡ rest
     → 0 < length rest → put_from out count (iommu_faults_from type_of fault_of at left before) ≡ put_from old 0 all
     → count + length (iommu_faults_from type_of fault_of at left before) ≡ length all
     → new ≡ slice_set out count (iommu_fault at (type_of rest) InvalidStructureLength)

@@ -35,7 +35,6 @@ pub use Rattle.acpi_c_lib.specs.declared.iommu_records.DmarScope.{DmarScope}
 pub use Rattle.acpi_c_lib.specs.declared.iommu_records.DmarSource.{DmarSource}
 pub use Rattle.acpi_c_lib.specs.declared.iommu_records.DmarUnit.{DmarUnit}
 pub use Rattle.acpi_c_lib.specs.declared.iommu_records.IvrsDevice.{IvrsDevice}
-pub use Rattle.acpi_c_lib.specs.declared.iommu_records.IommuFault.{IommuFault}
 pub use Rattle.acpi_c_lib.specs.declared.iommu_records.IvrsEntry.{IvrsEntry}
 pub use Rattle.acpi_c_lib.specs.declared.iommu_records.IvrsMemory.{IvrsMemory}
 pub use Rattle.acpi_c_lib.specs.declared.iommu_records.IvrsUnit.{IvrsUnit}

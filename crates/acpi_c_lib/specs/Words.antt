@@ -21,7 +21,6 @@ pub use Rattle.acpi_c_lib.specs.GtdtFaults.{gtdt_faults_below, gtdt_faults_of, l
 pub use Rattle.acpi_c_lib.specs.Held.{mapped_memory}
 pub use Rattle.acpi_c_lib.specs.Iommu.{block_record, dmar_flags_below, dmar_flags_record, dmar_hpet_below, dmar_io_apic_below, dmar_reserved_below, dmar_unit_below, iommu_refusal, ivrs_memory_below, ivrs_unit_below, memory_record, reserved_record, source_record, unit_record}
 pub use Rattle.acpi_c_lib.specs.IommuFaults.{dmar_faults_below, dmar_faults_of, iommu_fault, iommu_faults_from, ivrs_faults_below, ivrs_faults_of}
-unfoldable pub use Rattle.acpi_c_lib.specs.IommuFaults.{found_at}
 pub use Rattle.acpi_c_lib.specs.IommuLists.{dmar_scopes_below, dmar_units_below, dmar_units_in, drhd_in, drhd_shown, entry_shown, hid_part, is_drhd, is_ivhd_block, ivhd_in, ivhd_shown, ivrs_entries_below, ivrs_units_below, ivrs_units_in, no_hop, path_shown, scope_record, special_or}
 pub use Rattle.acpi_c_lib.specs.IsaList.{IsaInterrupts, IsaRoute, ItemsAreAnswers, isa_list, isa_list_below, isa_route, nearer_of, no_route, number_of, route_by, route_of}
 unfoldable pub use Rattle.acpi_c_lib.specs.IsaList.{isa_numbers}

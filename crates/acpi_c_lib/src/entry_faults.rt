@@ -15,11 +15,11 @@ use acpi::{AcpiTable, PhysicalMapping};
 pub struct EntryFault {
     pub address: u64,
     pub status: u32,
-    pub entry_type: u8,
+    pub entry_type: u16,
 }
 
 /// An entry of a type, at an address, with its error.
-pub(crate) fn entry_fault(address: u64, entry_type: u8, error: Refusal) -> EntryFault
+pub(crate) fn entry_fault(address: u64, entry_type: u16, error: Refusal) -> EntryFault
     ensures { result ≡ entry_fault address entry_type error }
 {
     EntryFault {

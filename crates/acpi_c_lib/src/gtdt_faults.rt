@@ -35,7 +35,7 @@ fn fill_faults(table: &[u8], address: u64, out: &mut [EntryFault]) -> usize
             put(
                 out,
                 count,
-                entry_fault(at, structure[0], Refusal::InvalidTimerLength),
+                entry_fault(at, structure[0] as u16, Refusal::InvalidTimerLength),
             );
             count += 1;
         }
@@ -48,7 +48,7 @@ fn fill_faults(table: &[u8], address: u64, out: &mut [EntryFault]) -> usize
         put(
             out,
             count,
-            entry_fault(at, kind, Refusal::InvalidTimerLength),
+            entry_fault(at, kind as u16, Refusal::InvalidTimerLength),
         );
         count += 1;
     }

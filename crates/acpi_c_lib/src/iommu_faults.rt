@@ -1,58 +1,35 @@
 //! The structures of a DMAR and the blocks of an IVRS at fault, and the bytes in which none begins.
-ghost use Rattle.std.specs.Prelude.{◌≡◌, ◌+◌, ◌^◌, ◌<◌, ◌≤◌, length, IfOk};
-ghost use Rattle.acpi_base.specs.Words.{bytes_of, start_of, Gives};
-ghost use Rattle.acpi_c_lib.specs.Words.{Fills, Writes, dmar_faults_below, dmar_faults_of, found_at, iommu_fault, ivrs_faults_below, ivrs_faults_of, mapped_memory, memory_in};
+ghost use Rattle.std.specs.Prelude.{◌≡◌, ◌+◌, ◌^◌, ◌<◌, ◌≤◌, length};
+ghost use Rattle.acpi_c_lib.specs.Words.{Fills, Writes, dmar_faults_below, dmar_faults_of, iommu_fault, ivrs_faults_below, ivrs_faults_of};
 
-use crate::iommu_records::IommuFault;
+use crate::entry_faults::{EntryFault, entry_fault, found_table};
 use crate::lists::put;
-use crate::opening::open;
 use crate::records::Source;
 use crate::refusal::Refusal;
 use crate::regions::Mapped;
-use acpi::{AcpiTable, PhysicalMapping};
 use acpi_base::bytes::field;
 use acpi_iommu::{Dmar, DmarUnits, IommuError, Ivrs, IvrsBlocks};
 
 /// Lists the structures of the first valid DMAR at fault and, last, the bytes in which none begins.
-pub fn dmar_faults(source: &Source<'_>, out: &mut [IommuFault]) -> Result<usize, Refusal>
+pub fn dmar_faults(source: &Source<'_>, out: &mut [EntryFault]) -> Result<usize, Refusal>
     ensures { Fills result out.old out.new (dmar_faults_below source.now) }
 {
     let memory = Mapped::new(source.regions);
-    let dmar = found::<Dmar>(&memory, source)?;
+    let dmar = found_table::<Dmar>(&memory, source)?;
     Ok(fill_dmar_faults(dmar.bytes(), dmar.physical_start(), out))
 }
 
 /// Lists the blocks of the first valid IVRS at fault and, last, the bytes in which none begins.
-pub fn ivrs_faults(source: &Source<'_>, out: &mut [IommuFault]) -> Result<usize, Refusal>
+pub fn ivrs_faults(source: &Source<'_>, out: &mut [EntryFault]) -> Result<usize, Refusal>
     ensures { Fills result out.old out.new (ivrs_faults_below source.now) }
 {
     let memory = Mapped::new(source.regions);
-    let ivrs = found::<Ivrs>(&memory, source)?;
+    let ivrs = found_table::<Ivrs>(&memory, source)?;
     Ok(fill_ivrs_faults(ivrs.bytes(), ivrs.physical_start(), out))
 }
 
-/// The first valid table of a type, as `first` finds it.
-#[tactic(auto, using(crate::proofs::Unlent::table_ends), unfolding(crate::specs::IommuFaults::found_at))]
-fn found<'h, 'k, T: AcpiTable>(
-    memory: &'h Result<Mapped<'k>, Refusal>,
-    source: &Source<'_>,
-) -> Result<PhysicalMapping<'h, Mapped<'k>, T>, Refusal>
-    requires memory { Gives (λ m. mapped_memory m) memory.now (memory_in source.now.regions.now) }
-    requires some { 0 < T.kind.least }
-    ensures found { Gives (λ t. (start_of t, bytes_of t)) result (found_at T.kind source.now) }
-    ensures ends { IfOk result (λ t. start_of t + length (bytes_of t) < 2 ^ 64) }
-{
-    let memory = match memory {
-        Ok(memory) => memory,
-        Err(refusal) => return Err(*refusal),
-    };
-    let tables = open(memory, source)?;
-    let table = tables.find_table::<T>()?;
-    Ok(table)
-}
-
 /// Writes the faults of a DMAR's bytes at an address.
-fn fill_dmar_faults(table: &[u8], address: u64, out: &mut [IommuFault]) -> usize
+fn fill_dmar_faults(table: &[u8], address: u64, out: &mut [EntryFault]) -> usize
     requires fixed { 48 ≤ length table.now }
     requires ends { address + length table.now < 2 ^ 64 }
     ensures { Writes result out.old out.new (dmar_faults_of (address, table.now)) }
@@ -81,7 +58,7 @@ fn fill_dmar_faults(table: &[u8], address: u64, out: &mut [IommuFault]) -> usize
 }
 
 /// Writes the faults of an IVRS' bytes at an address.
-fn fill_ivrs_faults(table: &[u8], address: u64, out: &mut [IommuFault]) -> usize
+fn fill_ivrs_faults(table: &[u8], address: u64, out: &mut [EntryFault]) -> usize
     requires fixed { 48 ≤ length table.now }
     requires ends { address + length table.now < 2 ^ 64 }
     ensures { Writes result out.old out.new (ivrs_faults_of (address, table.now)) }
@@ -109,12 +86,9 @@ fn fill_ivrs_faults(table: &[u8], address: u64, out: &mut [IommuFault]) -> usize
     count
 }
 
-fn fault(address: u64, entry_type: u16, error: IommuError) -> IommuFault
+/// One of a type, at an address, with its error.
+fn fault(address: u64, entry_type: u16, error: IommuError) -> EntryFault
     ensures { result ≡ iommu_fault address entry_type error }
 {
-    IommuFault {
-        address,
-        entry_type,
-        status: Refusal::from(error).code(),
-    }
+    entry_fault(address, entry_type, Refusal::from(error))
 }

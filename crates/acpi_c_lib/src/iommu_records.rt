@@ -110,12 +110,3 @@ pub struct IvrsEntry {
     pub unique_id_format: u8,
     pub unique_id: [u8; 32],
 }
-
-/// A structure of a DMAR or a block of an IVRS at fault, or the bytes in which none begins.
-#[repr(C)]
-#[derive(Clone, Copy)]
-pub struct IommuFault {
-    pub address: u64,
-    pub status: u32,
-    pub entry_type: u16,
-}

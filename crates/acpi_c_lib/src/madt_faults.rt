@@ -37,7 +37,7 @@ fn fill_faults(table: &[u8], address: u64, out: &mut [EntryFault]) -> usize
     let mut count = 0;
     while let Some((entry, others)) = split_front(&grammar, rest) {
         if let Some(error) = fault_in(entry) {
-            put(out, count, entry_fault(at, entry[0], error));
+            put(out, count, entry_fault(at, entry[0] as u16, error));
             count += 1;
         }
         at += entry.len() as u64;
@@ -45,7 +45,7 @@ fn fill_faults(table: &[u8], address: u64, out: &mut [EntryFault]) -> usize
     }
     if let [kind, ..] = rest {
         let error = refusal(MadtError::InvalidEntryLength);
-        put(out, count, entry_fault(at, *kind, error));
+        put(out, count, entry_fault(at, *kind as u16, error));
         count += 1;
     }
     count

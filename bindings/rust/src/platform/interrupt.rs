@@ -322,13 +322,14 @@ fn route(raw: records::IsaRoute) -> Option<IsaRoute> {
     (raw.present != 0).then(|| IsaRoute { interrupt: raw.interrupt.into(), pin })
 }
 
-/// An entry of the MADT, the SRAT or the GTDT with an error, or the first byte at which no entry begins.
+/// An entry of the MADT, the SRAT or the GTDT, a structure of the DMAR or a block of the IVRS with an error, or the
+/// first byte at which none begins.
 #[derive(Clone, Copy, Debug, PartialEq, Eq)]
 pub struct EntryFault {
     /// The physical address of its first byte.
     pub address: u64,
-    /// Type: the byte at that address, or 0 if the table ends there.
-    pub entry_type: u8,
+    /// Type, as it is at that address, or 0 if the table ends there.
+    pub entry_type: u16,
     /// Its error: in a MADT that which [`AcpiTables::platform_info`] has for it.
     pub refusal: AcpiError,
 }
