@@ -204,7 +204,8 @@ nmi_lines : Agree nmi_line_in line_shown base.nmi_line_in line_said
 unfolding item_of
 nmi_lines (entry.InterruptSourceOverride e) h =
     other base.nmi_line_in line_said (override_fault e) (item.Override (override_of e)) refl
-nmi_lines (entry.NmiSource e) h = other base.nmi_line_in line_said (flags_fault e.flags) (item.NmiSource (nmi_source_of e)) refl
+nmi_lines (entry.NmiSource e) h =
+    other base.nmi_line_in line_said (flags_fault e.flags) (item.NmiSource (nmi_source_of e)) refl
 nmi_lines (entry.LocalApicNmi e) h = lines_by all_apics e.processor_id e.nmi_line e.flags (line_of e.nmi_line) refl h
 nmi_lines (entry.X2ApicNmi e) h =
     lines_by all_x2apics e.processor_uid e.nmi_line e.flags (line_of e.nmi_line) refl h
@@ -276,11 +277,13 @@ processors (entry.NmiSource e ∷ es) h =
     ∙ passed (flags_fault e.flags) (item.NmiSource (nmi_source_of e)) refl (filter_map base.item_in es)
 processors (entry.LocalApicNmi e ∷ es) h =
     processors es (later (entry.LocalApicNmi e) es h)
-    ∙ passed (result_err (line_of e.nmi_line)) (item.NmiLine (nmi_line_of (processor_for all_apics e.processor_id) e.nmi_line)) refl
+    ∙ passed (result_err (line_of e.nmi_line))
+    (item.NmiLine (nmi_line_of (processor_for all_apics e.processor_id) e.nmi_line)) refl
     (filter_map base.item_in es)
 processors (entry.X2ApicNmi e ∷ es) h =
     processors es (later (entry.X2ApicNmi e) es h)
-    ∙ passed (result_err (line_of e.nmi_line)) (item.NmiLine (nmi_line_of (processor_for all_x2apics e.processor_uid) e.nmi_line)) refl
+    ∙ passed (result_err (line_of e.nmi_line))
+    (item.NmiLine (nmi_line_of (processor_for all_x2apics e.processor_uid) e.nmi_line)) refl
     (filter_map base.item_in es)
 processors (e ∷ es) h = processors es (later e es h)
 

@@ -70,7 +70,11 @@ abbrev pub below_source : {A : Type 0} → Source → (Memory → List ℕ → R
     → Result A Refusal
 below_source s answer = below s (λ m ps. refused_as (answer m ps))
 
--- the bytes of the first valid table of a kind, and what is shown of them
+-- the first valid table of a kind: where it lies, and its bytes
+unfoldable pub found_table : Kind → Source → Result (ℕ × List ℕ) Refusal
+found_table kind s = below_source s (λ m. lookup m kind)
+
+-- its bytes, and what is shown of them
 unfoldable pub first_table : Kind → Source → Result (List ℕ) Refusal
 first_table kind s = below_source s (λ m ps. result_map (λ found. found.1) (lookup m kind ps))
 

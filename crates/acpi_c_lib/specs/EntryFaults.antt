@@ -1,9 +1,7 @@
 -- The entries of a table at fault, as C gets them.
-use Rattle.std.specs.Prelude.{ℕ, ◌+◌, List, [], ◌∷◌, length, slice_index, Option, Result, option_map}
+use Rattle.std.specs.Prelude.{ℕ, ◌+◌, List, [], ◌∷◌, length, slice_index, Option, option_map}
 use Rattle.acpi_base.specs.FromStd.{cons_option}
-use Rattle.acpi_base.specs.Words.{Kind}
-use Rattle.acpi.specs.Words.{lookup}
-use Rattle.acpi_c_lib.specs.Below.{Refusal, Source, below_source}
+use Rattle.acpi_c_lib.specs.Below.{Refusal}
 use Rattle.acpi_c_lib.specs.Codes.{code_of}
 use Rattle.acpi_c_lib.specs.declared.entry_faults.EntryFault.{EntryFault}
 
@@ -23,7 +21,3 @@ faults_from fault_in last address (e ∷ es) =
 abbrev pub rest_faults : Refusal → List ℕ → ℕ → List EntryFault
 rest_faults error [] address = []
 rest_faults error (b ∷ rest) address = entry_fault address b error ∷ []
-
--- the first valid table of a kind: where it lies, and its bytes
-unfoldable pub found_table : Kind → Source → Result (ℕ × List ℕ) Refusal
-found_table kind s = below_source s (λ m. lookup m kind)

@@ -4,8 +4,8 @@ use Rattle.acpi_base.specs.Words.{cut, field_of}
 use Rattle.acpi_arm.specs.Gtdt.{gtdt_kind}
 use Rattle.acpi_arm.specs.Timers.{is_sound, timer_bytes, timer_count, timers_grammar}
 use Rattle.acpi_c_lib.specs.Answers.{result_map}
-use Rattle.acpi_c_lib.specs.Below.{Refusal, Source}
-use Rattle.acpi_c_lib.specs.EntryFaults.{entry_fault, faults_from, found_table}
+use Rattle.acpi_c_lib.specs.Below.{Refusal, Source, found_table}
+use Rattle.acpi_c_lib.specs.EntryFaults.{entry_fault, faults_from}
 use Rattle.acpi_c_lib.specs.Types.{InvalidTimerLength}
 use Rattle.acpi_c_lib.specs.declared.entry_faults.EntryFault.{EntryFault}
 

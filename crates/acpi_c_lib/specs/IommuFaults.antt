@@ -5,8 +5,8 @@ use Rattle.acpi_base.specs.Words.{sdt_kind}
 use Rattle.acpi.specs.Types.{DMAR, IVRS}
 use Rattle.acpi_iommu.specs.Words.{block_fault, block_kind, blocks_cut, cut_of, kind_of, structure_fault}
 use Rattle.acpi_c_lib.specs.Answers.{result_map}
-use Rattle.acpi_c_lib.specs.Below.{Refusal, Source}
-use Rattle.acpi_c_lib.specs.EntryFaults.{entry_fault, found_table}
+use Rattle.acpi_c_lib.specs.Below.{Refusal, Source, found_table}
+use Rattle.acpi_c_lib.specs.EntryFaults.{entry_fault}
 use Rattle.acpi_c_lib.specs.Iommu.{iommu_refusal}
 use Rattle.acpi_c_lib.specs.Types.{IommuError, InvalidStructureLength}
 use Rattle.acpi_c_lib.specs.declared.entry_faults.EntryFault.{EntryFault}

@@ -4,8 +4,8 @@ use Rattle.acpi_base.specs.Words.{cut_of, fault_said}
 use Rattle.acpi.specs.Types.{InvalidEntryLength, InvalidMadt, MadtError}
 use Rattle.acpi.specs.Words.{madt_kind}
 use Rattle.acpi_c_lib.specs.Answers.{result_map}
-use Rattle.acpi_c_lib.specs.Below.{Refusal, Source}
-use Rattle.acpi_c_lib.specs.EntryFaults.{faults_from, found_table, rest_faults}
+use Rattle.acpi_c_lib.specs.Below.{Refusal, Source, found_table}
+use Rattle.acpi_c_lib.specs.EntryFaults.{faults_from, rest_faults}
 use Rattle.acpi_c_lib.specs.Types.{Acpi}
 use Rattle.acpi_c_lib.specs.declared.entry_faults.EntryFault.{EntryFault}
 

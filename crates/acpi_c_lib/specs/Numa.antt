@@ -5,9 +5,9 @@ use Rattle.acpi.specs.Types.{SLIT}
 use Rattle.acpi_numa.specs.Words.{cut_of, ends_below, entry_of, lies_in, range_in, ranges_of, revision_of, srat_kind, IsSane, distance_of, localities_of, domain_of_apic, domain_of_processor}
 use Rattle.acpi_c_lib.specs.Types.{MemoryRange, Localities, MemoryAffinity, InvalidMemoryRange, InvalidSratEntryLength, NoDistance, NoDomain}
 use Rattle.acpi_c_lib.specs.Answers.{result_map}
-use Rattle.acpi_c_lib.specs.Below.{Refusal, Source, below_first, first_table}
+use Rattle.acpi_c_lib.specs.Below.{Refusal, Source, below_first, first_table, found_table}
 use Rattle.acpi_c_lib.specs.Devices.{flag}
-use Rattle.acpi_c_lib.specs.EntryFaults.{faults_from, found_table, rest_faults}
+use Rattle.acpi_c_lib.specs.EntryFaults.{faults_from, rest_faults}
 use Rattle.acpi_c_lib.specs.declared.entry_faults.EntryFault.{EntryFault}
 
 -- ---- ranges of memory

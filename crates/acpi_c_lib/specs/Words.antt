@@ -6,14 +6,13 @@ unfoldable pub use Rattle.acpi_c_lib.specs.Apics.{apic_entries}
 pub use Rattle.acpi_c_lib.specs.Arm.{below_gic, cpu_interfaces_shown, distributor_below, is_of_gic, msi_frames_shown, redistributors_shown, translation_services_shown}
 pub use Rattle.acpi_c_lib.specs.ArmTimers.{GtFrame, arm_timer_or, arm_timer_record, frame_record, frames_in, frames_of, frames_shown, gtdt_below, or_ones, timers_record, timers_shown, watchdog_in, watchdogs_of, watchdogs_shown}
 pub use Rattle.acpi_c_lib.specs.Below.{AcpiError, Refusal, Source, check_policy, ebda_in, opened_in, refused_as, rsdp_in, rsdp_length, rsdp_place_in, started_in}
-unfoldable pub use Rattle.acpi_c_lib.specs.Below.{first_table}
+unfoldable pub use Rattle.acpi_c_lib.specs.Below.{first_table, found_table}
 pub use Rattle.acpi_c_lib.specs.Clip.{AnswersClip, AreInOrder, FillsClipped, IsNext, Range, all_fit, any_holds, change_in, change_of, fits, holds, wanted}
 pub use Rattle.acpi_c_lib.specs.Console.{console_below, console_record}
 pub use Rattle.acpi_c_lib.specs.Copied.{copied_rsdp, copy_memory, padded, source_of_rsdp, started_by}
 pub use Rattle.acpi_c_lib.specs.Devices.{generic_record, graphic_below, graphic_record, optional_register, register_if, required_register, timer_below, timer_record}
 pub use Rattle.acpi_c_lib.specs.Entries.{entries_below, entries_from, entries_said, entry_record, left_said, plain_grammar, width_of_bytes, number_place, walk_layout}
 pub use Rattle.acpi_c_lib.specs.EntryFaults.{entry_fault, faults_from, rest_faults}
-unfoldable pub use Rattle.acpi_c_lib.specs.EntryFaults.{found_table}
 pub use Rattle.acpi_c_lib.specs.Facs.{facs_below, facs_in}
 pub use Rattle.acpi_c_lib.specs.Faults.{fault_record, faults_below, kind_named}
 pub use Rattle.acpi_c_lib.specs.Fixed.{fixed_below, fixed_record, gpe_record, hypervisor_id_in, minor_revision_in, revision_in}

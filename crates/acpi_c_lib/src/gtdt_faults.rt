@@ -2,8 +2,9 @@
 ghost use Rattle.std.specs.Prelude.{◌≡◌, ◌+◌, ◌^◌, ◌<◌, length};
 ghost use Rattle.acpi_c_lib.specs.Words.{Fills, Writes, gtdt_faults_below, gtdt_faults_of};
 
-use crate::entry_faults::{EntryFault, entry_fault, found_table};
+use crate::entry_faults::{EntryFault, entry_fault};
 use crate::lists::put;
+use crate::opening::first;
 use crate::records::Source;
 use crate::refusal::Refusal;
 use crate::regions::Mapped;
@@ -16,7 +17,7 @@ pub fn gtdt_faults(source: &Source<'_>, out: &mut [EntryFault]) -> Result<usize,
     ensures { Fills result out.old out.new (gtdt_faults_below source.now) }
 {
     let memory = Mapped::new(source.regions);
-    let gtdt = found_table::<Gtdt>(&memory, source)?;
+    let gtdt = first::<Gtdt>(&memory, source)?;
     Ok(fill_faults(gtdt.bytes(), gtdt.physical_start(), out))
 }
 

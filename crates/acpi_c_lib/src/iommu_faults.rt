@@ -2,8 +2,9 @@
 ghost use Rattle.std.specs.Prelude.{◌≡◌, ◌+◌, ◌^◌, ◌<◌, ◌≤◌, length};
 ghost use Rattle.acpi_c_lib.specs.Words.{Fills, Writes, dmar_faults_below, dmar_faults_of, iommu_fault, ivrs_faults_below, ivrs_faults_of};
 
-use crate::entry_faults::{EntryFault, entry_fault, found_table};
+use crate::entry_faults::{EntryFault, entry_fault};
 use crate::lists::put;
+use crate::opening::first;
 use crate::records::Source;
 use crate::refusal::Refusal;
 use crate::regions::Mapped;
@@ -15,7 +16,7 @@ pub fn dmar_faults(source: &Source<'_>, out: &mut [EntryFault]) -> Result<usize,
     ensures { Fills result out.old out.new (dmar_faults_below source.now) }
 {
     let memory = Mapped::new(source.regions);
-    let dmar = found_table::<Dmar>(&memory, source)?;
+    let dmar = first::<Dmar>(&memory, source)?;
     Ok(fill_dmar_faults(dmar.bytes(), dmar.physical_start(), out))
 }
 
@@ -24,7 +25,7 @@ pub fn ivrs_faults(source: &Source<'_>, out: &mut [EntryFault]) -> Result<usize,
     ensures { Fills result out.old out.new (ivrs_faults_below source.now) }
 {
     let memory = Mapped::new(source.regions);
-    let ivrs = found_table::<Ivrs>(&memory, source)?;
+    let ivrs = first::<Ivrs>(&memory, source)?;
     Ok(fill_ivrs_faults(ivrs.bytes(), ivrs.physical_start(), out))
 }
 

@@ -3,8 +3,9 @@ ghost use Rattle.std.specs.Prelude.{◌≡◌, ◌+◌, ◌^◌, ◌<◌, ◌≤
 ghost use Rattle.acpi_base.specs.Words.{IsEntry, madt_layout};
 ghost use Rattle.acpi_c_lib.specs.Words.{Fills, Writes, madt_fault, madt_faults_below, madt_faults_of, madt_refusal};
 
-use crate::entry_faults::{EntryFault, entry_fault, found_table};
+use crate::entry_faults::{EntryFault, entry_fault};
 use crate::lists::put;
+use crate::opening::first;
 use crate::records::Source;
 use crate::refusal::Refusal;
 use crate::regions::Mapped;
@@ -20,7 +21,7 @@ pub fn madt_faults(source: &Source<'_>, out: &mut [EntryFault]) -> Result<usize,
     ensures { Fills result out.old out.new (madt_faults_below source.now) }
 {
     let memory = Mapped::new(source.regions);
-    let madt = found_table::<Madt>(&memory, source)?;
+    let madt = first::<Madt>(&memory, source)?;
     Ok(fill_faults(madt.bytes(), madt.physical_start(), out))
 }
 

@@ -1,8 +1,8 @@
 //! How the tables that a caller names are opened.
-ghost use Rattle.std.specs.Prelude.{◌≡◌, Ok, IfOk};
+ghost use Rattle.std.specs.Prelude.{◌≡◌, ◌+◌, ◌^◌, ◌<◌, length, Ok, IfOk};
 ghost use Rattle.acpi_base.specs.Words.{bytes_of, start_of, Gives};
 ghost use Rattle.acpi.specs.Words.{lender_of, opened_of, placed, rsdp_at, word_in};
-ghost use Rattle.acpi_c_lib.specs.Words.{check_policy, ebda_in, first_table, opened_in, mapped_memory, memory_in, root_below, rsdp_in, rsdp_length, rsdp_place_in};
+ghost use Rattle.acpi_c_lib.specs.Words.{check_policy, ebda_in, first_table, found_table, opened_in, mapped_memory, memory_in, root_below, rsdp_in, rsdp_length, rsdp_place_in};
 
 use crate::records::{Root, Source};
 use crate::refusal::Refusal;
@@ -54,7 +54,7 @@ pub(crate) fn open_placed<'h, H: AcpiHandler>(
 
 /// Refuses a source that accepts more than valid tables with `UnknownPolicy`.
 pub(crate) fn check_policy(source: &Source<'_>) -> Result<(), Refusal>
-    ensures { result ≡ check_policy source.now }
+    ensures { Gives (λ _. tt) result (check_policy source.now) }
 {
     if source.accept != 0 {
         return Err(Refusal::UnknownPolicy);
@@ -106,16 +106,18 @@ pub(crate) fn ebda<H: AcpiHandler>(handler: &H) -> Option<u64>
     Some(16 * segment as u64)
 }
 
-/// The first valid table of a type that a source leads to, in the memory of its regions.
+/// The first valid table of a type that a source leads to, in the memory of its regions: it ends below 2^64.
 ///
 /// Fails as `Mapped::new` does, then as `open` does, and then with `TableMissing` if no valid one is listed.
-#[tactic(auto, unfolding(crate::specs::Below::first_table))]
+#[tactic(auto, using(crate::proofs::Unlent::table_ends), unfolding(crate::specs::Below::first_table, crate::specs::Below::found_table))]
 pub(crate) fn first<'h, 'k, T: AcpiTable>(
     memory: &'h Result<Mapped<'k>, Refusal>,
     source: &Source<'_>,
 ) -> Result<PhysicalMapping<'h, Mapped<'k>, T>, Refusal>
     requires { Gives (λ m. mapped_memory m) memory.now (memory_in source.now.regions.now) }
-    ensures { Gives (λ t. bytes_of t) result (first_table T.kind source.now) }
+    ensures bytes { Gives (λ t. bytes_of t) result (first_table T.kind source.now) }
+    ensures placed { Gives (λ t. (start_of t, bytes_of t)) result (found_table T.kind source.now) }
+    ensures ends { IfOk result (λ t. start_of t + length (bytes_of t) < 2 ^ 64) }
 {
     let memory = match memory {
         Ok(memory) => memory,

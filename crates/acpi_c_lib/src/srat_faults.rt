@@ -4,8 +4,9 @@ ghost use Rattle.acpi_base.specs.Words.{IsEntry};
 ghost use Rattle.acpi_numa.specs.Words.{srat_layout};
 ghost use Rattle.acpi_c_lib.specs.Words.{Fills, Writes, srat_fault, srat_faults_below, srat_faults_of};
 
-use crate::entry_faults::{EntryFault, entry_fault, found_table};
+use crate::entry_faults::{EntryFault, entry_fault};
 use crate::lists::put;
+use crate::opening::first;
 use crate::records::Source;
 use crate::refusal::Refusal;
 use crate::regions::Mapped;
@@ -19,7 +20,7 @@ pub fn srat_faults(source: &Source<'_>, out: &mut [EntryFault]) -> Result<usize,
     ensures { Fills result out.old out.new (srat_faults_below source.now) }
 {
     let memory = Mapped::new(source.regions);
-    let srat = found_table::<Srat>(&memory, source)?;
+    let srat = first::<Srat>(&memory, source)?;
     Ok(fill_faults(srat.bytes(), srat.physical_start(), out))
 }
 

@@ -135,8 +135,8 @@ fn are_tables(listed: &[ListedTable<'_>]) -> bool
 
 /// Writes all tables of a machine to the front of a buffer that is to lie at this physical address.
 ///
-/// Returns `BadTable` if bytes that are listed aren't a table, and then the errors of `acpi_writer::write_tables`, in its
-/// order.
+/// Returns `BadTable` if bytes that are listed aren't a table, and then the errors of `acpi_writer::write_tables`, in
+/// its order.
 pub fn write_tables(out: &mut [u8], address: u64, machine: &Machine<'_>) -> Result<usize, Refusal>
     ensures exact { Gives (λ n. take n out.new) result
         (whole.machine_said (length out.old) address machine.now) }
