@@ -1,5 +1,5 @@
 -- How many items the lists of IOMMUs have at most, and which bytes the pieces of their tables are.
-use Rattle.std.proofs.Common.{◌≡◌, ◌∙◌, ◌≤◌, ◌<◌, ◌+◌, ◌==◌, ◌||◌, ℕ, List, [], ◌∷◌, ◌++◌, length, length-append, length-drop, drop, map, filter, filter_map, Option, Bool, true, false, if◌then◌else◌, slice_set, arith}
+use Rattle.std.proofs.Common.{◌≡◌, ◌∙◌, ◌≤◌, ◌<◌, ◌+◌, ◌==◌, ◌||◌, ℕ, List, [], ◌∷◌, length, length-drop, drop, map, filter, filter_map, Option, Bool, true, false, if◌then◌else◌, slice_set, arith}
 use Rattle.acpi_base.proofs.FromStd.{length-map, length-filter, count_by-le-length}
 use Rattle.acpi_base.specs.FromStd.{concat}
 use Rattle.acpi.proofs.First.{filter_map_few}

@@ -1,6 +1,6 @@
 -- Lists that are written, in one part or in two, and how many items they have at most.
 use Rattle.std.proofs.Common.{◌≡◌, ◌∙◌, ◌+◌, ℕ, List, [], ◌∷◌, ◌++◌, length, length-append, slice_set, ap, sym, arith, drop, zero, suc, map, Some, None, true, refl, ◌<◌, ◌≤◌, Bool, false, Option, length-drop, inl, inr, ◌-◌, ◌/◌, ◌==◌, min, nat_lt, if◌then◌else◌, filter_map}
-use Rattle.acpi_base.proofs.FromStd.{append-nil, length-map, length-filter, count_by-le-length, nat_tests}
+use Rattle.acpi_base.proofs.FromStd.{append-nil, length-map}
 use Rattle.acpi_c_lib.specs.Words.{Writes, put_from, MadtItem, listed, plain_grammar, GtFrame, frame_record, frames_in, frames_of, frames_shown, watchdog_in, watchdogs_shown}
 use Rattle.std.proofs.Math.Nat.{div-le_self, min-le_right}
 use Rattle.acpi.proofs.First.{filter_map_few}

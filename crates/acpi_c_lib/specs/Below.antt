@@ -1,5 +1,5 @@
 -- The tables that a caller names.
-use Rattle.std.specs.Prelude.{ℕ, ◌*◌, ◌==◌, List, drop, Option, None, Result, Ok, Err, if◌then◌else◌, option_map, unwrap_or}
+use Rattle.std.specs.Prelude.{ℕ, ◌*◌, ◌==◌, List, drop, Option, Result, Ok, Err, if◌then◌else◌, option_map, unwrap_or}
 use Rattle.acpi_base.specs.FromStd.{result_ok}
 use Rattle.acpi_base.specs.Words.{Memory, ◌>>=◌, Kind, holds}
 pub use Rattle.acpi_base.specs.declared.error.AcpiError.{AcpiError}

@@ -1,11 +1,11 @@
 -- What is looked up in a table that is whole is found without an error.
-use Rattle.std.proofs.Common.{◌≡◌, ◌==◌, ◌&&◌, ◌||◌, not, ℕ, Bool, true, false, cond, List, [], ◌∷◌, Option, Some, None, Ok, Err, refl, subst, ap, sym, ◌∙◌, arith, find, filter_map, option_map, slice_get, is_some, if◌then◌else◌, Result}
+use Rattle.std.proofs.Common.{◌≡◌, ◌==◌, ◌&&◌, ◌||◌, not, ℕ, Bool, true, false, List, [], ◌∷◌, Option, Some, None, Ok, Err, refl, subst, ap, sym, ◌∙◌, arith, find, filter_map, option_map, slice_get, is_some, if◌then◌else◌, Result}
 use Rattle.acpi_base.specs.FromStd.{list_all, list_any, option_or}
 use Rattle.acpi_base.proofs.FromStd.{and_parts, nat_tests}
 use Rattle.acpi_base.specs.Words.{is_left}
 use Rattle.acpi_iommu.specs.DmarUnits as dmar
 use Rattle.acpi_iommu.specs.IvrsUnits as ivrs
-use Rattle.acpi_iommu.specs.Words.{Hop, InvalidStructureLength, IommuError, best_kind, block_for, blocks_cut, blocks_of, cut_of, drhd_at, drhd_in, find_block, find_source, find_unit, first_sure, has_whole_entries, has_whole_scopes, includes_pci_all, is_ivhd_of, is_named, is_unit_of, kind_of, names_device, source_in, source_of, structures_of, unit_for, unit_in, unit_of_others, unit_that_names}
+use Rattle.acpi_iommu.specs.Words.{Hop, InvalidStructureLength, IommuError, best_kind, block_for, blocks_cut, blocks_of, cut_of, drhd_at, drhd_in, find_block, find_source, find_unit, first_sure, has_whole_entries, has_whole_scopes, includes_pci_all, is_ivhd_of, is_named, is_unit_of, kind_of, names_device, source_in, source_of, structures_of, unit_for, unit_in}
 
 -- a piece that says nothing, and is sure to, is passed over
 pub passed : {A : Type 0} (says : List ℕ → Option A) (is_sure : List ℕ → Bool) (p : List ℕ) (all ps : List (List ℕ))

@@ -1,6 +1,6 @@
 -- What is read of bytes is also read of them if more bytes follow.
-use Rattle.std.proofs.Common.{◌≡◌, ℕ, zero, suc, ◌+◌, ◌-◌, ◌*◌, ◌/◌, ◌%◌, ◌<◌, ◌≤◌, ◌⊎◌, inl, inr, Bool, true, false, cond, List, [], ◌∷◌, ◌++◌, length, take, drop, Option, Some, None, Result, Ok, Err, refl, sym, ap, ◌∙◌, arith, leb, eqb, ok_or}
-use Rattle.std.specs.Prelude.{◌==◌, ◌&&◌, nat_le, nat_lt, is_none, slice_get, slice_index, not}
+use Rattle.std.proofs.Common.{◌≡◌, ℕ, zero, suc, ◌+◌, ◌-◌, ◌*◌, ◌/◌, ◌%◌, ◌<◌, ◌≤◌, Bool, true, false, cond, List, [], ◌∷◌, ◌++◌, length, take, drop, Option, Some, None, Result, Ok, Err, refl, sym, ap, ◌∙◌, arith, leb, eqb, ok_or}
+use Rattle.std.specs.Prelude.{◌==◌, ◌&&◌, nat_le, nat_lt, slice_get, slice_index, not}
 use Rattle.std.specs.List.{position, prefix_len, take_while}
 use Rattle.std.specs.Option.{option_or}
 use Rattle.std.proofs.Math.ListN.{get_or-append}
@@ -9,8 +9,8 @@ use Rattle.std.proofs.lemmas.List.{drop-append-le, take-append-le, length-append
 use Rattle.std.proofs.lemmas.List.Folds.{length-prefix_len}
 use Rattle.std.proofs.lemmas.Option.{slice_get_within}
 use Rattle.acpi_base.proofs.Words.{bind_ok, holds_ok, same_ok}
-use Rattle.acpi_base.specs.Words.{field_of, number, ◌>>=◌, holds}
-use Rattle.acpi_sleep.specs.Words.{Absent, AmlError, Block, Found, Name, NotPackage, NotSeen, NothingBehindMatters, On, Part, PastEnd, Place, SleepAnswer, SleepTypes, Step, Types, UnknownTerm, Unseen, alias_at, answer_past, argument_end, arguments_end, begins_name, block_at, block_end, byte_at, bytes_end, carets, elements_at, first_place, integer_width, is_conditional, is_lead, is_letter, is_operator, is_root, is_single, is_state, many_at, method_at, name_at, name_end, name_of, named_at, object_at, opcode_at, operand_end, other_end, package_size, part_end, parts_end, parts_of, passed_at, path_at, scope_at, segment_end, segments_end, sleep_types_of, state_code, step_at, text_end, types_at, walked}
+use Rattle.acpi_base.specs.Words.{field_of, number, ◌>>=◌}
+use Rattle.acpi_sleep.specs.Words.{AmlError, Block, Found, Name, NothingBehindMatters, On, Part, PastEnd, Place, SleepAnswer, SleepTypes, Step, Types, UnknownTerm, Unseen, alias_at, answer_past, argument_end, arguments_end, begins_name, block_at, block_end, byte_at, bytes_end, carets, first_place, integer_width, is_lead, is_letter, is_operator, is_single, is_state, many_at, method_at, name_at, name_end, name_of, named_at, object_at, opcode_at, operand_end, other_end, package_size, part_end, parts_end, parts_of, passed_at, path_at, scope_at, segment_end, segments_end, sleep_types_of, state_code, step_at, text_end, types_at, walked}
 use Rattle.acpi_sleep.specs.declared.term.Opcode.{Opcode}
 use Rattle.acpi_sleep.specs.declared.term.Part.TheVariants as part
 

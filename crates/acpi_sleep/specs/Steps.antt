@@ -13,7 +13,6 @@ use Rattle.acpi_sleep.specs.declared.error.AmlError.TheVariants.{NestedScope, Un
 use Rattle.acpi_sleep.specs.declared.name.Name.{Name}
 use Rattle.acpi_sleep.specs.declared.sleep.SleepAnswer.{SleepAnswer}
 use Rattle.acpi_sleep.specs.declared.sleep.SleepAnswer.TheVariants.{Absent, NotSeen, Types}
-use Rattle.acpi_sleep.specs.declared.sleep.SleepTypes.{SleepTypes}
 use Rattle.acpi_sleep.specs.declared.step.Place.{Place}
 use Rattle.acpi_sleep.specs.declared.step.Step.{Step}
 use Rattle.acpi_sleep.specs.declared.step.Step.TheVariants.{Found, On, Unseen}

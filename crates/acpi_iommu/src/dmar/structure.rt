@@ -117,7 +117,11 @@ impl<'a> DmarStructure<'a> {
         ensures { result ≡ (if kind_of (structure_bytes self.now) == 0
             then Some (drhd_at (structure_bytes self.now)) else None) }
     {
-        if self.kind() == 0 { Some(Drhd::read(self.bytes)) } else { None }
+        if self.kind() == 0 {
+            Some(Drhd::read(self.bytes))
+        } else {
+            None
+        }
     }
 
     /// The unit, if it is one of a segment.

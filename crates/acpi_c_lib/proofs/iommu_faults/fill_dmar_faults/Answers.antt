@@ -1,5 +1,5 @@
 use Rattle.std.proofs.Common.{◌≡◌, ◌∙◌, ◌<◌, sym, refl, ap, arith, length, length-drop, slice_set}
-use Rattle.acpi_base.proofs.FromStd.{common_steps, nat_tests}
+use Rattle.acpi_base.proofs.FromStd.{common_steps}
 use Rattle.acpi_iommu.proofs.Cuts.{structure_is, stuck_rest}
 use Rattle.acpi_iommu.specs.Words.{bytes_left, cut_of, kind_of, rest_left, structure_fault, structure_size, structures_left, structures_of}
 use Rattle.acpi_c_lib.specs.Types.{InvalidStructureLength}

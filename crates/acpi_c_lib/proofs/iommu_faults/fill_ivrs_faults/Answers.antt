@@ -1,5 +1,5 @@
 use Rattle.std.proofs.Common.{◌≡◌, ◌∙◌, ◌<◌, sym, refl, ap, arith, length, length-drop, slice_set}
-use Rattle.acpi_base.proofs.FromStd.{common_steps, nat_tests}
+use Rattle.acpi_base.proofs.FromStd.{common_steps}
 use Rattle.acpi_iommu.proofs.Cuts.{block_is, stuck_rest}
 use Rattle.acpi_iommu.specs.Ivrs.{rest_left}
 use Rattle.acpi_iommu.specs.Words.{block_fault, block_kind, block_size, blocks_cut, blocks_left, blocks_of, bytes_left}

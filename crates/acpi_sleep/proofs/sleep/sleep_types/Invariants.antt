@@ -1,4 +1,4 @@
-use Rattle.std.proofs.Common.{◌-◌, ◌≤◌, length}
+use Rattle.std.proofs.Common.{◌-◌, length}
 use Rattle.acpi_sleep.proofs.Walks.{Finds}
 use Rattle.acpi_sleep.specs.Words.{IsInside, IsReached}
 use Rattle.acpi_sleep.proofs.sleep.sleep_types.Given as goal
