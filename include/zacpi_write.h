@@ -1,0 +1,257 @@
+/* SPDX-License-Identifier: MIT */
+/* The tables that are written: a part of zacpi.h, which includes this file. */
+#ifndef ZACPI_WRITE_H
+#define ZACPI_WRITE_H
+
+/* Tables that are written ---------------------------------------------------------------------- */
+
+/* Each call writes one table to the front of `out`, which has `capacity` bytes, and its length to
+ * `length`; the rest of `out` is left as it is. The calls above then read what was passed, unless a
+ * comment has otherwise. */
+
+struct zacpi_table_ids { /* section 5.2.6. Names are filled up with spaces or zeros */
+    uint8_t oem_id[6], oem_table_id[8];
+    uint32_t oem_revision;
+    uint8_t creator_id[4];
+    uint32_t creator_revision;
+};
+struct zacpi_madt_contents {
+    const struct zacpi_processor *processors; /* the first is the boot processor; is_boot and
+                                               * is_x2apic aren't looked at; enabled unless the
+                                               * state is ZACPI_PROCESSOR_DISABLED */
+    size_t processors_length;
+    const struct zacpi_io_apic *io_apics;
+    size_t io_apics_length;
+    const struct zacpi_interrupt_source_override *overrides; /* bus isn't looked at: 0 is written */
+    size_t overrides_length;
+    const struct zacpi_nmi_source *nmi_sources;
+    size_t nmi_sources_length;
+    const struct zacpi_nmi_line *nmi_lines; /* polarity and trigger aren't looked at: 0 is written.
+                                             * Nor is processor_uid if of_all isn't 0 */
+    size_t nmi_lines_length;
+    uint64_t local_apic_address;
+    uint64_t wakeup_mailbox; /* MailBoxAddress (section 5.2.12.19), if has_wakeup_mailbox */
+    uint8_t also_has_8259;   /* PCAT_COMPAT */
+    uint8_t has_wakeup_mailbox;
+};
+struct zacpi_gic_contents {
+    struct zacpi_gic_distributor distributor;
+    const struct zacpi_gic_cpu_interface *cpu_interfaces; /* the first is the boot processor */
+    size_t cpu_interfaces_length;
+    const struct zacpi_range *redistributors;
+    size_t redistributors_length;
+    const struct zacpi_gic_translation_service *translation_services;
+    size_t translation_services_length;
+    const struct zacpi_gic_msi_frame *msi_frames; /* spi_base and spi_count aren't looked at if
+                                                   * has_spis is 0 */
+    size_t msi_frames_length;
+};
+struct zacpi_riscv_contents {
+    const struct zacpi_rintc *rintcs;
+    size_t rintcs_length;
+    const struct zacpi_imsic *imsics;
+    size_t imsics_length;
+    const struct zacpi_aplic *aplics;
+    size_t aplics_length;
+    const struct zacpi_plic *plics;
+    size_t plics_length;
+};
+struct zacpi_apic_domain { /* sections 5.2.16.1 and 5.2.16.3 */
+    uint32_t local_apic_id; /* APIC ID or X2APIC ID */
+    uint32_t domain;
+};
+struct zacpi_gicc_domain { /* section 5.2.16.4 */
+    uint32_t processor_uid, domain;
+};
+struct zacpi_srat_contents {
+    const struct zacpi_apic_domain *apics;
+    size_t apics_length;
+    const struct zacpi_gicc_domain *giccs;
+    size_t giccs_length;
+    const struct zacpi_memory_affinity *ranges;
+    size_t ranges_length;
+};
+struct zacpi_spcr_contents {
+    struct zacpi_console console;
+    uint8_t interrupt_controllers; /* bits 1 to 4 of Interrupt Type: 2 an I/O APIC, 4 an I/O SAPIC,
+                                    * 8 a GIC, 16 a PLIC or an APLIC, or a sum of these, if
+                                    * has_global_system_interrupt */
+    uint8_t flow_control, terminal_type;
+};
+struct zacpi_platform_timer { /* section 5.2.24.1: a GT Block or a watchdog */
+    uint32_t kind;                       /* 0: the block. 1: the watchdog. The other isn't looked
+                                          * at */
+    uint64_t block_address;
+    const struct zacpi_gt_frame *frames; /* block_address isn't looked at */
+    size_t frames_length;
+    struct zacpi_watchdog watchdog;
+};
+struct zacpi_gtdt_contents {
+    struct zacpi_arm_timers timers;
+    const struct zacpi_platform_timer *platform_timers;
+    size_t platform_timers_length;
+};
+struct zacpi_facs_contents { /* section 5.2.10 */
+    uint64_t waking_vector_64; /* X_Firmware_Waking_Vector */
+    uint32_t hardware_signature, waking_vector;
+    uint8_t supports_s4bios, supports_64_bit_wake;
+};
+
+/* Writes an RSDP of revision 2 that points to an XSDT (section 5.2.5.3): 36 bytes. Of `ids` it has
+ * OEMID alone. Fails with ZACPI_NO_ADDRESS if `xsdt` is 0, ZACPI_BAD_NAME or ZACPI_NO_ROOM. */
+ZACPI_STATUS zacpi_write_rsdp(const struct zacpi_table_ids *ids, uint64_t xsdt, uint8_t *out,
+                              size_t capacity, size_t *length);
+/* Write an RSDT, and an XSDT, of these addresses, in order, also of 0 (sections 5.2.7 and 5.2.8).
+ * Fail with ZACPI_BAD_NAME, ZACPI_NO_ROOM or ZACPI_TOO_LONG. */
+ZACPI_STATUS zacpi_write_rsdt(const struct zacpi_table_ids *ids, const uint32_t *addresses,
+                              size_t addresses_length, uint8_t *out, size_t capacity,
+                              size_t *length);
+ZACPI_STATUS zacpi_write_xsdt(const struct zacpi_table_ids *ids, const uint64_t *addresses,
+                              size_t addresses_length, uint8_t *out, size_t capacity,
+                              size_t *length);
+/* Write a DSDT, and an SSDT, of these bytes of AML, whose integers have 32 bits by a revision of 1,
+ * 64 by 2 (section 5.2.11). Fail with ZACPI_BAD_NAME, ZACPI_NO_ROOM or ZACPI_TOO_LONG. */
+ZACPI_STATUS zacpi_write_dsdt(const struct zacpi_table_ids *ids, uint8_t revision,
+                              const uint8_t *aml, size_t aml_length, uint8_t *out, size_t capacity,
+                              size_t *length);
+ZACPI_STATUS zacpi_write_ssdt(const struct zacpi_table_ids *ids, uint8_t revision,
+                              const uint8_t *aml, size_t aml_length, uint8_t *out, size_t capacity,
+                              size_t *length);
+/* Writes a table of any signature and revision: a header (section 5.2.6) and these bytes. Fails
+ * with ZACPI_BAD_NAME, ZACPI_NO_ROOM or ZACPI_TOO_LONG. */
+ZACPI_STATUS zacpi_write_table(const struct zacpi_table_ids *ids, struct zacpi_signature wanted,
+                               uint8_t revision, const uint8_t *body, size_t body_length,
+                               uint8_t *out, size_t capacity, size_t *length);
+/* Writes a MADT of revision 5 (section 5.2.12): its entries sort by sort in the order of the lists,
+ * the mailbox last. An address of 2^32 or above is in a Local APIC Address Override after the
+ * processors, with 0 in Local Interrupt Controller Address. Processors whose uid and id are below
+ * 255 are Processor Local APICs, others Processor Local x2APICs; lines of a uid of 255 or above are
+ * Local x2APIC NMIs, others Local APIC NMIs. Fails with ZACPI_UNKNOWN_CODE, ZACPI_NO_PROCESSOR,
+ * ZACPI_ID_OF_ALL, ZACPI_UID_OF_ALL, ZACPI_BAD_NAME, ZACPI_NO_ROOM or ZACPI_TOO_LONG. */
+ZACPI_STATUS zacpi_write_madt(const struct zacpi_table_ids *ids,
+                              const struct zacpi_madt_contents *contents, uint8_t *out,
+                              size_t capacity, size_t *length);
+/* Writes a MADT of revision 6 of an Arm machine (sections 5.2.12.14 to 5.2.12.18): the distributor,
+ * and the lists in their order. A GICC has 82 bytes, or 80 if trace_buffer_interrupt is 0. Fails
+ * with ZACPI_UNKNOWN_CODE, ZACPI_BAD_RANGE, ZACPI_NO_PROCESSOR, ZACPI_SAME_AS_BUS if a trigger is
+ * 0, ZACPI_BAD_NAME, ZACPI_NO_ROOM or ZACPI_TOO_LONG. */
+ZACPI_STATUS zacpi_write_gic_madt(const struct zacpi_table_ids *ids,
+                                  const struct zacpi_gic_contents *contents, uint8_t *out,
+                                  size_t capacity, size_t *length);
+/* Writes a MADT of revision 7 of a RISC-V machine (ACPI 6.6, section 5.2.12): the lists in their
+ * order, a RINTC with 36 bytes. Fails with ZACPI_NO_PROCESSOR, ZACPI_BAD_NAME, ZACPI_NO_ROOM or
+ * ZACPI_TOO_LONG. */
+ZACPI_STATUS zacpi_write_riscv_madt(const struct zacpi_table_ids *ids,
+                                    const struct zacpi_riscv_contents *contents, uint8_t *out,
+                                    size_t capacity, size_t *length);
+/* Writes an MCFG of these regions, in order (PCI Firmware Specification, section 4.1.2). Fails with
+ * ZACPI_BAD_NAME, ZACPI_NO_ROOM or ZACPI_TOO_LONG. */
+ZACPI_STATUS zacpi_write_mcfg(const struct zacpi_table_ids *ids,
+                              const struct zacpi_pci_region *regions, size_t regions_length,
+                              uint8_t *out, size_t capacity, size_t *length);
+/* Writes an HPET of revision 1 (IA-PC HPET Specification), with registers in memory of a Register
+ * Bit Width of 0. A page_protection above 3 is written as 3. Fails with ZACPI_BAD_NAME or
+ * ZACPI_NO_ROOM. */
+ZACPI_STATUS zacpi_write_hpet(const struct zacpi_table_ids *ids, const struct zacpi_hpet_info *info,
+                              uint8_t *out, size_t capacity, size_t *length);
+/* Writes a SLIT (section 5.2.17) of `localities` times `localities` distances, those from locality
+ * 0 first. Fails with ZACPI_BAD_MATRIX if there are more or fewer, ZACPI_BAD_NAME, ZACPI_NO_ROOM or
+ * ZACPI_TOO_LONG. */
+ZACPI_STATUS zacpi_write_slit(const struct zacpi_table_ids *ids, uint64_t localities,
+                              const uint8_t *distances, size_t distances_length, uint8_t *out,
+                              size_t capacity, size_t *length);
+/* Writes a SRAT of revision 3 (section 5.2.16): its entries sort by sort, all enabled, of a Clock
+ * Domain of 0. Processors whose APIC id is below 255 have a Processor Local APIC/SAPIC Affinity,
+ * others a Processor Local x2APIC Affinity. Fails with ZACPI_ID_OF_ALL, ZACPI_BAD_RANGE,
+ * ZACPI_BAD_NAME, ZACPI_NO_ROOM or ZACPI_TOO_LONG. */
+ZACPI_STATUS zacpi_write_srat(const struct zacpi_table_ids *ids,
+                              const struct zacpi_srat_contents *contents, uint8_t *out,
+                              size_t capacity, size_t *length);
+/* Writes a BGRT of revision 1, 56 bytes (section 5.2.22). Fails with ZACPI_UNKNOWN_CODE if
+ * `orientation` is none of its numbers, or image_type isn't 0, ZACPI_BAD_NAME or ZACPI_NO_ROOM. */
+ZACPI_STATUS zacpi_write_bgrt(const struct zacpi_table_ids *ids,
+                              const struct zacpi_boot_graphic *graphic, uint8_t *out,
+                              size_t capacity, size_t *length);
+/* Writes an SPCR of revision 4, 90 bytes, with a Language of 0, the NamespaceString "." of a port
+ * with no object, and in Configured Baud Rate the rate's code, or 0 if it has none. A base, an
+ * interrupt or a rate that isn't there is written as 0 and not looked at; reserved codes of
+ * `interface`, `parity` and stop_bits are written. Fails with ZACPI_UNKNOWN_CODE, ZACPI_NO_ADDRESS
+ * if `base` is present at address 0, ZACPI_BAD_NAME or ZACPI_NO_ROOM. */
+ZACPI_STATUS zacpi_write_spcr(const struct zacpi_table_ids *ids,
+                              const struct zacpi_spcr_contents *contents, uint8_t *out,
+                              size_t capacity, size_t *length);
+/* Writes a GTDT of revision 3 (section 5.2.24): 104 bytes, 28 for each watchdog, 20 for each GT
+ * Block, and 40 for each frame, in order, with a Platform Timer Offset of 104. A virtual_el2 that
+ * isn't present is written as zeros, and read as present; `present` of other timers and
+ * platform_timers_malformed aren't looked at. Fails with ZACPI_UNKNOWN_CODE, timer after timer with
+ * ZACPI_TOO_MANY_FRAMES (above 1637) or ZACPI_SAME_AS_BUS, then with ZACPI_BAD_NAME, ZACPI_NO_ROOM
+ * or ZACPI_TOO_LONG. */
+ZACPI_STATUS zacpi_write_gtdt(const struct zacpi_table_ids *ids,
+                              const struct zacpi_gtdt_contents *contents, uint8_t *out,
+                              size_t capacity, size_t *length);
+/* Returns what the FADT of a guest without fixed hardware has, but for dsdt_address. */
+static inline struct zacpi_fixed_hardware zacpi_fadt_reduced(void) {
+    struct zacpi_fixed_hardware fadt;
+    size_t i;
+    for (i = 0; i < sizeof fadt; i++) ((uint8_t *)&fadt)[i] = 0;
+    fadt.flags = ZACPI_FADT_HW_REDUCED_ACPI;
+    fadt.c2_latency = 101, fadt.c3_latency = 1001; /* neither C2 nor C3 */
+    return fadt;
+}
+/* Writes a FADT of version 6.4, 276 bytes (section 5.2.9). An address or a block is in its X_
+ * field, and in its field of 32 bits if it fits, a block if it is one of ports; a length in bytes
+ * is the whole bytes of bit_width, and X_GPEn_BLK of 32 bytes or more has a width of 255. A
+ * register is there by `present` 1 and an address that isn't 0, pm1a unless the hardware is
+ * reduced, and the reset by ZACPI_FADT_RESET_REG_SUP. What isn't there, and reduced fixed hardware,
+ * is written as 0 and not looked at, nor are `gpe0`, `gpe1`, the last three fields and reserved
+ * flags; sleep registers are read as present. Fails with ZACPI_UNKNOWN_CODE, ZACPI_NO_ADDRESS if
+ * dsdt_address is 0, ZACPI_BAD_REGISTER, ZACPI_BAD_NAME or ZACPI_NO_ROOM. */
+ZACPI_STATUS zacpi_write_fadt(const struct zacpi_table_ids *ids,
+                              const struct zacpi_fixed_hardware *fadt, uint8_t *out,
+                              size_t capacity, size_t *length);
+/* Writes a FACS of version 2, 64 bytes, with a Global Lock of 0 (section 5.2.10). Fails with
+ * ZACPI_NO_ROOM. */
+ZACPI_STATUS zacpi_write_facs(const struct zacpi_facs_contents *contents, uint8_t *out,
+                              size_t capacity, size_t *length);
+
+/* A whole machine that is written -------------------------------------------------------------- */
+
+struct zacpi_aml_contents {
+    const uint8_t *aml;
+    size_t aml_length;
+    uint8_t revision;
+};
+struct zacpi_listed_table { /* a whole table, whoever wrote it */
+    const uint8_t *bytes;
+    size_t length;
+};
+struct zacpi_machine {
+    struct zacpi_table_ids ids;
+    const struct zacpi_listed_table *tables; /* in the order of the XSDT */
+    size_t tables_length;
+    const struct zacpi_aml_contents *dsdts;  /* the first is the DSDT, if there is one */
+    size_t dsdts_length;
+    const struct zacpi_facs_contents *facs;  /* the first is the FACS, if there is one */
+    size_t facs_length;
+};
+
+/* Writes all tables of a machine, for memory from `address` on: the RSDP, after 48 bytes the XSDT,
+ * the DSDT, 128 bytes with the FACS at their first multiple of 64, and the listed tables in order,
+ * each table at a multiple of 16 and filled up with zeros to the next. Fails with ZACPI_BAD_TABLE
+ * if a listed one has fewer than 36 bytes, a Length that isn't theirs, or a sum that isn't 0,
+ * ZACPI_BAD_NAME, ZACPI_TOO_LONG, ZACPI_NO_ROOM, or ZACPI_NO_ADDRESS if `address` is 0 or no
+ * multiple of 16, or the memory ends at 2^64 or above. */
+ZACPI_STATUS zacpi_write_tables(const struct zacpi_machine *machine, uint64_t address, uint8_t *out,
+                                size_t capacity, size_t *length);
+/* Writes what zacpi_write_tables writes after the RSDP's 48 bytes, with the XSDT at `address`.
+ * Fails with ZACPI_BAD_TABLE, ZACPI_BAD_NAME, ZACPI_TOO_LONG, ZACPI_NO_ROOM or ZACPI_NO_ADDRESS. */
+ZACPI_STATUS zacpi_write_tables_without_rsdp(const struct zacpi_machine *machine, uint64_t address,
+                                             uint8_t *out, size_t capacity, size_t *length);
+/* Returns how many bytes zacpi_write_tables writes. Fails with ZACPI_BAD_TABLE, ZACPI_BAD_NAME or
+ * ZACPI_TOO_LONG. */
+ZACPI_STATUS zacpi_tables_size(const struct zacpi_machine *machine, size_t *length);
+/* Returns where zacpi_write_tables lays the DSDT for this address and so many listed tables. Fails
+ * with ZACPI_NO_ADDRESS if that is 2^64 or above, or an XSDT can't list so many. */
+ZACPI_STATUS zacpi_dsdt_address(uint64_t address, size_t tables_length, uint64_t *out);
+
+#endif
