@@ -51,6 +51,15 @@ static inline struct zacpi_riscv_contents zacpi_riscv_contents_kept(const struct
     return kept;
 }
 
+static inline struct zacpi_rhct_contents zacpi_rhct_contents_kept(const struct zacpi_rhct_contents *given) {
+    struct zacpi_rhct_contents kept = *given;
+    if (!kept.isa_length)
+        kept.isa = (const uint8_t *)ZACPI_NOTHING;
+    if (!kept.harts_length)
+        kept.harts = (const uint32_t *)ZACPI_NOTHING;
+    return kept;
+}
+
 static inline struct zacpi_srat_contents zacpi_srat_contents_kept(const struct zacpi_srat_contents *given) {
     struct zacpi_srat_contents kept = *given;
     if (!kept.apics_length)
@@ -1116,6 +1125,18 @@ ZACPI_STATUS zacpi_write_riscv_madt(const struct zacpi_table_ids *ids,
     const struct zacpi_riscv_contents kept_contents = zacpi_riscv_contents_kept(contents);
     return zacpi_1_write_riscv_madt(ids, &kept_contents, capacity ? out : (uint8_t *)ZACPI_NOTHING,
                                     capacity, length);
+}
+
+zacpi_status zacpi_1_write_rhct(const struct zacpi_table_ids *ids,
+                                const struct zacpi_rhct_contents *contents, uint8_t *out,
+                                size_t capacity, size_t *length);
+ZACPI_NONNULL((1, 2, 5))
+ZACPI_STATUS zacpi_write_rhct(const struct zacpi_table_ids *ids,
+                              const struct zacpi_rhct_contents *contents, uint8_t *out,
+                              size_t capacity, size_t *length) {
+    const struct zacpi_rhct_contents kept_contents = zacpi_rhct_contents_kept(contents);
+    return zacpi_1_write_rhct(ids, &kept_contents, capacity ? out : (uint8_t *)ZACPI_NOTHING,
+                              capacity, length);
 }
 
 zacpi_status zacpi_1_write_mcfg(const struct zacpi_table_ids *ids,

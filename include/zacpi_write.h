@@ -56,6 +56,14 @@ struct zacpi_riscv_contents {
     const struct zacpi_plic *plics;
     size_t plics_length;
 };
+struct zacpi_rhct_contents { /* RISC-V Hart Capabilities Table, ACPI 6.6 */
+    const uint8_t *isa;     /* the ISA string of all harts, as rv64imafdc, without a zero at its end */
+    size_t isa_length;
+    const uint32_t *harts;  /* ACPI Processor UID of each */
+    size_t harts_length;
+    uint64_t time_base_frequency;
+    uint32_t flags;         /* bit 0: the timer can't wake the processor */
+};
 struct zacpi_apic_domain { /* sections 5.2.16.1 and 5.2.16.3 */
     uint32_t local_apic_id; /* APIC ID or X2APIC ID */
     uint32_t domain;
@@ -144,6 +152,13 @@ ZACPI_STATUS zacpi_write_gic_madt(const struct zacpi_table_ids *ids,
 ZACPI_STATUS zacpi_write_riscv_madt(const struct zacpi_table_ids *ids,
                                     const struct zacpi_riscv_contents *contents, uint8_t *out,
                                     size_t capacity, size_t *length);
+/* Writes an RHCT of revision 1 (ACPI 6.6): an ISA String Node, whose string is filled up with one or
+ * two zeros to an even length, and for each hart a Hart Info Node of it. Fails with
+ * ZACPI_NO_PROCESSOR, ZACPI_TOO_LONG if isa_length is above 65525, ZACPI_BAD_NAME, ZACPI_NO_ROOM or
+ * ZACPI_TOO_LONG. */
+ZACPI_STATUS zacpi_write_rhct(const struct zacpi_table_ids *ids,
+                              const struct zacpi_rhct_contents *contents, uint8_t *out,
+                              size_t capacity, size_t *length);
 /* Writes an MCFG of these regions, in order (PCI Firmware Specification, section 4.1.2). Fails with
  * ZACPI_BAD_NAME, ZACPI_NO_ROOM or ZACPI_TOO_LONG. */
 ZACPI_STATUS zacpi_write_mcfg(const struct zacpi_table_ids *ids,

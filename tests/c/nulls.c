@@ -35,6 +35,7 @@ static void write_nothing(void) {
     const struct zacpi_srat_contents srat = {.apics = NULL};
     const struct zacpi_gic_contents gic = {.distributor = {.address = 0x1000}};
     const struct zacpi_riscv_contents riscv = {.rintcs = NULL};
+    const struct zacpi_rhct_contents rhct = {.isa = NULL};
     const struct zacpi_madt_contents madt = {.also_has_8259 = 1};
     const struct zacpi_gtdt_contents gtdt = {.platform_timers = NULL};
     struct zacpi_fixed_hardware fadt = zacpi_fadt_reduced();
@@ -50,6 +51,7 @@ static void write_nothing(void) {
     EXPECT(!zacpi_write_ssdt(&ids, 2, NULL, 0, table, sizeof table, &length) && length == 36);
     EXPECT(zacpi_write_madt(&ids, &madt, table, sizeof table, &length) == ZACPI_NO_PROCESSOR);
     EXPECT(zacpi_write_gic_madt(&ids, &gic, table, sizeof table, &length) == ZACPI_NO_PROCESSOR);
+    EXPECT(zacpi_write_rhct(&ids, &rhct, table, sizeof table, &length) == ZACPI_NO_PROCESSOR);
     EXPECT(zacpi_write_riscv_madt(&ids, &riscv, table, sizeof table, &length) == ZACPI_NO_PROCESSOR);
     EXPECT(zacpi_write_gtdt(&ids, &gtdt, table, sizeof table, &length) == ZACPI_SAME_AS_BUS);
 }

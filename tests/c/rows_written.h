@@ -293,6 +293,10 @@ WRITE(no_interface, gic_madt, &gic_without_processor)
 WRITE(long_range, gic_madt, &gic_of_long_range)
 WRITE(a_riscv_madt, riscv_madt, &whole_riscv)
 WRITE(no_hart, riscv_madt, &riscv_without_hart)
+WRITE(an_rhct, rhct, &whole_rhct)
+WRITE(an_rhct_without_isa, rhct, &rhct_without_isa)
+WRITE(an_rhct_without_hart, rhct, &rhct_without_hart)
+WRITE(an_rhct_of_long_isa, rhct, &rhct_of_long_isa)
 WRITE(a_fadt, fadt, &pc_fadt)
 WRITE(a_reduced_fadt, fadt, &reduced_fadt)
 WRITE(a_reset_fadt, fadt, &reset_fadt)
@@ -366,7 +370,9 @@ static const struct written_row {
     NOT_WRITTEN(a_gtdt_as_the_bus, ZACPI_SAME_AS_BUS),
     WRITTEN(a_gic, gic_bytes), WRITTEN(a_small_gic, small_gic_bytes),
     NOT_WRITTEN(no_interface, ZACPI_NO_PROCESSOR), NOT_WRITTEN(long_range, ZACPI_BAD_RANGE),
-    WRITTEN(a_riscv_madt, riscv_bytes), NOT_WRITTEN(no_hart, ZACPI_NO_PROCESSOR)};
+    WRITTEN(a_riscv_madt, riscv_bytes), NOT_WRITTEN(no_hart, ZACPI_NO_PROCESSOR),
+    WRITTEN(an_rhct, rhct_bytes), WRITTEN(an_rhct_without_isa, rhct_of_no_isa_bytes),
+    NOT_WRITTEN(an_rhct_without_hart, ZACPI_NO_PROCESSOR), NOT_WRITTEN(an_rhct_of_long_isa, ZACPI_TOO_LONG)};
 
 static void check_written(const struct written_row *row, size_t room, zacpi_status status) {
     size_t length = UNCOUNTED, i, size = status ? 0 : row->length;

@@ -1,7 +1,7 @@
 //! The harts and interrupt controllers of a RISC-V machine.
 mod common;
 use common::{Memory, ROOT};
-use zacpi::write::{RiscvMadt, TableIds, WriteError};
+use zacpi::write::{Rhct, RiscvMadt, TableIds, WriteError};
 use zacpi::{AcpiError, Region, Signature, Slot, Start};
 
 const TABLE: u64 = ROOT + 0x1000;
@@ -99,4 +99,16 @@ fn writes_what_is_read() {
         madt.rintcs = &[];
         assert_eq!(madt.write(&mut bytes), Err(WriteError::NoProcessor));
     });
+}
+
+/// An ISA String Node at 56, and a Hart Info Node of it for each hart.
+#[test]
+fn writes_hart_capabilities() {
+    let mut bytes = [0; 128];
+    let rhct = Rhct::new(TableIds::default(), "rv64i", &[7, 8], 10_000_000);
+    assert_eq!((rhct.size(), rhct.write(&mut bytes)), (102, Ok(102)));
+    assert_eq!(bytes[40..48], 10_000_000u64.to_le_bytes());
+    assert_eq!(bytes[56..70], *b"\0\0\x0e\0\x01\0\x06\0rv64i\0");
+    assert_eq!(bytes[86..102], [255, 255, 16, 0, 1, 0, 1, 0, 8, 0, 0, 0, 56, 0, 0, 0]);
+    assert_eq!(Rhct::new(TableIds::default(), "", &[], 1).write(&mut bytes), Err(WriteError::NoProcessor));
 }

@@ -24,8 +24,8 @@ use acpi_base::mcfg::McfgEntry;
 use acpi_writer::spelled::{Bytes, StandsFor};
 use acpi_writer::{TableIds, WriterError};
 pub use acpi_writer::{
-    write_dsdt, write_facs, write_riscv_madt, write_rsdp, write_rsdt, write_slit, write_ssdt,
-    write_xsdt,
+    write_dsdt, write_facs, write_rhct, write_riscv_madt, write_rsdp, write_rsdt, write_slit,
+    write_ssdt, write_xsdt,
 };
 pub use machine::{
     Contents, dsdt_place, tables_size, write_contents, write_tables, write_tables_without_rsdp,

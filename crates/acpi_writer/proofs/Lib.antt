@@ -18,3 +18,4 @@ pub mod GicRead
 pub mod GtdtStructures
 pub mod GtdtRead
 pub mod RiscvRead
+pub mod Harts

@@ -28,3 +28,4 @@ pub mod MachineLaws
 pub mod Types
 pub mod Words
 pub mod RiscvMadt
+pub mod Rhct

@@ -1,6 +1,6 @@
 //! The MADT, of a machine with APICs, of one with a GIC, and of a RISC-V machine (section 5.2.12).
 
-use super::raw::{self, records::GicContents, records::MadtContents, records::RiscvContents};
+use super::raw::{self, records::GicContents, records::MadtContents, records::RhctContents, records::RiscvContents};
 use super::{total, TableIds, WriteError};
 use crate::gic::{GicCpuInterface, GicDistributor, GicMsiFrame, GicTranslationService};
 use crate::list::Slot;
@@ -156,5 +156,40 @@ impl<'a> RiscvMadt<'a> {
     /// Writes it. Fails with `NoProcessor`, `BadName`, `NoRoom` or `TooLong`.
     pub fn write(&self, memory: &mut [u8]) -> Result<usize, WriteError> {
         raw::zacpi_1_write_riscv_madt(&self.ids, &RiscvContents::new(self), memory)
+    }
+}
+
+/// An RHCT of revision 1 of harts that all have one ISA string (ACPI 6.6).
+#[derive(Clone, Copy, Debug, Default)]
+#[non_exhaustive]
+pub struct Rhct<'a> {
+    /// Who made it.
+    pub ids: TableIds,
+    /// The ISA string, as `rv64imafdc`.
+    pub isa: &'a str,
+    /// ACPI Processor UID of each hart.
+    pub harts: &'a [u32],
+    /// Time Base Frequency: how often in a second the timer counts.
+    pub time_base_frequency: u64,
+    /// Flags: bit 0, the timer can't wake the processor.
+    pub flags: u32,
+}
+
+impl<'a> Rhct<'a> {
+    /// An RHCT of these harts.
+    pub fn new(ids: TableIds, isa: &'a str, harts: &'a [u32], time_base_frequency: u64) -> Self {
+        Rhct { ids, isa, harts, time_base_frequency, flags: 0 }
+    }
+
+    /// How many bytes [`Rhct::write`] writes.
+    pub fn size(&self) -> usize {
+        let node = 10 + self.isa.len() - self.isa.len() % 2;
+        total([56, node, self.harts.len().saturating_mul(16)].into_iter())
+    }
+
+    /// Writes it. Fails with `NoProcessor`, `TooLong` if the ISA string has more than 65525 letters, `BadName`,
+    /// `NoRoom` or `TooLong`.
+    pub fn write(&self, memory: &mut [u8]) -> Result<usize, WriteError> {
+        raw::zacpi_1_write_rhct(&self.ids, &RhctContents::new(self), memory)
     }
 }

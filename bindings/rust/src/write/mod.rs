@@ -37,7 +37,7 @@ mod raw;
 
 pub use devices::{Bgrt, Gtdt, Hpet, Mcfg, Spcr};
 pub use fadt::{Facs, Fadt};
-pub use interrupts::{GicMadt, Madt, RiscvMadt};
+pub use interrupts::{GicMadt, Madt, Rhct, RiscvMadt};
 pub use items::Written;
 pub use machine::{dsdt_address, facs_address, Machine, Room};
 pub use numa::{Slit, Srat};

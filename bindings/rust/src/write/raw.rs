@@ -6,7 +6,7 @@
 #[path = "records.rs"]
 pub(crate) mod records;
 
-use super::{GicMadt, Gtdt, Madt, RiscvMadt, Srat, WriteError};
+use super::{GicMadt, Gtdt, Madt, Rhct, RiscvMadt, Srat, WriteError};
 use crate::list::{Item, Slot};
 use crate::raw::records::{BootGraphic, FixedHardware, HpetInfo, PciRegion, Signature};
 use core::marker::PhantomData;
@@ -57,6 +57,7 @@ writes! {
     zacpi_1_write_madt(ids: &TableIds, contents: &MadtContents<'_>);
     zacpi_1_write_gic_madt(ids: &TableIds, contents: &GicContents<'_>);
     zacpi_1_write_riscv_madt(ids: &TableIds, contents: &RiscvContents<'_>);
+    zacpi_1_write_rhct(ids: &TableIds, contents: &RhctContents<'_>);
     zacpi_1_write_mcfg(ids: &TableIds; regions: PciRegion);
     zacpi_1_write_hpet(ids: &TableIds, info: &HpetInfo);
     zacpi_1_write_slit(ids: &TableIds, localities: u64; distances: u8);
@@ -157,6 +158,20 @@ impl<'a> RiscvContents<'a> {
             aplics_length: madt.aplics.len(),
             plics: madt.plics.as_ptr(),
             plics_length: madt.plics.len(),
+            lent: PhantomData,
+        }
+    }
+}
+
+impl<'a> RhctContents<'a> {
+    pub(super) fn new(rhct: &Rhct<'a>) -> Self {
+        RhctContents {
+            isa: rhct.isa.as_ptr(),
+            isa_length: rhct.isa.len(),
+            harts: rhct.harts.as_ptr(),
+            harts_length: rhct.harts.len(),
+            time_base_frequency: rhct.time_base_frequency,
+            flags: rhct.flags,
             lent: PhantomData,
         }
     }

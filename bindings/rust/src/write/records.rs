@@ -73,6 +73,8 @@ borrowing! {
         msi_frames: *const GicMsiFrame, msi_frames_length: usize, }
     RiscvContents { rintcs: *const Rintc, rintcs_length: usize, imsics: *const Imsic, imsics_length: usize,
         aplics: *const Aplic, aplics_length: usize, plics: *const Plic, plics_length: usize, }
+    RhctContents { isa: *const u8, isa_length: usize, harts: *const u32, harts_length: usize,
+        time_base_frequency: u64, flags: u32, }
     SratContents { apics: *const ApicDomain, apics_length: usize, giccs: *const GiccDomain, giccs_length: usize,
         ranges: *const MemoryAffinity, ranges_length: usize, }
     PlatformTimer { kind: u32, block_address: u64, frames: *const GtFrame, frames_length: usize, watchdog: Watchdog, }
