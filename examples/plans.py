@@ -5,8 +5,8 @@ import struct
 
 
 def sleep_type(aml, state):
-    """The first number of the package that \\_S0_ to \\_S5_ is (section 7.4.2): after its name come PackageOp, PkgLength
-    of one byte, how many elements it has, and the first, which is ZeroOp, OneOp or BytePrefix with a byte."""
+    """The first number of the package that \\_S0_ to \\_S5_ is (section 7.4.2): after its name come PackageOp,
+    PkgLength of one byte, how many elements it has, and the first, which is ZeroOp, OneOp or BytePrefix with a byte."""
     m = re.search(rb'\x08\\?_S%d_\x12[\0-\x3f].(?:([\0\1])|\x0a(.))' % state, aml, re.S)
     return (m[1] or m[2])[0] if m else None
 

@@ -270,9 +270,9 @@ impl<'k> AcpiTables<'k> {
 
     /// The entries of a table of any type, by how they are laid out.
     ///
-    /// Fails with `UnknownWidth` if Type or Length doesn't have one, two or four bytes; if the table isn't one of these tables, with the error of its address (`MapFailed`, `SdtInvalidOemId`,
-    /// `SdtInvalidTableId`, `SdtInvalidLength`, `SdtInvalidChecksum`), and with `SdtInvalidLength` if it ends before
-    /// the offset.
+    /// Fails with `UnknownWidth` if Type or Length doesn't have one, two or four bytes; if the table isn't one of these
+    /// tables, with the error of its address (`MapFailed`, `SdtInvalidOemId`, `SdtInvalidTableId`, `SdtInvalidLength`,
+    /// `SdtInvalidChecksum`), and with `SdtInvalidLength` if it ends before the offset.
     pub fn entries(&self, table: &Table, walk: Walk) -> AcpiResult<Entries<'k>> {
         Entries::new(*self, *table, walk)
     }

@@ -26,8 +26,8 @@ pub use crate::raw::records::Walk;
 use crate::raw::{self, records};
 
 impl Walk {
-    /// From an offset on, with Type at the front of each entry and then Length, of so many bytes each: of one in a MADT,
-    /// an SRAT or a PPTT, of two in a DMAR, an NFIT or an RHCT, of four in an LPIT.
+    /// From an offset on, with Type at the front of each entry and then Length, of so many bytes each: of one in a
+    /// MADT, an SRAT or a PPTT, of two in a DMAR, an NFIT or an RHCT, of four in an LPIT.
     pub const fn plain(first: u32, width: u8) -> Self {
         Walk { first, type_offset: 0, type_width: width, length_offset: width, length_width: width }
     }

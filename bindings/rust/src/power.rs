@@ -1,5 +1,5 @@
-//! What to write to enable ACPI, to put the machine to sleep, to power it off and to reset it (sections 4.8.3.2, 4.8.3.6,
-//! 4.8.3.7, 7.4.2 and 16.1). The caller writes it: the package touches no register.
+//! What to write to enable ACPI, to put the machine to sleep, to power it off and to reset it (sections 4.8.3.2,
+//! 4.8.3.6, 4.8.3.7, 7.4.2 and 16.1). The caller writes it: the package touches no register.
 //!
 //! ```
 //! use zacpi::power::StepKind;
@@ -122,8 +122,8 @@ impl<'k> AcpiTables<'k> {
         raw::zacpi_1_get_sleep_types(&self.source(), state)
     }
 
-    /// What puts the machine to sleep in the state S1 to S5 (section 16.1). An interpreter of AML runs `_TTS` and `_PTS`
-    /// before it.
+    /// What puts the machine to sleep in the state S1 to S5 (section 16.1). An interpreter of AML runs `_TTS` and
+    /// `_PTS` before it.
     ///
     /// Fails as [`AcpiTables::sleep_types`] does, and with `NoRegister` if there is no PM1a_CNT, or on reduced hardware
     /// no SLEEP_CONTROL_REG.
@@ -141,8 +141,8 @@ impl<'k> AcpiTables<'k> {
         Plan::of(raw::zacpi_1_get_reset_plan(&self.source())?)
     }
 
-    /// What enables ACPI, and waits until it is enabled (section 4.8.3.2.1): no step on reduced hardware, nor if SMI_CMD
-    /// is 0. Fails with `NoRegister` if there is no PM1a_CNT.
+    /// What enables ACPI, and waits until it is enabled (section 4.8.3.2.1): no step on reduced hardware, nor if
+    /// SMI_CMD is 0. Fails with `NoRegister` if there is no PM1a_CNT.
     pub fn enable_plan(&self) -> AcpiResult<Plan> {
         Plan::of(raw::zacpi_1_get_enable_plan(&self.source())?)
     }

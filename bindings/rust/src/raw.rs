@@ -328,8 +328,8 @@ pub(crate) fn list_entries(
     out: &mut [Entry],
 ) -> AcpiResult<(usize, bool)> {
     let (mut count, mut malformed, mut named) = (0, 0, Signature::default());
-    // SAFETY: the regions are a live slice and the walk a live variable; the outputs are a live slice with its length, and
-    // three live variables.
+    // SAFETY: the regions are a live slice and the walk a live variable; the outputs are a live slice with its length,
+    // and three live variables.
     let status = unsafe {
         zacpi_1_list_entries(
             regions.as_ptr(),
