@@ -231,7 +231,8 @@ none_by : (m : Memory) (s : Source) (e : Refusal) (b c d f g : Bool)
     else if f then refused_as (found_rsdp m)
     else if g then refused_as (found_in_areas m (bios_areas (ebda_in m))) else Err UnknownStart)
     >>= λ found. refused_as (opened_from m (root_of_rsdp found.1)))) ≡ Err e
-    → areas_holes m (if f then pieces m (word_in m) else if g then stretches (bios_areas (ebda_in m)) else no_areas) ≡ []
+    → areas_holes m (if f then pieces m (word_in m) else if g then stretches (bios_areas (ebda_in m)) else no_areas)
+    ≡ []
 unfolding has_valid walk_holes
 none_by m s e true c d f g is = absurd (root_read m s (opened_at m (0, s.address)) e is)
 none_by m s e false true d f g is = absurd (root_read m s (opened_at m (2, s.address)) e is)

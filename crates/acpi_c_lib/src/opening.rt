@@ -14,7 +14,8 @@ use acpi::{AcpiHandler, AcpiResult, AcpiTable, AcpiTables, PhysicalMapping};
 /// 5.2.7), 2 the XSDT there (section 5.2.8), 3 the RSDP that the BIOS areas hold (section 5.2.5.1), and 4 that which
 /// they hold as far as they are lent.
 ///
-/// Refuses as `check_policy` does, an unknown start with `UnknownStart`, and else as the constructors of `AcpiTables` do.
+/// Fails as `check_policy` does, with `UnknownStart` for an unknown start, and else as the constructors of `AcpiTables`
+/// do.
 pub(crate) fn open<'h, H: AcpiHandler>(
     handler: &'h H,
     source: &Source<'_>,
@@ -28,7 +29,7 @@ pub(crate) fn open<'h, H: AcpiHandler>(
 
 /// Those tables, and the address and the length of the RSDP, unless the start is at a root table.
 ///
-/// Refuses as `open` does.
+/// Fails as `open` does.
 pub(crate) fn open_placed<'h, H: AcpiHandler>(
     handler: &'h H,
     source: &Source<'_>,
@@ -52,7 +53,7 @@ pub(crate) fn open_placed<'h, H: AcpiHandler>(
     Ok((tables, None))
 }
 
-/// Refuses a source that accepts more than valid tables with `UnknownPolicy`.
+/// Fails with `UnknownPolicy` if a source accepts more than valid tables.
 pub(crate) fn check_policy(source: &Source<'_>) -> Result<(), Refusal>
     ensures { Gives (λ _. tt) result (check_policy source.now) }
 {
@@ -64,7 +65,7 @@ pub(crate) fn check_policy(source: &Source<'_>) -> Result<(), Refusal>
 
 /// The RSDP that a source's start leads to.
 ///
-/// Refuses a start at a root table, and an unknown one, with `UnknownStart`.
+/// Fails with `UnknownStart` for a start at a root table, and an unknown one.
 #[tactic(auto, using(crate::proofs::FoundRsdp::found_valid, crate::proofs::FoundRsdp::listed_valid))]
 fn find_rsdp<'h, H: AcpiHandler>(
     handler: &'h H,

@@ -32,7 +32,8 @@ imsic_read : (x : Imsic) → Fits imsic_fields x → imsic_at (imsic_entry x) �
 unfolding imsic_fields
 imsic_read x f =
     let r = λ (i : ℕ) (h : i < 11). read_at (imsic_fields x) f i h in
-    rw (r 2 (lit< tt), r 4 (lit< tt), r 5 (lit< tt), r 6 (lit< tt), r 7 (lit< tt), r 8 (lit< tt), r 9 (lit< tt), r 10 (lit< tt)) refl
+    rw (r 2 (lit< tt), r 4 (lit< tt), r 5 (lit< tt), r 6 (lit< tt), r 7 (lit< tt), r 8 (lit< tt))
+    (rw (r 9 (lit< tt), r 10 (lit< tt)) refl)
 
 imsic_says : (x : Imsic) → Fits imsic_fields x → Speaks madt_layout Tells (imsic_entry x) (kinds.Imsic x ∷ [])
 unfolding imsic_fields spelling
@@ -42,7 +43,8 @@ aplic_read : (x : Aplic) → Fits aplic_fields x → aplic_at (aplic_entry x) �
 unfolding aplic_fields
 aplic_read x f =
     let r = λ (i : ℕ) (h : i < 11). read_at (aplic_fields x) f i h in
-    rw (r 2 (lit< tt), r 3 (lit< tt), r 4 (lit< tt), r 5 (lit< tt), r 6 (lit< tt), r 7 (lit< tt), r 8 (lit< tt), r 9 (lit< tt), r 10 (lit< tt)) refl
+    rw (r 2 (lit< tt), r 3 (lit< tt), r 4 (lit< tt), r 5 (lit< tt), r 6 (lit< tt), r 7 (lit< tt), r 8 (lit< tt))
+    (rw (r 9 (lit< tt), r 10 (lit< tt)) refl)
 
 aplic_says : (x : Aplic) → Fits aplic_fields x → Speaks madt_layout Tells (aplic_entry x) (kinds.Aplic x ∷ [])
 unfolding aplic_fields spelling
@@ -52,7 +54,8 @@ plic_read : (x : Plic) → Fits plic_fields x → plic_at (plic_entry x) ≡ x
 unfolding plic_fields
 plic_read x f =
     let r = λ (i : ℕ) (h : i < 11). read_at (plic_fields x) f i h in
-    rw (r 2 (lit< tt), r 3 (lit< tt), r 4 (lit< tt), r 5 (lit< tt), r 6 (lit< tt), r 7 (lit< tt), r 8 (lit< tt), r 9 (lit< tt), r 10 (lit< tt)) refl
+    rw (r 2 (lit< tt), r 3 (lit< tt), r 4 (lit< tt), r 5 (lit< tt), r 6 (lit< tt), r 7 (lit< tt), r 8 (lit< tt))
+    (rw (r 9 (lit< tt), r 10 (lit< tt)) refl)
 
 plic_says : (x : Plic) → Fits plic_fields x → Speaks madt_layout Tells (plic_entry x) (kinds.Plic x ∷ [])
 unfolding plic_fields spelling

@@ -39,7 +39,8 @@ abbrev pub rhct_body : RhctContents → List ℕ
 rhct_body c =
     let letters = length c.isa.now in
     let zeros = zeros_after letters in
-    fields_bytes (front_fields c.flags c.time_base_frequency (length c.harts.now + 1) (8 + letters + zeros) (letters + 1))
+    let nodes = length c.harts.now + 1 in
+    fields_bytes (front_fields c.flags c.time_base_frequency nodes (8 + letters + zeros) (letters + 1))
     ++ ((c.isa.now ++ replicate zeros 0) ++ flat_map hart_node c.harts.now)
 
 -- there is a hart, and Length of the node and Number of RHCT nodes have a place

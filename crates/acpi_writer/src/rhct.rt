@@ -109,9 +109,9 @@ impl<'a> RhctContents<'a> {
 /// Writes an RHCT of revision 1 to the front of a slice, and returns how many bytes it has: an ISA String Node, whose
 /// string is filled up with one or two zeros to an even length, and a Hart Info Node of that string for each hart.
 ///
-/// Returns, in this order, `NoProcessor` if there is no hart, `TooLong` if the ISA string has more than 65525 letters or
-/// there are 2^28 harts or more, `BadName` if a name of the ids is not valid UTF-8, `NoRoom` if the slice is shorter than
-/// the table, and `TooLong` if the table has 2^32 bytes or more.
+/// Returns, in this order, `NoProcessor` if there is no hart, `TooLong` if the ISA string has more than 65525 letters
+/// or there are 2^28 harts or more, `BadName` if a name of the ids is not valid UTF-8, `NoRoom` if the slice is shorter
+/// than the table, and `TooLong` if the table has 2^32 bytes or more.
 #[tactic(auto, using(crate::proofs::Harts::hart_nodes), unfolding(crate::specs::Rhct::rhct_written))]
 pub fn write_rhct(
     out: &mut [u8],

@@ -11,7 +11,8 @@ pub loop-structure-init : goal.loop-structure-init
 loop-structure-init c =
     let table = c.args.table.now in
     let walk = c.structures-structures in
-    let left : structures_left walk.result ≡ structures_of table = walk.ensures.items ∙ ap structures_of c.over.ensures in
+    let left : structures_left walk.result ≡ structures_of table =
+    walk.ensures.items ∙ ap structures_of c.over.ensures in
     let rest : rest_left walk.result ≡ (cut_of table).1 = walk.ensures.rest ∙ ap (λ t. (cut_of t).1) c.over.ensures in
     rw (left, rest) (
       refl,

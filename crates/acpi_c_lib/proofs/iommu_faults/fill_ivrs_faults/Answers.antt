@@ -13,7 +13,8 @@ loop-block-init c =
     let table = c.args.table.now in
     let walk = c.blocks-blocks in
     let left : blocks_left walk.result ≡ blocks_of table = walk.ensures.items ∙ ap blocks_of c.over.ensures in
-    let rest : rest_left walk.result ≡ (blocks_cut table).1 = walk.ensures.rest ∙ ap (λ t. (blocks_cut t).1) c.over.ensures in
+    let rest : rest_left walk.result ≡ (blocks_cut table).1 =
+    walk.ensures.rest ∙ ap (λ t. (blocks_cut t).1) c.over.ensures in
     rw (left, rest) (
       refl,
       omega arith,
@@ -31,7 +32,8 @@ returns-then-not-is_empty c =
     ∙ sym c.rest-rest.ensures in
     let some : 0 < length bytes = grind (arith, common_steps) in
     let is : c.put-then-not-is_empty.new.out
-    ≡ slice_set s.out s.count (iommu_fault s.at (block_kind bytes) InvalidStructureLength) = grind (arith, common_steps) in
+    ≡ slice_set s.out s.count (iommu_fault s.at (block_kind bytes) InvalidStructureLength) =
+    grind (arith, common_steps) in
     last_written block_kind block_fault s.at s.count c.args.out.now s.out c.put-then-not-is_empty.new.out
     (ivrs_faults_of (c.args.address, c.args.table.now)) (blocks_left s.blocks) (rest_left s.blocks) bytes
     steps.0.0 same some s.invariant.0 s.invariant.1 is

@@ -6,4 +6,5 @@ use Rattle.acpi_writer.proofs.rhct.write_rhct.Goals as goal
 pub returns-clause-exact : goal.returns-clause-exact
 unfolding rhct_written
 returns-clause-exact c =
-    rw (← c.in_ok-check.ensures.exact, ← c.from_bytes.ensures, ← hart_nodes c.args.contents.now.harts.now) (search rules)
+    rw (← c.in_ok-check.ensures.exact, ← c.from_bytes.ensures, ← hart_nodes c.args.contents.now.harts.now)
+    (search rules)
