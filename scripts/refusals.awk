@@ -59,7 +59,7 @@ file == 4 && match($0, /^ +[0-9]+ = [A-Za-z]+,$/) {
 END {
     # The bindings don't know those of a start and of a policy, which no call returns to them, since they pass none but
     # these.
-    unknown[3] = unknown[6] = 1
+    unknown[3] = unknown[7] = 1
     for (i = 1; i <= most; i++) {
         here = name_of[1, i]
         if (here != shown_name[i]) complain(i ": the header has '" here "', and shows '" shown_name[i] "'")

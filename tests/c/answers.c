@@ -391,7 +391,9 @@ void print_answers(const struct zacpi_source *source) {
     static const struct {
         const char *letters;
         struct zacpi_walk walk;
-    } walked[] = {{"APIC", {44, 0, 1, 1, 1}}, {"SRAT", {48, 0, 1, 1, 1}}, {"DMAR", {48, 0, 2, 2, 2}},
+    } walked[] = {{"APIC", {44, 0, 1, 1, 1}},
+                  {"SRAT", {48, 0, 1, 1, 1}},
+                  {"DMAR", {48, 0, 2, 2, 2}},
                   {"APIC", {0, 0, 4, 4, 4}}, /* one: its Signature and its Length */
                   {"APIC", {44, 3, 2, 1, 1}}};
     unsigned i;
