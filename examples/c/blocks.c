@@ -22,7 +22,7 @@ static zacpi_status load_blocks(const struct zacpi_source *source) {
 
 int main(int argc, char **argv) {
     static struct zacpi_region regions[1024];
-    struct zacpi_source source = {regions, 0, 0, ZACPI_START_RSDP};
+    struct zacpi_source source = {regions, 0, 0, ZACPI_START_RSDP, 0};
     uint8_t revision;
     size_t length = 0;
     const uint8_t *image = start_of(argc, argv, &source, &revision) ? contents(argv[1], &length) : NULL;

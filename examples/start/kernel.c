@@ -33,7 +33,7 @@ void kernel(uint32_t magic, uint32_t information) {
     size_t count;
     open_serial();
     ask_loader(magic, information, &serial, &loaded);
-    struct zacpi_source source = {regions, make_regions(), loaded.rsdp, ZACPI_START_RSDP};
+    struct zacpi_source source = {regions, make_regions(), loaded.rsdp, ZACPI_START_RSDP, 0};
     zacpi_status status = zacpi_list_processors(&source, processors, 256, &count, 0);
     if (status) stop(zacpi_status_name(status));
     say_number(&serial, count), say(&serial, " processors\n");
