@@ -184,7 +184,7 @@ impl<'a> Rhct<'a> {
     /// How many bytes [`Rhct::write`] writes.
     pub fn size(&self) -> usize {
         let node = 10 + self.isa.len() - self.isa.len() % 2;
-        total([56, node, self.harts.len().saturating_mul(16)].into_iter())
+        total([56, node, self.harts.len().saturating_mul(16)])
     }
 
     /// Writes it. Fails with `NoProcessor`, `TooLong` if the ISA string has more than 65525 letters, `BadName`,
