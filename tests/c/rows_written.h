@@ -224,6 +224,7 @@ static const uint8_t bodiless_bytes[] = {HEAD('O', 'E', 'M', '9', 36, 255, 0x92)
 
 #include "rows_machine.h"
 #include "rows_arm.h"
+#include "rows_riscv.h"
 
 /* ---- Rows ----------------------------------------------------------------------------------------------- */
 
