@@ -782,8 +782,8 @@ ZACPI_STATUS zacpi_mailbox_address(const struct zacpi_source *source, uint64_t *
                                    struct zacpi_signature *signature);
 
 struct zacpi_entry_fault {
-    uint64_t address;
-    uint32_t status;
+    uint64_t address;    /* of the entry, or where none begins */
+    uint32_t status;     /* its error */
     uint16_t entry_type; /* Type there; 0 at the table's end */
 };
 /* Lists the entries with an error, that of zacpi_platform, and last, if bytes are left, where none
@@ -982,8 +982,8 @@ ZACPI_STATUS zacpi_list_gtdt_faults(const struct zacpi_source *source,
 
 /* RISC-V: harts and interrupt controllers (MADT, ACPI 6.6, section 5.2.12) --------------------- */
 
-struct zacpi_rintc { /* RISC-V Interrupt Controller, Type 0x18: a hart. An entry of 20
-                      * bytes has neither controller id nor IMSIC: zeros */
+struct zacpi_rintc { /* RISC-V Interrupt Controller, Type 0x18: a hart. An entry of 20 bytes has
+                      * neither controller id nor IMSIC: zeros */
     uint64_t hart_id;
     uint64_t imsic_address; /* IMSIC Base Address. 0: none */
     uint32_t flags;         /* bit 0 Enabled, 1 Online Capable */

@@ -6,8 +6,8 @@
 /* Tables that are written ---------------------------------------------------------------------- */
 
 /* Each call writes one table to the front of `out`, which has `capacity` bytes, and its length to
- * `length`; the rest of `out` is left as it is. The calls above then read what was passed, unless a
- * comment has otherwise. */
+ * `length`; the rest of `out` is left as it is. The calls of zacpi.h then read what was passed,
+ * unless a comment has otherwise. */
 
 struct zacpi_table_ids { /* section 5.2.6. Names are filled up with spaces or zeros */
     uint8_t oem_id[6], oem_table_id[8];

@@ -64,7 +64,7 @@ step_record (Some s) = record {
 }
 step_record None = record { at = optional_register (Ok None); mask = 0; value = 0; width = 0; kind = 0 }
 
--- eight steps, of which those behind the last are zeros
+-- eight steps, of which those after the last are zeros
 abbrev pub plan_record : Plan → records.Plan
 plan_record p = record {
   steps = step_record p.first ∷ step_record p.second ∷ replicate 6 (step_record None);
