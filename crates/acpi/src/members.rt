@@ -13,7 +13,7 @@ use acpi_base::sdt::{SdtHeader, map_own_sdt};
 use acpi_base::{AcpiResult, Lender};
 
 /// A member of the root table: a pointer, and the header of the table there or why that is refused.
-#[derive(Clone, Copy, Debug)]
+#[derive(Clone, Copy)]
 pub struct TableMember {
     /// The pointer: the physical address that the root table lists.
     pub address: u64,

@@ -10,7 +10,7 @@ use acpi_base::model::{Polarity, TriggerMode};
 pub(crate) const FRAME_LENGTH: usize = 40;
 
 /// The interrupt of a timer of a GT Block's frame (section 5.2.24.1.1).
-#[derive(Clone, Copy, Debug, PartialEq, Eq)]
+#[derive(Clone, Copy, Debug)]
 pub struct TimerInterrupt {
     /// GSIV: the number of the interrupt at the GIC. 0: the timer isn't there.
     pub interrupt: u32,
@@ -73,7 +73,7 @@ fn frame_in(bytes: &[u8]) -> GtFrame
 }
 
 /// The frames of a GT Block (section 5.2.24.1.1), in order.
-#[derive(Clone, Copy, Debug)]
+#[derive(Clone, Copy)]
 pub struct GtFrameIter<'a> {
     rest: &'a [u8],
     left: u32,

@@ -17,7 +17,7 @@ use acpi_base::sdt::SdtHeader;
 use acpi_base::{PhysicalRecord, SdtTable, Signature};
 
 /// A timer that every processor has, by its GSIV and its flags in a GTDT (section 5.2.24).
-#[derive(Clone, Copy, Debug, PartialEq, Eq)]
+#[derive(Clone, Copy, Debug)]
 pub struct ArmTimer {
     /// GSIV: the number of the timer's interrupt at the GIC. 0: the table names none.
     pub interrupt: u32,
@@ -59,7 +59,7 @@ fn timer_in(bytes: &[u8], offset: usize) -> ArmTimer
 
 /// The Generic Timer Description Table (GTDT, section 5.2.24). `PlatformTimerIter` gives the timers of the
 /// platform out of its bytes.
-#[derive(Clone, Copy, Debug)]
+#[derive(Clone, Copy)]
 pub struct Gtdt {
     /// The header that every table begins with.
     pub header: SdtHeader,

@@ -9,7 +9,7 @@ use acpi_base::entries::{EntryLayout, Grammar, Place, Width, split_front};
 use acpi_base::model::{Polarity, TriggerMode};
 
 /// GT Block: a block of timers in memory (section 5.2.24.1.1).
-#[derive(Clone, Copy, Debug)]
+#[derive(Clone, Copy)]
 pub struct GtBlock<'a> {
     /// GT Block Physical address: that of the block's control frame.
     pub address: u64,
@@ -37,7 +37,7 @@ pub struct SbsaWatchdog {
 }
 
 /// A timer of the platform: a Platform Timer Structure of a GTDT (section 5.2.24.1).
-#[derive(Clone, Copy, Debug)]
+#[derive(Clone, Copy)]
 pub enum PlatformTimer<'a> {
     /// GT Block, type 0 (section 5.2.24.1.1).
     GtBlock(GtBlock<'a>),
@@ -139,7 +139,7 @@ fn watchdog_in(structure: &[u8]) -> SbsaWatchdog
 /// bytes are left, if a length is less than the least of its type (20 for type 0, 28 for type 1, 4 for
 /// others) or goes past the table's end, and at a block that has frames which begin before its byte 20 or
 /// end after its end.
-#[derive(Debug, Drop)]
+#[derive(Drop)]
 pub struct PlatformTimerIter<'a> {
     rest: &'a [u8],
     left: u32,

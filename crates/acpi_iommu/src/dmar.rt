@@ -18,7 +18,7 @@ pub use units::{DmarUnits, UnitSource};
 
 /// The DMA Remapping Reporting Structure (DMAR, section 8.1). Its structures stand after 48 fixed bytes; `DmarUnits`
 /// reads them.
-#[derive(Debug, Drop)]
+#[derive(Drop)]
 pub struct Dmar {
     /// The header that every table begins with.
     pub header: SdtHeader,

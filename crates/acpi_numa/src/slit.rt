@@ -8,7 +8,7 @@ use acpi_base::{PhysicalRecord, SdtTable, Signature};
 
 /// The System Locality Information Table (SLIT, section 5.2.17). After these fields it has a byte for each
 /// pair of localities, which `Distances` reads.
-#[derive(Debug, Drop)]
+#[derive(Drop)]
 pub struct Slit {
     /// The header that every table begins with.
     pub header: SdtHeader,
@@ -52,7 +52,7 @@ impl SdtTable for Slit {
 }
 
 /// The distances in a SLIT's bytes (section 5.2.17). It needs no handler.
-#[derive(Clone, Copy, Debug)]
+#[derive(Clone, Copy)]
 pub struct Distances<'a> {
     table: &'a [u8],
 }

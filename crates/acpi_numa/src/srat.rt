@@ -20,7 +20,7 @@ pub use walk::SratEntryIter;
 
 /// The System Resource Affinity Table (SRAT, section 5.2.16). Its entries stand after 48 fixed bytes;
 /// `Domains` reads them.
-#[derive(Debug, Drop)]
+#[derive(Drop)]
 pub struct Srat {
     /// The header that every table begins with.
     pub header: SdtHeader,

@@ -54,7 +54,7 @@ impl<A: Allocator> PciConfigRegions<A> {
 
 /// The memory that the configuration space of each region takes, in the order of the table, as
 /// `PciConfigRegions::ecam_ranges` gives it: each region's segment group, and its range, if it has one.
-#[derive(Clone, Debug, Drop)]
+#[derive(Clone, Drop)]
 pub struct EcamRanges<'a> {
     regions: &'a [McfgEntry],
 }

@@ -8,7 +8,7 @@ use acpi_base::madt::{GicMsiFrameEntry, GiccEntry, MadtEntry};
 use acpi_base::model::TriggerMode;
 
 /// GIC Distributor (GICD): the distributor of interrupts (section 5.2.12.15).
-#[derive(Clone, Copy, Debug, PartialEq, Eq)]
+#[derive(Clone, Copy, Debug)]
 pub struct GicDistributor {
     /// GIC ID: the id of the distributor.
     pub id: u32,
@@ -70,7 +70,7 @@ pub struct GicCpuInterface {
 }
 
 /// GIC Redistributor (GICR): a range of memory that holds redistributors (section 5.2.12.17).
-#[derive(Clone, Copy, Debug, PartialEq, Eq)]
+#[derive(Clone, Copy, Debug)]
 pub struct GicRedistributors {
     /// Discovery Range Base Address: the physical address of the range's first byte.
     pub address: u64,
@@ -79,7 +79,7 @@ pub struct GicRedistributors {
 }
 
 /// GIC Interrupt Translation Service (ITS): it translates messages to interrupts (section 5.2.12.18).
-#[derive(Clone, Copy, Debug, PartialEq, Eq)]
+#[derive(Clone, Copy, Debug)]
 pub struct GicTranslationService {
     /// GIC ITS ID: the id of the service.
     pub id: u32,
@@ -88,7 +88,7 @@ pub struct GicTranslationService {
 }
 
 /// SPI Base and SPI Count: the shared peripheral interrupts (SPIs) of a GIC MSI Frame (section 5.2.12.16).
-#[derive(Clone, Copy, Debug, PartialEq, Eq)]
+#[derive(Clone, Copy, Debug)]
 pub struct SpiRange {
     /// SPI Base: the number of the first interrupt.
     pub base: u16,

@@ -8,7 +8,7 @@ use std::alloc::Allocator;
 
 /// The LINT pins of one processor's local APIC that NMIs are connected to (ACPI 6.4, sections 5.2.12.7 and
 /// 5.2.12.13), in the order of their entries, as `Apic::local_nmi_lines_for` gives them.
-#[derive(Debug, Drop)]
+#[derive(Drop)]
 pub struct LocalNmiLines<'a> {
     lines: &'a [NmiLine],
     processor_uid: u32,

@@ -6,7 +6,7 @@ use super::interrupt::{Apic, IoApic};
 use std::alloc::Allocator;
 
 /// A pin of an I/O APIC, that a global system interrupt comes to (section 5.2.12.3).
-#[derive(Clone, Copy, Debug)]
+#[derive(Clone, Copy)]
 pub struct IoApicPin<'a> {
     /// I/O APIC: the controller.
     pub io_apic: &'a IoApic,

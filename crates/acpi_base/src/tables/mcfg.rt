@@ -86,7 +86,7 @@ impl PhysicalRecord for McfgEntry {
 
 /// The entries of an MCFG, of 16 bytes each, in order (section 5.2.6 reserves the signature). A remainder
 /// that is shorter than an entry is none.
-#[derive(Debug, Drop)]
+#[derive(Drop)]
 pub struct McfgEntryIter<'a> {
     rest: &'a [u8],
 }

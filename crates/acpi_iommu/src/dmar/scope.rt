@@ -7,7 +7,7 @@ use acpi_base::bytes::{field, skip};
 
 /// A step from a bus to a device on it (section 8.3.1). C passes it as these two bytes.
 #[repr(C)]
-#[derive(Clone, Copy, Debug, PartialEq, Eq)]
+#[derive(Clone, Copy, Debug)]
 pub struct Hop {
     /// The device's number.
     pub device: u8,
@@ -25,7 +25,7 @@ impl Hop {
 }
 
 /// The hops of a path, in order (section 8.3.1): two bytes each. A last single byte is no hop.
-#[derive(Clone, Copy, Debug)]
+#[derive(Clone, Copy)]
 pub struct HopIter<'a> {
     rest: &'a [u8],
 }
@@ -55,7 +55,7 @@ impl Iterator for HopIter<'_> {
 }
 
 /// A device scope: a device, or a bridge and all devices below it, with the path to it from a bus (section 8.3.1).
-#[derive(Clone, Copy, Debug)]
+#[derive(Clone, Copy)]
 pub struct DeviceScope<'a> {
     bytes: &'a [u8],
 }
@@ -162,7 +162,7 @@ fn front_length(path: HopIter<'_>, hops: &[Hop]) -> Option<usize>
 }
 
 /// Device scopes.
-#[derive(Clone, Copy, Debug)]
+#[derive(Clone, Copy)]
 pub struct Scopes;
 
 impl<'a> PieceKind<'a> for Scopes {

@@ -14,7 +14,7 @@ use acpi_base::PhysicalRecord;
 use acpi_base::bytes::{field, skip, text_of};
 
 /// A structure of a DMAR (section 8.2).
-#[derive(Clone, Copy, Debug)]
+#[derive(Clone, Copy)]
 pub struct DmarStructure<'a> {
     bytes: &'a [u8],
 }
@@ -195,7 +195,7 @@ fn least_of(kind: u16) -> usize
 }
 
 /// The structures of a DMAR.
-#[derive(Clone, Copy, Debug)]
+#[derive(Clone, Copy)]
 pub struct Structures;
 
 impl<'a> PieceKind<'a> for Structures {

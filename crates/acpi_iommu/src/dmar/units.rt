@@ -10,7 +10,7 @@ use super::structure::DmarStructureIter;
 use crate::error::{IommuError, IommuResult};
 
 /// A unit, and how it knows a device that sends it interrupts (section 8.3.1).
-#[derive(Clone, Copy, Debug, PartialEq, Eq)]
+#[derive(Clone, Copy, Debug)]
 pub struct UnitSource {
     /// The unit that remaps the device's interrupts.
     pub unit: Drhd,
@@ -21,7 +21,7 @@ pub struct UnitSource {
 }
 
 /// The units in a DMAR's bytes (chapter 8). It needs no handler.
-#[derive(Clone, Copy, Debug)]
+#[derive(Clone, Copy)]
 pub struct DmarUnits<'a> {
     table: &'a [u8],
 }

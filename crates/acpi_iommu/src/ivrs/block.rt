@@ -12,7 +12,7 @@ use acpi_base::bytes::{field, skip};
 use acpi_base::{AddressRange, PhysicalRecord};
 
 /// I/O Virtualization Hardware Definition (IVHD, section 5.2): a unit that remaps.
-#[derive(Clone, Copy, Debug, PartialEq, Eq)]
+#[derive(Clone, Copy, Debug)]
 pub struct Ivhd {
     /// Type: 0x10, 0x11 or 0x40.
     pub kind: u8,
@@ -35,7 +35,7 @@ pub struct Ivhd {
 }
 
 /// I/O Virtualization Memory Definition (IVMD, section 5.2): memory that devices reach by its own rules.
-#[derive(Clone, Copy, Debug, PartialEq, Eq)]
+#[derive(Clone, Copy, Debug)]
 pub struct Ivmd {
     /// Type: 0x20 for all devices, 0x21 for the one of `device_id`, 0x22 for those from it to `auxiliary`.
     pub kind: u8,
@@ -146,7 +146,7 @@ impl Ivmd {
 }
 
 /// A block of an IVRS (section 5.2).
-#[derive(Clone, Copy, Debug)]
+#[derive(Clone, Copy)]
 pub struct IvrsBlock<'a> {
     bytes: &'a [u8],
 }
@@ -277,7 +277,7 @@ impl<'a> IvrsBlock<'a> {
 }
 
 /// The blocks of an IVRS.
-#[derive(Clone, Copy, Debug)]
+#[derive(Clone, Copy)]
 pub struct Blocks;
 
 impl<'a> PieceKind<'a> for Blocks {

@@ -10,7 +10,7 @@ use super::block::{Ivhd, Ivmd, IvrsBlock, IvrsBlockIter};
 use crate::error::{IommuError, IommuResult};
 
 /// A unit, and how it treats a device.
-#[derive(Clone, Copy, Debug, PartialEq, Eq)]
+#[derive(Clone, Copy, Debug)]
 pub struct DeviceUnit {
     /// The unit that remaps the device.
     pub unit: Ivhd,
@@ -21,7 +21,7 @@ pub struct DeviceUnit {
 }
 
 /// The blocks of one type, in order.
-#[derive(Clone, Copy, Debug)]
+#[derive(Clone, Copy)]
 pub struct BestBlockIter<'a> {
     blocks: IvrsBlockIter<'a>,
     kind: u8,
@@ -48,7 +48,7 @@ impl<'a> Iterator for BestBlockIter<'a> {
 }
 
 /// The memory with rules for a device, in order (section 5.2).
-#[derive(Clone, Copy, Debug)]
+#[derive(Clone, Copy)]
 pub struct MemoryIter<'a> {
     blocks: IvrsBlockIter<'a>,
     device_id: u16,
@@ -74,7 +74,7 @@ impl Iterator for MemoryIter<'_> {
 }
 
 /// The blocks in an IVRS' bytes (section 5.2). It needs no handler.
-#[derive(Clone, Copy, Debug)]
+#[derive(Clone, Copy)]
 pub struct IvrsBlocks<'a> {
     table: &'a [u8],
 }

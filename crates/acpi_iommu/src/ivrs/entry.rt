@@ -8,7 +8,7 @@ use crate::texts::up_to_zero;
 use acpi_base::bytes::{field, skip, text_of};
 
 /// A special device, type 0x48 (section 5.2).
-#[derive(Clone, Copy, Debug, PartialEq, Eq)]
+#[derive(Clone, Copy, Debug)]
 pub struct SpecialDevice {
     /// Handle: of an I/O APIC its id, of an HPET its number.
     pub handle: u8,
@@ -20,7 +20,7 @@ pub struct SpecialDevice {
 
 /// A device entry of an IVHD (section 5.2): devices, and how the unit treats them. The end of a range belongs to
 /// its start.
-#[derive(Clone, Copy, Debug)]
+#[derive(Clone, Copy)]
 pub struct DeviceEntry<'a> {
     bytes: &'a [u8],
 }
@@ -208,7 +208,7 @@ fn own_size(entry: &[u8]) -> usize
 }
 
 /// Device entries.
-#[derive(Clone, Copy, Debug)]
+#[derive(Clone, Copy)]
 pub struct Entries;
 
 impl<'a> PieceKind<'a> for Entries {

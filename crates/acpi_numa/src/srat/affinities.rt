@@ -14,7 +14,7 @@ use std::marker::Model;
 
 /// A range of memory, and the proximity domain that it is in: an enabled Memory Affinity Structure that has
 /// bytes (section 5.2.16.2).
-#[derive(Clone, Copy, Debug, PartialEq, Eq)]
+#[derive(Clone, Copy, Debug)]
 pub struct MemoryRange {
     /// Proximity Domain: the domain of the range.
     pub domain: u32,

@@ -4,7 +4,7 @@ use super::entry::ProcessorId;
 use super::walk::SratEntryIter;
 
 /// The proximity domains in a SRAT's bytes (section 5.2.16). It needs no handler.
-#[derive(Clone, Copy, Debug)]
+#[derive(Clone, Copy)]
 pub struct Domains<'a> {
     table: &'a [u8],
 }
