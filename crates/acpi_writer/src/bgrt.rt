@@ -13,7 +13,7 @@ use crate::table::{Table, write};
 use acpi_base::Signature;
 
 /// Orientation Offset: by how many degrees an image was turned clockwise before it was drawn (section 5.2.22).
-#[derive(Clone, Copy, Debug, PartialEq, Eq)]
+#[derive(Clone, Copy)]
 pub enum BgrtOrientation {
     /// Not at all.
     Degrees0,
@@ -26,7 +26,7 @@ pub enum BgrtOrientation {
 }
 
 /// What a BGRT is to say, in the words of `Bgrt`, as which it is read.
-#[derive(Clone, Copy, Debug)]
+#[derive(Clone, Copy)]
 pub struct BgrtContents {
     /// Displayed: whether the image is on the screen.
     pub was_displayed: bool,

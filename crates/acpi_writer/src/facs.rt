@@ -9,7 +9,7 @@ use crate::numbers::{bit_of, dword, qword};
 use crate::rsdp::write_front;
 
 /// What a FACS is to say (section 5.2.10).
-#[derive(Clone, Copy, Debug)]
+#[derive(Clone, Copy)]
 pub struct FacsContents {
     /// Hardware Signature: a number that changes if the hardware does.
     pub hardware_signature: u32,

@@ -7,7 +7,7 @@ use acpi_base::bytes::is_text;
 /// The fields of a table's header by which its makers are known (section 5.2.6). The names are filled up with spaces
 /// or zeros, and have to be valid UTF-8.
 #[repr(C)]
-#[derive(Clone, Copy, Debug)]
+#[derive(Clone, Copy)]
 pub struct TableIds {
     /// OEMID: the OEM's name.
     pub oem_id: [u8; 6],

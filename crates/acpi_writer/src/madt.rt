@@ -23,7 +23,7 @@ use std::alloc::AllocError;
 use std::marker::PhantomData;
 
 /// A processor that a MADT is to list (sections 5.2.12.2 and 5.2.12.12).
-#[derive(Clone, Copy, Debug)]
+#[derive(Clone, Copy)]
 pub struct MadtProcessor {
     /// ACPI Processor UID.
     pub processor_uid: u32,

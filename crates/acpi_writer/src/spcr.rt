@@ -20,7 +20,7 @@ use acpi_base::address::GenericAddress;
 use acpi_base::spcr::{SpcrFlowControl, SpcrInterfaceType, SpcrInterruptType, SpcrTerminalType};
 
 /// The PCI device that a serial port is, as an SPCR has it.
-#[derive(Clone, Copy, Debug)]
+#[derive(Clone, Copy)]
 pub struct SpcrPciDevice {
     /// PCI Device ID, which 0xffff stands for none of.
     pub device_id: u16,

@@ -5,7 +5,7 @@ use acpi_base::address::GenericAddress;
 use acpi_fixed::fadt::{GpeBlock, PowerProfile};
 
 /// The fixed hardware of a machine: its blocks of registers, and the commands that take them over (section 5.2.9).
-#[derive(Clone, Copy, Debug)]
+#[derive(Clone, Copy)]
 pub struct FixedHardware {
     /// SMI_CMD: the port that the commands are written to, 0 if there is no system management mode.
     pub smi_cmd_port: u32,
@@ -40,7 +40,7 @@ pub struct FixedHardware {
 }
 
 /// What hardware a FADT is of.
-#[derive(Clone, Copy, Debug)]
+#[derive(Clone, Copy)]
 pub enum FadtHardware {
     /// HW_REDUCED_ACPI: there is no fixed hardware.
     Reduced,
@@ -49,7 +49,7 @@ pub enum FadtHardware {
 }
 
 /// What a FADT says of processors and of the clock, in fields of its first versions (section 5.2.9).
-#[derive(Clone, Copy, Debug)]
+#[derive(Clone, Copy)]
 pub struct LegacyFields {
     /// P_LVL2_LAT: the longest time into C2 and back, in microseconds. Above 100: there is no C2.
     pub worst_c2_latency: u16,
@@ -87,7 +87,7 @@ impl LegacyFields {
 }
 
 /// What a FADT is to say, in the words of `Fadt`, as which it is read (section 5.2.9).
-#[derive(Clone, Copy, Debug)]
+#[derive(Clone, Copy)]
 pub struct FadtContents {
     /// The physical address of the DSDT.
     pub dsdt: u64,
