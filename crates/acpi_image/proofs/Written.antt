@@ -1,7 +1,8 @@
 -- What is written: how long it is, how numbers are encoded, sums, and the tables, which are found at the start of their
 -- regions.
-use Rattle.std.proofs.Common.{◌≡◌, ℕ, zero, suc, ◌==◌, ◌+◌, ◌-◌, ◌*◌, ◌/◌, ◌%◌, ◌^◌, ◌<◌, ◌≤◌, true, List, [], ◌∷◌, ◌++◌, length, take, drop, refl, sym, ap, ◌∙◌, arith, w64, get_or, inl, inr, set, sum, subst, Some, Ok, lit≤, map, lit<, eq-eqb, flat_map, Contains, bytes_eq}
+use Rattle.std.proofs.Common.{◌≡◌, ℕ, zero, suc, ◌==◌, ◌+◌, ◌-◌, ◌*◌, ◌/◌, ◌%◌, ◌^◌, ◌<◌, ◌≤◌, true, List, [], ◌∷◌, ◌++◌, length, take, drop, refl, sym, ap, ◌∙◌, arith, w64, get_or, inl, inr, set, sum, subst, append_assoc, Some, Ok, Err, OnErr, Result, lit≤, map, lit<, eq-eqb, flat_map, Contains, bytes_eq}
 use Rattle.std.proofs.lemmas.Bool.{cond_both}
+use Rattle.std.proofs.lemmas.List.{drop-append-le, take-append-drop, take-append-le}
 use Rattle.std.proofs.lemmas.List.Elements.{All-contains_itself}
 use Rattle.acpi_image_reader.specs.Words.{record_spelling}
 use Rattle.acpi_base.specs.FromStd.{from_le_bytes, to_le_bytes, AllByRecursion, is_utf8}
@@ -12,7 +13,7 @@ use Rattle.acpi_base.proofs.Words.{IsBytes-drop, IsBytes-take, length-spelling, 
 use Rattle.acpi.specs.Words.{signature_of, width_of, valid_tables}
 use Rattle.acpi.specs.declared.root.RootKind.{RootKind}
 use Rattle.acpi.specs.declared.root.RootKind.TheVariants.{Rsdt, Xsdt}
-use Rattle.acpi_image.specs.Words.{root_header, root_length, root_to, root_unsummed, rsdp_to, rsdp_unsummed, sum_byte, with_first_sum, with_sum, placed, placed_region, starts_of, summed, SumIsSet, is_table, PlacedTable}
+use Rattle.acpi_image.specs.Words.{HasFront, root_header, root_length, root_to, root_unsummed, rsdp_to, rsdp_unsummed, sum_byte, with_first_sum, with_sum, placed, placed_region, starts_of, summed, spaces, rsdp_record, SumIsSet, is_table, PlacedTable}
 
 pub length-with_sum : (offset : ℕ) (bytes : List ℕ) → length (with_sum offset bytes) ≡ length bytes
 unfolding with_sum
@@ -70,6 +71,97 @@ root_long kind tables =
 
 -- what is known of lengths while a root table is put
 pub ruleset lengths = (length-root_header, root_long)
+
+-- ---- what is put before an error
+
+pub none_put : (old bytes new : List ℕ) → new ≡ old → HasFront old bytes new
+none_put old bytes new same =
+    record { front = []; rest = bytes; split = refl; put = same ∙ sym (append-nil old) }
+
+-- an error in the first part
+pub in_first : (old xs ys new : List ℕ) → HasFront old xs new → HasFront old (xs ++ ys) new
+in_first old xs ys new h =
+    let whole = ap (λ z. z ++ ys) h.split ∙ append_assoc h.front h.rest ys in
+    record { front = h.front; rest = h.rest ++ ys; split = whole; put = h.put }
+
+-- and after it
+pub in_second : (old mid xs ys new : List ℕ) → mid ≡ old ++ xs → HasFront mid ys new → HasFront old (xs ++ ys) new
+in_second old mid xs ys new first h =
+    let whole = ap (λ z. xs ++ z) h.split ∙ sym (append_assoc xs h.front h.rest) in
+    let put = h.put ∙ ap (λ z. z ++ h.front) first ∙ append_assoc old xs h.front in
+    record { front = xs ++ h.front; rest = h.rest; split = whole; put = put }
+
+-- an error in a record's start and length
+pub in_head : (old s c bytes new : List ℕ) → HasFront old (s ++ c) new → HasFront old (s ++ (c ++ bytes)) new
+in_head old s c bytes new h =
+    subst (λ z. HasFront old z new) (append_assoc s c bytes) (in_first old (s ++ c) bytes new h)
+
+pub after_head : (old mid s c bytes new : List ℕ) → mid ≡ old ++ (s ++ c) → HasFront mid bytes new
+    → HasFront old (s ++ (c ++ bytes)) new
+after_head old mid s c bytes new head h =
+    subst (λ z. HasFront old z new) (append_assoc s c bytes) (in_second old mid (s ++ c) bytes new head h)
+
+-- in the record of an RSDP
+pub in_rsdp_head : (a revision root : ℕ) (old new : List ℕ) → HasFront old (spelling 8 a ++ spelling 8 36) new
+    → HasFront old (record_spelling (rsdp_record a revision root)) new
+in_rsdp_head a revision root old new h =
+    let long = sym (length-rsdp_to (spaces 6) revision root refl) in
+    in_head old (spelling 8 a) (spelling 8 (length (rsdp_to (spaces 6) revision root)))
+    (rsdp_to (spaces 6) revision root) new (subst (λ n. HasFront old (spelling 8 a ++ spelling 8 n) new) long h)
+
+-- and of a root table whose Checksum isn't set yet
+abbrev pub unsummed_record : RootKind → ℕ → List PlacedTable → Region
+unsummed_record kind a tables = record { start = a; bytes = root_unsummed kind (starts_of (placed tables)) }
+
+unsummed_long : (kind : RootKind) (tables : List PlacedTable) (n : ℕ) → n ≡ root_length kind (length tables)
+    → n ≡ length (root_unsummed kind (starts_of (placed tables)))
+unsummed_long kind tables n e =
+    e ∙ sym (root_long kind tables) ∙ length-with_sum 9 (root_unsummed kind (starts_of (placed tables)))
+
+pub in_root_head : (kind : RootKind) (tables : List PlacedTable) (a n : ℕ) (old new : List ℕ)
+    → n ≡ root_length kind (length tables) → HasFront old (spelling 8 a ++ spelling 8 n) new
+    → HasFront old (record_spelling (unsummed_record kind a tables)) new
+in_root_head kind tables a n old new e h =
+    in_head old (spelling 8 a) _ (root_unsummed kind (starts_of (placed tables))) new
+    (subst (λ k. HasFront old (spelling 8 a ++ spelling 8 k) new) (unsummed_long kind tables n e) h)
+
+pub after_root_head : (kind : RootKind) (tables : List PlacedTable) (a n : ℕ) (old mid new : List ℕ)
+    → n ≡ root_length kind (length tables) → mid ≡ old ++ (spelling 8 a ++ spelling 8 n)
+    → HasFront mid (root_unsummed kind (starts_of (placed tables))) new
+    → HasFront old (record_spelling (unsummed_record kind a tables)) new
+after_root_head kind tables a n old mid new e head h =
+    after_head old mid (spelling 8 a) _ (root_unsummed kind (starts_of (placed tables))) new
+    (head ∙ ap (λ k. old ++ (spelling 8 a ++ spelling 8 k)) (unsummed_long kind tables n e)) h
+
+pub after_header : (kind : RootKind) (tables : List PlacedTable) (n : ℕ) (old mid new : List ℕ)
+    → n ≡ root_length kind (length tables) → mid ≡ old ++ root_header (signature_of kind) n
+    → HasFront mid (flat_map (spelling (width_of kind)) (starts_of (placed tables))) new
+    → HasFront old (root_unsummed kind (starts_of (placed tables))) new
+after_header kind tables n old mid new e head h =
+    let count = e ∙ ap (root_length kind) (sym (length-map (placed tables) (λ t. t.start)
+    ∙ length-map tables placed_region)) in
+    in_second old mid _ _ new (head ∙ ap (λ k. old ++ root_header (signature_of kind) k) count) h
+
+pub says_err : {T E : Type 0} (r : Result T E) (P : Type 0) → P → OnErr r P
+says_err (Ok x) P p = tt
+says_err (Err e) P p = p
+
+pub still_err : {T E : Type 0} (r : Result T E) (P Q : Type 0) → (P → Q) → OnErr r P → OnErr r Q
+still_err (Ok x) P Q f o = tt
+still_err (Err e) P Q f o = f o
+
+-- what is put so far and what is left are all
+pub by_whole : (old bytes new rest : List ℕ) → new ++ rest ≡ old ++ bytes → length old ≤ length new
+    → HasFront old bytes new
+by_whole old bytes new rest whole longer =
+    let first = sym (take-append-le (length old) new rest longer) ∙ ap (take (length old)) whole
+    ∙ take_at old bytes (length old) refl in
+    let after = sym (drop_at old bytes (length old) refl) ∙ sym (ap (drop (length old)) whole)
+    ∙ drop-append-le (length old) new rest longer in
+    let put = sym (take-append-drop (length old) new) ∙ ap (λ z. z ++ drop (length old) new) first in
+    record { front = drop (length old) new; rest = rest; split = after; put = put }
+
+pub ruleset fronts = (none_put, in_first, in_second, in_head, after_head)
 
 -- ---- numbers
 

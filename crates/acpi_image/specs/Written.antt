@@ -1,6 +1,6 @@
 -- What a written image holds: an RSDP, the root table that it leads to, and the tables that this
 -- one lists (ACPI 6.4, sections 5.2.5.3, 5.2.6, 5.2.7 and 5.2.8).
-use Rattle.std.specs.Prelude.{ℕ, ◌+◌, ◌-◌, ◌*◌, ◌%◌, ◌==◌, if◌then◌else◌, List, ◌∷◌, ◌++◌, length, take, drop, map, flat_map, replicate, slice_set}
+use Rattle.std.specs.Prelude.{◌≡◌, ℕ, ◌+◌, ◌-◌, ◌*◌, ◌%◌, ◌==◌, if◌then◌else◌, List, ◌∷◌, ◌++◌, length, take, drop, map, flat_map, replicate, slice_set}
 use Rattle.acpi_base.specs.Words.{spelling, sum_of, Memory, Region, letters_of}
 use Rattle.acpi.specs.Types.{Signature}
 use Rattle.acpi.specs.Words.{kind_of_revision, signature_of, width_of, rsd_ptr}
@@ -115,3 +115,12 @@ records_of p =
     rsdp_record p.rsdp p.revision p.root
     ∷ root_record (kind_of p) p.root (pointers_of p)
     ∷ map summed p.tables
+
+-- ---- after an error
+
+-- what a file has then: what it had, and after it a front of these bytes
+pub record HasFront (old bytes new : List ℕ) : Type 0 where
+  pub front : List ℕ
+  pub rest : List ℕ
+  pub split : bytes ≡ front ++ rest
+  pub put : new ≡ old ++ front

@@ -1,9 +1,9 @@
 //! The records of a written image, which are put into a file one after the other.
-ghost use Rattle.std.specs.Prelude.{◌≡◌, ◌^◌, ◌<◌, ◌≤◌, ◌++◌, length, flat_map, IfErr, OnOk, All};
+ghost use Rattle.std.specs.Prelude.{◌≡◌, ◌^◌, ◌<◌, ◌≤◌, ◌++◌, length, flat_map, IfErr, OnErr, OnOk, All};
 ghost use Rattle.acpi.specs.Words.{kind_of_revision, signature_of, width_of};
 ghost use Rattle.acpi_base.specs.Words.{IsBytes, spelling};
 ghost use Rattle.acpi_image_reader.specs.Words.{record_spelling};
-ghost use Rattle.acpi_image.specs.Words.{placed, placed_region, plan, records_of, root_header, root_length, root_record, root_to, rsdp_record, rsdp_to, rsdp_unsummed, starts_of, summed, with_sum, OutOfMemory};
+ghost use Rattle.acpi_image.specs.Words.{HasFront, placed, placed_region, plan, records_of, root_header, root_length, root_record, root_to, root_unsummed, rsdp_record, rsdp_to, rsdp_unsummed, starts_of, summed, with_sum, OutOfMemory};
 
 use crate::error::WriteError;
 use crate::write::PlacedTable;
@@ -80,6 +80,7 @@ pub fn rsdp_to(oem_id: [u8; 6], revision: u8, root: u64) -> [u8; 36]
 fn put<A: Allocator>(file: &mut Vec<u8, A>, bytes: &[u8]) -> Result<(), WriteError>
     ensures put { OnOk result (file.new.items ≡ file.old.items ++ bytes.now) }
     ensures refused { IfErr result (λ e. e ≡ OutOfMemory) }
+    ensures kept { OnErr result (file.new.items ≡ file.old.items) }
 {
     match file.extend_from_slice(bytes) {
         Ok(()) => Ok(()),
@@ -99,6 +100,7 @@ fn put_number<A: Allocator>(
     requires { width ≤ 8 }
     ensures put { OnOk result (file.new.items ≡ file.old.items ++ spelling width number) }
     ensures refused { IfErr result (λ e. e ≡ OutOfMemory) }
+    ensures kept { OnErr result (file.new.items ≡ file.old.items) }
 {
     put(file, &number.to_le_bytes()[..width])
 }
@@ -106,10 +108,13 @@ fn put_number<A: Allocator>(
 /// Puts the start and the length that a record begins with.
 ///
 /// Fails with `OutOfMemory`.
+#[tactic(auto, using(crate::proofs::Written::fronts))]
 fn put_head<A: Allocator>(file: &mut Vec<u8, A>, start: u64, count: usize) -> Result<(), WriteError>
     ensures put { OnOk result
         (file.new.items ≡ file.old.items ++ spelling 8 start ++ spelling 8 count) }
     ensures refused { IfErr result (λ e. e ≡ OutOfMemory) }
+    ensures front { OnErr result
+        (HasFront file.old.items (spelling 8 start ++ spelling 8 count) file.new.items) }
 {
     put_number(file, start, 8)?;
     put_number(file, count as u64, 8)
@@ -119,6 +124,7 @@ fn put_head<A: Allocator>(file: &mut Vec<u8, A>, start: u64, count: usize) -> Re
 /// `root`: an RSDT for revision 0, otherwise an XSDT.
 ///
 /// Fails with `OutOfMemory` if memory for it is refused.
+#[tactic(auto, using(crate::proofs::Written::fronts))]
 pub fn put_rsdp<A: Allocator>(
     file: &mut Vec<u8, A>,
     address: u64,
@@ -128,6 +134,9 @@ pub fn put_rsdp<A: Allocator>(
     ensures put { OnOk result (file.new.items
         ≡ file.old.items ++ record_spelling (rsdp_record address revision root)) }
     ensures refused { IfErr result (λ e. e ≡ OutOfMemory) }
+    // After an error the file has what it had, and after that a front of the record.
+    ensures front { OnErr result
+        (HasFront file.old.items (record_spelling (rsdp_record address revision root)) file.new.items) }
 {
     put_head(file, address, 36)?;
     put(file, &rsdp_to(*b"      ", revision, root))
@@ -151,6 +160,7 @@ fn root_header(revision: u8, length: usize) -> [u8; 36]
 /// Puts the addresses of tables, in order, as pointers of this width.
 ///
 /// Fails with `OutOfMemory`.
+#[tactic(auto, using(crate::proofs::Written::by_whole))]
 fn put_pointers<A: Allocator>(
     file: &mut Vec<u8, A>,
     revision: u8,
@@ -160,6 +170,9 @@ fn put_pointers<A: Allocator>(
         OnOk result (file.new.items
         ≡ file.old.items ++ flat_map (spelling width) (starts_of (placed tables.now))) }
     ensures refused { IfErr result (λ e. e ≡ OutOfMemory) }
+    ensures front { OnErr result (HasFront file.old.items
+        (flat_map (spelling (width_of (kind_of_revision revision))) (starts_of (placed tables.now)))
+        file.new.items) }
 {
     let width = width(revision);
     for table in tables {
@@ -182,6 +195,8 @@ fn put_table_of_pointers<A: Allocator>(
         OnOk result (file.new.items
         ≡ file.old.items ++ root_to (kind_of_revision revision) pointers) }
     ensures refused { IfErr result (λ e. e ≡ OutOfMemory) }
+    ensures front { OnErr result (HasFront file.old.items
+        (root_unsummed (kind_of_revision revision) (starts_of (placed tables.now))) file.new.items) }
 {
     let start = file.len();
     let length = root_length(revision, tables.len());
@@ -207,6 +222,12 @@ pub fn put_root_table<A: Allocator>(
         OnOk result (file.new.items ≡ file.old.items
         ++ record_spelling (root_record (kind_of_revision revision) address pointers)) }
     ensures refused { IfErr result (λ e. e ≡ OutOfMemory) }
+    // After an error the file has what it had, and after that a front of the record, whose Checksum is 0.
+    ensures front { let pointers = starts_of (placed tables.now) in
+        OnErr result (HasFront file.old.items (record_spelling (record {
+          start = address;
+          bytes = root_unsummed (kind_of_revision revision) pointers;
+        })) file.new.items) }
 {
     put_head(file, address, root_length(revision, tables.len()))?;
     put_table_of_pointers(file, revision, tables)
@@ -215,6 +236,7 @@ pub fn put_root_table<A: Allocator>(
 /// Puts the record of bytes at a physical address, as they are.
 ///
 /// Fails with `OutOfMemory` if memory for it is refused.
+#[tactic(auto, using(crate::proofs::Written::fronts))]
 pub fn put_region<A: Allocator>(
     file: &mut Vec<u8, A>,
     address: u64,
@@ -223,6 +245,9 @@ pub fn put_region<A: Allocator>(
     ensures put { OnOk result (file.new.items
         ≡ file.old.items ++ record_spelling (record { start = address; bytes = bytes.now })) }
     ensures refused { IfErr result (λ e. e ≡ OutOfMemory) }
+    // After an error the file has what it had, and after that a front of the record.
+    ensures front { OnErr result (HasFront file.old.items
+        (record_spelling (record { start = address; bytes = bytes.now })) file.new.items) }
 {
     put_head(file, address, bytes.len())?;
     put(file, bytes)
