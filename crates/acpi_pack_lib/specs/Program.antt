@@ -1,5 +1,5 @@
 -- What the program does with its arguments, its files, its storage and its outputs.
-use Rattle.std.specs.Prelude.{◌≡◌, ℕ, List, [], ◌∷◌, ◌++◌, codes, Option, Some, None, Result, Ok, Err}
+use Rattle.std.specs.Prelude.{◌≡◌, ℕ, ◌⊎◌, List, [], ◌∷◌, ◌++◌, codes, Option, Some, None, Result, Ok, Err}
 use Rattle.acpi_base.specs.FromStd.{Appends}
 use Rattle.acpi_cli.specs.Reads.{Asks, FileRead, contents_of}
 use Rattle.acpi_pack_lib.specs.Listing.{labels_of, listing}
@@ -44,6 +44,17 @@ pub record Saves (r : Request) (files : List (Option (List ℕ))) (image : List 
   pub grown : new.saved ≡ old.saved
       ++ record { name = r.out; sources = r.names; bytes = image; answer = answer } ∷ []
   pub told : IsTold r files image answer status old new
+
+-- after an error: nothing was to be saved, or one file was, under the name that is asked for, and then what is printed
+-- of it couldn't be
+pub record SavesOne (r : Request) (old new : List FileSaved) : Type 0 where
+  pub bytes : List ℕ
+  pub answer : Result (Unit {0}) SaveError
+  pub grown : new ≡ old ++ record { name = r.out; sources = r.names; bytes = bytes; answer = answer } ∷ []
+
+abbrev pub SavesAtMost : Option Request → List FileSaved → List FileSaved → Type 0
+SavesAtMost None old new = new ≡ old
+SavesAtMost (Some r) old new = (new ≡ old) ⊎ SavesOne r old new
 
 -- an image is saved; a refusal gives 1, and no command 2, and then nothing was to be saved, nor is more printed
 abbrev pub Follows : Option Request → List (Option (List ℕ)) → Outcome → ℕ → Effects → Effects → Type 0

@@ -7,7 +7,7 @@ unfoldable pub use Rattle.acpi_pack_lib.specs.Pack.{check_place, laid_out, packe
 pub use Rattle.acpi_pack_lib.specs.Packed.{IsMemoryFile, IsPacked, IsRight, opened_with}
 pub use Rattle.acpi_pack_lib.specs.Place.{ArePlaced, IsPlaced, aligned, place_or, placed_from, room}
 unfoldable pub use Rattle.acpi_pack_lib.specs.Place.{place_at, start_at}
-pub use Rattle.acpi_pack_lib.specs.Program.{Effects, Follows, Packs, Runs, Saves, files_for}
+pub use Rattle.acpi_pack_lib.specs.Program.{Effects, Follows, Packs, Runs, Saves, SavesAtMost, SavesOne, files_for}
 pub use Rattle.acpi_pack_lib.specs.Run.{Ends, IsReport, left_out_by, left_out_lines, packed_by, refused_line, refused_name, usage_line}
 pub use Rattle.acpi_pack_lib.specs.Save.{are_same, check_found, save_error_text}
 pub use Rattle.acpi_pack_lib.specs.Saves.{FileSaved}

@@ -1,7 +1,7 @@
 //! The program over any files, any storage and any writers.
-ghost use Rattle.std.specs.Prelude.{◌≡◌, IfOk, OnErr, map, option_map};
+ghost use Rattle.std.specs.Prelude.{◌≡◌, IfOk, OnErr, Some, map, option_map};
 ghost use Rattle.acpi_cli.specs.Reads.{AsksFront};
-ghost use Rattle.acpi_pack_lib.specs.Words.{contents, Follows, Packs, Runs, Saves, files_for, request_in, request_of};
+ghost use Rattle.acpi_pack_lib.specs.Words.{contents, Follows, Packs, Runs, Saves, SavesAtMost, files_for, request_in, request_of};
 
 use crate::arguments::{Command, parse_command};
 use crate::help::told;
@@ -29,6 +29,7 @@ fn files_named<'c, 'w>(asked: &'c Option<Command<'w>>) -> &'c [&'w str]
 /// if it is saved, and else 1.
 ///
 /// Fails if a write fails or memory runs out.
+#[tactic(auto, using(crate::proofs::Saved::at_most))]
 fn save_image<S: Storage, W: Write, E: Write>(
     alloc: Global,
     command: &Command<'_>,
@@ -38,9 +39,11 @@ fn save_image<S: Storage, W: Write, E: Write>(
     out: &mut W,
     err: &mut E,
 ) -> io::Result<u8>
-    ensures { IfOk result (λ s. Saves (request_of command.now) (contents files.now) image.items s
+    ensures exact { IfOk result (λ s. Saves (request_of command.now) (contents files.now) image.items s
         (record { saved = S.saved storage.old; out = W.contents out.old; err = E.contents err.old })
         (record { saved = S.saved storage.new; out = W.contents out.new; err = E.contents err.new })) }
+    ensures failed { OnErr result
+        (SavesAtMost (Some (request_of command.now)) (S.saved storage.old) (S.saved storage.new)) }
 {
     let Ok(lines) = record_lines(alloc, command, files, &image) else {
         return Err(io::Error::from(AllocError));
@@ -61,6 +64,7 @@ fn save_image<S: Storage, W: Write, E: Write>(
 /// Does what follows of a run's outcome: saves the image, if there is one. It returns the status.
 ///
 /// Fails if a write fails or memory runs out.
+#[tactic(auto, using(crate::proofs::Saved::at_most))]
 fn finish<S: Storage, W: Write, E: Write>(
     alloc: Global,
     asked: &Option<Command<'_>>,
@@ -70,9 +74,11 @@ fn finish<S: Storage, W: Write, E: Write>(
     out: &mut W,
     err: &mut E,
 ) -> io::Result<u8>
-    ensures { IfOk result (λ s. Follows (option_map request_of asked.now) (contents files.now) outcome s
+    ensures exact { IfOk result (λ s. Follows (option_map request_of asked.now) (contents files.now) outcome s
         (record { saved = S.saved storage.old; out = W.contents out.old; err = E.contents err.old })
         (record { saved = S.saved storage.new; out = W.contents out.new; err = E.contents err.new })) }
+    ensures failed { OnErr result
+        (SavesAtMost (option_map request_of asked.now) (S.saved storage.old) (S.saved storage.new)) }
 {
     match (asked, outcome) {
         (None, _) => Ok(2),
@@ -89,6 +95,7 @@ fn finish<S: Storage, W: Write, E: Write>(
 /// refused, and 2 if the arguments are not a command.
 ///
 /// Fails if a write fails, or memory for anything but the image itself.
+#[tactic(auto, using(crate::proofs::Saved::at_most))]
 fn pack_asked<F: Files, S: Storage, W: Write, E: Write>(
     alloc: Global,
     arguments: &[&str],
@@ -104,6 +111,9 @@ fn pack_asked<F: Files, S: Storage, W: Write, E: Write>(
     // No other file is asked for if it is refused.
     ensures refused { OnErr result (AsksFront (files_for (request_in (map (λ w. w.now) arguments.now)))
         (F.asked files.old) (F.asked files.new)) }
+    // After an error nothing was to be saved, but for the image if its lines, or why it isn't saved, can't be printed.
+    ensures failed { OnErr result (SavesAtMost (request_in (map (λ w. w.now) arguments.now))
+        (S.saved storage.old) (S.saved storage.new)) }
 {
     let asked = parse_command(alloc, arguments)?;
     let start = count(files);
@@ -121,6 +131,7 @@ fn pack_asked<F: Files, S: Storage, W: Write, E: Write>(
 ///
 /// Fails if a write fails, or memory for anything but the image itself. The image is saved by then if its lines can't
 /// be printed; after any other error it isn't.
+#[tactic(auto, using(crate::proofs::Saved::at_most))]
 pub fn pack<F: Files, S: Storage, W: Write, E: Write>(
     alloc: Global,
     arguments: &[&str],
@@ -136,6 +147,9 @@ pub fn pack<F: Files, S: Storage, W: Write, E: Write>(
     // No other file is asked for if it is refused.
     ensures refused { OnErr result (AsksFront (files_for (request_in (map (λ w. w.now) arguments.now)))
         (F.asked files.old) (F.asked files.new)) }
+    // After an error nothing was to be saved, but for the image if its lines, or why it isn't saved, can't be printed.
+    ensures failed { OnErr result (SavesAtMost (request_in (map (λ w. w.now) arguments.now))
+        (S.saved storage.old) (S.saved storage.new)) }
 {
     match told(arguments) {
         Some(text) => {

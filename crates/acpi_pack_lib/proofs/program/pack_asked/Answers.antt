@@ -58,4 +58,4 @@ returns-clause-exact g c =
     (contents c.in_ok-sources.sources.items) _ _ c.in_ok-outcome.outcome _ _ _
     c.in_ok-asked.ensures c.files_named.ensures c.in_ok-read_all.ensures.asked c.count-start.ensures
     c.in_ok-sources.ensures (ap contents c.deref.ensures.value) c.in_ok-outcome.ensures.exact
-    (ap contents c.deref-2.ensures.value) c.finish.ensures
+    (ap contents c.deref-2.ensures.value) c.finish.ensures.exact
