@@ -61,16 +61,19 @@ fn package_size(aml: &[u8], at: usize, lead: u8) -> usize
 
 /// What a PkgLength stands before.
 #[derive(Clone, Copy)]
-pub(crate) struct Block {
+pub struct Block {
     /// The offset of the first byte after the PkgLength.
-    pub(crate) start: usize,
+    pub start: usize,
     /// The offset after the last.
-    pub(crate) end: usize,
+    pub end: usize,
 }
 
-/// The block whose PkgLength stands at an offset.
+/// The block whose PkgLength begins at an offset, which is at most the length of the AML.
+///
+/// Fails with `PastEnd` if the AML ends there, and with `InvalidLength` if the length is less than its own bytes or goes
+/// past the end.
 #[tactic(auto, unfolding(crate::specs::Blocks::block_at))]
-pub(crate) fn block_at(aml: &[u8], at: usize) -> Result<Block, AmlError>
+pub fn block_at(aml: &[u8], at: usize) -> Result<Block, AmlError>
     requires { at ≤ length aml.now }
     ensures exact { result ≡ block_at aml.now at }
     ensures after { IfOk result (λ b. at < b.start) }

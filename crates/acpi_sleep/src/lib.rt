@@ -8,16 +8,16 @@
 #![tactic(auto)]
 
 mod argument;
-mod block;
+pub mod block;
 pub mod error;
 pub mod laws;
-mod name;
+pub mod name;
 mod package;
 pub mod plan;
 pub mod sleep;
 mod step;
 pub mod tables;
-mod term;
+pub mod term;
 
 pub use error::{AmlError, PlanError, SleepError};
 pub use plan::{Plan, PlanStep, StepKind, enable_plan, pm_timer_ticks, reset_plan, sleep_plan};

@@ -67,15 +67,15 @@ fn segments_end(aml: &[u8], count: u8, at: usize) -> Result<usize, AmlError>
 
 /// A name: how many scopes up from the current one, and segments from there.
 #[derive(Clone, Copy)]
-pub(crate) struct Name {
+pub struct Name {
     /// How many `^` it begins with.
-    pub(crate) ups: usize,
+    pub ups: usize,
     /// The offset of its first segment.
-    pub(crate) first: usize,
+    pub first: usize,
     /// How many segments it has.
-    pub(crate) segments: u8,
+    pub segments: u8,
     /// The offset after it.
-    pub(crate) end: usize,
+    pub end: usize,
 }
 
 impl Name {
@@ -122,9 +122,12 @@ fn carets(aml: &[u8], at: usize) -> usize
     first_carets(skip(aml, at))
 }
 
-/// The name that begins at an offset.
+/// The name that begins at an offset, which is at most the length of the AML.
+///
+/// Fails with `PastEnd` if the AML ends before the name does, and with `InvalidName` if a character isn't one of a
+/// name's, or there are no segments after the prefix of several.
 #[tactic(auto, unfolding(crate::specs::Names::name_at))]
-pub(crate) fn name_at(aml: &[u8], at: usize) -> Result<Name, AmlError>
+pub fn name_at(aml: &[u8], at: usize) -> Result<Name, AmlError>
     requires { at ≤ length aml.now }
     ensures exact { result ≡ name_at aml.now at }
     ensures after { IfOk result (λ name. at < name.end) }

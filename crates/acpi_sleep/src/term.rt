@@ -9,7 +9,7 @@ use crate::name::name_at;
 
 /// A part of a term.
 #[derive(Clone, Copy)]
-pub(crate) enum Part {
+pub enum Part {
     /// A name.
     Name,
     /// One byte.
@@ -22,16 +22,18 @@ pub(crate) enum Part {
 
 /// An opcode.
 #[derive(Clone, Copy)]
-pub(crate) struct Opcode {
+pub struct Opcode {
     /// Its number: of an opcode of two bytes, the first is the higher one.
-    pub(crate) code: u16,
+    pub code: u16,
     /// The offset after it.
-    pub(crate) end: usize,
+    pub end: usize,
 }
 
-/// The opcode that stands at an offset.
+/// The opcode that begins at an offset, which is at most the length of the AML.
+///
+/// Fails with `PastEnd` if the AML ends before the opcode does.
 #[tactic(auto, unfolding(crate::specs::Terms::opcode_at))]
-pub(crate) fn opcode_at(aml: &[u8], at: usize) -> Result<Opcode, AmlError>
+pub fn opcode_at(aml: &[u8], at: usize) -> Result<Opcode, AmlError>
     requires { at ≤ length aml.now }
     ensures exact { result ≡ opcode_at aml.now at }
     ensures after { IfOk result (λ op. at < op.end) }
@@ -53,7 +55,7 @@ pub(crate) fn opcode_at(aml: &[u8], at: usize) -> Result<Opcode, AmlError>
 
 /// The parts that follow an opcode, or `None` if that is none of those that are known.
 #[tactic(auto, unfolding(crate::specs::Terms::parts_of))]
-pub(crate) fn parts_of(code: u16) -> Option<&'static [Part]>
+pub fn parts_of(code: u16) -> Option<&'static [Part]>
     ensures { MatchOption result (parts_of code ≡ None) (λ parts. parts_of code ≡ Some parts.now) }
 {
     match code {
@@ -92,8 +94,10 @@ fn part_end(part: Part, aml: &[u8], at: usize) -> Result<usize, AmlError>
     }
 }
 
-/// Where the last of parts ends of which the first begins at an offset.
-pub(crate) fn parts_end(parts: &[Part], aml: &[u8], at: usize) -> Result<usize, AmlError>
+/// Where the last of parts ends of which the first begins at an offset, which is at most the length of the AML.
+///
+/// Fails with the error of the first part that doesn't end within the AML or isn't what it should be.
+pub fn parts_end(parts: &[Part], aml: &[u8], at: usize) -> Result<usize, AmlError>
     requires { at ≤ length aml.now }
     ensures exact { result ≡ parts_end parts.now aml.now at }
     ensures after { IfOk result (λ end. at ≤ end) }
