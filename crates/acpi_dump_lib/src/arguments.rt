@@ -1,5 +1,6 @@
 //! The arguments of the program.
 
+use crate::check::Severity;
 use crate::input::kind::{Kind, parse_kind};
 use acpi::sdt::Signature;
 use acpi_cli::parse_address;
@@ -41,6 +42,10 @@ pub(crate) enum View {
     Differences,
     /// Each table as a file.
     Files,
+    /// What rules find.
+    Findings,
+    /// The rules.
+    Rules,
 }
 
 /// When colors are printed.
@@ -94,6 +99,8 @@ pub(crate) struct Request<'w> {
     pub(crate) is_exit_code: bool,
     /// The names of fields that are left out of what differs.
     pub(crate) ignored: Vec<&'w str>,
+    /// The least severity of what rules find that is shown, and that makes the status 4, if it is said.
+    pub(crate) least: Option<Severity>,
     pub(crate) color: Color,
     /// The first mistake that the arguments have.
     pub(crate) mistake: Option<Mistake<'w>>,
@@ -138,16 +145,18 @@ fn parse_color(word: &str) -> Option<Color> {
 }
 
 /// The options that ask for a view.
-const VIEWS: [(&str, View); 3] = [
+const VIEWS: [(&str, View); 4] = [
     ("summary", View::Summary),
     ("find", View::Candidates),
     ("compare", View::Differences),
+    ("rules", View::Rules),
 ];
 
 const ONE_VIEW: &str =
-    "[--table SIG].. [--hex SIG].. | --text [--table SIG].. | --extract DIR | --summary | --find | --compare";
+    "[--table SIG].. [--hex SIG].. | --text [--table SIG].. | --extract DIR | --summary | --find | --compare | --check | --rules";
 
-const DOCUMENTS: &str = "[--table SIG].. [--hex SIG].. | --summary | --find | --compare";
+const DOCUMENTS: &str =
+    "[--table SIG].. [--hex SIG].. | --summary | --find | --compare | --check | --rules";
 
 const FOLDER: &str = "DIR, the name of a folder";
 
@@ -158,6 +167,8 @@ const AT: &str = "ADDRESS, which is 0x and one to sixteen hexadecimal digits";
 const MOST: &str = "NUMBER, in decimal digits";
 
 const START: &str = "rsdt:REVISION:ADDRESS | rsdp:ADDRESS | bios";
+
+const SEVERITIES: &str = "error | warning | note";
 
 const COLORS: &str = "auto | always | never";
 
@@ -214,6 +225,10 @@ impl<'w> Request<'w> {
             Some("") => None,
             folder => folder,
         };
+        let least = Severity::read(word_of(matches, "check"));
+        if !word_of(matches, "check").is_empty() {
+            self.least = self.checked(matches, "check", least, SEVERITIES);
+        }
         self.kind = self.checked(matches, "as", kind, KINDS);
         self.at = self.checked(matches, "at", at, AT);
         self.start = self.checked(matches, "start", start, START);
@@ -278,6 +293,9 @@ impl<'w> Request<'w> {
         if self.folder.is_some() {
             self.take_view(View::Files);
         }
+        if matches.get_str("check").is_some() {
+            self.take_view(View::Findings);
+        }
         if self.is_json && (matches.get_flag("text") || self.folder.is_some()) {
             self.refuse_word("json", "--text and --extract have no document", DOCUMENTS);
         }
@@ -335,6 +353,7 @@ pub(crate) fn request_of<'w>(alloc: Global, matches: &ArgMatches<'w>) -> Request
         is_strict: matches.get_flag("strict"),
         is_exit_code: matches.get_flag("exit-code"),
         ignored: Vec::new(alloc),
+        least: None,
         color: Color::Auto,
         mistake: None,
     };

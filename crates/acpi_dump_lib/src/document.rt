@@ -20,8 +20,10 @@ pub(crate) use tables::{add_all, add_chosen};
 /// The version of the document's form.
 const VERSION: u64 = 1;
 
-/// The name of the one member with what a view shows that comes before the inputs.
-const BEFORE_INPUTS: &str = "facts";
+/// Whether the member with what a view shows comes before the inputs.
+fn comes_first(part: &str) -> bool {
+    matches!(part, "facts" | "findings")
+}
 
 /// A document that is written piece by piece.
 #[derive(Drop)]
@@ -44,7 +46,7 @@ impl Document {
             is_refused: false,
         };
         document.token(Token::BeginObject);
-        if part != BEFORE_INPUTS {
+        if !comes_first(part) {
             document.inputs(inputs);
         }
         document.begin_list(part);
@@ -63,7 +65,7 @@ impl Document {
         out: &mut Out,
     ) -> Result<(), AllocError> {
         self.token(Token::EndArray);
-        if part == BEFORE_INPUTS {
+        if comes_first(part) {
             self.inputs(inputs);
         }
         self.number("version", VERSION);
@@ -136,7 +138,7 @@ impl Document {
     }
 
     /// Adds a text of bytes, those that aren't printable ASCII as `.`.
-    fn letters(&mut self, name: &str, bytes: &[u8]) {
+    pub(crate) fn letters(&mut self, name: &str, bytes: &[u8]) {
         let mut text = Out::new(self.alloc);
         print_text(bytes, &mut text);
         self.printed(name, &text);

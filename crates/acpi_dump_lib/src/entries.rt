@@ -229,7 +229,11 @@ pub(crate) fn bytes_from<'i>(image: &MemoryImage<'i>, address: u64) -> &'i [u8] 
 }
 
 /// The table at an address, checked under the signature that it should have, or under its own.
-fn entry_at<'i>(image: &MemoryImage<'i>, address: u64, sought: Option<Signature>) -> Entry<'i> {
+pub(crate) fn entry_at<'i>(
+    image: &MemoryImage<'i>,
+    address: u64,
+    sought: Option<Signature>,
+) -> Entry<'i> {
     let lent = bytes_from(image, address);
     let own = own_signature(lent);
     let status = match sought {

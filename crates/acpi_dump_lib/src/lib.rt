@@ -5,6 +5,7 @@
 #![tactic(auto)]
 
 mod arguments;
+mod check;
 mod compare;
 mod contents;
 mod document;

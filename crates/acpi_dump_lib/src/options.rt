@@ -6,7 +6,7 @@ use std::alloc::{AllocError, Global};
 
 /// The options, a line for each: what it is called, with its letter after a comma if it has one, what it takes, and
 /// what the help says of it. It takes nothing (`-`), one value, or with `..` after the value's name a value each time
-/// that it comes, or several between commas.
+/// that it comes, or several between commas, and in brackets a value that may follow after `=`.
 const OPTIONS: &str = "as KIND What the input is: image, memory, text or table
 at ADDRESS The address of raw memory's first byte
 start START The way to the root table: rsdt:REVISION:ADDRESS, rsdp:ADDRESS or bios
@@ -17,6 +17,8 @@ extract,o DIR Each table as a file in this folder: SIG.dat, or SIG1.dat and so o
 force - Files of --extract replace those that are there
 summary - The machine in short
 find - Every RSDP in memory, valid or not
+check [SEVERITY] What rules find wrong: all, or only what is an error, a warning or worse, or a note or worse
+rules - The rules of --check
 compare,c - What differs between two inputs
 exit-code - Status 1 if two inputs differ
 ignore FIELD.. Fields that are left out of what differs
@@ -36,6 +38,14 @@ fn option<'a>(alloc: Global, line: &'static str) -> Arg<'a> {
     }
     if takes == "-" {
         return option.action(ArgAction::SetTrue);
+    }
+    if let Some(value) = takes.strip_prefix('[') {
+        return option
+            .value_name(cut_at(value, ']').0)
+            .num_args(0..=1)
+            .require_equals(true)
+            .default_missing_value("")
+            .action(ArgAction::Set);
     }
     match takes.strip_suffix("..") {
         None => option.value_name(takes).action(ArgAction::Set),
@@ -60,7 +70,7 @@ fn inputs<'a>(alloc: Global) -> Arg<'a> {
 const AFTER: &str = "An image may also be followed by rsdt REVISION ADDRESS, rsdp ADDRESS or bios.
 ADDRESS is 0x and one to sixteen hexadecimal digits.
 Status: 0 shown, 1 something isn't there or can't be read or written, 2 usage, 3 shown but a table is invalid
-(--strict).";
+(--strict), 4 shown and --check finds an error, or with a severity anything of it or worse.";
 
 /// What the options are.
 pub(crate) fn command<'a>(alloc: Global) -> Result<Command<'a>, AllocError> {

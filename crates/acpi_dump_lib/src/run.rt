@@ -9,7 +9,7 @@ use crate::options::command;
 use crate::out::Out;
 use crate::paint::Paint;
 use crate::sources::{Sources, reason_of};
-use crate::views::{Output, print_compared, print_input, save_input};
+use crate::views::{Output, print_all_rules, print_compared, print_input, save_input};
 use acpi_pack_lib::storage::Storage;
 use clap::ArgMatches;
 use std::alloc::{AllocError, Global};
@@ -18,7 +18,7 @@ use std::io::{ErrorKind, Write};
 
 /// Runs the program on the arguments after its name, and answers the status: 0 if all is shown, 1 if something that
 /// is asked for isn't there or can't be read, or if two inputs differ and `--exit-code` is given, 2 if the arguments
-/// are not a command, and 3 if all is shown but a table is invalid and `--strict` is given.
+/// are not a command, 3 if all is shown but a table is invalid and `--strict` is given, and 4 if `--check` finds an error.
 ///
 /// Fails if memory runs out, or with the error of the first write or flush of `out`, or else of `err`, that is
 /// refused.
@@ -40,7 +40,7 @@ pub fn dump<S: Sources, T: Storage, W: Write + Drop, E: Write + Drop>(
     }
     let told = log.text.write_to(err);
     let status = match status {
-        Ok(0 | 3) if log.is_incomplete => 1,
+        Ok(0 | 3 | 4) if log.is_incomplete => 1,
         Ok(status) => status,
         Err(Stop::Told) => 1,
         Err(Stop::OutOfMemory) => return Err(io::Error::from(AllocError)),
@@ -122,8 +122,10 @@ fn print_inputs<S: Sources, T: Storage>(
         request,
         paint: Paint { is_on },
     };
-    if matches!(request.view, View::Differences) {
-        return print_two(output, sources, out, log);
+    match request.view {
+        View::Differences => return print_two(output, sources, out, log),
+        View::Rules => return print_all_rules(output, out),
+        _ => {}
     }
     let input = &gather_named(output, &request.inputs, sources, log)?;
     match request.folder {

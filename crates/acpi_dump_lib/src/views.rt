@@ -1,6 +1,7 @@
 //! The views of an input, as text or as one JSON document.
 
 mod compared;
+mod judged;
 mod packed;
 
 ghost use Rattle.acpi_dump_lib.specs.Extract.{AddsWithin};
@@ -25,6 +26,8 @@ use acpi_cli::root::Root;
 use acpi_image_reader::MemoryImage;
 use acpi_pack_lib::storage::Storage;
 pub(crate) use compared::print_compared;
+pub(crate) use judged::print_all_rules;
+use judged::print_judged;
 use packed::add_facts_of_files;
 use std::alloc::{AllocError, Global};
 
@@ -145,6 +148,19 @@ fn open<'h, 'i>(
     log: &mut Log,
 ) -> Result<AcpiTables<'h, MemoryImage<'i>>, Stop> {
     let root = start_of(output, number, image, log)?;
+    open_at(output, number, image, root, log)
+}
+
+/// The tables below the root table that a way leads to.
+///
+/// Fails, after saying why, if there are none.
+fn open_at<'h, 'i>(
+    output: Output<'_, '_>,
+    number: usize,
+    image: &'h MemoryImage<'i>,
+    root: Root,
+    log: &mut Log,
+) -> Result<AcpiTables<'h, MemoryImage<'i>>, Stop> {
     match root.open(image) {
         Ok(tables) => Ok(tables),
         Err(refusal) => Err(unopened(output.name(number), root, refusal, log)),
@@ -234,6 +250,7 @@ fn print_loaded(
     match output.request.view {
         View::Candidates => print_found(output, loaded, out, log),
         View::Summary => print_summary(output, loaded, out, log),
+        View::Findings => print_judged(output, loaded, out, log),
         _ => print_entries(output, &entries_in(output, 0, loaded, log)?, out, log),
     }
 }

@@ -1,0 +1,55 @@
+//! The judgement of an input's tables by rules: what firmware has wrong, by the specifications that define the tables.
+//!
+//! A rule is a line of its subject's `RULES`, and code of the subject that adds a finding by the rule's id. A line is `ID
+//! SEVERITY SECTION | WHAT`: what the rule finds, and the section that it rests on.
+
+mod affinities;
+mod devices;
+mod facs;
+mod fadt;
+mod findings;
+mod headers;
+mod iommu;
+mod machine;
+mod machines;
+mod madt;
+mod numbers;
+mod report;
+mod roots;
+mod rules;
+
+pub(crate) use findings::{Finding, Findings};
+pub(crate) use machine::Machine;
+pub(crate) use report::{add_findings, add_rules, counts_of, print_findings, print_rules};
+pub(crate) use rules::Severity;
+use std::alloc::AllocError;
+
+/// The rules, subject by subject.
+const RULES: [&str; 9] = [
+    roots::RULES,
+    headers::RULES,
+    fadt::RULES,
+    facs::RULES,
+    madt::RULES,
+    affinities::RULES,
+    devices::RULES,
+    iommu::RULES,
+    machines::RULES,
+];
+
+/// What the rules find in the tables of a machine, in the order of the tables, and in a table by offset.
+///
+/// Fails if memory runs out.
+pub(crate) fn findings_of(machine: &Machine<'_>) -> Result<Findings, AllocError> {
+    let mut findings = Findings::new(machine.alloc)?;
+    roots::check_roots(machine, &mut findings);
+    headers::check_headers(machine, &mut findings);
+    fadt::check_fadt(machine, &mut findings);
+    facs::check_facs(machine, &mut findings);
+    madt::check_madt(machine, &mut findings);
+    affinities::check_affinities(machine, &mut findings);
+    devices::check_devices(machine, &mut findings);
+    iommu::check_iommu(machine, &mut findings);
+    machines::check_machines(machine, &mut findings);
+    findings.in_order(machine.entries)
+}

@@ -1,0 +1,9 @@
+//! The headers of all tables (ACPI 6.5, section 5.2.6).
+
+use super::findings::Findings;
+use super::machine::Machine;
+
+pub(super) const RULES: &str = "";
+
+/// Judges them.
+pub(super) fn check_headers(_machine: &Machine<'_>, _findings: &mut Findings) {}

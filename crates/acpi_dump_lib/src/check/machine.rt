@@ -1,0 +1,54 @@
+//! The tables that are judged together.
+
+use crate::entries::{Entry, own_signature};
+use crate::status::Status;
+use acpi::sdt::{Signature, field};
+use std::alloc::Global;
+
+/// The tables of an input, and what leads to them.
+#[derive(Clone, Copy)]
+pub(crate) struct Machine<'a> {
+    pub(crate) alloc: Global,
+    pub(crate) entries: &'a [Entry<'a>],
+    /// The RSDP that leads to the root table, or no bytes if none is known.
+    pub(crate) rsdp: &'a [u8],
+    /// The RSDT that this RSDP gives beside an XSDT, or no bytes.
+    pub(crate) rsdt: &'a [u8],
+}
+
+/// A table that is judged: its number among the entries, and its bytes up to its length.
+#[derive(Clone, Copy)]
+pub(super) struct Table<'a> {
+    pub(super) index: usize,
+    pub(super) bytes: &'a [u8],
+}
+
+impl<'a> Machine<'a> {
+    /// The table of this number, if it has a signature and all bytes of its length are there, also if they don't sum
+    /// to 0.
+    pub(super) fn table(&self, index: usize, signature: Signature) -> Option<Table<'a>> {
+        let entry = self.entries.get(index)?;
+        let is_whole = match entry.status {
+            Status::Refused(_) | Status::Cut { .. } | Status::NotHere => false,
+            _ => own_signature(entry.bytes) == signature,
+        };
+        if !is_whole {
+            return None;
+        }
+        let length = field(entry.bytes, 4, 4) as usize;
+        Some(Table {
+            index,
+            bytes: entry.bytes.get(..length).unwrap_or(entry.bytes),
+        })
+    }
+
+    /// The first table of a signature, as `table` gives it.
+    pub(super) fn first(&self, signature: Signature) -> Option<Table<'a>> {
+        for index in 0..self.entries.len() {
+            if let Some(table) = self.table(index, signature) {
+                return Some(table);
+            }
+        }
+        None
+    }
+}

@@ -1,0 +1,124 @@
+//! What the rules find, and the rules themselves, as lines and as documents.
+
+use super::findings::{Finding, Findings};
+use super::rules::{Severity, rules};
+use crate::contents::print_name;
+use crate::document::Document;
+use crate::entries::{Entry, Place, own_signature};
+use crate::out::Out;
+use json::Token;
+use std::alloc::{AllocError, Global};
+
+/// How many findings of each severity there are from one on, by rank.
+pub(crate) fn counts_of(findings: &Findings, least: Severity) -> [usize; 3] {
+    let mut counts = [0usize; 3];
+    for finding in findings.list() {
+        let rank = finding.rule.severity.rank();
+        if rank >= least.rank() && rank < 3 {
+            counts[rank] = counts[rank].saturating_add(1);
+        }
+    }
+    counts
+}
+
+/// Prints a line for each finding of a severity or a higher one, and how many they are.
+pub(crate) fn print_findings(
+    findings: &Findings,
+    entries: &[Entry<'_>],
+    least: Severity,
+    out: &mut Out,
+) {
+    for finding in findings.list() {
+        if finding.rule.severity.rank() >= least.rank()
+            && let Some(entry) = entries.get(finding.table)
+        {
+            print_finding(findings, finding, entry, out);
+        }
+    }
+    let [notes, warnings, errors] = counts_of(findings, least);
+    writeln!(out, "errors {errors}, warnings {warnings}, notes {notes}");
+}
+
+/// Prints the line of a finding.
+fn print_finding(findings: &Findings, finding: &Finding, entry: &Entry<'_>, out: &mut Out) {
+    write!(
+        out,
+        "{} {}: ",
+        finding.rule.severity.word(),
+        finding.rule.id
+    );
+    print_name(entry, out);
+    write!(out, " 0x{:04x}", finding.offset);
+    if !finding.field.is_empty() {
+        write!(out, " {}", finding.field);
+    }
+    let (message, section) = (findings.message(finding), finding.rule.section);
+    writeln!(out, ": {message} ({section})");
+}
+
+/// Adds the findings of a severity or a higher one.
+pub(crate) fn add_findings(
+    findings: &Findings,
+    entries: &[Entry<'_>],
+    least: Severity,
+    document: &mut Document,
+) {
+    for finding in findings.list() {
+        if finding.rule.severity.rank() >= least.rank()
+            && let Some(entry) = entries.get(finding.table)
+        {
+            add_finding(findings, finding, entry, document);
+        }
+    }
+}
+
+/// Adds a finding.
+fn add_finding(findings: &Findings, finding: &Finding, entry: &Entry<'_>, document: &mut Document) {
+    document.token(Token::BeginObject);
+    if let Place::Address(address) = entry.place {
+        document.address("address", address);
+    }
+    if !finding.field.is_empty() {
+        document.text("field", finding.field);
+    }
+    if let Place::File(name) = entry.place {
+        document.text("file", name);
+    }
+    document.text("message", findings.message(finding));
+    document.number("offset", finding.offset as u64);
+    document.text("rule", finding.rule.id);
+    document.text("section", finding.rule.section);
+    document.text("severity", finding.rule.severity.word());
+    document.letters("signature", &own_signature(entry.bytes).to_bytes());
+    document.token(Token::EndObject);
+}
+
+/// Prints the rules, a line each.
+///
+/// Fails if memory runs out.
+pub(crate) fn print_rules(alloc: Global, out: &mut Out) -> Result<(), AllocError> {
+    for rule in rules(alloc)?.iter() {
+        let severity = rule.severity.word();
+        writeln!(
+            out,
+            "{} {severity}: {} ({})",
+            rule.id, rule.what, rule.section
+        );
+    }
+    Ok(())
+}
+
+/// Adds the rules.
+///
+/// Fails if memory runs out.
+pub(crate) fn add_rules(alloc: Global, document: &mut Document) -> Result<(), AllocError> {
+    for rule in rules(alloc)?.iter() {
+        document.token(Token::BeginObject);
+        document.text("rule", rule.id);
+        document.text("section", rule.section);
+        document.text("severity", rule.severity.word());
+        document.text("what", rule.what);
+        document.token(Token::EndObject);
+    }
+    Ok(())
+}

@@ -1,0 +1,151 @@
+//! What rules find in the tables of an input.
+
+use super::{Loaded, Output, open_at, start_of, strict_status};
+use crate::check::{
+    Machine, Severity, add_findings, add_rules, counts_of, findings_of, print_findings, print_rules,
+};
+use crate::entries::{Entry, bytes_from, entries_of, entries_of_files, entry_at};
+use crate::errors::{Log, Stop};
+use crate::out::Out;
+use acpi::PhysicalRecord;
+use acpi::rsdp::Rsdp;
+use acpi::sdt::Signature;
+use acpi_cli::root::Root;
+use acpi_image_reader::MemoryImage;
+use std::alloc::Global;
+
+/// The tables of an input, and what leads to them.
+#[derive(Drop)]
+pub(crate) struct Judged<'l> {
+    pub(crate) entries: Vec<Entry<'l>>,
+    rsdp: &'l [u8],
+    rsdt: &'l [u8],
+}
+
+impl Judged<'_> {
+    /// The machine whose tables they are.
+    pub(crate) fn machine(&self, alloc: Global) -> Machine<'_> {
+        Machine {
+            alloc,
+            entries: self.entries.as_slice(),
+            rsdp: self.rsdp,
+            rsdt: self.rsdt,
+        }
+    }
+}
+
+/// The tables of an input to be judged.
+///
+/// Fails, after saying why, if there are none.
+pub(crate) fn judged_in<'l>(
+    output: Output<'_, '_>,
+    number: usize,
+    loaded: &'l Loaded<'_>,
+    log: &mut Log,
+) -> Result<Judged<'l>, Stop> {
+    match loaded {
+        Loaded::Tables(files) => Ok(judged_files(entries_of_files(output.alloc, *files)?)),
+        Loaded::Memory(image) => judged_memory(output, number, image, log),
+    }
+}
+
+/// The first bytes of tables that begin with letters, or none.
+fn beginning_with<'l>(entries: &[Entry<'l>], letters: &[u8]) -> &'l [u8] {
+    for entry in entries {
+        if entry.bytes.starts_with(letters) && !entry.status.is_invalid() {
+            return entry.bytes;
+        }
+    }
+    &[]
+}
+
+/// Tables that come as files: an RSDP and an RSDT beside an XSDT are among them.
+fn judged_files(entries: Vec<Entry<'_>>) -> Judged<'_> {
+    let rsdt = if beginning_with(&entries, b"XSDT").is_empty() {
+        &[]
+    } else {
+        beginning_with(&entries, b"RSDT")
+    };
+    Judged {
+        rsdp: beginning_with(&entries, b"RSD PTR "),
+        rsdt,
+        entries,
+    }
+}
+
+/// The tables of a memory, whose RSDP may give an RSDT beside an XSDT.
+fn judged_memory<'i>(
+    output: Output<'_, '_>,
+    number: usize,
+    image: &'i MemoryImage<'_>,
+    log: &mut Log,
+) -> Result<Judged<'i>, Stop> {
+    let root = start_of(output, number, image, log)?;
+    let tables = open_at(output, number, image, root, log)?;
+    let rsdp = match root {
+        Root::Rsdp { address } => bytes_from(image, address),
+        _ => &[],
+    };
+    Ok(Judged {
+        entries: entries_of(output.alloc, image, &tables)?,
+        rsdp: rsdp.get(..36).unwrap_or(&[]),
+        rsdt: rsdt_beside(image, rsdp),
+    })
+}
+
+/// The RSDT that an RSDP gives beside an XSDT, if it is valid.
+fn rsdt_beside<'i>(image: &'i MemoryImage<'_>, rsdp: &[u8]) -> &'i [u8] {
+    if rsdp.len() < Rsdp::MIN_LENGTH {
+        return &[];
+    }
+    let rsdp = Rsdp::read(rsdp);
+    if rsdp.revision() == 0 {
+        return &[];
+    }
+    let entry = entry_at(image, rsdp.rsdt_address() as u64, Some(Signature::RSDT));
+    if entry.status.is_invalid() {
+        return &[];
+    }
+    entry.bytes
+}
+
+/// Prints what rules find in the tables of an input. It answers the status: 4 if something is bad.
+///
+/// Fails, after saying why, if there are no tables, or if memory runs out.
+pub(super) fn print_judged(
+    output: Output<'_, '_>,
+    loaded: &Loaded<'_>,
+    out: &mut Out,
+    log: &mut Log,
+) -> Result<u8, Stop> {
+    let judged = &judged_in(output, 0, loaded, log)?;
+    let entries = judged.entries.as_slice();
+    let findings = &findings_of(&judged.machine(output.alloc))?;
+    let least = output.request.least.unwrap_or(Severity::Note);
+    if output.request.is_json {
+        let mut document = output.document("findings");
+        add_findings(findings, entries, least, &mut document);
+        output.print(document, "check", "findings", out)?;
+    } else {
+        print_findings(findings, entries, least, out);
+    }
+    let bad = output.request.least.unwrap_or(Severity::Error);
+    if counts_of(findings, bad) != [0, 0, 0] {
+        return Ok(4);
+    }
+    Ok(strict_status(output, entries))
+}
+
+/// Prints the rules.
+///
+/// Fails if memory runs out.
+pub(crate) fn print_all_rules(output: Output<'_, '_>, out: &mut Out) -> Result<u8, Stop> {
+    if output.request.is_json {
+        let mut document = output.document("rules");
+        add_rules(output.alloc, &mut document)?;
+        output.print(document, "rules", "rules", out)?;
+    } else {
+        print_rules(output.alloc, out)?;
+    }
+    Ok(0)
+}
