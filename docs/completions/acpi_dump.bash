@@ -14,7 +14,7 @@ _acpi_dump() {
             ;;
         *)
             case $word in
-                -*) COMPREPLY=($(compgen -W "--as --at --start --table --hex --text --extract --force --summary --find --compare --exit-code --ignore --json --strict --max-bytes --color --help --version" -- "$word")) ;;
+                -*) COMPREPLY=($(compgen -W "--as --at --start --table --hex --text --extract --force --summary --find --check --check= --rules --compare --exit-code --ignore --json --strict --max-bytes --color --help --version" -- "$word")) ;;
                 *) COMPREPLY=($(compgen -f -- "$word")) ;;
             esac
             ;;

@@ -1,9 +1,174 @@
 //! The FADT (ACPI 6.5, section 5.2.9).
 
 use super::findings::Findings;
-use super::machine::Machine;
+use super::machine::{Machine, Table};
+use acpi::sdt::{Signature, field};
 
-pub(super) const RULES: &str = "";
+pub(super) const RULES: &str = "
+fadt-dsdt-differs warning ACPI 6.5, section 5.2.9 | DSDT and X_DSDT are two addresses
+fadt-facs-differs warning ACPI 6.5, section 5.2.9 | FIRMWARE_CTRL and X_FIRMWARE_CTRL are two addresses
+fadt-no-dsdt error ACPI 6.5, section 5.2.9 | Neither DSDT nor X_DSDT is an address
+fadt-block-differs warning ACPI 6.5, section 5.2.9 | The two fields of a block of registers give it two places
+fadt-block-width warning ACPI 6.5, section 5.2.9 | The Register Bit Width of a block isn't that of its length
+fadt-event-length error ACPI 6.5, section 5.2.9 | PM1_EVT_LEN is under 4
+fadt-control-length error ACPI 6.5, section 5.2.9 | PM1_CNT_LEN is under 2
+fadt-gpe-length error ACPI 6.5, section 5.2.9 | The length of a block of general purpose events is odd
+fadt-timer-length error ACPI 6.5, section 5.2.9 | PM_TMR_LEN is neither 0 nor 4
+fadt-sci-interrupt error ACPI 6.5, section 5.2.9 | SCI_INT is 0 on fixed hardware
+fadt-smi-command warning ACPI 6.5, section 5.2.9 | SMI_CMD is 0, but ACPI_ENABLE isn't
+fadt-fixed-blocks warning ACPI 6.5, section 5.2.9 | A machine of reduced hardware has blocks of fixed hardware
+fadt-reset-register warning ACPI 6.5, section 4.8.3.6 | RESET_REG isn't 8 bits of memory, ports or PCI
+fadt-profile note ACPI 6.5, section 5.2.9.1 | Preferred_PM_Profile is a reserved one
+fadt-reserved-flags note ACPI 6.5, sections 5.2.9.2 to 5.2.9.4 | A reserved flag is set
+";
 
-/// Judges them.
-pub(super) fn check_fadt(_machine: &Machine<'_>, _findings: &mut Findings) {}
+/// A block of registers: the name of its 32-bit field, and the offsets of that, of its length and of its generic address.
+type Block = (&'static str, usize, usize, usize);
+
+const BLOCKS: [Block; 8] = [
+    ("PM1a_EVT_BLK", 56, 88, 148),
+    ("PM1b_EVT_BLK", 60, 88, 160),
+    ("PM1a_CNT_BLK", 64, 89, 172),
+    ("PM1b_CNT_BLK", 68, 89, 184),
+    ("PM2_CNT_BLK", 72, 90, 196),
+    ("PM_TMR_BLK", 76, 91, 208),
+    ("GPE0_BLK", 80, 92, 220),
+    ("GPE1_BLK", 84, 93, 232),
+];
+
+/// Judges the first FADT.
+pub(super) fn check_fadt(machine: &Machine<'_>, findings: &mut Findings) {
+    let Some(table) = machine.first(Signature::FADT) else {
+        return;
+    };
+    check_addresses(table, findings);
+    check_general(table, findings);
+    // HW_REDUCED_ACPI.
+    if field(table.bytes, 112, 4) & 1 << 20 != 0 {
+        check_reduced(table, findings);
+    } else {
+        check_fixed(table, findings);
+        for block in &BLOCKS {
+            check_block(table, *block, findings);
+        }
+    }
+}
+
+/// Judges the addresses of the DSDT and the FACS.
+fn check_addresses(table: Table<'_>, findings: &mut Findings) {
+    let both = [
+        ("fadt-dsdt-differs", 40usize, 140usize), // DSDT, X_DSDT
+        ("fadt-facs-differs", 36, 132), // FIRMWARE_CTRL, X_FIRMWARE_CTRL
+    ];
+    for (rule, narrow, wide) in &both {
+        let (short, long) = (field(table.bytes, *narrow, 4), field(table.bytes, *wide, 8));
+        if short != 0 && long != 0 && short != long {
+            let what = &format_args!("is 0x{long:x}, and the field of 32 bits 0x{short:x}");
+            findings.add(*rule, table.index, *wide, what);
+        }
+    }
+    if field(table.bytes, 40, 4) == 0 && field(table.bytes, 140, 8) == 0 {
+        findings.add("fadt-no-dsdt", table.index, 40, &"is 0, as X_DSDT is");
+    }
+}
+
+/// Judges what a FADT of any hardware has.
+fn check_general(table: Table<'_>, findings: &mut Findings) {
+    let (fadt, index) = (table.bytes, table.index);
+    let profile = field(fadt, 45, 1); // Preferred_PM_Profile
+    if profile > 8 {
+        let what = &format_args!("{profile} is reserved");
+        findings.add("fadt-profile", index, 45, what);
+    }
+    let flags = field(fadt, 112, 4); // Flags
+    let (space, width) = (field(fadt, 116, 1), field(fadt, 117, 1)); // RESET_REG
+    if flags & 1 << 10 != 0 && (space > 2 || width != 8) {
+        let what = &format_args!("has {width} bits of the address space {space}");
+        findings.add("fadt-reset-register", index, 116, what);
+    }
+    check_flags(table, 109, field(fadt, 109, 2) & !0x3f, findings); // IAPC_BOOT_ARCH
+    check_flags(table, 112, flags & !0xff_ffff, findings);
+    check_flags(table, 129, field(fadt, 129, 2) & !3, findings); // ARM_BOOT_ARCH
+}
+
+/// Judges those flags of a field that are reserved.
+fn check_flags(table: Table<'_>, offset: usize, reserved: u64, findings: &mut Findings) {
+    if reserved != 0 {
+        let what = &format_args!("has the reserved flags 0x{reserved:x}");
+        findings.add("fadt-reserved-flags", table.index, offset, what);
+    }
+}
+
+/// Judges a machine of reduced hardware, which has no blocks.
+fn check_reduced(table: Table<'_>, findings: &mut Findings) {
+    for block in &BLOCKS {
+        let (_, narrow, _, wide) = *block;
+        let address = field(table.bytes, narrow, 4);
+        if address != 0 || field(table.bytes, wide.saturating_add(4), 8) != 0 {
+            let offset = if address != 0 { narrow } else { wide };
+            let what = &"HW_REDUCED_ACPI is set";
+            findings.add("fadt-fixed-blocks", table.index, offset, what);
+        }
+    }
+}
+
+/// Judges what fixed hardware needs.
+fn check_fixed(table: Table<'_>, findings: &mut Findings) {
+    let (fadt, index) = (table.bytes, table.index);
+    let event = field(fadt, 88, 1); // PM1_EVT_LEN
+    if event < 4 {
+        findings.add("fadt-event-length", index, 88, &format_args!("is {event}"));
+    }
+    let control = field(fadt, 89, 1); // PM1_CNT_LEN
+    if control < 2 {
+        let what = &format_args!("is {control}");
+        findings.add("fadt-control-length", index, 89, what);
+    }
+    let timer = field(fadt, 91, 1); // PM_TMR_LEN
+    if timer != 0 && timer != 4 {
+        findings.add("fadt-timer-length", index, 91, &format_args!("is {timer}"));
+    }
+    // GPE0_BLK_LEN and GPE1_BLK_LEN.
+    for offset in [92usize, 93].iter() {
+        let length = field(fadt, *offset, 1);
+        if length % 2 != 0 {
+            let what = &format_args!("is {length}: half are status registers, half enable them");
+            findings.add("fadt-gpe-length", index, *offset, what);
+        }
+    }
+    // SCI_INT.
+    if field(fadt, 46, 2) == 0 {
+        findings.add("fadt-sci-interrupt", index, 46, &"is 0, the timer's");
+    }
+    // SMI_CMD, ACPI_ENABLE.
+    if field(fadt, 48, 4) == 0 && field(fadt, 52, 1) != 0 {
+        findings.add(
+            "fadt-smi-command",
+            index,
+            48,
+            &"is 0, but ACPI_ENABLE isn't",
+        );
+    }
+}
+
+/// Judges the two fields of a block, if its generic address is given.
+fn check_block(table: Table<'_>, block: Block, findings: &mut Findings) {
+    let (name, narrow, length, place) = block;
+    let narrow = field(table.bytes, narrow, 4);
+    let length = field(table.bytes, length, 1);
+    let register = table.bytes.get(place..).unwrap_or(&[]);
+    let (space, width) = (field(register, 0, 1), field(register, 1, 1));
+    let wide = field(register, 4, 8);
+    if wide == 0 {
+        return;
+    }
+    if narrow != 0 && (wide != narrow || space != 1) {
+        let what = &format_args!("0x{wide:x} in space {space}, and {name} is port 0x{narrow:x}");
+        findings.add("fadt-block-differs", table.index, place, what);
+    }
+    // A width has eight bits, so that 32 bytes don't fit it.
+    if length < 32 && width != 8 * length {
+        let what = &format_args!("{width} bits wide, and {name} has {length} bytes");
+        findings.add("fadt-block-width", table.index, place, what);
+    }
+}

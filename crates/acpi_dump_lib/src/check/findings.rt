@@ -90,7 +90,7 @@ impl Findings {
                     id,
                     table,
                     it.1,
-                    &format_args!("{what} {number} is also at 0x{offset:x}"),
+                    &format_args!("{what} 0x{number:x} is also at 0x{offset:x}"),
                 );
             }
             before = Some(*it);

@@ -1,7 +1,6 @@
 //! The tables that are judged together.
 
 use crate::entries::{Entry, own_signature};
-use crate::status::Status;
 use acpi::sdt::{Signature, field};
 use std::alloc::Global;
 
@@ -24,22 +23,16 @@ pub(super) struct Table<'a> {
 }
 
 impl<'a> Machine<'a> {
-    /// The table of this number, if it has a signature and all bytes of its length are there, also if they don't sum
-    /// to 0.
+    /// The table of this number, if it has a signature, and a length of at least 36 of which all bytes are there. They
+    /// needn't sum to 0.
     pub(super) fn table(&self, index: usize, signature: Signature) -> Option<Table<'a>> {
-        let entry = self.entries.get(index)?;
-        let is_whole = match entry.status {
-            Status::Refused(_) | Status::Cut { .. } | Status::NotHere => false,
-            _ => own_signature(entry.bytes) == signature,
-        };
-        if !is_whole {
+        let bytes = self.entries.get(index)?.bytes;
+        let length = field(bytes, 4, 4) as usize;
+        if own_signature(bytes) != signature || length < 36 {
             return None;
         }
-        let length = field(entry.bytes, 4, 4) as usize;
-        Some(Table {
-            index,
-            bytes: entry.bytes.get(..length).unwrap_or(entry.bytes),
-        })
+        let bytes = bytes.get(..length)?;
+        Some(Table { index, bytes })
     }
 
     /// The first table of a signature, as `table` gives it.

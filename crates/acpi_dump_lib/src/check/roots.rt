@@ -2,8 +2,172 @@
 
 use super::findings::Findings;
 use super::machine::Machine;
+use super::numbers::Numbers;
+use crate::entries::{Entry, Place, own_signature};
+use crate::status::Status;
+use acpi::sdt::{Signature, field};
+use std::alloc::Global;
 
-pub(super) const RULES: &str = "";
+pub(super) const RULES: &str = "
+root-null-pointer warning ACPI 6.5, section 5.2.8 | The root table lists the address 0
+root-listed-twice warning ACPI 6.5, section 5.2.8 | The root table lists an address twice
+root-lists-differ warning ACPI 6.5, section 5.2.5.3 | The RSDT and the XSDT list different tables
+root-rsdt-in-use note ACPI 6.5, section 5.2.8 | An RSDT leads to the tables of a machine since ACPI 2.0, which has an XSDT
+root-second-table warning ACPI 6.5, section 5.2.6 | A table of which a machine has one is there twice
+root-nothing-there note ACPI 6.5, section 5.2.8 | The input has no byte of a table that is listed
+root-overlap error ACPI 6.5, section 5.2 | Two tables share bytes
+";
 
-/// Judges them.
-pub(super) fn check_roots(_machine: &Machine<'_>, _findings: &mut Findings) {}
+/// The signatures of tables of which a machine has one.
+const SINGLE: &str =
+    "APIC BERT BGRT CPEP DBG2 DMAR DSDT ECDT EINJ ERST FACP FACS FPDT GTDT HEST HMAT IORT IVRS \
+                      MCFG MSCT NFIT PCCT PPTT RHCT SBST SLIT SPCR SRAT TPM2 WAET WDAT WSMT";
+
+/// Judges what leads to the tables, and where these are.
+pub(super) fn check_roots(machine: &Machine<'_>, findings: &mut Findings) {
+    if let Some(xsdt) = machine.first(Signature::XSDT) {
+        let mut wide = pointers_in(machine.alloc, xsdt.bytes, 8);
+        check_pointers(xsdt.index, &mut wide, findings);
+        if !machine.rsdt.is_empty() {
+            let mut narrow = pointers_in(machine.alloc, machine.rsdt, 4);
+            compare_lists(xsdt.index, &mut wide, &mut narrow, findings);
+        }
+    } else if let Some(rsdt) = machine.first(Signature::RSDT) {
+        let mut narrow = pointers_in(machine.alloc, rsdt.bytes, 4);
+        check_pointers(rsdt.index, &mut narrow, findings);
+        check_revision(machine, rsdt.index, findings);
+    }
+    check_second(machine, findings);
+    check_overlap(machine, findings);
+}
+
+/// The pointers of a root table, each of so many bytes.
+fn pointers_in(alloc: Global, table: &[u8], width: usize) -> Numbers {
+    let mut pointers = Numbers::new(alloc);
+    let mut offset = 36usize;
+    for pointer in table.get(36..).unwrap_or(&[]).chunks(width.max(1)) {
+        if pointer.len() == width {
+            pointers.push(field(pointer, 0, width.min(8)), offset);
+        }
+        offset = offset.saturating_add(width);
+    }
+    pointers
+}
+
+/// Judges the pointers of the root table.
+fn check_pointers(table: usize, pointers: &mut Numbers, findings: &mut Findings) {
+    findings.add_repeated("root-listed-twice", table, pointers, "the address");
+    for (address, offset) in pointers.list.iter() {
+        if *address == 0 {
+            findings.add("root-null-pointer", table, *offset, &"no table is at 0");
+        }
+    }
+}
+
+/// Compares the pointers of an XSDT with those of the RSDT that is beside it.
+fn compare_lists(xsdt: usize, wide: &mut Numbers, narrow: &mut Numbers, findings: &mut Findings) {
+    if !wide.sort() || !narrow.sort() {
+        return findings.refuse();
+    }
+    for (address, offset) in wide.list.iter() {
+        if *address != 0 && *address < 1 << 32 && narrow.find(*address).is_none() {
+            let what = &format_args!("the RSDT doesn't list 0x{address:x}");
+            findings.add("root-lists-differ", xsdt, *offset, what);
+        }
+    }
+    for (address, _) in narrow.list.iter() {
+        if *address != 0 && wide.find(*address).is_none() {
+            let what = &format_args!("the RSDT lists 0x{address:x} as well");
+            findings.add("root-lists-differ", xsdt, 4, what);
+        }
+    }
+}
+
+/// Judges that an RSDT leads to the tables, by the revisions of the RSDP and the FADT.
+fn check_revision(machine: &Machine<'_>, rsdt: usize, findings: &mut Findings) {
+    let fadt = match machine.first(Signature::FADT) {
+        Some(fadt) => field(fadt.bytes, 8, 1),
+        None => 0,
+    };
+    let rsdp = field(machine.rsdp, 15, 1);
+    if rsdp >= 2 {
+        let what = &format_args!("the RSDP has revision {rsdp}, and so an XSDT");
+        findings.add("root-rsdt-in-use", rsdt, 0, what);
+    } else if fadt >= 3 {
+        let what = &format_args!("the FADT has revision {fadt}, as machines with an XSDT have it");
+        findings.add("root-rsdt-in-use", rsdt, 0, what);
+    }
+}
+
+/// Whether two tables are at one place.
+fn is_same_place(one: &Entry<'_>, other: &Entry<'_>) -> bool {
+    match (one.place, other.place) {
+        (Place::Address(one), Place::Address(other)) => one == other && one != 0,
+        _ => false,
+    }
+}
+
+/// Finds second tables of which a machine has one.
+fn check_second(machine: &Machine<'_>, findings: &mut Findings) {
+    let mut signatures = Numbers::new(machine.alloc);
+    for index in 0..machine.entries.len() {
+        if let Some(entry) = machine.entries.get(index)
+            && !entry.bytes.is_empty()
+        {
+            signatures.push(field(entry.bytes, 0, 4), index);
+        }
+    }
+    if !signatures.sort() {
+        return findings.refuse();
+    }
+    let mut before = None;
+    for (letters, index) in signatures.list.iter() {
+        if let Some((same, first)) = before
+            && same == *letters
+            && let (Some(one), Some(other)) = (
+                machine.entries.get(first),
+                machine.entries.get(*index),
+            )
+            && !is_same_place(one, other)
+            && SINGLE.contains(own_signature(other.bytes).as_str().unwrap_or("-"))
+        {
+            findings.add("root-second-table", *index, 0, &"a machine has one of them");
+        }
+        before = Some((*letters, *index));
+    }
+}
+
+/// Finds tables that have no bytes, and those that share some, of which it takes the one of a higher address.
+fn check_overlap(machine: &Machine<'_>, findings: &mut Findings) {
+    let mut starts = Numbers::new(machine.alloc);
+    for index in 0..machine.entries.len() {
+        if let Some(entry) = machine.entries.get(index)
+            && let Place::Address(address) = entry.place
+            && address != 0
+        {
+            if !entry.bytes.is_empty() {
+                starts.push(address, index);
+            } else if !matches!(entry.status, Status::NotHere) {
+                findings.add("root-nothing-there", index, 0, &entry.status);
+            }
+        }
+    }
+    if !starts.sort() {
+        return findings.refuse();
+    }
+    let (mut start, mut end) = (0u64, 0u64);
+    for (address, index) in starts.list.iter() {
+        if *address < end && *address != start {
+            let what = &format_args!("shares bytes with the table at 0x{start:x}");
+            findings.add("root-overlap", *index, 0, what);
+        }
+        let length = match machine.entries.get(*index) {
+            Some(entry) => entry.bytes.len() as u64,
+            None => 0,
+        };
+        if end < address.saturating_add(length) {
+            start = *address;
+            end = address.saturating_add(length);
+        }
+    }
+}
