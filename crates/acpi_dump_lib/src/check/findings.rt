@@ -46,14 +46,8 @@ impl Findings {
     }
 
     /// Adds what the rule of an id finds at an offset of the table that has this number among the entries.
-    pub(super) fn add<D: Display>(
-        &mut self,
-        id: &'static str,
-        table: usize,
-        offset: usize,
-        message: &D,
-    ) {
-        let mut rule = Rule::unknown(id);
+    pub(super) fn add<D: Display>(&mut self, id: &str, table: usize, offset: usize, message: &D) {
+        let mut rule = Rule::UNKNOWN;
         for known in self.rules.iter() {
             if known.id == id {
                 rule = *known;
@@ -75,7 +69,7 @@ impl Findings {
     /// Adds, for each number of a table that came before, what a rule finds there: that `what` is also elsewhere.
     pub(super) fn add_repeated(
         &mut self,
-        id: &'static str,
+        id: &str,
         table: usize,
         numbers: &mut Numbers,
         what: &str,

@@ -57,6 +57,14 @@ pub(crate) struct Rule {
 }
 
 impl Rule {
+    /// What stands in place of a rule that no line describes.
+    pub(super) const UNKNOWN: Rule = Rule {
+        id: "",
+        severity: Severity::Error,
+        section: "",
+        what: "",
+    };
+
     /// The rule that a line describes.
     fn read(line: &'static str) -> Rule {
         let (id, line) = next_word(line);
@@ -67,16 +75,6 @@ impl Rule {
             severity: Severity::read(severity).unwrap_or(Severity::Error),
             section: section.trim_ascii(),
             what: what.trim_ascii(),
-        }
-    }
-
-    /// A rule that no line describes.
-    pub(super) fn unknown(id: &'static str) -> Rule {
-        Rule {
-            id,
-            severity: Severity::Error,
-            section: "",
-            what: "",
         }
     }
 }

@@ -86,10 +86,12 @@ fn judged_memory<'i>(
         Root::Rsdp { address } => bytes_from(image, address),
         _ => &[],
     };
+    let entries = entries_of(output.alloc, image, &tables)?;
+    let rsdt = rsdt_beside(image, rsdp);
     Ok(Judged {
-        entries: entries_of(output.alloc, image, &tables)?,
+        entries,
         rsdp: rsdp.get(..36).unwrap_or(&[]),
-        rsdt: rsdt_beside(image, rsdp),
+        rsdt,
     })
 }
 
