@@ -1,8 +1,8 @@
 -- Bytes are cut in exactly one way.
-use Rattle.std.proofs.Common.{◌≡◌, ℕ, zero, suc, ◌+◌, ◌-◌, ◌≤◌, cond, List, [], ◌∷◌, ◌++◌, length, take, drop, Option, Some, None, refl, sym, ap, ◌∙◌, arith, append_assoc, length-append, length-drop, ◌⊎◌, inl, inr, option_map}
+use Rattle.std.proofs.Common.{◌≡◌, ℕ, zero, suc, ◌+◌, ◌-◌, ◌≤◌, cond, List, [], ◌∷◌, ◌++◌, length, take, drop, Option, Some, None, refl, sym, ap, ◌∙◌, arith, append_assoc, length-append, length-drop, option_map, unwrap_or}
 use Rattle.acpi_base.proofs.FromStd.{get_or_append_left, take_at, drop_at, take-append-drop, get_or-take, length-take-le, nat_tests}
-use Rattle.acpi_base.specs.FromStd.{concat}
-use Rattle.acpi_base.specs.Words.{IsEntry, IsCut, IsFew, after_one, front, is_full, next_front, with_entry, cut_within, cut, least_length, number_at, number_in, width_of, OneCut, CutIsCut, EntryLayout, Grammar, Place, Width, One, Two, Four}
+use Rattle.acpi_base.specs.FromStd.{concat, AllByRecursion}
+use Rattle.acpi_base.specs.Words.{IsEntry, IsCutOf, after_one, front, is_full, next_front, with_entry, cut_by, cut, least_length, number_at, number_in, width_of, OneCut, CutIsCut, EntryLayout, Grammar, Place, Width, One, Two, Four}
 use Rattle.acpi_base.specs.Entries.{end_of, two_at}
 
 -- ---- numbers in the front of bytes
@@ -42,19 +42,6 @@ some_end Four at = omega arith
 
 -- ---- the front
 
--- two entries that begin the same bytes are one
-pub same_front : {n : ℕ} (l : EntryLayout n) (e f x y : List ℕ) → IsEntry l e → IsEntry l f → e ++ x ≡ f ++ y
-    → (e ≡ f) × (x ≡ y)
-same_front l e f x y ee ff same =
-    let at_e : number_at l.length_place (e ++ x) ≡ number_at l.length_place e =
-    at_append l.length_place e x ee.header in
-    let at_f : number_at l.length_place (f ++ y) ≡ number_at l.length_place f =
-    at_append l.length_place f y ff.header in
-    let long : length e ≡ length f = sym ee.size ∙ sym at_e ∙ ap (number_at l.length_place) same ∙ at_f ∙ ff.size in (
-      sym (take_at e x (length e) refl) ∙ ap (take (length e)) same ∙ take_at f y (length e) (sym long),
-      sym (drop_at e x (length e) refl) ∙ ap (drop (length e)) same ∙ drop_at f y (length e) (sym long),
-    )
-
 pub front_is : {k : ℕ} (l : EntryLayout k) (bytes : List ℕ) (n : ℕ) → front l bytes ≡ Some n
     → IsEntry l (take n bytes) × (1 ≤ n) × (n ≤ length bytes)
 unfolding front
@@ -75,11 +62,10 @@ front_is l bytes n e =
       within,
     )
 
-pub front_none : {k : ℕ} (l : EntryLayout k) (bytes e more : List ℕ) → front l bytes ≡ None → bytes ≡ e ++ more
-    → IsEntry l e → ⊥
+-- an entry begins its bytes whatever comes after them
+front_begins : {k : ℕ} (l : EntryLayout k) (e more : List ℕ) → IsEntry l e → front l (e ++ more) ≡ Some (length e)
 unfolding front
-front_none l bytes e more none whole ee =
-    let w : front l (e ++ more) ≡ None = sym (ap (front l) whole) ∙ none in
+front_begins l e more ee =
     let is_long : number_at l.length_place (e ++ more) ≡ length e =
     at_append l.length_place e more ee.header ∙ ee.size in
     let is_kind : number_at l.kind_place (e ++ more) ≡ number_at l.kind_place e =
@@ -87,203 +73,240 @@ front_none l bytes e more none whole ee =
     let least : least_length l (number_at l.kind_place (e ++ more)) ≤ length e = rw is_kind ee.least in
     grind (arith, nat_tests, ee.entry_type, ee.header, length-append e more)
 
--- ---- all entries
+-- ---- pieces of any kind
 
--- of those that follow one entry one less may come
-few_after : (most : Option ℕ) (count : ℕ) → IsFew most (suc count) → IsFew (option_map (λ n. n - 1) most) count
-few_after None count few bound same = cc
-few_after (Some n) count few bound same =
-    let is : n - 1 ≡ bound = cc in
-    omega (arith, few n refl, is)
+-- how long the piece is with which bytes begin: one byte at least, and no more than there are
+abbrev pub Within : (List ℕ → Option ℕ) → Type 0
+Within size = (bytes : List ℕ) (n : ℕ) → size bytes ≡ Some n → (1 ≤ n) × (n ≤ length bytes)
 
-most_after : (most : Option ℕ) (count : ℕ) → most ≡ Some (suc count) → option_map (λ n. n - 1) most ≡ Some count
-most_after most count e =
-    let less : suc count - 1 ≡ count = omega arith in
-    ap (option_map (λ n. n - 1)) e ∙ ap Some less
+-- what bytes begin with is a piece, and a piece begins its bytes whatever comes after them
+pub record Fronts (Is : List ℕ → Type 0) (size : List ℕ → Option ℕ) : Type 0 where
+  pub within : Within size
+  pub is : (bytes : List ℕ) (n : ℕ) → size bytes ≡ Some n → Is (take n bytes)
+  pub begins : (e more : List ℕ) → Is e → size (e ++ more) ≡ Some (length e)
 
-tail_cut : {n : ℕ} (g : Grammar n) (e : List ℕ) (es : List (List ℕ)) (bytes rest : List ℕ) → IsCut g bytes (e ∷ es) rest
-    → IsCut (after_one g) (concat es ++ rest) es rest
-tail_cut g e es bytes rest c = record {
-  whole = refl;
-  entries = c.entries.1;
-  few = few_after g.most (length es) c.few;
-  ends = λ f more w i. most_after g.most (length es) (c.ends f more w i);
+entry_fronts : {k : ℕ} (l : EntryLayout k) → Fronts (IsEntry l) (front l)
+entry_fronts l = record {
+  within = λ bytes n e.
+      let is = front_is l bytes n e in
+      (is.1, is.2);
+  is = λ bytes n e. (front_is l bytes n e).0;
+  begins = front_begins l;
 }
 
-pub one_cut : OneCut
-one_cut n g bytes [] [] rest more c d = (refl, sym c.whole ∙ d.whole)
-one_cut n g bytes [] (f ∷ fs) rest more c d =
-    absurd
-    (omega (
-      arith,
-      d.few 0 (c.ends f (concat fs ++ more) (sym c.whole ∙ d.whole ∙ append_assoc f (concat fs) more)
-          d.entries.0),
-    ))
-one_cut n g bytes (e ∷ es) [] rest more c d =
-    absurd
-    (omega (
-      arith,
-      c.few 0 (d.ends e (concat es ++ rest) (sym d.whole ∙ c.whole ∙ append_assoc e (concat es) rest)
-          c.entries.0),
-    ))
-one_cut n g bytes (e ∷ es) (f ∷ fs) rest more c d =
-    let first : (e ≡ f) × (concat es ++ rest ≡ concat fs ++ more) =
-    same_front g.layout e f _ _ c.entries.0 d.entries.0 (sym (append_assoc e (concat es) rest) ∙ sym c.whole ∙ d.whole
-    ∙ append_assoc f (concat fs) more) in
-    let left : IsCut (after_one g) (concat es ++ rest) es rest = tail_cut g e es bytes rest c in
-    let right : IsCut (after_one g) (concat es ++ rest) fs more = rw first.1 (tail_cut g f fs bytes more d) in
-    let others : (es ≡ fs) × (rest ≡ more) = one_cut n (after_one g) (concat es ++ rest) es fs rest more left right in
-    (cc, others.1)
+-- ---- as many as there are bytes are enough
 
--- ---- what is computed
+-- what a front makes of the bytes, if at most that many pieces follow
+abbrev cut_at : (List ℕ → Option ℕ) → ℕ → List ℕ → Option ℕ → List (List ℕ) × List ℕ
+cut_at size most bytes o = elim o [
+  | Some n ↦ with_entry (take n bytes) (cut_by size most (drop n bytes))
+  | None ↦ ([], bytes)
+]
 
-most_before : (most : Option ℕ) (count : ℕ) → IsFew most (suc count) → option_map (λ n. n - 1) most ≡ Some count
-    → most ≡ Some (suc count)
-most_before None count few e = cc
-most_before (Some zero) count few e = absurd (omega (arith, few 0 refl))
-most_before (Some (suc n)) count few e =
-    let one : suc n - 1 ≡ count = cc in
-    let same : suc n ≡ suc count = omega (arith, one) in
-    ap Some same
+none_in_none : (size : List ℕ → Option ℕ) → Within size → (most : ℕ) (bytes : List ℕ) (o : Option ℕ) → size bytes ≡ o
+    → length bytes ≤ 0 → cut_at size most bytes o ≡ ([], bytes)
+none_in_none size within most bytes None e none = refl
+none_in_none size within most bytes (Some n) e none = absurd (omega (arith, within bytes n e, none))
 
-with_entry_cut : {k : ℕ} (g : Grammar k) (n : ℕ) (bytes : List ℕ) (others : List (List ℕ) × List ℕ)
-    → front g.layout bytes ≡ Some n → IsFew g.most (suc (length others.0))
-    → IsCut (after_one g) (drop n bytes) others.0 others.1 → IsCut g bytes (take n bytes ∷ others.0) others.1
-with_entry_cut g n bytes others e few c = record {
-  whole = sym (take-append-drop n bytes) ∙ ap (λ s. take n bytes ++ s) c.whole
-      ∙ sym (append_assoc (take n bytes) (concat others.0) others.1);
-  entries = ((front_is g.layout bytes n e).0, c.entries);
-  few = few;
-  ends = λ f more w i. most_before g.most (length others.0) few (c.ends f more w i);
-}
+same_at : (size : List ℕ → Option ℕ) → Within size → (a b : ℕ) (bytes : List ℕ) (o : Option ℕ) → size bytes ≡ o
+    → ((n : ℕ) → 1 ≤ n → n ≤ length bytes → cut_by size a (drop n bytes) ≡ cut_by size b (drop n bytes))
+    → cut_at size a bytes o ≡ cut_at size b bytes o
+same_at size within a b bytes None e same = refl
+same_at size within a b bytes (Some n) e same =
+    let is = within bytes n e in
+    ap (with_entry (take n bytes)) (same n is.0 is.1)
 
-few_before : (most : Option ℕ) (count : ℕ) → (most ≡ Some 0 → ⊥) → IsFew (option_map (λ n. n - 1) most) count
-    → IsFew most (suc count)
-few_before None count some few bound same = cc
-few_before (Some zero) count some few bound same = absurd (some refl)
-few_before (Some (suc n)) count some few bound same =
-    let is : suc n ≡ bound = cc in
-    let one : suc n - 1 ≡ n = omega arith in
-    omega (arith, few n (ap Some one), is)
+same_within : (size : List ℕ → Option ℕ) → Within size → (a b : ℕ) (bytes : List ℕ) → length bytes ≤ a
+    → length bytes ≤ b → cut_by size a bytes ≡ cut_by size b bytes
+same_within size within zero zero bytes l m = refl
+same_within size within zero (suc b) bytes l m = sym (none_in_none size within b bytes (size bytes) refl l)
+same_within size within (suc a) zero bytes l m = none_in_none size within a bytes (size bytes) refl m
+same_within size within (suc a) (suc b) bytes l m =
+    same_at size within a b bytes (size bytes) refl (λ n one few.
+    same_within size within a b (drop n bytes) (omega (arith, length-drop n bytes, l, one))
+    (omega (arith, length-drop n bytes, m, one)))
 
--- bytes that begin with no entry are the rest
-stuck_cut : {k : ℕ} (g : Grammar k) (bytes : List ℕ) → front g.layout bytes ≡ None → IsCut g bytes [] bytes
-stuck_cut g bytes e = record {
-  whole = refl;
-  entries = tt;
-  few = λ bound same. omega arith;
-  ends =
-      λ f more w i. absurd (front_none g.layout bytes f more e w i);
-}
+-- the pieces of bytes that begin with one
+pub all_front : (size : List ℕ → Option ℕ) → Within size → (bytes : List ℕ) (n : ℕ) → size bytes ≡ Some n
+    → cut_by size (length bytes) bytes
+    ≡ with_entry (take n bytes) (cut_by size (length (drop n bytes)) (drop n bytes))
+all_front size within bytes n e =
+    let is = within bytes n e in
+    same_within size within (length bytes) (suc (length bytes)) bytes (omega arith) (omega arith)
+    ∙ ap (cut_at size (length bytes) bytes) e ∙ ap (with_entry (take n bytes))
+    (same_within size within (length bytes) (length (drop n bytes)) (drop n bytes) (omega (arith, length-drop n bytes))
+    (omega arith))
 
--- if no entry may come
-full_cut : {k : ℕ} (g : Grammar k) (bytes : List ℕ) → g.most ≡ Some 0 → IsCut g bytes [] bytes
-full_cut g bytes e = record { whole = refl; entries = tt; few = λ bound same. omega arith; ends = λ f more w i. e }
+-- those of bytes that begin with none
+pub stuck : (size : List ℕ → Option ℕ) (most : ℕ) (bytes : List ℕ) → size bytes ≡ None
+    → cut_by size most bytes ≡ ([], bytes)
+stuck size zero bytes e = refl
+stuck size (suc most) bytes e = ap (cut_at size most bytes) e
 
--- a grammar with another bound
-bounded : {k : ℕ} → EntryLayout k → Option ℕ → Grammar k
-bounded l most = record { layout = l; most = most }
+-- ---- what is computed is a cut
 
-step : {k : ℕ} (l : EntryLayout k) (most : Option ℕ) (fuel : ℕ) (bytes : List ℕ) (o : Option ℕ) → front l bytes ≡ o
-    → (most ≡ Some 0 → ⊥) → ((n : ℕ) → 1 ≤ n → n ≤ length bytes
-    → IsCut (bounded l (option_map (λ n. n - 1) most)) (drop n bytes) (cut_within l fuel (drop n bytes)).0
-    (cut_within l fuel (drop n bytes)).1) → let r : List (List ℕ) × List ℕ =
-    elim o [ Some n ↦ with_entry (take n bytes) (cut_within l fuel (drop n bytes)) | None ↦ ([], bytes) ] in
-    IsCut (bounded l most) bytes r.0 r.1
-unfolding bounded
-step l most fuel bytes None e some others = stuck_cut (bounded l most) bytes e
-step l most fuel bytes (Some n) e some others =
-    let is = front_is l bytes n e in
-    let rest = others n is.1 is.2 in
-    with_entry_cut (bounded l most) n bytes (cut_within l fuel (drop n bytes)) e (few_before most _ some rest.few) rest
+one_byte : {Is : List ℕ → Type 0} {size : List ℕ → Option ℕ} → Fronts Is size → (e : List ℕ) → Is e → 1 ≤ length e
+one_byte f e i = (f.within (e ++ []) (length e) (f.begins e [] i)).0
 
--- without a bound the bytes are fuel enough
-unbounded_cut : {k : ℕ} (l : EntryLayout k) (fuel : ℕ) (bytes : List ℕ) → length bytes ≤ fuel
-    → IsCut (bounded l None) bytes (cut_within l fuel bytes).0 (cut_within l fuel bytes).1
-unfolding bounded
-unbounded_cut l zero bytes le = record {
+-- no more pieces than bytes
+as_many : {Is : List ℕ → Type 0} {size : List ℕ → Option ℕ} → Fronts Is size → (es : List (List ℕ))
+    → AllByRecursion Is es → length es ≤ length (concat es)
+as_many f [] a = omega arith
+as_many f (e ∷ es) a = omega (arith, as_many f es a.1, one_byte f e a.0, length-append e (concat es))
+
+not_none : {A : Type 0} (o : Option A) (x : A) → o ≡ None → o ≡ Some x → ⊥
+not_none o x none some = cc
+
+step : {Is : List ℕ → Type 0} {size : List ℕ → Option ℕ} → Fronts Is size → (most : ℕ) (bytes : List ℕ) (o : Option ℕ)
+    → size bytes ≡ o → ((n : ℕ) → let others : List (List ℕ) × List ℕ = cut_by size most (drop n bytes) in
+    IsCutOf Is (Some most) (drop n bytes) others.0 others.1)
+    → IsCutOf Is (Some (suc most)) bytes (cut_at size most bytes o).0 (cut_at size most bytes o).1
+step {size = size} f most bytes None e others = record {
   whole = refl;
   entries = tt;
   few = λ bound same. omega arith;
-  ends =
-      λ f more w i. absurd (omega (
-        arith,
-        le,
-        i.header,
-        some_end l.length_place.width l.length_place.at,
-        length-append f more,
-        ap length w,
-      ));
+  ends = λ p more w i. absurd (not_none (size bytes) (length p) e (ap size w ∙ f.begins p more i));
 }
-unbounded_cut l (suc fuel) bytes le =
-    step l None fuel bytes (front l bytes) refl (λ same. cc) (λ n one within.
-    unbounded_cut l fuel (drop n bytes) (omega (arith, length-drop n bytes, le, one)))
+step {size = size} f most bytes (Some n) e others =
+    let c = others n in
+    let r : List (List ℕ) × List ℕ = cut_by size most (drop n bytes) in
+    record {
+      whole = sym (take-append-drop n bytes) ∙ ap (λ s. take n bytes ++ s) c.whole
+          ∙ sym (append_assoc (take n bytes) (concat r.0) r.1);
+      entries = (f.is bytes n e, c.entries);
+      few = λ bound same.
+          let is : suc most ≡ bound = cc in
+          omega (arith, c.few most refl, is);
+      ends = λ p more w i. ap (option_map suc) (c.ends p more w i);
+    }
 
--- with one it is the fuel
-bounded_cut : {k : ℕ} (l : EntryLayout k) (most : ℕ) (bytes : List ℕ)
-    → IsCut (bounded l (Some most)) bytes (cut_within l most bytes).0 (cut_within l most bytes).1
-unfolding bounded
-bounded_cut l zero bytes = full_cut (bounded l (Some 0)) bytes refl
-bounded_cut l (suc most) bytes =
-    let less : suc most - 1 ≡ most = omega arith in
-    step l (Some (suc most)) most bytes (front l bytes) refl (λ same. cc)
-    (λ n one within. rw less (bounded_cut l most (drop n bytes)))
+pub bounded_cut : {Is : List ℕ → Type 0} {size : List ℕ → Option ℕ} → Fronts Is size → (most : ℕ) (bytes : List ℕ)
+    → IsCutOf Is (Some most) bytes (cut_by size most bytes).0 (cut_by size most bytes).1
+bounded_cut f zero bytes = record {
+  whole = refl;
+  entries = tt;
+  few = λ bound same. omega arith;
+  ends = λ p more w i. refl;
+}
+bounded_cut {size = size} f (suc most) bytes =
+    step f most bytes (size bytes) refl (λ n. bounded_cut f most (drop n bytes))
 
-either_cut : {k : ℕ} (l : EntryLayout k) (most : Option ℕ) (bytes : List ℕ)
-    → IsCut (bounded l most) bytes (cut (bounded l most) bytes).0 (cut (bounded l most) bytes).1
-unfolding bounded cut
-either_cut l None bytes = unbounded_cut l (length bytes) bytes (omega arith)
-either_cut l (Some most) bytes = bounded_cut l most bytes
+-- with a bound, or without one
+pub is_cut_by : {Is : List ℕ → Type 0} {size : List ℕ → Option ℕ} → Fronts Is size → (most : Option ℕ) (bytes : List ℕ)
+    → let r : List (List ℕ) × List ℕ = cut_by size (unwrap_or most (length bytes)) bytes in
+    IsCutOf Is most bytes r.0 r.1
+is_cut_by f (Some most) bytes = bounded_cut f most bytes
+is_cut_by {size = size} f None bytes =
+    let r : List (List ℕ) × List ℕ = cut_by size (length bytes) bytes in
+    let c = bounded_cut f (length bytes) bytes in
+    record {
+      whole = c.whole;
+      entries = c.entries;
+      few = λ bound same. cc;
+      ends = λ p more w i.
+          let all : Some (length bytes) ≡ Some (length r.0) = c.ends p more w i in
+          let same : length bytes ≡ length r.0 = cc in
+          absurd (omega (
+            arith,
+            same,
+            as_many f r.0 c.entries,
+            one_byte f p i,
+            ap length c.whole,
+            length-append (concat r.0) r.1,
+            ap length w,
+            length-append p more,
+          ));
+    }
+
+-- ---- and the only one
+
+rest_stuck : {Is : List ℕ → Type 0} {size : List ℕ → Option ℕ} → Fronts Is size → (most : ℕ) (rest : List ℕ)
+    (o : Option ℕ) → size rest ≡ o → ((e more : List ℕ) → rest ≡ e ++ more → Is e → suc most ≡ 0)
+    → cut_at size most rest o ≡ ([], rest)
+rest_stuck f most rest None e ends = refl
+rest_stuck f most rest (Some n) e ends =
+    absurd (omega (arith, ends (take n rest) (drop n rest) (sym (take-append-drop n rest)) (f.is rest n e)))
+
+only : {Is : List ℕ → Type 0} {size : List ℕ → Option ℕ} → Fronts Is size → (most : ℕ) (es : List (List ℕ))
+    (rest : List ℕ) → AllByRecursion Is es → length es ≤ most
+    → ((e more : List ℕ) → rest ≡ e ++ more → Is e → most ≡ length es)
+    → cut_by size most (concat es ++ rest) ≡ (es, rest)
+only f zero [] rest are few ends = refl
+only {size = size} f (suc most) [] rest are few ends = rest_stuck f most rest (size rest) refl ends
+only f zero (e ∷ es) rest are few ends = absurd (omega (arith, few))
+only {size = size} f (suc most) (e ∷ es) rest are few ends =
+    let others = only f most es rest are.1 (omega (arith, few)) (λ p more w i. omega (arith, ends p more w i)) in
+    let parts : with_entry (take (length e) (e ++ (concat es ++ rest)))
+    (cut_by size most (drop (length e) (e ++ (concat es ++ rest)))) ≡ (e ∷ es, rest) =
+    rw (take_at e (concat es ++ rest) (length e) refl, drop_at e (concat es ++ rest) (length e) refl, others) refl in
+    rw (append_assoc e (concat es) rest)
+    (ap (cut_at size most (e ++ (concat es ++ rest))) (f.begins e (concat es ++ rest) are.0) ∙ parts)
+
+pub is_only : {Is : List ℕ → Type 0} {size : List ℕ → Option ℕ} → Fronts Is size → (most : Option ℕ) (bytes : List ℕ)
+    (es : List (List ℕ)) (rest : List ℕ) → IsCutOf Is most bytes es rest
+    → cut_by size (unwrap_or most (length bytes)) bytes ≡ (es, rest)
+is_only {size = size} f (Some most) bytes es rest c =
+    ap (cut_by size most) c.whole ∙ only f most es rest c.entries (c.few most refl) (λ p more w i.
+    let all : Some most ≡ Some (length es) = c.ends p more w i in
+    cc)
+is_only {size = size} f None bytes es rest c =
+    let few : length es ≤ length bytes =
+    omega (arith, as_many f es c.entries, ap length c.whole, length-append (concat es) rest) in
+    ap (cut_by size (length bytes)) c.whole ∙ only f (length bytes) es rest c.entries few (λ p more w i.
+    let none : None ≡ Some (length es) = c.ends p more w i in
+    absurd cc)
+
+-- ---- entries
 
 pub cut_is_cut : CutIsCut
-unfolding bounded
-cut_is_cut n g bytes = either_cut g.layout g.most bytes
+unfolding cut
+cut_is_cut n g bytes = is_cut_by (entry_fronts g.layout) g.most bytes
 
-pair_same : {A B : Type 0} (p q : A × B) → p.0 ≡ q.0 → p.1 ≡ q.1 → p ≡ q
-pair_same p q a b = ap (λ x. (x, p.1)) a ∙ ap (λ y. (q.0, y)) b
+pub one_cut : OneCut
+unfolding cut
+one_cut n g bytes es fs rest more c d =
+    let f = entry_fronts g.layout in
+    let same = sym (is_only f g.most bytes es rest c) ∙ is_only f g.most bytes fs more d in
+    (ap (λ x. x.0) same, ap (λ x. x.1) same)
 
 -- what the test whether one may come says
-next_some : (most : Option ℕ) (o : Option ℕ) (n : ℕ) → cond (is_full most) None o ≡ Some n
-    → (o ≡ Some n) × (most ≡ Some 0 → ⊥)
-next_some None o n e = (e, λ same. cc)
+next_some : (most : Option ℕ) (o : Option ℕ) (n : ℕ) → cond (is_full most) None o ≡ Some n → o ≡ Some n
+next_some None o n e = e
 next_some (Some zero) o n e = cc
-next_some (Some (suc k)) o n e = (e, λ same. cc)
-
-next_none : (most : Option ℕ) (o : Option ℕ) → cond (is_full most) None o ≡ None → (o ≡ None) ⊎ (most ≡ Some 0)
-next_none None o e = inl e
-next_none (Some zero) o e = inr refl
-next_none (Some (suc k)) o e = inl e
+next_some (Some (suc k)) o n e = e
 
 -- an entry that comes first
 pub next_is : {k : ℕ} (g : Grammar k) (bytes : List ℕ) (n : ℕ) → next_front g bytes ≡ Some n
     → IsEntry g.layout (take n bytes) × (1 ≤ n) × (n ≤ length bytes)
 unfolding next_front
-next_is g bytes n e = front_is g.layout bytes n (next_some g.most (front g.layout bytes) n e).0
+next_is g bytes n e = front_is g.layout bytes n (next_some g.most (front g.layout bytes) n e)
+
+front_by : (size : List ℕ → Option ℕ) → Within size → (most : Option ℕ) (bytes : List ℕ) (n : ℕ)
+    → cond (is_full most) None (size bytes) ≡ Some n → cut_by size (unwrap_or most (length bytes)) bytes
+    ≡ with_entry (take n bytes)
+    (cut_by size (unwrap_or (option_map (λ k. k - 1) most) (length (drop n bytes))) (drop n bytes))
+front_by size within None bytes n e = all_front size within bytes n e
+front_by size within (Some zero) bytes n e = cc
+front_by size within (Some (suc k)) bytes n e =
+    let less : suc k - 1 ≡ k = omega arith in
+    rw less (ap (cut_at size k bytes) e)
 
 -- the cut of bytes that begin with an entry
 pub cut_front : {k : ℕ} (g : Grammar k) (bytes : List ℕ) (n : ℕ) → next_front g bytes ≡ Some n
     → cut g bytes ≡ with_entry (take n bytes) (cut (after_one g) (drop n bytes))
-unfolding next_front
-cut_front {k} g bytes n e =
-    let comes = next_some g.most (front g.layout bytes) n e in
-    let others = cut_is_cut k (after_one g) (drop n bytes) in
-    let one = one_cut k g bytes _ _ _ _ (cut_is_cut k g bytes)
-    (with_entry_cut g n bytes (cut (after_one g) (drop n bytes)) comes.0 (few_before g.most _ comes.1 others.few)
-    others) in
-    pair_same (cut g bytes) (with_entry (take n bytes) (cut (after_one g) (drop n bytes))) one.0 one.1
+unfolding next_front cut
+cut_front g bytes n e = front_by (front g.layout) (entry_fronts g.layout).within g.most bytes n e
 
-no_entry : {k : ℕ} (g : Grammar k) (bytes : List ℕ) → (front g.layout bytes ≡ None) ⊎ (g.most ≡ Some 0)
-    → IsCut g bytes [] bytes
-no_entry g bytes (inl e) = stuck_cut g bytes e
-no_entry g bytes (inr e) = full_cut g bytes e
+stuck_by : (size : List ℕ → Option ℕ) (most : Option ℕ) (bytes : List ℕ) → cond (is_full most) None (size bytes) ≡ None
+    → cut_by size (unwrap_or most (length bytes)) bytes ≡ ([], bytes)
+stuck_by size None bytes e = stuck size (length bytes) bytes e
+stuck_by size (Some zero) bytes e = refl
+stuck_by size (Some (suc k)) bytes e = stuck size (suc k) bytes e
 
 -- of bytes that begin with none, or if none may come
 pub cut_stuck : {k : ℕ} (g : Grammar k) (bytes : List ℕ) → next_front g bytes ≡ None → cut g bytes ≡ ([], bytes)
-unfolding next_front
-cut_stuck {k} g bytes e =
-    let one = one_cut k g bytes _ [] _ bytes (cut_is_cut k g bytes)
-    (no_entry g bytes (next_none g.most (front g.layout bytes) e)) in
-    pair_same (cut g bytes) ([], bytes) one.0 one.1
+unfolding next_front cut
+cut_stuck g bytes e = stuck_by (front g.layout) g.most bytes e
 
 -- ---- bytes that are entries to their end
 
@@ -295,7 +318,7 @@ front_length l bytes n e = grind (arith, nat_tests)
 next_length : {k : ℕ} (g : Grammar k) (bytes : List ℕ) (n : ℕ) → next_front g bytes ≡ Some n
     → number_at g.layout.length_place bytes ≡ n
 unfolding next_front
-next_length g bytes n e = front_length g.layout bytes n (next_some g.most (front g.layout bytes) n e).0
+next_length g bytes n e = front_length g.layout bytes n (next_some g.most (front g.layout bytes) n e)
 
 whole_next : {k : ℕ} (g : Grammar k) (bytes : List ℕ) (o : Option ℕ) → next_front g bytes ≡ o → 1 ≤ length bytes
     → (cut g bytes).1 ≡ [] → next_front g bytes ≡ Some (number_at g.layout.length_place bytes)

@@ -46,14 +46,17 @@ pub record IsEntry {n : ℕ} (l : EntryLayout n) (e : List ℕ) : Type 0 where
 abbrev pub IsFew : Option ℕ → ℕ → Type 0
 IsFew most n = (bound : ℕ) → most ≡ Some bound → n ≤ bound
 
--- the bytes are the entries one after the other, and a rest that begins with no entry, unless there are as many as
--- there may be. What to believe of `cut` is that it is such a cut, and the only one (`EntryLaws`)
-pub record IsCut {n : ℕ} (g : Grammar n) (bytes : List ℕ) (es : List (List ℕ)) (rest : List ℕ) : Type 0 where
+-- the bytes are pieces one after the other, and a rest that begins with none, unless there are as many as there may be
+pub record IsCutOf (Is : List ℕ → Type 0) (most : Option ℕ) (bytes : List ℕ) (es : List (List ℕ)) (rest : List ℕ)
+    : Type 0 where
   pub whole : bytes ≡ concat es ++ rest
-  pub entries : AllByRecursion (IsEntry g.layout) es
-  pub few : IsFew g.most (length es)
-  pub ends : (e more : List ℕ) → rest ≡ e ++ more → IsEntry g.layout e
-      → g.most ≡ Some (length es)
+  pub entries : AllByRecursion Is es
+  pub few : IsFew most (length es)
+  pub ends : (e more : List ℕ) → rest ≡ e ++ more → Is e → most ≡ Some (length es)
+
+-- the pieces are entries. What to believe of `cut` is that it is such a cut, and the only one (`EntryLaws`)
+abbrev pub IsCut : {n : ℕ} → Grammar n → List ℕ → List (List ℕ) → List ℕ → Type 0
+IsCut g bytes es rest = IsCutOf (IsEntry g.layout) g.most bytes es rest
 
 -- ---- computed
 
@@ -80,17 +83,17 @@ next_front g bytes = if is_full g.most then None else front g.layout bytes
 abbrev pub with_entry : List ℕ → List (List ℕ) × List ℕ → List (List ℕ) × List ℕ
 with_entry e others = (e ∷ others.0, others.1)
 
--- at most that many entries, and the bytes after them
-abbrev pub cut_within : {n : ℕ} → EntryLayout n → ℕ → List ℕ → List (List ℕ) × List ℕ
-cut_within l zero bytes = ([], bytes)
-cut_within l (suc most) bytes = elim (front l bytes) [
-  | Some size ↦ with_entry (take size bytes) (cut_within l most (drop size bytes))
+-- at most that many pieces, each as long as `size` gives for the bytes from it on, and the bytes after them
+abbrev pub cut_by : (List ℕ → Option ℕ) → ℕ → List ℕ → List (List ℕ) × List ℕ
+cut_by size zero bytes = ([], bytes)
+cut_by size (suc most) bytes = elim (size bytes) [
+  | Some n ↦ with_entry (take n bytes) (cut_by size most (drop n bytes))
   | None ↦ ([], bytes)
 ]
 
 -- the entries, and the rest; without a bound there are no more of them than bytes
 unfoldable pub cut : {n : ℕ} → Grammar n → List ℕ → List (List ℕ) × List ℕ
-cut g bytes = cut_within g.layout (unwrap_or g.most (length bytes)) bytes
+cut g bytes = cut_by (front g.layout) (unwrap_or g.most (length bytes)) bytes
 
 -- the grammar of those that follow one entry: one less may come
 abbrev pub after_one : {n : ℕ} → Grammar n → Grammar n

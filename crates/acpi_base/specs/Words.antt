@@ -6,7 +6,7 @@ unfoldable pub use Rattle.acpi_base.specs.Bytes.{field_of, spelling, sum_of}
 pub use Rattle.acpi_base.specs.Claim.{IsLentOf, IsWholeClaim, all_of, claimed_at, claimed_from, shown_by, unchecked}
 pub use Rattle.acpi_base.specs.Codes.{CodesDecode, IsNumbering, access_size_of, all_apics, all_x2apics, interface_code, interface_of, interfaces, is_interface, is_named_space, line_code, line_of, polarity_code, polarity_for, processor_for, size_code, space_code, space_of, trigger_code, trigger_for, uid_code}
 pub use Rattle.acpi_base.specs.Ecam.{ecam_in, ecam_place, ecam_range}
-pub use Rattle.acpi_base.specs.Entries.{IsCut, IsEntry, IsFew, after_one, cut_within, is_full, least_length, number_at, number_in, width_of, with_entry}
+pub use Rattle.acpi_base.specs.Entries.{IsCut, IsCutOf, IsEntry, IsFew, after_one, cut_by, is_full, least_length, number_at, number_in, width_of, with_entry}
 unfoldable pub use Rattle.acpi_base.specs.Entries.{cut, front, next_front}
 pub use Rattle.acpi_base.specs.EntryLaws.{CutIsCut, OneCut}
 pub use Rattle.acpi_base.specs.ErrorText.{error_text, madt_error_text}

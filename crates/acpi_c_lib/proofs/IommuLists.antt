@@ -3,7 +3,7 @@ use Rattle.std.proofs.Common.{◌≡◌, ◌∙◌, ◌≤◌, ◌<◌, ◌+◌,
 use Rattle.acpi_base.proofs.FromStd.{length-map, length-filter, count_by-le-length}
 use Rattle.acpi_base.specs.FromStd.{concat}
 use Rattle.acpi.proofs.First.{filter_map_few}
-use Rattle.acpi_iommu.proofs.Cuts.{block_is, cut_whole, pieces_few, structure_is}
+use Rattle.acpi_iommu.proofs.Cuts.{block_is, cut_whole, entry_is, pieces_few, scope_is, structure_is}
 use Rattle.acpi_iommu.specs.Words.{block_kind, block_size, blocks_cut, blocks_of, cut_of, entries_of, entry_size, hops_in, is_ivhd, is_memory_for, is_reserved_for, ivmd_at, kind_of, memory_in, path_of, reserved_in, rmrr_at, scope_bytes, scope_size, scopes_of, structure_size, structures_of}
 use Rattle.acpi_iommu.specs.Ivrs.{entry_bytes, least_of}
 use Rattle.acpi_c_lib.specs.Types.{Hop, IommuError, InvalidStructureLength, Ivmd, Rmrr}
@@ -11,10 +11,10 @@ use Rattle.acpi_c_lib.specs.Words.{iommu_fault, iommu_faults_from, put_from}
 use Rattle.acpi_c_lib.specs.declared.entry_faults.EntryFault.{EntryFault}
 
 pub structures_few : (table : List ℕ) → length (structures_of table) ≤ length table
-structures_few table = omega (arith, pieces_few structure_size (drop 48 table), length-drop 48 table)
+structures_few table = omega (arith, pieces_few structure_size structure_is (drop 48 table), length-drop 48 table)
 
 pub blocks_few : (table : List ℕ) → length (blocks_of table) ≤ length table
-blocks_few table = omega (arith, pieces_few block_size (drop 48 table), length-drop 48 table)
+blocks_few table = omega (arith, pieces_few block_size block_is (drop 48 table), length-drop 48 table)
 
 pub units_few : {R : Type 0} (f : List ℕ → Option R) (table : List ℕ)
     → length (filter_map f (structures_of table)) ≤ length table
@@ -69,11 +69,11 @@ entry_bytes_few b = drop_few (is_ivhd (block_kind b)) (least_of (block_kind b)) 
 
 pub scopes_few : {R : Type 0} (f : List ℕ → R) (e : List ℕ) → length (map f (scopes_of e)) ≤ length e
 scopes_few f e =
-    omega (arith, length-map (scopes_of e) f, pieces_few scope_size (scope_bytes e), scope_bytes_few e)
+    omega (arith, length-map (scopes_of e) f, pieces_few scope_size scope_is (scope_bytes e), scope_bytes_few e)
 
 pub entries_few : {R : Type 0} (f : List ℕ → R) (b : List ℕ) → length (map f (entries_of b)) ≤ length b
 entries_few f b =
-    omega (arith, length-map (entries_of b) f, pieces_few entry_size (entry_bytes b), entry_bytes_few b)
+    omega (arith, length-map (entries_of b) f, pieces_few entry_size entry_is (entry_bytes b), entry_bytes_few b)
 
 hops_few : (bytes : List ℕ) → length (hops_in bytes) ≤ length bytes
 hops_few [] = omega arith

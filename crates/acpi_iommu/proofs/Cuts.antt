@@ -1,10 +1,11 @@
 -- Pieces say their own lengths, and bytes are cut into them in one way; hops are cut into a path and others after it.
-use Rattle.std.proofs.Common.{◌≡◌, ℕ, zero, suc, ◌-◌, ◌≤◌, Bool, true, cond, List, [], ◌∷◌, ◌++◌, length, take, drop, Option, Some, None, refl, sym, ap, ◌∙◌, subst, arith, append_assoc, length-append, length-drop, leb, ◌+◌, ◌&&◌, filter, is_some, slice_get}
+use Rattle.std.proofs.Common.{◌≡◌, ℕ, ◌-◌, ◌≤◌, Bool, true, cond, List, [], ◌∷◌, ◌++◌, length, take, drop, Option, Some, None, refl, sym, ap, ◌∙◌, subst, arith, length-append, length-drop, leb, ◌+◌, ◌&&◌, filter, is_some, slice_get}
 use Rattle.std.proofs.lemmas.Option.{option_and_then_some}
-use Rattle.acpi_base.proofs.FromStd.{cond_some, and_parts, and_from, eqb-true, leb-true, le-leb, nat_tests, take_all, drop-take, take-take, take_at, drop_at, take-append-drop, length-take-le, append-nil, take-append-le, drop-append-le}
-use Rattle.acpi_base.specs.FromStd.{concat, AllByRecursion, list_all, list_any, prefix_len}
+use Rattle.acpi_base.proofs.Cuts.{Fronts, Within, all_front, bounded_cut, is_cut_by, is_only, stuck}
+use Rattle.acpi_base.proofs.FromStd.{cond_some, and_parts, and_from, eqb-true, leb-true, le-leb, nat_tests, take_all, drop-take, take-take, length-take-le, append-nil, take-append-le, drop-append-le}
+use Rattle.acpi_base.specs.FromStd.{concat, list_all, list_any, prefix_len}
 use Rattle.acpi_base.specs.Words.{with_entry, field_of}
-use Rattle.acpi_iommu.specs.Words.{FrontIsFront, is_front, is_same_hop, scope_size, IsCut, IsPiece, OneCut, SaysItself, front, pieces, pieces_within, said, Hop, kind_of, structure_size, block_kind, block_size, entry_kind, entry_size, own_size}
+use Rattle.acpi_iommu.specs.Words.{FrontIsFront, is_front, is_same_hop, scope_size, IsCut, IsPiece, OneCut, SaysItself, front, pieces, said, Hop, kind_of, structure_size, block_kind, block_size, entry_kind, entry_size, own_size}
 use Rattle.acpi_iommu.specs.Dmar as dmar
 use Rattle.acpi_iommu.specs.Ivrs as ivrs
 
@@ -22,68 +23,24 @@ front_from : (size : List ℕ → Option ℕ) (bytes : List ℕ) (n : ℕ) → s
     → front size bytes ≡ Some n
 front_from size bytes n e one within = rw (e, le-leb 1 n one, le-leb n (length bytes) within) refl
 
--- ---- one piece after the other
-
--- what a front makes of the bytes, if at most that many pieces follow
-abbrev cut_at : (List ℕ → Option ℕ) → ℕ → List ℕ → Option ℕ → List (List ℕ) × List ℕ
-cut_at size most bytes o = elim o [
-  | Some n ↦ with_entry (take n bytes) (pieces_within size most (drop n bytes))
-  | None ↦ ([], bytes)
-]
-
--- no piece begins in no bytes
-none_in_none : (size : List ℕ → Option ℕ) (most : ℕ) (bytes : List ℕ) (o : Option ℕ) → front size bytes ≡ o
-    → length bytes ≤ 0 → cut_at size most bytes o ≡ ([], bytes)
-none_in_none size most bytes None e none = refl
-none_in_none size most bytes (Some n) e none =
+within : (size : List ℕ → Option ℕ) → Within (front size)
+within size bytes n e =
     let is = front_within size bytes n e in
-    absurd (omega (arith, is.1, is.2, none))
-
-same_at : (size : List ℕ → Option ℕ) (a b : ℕ) (bytes : List ℕ) (o : Option ℕ) → front size bytes ≡ o
-    → ((n : ℕ) → 1 ≤ n → n ≤ length bytes → pieces_within size a (drop n bytes) ≡ pieces_within size b (drop n bytes))
-    → cut_at size a bytes o ≡ cut_at size b bytes o
-same_at size a b bytes None e same = refl
-same_at size a b bytes (Some n) e same =
-    let is = front_within size bytes n e in
-    ap (with_entry (take n bytes)) (same n is.1 is.2)
-
--- as many as there are bytes are enough
-same_within : (size : List ℕ → Option ℕ) (a b : ℕ) (bytes : List ℕ) → length bytes ≤ a → length bytes ≤ b
-    → pieces_within size a bytes ≡ pieces_within size b bytes
-same_within size zero zero bytes l m = refl
-same_within size zero (suc b) bytes l m = sym (none_in_none size b bytes (front size bytes) refl l)
-same_within size (suc a) zero bytes l m = none_in_none size a bytes (front size bytes) refl m
-same_within size (suc a) (suc b) bytes l m =
-    same_at size a b bytes (front size bytes) refl (λ n one within.
-    same_within size a b (drop n bytes) (omega (arith, length-drop n bytes, l, one))
-    (omega (arith, length-drop n bytes, m, one)))
-
-one_more : (size : List ℕ → Option ℕ) (bytes : List ℕ) (o : Option ℕ) → front size bytes ≡ o
-    → pieces size bytes ≡ cut_at size (length bytes) bytes o
-unfolding pieces
-one_more size bytes o e =
-    same_within size (length bytes) (suc (length bytes)) bytes (omega arith) (omega arith)
-    ∙ ap (cut_at size (length bytes) bytes) e
+    (is.1, is.2)
 
 -- the pieces of bytes that begin with one
 pub pieces_front : (size : List ℕ → Option ℕ) (bytes : List ℕ) (n : ℕ) → front size bytes ≡ Some n
     → pieces size bytes ≡ with_entry (take n bytes) (pieces size (drop n bytes))
 unfolding pieces
-pieces_front size bytes n e =
-    let is = front_within size bytes n e in
-    one_more size bytes (Some n) e ∙ ap (with_entry (take n bytes))
-    (same_within size (length bytes) (length (drop n bytes)) (drop n bytes) (omega (arith, length-drop n bytes))
-    (omega arith))
+pieces_front size bytes n e = all_front (front size) (within size) bytes n e
 
 -- those of bytes that begin with none
 pub pieces_stuck : (size : List ℕ → Option ℕ) (bytes : List ℕ) → front size bytes ≡ None
     → pieces size bytes ≡ ([], bytes)
-pieces_stuck size bytes e = one_more size bytes None e
+unfolding pieces
+pieces_stuck size bytes e = stuck (front size) (length bytes) bytes e
 
 -- ---- a piece by itself
-
-not_none : (n : ℕ) (o : Option ℕ) → o ≡ None → o ≡ Some n → ⊥
-not_none n o none some = cc
 
 -- it begins its bytes whatever comes after them
 begins : (size : List ℕ → Option ℕ) → SaysItself size → (p more : List ℕ) → IsPiece size p
@@ -103,54 +60,16 @@ front_is size says bytes n e =
     let again : size (take n bytes) ≡ Some n = sym (ap size (append-nil (take n bytes))) ∙ says bytes [] n is.0 is.2 in
     front_from size (take n bytes) n again is.1 (omega (arith, long)) ∙ ap Some (sym long)
 
+fronts : (size : List ℕ → Option ℕ) → SaysItself size → Fronts (IsPiece size) (front size)
+fronts size says = record { within = within size; is = front_is size says; begins = begins size says }
+
 -- ---- the only cut
 
--- what is computed is one
-is_cut : (size : List ℕ → Option ℕ) → SaysItself size → (most : ℕ) (bytes : List ℕ) → length bytes ≤ most
-    → (o : Option ℕ) → front size bytes ≡ o → IsCut size bytes (pieces size bytes).0 (pieces size bytes).1
-is_cut size says most bytes few None e =
-    subst (λ x. IsCut size bytes x.0 x.1) (sym (pieces_stuck size bytes e)) (record {
-      whole = refl;
-      are = tt;
-      ends = λ p more w i. not_none (length p) (front size bytes) e (ap (front size) w ∙ begins size says p more i);
-    })
-is_cut size says zero bytes few (Some n) e =
-    let is = front_within size bytes n e in
-    absurd (omega (arith, is.1, is.2, few))
-is_cut size says (suc most) bytes few (Some n) e =
-    let is = front_within size bytes n e in
-    let others = pieces size (drop n bytes) in
-    let c : IsCut size (drop n bytes) others.0 others.1 =
-    is_cut size says most (drop n bytes) (omega (arith, length-drop n bytes, few, is.1))
-    (front size (drop n bytes)) refl in
-    subst (λ x. IsCut size bytes x.0 x.1) (sym (pieces_front size bytes n e)) (record {
-      whole = sym (take-append-drop n bytes) ∙ ap (λ s. take n bytes ++ s) c.whole
-          ∙ sym (append_assoc (take n bytes) (concat others.0) others.1);
-      are = (front_is size says bytes n e, c.are);
-      ends = c.ends;
-    })
-
--- and there is no other
-rest_stuck : (size : List ℕ → Option ℕ) → SaysItself size → (rest : List ℕ) (o : Option ℕ) → front size rest ≡ o
-    → ((p more : List ℕ) → rest ≡ p ++ more → IsPiece size p → ⊥) → pieces size rest ≡ ([], rest)
-rest_stuck size says rest None e ends = pieces_stuck size rest e
-rest_stuck size says rest (Some n) e ends =
-    absurd (ends (take n rest) (drop n rest) (sym (take-append-drop n rest)) (front_is size says rest n e))
-
-only : (size : List ℕ → Option ℕ) → SaysItself size → (ps : List (List ℕ)) (rest : List ℕ)
-    → AllByRecursion (IsPiece size) ps → ((p more : List ℕ) → rest ≡ p ++ more → IsPiece size p → ⊥)
-    → pieces size (concat ps ++ rest) ≡ (ps, rest)
-only size says [] rest are ends = rest_stuck size says rest (front size rest) refl ends
-only size says (p ∷ ps) rest are ends =
-    let first = pieces_front size (p ++ (concat ps ++ rest)) (length p) (begins size says p (concat ps ++ rest) are.0) in
-    rw (append_assoc p (concat ps) rest, first, take_at p (concat ps ++ rest) (length p) refl)
-    (rw (drop_at p (concat ps ++ rest) (length p) refl, only size says ps rest are.1 ends) refl)
-
 pub one_cut : (size : List ℕ → Option ℕ) → SaysItself size → OneCut size
+unfolding pieces
 one_cut size says bytes ps rest = (
-  λ c. ap (pieces size) c.whole ∙ only size says ps rest c.are c.ends,
-  λ e. subst (λ x. IsCut size bytes x.0 x.1) e
-      (is_cut size says (length bytes) bytes (omega arith) (front size bytes) refl),
+  λ c. is_only (fronts size says) None bytes ps rest c,
+  λ e. subst (λ x. IsCut size bytes x.0 x.1) e (is_cut_by (fronts size says) None bytes),
 )
 
 -- the pieces and the rest are all bytes
@@ -169,23 +88,10 @@ stuck_rest size says bytes none =
     sym (rw none at c.whole)
 
 -- no more pieces begin in bytes than there are of these
-abbrev step : List ℕ → (ℕ → List (List ℕ) × List ℕ) → Option ℕ → List (List ℕ) × List ℕ
-step bytes next o = elim o [ Some n ↦ with_entry (take n bytes) (next n) | None ↦ ([], bytes) ]
-
-one_at_most : (most : ℕ) (bytes : List ℕ) (next : ℕ → List (List ℕ) × List ℕ) (o : Option ℕ)
-    → ((n : ℕ) → length (next n).0 ≤ most) → length (step bytes next o).0 ≤ suc most
-one_at_most most bytes next None h = omega arith
-one_at_most most bytes next (Some n) h = omega (arith, h n)
-
-within_few : (size : List ℕ → Option ℕ) (most : ℕ) (bytes : List ℕ) → length (pieces_within size most bytes).0 ≤ most
-within_few size zero bytes = omega arith
-within_few size (suc most) bytes =
-    one_at_most most bytes (λ n. pieces_within size most (drop n bytes)) (front size bytes)
-    (λ n. within_few size most (drop n bytes))
-
-pub pieces_few : (size : List ℕ → Option ℕ) (bytes : List ℕ) → length (pieces size bytes).0 ≤ length bytes
+pub pieces_few : (size : List ℕ → Option ℕ) → SaysItself size → (bytes : List ℕ)
+    → length (pieces size bytes).0 ≤ length bytes
 unfolding pieces
-pieces_few size bytes = within_few size (length bytes) bytes
+pieces_few size says bytes = (bounded_cut (fronts size says) (length bytes) bytes).few (length bytes) refl
 
 -- ---- fields in the front of bytes
 

@@ -1,8 +1,7 @@
 -- How bytes are cut into pieces, each of which says by its first bytes how long it is, and what a walk along them
 -- shows.
-use Rattle.std.specs.Prelude.{◌≡◌, ◌↔◌, ℕ, zero, suc, ◌≤◌, ◌&&◌, ◌++◌, Bool, nat_le, List, [], ◌∷◌, length, take, drop, Option, Some, None, Result, Ok, Err, option_and_then, if◌then◌else◌}
-use Rattle.acpi_base.specs.FromStd.{concat, AllByRecursion}
-use Rattle.acpi_base.specs.Words.{with_entry, is_left}
+use Rattle.std.specs.Prelude.{◌≡◌, ◌↔◌, ℕ, ◌≤◌, ◌&&◌, ◌++◌, Bool, nat_le, List, [], ◌∷◌, length, take, Option, Some, None, Result, Ok, Err, option_and_then, if◌then◌else◌}
+use Rattle.acpi_base.specs.Words.{IsCutOf, cut_by, is_left}
 use Rattle.acpi_iommu.specs.declared.error.IommuError.{IommuError}
 use Rattle.acpi_iommu.specs.declared.error.IommuError.TheVariants.{InvalidStructureLength}
 use Rattle.acpi_iommu.specs.declared.pieces.PieceIter.{PieceIter}
@@ -31,22 +30,12 @@ SaysItself size = (bytes more : List ℕ) (n : ℕ) → size bytes ≡ Some n �
 -- ---- all pieces
 
 -- the bytes are the pieces one after the other, and a rest that begins with no piece
-pub record IsCut (size : List ℕ → Option ℕ) (bytes : List ℕ) (ps : List (List ℕ)) (rest : List ℕ) : Type 0 where
-  pub whole : bytes ≡ concat ps ++ rest
-  pub are : AllByRecursion (IsPiece size) ps
-  pub ends : (p more : List ℕ) → rest ≡ p ++ more → IsPiece size p → ⊥
-
--- at most that many pieces, and the bytes after them
-abbrev pub pieces_within : (List ℕ → Option ℕ) → ℕ → List ℕ → List (List ℕ) × List ℕ
-pieces_within size zero bytes = ([], bytes)
-pieces_within size (suc most) bytes = elim (front size bytes) [
-  | Some n ↦ with_entry (take n bytes) (pieces_within size most (drop n bytes))
-  | None ↦ ([], bytes)
-]
+abbrev pub IsCut : (List ℕ → Option ℕ) → List ℕ → List (List ℕ) → List ℕ → Type 0
+IsCut size bytes ps rest = IsCutOf (IsPiece size) None bytes ps rest
 
 -- the pieces, and the rest; there are no more pieces than bytes
 unfoldable pub pieces : (List ℕ → Option ℕ) → List ℕ → List (List ℕ) × List ℕ
-pieces size bytes = pieces_within size (length bytes) bytes
+pieces size bytes = cut_by (front size) (length bytes) bytes
 
 -- there is one such cut of bytes, and it is the computed one
 abbrev pub OneCut : (List ℕ → Option ℕ) → Type 0

@@ -8,7 +8,7 @@ pub use Rattle.acpi_iommu.specs.Ivrs.{block_bytes, block_fields, block_kind, blo
 unfoldable pub use Rattle.acpi_iommu.specs.Ivrs.{ivrs_at}
 pub use Rattle.acpi_iommu.specs.IvrsEntries.{alias_of, bytes_of_entry, compatible_id, covers, entries_cut, entries_left, entries_of, entry_kind, entry_size, extended_of, first_id, hardware_id, is_select, is_start, last_id, own_size, settings_of, source_for, special_of, unique_id, unique_id_format}
 pub use Rattle.acpi_iommu.specs.IvrsUnits.{best_kind, best_left, block_fault, block_for, blocks_of_best_type, ends_below, find_block, has_whole_entries, is_ivhd_of, is_memory_for, is_of_kind, ivrs_bytes, memory_for, memory_in, memory_left, unit_in}
-pub use Rattle.acpi_iommu.specs.Pieces.{IsCut, IsPiece, OneCut, SaysItself, bytes_left, first_sure, front, has_ended, left, pieces_within, rest_after, said}
+pub use Rattle.acpi_iommu.specs.Pieces.{IsCut, IsPiece, OneCut, SaysItself, bytes_left, first_sure, front, has_ended, left, rest_after, said}
 unfoldable pub use Rattle.acpi_iommu.specs.Pieces.{pieces}
 pub use Rattle.acpi_iommu.specs.Texts.{up_to_zero}
 pub use Rattle.acpi_iommu.specs.UnitLaws.{BlockIsFirst, FirstSays, IsMeantFor, MemoryIsMeant, SourceIsFirst, UnitIsFirst, of_others}
