@@ -14,9 +14,12 @@ mod machine;
 mod machines;
 mod madt;
 mod numbers;
+mod pieces;
 mod report;
 mod roots;
 mod rules;
+mod spans;
+mod unnamed;
 
 pub(crate) use findings::{Finding, Findings};
 pub(crate) use machine::Machine;

@@ -193,6 +193,34 @@ fn print_flags(number: u64, flags: &'static str, out: &mut Out) {
     }
 }
 
+/// The bits of a number that none of the flags names, and that aren't 0: those of a code are named by that code alone.
+fn unnamed_bits(number: u64, flags: &'static str) -> u64 {
+    let mut rest = number;
+    for item in flags.split(['|', '\n']) {
+        let (word, _) = next_word(item);
+        if let Some(flag) = Flag::read(word)
+            && flag.is_in(number)
+            && flag.first < 64
+        {
+            rest &= !(bits_of(u64::MAX, flag.first, flag.last) << flag.first);
+        }
+    }
+    rest
+}
+
+/// The number of a field, if that is a code that the layout doesn't name, or the bits of it that no flag names.
+pub(crate) fn unnamed_in(shown: &Field<'_>) -> Option<u64> {
+    let (number, items) = (number_of(shown.bytes), shown.label.items);
+    match shown.label.meaning {
+        Meaning::Codes if name_of(number, items).is_empty() => Some(number),
+        Meaning::Flags => match unnamed_bits(number, items) {
+            0 => None,
+            bits => Some(bits),
+        },
+        _ => None,
+    }
+}
+
 /// Prints a text in UTF-16 as characters, those that aren't printable ASCII as `.`, up to a zero.
 fn print_wide(value: &[u8], out: &mut Out) {
     out.text("  ");

@@ -1,0 +1,6 @@
+use Rattle.std.proofs.Common.{length}
+use Rattle.acpi_dump_lib.proofs.check.affinities.Affinities.of.Given as goal
+
+-- each entry leaves fewer bytes
+abbrev pub decreases-loop-entry : goal.decreases-loop-entry
+decreases-loop-entry l = length l.rest

@@ -1,0 +1,38 @@
+//! Ranges of numbers, such as addresses, that should not overlap.
+
+use std::alloc::{AllocError, Global};
+
+/// A range of numbers, from its first to its last.
+#[derive(Clone, Copy)]
+pub(super) struct Span {
+    pub(super) first: u64,
+    pub(super) last: u64,
+    /// Where the table gives it.
+    pub(super) offset: usize,
+    /// What it belongs to.
+    pub(super) owner: u64,
+}
+
+/// The spans that begin within one that begins before them or with them, each after that one.
+///
+/// Fails if memory runs out.
+pub(super) fn overlaps(
+    alloc: Global,
+    spans: &mut Vec<Span>,
+) -> Result<Vec<(Span, Span)>, AllocError> {
+    spans.sort_by_key(|it| (it.first, it.offset))?;
+    let mut found = Vec::new(alloc);
+    let mut furthest: Option<Span> = None;
+    for span in spans.iter() {
+        if let Some(before) = furthest {
+            if span.first <= before.last {
+                found.push((before, *span))?;
+            }
+            if span.last <= before.last {
+                continue;
+            }
+        }
+        furthest = Some(*span);
+    }
+    Ok(found)
+}

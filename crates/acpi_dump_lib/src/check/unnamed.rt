@@ -1,0 +1,35 @@
+//! Codes and flags that no specification names.
+
+use super::findings::Findings;
+use super::machine::Table;
+use crate::entries::own_signature;
+use crate::fields::unnamed_in;
+use crate::walk::{Field, Show, walk_table};
+
+/// Judges, by the rule of an id, whether the layout of a table names each of its codes and flags.
+pub(super) fn check_names(id: &'static str, table: Table<'_>, findings: &mut Findings) {
+    let mut names = Names {
+        id,
+        index: table.index,
+        findings,
+    };
+    walk_table(own_signature(table.bytes), table.bytes, &mut names);
+}
+
+/// What is found by the rule of an id in the table of a number.
+#[derive(Drop)]
+struct Names<'f> {
+    id: &'static str,
+    index: usize,
+    findings: &'f mut Findings,
+}
+
+impl Show for Names<'_> {
+    fn field(&mut self, shown: &Field<'_>) {
+        if let Some(unnamed) = unnamed_in(shown) {
+            let message = format_args!("0x{unnamed:x} is reserved");
+            self.findings
+                .add(self.id, self.index, shown.offset as usize, &message);
+        }
+    }
+}
