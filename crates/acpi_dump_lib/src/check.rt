@@ -21,7 +21,7 @@ mod rules;
 mod spans;
 mod unnamed;
 
-pub(crate) use findings::{Finding, Findings};
+pub(crate) use findings::{Finding, Findings, Judgement};
 pub(crate) use machine::Machine;
 pub(crate) use report::{add_findings, add_rules, counts_of, print_findings, print_rules};
 pub(crate) use rules::Severity;
@@ -43,8 +43,8 @@ const RULES: [&str; 9] = [
 /// What the rules find in the tables of a machine, in the order of the tables, and in a table by offset.
 ///
 /// Fails if memory runs out.
-pub(crate) fn findings_of(machine: &Machine<'_>) -> Result<Findings, AllocError> {
-    let mut findings = Findings::new(machine.alloc)?;
+pub(crate) fn findings_of(machine: &Machine<'_>) -> Result<Judgement, AllocError> {
+    let mut findings = Findings::new(machine.alloc);
     roots::check_roots(machine, &mut findings);
     headers::check_headers(machine, &mut findings);
     fadt::check_fadt(machine, &mut findings);
@@ -54,5 +54,5 @@ pub(crate) fn findings_of(machine: &Machine<'_>) -> Result<Findings, AllocError>
     devices::check_devices(machine, &mut findings);
     iommu::check_iommu(machine, &mut findings);
     machines::check_machines(machine, &mut findings);
-    findings.in_order(machine.entries)
+    findings.in_order(machine.alloc, machine.entries)
 }

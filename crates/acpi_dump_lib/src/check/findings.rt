@@ -8,17 +8,14 @@ use crate::walk::{Field, Show, walk_table};
 use std::alloc::{AllocError, Global};
 use std::fmt::Display;
 
-/// Something that a rule finds.
+/// Something that a rule finds. The id of the rule and the message are parts of one text.
 #[derive(Clone, Copy)]
-pub(crate) struct Finding {
-    pub(crate) rule: Rule,
-    /// The number of its table among the entries.
-    pub(crate) table: usize,
-    /// The offset in the table.
-    pub(crate) offset: usize,
-    /// The name of the field there, or no letters if there is none.
-    pub(crate) field: &'static str,
-    /// Where its message begins and ends in the text of all messages.
+struct Found {
+    table: usize,
+    offset: usize,
+    /// Where the id begins.
+    id: usize,
+    /// Where the id ends and the message begins.
     start: usize,
     end: usize,
 }
@@ -26,44 +23,35 @@ pub(crate) struct Finding {
 /// What the rules find. It gets nothing more after memory for a finding was refused.
 #[derive(Drop)]
 pub(crate) struct Findings {
-    rules: Vec<Rule>,
-    list: Vec<Finding>,
-    messages: Out,
+    list: Vec<Found>,
+    text: Out,
     is_refused: bool,
 }
 
 impl Findings {
     /// Nothing is found.
-    ///
-    /// Fails if memory runs out.
-    pub(super) fn new(alloc: Global) -> Result<Findings, AllocError> {
-        Ok(Findings {
-            rules: rules(alloc)?,
+    pub(super) fn new(alloc: Global) -> Findings {
+        Findings {
             list: Vec::new(alloc),
-            messages: Out::new(alloc),
+            text: Out::new(alloc),
             is_refused: false,
-        })
+        }
     }
 
     /// Adds what the rule of an id finds at an offset of the table that has this number among the entries.
     pub(super) fn add<D: Display>(&mut self, id: &str, table: usize, offset: usize, message: &D) {
-        let mut rule = Rule::UNKNOWN;
-        for known in self.rules.iter() {
-            if known.id == id {
-                rule = *known;
-            }
-        }
-        let start = self.messages.length();
-        self.messages.value(message);
-        let finding = Finding {
-            rule,
+        let begin = self.text.length();
+        self.text.text(id);
+        let start = self.text.length();
+        self.text.value(message);
+        let found = Found {
             table,
             offset,
-            field: "",
+            id: begin,
             start,
-            end: self.messages.length(),
+            end: self.text.length(),
         };
-        self.is_refused |= self.list.push(finding).is_err();
+        self.is_refused |= self.list.push(found).is_err();
     }
 
     /// Adds, for each number of a table that came before, what a rule finds there: that `what` is also elsewhere.
@@ -96,28 +84,102 @@ impl Findings {
         self.is_refused = true;
     }
 
-    /// All that was found, in the order of the tables, then by offset, each with the name of its field.
+    /// All that was found, in the order of the tables, then by offset, each with its rule and the name of its field.
     ///
     /// Fails if memory runs out, or did before.
-    pub(super) fn in_order(mut self, entries: &[Entry<'_>]) -> Result<Findings, AllocError> {
-        self.list.sort_by_key(|it| (it.table, it.offset))?;
-        if self.is_refused || self.messages.printed().is_none() {
+    pub(super) fn in_order(
+        self,
+        alloc: Global,
+        entries: &[Entry<'_>],
+    ) -> Result<Judgement, AllocError> {
+        let Findings {
+            list: mut found,
+            text,
+            is_refused,
+        } = self;
+        found.sort_by_key(|it| (it.table, it.offset))?;
+        if is_refused || text.printed().is_none() {
             return Err(AllocError);
         }
-        let mut names = Names {
-            list: self.list.as_mut_slice(),
-            table: 0,
-            next: 0,
-        };
-        for entry in entries {
-            if names.has_next() {
-                walk_table(own_signature(entry.bytes), entry.bytes, &mut names);
-            }
-            names.end_table();
-        }
-        Ok(self)
+        let mut list = findings_in(alloc, &found, &text)?;
+        name_fields(&mut list, entries);
+        Ok(Judgement { list, text })
     }
+}
 
+/// What was found, with the rules, by a text that has their ids.
+///
+/// Fails if memory runs out.
+fn findings_in(alloc: Global, found: &[Found], text: &Out) -> Result<Vec<Finding>, AllocError> {
+    let rules = &rules(alloc)?;
+    let mut list = Vec::new(alloc);
+    for it in found {
+        list.push(Finding {
+            rule: rule_of(rules, part_of(text, it.id, it.start)),
+            table: it.table,
+            offset: it.offset,
+            field: "",
+            start: it.start,
+            end: it.end,
+        })?;
+    }
+    Ok(list)
+}
+
+/// The rule of an id.
+fn rule_of(rules: &[Rule], id: &str) -> Rule {
+    for rule in rules {
+        if rule.id == id {
+            return *rule;
+        }
+    }
+    Rule::UNKNOWN
+}
+
+/// A part of a text.
+fn part_of(text: &Out, start: usize, end: usize) -> &str {
+    let length = end.saturating_sub(start);
+    str::from_utf8(text.since(start).get(..length).unwrap_or(&[])).unwrap_or("")
+}
+
+/// Gives findings in order the names of their fields.
+fn name_fields(list: &mut [Finding], entries: &[Entry<'_>]) {
+    let mut names = Names {
+        list,
+        table: 0,
+        next: 0,
+    };
+    for entry in entries {
+        if names.has_next() {
+            walk_table(own_signature(entry.bytes), entry.bytes, &mut names);
+        }
+        names.end_table();
+    }
+}
+
+/// Something that a rule finds.
+#[derive(Clone, Copy)]
+pub(crate) struct Finding {
+    pub(crate) rule: Rule,
+    /// The number of its table among the entries.
+    pub(crate) table: usize,
+    /// The offset in the table.
+    pub(crate) offset: usize,
+    /// The name of the field there, or no letters if there is none.
+    pub(crate) field: &'static str,
+    /// Where its message begins and ends in the text of all messages.
+    start: usize,
+    end: usize,
+}
+
+/// What the rules found, in order.
+#[derive(Drop)]
+pub(crate) struct Judgement {
+    list: Vec<Finding>,
+    text: Out,
+}
+
+impl Judgement {
     /// What was found.
     pub(crate) fn list(&self) -> &[Finding] {
         self.list.as_slice()
@@ -125,13 +187,7 @@ impl Findings {
 
     /// What a finding says.
     pub(crate) fn message(&self, finding: &Finding) -> &str {
-        let length = finding.end.saturating_sub(finding.start);
-        let bytes = self
-            .messages
-            .since(finding.start)
-            .get(..length)
-            .unwrap_or(&[]);
-        str::from_utf8(bytes).unwrap_or("")
+        part_of(&self.text, finding.start, finding.end)
     }
 }
 
@@ -155,22 +211,26 @@ impl Names<'_> {
 
     /// Goes on to the next table.
     fn end_table(&mut self) {
-        for number in self.next..self.list.len() {
-            if self.list[number].table != self.table {
+        let (first, table) = (self.next, self.table);
+        for finding in self.list.get(first..).unwrap_or(&[]) {
+            if finding.table != table {
                 break;
             }
-            self.next = number + 1;
+            self.next = self.next.saturating_add(1);
         }
-        self.table = self.table.saturating_add(1);
+        self.table = table.saturating_add(1);
     }
 }
 
 impl Show for Names<'_> {
     fn field(&mut self, shown: &Field<'_>) {
         let end = shown.offset.saturating_add(shown.bytes.len() as u64);
-        for number in self.next..self.list.len() {
-            let finding = &mut self.list[number];
-            if finding.table != self.table || finding.offset as u64 >= end {
+        let (first, table) = (self.next, self.table);
+        for number in first..self.list.len() {
+            let Some(finding) = self.list.get_mut(number) else {
+                break;
+            };
+            if finding.table != table || finding.offset as u64 >= end {
                 break;
             }
             if finding.offset as u64 >= shown.offset {

@@ -1,6 +1,6 @@
 //! What the rules find, and the rules themselves, as lines and as documents.
 
-use super::findings::{Finding, Findings};
+use super::findings::{Finding, Judgement};
 use super::rules::{Severity, rules};
 use crate::contents::print_name;
 use crate::document::Document;
@@ -10,7 +10,7 @@ use json::Token;
 use std::alloc::{AllocError, Global};
 
 /// How many findings of each severity there are from one on, by rank.
-pub(crate) fn counts_of(findings: &Findings, least: Severity) -> [usize; 3] {
+pub(crate) fn counts_of(findings: &Judgement, least: Severity) -> [usize; 3] {
     let mut counts = [0usize; 3];
     for finding in findings.list() {
         let rank = finding.rule.severity.rank();
@@ -23,7 +23,7 @@ pub(crate) fn counts_of(findings: &Findings, least: Severity) -> [usize; 3] {
 
 /// Prints a line for each finding of a severity or a higher one, and how many they are.
 pub(crate) fn print_findings(
-    findings: &Findings,
+    findings: &Judgement,
     entries: &[Entry<'_>],
     least: Severity,
     out: &mut Out,
@@ -40,7 +40,7 @@ pub(crate) fn print_findings(
 }
 
 /// Prints the line of a finding.
-fn print_finding(findings: &Findings, finding: &Finding, entry: &Entry<'_>, out: &mut Out) {
+fn print_finding(findings: &Judgement, finding: &Finding, entry: &Entry<'_>, out: &mut Out) {
     write!(
         out,
         "{} {}: ",
@@ -58,7 +58,7 @@ fn print_finding(findings: &Findings, finding: &Finding, entry: &Entry<'_>, out:
 
 /// Adds the findings of a severity or a higher one.
 pub(crate) fn add_findings(
-    findings: &Findings,
+    findings: &Judgement,
     entries: &[Entry<'_>],
     least: Severity,
     document: &mut Document,
@@ -73,7 +73,12 @@ pub(crate) fn add_findings(
 }
 
 /// Adds a finding.
-fn add_finding(findings: &Findings, finding: &Finding, entry: &Entry<'_>, document: &mut Document) {
+fn add_finding(
+    findings: &Judgement,
+    finding: &Finding,
+    entry: &Entry<'_>,
+    document: &mut Document,
+) {
     document.token(Token::BeginObject);
     if let Place::Address(address) = entry.place {
         document.address("address", address);
