@@ -212,12 +212,14 @@ impl Names<'_> {
     /// Goes on to the next table.
     fn end_table(&mut self) {
         let (first, table) = (self.next, self.table);
+        let mut next = first;
         for finding in self.list.get(first..).unwrap_or(&[]) {
             if finding.table != table {
                 break;
             }
-            self.next = self.next.saturating_add(1);
+            next = next.saturating_add(1);
         }
+        self.next = next;
         self.table = table.saturating_add(1);
     }
 }

@@ -88,9 +88,13 @@ fn judged_memory<'i>(
     };
     let entries = entries_of(output.alloc, image, &tables)?;
     let rsdt = rsdt_beside(image, rsdp);
+    let rsdp = match rsdp.get(..36) {
+        Some(first) => first,
+        None => &[],
+    };
     Ok(Judged {
         entries,
-        rsdp: rsdp.get(..36).unwrap_or(&[]),
+        rsdp,
         rsdt,
     })
 }
