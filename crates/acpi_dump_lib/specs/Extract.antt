@@ -1,5 +1,5 @@
--- What --extract saves: files of one folder.
-use Rattle.std.specs.Prelude.{◌≡◌, ℕ, false, ◌==◌, List, ◌++◌, All, codes}
+-- What is saved: --extract files of one folder, --html a file of one name.
+use Rattle.std.specs.Prelude.{◌≡◌, ◌⊎◌, ℕ, false, ◌==◌, List, ◌++◌, All, codes}
 use Rattle.std.specs.List.{list_any}
 use Rattle.acpi_pack_lib.specs.Saves.{FileSaved}
 
@@ -13,12 +13,20 @@ IsNamed folder name path =
 abbrev pub IsWithin : List ℕ → List ℕ → Type 0
 IsWithin folder path = (name : List ℕ) × IsNamed folder name path
 
--- what was to be saved grew by files of the folder alone
-pub record AddsWithin (folder : List ℕ) (before after : List FileSaved) : Type 0 where
+-- what was to be saved grew by files of such paths alone
+pub record Adds (Fits : List ℕ → Type 0) (before after : List FileSaved) : Type 0 where
   pub added : List FileSaved
   pub grown : after ≡ before ++ added
-  pub within : All (λ f. IsWithin folder f.name) added
+  pub fit : All (λ f. Fits f.name) added
 
--- what was to be saved grew by files of one folder alone
+-- by files of the folder alone
+abbrev pub AddsWithin : List ℕ → List FileSaved → List FileSaved → Type 0
+AddsWithin folder = Adds (IsWithin folder)
+
+-- by files of this path alone
+abbrev pub AddsNamed : List ℕ → List FileSaved → List FileSaved → Type 0
+AddsNamed path = Adds (λ p. p ≡ path)
+
+-- by files of one folder, or of one path, alone
 abbrev pub AddsInOne : List FileSaved → List FileSaved → Type 0
-AddsInOne before after = (folder : List ℕ) × AddsWithin folder before after
+AddsInOne before after = (place : List ℕ) × (AddsWithin place before after ⊎ AddsNamed place before after)

@@ -46,6 +46,8 @@ pub(crate) enum View {
     Findings,
     /// The rules.
     Rules,
+    /// A page.
+    Page,
 }
 
 /// When colors are printed.
@@ -91,6 +93,8 @@ pub(crate) struct Request<'w> {
     pub(crate) choices: Vec<Choice>,
     /// The folder in which each table is to be a file.
     pub(crate) folder: Option<&'w str>,
+    /// The file that a page is to be.
+    pub(crate) page: Option<&'w str>,
     /// Whether these files replace those that are there.
     pub(crate) is_forced: bool,
     pub(crate) is_json: bool,
@@ -153,12 +157,15 @@ const VIEWS: [(&str, View); 4] = [
 ];
 
 const ONE_VIEW: &str =
-    "[--table SIG].. [--hex SIG].. | --text [--table SIG].. | --extract DIR | --summary | --find | --compare | --check | --rules";
+    "[--table SIG].. [--hex SIG].. | --text [--table SIG].. | --extract DIR | [--check] --html FILE | \
+     --summary | --find | --compare [--html FILE] | --check | --rules";
 
 const DOCUMENTS: &str =
     "[--table SIG].. [--hex SIG].. | --summary | --find | --compare | --check | --rules";
 
 const FOLDER: &str = "DIR, the name of a folder";
+
+const PAGE: &str = "FILE, the name of a file";
 
 const KINDS: &str = "image | memory | text | table";
 
@@ -179,6 +186,14 @@ const ROOT: &str = "IMAGE rsdt REVISION ADDRESS | rsdp ADDRESS | bios";
 /// The word of an option, or no letters, which are no value of any, if it isn't there.
 fn word_of<'w>(matches: &ArgMatches<'w>, option: &str) -> &'w str {
     matches.get_str(option).unwrap_or("")
+}
+
+/// The name that an option gives, if it is there and has letters.
+fn name_of<'w>(matches: &ArgMatches<'w>, option: &str) -> Option<&'w str> {
+    match matches.get_str(option) {
+        Some("") => None,
+        name => name,
+    }
 }
 
 impl<'w> Request<'w> {
@@ -221,10 +236,8 @@ impl<'w> Request<'w> {
         let start = parse_start(word_of(matches, "start"));
         let most = word_of(matches, "max-bytes").parse::<u64>().ok();
         let color = parse_color(word_of(matches, "color"));
-        let folder = match matches.get_str("extract") {
-            Some("") => None,
-            folder => folder,
-        };
+        let folder = name_of(matches, "extract");
+        let page = name_of(matches, "html");
         let least = Severity::read(word_of(matches, "check"));
         if !word_of(matches, "check").is_empty() {
             self.least = self.checked(matches, "check", least, SEVERITIES);
@@ -233,6 +246,7 @@ impl<'w> Request<'w> {
         self.at = self.checked(matches, "at", at, AT);
         self.start = self.checked(matches, "start", start, START);
         self.folder = self.checked(matches, "extract", folder, FOLDER);
+        self.page = self.checked(matches, "html", page, PAGE);
         self.most = self
             .checked(matches, "max-bytes", most, MOST)
             .unwrap_or(1 << 30);
@@ -296,8 +310,16 @@ impl<'w> Request<'w> {
         if matches.get_str("check").is_some() {
             self.take_view(View::Findings);
         }
-        if self.is_json && (matches.get_flag("text") || self.folder.is_some()) {
-            self.refuse_word("json", "--text and --extract have no document", DOCUMENTS);
+        if self.page.is_some() && !matches!(self.view, View::Differences | View::Findings) {
+            self.take_view(View::Page);
+        }
+        let is_file = self.folder.is_some() || self.page.is_some();
+        if self.is_json && (matches.get_flag("text") || is_file) {
+            self.refuse_word(
+                "json",
+                "--text, --extract and --html have no document",
+                DOCUMENTS,
+            );
         }
     }
 
@@ -348,6 +370,7 @@ pub(crate) fn request_of<'w>(alloc: Global, matches: &ArgMatches<'w>) -> Request
         view: View::Lines,
         choices: Vec::new(alloc),
         folder: None,
+        page: None,
         is_forced: matches.get_flag("force"),
         is_json: matches.get_flag("json"),
         is_strict: matches.get_flag("strict"),

@@ -1,12 +1,12 @@
 //! What differs between the tables of two inputs.
 
-mod parts;
+mod pairs;
 
 use crate::contents::print_name;
 use crate::entries::Entry;
 use crate::out::Out;
-pub(crate) use parts::Side;
-use parts::{Item, Items, items_of, pairs_of};
+use crate::outline::{Item, Items, Side, items_of};
+use pairs::pairs_of;
 use std::alloc::{AllocError, Global};
 
 /// A difference: the structure that it is in, where it is, the name of the field, which is empty if one input alone has
@@ -19,6 +19,10 @@ pub(crate) struct Difference<'a> {
     pub(crate) name: &'static str,
     pub(crate) old: Option<&'a str>,
     pub(crate) new: Option<&'a str>,
+    /// The field of the first table, if it has it.
+    pub(crate) was: Option<Item>,
+    /// The number of the field or of the structure in the second table, if it has it.
+    pub(crate) place: Option<usize>,
 }
 
 /// The item that comes first of those that are left on two sides, with the one beside it if that is the same field.
@@ -42,8 +46,15 @@ struct Found<'a, 'i, 's> {
 }
 
 impl<'a> Found<'a, '_, '_> {
-    /// Adds a difference between two items of a structure of the first table, if they differ.
-    fn add(&mut self, part: usize, a: Option<Item>, b: Option<Item>) -> Result<(), AllocError> {
+    /// Adds a difference between two items, the second one of this number, of a structure of the first table, if they
+    /// differ.
+    fn add(
+        &mut self,
+        part: usize,
+        a: Option<Item>,
+        b: Option<Item>,
+        place: usize,
+    ) -> Result<(), AllocError> {
         let (old, new) = (self.old.value(a), self.new.value(b));
         if let Some(item) = a.or(b)
             && old != new
@@ -56,6 +67,8 @@ impl<'a> Found<'a, '_, '_> {
                 name: item.name,
                 old,
                 new,
+                was: a,
+                place: b.and(Some(place)),
             })?;
         }
         Ok(())
@@ -70,7 +83,7 @@ impl<'a> Found<'a, '_, '_> {
             if a.or(b).is_none() {
                 break;
             }
-            self.add(part, a, b)?;
+            self.add(part, a, b, j.saturating_sub(1))?;
             if a.is_some() {
                 (old, i) = self.old.next_item(part, i);
             }
@@ -96,6 +109,8 @@ impl<'a> Found<'a, '_, '_> {
                 name: "",
                 old,
                 new,
+                was: None,
+                place: if is_first { None } else { Some(part) },
             })?,
         )
     }
@@ -129,21 +144,18 @@ fn is_alike(one: &Entry<'_>, other: &Entry<'_>) -> bool {
         && (!one.starts_with(b"SSDT") || one.get(16..24) == other.get(16..24))
 }
 
-/// The table of another input that is the same as one by its letters, and by how many with these stand before it.
-fn same_in<'e, 'a>(
-    entries: &[Entry<'_>],
-    index: usize,
-    others: &'e [Entry<'a>],
-) -> Option<&'e Entry<'a>> {
+/// The number of the table of another input that is the same as one by its letters, and by how many with these stand
+/// before it.
+pub(crate) fn same_in(entries: &[Entry<'_>], index: usize, others: &[Entry<'_>]) -> Option<usize> {
     let wanted = entries.get(index)?;
     let mut before = 0usize;
     for entry in entries.get(..index)? {
         before = before.saturating_add(is_alike(entry, wanted) as usize);
     }
-    for other in others {
+    for (number, other) in others.iter().enumerate() {
         if is_alike(other, wanted) {
             if before == 0 {
-                return Some(other);
+                return Some(number);
             }
             before -= 1;
         }
@@ -233,7 +245,7 @@ fn print_difference(difference: &Difference<'_>, out: &mut Out) {
 }
 
 /// The differences between the structures and items of two tables, less those of the names that are ignored.
-fn differences<'a>(
+pub(crate) fn differences<'a>(
     alloc: Global,
     old: &'a Items,
     new: &'a Items,
@@ -278,7 +290,11 @@ pub(crate) fn compare<S: ShowDifferences>(
 ) -> Result<bool, AllocError> {
     let mut any = false;
     for index in 0..old.len() {
-        match same_in(old, index, new) {
+        let other = match same_in(old, index, new) {
+            Some(number) => new.get(number),
+            None => None,
+        };
+        match other {
             Some(other) => any |= compare_pair(alloc, &old[index], other, ignored, show)?,
             None => {
                 any = true;

@@ -15,7 +15,7 @@ use crate::walk::{Field, Group, Show};
 use json::{Pretty, Token, is_number};
 use std::alloc::{AllocError, Global};
 use std::fmt::Display;
-pub(crate) use tables::{add_all, add_chosen};
+pub(crate) use tables::{add_all, add_chosen, header_of};
 
 /// The version of the document's form.
 const VERSION: u64 = 1;

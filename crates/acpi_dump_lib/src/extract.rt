@@ -1,6 +1,6 @@
-//! Tables as files of one folder.
+//! Files that are saved: tables in one folder, and a page.
 ghost use Rattle.std.specs.Prelude.{IfOk, IfSome, string_bytes};
-ghost use Rattle.acpi_dump_lib.specs.Extract.{AddsWithin, IsNamed};
+ghost use Rattle.acpi_dump_lib.specs.Extract.{AddsNamed, AddsWithin, IsNamed};
 
 use crate::dumped::print_letters;
 use crate::entries::Entry;
@@ -11,11 +11,10 @@ use acpi_pack_lib::storage::Storage;
 use std::alloc::{AllocError, Global};
 use std::io::ErrorKind;
 
-/// Where tables are saved.
+/// How files are saved.
 #[derive(Clone, Copy)]
 pub(crate) struct Saving<'s> {
     pub(crate) alloc: Global,
-    pub(crate) folder: &'s str,
     /// Whether the files replace those that are there.
     pub(crate) is_forced: bool,
     /// The names of what the tables were read from.
@@ -59,12 +58,46 @@ fn print_numbered(names: &str, line: usize, name: &str, out: &mut Out) {
     }
 }
 
-/// Saves a table under a name, and prints it with what the checks say, or says why it isn't saved.
+/// Saves a file, or says why it isn't saved. It answers whether it is.
 ///
 /// Fails if memory runs out.
-#[tactic(auto, using(crate::proofs::Within::none_added, crate::proofs::Within::one_added))]
+#[tactic(auto, using(crate::proofs::Within::none_named, crate::proofs::Within::one_named))]
+pub(crate) fn save_file<S: Sources, T: Storage>(
+    saving: Saving<'_>,
+    path: &str,
+    bytes: &[u8],
+    sources: &mut S,
+    storage: &mut T,
+    log: &mut Log,
+) -> Result<bool, AllocError>
+    ensures { AddsNamed path.now (T.saved storage.old) (T.saved storage.new) }
+{
+    match sources.kind_of(path) {
+        Ok(_) if !saving.is_forced => {
+            fail(log, path, &"it is there: --force replaces it");
+            return Ok(false);
+        }
+        Err(refusal) if refusal.kind() != ErrorKind::NotFound => {
+            fail(log, path, &reason_of(&refusal));
+            return Ok(false);
+        }
+        _ => {}
+    }
+    let bytes = Vec::from_slice(saving.alloc, bytes)?;
+    if let Err(refusal) = storage.save(path, saving.inputs, bytes)? {
+        fail(log, path, &refusal);
+        return Ok(false);
+    }
+    Ok(true)
+}
+
+/// Saves a table under a name in a folder, and prints it with what the checks say, or says why it isn't saved.
+///
+/// Fails if memory runs out.
+#[tactic(auto, using(crate::proofs::Within::none_added, crate::proofs::Within::named_added))]
 fn save_table<S: Sources, T: Storage>(
     saving: Saving<'_>,
+    folder: &str,
     name: &str,
     entry: &Entry<'_>,
     sources: &mut S,
@@ -72,34 +105,16 @@ fn save_table<S: Sources, T: Storage>(
     out: &mut Out,
     log: &mut Log,
 ) -> Result<(), AllocError>
-    ensures { AddsWithin saving.entry.folder.now (T.saved storage.old) (T.saved storage.new) }
+    ensures { AddsWithin folder.now (T.saved storage.old) (T.saved storage.new) }
 {
-    let Some(path) = path_within(saving.alloc, saving.folder, name)? else {
+    let Some(path) = path_within(saving.alloc, folder, name)? else {
         fail(log, name, &"not a name of a file");
         return Ok(());
     };
-    let path = path.as_str();
-    match sources.kind_of(path) {
-        Ok(_) if !saving.is_forced => {
-            fail(log, path, &"it is there: --force replaces it");
-            return Ok(());
-        }
-        Err(refusal) if refusal.kind() != ErrorKind::NotFound => {
-            fail(log, path, &reason_of(&refusal));
-            return Ok(());
-        }
-        _ => {}
-    }
-    let bytes = Vec::from_slice(saving.alloc, entry.bytes)?;
-    match storage.save(path, saving.inputs, bytes)? {
-        Ok(()) => {
-            write!(out, "{name}.dat: ");
-            out.value(&entry.status);
-            out.text("\n");
-        }
-        Err(refusal) => {
-            fail(log, path, &refusal);
-        }
+    if save_file(saving, path.as_str(), entry.bytes, sources, storage, log)? {
+        write!(out, "{name}.dat: ");
+        out.value(&entry.status);
+        out.text("\n");
     }
     Ok(())
 }
@@ -110,13 +125,14 @@ fn save_table<S: Sources, T: Storage>(
 #[tactic(auto, using(crate::proofs::Within::none_added, crate::proofs::Within::more_added))]
 pub(crate) fn save_tables<S: Sources, T: Storage>(
     saving: Saving<'_>,
+    folder: &str,
     entries: &[Entry<'_>],
     sources: &mut S,
     storage: &mut T,
     out: &mut Out,
     log: &mut Log,
 ) -> Result<(), Stop>
-    ensures { AddsWithin saving.entry.folder.now (T.saved storage.old) (T.saved storage.new) }
+    ensures { AddsWithin folder.now (T.saved storage.old) (T.saved storage.new) }
 {
     let names = names_of(saving.alloc, entries);
     let Some(names) = names.printed() else {
@@ -131,7 +147,7 @@ pub(crate) fn save_tables<S: Sources, T: Storage>(
             let Some(file) = file.printed() else {
                 return Err(Stop::OutOfMemory);
             };
-            save_table(saving, file, entry, sources, storage, out, log)?;
+            save_table(saving, folder, file, entry, sources, storage, out, log)?;
         }
     }
     Ok(())

@@ -38,6 +38,24 @@ const TEXTS: [&str; 17] = [
     management::MANAGEMENT,
 ];
 
+/// What a table with this signature is called, or no letters if nothing says it.
+pub(crate) fn title_of(signature: Signature) -> &'static str {
+    let name = signature.as_str().unwrap_or("");
+    match name {
+        "DSDT" => return "Differentiated System Description Table",
+        "SSDT" => return "Secondary System Description Table",
+        "PSDT" => return "Persistent System Description Table",
+        "RSD " => return "Root System Description Pointer",
+        _ => {}
+    }
+    for text in &TEXTS {
+        if let Some(block) = Blocks::read(*text).find(name, None) {
+            return block.title;
+        }
+    }
+    ""
+}
+
 /// The blocks among which the layout of a table with this signature is, and its lines after the header: none if no text
 /// has it. A FACS has no header: these are then all of its lines.
 pub(crate) fn layout_of(signature: Signature) -> (Blocks, &'static str) {

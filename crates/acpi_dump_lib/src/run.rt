@@ -9,7 +9,7 @@ use crate::options::command;
 use crate::out::Out;
 use crate::paint::Paint;
 use crate::sources::{Sources, reason_of};
-use crate::views::{Output, print_all_rules, print_compared, print_input, save_input};
+use crate::views::{Output, print_all_rules, print_compared, print_input, save_input, save_page};
 use acpi_pack_lib::storage::Storage;
 use clap::ArgMatches;
 use std::alloc::{AllocError, Global};
@@ -101,7 +101,7 @@ fn print_refusal(
 }
 
 /// Prints what is asked for of the inputs.
-#[tactic(auto, using(crate::proofs::Within::none_in_one, crate::proofs::Within::some_in_one))]
+#[tactic(auto, using(crate::proofs::Within::named_in_one, crate::proofs::Within::none_in_one, crate::proofs::Within::some_in_one))]
 fn print_inputs<S: Sources, T: Storage>(
     alloc: Global,
     request: &Request<'_>,
@@ -123,24 +123,29 @@ fn print_inputs<S: Sources, T: Storage>(
         paint: Paint { is_on },
     };
     match request.view {
-        View::Differences => return print_two(output, sources, out, log),
+        View::Differences => return print_two(output, sources, storage, out, log),
         View::Rules => return print_all_rules(output, out),
         _ => {}
     }
     let input = &gather_named(output, &request.inputs, sources, log)?;
-    match request.folder {
-        None => print_input(output, input, out, log),
-        Some(folder) => save_input(output, folder, input, sources, storage, out, log),
+    match (request.folder, request.page) {
+        (Some(folder), _) => save_input(output, folder, input, sources, storage, out, log),
+        (None, Some(file)) => save_page(output, file, input, None, sources, storage, log),
+        (None, None) => print_input(output, input, out, log),
     }
 }
 
-/// Prints what differs between the two inputs that are named.
-fn print_two<S: Sources>(
+/// Prints what differs between the two inputs that are named, or saves the page of it.
+#[tactic(auto, using(crate::proofs::Within::named_in_one, crate::proofs::Within::none_in_one))]
+fn print_two<S: Sources, T: Storage>(
     output: Output<'_, '_>,
     sources: &mut S,
+    storage: &mut T,
     out: &mut Out,
     log: &mut Log,
-) -> Result<u8, Stop> {
+) -> Result<u8, Stop>
+    ensures { AddsInOne (T.saved storage.old) (T.saved storage.new) }
+{
     let [old, new] = output.request.inputs.as_slice() else {
         let wrong = WrongWord {
             option: "compare",
@@ -152,7 +157,10 @@ fn print_two<S: Sources>(
     };
     let first = &gather_named(output, &[*old], sources, log)?;
     let second = &gather_named(output, &[*new], sources, log)?;
-    print_compared(output, first, second, out, log)
+    match output.request.page {
+        Some(file) => save_page(output, file, first, Some(second), sources, storage, log),
+        None => print_compared(output, first, second, out, log),
+    }
 }
 
 /// The input that words name, read as it is asked for.

@@ -3,6 +3,7 @@
 mod compared;
 mod judged;
 mod packed;
+mod page;
 
 ghost use Rattle.acpi_dump_lib.specs.Extract.{AddsWithin};
 
@@ -29,6 +30,7 @@ pub(crate) use compared::print_compared;
 pub(crate) use judged::print_all_rules;
 use judged::print_judged;
 use packed::add_facts_of_files;
+pub(crate) use page::save_page;
 use std::alloc::{AllocError, Global};
 
 /// How a view is printed.
@@ -54,6 +56,15 @@ impl<'w> Output<'_, 'w> {
         match self.request.inputs.get(number) {
             Some(name) => *name,
             None => "/sys/firmware/acpi/tables",
+        }
+    }
+
+    /// How files are saved.
+    fn saving(&self) -> Saving<'_> {
+        Saving {
+            alloc: self.alloc,
+            is_forced: self.request.is_forced,
+            inputs: &self.request.inputs,
         }
     }
 
@@ -227,13 +238,7 @@ pub(crate) fn save_input<S: Sources, T: Storage>(
         return Ok(2);
     }
     let entries = &entries_in(output, 0, loaded, log)?;
-    let saving = Saving {
-        alloc: output.alloc,
-        folder,
-        is_forced: output.request.is_forced,
-        inputs: &output.request.inputs,
-    };
-    save_tables(saving, entries, sources, storage, out, log)?;
+    save_tables(output.saving(), folder, entries, sources, storage, out, log)?;
     Ok(strict_status(output, entries))
 }
 

@@ -66,7 +66,7 @@ fn add_table(document: &mut Document, entry: &Entry<'_>, part: Part<'_>) {
 }
 
 /// The header of a table, unless it has none or is cut in it.
-fn header_of(entry: &Entry<'_>) -> Option<SdtHeader> {
+pub(crate) fn header_of(entry: &Entry<'_>) -> Option<SdtHeader> {
     let is_headless = entry.bytes.starts_with(b"FACS") || entry.bytes.starts_with(b"RSD PTR ");
     if is_headless || entry.bytes.len() < SdtHeader::MIN_LENGTH {
         None

@@ -1,8 +1,10 @@
 //! What rules find in the tables of an input.
 
 use super::{Loaded, Output, open_at, start_of, strict_status};
+use crate::arguments::View;
 use crate::check::{
-    Machine, Severity, add_findings, add_rules, counts_of, findings_of, print_findings, print_rules,
+    Findings, Machine, Severity, add_findings, add_rules, counts_of, findings_of, print_findings,
+    print_rules,
 };
 use crate::entries::{Entry, bytes_from, entries_of, entries_of_files, entry_at};
 use crate::errors::{Log, Stop};
@@ -135,11 +137,16 @@ pub(super) fn print_judged(
     } else {
         print_findings(findings, entries, least, out);
     }
+    Ok(status_of(output, entries, findings))
+}
+
+/// The status if all is shown: 4 if something is bad and that is asked for, and else as of any other view.
+pub(super) fn status_of(output: Output<'_, '_>, entries: &[Entry<'_>], findings: &Findings) -> u8 {
     let bad = output.request.least.unwrap_or(Severity::Error);
-    if counts_of(findings, bad) != [0, 0, 0] {
-        return Ok(4);
+    if matches!(output.request.view, View::Findings) && counts_of(findings, bad) != [0, 0, 0] {
+        return 4;
     }
-    Ok(strict_status(output, entries))
+    strict_status(output, entries)
 }
 
 /// Prints the rules.

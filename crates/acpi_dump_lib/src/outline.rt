@@ -1,10 +1,17 @@
-//! The structures of a table with their fields, and which of them are the same in two tables.
+//! The structures of a table with their fields.
 
 use crate::entries::Entry;
+use crate::fault::Fault;
 use crate::fields::{print_hex, print_meaning, print_value};
 use crate::out::Out;
 use crate::walk::{DEEPEST, Field, Group, Show, walk_table};
 use std::alloc::{AllocError, Global};
+
+/// The name of an item that is bytes which no field covers, up to 16 of them.
+pub(crate) const BYTES: &str = "bytes";
+
+/// The name of an item that says why the bytes after it aren't shown by the layout.
+pub(crate) const MALFORMED: &str = "malformed";
 
 /// The ends of the names of fields that tell structures of one type apart.
 const IDS: &str = "ID|Source|MPIDR|Segment Group Number|Segment Number|Proximity Domain";
@@ -12,32 +19,40 @@ const IDS: &str = "ID|Source|MPIDR|Segment Group Number|Segment Number|Proximity
 /// A field or a run of bytes: the structure that it is in, where it is in the table and in the structure, its name, and
 /// where its value stands in the text of all values.
 #[derive(Clone, Copy)]
-pub(super) struct Item {
-    part: usize,
-    pub(super) offset: u64,
-    pub(super) within: u64,
-    pub(super) name: &'static str,
+pub(crate) struct Item {
+    pub(crate) part: usize,
+    pub(crate) offset: u64,
+    pub(crate) within: u64,
+    pub(crate) length: u64,
+    pub(crate) name: &'static str,
+    /// Its number if it is one of several of its name.
+    pub(crate) number: Option<u64>,
     start: usize,
+    /// Where the meaning stands after the value.
+    middle: usize,
     end: usize,
 }
 
 /// A structure, of which the first is the whole table: the one that it is in, where it is, what it is called, its place
 /// among those of its name, and between which places its items stand, with those of the structures in it.
 #[derive(Clone, Copy)]
-struct Part {
-    parent: usize,
-    offset: u64,
-    name: &'static str,
+pub(crate) struct Part {
+    pub(crate) parent: usize,
+    pub(crate) offset: u64,
+    pub(crate) length: u64,
+    pub(crate) name: &'static str,
+    /// Its type, if it has one.
+    pub(crate) kind: Option<u64>,
     place: u64,
-    first: usize,
-    last: usize,
+    pub(crate) first: usize,
+    pub(crate) last: usize,
     /// The name of the first field that tells it apart, and where its value stands.
     id: Option<Item>,
 }
 
 /// The structures and items of a table in the order of its bytes, and their values as one text.
 #[derive(Drop)]
-pub(super) struct Items {
+pub(crate) struct Items {
     parts: Vec<Part>,
     items: Vec<Item>,
     /// The structure that began last and hasn't ended.
@@ -58,8 +73,8 @@ fn is_id(name: &str) -> bool {
 }
 
 impl Items {
-    /// Adds an item, whose value is what was printed from a place of the text on.
-    fn add(&mut self, offset: u64, name: &'static str, start: usize) {
+    /// Adds an item of so many bytes, whose value and meaning are what was printed from two places of the text on.
+    fn add(&mut self, offset: u64, length: usize, name: &'static str, places: (usize, usize)) {
         let begin = match self.parts.get(self.open) {
             Some(part) => part.offset,
             None => 0,
@@ -68,8 +83,11 @@ impl Items {
             part: self.open,
             offset,
             within: offset.saturating_sub(begin),
+            length: length as u64,
             name,
-            start,
+            number: None,
+            start: places.0,
+            middle: places.1,
             end: self.values.length(),
         };
         self.is_refused |= self.items.push(item).is_err();
@@ -86,7 +104,7 @@ impl Items {
     }
 
     /// These structures and items, if memory sufficed for them and their values.
-    pub(super) fn side(&self) -> Result<Side<'_>, AllocError> {
+    pub(crate) fn side(&self) -> Result<Side<'_>, AllocError> {
         match self.values.printed() {
             Some(values) if !self.is_refused => Ok(Side {
                 parts: self.parts.as_slice(),
@@ -102,8 +120,12 @@ impl Show for Items {
     fn field(&mut self, shown: &Field<'_>) {
         let start = self.values.length();
         print_value(shown, &mut self.values);
+        let places = (start, self.values.length());
         print_meaning(shown, &mut self.values);
-        self.add(shown.offset, shown.label.name, start);
+        self.add(shown.offset, shown.bytes.len(), shown.label.name, places);
+        if let Some(item) = self.items.last_mut() {
+            item.number = shown.number;
+        }
         let item = self.items.last().copied();
         if let Some(part) = self.parts.get_mut(self.open)
             && part.id.is_none()
@@ -118,7 +140,8 @@ impl Show for Items {
         for line in bytes.chunks(16) {
             let start = self.values.length();
             print_hex(line, &mut self.values);
-            self.add(offset, "bytes", start);
+            let places = (start, self.values.length());
+            self.add(offset, line.len(), BYTES, places);
             offset = offset.saturating_add(16);
         }
     }
@@ -132,7 +155,9 @@ impl Show for Items {
         let part = Part {
             parent: self.open,
             offset: group.offset,
+            length: group.length,
             name,
+            kind: group.kind,
             place: self.place_of(name),
             first: self.items.len(),
             last: 0,
@@ -149,25 +174,44 @@ impl Show for Items {
             self.open = part.parent;
         }
     }
+
+    fn malformed(&mut self, offset: u64, fault: Fault) {
+        let start = self.values.length();
+        fault.print(offset, &mut self.values);
+        self.add(offset, 0, MALFORMED, (start, start))
+    }
 }
 
 /// The structures and items of a table, with the text that their values stand in.
 #[derive(Clone, Copy)]
 pub(crate) struct Side<'a> {
-    parts: &'a [Part],
-    items: &'a [Item],
+    pub(crate) parts: &'a [Part],
+    pub(crate) items: &'a [Item],
     values: &'a str,
 }
 
 impl<'a> Side<'a> {
     /// The value of an item, if there is one.
-    pub(super) fn value(self, item: Option<Item>) -> Option<&'a str> {
+    pub(crate) fn value(self, item: Option<Item>) -> Option<&'a str> {
         let Item { start, end, .. } = item?;
         self.values.get(start..end)
     }
 
+    /// The value of an item without its meaning.
+    pub(crate) fn digits(self, item: Item) -> &'a str {
+        self.values.get(item.start..item.middle).unwrap_or("")
+    }
+
+    /// What a value means, if there is one.
+    pub(crate) fn meaning(self, item: Item) -> &'a str {
+        self.values
+            .get(item.middle..item.end)
+            .unwrap_or("")
+            .trim_ascii()
+    }
+
     /// The first item of a structure itself from a place on, if there is one, and the place after it.
-    pub(super) fn next_item(self, part: usize, from: usize) -> (Option<Item>, usize) {
+    pub(crate) fn next_item(self, part: usize, from: usize) -> (Option<Item>, usize) {
         let (first, last) = match self.parts.get(part) {
             Some(part) => (part.first.max(from), part.last),
             None => (0, 0),
@@ -175,6 +219,7 @@ impl<'a> Side<'a> {
         for place in first..last {
             if let Some(item) = self.items.get(place)
                 && item.part == part
+                && item.name != MALFORMED
             {
                 return (Some(*item), place + 1);
             }
@@ -183,7 +228,7 @@ impl<'a> Side<'a> {
     }
 
     /// Whether two structures of one or two tables are known by the same name and value, or place.
-    fn is_same(self, part: &Part, other: Side<'_>, candidate: &Part) -> bool {
+    pub(crate) fn is_same(self, part: &Part, other: Side<'_>, candidate: &Part) -> bool {
         part.name == candidate.name
             && match (part.id, candidate.id) {
                 (None, None) => part.place == candidate.place,
@@ -192,17 +237,17 @@ impl<'a> Side<'a> {
     }
 
     /// How many structures there are.
-    pub(super) fn len(self) -> usize {
+    pub(crate) fn len(self) -> usize {
         self.parts.len()
     }
 
     /// How many items there are.
-    pub(super) fn size(self) -> usize {
+    pub(crate) fn size(self) -> usize {
         self.items.len()
     }
 
     /// Where a structure is in the table.
-    pub(super) fn offset(self, part: usize) -> u64 {
+    pub(crate) fn offset(self, part: usize) -> u64 {
         match self.parts.get(part) {
             Some(part) => part.offset,
             None => 0,
@@ -236,111 +281,8 @@ impl<'a> Side<'a> {
     }
 }
 
-/// Which structures of two tables are the same.
-#[derive(Drop)]
-pub(super) struct Pairs {
-    /// For each one of the first table the place of that of the second one, or `usize::MAX`.
-    others: Vec<usize>,
-    /// Of each one of the second table, whether it is that of one of the first.
-    are_taken: Vec<bool>,
-}
-
-impl Pairs {
-    /// The place of the structure of the second table that is the same as one of the first.
-    pub(super) fn other(&self, part: usize) -> Option<usize> {
-        match self.others.get(part) {
-            Some(place) if *place != usize::MAX => Some(*place),
-            _ => None,
-        }
-    }
-
-    /// Whether a structure of the first table has no other, and that which it is in has one.
-    pub(super) fn is_gone(&self, old: Side<'_>, part: usize) -> bool {
-        match old.parts.get(part) {
-            Some(gone) => self.other(part).is_none() && self.other(gone.parent).is_some(),
-            None => false,
-        }
-    }
-
-    /// Whether a structure of the second table is none of the first, and that which it is in is one.
-    pub(super) fn is_added(&self, new: Side<'_>, part: usize) -> bool {
-        match new.parts.get(part) {
-            Some(added) => !self.is_taken(part) && self.is_taken(added.parent),
-            None => false,
-        }
-    }
-
-    /// Whether a structure of the second table is that of one of the first.
-    fn is_taken(&self, part: usize) -> bool {
-        self.are_taken.get(part).copied().unwrap_or(true)
-    }
-
-    /// The structure between two places of the second table that is the same as one of the first, if it isn't taken.
-    fn find(
-        &self,
-        old: Side<'_>,
-        part: &Part,
-        new: Side<'_>,
-        places: (usize, usize),
-    ) -> Option<usize> {
-        let parent = self.other(part.parent)?;
-        for place in places.0..places.1 {
-            if let Some(candidate) = new.parts.get(place)
-                && candidate.parent == parent
-                && !self.is_taken(place)
-                && old.is_same(part, new, candidate)
-            {
-                return Some(place);
-            }
-        }
-        None
-    }
-
-    /// Takes the structure of the second table that is the same as the next one of the first, and answers where the
-    /// search for the one after that begins.
-    fn take(
-        &mut self,
-        old: Side<'_>,
-        part: &Part,
-        new: Side<'_>,
-        from: usize,
-    ) -> Result<usize, AllocError> {
-        let mut found = self.find(old, part, new, (from, new.len()));
-        if found.is_none() {
-            found = self.find(old, part, new, (1, from));
-        }
-        let place = found.unwrap_or(usize::MAX);
-        if let Some(is_taken) = self.are_taken.get_mut(place) {
-            *is_taken = true;
-        }
-        self.others.push(place)?;
-        Ok(if found.is_some() {
-            place.saturating_add(1)
-        } else {
-            from
-        })
-    }
-}
-
-/// Which structures of two tables are the same: those that lie in the same one, and are known by the same name and the
-/// same field, or the same place among those of their name. The tables themselves are the same.
-pub(super) fn pairs_of(alloc: Global, old: Side<'_>, new: Side<'_>) -> Result<Pairs, AllocError> {
-    let mut pairs = Pairs {
-        others: vec![in alloc; 0usize]?,
-        are_taken: Vec::new(alloc),
-    };
-    for place in 0..new.len() {
-        pairs.are_taken.push(place == 0)?;
-    }
-    let mut next = 1usize;
-    for part in old.parts.get(1..).unwrap_or(&[]) {
-        next = pairs.take(old, part, new, next)?;
-    }
-    Ok(pairs)
-}
-
 /// The structures and items of a table.
-pub(super) fn items_of(alloc: Global, entry: &Entry<'_>) -> Items {
+pub(crate) fn items_of(alloc: Global, entry: &Entry<'_>) -> Items {
     let mut items = Items {
         parts: Vec::new(alloc),
         items: Vec::new(alloc),

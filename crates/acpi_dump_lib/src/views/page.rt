@@ -1,0 +1,114 @@
+//! A page of an input, or of what differs between two.
+
+ghost use Rattle.acpi_dump_lib.specs.Extract.{AddsNamed};
+
+use super::judged::{Judged, judged_in, status_of};
+use super::{Output, entries_in, has_no_start, load, strict_status};
+use crate::check::findings_of;
+use crate::errors::{Log, Stop};
+use crate::extract::save_file;
+use crate::html::{Given, Source, print_page};
+use crate::input::gather::Input;
+use crate::out::Out;
+use crate::sources::Sources;
+use acpi_pack_lib::storage::Storage;
+
+/// Prints the page of tables, beside those of a first input if there is one. It answers the status.
+///
+/// Fails if memory runs out.
+fn print_judged_page(
+    output: Output<'_, '_>,
+    first: Option<Given<'_>>,
+    names: &[&str],
+    judged: &Judged<'_>,
+    page: &mut Out,
+) -> Result<u8, Stop> {
+    let findings = &findings_of(&judged.machine(output.alloc))?;
+    let source = Source {
+        alloc: output.alloc,
+        input: Given {
+            names,
+            entries: judged.entries.as_slice(),
+        },
+        first,
+        ignored: &output.request.ignored,
+        findings,
+    };
+    print_page(source, page)?;
+    Ok(status_of(output, judged.entries.as_slice(), findings))
+}
+
+/// Prints the page of an input. It answers the status.
+///
+/// Fails, after saying why, if it has no tables, or if memory runs out.
+fn print_input_page(
+    output: Output<'_, '_>,
+    input: &Input,
+    page: &mut Out,
+    log: &mut Log,
+) -> Result<u8, Stop> {
+    let loaded = &load(output, 0, input, log)?;
+    if has_no_start(output, loaded, log) {
+        return Ok(2);
+    }
+    let judged = &judged_in(output, 0, loaded, log)?;
+    print_judged_page(output, None, &output.request.inputs, judged, page)
+}
+
+/// Prints the page of what differs between two inputs. It answers the status.
+///
+/// Fails, after saying why, if one has no tables, or if memory runs out.
+fn print_compared_page(
+    output: Output<'_, '_>,
+    first: &Input,
+    second: &Input,
+    page: &mut Out,
+    log: &mut Log,
+) -> Result<u8, Stop> {
+    let first = &load(output, 0, first, log)?;
+    let second = &load(output, 1, second, log)?;
+    let old = &entries_in(output, 0, first, log)?;
+    let judged = &judged_in(output, 1, second, log)?;
+    let given = Given {
+        names: &[output.name(0)],
+        entries: old.as_slice(),
+    };
+    let status = print_judged_page(output, Some(given), &[output.name(1)], judged, page)?;
+    Ok(status.max(strict_status(output, old)))
+}
+
+/// Saves the page of an input as a file, or that of what differs between two, the second one beside it.
+///
+/// Fails, after saying why, if one has no tables, or if memory runs out.
+#[tactic(auto, using(crate::proofs::Within::none_named))]
+pub(crate) fn save_page<S: Sources, T: Storage>(
+    output: Output<'_, '_>,
+    file: &str,
+    input: &Input,
+    second: Option<&Input>,
+    sources: &mut S,
+    storage: &mut T,
+    log: &mut Log,
+) -> Result<u8, Stop>
+    ensures { AddsNamed file.now (T.saved storage.old) (T.saved storage.new) }
+{
+    let mut page = Out::new(output.alloc);
+    let status = match second {
+        None => print_input_page(output, input, &mut page, log)?,
+        Some(second) => print_compared_page(output, input, second, &mut page, log)?,
+    };
+    let Some(page) = page.printed() else {
+        return Err(Stop::OutOfMemory);
+    };
+    if !page.is_empty() {
+        save_file(
+            output.saving(),
+            file,
+            page.as_bytes(),
+            sources,
+            storage,
+            log,
+        )?;
+    }
+    Ok(status)
+}
