@@ -7,6 +7,7 @@ _acpi_dump() {
         --start) COMPREPLY=($(compgen -W "rsdt: rsdp: bios" -- "$word")) ;;
         --at | --max-bytes | --ignore) COMPREPLY=() ;;
         -o | --extract) COMPREPLY=($(compgen -d -- "$word")) ;;
+        --html) COMPREPLY=($(compgen -f -- "$word")) ;;
         -t | --table | --hex)
             local first=
             [[ $word == *,* ]] && first=${word%,*},
@@ -14,7 +15,7 @@ _acpi_dump() {
             ;;
         *)
             case $word in
-                -*) COMPREPLY=($(compgen -W "--as --at --start --table --hex --text --extract --force --summary --find --check --check= --rules --compare --exit-code --ignore --json --strict --max-bytes --color --help --version" -- "$word")) ;;
+                -*) COMPREPLY=($(compgen -W "--as --at --start --table --hex --text --extract --html --force --summary --find --check --check= --rules --compare --exit-code --ignore --json --strict --max-bytes --color --help --version" -- "$word")) ;;
                 *) COMPREPLY=($(compgen -f -- "$word")) ;;
             esac
             ;;
