@@ -7,8 +7,9 @@ mod tables;
 ghost use Rattle.json.specs.Reads.{token_of};
 ghost use Rattle.json.specs.Print.{IsPrintable};
 
+use crate::aml::{Ends, Object, show_objects};
 use crate::fault::Fault;
-use crate::fields::{number_of, print_hex, print_meaning, print_text, print_value};
+use crate::fields::{number_of, print_hex, print_meaning, print_path, print_text, print_value};
 use crate::language::Meaning;
 use crate::out::Out;
 use crate::walk::{Field, Group, Show};
@@ -221,6 +222,30 @@ impl Show for Document {
         fault.print(offset, &mut why);
         self.token(Token::BeginObject);
         self.printed("malformed", &why);
+        self.number("offset", offset);
+        self.token(Token::EndObject);
+    }
+
+    fn aml(&mut self, table: &[u8], start: usize) {
+        show_objects(self.alloc, table, start, self)
+    }
+
+    fn object(&mut self, object: &Object<'_>) {
+        self.token(Token::BeginObject);
+        self.text("kind", object.kind);
+        self.number("length", object.length);
+        self.number("offset", object.offset);
+        if let Some(path) = object.path {
+            let mut text = Out::new(self.alloc);
+            print_path(path, &mut text);
+            self.printed("path", &text);
+        }
+        self.token(Token::EndObject);
+    }
+
+    fn ends(&mut self, offset: u64, why: Ends) {
+        self.token(Token::BeginObject);
+        self.shown("ends", &why);
         self.number("offset", offset);
         self.token(Token::EndObject);
     }

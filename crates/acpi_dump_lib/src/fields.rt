@@ -41,13 +41,31 @@ pub(crate) fn print_field(shown: &Field<'_>, depth: usize, out: &mut Out) {
         write!(out, " {number:<3}");
         column = column.saturating_add(4);
     }
-    for _ in column..VALUES {
-        out.text(" ");
-    }
+    print_spaces(column, out);
     out.text("  ");
     print_value(shown, out);
     print_meaning(shown, out);
     out.text("\n")
+}
+
+/// Prints the spaces from a column on up to where values begin.
+pub(crate) fn print_spaces(column: usize, out: &mut Out) {
+    for _ in column..VALUES {
+        out.text(" ");
+    }
+}
+
+/// Prints the path of an object of AML, whose segments have four letters each.
+pub(crate) fn print_path(segments: &[u8], out: &mut Out) {
+    let mut before = "\\";
+    for segment in segments.chunks(4) {
+        out.text(before);
+        out.escaped(segment);
+        before = ".";
+    }
+    if segments.is_empty() {
+        out.text(before);
+    }
 }
 
 /// Prints a number of up to eight bytes as one, the highest digit first, and a text or more bytes
@@ -91,7 +109,7 @@ pub(crate) fn print_meaning(shown: &Field<'_>, out: &mut Out) {
         Meaning::Row => print_row(value, out),
         Meaning::Guid => print_guid(value, items, out),
         Meaning::Function => print_function(number, out),
-        Meaning::Path => print_path(value, out),
+        Meaning::Path => print_hop(value, out),
         Meaning::Codes => print_name(name_of(number, items), out),
         Meaning::Flags => print_flags(number, items, out),
         Meaning::Register => print_register(value, out),
@@ -270,7 +288,7 @@ fn name_in(names: &'static str, wanted: &[u8]) -> &'static str {
 }
 
 /// Prints the numbers of a device and a function.
-fn print_path(value: &[u8], out: &mut Out) {
+fn print_hop(value: &[u8], out: &mut Out) {
     let [device, function] = value else {
         return;
     };

@@ -119,7 +119,7 @@ pub(crate) fn is_number(word: &str) -> bool {
 }
 
 /// The number in bytes at an offset, of so many bytes: 0 if they aren't there.
-fn number_at(bytes: &[u8], offset: usize, length: usize) -> u64 {
+pub(crate) fn number_at(bytes: &[u8], offset: usize, length: usize) -> u64 {
     if length <= 8 && offset.saturating_add(length) <= bytes.len() {
         field(bytes, offset, length)
     } else {

@@ -4,6 +4,7 @@
 //! `--extract` saves files of its folder alone; which bytes are printed and saved is tested, and not proved.
 #![tactic(auto)]
 
+mod aml;
 mod arguments;
 mod check;
 mod compare;

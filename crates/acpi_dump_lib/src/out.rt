@@ -61,6 +61,16 @@ impl Out {
         self.escaped(&text.bytes);
     }
 
+    /// Keeps that memory for a piece was refused.
+    pub(crate) fn refuse(&mut self) {
+        self.is_refused = true;
+    }
+
+    /// What gives it memory.
+    pub(crate) fn allocator(&self) -> Global {
+        self.alloc
+    }
+
     /// How many bytes were printed.
     pub(crate) fn length(&self) -> usize {
         self.bytes.len()

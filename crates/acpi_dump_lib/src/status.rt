@@ -34,6 +34,14 @@ pub(crate) enum Status {
 }
 
 impl Status {
+    /// Whether the table is read, as far as it is as its layout says.
+    pub(crate) fn is_read(self) -> bool {
+        matches!(
+            self,
+            Status::Valid | Status::NoLookup(_) | Status::Longer(_) | Status::Malformed
+        )
+    }
+
     /// Whether it is wrong: a table that isn't there isn't.
     pub(crate) fn is_invalid(self) -> bool {
         !matches!(self, Status::Valid | Status::NotHere)

@@ -1,7 +1,10 @@
-//! The machine in short: processors, interrupts, timers, PCI, memory domains and the console, one fact a line.
+//! The machine in short: processors, interrupts, timers, PCI, memory domains, the console, and units of other tables,
+//! one fact a line.
 
 mod distances;
+mod domains;
 mod gic;
+mod units;
 
 use crate::out::Out;
 use acpi::madt::Madt;
@@ -15,8 +18,10 @@ use acpi::{AcpiError, AcpiHandler, AcpiTables, HpetInfo, PciConfigRegions, Platf
 use acpi_arm::gic::GicModel;
 use acpi_numa::{Domains, MemoryAffinities, MemoryRange, Slit, Srat};
 use distances::add_distances;
+pub(crate) use domains::add_domains;
 use gic::add_gic;
 use std::alloc::Global;
+pub(crate) use units::add_units;
 
 /// Facts as text, a line for each: its name, a tab, and what holds.
 pub(crate) type Facts = Out;

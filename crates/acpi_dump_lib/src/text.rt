@@ -1,7 +1,8 @@
 //! A table as lines of text.
 
+use crate::aml::{Ends, Object, show_objects};
 use crate::fault::Fault;
-use crate::fields::{print_bytes, print_field};
+use crate::fields::{print_bytes, print_field, print_path, print_spaces};
 use crate::out::Out;
 use crate::walk::{Field, Group, Show};
 
@@ -35,6 +36,26 @@ impl Show for Text<'_> {
         self.out.text("malformed: ");
         fault.print(offset, self.out);
         self.out.text("\n")
+    }
+
+    fn aml(&mut self, table: &[u8], start: usize) {
+        show_objects(self.out.allocator(), table, start, self)
+    }
+
+    fn object(&mut self, object: &Object<'_>) {
+        let out = &mut *self.out;
+        let start = out.length();
+        write!(out, "  {:04x}  {}", object.offset, object.kind);
+        if let Some(path) = object.path {
+            out.text(" ");
+            print_path(path, out);
+        }
+        print_spaces(out.since(start).len(), out);
+        writeln!(out, "  {} bytes", object.length)
+    }
+
+    fn ends(&mut self, _offset: u64, why: Ends) {
+        writeln!(self.out, "  the list ends: {why}")
     }
 }
 

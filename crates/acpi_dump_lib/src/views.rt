@@ -21,7 +21,7 @@ use crate::listing::print_lines;
 use crate::out::Out;
 use crate::paint::Paint;
 use crate::sources::Sources;
-use crate::summary::{Facts, add_facts};
+use crate::summary::{Facts, add_domains, add_facts, add_units};
 use acpi::{AcpiError, AcpiTables};
 use acpi_cli::root::Root;
 use acpi_image_reader::MemoryImage;
@@ -390,6 +390,8 @@ fn print_summary(
 ) -> Result<u8, Stop> {
     let mut facts = Out::new(output.alloc);
     let entries = add_facts_in(output, loaded, &mut facts, log)?;
+    add_domains(output.alloc, &entries, &mut facts)?;
+    add_units(output.alloc, &entries, &mut facts);
     add_unread(&mut facts, &entries);
     let Some(facts) = facts.printed() else {
         return Err(Stop::OutOfMemory);

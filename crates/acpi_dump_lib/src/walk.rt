@@ -5,10 +5,12 @@ mod parts;
 
 ghost use Rattle.std.specs.Prelude.{◌<◌, length};
 
+use crate::aml::{Ends, Object};
 use crate::fault::Fault;
 use crate::language::{Label, is_chosen, is_number, next_word, sum_of};
 use crate::layouts::{HEADER, layout_of};
-use acpi::sdt::Signature;
+use acpi::PhysicalRecord;
+use acpi::sdt::{SdtHeader, Signature};
 use entry::next_entry;
 use parts::{Extent, Piece, list_extent, show_fields, show_gap, show_missing, show_start};
 
@@ -53,10 +55,34 @@ pub(crate) trait Show {
     /// Shows why bytes from an offset of the table on aren't shown by the layout. The bytes, if there are
     /// some, come next.
     fn malformed(&mut self, _offset: u64, _fault: Fault) {}
+
+    /// Shows the AML that a table has from an offset on, which isn't past its end.
+    fn aml(&mut self, table: &[u8], start: usize) {
+        self.bytes(start as u64, table.get(start..).unwrap_or(&[]))
+    }
+
+    /// Shows an object that AML defines.
+    fn object(&mut self, _object: &Object<'_>) {}
+
+    /// Shows why the objects of AML from an offset of the table on aren't shown.
+    fn ends(&mut self, _offset: u64, _why: Ends) {}
 }
+
+/// The tables whose bytes after the header are AML (section 5.2.11).
+const AML_TABLES: [Signature; 3] = [Signature::DSDT, Signature::SSDT, Signature::PSDT];
 
 /// Shows a table.
 pub(crate) fn walk_table<S: Show>(signature: Signature, table: &[u8], show: &mut S) {
+    if AML_TABLES.contains(&signature) && table.len() >= SdtHeader::MIN_LENGTH {
+        let (head, _) = table.split_at(SdtHeader::MIN_LENGTH);
+        walk_layout(signature, head, show);
+        return show.aml(table, SdtHeader::MIN_LENGTH);
+    }
+    walk_layout(signature, table, show)
+}
+
+/// Shows a table by its layout.
+fn walk_layout<S: Show>(signature: Signature, table: &[u8], show: &mut S) {
     let (blocks, lines) = &layout_of(signature);
     let piece = Piece {
         base: 0,

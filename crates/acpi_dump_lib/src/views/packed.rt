@@ -4,7 +4,6 @@ use super::{Output, open};
 use crate::entries::Entry;
 use crate::errors::{Log, Stop, fail};
 use crate::input::machine::letters_of;
-use crate::status::Status;
 use crate::summary::{Facts, add_facts};
 use acpi_image::{PlacedTable, write_image};
 use acpi_image_reader::MemoryImage;
@@ -23,11 +22,7 @@ fn placed_of<'e>(alloc: Global, entries: &[Entry<'e>]) -> Result<Vec<PlacedTable
     let mut placed = Vec::new(alloc);
     let mut address = FIRST;
     for entry in entries {
-        let is_valid = matches!(
-            entry.status,
-            Status::Valid | Status::NoLookup(_) | Status::Longer(_) | Status::Malformed
-        );
-        if is_valid && !UNLISTED.contains(&letters_of(entry.bytes)) {
+        if entry.status.is_read() && !UNLISTED.contains(&letters_of(entry.bytes)) {
             placed.push(PlacedTable {
                 address,
                 bytes: entry.bytes,

@@ -1,0 +1,193 @@
+//! What the domains of an SRAT have, and the latencies and bandwidths of an HMAT.
+
+use super::{Facts, size_of};
+use crate::entries::{Entry, own_signature};
+use crate::language::number_at;
+use crate::walk::{Group, Show, walk_table};
+use std::alloc::{AllocError, Global};
+
+/// What stands in the place of a processor's number for a range of memory.
+const MEMORY: u64 = u64::MAX;
+
+/// A processor or a range of memory of a domain.
+#[derive(Clone, Copy)]
+struct Share {
+    domain: u64,
+    /// The number of the processor, or `MEMORY`.
+    number: u64,
+    /// How many bytes the range has.
+    size: u64,
+}
+
+/// The processor, by its APIC ID or its UID, or the range of memory that an entry of an SRAT enables (section 5.2.16).
+fn share_of(kind: u64, entry: &[u8]) -> Option<Share> {
+    let (flags, domain, number, size) = match kind {
+        0 => {
+            let domain = number_at(entry, 2, 1) | number_at(entry, 9, 3) << 8;
+            (4, domain, number_at(entry, 3, 1), 0)
+        }
+        1 => (28, number_at(entry, 2, 4), MEMORY, number_at(entry, 16, 8)),
+        2 => (12, number_at(entry, 4, 4), number_at(entry, 8, 4), 0),
+        3 => (10, number_at(entry, 2, 4), number_at(entry, 6, 4), 0),
+        7 => (12, number_at(entry, 4, 4), number_at(entry, 8, 4), 0),
+        _ => return None,
+    };
+    if number_at(entry, flags, 4) & 1 == 0 {
+        return None;
+    }
+    Some(Share {
+        domain,
+        number,
+        size,
+    })
+}
+
+/// What a walk over an SRAT or an HMAT finds.
+#[derive(Drop)]
+struct Domains<'a> {
+    table: &'a [u8],
+    facts: &'a mut Facts,
+    shares: Vec<Share>,
+}
+
+impl Domains<'_> {
+    /// Keeps what an entry of an SRAT enables, if it does.
+    fn keep(&mut self, kind: u64, entry: &[u8]) {
+        if let Some(share) = share_of(kind, entry)
+            && self.shares.push(share).is_err()
+        {
+            self.facts.refuse();
+        }
+    }
+}
+
+impl Show for Domains<'_> {
+    fn begin(&mut self, group: &Group) {
+        let start = group.offset as usize;
+        let end = start.saturating_add(group.length as usize);
+        let entry = self.table.get(start..end).unwrap_or(&[]);
+        match group.kind {
+            Some(kind) if self.table.starts_with(b"SRAT") => self.keep(kind, entry),
+            Some(1) if self.table.starts_with(b"HMAT") => add_matrix(self.facts, entry),
+            _ => {}
+        }
+    }
+}
+
+/// Adds a line for each domain: its processors, and how much memory it has.
+fn add_shares(facts: &mut Facts, shares: &[Share]) {
+    let mut rest = shares;
+    for _ in 0..shares.len() {
+        let Some(first) = rest.first() else {
+            return;
+        };
+        let (domain, mut memory, mut count) = (first.domain, 0u64, 0usize);
+        write!(facts, "domain {domain}\t");
+        for share in rest {
+            if share.domain != domain {
+                break;
+            }
+            count = count.saturating_add(1);
+            memory = memory.saturating_add(share.size);
+            if share.number != MEMORY {
+                write!(facts, "processor {}, ", share.number);
+            }
+        }
+        let (size, unit) = size_of(memory);
+        writeln!(facts, "{size} {unit} of memory");
+        rest = rest.get(count..).unwrap_or(&[]);
+    }
+}
+
+/// What a System Locality Latency and Bandwidth Information Structure of this Data Type has, and in which unit.
+fn matrix_words(kind: u64) -> Option<(&'static str, &'static str)> {
+    match kind {
+        0 => Some(("access latency", "ps")),
+        1 => Some(("read latency", "ps")),
+        2 => Some(("write latency", "ps")),
+        3 => Some(("access bandwidth", "MB/s")),
+        4 => Some(("read bandwidth", "MB/s")),
+        5 => Some(("write bandwidth", "MB/s")),
+        _ => None,
+    }
+}
+
+/// Adds the values of a System Locality Latency and Bandwidth Information Structure (section 5.2.29.4): a line with the
+/// targets, and one for each initiator, in which `-` is a value that isn't given, or of a target that isn't reached.
+fn add_matrix(facts: &mut Facts, structure: &[u8]) {
+    let Some((words, unit)) = matrix_words(number_at(structure, 9, 1)) else {
+        return;
+    };
+    let initiators = number_at(structure, 12, 4) as usize;
+    let targets = number_at(structure, 16, 4) as usize;
+    let lists = initiators.saturating_add(targets).saturating_mul(4);
+    let start = lists.saturating_add(32);
+    let values = initiators.saturating_mul(targets).saturating_mul(2);
+    if start.saturating_add(values) > structure.len() {
+        return;
+    }
+    write!(facts, "{words} to\t");
+    for target in structure
+        .get(32..start)
+        .unwrap_or(&[])
+        .chunks(4)
+        .skip(initiators)
+    {
+        write!(facts, "{:>8}", number_at(target, 0, 4));
+    }
+    facts.text("\n");
+    let base = number_at(structure, 24, 8);
+    for place in 0..initiators {
+        let initiator = number_at(structure, place.saturating_mul(4).saturating_add(32), 4);
+        let row = targets
+            .saturating_mul(2)
+            .saturating_mul(place)
+            .saturating_add(start);
+        let end = targets.saturating_mul(2).saturating_add(row);
+        write!(facts, "{words} from {initiator}\t");
+        for value in structure.get(row..end).unwrap_or(&[]).chunks(2) {
+            match number_at(value, 0, 2) {
+                0 | 0xffff => facts.text("       -"),
+                value => write!(facts, "{:>8}", value.saturating_mul(base)),
+            }
+        }
+        writeln!(facts, " {unit}");
+    }
+}
+
+/// Adds what the domains of an SRAT or an HMAT have.
+///
+/// Fails if memory runs out.
+fn add_table(alloc: Global, table: &[u8], facts: &mut Facts) -> Result<(), AllocError> {
+    let mut domains = Domains {
+        table,
+        facts,
+        shares: Vec::new(alloc),
+    };
+    walk_table(own_signature(table), table, &mut domains);
+    let Domains {
+        facts,
+        mut shares,
+        ..
+    } = domains;
+    shares.sort_by_key(|share| (share.domain, share.number))?;
+    add_shares(facts, &shares);
+    Ok(())
+}
+
+/// Adds what the domains of the SRATs and HMATs have that are read.
+///
+/// Fails if memory runs out.
+pub(crate) fn add_domains(
+    alloc: Global,
+    entries: &[Entry<'_>],
+    facts: &mut Facts,
+) -> Result<(), AllocError> {
+    for entry in entries {
+        let is_wanted = entry.bytes.starts_with(b"SRAT") || entry.bytes.starts_with(b"HMAT");
+        if is_wanted && entry.status.is_read() {
+            add_table(alloc, entry.bytes, facts)?;
+        }
+    }
+    Ok(())
+}
