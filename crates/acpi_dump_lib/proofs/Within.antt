@@ -1,7 +1,6 @@
 -- What was to be saved grows by files of one folder, or of one path.
-use Rattle.std.proofs.Common.{◌≡◌, ◌∙◌, ℕ, List, [], ◌∷◌, ◌++◌, ap, sym}
-use Rattle.std.specs.Prelude.{◌⊎◌, All}
-use Rattle.std.proofs.lemmas.List.Elements.{All-append, All-cons, All-map, All-nil}
+use Rattle.std.proofs.Common.{◌≡◌, ◌∙◌, ℕ, List, [], ◌∷◌, ◌++◌, ap, inl, inr, sym}
+use Rattle.std.proofs.lemmas.List.Elements.{All-append, All-cons, All-nil}
 use Rattle.acpi_base.proofs.FromStd.{append_assoc, append-nil}
 use Rattle.acpi_dump_lib.specs.Extract.{Adds, AddsInOne, AddsNamed, AddsWithin, IsNamed, IsWithin}
 use Rattle.acpi_pack_lib.specs.Saves.{FileSaved}
@@ -27,12 +26,15 @@ one_named path before after f named grown = record {
 }
 
 -- by files of a path that is in a folder
+in_folder : (folder name path other : List ℕ) → IsNamed folder name path → other ≡ path → IsWithin folder other
+in_folder folder name path other named same = (name, rw same named)
+
 pub named_added : (folder name path : List ℕ) (before after : List FileSaved) → IsNamed folder name path
     → AddsNamed path before after → AddsWithin folder before after
 named_added folder name path before after within adds = record {
   added = adds.added;
   grown = adds.grown;
-  fit = All-map (λ f. f.name ≡ path) (λ f. IsWithin folder f.name) (λ f e. rw e (name, within)) adds.added adds.fit;
+  fit = λ k d below. in_folder folder name path _ within (adds.fit k d below);
 }
 
 -- by some, and then by some more

@@ -7,7 +7,7 @@ mod tables;
 ghost use Rattle.json.specs.Reads.{token_of};
 ghost use Rattle.json.specs.Print.{IsPrintable};
 
-use crate::aml::{Ends, Object, show_objects};
+use crate::aml::{Ends, Object};
 use crate::fault::Fault;
 use crate::fields::{number_of, print_hex, print_meaning, print_path, print_text, print_value};
 use crate::language::Meaning;
@@ -226,8 +226,8 @@ impl Show for Document {
         self.token(Token::EndObject);
     }
 
-    fn aml(&mut self, table: &[u8], start: usize) {
-        show_objects(self.alloc, table, start, self)
+    fn shows_objects(&self) -> Option<Global> {
+        Some(self.alloc)
     }
 
     fn object(&mut self, object: &Object<'_>) {

@@ -57,14 +57,14 @@ pub(crate) fn print_spaces(column: usize, out: &mut Out) {
 
 /// Prints the path of an object of AML, whose segments have four letters each.
 pub(crate) fn print_path(segments: &[u8], out: &mut Out) {
-    let mut before = "\\";
+    out.text("\\");
+    let mut is_first = true;
     for segment in segments.chunks(4) {
-        out.text(before);
+        if !is_first {
+            out.text(".");
+        }
         out.escaped(segment);
-        before = ".";
-    }
-    if segments.is_empty() {
-        out.text(before);
+        is_first = false;
     }
 }
 

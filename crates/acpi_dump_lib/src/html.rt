@@ -3,7 +3,6 @@
 //! A text from a table, a file's name or an option comes to the page by `escape` alone.
 
 mod bytes;
-mod drawing;
 mod escape;
 mod findings;
 mod frame;
@@ -16,12 +15,11 @@ mod sheet;
 mod style;
 mod table;
 
-use crate::check::{Finding, Findings};
+use crate::check::{Finding, Judgement};
 use crate::compare::same_in;
 use crate::entries::Entry;
 use crate::out::Out;
 use crate::outline::{Items, items_of};
-use drawing::print_drawing;
 use escape::print_escaped;
 use findings::print_findings;
 use frame::{print_end, print_head, print_nav};
@@ -50,7 +48,7 @@ pub(crate) struct Source<'p> {
     /// The names of the fields that are left out of what differs.
     pub(crate) ignored: &'p [&'p str],
     /// What rules find in the input.
-    pub(crate) findings: &'p Findings,
+    pub(crate) findings: &'p Judgement,
 }
 
 impl<'p> Source<'p> {
@@ -63,15 +61,13 @@ impl<'p> Source<'p> {
     }
 }
 
-/// What a drawing and the page around it show.
+/// What a page shows.
 #[derive(Clone, Copy)]
 struct Page<'p> {
     alloc: Global,
     /// The tables of the input, or of the second one of two.
     sheets: &'p [Sheet<'p>],
-    findings: &'p Findings,
-    /// Whether the parts of the drawing are links: those of the first one of two inputs aren't.
-    has_links: bool,
+    findings: &'p Judgement,
 }
 
 /// The structures and fields of tables.
@@ -235,27 +231,21 @@ fn print_outlined<'p>(
     };
     let sheets = sheets_of(alloc, new, marks, source.findings.list(), beside, SECOND)?;
     let old_sheets = sheets_of(alloc, old, old_marks, &[], Some(new), FIRST)?;
-    print_sheets(source, &sheets, &old_sheets, out)
+    print_sheets(source, &sheets, &old_sheets, out);
+    Ok(())
 }
 
 /// Prints the page of the tables of the input, and of those of the first one that aren't in it.
-fn print_sheets(
-    source: Source<'_>,
-    sheets: &[Sheet<'_>],
-    old: &[Sheet<'_>],
-    out: &mut Out,
-) -> Result<(), AllocError> {
+fn print_sheets(source: Source<'_>, sheets: &[Sheet<'_>], old: &[Sheet<'_>], out: &mut Out) {
     let page = Page {
         alloc: source.alloc,
         sheets,
         findings: source.findings,
-        has_links: true,
     };
     print_head(source, out);
     print_nav(page, old, out);
     print_title(source, out);
     print_findings(page, out);
-    print_machine(page, source, old, out)?;
     print_list(page, old, out);
     for sheet in sheets {
         print_table(page, *sheet, out);
@@ -265,8 +255,7 @@ fn print_sheets(
             print_table(page, *sheet, out);
         }
     }
-    print_end(out);
-    Ok(())
+    print_end(out)
 }
 
 /// Prints the names of what an input was read from.
@@ -302,34 +291,4 @@ fn print_title(source: Source<'_>, out: &mut Out) {
             );
         }
     }
-}
-
-/// Prints the machine as a drawing: the first one of two folded.
-fn print_machine(
-    page: Page<'_>,
-    source: Source<'_>,
-    old: &[Sheet<'_>],
-    out: &mut Out,
-) -> Result<(), AllocError> {
-    out.text("<section id=\"machine\"><h2>The machine</h2>\n");
-    if let Some(first) = source.first {
-        let before = Page {
-            sheets: old,
-            has_links: false,
-            ..page
-        };
-        out.text("<details><summary>First: ");
-        print_names(first.names, out);
-        out.text("</summary>");
-        print_drawing(&before, out)?;
-        out.text("</details><details open><summary>Second: ");
-        print_names(source.input.names, out);
-        out.text("</summary>");
-        print_drawing(&page, out)?;
-        out.text("</details>");
-    } else {
-        print_drawing(&page, out)?;
-    }
-    out.text("</section>\n");
-    Ok(())
 }

@@ -101,7 +101,7 @@ fn print_refusal(
 }
 
 /// Prints what is asked for of the inputs.
-#[tactic(auto, using(crate::proofs::Within::named_in_one, crate::proofs::Within::none_in_one, crate::proofs::Within::some_in_one))]
+#[tactic(auto, using(crate::proofs::Within::none_in_one))]
 fn print_inputs<S: Sources, T: Storage>(
     alloc: Global,
     request: &Request<'_>,
@@ -136,7 +136,7 @@ fn print_inputs<S: Sources, T: Storage>(
 }
 
 /// Prints what differs between the two inputs that are named, or saves the page of it.
-#[tactic(auto, using(crate::proofs::Within::named_in_one, crate::proofs::Within::none_in_one))]
+#[tactic(auto, using(crate::proofs::Within::none_in_one))]
 fn print_two<S: Sources, T: Storage>(
     output: Output<'_, '_>,
     sources: &mut S,

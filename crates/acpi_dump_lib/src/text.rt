@@ -1,10 +1,11 @@
 //! A table as lines of text.
 
-use crate::aml::{Ends, Object, show_objects};
+use crate::aml::{Ends, Object};
 use crate::fault::Fault;
 use crate::fields::{print_bytes, print_field, print_path, print_spaces};
 use crate::out::Out;
 use crate::walk::{Field, Group, Show};
+use std::alloc::Global;
 
 /// The text of a table: where it is written to, and how deep the structures lie that have begun.
 #[derive(Drop)]
@@ -38,8 +39,8 @@ impl Show for Text<'_> {
         self.out.text("\n")
     }
 
-    fn aml(&mut self, table: &[u8], start: usize) {
-        show_objects(self.out.allocator(), table, start, self)
+    fn shows_objects(&self) -> Option<Global> {
+        Some(self.out.allocator())
     }
 
     fn object(&mut self, object: &Object<'_>) {

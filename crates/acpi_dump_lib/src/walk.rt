@@ -5,7 +5,7 @@ mod parts;
 
 ghost use Rattle.std.specs.Prelude.{◌<◌, length};
 
-use crate::aml::{Ends, Object};
+use crate::aml::{Ends, Object, show_objects};
 use crate::fault::Fault;
 use crate::language::{Label, is_chosen, is_number, next_word, sum_of};
 use crate::layouts::{HEADER, layout_of};
@@ -13,6 +13,7 @@ use acpi::PhysicalRecord;
 use acpi::sdt::{SdtHeader, Signature};
 use entry::next_entry;
 use parts::{Extent, Piece, list_extent, show_fields, show_gap, show_missing, show_start};
+use std::alloc::Global;
 
 /// How deep structures lie in structures at most.
 pub(crate) const DEEPEST: u32 = 16;
@@ -56,9 +57,9 @@ pub(crate) trait Show {
     /// some, come next.
     fn malformed(&mut self, _offset: u64, _fault: Fault) {}
 
-    /// Shows the AML that a table has from an offset on, which isn't past its end.
-    fn aml(&mut self, table: &[u8], start: usize) {
-        self.bytes(start as u64, table.get(start..).unwrap_or(&[]))
+    /// The allocator for the paths of the objects that AML defines, if these are shown in place of its bytes.
+    fn shows_objects(&self) -> Option<Global> {
+        None
     }
 
     /// Shows an object that AML defines.
@@ -74,9 +75,12 @@ const AML_TABLES: [Signature; 3] = [Signature::DSDT, Signature::SSDT, Signature:
 /// Shows a table.
 pub(crate) fn walk_table<S: Show>(signature: Signature, table: &[u8], show: &mut S) {
     if AML_TABLES.contains(&signature) && table.len() >= SdtHeader::MIN_LENGTH {
-        let (head, _) = table.split_at(SdtHeader::MIN_LENGTH);
+        let (head, aml) = table.split_at(SdtHeader::MIN_LENGTH);
         walk_layout(signature, head, show);
-        return show.aml(table, SdtHeader::MIN_LENGTH);
+        return match show.shows_objects() {
+            Some(alloc) => show_objects(alloc, table, SdtHeader::MIN_LENGTH, show),
+            None => show.bytes(SdtHeader::MIN_LENGTH as u64, aml),
+        };
     }
     walk_layout(signature, table, show)
 }

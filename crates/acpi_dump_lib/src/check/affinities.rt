@@ -100,15 +100,15 @@ impl Affinities {
     /// Fails if memory runs out.
     fn add(&mut self, offset: usize, entry: &SratEntry) -> Result<(), AllocError> {
         let (domain, place) = match entry {
-            SratEntry::LocalApic(it) => (it.domain, 2),
-            SratEntry::Memory(it) => (it.domain, 2),
-            SratEntry::LocalX2Apic(it) => (it.domain, 4),
-            SratEntry::Gicc(it) => (it.domain, 2),
-            SratEntry::GicIts(it) => (it.domain, 2),
-            SratEntry::GenericInitiator(it) | SratEntry::GenericPort(it) => (it.domain, 4),
+            SratEntry::LocalApic(it) => (it.domain as u64, 2),
+            SratEntry::Memory(it) => (it.domain as u64, 2),
+            SratEntry::LocalX2Apic(it) => (it.domain as u64, 4),
+            SratEntry::Gicc(it) => (it.domain as u64, 2),
+            SratEntry::GicIts(it) => (it.domain as u64, 2),
+            SratEntry::GenericInitiator(it) => (it.domain as u64, 4),
+            SratEntry::GenericPort(it) => (it.domain as u64, 4),
         };
-        self.domains
-            .push(domain as u64, offset.saturating_add(place));
+        self.domains.push(domain, offset.saturating_add(place));
         match entry {
             SratEntry::LocalApic(it) => self
                 .processors

@@ -32,13 +32,12 @@ pub(super) fn print_head(source: Source<'_>, out: &mut Out) {
     out.text("</style></head>\n<body><a class=\"skip\" href=\"#tables\">Skip to the tables</a>\n");
 }
 
-/// Prints the links at the top: to the findings, the drawing, and each table.
+/// Prints the links at the top: to the findings, and to each table.
 pub(super) fn print_nav(page: Page<'_>, old: &[Sheet<'_>], out: &mut Out) {
     out.text("<nav aria-label=\"Tables\"><a href=\"#top\" class=\"home\">ACPI</a>");
     if !page.findings.list().is_empty() {
         out.text("<a href=\"#findings\">findings</a>");
     }
-    out.text("<a href=\"#machine\">machine</a>");
     for sheet in page.sheets {
         print_link(*sheet, out);
     }

@@ -114,7 +114,7 @@ impl<'p> Sheet<'p> {
         }
     }
 
-    /// The classes that what stands for so many bytes of the table, from an offset on, has after its own in the drawing:
+    /// The classes that what stands for so many bytes of the table, from an offset on, has after its own:
     /// ` hit` and the worst severity if there is a finding in them, and ` chg` if they differ from the first input's.
     pub(super) fn classes(self, offset: u64, length: u64) -> &'static str {
         let end = offset.saturating_add(length);

@@ -76,27 +76,30 @@ impl Show for Domains<'_> {
 
 /// Adds a line for each domain: its processors, and how much memory it has.
 fn add_shares(facts: &mut Facts, shares: &[Share]) {
-    let mut rest = shares;
-    for _ in 0..shares.len() {
-        let Some(first) = rest.first() else {
-            return;
-        };
-        let (domain, mut memory, mut count) = (first.domain, 0u64, 0usize);
-        write!(facts, "domain {domain}\t");
-        for share in rest {
-            if share.domain != domain {
-                break;
+    let (mut before, mut memory) = (None, 0u64);
+    for share in shares {
+        if before != Some(share.domain) {
+            if before.is_some() {
+                add_memory(facts, memory);
             }
-            count = count.saturating_add(1);
-            memory = memory.saturating_add(share.size);
-            if share.number != MEMORY {
-                write!(facts, "processor {}, ", share.number);
-            }
+            write!(facts, "domain {}\t", share.domain);
+            before = Some(share.domain);
+            memory = 0;
         }
-        let (size, unit) = size_of(memory);
-        writeln!(facts, "{size} {unit} of memory");
-        rest = rest.get(count..).unwrap_or(&[]);
+        memory = memory.saturating_add(share.size);
+        if share.number != MEMORY {
+            write!(facts, "processor {}, ", share.number);
+        }
     }
+    if before.is_some() {
+        add_memory(facts, memory);
+    }
+}
+
+/// Adds how much memory a domain has, at the end of its line.
+fn add_memory(facts: &mut Facts, memory: u64) {
+    let (size, unit) = size_of(memory);
+    writeln!(facts, "{size} {unit} of memory");
 }
 
 /// What a System Locality Latency and Bandwidth Information Structure of this Data Type has, and in which unit.

@@ -3,7 +3,7 @@
 use super::{Loaded, Output, open_at, start_of, strict_status};
 use crate::arguments::View;
 use crate::check::{
-    Findings, Machine, Severity, add_findings, add_rules, counts_of, findings_of, print_findings,
+    Judgement, Machine, Severity, add_findings, add_rules, counts_of, findings_of, print_findings,
     print_rules,
 };
 use crate::entries::{Entry, bytes_from, entries_of, entries_of_files, entry_at};
@@ -141,7 +141,7 @@ pub(super) fn print_judged(
 }
 
 /// The status if all is shown: 4 if something is bad and that is asked for, and else as of any other view.
-pub(super) fn status_of(output: Output<'_, '_>, entries: &[Entry<'_>], findings: &Findings) -> u8 {
+pub(super) fn status_of(output: Output<'_, '_>, entries: &[Entry<'_>], findings: &Judgement) -> u8 {
     let bad = output.request.least.unwrap_or(Severity::Error);
     if matches!(output.request.view, View::Findings) && counts_of(findings, bad) != [0, 0, 0] {
         return 4;

@@ -3,4 +3,4 @@ use Rattle.acpi_dump_lib.proofs.extract.save_tables.Given as goal
 
 abbrev pub invariant-loop-line : goal.invariant-loop-line
 invariant-loop-line g l =
-    AddsWithin l.folder.now (g.T.Storage.saved l.fn.storage) (g.T.Storage.saved l.storage)
+    AddsWithin l.folder (g.T.Storage.saved l.fn.storage) (g.T.Storage.saved l.storage)
