@@ -1,15 +1,15 @@
 //! Links the library. It is assembled from its source form, `dist/TARGET/zacpi.s` of this package or of the clone that
-//! it stands in, by the C compiler that `CC_TRIPLE`, `TARGET_CC` (or `HOST_CC` and `CC`, if the host is compiled for)
-//! names, or else by the first that takes it of those that are usual for the target. If none does, one line says what
+//! it is in, by the C compiler that `CC_TRIPLE`, `TARGET_CC` (or `HOST_CC` and `CC`, if the host is compiled for)
+//! names, or else by the first that takes it of those that are usual for the target. If none does, one line lists what
 //! was tried.
 //!
-//! `ZACPI_LIB_DIR` names a folder in which `libzacpi.a` stands already. If it is empty nothing is linked, which is
+//! `ZACPI_LIB_DIR` names a folder in which `libzacpi.a` is already. If it is empty nothing is linked, which is
 //! enough for `cargo check` and `cargo doc`, and needs no C compiler for the target.
 use std::env::var;
 use std::path::{Path, PathBuf};
 use std::process::Command;
 
-/// What is compiled for, as cargo says.
+/// What is compiled for, by cargo.
 struct Wanted {
     triple: String,
     arch: String,
@@ -83,7 +83,7 @@ impl Wanted {
     }
 }
 
-/// Runs one compiler over the assembly; what it said, if it failed.
+/// Runs one compiler over the assembly; what it printed, if it failed.
 fn assemble(compiler: &str, flags: &[&str], from: &Path, to: &Path) -> Result<(), String> {
     let mut words = compiler.split_whitespace();
     let mut command = Command::new(words.next().unwrap_or("cc"));

@@ -9,7 +9,7 @@ use zacpi::{
     AcpiResult, AcpiTables, HpetInfo, Listing, PciConfigRegions, PlatformRoom, Region, Signature, Slot, Start,
 };
 
-/// How many items of a list are printed; more are counted, and said to be left out.
+/// How many items of a list are printed; more are counted, and reported as left out.
 const MOST: usize = 1024;
 
 /// The first bytes, if there are so many, and the rest.
@@ -23,8 +23,8 @@ pub fn eight(bytes: &[u8]) -> u64 {
     u64::from_le_bytes(bytes[..8].try_into().unwrap())
 }
 
-/// The regions of an image, in ascending order and without those of no byte, or what acpi_view says of an image that
-/// it refuses. crates/acpi_dump/data/README.md has the layout of images.
+/// The regions of an image, in ascending order and without those of no byte, or what acpi_view reports of an image that
+/// it rejects. crates/acpi_dump/data/README.md has the layout of images.
 pub fn regions(mut image: &[u8]) -> Result<Vec<Region<'_>>, &'static str> {
     let mut found: Vec<Region<'_>> = Vec::new();
     let end = |r: &Region<'_>| r.address() + r.length() as u64;
@@ -54,7 +54,7 @@ fn each<T: Item>(list: &List<'_, T>, print: impl Fn(T)) {
     list.iter().for_each(print);
 }
 
-/// Asks for a list, and prints it. Of a list that is refused nothing is printed.
+/// Requests a list, and prints it. Of a list that fails nothing is printed.
 fn ask<T: Item>(listing: Listing<'_, T>, print: impl Fn(T)) -> AcpiResult<()> {
     listing.fill(&mut [Slot::default(); MOST]).map(|list| each(&list, print))
 }

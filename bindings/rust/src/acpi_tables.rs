@@ -105,7 +105,7 @@ pub trait AcpiTable<'k>: Sized {
     /// The signature that it is looked up by.
     const SIGNATURE: Signature;
 
-    /// Reads the bytes of a valid table of this signature: as many as its Length says, at least the 36 of its header,
+    /// Reads the bytes of a valid table of this signature: as many as its Length has, at least the 36 of its header,
     /// whose sum is right (section 5.2.6). A table may be shorter than its revision has it.
     fn read(bytes: &'k [u8]) -> Self;
 }
@@ -258,7 +258,7 @@ impl<'k> AcpiTables<'k> {
 
     /// The AML itself, if it lies in one region.
     pub fn aml(&self, table: &AmlTable) -> Option<&'k [u8]> {
-        // With its header, since an AML of no bytes may stand at the end of a region.
+        // With its header, since an AML of no bytes may be at the end of a region.
         self.bytes_at(table.address.checked_sub(36)?, u64::from(table.length) + 36)?.get(36..)
     }
 

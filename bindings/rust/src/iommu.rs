@@ -162,7 +162,7 @@ pub struct Dmar<'k> {
 }
 
 impl<'k> Dmar<'k> {
-    /// What it says of all units (section 8.1).
+    /// What it specifies for all units (section 8.1).
     pub fn flags(&self) -> AcpiResult<DmarFlags> {
         raw::zacpi_1_get_dmar_flags(&self.tables.source())
     }

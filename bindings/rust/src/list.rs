@@ -221,7 +221,7 @@ impl<T: Item> ExactSizeIterator for Items<'_, T> {}
 
 pub(crate) type Call<T> = fn(&Source<'_>, Signature, &mut [<T as Sealed>::Raw]) -> AcpiResult<usize>;
 
-/// A list that hasn't been fetched yet. Each call below fetches anew, and fails as the call says that this is from.
+/// A list that hasn't been fetched yet. Each call below fetches anew, and fails as the call that this is from.
 #[must_use = "nothing is asked for before `count`, `fill` or `to_vec`"]
 pub struct Listing<'k, T: Item> {
     source: Source<'k>,

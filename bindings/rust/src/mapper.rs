@@ -1,5 +1,5 @@
 //! Tables in memory that is mapped while they are found, by a mapper of the kernel's own. All `unsafe` code of mapping
-//! stands in this module.
+//! is in this module.
 #![allow(unsafe_code)]
 
 use crate::acpi_tables::{AcpiTables, Root};
@@ -63,8 +63,8 @@ impl<M: PhysicalMapper, const ROOM: usize> MappedTables<M, ROOM> {
     /// Maps what the tables from a start need: the RSDP, the root table, the listed tables, the DSDT and the FACS. What
     /// `map` returned `None` for, or a range that holds it, isn't requested again: that table is skipped.
     ///
-    /// Fails as [`AcpiTables::open`] does, and with [`AllocError`](crate::AcpiError::AllocError) if there is no capacity
-    /// for a region or a range, or with the feature `alloc` no memory for it. Then all is unmapped again.
+    /// Fails as [`AcpiTables::open`] does, and with [`AllocError`](crate::AcpiError::AllocError) if there is no
+    /// capacity for a region or a range, or with the feature `alloc` no memory for it. Then all is unmapped again.
     /// [`Start::Search`] looks at what is mapped alone, which is nothing here.
     ///
     /// # Safety

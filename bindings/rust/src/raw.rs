@@ -312,7 +312,7 @@ pub(crate) fn locate(regions: &[Region<'_>], address: u64, length: u64) -> AcpiR
     answered(status, Signature::default()).map(|()| place)
 }
 
-/// The source at the root table that a copy of the RSDP leads to.
+/// The source at the root table that a copy of the RSDP points to.
 pub(crate) fn start_of_rsdp(copy: &[u8]) -> AcpiResult<(u32, u64)> {
     let mut source = Source::new(&[], 0, 0);
     // SAFETY: the copy is a live slice, and the source, a live variable, holds a live slice.

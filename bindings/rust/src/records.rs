@@ -208,7 +208,7 @@ records! {
         /// The number of its function.
         function: u8,
     }
-    /// What a DMAR says of all units (Intel Virtualization Technology for Directed I/O 4.0, section 8.1).
+    /// What a DMAR specifies for all units (Intel Virtualization Technology for Directed I/O 4.0, section 8.1).
     #[non_exhaustive]
     DmarFlags {
         /// How many bits an address has that a device can reach: Host Address Width and 1.

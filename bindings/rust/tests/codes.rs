@@ -1,4 +1,4 @@
-//! Codes and names: each byte of firmware has a value, and each refusal a text.
+//! Codes and names: each byte of firmware has a value, and each error a text.
 use zacpi::address::{AccessSize, AddressSpace};
 use zacpi::list::Slot;
 use zacpi::spcr::SpcrInterfaceType;

@@ -7,7 +7,7 @@ use zacpi::{AcpiError, PowerProfile, Signature};
 
 const FADT: u64 = ROOT + 0x1000;
 
-/// What is asked of a FADT of these fields (section 5.2.9).
+/// What is read of a FADT of these fields (section 5.2.9).
 fn fadt<T>(revision: u64, length: usize, fields: &[Field], ask: impl FnOnce(Fadt) -> T) -> T {
     let mut memory = Memory::rsdt(&[FADT]);
     memory.table(FADT, "FACP", revision, length, fields);
@@ -163,7 +163,7 @@ fn says_that_addresses_are_missing() {
     });
 }
 
-/// Each getter says its own bit, which is its place in the list (tables 5.10, 5.12 and 5.13).
+/// Each getter returns its own bit, which is its place in the list (tables 5.10, 5.12 and 5.13).
 #[test]
 fn flags_are_their_bits() {
     let fixed: [fn(FixedFeatureFlags) -> bool; 22] = [

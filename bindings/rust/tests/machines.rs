@@ -195,7 +195,7 @@ fn fails_as_a_whole() {
     refused(&Machine::new(IDS, &short), AT, 4096, WriteError::BadTable);
     assert_eq!(write::dsdt_address(u64::MAX, 1), Err(WriteError::NoAddress));
     assert_eq!(write::facs_address(u64::MAX - 84, 1, None), Err(WriteError::NoAddress));
-    // 4 GiB of zeros, of which none is looked at: Length can't say so many.
+    // 4 GiB of zeros, of which none is looked at: Length can't count so many.
     #[cfg(target_pointer_width = "64")]
     {
         let long = vec![0; 1 << 32];

@@ -14,7 +14,7 @@ const NOWHERE: u64 = 0x4000_0000;
 /// Memory that is mapped where it is, and what is mapped of it.
 struct Mapper<'m> {
     memory: &'m Memory,
-    /// What was asked for.
+    /// What was requested.
     asked: RefCell<Vec<Range>>,
     /// What is mapped, and where.
     held: RefCell<Vec<(usize, Range)>>,
@@ -111,7 +111,7 @@ fn needs_room_or_makes_it() {
     assert_eq!(mapper.held.borrow().len(), 0);
 }
 
-/// What the tables answer: where they are, and what of them is refused.
+/// What is found of the tables: where they are, and which of them fail.
 fn answers(tables: &AcpiTables<'_>) -> impl PartialEq + std::fmt::Debug {
     let mut headers = [Slot::default(); 8];
     let mut ranges = [Slot::default(); 16];
@@ -122,8 +122,8 @@ fn answers(tables: &AcpiTables<'_>) -> impl PartialEq + std::fmt::Debug {
     (tables.root(), headers, ranges, faults, tables.dsdt())
 }
 
-/// Whichever bit is damaged, memory that is mapped by pages answers as memory that is mapped as a whole does, and all is
-/// unmapped in the end.
+/// Whichever bit is damaged, memory that is mapped by pages has the results of memory that is mapped as a whole, and
+/// all is unmapped in the end.
 #[test]
 fn answers_as_if_all_were_mapped() {
     let mut memory = machine();

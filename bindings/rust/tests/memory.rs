@@ -65,7 +65,7 @@ fn maps_what_is_missing() {
         map(&memory, range)
     })
     .unwrap();
-    // Headers have 36 bytes; a header is mapped first, then what its Length says, in its place.
+    // Headers have 36 bytes; a header is mapped first, then as much as its Length, in its place.
     let expected = [
         range(RSDP, 36),
         range(ROOT, 36),

@@ -1,4 +1,4 @@
-//! The kernel whose changes the README shows, as it stands in `kernel/zacpi.rs`.
+//! The kernel whose changes the README shows, as it is in `kernel/zacpi.rs`.
 #![cfg(feature = "alloc")]
 #![allow(unsafe_code, clippy::unnecessary_cast)] // casts that the crate acpi needs stay
 

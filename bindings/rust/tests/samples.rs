@@ -1,4 +1,4 @@
-//! Sample images of the repository, of which crates/acpi_dump/data/README.md says what they hold.
+//! Sample images of the repository, whose contents crates/acpi_dump/data/README.md describes.
 use std::fs;
 use std::path::Path;
 use zacpi::fadt::Fadt;
@@ -6,7 +6,7 @@ use zacpi::platform::interrupt::InterruptModel;
 use zacpi::power::{Plan, SleepTypes};
 use zacpi::{AcpiTables, PlatformRoom, PowerProfile, Region, Signature, Slot, Start};
 
-/// A sample, unless the package stands elsewhere than in the repository.
+/// A sample, unless the package is elsewhere than in the repository.
 fn sample(name: &str) -> Option<Vec<u8>> {
     let path = Path::new(env!("CARGO_MANIFEST_DIR")).join("../..").join(name);
     if !path.exists() {

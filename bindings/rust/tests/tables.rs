@@ -92,7 +92,7 @@ fn opens_a_root_table() {
     assert_eq!(refused(Start::Search), AcpiError::NoValidRsdp);
 }
 
-/// The word at 0x40e, which says that there is no EBDA; an RSDT at [`ROOT`] that lists one table; and the area from
+/// The word at 0x40e, by which there is no EBDA; an RSDT at [`ROOT`] that lists one table; and the area from
 /// 0xe0000 on with the 16 bytes after it, in which an RSDP is at 0xfffe0, the last place that one can have (section
 /// 5.2.5.1).
 #[test]
@@ -103,7 +103,7 @@ fn searches() {
     memory.sum(ROOT + 0x100, 20, 8);
     let mut area = vec![0; 0x20010];
     area[0x1ffe0..0x1fff4].copy_from_slice(&memory.bytes[0x100..0x114]);
-    // The area ends at 0x100010, so the root table is lent from there on.
+    // The area ends at 0x100010, so the root table is mapped from there on.
     memory.bytes.copy_within(..40, 0x10);
     let rest = &memory.bytes[0x10..];
     let regions = [Region::new(0x40e, &[0, 0]), Region::new(0xe0000, &area), Region::new(ROOT + 0x10, rest)];
@@ -111,7 +111,7 @@ fn searches() {
     let root = Root { address: ROOT + 0x10, length: 40, revision: 0, is_xsdt: false, rsdp };
     let tables = AcpiTables::open(&regions, Start::BiosSearch).unwrap();
     assert_eq!((tables.root(), tables.ranges().count()), (root, Ok(3)));
-    // The part of the area from 0xf0000 on is enough for the search of what is lent.
+    // The part of the area from 0xf0000 on is enough for the search of what is mapped.
     let part = [Region::new(0xf0000, &area[0x10000..]), regions[2]];
     assert_eq!(AcpiTables::open(&part, Start::BiosSearch).unwrap_err(), AcpiError::MapFailed);
     let tables = AcpiTables::open(&part, Start::Search).unwrap();
@@ -297,7 +297,7 @@ fn walks_wide_entries() {
     });
 }
 
-/// 40 entries of 3 bytes, of the types 0 to 39: more than are asked for at once.
+/// 40 entries of 3 bytes, of the types 0 to 39: more than are requested at once.
 #[test]
 fn walks_many_entries() {
     let mut memory = Memory::rsdt(&[SSDT]);

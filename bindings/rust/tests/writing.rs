@@ -24,7 +24,7 @@ const IDS: TableIds = TableIds {
 };
 const TABLE: u64 = ROOT + 0x1000;
 
-/// Writes a table of this size, below an XSDT, and asks the tables.
+/// Writes a table of this size, below an XSDT, and reads the tables.
 fn read_back<T>(
     size: usize,
     write: impl Fn(&mut [u8]) -> Result<usize, WriteError>,

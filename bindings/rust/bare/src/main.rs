@@ -1,4 +1,4 @@
-//! A program for a target without an operating system: it asks for the tables in memory that it holds itself. Run on
+//! A program for a target without an operating system: it reads the tables in memory that it has itself. Run on
 //! Linux for x86-64, it ends with the number of tables as its status.
 #![no_std]
 #![no_main]

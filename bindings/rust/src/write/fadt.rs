@@ -50,7 +50,7 @@ macro_rules! registers {
 impl fadt::Fadt {
     /// The fixed hardware of a machine with this DSDT, that has neither C2 nor C3, and nothing else yet.
     pub fn new(dsdt_address: u64) -> Self {
-        // Address 0 stands for none, as it is read.
+        // Address 0 means none, as it is read.
         let none = records::Register { present: 1, ..Default::default() };
         let at = records::GenericAddress { space: AddressSpace::SystemIo.into(), ..Default::default() };
         fadt::Fadt::from(FixedHardware {

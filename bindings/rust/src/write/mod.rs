@@ -103,7 +103,7 @@ errors! {
     69 = BadRegister,
     /// A range of memory that has no byte or ends above 2^64 - 1, or one of redistributors that has 2^32 bytes or more.
     70 = BadRange,
-    /// A trigger mode or a polarity of an Arm machine as the bus has it, which nothing here can be made to say.
+    /// A trigger mode or a polarity of an Arm machine as the bus has it, which no field here can specify.
     71 = SameAsBus,
     /// A GT Block with more frames than its Length can count.
     72 = TooManyFrames,

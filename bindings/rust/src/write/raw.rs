@@ -103,7 +103,7 @@ pub(super) fn write_mcfg(
     regions: &[Slot<crate::mcfg::PciConfigEntry>],
     out: &mut [u8],
 ) -> Result<usize, WriteError> {
-    // SAFETY: as `records_at` says; the result borrows the slots.
+    // SAFETY: as at `records_at`; the result borrows the slots.
     let regions = unsafe { core::slice::from_raw_parts(records_at(regions), regions.len()) };
     zacpi_1_write_mcfg(ids, regions, out)
 }

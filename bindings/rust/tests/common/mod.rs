@@ -1,4 +1,4 @@
-//! Memory that tests lay out by hand, a field at a time: an offset stands beside the name that the specification has
+//! Memory that tests lay out by hand, a field at a time: an offset is beside the name that the specification has
 //! for its field.
 #![allow(dead_code)]
 use zacpi::{AcpiTables, Region};
@@ -70,7 +70,7 @@ impl Memory {
     }
 }
 
-/// The bytes of a sample image's only record: crates/acpi_dump/data/README.md says what it holds.
+/// The bytes of a sample image's only record: crates/acpi_dump/data/README.md describes it.
 pub fn record_of(image: &[u8]) -> (u64, &[u8]) {
     (u64::from_le_bytes(image[..8].try_into().unwrap()), &image[16..])
 }
