@@ -9,7 +9,7 @@ struct printer {
     void *to;
 };
 
-/* Pieces of lines. */
+/* Pieces of lines: an address is 0x and hexadecimal digits. */
 void say(const struct printer *p, const char *text);
 void say_number(const struct printer *p, uint64_t number);
 void say_address(const struct printer *p, uint64_t address);
