@@ -2,7 +2,8 @@
 //!
 //! `acpi_pack OUT memory ADDRESS FILE [ADDRESS FILE]...` puts each file at its address, and
 //! `acpi_pack OUT tables FILE...` makes an RSDP and an XSDT that lists the tables that the files
-//! are.
+//! are. Before OUT `--fix-checksum` sets the tables' checksums, and `--raw` makes plain memory
+//! of the image.
 #![tactic(auto)]
 
 use acpi_cli::files::HostFiles;

@@ -1,12 +1,15 @@
 -- What the arguments ask for.
-use Rattle.std.specs.Prelude.{ℕ, List, [], ◌∷◌, map, Option, Some, None, if◌then◌else◌, codes, bytes_eq}
+use Rattle.std.specs.Prelude.{ℕ, true, false, List, [], ◌∷◌, map, Option, Some, None, if◌then◌else◌, codes, bytes_eq}
 use Rattle.acpi_pack_lib.specs.declared.arguments.Command.{Command}
 use Rattle.acpi_pack_lib.specs.declared.arguments.Form.{Form}
 use Rattle.acpi_pack_lib.specs.declared.arguments.Form.TheVariants.{Memory, Tables}
+use Rattle.acpi_pack_lib.specs.declared.arguments.Options.{Options}
 use Rattle.acpi_cli.specs.Numbers.{address_of}
 
--- the file that is to be made, the files that it is made from, and the addresses of these, or none if they are tables
+-- the options, the file that is to be made, the files that it is made from, and the addresses of these, or none if they
+-- are tables
 pub record Request : Type 0 where
+  pub options : Options
   pub out : List ℕ
   pub names : List (List ℕ)
   pub addresses : Option (List ℕ)
@@ -18,6 +21,7 @@ addresses_of Tables = None
 -- what a command asks for
 abbrev pub request_of : Command → Request
 request_of c = record {
+  options = c.options;
   out = c.out.now;
   names = map (λ n. n.now) c.names.items;
   addresses = addresses_of c.form;
@@ -40,25 +44,42 @@ names_in [] = []
 names_in (address ∷ []) = []
 names_in (address ∷ file ∷ rest) = file ∷ names_in rest
 
-abbrev pub memory_with : List ℕ → List (List ℕ) → Option (List ℕ) → Option Request
-memory_with out names None = None
-memory_with out names (Some addresses) =
-    Some (record { out = out; names = names; addresses = Some addresses })
+abbrev pub memory_with : Options → List ℕ → List (List ℕ) → Option (List ℕ) → Option Request
+memory_with options out names None = None
+memory_with options out names (Some addresses) =
+    Some (record { options = options; out = out; names = names; addresses = Some addresses })
 
-abbrev pub memory_request : List ℕ → List (List ℕ) → Option Request
-memory_request out pairs = memory_with out (names_in pairs) (addresses_in pairs)
+abbrev pub memory_request : Options → List ℕ → List (List ℕ) → Option Request
+memory_request options out pairs = memory_with options out (names_in pairs) (addresses_in pairs)
 
-abbrev pub tables_request : List ℕ → List (List ℕ) → Option Request
-tables_request out names = Some (record { out = out; names = names; addresses = None })
+abbrev pub tables_request : Options → List ℕ → List (List ℕ) → Option Request
+tables_request options out names = Some (record { options = options; out = out; names = names; addresses = None })
 
 -- what a form and the arguments after it ask for
-abbrev pub form_request : List ℕ → List ℕ → List (List ℕ) → Option Request
-form_request out form words =
-    if bytes_eq form (codes "memory") then memory_request out words
-    else if bytes_eq form (codes "tables") then tables_request out words
+abbrev pub form_request : Options → List ℕ → List ℕ → List (List ℕ) → Option Request
+form_request options out form words =
+    if bytes_eq form (codes "memory") then memory_request options out words
+    else if bytes_eq form (codes "tables") then tables_request options out words
     else None
 
--- what the arguments after the program's name ask for: a file, a form, and one file at least
+-- a file, a form, and one file at least
+abbrev pub command_request : Options × List (List ℕ) → Option Request
+command_request (options, out ∷ form ∷ word ∷ words) = form_request options out form (word ∷ words)
+command_request _ = None
+
+abbrev pub no_options : Options
+no_options = record { fixes_sums = false; is_plain = false }
+
+-- the options that arguments begin with, in any order, after those before them, and the other arguments
+abbrev pub options_from : Options → List (List ℕ) → Options × List (List ℕ)
+options_from options [] = (options, [])
+options_from options (word ∷ words) =
+    if bytes_eq word (codes "--fix-checksum")
+    then options_from (record { fixes_sums = true; is_plain = options.is_plain }) words
+    else if bytes_eq word (codes "--raw")
+    then options_from (record { fixes_sums = options.fixes_sums; is_plain = true }) words
+    else (options, word ∷ words)
+
+-- what the arguments after the program's name ask for
 abbrev pub request_in : List (List ℕ) → Option Request
-request_in (out ∷ form ∷ word ∷ words) = form_request out form (word ∷ words)
-request_in _ = None
+request_in words = command_request (options_from no_options words)

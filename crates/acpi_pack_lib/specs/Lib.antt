@@ -3,11 +3,13 @@ pub mod Listing
 pub mod Pack
 pub mod Packed
 pub mod Place
+pub mod Plain
 pub mod Program
 pub mod Run
 pub mod Save
 pub mod Saves
 pub mod Sources
+pub mod Sums
 pub mod Texts
 pub mod Told
 pub mod Arguments

@@ -1,9 +1,10 @@
 -- What lies where in an image that is packed: a line for each of its records.
-use Rattle.std.specs.Prelude.{◌≡◌, ℕ, ◌+◌, false, codes, List, [], ◌∷◌, ◌++◌, drop, map, Option, Some, None, Result, Ok, slice_get, unwrap_or}
+use Rattle.std.specs.Prelude.{◌≡◌, ℕ, ◌+◌, Bool, true, false, codes, List, [], ◌∷◌, ◌++◌, drop, map, Option, Some, None, Result, Ok, slice_get, unwrap_or}
 use Rattle.acpi_base.specs.FromStd.{digits}
 use Rattle.acpi_base.specs.Words.{filled_part, Memory, ◌>>=◌, bytes_text}
 use Rattle.acpi_image_reader.specs.Words.{records_in}
 use Rattle.acpi_image_reader.specs.declared.error.ImageError.{ImageError}
+use Rattle.acpi_pack_lib.specs.Plain.{first_in}
 use Rattle.acpi_pack_lib.specs.Sources.{bytes_in, bytes_of, entries}
 use Rattle.acpi_pack_lib.specs.declared.listing.Label.{Label}
 use Rattle.acpi_pack_lib.specs.declared.listing.Label.TheVariants as label
@@ -59,11 +60,16 @@ record_lines labels n [] = []
 record_lines labels n (r ∷ rs) =
     record_line r.start (name_of labels n) ++ record_lines labels (n + 1) rs
 
--- those of a file, or why it is not an image
-abbrev pub listing : List (List ℕ) → List ℕ → Result (List ℕ) ImageError
-listing labels file = do
+-- of plain memory, the address at which it has to lie, and the name of its file
+abbrev pub plain_line : Bool → List ℕ → Memory → List ℕ
+plain_line false out m = []
+plain_line true out m = record_line (first_in m) (codes "raw " ++ out)
+
+-- those of an image, or why a file is none
+abbrev pub listing : Bool → List ℕ → List (List ℕ) → List ℕ → Result (List ℕ) ImageError
+listing is_plain out labels file = do
   regions ← records_in file
-  Ok (record_lines labels 0 regions)
+  Ok (plain_line is_plain out regions ++ record_lines labels 0 regions)
 
 -- ---- labels as the code holds them
 

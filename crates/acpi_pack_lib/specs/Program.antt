@@ -1,13 +1,17 @@
 -- What the program does with its arguments, its files, its storage and its outputs.
-use Rattle.std.specs.Prelude.{◌≡◌, ℕ, ◌⊎◌, List, [], ◌∷◌, ◌++◌, codes, Option, Some, None, Result, Ok, Err}
+use Rattle.std.specs.Prelude.{◌≡◌, ℕ, ◌⊎◌, Bool, true, false, List, [], ◌∷◌, ◌++◌, codes, Option, Some, None, Result, Ok, Err}
 use Rattle.acpi_base.specs.FromStd.{Appends}
 use Rattle.acpi_cli.specs.Reads.{Asks, FileRead, contents_of}
 use Rattle.acpi_pack_lib.specs.Listing.{labels_of, listing}
+use Rattle.acpi_pack_lib.specs.Plain.{HasNoPlain, IsPlainOf}
 use Rattle.acpi_pack_lib.specs.Run.{Ends}
 use Rattle.acpi_pack_lib.specs.Save.{save_error_text}
 use Rattle.acpi_pack_lib.specs.Saves.{FileSaved}
+use Rattle.acpi_pack_lib.specs.Sums.{sources_for}
+use Rattle.acpi_pack_lib.specs.Texts.{refusal_text}
 use Rattle.acpi_pack_lib.specs.Told.{told_of}
 use Rattle.acpi_pack_lib.specs.Arguments.{Request, request_in}
+use Rattle.acpi_pack_lib.specs.declared.error.Refusal.{Refusal}
 use Rattle.acpi_pack_lib.specs.declared.run.Outcome.{Outcome}
 use Rattle.acpi_pack_lib.specs.declared.run.Outcome.TheVariants as outcome
 use Rattle.acpi_pack_lib.specs.declared.save.SaveError.{SaveError}
@@ -19,8 +23,14 @@ files_for (Some r) = r.names
 
 -- ---- after an image is made
 
-abbrev pub unsaved_line : List ℕ → SaveError → List ℕ
-unsaved_line name e = codes "refused " ++ name ++ codes ": " ++ save_error_text e ++ codes "\n"
+-- why the file of this name is not saved
+abbrev pub unsaved_line : List ℕ → List ℕ → List ℕ
+unsaved_line name why = codes "refused " ++ name ++ codes ": " ++ why ++ codes "\n"
+
+-- what is saved of an image: itself, or its plain memory
+abbrev pub IsFormOf : Bool → List ℕ → List ℕ → Type 0
+IsFormOf false image bytes = bytes ≡ image
+IsFormOf true image bytes = IsPlainOf image bytes
 
 -- what was saved, and what the outputs have
 pub record Effects : Type 0 where
@@ -28,22 +38,40 @@ pub record Effects : Type 0 where
   pub out : Option (List ℕ)
   pub err : Option (List ℕ)
 
--- what lies where in the image is printed once it is saved, and else why it is not
-abbrev pub IsTold : Request → List (Option (List ℕ)) → List ℕ → Result (Unit {0}) SaveError → ℕ → Effects → Effects
-    → Type 0
-IsTold r files image (Ok saved) status old new =
-    (status ≡ 0) × (new.err ≡ old.err) × ((text : List ℕ)
-    × (listing (labels_of r.addresses r.names files) image ≡ Ok text) × Appends old.out new.out text)
-IsTold r files image (Err e) status old new =
-    (status ≡ 1) × (new.out ≡ old.out) × Appends old.err new.err (unsaved_line r.out e)
+-- a text is printed once they are saved, and else why they are not
+abbrev pub IsTold : Request → List ℕ → Result (Unit {0}) SaveError → ℕ → Effects → Effects → Type 0
+IsTold r text (Ok saved) status old new = (status ≡ 0) × (new.err ≡ old.err) × Appends old.out new.out text
+IsTold r text (Err e) status old new =
+    (status ≡ 1) × (new.out ≡ old.out) × Appends old.err new.err (unsaved_line r.out (save_error_text e))
 
--- the image was to be saved once, under the name that is asked for, and nothing else was
-pub record Saves (r : Request) (files : List (Option (List ℕ))) (image : List ℕ) (status : ℕ) (old new : Effects)
-    : Type 0 where
+-- bytes were to be saved once, under the name that is asked for, and nothing else was
+pub record SavesBytes (r : Request) (bytes text : List ℕ) (status : ℕ) (old new : Effects) : Type 0 where
   pub answer : Result (Unit {0}) SaveError
   pub grown : new.saved ≡ old.saved
-      ++ record { name = r.out; sources = r.names; bytes = image; answer = answer } ∷ []
-  pub told : IsTold r files image answer status old new
+      ++ record { name = r.out; sources = r.names; bytes = bytes; answer = answer } ∷ []
+  pub told : IsTold r text answer status old new
+
+-- an image was to be saved in the form that is asked for; what lies where in it is printed
+pub record Saves (r : Request) (files : List (Option (List ℕ))) (image : List ℕ) (status : ℕ) (old new : Effects)
+    : Type 0 where
+  pub bytes : List ℕ
+  pub form : IsFormOf r.options.is_plain image bytes
+  pub text : List ℕ
+  pub lines : listing r.options.is_plain r.out (labels_of r.addresses r.names files) image ≡ Ok text
+  pub saves : SavesBytes r bytes text status old new
+
+-- an image of which plain memory is asked for has none: a line says why, and nothing was to be saved
+pub record RefusesPlain (r : Request) (image : List ℕ) (status : ℕ) (old new : Effects) : Type 0 where
+  pub asked : r.options.is_plain ≡ true
+  pub refusal : Refusal
+  pub why : HasNoPlain image refusal
+  pub done : status ≡ 1
+  pub unsaved : new.saved ≡ old.saved
+  pub unshown : new.out ≡ old.out
+  pub told : Appends old.err new.err (unsaved_line r.out (refusal_text refusal))
+
+abbrev pub SavesOrRefuses : Request → List (Option (List ℕ)) → List ℕ → ℕ → Effects → Effects → Type 0
+SavesOrRefuses r files image status old new = Saves r files image status old new ⊎ RefusesPlain r image status old new
 
 -- after an error: nothing was to be saved, or one file was, under the name that is asked for, and then what is printed
 -- of it couldn't be
@@ -59,21 +87,26 @@ SavesAtMost (Some r) old new = (new ≡ old) ⊎ SavesOne r old new
 -- an image is saved; a refusal gives 1, and no command 2, and then nothing was to be saved, nor is more printed
 abbrev pub Follows : Option Request → List (Option (List ℕ)) → Outcome → ℕ → Effects → Effects → Type 0
 Follows None files said status old new = (status ≡ 2) × (new ≡ old)
-Follows (Some r) files (outcome.Image image) status old new = Saves r files image.items status old new
+Follows (Some r) files (outcome.Image image) status old new = SavesOrRefuses r files image.items status old new
 Follows (Some r) files said status old new = (status ≡ 1) × (new ≡ old)
 
 -- ---- all of it
 
--- the files that the arguments name were asked for, in order, and for no command none; what is
--- printed, saved and answered is what follows of the bytes that were read of them
+-- what is printed, saved and answered is what follows of the bytes of files
+pub record PacksFiles (request : Option Request) (files : List (Option (List ℕ))) (status : ℕ) (old new : Effects)
+    : Type 0 where
+  pub outcome : Outcome
+  pub between : Option (List ℕ)
+  pub ends : Ends request files outcome old.err between
+  pub follows : Follows request files outcome status (record { saved = old.saved; out = old.out; err = between }) new
+
+-- the files that the arguments name were asked for, in order, and for no command none; the bytes that were read of them
+-- are packed, or the same with the sums of tables set
 pub record Packs (arguments : List (List ℕ)) (asked asked_after : List FileRead) (status : ℕ) (old new : Effects)
     : Type 0 where
   pub asks : Asks (files_for (request_in arguments)) asked asked_after
-  pub outcome : Outcome
-  pub between : Option (List ℕ)
-  pub ends : Ends (request_in arguments) (contents_of asks.reads) outcome old.err between
-  pub follows : Follows (request_in arguments) (contents_of asks.reads) outcome status
-      (record { saved = old.saved; out = old.out; err = between }) new
+  pub packs : PacksFiles (request_in arguments) (sources_for (request_in arguments) (contents_of asks.reads)) status
+      old new
 
 -- ---- the program
 

@@ -38,6 +38,7 @@ left_out_lines names left_out =
 abbrev pub refused_name : Request → Refusal → List ℕ
 refused_name r (refusal.File n e) = name_of r.names n
 refused_name r refusal.NoRoom = r.out
+refused_name r refusal.TooLarge = r.out
 refused_name r refusal.OutOfMemory = r.out
 
 abbrev pub refused_line : Request → Refusal → List ℕ
@@ -45,7 +46,8 @@ refused_line r e =
     codes "refused " ++ refused_name r e ++ codes ": " ++ refusal_text e ++ codes "\n"
 
 abbrev pub usage_line : List ℕ
-usage_line = codes "usage: acpi_pack OUT memory ADDRESS FILE [ADDRESS FILE]... | tables FILE...\n"
+usage_line = codes "usage: acpi_pack [--fix-checksum] [--raw] OUT "
+    ++ codes "memory ADDRESS FILE [ADDRESS FILE]... | tables FILE...\n"
 
 -- ---- what a run comes to
 

@@ -18,4 +18,5 @@ file_error_text fault.Overlap = codes "Overlap"
 abbrev pub refusal_text : Refusal → List ℕ
 refusal_text (refusal.File n e) = file_error_text e
 refusal_text refusal.NoRoom = codes "NoRoom"
+refusal_text refusal.TooLarge = codes "TooLarge"
 refusal_text refusal.OutOfMemory = codes "OutOfMemory"

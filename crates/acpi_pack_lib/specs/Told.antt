@@ -2,7 +2,8 @@
 use Rattle.std.specs.Prelude.{ℕ, List, [], ◌∷◌, ◌++◌, Option, Some, None, if◌then◌else◌, codes, bytes_eq}
 
 abbrev pub help_text : List ℕ
-help_text = codes "usage: acpi_pack OUT memory ADDRESS FILE [ADDRESS FILE]... | tables FILE...\n"
+help_text = codes "usage: acpi_pack [--fix-checksum] [--raw] OUT "
+    ++ codes "memory ADDRESS FILE [ADDRESS FILE]... | tables FILE...\n"
     ++ codes "       acpi_pack --help | --version\n"
 
 abbrev pub version_text : List ℕ

@@ -1,6 +1,6 @@
 //! The arguments of the program, as a command.
 ghost use Rattle.std.specs.Prelude.{◌≡◌, IfOk, map, option_map};
-ghost use Rattle.acpi_pack_lib.specs.Words.{form_request, memory_request, request_in, request_of, tables_request};
+ghost use Rattle.acpi_pack_lib.specs.Words.{form_request, memory_request, no_options, options_from, request_in, request_of, tables_request};
 
 use acpi_cli::parse_address;
 use std::alloc::{AllocError, Global};
@@ -14,9 +14,20 @@ pub enum Form {
     Tables,
 }
 
+/// The options, which stand before OUT, in any order.
+#[derive(Clone, Copy)]
+pub struct Options {
+    /// `--fix-checksum`: the Checksum of each file that is a table is set, so that its bytes sum to 0.
+    pub fixes_sums: bool,
+    /// `--raw`: plain memory is written in place of an image.
+    pub is_plain: bool,
+}
+
 /// The command that the arguments are.
 #[derive(Drop)]
 pub struct Command<'w> {
+    /// The options.
+    pub options: Options,
     /// The name of the file that is to be made.
     pub out: &'w str,
     /// The names of the files that it is made from, in order.
@@ -31,11 +42,12 @@ pub struct Command<'w> {
 #[tactic(auto, using(crate::proofs::arguments::parse_memory::Invariants::alone))]
 fn parse_memory<'w>(
     alloc: Global,
+    options: Options,
     out: &'w str,
     words: &[&'w str],
 ) -> Result<Option<Command<'w>>, AllocError>
     ensures { IfOk result (λ c. option_map request_of c
-        ≡ memory_request out.now (map (λ w. w.now) words.now)) }
+        ≡ memory_request options out.now (map (λ w. w.now) words.now)) }
 {
     let mut addresses = Vec::new(alloc);
     let mut names = Vec::new(alloc);
@@ -53,6 +65,7 @@ fn parse_memory<'w>(
             [_] => return Ok(None),
             [] => {
                 return Ok(Some(Command {
+                    options,
                     out,
                     names,
                     form: Form::Memory(addresses),
@@ -67,13 +80,15 @@ fn parse_memory<'w>(
 /// Fails if it runs out of memory.
 fn parse_tables<'w>(
     alloc: Global,
+    options: Options,
     out: &'w str,
     words: &[&'w str],
 ) -> Result<Option<Command<'w>>, AllocError>
     ensures { IfOk result (λ c. option_map request_of c
-        ≡ tables_request out.now (map (λ w. w.now) words.now)) }
+        ≡ tables_request options out.now (map (λ w. w.now) words.now)) }
 {
     Ok(Some(Command {
+        options,
         out,
         names: Vec::from_slice(alloc, words)?,
         form: Form::Tables,
@@ -85,22 +100,44 @@ fn parse_tables<'w>(
 /// Fails if it runs out of memory.
 fn parse_form<'w>(
     alloc: Global,
+    options: Options,
     out: &'w str,
     form: &str,
     words: &[&'w str],
 ) -> Result<Option<Command<'w>>, AllocError>
     ensures { IfOk result (λ c. option_map request_of c
-        ≡ form_request out.now form.now (map (λ w. w.now) words.now)) }
+        ≡ form_request options out.now form.now (map (λ w. w.now) words.now)) }
 {
     match form {
-        "memory" => parse_memory(alloc, out, words),
-        "tables" => parse_tables(alloc, out, words),
+        "memory" => parse_memory(alloc, options, out, words),
+        "tables" => parse_tables(alloc, options, out, words),
         _ => Ok(None),
     }
 }
 
-/// The command that the arguments after the program's name are, or `None` if they are not a command: OUT,
-/// which may be any text, a form, and the arguments of that form, at least one.
+/// The options that arguments begin with, and the arguments after them.
+fn options_of<'c, 'w>(words: &'c [&'w str]) -> (Options, &'c [&'w str])
+    ensures { (result.0, map (λ w. w.now) result.1.now)
+        ≡ options_from no_options (map (λ w. w.now) words.now) }
+{
+    let mut options = Options {
+        fixes_sums: false,
+        is_plain: false,
+    };
+    let mut rest = words;
+    while let [word, behind @ ..] = rest {
+        match *word {
+            "--fix-checksum" => options.fixes_sums = true,
+            "--raw" => options.is_plain = true,
+            _ => return (options, rest),
+        }
+        rest = behind;
+    }
+    (options, rest)
+}
+
+/// The command that the arguments after the program's name are, or `None` if they are not a command: options,
+/// OUT, which may be any other text, a form, and the arguments of that form, at least one.
 ///
 /// Fails if it runs out of memory.
 pub fn parse_command<'w>(
@@ -109,11 +146,12 @@ pub fn parse_command<'w>(
 ) -> Result<Option<Command<'w>>, AllocError>
     ensures { IfOk result (λ c. option_map request_of c ≡ request_in (map (λ w. w.now) words.now)) }
 {
-    let [out, form, files @ ..] = words else {
+    let (options, rest) = options_of(words);
+    let [out, form, files @ ..] = rest else {
         return Ok(None);
     };
     if files.is_empty() {
         return Ok(None);
     }
-    parse_form(alloc, out, form, files)
+    parse_form(alloc, options, out, form, files)
 }

@@ -47,6 +47,8 @@ pub enum Refusal {
     File(usize, FileError),
     /// The tables are more than the XSDT can list, or one would be placed so that it ends above 2^64 - 1.
     NoRoom,
+    /// There are more than 2^30 bytes from the first address of plain memory to the last.
+    TooLarge,
     /// The allocator refused memory.
     OutOfMemory,
 }
@@ -62,6 +64,7 @@ impl fmt::Display for Refusal {
         match self {
             Refusal::File(_, error) => write!(f, "{error}"),
             Refusal::NoRoom => f.write_str("NoRoom"),
+            Refusal::TooLarge => f.write_str("TooLarge"),
             Refusal::OutOfMemory => f.write_str("OutOfMemory"),
         }
     }

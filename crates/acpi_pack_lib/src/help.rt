@@ -3,7 +3,8 @@ ghost use Rattle.std.specs.Prelude.{◌≡◌, map, option_map};
 ghost use Rattle.acpi_pack_lib.specs.Words.{told_of, told_to};
 
 /// The text that says how the program is called.
-const HELP: &str = "usage: acpi_pack OUT memory ADDRESS FILE [ADDRESS FILE]... | tables FILE...
+const HELP: &str =
+    "usage: acpi_pack [--fix-checksum] [--raw] OUT memory ADDRESS FILE [ADDRESS FILE]... | tables FILE...
        acpi_pack --help | --version
 ";
 

@@ -8,12 +8,14 @@ mod help;
 pub mod listing;
 mod pack;
 mod place;
+mod plain;
 pub mod program;
 mod reading;
 pub mod run;
 pub mod save;
 mod sources;
 pub mod storage;
+mod sums;
 
 pub use error::{FileError, Refusal};
 pub use pack::{pack_files, pack_tables};

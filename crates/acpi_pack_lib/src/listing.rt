@@ -8,6 +8,7 @@ ghost use Rattle.acpi_pack_lib.specs.Listing as listing;
 ghost use Rattle.acpi_pack_lib.specs.declared.listing.Label.TheVariants as label;
 
 use crate::arguments::{Command, Form};
+use crate::plain::first_address;
 use crate::sources::{FileBytes, FileRole, FilesOfRole, IndexedFile, of_role};
 use acpi_base::Signature;
 use acpi_base::bytes::filled;
@@ -129,28 +130,50 @@ fn label_at<'w>(labels: &[Label<'w>], index: usize) -> Label<'w>
     }
 }
 
-/// The lines of these records, one for each, in order.
+/// Puts the lines of these records, one for each, in order.
 ///
 /// Fails if it runs out of memory.
-fn lines_of(
-    alloc: Global,
+fn put_lines(
+    text: &mut String,
     labels: &[Label<'_>],
     records: &[Record<'_>],
-) -> Result<String, AllocError>
-    ensures { IfOk result (λ t. string_bytes t
-        ≡ listing.record_lines (map label_text labels.now) 0 (regions_of records.now)) }
+) -> Result<(), AllocError>
+    ensures { OnOk result (string_bytes text.new ≡ string_bytes text.old
+        ++ listing.record_lines (map label_text labels.now) 0 (regions_of records.now)) }
 {
-    let mut text = String::new(alloc);
     for (index, record) in records.iter().enumerate() {
         let label = label_at(labels, index);
         writeln!(text, "0x{:x} {label}", record.start)?;
     }
+    Ok(())
+}
+
+/// The line of plain memory, if a command asks for that, and those of the records.
+///
+/// Fails if it runs out of memory.
+fn lines_of(
+    alloc: Global,
+    command: &Command<'_>,
+    labels: &[Label<'_>],
+    records: &[Record<'_>],
+) -> Result<String, AllocError>
+    ensures { IfOk result (λ t. string_bytes t
+        ≡ listing.plain_line command.now.options.is_plain command.now.out.now (regions_of records.now)
+        ++ listing.record_lines (map label_text labels.now) 0 (regions_of records.now)) }
+{
+    let mut text = String::new(alloc);
+    if command.options.is_plain {
+        let name = command.out;
+        writeln!(text, "0x{:x} raw {name}", first_address(records))?;
+    }
+    put_lines(&mut text, labels, records)?;
     Ok(text)
 }
 
 /// The lines of the records of an image that a command packed of these files, one for each, in order: the
 /// physical address, in hexadecimal digits, and the label. For files at addresses that is the file's name;
-/// for tables it is `RSDP`, `XSDT`, or the signature and the file's name.
+/// for tables it is `RSDP`, `XSDT`, or the signature and the file's name. If plain memory is asked for, a line comes
+/// first with its first address, `raw` and its name.
 ///
 /// Fails as `MemoryImage::from_bytes` does.
 #[tactic(auto, using(crate::proofs::Packed::are_named))]
@@ -161,7 +184,7 @@ pub fn record_lines(
     image: &[u8],
 ) -> Result<String, ImageError>
     // The lines are those of the records that are read in the image.
-    ensures exact { IfOk result (λ t. listing.listing
+    ensures exact { IfOk result (λ t. listing.listing command.now.options.is_plain command.now.out.now
         (labels_of (addresses_of command.now.form) (map (λ n. n.now) command.now.names.items)
         (contents files.now)) image.now ≡ Ok (string_bytes t)) }
     ensures refused { IfErr result (λ e. e ≢ OutOfMemory → records_in image.now ≡ Err e) }
@@ -174,7 +197,7 @@ pub fn record_lines(
     let Ok(labels) = labels_of(alloc, command, files) else {
         return Err(ImageError::OutOfMemory);
     };
-    match lines_of(alloc, &labels, memory.records()) {
+    match lines_of(alloc, command, &labels, memory.records()) {
         Ok(text) => Ok(text),
         Err(_) => Err(ImageError::OutOfMemory),
     }

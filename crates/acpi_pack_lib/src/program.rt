@@ -1,15 +1,18 @@
 //! The program over any files, any storage and any writers.
-ghost use Rattle.std.specs.Prelude.{◌≡◌, IfOk, OnErr, Some, map, option_map};
+ghost use Rattle.std.specs.Prelude.{◌≡◌, true, IfErr, IfOk, OnErr, Some, map, option_map};
 ghost use Rattle.acpi_cli.specs.Reads.{AsksFront};
-ghost use Rattle.acpi_pack_lib.specs.Words.{contents, Follows, Packs, Runs, Saves, SavesAtMost, files_for, request_in, request_of};
+ghost use Rattle.acpi_pack_lib.specs.Words.{contents, Follows, HasNoPlain, IsFormOf, Packs, PacksFiles, Runs, SavesAtMost, SavesBytes, SavesOrRefuses, files_for, fixes_sums, request_in, request_of, sources_for};
 
-use crate::arguments::{Command, parse_command};
+use crate::arguments::{Command, Options, parse_command};
+use crate::error::Refusal;
 use crate::help::told;
 use crate::listing::record_lines;
+use crate::plain::plain_of;
 use crate::reading::{contents_from, read_all};
 use crate::run::{Outcome, run};
 use crate::sources::FileBytes;
 use crate::storage::Storage;
+use crate::sums::{all_summed, lent};
 use acpi_cli::files::{Files, count};
 use std::alloc::{AllocError, Global};
 use std::io;
@@ -25,8 +28,64 @@ fn files_named<'c, 'w>(asked: &'c Option<Command<'w>>) -> &'c [&'w str]
     }
 }
 
-/// Saves an image, and prints the lines of its records, or why it isn't saved. It returns the status: 0
-/// if it is saved, and else 1.
+/// Whether a command asks for the sums of tables to be set.
+fn fixes_sums(asked: &Option<Command<'_>>) -> bool
+    ensures { result ≡ fixes_sums (option_map request_of asked.now) }
+{
+    match asked {
+        Some(command) => command.options.fixes_sums,
+        None => false,
+    }
+}
+
+/// What is saved of an image: its plain memory if that is asked for, and else the image.
+///
+/// Fails as `plain_of` does.
+fn form_of(alloc: Global, options: Options, image: Vec<u8>) -> Result<Vec<u8>, Refusal>
+    ensures exact { IfOk result (λ v. IsFormOf options.is_plain image.items v.items) }
+    ensures refused { IfErr result (λ e. (options.is_plain ≡ true) × HasNoPlain image.items e) }
+{
+    if options.is_plain {
+        plain_of(alloc, &image)
+    } else {
+        Ok(image)
+    }
+}
+
+/// Saves bytes, and prints lines, or why the bytes aren't saved. It returns the status: 0 if they are saved, and
+/// else 1.
+///
+/// Fails if a write fails or memory runs out.
+#[tactic(auto, using(crate::proofs::Saved::at_most))]
+fn save_bytes<S: Storage, W: Write, E: Write>(
+    command: &Command<'_>,
+    bytes: Vec<u8>,
+    lines: &str,
+    storage: &mut S,
+    out: &mut W,
+    err: &mut E,
+) -> io::Result<u8>
+    ensures exact { IfOk result (λ s. SavesBytes (request_of command.now) bytes.items lines.now s
+        (record { saved = S.saved storage.old; out = W.contents out.old; err = E.contents err.old })
+        (record { saved = S.saved storage.new; out = W.contents out.new; err = E.contents err.new })) }
+    ensures failed { OnErr result
+        (SavesAtMost (Some (request_of command.now)) (S.saved storage.old) (S.saved storage.new)) }
+{
+    let name = command.out;
+    match storage.save(name, &command.names, bytes)? {
+        Ok(()) => {
+            out.write_all(lines.as_bytes())?;
+            Ok(0)
+        }
+        Err(refusal) => {
+            writeln!(err, "refused {name}: {refusal}")?;
+            Ok(1)
+        }
+    }
+}
+
+/// Saves an image in the form that is asked for, and prints the lines of its records, or why it isn't saved. It
+/// returns the status: 0 if it is saved, and else 1.
 ///
 /// Fails if a write fails or memory runs out.
 #[tactic(auto, using(crate::proofs::Saved::at_most))]
@@ -39,7 +98,7 @@ fn save_image<S: Storage, W: Write, E: Write>(
     out: &mut W,
     err: &mut E,
 ) -> io::Result<u8>
-    ensures exact { IfOk result (λ s. Saves (request_of command.now) (contents files.now) image.items s
+    ensures exact { IfOk result (λ s. SavesOrRefuses (request_of command.now) (contents files.now) image.items s
         (record { saved = S.saved storage.old; out = W.contents out.old; err = E.contents err.old })
         (record { saved = S.saved storage.new; out = W.contents out.new; err = E.contents err.new })) }
     ensures failed { OnErr result
@@ -48,11 +107,8 @@ fn save_image<S: Storage, W: Write, E: Write>(
     let Ok(lines) = record_lines(alloc, command, files, &image) else {
         return Err(io::Error::from(AllocError));
     };
-    match storage.save(command.out, &command.names, image)? {
-        Ok(()) => {
-            out.write_all(lines.as_bytes())?;
-            Ok(0)
-        }
+    match form_of(alloc, command.options, image) {
+        Ok(bytes) => save_bytes(command, bytes, &lines, storage, out, err),
         Err(refusal) => {
             let name = command.out;
             writeln!(err, "refused {name}: {refusal}")?;
@@ -89,6 +145,56 @@ fn finish<S: Storage, W: Write, E: Write>(
     }
 }
 
+/// Packs files for a command, and does what follows. It returns the status.
+///
+/// Fails if a write fails or memory runs out.
+#[tactic(auto, using(crate::proofs::Saved::at_most))]
+fn pack_files<S: Storage, W: Write, E: Write>(
+    alloc: Global,
+    asked: &Option<Command<'_>>,
+    files: &[FileBytes<'_>],
+    storage: &mut S,
+    out: &mut W,
+    err: &mut E,
+) -> io::Result<u8>
+    ensures exact { IfOk result (λ s. PacksFiles (option_map request_of asked.now) (contents files.now) s
+        (record { saved = S.saved storage.old; out = W.contents out.old; err = E.contents err.old })
+        (record { saved = S.saved storage.new; out = W.contents out.new; err = E.contents err.new })) }
+    ensures failed { OnErr result
+        (SavesAtMost (option_map request_of asked.now) (S.saved storage.old) (S.saved storage.new)) }
+{
+    let outcome = run(alloc, asked, files, err)?;
+    finish(alloc, asked, files, outcome, storage, out, err)
+}
+
+/// Packs files for a command as they were read, or if that is asked for with the sums of tables set. It returns
+/// the status.
+///
+/// Fails if a write fails or memory runs out.
+#[tactic(auto, using(crate::proofs::Saved::at_most))]
+fn pack_read<S: Storage, W: Write, E: Write>(
+    alloc: Global,
+    asked: &Option<Command<'_>>,
+    files: &[FileBytes<'_>],
+    storage: &mut S,
+    out: &mut W,
+    err: &mut E,
+) -> io::Result<u8>
+    ensures exact { IfOk result (λ s. PacksFiles (option_map request_of asked.now)
+        (sources_for (option_map request_of asked.now) (contents files.now)) s
+        (record { saved = S.saved storage.old; out = W.contents out.old; err = E.contents err.old })
+        (record { saved = S.saved storage.new; out = W.contents out.new; err = E.contents err.new })) }
+    ensures failed { OnErr result
+        (SavesAtMost (option_map request_of asked.now) (S.saved storage.old) (S.saved storage.new)) }
+{
+    if !fixes_sums(asked) {
+        return pack_files(alloc, asked, files, storage, out, err);
+    }
+    let copies = all_summed(alloc, files)?;
+    let summed = lent(alloc, &copies)?;
+    pack_files(alloc, asked, &summed, storage, out, err)
+}
+
 /// Packs the files that the arguments name. They are judged first; if they are a command, the files that they
 /// name are read, in order, and else none. If `run` answers an image, it is saved, and then the lines of its
 /// records are printed on the output. It returns the status: 0 if the image is saved, 1 if something is
@@ -119,8 +225,7 @@ fn pack_asked<F: Files, S: Storage, W: Write, E: Write>(
     let start = count(files);
     read_all(files, files_named(&asked))?;
     let sources = contents_from(alloc, files, start)?;
-    let outcome = run(alloc, &asked, &sources, err)?;
-    finish(alloc, &asked, &sources, outcome, storage, out, err)
+    pack_read(alloc, &asked, &sources, storage, out, err)
 }
 
 /// Runs the program on the arguments after its name, and answers the status. `--help` and `--version` alone

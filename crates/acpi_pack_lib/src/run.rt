@@ -84,7 +84,7 @@ fn refused_name<'w>(command: &Command<'w>, refusal: Refusal) -> &'w str
 {
     match refusal {
         Refusal::File(index, _) => name_of(&command.names, index),
-        Refusal::NoRoom | Refusal::OutOfMemory => command.out,
+        Refusal::NoRoom | Refusal::TooLarge | Refusal::OutOfMemory => command.out,
     }
 }
 
@@ -110,8 +110,10 @@ fn refused_line(
 fn usage_line(alloc: Global) -> Result<String, AllocError>
     ensures { IfOk result (λ t. string_bytes t ≡ usage_line) }
 {
-    let usage = "usage: acpi_pack OUT memory ADDRESS FILE [ADDRESS FILE]... | tables FILE...\n";
-    String::from_str(alloc, usage)
+    String::from_str(
+        alloc,
+        "usage: acpi_pack [--fix-checksum] [--raw] OUT memory ADDRESS FILE [ADDRESS FILE]... | tables FILE...\n",
+    )
 }
 
 /// The outcome of a command, and the text that is printed of it.

@@ -26,6 +26,7 @@ refuses (Err x) d packed h says = rw h says
 only_memory : (e : Refusal) → (e ≢ refusal.OutOfMemory → ⊥) → e ≡ refusal.OutOfMemory
 only_memory refusal.OutOfMemory none = refl
 only_memory refusal.NoRoom none = absurd (none (λ x. absurd cc))
+only_memory refusal.TooLarge none = absurd (none (λ x. absurd cc))
 only_memory (refusal.File n f) none = absurd (none (λ x. absurd cc))
 
 room_fails : (r : Result Memory Refusal) (e : Refusal) → (r >>= λ _. checked) ≡ Err e → r ≡ Err e
