@@ -6,8 +6,9 @@ import sys
 
 from layouts import TOP
 
-# Templates that are AML, or no table.
-NOT_SHOWN = {"dsdt", "ssdt", "osdt", "rsdp"}
+# Templates that are AML, and one that is no table.
+AML = ["dsdt", "osdt", "ssdt"]
+NOT_SHOWN = {*AML, "rsdp"}
 
 # A template, an offset, and the number that is put there, of 4 bytes, since the template's own is wrong.
 MENDED = [
@@ -53,7 +54,10 @@ def mend(name, path):
 
 
 def templates(folder):
+    """Makes iasl's templates, and what iasl shows of those that aren't AML, whose names it gives."""
     subprocess.run(["iasl", "-T", "ALL"], cwd=folder, capture_output=True, check=True)
+    for name in AML:
+        subprocess.run(["iasl", f"{name}.asl"], cwd=folder, capture_output=True)
     for file in sorted(os.listdir(folder)):
         name = file[:-4]
         if file.endswith(".asl") and name not in NOT_SHOWN:
