@@ -5,8 +5,8 @@ use Rattle.acpi_image.specs.Words.{with_sum}
 use Rattle.acpi_pack_lib.specs.Arguments.{Request}
 use Rattle.acpi_pack_lib.specs.Sources.{begins}
 
--- what may have a table's length, and has no Checksum at byte 9 (ACPI 6.4, section 5.2.10, the Firmware Performance
--- Data Table's section 5.2.24 and section 5.2.5.3)
+-- what may have a Length at 4, and has no Checksum at 9: the FACS (ACPI 6.4, section 5.2.10), the tables that an FPDT
+-- leads to (section 5.2.23), and the RSDP (section 5.2.5.3)
 abbrev pub is_unsummed : List ℕ → Bool
 is_unsummed bytes =
     begins bytes (codes "FACS") || (begins bytes (codes "FBPT")

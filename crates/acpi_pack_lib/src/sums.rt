@@ -8,8 +8,8 @@ use acpi_base::bytes::field;
 use acpi_image::write::set_sum;
 use std::alloc::{AllocError, Global};
 
-/// Whether bytes begin as what may have a table's length, but no Checksum: a FACS (section 5.2.10), the two tables that
-/// an FPDT leads to, or an RSDP.
+/// Whether bytes begin as what may have a table's length, but no Checksum at byte 9: a FACS (section 5.2.10), one of
+/// the two tables that an FPDT leads to (section 5.2.23), or an RSDP (section 5.2.5.3).
 fn is_unsummed(bytes: &[u8]) -> bool
     ensures { result ≡ is_unsummed bytes.now }
 {
