@@ -3,17 +3,21 @@
 //! A text from a table, a file's name or an option comes to the page by `escape` alone.
 
 mod bytes;
+mod drawn;
 mod escape;
 mod findings;
 mod frame;
 mod ids;
 mod list;
+mod machine;
 mod marks;
+mod matrices;
 mod rows;
 mod script;
 mod sheet;
 mod style;
 mod table;
+mod tile;
 
 use crate::check::{Finding, Judgement};
 use crate::compare::same_in;
@@ -25,6 +29,7 @@ use findings::print_findings;
 use frame::{print_end, print_head, print_nav};
 use ids::ids_of;
 use list::print_list;
+use machine::print_machine;
 use marks::{Marks, marks_of};
 use sheet::{Sheet, Standing};
 use std::alloc::{AllocError, Global};
@@ -231,20 +236,33 @@ fn print_outlined<'p>(
     };
     let sheets = sheets_of(alloc, new, marks, source.findings.list(), beside, SECOND)?;
     let old_sheets = sheets_of(alloc, old, old_marks, &[], Some(new), FIRST)?;
-    print_sheets(source, &sheets, &old_sheets, out);
-    Ok(())
+    print_sheets(source, &sheets, &old_sheets, out)
 }
 
 /// Prints the page of the tables of the input, and of those of the first one that aren't in it.
-fn print_sheets(source: Source<'_>, sheets: &[Sheet<'_>], old: &[Sheet<'_>], out: &mut Out) {
+///
+/// Fails if memory runs out.
+fn print_sheets(
+    source: Source<'_>,
+    sheets: &[Sheet<'_>],
+    old: &[Sheet<'_>],
+    out: &mut Out,
+) -> Result<(), AllocError> {
     let page = Page {
         alloc: source.alloc,
         sheets,
         findings: source.findings,
     };
+    let mut machine = Out::new(source.alloc);
+    print_machine(page, &mut machine)?;
     print_head(source, out);
-    print_nav(page, old, out);
+    print_nav(page, old, machine.length() > 0, out);
     print_title(source, out);
+    if machine.length() > 0 {
+        out.text("<section id=\"machine\"><h2>The machine</h2><div class=\"board\">\n");
+        out.append(&machine);
+        out.text("</div></section>\n");
+    }
     print_findings(page, out);
     print_list(page, old, out);
     for sheet in sheets {
@@ -255,7 +273,8 @@ fn print_sheets(source: Source<'_>, sheets: &[Sheet<'_>], old: &[Sheet<'_>], out
             print_table(page, *sheet, out);
         }
     }
-    print_end(out)
+    print_end(out);
+    Ok(())
 }
 
 /// Prints the names of what an input was read from.

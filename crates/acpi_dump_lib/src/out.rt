@@ -30,6 +30,17 @@ impl Out {
         }
     }
 
+    /// Prints what another one has, which is no whole either if that isn't.
+    pub(crate) fn append(&mut self, other: &Out) {
+        self.is_refused |= other.is_refused;
+        self.bytes(&other.bytes);
+    }
+
+    /// Takes back what was printed, but not that memory was refused.
+    pub(crate) fn clear(&mut self) {
+        self.bytes.clear();
+    }
+
     /// Prints a text.
     pub(crate) fn text(&mut self, text: &str) {
         self.bytes(text.as_bytes());

@@ -130,7 +130,7 @@ fn print_inputs<S: Sources, T: Storage>(
     let input = &gather_named(output, &request.inputs, sources, log)?;
     match (request.folder, request.page) {
         (Some(folder), _) => save_input(output, folder, input, sources, storage, out, log),
-        (None, Some(file)) => save_page(output, file, input, None, sources, storage, log),
+        (None, Some(file)) => save_page(output, file, input, None, sources, storage, out, log),
         (None, None) => print_input(output, input, out, log),
     }
 }
@@ -158,7 +158,16 @@ fn print_two<S: Sources, T: Storage>(
     let first = &gather_named(output, &[*old], sources, log)?;
     let second = &gather_named(output, &[*new], sources, log)?;
     match output.request.page {
-        Some(file) => save_page(output, file, first, Some(second), sources, storage, log),
+        Some(file) => save_page(
+            output,
+            file,
+            first,
+            Some(second),
+            sources,
+            storage,
+            out,
+            log,
+        ),
         None => print_compared(output, first, second, out, log),
     }
 }

@@ -4,6 +4,7 @@
 mod distances;
 mod domains;
 mod gic;
+mod matrix;
 mod units;
 
 use crate::out::Out;
@@ -18,8 +19,9 @@ use acpi::{AcpiError, AcpiHandler, AcpiTables, HpetInfo, PciConfigRegions, Platf
 use acpi_arm::gic::GicModel;
 use acpi_numa::{Domains, MemoryAffinities, MemoryRange, Slit, Srat};
 use distances::add_distances;
-pub(crate) use domains::add_domains;
+pub(crate) use domains::{add_domains, share_of};
 use gic::add_gic;
+pub(crate) use matrix::{Matrix, matrix_of};
 use std::alloc::Global;
 pub(crate) use units::add_units;
 
@@ -281,7 +283,7 @@ fn add_hpet(facts: &mut Facts, info: &HpetInfo) {
 }
 
 /// A number of bytes in the largest unit that has a whole number of it.
-fn size_of(bytes: u64) -> (u64, &'static str) {
+pub(crate) fn size_of(bytes: u64) -> (u64, &'static str) {
     if bytes == 0 || bytes % 1024 != 0 {
         (bytes, "B")
     } else if bytes % (1 << 20) != 0 {

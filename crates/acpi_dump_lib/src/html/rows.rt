@@ -351,7 +351,7 @@ fn print_cut(digits: &str, out: &mut Out) {
 }
 
 /// Prints the first fields that tell of a folded structure what it is.
-fn print_digest(side: Side<'_>, number: usize, part: &Part, out: &mut Out) {
+pub(super) fn print_digest(side: Side<'_>, number: usize, part: &Part, out: &mut Out) {
     let mut count = 0usize;
     let mut from = 0usize;
     for _ in part.first..part.last {

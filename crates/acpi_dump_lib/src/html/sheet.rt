@@ -5,7 +5,7 @@ use super::marks::{Change, Fold, Mark, Marks};
 use crate::check::{Finding, Severity};
 use crate::entries::{Entry, own_signature};
 use crate::out::Out;
-use crate::outline::{Item, Side};
+use crate::outline::Side;
 use acpi::sdt::Signature;
 
 /// Whether a table is also in the other one of two inputs.
@@ -20,6 +20,9 @@ pub(super) enum Standing<'p> {
     /// It is, with these bytes and fields.
     Beside(Entry<'p>, Side<'p>),
 }
+
+/// The worst severity of findings, and whether there are changes.
+pub(super) type Seen = (Option<Severity>, bool);
 
 /// A table on a page.
 #[derive(Clone, Copy)]
@@ -49,24 +52,10 @@ impl<'p> Sheet<'p> {
         self.entry.bytes.starts_with(letters)
     }
 
-    /// The field of a structure itself that has a name, the first of several.
-    pub(super) fn field(self, part: usize, name: &str) -> Option<Item> {
-        let mut from = 0;
-        for _ in 0..self.side.size() {
-            let (item, next) = self.side.next_item(part, from);
-            if item?.name == name {
-                return item;
-            }
-            from = next;
-        }
-        None
-    }
-
-    /// The bytes of a field.
-    pub(super) fn bytes(self, item: Item) -> &'p [u8] {
-        let start = item.offset as usize;
-        let end = start.saturating_add(item.length as usize);
-        self.entry.bytes.get(start..end).unwrap_or(&[])
+    /// So many bytes from an offset on.
+    pub(super) fn bytes(self, offset: u64, length: u64) -> &'p [u8] {
+        let end = offset.saturating_add(length) as usize;
+        self.entry.bytes.get(offset as usize..end).unwrap_or(&[])
     }
 
     /// The marks of the field that has this number.
@@ -117,34 +106,56 @@ impl<'p> Sheet<'p> {
     /// The classes that what stands for so many bytes of the table, from an offset on, has after its own:
     /// ` hit` and the worst severity if there is a finding in them, and ` chg` if they differ from the first input's.
     pub(super) fn classes(self, offset: u64, length: u64) -> &'static str {
+        classes_of(self.seen(
+            offset,
+            length,
+            (None, matches!(self.standing, Standing::Only(_))),
+        ))
+    }
+
+    /// The worst severity that was seen before or is found in so many bytes, and whether a change was or is there. Of a
+    /// field that has more bytes than these it counts only what is in them.
+    pub(super) fn seen(self, offset: u64, length: u64, before: Seen) -> Seen {
         let end = offset.saturating_add(length);
-        let mut worst: Option<Severity> = None;
-        let mut has_changes = matches!(self.standing, Standing::Only(_));
+        let (mut worst, mut has_changes) = before;
+        let was = match self.standing {
+            Standing::Beside(old, _) => old.bytes.get(offset as usize..end as usize),
+            _ => None,
+        };
+        let is_other = was != Some(self.bytes(offset, length));
         for place in self.field_at(offset)..self.side.size() {
-            match self.side.items.get(place) {
-                Some(item) if item.offset < end => {}
-                _ => break,
-            }
             let mark = self.mark(place);
-            has_changes |= !matches!(mark.change, Change::Same);
+            let item = match self.side.items.get(place) {
+                Some(item) if item.offset < end => item,
+                _ => break,
+            };
+            let is_whole = item.offset >= offset && item.offset.saturating_add(item.length) <= end;
+            has_changes |= !matches!(mark.change, Change::Same) && (is_whole || is_other);
             for finding in self
                 .findings
                 .get(mark.findings.0..mark.findings.1)
                 .unwrap_or(&[])
             {
-                worst = worse(worst, finding.rule.severity);
+                if is_whole || (offset..end).contains(&(finding.offset as u64)) {
+                    worst = worse(worst, finding.rule.severity);
+                }
             }
         }
-        match (worst, has_changes) {
-            (None, false) => "",
-            (None, true) => " chg",
-            (Some(Severity::Note), false) => " hit note",
-            (Some(Severity::Note), true) => " hit note chg",
-            (Some(Severity::Warning), false) => " hit warning",
-            (Some(Severity::Warning), true) => " hit warning chg",
-            (Some(Severity::Error), false) => " hit error",
-            (Some(Severity::Error), true) => " hit error chg",
-        }
+        (worst, has_changes)
+    }
+}
+
+/// The classes of what was seen.
+pub(super) fn classes_of(seen: Seen) -> &'static str {
+    match seen {
+        (None, false) => "",
+        (None, true) => " chg",
+        (Some(Severity::Note), false) => " hit note",
+        (Some(Severity::Note), true) => " hit note chg",
+        (Some(Severity::Warning), false) => " hit warning",
+        (Some(Severity::Warning), true) => " hit warning chg",
+        (Some(Severity::Error), false) => " hit error",
+        (Some(Severity::Error), true) => " hit error chg",
     }
 }
 

@@ -1,7 +1,7 @@
 //! The style of a page.
 
 /// The SHA-256 of the style, in base64, which scripts/check_html compares with it.
-pub(super) const STYLE_HASH: &str = "2Q6CpmgiXOdeQhTjzjjq9gU21gLuDZbs7R1y4tnxjxA=";
+pub(super) const STYLE_HASH: &str = "U4RbCW6M609WxsyoCluYpfYCJinEWOxGwdASWu9F/PI=";
 
 /// The style: the colours stand at its front, and are other ones in the dark.
 pub(super) const STYLE: &str = r#"
@@ -10,15 +10,13 @@ pub(super) const STYLE: &str = r#"
 --ok:#1d7a46;--okbg:#e2f3e8;--bad:#b3261e;--badbg:#fbe4e1;--warn:#8a5a00;--warnbg:#fdf0d0;--new:#dff2e3;
 --chg:#fff3cf;--gone:#fbe4e1;
 --bus:#8d9aa8;--d0:#3b7dd8;--d1:#d9822b;--d2:#2f9e7a;--d3:#a259c4;--d4:#c94f6d;--d5:#7a8b2a;--dev:#7b8794;
---ecam:#5567c9;--acpi:#b0892f;
 --mono:ui-monospace,SFMono-Regular,Menlo,Consolas,"DejaVu Sans Mono",monospace;--sans:system-ui,-apple-system,
 "Segoe UI",Roboto,"DejaVu Sans",sans-serif}
 @media (prefers-color-scheme:dark){:root{--bg:#131519;--card:#1b1e24;--ink:#e4e7eb;--dim:#9aa4b0;--line:#31363f;
 --soft:#23272f;--acc:#86b4ff;--mark:#7a5c00;--markink:#fff6d6;
 --ok:#7fd8a4;--okbg:#173524;--bad:#ff9d94;--badbg:#44201d;--warn:#f2c46a;--warnbg:#3b2f12;--new:#17351f;
 --chg:#3b3212;--gone:#44201d;
---bus:#55606d;--d0:#5b9bf0;--d1:#e69a4c;--d2:#45b893;--d3:#bb7bdb;--d4:#e0708c;--d5:#9caf43;--dev:#8a96a3;
---ecam:#7d8df0;--acpi:#caa24a}}
+--bus:#55606d;--d0:#5b9bf0;--d1:#e69a4c;--d2:#45b893;--d3:#bb7bdb;--d4:#e0708c;--d5:#9caf43;--dev:#8a96a3}}
 *{box-sizing:border-box}html{scroll-padding-top:3.4rem;-webkit-text-size-adjust:100%}
 body{margin:0;background:var(--bg);color:var(--ink);font:15px/1.45 var(--sans)}
 a{color:var(--acc);text-decoration:none}a:hover{text-decoration:underline}:focus-visible{
@@ -32,34 +30,27 @@ background:var(--soft);text-decoration:none}
 nav .home{font:700 13px/1.6 var(--sans);color:var(--acc);padding-left:0}nav .bad{color:var(--bad);font-weight:700}
 nav .bad:before{content:"✗ "}nav .warn:before{content:"● ";color:var(--warn)}nav .dif:before{content:"± ";
 color:var(--warn)}
-main{max-width:88rem;margin:0 auto;padding:1.4rem 1rem 3rem}#machine>details>summary{font-weight:600;margin:.5rem 0}
+main{max-width:88rem;margin:0 auto;padding:1.4rem 1rem 3rem}
 h1{font-size:1.55rem;line-height:1.2;margin:0 0 .2rem;overflow-wrap:anywhere}h2{font-size:1.15rem;
 margin:2rem 0 .7rem}h3{font-size:.98rem;margin:0}
 .cmp{margin:.2rem 0;color:var(--dim)}.cmp b{color:var(--ink)}
-.facts{display:flex;flex-wrap:wrap;gap:.4rem .5rem;margin:0 0 1rem}.facts span{background:var(--soft);
-border:1px solid var(--line);border-radius:99px;padding:.1rem .75rem;font-size:.87rem}
 .board{columns:19rem 3;column-gap:3rem;column-rule:3px solid var(--bus);border-left:3px solid var(--bus);
 border-top:3px solid var(--bus);padding:0 0 0 1.5rem}
 .tile{position:relative;break-inside:avoid;margin:0;padding-top:1.4rem}.tile>div{padding:.8rem 1rem .9rem;
 background:var(--card);border:1px solid var(--line);border-radius:10px}
 .tile:before{content:"";position:absolute;left:-1.5rem;top:2.8rem;width:1.5rem;border-top:3px solid var(--bus)}
 .tile figcaption{margin-bottom:.6rem}.tile figcaption p{margin:0;font-size:.82rem;color:var(--dim)}.tile svg{
-display:block;width:100%;overflow:visible}
+display:block;width:100%}.tile h3:first-letter{text-transform:uppercase}
 .tile a:hover{text-decoration:none}.tile a:hover text,.tile a:focus-visible text{text-decoration:underline}
-.tile[class*=" d"]:not(.plain) h3:before{content:"";display:inline-block;width:.7em;height:.7em;margin-right:.45em;
+.tile[class*=" d"] h3:before{content:"";display:inline-block;width:.7em;height:.7em;margin-right:.45em;
 border-radius:2px;background:var(--d)}
 .d0{--d:var(--d0)}.d1{--d:var(--d1)}.d2{--d:var(--d2)}.d3{--d:var(--d3)}.d4{--d:var(--d4)}.d5{--d:var(--d5)}
-svg text{font:13px var(--mono);fill:var(--ink)}svg .s{font:11.5px var(--sans);fill:var(--dim)}svg .c{
-text-anchor:middle}svg .r{text-anchor:end}svg .n{font:600 16px var(--mono)}svg .b{font-weight:600}
-.cpu{fill:var(--d,var(--dev));fill-opacity:.2;stroke:var(--d,var(--dev));stroke-width:1.2;rx:4px}.cpu.off{fill:none;
-stroke-opacity:.55}.cpu.can{fill:none;stroke-dasharray:3 2}.cpu.mix{fill-opacity:.1;stroke-dasharray:6 2}
-a:hover>.cpu,a:focus-visible>.cpu{fill-opacity:.6}
-.mem{fill:var(--d,var(--dev));rx:2px}.dev{fill:var(--dev);rx:2px}rect.bus{fill:var(--ecam);rx:2px}.acpi{
-fill:var(--acpi);rx:2px}.under{fill-opacity:.3}
-.rail{fill:var(--soft);stroke:var(--line);rx:2px}.box{fill:var(--soft);stroke:var(--line);rx:6px}.pin{
-fill:var(--soft);stroke:none}.pin.hot,.pin.odd{stroke:var(--line)}a:hover>.box,a:hover>.pin{stroke:var(--acc)}
-.wire,.tick{fill:none;stroke:var(--bus);stroke-width:1.5}.wire.hot{stroke:var(--acc);stroke-width:2}.gap{fill:none;
-stroke:var(--bus);stroke-width:1.5;stroke-dasharray:2 3}
+svg text{font:13px var(--mono);fill:var(--ink)}svg .s{font:11.5px var(--sans)}svg .c{text-anchor:middle}
+rect{fill:var(--soft);stroke:var(--line);rx:3px}.cpu{fill:var(--d,var(--dev));fill-opacity:.2;
+stroke:var(--d,var(--dev))}.cpu.off{fill:none;stroke-dasharray:3 2}.mem{fill:var(--d,var(--dev));fill-opacity:.3}
+.bus{fill:var(--d0);fill-opacity:.3}.dev{fill:none}.pin{stroke:none}.pin.hot{stroke:var(--acc)}
+.k0,.k1,.k2,.k3,.k4{fill:var(--d1);fill-opacity:.08}.k1{fill-opacity:.2}.k2{fill-opacity:.32}.k3{fill-opacity:.46}.k4{
+fill-opacity:.62}a:hover>rect,a:focus-visible>rect{stroke:var(--acc);stroke-width:2}
 .card{background:var(--card);border:1px solid var(--line);border-radius:10px;padding:.2rem 1rem .4rem;
 margin-top:1.2rem}.card h2{margin:.7rem 0 .3rem}h2 small{font-weight:400;font-size:.87rem;color:var(--dim);
 margin-left:.4rem}
@@ -123,10 +114,9 @@ display:table-row}
 #findings{scroll-margin-top:-3.4rem}.t[id]>details[open]>.th{position:sticky;top:2.5rem;z-index:3;
 background:var(--card);border-bottom:1px solid var(--line);border-radius:10px 10px 0 0}.two{border-top:0!important}
 .bs{top:6.2rem!important;max-height:calc(100vh - 6.8rem)!important}}
-svg .hit:not(a),svg a.hit rect{stroke:var(--warn);stroke-width:2.5;stroke-opacity:1}
-svg .hit.error:not(a),svg a.hit.error rect{stroke:var(--bad)}
-svg .hit.note:not(a),svg a.hit.note rect{stroke:var(--dim)}
-svg .chg:not(a),svg a.chg rect{stroke:var(--d1);stroke-width:2.5;stroke-opacity:1;stroke-dasharray:5 2}
+svg a.hit rect{stroke:var(--warn);stroke-width:2.5}svg a.error rect{stroke:var(--bad)}
+svg a.note rect{stroke:var(--dim)}svg a.chg rect{stroke-width:2.5;stroke-dasharray:5 2}
+svg a.chg:not(.hit) rect{stroke:var(--d1)}
 .wrong>*{color:var(--bad)}.bs .ch{border-bottom:2px solid var(--d1)}
 footer{color:var(--dim);font-size:.85rem;margin-top:2rem}
 @media (max-width:68rem){.two{grid-template-columns:minmax(0,1fr)}.bs{position:sticky;top:auto;bottom:0;

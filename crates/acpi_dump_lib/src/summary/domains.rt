@@ -1,6 +1,6 @@
 //! What the domains of an SRAT have, and the latencies and bandwidths of an HMAT.
 
-use super::{Facts, size_of};
+use super::{Facts, Matrix, matrix_of, size_of};
 use crate::entries::{Entry, own_signature};
 use crate::language::number_at;
 use crate::walk::{Group, Show, walk_table};
@@ -11,8 +11,8 @@ const MEMORY: u64 = u64::MAX;
 
 /// A processor or a range of memory of a domain.
 #[derive(Clone, Copy)]
-struct Share {
-    domain: u64,
+pub(crate) struct Share {
+    pub(crate) domain: u64,
     /// The number of the processor, or `MEMORY`.
     number: u64,
     /// How many bytes the range has.
@@ -20,7 +20,7 @@ struct Share {
 }
 
 /// The processor, by its APIC ID or its UID, or the range of memory that an entry of an SRAT enables (section 5.2.16).
-fn share_of(kind: u64, entry: &[u8]) -> Option<Share> {
+pub(crate) fn share_of(kind: u64, entry: &[u8]) -> Option<Share> {
     let (flags, domain, number, size) = match kind {
         0 => {
             let domain = number_at(entry, 2, 1) | number_at(entry, 9, 3) << 8;
@@ -68,7 +68,11 @@ impl Show for Domains<'_> {
         let entry = self.table.get(start..end).unwrap_or(&[]);
         match group.kind {
             Some(kind) if self.table.starts_with(b"SRAT") => self.keep(kind, entry),
-            Some(1) if self.table.starts_with(b"HMAT") => add_matrix(self.facts, entry),
+            Some(1) if self.table.starts_with(b"HMAT") => {
+                if let Some(matrix) = matrix_of(entry) {
+                    add_matrix(self.facts, matrix)
+                }
+            }
             _ => {}
         }
     }
@@ -102,56 +106,23 @@ fn add_memory(facts: &mut Facts, memory: u64) {
     writeln!(facts, "{size} {unit} of memory");
 }
 
-/// What a System Locality Latency and Bandwidth Information Structure of this Data Type has, and in which unit.
-fn matrix_words(kind: u64) -> Option<(&'static str, &'static str)> {
-    match kind {
-        0 => Some(("access latency", "ps")),
-        1 => Some(("read latency", "ps")),
-        2 => Some(("write latency", "ps")),
-        3 => Some(("access bandwidth", "MB/s")),
-        4 => Some(("read bandwidth", "MB/s")),
-        5 => Some(("write bandwidth", "MB/s")),
-        _ => None,
-    }
-}
-
-/// Adds the values of a System Locality Latency and Bandwidth Information Structure (section 5.2.29.4): a line with the
-/// targets, and one for each initiator, in which `-` is a value that isn't given, or of a target that isn't reached.
-fn add_matrix(facts: &mut Facts, structure: &[u8]) {
-    let Some((words, unit)) = matrix_words(number_at(structure, 9, 1)) else {
-        return;
-    };
-    let initiators = number_at(structure, 12, 4) as usize;
-    let targets = number_at(structure, 16, 4) as usize;
-    let lists = initiators.saturating_add(targets).saturating_mul(4);
-    let start = lists.saturating_add(32);
-    let values = initiators.saturating_mul(targets).saturating_mul(2);
-    if start.saturating_add(values) > structure.len() {
-        return;
-    }
+/// Adds the values of a matrix: a line with the targets, and one for each initiator, in which `-` stands for a value
+/// that isn't given, or of a target that isn't reached.
+fn add_matrix(facts: &mut Facts, matrix: Matrix<'_>) {
+    let (words, unit) = (matrix.words, matrix.unit);
     write!(facts, "{words} to\t");
-    for target in structure
-        .get(32..start)
-        .unwrap_or(&[])
-        .chunks(4)
-        .skip(initiators)
-    {
-        write!(facts, "{:>8}", number_at(target, 0, 4));
+    for column in 0..matrix.columns {
+        let target = matrix.name(matrix.rows.saturating_add(column));
+        write!(facts, "{target:>8}");
     }
     facts.text("\n");
-    let base = number_at(structure, 24, 8);
-    for place in 0..initiators {
-        let initiator = number_at(structure, place.saturating_mul(4).saturating_add(32), 4);
-        let row = targets
-            .saturating_mul(2)
-            .saturating_mul(place)
-            .saturating_add(start);
-        let end = targets.saturating_mul(2).saturating_add(row);
+    for row in 0..matrix.rows {
+        let initiator = matrix.name(row);
         write!(facts, "{words} from {initiator}\t");
-        for value in structure.get(row..end).unwrap_or(&[]).chunks(2) {
-            match number_at(value, 0, 2) {
-                0 | 0xffff => facts.text("       -"),
-                value => write!(facts, "{:>8}", value.saturating_mul(base)),
+        for column in 0..matrix.columns {
+            match matrix.value(row, column) {
+                None => facts.text("       -"),
+                Some(value) => write!(facts, "{value:>8}"),
             }
         }
         writeln!(facts, " {unit}");

@@ -77,7 +77,8 @@ fn print_compared_page(
     Ok(status.max(strict_status(output, old)))
 }
 
-/// Saves the page of an input as a file, or that of what differs between two, the second one beside it.
+/// Saves the page of an input as a file, or that of what differs between two, the second one beside it. The file `-` is
+/// standard output.
 ///
 /// Fails, after saying why, if one has no tables, or if memory runs out.
 #[tactic(auto, using(crate::proofs::Within::none_named))]
@@ -88,6 +89,7 @@ pub(crate) fn save_page<S: Sources, T: Storage>(
     second: Option<&Input>,
     sources: &mut S,
     storage: &mut T,
+    out: &mut Out,
     log: &mut Log,
 ) -> Result<u8, Stop>
     ensures { AddsNamed file.now (T.saved storage.old) (T.saved storage.new) }
@@ -97,14 +99,16 @@ pub(crate) fn save_page<S: Sources, T: Storage>(
         None => print_input_page(output, input, &mut page, log)?,
         Some(second) => print_compared_page(output, input, second, &mut page, log)?,
     };
-    let Some(page) = page.printed() else {
+    let Some(text) = page.printed() else {
         return Err(Stop::OutOfMemory);
     };
-    if !page.is_empty() {
+    if file == "-" {
+        out.append(&page);
+    } else if !text.is_empty() {
         save_file(
             output.saving(),
             file,
-            page.as_bytes(),
+            text.as_bytes(),
             sources,
             storage,
             log,

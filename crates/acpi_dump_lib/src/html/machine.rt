@@ -1,0 +1,276 @@
+//! The machine as a drawing: a tile for each domain, controller, unit and so on, in which a structure is a box.
+
+use super::Page;
+use super::drawn::{line_of, print_line};
+use super::escape::print_escaped;
+use super::matrices::print_matrices;
+use super::rows::print_digest;
+use super::sheet::{Sheet, classes_of};
+use super::tile::Tile;
+use crate::language::{next_word, number_at, number_of};
+use crate::out::Out;
+use crate::summary::share_of;
+use acpi::platform::interrupt::{InterruptSourceOverride, Polarity, TriggerMode};
+use acpi::sdt::field;
+use acpi_base::model::IsaOverrides;
+use std::alloc::AllocError;
+
+/// What the tiles of each kind are called.
+const TITLES: [&str; 6] = [
+    "Domain",
+    "Processors",
+    "I/O APIC {I/O APIC ID}",
+    "PCI segments",
+    "{}",
+    "GIC",
+];
+
+const DOMAINS: u64 = 0;
+
+const IO_APICS: u64 = 2;
+
+const UNITS: u64 = 4;
+
+/// Up to how many processors of a tile have a box each, and how many boxes there are for more.
+const SINGLE: usize = 512;
+
+const BOXES: usize = 128;
+
+/// How many boxes as wide as the tile it has at most.
+const ROWS: usize = 40;
+
+/// A structure in the drawing.
+#[derive(Clone, Copy)]
+struct Piece {
+    /// The kind of its tile, the number of the table, and that of the tile.
+    tile: (u64, usize, u64),
+    part: usize,
+    /// Whether its box is as wide as the tile.
+    is_wide: bool,
+    class: &'static str,
+    text: &'static str,
+    /// An ISA interrupt, and the pin that it comes to.
+    isa: Option<(u8, u64)>,
+}
+
+/// Where a structure is drawn, if it is, within the one of this number that the table itself has.
+fn piece_of(sheet: Sheet<'_>, table: usize, part: usize, unit: usize) -> Option<Piece> {
+    let structure = sheet.side.parts.get(part)?;
+    let entry = sheet.bytes(structure.offset, structure.length);
+    let (kind, class, text) = line_of(sheet, structure)?;
+    let (class, flags) = next_word(class);
+    let is_off = match number_of(flags) {
+        Some(flags) => number_at(entry, flags as usize, 4) & 1 == 0,
+        None => false,
+    };
+    let kind = number_of(kind)?;
+    let tile = match kind {
+        DOMAINS => share_of(structure.kind?, entry)?.domain,
+        IO_APICS | UNITS => unit as u64,
+        _ => 0,
+    };
+    Some(Piece {
+        tile: (kind, table, tile),
+        part,
+        is_wide: flags.is_empty(),
+        class: if is_off { "cpu off" } else { class },
+        text,
+        isa: None,
+    })
+}
+
+/// Adds the structures of a table that are drawn.
+///
+/// Fails if memory runs out.
+fn add_pieces(sheet: Sheet<'_>, table: usize, pieces: &mut Vec<Piece>) -> Result<(), AllocError> {
+    let mut unit = 0usize;
+    for (part, structure) in sheet.side.parts.iter().enumerate().skip(1) {
+        if structure.parent == 0 {
+            unit = part;
+        }
+        if let Some(piece) = piece_of(sheet, table, part, unit) {
+            pieces.push(piece)?;
+        }
+    }
+    if sheet.is(b"APIC") {
+        add_interrupts(sheet, table, pieces)?;
+    }
+    Ok(())
+}
+
+/// Adds the ISA interrupts of a MADT to the tiles of the I/O APICs that they come to (sections 5.2.12.3 and 5.2.12.5).
+/// Each leads to its override, or to the I/O APIC if it has none.
+///
+/// Fails if memory runs out.
+fn add_interrupts(
+    sheet: Sheet<'_>,
+    table: usize,
+    pieces: &mut Vec<Piece>,
+) -> Result<(), AllocError> {
+    let (mut overrides, mut parts) = (IsaOverrides::new(), [0usize; 256]);
+    for part in 0..sheet.side.len() {
+        if let Some(structure) = sheet.side.parts.get(part)
+            && structure.kind == Some(2)
+        {
+            let entry = sheet.bytes(structure.offset, structure.length);
+            let isa_source = field(entry, 3, 1) as u8; // Source
+            parts[isa_source as usize] = part;
+            overrides.add(&InterruptSourceOverride {
+                isa_source,
+                global_system_interrupt: field(entry, 4, 4) as u32,
+                polarity: Polarity::SameAsBus,
+                trigger_mode: TriggerMode::SameAsBus,
+            });
+        }
+    }
+    for irq in 0..16u8 {
+        if let Some(isa) = overrides.isa_interrupt(irq)
+            && let Some((controller, pin)) = pin_of(sheet, isa.global_system_interrupt as u64)
+        {
+            let part = parts[irq as usize];
+            pieces.push(Piece {
+                tile: (IO_APICS, table, controller as u64),
+                part: if part == 0 { controller } else { part },
+                is_wide: false,
+                class: if part == 0 { "pin" } else { "pin hot" },
+                text: "",
+                isa: Some((irq, pin)),
+            })?;
+        }
+    }
+    Ok(())
+}
+
+/// The I/O APIC of a MADT that an interrupt comes to, by the number of its structure, and the pin: the first one with
+/// the greatest base up to the interrupt.
+fn pin_of(sheet: Sheet<'_>, interrupt: u64) -> Option<(usize, u64)> {
+    let mut nearest: Option<(usize, u64)> = None;
+    for (part, structure) in sheet.side.parts.iter().enumerate() {
+        let entry = sheet.bytes(structure.offset, structure.length);
+        let base = number_at(entry, 8, 4); // Global System Interrupt Base
+        let is_nearer = match nearest {
+            Some((_, pin)) => interrupt.saturating_sub(base) < pin,
+            None => true,
+        };
+        if structure.kind == Some(1) && base <= interrupt && is_nearer {
+            nearest = Some((part, interrupt - base));
+        }
+    }
+    nearest
+}
+
+/// Prints the tiles of the drawing: none if there is nothing to draw.
+///
+/// Fails if memory runs out.
+pub(super) fn print_machine(page: Page<'_>, out: &mut Out) -> Result<(), AllocError> {
+    let mut pieces = Vec::new(page.alloc);
+    for (table, sheet) in page.sheets.iter().enumerate() {
+        if sheet.entry.status.is_read() {
+            add_pieces(*sheet, table, &mut pieces)?;
+        }
+    }
+    pieces.sort_by_key(|piece| (piece.tile, piece.is_wide))?;
+    let place = pieces.partition_point(|piece| piece.tile.0 < IO_APICS);
+    let (processors, others) = pieces.split_at(place);
+    print_tiles(page, processors, out);
+    print_matrices(page, out);
+    print_tiles(page, others, out);
+    Ok(())
+}
+
+/// Prints the tiles of structures in order.
+fn print_tiles(page: Page<'_>, pieces: &[Piece], out: &mut Out) {
+    let mut start = 0usize;
+    for (place, piece) in pieces.iter().enumerate() {
+        match pieces.get(place + 1) {
+            Some(next) if next.tile == piece.tile => continue,
+            _ => print_tile(page, pieces.get(start..place + 1).unwrap_or(&[]), out),
+        }
+        start = place + 1;
+    }
+}
+
+/// Prints the front of a tile of a kind and a number.
+fn print_title(sheet: Sheet<'_>, kind: u64, number: u64, out: &mut Out) {
+    let title = TITLES.get(kind as usize).unwrap_or(&"");
+    if kind == DOMAINS {
+        let color = number % 6;
+        return write!(
+            out,
+            "<figure class=\"tile d{color}\"><div><figcaption><h3>{title} {number}</h3>"
+        );
+    }
+    out.text("<figure class=\"tile\"><div><figcaption><h3>");
+    print_line(sheet, number as usize, title, out);
+    out.text("</h3>")
+}
+
+/// Prints a tile of structures.
+fn print_tile(page: Page<'_>, pieces: &[Piece], out: &mut Out) {
+    let [first, ..] = pieces else {
+        return;
+    };
+    let (kind, table, number) = first.tile;
+    let Some(sheet) = page.sheets.get(table) else {
+        return;
+    };
+    let (boxes, rows) = pieces.split_at(pieces.partition_point(|piece| !piece.is_wide));
+    let (each, columns) = match boxes.len() {
+        _ if kind == IO_APICS => (1, 3),
+        0..=64 => (1, 8),
+        65..=SINGLE => (1, 12),
+        count => (count.div_ceil(BOXES), 8),
+    };
+    print_title(*sheet, kind, number, out);
+    if each > 1 {
+        write!(out, "<p>{} processors, {each} in a box</p>", boxes.len());
+    }
+    let mut tile = Tile::new(page.alloc, columns);
+    for some in boxes.chunks(each) {
+        add_box(*sheet, some, &mut tile);
+    }
+    tile.columns = 1;
+    for some in rows.chunks(1).take(ROWS) {
+        add_box(*sheet, some, &mut tile);
+    }
+    if rows.len() > ROWS {
+        write!(tile.text, "and {} more", rows.len() - ROWS);
+        tile.add(None, "", "");
+    }
+    tile.print(out)
+}
+
+/// Adds a box for structures, of which there are several only if they are processors.
+fn add_box(sheet: Sheet<'_>, some: &[Piece], tile: &mut Tile) {
+    let [first, ..] = some else {
+        return;
+    };
+    let Some(structure) = sheet.side.parts.get(first.part) else {
+        return;
+    };
+    let mut seen = (None, false);
+    for piece in some {
+        if let Some(other) = sheet.side.parts.get(piece.part) {
+            seen = sheet.seen(other.offset, other.length, seen);
+        }
+    }
+    print_line(sheet, first.part, first.text, &mut tile.text);
+    if let Some((irq, pin)) = first.isa {
+        write!(tile.text, "ISA {irq}→{pin}");
+        write!(tile.title, "ISA interrupt {irq}, pin {pin}: ");
+    }
+    if some.len() > 1 {
+        write!(tile.title, "{} processors from this one on: ", some.len());
+    }
+    if first.class == "cpu off" {
+        tile.title.text("disabled: ");
+    }
+    print_escaped(structure.name.as_bytes(), &mut tile.title);
+    tile.title.text(": ");
+    print_digest(sheet.side, first.part, structure, &mut tile.title);
+    tile.add(
+        Some((sheet, structure.offset)),
+        first.class,
+        classes_of(seen),
+    )
+}
