@@ -1,13 +1,13 @@
 //! The named objects of AML, in the order of the bytes (ACPI 6.4, section 20.2.5). AML is not run.
 ghost use Rattle.std.specs.Prelude.{◌<◌, ◌≤◌, length, IfOk};
 
-use crate::walk::Show;
+use crate::out::Out;
+use crate::walk::ShowObjects;
 use acpi_sleep::AmlError;
 use acpi_sleep::block::block_at;
 use acpi_sleep::name::{Name, name_at};
 use acpi_sleep::term::{Part, opcode_at, parts_end, parts_of};
 use std::alloc::{AllocError, Global};
-use std::fmt;
 
 /// How many objects are entered one in another at most, and how many segments a path has at most, so that the paths of
 /// many objects stay short.
@@ -46,20 +46,29 @@ impl From<AllocError> for Ends {
     }
 }
 
-impl fmt::Display for Ends {
-    fn fmt<W: fmt::Write>(&self, f: &mut fmt::Formatter<W>) -> fmt::Result {
-        let (why, at) = match self {
-            Ends::Aml(AmlError::PastEnd(at)) => ("the table or the block ends in what begins", at),
-            Ends::Aml(AmlError::InvalidLength(at)) => ("the length of a block isn't right", at),
-            Ends::Aml(AmlError::InvalidName(at)) => ("there is no name", at),
-            Ends::Aml(AmlError::NestedScope(at) | AmlError::NotPackage(at)) => ("unexpected", at),
-            Ends::Aml(AmlError::UnknownTerm(at) | AmlError::NotConstant(at)) => {
-                ("no object of a known length begins", at)
+impl Ends {
+    /// Prints it.
+    pub(crate) fn print(self, out: &mut Out) {
+        let (words, at) = match self {
+            Ends::Aml(AmlError::PastEnd(at)) => {
+                ("the table or the block ends in what begins at #", at)
             }
-            Ends::Deep(at) => ("too many names lead to the object", at),
-            Ends::OutOfMemory => return f.write_str("out of memory"),
+            Ends::Aml(AmlError::InvalidLength(at)) => (
+                "the length of a block isn't right at #",
+                at,
+            ),
+            Ends::Aml(AmlError::InvalidName(at)) => ("there is no name at #", at),
+            Ends::Aml(AmlError::NestedScope(at) | AmlError::NotPackage(at)) => (
+                "unexpected at #",
+                at,
+            ),
+            Ends::Aml(AmlError::UnknownTerm(at) | AmlError::NotConstant(at)) => {
+                ("no object of a known length begins at #", at)
+            }
+            Ends::Deep(at) => ("too many names lead to the object at #", at),
+            Ends::OutOfMemory => ("out of memory", 0),
         };
-        write!(f, "{why} at 0x{at:x}")
+        out.words(words, &[at as u64]);
     }
 }
 
@@ -76,37 +85,43 @@ enum Rest {
     Entered(usize),
 }
 
+/// The opcodes of objects, what these are, and what stands after the opcode.
+const FORMS: [(u16, &str, Rest); 25] = [
+    (0x06, "Alias", Rest::Parts(1)),
+    (0x08, "Name", Rest::Parts(0)),
+    (0x10, "Scope", Rest::Entered(0)),
+    (0x14, "Method", Rest::Named),
+    (0x15, "External", Rest::Parts(0)),
+    (0x8A, "CreateDWordField", Rest::Parts(2)),
+    (0x8B, "CreateWordField", Rest::Parts(2)),
+    (0x8C, "CreateByteField", Rest::Parts(2)),
+    (0x8D, "CreateBitField", Rest::Parts(2)),
+    (0x8F, "CreateQWordField", Rest::Parts(2)),
+    (0xA0, "If", Rest::Block),
+    (0xA1, "Else", Rest::Block),
+    (0xA2, "While", Rest::Block),
+    (0x5B01, "Mutex", Rest::Parts(0)),
+    (0x5B02, "Event", Rest::Parts(0)),
+    (0x5B13, "CreateField", Rest::Parts(3)),
+    (0x5B80, "OperationRegion", Rest::Parts(0)),
+    (0x5B81, "Field", Rest::Named),
+    (0x5B82, "Device", Rest::Entered(0)),
+    (0x5B83, "Processor", Rest::Entered(6)),
+    (0x5B84, "PowerResource", Rest::Entered(3)),
+    (0x5B85, "ThermalZone", Rest::Entered(0)),
+    (0x5B86, "IndexField", Rest::Named),
+    (0x5B87, "BankField", Rest::Named),
+    (0x5B88, "DataRegion", Rest::Parts(0)),
+];
+
 /// What the object of an opcode is, and what stands after the opcode, unless that isn't known.
 fn form_of(code: u16) -> Option<(&'static str, Rest)> {
-    let form = match code {
-        0x06 => ("Alias", Rest::Parts(1)),
-        0x08 => ("Name", Rest::Parts(0)),
-        0x10 => ("Scope", Rest::Entered(0)),
-        0x14 => ("Method", Rest::Named),
-        0x15 => ("External", Rest::Parts(0)),
-        0x8A => ("CreateDWordField", Rest::Parts(2)),
-        0x8B => ("CreateWordField", Rest::Parts(2)),
-        0x8C => ("CreateByteField", Rest::Parts(2)),
-        0x8D => ("CreateBitField", Rest::Parts(2)),
-        0x8F => ("CreateQWordField", Rest::Parts(2)),
-        0xA0 => ("If", Rest::Block),
-        0xA1 => ("Else", Rest::Block),
-        0xA2 => ("While", Rest::Block),
-        0x5B01 => ("Mutex", Rest::Parts(0)),
-        0x5B02 => ("Event", Rest::Parts(0)),
-        0x5B13 => ("CreateField", Rest::Parts(3)),
-        0x5B80 => ("OperationRegion", Rest::Parts(0)),
-        0x5B81 => ("Field", Rest::Named),
-        0x5B82 => ("Device", Rest::Entered(0)),
-        0x5B83 => ("Processor", Rest::Entered(6)),
-        0x5B84 => ("PowerResource", Rest::Entered(3)),
-        0x5B85 => ("ThermalZone", Rest::Entered(0)),
-        0x5B86 => ("IndexField", Rest::Named),
-        0x5B87 => ("BankField", Rest::Named),
-        0x5B88 => ("DataRegion", Rest::Parts(0)),
-        _ => return None,
-    };
-    Some(form)
+    for (known, kind, rest) in &FORMS {
+        if *known == code {
+            return Some((*kind, *rest));
+        }
+    }
+    None
 }
 
 /// The parts after an opcode.
@@ -230,7 +245,7 @@ impl Scopes {
 /// Shows the object at an offset of a table, and answers where the next one begins.
 ///
 /// Fails if it isn't shown.
-fn show_object<S: Show>(
+fn show_object<S: ShowObjects>(
     table: &[u8],
     at: usize,
     scopes: &mut Scopes,
@@ -278,7 +293,12 @@ fn show_object<S: Show>(
 }
 
 /// Shows the objects of a table from an offset on, up to one that isn't understood.
-pub(crate) fn show_objects<S: Show>(alloc: Global, table: &[u8], start: usize, show: &mut S) {
+pub(crate) fn show_objects<S: ShowObjects>(
+    alloc: Global,
+    table: &[u8],
+    start: usize,
+    show: &mut S,
+) {
     let mut scopes = Scopes {
         open: Vec::new(alloc),
         letters: Vec::new(alloc),

@@ -181,10 +181,7 @@ pub(crate) struct DifferenceLines<'a> {
 
 impl ShowDifferences for DifferenceLines<'_> {
     fn alone(&mut self, is_first: bool, entry: &Entry<'_>) {
-        let name = if is_first { self.names.0 } else { self.names.1 };
-        self.out.text("only in ");
-        self.out.escaped(name.as_bytes());
-        self.out.text(": ");
+        print_only(is_first, self.names, self.out);
         print_name(entry, self.out);
         self.out.text("\n");
     }
@@ -192,6 +189,13 @@ impl ShowDifferences for DifferenceLines<'_> {
     fn pair(&mut self, old: &Entry<'_>, new: &Entry<'_>, found: &[Difference<'_>]) {
         print_found(old, new, found, self.names, self.out)
     }
+}
+
+/// Prints which of two inputs alone has what comes next.
+fn print_only(is_first: bool, names: (&str, &str), out: &mut Out) {
+    out.text("only in ");
+    out.escaped(if is_first { names.0 } else { names.1 }.as_bytes());
+    out.text(": ");
 }
 
 /// Prints differences between two tables, under their names, and those within a structure under what that is called.
@@ -209,14 +213,8 @@ fn print_found(
     let mut part = 0usize;
     for difference in found {
         if difference.name.is_empty() {
-            let name = if difference.old.is_some() {
-                names.0
-            } else {
-                names.1
-            };
-            out.text("  only in ");
-            out.escaped(name.as_bytes());
-            out.text(": ");
+            out.text("  ");
+            print_only(difference.old.is_some(), names, out);
             difference.side.print_path(difference.part, out);
             out.text("\n");
         } else {
@@ -238,10 +236,11 @@ fn print_difference(difference: &Difference<'_>, out: &mut Out) {
         out.text("  ");
     }
     write!(out, "  {offset:04x}  {name:<38}  ");
-    out.text(difference.old.unwrap_or("none"));
-    out.text(" -> ");
-    out.text(difference.new.unwrap_or("none"));
-    out.text("\n");
+    let values = [
+        difference.old.unwrap_or("none"),
+        difference.new.unwrap_or("none"),
+    ];
+    out.fill("$ -> $\n", &values);
 }
 
 /// The differences between the structures and items of two tables, less those of the names that are ignored.
@@ -290,16 +289,13 @@ pub(crate) fn compare<S: ShowDifferences>(
 ) -> Result<bool, AllocError> {
     let mut any = false;
     for index in 0..old.len() {
-        let other = match same_in(old, index, new) {
-            Some(number) => new.get(number),
-            None => None,
-        };
-        match other {
-            Some(other) => any |= compare_pair(alloc, &old[index], other, ignored, show)?,
-            None => {
-                any = true;
-                show.alone(true, &old[index]);
-            }
+        if let Some(number) = same_in(old, index, new)
+            && let Some(other) = new.get(number)
+        {
+            any |= compare_pair(alloc, &old[index], other, ignored, show)?;
+        } else {
+            any = true;
+            show.alone(true, &old[index]);
         }
     }
     for index in 0..new.len() {

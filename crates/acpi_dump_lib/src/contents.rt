@@ -10,7 +10,7 @@ use crate::out::Out;
 use crate::paint::Paint;
 use crate::status::Status;
 use crate::text::Text;
-use crate::walk::walk_table;
+use crate::walk::walk_with_objects;
 use acpi::sdt::Signature;
 
 /// Whether a choice has a table, of which some byte is there.
@@ -91,7 +91,8 @@ fn print_table(entry: &Entry<'_>, contents: Contents, paint: Paint, out: &mut Ou
 /// Prints the fields of a table.
 fn print_fields(entry: &Entry<'_>, out: &mut Out) {
     let signature = own_signature(entry.bytes);
-    walk_table(signature, entry.bytes, &mut Text { out, depth: 0 });
+    let alloc = out.allocator();
+    walk_with_objects(alloc, signature, entry.bytes, &mut Text { out, depth: 0 });
     if signature == Signature::FADT {
         print_getters(entry.bytes, out);
     }

@@ -12,7 +12,7 @@ use crate::fault::Fault;
 use crate::fields::{number_of, print_hex, print_meaning, print_path, print_text, print_value};
 use crate::language::Meaning;
 use crate::out::Out;
-use crate::walk::{Field, Group, Show};
+use crate::walk::{Field, Group, Show, ShowObjects};
 use json::{Pretty, Token, is_number};
 use std::alloc::{AllocError, Global};
 use std::fmt::Display;
@@ -225,11 +225,9 @@ impl Show for Document {
         self.number("offset", offset);
         self.token(Token::EndObject);
     }
+}
 
-    fn shows_objects(&self) -> Option<Global> {
-        Some(self.alloc)
-    }
-
+impl ShowObjects for Document {
     fn object(&mut self, object: &Object<'_>) {
         self.token(Token::BeginObject);
         self.text("kind", object.kind);
@@ -245,7 +243,9 @@ impl Show for Document {
 
     fn ends(&mut self, offset: u64, why: Ends) {
         self.token(Token::BeginObject);
-        self.shown("ends", &why);
+        let mut text = Out::new(self.alloc);
+        why.print(&mut text);
+        self.printed("ends", &text);
         self.number("offset", offset);
         self.token(Token::EndObject);
     }

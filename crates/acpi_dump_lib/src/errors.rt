@@ -72,13 +72,12 @@ pub(crate) fn tell_word(log: &mut Log, wrong: WrongWord<'_>) {
         word,
         usage,
     } = wrong;
-    log.text.text("acpi_dump: ");
-    if option.is_empty() {
-        log.text.escaped(word.as_bytes());
-        writeln!(log.text, "\nusage: acpi_dump {usage}");
+    let (before, after) = if option.is_empty() {
+        ("acpi_dump: ", "\nusage: acpi_dump$ $\n")
     } else {
-        write!(log.text, "--{option}: ");
-        log.text.escaped(word.as_bytes());
-        writeln!(log.text, "\nusage: --{option} {usage}");
-    }
+        ("acpi_dump: --$: ", "\nusage: --$ $\n")
+    };
+    log.text.fill(before, &[option]);
+    log.text.escaped(word.as_bytes());
+    log.text.fill(after, &[option, usage]);
 }

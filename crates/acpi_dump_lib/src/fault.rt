@@ -29,40 +29,44 @@ pub(crate) enum Fault {
 }
 
 impl Fault {
-    /// The words that say it, and its number if it has one: `@` stands for the offset, `#` for the number in
-    /// hexadecimal digits, and `%` for it in decimal ones.
-    fn words(self) -> (&'static str, u64) {
+    /// The words that say it for an offset of the table, and the numbers in them.
+    fn words(self, offset: u64) -> (&'static str, [u64; 2]) {
         match self {
-            Fault::Length(length) => ("entry at @ has length %", length),
-            Fault::Past(length) => ("entry at @ has length %, more than is left", length),
-            Fault::Cut => ("too few bytes for an entry at @", 0),
-            Fault::Unknown(kind) => ("entry at @ has type #, whose length is unknown", kind),
-            Fault::Missing(count) => ("entries missing at @: %", count),
+            Fault::Length(length) => ("entry at # has length %", [offset, length]),
+            Fault::Past(length) => (
+                "entry at # has length %, more than is left",
+                [offset, length],
+            ),
+            Fault::Cut => ("too few bytes for an entry at #", [offset, 0]),
+            Fault::Unknown(kind) => (
+                "entry at # has type #, whose length is unknown",
+                [offset, kind],
+            ),
+            Fault::Missing(count) => ("entries missing at #: %", [offset, count]),
             Fault::Before(start) => (
-                "offset # in the structure at @ is before the end of other fields",
-                start,
+                "offset # in the structure at # is before the end of other fields",
+                [start, offset],
             ),
-            Fault::Outside(start) => ("offset # in the structure at @ is past its end", start),
+            Fault::Outside(start) => (
+                "offset # in the structure at # is past its end",
+                [start, offset],
+            ),
             Fault::Beyond(end) => (
-                "offset #, the end of a part of the structure at @, is past its end",
-                end,
+                "offset #, the end of a part of the structure at #, is past its end",
+                [end, offset],
             ),
-            Fault::Deep => ("the structure at @ lies too deep in others", 0),
-            Fault::Unread(_) => ("the layout of the structure at @ isn't understood: ", 0),
+            Fault::Deep => ("the structure at # lies too deep in others", [offset, 0]),
+            Fault::Unread(_) => (
+                "the layout of the structure at # isn't understood: ",
+                [offset, 0],
+            ),
         }
     }
 
     /// Prints it for an offset of the table.
     pub(crate) fn print(self, offset: u64, out: &mut Out) {
-        let (words, number) = self.words();
-        for letter in words.as_bytes() {
-            match *letter {
-                b'@' => write!(out, "0x{offset:x}"),
-                b'#' => write!(out, "0x{number:x}"),
-                b'%' => write!(out, "{number}"),
-                letter => out.bytes(&[letter]),
-            }
-        }
+        let (words, numbers) = self.words(offset);
+        out.words(words, &numbers);
         if let Fault::Unread(word) = self {
             out.text(word);
         }

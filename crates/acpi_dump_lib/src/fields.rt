@@ -32,7 +32,8 @@ const VALUES: usize = 46;
 /// Prints one field, in a structure so deep in others.
 pub(crate) fn print_field(shown: &Field<'_>, depth: usize, out: &mut Out) {
     print_indent(depth, out);
-    write!(out, "{:04x}  {}", shown.offset, shown.label.name);
+    write!(out, "{:04x}  ", shown.offset);
+    out.text(shown.label.name);
     let mut column = depth
         .saturating_mul(2)
         .saturating_add(shown.label.name.len())
@@ -317,13 +318,12 @@ fn print_register(value: &[u8], out: &mut Out) {
     if address == 0 && matches!(value, [0, 0, 0, 0, ..]) {
         return;
     }
-    write!(out, "  space {space}");
+    out.words("  space %", &[*space as u64]);
     let name = name_of(*space as u64, SPACES);
     if !name.is_empty() {
-        write!(out, " {name}");
+        out.text(" ");
+        out.text(name);
     }
-    write!(
-        out,
-        " width {width} offset {offset} access {size} address 0x{address:x}"
-    )
+    let numbers = [*width as u64, *offset as u64, *size as u64, address];
+    out.words(" width % offset % access % address #", &numbers)
 }

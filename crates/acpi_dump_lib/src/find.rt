@@ -11,10 +11,10 @@ pub(crate) fn print_candidates(found: &[Candidate], out: &mut Out) {
     for candidate in found {
         write!(out, "RSDP at {:016x}", candidate.address);
         if let Some(fields) = candidate.fields {
-            let (revision, rsdt) = (fields.revision, fields.rsdt);
-            write!(out, " revision {revision} RSDT 0x{rsdt:x}");
+            let numbers = [fields.revision as u64, fields.rsdt as u64];
+            out.words(" revision % RSDT #", &numbers);
             if let Some(xsdt) = fields.xsdt {
-                write!(out, " XSDT 0x{xsdt:x}");
+                out.words(" XSDT #", &[xsdt]);
             }
         }
         match candidate.refusal {

@@ -72,6 +72,38 @@ impl Out {
         self.escaped(&text.bytes);
     }
 
+    /// Prints words, in which `#` stands for the next of the numbers in hexadecimal digits, and `%` for it in decimal ones.
+    pub(crate) fn words(&mut self, words: &str, numbers: &[u64]) {
+        let mut rest = numbers;
+        for letter in words.as_bytes() {
+            match (*letter, rest) {
+                (b'#', [number, others @ ..]) => {
+                    write!(self, "0x{number:x}");
+                    rest = others;
+                }
+                (b'%', [number, others @ ..]) => {
+                    write!(self, "{number}");
+                    rest = others;
+                }
+                _ => self.bytes(&[*letter]),
+            }
+        }
+    }
+
+    /// Prints words, in which `$` stands for the next of the texts.
+    pub(crate) fn fill(&mut self, words: &str, texts: &[&str]) {
+        let mut rest = texts;
+        for letter in words.as_bytes() {
+            match (*letter, rest) {
+                (b'$', [text, others @ ..]) => {
+                    self.text(*text);
+                    rest = others;
+                }
+                _ => self.bytes(&[*letter]),
+            }
+        }
+    }
+
     /// Keeps that memory for a piece was refused.
     pub(crate) fn refuse(&mut self) {
         self.is_refused = true;

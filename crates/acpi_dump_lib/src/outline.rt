@@ -271,10 +271,12 @@ impl<'a> Side<'a> {
             out.text(part.name);
             match part.id {
                 Some(id) => {
-                    let (name, value) = (id.name, self.value(Some(id)).unwrap_or(""));
-                    write!(out, ", {name} {value}");
+                    out.text(", ");
+                    out.text(id.name);
+                    out.text(" ");
+                    out.text(self.value(Some(id)).unwrap_or(""));
                 }
-                None => write!(out, " {}", part.place),
+                None => out.words(" %", &[part.place]),
             }
             place = part.parent;
         }

@@ -132,14 +132,14 @@ fn add_processors<H: AcpiHandler>(
     others: &[Processor],
     tables: &AcpiTables<'_, H>,
 ) {
-    let mut disabled = 0usize;
+    let mut disabled = 0u64;
     for processor in others {
         if processor.state == ProcessorState::Disabled {
             disabled = disabled.saturating_add(1);
         }
     }
-    let all = others.len().saturating_add(1);
-    writeln!(facts, "processors\t{all}, {disabled} of them disabled");
+    let numbers = [others.len().saturating_add(1) as u64, disabled];
+    facts.words("processors\t%, % of them disabled\n", &numbers);
     match &tables.find_table::<Srat>() {
         Ok(srat) => add_each(facts, boot, others, srat.bytes()),
         Err(_) => add_each(facts, boot, others, &[]),
@@ -162,9 +162,10 @@ fn add_processor(facts: &mut Facts, processor: &Processor, srat: &[u8]) {
         ProcessorState::WaitingForSipi => "waiting",
         ProcessorState::Running => "running",
     };
-    write!(facts, "processor {uid}\tlocal APIC {id}, {state}");
+    facts.words("processor %\tlocal APIC %, ", &[uid as u64, id as u64]);
+    facts.text(state);
     if let Some(domain) = Domains::over(srat).domain_of_apic(id) {
-        write!(facts, ", domain {domain}");
+        facts.words(", domain %", &[domain as u64]);
     }
     facts.text("\n");
 }
@@ -172,30 +173,29 @@ fn add_processor(facts: &mut Facts, processor: &Processor, srat: &[u8]) {
 /// The words of a polarity.
 fn polarity_words(polarity: Polarity) -> &'static str {
     match polarity {
-        Polarity::SameAsBus => "polarity of the bus",
-        Polarity::ActiveHigh => "active high",
-        Polarity::ActiveLow => "active low",
+        Polarity::SameAsBus => ", polarity of the bus",
+        Polarity::ActiveHigh => ", active high",
+        Polarity::ActiveLow => ", active low",
     }
 }
 
 /// The words of a trigger mode.
 fn trigger_words(trigger: TriggerMode) -> &'static str {
     match trigger {
-        TriggerMode::SameAsBus => "trigger of the bus",
-        TriggerMode::Edge => "edge",
-        TriggerMode::Level => "level",
+        TriggerMode::SameAsBus => ", trigger of the bus\n",
+        TriggerMode::Edge => ", edge\n",
+        TriggerMode::Level => ", level\n",
     }
 }
 
 /// Adds the controllers, where each ISA interrupt comes, and the interrupts that can't be masked.
 fn add_apic(facts: &mut Facts, apic: &Apic<Global>) {
-    let address = apic.local_apic_address;
-    let pics = if apic.also_has_legacy_pics {
-        "and a pair of 8259s"
+    let words = if apic.also_has_legacy_pics {
+        "interrupts\tlocal APICs at #, and a pair of 8259s\n"
     } else {
-        "no 8259s"
+        "interrupts\tlocal APICs at #, no 8259s\n"
     };
-    writeln!(facts, "interrupts\tlocal APICs at 0x{address:x}, {pics}");
+    facts.words(words, &[apic.local_apic_address]);
     for io_apic in apic.io_apics.as_slice() {
         add_io_apic(facts, io_apic);
     }
@@ -212,46 +212,46 @@ fn add_apic(facts: &mut Facts, apic: &Apic<Global>) {
 
 /// Adds an I/O APIC.
 fn add_io_apic(facts: &mut Facts, io_apic: &IoApic) {
-    let (id, address) = (io_apic.id, io_apic.address);
-    let base = io_apic.global_system_interrupt_base;
-    writeln!(
-        facts,
-        "I/O APIC {id}\tat 0x{address:x}, interrupts from {base} on"
-    );
+    let numbers = [
+        io_apic.id as u64,
+        io_apic.address as u64,
+        io_apic.global_system_interrupt_base as u64,
+    ];
+    facts.words("I/O APIC %\tat #, interrupts from % on\n", &numbers);
 }
 
 /// Adds what signals an interrupt, at the end of its line.
 fn add_signal(facts: &mut Facts, polarity: Polarity, trigger: TriggerMode) {
-    let (polarity, trigger) = (polarity_words(polarity), trigger_words(trigger));
-    writeln!(facts, ", {polarity}, {trigger}");
+    facts.text(polarity_words(polarity));
+    facts.text(trigger_words(trigger));
 }
 
 /// Adds an interrupt that can't be masked.
 fn add_nmi_source(facts: &mut Facts, source: &NmiSource) {
-    write!(facts, "NMI\tinterrupt {}", source.global_system_interrupt);
+    facts.words("NMI\tinterrupt %", &[source.global_system_interrupt as u64]);
     add_signal(facts, source.polarity, source.trigger_mode);
 }
 
 /// Adds the pin of local APICs that such interrupts come to.
 fn add_nmi_line(facts: &mut Facts, nmi: &NmiLine) {
-    let number = nmi.line.code();
-    match nmi.processor {
-        NmiProcessor::All => writeln!(facts, "NMI\tLINT{number} of every processor"),
-        NmiProcessor::ProcessorUid(uid) => writeln!(facts, "NMI\tLINT{number} of processor {uid}"),
-    }
+    let (words, uid) = match nmi.processor {
+        NmiProcessor::All => ("NMI\tLINT% of every processor\n", 0),
+        NmiProcessor::ProcessorUid(uid) => ("NMI\tLINT% of processor %\n", uid as u64),
+    };
+    facts.words(words, &[nmi.line.code() as u64, uid]);
 }
 
 /// Adds where an ISA interrupt comes.
 fn add_isa(facts: &mut Facts, apic: &Apic<Global>, irq: u8) {
-    write!(facts, "ISA interrupt {irq}\t");
+    facts.words("ISA interrupt %\t", &[irq as u64]);
     let Some(isa) = apic.isa_interrupt(irq) else {
         return facts.text("comes nowhere\n");
     };
     let interrupt = isa.global_system_interrupt;
-    write!(facts, "interrupt {interrupt}");
+    facts.words("interrupt %", &[interrupt as u64]);
     if let Some(pin) = apic.io_apic_for(interrupt) {
-        let (number, id) = (pin.pin, pin.io_apic.id);
-        write!(facts, ", pin {number} of I/O APIC {id}");
+        let numbers = [pin.pin as u64, pin.io_apic.id as u64];
+        facts.words(", pin % of I/O APIC %", &numbers);
     }
     add_signal(facts, isa.polarity, isa.trigger_mode);
 }
@@ -268,17 +268,20 @@ fn add_timer(facts: &mut Facts, timer: PmTimer) {
 
 /// Adds the high precision event timers.
 fn add_hpet(facts: &mut Facts, info: &HpetInfo) {
-    let (number, address) = (info.hpet_number, info.base_address);
-    let bits = if info.main_counter_is_64bits() {
-        64
-    } else {
-        32
-    };
-    write!(facts, "HPET {number}\tat 0x{address:x}, {bits} bits, ");
-    let (comparators, tick) = (info.num_comparators(), info.clock_tick_unit);
-    writeln!(
-        facts,
-        "{comparators} comparators, periods of {tick} ticks or more"
+    let numbers = [
+        info.hpet_number as u64,
+        info.base_address as u64,
+        if info.main_counter_is_64bits() {
+            64
+        } else {
+            32
+        },
+        info.num_comparators() as u64,
+        info.clock_tick_unit as u64,
+    ];
+    facts.words(
+        "HPET %\tat #, % bits, % comparators, periods of % ticks or more\n",
+        &numbers,
     );
 }
 
@@ -299,25 +302,21 @@ pub(crate) fn size_of(bytes: u64) -> (u64, &'static str) {
 fn add_region(facts: &mut Facts, region: PciConfigEntry) {
     let (first, last) = region.bus_range.into_inner();
     let (segment, address) = (region.segment_group, region.physical_address);
-    writeln!(
-        facts,
-        "PCI segment {segment}\tbuses {first} to {last}, from 0x{address:x} on"
-    );
+    let numbers = [segment as u64, first as u64, last as u64, address as u64];
+    facts.words("PCI segment %\tbuses % to %, from # on\n", &numbers);
 }
 
 /// Adds a range of memory and its domain.
 fn add_range(facts: &mut Facts, range: &MemoryRange) {
-    let (domain, base) = (range.domain, range.base);
     let (size, unit) = size_of(range.length);
-    let plug = if range.is_hot_pluggable {
-        ", hot pluggable"
+    facts.words("memory domain %\t% ", &[range.domain as u64, size]);
+    facts.text(unit);
+    facts.words(" from # on", &[range.base]);
+    facts.text(if range.is_hot_pluggable {
+        ", hot pluggable\n"
     } else {
-        ""
-    };
-    writeln!(
-        facts,
-        "memory domain {domain}\t{size} {unit} from 0x{base:x} on{plug}"
-    );
+        "\n"
+    });
 }
 
 /// Adds the serial console.
@@ -330,7 +329,7 @@ fn add_console(facts: &mut Facts, console: &Spcr) {
     let (space, address) = (base.address_space, base.address);
     write!(facts, "console\t{space:?} 0x{address:x}");
     if let Some(rate) = console.baud_rate() {
-        write!(facts, ", {rate} bits per second");
+        facts.words(", % bits per second", &[rate as u64]);
     }
     facts.text("\n");
 }

@@ -4,8 +4,7 @@ use crate::aml::{Ends, Object};
 use crate::fault::Fault;
 use crate::fields::{print_bytes, print_field, print_path, print_spaces};
 use crate::out::Out;
-use crate::walk::{Field, Group, Show};
-use std::alloc::Global;
+use crate::walk::{Field, Group, Show, ShowObjects};
 
 /// The text of a table: where it is written to, and how deep the structures lie that have begun.
 #[derive(Drop)]
@@ -38,25 +37,26 @@ impl Show for Text<'_> {
         fault.print(offset, self.out);
         self.out.text("\n")
     }
+}
 
-    fn shows_objects(&self) -> Option<Global> {
-        Some(self.out.allocator())
-    }
-
+impl ShowObjects for Text<'_> {
     fn object(&mut self, object: &Object<'_>) {
         let out = &mut *self.out;
         let start = out.length();
-        write!(out, "  {:04x}  {}", object.offset, object.kind);
+        write!(out, "  {:04x}  ", object.offset);
+        out.text(object.kind);
         if let Some(path) = object.path {
             out.text(" ");
             print_path(path, out);
         }
         print_spaces(out.since(start).len(), out);
-        writeln!(out, "  {} bytes", object.length)
+        out.words("  % bytes\n", &[object.length])
     }
 
     fn ends(&mut self, _offset: u64, why: Ends) {
-        writeln!(self.out, "  the list ends: {why}")
+        self.out.text("  the list ends: ");
+        why.print(self.out);
+        self.out.text("\n")
     }
 }
 
@@ -71,14 +71,15 @@ pub(crate) fn print_indent(depth: usize, out: &mut Out) {
 /// Prints the heading of a structure.
 fn print_group(group: &Group, depth: usize, out: &mut Out) {
     print_indent(depth, out);
-    write!(out, "entry {} at 0x{:x}", group.number, group.offset);
+    out.words("entry % at #", &[group.number, group.offset]);
     if let Some(kind) = group.kind {
-        write!(out, ", type 0x{kind:x}");
+        out.words(", type #", &[kind]);
     }
-    let name = if group.name.is_empty() {
+    out.text(": ");
+    out.text(if group.name.is_empty() {
         "unknown"
     } else {
         group.name
-    };
-    writeln!(out, ": {name}")
+    });
+    out.text("\n")
 }

@@ -108,7 +108,7 @@ fn tell_several(name: &str, addresses: &[u64], log: &mut Log) {
     begin(log, name);
     log.text.text("valid RSDPs at");
     for address in addresses {
-        write!(log.text, " 0x{address:x}");
+        log.text.words(" #", &[*address]);
     }
     log.text.text(": the first is taken\n");
 }

@@ -56,37 +56,36 @@ pub(crate) trait Show {
     /// Shows why bytes from an offset of the table on aren't shown by the layout. The bytes, if there are
     /// some, come next.
     fn malformed(&mut self, _offset: u64, _fault: Fault) {}
+}
 
-    /// The allocator for the paths of the objects that AML defines, if these are shown in place of its bytes.
-    fn shows_objects(&self) -> Option<Global> {
-        None
-    }
+/// What a walk shows also the objects to that AML defines, in place of its bytes.
+pub(crate) trait ShowObjects: Show {
+    /// Shows an object.
+    fn object(&mut self, object: &Object<'_>);
 
-    /// Shows an object that AML defines.
-    fn object(&mut self, _object: &Object<'_>) {}
-
-    /// Shows why the objects of AML from an offset of the table on aren't shown.
-    fn ends(&mut self, _offset: u64, _why: Ends) {}
+    /// Shows why the objects from an offset of the table on aren't shown.
+    fn ends(&mut self, offset: u64, why: Ends);
 }
 
 /// The tables whose bytes after the header are AML (section 5.2.11).
 const AML_TABLES: [Signature; 3] = [Signature::DSDT, Signature::SSDT, Signature::PSDT];
 
-/// Shows a table.
-pub(crate) fn walk_table<S: Show>(signature: Signature, table: &[u8], show: &mut S) {
+/// Shows a table by its layout, and in place of the bytes of AML the objects that it defines.
+pub(crate) fn walk_with_objects<S: ShowObjects>(
+    alloc: Global,
+    signature: Signature,
+    table: &[u8],
+    show: &mut S,
+) {
     if AML_TABLES.contains(&signature) && table.len() >= SdtHeader::MIN_LENGTH {
-        let (head, aml) = table.split_at(SdtHeader::MIN_LENGTH);
-        walk_layout(signature, head, show);
-        return match show.shows_objects() {
-            Some(alloc) => show_objects(alloc, table, SdtHeader::MIN_LENGTH, show),
-            None => show.bytes(SdtHeader::MIN_LENGTH as u64, aml),
-        };
+        walk_table(signature, &table[..SdtHeader::MIN_LENGTH], show);
+        return show_objects(alloc, table, SdtHeader::MIN_LENGTH, show);
     }
-    walk_layout(signature, table, show)
+    walk_table(signature, table, show)
 }
 
 /// Shows a table by its layout.
-fn walk_layout<S: Show>(signature: Signature, table: &[u8], show: &mut S) {
+pub(crate) fn walk_table<S: Show>(signature: Signature, table: &[u8], show: &mut S) {
     let (blocks, lines) = &layout_of(signature);
     let piece = Piece {
         base: 0,

@@ -12,8 +12,7 @@ use acpi_base::bytes::{has_bit, skip};
 use acpi_base::entries::split_front;
 use acpi_numa::Distances;
 use acpi_numa::srat::{SRAT_GRAMMAR, SratEntry};
-use std::alloc::{AllocError, Global};
-use std::fmt;
+use std::alloc::Global;
 
 pub(super) const RULES: &str = "
 srat-no-domain warning ACPI 6.5, section 5.2.16 | An enabled processor of the MADT has no domain
@@ -32,31 +31,17 @@ pub(super) fn check_affinities(machine: &Machine<'_>, findings: &mut Findings) {
     if let Some(slit) = slit {
         check_distances(slit, findings);
     }
-    if let Some(srat) = machine.first(Signature::SRAT)
-        && check_srat(machine, srat, slit, findings).is_err()
-    {
-        findings.refuse();
-    }
-}
-
-/// Judges a SRAT by itself, and beside the MADT and the SLIT.
-///
-/// Fails if memory runs out.
-fn check_srat(
-    machine: &Machine<'_>,
-    srat: Table<'_>,
-    slit: Option<Table<'_>>,
-    findings: &mut Findings,
-) -> Result<(), AllocError> {
-    let mut found = Affinities::of(machine.alloc, srat.bytes)?;
-    check_ranges(machine.alloc, srat, &mut found.ranges, findings)?;
+    let Some(srat) = machine.first(Signature::SRAT) else {
+        return;
+    };
+    let mut found = Affinities::of(machine.alloc, srat.bytes, findings);
+    check_ranges(machine.alloc, srat, &mut found.ranges, findings);
     if let Some(madt) = machine.first(Signature::MADT) {
         check_processors(machine.alloc, srat, madt, &mut found.processors, findings);
     }
     if let Some(slit) = slit {
         check_localities(srat, slit, &mut found.domains, findings);
     }
-    Ok(())
 }
 
 /// What a processor's number is more than its ACPI Processor UID, if it is named by that; else it is the id of its local
@@ -73,9 +58,7 @@ struct Affinities {
 
 impl Affinities {
     /// What the entries of a SRAT say that count.
-    ///
-    /// Fails if memory runs out.
-    fn of(alloc: Global, srat: &[u8]) -> Result<Affinities, AllocError> {
+    fn of(alloc: Global, srat: &[u8], findings: &mut Findings) -> Affinities {
         let mut all = Affinities {
             processors: Numbers::new(alloc),
             ranges: Vec::new(alloc),
@@ -88,74 +71,64 @@ impl Affinities {
             if let Some(entry) = SratEntry::read(revision, entry)
                 && entry.is_enabled() != Some(false)
             {
-                all.add(offset, &entry)?;
+                all.add(offset, &entry, findings);
             }
             rest = others;
         }
-        Ok(all)
+        all
     }
 
     /// Adds what the entry at an offset says.
-    ///
-    /// Fails if memory runs out.
-    fn add(&mut self, offset: usize, entry: &SratEntry) -> Result<(), AllocError> {
-        let (domain, place) = match entry {
-            SratEntry::LocalApic(it) => (it.domain as u64, 2),
-            SratEntry::Memory(it) => (it.domain as u64, 2),
-            SratEntry::LocalX2Apic(it) => (it.domain as u64, 4),
-            SratEntry::Gicc(it) => (it.domain as u64, 2),
-            SratEntry::GicIts(it) => (it.domain as u64, 2),
-            SratEntry::GenericInitiator(it) => (it.domain as u64, 4),
-            SratEntry::GenericPort(it) => (it.domain as u64, 4),
+    fn add(&mut self, offset: usize, entry: &SratEntry, findings: &mut Findings) {
+        let (domain, place, processor) = match entry {
+            SratEntry::LocalApic(it) => (it.domain as u64, 2, Some((it.apic_id as u64, 3))),
+            SratEntry::Memory(it) => (it.domain as u64, 2, None),
+            SratEntry::LocalX2Apic(it) => (it.domain as u64, 4, Some((it.x2apic_id as u64, 8))),
+            SratEntry::Gicc(it) => {
+                let uid = BY_UID + it.processor_uid as u64;
+                (it.domain as u64, 2, Some((uid, 6)))
+            }
+            SratEntry::GicIts(it) => (it.domain as u64, 2, None),
+            SratEntry::GenericInitiator(it) => (it.domain as u64, 4, None),
+            SratEntry::GenericPort(it) => (it.domain as u64, 4, None),
         };
         self.domains.push(domain, offset.saturating_add(place));
-        match entry {
-            SratEntry::LocalApic(it) => self
-                .processors
-                .push(it.apic_id as u64, offset.saturating_add(3)),
-            SratEntry::LocalX2Apic(it) => self
-                .processors
-                .push(it.x2apic_id as u64, offset.saturating_add(8)),
-            SratEntry::Gicc(it) => self
-                .processors
-                .push(BY_UID + it.processor_uid as u64, offset.saturating_add(6)),
-            _ => {}
+        if let Some((processor, place)) = processor {
+            self.processors
+                .push(processor, offset.saturating_add(place));
         }
         if let Some(range) = entry.memory_range() {
-            self.ranges.push(Span {
+            let span = Span {
                 first: range.base,
                 last: range.base.saturating_add(range.length.saturating_sub(1)),
                 offset: offset.saturating_add(8),
                 owner: range.domain as u64,
-            })?;
+            };
+            findings.need(self.ranges.push(span).is_ok());
         }
-        Ok(())
     }
 }
 
 /// Judges the ranges of memory of a SRAT.
-///
-/// Fails if memory runs out.
-fn check_ranges(
-    alloc: Global,
-    srat: Table<'_>,
-    ranges: &mut Vec<Span>,
-    findings: &mut Findings,
-) -> Result<(), AllocError> {
-    for (before, range) in overlaps(alloc, ranges)? {
+fn check_ranges(alloc: Global, srat: Table<'_>, ranges: &mut Vec<Span>, findings: &mut Findings) {
+    for (before, range) in overlaps(alloc, ranges, findings) {
         let (first, domain, other) = (range.first, range.owner, before.owner);
-        let place = before.offset;
+        let place = before.offset as u64;
         if domain == other {
-            let message = format_args!("0x{first:x} is in the range at 0x{place:x} too");
-            findings.add("srat-repeated", srat.index, range.offset, &message);
-        } else {
-            let message = format_args!(
-                "0x{first:x} is in domain {domain}, and in domain {other} by the range at 0x{place:x}"
+            let words = "# is in the range at # too";
+            findings.add(
+                "srat-repeated",
+                srat.index,
+                range.offset,
+                words,
+                &[first, place],
             );
-            findings.add("srat-overlap", srat.index, range.offset, &message);
+        } else {
+            let words = "# is in domain %, and in domain % by the range at #";
+            let numbers = &[first, domain, other, place];
+            findings.add("srat-overlap", srat.index, range.offset, words, numbers);
         }
     }
-    Ok(())
 }
 
 /// The processor that an entry of a MADT is of, the offset in the entry that names it, and the flags, if it is of one.
@@ -205,29 +178,35 @@ fn check_processors(
         return findings.refuse();
     }
     for (processor, offset) in without.list.iter() {
-        let message = Named(*processor, "has no domain in the SRAT");
-        findings.add("srat-no-domain", madt.index, *offset, &message);
+        let words = if *processor < BY_UID {
+            "the processor with the APIC ID % has no domain in the SRAT"
+        } else {
+            "the processor with the UID % has no domain in the SRAT"
+        };
+        findings.add(
+            "srat-no-domain",
+            madt.index,
+            *offset,
+            words,
+            &[*processor % BY_UID],
+        );
     }
     for (processor, offset) in placed.list.iter() {
         if listed.find(*processor).is_none() {
-            let message = Named(*processor, "isn't in the MADT");
-            findings.add("srat-unknown-processor", srat.index, *offset, &message);
+            let words = if *processor < BY_UID {
+                "the processor with the APIC ID % isn't in the MADT"
+            } else {
+                "the processor with the UID % isn't in the MADT"
+            };
+            let number = *processor % BY_UID;
+            findings.add(
+                "srat-unknown-processor",
+                srat.index,
+                *offset,
+                words,
+                &[number],
+            );
         }
-    }
-}
-
-/// A processor, and what is to be said of it.
-#[derive(Drop)]
-struct Named(u64, &'static str);
-
-impl fmt::Display for Named {
-    fn fmt<W: fmt::Write>(&self, f: &mut fmt::Formatter<W>) -> fmt::Result {
-        let (kind, number) = if self.0 < BY_UID {
-            ("with the APIC ID", self.0)
-        } else {
-            ("with the UID", self.0 - BY_UID)
-        };
-        write!(f, "the processor {kind} {number} {}", self.1)
     }
 }
 
@@ -245,8 +224,14 @@ fn check_localities(
     let mut before = None;
     for (domain, offset) in domains.list.iter() {
         if *domain >= count && before != Some(*domain) {
-            let message = format_args!("domain {domain}, and the SLIT has {count} localities");
-            findings.add("slit-too-few", srat.index, *offset, &message);
+            let words = "domain %, and the SLIT has % localities";
+            findings.add(
+                "slit-too-few",
+                srat.index,
+                *offset,
+                words,
+                &[*domain, count],
+            );
         }
         before = Some(*domain);
     }
@@ -260,13 +245,11 @@ fn check_distances(slit: Table<'_>, findings: &mut Findings) {
             return;
         };
         if own != 10 {
-            let message = format_args!("locality {from} is at {own} from itself");
-            findings.add(
-                "slit-diagonal",
-                slit.index,
+            let (at, words) = (
                 place_of(distances, from, from),
-                &message,
+                "locality % is at % from itself",
             );
+            findings.add("slit-diagonal", slit.index, at, words, &[from, own as u64]);
         }
         check_row(slit, distances, from, findings);
     }
@@ -290,8 +273,11 @@ fn check_row(slit: Table<'_>, distances: Distances<'_>, from: u64, findings: &mu
         };
         let offset = place_of(distances, from, to);
         if distance < 10 && from != to && !is_low {
-            let message = format_args!("locality {to} is at {distance} from locality {from}");
-            findings.add("slit-reserved-distance", slit.index, offset, &message);
+            let (words, numbers) = (
+                "locality % is at % from locality %",
+                &[to, distance as u64, from],
+            );
+            findings.add("slit-reserved-distance", slit.index, offset, words, numbers);
             is_low = true;
         }
         if to < from
@@ -299,10 +285,9 @@ fn check_row(slit: Table<'_>, distances: Distances<'_>, from: u64, findings: &mu
             && let Some(back) = distances.distance(to, from)
             && back != distance
         {
-            let message = format_args!(
-                "{distance} from {from} to {to}, {back} from {to} to {from}"
-            );
-            findings.add("slit-asymmetric", slit.index, offset, &message);
+            let words = "% from % to %, % from % to %";
+            let numbers = &[distance as u64, from, to, back as u64, to, from];
+            findings.add("slit-asymmetric", slit.index, offset, words, numbers);
             is_other = true;
         }
     }

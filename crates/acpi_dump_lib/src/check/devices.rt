@@ -3,14 +3,15 @@
 
 use super::findings::Findings;
 use super::machine::{Machine, Table};
+use super::numbers::check_numbers;
 use super::pieces::Pieces;
 use super::spans::{Span, overlaps};
 use super::unnamed::check_names;
 use acpi::PhysicalRecord;
-use acpi::bgrt::{Bgrt, ImageType};
+use acpi::bgrt::Bgrt;
 use acpi::mcfg::{McfgEntry, McfgEntryIter};
 use acpi::sdt::{Signature, field};
-use std::alloc::{AllocError, Global};
+use std::alloc::Global;
 
 pub(super) const RULES: &str = "
 mcfg-buses error PCI Firmware Specification 3.3, section 4.1.2 | The first bus of a region is above its last
@@ -32,16 +33,16 @@ dbg2-console note Microsoft Debug Port Table 2 | No serial port has the register
 
 /// Judges them.
 pub(super) fn check_devices(machine: &Machine<'_>, findings: &mut Findings) {
-    if let Some(mcfg) = machine.first(Signature::MCFG)
-        && check_regions(machine.alloc, mcfg, findings).is_err()
-    {
-        findings.refuse();
+    if let Some(mcfg) = machine.first(Signature::MCFG) {
+        check_regions(machine.alloc, mcfg, findings);
     }
     if let Some(hpet) = machine.first(Signature::HPET) {
         check_timer(hpet, findings);
     }
-    if let Some(bgrt) = machine.first(Signature::BGRT) {
-        check_image(bgrt, findings);
+    if let Some(bgrt) = machine.first(Signature::BGRT)
+        && bgrt.bytes.len() >= Bgrt::MIN_LENGTH
+    {
+        check_numbers(bgrt.index, 0, bgrt.bytes, IMAGE, findings);
     }
     let debug = machine.first(Signature::DBG2);
     if let Some(debug) = debug {
@@ -53,68 +54,55 @@ pub(super) fn check_devices(machine: &Machine<'_>, findings: &mut Findings) {
 }
 
 /// Judges the regions of an MCFG.
-///
-/// Fails if memory runs out.
-fn check_regions(
-    alloc: Global,
-    mcfg: Table<'_>,
-    findings: &mut Findings,
-) -> Result<(), AllocError> {
+fn check_regions(alloc: Global, mcfg: Table<'_>, findings: &mut Findings) {
     let mut buses = Vec::new(alloc);
     let mut memory = Vec::new(alloc);
     let mut offset = 44usize;
     for region in McfgEntryIter::over(mcfg.bytes) {
-        let (first, last) = (region.bus_number_start, region.bus_number_end);
+        let (first, last) = (region.bus_number_start as u64, region.bus_number_end as u64);
         if last < first {
-            let message = format_args!("bus {first} is above the last one, {last}");
-            findings.add(
-                "mcfg-buses",
-                mcfg.index,
-                offset.saturating_add(10),
-                &message,
-            );
+            let (at, words) = (offset.saturating_add(10), "bus % is above the last one, %");
+            findings.add("mcfg-buses", mcfg.index, at, words, &[first, last]);
         } else {
             check_base(mcfg, &region, offset, findings);
-            let owner = (region.pci_segment_group as u64) << 16 | (first as u64) << 8 | last as u64;
-            let segment = (region.pci_segment_group as u64) << 8;
-            buses.push(Span {
-                first: segment | first as u64,
-                last: segment | last as u64,
+            let (base, segment) = (region.base_address, region.pci_segment_group as u64);
+            let bus = Span {
+                first: segment << 8 | first,
+                last: segment << 8 | last,
                 offset,
-                owner,
-            })?;
-            memory.push(Span {
-                first: region.base_address.saturating_add((first as u64) << 20),
-                last: region.base_address.saturating_add(last_byte_of(last)),
-                offset,
-                owner,
-            })?;
+                owner: segment << 16 | first << 8 | last,
+            };
+            let bytes = Span {
+                first: base.saturating_add(first << 20),
+                last: base.saturating_add(last_byte_of(last)),
+                ..bus
+            };
+            findings.need(buses.push(bus).is_ok() && memory.push(bytes).is_ok());
         }
         offset = offset.saturating_add(16);
     }
-    for (before, region) in overlaps(alloc, &mut buses)? {
-        let (bus, place) = (region.first & 0xff, before.offset);
-        let message = format_args!("bus {bus} is in the region at 0x{place:x} too");
-        findings.add(
-            "mcfg-shared-bus",
-            mcfg.index,
+    for (before, region) in overlaps(alloc, &mut buses, findings) {
+        let (at, words) = (
             region.offset.saturating_add(10),
-            &message,
+            "bus % is in the region at # too",
         );
+        let numbers = &[region.first & 0xff, before.offset as u64];
+        findings.add("mcfg-shared-bus", mcfg.index, at, words, numbers);
     }
-    for (before, region) in overlaps(alloc, &mut memory)? {
+    for (before, region) in overlaps(alloc, &mut memory, findings) {
         if !shares_bus(before.owner, region.owner) {
-            let (address, place) = (region.first, before.offset);
-            let message = format_args!("0x{address:x} is memory of the region at 0x{place:x} too");
-            findings.add("mcfg-overlap", mcfg.index, region.offset, &message);
+            let words = "# is memory of the region at # too";
+            let numbers = &[region.first, before.offset as u64];
+            findings.add("mcfg-overlap", mcfg.index, region.offset, words, numbers);
         }
     }
-    Ok(())
 }
 
 /// How many bytes after a region's base the last one is of a bus's configuration space.
-fn last_byte_of(bus: u8) -> u64 {
-    (bus as u64 + 1) * 0x100000 - 1
+fn last_byte_of(bus: u64) -> u64 {
+    bus.saturating_add(1)
+        .saturating_mul(0x100000)
+        .saturating_sub(1)
 }
 
 /// Whether two regions are of one segment, and both have a bus: each is its segment, its first bus and its last one.
@@ -126,14 +114,14 @@ fn shares_bus(one: u64, other: u64) -> bool {
 
 /// Judges where the region at an offset of an MCFG lies.
 fn check_base(mcfg: Table<'_>, region: &McfgEntry, offset: usize, findings: &mut Findings) {
-    let (base, last) = (region.base_address, region.bus_number_end);
+    let (base, last) = (region.base_address, region.bus_number_end as u64);
     if base % (1 << 20) != 0 {
-        let message = format_args!("0x{base:x} isn't a multiple of 0x100000");
-        findings.add("mcfg-unaligned", mcfg.index, offset, &message);
+        let words = "# isn't a multiple of 0x100000";
+        findings.add("mcfg-unaligned", mcfg.index, offset, words, &[base]);
     }
     if last_byte_of(last) > u64::MAX - base {
-        let message = format_args!("bus {last} is above 2^64, from 0x{base:x} on");
-        findings.add("mcfg-past-end", mcfg.index, offset, &message);
+        let words = "bus % is above 2^64, from # on";
+        findings.add("mcfg-past-end", mcfg.index, offset, words, &[last, base]);
     }
 }
 
@@ -143,34 +131,26 @@ fn check_timer(hpet: Table<'_>, findings: &mut Findings) {
     // BASE_ADDRESS: Address Space ID, Address.
     let (space, address) = (field(hpet.bytes, 40, 1), field(hpet.bytes, 44, 8));
     if space != 0 {
-        let message = format_args!("has address space {space}, and memory's is 0");
-        findings.add("hpet-space", hpet.index, 40, &message);
+        let words = "has address space %, and memory's is 0";
+        findings.add("hpet-space", hpet.index, 40, words, &[space]);
     } else if address == 0 {
-        findings.add("hpet-zero", hpet.index, 44, &"is 0");
+        findings.add("hpet-zero", hpet.index, 44, "is 0", &[]);
     } else if address % 1024 != 0 {
-        let message = format_args!("0x{address:x} isn't a multiple of 0x400");
-        findings.add("hpet-unaligned", hpet.index, 44, &message);
+        let words = "# isn't a multiple of 0x400";
+        findings.add("hpet-unaligned", hpet.index, 44, words, &[address]);
     }
 }
 
-/// Judges a BGRT.
-fn check_image(table: Table<'_>, findings: &mut Findings) {
-    if table.bytes.len() < Bgrt::MIN_LENGTH {
-        return;
-    }
-    let bgrt = Bgrt::read(table.bytes);
-    if bgrt.version != 1 {
-        let message = format_args!("is {}, and not 1", bgrt.version);
-        findings.add("bgrt-version", table.index, 36, &message);
-    }
-    if bgrt.image_type() != ImageType::Bitmap {
-        let message = format_args!("is {}, and a bitmap's is 0", field(table.bytes, 39, 1));
-        findings.add("bgrt-type", table.index, 39, &message);
-    }
-    if bgrt.image_address == 0 {
-        findings.add("bgrt-zero", table.index, 40, &"is 0");
-    }
-}
+/// What a BGRT has.
+const IMAGE: &str = "\
+Version | bgrt-version 36 2 1 is %, and not 1
+Image Type | bgrt-type 39 1 0 is %, and a bitmap's is 0
+Image Address | bgrt-zero 40 8 1-0xffffffffffffffff is %";
+
+/// What an SPCR with a console has.
+const CONSOLE: &str = "\
+Parity | spcr-code 59 1 0 # is reserved
+Stop Bits | spcr-code 60 1 1 # is reserved";
 
 /// Judges an SPCR, unless it says that there is no console, and beside it the DBG2, if there is one.
 fn check_console(console: Table<'_>, debug: Option<Table<'_>>, findings: &mut Findings) {
@@ -178,22 +158,13 @@ fn check_console(console: Table<'_>, debug: Option<Table<'_>>, findings: &mut Fi
         return;
     };
     check_names("spcr-code", console, findings);
-    // Parity, Stop Bits.
-    for (offset, defined) in [(59, 0), (60, 1)] {
-        let code = field(console.bytes, offset, 1);
-        if code != defined {
-            let message = format_args!("0x{code:x} is reserved");
-            findings.add("spcr-code", console.index, offset, &message);
-        }
-    }
+    check_numbers(console.index, 0, console.bytes, CONSOLE, findings);
     if let Some(debug) = debug
         && has_other_ports(debug.bytes, register)
     {
         let (space, address) = register;
-        let message = format_args!(
-            "no serial port of the DBG2 has 0x{address:x} of address space {space}"
-        );
-        findings.add("dbg2-console", console.index, 40, &message);
+        let words = "no serial port of the DBG2 has # of address space %";
+        findings.add("dbg2-console", console.index, 40, words, &[address, space]);
     }
 }
 

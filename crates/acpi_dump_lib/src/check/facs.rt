@@ -17,10 +17,8 @@ pub(super) fn check_facs(machine: &Machine<'_>, findings: &mut Findings) {
         Some(fadt) => Some(field(fadt.bytes, 8, 1)),
         None => None,
     };
-    for index in 0..machine.entries.len() {
-        if let Some(entry) = machine.entries.get(index)
-            && entry.bytes.starts_with(b"FACS")
-        {
+    for (index, entry) in machine.entries.iter().enumerate() {
+        if entry.bytes.starts_with(b"FACS") {
             check_one(entry, index, revision, findings);
         }
     }
@@ -31,12 +29,11 @@ fn check_one(entry: &Entry<'_>, index: usize, revision: Option<u64>, findings: &
     if let Place::Address(address) = entry.place
         && address % 64 != 0
     {
-        let what = &format_args!("is at 0x{address:x}");
-        findings.add("facs-alignment", index, 0, what);
+        findings.add("facs-alignment", index, 0, "is at #", &[address]);
     }
     let length = field(entry.bytes, 4, 4);
     if length < 64 {
-        return findings.add("facs-length", index, 4, &format_args!("is {length}"));
+        return findings.add("facs-length", index, 4, "is %", &[length]);
     }
     let Some(revision) = revision else {
         return;
@@ -48,9 +45,13 @@ fn check_one(entry: &Entry<'_>, index: usize, revision: Option<u64>, findings: &
     };
     let version = field(entry.bytes, 32, 1);
     if version != wanted {
-        let what = &format_args!(
-            "is {version}, should be {wanted} beside a FADT of revision {revision}"
+        let words = "is %, should be % beside a FADT of revision %";
+        findings.add(
+            "facs-version",
+            index,
+            32,
+            words,
+            &[version, wanted, revision],
         );
-        findings.add("facs-version", index, 32, what);
     }
 }

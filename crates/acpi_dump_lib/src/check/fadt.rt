@@ -2,6 +2,7 @@
 
 use super::findings::Findings;
 use super::machine::{Machine, Table};
+use super::numbers::check_numbers;
 use acpi::sdt::{Signature, field};
 
 pub(super) const RULES: &str = "
@@ -63,39 +64,47 @@ fn check_addresses(table: Table<'_>, findings: &mut Findings) {
     for (rule, narrow, wide) in &both {
         let (short, long) = (field(table.bytes, *narrow, 4), field(table.bytes, *wide, 8));
         if short != 0 && long != 0 && short != long {
-            let what = &format_args!("is 0x{long:x}, and the field of 32 bits 0x{short:x}");
-            findings.add(*rule, table.index, *wide, what);
+            let words = "is #, and the field of 32 bits #";
+            findings.add(*rule, table.index, *wide, words, &[long, short]);
         }
     }
     if field(table.bytes, 40, 4) == 0 && field(table.bytes, 140, 8) == 0 {
-        findings.add("fadt-no-dsdt", table.index, 40, &"is 0, as X_DSDT is");
+        findings.add("fadt-no-dsdt", table.index, 40, "is 0, as X_DSDT is", &[]);
     }
 }
 
 /// Judges what a FADT of any hardware has.
 fn check_general(table: Table<'_>, findings: &mut Findings) {
     let (fadt, index) = (table.bytes, table.index);
-    let profile = field(fadt, 45, 1); // Preferred_PM_Profile
-    if profile > 8 {
-        let what = &format_args!("{profile} is reserved");
-        findings.add("fadt-profile", index, 45, what);
-    }
-    let flags = field(fadt, 112, 4); // Flags
+    check_numbers(
+        index,
+        0,
+        fadt,
+        "Preferred_PM_Profile | fadt-profile 45 1 0-8 % is reserved",
+        findings,
+    );
     let (space, width) = (field(fadt, 116, 1), field(fadt, 117, 1)); // RESET_REG
-    if flags & 1 << 10 != 0 && (space > 2 || width != 8) {
-        let what = &format_args!("has {width} bits of the address space {space}");
-        findings.add("fadt-reset-register", index, 116, what);
+    // RESET_REG_SUP.
+    if field(fadt, 112, 4) & 1 << 10 != 0 && (space > 2 || width != 8) {
+        let words = "has % bits of the address space %";
+        findings.add("fadt-reset-register", index, 116, words, &[width, space]);
     }
-    check_flags(table, 109, field(fadt, 109, 2) & !0x3f, findings); // IAPC_BOOT_ARCH
-    check_flags(table, 112, flags & !0xff_ffff, findings);
-    check_flags(table, 129, field(fadt, 129, 2) & !3, findings); // ARM_BOOT_ARCH
-}
-
-/// Judges those flags of a field that are reserved.
-fn check_flags(table: Table<'_>, offset: usize, reserved: u64, findings: &mut Findings) {
-    if reserved != 0 {
-        let what = &format_args!("has the reserved flags 0x{reserved:x}");
-        findings.add("fadt-reserved-flags", table.index, offset, what);
+    // IAPC_BOOT_ARCH, Flags, ARM_BOOT_ARCH, and their reserved flags.
+    for (offset, length, reserved) in [
+        (109usize, 2usize, 0xffc0),
+        (112, 4, 0xff00_0000),
+        (129, 2, 0xfffc),
+    ] {
+        let flags = field(fadt, offset, length) & reserved;
+        if flags != 0 {
+            findings.add(
+                "fadt-reserved-flags",
+                index,
+                offset,
+                "has the reserved flags #",
+                &[flags],
+            );
+        }
     }
 }
 
@@ -106,48 +115,28 @@ fn check_reduced(table: Table<'_>, findings: &mut Findings) {
         let address = field(table.bytes, narrow, 4);
         if address != 0 || field(table.bytes, wide.saturating_add(4), 8) != 0 {
             let offset = if address != 0 { narrow } else { wide };
-            let what = &"HW_REDUCED_ACPI is set";
-            findings.add("fadt-fixed-blocks", table.index, offset, what);
+            let words = "HW_REDUCED_ACPI is set";
+            findings.add("fadt-fixed-blocks", table.index, offset, words, &[]);
         }
     }
 }
 
+/// What fixed hardware needs.
+const FIXED: &str = "\
+PM1_EVT_LEN | fadt-event-length 88 1 4-255 is %
+PM1_CNT_LEN | fadt-control-length 89 1 2-255 is %
+PM_TMR_LEN | fadt-timer-length 91 1 !0xfb is %
+GPE0_BLK_LEN | fadt-gpe-length 92 1 !1 is %: half are status registers, half enable them
+GPE1_BLK_LEN | fadt-gpe-length 93 1 !1 is %: half are status registers, half enable them
+SCI_INT | fadt-sci-interrupt 46 2 1-0xffff is %, the timer's";
+
 /// Judges what fixed hardware needs.
 fn check_fixed(table: Table<'_>, findings: &mut Findings) {
-    let (fadt, index) = (table.bytes, table.index);
-    let event = field(fadt, 88, 1); // PM1_EVT_LEN
-    if event < 4 {
-        findings.add("fadt-event-length", index, 88, &format_args!("is {event}"));
-    }
-    let control = field(fadt, 89, 1); // PM1_CNT_LEN
-    if control < 2 {
-        let what = &format_args!("is {control}");
-        findings.add("fadt-control-length", index, 89, what);
-    }
-    let timer = field(fadt, 91, 1); // PM_TMR_LEN
-    if timer != 0 && timer != 4 {
-        findings.add("fadt-timer-length", index, 91, &format_args!("is {timer}"));
-    }
-    // GPE0_BLK_LEN and GPE1_BLK_LEN.
-    for offset in [92usize, 93].iter() {
-        let length = field(fadt, *offset, 1);
-        if length % 2 != 0 {
-            let what = &format_args!("is {length}: half are status registers, half enable them");
-            findings.add("fadt-gpe-length", index, *offset, what);
-        }
-    }
-    // SCI_INT.
-    if field(fadt, 46, 2) == 0 {
-        findings.add("fadt-sci-interrupt", index, 46, &"is 0, the timer's");
-    }
+    check_numbers(table.index, 0, table.bytes, FIXED, findings);
     // SMI_CMD, ACPI_ENABLE.
-    if field(fadt, 48, 4) == 0 && field(fadt, 52, 1) != 0 {
-        findings.add(
-            "fadt-smi-command",
-            index,
-            48,
-            &"is 0, but ACPI_ENABLE isn't",
-        );
+    if field(table.bytes, 48, 4) == 0 && field(table.bytes, 52, 1) != 0 {
+        let words = "is 0, but ACPI_ENABLE isn't";
+        findings.add("fadt-smi-command", table.index, 48, words, &[]);
     }
 }
 
@@ -164,11 +153,11 @@ fn check_block(table: Table<'_>, block: Block, findings: &mut Findings) {
     }
     if narrow != 0 && (wide != narrow || space != 1) {
         let what = &format_args!("0x{wide:x} in space {space}, and {name} is port 0x{narrow:x}");
-        findings.add("fadt-block-differs", table.index, place, what);
+        findings.add_value("fadt-block-differs", table.index, place, what);
     }
     // A width has eight bits, so that 32 bytes don't fit it.
     if length < 32 && width != 8 * length {
         let what = &format_args!("{width} bits wide, and {name} has {length} bytes");
-        findings.add("fadt-block-width", table.index, place, what);
+        findings.add_value("fadt-block-width", table.index, place, what);
     }
 }

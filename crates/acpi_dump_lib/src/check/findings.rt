@@ -38,50 +38,86 @@ impl Findings {
         }
     }
 
-    /// Adds what the rule of an id finds at an offset of the table that has this number among the entries.
-    pub(super) fn add<D: Display>(&mut self, id: &str, table: usize, offset: usize, message: &D) {
+    /// Begins what the rule of an id finds at an offset of the table that has this number among the entries.
+    fn begin(&mut self, id: &str, table: usize, offset: usize) -> Found {
         let begin = self.text.length();
         self.text.text(id);
         let start = self.text.length();
-        self.text.value(message);
-        let found = Found {
+        Found {
             table,
             offset,
             id: begin,
             start,
+            end: start,
+        }
+    }
+
+    /// Adds what was begun, whose message has been printed.
+    fn end(&mut self, begun: Found) {
+        let found = Found {
             end: self.text.length(),
+            ..begun
         };
         self.is_refused |= self.list.push(found).is_err();
     }
 
-    /// Adds, for each number of a table that came before, what a rule finds there: that `what` is also elsewhere.
+    /// Adds what the rule of an id finds at an offset of the table that has this number among the entries: words with
+    /// numbers, as `Out::words` prints them.
+    pub(super) fn add(
+        &mut self,
+        id: &str,
+        table: usize,
+        offset: usize,
+        words: &str,
+        numbers: &[u64],
+    ) {
+        let begun = self.begin(id, table, offset);
+        self.text.words(words, numbers);
+        self.end(begun);
+    }
+
+    /// Adds what the rule of an id finds there: what a value is.
+    pub(super) fn add_value<D: Display>(
+        &mut self,
+        id: &str,
+        table: usize,
+        offset: usize,
+        value: &D,
+    ) {
+        let begun = self.begin(id, table, offset);
+        self.text.value(value);
+        self.end(begun);
+    }
+
+    /// Adds, for each number of a table that came before, what a rule finds there: words with the number and where else it
+    /// is.
     pub(super) fn add_repeated(
         &mut self,
         id: &str,
         table: usize,
         numbers: &mut Numbers,
-        what: &str,
+        words: &str,
     ) {
         self.is_refused |= !numbers.sort();
         let mut before = None;
-        for it in numbers.list.iter() {
-            if let Some((number, offset)) = before
-                && number == it.0
+        for (number, offset) in numbers.list.iter() {
+            if let Some((same, other)) = before
+                && same == *number
             {
-                self.add(
-                    id,
-                    table,
-                    it.1,
-                    &format_args!("{what} 0x{number:x} is also at 0x{offset:x}"),
-                );
+                self.add(id, table, *offset, words, &[same, other as u64]);
             }
-            before = Some(*it);
+            before = Some((*number, *offset));
         }
     }
 
     /// Remembers that memory for something was refused.
     pub(super) fn refuse(&mut self) {
         self.is_refused = true;
+    }
+
+    /// Remembers whether memory sufficed for something.
+    pub(super) fn need(&mut self, sufficed: bool) {
+        self.is_refused |= !sufficed;
     }
 
     /// All that was found, in the order of the tables, then by offset, each with its rule and the name of its field.

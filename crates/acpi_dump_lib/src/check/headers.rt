@@ -63,11 +63,9 @@ UEFI 1 54+1";
 
 /// Judges the header of each table, and the fields that it reserves.
 pub(super) fn check_headers(machine: &Machine<'_>, findings: &mut Findings) {
-    for index in 0..machine.entries.len() {
-        if let Some(entry) = machine.entries.get(index) {
-            check_status(entry, index, findings);
-            check_entry(entry, index, findings);
-        }
+    for (index, entry) in machine.entries.iter().enumerate() {
+        check_status(entry, index, findings);
+        check_entry(entry, index, findings);
     }
 }
 
@@ -80,12 +78,12 @@ fn check_status(entry: &Entry<'_>, index: usize, findings: &mut Findings) {
     match entry.status {
         Status::WrongSum { is, should, .. } => {
             let what = &format_args!("is 0x{is:02x}, should be 0x{should:02x}");
-            findings.add("header-sum", index, 9, what);
+            findings.add_value("header-sum", index, 9, what);
         }
         Status::Cut { .. } | Status::Refused(AcpiError::SdtInvalidLength(_)) => {
-            findings.add("header-refused", index, 4, &entry.status);
+            findings.add_value("header-refused", index, 4, &entry.status);
         }
-        Status::Refused(_) => findings.add("header-refused", index, 0, &entry.status),
+        Status::Refused(_) => findings.add_value("header-refused", index, 0, &entry.status),
         _ => {}
     }
 }
@@ -100,8 +98,8 @@ fn check_entry(entry: &Entry<'_>, index: usize, findings: &mut Findings) {
         }
         for (offset, end) in [(10usize, 16usize), (16, 24), (28, 32)].iter() {
             if !is_printable(entry.bytes.get(*offset..*end).unwrap_or(&[])) {
-                let what = &"letters that aren't printable";
-                findings.add("header-letters", index, *offset, what);
+                let words = "letters that aren't printable";
+                findings.add("header-letters", index, *offset, words, &[]);
             }
         }
         if !check_form(entry, index, signature, findings) {
@@ -149,15 +147,20 @@ fn check_form(
             if is_chosen(revision, revisions) {
                 if length >= 36 && !is_length(length, form) {
                     let what = &format_args!("is {length}, and for revision {revision} {form}");
-                    findings.add("header-length", index, 4, what);
+                    findings.add_value("header-length", index, 4, what);
                 }
                 return true;
             }
         }
     }
     if has_form {
-        let what = &format_args!("no revision {revision} is known");
-        findings.add("header-revision", index, 8, what);
+        findings.add(
+            "header-revision",
+            index,
+            8,
+            "no revision % is known",
+            &[revision],
+        );
     }
     !has_form
 }
@@ -201,7 +204,7 @@ impl Show for Reserved<'_> {
         if !is_zero && !(is_one && self.may_be_one(shown.offset)) {
             let offset = shown.offset as usize;
             self.findings
-                .add("header-reserved", self.index, offset, &"isn't 0");
+                .add("header-reserved", self.index, offset, "isn't 0", &[]);
         }
     }
 }

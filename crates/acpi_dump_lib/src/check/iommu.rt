@@ -48,16 +48,11 @@ fn check_structures(dmar: Table<'_>, findings: &mut Findings) {
 fn check_reserved(dmar: Table<'_>, offset: usize, range: Rmrr, findings: &mut Findings) {
     let (base, limit) = (range.base, range.limit);
     if limit < base {
-        let message = format_args!("0x{limit:x} is before the base, 0x{base:x}");
-        findings.add(
-            "rmrr-limit",
-            dmar.index,
-            offset.saturating_add(16),
-            &message,
-        );
+        let (at, words) = (offset.saturating_add(16), "# is before the base, #");
+        findings.add("rmrr-limit", dmar.index, at, words, &[limit, base]);
     } else if base & 0xfff != 0 || limit & 0xfff != 0xfff {
-        let message = format_args!("0x{base:x} to 0x{limit:x} aren't pages of 0x1000");
-        findings.add("rmrr-pages", dmar.index, offset.saturating_add(8), &message);
+        let (at, words) = (offset.saturating_add(8), "# to # aren't pages of 0x1000");
+        findings.add("rmrr-pages", dmar.index, at, words, &[base, limit]);
     }
 }
 
@@ -81,8 +76,9 @@ fn check_unit(
         } else {
             "drhd-last"
         };
-        let message = format_args!("a unit of segment {segment} before it has INCLUDE_PCI_ALL");
-        findings.add(id, dmar.index, offset.saturating_add(4), &message);
+        let words = "a unit of segment % before it has INCLUDE_PCI_ALL";
+        let at = offset.saturating_add(4);
+        findings.add(id, dmar.index, at, words, &[segment as u64]);
     }
 }
 
@@ -97,8 +93,14 @@ fn check_scopes(
     let mut offset = end.saturating_sub(scopes.rest().len());
     while let Some(scope) = scopes.next() {
         if scope.hops().next().is_none() {
-            let message = format_args!("the scope of type {} has no hop", scope.kind());
-            findings.add("scope-path", dmar.index, offset.saturating_add(1), &message);
+            let (at, kind) = (offset.saturating_add(1), scope.kind() as u64);
+            findings.add(
+                "scope-path",
+                dmar.index,
+                at,
+                "the scope of type % has no hop",
+                &[kind],
+            );
         }
         offset = end.saturating_sub(scopes.rest().len());
     }
@@ -120,14 +122,13 @@ fn check_blocks(ivrs: Table<'_>, findings: &mut Findings) {
 fn check_range(ivrs: Table<'_>, offset: usize, rest: &[u8], findings: &mut Findings) {
     let device = field(rest, 1, 2); // DeviceID
     // Type: Start of Range, End of Range, Alias Start of Range, Extended Start of Range.
-    let (id, least, what) = match field(rest, 0, 1) {
-        3 => ("ivhd-range", 4, "no end follows the start"),
-        0x43 | 0x47 => ("ivhd-range", 8, "no end follows the start"),
-        4 => ("ivhd-end", 4, "it ends no range"),
+    let (id, least, words) = match field(rest, 0, 1) {
+        3 => ("ivhd-range", 4, "no end follows the start: device #"),
+        0x43 | 0x47 => ("ivhd-range", 8, "no end follows the start: device #"),
+        4 => ("ivhd-end", 4, "it ends no range: device #"),
         _ => return,
     };
     if rest.len() >= least {
-        let message = format_args!("{what}: device 0x{device:x}");
-        findings.add(id, ivrs.index, offset, &message);
+        findings.add(id, ivrs.index, offset, words, &[device]);
     }
 }

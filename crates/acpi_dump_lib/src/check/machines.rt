@@ -7,7 +7,7 @@ use super::numbers::Numbers;
 use super::pieces::Pieces;
 use super::unnamed::check_names;
 use acpi::sdt::{Signature, field};
-use std::alloc::{AllocError, Global};
+use std::alloc::Global;
 
 pub(super) const RULES: &str = "
 pptt-offset error ACPI 6.5, section 5.2.30 | An offset isn't that of a structure of its type
@@ -23,9 +23,7 @@ tpm2-log error TCG ACPI Specification 1.2 | The log has a length, and is at addr
 pub(super) fn check_machines(machine: &Machine<'_>, findings: &mut Findings) {
     if let Some(pptt) = machine.first(Signature::from_bytes(*b"PPTT")) {
         check_names("pptt-flag", pptt, findings);
-        if check_topology(machine.alloc, pptt, findings).is_err() {
-            findings.refuse();
-        }
+        check_topology(machine.alloc, pptt, findings);
     }
     if let Some(gtdt) = machine.first(Signature::GTDT) {
         check_names("gtdt-flag", gtdt, findings);
@@ -60,23 +58,17 @@ impl Nodes {
 }
 
 /// Judges where the nodes of a PPTT lead.
-///
-/// Fails if memory runs out.
-fn check_topology(
-    alloc: Global,
-    pptt: Table<'_>,
-    findings: &mut Findings,
-) -> Result<(), AllocError> {
+fn check_topology(alloc: Global, pptt: Table<'_>, findings: &mut Findings) {
     let mut nodes = Nodes {
         list: Vec::new(alloc),
         links: Vec::new(alloc),
     };
     for (offset, node) in Pieces::of(pptt.bytes, 36, (1, 1)) {
-        nodes.list.push((offset, field(node, 0, 1)))?; // Type
+        findings.need(nodes.list.push((offset, field(node, 0, 1))).is_ok()); // Type
     }
     for (offset, node) in Pieces::of(pptt.bytes, 36, (1, 1)) {
         let link = check_node(pptt, &nodes, offset, node, findings);
-        nodes.links.push(link)?;
+        findings.need(nodes.links.push(link).is_ok());
     }
     check_cycles(alloc, pptt, &nodes, findings)
 }
@@ -103,14 +95,13 @@ fn check_node(
     match nodes.find(next) {
         Some((number, found)) if found == kind => Some(number),
         _ => {
-            let what = if kind == 0 { "processor" } else { "cache" };
-            let message = format_args!("no {what} begins at 0x{next:x}");
-            findings.add(
-                "pptt-offset",
-                pptt.index,
-                offset.saturating_add(8),
-                &message,
-            );
+            let words = if kind == 0 {
+                "no processor begins at #"
+            } else {
+                "no cache begins at #"
+            };
+            let at = offset.saturating_add(8);
+            findings.add("pptt-offset", pptt.index, at, words, &[next]);
             None
         }
     }
@@ -129,27 +120,27 @@ fn check_resources(
         let place = field(resource, 0, 4);
         let is_there = matches!(nodes.find(place), Some((_, kind)) if kind != 0);
         if number < count && resource.len() == 4 && !is_there {
-            let message = format_args!("no cache begins at 0x{place:x}");
             let at = offset
                 .saturating_add(20)
                 .saturating_add(number.saturating_mul(4));
-            findings.add("pptt-offset", pptt.index, at, &message);
+            findings.add(
+                "pptt-offset",
+                pptt.index,
+                at,
+                "no cache begins at #",
+                &[place],
+            );
         }
     }
 }
 
 /// Judges whether the nodes of a PPTT lead in a circle.
-///
-/// Fails if memory runs out.
-fn check_cycles(
-    alloc: Global,
-    pptt: Table<'_>,
-    nodes: &Nodes,
-    findings: &mut Findings,
-) -> Result<(), AllocError> {
+fn check_cycles(alloc: Global, pptt: Table<'_>, nodes: &Nodes, findings: &mut Findings) {
     let count = nodes.list.len();
     // The walk in which a node came first, counted from 1.
-    let mut walks = vec![in alloc; 0usize; count]?;
+    let Ok(mut walks) = vec![in alloc; 0usize; count] else {
+        return findings.refuse();
+    };
     for start in 0..count {
         let mut at = start;
         for _ in 0..=count {
@@ -157,8 +148,9 @@ fn check_cycles(
             if *walk == start + 1
                 && let Some((offset, _)) = nodes.list.get(at)
             {
-                let message = format_args!("it leads back to the structure at 0x{offset:x}");
-                findings.add("pptt-cycle", pptt.index, offset.saturating_add(8), &message);
+                let words = "it leads back to the structure at #";
+                let at = offset.saturating_add(8);
+                findings.add("pptt-cycle", pptt.index, at, words, &[*offset as u64]);
             }
             if *walk != 0 {
                 break;
@@ -170,7 +162,6 @@ fn check_cycles(
             }
         }
     }
-    Ok(())
 }
 
 /// Judges the shared memory of the channels of a PCCT.
@@ -184,12 +175,8 @@ fn check_channels(pcct: Table<'_>, findings: &mut Findings) {
             _ => continue,
         };
         if length == 0 && channel.len() >= 24 {
-            findings.add(
-                "pcct-length",
-                pcct.index,
-                offset.saturating_add(place),
-                &"is 0",
-            );
+            let at = offset.saturating_add(place);
+            findings.add("pcct-length", pcct.index, at, "is 0", &[]);
         }
     }
 }
@@ -199,7 +186,7 @@ fn check_log(tpm2: Table<'_>, findings: &mut Findings) {
     // Log Area Minimum Length, Log Area Start Address.
     let (length, start) = (field(tpm2.bytes, 64, 4), field(tpm2.bytes, 68, 8));
     if tpm2.bytes.len() >= 76 && length != 0 && start == 0 {
-        let message = format_args!("is 0, and the log has 0x{length:x} bytes");
-        findings.add("tpm2-log", tpm2.index, 68, &message);
+        let words = "is 0, and the log has # bytes";
+        findings.add("tpm2-log", tpm2.index, 68, words, &[length]);
     }
 }

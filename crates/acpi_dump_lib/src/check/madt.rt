@@ -2,7 +2,7 @@
 
 use super::findings::Findings;
 use super::machine::{Machine, Table};
-use super::numbers::Numbers;
+use super::numbers::{Numbers, check_numbers};
 use acpi::madt::MADT_GRAMMAR;
 use acpi::sdt::{Signature, field};
 use acpi_base::entries::split_front;
@@ -116,12 +116,8 @@ pub(super) fn check_madt(machine: &Machine<'_>, findings: &mut Findings) {
     }
     if !entries.is_empty() {
         let offset = table.bytes.len().saturating_sub(entries.len());
-        findings.add(
-            "madt-malformed",
-            table.index,
-            offset,
-            &"no entry begins here",
-        );
+        let words = "no entry begins here";
+        findings.add("madt-malformed", table.index, offset, words, &[]);
     }
     check_repeated(table.index, &mut lists, findings);
     check_controllers(table.index, &lists, findings);
@@ -175,37 +171,35 @@ fn add_processor(lists: &mut Lists, entry: Entry<'_>, form: Form) {
     }
 }
 
+/// What an override has.
+const OVERRIDE: &str = "\
+Bus | madt-override-bus 2 1 0 is %, and for ISA 0
+Source | madt-override-source 3 1 0-15 % is no interrupt of ISA";
+
 /// Judges an entry by itself.
 fn check_entry(table: usize, entry: Entry<'_>, findings: &mut Findings) {
     let kind = entry.kind();
     if (0x1c..0x80).contains(&kind) {
-        let what = &format_args!("0x{kind:x} is reserved");
-        findings.add("madt-reserved-type", table, entry.offset, what);
+        findings.add(
+            "madt-reserved-type",
+            table,
+            entry.offset,
+            "# is reserved",
+            &[kind],
+        );
     }
     let id = entry.number(LOCAL_X2APIC.id);
     if kind == 9 && id < 255 && entry.number((LOCAL_X2APIC.flags, 4)) & 1 != 0 {
-        let what = &format_args!("{id} is one that a Processor Local APIC can have");
-        findings.add("madt-x2apic-below-255", table, entry.at(4), what);
+        let words = "% is one that a Processor Local APIC can have";
+        findings.add("madt-x2apic-below-255", table, entry.at(4), words, &[id]);
     }
-    let (bus, source) = (entry.number((2, 1)), entry.number((3, 1)));
-    if kind == 2 && bus != 0 {
-        let what = &format_args!("is {bus}, and for ISA 0");
-        findings.add("madt-override-bus", table, entry.at(2), what);
-    }
-    if kind == 2 && source > 15 {
-        let what = &format_args!("{source} is no interrupt of ISA");
-        findings.add("madt-override-source", table, entry.at(3), what);
-    }
-    // Local APIC LINT#, Local x2APIC LINT#.
-    let pin = match kind {
-        4 => 5,
-        0xa => 8,
-        _ => 0usize,
+    let lines = match kind {
+        2 => OVERRIDE,
+        4 => "Local APIC LINT# | madt-lint 5 1 0-1 LINT% isn't there",
+        0xa => "Local x2APIC LINT# | madt-lint 8 1 0-1 LINT% isn't there",
+        _ => "",
     };
-    if pin != 0 && entry.number((pin, 1)) > 1 {
-        let what = &format_args!("LINT{} isn't there", entry.number((pin, 1)));
-        findings.add("madt-lint", table, entry.at(pin), what);
-    }
+    check_numbers(table, entry.offset, entry.bytes, lines, findings);
     check_signal(table, entry, findings);
 }
 
@@ -218,31 +212,32 @@ fn check_signal(table: usize, entry: Entry<'_>, findings: &mut Findings) {
         _ => return,
     };
     let flags = entry.number((offset, 2));
-    if flags & 3 == 2 {
-        let what = &"polarity 2 is reserved";
-        findings.add("madt-inti-flags", table, entry.at(offset), what);
+    let words = if flags & 3 == 2 {
+        "polarity 2 is reserved"
     } else if flags >> 2 & 3 == 2 {
-        let what = &"trigger mode 2 is reserved";
-        findings.add("madt-inti-flags", table, entry.at(offset), what);
-    }
+        "trigger mode 2 is reserved"
+    } else {
+        return;
+    };
+    findings.add("madt-inti-flags", table, entry.at(offset), words, &[]);
 }
 
 /// Finds numbers that come twice. All lists are sorted then.
 fn check_repeated(table: usize, lists: &mut Lists, findings: &mut Findings) {
-    findings.add_repeated(
-        "madt-duplicate-apic-id",
-        table,
-        &mut lists.apic_ids,
-        "APIC ID",
-    );
-    findings.add_repeated("madt-duplicate-uid", table, &mut lists.uids, "UID");
-    findings.add_repeated("madt-duplicate-mpidr", table, &mut lists.mpidrs, "MPIDR");
-    let ids = &mut lists.io_apic_ids;
-    findings.add_repeated("madt-duplicate-io-apic", table, ids, "id");
-    findings.add_repeated("madt-duplicate-gsi-base", table, &mut lists.bases, "base");
-    findings.add_repeated("madt-override-twice", table, &mut lists.sources, "source");
-    let distributors = &mut lists.distributors;
-    findings.add_repeated("madt-second-gicd", table, distributors, "distributor");
+    let (ids, words) = (&mut lists.apic_ids, "APIC ID # is also at #");
+    findings.add_repeated("madt-duplicate-apic-id", table, ids, words);
+    let (ids, words) = (&mut lists.uids, "UID # is also at #");
+    findings.add_repeated("madt-duplicate-uid", table, ids, words);
+    let (ids, words) = (&mut lists.mpidrs, "MPIDR # is also at #");
+    findings.add_repeated("madt-duplicate-mpidr", table, ids, words);
+    let (ids, words) = (&mut lists.io_apic_ids, "id # is also at #");
+    findings.add_repeated("madt-duplicate-io-apic", table, ids, words);
+    let (bases, words) = (&mut lists.bases, "base # is also at #");
+    findings.add_repeated("madt-duplicate-gsi-base", table, bases, words);
+    let (sources, words) = (&mut lists.sources, "source # is also at #");
+    findings.add_repeated("madt-override-twice", table, sources, words);
+    let (places, words) = (&mut lists.distributors, "distributor # is also at #");
+    findings.add_repeated("madt-second-gicd", table, places, words);
     if !lists.known.sort() {
         findings.refuse();
     }
@@ -253,11 +248,12 @@ fn check_controllers(table: usize, lists: &Lists, findings: &mut Findings) {
     let bases = lists.bases.list.as_slice();
     match (lists.apic_ids.list.first(), bases) {
         (Some((_, offset)), []) => {
-            findings.add("madt-no-io-apic", table, *offset, &"no I/O APIC serves it");
+            let words = "no I/O APIC serves it";
+            findings.add("madt-no-io-apic", table, *offset, words, &[]);
         }
         (_, [(base, offset), ..]) if *base != 0 => {
-            let what = &format_args!("{base} is the lowest one");
-            findings.add("madt-gsi-0-nowhere", table, *offset, what);
+            let words = "% is the lowest one";
+            findings.add("madt-gsi-0-nowhere", table, *offset, words, &[*base]);
         }
         _ => {}
     }
@@ -265,7 +261,13 @@ fn check_controllers(table: usize, lists: &Lists, findings: &mut Findings) {
         lists.mpidrs.list.first(),
         lists.distributors.list.as_slice(),
     ) {
-        findings.add("madt-no-gicd", table, *offset, &"no distributor serves it");
+        findings.add(
+            "madt-no-gicd",
+            table,
+            *offset,
+            "no distributor serves it",
+            &[],
+        );
     }
 }
 
@@ -286,12 +288,18 @@ fn check_references(table: Table<'_>, rest: &[u8], lists: &mut Lists, findings: 
         let number = entry.number(place);
         if entry.kind() == 2 {
             if !lists.bases.list.is_empty() && !reaches(&lists.bases, number) {
-                let what = &format_args!("no I/O APIC has interrupt {number}");
-                findings.add("madt-override-nowhere", table.index, entry.at(4), what);
+                let words = "no I/O APIC has interrupt %";
+                findings.add(
+                    "madt-override-nowhere",
+                    table.index,
+                    entry.at(4),
+                    words,
+                    &[number],
+                );
             }
         } else if number != all && lists.known.find(number).is_none() {
-            let what = &format_args!("no processor has UID {number}");
-            findings.add("madt-nmi-uid", table.index, entry.at(place.0), what);
+            let (at, words) = (entry.at(place.0), "no processor has UID %");
+            findings.add("madt-nmi-uid", table.index, at, words, &[number]);
         }
     }
 }

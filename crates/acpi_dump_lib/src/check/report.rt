@@ -36,24 +36,22 @@ pub(crate) fn print_findings(
         }
     }
     let [notes, warnings, errors] = counts_of(findings, least);
-    writeln!(out, "errors {errors}, warnings {warnings}, notes {notes}");
+    let counts = [errors as u64, warnings as u64, notes as u64];
+    out.words("errors %, warnings %, notes %\n", &counts);
 }
 
 /// Prints the line of a finding.
 fn print_finding(findings: &Judgement, finding: &Finding, entry: &Entry<'_>, out: &mut Out) {
-    write!(
-        out,
-        "{} {}: ",
-        finding.rule.severity.word(),
-        finding.rule.id
-    );
+    let rule = finding.rule;
+    out.fill("$ $: ", &[rule.severity.word(), rule.id]);
     print_name(entry, out);
     write!(out, " 0x{:04x}", finding.offset);
     if !finding.field.is_empty() {
-        write!(out, " {}", finding.field);
+        out.fill(" $", &[finding.field]);
     }
-    let (message, section) = (findings.message(finding), finding.rule.section);
-    writeln!(out, ": {message} ({section})");
+    out.text(": ");
+    out.text(findings.message(finding));
+    out.fill(" ($)\n", &[rule.section]);
 }
 
 /// Adds the findings of a severity or a higher one.
@@ -103,12 +101,8 @@ fn add_finding(
 /// Fails if memory runs out.
 pub(crate) fn print_rules(alloc: Global, out: &mut Out) -> Result<(), AllocError> {
     for rule in rules(alloc)?.iter() {
-        let severity = rule.severity.word();
-        writeln!(
-            out,
-            "{} {severity}: {} ({})",
-            rule.id, rule.what, rule.section
-        );
+        let texts = [rule.id, rule.severity.word(), rule.what, rule.section];
+        out.fill("$ $: $ ($)\n", &texts);
     }
     Ok(())
 }

@@ -56,10 +56,15 @@ fn pointers_in(alloc: Global, table: &[u8], width: usize) -> Numbers {
 
 /// Judges the pointers of the root table.
 fn check_pointers(table: usize, pointers: &mut Numbers, findings: &mut Findings) {
-    findings.add_repeated("root-listed-twice", table, pointers, "the address");
+    findings.add_repeated(
+        "root-listed-twice",
+        table,
+        pointers,
+        "the address # is also at #",
+    );
     for (address, offset) in pointers.list.iter() {
         if *address == 0 {
-            findings.add("root-null-pointer", table, *offset, &"no table is at 0");
+            findings.add("root-null-pointer", table, *offset, "no table is at 0", &[]);
         }
     }
 }
@@ -71,14 +76,14 @@ fn compare_lists(xsdt: usize, wide: &mut Numbers, narrow: &mut Numbers, findings
     }
     for (address, offset) in wide.list.iter() {
         if *address != 0 && *address < 1 << 32 && narrow.find(*address).is_none() {
-            let what = &format_args!("the RSDT doesn't list 0x{address:x}");
-            findings.add("root-lists-differ", xsdt, *offset, what);
+            let words = "the RSDT doesn't list #";
+            findings.add("root-lists-differ", xsdt, *offset, words, &[*address]);
         }
     }
     for (address, _) in narrow.list.iter() {
         if *address != 0 && wide.find(*address).is_none() {
-            let what = &format_args!("the RSDT lists 0x{address:x} as well");
-            findings.add("root-lists-differ", xsdt, 4, what);
+            let words = "the RSDT lists # as well";
+            findings.add("root-lists-differ", xsdt, 4, words, &[*address]);
         }
     }
 }
@@ -90,13 +95,17 @@ fn check_revision(machine: &Machine<'_>, rsdt: usize, findings: &mut Findings) {
         None => 0,
     };
     let rsdp = field(machine.rsdp, 15, 1);
-    if rsdp >= 2 {
-        let what = &format_args!("the RSDP has revision {rsdp}, and so an XSDT");
-        findings.add("root-rsdt-in-use", rsdt, 0, what);
+    let (words, revision) = if rsdp >= 2 {
+        ("the RSDP has revision %, and so an XSDT", rsdp)
     } else if fadt >= 3 {
-        let what = &format_args!("the FADT has revision {fadt}, as machines with an XSDT have it");
-        findings.add("root-rsdt-in-use", rsdt, 0, what);
-    }
+        (
+            "the FADT has revision %, as machines with an XSDT have it",
+            fadt,
+        )
+    } else {
+        return;
+    };
+    findings.add("root-rsdt-in-use", rsdt, 0, words, &[revision]);
 }
 
 /// Whether two tables are at one place.
@@ -110,10 +119,8 @@ fn is_same_place(one: &Entry<'_>, other: &Entry<'_>) -> bool {
 /// Finds second tables of which a machine has one.
 fn check_second(machine: &Machine<'_>, findings: &mut Findings) {
     let mut signatures = Numbers::new(machine.alloc);
-    for index in 0..machine.entries.len() {
-        if let Some(entry) = machine.entries.get(index)
-            && !entry.bytes.is_empty()
-        {
+    for (index, entry) in machine.entries.iter().enumerate() {
+        if !entry.bytes.is_empty() {
             signatures.push(field(entry.bytes, 0, 4), index);
         }
     }
@@ -131,7 +138,13 @@ fn check_second(machine: &Machine<'_>, findings: &mut Findings) {
             && !is_same_place(one, other)
             && SINGLE.contains(own_signature(other.bytes).as_str().unwrap_or("-"))
         {
-            findings.add("root-second-table", *index, 0, &"a machine has one of them");
+            findings.add(
+                "root-second-table",
+                *index,
+                0,
+                "a machine has one of them",
+                &[],
+            );
         }
         before = Some((*letters, *index));
     }
@@ -140,15 +153,14 @@ fn check_second(machine: &Machine<'_>, findings: &mut Findings) {
 /// Finds tables that have no bytes, and those that share some, of which it takes the one of a higher address.
 fn check_overlap(machine: &Machine<'_>, findings: &mut Findings) {
     let mut starts = Numbers::new(machine.alloc);
-    for index in 0..machine.entries.len() {
-        if let Some(entry) = machine.entries.get(index)
-            && let Place::Address(address) = entry.place
+    for (index, entry) in machine.entries.iter().enumerate() {
+        if let Place::Address(address) = entry.place
             && address != 0
         {
             if !entry.bytes.is_empty() {
                 starts.push(address, index);
             } else if !matches!(entry.status, Status::NotHere) {
-                findings.add("root-nothing-there", index, 0, &entry.status);
+                findings.add_value("root-nothing-there", index, 0, &entry.status);
             }
         }
     }
@@ -158,8 +170,8 @@ fn check_overlap(machine: &Machine<'_>, findings: &mut Findings) {
     let (mut start, mut end) = (0u64, 0u64);
     for (address, index) in starts.list.iter() {
         if *address < end && *address != start {
-            let what = &format_args!("shares bytes with the table at 0x{start:x}");
-            findings.add("root-overlap", *index, 0, what);
+            let words = "shares bytes with the table at #";
+            findings.add("root-overlap", *index, 0, words, &[start]);
         }
         let length = match machine.entries.get(*index) {
             Some(entry) => entry.bytes.len() as u64,

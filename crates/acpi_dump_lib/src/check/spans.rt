@@ -1,6 +1,7 @@
 //! Ranges of numbers, such as addresses, that should not overlap.
 
-use std::alloc::{AllocError, Global};
+use super::findings::Findings;
+use std::alloc::Global;
 
 /// A range of numbers, from its first to its last.
 #[derive(Clone, Copy)]
@@ -14,19 +15,18 @@ pub(super) struct Span {
 }
 
 /// The spans that begin within one that begins before them or with them, each after that one.
-///
-/// Fails if memory runs out.
 pub(super) fn overlaps(
     alloc: Global,
     spans: &mut Vec<Span>,
-) -> Result<Vec<(Span, Span)>, AllocError> {
-    spans.sort_by_key(|it| (it.first, it.offset))?;
+    findings: &mut Findings,
+) -> Vec<(Span, Span)> {
+    findings.need(spans.sort_by_key(|it| (it.first, it.offset)).is_ok());
     let mut found = Vec::new(alloc);
     let mut furthest: Option<Span> = None;
     for span in spans.iter() {
         if let Some(before) = furthest {
             if span.first <= before.last {
-                found.push((before, *span))?;
+                findings.need(found.push((before, *span)).is_ok());
             }
             if span.last <= before.last {
                 continue;
@@ -34,5 +34,5 @@ pub(super) fn overlaps(
         }
         furthest = Some(*span);
     }
-    Ok(found)
+    found
 }

@@ -27,9 +27,9 @@ struct Names<'f> {
 impl Show for Names<'_> {
     fn field(&mut self, shown: &Field<'_>) {
         if let Some(unnamed) = unnamed_in(shown) {
-            let message = format_args!("0x{unnamed:x} is reserved");
+            let offset = shown.offset as usize;
             self.findings
-                .add(self.id, self.index, shown.offset as usize, &message);
+                .add(self.id, self.index, offset, "# is reserved", &[unnamed]);
         }
     }
 }

@@ -6,7 +6,7 @@ use crate::compare::{Difference, ShowDifferences};
 use crate::contents::chooses;
 use crate::entries::{Entry, Place};
 use crate::out::Out;
-use crate::walk::walk_table;
+use crate::walk::walk_with_objects;
 use acpi::PhysicalRecord;
 use acpi::sdt::SdtHeader;
 use json::Token;
@@ -98,7 +98,7 @@ fn add_fields(document: &mut Document, entry: &Entry<'_>, part: Part<'_>) {
         Part::Whole(Contents::Fields) => {
             document.begin_list("fields");
             if let Some(signature) = entry.signature() {
-                walk_table(signature, entry.bytes, document);
+                walk_with_objects(document.alloc, signature, entry.bytes, document);
             }
             document.token(Token::EndArray);
         }

@@ -7,30 +7,23 @@ use std::alloc::Global;
 /// Adds the parts of a GIC, the processors first.
 pub(super) fn add_gic(facts: &mut Facts, gic: &GicModel<Global>) {
     let all = gic.cpu_interfaces.as_slice();
-    writeln!(facts, "processors\t{}", all.len());
+    facts.words("processors\t%\n", &[all.len() as u64]);
     for processor in all {
         add_processor(facts, processor);
     }
     let distributor = gic.distributor;
-    write!(
-        facts,
-        "interrupts\tGIC distributor at 0x{:x}",
-        distributor.address
-    );
-    match distributor.version {
-        0 => facts.text("\n"),
-        version => writeln!(facts, ", version {version}"),
-    }
+    let words = if distributor.version == 0 {
+        "interrupts\tGIC distributor at #\n"
+    } else {
+        "interrupts\tGIC distributor at #, version %\n"
+    };
+    facts.words(words, &[distributor.address, distributor.version as u64]);
     for range in gic.redistributors.as_slice() {
-        let (address, length) = (range.address, range.length);
-        writeln!(
-            facts,
-            "redistributors\tat 0x{address:x}, 0x{length:x} bytes"
-        );
+        let numbers = [range.address, range.length as u64];
+        facts.words("redistributors\tat #, # bytes\n", &numbers);
     }
     for service in gic.translation_services.as_slice() {
-        let (id, address) = (service.id, service.address);
-        writeln!(facts, "ITS {id}\tat 0x{address:x}");
+        facts.words("ITS %\tat #\n", &[service.id as u64, service.address]);
     }
     for frame in gic.msi_frames.as_slice() {
         add_frame(facts, frame);
@@ -41,21 +34,22 @@ pub(super) fn add_gic(facts: &mut Facts, gic: &GicModel<Global>) {
 fn add_processor(facts: &mut Facts, processor: &GicCpuInterface) {
     let (uid, mpidr) = (processor.processor_uid, processor.mpidr);
     let state = if processor.is_enabled {
-        "enabled"
+        "enabled\n"
     } else if processor.is_online_capable {
-        "can be enabled"
+        "can be enabled\n"
     } else {
-        "disabled"
+        "disabled\n"
     };
-    writeln!(facts, "processor {uid}\tMPIDR 0x{mpidr:x}, {state}");
+    facts.words("processor %\tMPIDR #, ", &[uid as u64, mpidr]);
+    facts.text(state);
 }
 
 /// Adds a frame that turns messages into interrupts.
 fn add_frame(facts: &mut Facts, frame: &GicMsiFrame) {
-    let (id, address) = (frame.id, frame.address);
-    write!(facts, "MSI frame {id}\tat 0x{address:x}");
-    match frame.spis {
-        Some(spis) => writeln!(facts, ", {} interrupts from {} on", spis.count, spis.base),
-        None => facts.text("\n"),
+    facts.words("MSI frame %\tat #", &[frame.id as u64, frame.address]);
+    if let Some(spis) = frame.spis {
+        let numbers = [spis.count as u64, spis.base as u64];
+        facts.words(", % interrupts from % on", &numbers);
     }
+    facts.text("\n");
 }
