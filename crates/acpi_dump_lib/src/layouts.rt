@@ -13,7 +13,7 @@ mod processors;
 mod roots;
 mod trust;
 
-use crate::language::Blocks;
+use crate::language::{Block, Blocks};
 use acpi::sdt::Signature;
 pub(crate) use roots::HEADER;
 
@@ -38,33 +38,33 @@ const TEXTS: [&str; 17] = [
     management::MANAGEMENT,
 ];
 
+/// What tables without a layout are called.
+const TITLES: [(&str, &str); 4] = [
+    ("DSDT", "Differentiated System Description Table"),
+    ("SSDT", "Secondary System Description Table"),
+    ("PSDT", "Persistent System Description Table"),
+    ("RSD ", "Root System Description Pointer"),
+];
+
 /// What a table with this signature is called, or no letters if nothing says it.
 pub(crate) fn title_of(signature: Signature) -> &'static str {
-    let name = signature.as_str().unwrap_or("");
-    match name {
-        "DSDT" => return "Differentiated System Description Table",
-        "SSDT" => return "Secondary System Description Table",
-        "PSDT" => return "Persistent System Description Table",
-        "RSD " => return "Root System Description Pointer",
-        _ => {}
-    }
-    for text in &TEXTS {
-        if let Some(block) = Blocks::read(*text).find(name, None) {
-            return block.title;
+    for (name, title) in &TITLES {
+        if signature.as_str() == Some(*name) {
+            return *title;
         }
     }
-    ""
+    layout_of(signature).1.title
 }
 
-/// The blocks among which the layout of a table with this signature is, and its lines after the header: none if no text
-/// has it. A FACS has no header: these are then all of its lines.
-pub(crate) fn layout_of(signature: Signature) -> (Blocks, &'static str) {
+/// The blocks among which the layout of a table with this signature is, and the one that it is, with its lines after the
+/// header: none if no text has it. A FACS has no header: these are then all of its lines.
+pub(crate) fn layout_of(signature: Signature) -> (Blocks, Block) {
     let name = signature.as_str().unwrap_or("");
     for text in &TEXTS {
         let blocks = Blocks::read(*text);
         if let Some(block) = blocks.find(name, None) {
-            return (blocks, block.lines);
+            return (blocks, block);
         }
     }
-    (Blocks::read(""), "")
+    (Blocks::read(""), Block::NONE)
 }

@@ -86,7 +86,7 @@ pub(crate) fn walk_with_objects<S: ShowObjects>(
 
 /// Shows a table by its layout.
 pub(crate) fn walk_table<S: Show>(signature: Signature, table: &[u8], show: &mut S) {
-    let (blocks, lines) = &layout_of(signature);
+    let (blocks, block) = &layout_of(signature);
     let piece = Piece {
         base: 0,
         bytes: table,
@@ -97,7 +97,7 @@ pub(crate) fn walk_table<S: Show>(signature: Signature, table: &[u8], show: &mut
     } else {
         HEADER
     };
-    walk_structure(piece, head, *lines, DEEPEST, show)
+    walk_structure(piece, head, block.lines, DEEPEST, show)
 }
 
 /// Shows the parts of a structure, and all other bytes of it as they are.

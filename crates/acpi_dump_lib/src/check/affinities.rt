@@ -175,7 +175,7 @@ fn check_processors(
         }
     }
     if !(listed.sort() && without.sort() && is_sorted) {
-        return findings.refuse();
+        return findings.need(false);
     }
     for (processor, offset) in without.list.iter() {
         let words = if *processor < BY_UID {
@@ -219,7 +219,7 @@ fn check_localities(
 ) {
     let count = Distances::over(slit.bytes).localities();
     if !domains.sort() {
-        return findings.refuse();
+        return findings.need(false);
     }
     let mut before = None;
     for (domain, offset) in domains.list.iter() {

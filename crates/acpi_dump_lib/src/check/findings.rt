@@ -110,11 +110,6 @@ impl Findings {
         }
     }
 
-    /// Remembers that memory for something was refused.
-    pub(super) fn refuse(&mut self) {
-        self.is_refused = true;
-    }
-
     /// Remembers whether memory sufficed for something.
     pub(super) fn need(&mut self, sufficed: bool) {
         self.is_refused |= !sufficed;

@@ -139,7 +139,7 @@ fn check_cycles(alloc: Global, pptt: Table<'_>, nodes: &Nodes, findings: &mut Fi
     let count = nodes.list.len();
     // The walk in which a node came first, counted from 1.
     let Ok(mut walks) = vec![in alloc; 0usize; count] else {
-        return findings.refuse();
+        return findings.need(false);
     };
     for start in 0..count {
         let mut at = start;

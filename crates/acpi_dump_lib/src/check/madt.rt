@@ -238,9 +238,7 @@ fn check_repeated(table: usize, lists: &mut Lists, findings: &mut Findings) {
     findings.add_repeated("madt-override-twice", table, sources, words);
     let (places, words) = (&mut lists.distributors, "distributor # is also at #");
     findings.add_repeated("madt-second-gicd", table, places, words);
-    if !lists.known.sort() {
-        findings.refuse();
-    }
+    findings.need(lists.known.sort());
 }
 
 /// Judges which interrupt controllers there are.

@@ -72,7 +72,7 @@ fn check_pointers(table: usize, pointers: &mut Numbers, findings: &mut Findings)
 /// Compares the pointers of an XSDT with those of the RSDT that is beside it.
 fn compare_lists(xsdt: usize, wide: &mut Numbers, narrow: &mut Numbers, findings: &mut Findings) {
     if !wide.sort() || !narrow.sort() {
-        return findings.refuse();
+        return findings.need(false);
     }
     for (address, offset) in wide.list.iter() {
         if *address != 0 && *address < 1 << 32 && narrow.find(*address).is_none() {
@@ -125,7 +125,7 @@ fn check_second(machine: &Machine<'_>, findings: &mut Findings) {
         }
     }
     if !signatures.sort() {
-        return findings.refuse();
+        return findings.need(false);
     }
     let mut before = None;
     for (letters, index) in signatures.list.iter() {
@@ -165,7 +165,7 @@ fn check_overlap(machine: &Machine<'_>, findings: &mut Findings) {
         }
     }
     if !starts.sort() {
-        return findings.refuse();
+        return findings.need(false);
     }
     let (mut start, mut end) = (0u64, 0u64);
     for (address, index) in starts.list.iter() {

@@ -94,10 +94,10 @@ impl Pairs {
 pub(super) fn pairs_of(alloc: Global, old: Side<'_>, new: Side<'_>) -> Result<Pairs, AllocError> {
     let mut pairs = Pairs {
         others: vec![in alloc; 0usize]?,
-        are_taken: Vec::new(alloc),
+        are_taken: vec![in alloc; false; new.len()]?,
     };
-    for place in 0..new.len() {
-        pairs.are_taken.push(place == 0)?;
+    if let Some(is_taken) = pairs.are_taken.first_mut() {
+        *is_taken = true;
     }
     let mut next = 1usize;
     for part in old.parts.get(1..).unwrap_or(&[]) {

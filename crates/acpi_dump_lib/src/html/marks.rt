@@ -51,11 +51,17 @@ pub(super) struct Marks {
 
 /// No marks of a table, of which each run of bytes that no field covers has one row.
 fn unmarked(alloc: Global, side: Side<'_>) -> Result<Marks, AllocError> {
-    let mut marks = Marks {
-        fields: Vec::new(alloc),
-        folds: Vec::new(alloc),
-        gone: Vec::new(alloc),
+    let field = Mark {
+        row: 0,
+        findings: (0, 0),
+        change: Change::Same,
     };
+    let fold = Fold {
+        has_findings: false,
+        has_changes: false,
+        is_added: false,
+    };
+    let mut fields = vec![in alloc; field; side.items.len()]?;
     let mut row = 0usize;
     let mut before: Option<Item> = None;
     for (place, item) in side.items.iter().enumerate() {
@@ -64,20 +70,15 @@ fn unmarked(alloc: Global, side: Side<'_>) -> Result<Marks, AllocError> {
             _ => row = place,
         }
         before = Some(*item);
-        marks.fields.push(Mark {
-            row,
-            findings: (0, 0),
-            change: Change::Same,
-        })?;
+        if let Some(mark) = fields.get_mut(place) {
+            mark.row = row;
+        }
     }
-    for _ in side.parts {
-        marks.folds.push(Fold {
-            has_findings: false,
-            has_changes: false,
-            is_added: false,
-        })?;
-    }
-    Ok(marks)
+    Ok(Marks {
+        fields,
+        folds: vec![in alloc; fold; side.parts.len()]?,
+        gone: Vec::new(alloc),
+    })
 }
 
 impl Marks {

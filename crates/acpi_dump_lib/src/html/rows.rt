@@ -93,11 +93,9 @@ impl Rows<'_, '_> {
         let sheet = self.sheet;
         let marks = sheet.classes(0, HEADER);
         self.is_in_header = true;
-        self.out.text("<details class=\"s hd");
-        self.out.text(marks);
-        self.out.text("\"");
         let is_open = marks.starts_with(" hit") || sheet.entry.status.is_invalid();
-        self.out.text(if is_open { " open" } else { "" });
+        let words = [marks, if is_open { " open" } else { "" }];
+        self.out.fill("<details class=\"s hd$\"$", &words);
         self.out.text("><summary data-o=\"0\" data-n=\"24\"><span>0000</span> Header <small>");
         if let Some(header) = &header_of(&sheet.entry) {
             print_escaped(&header.oem_id, self.out);
@@ -131,17 +129,15 @@ impl Rows<'_, '_> {
         }
         let is_short = self.sheet.entry.bytes.len() <= SHORT && self.group == 0;
         let is_compared = matches!(self.sheet.standing, Standing::Beside(_, _));
-        self.out.text("<details class=\"s");
-        if fold.is_added {
-            self.out.text(" new");
-        } else if fold.has_changes {
-            self.out.text(" chg");
-        }
-        self.out
-            .text(if fold.has_findings { " hit\"" } else { "\"" });
-        if fold.has_findings || fold.has_changes && !fold.is_added || is_short && !is_compared {
-            self.out.text(" open");
-        }
+        let is_changed = fold.has_changes && !fold.is_added;
+        let is_open = fold.has_findings || is_changed || is_short && !is_compared;
+        let words = [
+            if fold.is_added { " new" } else { "" },
+            if is_changed { " chg" } else { "" },
+            if fold.has_findings { " hit" } else { "" },
+            if is_open { " open" } else { "" },
+        ];
+        self.out.fill("<details class=\"s$$$\"$", &words);
         write!(
             self.out,
             "><summary data-o=\"{:x}\" data-n=\"{:x}\"><span>{:04x}</span> ",
@@ -177,15 +173,15 @@ impl Rows<'_, '_> {
             return;
         }
         self.group = last;
-        self.out.text("<details class=\"g");
-        self.out.text(if has_changes { " chg\"" } else { "\"" });
-        self.out.text("><summary>");
+        self.out.text(if has_changes {
+            "<details class=\"g chg\"><summary>"
+        } else {
+            "<details class=\"g\"><summary>"
+        });
         print_escaped(part.name.as_bytes(), self.out);
-        let (first, last) = (part.offset, end.saturating_sub(1));
-        writeln!(
-            self.out,
-            " <b>×{count}</b> <small>0x{first:x} to 0x{last:x}</small></summary>"
-        );
+        let numbers = [count as u64, part.offset, end.saturating_sub(1)];
+        self.out
+            .words(" <b>×%</b> <small># to #</small></summary>\n", &numbers);
     }
 
     /// Ends the folds of structures up to that of one that they are in.
@@ -246,10 +242,8 @@ impl Rows<'_, '_> {
                 _ => break,
             }
         }
-        writeln!(
-            self.out,
-            "<th scope=\"row\">not decoded<td><td>{length} bytes"
-        );
+        let words = "<th scope=\"row\">not decoded<td><td>% bytes\n";
+        self.out.words(words, &[length]);
         print_findings_of(self.page, self.sheet.mark(place).findings, self.out)
     }
 
