@@ -113,6 +113,9 @@ fn add_interrupts(
             && structure.kind == Some(2)
         {
             let entry = sheet.bytes(structure.offset, structure.length);
+            if field(entry, 2, 1) != 0 {
+                continue; // Bus
+            }
             let isa_source = field(entry, 3, 1) as u8; // Source
             parts[isa_source as usize] = part;
             overrides.add(&InterruptSourceOverride {
