@@ -44,8 +44,8 @@ pub(super) fn check_affinities(machine: &Machine<'_>, findings: &mut Findings) {
     }
 }
 
-/// What a processor's number is more than its ACPI Processor UID, if it is named by that; else it is the id of its local
-/// APIC.
+/// What a processor's number is more than its ACPI Processor UID, if it is named by that; else it is the id of its
+/// local APIC.
 const BY_UID: u64 = 1 << 32;
 
 /// What the entries of a SRAT say that count.
@@ -115,14 +115,8 @@ fn check_ranges(alloc: Global, srat: Table<'_>, ranges: &mut Vec<Span>, findings
         let (first, domain, other) = (range.first, range.owner, before.owner);
         let place = before.offset as u64;
         if domain == other {
-            let words = "# is in the range at # too";
-            findings.add(
-                "srat-repeated",
-                srat.index,
-                range.offset,
-                words,
-                &[first, place],
-            );
+            let (words, numbers) = ("# is in the range at # too", &[first, place]);
+            findings.add("srat-repeated", srat.index, range.offset, words, numbers);
         } else {
             let words = "# is in domain %, and in domain % by the range at #";
             let numbers = &[first, domain, other, place];
@@ -174,22 +168,15 @@ fn check_processors(
             }
         }
     }
-    if !(listed.sort() && without.sort() && is_sorted) {
-        return findings.need(false);
-    }
+    findings.need(listed.sort() && without.sort() && is_sorted);
     for (processor, offset) in without.list.iter() {
         let words = if *processor < BY_UID {
             "the processor with the APIC ID % has no domain in the SRAT"
         } else {
             "the processor with the UID % has no domain in the SRAT"
         };
-        findings.add(
-            "srat-no-domain",
-            madt.index,
-            *offset,
-            words,
-            &[*processor % BY_UID],
-        );
+        let number = &[*processor % BY_UID];
+        findings.add("srat-no-domain", madt.index, *offset, words, number);
     }
     for (processor, offset) in placed.list.iter() {
         if listed.find(*processor).is_none() {
@@ -198,14 +185,9 @@ fn check_processors(
             } else {
                 "the processor with the UID % isn't in the MADT"
             };
-            let number = *processor % BY_UID;
-            findings.add(
-                "srat-unknown-processor",
-                srat.index,
-                *offset,
-                words,
-                &[number],
-            );
+            let number = &[*processor % BY_UID];
+            let id = "srat-unknown-processor";
+            findings.add(id, srat.index, *offset, words, number);
         }
     }
 }
@@ -218,20 +200,12 @@ fn check_localities(
     findings: &mut Findings,
 ) {
     let count = Distances::over(slit.bytes).localities();
-    if !domains.sort() {
-        return findings.need(false);
-    }
+    findings.need(domains.sort());
     let mut before = None;
     for (domain, offset) in domains.list.iter() {
         if *domain >= count && before != Some(*domain) {
-            let words = "domain %, and the SLIT has % localities";
-            findings.add(
-                "slit-too-few",
-                srat.index,
-                *offset,
-                words,
-                &[*domain, count],
-            );
+            let (words, numbers) = ("domain %, and the SLIT has % localities", &[*domain, count]);
+            findings.add("slit-too-few", srat.index, *offset, words, numbers);
         }
         before = Some(*domain);
     }

@@ -46,12 +46,7 @@ fn check_one(entry: &Entry<'_>, index: usize, revision: Option<u64>, findings: &
     let version = field(entry.bytes, 32, 1);
     if version != wanted {
         let words = "is %, should be % beside a FADT of revision %";
-        findings.add(
-            "facs-version",
-            index,
-            32,
-            words,
-            &[version, wanted, revision],
-        );
+        let numbers = &[version, wanted, revision];
+        findings.add("facs-version", index, 32, words, numbers);
     }
 }

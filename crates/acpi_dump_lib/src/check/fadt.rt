@@ -23,7 +23,8 @@ fadt-profile note ACPI 6.5, section 5.2.9.1 | Preferred_PM_Profile is a reserved
 fadt-reserved-flags note ACPI 6.5, sections 5.2.9.2 to 5.2.9.4 | A reserved flag is set
 ";
 
-/// A block of registers: the name of its 32-bit field, and the offsets of that, of its length and of its generic address.
+/// A block of registers: the name of its 32-bit field, and the offsets of that, of its length and of its generic
+/// address.
 type Block = (&'static str, usize, usize, usize);
 
 const BLOCKS: [Block; 8] = [
@@ -97,13 +98,8 @@ fn check_general(table: Table<'_>, findings: &mut Findings) {
     ] {
         let flags = field(fadt, offset, length) & reserved;
         if flags != 0 {
-            findings.add(
-                "fadt-reserved-flags",
-                index,
-                offset,
-                "has the reserved flags #",
-                &[flags],
-            );
+            let words = "has the reserved flags #";
+            findings.add("fadt-reserved-flags", index, offset, words, &[flags]);
         }
     }
 }

@@ -89,8 +89,8 @@ impl Findings {
         self.end(begun);
     }
 
-    /// Adds, for each number of a table that came before, what a rule finds there: words with the number and where else it
-    /// is.
+    /// Adds, for each number of a table that came before, what a rule finds there: words with the number and where else
+    /// it is.
     pub(super) fn add_repeated(
         &mut self,
         id: &str,

@@ -154,13 +154,8 @@ fn check_form(
         }
     }
     if has_form {
-        findings.add(
-            "header-revision",
-            index,
-            8,
-            "no revision % is known",
-            &[revision],
-        );
+        let words = "no revision % is known";
+        findings.add("header-revision", index, 8, words, &[revision]);
     }
     !has_form
 }

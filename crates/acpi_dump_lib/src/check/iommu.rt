@@ -93,14 +93,8 @@ fn check_scopes(
     let mut offset = end.saturating_sub(scopes.rest().len());
     while let Some(scope) = scopes.next() {
         if scope.hops().next().is_none() {
-            let (at, kind) = (offset.saturating_add(1), scope.kind() as u64);
-            findings.add(
-                "scope-path",
-                dmar.index,
-                at,
-                "the scope of type % has no hop",
-                &[kind],
-            );
+            let (at, words) = (offset.saturating_add(1), "the scope of type % has no hop");
+            findings.add("scope-path", dmar.index, at, words, &[scope.kind() as u64]);
         }
         offset = end.saturating_sub(scopes.rest().len());
     }

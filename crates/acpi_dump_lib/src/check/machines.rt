@@ -123,13 +123,8 @@ fn check_resources(
             let at = offset
                 .saturating_add(20)
                 .saturating_add(number.saturating_mul(4));
-            findings.add(
-                "pptt-offset",
-                pptt.index,
-                at,
-                "no cache begins at #",
-                &[place],
-            );
+            let words = "no cache begins at #";
+            findings.add("pptt-offset", pptt.index, at, words, &[place]);
         }
     }
 }

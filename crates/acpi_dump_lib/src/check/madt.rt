@@ -180,13 +180,8 @@ Source | madt-override-source 3 1 0-15 % is no interrupt of ISA";
 fn check_entry(table: usize, entry: Entry<'_>, findings: &mut Findings) {
     let kind = entry.kind();
     if (0x1c..0x80).contains(&kind) {
-        findings.add(
-            "madt-reserved-type",
-            table,
-            entry.offset,
-            "# is reserved",
-            &[kind],
-        );
+        let (id, words) = ("madt-reserved-type", "# is reserved");
+        findings.add(id, table, entry.offset, words, &[kind]);
     }
     let id = entry.number(LOCAL_X2APIC.id);
     if kind == 9 && id < 255 && entry.number((LOCAL_X2APIC.flags, 4)) & 1 != 0 {
@@ -259,13 +254,8 @@ fn check_controllers(table: usize, lists: &Lists, findings: &mut Findings) {
         lists.mpidrs.list.first(),
         lists.distributors.list.as_slice(),
     ) {
-        findings.add(
-            "madt-no-gicd",
-            table,
-            *offset,
-            "no distributor serves it",
-            &[],
-        );
+        let words = "no distributor serves it";
+        findings.add("madt-no-gicd", table, *offset, words, &[]);
     }
 }
 
@@ -286,14 +276,8 @@ fn check_references(table: Table<'_>, rest: &[u8], lists: &mut Lists, findings: 
         let number = entry.number(place);
         if entry.kind() == 2 {
             if !lists.bases.list.is_empty() && !reaches(&lists.bases, number) {
-                let words = "no I/O APIC has interrupt %";
-                findings.add(
-                    "madt-override-nowhere",
-                    table.index,
-                    entry.at(4),
-                    words,
-                    &[number],
-                );
+                let (id, words) = ("madt-override-nowhere", "no I/O APIC has interrupt %");
+                findings.add(id, table.index, entry.at(4), words, &[number]);
             }
         } else if number != all && lists.known.find(number).is_none() {
             let (at, words) = (entry.at(place.0), "no processor has UID %");

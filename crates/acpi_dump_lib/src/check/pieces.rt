@@ -6,8 +6,8 @@ use acpi_base::bytes::skip;
 /// Where a piece has its length: at an offset, of so many bytes.
 pub(super) type LengthPlace = (usize, usize);
 
-/// The pieces from an offset of a table on, in order: the offset of each, and its bytes. It ends where no piece begins: if
-/// the length there ends before the place that has it, or goes past the table's end.
+/// The pieces from an offset of a table on, in order: the offset of each, and its bytes. It ends where no piece begins:
+/// if the length there ends before the place that has it, or goes past the table's end.
 #[derive(Drop)]
 pub(super) struct Pieces<'a> {
     offset: usize,

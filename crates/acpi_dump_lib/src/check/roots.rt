@@ -3,7 +3,7 @@
 use super::findings::Findings;
 use super::machine::Machine;
 use super::numbers::Numbers;
-use crate::entries::{Entry, Place, own_signature};
+use crate::entries::{Place, own_signature};
 use crate::status::Status;
 use acpi::sdt::{Signature, field};
 use std::alloc::Global;
@@ -12,7 +12,8 @@ pub(super) const RULES: &str = "
 root-null-pointer warning ACPI 6.5, section 5.2.8 | The root table lists the address 0
 root-listed-twice warning ACPI 6.5, section 5.2.8 | The root table lists an address twice
 root-lists-differ warning ACPI 6.5, section 5.2.5.3 | The RSDT and the XSDT list different tables
-root-rsdt-in-use note ACPI 6.5, section 5.2.8 | An RSDT leads to the tables of a machine since ACPI 2.0, which has an XSDT
+root-rsdt-in-use note ACPI 6.5, section 5.2.8 | An RSDT leads to the tables of a machine since ACPI 2.0, which \
+has an XSDT
 root-second-table warning ACPI 6.5, section 5.2.6 | A table of which a machine has one is there twice
 root-nothing-there note ACPI 6.5, section 5.2.8 | The input has no byte of a table that is listed
 root-overlap error ACPI 6.5, section 5.2 | Two tables share bytes
@@ -71,9 +72,7 @@ fn check_pointers(table: usize, pointers: &mut Numbers, findings: &mut Findings)
 
 /// Compares the pointers of an XSDT with those of the RSDT that is beside it.
 fn compare_lists(xsdt: usize, wide: &mut Numbers, narrow: &mut Numbers, findings: &mut Findings) {
-    if !wide.sort() || !narrow.sort() {
-        return findings.need(false);
-    }
+    findings.need(wide.sort() && narrow.sort());
     for (address, offset) in wide.list.iter() {
         if *address != 0 && *address < 1 << 32 && narrow.find(*address).is_none() {
             let words = "the RSDT doesn't list #";
@@ -108,10 +107,13 @@ fn check_revision(machine: &Machine<'_>, rsdt: usize, findings: &mut Findings) {
     findings.add("root-rsdt-in-use", rsdt, 0, words, &[revision]);
 }
 
-/// Whether two tables are at one place.
-fn is_same_place(one: &Entry<'_>, other: &Entry<'_>) -> bool {
-    match (one.place, other.place) {
-        (Place::Address(one), Place::Address(other)) => one == other && one != 0,
+/// Whether the tables of two numbers are at one place.
+fn is_same_place(machine: &Machine<'_>, one: usize, other: usize) -> bool {
+    match (machine.entries.get(one), machine.entries.get(other)) {
+        (Some(one), Some(other)) => match (one.place, other.place) {
+            (Place::Address(one), Place::Address(other)) => one == other && one != 0,
+            _ => false,
+        },
         _ => false,
     }
 }
@@ -120,31 +122,19 @@ fn is_same_place(one: &Entry<'_>, other: &Entry<'_>) -> bool {
 fn check_second(machine: &Machine<'_>, findings: &mut Findings) {
     let mut signatures = Numbers::new(machine.alloc);
     for (index, entry) in machine.entries.iter().enumerate() {
-        if !entry.bytes.is_empty() {
+        if SINGLE.contains(own_signature(entry.bytes).as_str().unwrap_or("-")) {
             signatures.push(field(entry.bytes, 0, 4), index);
         }
     }
-    if !signatures.sort() {
-        return findings.need(false);
-    }
+    findings.need(signatures.sort());
     let mut before = None;
     for (letters, index) in signatures.list.iter() {
         if let Some((same, first)) = before
             && same == *letters
-            && let (Some(one), Some(other)) = (
-                machine.entries.get(first),
-                machine.entries.get(*index),
-            )
-            && !is_same_place(one, other)
-            && SINGLE.contains(own_signature(other.bytes).as_str().unwrap_or("-"))
+            && !is_same_place(machine, first, *index)
         {
-            findings.add(
-                "root-second-table",
-                *index,
-                0,
-                "a machine has one of them",
-                &[],
-            );
+            let words = "a machine has one of them";
+            findings.add("root-second-table", *index, 0, words, &[]);
         }
         before = Some((*letters, *index));
     }
@@ -164,9 +154,7 @@ fn check_overlap(machine: &Machine<'_>, findings: &mut Findings) {
             }
         }
     }
-    if !starts.sort() {
-        return findings.need(false);
-    }
+    findings.need(starts.sort());
     let (mut start, mut end) = (0u64, 0u64);
     for (address, index) in starts.list.iter() {
         if *address < end && *address != start {
