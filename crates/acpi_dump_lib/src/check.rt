@@ -51,6 +51,7 @@ pub(crate) fn findings_of(machine: &Machine<'_>) -> Result<Judgement, AllocError
     facs::check_facs(machine, &mut findings);
     madt::check_madt(machine, &mut findings);
     affinities::check_affinities(machine, &mut findings);
+    unnamed::check_unnamed(machine, &mut findings);
     devices::check_devices(machine, &mut findings);
     iommu::check_iommu(machine, &mut findings);
     machines::check_machines(machine, &mut findings);

@@ -44,12 +44,8 @@ pub(super) fn check_devices(machine: &Machine<'_>, findings: &mut Findings) {
     {
         check_numbers(bgrt.index, 0, bgrt.bytes, IMAGE, findings);
     }
-    let debug = machine.first(Signature::DBG2);
-    if let Some(debug) = debug {
-        check_names("dbg2-code", debug, findings);
-    }
     if let Some(console) = machine.first(Signature::SPCR) {
-        check_console(console, debug, findings);
+        check_console(console, machine.first(Signature::DBG2), findings);
     }
 }
 
@@ -127,7 +123,6 @@ fn check_base(mcfg: Table<'_>, region: &McfgEntry, offset: usize, findings: &mut
 
 /// Judges an HPET.
 fn check_timer(hpet: Table<'_>, findings: &mut Findings) {
-    check_names("hpet-code", hpet, findings);
     // BASE_ADDRESS: Address Space ID, Address.
     let (space, address) = (field(hpet.bytes, 40, 1), field(hpet.bytes, 44, 8));
     if space != 0 {

@@ -5,7 +5,6 @@ use super::findings::Findings;
 use super::machine::{Machine, Table};
 use super::numbers::Numbers;
 use super::pieces::Pieces;
-use super::unnamed::check_names;
 use acpi::sdt::{Signature, field};
 use std::alloc::Global;
 
@@ -22,14 +21,9 @@ tpm2-log error TCG ACPI Specification 1.2 | The log has a length, and is at addr
 /// Judges them.
 pub(super) fn check_machines(machine: &Machine<'_>, findings: &mut Findings) {
     if let Some(pptt) = machine.first(Signature::from_bytes(*b"PPTT")) {
-        check_names("pptt-flag", pptt, findings);
         check_topology(machine.alloc, pptt, findings);
     }
-    if let Some(gtdt) = machine.first(Signature::GTDT) {
-        check_names("gtdt-flag", gtdt, findings);
-    }
     if let Some(pcct) = machine.first(Signature::PCCT) {
-        check_names("pcct-flag", pcct, findings);
         check_channels(pcct, findings);
     }
     if let Some(tpm2) = machine.first(Signature::TPM2) {

@@ -1,10 +1,26 @@
 //! Codes and flags that no specification names.
 
 use super::findings::Findings;
-use super::machine::Table;
+use super::machine::{Machine, Table};
 use crate::entries::own_signature;
 use crate::fields::unnamed_in;
 use crate::walk::{Field, Show, walk_table};
+use acpi::sdt::Signature;
+
+/// Judges tables whose codes and flags are all named by their layouts.
+pub(super) fn check_unnamed(machine: &Machine<'_>, findings: &mut Findings) {
+    for (id, signature) in [
+        ("hpet-code", Signature::HPET),
+        ("dbg2-code", Signature::DBG2),
+        ("pptt-flag", Signature::from_bytes(*b"PPTT")),
+        ("gtdt-flag", Signature::GTDT),
+        ("pcct-flag", Signature::PCCT),
+    ] {
+        if let Some(table) = machine.first(signature) {
+            check_names(id, table, findings);
+        }
+    }
+}
 
 /// Judges, by the rule of an id, whether the layout of a table names each of its codes and flags.
 pub(super) fn check_names(id: &'static str, table: Table<'_>, findings: &mut Findings) {

@@ -115,27 +115,20 @@ fn add_fields(document: &mut Document, entry: &Entry<'_>, part: Part<'_>) {
 
 /// Adds a field that differs between two tables, or a structure that one alone has.
 fn add_difference(document: &mut Document, difference: Difference<'_>) {
+    let is_field = !difference.name.is_empty();
     document.token(Token::BeginObject);
-    if difference.name.is_empty() {
-        document.number("offset", difference.offset);
-        document.text(
-            "only",
-            if difference.old.is_some() {
-                "first"
-            } else {
-                "second"
-            },
-        );
-        add_path(document, difference);
-        return document.token(Token::EndObject);
+    if is_field {
+        document.text("name", difference.name);
     }
-    document.text("name", difference.name);
-    if let Some(value) = difference.new {
+    if is_field && let Some(value) = difference.new {
         document.text("new", value);
     }
     document.number("offset", difference.offset);
-    if let Some(value) = difference.old {
-        document.text("old", value);
+    match difference.old {
+        Some(value) if is_field => document.text("old", value),
+        Some(_) => document.text("only", "first"),
+        None if is_field => {}
+        None => document.text("only", "second"),
     }
     add_path(document, difference);
     document.token(Token::EndObject);

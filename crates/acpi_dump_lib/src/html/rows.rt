@@ -222,8 +222,7 @@ impl Rows<'_, '_> {
         match (mark.change, self.sheet.standing) {
             (Change::From(was), Standing::Beside(_, old)) => self.print_changed(item, was, old),
             _ => {
-                print_cut(self.sheet.side.digits(item), self.out);
-                self.out.text("<td>");
+                print_cut("", self.sheet.side.digits(item), "<td>", self.out);
                 print_escaped(self.sheet.side.meaning(item).as_bytes(), self.out)
             }
         }
@@ -287,11 +286,8 @@ impl Rows<'_, '_> {
     /// Prints the value and the meaning of a field before and after.
     fn print_changed(&mut self, item: Item, was: Item, old: Side<'_>) {
         let new = self.sheet.side;
-        self.out.text("<del>");
-        print_cut(old.digits(was), self.out);
-        self.out.text("</del> <ins>");
-        print_cut(new.digits(item), self.out);
-        self.out.text("</ins><td>");
+        print_cut("<del>", old.digits(was), "</del> <ins>", self.out);
+        print_cut("", new.digits(item), "</ins><td>", self.out);
         if old.meaning(was) != new.meaning(item) {
             self.out.text("<del>");
             print_escaped(old.meaning(was).as_bytes(), self.out);
@@ -312,9 +308,8 @@ impl Rows<'_, '_> {
                 Gone::Field(item) => {
                     write!(self.out, "{:04x}", item.offset);
                     self.print_name(*item);
-                    self.out.text("<td><del>");
-                    print_cut(old.digits(*item), self.out);
-                    self.out.text("</del><td><del>");
+                    let digits = old.digits(*item);
+                    print_cut("<td><del>", digits, "</del><td><del>", self.out);
                     print_escaped(old.meaning(*item).as_bytes(), self.out);
                     self.out.text("</del>\n");
                 }
@@ -332,9 +327,10 @@ impl Rows<'_, '_> {
     }
 }
 
-/// Prints the first digits of a value.
-fn print_cut(digits: &str, out: &mut Out) {
+/// Prints the first digits of a value between two texts.
+fn print_cut(before: &str, digits: &str, after: &str, out: &mut Out) {
     let digits = digits.as_bytes();
+    out.text(before);
     match digits.get(..DIGITS) {
         Some(first) if digits.len() > DIGITS => {
             print_escaped(first, out);
@@ -342,6 +338,7 @@ fn print_cut(digits: &str, out: &mut Out) {
         }
         _ => print_escaped(digits, out),
     }
+    out.text(after)
 }
 
 /// Prints the first fields that tell of a folded structure what it is.
@@ -365,7 +362,7 @@ pub(super) fn print_digest(side: Side<'_>, number: usize, part: &Part, out: &mut
         out.text(" ");
         let meaning = side.meaning(item).as_bytes();
         if meaning.is_empty() {
-            print_cut(side.digits(item), out);
+            print_cut("", side.digits(item), "", out);
         } else {
             print_escaped(meaning.get(..48).unwrap_or(meaning), out);
         }
