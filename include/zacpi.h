@@ -76,7 +76,7 @@ enum zacpi_refusal {
     ZACPI_RANGE_TOO_HIGH = 4,        /* a range ends at 2^64 or above */
     ZACPI_UNKNOWN_WIDTH = 5,         /* a width of a walk isn't 1, 2 or 4 */
     ZACPI_NO_SUCH_STATE = 6,         /* a sleep state above 5 */
-    ZACPI_UNKNOWN_POLICY = 7,        /* `accept` isn't 0 */
+    ZACPI_UNKNOWN_POLICY = 7,        /* `accept` has a bit that enum zacpi_accept hasn't */
 
     /* Memory and the RSDP (section 5.2.5). */
     ZACPI_MAP_FAILED = 10,               /* bytes are needed that no one region contains */
@@ -214,6 +214,11 @@ enum zacpi_start {
     ZACPI_START_SEARCH = 4       /* searches them as far as they are mapped */
 };
 
+enum zacpi_accept {
+    ZACPI_ACCEPT_SUMS = 1, /* ZACPI_SDT_INVALID_CHECKSUM */
+    ZACPI_ACCEPT_IDS = 2   /* ZACPI_SDT_INVALID_OEM_ID and ZACPI_SDT_INVALID_TABLE_ID */
+};
+
 /* Where tables are looked for. The regions ascend and share no byte; zacpi_clip_ranges makes such.
  * Bytes are mapped if one region contains all of them. */
 struct zacpi_source {
@@ -221,7 +226,8 @@ struct zacpi_source {
     size_t regions_length;
     uint64_t address; /* where to start; a search doesn't look at it */
     uint32_t start;   /* one of enum zacpi_start */
-    uint32_t accept;  /* 0: what isn't valid is skipped; no other value has a meaning yet */
+    uint32_t accept;  /* 0, or bits of enum zacpi_accept: a listed table or a DSDT is valid if it has
+                       * no other error. The RSDP and the root table may have none */
 };
 
 /* Lists the ranges to make regions of, from ranges in any order: sorted, joined where they overlap
@@ -275,8 +281,9 @@ struct zacpi_table {
 };
 struct zacpi_fault {
     uint64_t address;
-    zacpi_status status; /* why it is skipped: ZACPI_MAP_FAILED or a ZACPI_SDT_ error, but for
+    zacpi_status status; /* why it isn't valid: ZACPI_MAP_FAILED or a ZACPI_SDT_ error, but for
                           * ZACPI_SDT_INVALID_SIGNATURE */
+    uint8_t accepted;    /* 1: it isn't skipped, by `accept` of the source */
 };
 /* How the entries of a table are laid out. zacpi_tables.h has the walk of each table that is so, as
  * ZACPI_WALK_APIC; ZACPI_WALK_IORT(first) and others are passed what a field of the table has. */
@@ -358,8 +365,8 @@ ZACPI_STATUS zacpi_list_entries(const struct zacpi_region *regions, size_t regio
                                 uint8_t *malformed, struct zacpi_signature *signature);
 
 /* Lists the members of the root table that a lookup of the wanted signature, by a call that needs
- * its fixed fields, skips for another reason than their Signature, up to the one that it finds
- * (section 5.2.6). Fails with an opening error. */
+ * its fixed fields, skips for another reason than their Signature, up to the one that it finds, and
+ * last that one if it finds it by `accept` alone (section 5.2.6). Fails with an opening error. */
 ZACPI_STATUS zacpi_list_faults(const struct zacpi_source *source, struct zacpi_signature wanted,
                                struct zacpi_fault *out, size_t capacity, size_t *count,
                                struct zacpi_signature *signature);

@@ -38,7 +38,7 @@
 #define AS_BUS ZACPI_POLARITY_BUS, ZACPI_TRIGGER_BUS
 /* The first of two tables is a byte too short. */
 #define LEAST_OF(letters, short_one) \
-    GOOD(list_faults, LEAST, letters, NO, 1, AT(short_one), ZACPI_SDT_INVALID_LENGTH)
+    GOOD(list_faults, LEAST, letters, NO, 1, AT(short_one), ZACPI_SDT_INVALID_LENGTH, 0)
 
 static const struct row rows[] = {
     GOOD(open, PC, NULL, NO, 1, AT(PC), 68, 2, 8, 0, 0),
@@ -112,8 +112,8 @@ static const struct row rows[] = {
     GOOD(find_table, PC, "HPET", NO, 1, AT(HPET_SHORT), 48, LETTERS('H', 'P', 'E', 'T'), 3, NO_IDS),
     GOOD(find_nth_table, PC, "HPET", A(0), 1, AT(HPET_SHORT), 48, LETTERS('H', 'P', 'E', 'T'), 3, NO_IDS),
     GOOD(find_nth_table, PC, "HPET", A(1), 1, AT(HPET), 56, LETTERS('H', 'P', 'E', 'T'), 1, HPET_IDS),
-    GOOD(list_faults, PC, "HPET", NO, 1, AT(HPET_SHORT), ZACPI_SDT_INVALID_LENGTH),
-    GOOD(list_faults, HOLES, "OEM1", NO, 2, 0x200000, ZACPI_MAP_FAILED, TAIL, ZACPI_MAP_FAILED),
+    GOOD(list_faults, PC, "HPET", NO, 1, AT(HPET_SHORT), ZACPI_SDT_INVALID_LENGTH, 0),
+    GOOD(list_faults, HOLES, "OEM1", NO, 2, 0x200000, ZACPI_MAP_FAILED, 0, TAIL, ZACPI_MAP_FAILED, 0),
     LEAST_OF("FACP", FADT_115), LEAST_OF("APIC", MADT_43), LEAST_OF("MCFG", MCFG_43), LEAST_OF("HPET", HPET_55),
     LEAST_OF("BGRT", BGRT_55), LEAST_OF("SPCR", SPCR_79), LEAST_OF("GTDT", GTDT_95), LEAST_OF("SRAT", SRAT_47),
     LEAST_OF("SLIT", SLIT_43), LEAST_OF("OEM2", OEM2_35), LEAST_OF("DMAR", DMAR_47), LEAST_OF("IVRS", IVRS_47),
@@ -128,8 +128,8 @@ static const struct row rows[] = {
          AT(MADT_OLD), 150, LETTERS('A', 'P', 'I', 'C'), 5, NO_IDS,
          AT(GTDT_OLD), 192, LETTERS('G', 'T', 'D', 'T'), 1, NO_IDS,
          AT(SRAT_OLD), 146, LETTERS('S', 'R', 'A', 'T'), 1, NO_IDS),
-    GOOD(list_faults, OLD, "OEM1", NO, 1, 0x1234, ZACPI_MAP_FAILED),
-    GOOD(list_faults, OLD, "\377OEM", NO, 1, 0x1234, ZACPI_MAP_FAILED),
+    GOOD(list_faults, OLD, "OEM1", NO, 1, 0x1234, ZACPI_MAP_FAILED, 0),
+    GOOD(list_faults, OLD, "\377OEM", NO, 1, 0x1234, ZACPI_MAP_FAILED, 0),
     REFUSED(find_table, OLD, "\377OEM", NO, ZACPI_TABLE_MISSING, "\377OEM"),
     GOOD(hpet, PC, NULL, NO, 1, 0x1fed00000, 0x8086a201, 0x80, 1, 2),
     GOOD(hpet, DESKTOP, NULL, NO, 1, 0xfed00000, 0x10de8201, 0x90f3, 2, 0),

@@ -33,7 +33,7 @@ enum { EMPTY, ARM, PC, ODD, HOLES, SUM, DESKTOP, MOBILE, WORKSTATION, SERVER, SO
        RESERVED, WIDE, TIMER_5, LEAST, OLD, HALF, HALF_X, UNITS, UNITS_10, UNITS_CUT,
        UNITS_END, SAPIC_BETWEEN, NMI_2, LENGTH_0, NO_FADT, BUS_1, TRIGGER_2, LINT_2, HPETS, MAILBOX, POWER,
        REDUCED, PLAIN, BARE, BROKEN, FADTLESS, FAULTS, FRONTS, UNITS_BETWEEN, UNITS_FAULTS, UNITS_LATER, RISCV,
-       RISCV_CUT, /* root tables, in the order of `tables` */
+       RISCV_CUT, FLAWED, LED_BY_SUMS, LED_BY_IDS, /* root tables, in the order of `tables` */
        RSDP_0, RSDP_2, RSDP_40, RSDP_MIXED, RSDP_LONG, RSDP_LOST, RSDP_CUT, RSDP_SHORT,
        RSDP_NONE, /* RSDPs, and the last one is none */
        MADT_GIC, GTDT, SRAT, SLIT, MCFG, FADT, MADT_PC, HPET_SHORT, HPET, MADT_CUT, GTDT_CUT, SRAT_CUT, SLIT_ODD,
@@ -47,7 +47,8 @@ enum { EMPTY, ARM, PC, ODD, HOLES, SUM, DESKTOP, MOBILE, WORKSTATION, SERVER, SO
        IVRS_48, MADT_SAPIC_BETWEEN, MADT_NMI_2, MADT_LENGTH_0, MADT_BUS_1, MADT_TRIGGER_2, MADT_LINT_2, MADT_MAILBOX,
        FADT_POWER, FADT_REDUCED, FADT_PLAIN, FADT_BARE, FADT_BROKEN, DSDT_POWER, DSDT_S5, SSDT_S5, MADT_NO_GICD,
        MADT_FRONT, GTDT_FAULTS, GTDT_FRONT, SRAT_FAULTS, SRAT_FRONT, DMAR_BETWEEN, DMAR_FAULTS, DMAR_LATER,
-       IVRS_BETWEEN, IVRS_FAULTS, MADT_RISCV, MADT_RISCV_CUT };
+       IVRS_BETWEEN, IVRS_FAULTS, MADT_RISCV, MADT_RISCV_CUT, MADT_BOTH, MADT_OEM_ID, MADT_TABLE_ID, MADT_SUM,
+       MADT_VALID, MADT_LOST, FADT_SUM, FADT_OEM_ID, DSDT_SUM, DSDT_TABLE_ID, SSDT_SUM, HPET_SUM };
 
 /* Entry[n] of an RSDT, from 36 on (section 5.2.7), and of an XSDT (section 5.2.8). */
 PUTS(no_fields, {36, 0, 0});
@@ -245,6 +246,7 @@ PUTS(srat_high,
 PUTS(slit, {36, 8, 2}, {44, 1, 10}, {45, 1, 20}, {46, 1, 30}, {47, 1, 10});
 PUTS(slit_odd, {36, 8, 3}, {44, 1, 10}, {45, 1, 9}, {46, 1, 8}, {47, 1, 255}); /* of nine it has four */
 
+#include "rows_tables_accept.h"
 #include "rows_tables_faults.h"
 #include "rows_tables_iommu.h"
 #include "rows_tables_pc.h"
@@ -275,6 +277,8 @@ static const struct table {
     {AT(REDUCED), "RSDT", 1, 40, reduced}, {AT(PLAIN), "RSDT", 1, 40, plain}, {AT(BARE), "RSDT", 1, 40, bare},
     {AT(BROKEN), "RSDT", 1, 44, broken}, {AT(FADTLESS), "RSDT", 1, 40, fadtless}, {AT(FAULTS), "RSDT", 1, 48, faults},
     {AT(FRONTS), "RSDT", 1, 48, fronts}, {AT(RISCV), "RSDT", 1, 40, riscv}, {AT(RISCV_CUT), "RSDT", 1, 40, riscv_cut},
+    {AT(FLAWED), "RSDT", 1, 60, flawed}, {AT(LED_BY_SUMS), "RSDT", 1, 52, led_by_sums},
+    {AT(LED_BY_IDS), "RSDT", 1, 44, led_by_ids},
     {AT(MADT_GIC), "APIC", 6, 346, madt_gic}, {AT(GTDT), "GTDT", 3, 260, gtdt}, {AT(SRAT), "SRAT", 3, 274, srat},
     {AT(SLIT), "SLIT", 1, 48, slit}, {AT(MCFG), "MCFG", 1, 108, mcfg}, {AT(FADT), "FACP", 6, 276, fadt},
     {AT(MADT_PC), "APIC", 4, 96, madt_pc}, {AT(HPET_SHORT), "HPET", 3, 48, no_fields}, {AT(HPET), "HPET", 1, 56, hpet},
@@ -335,6 +339,12 @@ static const struct table {
     {AT(DMAR_FAULTS), "DMAR", 1, 150, dmar_faults}, {AT(DMAR_LATER), "DMAR", 1, 93, dmar_later},
     {AT(IVRS_BETWEEN), "IVRS", 2, 132, ivrs_between}, {AT(IVRS_FAULTS), "IVRS", 2, 184, ivrs_faults},
     {AT(MADT_RISCV), "APIC", 6, 188, madt_riscv}, {AT(MADT_RISCV_CUT), "APIC", 6, 190, madt_riscv_cut},
+    {AT(MADT_BOTH), "APIC", 5, 52, madt_both}, {AT(MADT_OEM_ID), "APIC", 5, 52, madt_oem_id},
+    {AT(MADT_TABLE_ID), "APIC", 5, 52, madt_table_id}, {AT(MADT_SUM), "APIC", 5, 52, madt_sum},
+    {AT(MADT_VALID), "APIC", 5, 52, madt_valid}, {AT(MADT_LOST), "APIC", 5, SIZE, madt_lost},
+    {AT(FADT_SUM), "FACP", 1, 116, fadt_sum}, {AT(FADT_OEM_ID), "FACP", 1, 116, fadt_oem_id},
+    {AT(DSDT_SUM), "DSDT", 1, 47, dsdt_sum}, {AT(DSDT_TABLE_ID), "DSDT", 2, 40, dsdt_table_id},
+    {AT(SSDT_SUM), "SSDT", 1, 47, ssdt_sum}, {AT(HPET_SUM), "HPET", 1, 56, hpet_sum},
     {BIOS + 0x10000, "RSDT", 1, 36, no_fields}};
 
 /* RSDPs: the first byte of OEMID at 9, Revision at 15, RsdtAddress at 16, Length at 20, XsdtAddress at 24 (section

@@ -1,3 +1,4 @@
+pub mod Accepted
 pub mod ApicLists
 pub mod Ascending
 pub mod Clipping

@@ -1,11 +1,11 @@
 -- What isn't lent: of what opening asks for and what leads to a table, and of the candidates of a search.
-use Rattle.std.proofs.Common.{◌≡◌, ℕ, ◌≤◌, List, [], ◌∷◌, ◌++◌, Bool, true, false, Option, Some, None, Result, Ok, Err, arith, refl, sym, ap, subst, ◌∙◌, if◌then◌else◌, ◌+◌, length, ◌^◌, ◌<◌, zero, suc, ◌-◌, ◌*◌, ◌/◌, drop, ◌==◌, ok_or, option_map, bytes_eq}
+use Rattle.std.proofs.Common.{◌≡◌, ℕ, ◌≤◌, List, [], ◌∷◌, ◌++◌, Bool, true, false, Option, Some, None, Result, Ok, Err, arith, refl, sym, ap, subst, ◌∙◌, if◌then◌else◌, ◌+◌, length, ◌^◌, ◌<◌, zero, suc, ◌-◌, ◌*◌, ◌/◌, drop, ◌==◌, ok_or, option_map, bytes_eq, nat_lt}
 use Rattle.acpi_base.specs.FromStd.{last_or, cons_option, is_some, is_ok, result_ok}
-use Rattle.acpi_base.specs.Words.{field_of, check_names, check_table, header_at, Memory, at, IsMemory, rest_from, Ranges, ◌>>=◌, holds, lent, table_at, Kind, own_table_at, plain_kind, letters_of}
+use Rattle.acpi_base.specs.Words.{field_of, has_bit, check_names, check_table, header_at, Memory, at, IsMemory, rest_from, Ranges, ◌>>=◌, holds, lent, table_at, Kind, own_table_at, plain_kind, letters_of}
 use Rattle.acpi.specs.Types.{MapFailed, NoValidRsdp, SdtHeader, Signature, AddressRange}
 use Rattle.acpi.specs.Words.{areas_ranges, bios_areas, found_among, found_in_areas, opened_in_areas, count_in, ebda_area, end_of, first_in, Opened, opened_at, opened_by_rsdp, opened_by_search, opened_from, area_ranges, opened_by_rsdp_ranges, opened_by_search_ranges, opened_ranges, or_else_ranges, search_ranges, length_ranges, rsdp_ranges, root_of_revision, check_first, check_sum, extended_length_of, checked_length, root_of_rsdp, rsdp_at, rsdp_of, first_area, found_in, found_rsdp, or_else, room_of, second_area, word_in, area, count_of, walk, or_later}
 use Rattle.acpi.specs.Areas.{range}
-use Rattle.acpi_c_lib.specs.Words.{AcpiError, Refusal, Source, check_policy, ebda_in, opened_in, refused_as, started_in, Acpi, UnknownStart, Areas, IsUnlent, OpeningHasHole, areas_holes, candidate_hole, candidate_holes, has_valid, hole, last_range, missing_below, missing_in, opened_as_lent_ranges, range_of, walk_holes, Fills, Writes, items_said, put_from, result_map, memory_in}
+use Rattle.acpi_c_lib.specs.Words.{accepted_at, loosened_at, own_accepted_at, member_hole, table_hole, AcpiError, Refusal, Source, check_policy, ebda_in, opened_in, refused_as, started_in, Acpi, UnknownStart, Areas, IsUnlent, OpeningHasHole, areas_holes, candidate_hole, candidate_holes, has_valid, hole, last_range, missing_below, missing_in, opened_as_lent_ranges, range_of, walk_holes, Fills, Writes, items_said, put_from, result_map, memory_in}
 use Rattle.acpi_c_lib.specs.Missing.{Range, no_areas, opening_ranges, pieces, stretches}
 use Rattle.acpi_c_lib.proofs.Written.{two_parts, one_part}
 use Rattle.acpi_base.proofs.FromStd.{bytes_eq-Decides, length-take, cond_some}
@@ -38,6 +38,45 @@ rsdp_length b o e = grind arith
 pub rsdp_long : (b : List ℕ) (n : ℕ) → checked_length b ≡ Ok (Some n) → 36 ≤ n
 unfolding checked_length
 rsdp_long b n e = grind arith
+
+-- ---- what is accepted
+
+strict_unlent : (m : Memory) (s : Signature) (p : ℕ) → table_at m (plain_kind s) p ≡ Err MapFailed
+    → IsUnlent m (table_hole m p (Err MapFailed))
+unfolding table_at
+strict_unlent m s p e = grind (arith, names_not, table_not)
+
+loosened_unlent : (a b : Bool) (m : Memory) (s : Signature) (n p : ℕ) → loosened_at a b m s n p ≡ Err MapFailed
+    → IsUnlent m (table_hole m p (Err MapFailed))
+unfolding loosened_at
+loosened_unlent a true m s n p e = grind arith
+loosened_unlent a false m s n p e = grind (arith, names_not)
+
+bits_unlent : (strict a b : Bool) (m : Memory) (s : Signature) (p : ℕ)
+    → (if strict then table_at m (plain_kind s) p else loosened_at a b m s 36 p) ≡ Err MapFailed
+    → IsUnlent m (table_hole m p (Err MapFailed))
+bits_unlent true a b m s p e = strict_unlent m s p e
+bits_unlent false a b m s p e = loosened_unlent a b m s 36 p e
+
+pub accepted_unlent : (accept : ℕ) (m : Memory) (s : Signature) (p : ℕ)
+    → accepted_at accept m (plain_kind s) p ≡ Err MapFailed → IsUnlent m (table_hole m p (Err MapFailed))
+unfolding accepted_at
+accepted_unlent accept m s p e = bits_unlent (accept == 0) (has_bit accept 0) (has_bit accept 1) m s p e
+
+by_header : (accept : ℕ) (m : Memory) (p : ℕ) (r : Result (List ℕ) AcpiError) → lent m p 36 ≡ r
+    → (r >>= λ head. accepted_at accept m (plain_kind (header_at head).signature) p) ≡ Err MapFailed
+    → IsUnlent m (table_hole m p (Err MapFailed))
+by_header accept m p (Ok head) is e = accepted_unlent accept m (header_at head).signature p e
+by_header accept m p (Err d) is e = grind arith
+
+own_refused : (accept : ℕ) (m : Memory) (p : ℕ) → own_accepted_at accept m p ≡ Err MapFailed
+    → IsUnlent m (table_hole m p (Err MapFailed))
+unfolding own_accepted_at
+own_refused accept m p e = by_header accept m p (lent m p 36) refl e
+
+pub own_unlent : (accept : ℕ) (m : Memory) (p : ℕ) → own_accepted_at accept m p ≡ Err MapFailed
+    → IsUnlent m (member_hole accept m p)
+own_unlent accept m p e = rw e (own_refused accept m p e)
 
 -- ---- the last range
 
@@ -208,7 +247,7 @@ started_unlent m s =
     (by_areas_unlent m) (λ q. cc)))))
 
 pub opening_unlent : OpeningHasHole
-opening_unlent m s e = started_unlent m s (policed (s.accept == 0) (started_in m s) e)
+opening_unlent m s e = started_unlent m s (policed (nat_lt s.accept 4) (started_in m s) e)
 
 -- ---- the ranges of a search's candidates, and then the others
 
@@ -294,6 +333,27 @@ table_ends m k p table h some e =
     let passes = passed m k p table e in
     let n = (header_at passes.head).length in
     lent_ends m p n table h (omega (arith, some, lent_short m p n table passes.whole)) passes.whole
+
+loosened_ends : (a b : Bool) (m : Memory) (s : Signature) (n p : ℕ) (table : List ℕ) → IsMemory m → 0 < length table
+    → loosened_at a b m s n p ≡ Ok table → p + length table < 2 ^ 64
+unfolding loosened_at
+loosened_ends a b m s n p table h some e =
+    let head = bind_ok (lent m p 36) _ table e in
+    let size = (header_at head.0).length in
+    let whole : lent m p size ≡ Ok table = grind arith in
+    lent_ends m p size table h (omega (arith, some, lent_short m p size table whole)) whole
+
+by_bits : (strict : Bool) (a b : Bool) (m : Memory) (k : Kind) (p : ℕ) (table : List ℕ) → IsMemory m → 0 < length table
+    → (if strict then table_at m k p else loosened_at a b m k.signature k.least p) ≡ Ok table
+    → p + length table < 2 ^ 64
+by_bits true a b m k p table h some e = table_ends m k p table h some e
+by_bits false a b m k p table h some e = loosened_ends a b m k.signature k.least p table h some e
+
+pub accepted_ends : (accept : ℕ) (m : Memory) (k : Kind) (p : ℕ) (table : List ℕ) → IsMemory m → 0 < length table
+    → accepted_at accept m k p ≡ Ok table → p + length table < 2 ^ 64
+unfolding accepted_at
+accepted_ends accept m k p table h some e =
+    by_bits (accept == 0) (has_bit accept 0) (has_bit accept 1) m k p table h some e
 
 pub own_table_ends : (m : Memory) (p : ℕ) (table : List ℕ) → IsMemory m → 0 < length table → own_table_at m p ≡ Ok table
     → p + length table < 2 ^ 64

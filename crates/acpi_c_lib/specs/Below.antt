@@ -1,9 +1,10 @@
 -- The tables that a caller names.
-use Rattle.std.specs.Prelude.{ℕ, ◌*◌, ◌==◌, List, drop, Option, Result, Ok, Err, if◌then◌else◌, option_map, unwrap_or}
+use Rattle.std.specs.Prelude.{ℕ, ◌*◌, ◌==◌, List, drop, Option, Result, Ok, Err, if◌then◌else◌, nat_lt, option_map, unwrap_or}
 use Rattle.acpi_base.specs.FromStd.{result_ok}
 use Rattle.acpi_base.specs.Words.{Memory, ◌>>=◌, Kind, holds}
 pub use Rattle.acpi_base.specs.declared.error.AcpiError.{AcpiError}
-use Rattle.acpi.specs.Words.{bios_areas, extended_length_of, found_in_areas, found_rsdp, lookup, root_of_rsdp, rsdp_at, rsdp_of, Opened, opened_at, opened_from, pointers, width_of, word_in}
+use Rattle.acpi.specs.Words.{bios_areas, extended_length_of, found_in_areas, found_rsdp, root_of_rsdp, rsdp_at, rsdp_of, Opened, opened_at, opened_from, pointers, width_of, word_in}
+use Rattle.acpi_c_lib.specs.Accepted.{accepted_lookup}
 use Rattle.acpi_c_lib.specs.Answers.{result_map}
 use Rattle.acpi_c_lib.specs.Regions.{memory_in}
 pub use Rattle.acpi_c_lib.specs.declared.records.Source.{Source}
@@ -37,9 +38,9 @@ started_in m s =
       found ← rsdp_in m s
       refused_as (opened_from m (root_of_rsdp found.1))
 
--- what is accepted of a table that isn't valid: there is nothing yet
+-- `accept` has no bits but the two that there are
 abbrev pub check_policy : Source → Result (Unit {0}) Refusal
-check_policy s = holds (s.accept == 0) UnknownPolicy
+check_policy s = holds (nat_lt s.accept 4) UnknownPolicy
 
 abbrev pub opened_in : Memory → Source → Result Opened Refusal
 opened_in m s = do
@@ -70,13 +71,13 @@ abbrev pub below_source : {A : Type 0} → Source → (Memory → List ℕ → R
     → Result A Refusal
 below_source s answer = below s (λ m ps. refused_as (answer m ps))
 
--- the first valid table of a kind: where it lies, and its bytes
+-- the first table of a kind that is accepted: where it lies, and its bytes
 unfoldable pub found_table : Kind → Source → Result (ℕ × List ℕ) Refusal
-found_table kind s = below_source s (λ m. lookup m kind)
+found_table kind s = below_source s (λ m. accepted_lookup s.accept m kind)
 
 -- its bytes, and what is shown of them
 unfoldable pub first_table : Kind → Source → Result (List ℕ) Refusal
-first_table kind s = below_source s (λ m ps. result_map (λ found. found.1) (lookup m kind ps))
+first_table kind s = below_source s (λ m ps. result_map (λ found. found.1) (accepted_lookup s.accept m kind ps))
 
 abbrev pub below_first : {A : Type 0} → Kind → Source → (List ℕ → A) → Result A Refusal
 below_first kind s show = result_map show (first_table kind s)

@@ -3,8 +3,9 @@ use Rattle.std.specs.Prelude.{ℕ, ◌*◌, Bool, true, false, List, Option, Som
 use Rattle.acpi_base.specs.Words.{size_code, space_code, bits_of, has_bit, Memory, ◌>>=◌, sdt_kind}
 use Rattle.acpi.specs.Types.{GenericAddress, BGRT, Bgrt}
 use Rattle.acpi_fixed.specs.Words.{bgrt_at, image_type_of, offset_of, rank_of, status_of, fadt_at}
-use Rattle.acpi.specs.Words.{fadt_kind, lookup, timer_of}
+use Rattle.acpi.specs.Words.{fadt_kind, timer_of}
 use Rattle.acpi_c_lib.specs.Types.{PmTimer, BootGraphic, Register}
+use Rattle.acpi_c_lib.specs.Accepted.{accepted_lookup}
 use Rattle.acpi_c_lib.specs.Answers.{result_map}
 use Rattle.acpi_c_lib.specs.Below.{AcpiError, Refusal, Source, below_first, below_source}
 use Rattle.acpi_c_lib.specs.Records as records
@@ -48,13 +49,13 @@ timer_record (Some t) =
 timer_record None = record { base = no_register; present = 0; is_32_bit = 0 }
 
 -- the timer of the first valid FADT
-abbrev pub timer_in : Memory → List ℕ → Result (Option PmTimer) AcpiError
-timer_in m ps = do
-  found ← lookup m fadt_kind ps
+abbrev pub timer_in : ℕ → Memory → List ℕ → Result (Option PmTimer) AcpiError
+timer_in accept m ps = do
+  found ← accepted_lookup accept m fadt_kind ps
   timer_of (fadt_at found.1)
 
 abbrev pub timer_below : Source → Result records.PmTimer Refusal
-timer_below s = below_source s (λ m ps. result_map timer_record (timer_in m ps))
+timer_below s = below_source s (λ m ps. result_map timer_record (timer_in s.accept m ps))
 
 -- ---- the boot graphic (section 5.2.22)
 

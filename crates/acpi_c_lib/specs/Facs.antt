@@ -4,7 +4,8 @@ use Rattle.acpi_base.specs.FromStd.{result_ok}
 use Rattle.acpi_base.specs.Words.{field_of, lent, Memory, ◌>>=◌}
 use Rattle.acpi_fixed.specs.Words.{facs_address_of, fadt_at}
 use Rattle.acpi.specs.Types.{AddressRange, FACS, TableMissing}
-use Rattle.acpi.specs.Words.{facs_at, fadt_kind, lookup}
+use Rattle.acpi.specs.Words.{facs_at, fadt_kind}
+use Rattle.acpi_c_lib.specs.Accepted.{accepted_lookup}
 use Rattle.acpi_c_lib.specs.Below.{AcpiError, Refusal, Source, below_source}
 use Rattle.acpi_c_lib.specs.Types.{Facs}
 
@@ -27,12 +28,12 @@ facs_in m address = do
   Ok (facs_record place head)
 
 -- where the first valid FADT says that the FACS lies, or that there is none
-abbrev pub facs_address_in : Memory → List ℕ → Result ℕ AcpiError
-facs_address_in m ps = do
-  found ← lookup m fadt_kind ps
+abbrev pub facs_address_in : ℕ → Memory → List ℕ → Result ℕ AcpiError
+facs_address_in accept m ps = do
+  found ← accepted_lookup accept m fadt_kind ps
   ok_or (result_ok (facs_address_of (fadt_at found.1))) (TableMissing FACS)
 
 abbrev pub facs_below : Source → Result Facs Refusal
 facs_below s = below_source s (λ m ps. do
-  address ← facs_address_in m ps
+  address ← facs_address_in s.accept m ps
   facs_in m address)

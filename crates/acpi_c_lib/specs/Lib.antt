@@ -1,3 +1,5 @@
+pub mod AcceptLaws
+pub mod Accepted
 pub mod Answers
 pub mod Apics
 pub mod Arm

@@ -1,10 +1,11 @@
 -- The ranges of memory that a caller has to map before the calls can read all tables.
 use Rattle.std.specs.Prelude.{◌≡◌, ℕ, zero, suc, ◌+◌, ◌*◌, ◌^◌, ◌≤◌, ◌==◌, List, [], ◌∷◌, ◌++◌, drop, filter_map, Bool, Option, Some, None, Result, Ok, Err, if◌then◌else◌, option_map}
 use Rattle.acpi_base.specs.FromStd.{cons_option, last_or, is_some, is_ok}
-use Rattle.acpi_base.specs.Words.{Memory, at, Ranges, own_table_ranges, ◌>>=◌, lent, own_table_at}
-use Rattle.acpi.specs.Types.{MapFailed, AddressRange, Fadt}
-use Rattle.acpi_fixed.specs.Words.{fadt_at}
-use Rattle.acpi.specs.Words.{bios_areas, count_in, first_in, opened_in_areas_ranges, or_later, fadt_kind, lookup, Opened, opened_by_rsdp_ranges, opened_by_search_ranges, opened_ranges, rsdp_ranges, dsdt_place, dsdt_place_ranges, facs_place, facs_place_ranges, pointers, root_of_revision, width_of, rsdp_at, count_of, first_area, room_of, second_area, walk, word_in}
+use Rattle.acpi_base.specs.Words.{Memory, at, Ranges, header_at, ◌>>=◌, lent, plain_kind}
+use Rattle.acpi.specs.Types.{DSDT, MapFailed, AddressRange, Fadt}
+use Rattle.acpi_fixed.specs.Words.{dsdt_address_of, fadt_at}
+use Rattle.acpi.specs.Words.{bios_areas, count_in, first_in, opened_in_areas_ranges, or_later, fadt_kind, Opened, opened_by_rsdp_ranges, opened_by_search_ranges, opened_ranges, rsdp_ranges, facs_place, facs_place_ranges, pointers, root_of_revision, width_of, rsdp_at, count_of, first_area, room_of, second_area, walk, word_in}
+use Rattle.acpi_c_lib.specs.Accepted.{accepted_at, accepted_lookup, own_accepted_at}
 use Rattle.acpi_c_lib.specs.Below.{AcpiError, Refusal, Source, check_policy, ebda_in, opened_in}
 use Rattle.acpi_c_lib.specs.Regions.{memory_in}
 pub use Rattle.acpi_c_lib.specs.declared.candidates.Areas.{Areas}
@@ -25,21 +26,36 @@ hole _ ranges = None
 
 -- ---- below a root table
 
+-- where a table isn't lent: its header, or as many bytes as that says (section 5.2.6)
+abbrev pub unlent : ℕ → Result (List ℕ) AcpiError → Range
+unlent p (Ok head) = range_of (p, (header_at head).length)
+unlent p (Err e) = range_of (p, 36)
+
+-- of a table, if that is why it is refused
+abbrev pub table_hole : Memory → ℕ → Result (List ℕ) AcpiError → Option Range
+table_hole m p (Err MapFailed) = Some (unlent p (lent m p 36))
+table_hole m p _ = None
+
 -- of a member, under its own signature
-abbrev pub member_hole : Memory → ℕ → Option Range
-member_hole m p = hole (own_table_at m p) (own_table_ranges m p)
+abbrev pub member_hole : ℕ → Memory → ℕ → Option Range
+member_hole accept m p = table_hole m p (own_accepted_at accept m p)
 
 -- of the DSDT (section 5.2.11.1) and the FACS (section 5.2.10) that a FADT leads to
-abbrev pub led_holes : Memory → Result (ℕ × List ℕ) AcpiError → List Range
-led_holes m (Ok found) =
-    let fadt = fadt_at found.1 in
-    cons_option (hole (dsdt_place m fadt) (dsdt_place_ranges m fadt))
-    (cons_option (hole (facs_place m fadt) (facs_place_ranges m fadt)) [])
-led_holes m (Err e) = []
+abbrev pub dsdt_hole : ℕ → Memory → Result ℕ AcpiError → Option Range
+dsdt_hole accept m (Ok p) = table_hole m p (accepted_at accept m (plain_kind DSDT) p)
+dsdt_hole accept m (Err e) = None
 
--- of the members, in order, and then of what the first valid FADT leads to
-abbrev pub holes_below : Memory → List ℕ → List Range
-holes_below m ps = filter_map (member_hole m) ps ++ led_holes m (lookup m fadt_kind ps)
+abbrev pub led_holes : ℕ → Memory → Result (ℕ × List ℕ) AcpiError → List Range
+led_holes accept m (Ok found) =
+    let fadt = fadt_at found.1 in
+    cons_option (dsdt_hole accept m (dsdt_address_of fadt))
+    (cons_option (hole (facs_place m fadt) (facs_place_ranges m fadt)) [])
+led_holes accept m (Err e) = []
+
+-- of the members, in order, and then of what the first FADT that is accepted leads to
+abbrev pub holes_below : ℕ → Memory → List ℕ → List Range
+holes_below accept m ps =
+    filter_map (member_hole accept m) ps ++ led_holes accept m (accepted_lookup accept m fadt_kind ps)
 
 -- ---- of the RSDPs that a search comes to (section 5.2.5.1)
 
@@ -119,7 +135,7 @@ opening_ranges m s =
 
 -- those below the root table, or the one of opening
 abbrev pub missing_in : Memory → Source → Result Opened Refusal → Result (List Range) Refusal
-missing_in m s (Ok o) = Ok (holes_below m (pointers (width_of o.kind) (drop 36 o.root)))
+missing_in m s (Ok o) = Ok (holes_below s.accept m (pointers (width_of o.kind) (drop 36 o.root)))
 missing_in m s (Err (Acpi e)) = Ok (cons_option (hole {A = Opened} (Err e) (opening_ranges m s)) [])
 missing_in m s (Err e) = Err e
 
@@ -140,7 +156,8 @@ IsUnlent m None = ⊥
 
 -- each member that is refused because it isn't lent has a range
 abbrev pub MembersHaveHoles : Type 0
-MembersHaveHoles = (m : Memory) (p : ℕ) → own_table_at m p ≡ Err MapFailed → IsUnlent m (member_hole m p)
+MembersHaveHoles = (accept : ℕ) (m : Memory) (p : ℕ) → own_accepted_at accept m p ≡ Err MapFailed
+    → IsUnlent m (member_hole accept m p)
 
 -- so has a candidate that is lent, and refused because it isn't lent as far as its Length says
 abbrev pub CandidatesHaveHoles : Type 0
@@ -149,8 +166,9 @@ CandidatesHaveHoles = (m : Memory) (a : ℕ) (b : List ℕ) → lent m a 36 ≡ 
 
 -- so have the DSDT and the FACS that a FADT leads to
 abbrev pub LedHaveHoles : Type 0
-LedHaveHoles = (m : Memory) (f : Fadt)
-    → (dsdt_place m f ≡ Err MapFailed → IsUnlent m (hole (dsdt_place m f) (dsdt_place_ranges m f)))
+LedHaveHoles = (accept : ℕ) (m : Memory) (f : Fadt)
+    → ((p : ℕ) → dsdt_address_of f ≡ Ok p → accepted_at accept m (plain_kind DSDT) p ≡ Err MapFailed
+    → IsUnlent m (dsdt_hole accept m (dsdt_address_of f)))
     × (facs_place m f ≡ Err MapFailed → IsUnlent m (hole (facs_place m f) (facs_place_ranges m f)))
 
 -- opening that is refused because something isn't lent has a range

@@ -25,14 +25,14 @@ abbrev pub has_apics : Platform → Result Platform Refusal
 has_apics (model.Apic apic, processors) = Ok (model.Apic apic, processors)
 has_apics (model.Unknown, processors) = Err NoApics
 
-abbrev pub platform_in : Memory → List ℕ → Result Platform Refusal
-platform_in m ps = do
-  platform ← refused_as (platform_model m ps)
+abbrev pub platform_in : ℕ → Memory → List ℕ → Result Platform Refusal
+platform_in accept m ps = do
+  platform ← refused_as (platform_model accept m ps)
   has_apics platform
 
 -- the platform that has some, of the tables that a caller names, and what is shown of it
 unfoldable pub known_platform : Source → Result Platform Refusal
-known_platform s = below s platform_in
+known_platform s = below s (platform_in s.accept)
 
 abbrev pub below_known : {A : Type 0} → Source → (Platform → A) → Result A Refusal
 below_known s show = result_map show (known_platform s)

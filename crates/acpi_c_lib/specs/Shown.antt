@@ -1,12 +1,13 @@
 -- What the calls answer of the tables that a caller names.
 use Rattle.std.specs.Prelude.{ℕ, List, filter_map, length, map, Option, Result, Ok, ok_or, unwrap_or}
 use Rattle.acpi_base.specs.FromStd.{is_some, result_ok}
-use Rattle.acpi_base.specs.Words.{ecam_range, filled_part, header_at, mcfg_entries_of, Memory, ◌>>=◌, own_table_at, plain_kind, table_at, letters_of}
+use Rattle.acpi_base.specs.Words.{ecam_range, filled_part, header_at, mcfg_entries_of, Memory, ◌>>=◌, plain_kind, letters_of}
 pub use Rattle.acpi_base.specs.declared.table.signature.Signature.{Signature}
 use Rattle.acpi.specs.Types.{DSDT, McfgEntry, SSDT}
 use Rattle.acpi_fixed.specs.Words.{dsdt_address_of, fadt_at}
-use Rattle.acpi.specs.Words.{Opened, ecam_address, fadt_kind, hpet_at, hpet_kind, hpet_of, info_of, lookup, mcfg_kind, protection_code, stream_of, width_of}
+use Rattle.acpi.specs.Words.{Opened, ecam_address, fadt_kind, hpet_at, hpet_kind, info_of, mcfg_kind, protection_code, stream_of, width_of}
 use Rattle.acpi_c_lib.specs.Types.{HpetInfo, EcamRange, PciRegion, Root, NoSuchFunction}
+use Rattle.acpi_c_lib.specs.Accepted.{accepted_at, accepted_lookup, own_accepted_at}
 use Rattle.acpi_c_lib.specs.Answers.{result_map}
 use Rattle.acpi_c_lib.specs.Below.{AcpiError, Refusal, Source, below_first, below_source, first_table, opened_below, rsdp_place_in}
 use Rattle.acpi_c_lib.specs.Devices.{flag}
@@ -46,15 +47,15 @@ table_record found = record {
 }
 
 -- the table of a member, if it is valid under its own signature
-abbrev pub table_in : Memory → ℕ → Option Table
-table_in m p = result_ok (result_map (λ b. table_record (p, b)) (own_table_at m p))
+abbrev pub table_in : ℕ → Memory → ℕ → Option Table
+table_in accept m p = result_ok (result_map (λ b. table_record (p, b)) (own_accepted_at accept m p))
 
 -- those of all members, in order
-abbrev pub tables_in : Memory → List ℕ → List Table
-tables_in m ps = filter_map (table_in m) ps
+abbrev pub tables_in : ℕ → Memory → List ℕ → List Table
+tables_in accept m ps = filter_map (table_in accept m) ps
 
 abbrev pub tables_below : Source → Result (List Table) Refusal
-tables_below s = below_source s (λ m ps. Ok (tables_in m ps))
+tables_below s = below_source s (λ m ps. Ok (tables_in s.accept m ps))
 
 -- the signature of four letters
 abbrev pub signature_named : records.Signature → Signature
@@ -62,7 +63,8 @@ signature_named name = record { 0 = name.letters }
 
 -- the first valid table of a name
 abbrev pub table_below : Source → records.Signature → Result Table Refusal
-table_below s name = below_source s (λ m ps. result_map table_record (lookup m (plain_kind (signature_named name)) ps))
+table_below s name = below_source s (λ m ps. result_map table_record
+    (accepted_lookup s.accept m (plain_kind (signature_named name)) ps))
 
 -- the AML of a table, which is given by its address and its bytes
 abbrev pub aml_record : ℕ × List ℕ → records.AmlTable
@@ -74,28 +76,28 @@ aml_record found = record {
 }
 
 -- that of the table at an address, if it is valid under a signature
-abbrev pub aml_at : Memory → Signature → ℕ → Result records.AmlTable AcpiError
-aml_at m s p = result_map (λ b. aml_record (p, b)) (table_at m (plain_kind s) p)
+abbrev pub aml_at : ℕ → Memory → Signature → ℕ → Result records.AmlTable AcpiError
+aml_at accept m s p = result_map (λ b. aml_record (p, b)) (accepted_at accept m (plain_kind s) p)
 
 -- that of the DSDT to which the first valid FADT leads
-abbrev pub dsdt_in : Memory → List ℕ → Result records.AmlTable AcpiError
-dsdt_in m ps = do
-  found ← lookup m fadt_kind ps
+abbrev pub dsdt_in : ℕ → Memory → List ℕ → Result records.AmlTable AcpiError
+dsdt_in accept m ps = do
+  found ← accepted_lookup accept m fadt_kind ps
   address ← dsdt_address_of (fadt_at found.1)
-  aml_at m DSDT address
+  aml_at accept m DSDT address
 
 abbrev pub dsdt_below : Source → Result records.AmlTable Refusal
-dsdt_below s = below_source s dsdt_in
+dsdt_below s = below_source s (dsdt_in s.accept)
 
 -- that of the SSDT of a member, if it is a valid one
-abbrev pub ssdt_in : Memory → ℕ → Option records.AmlTable
-ssdt_in m p = result_ok (aml_at m SSDT p)
+abbrev pub ssdt_in : ℕ → Memory → ℕ → Option records.AmlTable
+ssdt_in accept m p = result_ok (aml_at accept m SSDT p)
 
-abbrev pub ssdts_in : Memory → List ℕ → List records.AmlTable
-ssdts_in m ps = filter_map (ssdt_in m) ps
+abbrev pub ssdts_in : ℕ → Memory → List ℕ → List records.AmlTable
+ssdts_in accept m ps = filter_map (ssdt_in accept m) ps
 
 abbrev pub ssdts_below : Source → Result (List records.AmlTable) Refusal
-ssdts_below s = below_source s (λ m ps. Ok (ssdts_in m ps))
+ssdts_below s = below_source s (λ m ps. Ok (ssdts_in s.accept m ps))
 
 -- ---- PCI configuration space (MCFG; PCI Firmware Specification, section 4.1.2)
 
@@ -142,19 +144,21 @@ hpet_record i = record {
   page_protection = protection_code i.page_protection;
 }
 
-abbrev pub hpet_below : Source → Result records.HpetInfo Refusal
-hpet_below s = below_source s (λ m ps. result_map hpet_record (hpet_of m ps))
-
 -- what the bytes of an HPET say, if its registers lie in memory
 abbrev pub hpet_shown : List ℕ → Result records.HpetInfo AcpiError
 hpet_shown table = result_map hpet_record (info_of (hpet_at table))
 
--- that of a member, if it is a valid HPET
-abbrev pub hpet_in : Memory → ℕ → Option records.HpetInfo
-hpet_in m p = result_ok (table_at m hpet_kind p >>= hpet_shown)
+abbrev pub hpet_below : Source → Result records.HpetInfo Refusal
+hpet_below s = below_source s (λ m ps. do
+  found ← accepted_lookup s.accept m hpet_kind ps
+  hpet_shown found.1)
 
-abbrev pub hpets_in : Memory → List ℕ → List records.HpetInfo
-hpets_in m ps = filter_map (hpet_in m) ps
+-- that of a member, if it is a valid HPET
+abbrev pub hpet_in : ℕ → Memory → ℕ → Option records.HpetInfo
+hpet_in accept m p = result_ok (accepted_at accept m hpet_kind p >>= hpet_shown)
+
+abbrev pub hpets_in : ℕ → Memory → List ℕ → List records.HpetInfo
+hpets_in accept m ps = filter_map (hpet_in accept m) ps
 
 abbrev pub hpets_below : Source → Result (List records.HpetInfo) Refusal
-hpets_below s = below_source s (λ m ps. Ok (hpets_in m ps))
+hpets_below s = below_source s (λ m ps. Ok (hpets_in s.accept m ps))

@@ -1,4 +1,7 @@
 -- This crate's words: what proofs, contracts and the crates above bring in from its specs.
+pub use Rattle.acpi_c_lib.specs.AcceptLaws.{AcceptsNothing, AcceptsValid}
+pub use Rattle.acpi_c_lib.specs.Accepted.{accepted_lookup, names_accepted}
+unfoldable pub use Rattle.acpi_c_lib.specs.Accepted.{accepted_at, loosened_at, own_accepted_at}
 pub use Rattle.acpi_c_lib.specs.Answers.{Answers, AnswersList, AnswersPlain, AnswersSome, Fills, GivesSome, Writes, items_beside, items_said, name_or, put_from, result_map}
 pub use Rattle.acpi_c_lib.specs.ApicLaws.{ListsAreModels}
 pub use Rattle.acpi_c_lib.specs.Apics.{MadtEntry, below_apics, mailbox_below, boot_first, booted, io_apic_in, is_of_apics, local_apic_address_in, nmi_line, nmi_line_in, nmi_source_in, override_in, processor, processor_in, processors_of}
@@ -14,7 +17,7 @@ pub use Rattle.acpi_c_lib.specs.Devices.{generic_record, graphic_below, graphic_
 pub use Rattle.acpi_c_lib.specs.Entries.{entries_below, entries_from, entries_said, entry_record, left_said, plain_grammar, width_of_bytes, number_place, walk_layout}
 pub use Rattle.acpi_c_lib.specs.EntryFaults.{entry_fault, faults_from, rest_faults}
 pub use Rattle.acpi_c_lib.specs.Facs.{facs_below, facs_in}
-pub use Rattle.acpi_c_lib.specs.Faults.{fault_record, faults_below, kind_named}
+pub use Rattle.acpi_c_lib.specs.Faults.{accepted_fault, fault_record, faults_among, faults_below, kind_named}
 pub use Rattle.acpi_c_lib.specs.Fixed.{fixed_below, fixed_record, gpe_record, hypervisor_id_in, minor_revision_in, revision_in}
 pub use Rattle.acpi_c_lib.specs.GtdtFaults.{gtdt_faults_below, gtdt_faults_of, last_faults, timer_fault, timers_cut}
 pub use Rattle.acpi_c_lib.specs.Held.{mapped_memory}
@@ -25,19 +28,19 @@ pub use Rattle.acpi_c_lib.specs.IsaList.{IsaInterrupts, IsaRoute, ItemsAreAnswer
 unfoldable pub use Rattle.acpi_c_lib.specs.IsaList.{isa_numbers}
 pub use Rattle.acpi_c_lib.specs.Listed.{lists_by, lists_each, lists_found, lists_some}
 pub use Rattle.acpi_c_lib.specs.Located.{LiesOnlyAt, Place, located, spot_from}
-pub use Rattle.acpi_c_lib.specs.Missing.{Areas, CandidatesHaveHoles, Fits, IsUnlent, LedHaveHoles, MembersHaveHoles, OpeningHasHole, areas_holes, areas_of, hole, last_range, member_hole, missing_below, missing_in, no_areas, opening_ranges, pieces, range_of, stretch}
+pub use Rattle.acpi_c_lib.specs.Missing.{Areas, CandidatesHaveHoles, Fits, IsUnlent, LedHaveHoles, MembersHaveHoles, OpeningHasHole, areas_holes, areas_of, dsdt_hole, hole, holes_below, last_range, member_hole, missing_below, missing_in, no_areas, opening_ranges, pieces, range_of, stretch, table_hole, unlent}
 unfoldable pub use Rattle.acpi_c_lib.specs.Missing.{candidate_hole, candidate_holes, has_valid, opened_as_lent_ranges, walk_holes}
 pub use Rattle.acpi_c_lib.specs.MadtFaults.{madt_fault, madt_faults_below, madt_faults_of, madt_refusal}
-pub use Rattle.acpi_c_lib.specs.Model.{MadtItem, apics_by, below_platform, counts_of, io_apic_record, listed, model_by, platform_model}
+pub use Rattle.acpi_c_lib.specs.Model.{MadtItem, accepted_model, apics_by, below_platform, counts_of, io_apic_record, listed, model_by, platform_model}
 pub use Rattle.acpi_c_lib.specs.Numa.{IsLocalities, affinities_below, affinity_record, distance_below, domain_of_address_below, domain_of_apic_below, domain_of_processor_below, no_domain, slit_in, srat_fault, srat_faults_below, srat_faults_of}
-pub use Rattle.acpi_c_lib.specs.Power.{enable_plan_below, kind_code, plan_record, plan_refusal, plan_said, reset_plan_below, sleep_plan_below, sleep_refusal, sleep_types_below, step_record, types_below}
+pub use Rattle.acpi_c_lib.specs.Power.{accepted_answer, dsdt_answer, enable_plan_below, kind_code, plan_record, plan_refusal, plan_said, reset_plan_below, sleep_plan_below, sleep_refusal, sleep_types_below, step_record, types_below}
 pub use Rattle.acpi_c_lib.specs.Regions.{Region, check_from, check_regions, memory_in, memory_of, region_of}
 pub use Rattle.acpi_c_lib.specs.Riscv.{aplic_in, below_riscv, imsic_in, plic_in, rintc_in}
 pub use Rattle.acpi_c_lib.specs.Routes.{AreWirings, Interrupt, IoApicPin, apic_in, below_known, has_codes, interrupt_or, interrupt_record, is_nearer, isa_below, isa_in, isa_override_in, last_override, own_override, pin_below, pin_in, pin_or, sci_below, sci_in, wirings_of}
 unfoldable pub use Rattle.acpi_c_lib.specs.Routes.{known_platform}
 pub use Rattle.acpi_c_lib.specs.Shown.{aml_at, dsdt_below, ecam_below, ecam_ranges_below, ecam_record, hpet_below, hpet_in, hpet_shown, hpets_below, hpets_in, pci_record, pci_regions_below, root_below, signature_named, ssdt_in, ssdts_below, ssdts_in, table_below, table_in, table_record, tables_below, tables_in}
 pub use Rattle.acpi_c_lib.specs.Types.{Acpi, ArmTimers, Bgrt, Fadt, Gic, Hpet, Madt, Mcfg, Spcr, Srat, UnknownStart, Writer}
-pub use Rattle.acpi_c_lib.specs.Walked.{nth_below, nth_in, range_record, ranges_below}
+pub use Rattle.acpi_c_lib.specs.Walked.{dsdt_range, facs_range, led_ranges, members_ranges, nth_below, nth_in, range_in, ranges_below}
 pub use Rattle.acpi_c_lib.specs.Writing.{IsKeptOr, TableIds, WriterError, WritesTable, hpet_info_of, is_wiring, madt_of, writer_refused}
 pub use Rattle.acpi_c_lib.specs.WrittenFadt.{facs_contents}
 pub use Rattle.acpi_c_lib.specs.WrittenGic.{gic_of}

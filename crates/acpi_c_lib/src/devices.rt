@@ -4,15 +4,16 @@ ghost use Rattle.acpi_c_lib.specs.Words.{generic_record, graphic_below, graphic_
 ghost use Rattle.acpi.specs.Words.{pointers_left};
 
 use crate::lists::{Listing, fill};
+use crate::lookup::Lookup;
 use crate::opening::{first, open};
 use crate::records::{self, BootGraphic, HpetInfo, Register, Source};
 use crate::refusal::Refusal;
 use crate::regions::Mapped;
 use acpi::address::GenericAddress;
 use acpi::bgrt::{Bgrt, ImageType};
+use acpi::fadt::Fadt;
 use acpi::hpet::{HpetTable, PageProtection};
 use acpi::platform::PmTimer;
-use acpi::sdt::map_table;
 use acpi::{AcpiError, AcpiHandler, AcpiResult, Pointers};
 use acpi_base::bytes::{bits, field_in, u8_in, u16_in, u32_in};
 
@@ -22,7 +23,7 @@ pub fn hpet(source: &Source<'_>) -> Result<HpetInfo, Refusal>
 {
     let memory = Mapped::new(source.regions)?;
     let tables = open(&memory, source)?;
-    let table = tables.find_table::<HpetTable>()?;
+    let table = Lookup::new(&memory, source).find_table::<HpetTable>(tables.addresses())?;
     let block = hpet_shown(table.bytes())?;
     Ok(block)
 }
@@ -57,20 +58,20 @@ pub fn hpets(source: &Source<'_>, out: &mut [HpetInfo]) -> Result<usize, Refusal
 {
     let memory = Mapped::new(source.regions)?;
     let tables = open(&memory, source)?;
-    Ok(fill(tables.addresses(), &memory, out))
+    Ok(fill(tables.addresses(), &Lookup::new(&memory, source), out))
 }
 
-impl<H: AcpiHandler> Listing<H, HpetInfo> for Pointers<'_> {
-    ghost record_of = { λ handler p. hpet_in (H.memory handler) p };
+impl<H: AcpiHandler> Listing<Lookup<'_, H>, HpetInfo> for Pointers<'_> {
+    ghost record_of = { λ l p. hpet_in l.accept (H.memory l.handler.now) p };
 
-    ghost left = { λ handler s. hpets_in (H.memory handler) (pointers_left s) };
+    ghost left = { λ l s. hpets_in l.accept (H.memory l.handler.now) (pointers_left s) };
 
-    ghost gives_first = { λ handler. lists_some (hpet_in (H.memory handler)) (λ s. pointers_left s) };
+    ghost gives_first = { λ l. lists_some (hpet_in l.accept (H.memory l.handler.now)) (λ s. pointers_left s) };
 
-    fn record(handler: &H, address: u64) -> Option<HpetInfo>
-        ensures { result ≡ hpet_in (H.memory handler.now) address }
+    fn record(lookup: &Lookup<'_, H>, address: u64) -> Option<HpetInfo>
+        ensures { result ≡ hpet_in lookup.now.accept (H.memory lookup.now.handler.now) address }
     {
-        let table = map_table::<H, HpetTable>(handler, address).ok()?;
+        let table = lookup.table_at::<HpetTable>(address).ok()?;
         hpet_shown(table.bytes()).ok()
     }
 }
@@ -81,8 +82,8 @@ pub fn timer(source: &Source<'_>) -> Result<records::PmTimer, Refusal>
 {
     let memory = Mapped::new(source.regions)?;
     let tables = open(&memory, source)?;
-    let fadt = tables.find_fadt()?;
-    let timer = PmTimer::of(&fadt)?;
+    let fadt = Lookup::new(&memory, source).find_table::<Fadt>(tables.addresses())?;
+    let timer = PmTimer::new(&fadt)?;
     Ok(timer_record(timer))
 }
 

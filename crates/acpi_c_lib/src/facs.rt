@@ -2,10 +2,12 @@
 ghost use Rattle.std.specs.Prelude.{◌≡◌};
 ghost use Rattle.acpi_c_lib.specs.Words.{facs_below, facs_in};
 
+use crate::lookup::Lookup;
 use crate::opening::open;
 use crate::records::{Facs, Source};
 use crate::refusal::Refusal;
 use crate::regions::Mapped;
+use acpi::fadt::Fadt;
 use acpi::sdt::{SdtHeader, Signature};
 use acpi::{AcpiError, AcpiHandler, AcpiResult, PhysicalMapping, PhysicalRecord, facs_length};
 use acpi_base::bytes::{field_in, u8_in, u32_in};
@@ -16,7 +18,7 @@ pub fn facs(source: &Source<'_>) -> Result<Facs, Refusal>
 {
     let memory = Mapped::new(source.regions)?;
     let tables = open(&memory, source)?;
-    let fadt = tables.find_fadt()?;
+    let fadt = Lookup::new(&memory, source).find_table::<Fadt>(tables.addresses())?;
     let missing = AcpiError::TableMissing(Signature::FACS);
     let address = fadt.facs_address().ok().ok_or(missing)?;
     let facs = facs_at(&memory, address)?;
@@ -28,7 +30,7 @@ pub fn facs(source: &Source<'_>) -> Result<Facs, Refusal>
 /// Fails, in this order, with `MapFailed` if 36 bytes aren't lent, as `facs_length` does, and with `MapFailed` if as
 /// many bytes as its Length says aren't lent.
 #[tactic(auto, unfolding(acpi::specs::Places::facs_at))]
-fn facs_at<H: AcpiHandler>(handler: &H, address: u64) -> AcpiResult<Facs>
+pub(crate) fn facs_at<H: AcpiHandler>(handler: &H, address: u64) -> AcpiResult<Facs>
     ensures { result ≡ facs_in (H.memory handler.now) address }
 {
     let head = PhysicalMapping::<'_, H, SdtHeader>::map(handler, address, SdtHeader::MIN_LENGTH)?;

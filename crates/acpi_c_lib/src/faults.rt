@@ -1,10 +1,12 @@
-//! The tables that lookups pass over.
-ghost use Rattle.std.specs.Prelude.{◌≡◌, ◌^◌, ◌<◌, length, map};
-ghost use Rattle.acpi.specs.Words.{faults_of, pointers_left};
+//! The tables that lookups pass over, or take though they aren't valid.
+ghost use Rattle.std.specs.Prelude.{◌≡◌, ◌^◌, ◌<◌, [], length};
+ghost use Rattle.acpi_base.specs.FromStd.{cons_option};
+ghost use Rattle.acpi.specs.Words.{pointers_left};
 ghost use Rattle.acpi_base.specs.Words.{table_at};
-ghost use Rattle.acpi_c_lib.specs.Words.{Fills, Writes, result_map, fault_record, faults_below, kind_named};
+ghost use Rattle.acpi_c_lib.specs.Words.{Fills, Writes, accepted_at, accepted_fault, result_map, fault_record, faults_among, faults_below, kind_named};
 
 use crate::lists::put;
+use crate::lookup::Lookup;
 use crate::opening::open;
 use crate::records::{self, Fault, Source};
 use crate::refusal::{Refusal, acpi_code};
@@ -15,14 +17,14 @@ use acpi::fadt::Fadt;
 use acpi::hpet::HpetTable;
 use acpi::madt::Madt;
 use acpi::mcfg::Mcfg;
-use acpi::sdt::{Signature, map_sdt, map_table};
+use acpi::sdt::Signature;
 use acpi::spcr::Spcr;
 use acpi::{AcpiError, AcpiHandler, AcpiResult, AcpiTable, Pointers};
 use acpi_arm::gtdt::Gtdt;
 use acpi_iommu::{Dmar, Ivrs};
 use acpi_numa::{Slit, Srat};
 
-/// Lists the tables that a lookup of a signature passes over, and why.
+/// Lists the tables that a lookup of a signature passes over, and the one that it takes if that isn't valid, and why.
 pub fn faults(
     source: &Source<'_>,
     name: records::Signature,
@@ -32,75 +34,106 @@ pub fn faults(
 {
     let memory = Mapped::new(source.regions)?;
     let tables = open(&memory, source)?;
-    Ok(fill_faults(&memory, tables.addresses(), signature_named(name), out))
+    let lookup = Lookup::new(&memory, source);
+    Ok(fill_faults(&lookup, tables.addresses(), signature_named(name), out))
 }
 
 /// The faults of a lookup of a signature.
 fn fill_faults<H: AcpiHandler>(
-    handler: &H,
+    lookup: &Lookup<'_, H>,
     addresses: Pointers<'_>,
     signature: Signature,
     out: &mut [Fault],
 ) -> usize
     requires { length (pointers_left addresses) < 2 ^ 32 }
-    ensures { Writes result out.old out.new (map fault_record (faults_of (H.memory handler.now)
-        (kind_named signature) (pointers_left addresses.entry))) }
+    ensures { let l = lookup.now in Writes result out.old out.new (faults_among l.accept (H.memory l.handler.now)
+        (kind_named signature) (pointers_left addresses.entry)) }
 {
     let mut count = 0;
     for address in addresses {
-        match looked_at(handler, address, signature) {
-            Ok(()) => break,
-            Err(AcpiError::SdtInvalidSignature(_)) => {}
-            Err(error) => {
-                let fault = Fault {
-                    address,
-                    status: acpi_code(error),
-                };
-                put(out, count, fault);
-                count += 1;
-            }
+        let (fault, ends) = match looked_at(lookup, address, signature) {
+            Ok(()) => (accepted_fault(lookup.handler, address, signature), true),
+            Err(AcpiError::SdtInvalidSignature(_)) => (None, false),
+            Err(error) => (Some(fault_record(0, address, error)), false),
+        };
+        if let Some(fault) = fault {
+            put(out, count, fault);
+            count += 1;
+        }
+        if ends {
+            break;
         }
     }
     count
 }
 
+/// Why the table at an address that is accepted isn't valid.
+#[tactic(auto, unfolding(crate::specs::Accepted::accepted_at))]
+fn accepted_fault<H: AcpiHandler>(handler: &H, address: u64, signature: Signature) -> Option<Fault>
+    ensures { accepted_fault address (table_at (H.memory handler.now) (kind_named signature) address)
+        ≡ cons_option result [] }
+{
+    let strict = Lookup { handler, accept: 0 };
+    match looked_at(&strict, address, signature) {
+        Ok(()) => None,
+        Err(error) => Some(fault_record(1, address, error)),
+    }
+}
+
+/// That the table at an address isn't valid, or isn't accepted.
+fn fault_record(accepted: u8, address: u64, error: AcpiError) -> Fault
+    ensures { result ≡ fault_record accepted address error }
+{
+    Fault {
+        address,
+        status: acpi_code(error),
+        accepted,
+    }
+}
+
 /// Whether a lookup of a signature takes the table at an address, or why it passes it over.
 #[tactic(auto, using(crate::proofs::Unlent::same_signature), unfolding(crate::specs::Faults::least_named))]
-fn looked_at<H: AcpiHandler>(handler: &H, address: u64, signature: Signature) -> AcpiResult<()>
-    ensures { result ≡ result_map (λ _. tt) (table_at (H.memory handler.now) (kind_named signature) address) }
+fn looked_at<H: AcpiHandler>(
+    lookup: &Lookup<'_, H>,
+    address: u64,
+    signature: Signature,
+) -> AcpiResult<()>
+    ensures { let l = lookup.now in result
+        ≡ result_map (λ _. tt) (accepted_at l.accept (H.memory l.handler.now) (kind_named signature) address) }
 {
     if signature == Signature::FADT {
-        taken::<H, Fadt>(handler, address)
+        taken::<H, Fadt>(lookup, address)
     } else if signature == Signature::MADT {
-        taken::<H, Madt>(handler, address)
+        taken::<H, Madt>(lookup, address)
     } else if signature == Signature::MCFG {
-        taken::<H, Mcfg>(handler, address)
+        taken::<H, Mcfg>(lookup, address)
     } else if signature == Signature::HPET {
-        taken::<H, HpetTable>(handler, address)
+        taken::<H, HpetTable>(lookup, address)
     } else if signature == Signature::BGRT {
-        taken::<H, Bgrt>(handler, address)
+        taken::<H, Bgrt>(lookup, address)
     } else if signature == Signature::SPCR {
-        taken::<H, Spcr>(handler, address)
+        taken::<H, Spcr>(lookup, address)
     } else if signature == Signature::GTDT {
-        taken::<H, Gtdt>(handler, address)
+        taken::<H, Gtdt>(lookup, address)
     } else if signature == Signature::SRAT {
-        taken::<H, Srat>(handler, address)
+        taken::<H, Srat>(lookup, address)
     } else if signature == Signature::SLIT {
-        taken::<H, Slit>(handler, address)
+        taken::<H, Slit>(lookup, address)
     } else if signature == Signature::DMAR {
-        taken::<H, Dmar>(handler, address)
+        taken::<H, Dmar>(lookup, address)
     } else if signature == Signature::IVRS {
-        taken::<H, Ivrs>(handler, address)
+        taken::<H, Ivrs>(lookup, address)
     } else {
-        map_sdt(handler, address, signature)?;
+        lookup.sdt_at(address, signature)?;
         Ok(())
     }
 }
 
-/// Whether the table at an address is one of this type, or why it isn't.
-fn taken<H: AcpiHandler, T: AcpiTable>(handler: &H, address: u64) -> AcpiResult<()>
-    ensures { result ≡ result_map (λ _. tt) (table_at (H.memory handler.now) T.kind address) }
+/// Whether the table at an address is accepted as one of this type, or why it isn't.
+fn taken<H: AcpiHandler, T: AcpiTable>(lookup: &Lookup<'_, H>, address: u64) -> AcpiResult<()>
+    ensures { let l = lookup.now in result
+        ≡ result_map (λ _. tt) (accepted_at l.accept (H.memory l.handler.now) T.kind address) }
 {
-    map_table::<H, T>(handler, address)?;
+    lookup.table_at::<T>(address)?;
     Ok(())
 }

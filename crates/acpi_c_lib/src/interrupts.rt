@@ -2,18 +2,20 @@
 ghost use Rattle.std.specs.Prelude.{◌≡◌, true, IfOk, IfSome, Ok, Some, option_map};
 ghost use Rattle.acpi_base.specs.FromStd.{list_any};
 ghost use Rattle.acpi_base.specs.Words.{counts_of, entries_of, bytes_of, start_of, items_of, Gives};
-ghost use Rattle.acpi.specs.Words.{lookup, madt_kind, model_in, of_tables};
-ghost use Rattle.acpi_c_lib.specs.Words.{apic_entries, is_of_apics, io_apic_record, model_by, platform_model, mapped_memory, memory_in, known_platform};
+ghost use Rattle.acpi.specs.Words.{madt_kind, pointers_left, pointers_of};
+ghost use Rattle.acpi_c_lib.specs.Words.{accepted_lookup, accepted_model, apic_entries, is_of_apics, io_apic_record, model_by, platform_model, mapped_memory, memory_in, known_platform};
 
 use crate::interrupt_records as records;
+use crate::lookup::Lookup;
 use crate::opening::open;
 use crate::records::Source;
 use crate::refusal::Refusal;
 use crate::regions::Mapped;
+use acpi::fadt::Fadt;
 use acpi::madt::Madt;
 use acpi::platform::PmTimer;
 use acpi::platform::interrupt::IoApic;
-use acpi::{AcpiHandler, AcpiResult, AcpiTables, Lender, PhysicalMapping};
+use acpi::{AcpiHandler, AcpiResult, AcpiTables, Lender, PhysicalMapping, Pointers};
 use acpi_base::model::Counts;
 
 /// A MADT that describes APICs, and how much there is of each sort in it.
@@ -26,22 +28,24 @@ pub(crate) struct ApicMadt<'h, H: Lender> {
 /// The MADT that describes the machine's APICs, with how much there is of each sort, or `None` if no
 /// valid one is listed or it describes none.
 ///
-/// Fails, in this order, with `TableMissing` if no valid FADT is listed, with `InvalidMadt` for the first entry of
-/// the MADT at fault, and with the error of the FADT's timer: as `PlatformInfo::new` does, so what is answered is
-/// what that call answers.
+/// Fails, in this order, with `TableMissing` if no FADT is listed that is accepted, with `InvalidMadt` for the first
+/// entry of the MADT at fault, and with the error of the FADT's timer: as `PlatformInfo::new` does, so what is
+/// answered is what that call answers, if nothing but valid tables is accepted.
 pub(crate) fn apic_madt<'h, H: AcpiHandler>(
+    lookup: &Lookup<'h, H>,
     tables: &AcpiTables<'h, H>,
 ) -> AcpiResult<Option<ApicMadt<'h, H>>>
-    ensures model { Gives (λ o. model_by (option_map (λ x. bytes_of x.madt) o)) result
-        (of_tables tables.now platform_model) }
+    ensures model { let l = lookup.now in Gives (λ o. model_by (option_map (λ x. bytes_of x.madt) o)) result
+        (platform_model l.accept (H.memory l.handler.now) (pointers_of tables.now)) }
     ensures counts { IfOk result (λ o. IfSome o (λ x. x.counts ≡ counts_of (items_of (bytes_of x.madt)))) }
-    ensures found { IfOk result (λ o. IfSome o (λ x.
-        (of_tables tables.now (λ m. lookup m madt_kind) ≡ Ok (start_of x.madt, bytes_of x.madt))
+    ensures found { let l = lookup.now in IfOk result (λ o. IfSome o (λ x.
+        (accepted_lookup l.accept (H.memory l.handler.now) madt_kind (pointers_of tables.now)
+        ≡ Ok (start_of x.madt, bytes_of x.madt))
         × (list_any is_of_apics (entries_of (bytes_of x.madt)) ≡ true))) }
 {
-    let fadt = tables.find_fadt()?;
-    let timer = PmTimer::of(&fadt);
-    let found = found_madt(tables)?;
+    let fadt = lookup.find_table::<Fadt>(tables.addresses())?;
+    let timer = PmTimer::new(&fadt);
+    let found = found_madt(lookup, tables.addresses())?;
     timer?;
     Ok(found)
 }
@@ -66,7 +70,7 @@ pub(crate) fn known_madt<'h, 'k>(
         Err(refusal) => return Err(*refusal),
     };
     let tables = open(memory, source)?;
-    apic_madt(&tables)?.ok_or(Refusal::NoApics)
+    apic_madt(&Lookup::new(memory, source), &tables)?.ok_or(Refusal::NoApics)
 }
 
 /// The first valid MADT, if it describes APICs, with how much there is of each sort, or `None` if no valid one is
@@ -74,15 +78,19 @@ pub(crate) fn known_madt<'h, 'k>(
 ///
 /// Fails with `InvalidMadt` for the first entry that is at fault.
 #[tactic(auto, using(crate::proofs::ApicLists::any_said))]
-fn found_madt<'h, H: AcpiHandler>(tables: &AcpiTables<'h, H>) -> AcpiResult<Option<ApicMadt<'h, H>>>
-    ensures model { Gives (λ o. model_by (option_map (λ x. bytes_of x.madt) o)) result
-        (of_tables tables.now model_in) }
+fn found_madt<'h, H: AcpiHandler>(
+    lookup: &Lookup<'h, H>,
+    addresses: Pointers<'_>,
+) -> AcpiResult<Option<ApicMadt<'h, H>>>
+    ensures model { let l = lookup.now in Gives (λ o. model_by (option_map (λ x. bytes_of x.madt) o)) result
+        (accepted_model l.accept (H.memory l.handler.now) (pointers_left addresses.entry)) }
     ensures counts { IfOk result (λ o. IfSome o (λ x. x.counts ≡ counts_of (items_of (bytes_of x.madt)))) }
-    ensures found { IfOk result (λ o. IfSome o (λ x.
-        (of_tables tables.now (λ m. lookup m madt_kind) ≡ Ok (start_of x.madt, bytes_of x.madt))
+    ensures found { let l = lookup.now in IfOk result (λ o. IfSome o (λ x.
+        (accepted_lookup l.accept (H.memory l.handler.now) madt_kind (pointers_left addresses.entry)
+        ≡ Ok (start_of x.madt, bytes_of x.madt))
         × (list_any is_of_apics (entries_of (bytes_of x.madt)) ≡ true))) }
 {
-    match tables.find_table::<Madt>() {
+    match lookup.find_table::<Madt>(addresses) {
         Ok(madt) => {
             let counts = madt.model_counts()?;
             if !counts.is_of_apic {

@@ -1,16 +1,16 @@
 //! Laws of the definitions, each the contract of a call that does nothing.
-ghost use Rattle.acpi_c_lib.specs.Words.{ItemsAreAnswers, CandidatesHaveHoles, LedHaveHoles, ListsAreModels, MembersHaveHoles, OpeningHasHole};
+ghost use Rattle.acpi_c_lib.specs.Words.{AcceptsNothing, AcceptsValid, ItemsAreAnswers, CandidatesHaveHoles, LedHaveHoles, ListsAreModels, MembersHaveHoles, OpeningHasHole};
 
 /// Each member of the root table that is refused with `MapFailed` has a range among those that
 /// `zacpi_list_missing_ranges` lists, and that range lies in no one region.
-#[tactic(auto, using(crate::proofs::Unlent::names_not, crate::proofs::Unlent::table_not), unfolding(acpi_base::specs::Table::own_table_at, acpi_base::specs::Table::table_at))]
+#[tactic(auto, using(crate::proofs::Unlent::own_unlent))]
 pub fn members_refused_have_ranges()
     ensures { MembersHaveHoles }
 {}
 
 /// If the error of the DSDT or the FACS that a FADT leads to is `MapFailed`, there is the range that
 /// `zacpi_list_missing_ranges` lists of it, and that range lies in no one region.
-#[tactic(auto, using(crate::proofs::Unlent::names_not, crate::proofs::Unlent::table_not), unfolding(acpi_base::specs::Table::table_at, acpi::specs::Places::dsdt_place, acpi::specs::Places::facs_at, acpi::specs::Places::facs_length))]
+#[tactic(auto, using(crate::proofs::Unlent::accepted_unlent), unfolding(acpi::specs::Places::facs_at, acpi::specs::Places::facs_length))]
 pub fn led_tables_have_ranges()
     ensures { LedHaveHoles }
 {}
@@ -39,4 +39,17 @@ pub fn items_are_answers()
 /// Of a MADT none of whose entries is at fault, the lists of its entries are those of `PlatformInfo`.
 pub fn lists_are_models()
     ensures { ListsAreModels }
+{}
+
+/// By an `accept` of 0, what is accepted is what the crate `acpi` finds valid, and the model is that of its
+/// `PlatformInfo`.
+#[tactic(auto, using(crate::proofs::Accepted::accepts_nothing))]
+pub fn nothing_else_is_accepted()
+    ensures { AcceptsNothing }
+{}
+
+/// A table that is valid is accepted by any bits.
+#[tactic(auto, using(crate::proofs::Accepted::accepts_valid))]
+pub fn valid_tables_are_accepted()
+    ensures { AcceptsValid }
 {}

@@ -32,6 +32,7 @@ pub mod iommu_records;
 pub mod isa_list;
 pub mod laws;
 mod lists;
+mod lookup;
 pub mod madt_faults;
 pub mod missing;
 pub mod numa;

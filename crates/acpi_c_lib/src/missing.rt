@@ -1,21 +1,23 @@
 //! The ranges of memory that a caller has to map before the calls can read all tables.
 ghost use Rattle.std.specs.Prelude.{◌≡◌, [], ◌+◌, ◌++◌, ◌^◌, ◌<◌, ◌≤◌, filter_map, length, Err, Some};
-ghost use Rattle.acpi_base.specs.FromStd.{cons_option, is_ok};
-ghost use Rattle.acpi_base.specs.Words.{own_table_ranges, table_ranges, lent, own_table_at, plain_kind, table_at};
+ghost use Rattle.acpi_base.specs.FromStd.{IsFinite, cons_option, is_ok};
+ghost use Rattle.acpi_base.specs.Words.{table_ranges, lent, plain_kind, table_at};
+ghost use Rattle.acpi_fixed.specs.Words.{dsdt_address_of};
 ghost use Rattle.acpi.specs.Types.{MapFailed, Signature};
-ghost use Rattle.acpi.specs.Words.{bios_areas, opened_in_areas, opened_by_rsdp, opened_by_search, opened_from, opened_by_rsdp_ranges, opened_by_search_ranges, opened_ranges, search_ranges, dsdt_place, dsdt_place_ranges, facs_place, facs_place_ranges, pointers_left, found_rsdp, room_of, second_area};
+ghost use Rattle.acpi.specs.Words.{bios_areas, opened_in_areas, opened_by_rsdp, opened_by_search, opened_from, opened_by_rsdp_ranges, opened_by_search_ranges, opened_ranges, search_ranges, facs_place, facs_place_ranges, pointers_left, found_rsdp, room_of, second_area};
 ghost use Rattle.acpi.specs.Rsdp.{root_of};
-ghost use Rattle.acpi_c_lib.specs.Words.{Fills, items_said, put_from, result_map, ebda_in, opened_in, hole, last_range, member_hole, missing_below, missing_in, opened_as_lent_ranges, opening_ranges, range_of, Acpi, lists_some};
+ghost use Rattle.acpi_c_lib.specs.Words.{Fills, items_said, put_from, result_map, ebda_in, dsdt_hole, opened_in, hole, last_range, member_hole, unlent, missing_below, missing_in, opened_as_lent_ranges, opening_ranges, range_of, Acpi, lists_some};
 
 use crate::candidates::candidate_holes;
 use crate::lists::{Listing, fill_from, put};
+use crate::lookup::Lookup;
 use crate::opening::{check_policy, ebda, open};
 use crate::records::{Range, Source};
 use crate::refusal::Refusal;
 use crate::regions::Mapped;
 use acpi::fadt::Fadt;
 use acpi::rsdp::{Rsdp, bios_areas};
-use acpi::sdt::{SdtHeader, Signature, map_own_sdt, map_sdt};
+use acpi::sdt::{SdtHeader, Signature};
 use acpi::{AcpiError, AcpiHandler, PhysicalMapping, Pointers, facs_length};
 
 /// Lists the ranges of memory that a caller has to map before all tables can be read.
@@ -29,6 +31,7 @@ pub fn missing(source: &Source<'_>, out: &mut [Range]) -> Result<usize, Refusal>
 }
 
 /// Those that aren't of a search's candidates, from an index on, and where the next would stand.
+#[tactic(auto, using(acpi::proofs::First::filter_map_few))]
 fn others<H: AcpiHandler>(
     handler: &H,
     source: &Source<'_>,
@@ -43,11 +46,12 @@ fn others<H: AcpiHandler>(
 {
     match open(handler, source) {
         Ok(tables) => {
-            let led = match tables.find_table::<Fadt>() {
-                Ok(fadt) => (dsdt_hole(handler, &fadt), facs_hole(handler, &fadt)),
+            let lookup = Lookup::new(handler, source);
+            let led = match lookup.find_table::<Fadt>(tables.addresses()) {
+                Ok(fadt) => (dsdt_hole(&lookup, &fadt), facs_hole(handler, &fadt)),
                 Err(_) => (None, None),
             };
-            Ok(fill(handler, tables.addresses(), led, out, from))
+            Ok(fill_with(tables.addresses(), &Unlent { lookup }, led, out, from))
         }
         Err(Refusal::Acpi(AcpiError::MapFailed)) => {
             let refused = opening_hole(handler, source);
@@ -58,42 +62,50 @@ fn others<H: AcpiHandler>(
     }
 }
 
-/// Writes where the members are refused that aren't lent, and then a pair of ranges, from an index on, and says where
-/// the next would stand.
-#[tactic(auto, using(acpi::proofs::First::filter_map_few, crate::proofs::Written::put_parts))]
-fn fill<H: AcpiHandler>(
-    handler: &H,
-    addresses: Pointers<'_>,
+/// Writes the ranges of what a walk gives, and then a pair of ranges, from an index on, and says where the next would
+/// stand.
+#[tactic(auto, using(crate::proofs::Written::put_parts))]
+pub(crate) fn fill_with<C, W: Listing<C, Range>>(
+    walk: W,
+    known: &C,
     others: (Option<Range>, Option<Range>),
     out: &mut [Range],
     from: usize,
 ) -> usize
-    requires few { length (pointers_left addresses) < 2 ^ 32 }
+    requires goes_on { W.can_next walk × IsFinite (W.remaining walk) }
+    requires few { length (W.left known.now walk) < 2 ^ 32 }
     requires low { from < 2 ^ 30 }
-    ensures count { result ≡ from + length (filter_map (member_hole (H.memory handler.now))
-        (pointers_left addresses.entry) ++ cons_option others.0 (cons_option others.1 [])) }
-    ensures items { out.new ≡ put_from out.old from (filter_map (member_hole (H.memory handler.now))
-        (pointers_left addresses.entry) ++ cons_option others.0 (cons_option others.1 [])) }
+    ensures count { result
+        ≡ from + length (W.left known.now walk ++ cons_option others.0 (cons_option others.1 [])) }
+    ensures items { out.new
+        ≡ put_from out.old from (W.left known.now walk ++ cons_option others.0 (cons_option others.1 [])) }
 {
-    let count = fill_from(addresses, handler, out, from);
+    let count = fill_from(walk, known, out, from);
     put_pair(others, out, count)
 }
 
-impl<H: AcpiHandler> Listing<H, Range> for Pointers<'_> {
+/// Where tables aren't lent that are looked up.
+#[derive(Drop)]
+struct Unlent<'h, H: AcpiHandler> {
+    lookup: Lookup<'h, H>,
+}
+
+impl<H: AcpiHandler> Listing<Unlent<'_, H>, Range> for Pointers<'_> {
     ghost use Rattle.std.specs.Prelude.{filter_map};
 
-    ghost record_of = { λ handler p. member_hole (H.memory handler) p };
+    ghost record_of = { λ u p. member_hole u.lookup.accept (H.memory u.lookup.handler.now) p };
 
-    ghost left = { λ handler s. filter_map (member_hole (H.memory handler)) (pointers_left s) };
+    ghost left = { λ u s. filter_map (member_hole u.lookup.accept (H.memory u.lookup.handler.now)) (pointers_left s) };
 
-    ghost gives_first = { λ handler. lists_some (member_hole (H.memory handler)) (λ s. pointers_left s) };
+    ghost gives_first = { λ u. lists_some (member_hole u.lookup.accept (H.memory u.lookup.handler.now))
+        (λ s. pointers_left s) };
 
     /// Where a member of the root table is refused, if that is because it isn't lent.
-    fn record(handler: &H, address: u64) -> Option<Range>
-        ensures { result ≡ member_hole (H.memory handler.now) address }
+    fn record(unlent: &Unlent<'_, H>, address: u64) -> Option<Range>
+        ensures { let l = unlent.now.lookup in result ≡ member_hole l.accept (H.memory l.handler.now) address }
     {
-        match map_own_sdt(handler, address) {
-            Err(AcpiError::MapFailed) => Some(table_hole(handler, address)),
+        match unlent.lookup.own_sdt_at(address) {
+            Err(AcpiError::MapFailed) => Some(table_hole(unlent.lookup.handler, address)),
             _ => None,
         }
     }
@@ -141,13 +153,12 @@ pub(crate) fn is_lent<H: AcpiHandler>(handler: &H, address: u64, length: u32) ->
 
 /// Where a table is refused that isn't lent, whatever its signature: its header, or as many bytes as that says (section
 /// 5.2.6).
-#[tactic(auto, using(crate::proofs::Unlent::names_not), unfolding(acpi_base::specs::Table::own_table_at, acpi_base::specs::Table::table_at))]
+#[tactic(auto, using(crate::proofs::Unlent::names_not), unfolding(acpi_base::specs::Table::table_at))]
 fn table_hole<H: AcpiHandler>(handler: &H, address: u64) -> Range
     ensures named { let m = H.memory handler.now in (s : Signature)
         → table_at m (plain_kind s) address ≡ Err MapFailed
         → last_range (table_ranges m (plain_kind s) address) ≡ Some result }
-    ensures own { let m = H.memory handler.now in own_table_at m address ≡ Err MapFailed
-        → last_range (own_table_ranges m address) ≡ Some result }
+    ensures place { result ≡ unlent address (lent (H.memory handler.now) address 36) }
 {
     match PhysicalMapping::<'_, H, SdtHeader>::map(handler, address, 36) {
         Ok(head) => range(address, head.length),
@@ -156,14 +167,13 @@ fn table_hole<H: AcpiHandler>(handler: &H, address: u64) -> Range
 }
 
 /// Where the DSDT that a FADT leads to is refused so (section 5.2.11.1).
-#[tactic(auto, using(crate::proofs::Unlent::no_hole), unfolding(acpi::specs::Places::dsdt_place))]
-fn dsdt_hole<H: AcpiHandler>(handler: &H, fadt: &Fadt) -> Option<Range>
-    ensures { let m = H.memory handler.now in
-        result ≡ hole (dsdt_place m fadt.now) (dsdt_place_ranges m fadt.now) }
+fn dsdt_hole<H: AcpiHandler>(lookup: &Lookup<'_, H>, fadt: &Fadt) -> Option<Range>
+    ensures { let l = lookup.now in
+        result ≡ dsdt_hole l.accept (H.memory l.handler.now) (dsdt_address_of fadt.now) }
 {
     let address = fadt.dsdt_address().ok()?;
-    match map_sdt(handler, address, Signature::DSDT) {
-        Err(AcpiError::MapFailed) => Some(table_hole(handler, address)),
+    match lookup.sdt_at(address, Signature::DSDT) {
+        Err(AcpiError::MapFailed) => Some(table_hole(lookup.handler, address)),
         _ => None,
     }
 }

@@ -4,6 +4,7 @@ ghost use Rattle.acpi_base.specs.Words.{bytes_of, start_of, Gives};
 ghost use Rattle.acpi.specs.Words.{lender_of, opened_of, placed, rsdp_at, word_in};
 ghost use Rattle.acpi_c_lib.specs.Words.{check_policy, ebda_in, first_table, found_table, opened_in, mapped_memory, memory_in, root_below, rsdp_in, rsdp_length, rsdp_place_in};
 
+use crate::lookup::Lookup;
 use crate::records::{Root, Source};
 use crate::refusal::Refusal;
 use crate::regions::Mapped;
@@ -53,11 +54,11 @@ pub(crate) fn open_placed<'h, H: AcpiHandler>(
     Ok((tables, None))
 }
 
-/// Fails with `UnknownPolicy` if a source accepts more than valid tables.
+/// Fails with `UnknownPolicy` if `accept` of a source has other bits than the two that there are.
 pub(crate) fn check_policy(source: &Source<'_>) -> Result<(), Refusal>
     ensures { Gives (λ _. tt) result (check_policy source.now) }
 {
-    if source.accept != 0 {
+    if source.accept > 3 {
         return Err(Refusal::UnknownPolicy);
     }
     Ok(())
@@ -107,10 +108,11 @@ pub(crate) fn ebda<H: AcpiHandler>(handler: &H) -> Option<u64>
     Some(16 * segment as u64)
 }
 
-/// The first valid table of a type that a source leads to, in the memory of its regions: it ends below 2^64.
+/// The first table that a source leads to and accepts as one of a type, in the memory of its regions: it ends below
+/// 2^64.
 ///
-/// Fails as `Mapped::new` does, then as `open` does, and then with `TableMissing` if no valid one is listed.
-#[tactic(auto, using(crate::proofs::Unlent::table_ends), unfolding(crate::specs::Below::first_table, crate::specs::Below::found_table))]
+/// Fails as `Mapped::new` does, then as `open` does, and then with `TableMissing` if none is listed that is accepted.
+#[tactic(auto, using(crate::proofs::Unlent::accepted_ends), unfolding(crate::specs::Below::first_table, crate::specs::Below::found_table))]
 pub(crate) fn first<'h, 'k, T: AcpiTable>(
     memory: &'h Result<Mapped<'k>, Refusal>,
     source: &Source<'_>,
@@ -125,7 +127,7 @@ pub(crate) fn first<'h, 'k, T: AcpiTable>(
         Err(refusal) => return Err(*refusal),
     };
     let tables = open(memory, source)?;
-    let table = tables.find_table::<T>()?;
+    let table = Lookup::new(memory, source).find_table::<T>(tables.addresses())?;
     Ok(table)
 }
 

@@ -1,16 +1,21 @@
 //! Sleep types, and what to write to sleep, to power off, to enable ACPI and to reset.
-ghost use Rattle.std.specs.Prelude.{◌≡◌};
-ghost use Rattle.acpi_c_lib.specs.Words.{enable_plan_below, kind_code, plan_record, plan_said, reset_plan_below, sleep_plan_below, sleep_types_below, step_record, types_below};
+ghost use Rattle.std.specs.Prelude.{◌≡◌, ◌≤◌};
+ghost use Rattle.acpi.specs.Words.{pointers_left, pointers_of};
+ghost use Rattle.acpi_sleep.specs.Words.{joined};
+ghost use Rattle.acpi_c_lib.specs.Words.{accepted_answer, dsdt_answer, enable_plan_below, kind_code, plan_record, plan_said, reset_plan_below, sleep_plan_below, sleep_types_below, step_record, types_below};
 
 use crate::devices::optional_register;
+use crate::lookup::Lookup;
 use crate::opening::{first, open};
 use crate::power_records::{Plan, SleepTypes, Step};
 use crate::records::Source;
 use crate::refusal::Refusal;
 use crate::regions::Mapped;
 use acpi::fadt::Fadt;
-use acpi_sleep::tables::SleepTables;
-use acpi_sleep::{PlanError, PlanStep, SleepAnswer, StepKind};
+use acpi::sdt::Signature;
+use acpi::{AcpiHandler, AcpiTables, Pointers};
+use acpi_sleep::tables::{block_answer, or_after};
+use acpi_sleep::{PlanError, PlanStep, SleepAnswer, SleepError, StepKind};
 
 /// The sleep types of a sleep state, by the DSDT and the SSDTs.
 pub fn sleep_types(source: &Source<'_>, state: u32) -> Result<SleepTypes, Refusal>
@@ -32,11 +37,50 @@ fn types_of(source: &Source<'_>, state: u32) -> Result<acpi_sleep::SleepTypes, R
     if state > 5 {
         return Err(Refusal::NoSuchState);
     }
-    match tables.sleep_types(state as u8)? {
+    let lookup = Lookup::new(&memory, source);
+    match tables_answer(&lookup, &tables, state as u8)? {
         SleepAnswer::Types(types) => Ok(types),
         SleepAnswer::Absent => Err(Refusal::SleepStateAbsent),
         SleepAnswer::NotSeen(_) => Err(Refusal::SleepStateNotSeen),
     }
+}
+
+/// The answer of the DSDT and the SSDTs that are accepted.
+#[tactic(auto, using(acpi_sleep::proofs::Answering::one_block, acpi_sleep::proofs::Answering::types_found, acpi_sleep::proofs::Answering::none_left))]
+fn tables_answer<H: AcpiHandler>(
+    lookup: &Lookup<'_, H>,
+    tables: &AcpiTables<'_, H>,
+    state: u8,
+) -> Result<SleepAnswer, SleepError>
+    requires { state ≤ 5 }
+    ensures { let l = lookup.now in
+        result ≡ accepted_answer l.accept state (H.memory l.handler.now) (pointers_of tables.now) }
+{
+    let mut answer = dsdt_answer(lookup, tables.addresses(), state);
+    for address in tables.addresses() {
+        if let Ok(SleepAnswer::Types(_)) = answer {
+            return answer;
+        }
+        if let Ok(ssdt) = lookup.sdt_at(address, Signature::SSDT) {
+            answer = or_after(answer, block_answer(Signature::SSDT, state, ssdt.bytes()));
+        }
+    }
+    answer
+}
+
+/// The answer of the DSDT that the first FADT leads to that is accepted.
+fn dsdt_answer<H: AcpiHandler>(
+    lookup: &Lookup<'_, H>,
+    addresses: Pointers<'_>,
+    state: u8,
+) -> Result<SleepAnswer, SleepError>
+    requires { state ≤ 5 }
+    ensures { let l = lookup.now in result
+        ≡ joined (dsdt_answer l.accept state (H.memory l.handler.now) (pointers_left addresses.entry)) }
+{
+    let fadt = lookup.find_table::<Fadt>(addresses)?;
+    let dsdt = lookup.sdt_at(fadt.dsdt_address()?, Signature::DSDT)?;
+    block_answer(Signature::DSDT, state, dsdt.bytes())
 }
 
 /// What to write to enter a sleep state, or with S5 to power the machine off, by the first valid FADT.

@@ -6,6 +6,7 @@ ghost use Rattle.acpi_c_lib.specs.Words.{below_platform, counts_of, local_apic_a
 
 use crate::interrupt_records::InterruptModel;
 use crate::interrupts::{ApicMadt, apic_madt};
+use crate::lookup::Lookup;
 use crate::opening::open;
 use crate::records::Source;
 use crate::refusal::Refusal;
@@ -19,7 +20,7 @@ pub fn model(source: &Source<'_>) -> Result<InterruptModel, Refusal>
 {
     let memory = Mapped::new(source.regions)?;
     let tables = open(&memory, source)?;
-    match apic_madt(&tables)? {
+    match apic_madt(&Lookup::new(&memory, source), &tables)? {
         Some(found) => {
             let address = found.madt.local_apic_address as u64;
             Ok(known_model(&found, last_address(found.madt.bytes(), address)))

@@ -54,12 +54,14 @@ pub struct Table {
     pub creator_revision: u32,
 }
 
-/// A member of the root table that a lookup passes over for another reason than its signature.
+/// A member of the root table that a lookup passes over, for another reason than its signature, or that it accepts
+/// though it isn't valid.
 #[repr(C)]
 #[derive(Clone, Copy)]
 pub struct Fault {
     pub address: u64,
     pub status: u32,
+    pub accepted: u8,
 }
 
 /// Where a table's first entry begins, and where Type and Length stand in each.

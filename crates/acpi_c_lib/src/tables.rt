@@ -5,11 +5,13 @@ ghost use Rattle.acpi.specs.Words.{pointers_left};
 ghost use Rattle.acpi_c_lib.specs.Words.{Fills, aml_at, dsdt_below, signature_named, ssdt_in, ssdts_below, ssdts_in, table_below, table_record, tables_below, table_in, tables_in, lists_some};
 
 use crate::lists::{Listing, fill};
+use crate::lookup::Lookup;
 use crate::opening::open;
 use crate::records::{self, AmlTable, Source, Table};
 use crate::refusal::Refusal;
 use crate::regions::Mapped;
-use acpi::sdt::{SdtHeader, Signature, map_own_sdt, map_sdt};
+use acpi::fadt::Fadt;
+use acpi::sdt::{SdtHeader, Signature};
 use acpi::{AcpiHandler, AcpiResult, PhysicalMapping, PhysicalRecord, Pointers};
 use acpi_base::bytes::filled;
 
@@ -31,17 +33,17 @@ pub(crate) fn entry<H: AcpiHandler>(table: &PhysicalMapping<'_, H, SdtHeader>) -
     }
 }
 
-impl<H: AcpiHandler> Listing<H, Table> for Pointers<'_> {
-    ghost record_of = { λ handler p. table_in (H.memory handler) p };
+impl<H: AcpiHandler> Listing<Lookup<'_, H>, Table> for Pointers<'_> {
+    ghost record_of = { λ l p. table_in l.accept (H.memory l.handler.now) p };
 
-    ghost left = { λ handler s. tables_in (H.memory handler) (pointers_left s) };
+    ghost left = { λ l s. tables_in l.accept (H.memory l.handler.now) (pointers_left s) };
 
-    ghost gives_first = { λ handler. lists_some (table_in (H.memory handler)) (λ s. pointers_left s) };
+    ghost gives_first = { λ l. lists_some (table_in l.accept (H.memory l.handler.now)) (λ s. pointers_left s) };
 
-    fn record(handler: &H, address: u64) -> Option<Table>
-        ensures { result ≡ table_in (H.memory handler.now) address }
+    fn record(lookup: &Lookup<'_, H>, address: u64) -> Option<Table>
+        ensures { result ≡ table_in lookup.now.accept (H.memory lookup.now.handler.now) address }
     {
-        let table = map_own_sdt(handler, address).ok()?;
+        let table = lookup.own_sdt_at(address).ok()?;
         Some(entry(&table))
     }
 }
@@ -53,7 +55,7 @@ pub fn tables(source: &Source<'_>, out: &mut [Table]) -> Result<usize, Refusal>
 {
     let memory = Mapped::new(source.regions)?;
     let tables = open(&memory, source)?;
-    Ok(fill(tables.addresses(), &memory, out))
+    Ok(fill(tables.addresses(), &Lookup::new(&memory, source), out))
 }
 
 /// The first valid table of a signature.
@@ -62,7 +64,8 @@ pub fn find(source: &Source<'_>, name: records::Signature) -> Result<Table, Refu
 {
     let memory = Mapped::new(source.regions)?;
     let tables = open(&memory, source)?;
-    let table = tables.find_sdt(signature_named(name))?;
+    let lookup = Lookup::new(&memory, source);
+    let table = lookup.find_sdt(tables.addresses(), signature_named(name))?;
     Ok(entry(&table))
 }
 
@@ -80,16 +83,21 @@ pub fn dsdt(source: &Source<'_>) -> Result<AmlTable, Refusal>
 {
     let memory = Mapped::new(source.regions)?;
     let tables = open(&memory, source)?;
-    let fadt = tables.find_fadt()?;
-    let aml = aml_at(&memory, Signature::DSDT, fadt.dsdt_address()?)?;
+    let lookup = Lookup::new(&memory, source);
+    let fadt = lookup.find_table::<Fadt>(tables.addresses())?;
+    let aml = aml_at(&lookup, Signature::DSDT, fadt.dsdt_address()?)?;
     Ok(aml)
 }
 
-/// The AML of the table at an address, if it is valid under a signature.
-fn aml_at<H: AcpiHandler>(handler: &H, signature: Signature, address: u64) -> AcpiResult<AmlTable>
-    ensures { result ≡ aml_at (H.memory handler.now) signature address }
+/// The AML of the table at an address, if it is accepted under a signature.
+fn aml_at<H: AcpiHandler>(
+    lookup: &Lookup<'_, H>,
+    signature: Signature,
+    address: u64,
+) -> AcpiResult<AmlTable>
+    ensures { result ≡ aml_at lookup.now.accept (H.memory lookup.now.handler.now) signature address }
 {
-    let table = map_sdt(handler, address, signature)?;
+    let table = lookup.sdt_at(address, signature)?;
     Ok(AmlTable {
         address: address + SdtHeader::MIN_LENGTH as u64,
         length: (table.bytes().len() - SdtHeader::MIN_LENGTH) as u32,
@@ -105,19 +113,19 @@ pub fn ssdts(source: &Source<'_>, out: &mut [AmlTable]) -> Result<usize, Refusal
 {
     let memory = Mapped::new(source.regions)?;
     let tables = open(&memory, source)?;
-    Ok(fill(tables.addresses(), &memory, out))
+    Ok(fill(tables.addresses(), &Lookup::new(&memory, source), out))
 }
 
-impl<H: AcpiHandler> Listing<H, AmlTable> for Pointers<'_> {
-    ghost record_of = { λ handler p. ssdt_in (H.memory handler) p };
+impl<H: AcpiHandler> Listing<Lookup<'_, H>, AmlTable> for Pointers<'_> {
+    ghost record_of = { λ l p. ssdt_in l.accept (H.memory l.handler.now) p };
 
-    ghost left = { λ handler s. ssdts_in (H.memory handler) (pointers_left s) };
+    ghost left = { λ l s. ssdts_in l.accept (H.memory l.handler.now) (pointers_left s) };
 
-    ghost gives_first = { λ handler. lists_some (ssdt_in (H.memory handler)) (λ s. pointers_left s) };
+    ghost gives_first = { λ l. lists_some (ssdt_in l.accept (H.memory l.handler.now)) (λ s. pointers_left s) };
 
-    fn record(handler: &H, address: u64) -> Option<AmlTable>
-        ensures { result ≡ ssdt_in (H.memory handler.now) address }
+    fn record(lookup: &Lookup<'_, H>, address: u64) -> Option<AmlTable>
+        ensures { result ≡ ssdt_in lookup.now.accept (H.memory lookup.now.handler.now) address }
     {
-        aml_at(handler, Signature::SSDT, address).ok()
+        aml_at(lookup, Signature::SSDT, address).ok()
     }
 }

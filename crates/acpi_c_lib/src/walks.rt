@@ -1,18 +1,21 @@
 //! Walks along the members of the root table: all tables of a signature, and the memory that the tables
 //! take.
-ghost use Rattle.std.specs.Prelude.{◌≡◌, Some, map};
-ghost use Rattle.acpi.specs.Words.{pointers_left, places_left};
-ghost use Rattle.acpi_c_lib.specs.Words.{Fills, nth_below, nth_in, ranges_below, range_record, lists_each};
+ghost use Rattle.std.specs.Prelude.{◌≡◌, filter_map};
+ghost use Rattle.acpi.specs.Words.{fadt_kind, pointers_left};
+ghost use Rattle.acpi_c_lib.specs.Words.{Fills, accepted_lookup, dsdt_range, facs_range, led_ranges, nth_below, nth_in, range_in, ranges_below, lists_some};
 
-use crate::lists::{Listing, fill_from};
-use crate::missing::{put_pair, range};
+use crate::facs::facs_at;
+use crate::lists::Listing;
+use crate::lookup::Lookup;
+use crate::missing::{fill_with, put_pair, range};
 use crate::opening::{open, open_placed};
 use crate::records::{self, Range, Source, Table};
 use crate::refusal::Refusal;
 use crate::regions::Mapped;
 use crate::tables::{entry, signature_named};
-use acpi::sdt::{Signature, map_sdt};
-use acpi::{AcpiError, AcpiHandler, AcpiResult, AddressRange, Lender, Pointers, TableRanges};
+use acpi::fadt::Fadt;
+use acpi::sdt::Signature;
+use acpi::{AcpiError, AcpiHandler, AcpiResult, Pointers};
 
 /// The `index`-th valid table with this signature, counted from 0.
 pub fn nth(source: &Source<'_>, name: records::Signature, index: usize) -> Result<Table, Refusal>
@@ -20,23 +23,24 @@ pub fn nth(source: &Source<'_>, name: records::Signature, index: usize) -> Resul
 {
     let memory = Mapped::new(source.regions)?;
     let tables = open(&memory, source)?;
-    let table = nth_of(&memory, tables.addresses(), signature_named(name), index)?;
+    let lookup = Lookup::new(&memory, source);
+    let table = nth_of(&lookup, tables.addresses(), signature_named(name), index)?;
     Ok(table)
 }
 
 /// The table of a signature with so many before it.
-#[tactic(auto, unfolding(acpi::specs::Members::found_at))]
 fn nth_of<H: AcpiHandler>(
-    handler: &H,
+    lookup: &Lookup<'_, H>,
     addresses: Pointers<'_>,
     signature: Signature,
     index: usize,
 ) -> AcpiResult<Table>
-    ensures { result ≡ nth_in (H.memory handler.now) signature index (pointers_left addresses.entry) }
+    ensures { let l = lookup.now in result
+        ≡ nth_in l.accept (H.memory l.handler.now) signature index (pointers_left addresses.entry) }
 {
     let mut before = index;
     for address in addresses {
-        if let Ok(table) = map_sdt(handler, address, signature) {
+        if let Ok(table) = lookup.sdt_at(address, signature) {
             if before == 0 {
                 return Ok(entry(&table));
             }
@@ -47,7 +51,7 @@ fn nth_of<H: AcpiHandler>(
 }
 
 /// Lists the memory that the RSDP and the tables take.
-#[tactic(auto, using(crate::proofs::Written::put_parts))]
+#[tactic(auto, using(acpi::proofs::First::filter_map_few, crate::proofs::Written::put_parts))]
 pub fn ranges(source: &Source<'_>, out: &mut [Range]) -> Result<usize, Refusal>
     ensures { Fills result out.old out.new (ranges_below source.now) }
 {
@@ -57,23 +61,58 @@ pub fn ranges(source: &Source<'_>, out: &mut [Range]) -> Result<usize, Refusal>
         Some((address, length)) => Some(range(address, length)),
         None => None,
     };
-    let after_rsdp = put_pair((rsdp, None), out, 0);
-    Ok(fill_from(tables.ranges(), &(), out, after_rsdp))
+    let root = range(tables.root_address(), tables.root_length());
+    let after_root = put_pair((rsdp, Some(root)), out, 0);
+    let lookup = Lookup::new(&memory, source);
+    let led = led_ranges(&lookup, tables.addresses());
+    Ok(fill_with(tables.addresses(), &lookup, led, out, after_root))
 }
 
-impl<H: Lender> Listing<(), Range> for TableRanges<'_, '_, H> {
-    ghost record_of = { λ known x. Some (range_record x) };
+/// Where a member of the root table lies, if it is accepted under its own signature.
+impl<H: AcpiHandler> Listing<Lookup<'_, H>, Range> for Pointers<'_> {
+    ghost record_of = { λ l p. range_in l.accept (H.memory l.handler.now) p };
 
-    ghost left = { λ known s. map range_record (places_left H.memory s) };
+    ghost left = { λ l s. filter_map (range_in l.accept (H.memory l.handler.now)) (pointers_left s) };
 
-    ghost gives_first = { λ known. lists_each range_record (places_left H.memory) };
+    ghost gives_first = { λ l. lists_some (range_in l.accept (H.memory l.handler.now)) (λ s. pointers_left s) };
 
-    fn record(_known: &(), range: AddressRange) -> Option<Range>
-        ensures { result ≡ Some (range_record range) }
+    fn record(lookup: &Lookup<'_, H>, address: u64) -> Option<Range>
+        ensures { result ≡ range_in lookup.now.accept (H.memory lookup.now.handler.now) address }
     {
-        Some(Range {
-            address: range.address,
-            length: range.length,
-        })
+        let table = lookup.own_sdt_at(address).ok()?;
+        Some(range(address, table.bytes().len() as u32))
     }
+}
+
+/// Where the DSDT and the FACS lie that the first FADT that is accepted leads to.
+fn led_ranges<H: AcpiHandler>(
+    lookup: &Lookup<'_, H>,
+    addresses: Pointers<'_>,
+) -> (Option<Range>, Option<Range>)
+    ensures { let l = lookup.now in let m = H.memory l.handler.now in result
+        ≡ led_ranges l.accept m (accepted_lookup l.accept m fadt_kind (pointers_left addresses.entry)) }
+{
+    match lookup.find_table::<Fadt>(addresses) {
+        Ok(fadt) => (dsdt_range(lookup, &fadt), facs_range(lookup.handler, &fadt)),
+        Err(_) => (None, None),
+    }
+}
+
+/// Where the DSDT lies that a FADT leads to (section 5.2.11.1), if it is accepted.
+fn dsdt_range<H: AcpiHandler>(lookup: &Lookup<'_, H>, fadt: &Fadt) -> Option<Range>
+    ensures { result ≡ dsdt_range lookup.now.accept (H.memory lookup.now.handler.now) fadt.now }
+{
+    let address = fadt.dsdt_address().ok()?;
+    let dsdt = lookup.sdt_at(address, Signature::DSDT).ok()?;
+    Some(range(address, dsdt.bytes().len() as u32))
+}
+
+/// Where the FACS lies that a FADT leads to (section 5.2.10), if it is valid.
+#[tactic(auto, unfolding(acpi::specs::Places::facs_at))]
+fn facs_range<H: AcpiHandler>(handler: &H, fadt: &Fadt) -> Option<Range>
+    ensures { result ≡ facs_range (H.memory handler.now) fadt.now }
+{
+    let address = fadt.facs_address().ok()?;
+    let facs = facs_at(handler, address).ok()?;
+    Some(range(address, facs.length))
 }

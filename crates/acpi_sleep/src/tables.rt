@@ -103,8 +103,9 @@ fn tables_answer<H: Lender>(
     answer
 }
 
-/// The answer of a block of AML before that of the blocks after it.
-fn or_after(
+/// The answer of a block of AML before that of the blocks after it: types, its own first; else the first that isn't
+/// `Absent`.
+pub fn or_after(
     answer: Result<SleepAnswer, SleepError>,
     after: Result<SleepAnswer, SleepError>,
 ) -> Result<SleepAnswer, SleepError>
@@ -130,9 +131,15 @@ fn dsdt_answer<H: Lender>(tables: &AcpiTables<'_, H>, state: u8) -> Result<Sleep
     block_answer(Signature::DSDT, state, dsdt.bytes())
 }
 
-/// The answer of the AML of a table of a signature, by the table's bytes.
+/// The answer of the AML of a table of a signature, by the table's bytes: the AML stands after the header.
+///
+/// Fails with `Aml` where the walk ends.
 #[tactic(auto, unfolding(crate::specs::Tables::block_answer))]
-fn block_answer(signature: Signature, state: u8, table: &[u8]) -> Result<SleepAnswer, SleepError>
+pub fn block_answer(
+    signature: Signature,
+    state: u8,
+    table: &[u8],
+) -> Result<SleepAnswer, SleepError>
     requires state { state ≤ 5 }
     requires least { 36 ≤ length table.now }
     ensures { result ≡ block_answer signature state table.now }

@@ -1,0 +1,75 @@
+/* What rows.c expects of tables that aren't valid, by the bits of `accept`: worked out by hand from
+ * rows_tables_accept.h. */
+#ifndef ROWS_ACCEPT_H
+#define ROWS_ACCEPT_H
+
+#define SUMS ZACPI_ACCEPT_SUMS
+#define IDS ZACPI_ACCEPT_IDS
+#define BOTH (ZACPI_ACCEPT_SUMS | ZACPI_ACCEPT_IDS)
+/* The one processor of a MADT, which is the boot processor. */
+#define ONLY(bits, uid, id) {bits, GOOD(list_processors, FLAWED, NULL, NO, 1, uid, id, 2, 1, 0, 0)}
+#define SECOND(bits, madt, ...) \
+    {bits, GOOD(find_nth_table, FLAWED, "APIC", A(1), 1, AT(madt), 52, LETTERS('A', 'P', 'I', 'C'), 5, __VA_ARGS__)}
+#define MISSING(bits, call, machine, named) {bits, REFUSED(call, machine, NULL, NO, ZACPI_TABLE_MISSING, named)}
+#define SHORT AT(MADT_43), ZACPI_SDT_INVALID_LENGTH, 0
+
+static const struct {
+    uint32_t accept;
+    struct row row;
+} accept_rows[] = {
+    /* Whatever is accepted, a table that is too short is skipped. */
+    ONLY(0, 5, 15), ONLY(SUMS, 4, 14), ONLY(IDS, 2, 12), ONLY(BOTH, 1, 11),
+    SECOND(0, MADT_VALID, NO_IDS), SECOND(SUMS, MADT_SUM, NO_IDS), SECOND(IDS, MADT_OEM_ID, 0xff, 0, 0, 0, 0),
+    SECOND(BOTH, MADT_BOTH, 0xff, 0, 0, 0, 0),
+    {0, GOOD(list_faults, FLAWED, "APIC", NO, 5, SHORT, AT(MADT_BOTH), ZACPI_SDT_INVALID_OEM_ID, 0,
+             AT(MADT_OEM_ID), ZACPI_SDT_INVALID_OEM_ID, 0, AT(MADT_TABLE_ID), ZACPI_SDT_INVALID_TABLE_ID, 0,
+             AT(MADT_SUM), ZACPI_SDT_INVALID_CHECKSUM, 0)},
+    {SUMS, GOOD(list_faults, FLAWED, "APIC", NO, 5, SHORT, AT(MADT_BOTH), ZACPI_SDT_INVALID_OEM_ID, 0,
+                AT(MADT_OEM_ID), ZACPI_SDT_INVALID_OEM_ID, 0, AT(MADT_TABLE_ID), ZACPI_SDT_INVALID_TABLE_ID, 0,
+                AT(MADT_SUM), ZACPI_SDT_INVALID_CHECKSUM, 1)},
+    {IDS, GOOD(list_faults, FLAWED, "APIC", NO, 3, SHORT, AT(MADT_BOTH), ZACPI_SDT_INVALID_CHECKSUM, 0,
+               AT(MADT_OEM_ID), ZACPI_SDT_INVALID_OEM_ID, 1)},
+    {BOTH, GOOD(list_faults, FLAWED, "APIC", NO, 2, SHORT, AT(MADT_BOTH), ZACPI_SDT_INVALID_OEM_ID, 1)},
+    {0, GOOD(list_ranges, FLAWED, NULL, NO, 3, AT(FLAWED), 60, AT(MADT_43), 43, AT(MADT_VALID), 52)},
+    {BOTH, GOOD(list_ranges, FLAWED, NULL, NO, 7, AT(FLAWED), 60, AT(MADT_43), 43, AT(MADT_BOTH), 52,
+                AT(MADT_OEM_ID), 52, AT(MADT_TABLE_ID), 52, AT(MADT_SUM), 52, AT(MADT_VALID), 52)},
+
+    /* What a FADT leads to is accepted as a member is; a FACS has neither a sum nor ids. */
+    MISSING(0, dsdt, LED_BY_SUMS, "FACP"), MISSING(IDS, dsdt, LED_BY_SUMS, "FACP"),
+    {SUMS, REFUSED(dsdt, LED_BY_SUMS, NULL, NO, ZACPI_SDT_INVALID_TABLE_ID, "DSDT")},
+    {BOTH, GOOD(dsdt, LED_BY_SUMS, NULL, NO, 1, AT(DSDT_TABLE_ID) + 36, 4, 2, AT(DSDT_TABLE_ID))},
+    MISSING(0, dsdt, LED_BY_IDS, "FACP"), MISSING(SUMS, dsdt, LED_BY_IDS, "FACP"),
+    {IDS, REFUSED(dsdt, LED_BY_IDS, NULL, NO, ZACPI_SDT_INVALID_CHECKSUM, "DSDT")},
+    {BOTH, GOOD(dsdt, LED_BY_IDS, NULL, NO, 1, AT(DSDT_SUM) + 36, 11, 1, AT(DSDT_SUM))},
+    MISSING(0, get_facs, LED_BY_SUMS, "FACP"),
+    {SUMS, GOOD(get_facs, LED_BY_SUMS, NULL, NO, 1, AT(FACS), 0x123456789abcdef, 64, 0x11223344, 0x55667788,
+                0x8d7c6b03, 2)},
+    {BOTH, REFUSED(get_facs, LED_BY_IDS, NULL, NO, ZACPI_SDT_INVALID_LENGTH, "FACS")},
+    MISSING(IDS, get_pm_timer, LED_BY_SUMS, "FACP"),
+    {SUMS, GOOD(get_pm_timer, LED_BY_SUMS, NULL, NO, 1, ABSENT, 0)},
+    MISSING(IDS, get_interrupt_model, LED_BY_SUMS, "FACP"),
+    {SUMS, GOOD(get_interrupt_model, LED_BY_SUMS, NULL, NO, 1, 0, 0, 0, 0, 0, 0, 0, 0)}, /* there is no MADT */
+    {BOTH, GOOD(get_interrupt_model, LED_BY_SUMS, NULL, NO, 1, 0, 0, 0, 0, 0, 1, 1, 0)},
+    MISSING(SUMS, sci_interrupt, LED_BY_SUMS, "APIC"), MISSING(IDS, sci_interrupt, LED_BY_SUMS, "FACP"),
+    {BOTH, GOOD(sci_interrupt, LED_BY_SUMS, NULL, NO, 1, 9, ZACPI_POLARITY_LOW, ZACPI_TRIGGER_LEVEL)},
+    {0, REFUSED(get_sleep_types, LED_BY_IDS, NULL, A(5), ZACPI_TABLE_MISSING, "FACP")},
+    {IDS, REFUSED(get_sleep_types, LED_BY_IDS, NULL, A(5), ZACPI_SDT_INVALID_CHECKSUM, "DSDT")},
+    {BOTH, GOOD(get_sleep_types, LED_BY_IDS, NULL, A(5), 1, 5, 1)},
+    {IDS, REFUSED(get_sleep_types, LED_BY_SUMS, NULL, A(5), ZACPI_TABLE_MISSING, "FACP")},
+    {SUMS, GOOD(get_sleep_types, LED_BY_SUMS, NULL, A(5), 1, 6, 1)}, /* by the SSDT */
+    {0, NOTHING(list_ssdts, LED_BY_SUMS)},
+    {SUMS, GOOD(list_ssdts, LED_BY_SUMS, NULL, NO, 1, AT(SSDT_SUM) + 36, 11, 1, AT(SSDT_SUM))},
+    MISSING(IDS, hpet, LED_BY_SUMS, "HPET"), {IDS, NOTHING(list_hpets, LED_BY_SUMS)},
+    {SUMS, GOOD(hpet, LED_BY_SUMS, NULL, NO, 1, 0xfed40000, 0, 0, 0, 0)},
+    {SUMS, GOOD(list_hpets, LED_BY_SUMS, NULL, NO, 1, 0xfed40000, 0, 0, 0, 0)},
+    {0, NOTHING(list_tables, LED_BY_SUMS)},
+    {IDS, GOOD(list_tables, LED_BY_SUMS, NULL, NO, 1, AT(MADT_TABLE_ID), 52, LETTERS('A', 'P', 'I', 'C'), 5, 0, 0xff,
+               0, 0, 0)},
+    {0, GOOD(list_ranges, LED_BY_SUMS, NULL, NO, 1, AT(LED_BY_SUMS), 52)},
+    {SUMS, GOOD(list_ranges, LED_BY_SUMS, NULL, NO, 5, AT(LED_BY_SUMS), 52, AT(FADT_SUM), 116, AT(SSDT_SUM), 47,
+                AT(HPET_SUM), 56, AT(FACS), 64)},
+    {BOTH, GOOD(list_ranges, LED_BY_IDS, NULL, NO, 3, AT(LED_BY_IDS), 44, AT(FADT_OEM_ID), 116, AT(DSDT_SUM), 47)},
+    /* Of a table that is accepted all bytes are needed. */
+    {0, NOTHING(list_missing_ranges, LED_BY_IDS)}, {SUMS, NOTHING(list_missing_ranges, LED_BY_IDS)},
+    {IDS, GOOD(list_missing_ranges, LED_BY_IDS, NULL, NO, 1, AT(MADT_LOST), SIZE)}};
+#endif
