@@ -3,7 +3,7 @@
 use crate::entries::{Entries, Walk};
 use crate::error::{AcpiError, AcpiResult};
 use crate::list::{items, sealed::Sealed, Item, Listing};
-use crate::memory::{Region, Start};
+use crate::memory::{Accept, Region, Start};
 use crate::raw;
 use crate::raw::records::{self, AmlTable, Facs, Range, Signature, Source};
 use crate::write::TableIds;
@@ -37,7 +37,7 @@ impl From<records::Root> for Root {
     }
 }
 
-/// A table that is listed and valid (section 5.2.6). [`AcpiTables::bytes`] has its bytes.
+/// A table that is listed and valid, or accepted (section 5.2.6). [`AcpiTables::bytes`] has its bytes.
 #[derive(Clone, Copy, Debug, PartialEq, Eq)]
 pub struct Table {
     /// Its physical address.
@@ -68,20 +68,22 @@ impl From<records::Table> for Table {
 
 items! { Table = Table }
 
-/// A member of the root table that a lookup skips for another reason than another signature.
+/// A member of the root table that a lookup skips for another reason than another signature, or that it accepts.
 #[derive(Clone, Copy, Debug, PartialEq, Eq)]
 pub struct Fault {
     /// Its physical address, as the root table lists it.
     pub address: u64,
-    /// Why it is skipped.
+    /// Why it isn't valid.
     pub refusal: AcpiError,
+    /// Whether it isn't skipped, by [`AcpiTables::accepting`].
+    pub accepted: bool,
 }
 
 impl Item for Fault {}
 impl Sealed for Fault {
     type Raw = records::Fault;
     fn of(raw: &Self::Raw, looked_up: Signature) -> Self {
-        Fault { address: raw.address, refusal: AcpiError::of(raw.status, looked_up) }
+        Fault { address: raw.address, refusal: AcpiError::of(raw.status, looked_up), accepted: raw.accepted != 0 }
     }
 }
 
@@ -138,6 +140,7 @@ pub(crate) mod read {
 pub struct AcpiTables<'k> {
     regions: &'k [Region<'k>],
     root: Root,
+    accept: Accept,
 }
 
 impl<'k> AcpiTables<'k> {
@@ -150,7 +153,7 @@ impl<'k> AcpiTables<'k> {
     /// `SdtInvalidSignature`, `SdtInvalidOemId`, `SdtInvalidTableId`, `SdtInvalidLength` and `SdtInvalidChecksum`.
     pub fn open(regions: &'k [Region<'k>], start: Start) -> AcpiResult<Self> {
         let root = Root::from(raw::zacpi_1_open(&start.source(regions))?);
-        Ok(AcpiTables { regions, root })
+        Ok(AcpiTables::at_root(regions, root))
     }
 
     /// The tables below the RSDT at an address, for revision 0, or else below the XSDT there (sections 5.2.7 and
@@ -163,7 +166,13 @@ impl<'k> AcpiTables<'k> {
 
     /// The tables of a root table that was found before in these regions.
     pub(crate) fn at_root(regions: &'k [Region<'k>], root: Root) -> Self {
-        AcpiTables { regions, root }
+        AcpiTables { regions, root, accept: Accept::default() }
+    }
+
+    /// The same tables, and those that these are accepted of: wherever a call says that a table is valid, it may be
+    /// wrong so.
+    pub fn accepting(self, accept: Accept) -> Self {
+        AcpiTables { accept, ..self }
     }
 
     /// The regions that the tables were opened in.
@@ -184,7 +193,12 @@ impl<'k> AcpiTables<'k> {
     /// The regions, and the root table as the start.
     pub(crate) fn source(&self) -> Source<'k> {
         let start = if self.root.is_xsdt { Start::Xsdt } else { Start::Rsdt };
-        start(self.root.address).source(self.regions)
+        self.accepted(start(self.root.address))
+    }
+
+    /// The regions, and a start, by what is accepted.
+    fn accepted(&self, start: Start) -> Source<'k> {
+        start.source(self.regions).accepting(self.accept.bits())
     }
 
     pub(crate) fn list<T: Item>(&self, call: crate::list::Call<T>) -> Listing<'k, T> {
@@ -218,7 +232,7 @@ impl<'k> AcpiTables<'k> {
     }
 
     /// The members of the root table that a lookup of a signature skips for another reason than another
-    /// signature, in order, up to the first valid one (section 5.2.6).
+    /// signature, in order, up to the one that it finds, and this if it isn't valid (section 5.2.6).
     pub fn faults(&self, signature: Signature) -> Listing<'k, Fault> {
         Listing::new(self.source(), signature, raw::zacpi_1_list_faults)
     }
@@ -246,7 +260,7 @@ impl<'k> AcpiTables<'k> {
     /// root table, the root table, the listed tables, the DSDT and the FACS. The ranges may overlap (sections 5.2.5 to
     /// 5.2.11).
     pub fn ranges(&self) -> Listing<'k, Range> {
-        let by_rsdp = self.root.rsdp.map(|rsdp| Start::Rsdp(rsdp.address).source(self.regions));
+        let by_rsdp = self.root.rsdp.map(|rsdp| self.accepted(Start::Rsdp(rsdp.address)));
         let source = by_rsdp.unwrap_or_else(|| self.source());
         Listing::new(source, Signature::default(), raw::zacpi_1_list_ranges)
     }

@@ -40,7 +40,7 @@ pub use hpet::HpetInfo;
 pub use list::{List, Listing, Slot};
 pub use mapper::{MappedTables, PhysicalMapper};
 pub use mcfg::PciConfigRegions;
-pub use memory::{clip_ranges, map_missing, missing_ranges, Mapped, Region, Start};
+pub use memory::{clip_ranges, map_missing, missing_ranges, Accept, Mapped, Region, Start};
 pub use platform::{interrupt::InterruptModel, PlatformInfo, PlatformRoom};
 pub use raw::records::{AmlTable, Facs, Range};
 pub use sdt::Signature;

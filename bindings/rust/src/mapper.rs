@@ -5,7 +5,7 @@
 use crate::acpi_tables::{AcpiTables, Root};
 use crate::error::AcpiResult;
 use crate::list::{List, Slot};
-use crate::memory::{join, missing_ranges, replace, Region, Start};
+use crate::memory::{join, missing_ranges, replace, Accept, Region, Start};
 use crate::raw;
 use crate::raw::records::{Range, Signature};
 use crate::room::Room;
@@ -57,6 +57,7 @@ pub struct MappedTables<M: PhysicalMapper, const ROOM: usize = 64> {
     regions: Room<Region<'static>, ROOM>,
     count: usize,
     root: Root,
+    accept: Accept,
 }
 
 impl<M: PhysicalMapper, const ROOM: usize> MappedTables<M, ROOM> {
@@ -72,8 +73,18 @@ impl<M: PhysicalMapper, const ROOM: usize> MappedTables<M, ROOM> {
     /// A range that the mapper returns a pointer for is mapped there, can be read until it is passed to `unmap`, and is
     /// written by nobody while the tables are read (see [`Region::from_raw`]).
     pub unsafe fn open(mapper: M, start: Start) -> AcpiResult<Self> {
+        // SAFETY: the caller promised the same.
+        unsafe { Self::open_accepting(mapper, start, Accept::default()) }
+    }
+
+    /// Maps what [`MappedTables::open`] does, and what [`AcpiTables::accepting`] needs. Fails as that does.
+    ///
+    /// # Safety
+    ///
+    /// That of [`MappedTables::open`].
+    pub unsafe fn open_accepting(mapper: M, start: Start, accept: Accept) -> AcpiResult<Self> {
         let root = Root { address: 0, length: 0, revision: 0, is_xsdt: false, rsdp: None };
-        let mut tables = MappedTables { mapper, regions: Room::new(), count: 0, root };
+        let mut tables = MappedTables { mapper, regions: Room::new(), count: 0, root, accept };
         tables.map_missing(start)?;
         tables.root = AcpiTables::open(tables.regions(), start)?.root();
         Ok(tables)
@@ -81,7 +92,7 @@ impl<M: PhysicalMapper, const ROOM: usize> MappedTables<M, ROOM> {
 
     /// The tables.
     pub fn tables(&self) -> AcpiTables<'_> {
-        AcpiTables::at_root(self.regions(), self.root)
+        AcpiTables::at_root(self.regions(), self.root).accepting(self.accept)
     }
 
     /// The memory that is mapped, in ascending order.
@@ -95,7 +106,7 @@ impl<M: PhysicalMapper, const ROOM: usize> MappedTables<M, ROOM> {
         let mut refused = Room::<Range, ROOM>::new();
         let mut refused_count = 0;
         loop {
-            let count = missing_ranges(self.regions(), start).fill(missing.items_mut())?.count();
+            let count = missing_ranges(self.regions(), start, self.accept).fill(missing.items_mut())?.count();
             if count > missing.items().len() {
                 missing.grow()?;
                 continue;

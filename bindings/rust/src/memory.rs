@@ -22,6 +22,22 @@ pub enum Start {
     Search,
 }
 
+/// What is accepted of tables that aren't valid (`enum zacpi_accept` of the library for C): a table that is wrong in
+/// these alone is read as a valid one, as firmware needs it. The RSDP and the root table have to be valid.
+#[derive(Clone, Copy, Debug, Default, PartialEq, Eq)]
+pub struct Accept {
+    /// The bytes of a table don't sum to 0.
+    pub sums: bool,
+    /// OEMID or OEM Table ID isn't UTF-8.
+    pub ids: bool,
+}
+
+impl Accept {
+    pub(crate) fn bits(self) -> u32 {
+        u32::from(self.sums) | u32::from(self.ids) << 1
+    }
+}
+
 impl Start {
     /// At the root table that a copy of the RSDP points to, as a loader passes one (section 5.2.5.3).
     ///
@@ -64,8 +80,9 @@ pub fn clip_ranges<'b>(
 /// [`map_missing`] repeats until there are no more.
 ///
 /// The list fails with [`AcpiError::RegionsNotAscending`] and [`AcpiError::RegionTooHigh`], and with nothing else.
-pub fn missing_ranges<'k>(regions: &'k [Region<'k>], start: Start) -> Listing<'k, Range> {
-    Listing::new(start.source(regions), Signature::default(), raw::zacpi_1_list_missing_ranges)
+pub fn missing_ranges<'k>(regions: &'k [Region<'k>], start: Start, accept: Accept) -> Listing<'k, Range> {
+    let source = start.source(regions).accepting(accept.bits());
+    Listing::new(source, Signature::default(), raw::zacpi_1_list_missing_ranges)
 }
 
 /// What [`map_missing`] leaves.
@@ -95,6 +112,7 @@ pub fn map_missing<'k, 'r>(
     regions: &'r mut [Region<'k>],
     mapped: usize,
     start: Start,
+    accept: Accept,
     rounds: usize,
     ranges: &mut [Slot<Range>],
     mut map: impl FnMut(Range) -> Option<&'k [u8]>,
@@ -105,7 +123,7 @@ where
     let mut count = mapped.min(regions.len());
     let mut round = 0;
     let missing = loop {
-        let list = missing_ranges(&regions[..count], start).fill(ranges)?;
+        let list = missing_ranges(&regions[..count], start, accept).fill(ranges)?;
         let mut is_new = false;
         if round < rounds {
             for range in &list {

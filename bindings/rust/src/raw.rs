@@ -74,7 +74,8 @@ unsafe impl Send for Region<'_> {}
 unsafe impl Sync for Region<'_> {}
 
 impl<'k> Source<'k> {
-    /// The regions, and where to start in them: one of `enum zacpi_start`, and its address.
+    /// The regions, and where to start in them: one of `enum zacpi_start`, and its address. Nothing is accepted that
+    /// isn't valid.
     pub(crate) const fn new(regions: &'k [Region<'k>], start: u32, address: u64) -> Self {
         Source {
             regions: regions.as_ptr(),
@@ -84,6 +85,11 @@ impl<'k> Source<'k> {
             accept: 0,
             lent: PhantomData,
         }
+    }
+
+    /// The same, with these bits of `enum zacpi_accept`.
+    pub(crate) const fn accepting(self, accept: u32) -> Self {
+        Source { accept, ..self }
     }
 }
 

@@ -305,7 +305,7 @@ records! {
     Root { address: u64, length: u32, revision: u8, pointer_width: u8, rsdp_address: u64, rsdp_length: u32, }
     Table { address: u64, length: u32, signature: [u8; 4], revision: u8, oem_id: [u8; 6], oem_table_id: [u8; 8],
         oem_revision: u32, creator_id: [u8; 4], creator_revision: u32, }
-    Fault { address: u64, status: u32, }
+    Fault { address: u64, status: u32, accepted: u8, }
     GenericAddress { address: u64, space: u8, bit_width: u8, bit_offset: u8, access_size: u8, }
     PmTimer { base: GenericAddress, present: u8, is_32_bit: u8, }
     HpetInfo { base_address: u64, event_timer_block_id: u32, clock_tick_unit: u16, number: u8, page_protection: u8, }

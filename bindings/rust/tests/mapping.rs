@@ -3,7 +3,10 @@ mod common;
 use common::{Memory, ROOT};
 use std::cell::RefCell;
 use std::ptr::NonNull;
-use zacpi::{AcpiError, AcpiTable, AcpiTables, MappedTables, PhysicalMapper, Range, Region, Signature, Slot, Start};
+use zacpi::{
+    missing_ranges, Accept, AcpiError, AcpiTable, AcpiTables, MappedTables, PhysicalMapper, Range, Region, Signature,
+    Slot, Start,
+};
 
 const FADT: u64 = ROOT + 0x1000;
 const DSDT: u64 = ROOT + 0x2ff0;
@@ -109,6 +112,27 @@ fn needs_room_or_makes_it() {
         assert_eq!(opened.unwrap_err(), AcpiError::AllocError);
     }
     assert_eq!(mapper.held.borrow().len(), 0);
+}
+
+/// A FADT that sums to 1 leads to a DSDT whose OEMID, at 10, isn't UTF-8.
+#[test]
+fn maps_what_is_accepted() {
+    let mut memory = machine();
+    memory.put(FADT, &[(35, 1, 1)]);
+    memory.put(DSDT, &[(10, 1, 0xff)]);
+    memory.sum(DSDT, 40, 9);
+    let mapper = Mapper::new(&memory);
+    let no_fadt = Err(AcpiError::TableMissing(Signature::FADT));
+    let bad_id = Err(AcpiError::SdtInvalidOemId(Signature::DSDT));
+    let all = [(false, false, no_fadt), (false, true, no_fadt), (true, false, bad_id), (true, true, Ok(DSDT + 36))];
+    for (sums, ids, answer) in all {
+        let accept = Accept { sums, ids };
+        // SAFETY: as above.
+        let mapped = unsafe { MappedTables::<_, 64>::open_accepting(&mapper, Start::Rsdp(RSDP), accept) }.unwrap();
+        assert_eq!(mapped.tables().dsdt().map(|aml| aml.address), answer);
+        let needed = missing_ranges(&[], Start::Rsdp(RSDP), accept).count();
+        assert_eq!(needed, Ok(1));
+    }
 }
 
 /// What is found of the tables: where they are, and which of them fail.

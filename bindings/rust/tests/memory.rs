@@ -2,7 +2,9 @@
 mod common;
 use common::{Memory, ROOT};
 use std::cell::RefCell;
-use zacpi::{clip_ranges, map_missing, missing_ranges, AcpiError, AcpiTables, Range, Region, Signature, Slot, Start};
+use zacpi::{
+    clip_ranges, map_missing, missing_ranges, Accept, AcpiError, AcpiTables, Range, Region, Signature, Slot, Start,
+};
 
 fn range(address: u64, length: u64) -> Range {
     Range { address, length }
@@ -60,7 +62,7 @@ fn maps_what_is_missing() {
     let asked = RefCell::new(Vec::new());
     let mut regions = [Region::default(); 8];
     let mut room = [Slot::default(); 8];
-    let mapped = map_missing(&mut regions, 0, Start::Rsdp(RSDP), 8, &mut room, |range| {
+    let mapped = map_missing(&mut regions, 0, Start::Rsdp(RSDP), Accept::default(), 8, &mut room, |range| {
         asked.borrow_mut().push(range);
         map(&memory, range)
     })
@@ -94,15 +96,18 @@ fn ends_after_so_many_rounds() {
     let memory = machine();
     let mut regions = [Region::default(); 8];
     let mut room = [Slot::default(); 8];
-    let mapped = map_missing(&mut regions, 0, Start::Rsdt(ROOT), 2, &mut room, |range| map(&memory, range)).unwrap();
+    let mapped =
+        map_missing(&mut regions, 0, Start::Rsdt(ROOT), Accept::default(), 2, &mut room, |range| map(&memory, range))
+            .unwrap();
     assert_eq!((mapped.regions.len(), mapped.missing, mapped.rounds), (1, 2, 2));
     let mut room = [Slot::default(); 4];
-    let missing = missing_ranges(mapped.regions, Start::Rsdt(ROOT)).fill(&mut room).unwrap();
+    let missing = missing_ranges(mapped.regions, Start::Rsdt(ROOT), Accept::default()).fill(&mut room).unwrap();
     assert_eq!(missing.iter().collect::<Vec<_>>(), [range(FADT, 36), range(NOWHERE, 36)]);
     let mut regions = [Region::default(); 1];
-    let full = map_missing(&mut regions, 0, Start::Rsdp(RSDP), 8, &mut room, |range| map(&memory, range));
+    let full =
+        map_missing(&mut regions, 0, Start::Rsdp(RSDP), Accept::default(), 8, &mut room, |range| map(&memory, range));
     assert_eq!(full.unwrap_err(), AcpiError::AllocError);
-    let none = map_missing(&mut [], 0, Start::Rsdp(RSDP), 8, &mut room, |_| None).unwrap();
+    let none = map_missing(&mut [], 0, Start::Rsdp(RSDP), Accept::default(), 8, &mut room, |_| None).unwrap();
     assert_eq!((none.regions.len(), none.missing, none.rounds), (0, 1, 0));
 }
 
@@ -115,7 +120,7 @@ fn joins_regions() {
     regions[..3].copy_from_slice(&[at(ROOT, 40), at(ROOT + 44, 6), at(RSDP, 36)]);
     let asked = RefCell::new(Vec::new());
     let mut room = [Slot::default(); 4];
-    let mapped = map_missing(&mut regions, 3, Start::Rsdt(ROOT), 1, &mut room, |range| {
+    let mapped = map_missing(&mut regions, 3, Start::Rsdt(ROOT), Accept::default(), 1, &mut room, |range| {
         asked.borrow_mut().push(range);
         map(&memory, range)
     })
@@ -124,7 +129,7 @@ fn joins_regions() {
     let held: Vec<_> = mapped.regions.iter().map(|r| (r.address(), r.length())).collect();
     assert_eq!(held, [(ROOT, 50), (RSDP, 36)]);
     let overlapping = [at(ROOT, 40), at(ROOT + 39, 6)];
-    let refusal = missing_ranges(&overlapping, Start::Rsdt(ROOT)).count().unwrap_err();
+    let refusal = missing_ranges(&overlapping, Start::Rsdt(ROOT), Accept::default()).count().unwrap_err();
     assert_eq!(refusal, AcpiError::RegionsNotAscending);
 }
 

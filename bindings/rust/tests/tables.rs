@@ -3,7 +3,7 @@ mod common;
 use common::{Memory, ROOT};
 use zacpi::entries::Walk;
 use zacpi::write::TableIds;
-use zacpi::{AcpiError, AcpiTables, AmlTable, Fault, Range, Region, Root, Signature, Slot, Start, Table};
+use zacpi::{Accept, AcpiError, AcpiTables, AmlTable, Fault, Range, Region, Root, Signature, Slot, Start, Table};
 
 const FADT: u64 = ROOT + 0x1000;
 const DSDT: u64 = ROOT + 0x2000;
@@ -205,7 +205,36 @@ fn finds_and_lists_tables() {
         let mut faults = [Slot::default(); 2];
         let faults = tables.faults(Signature::SSDT).fill(&mut faults).unwrap();
         let refusal = AcpiError::SdtInvalidChecksum(Signature::SSDT);
-        assert_eq!(faults.iter().collect::<Vec<_>>(), [Fault { address: BAD_SSDT, refusal }]);
+        assert_eq!(faults.iter().collect::<Vec<_>>(), [Fault { address: BAD_SSDT, refusal, accepted: false }]);
+    });
+}
+
+/// A table that sums to 1, and one whose OEMID, at 10, isn't UTF-8.
+#[test]
+fn accepts_bad_sums_and_ids() {
+    let mut memory = Memory::rsdt(&[BAD_SSDT, SSDT]);
+    memory.table(BAD_SSDT, "SSDT", 1, 36, &[]);
+    memory.put(BAD_SSDT, &[(35, 1, 1)]);
+    memory.table(SSDT, "SSDT", 2, 37, &[]);
+    memory.put(SSDT, &[(10, 1, 0xff)]);
+    memory.sum(SSDT, 37, 9);
+    let bad_sum = |accepted| (BAD_SSDT, AcpiError::SdtInvalidChecksum(Signature::SSDT), accepted);
+    let bad_id = |accepted| (SSDT, AcpiError::SdtInvalidOemId(Signature::SSDT), accepted);
+    let all = [
+        (false, false, None, vec![bad_sum(false), bad_id(false)]),
+        (true, false, Some(BAD_SSDT), vec![bad_sum(true)]),
+        (false, true, Some(SSDT), vec![bad_sum(false), bad_id(true)]),
+        (true, true, Some(BAD_SSDT), vec![bad_sum(true)]),
+    ];
+    memory.ask(|tables| {
+        for (sums, ids, found, faults) in all {
+            let tables = tables.accepting(Accept { sums, ids });
+            assert_eq!(tables.find(Signature::SSDT).ok().map(|table| table.address), found);
+            assert_eq!(tables.ssdts().count(), Ok(usize::from(sums) + usize::from(ids)));
+            let mut room = [Slot::default(); 2];
+            let list = tables.faults(Signature::SSDT).fill(&mut room).unwrap();
+            assert!(list.iter().map(|it| (it.address, it.refusal, it.accepted)).eq(faults));
+        }
     });
 }
 
