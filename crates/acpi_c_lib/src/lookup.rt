@@ -32,6 +32,7 @@ impl<'h, H: AcpiHandler> Lookup<'h, H> {
     }
 
     /// The table at an address, if it is accepted as a `T`.
+    #[inline(always)]
     #[tactic(auto, unfolding(crate::specs::Accepted::accepted_at))]
     pub(crate) fn table_at<T: AcpiTable>(
         &self,
@@ -49,6 +50,7 @@ impl<'h, H: AcpiHandler> Lookup<'h, H> {
     }
 
     /// The table at an address, if it is accepted under a signature.
+    #[inline(always)]
     #[tactic(auto, unfolding(crate::specs::Accepted::accepted_at))]
     pub(crate) fn sdt_at(
         &self,
@@ -125,6 +127,8 @@ impl<'h, H: AcpiHandler> Lookup<'h, H> {
 
     /// How many bytes the table at an address has, if with the bits of `accept` it passes the checks of a signature and
     /// a least length.
+    #[inline(never)]
+    #[cold]
     #[tactic(auto, unfolding(crate::specs::Accepted::loosened_at))]
     fn loosened(&self, signature: Signature, least: usize, address: u64) -> AcpiResult<usize>
         requires { 36 ≤ least }
