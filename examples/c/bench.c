@@ -47,6 +47,23 @@ static zacpi_status interrupt_model(size_t *count) {
     *count = model.io_apics + model.overrides + model.nmi_sources + model.nmi_lines + model.processors;
     return refused;
 }
+static zacpi_status platform(size_t *count) {
+    static struct zacpi_processor processors[MOST];
+    static struct zacpi_io_apic io_apics[MOST];
+    static struct zacpi_interrupt_source_override overrides[MOST];
+    static struct zacpi_nmi_source sources[MOST];
+    static struct zacpi_nmi_line lines[MOST];
+    struct zacpi_interrupt_model model = {0};
+    zacpi_status refused = zacpi_platform(&source, &model, processors, MOST, io_apics, MOST, overrides, MOST, sources,
+                                          MOST, lines, MOST, &named);
+    *count = model.io_apics + model.overrides + model.nmi_sources + model.nmi_lines + model.processors;
+    return refused;
+}
+static zacpi_status list_isa_interrupts(size_t *count) {
+    struct zacpi_isa_interrupts all;
+    *count = 16;
+    return zacpi_list_isa_interrupts(&source, &all, &named);
+}
 static zacpi_status list_processors(size_t *count) {
     static struct zacpi_processor out[MOST];
     return zacpi_list_processors(&source, out, MOST, count, &named);
@@ -78,6 +95,8 @@ static const struct call {
     {"zacpi_list_ssdts", "", "items", list_ssdts},
     {"zacpi_dsdt", "", "bytes", dsdt},
     {"zacpi_get_interrupt_model", "", "items", interrupt_model},
+    {"zacpi_platform", "", "items", platform},
+    {"zacpi_list_isa_interrupts", "", "items", list_isa_interrupts},
     {"zacpi_list_processors", "", "items", list_processors},
     {"zacpi_hpet", "", "items", hpet},
     {"zacpi_list_pci_regions", "", "items", list_pci_regions},
