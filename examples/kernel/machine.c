@@ -15,6 +15,13 @@ void *memcpy(void *to, const void *from, size_t n) {
     __asm__ volatile("rep movsb" : "+D"(to), "+S"(from), "+c"(n)::"memory");
     return answer;
 }
+void *memmove(void *to, const void *from, size_t n) {
+    volatile uint8_t *t = to; /* or the compiler could make a call of this function out of the loop */
+    const volatile uint8_t *f = from;
+    if (t <= f) return memcpy(to, from, n);
+    while (n--) t[n] = f[n];
+    return to;
+}
 void *memset(void *to, int x, size_t n) {
     void *answer = to;
     __asm__ volatile("rep stosb" : "+D"(to), "+c"(n) : "a"(x) : "memory");
