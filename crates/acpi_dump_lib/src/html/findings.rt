@@ -5,11 +5,8 @@ use super::escape::print_escaped;
 use crate::check::{Finding, Severity, counts_of};
 use crate::out::Out;
 
-/// Prints the list of what rules find, if they find something: errors first, then warnings, then notes.
+/// Prints how much rules find, and what: errors first, then warnings, then notes.
 pub(super) fn print_findings(page: Page<'_>, out: &mut Out) {
-    if page.findings.list().is_empty() {
-        return;
-    }
     let [notes, warnings, errors] = counts_of(page.findings, Severity::Note);
     writeln!(
         out,

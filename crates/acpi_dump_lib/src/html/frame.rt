@@ -32,15 +32,13 @@ pub(super) fn print_head(source: Source<'_>, out: &mut Out) {
     out.text("</style></head>\n<body><a class=\"skip\" href=\"#tables\">Skip to the tables</a>\n");
 }
 
-/// Prints the links at the top: to the drawing and the findings, if they are there, and to each table.
+/// Prints the links at the top: to the drawing, if it is there, the findings, and each table.
 pub(super) fn print_nav(page: Page<'_>, old: &[Sheet<'_>], has_drawing: bool, out: &mut Out) {
     out.text("<nav aria-label=\"Tables\"><a href=\"#top\" class=\"home\">ACPI</a>");
     if has_drawing {
         out.text("<a href=\"#machine\">machine</a>");
     }
-    if !page.findings.list().is_empty() {
-        out.text("<a href=\"#findings\">findings</a>");
-    }
+    out.text("<a href=\"#findings\">findings</a>");
     for sheet in page.sheets {
         print_link(*sheet, out);
     }
