@@ -56,8 +56,8 @@ pub(crate) fn title_of(signature: Signature) -> &'static str {
     layout_of(signature).1.title
 }
 
-/// The blocks among which the layout of a table with this signature is, and the one that it is, with its lines after the
-/// header: none if no text has it. A FACS has no header: these are then all of its lines.
+/// The blocks among which the layout of a table with this signature is, and the one that it is, with its lines after
+/// the header: none if no text has it. A FACS has no header: these are then all of its lines.
 pub(crate) fn layout_of(signature: Signature) -> (Blocks, Block) {
     let name = signature.as_str().unwrap_or("");
     for text in &TEXTS {

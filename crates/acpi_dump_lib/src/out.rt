@@ -72,7 +72,7 @@ impl Out {
         self.escaped(&text.bytes);
     }
 
-    /// Prints words, in which `#` stands for the next of the numbers in hexadecimal digits, and `%` for it in decimal ones.
+    /// Prints words, in which `#` stands for the next of the numbers in hexadecimal digits, `%` for it in decimal ones.
     pub(crate) fn words(&mut self, words: &str, numbers: &[u64]) {
         let mut rest = numbers;
         for letter in words.as_bytes() {

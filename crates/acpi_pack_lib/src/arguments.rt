@@ -54,13 +54,13 @@ fn parse_memory<'w>(
     let mut rest = words;
     'pairs: loop {
         match rest {
-            [address, file, behind @ ..] => {
+            [address, file, others @ ..] => {
                 let Some(address) = parse_address(address) else {
                     return Ok(None);
                 };
                 addresses.push(address)?;
                 names.push(*file)?;
-                rest = behind;
+                rest = others;
             }
             [_] => return Ok(None),
             [] => {
@@ -125,13 +125,13 @@ fn options_of<'c, 'w>(words: &'c [&'w str]) -> (Options, &'c [&'w str])
         is_plain: false,
     };
     let mut rest = words;
-    while let [word, behind @ ..] = rest {
+    while let [word, others @ ..] = rest {
         match *word {
             "--fix-checksum" => options.fixes_sums = true,
             "--raw" => options.is_plain = true,
             _ => return (options, rest),
         }
-        rest = behind;
+        rest = others;
     }
     (options, rest)
 }

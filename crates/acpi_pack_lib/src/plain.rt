@@ -30,9 +30,9 @@ fn end_address(records: &[Record<'_>]) -> u128
 {
     let mut end = 0;
     for record in records {
-        let behind = record.start as u128 + record.bytes.len() as u128;
-        if end < behind {
-            end = behind;
+        let after = record.start as u128 + record.bytes.len() as u128;
+        if end < after {
+            end = after;
         }
     }
     end

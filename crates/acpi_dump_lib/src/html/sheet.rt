@@ -52,7 +52,7 @@ impl<'p> Sheet<'p> {
         self.entry.bytes.starts_with(letters)
     }
 
-    /// So many bytes from an offset on.
+    /// The bytes at an offset, of this length.
     pub(super) fn bytes(self, offset: u64, length: u64) -> &'p [u8] {
         let end = offset.saturating_add(length) as usize;
         self.entry.bytes.get(offset as usize..end).unwrap_or(&[])
