@@ -64,9 +64,9 @@ extern "C" {
 
 /* Errors --------------------------------------------------------------------------------------- */
 
-typedef uint32_t zacpi_status; /* of enum zacpi_refusal; numbers stay */
+typedef uint32_t zacpi_status; /* of enum zacpi_status_code; numbers stay */
 
-enum zacpi_refusal {
+enum zacpi_status_code {
     ZACPI_OK = 0,
 
     /* What is passed. */

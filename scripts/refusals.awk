@@ -1,9 +1,9 @@
 # SPDX-License-Identifier: MIT
-# Compares the numbers of refusals, and fails if they differ: those of enum zacpi_refusal in include/zacpi.h with those
+# Compares the numbers of errors, and fails if they differ: those of enum zacpi_status_code in include/zacpi.h with those
 # that the crate's refusal.rt gives out, with the names that zacpi_status_name shows, and with those that error.rs and
-# write/mod.rs of the Rust bindings know. These four files are what it reads, in this order. Names are compared in the manner of Rust,
-# those of the MADT's refusals with `Madt` before them, and those of the SRAT's and of the IOMMUs' without what says that
-# they are.
+# write/mod.rs of the Rust bindings know. These four files are what it reads, in this order. Names are compared in the
+# manner of Rust, those of the MADT's errors with `Madt` before them, and those of the SRAT's and of the IOMMUs' without
+# what says that they are.
 function complain(what) { print what; differ = 1 }
 function has(number, name) {
     if ((file, number) in name_of) complain(FILENAME ": two names of " number)
@@ -16,7 +16,7 @@ function rust_name(name,    words, i, text) {
     return text
 }
 FNR == 1 { file++ }
-file == 1 && /^enum zacpi_refusal/ { inside = 1 }
+file == 1 && /^enum zacpi_status_code/ { inside = 1 }
 file == 1 && /^};/ { inside = 0 }
 file == 1 && inside && match($0, /^    ZACPI_[A-Z_]+ = [0-9]+/) {
     split(substr($0, 11, RLENGTH - 10), parts, " = ")
