@@ -31,12 +31,12 @@ static zacpi_status count_processors(uint64_t rsdp, size_t *count) {
     static struct zacpi_region regions[64];
     static struct zacpi_range ranges[128];
     struct zacpi_processor first;
-    struct zacpi_signature named;
+    struct zacpi_signature signature;
     struct zacpi_mapper mapper = {NULL, map, unmap, 0}; /* by pages of 4 KiB */
     struct zacpi_source source = {regions, 0, rsdp, ZACPI_START_RSDP, 0};
     zacpi_status status = zacpi_map_tables(&mapper, &source, regions, 64, ranges, 128);
     if (status != ZACPI_OK) return status;
-    status = zacpi_list_processors(&source, &first, 1, count, &named);
+    status = zacpi_list_processors(&source, &first, 1, count, &signature);
     zacpi_unmap_tables(&mapper, &source);
     return status;
 }

@@ -1,6 +1,6 @@
 /* nulls: calls with what C's designated initialisers leave out, and with outputs that hold anything: null pointers to
  * lists of no items and to the signature that an error carries. It prints what isn't as it should be. */
-#include "zacpi.h"
+#include "zacpi_map.h"
 #include <stdio.h>
 #include <string.h>
 
@@ -77,10 +77,19 @@ static void read_machine(size_t length) {
     EXPECT(!zacpi_list_missing_ranges(&nowhere, NULL, 0, &count, NULL) && count == 1);
     EXPECT(!zacpi_clip_ranges(NULL, 0, NULL, 0, &window, NULL, 0, &count) && count == 0);
 }
+/* Nothing is mapped: into no ranges, and for a search without the word that tells where it looks. */
+static void map_nothing(void) {
+    const struct zacpi_mapper mapper = {.map = NULL};
+    struct zacpi_source source = {.address = 0x10000};
+    EXPECT(zacpi_map_tables(&mapper, &source, NULL, 0, NULL, 0) == ZACPI_NO_ROOM && source.regions_length == 0);
+    source.start = ZACPI_START_SEARCH;
+    EXPECT(!zacpi_map_tables(&mapper, &source, NULL, 0, NULL, 0) && source.regions_length == 0);
+}
 
 int main(void) {
     size_t length = write_machine();
     write_nothing();
     read_machine(length);
+    map_nothing();
     return failed;
 }
