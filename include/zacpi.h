@@ -25,11 +25,12 @@
  * use general registers alone and no red zone; the others may use the red zone, and vector
  * registers, to be enabled first (on x86-64 CR0.EM clear, CR4.OSFXSR set).
  *
- * A call can be passed any numbers, over any bytes. It keeps no state, takes no memory and calls
- * nobody: any number may run at once, each with outputs of its own. It returns ZACPI_OK, with all
- * its outputs written, or fails with the first error of its comment, with none written; only a
- * ZACPI_SDT_ error, ZACPI_TABLE_MISSING and ZACPI_AML_INVALID write `signature`. Opening errors are
- * those of zacpi_open. A call about a table goes by the first valid one that is listed.
+ * A call can be passed any numbers, over any bytes. It keeps no state, takes no memory, and calls
+ * nothing but memcpy, memset and memmove: any number may run at once, each with outputs of its own.
+ * It returns ZACPI_OK, with all its outputs written, or fails with the first error of its comment,
+ * with none written; only a ZACPI_SDT_ error, ZACPI_TABLE_MISSING and ZACPI_AML_INVALID write
+ * `signature`. Opening errors are those of zacpi_open. A call about a table goes by the first valid
+ * one that is listed.
  *
  * A list has its items in the table's order. It writes the first `capacity` of them to `out`, and
  * how many there are in all to `count`: with a capacity of 0 it only counts.
@@ -96,7 +97,8 @@ enum zacpi_status_code {
     /* The FADT, the HPET, the MCFG, and AML. */
     ZACPI_INVALID_DSDT_ADDRESS = 30,    /* X_DSDT and DSDT are 0 (section 5.2.9) */
     ZACPI_INVALID_GENERIC_ADDRESS = 31, /* a reserved code in a register's address (section
-                                         * 5.2.3.2), or an HPET that isn't in memory */
+                                         * 5.2.3.2), a block of 32 ports or more, or an HPET that
+                                         * isn't in memory */
     ZACPI_NO_SUCH_FUNCTION = 32,        /* no region of configuration space contains it */
     ZACPI_NO_REGISTER = 33,             /* PM1a_CNT, on reduced hardware SLEEP_CONTROL_REG */
     ZACPI_NO_RESET = 34,                /* RESET_REG_SUP is clear, or RESET_REG at address 0 */
@@ -152,7 +154,8 @@ enum zacpi_status_code {
     ZACPI_BAD_NAME = 66,        /* OEMID, OEM Table ID or Creator ID isn't UTF-8 */
     ZACPI_NO_ROOM = 67,         /* `capacity` is less than the length */
     ZACPI_TOO_LONG = 68,        /* the table has 2^32 bytes or more */
-    ZACPI_BAD_REGISTER = 69,    /* a FADT's register is at address 0, or a block has no byte */
+    ZACPI_BAD_REGISTER = 69,    /* a FADT's register is at address 0, or a block but pm_timer has no
+                                 * byte */
     ZACPI_BAD_RANGE = 70,       /* memory has no byte, or ends at 2^64 or above; redistributors have
                                  * 2^32 bytes or more */
     ZACPI_SAME_AS_BUS = 71,     /* an Arm machine's trigger mode or polarity is 0 */
@@ -305,26 +308,28 @@ struct zacpi_aml_table {
 };
 
 /* Makes the root table that a copy of the RSDP points to (multiboot2's tags 14 and 15) the start of
- * `source`, whose regions stay. Fails as a start at an RSDP, with ZACPI_MAP_FAILED if the copy is
- * shorter than 20 bytes for revision 0, or than 36 or its Length for another. */
+ * `source`, whose regions stay. Fails with ZACPI_MAP_FAILED if the copy is shorter than 20 bytes,
+ * or than 36 above revision 0, ZACPI_RSDP_INCORRECT_SIGNATURE, ZACPI_RSDP_INVALID_OEM_ID,
+ * ZACPI_RSDP_INVALID_CHECKSUM of the first 20 bytes or for a Length below 36, or above revision 0
+ * ZACPI_MAP_FAILED if it is shorter than Length, or ZACPI_RSDP_INVALID_CHECKSUM of all. */
 ZACPI_STATUS zacpi_start_of_rsdp(const uint8_t *rsdp, size_t rsdp_length,
                                  struct zacpi_source *source);
 
-/* Returns the root table (sections 5.2.7 and 5.2.8). Fails with an opening error (C.md), in this
- * order:
+/* Returns the root table (sections 5.2.7 and 5.2.8). Fails with an opening error, in this order:
  *   what is passed     ZACPI_REGIONS_NOT_ASCENDING, ZACPI_REGION_TOO_HIGH, ZACPI_UNKNOWN_POLICY,
  *                      ZACPI_UNKNOWN_START
  *   a search           ZACPI_MAP_FAILED (a BIOS search), ZACPI_NO_VALID_RSDP
  *   an RSDP at address ZACPI_MAP_FAILED, ZACPI_RSDP_INCORRECT_SIGNATURE, ..._OEM_ID, ..._CHECKSUM
  *   the root table     the errors of a table, with "RSDT" or "XSDT"
- * The errors of a table are ZACPI_MAP_FAILED and the ZACPI_SDT_ errors; a valid one has none. */
+ * The errors of a table are ZACPI_MAP_FAILED and the ZACPI_SDT_ errors; a valid one has none. For
+ * the bytes that Length counts, ZACPI_MAP_FAILED comes right before the sum's error (C.md). */
 ZACPI_STATUS zacpi_open(const struct zacpi_source *source, struct zacpi_root *out,
                         struct zacpi_signature *signature);
 
 /* Lists the memory that the tables still need and no one region contains (C.md). A kernel maps what
  * it can, joins it with its regions' ranges (zacpi_clip_ranges), and repeats, until no new range
  * comes. Each has at least two bytes. Fails with ZACPI_REGIONS_NOT_ASCENDING,
- * ZACPI_REGION_TOO_HIGH, ZACPI_UNKNOWN_POLICY or ZACPI_UNKNOWN_START. */
+ * ZACPI_REGION_TOO_HIGH, ZACPI_UNKNOWN_POLICY or ZACPI_UNKNOWN_START; none writes `signature`. */
 ZACPI_STATUS zacpi_list_missing_ranges(const struct zacpi_source *source, struct zacpi_range *out,
                                        size_t capacity, size_t *count,
                                        struct zacpi_signature *signature);
@@ -471,7 +476,7 @@ struct zacpi_fixed_hardware {
     uint16_t x86_boot_flags;                 /* IAPC_BOOT_ARCH */
     uint16_t arm_boot_flags;                 /* ARM_BOOT_ARCH */
     uint16_t c2_latency, c3_latency;         /* P_LVL2_LAT, P_LVL3_LAT: in microseconds. Above 100,
-                                              * 1000: no C2, no C3 */
+                                              * 1000: no C2, no C3, as in zacpi_fadt_reduced() */
     uint16_t flush_size;                     /* strides to read to write back all caches */
     uint16_t flush_stride;                   /* their width in bytes */
     uint8_t power_profile;                   /* Preferred_PM_Profile: 0 to 8, others are reserved */
@@ -556,8 +561,9 @@ ZACPI_STATUS zacpi_get_fixed_hardware(const struct zacpi_source *source,
                                       struct zacpi_signature *signature);
 
 /* Returns the FACS of the FADT. Fails with an opening error, ZACPI_TABLE_MISSING "FACP",
- * ZACPI_TABLE_MISSING "FACS" if no field gives an address, ZACPI_MAP_FAILED, or with "FACS"
- * ZACPI_SDT_INVALID_SIGNATURE, or ZACPI_SDT_INVALID_LENGTH below 64. */
+ * ZACPI_TABLE_MISSING "FACS" if no field gives an address, ZACPI_MAP_FAILED, with "FACS"
+ * ZACPI_SDT_INVALID_SIGNATURE, or ZACPI_SDT_INVALID_LENGTH below 64, or ZACPI_MAP_FAILED of the
+ * bytes that Length counts. */
 ZACPI_STATUS zacpi_get_facs(const struct zacpi_source *source, struct zacpi_facs *out,
                             struct zacpi_signature *signature);
 
@@ -607,38 +613,46 @@ struct zacpi_sleep_types {
     uint8_t a, b; /* SLP_TYPa and SLP_TYPb */
 };
 
-/* Returns the sleep types of S0 to S5, constants in the AML (section 7.4.2): of the first of the
- * DSDT and the SSDTs that has the state's package. AML isn't run: ZACPI_SLEEP_STATE_NOT_SEEN if an
- * interpreter could find it. Fails with an opening error, ZACPI_NO_SUCH_STATE; if no table has it,
- * with what keeps the first such table from telling: the errors of zacpi_dsdt, ZACPI_AML_INVALID
- * with "DSDT" or "SSDT", or ZACPI_SLEEP_STATE_NOT_SEEN; else with ZACPI_SLEEP_STATE_ABSENT. */
+/* Returns the sleep types of S0 to S5, constants in the AML (section 7.4.2), which isn't run: of
+ * the first of the DSDT and the SSDTs that has the state's package. Fails with an opening error, or
+ * ZACPI_NO_SUCH_STATE; if no table has it, with ZACPI_TABLE_MISSING "FACP",
+ * ZACPI_INVALID_DSDT_ADDRESS, an error of a table with "DSDT", ZACPI_AML_INVALID or
+ * ZACPI_SLEEP_STATE_NOT_SEEN of the first table with one of them, or ZACPI_SLEEP_STATE_ABSENT. */
 ZACPI_STATUS zacpi_get_sleep_types(const struct zacpi_source *source, uint32_t state,
                                    struct zacpi_sleep_types *out,
                                    struct zacpi_signature *signature);
 
 /* Returns what to write to enter a sleep state (section 16.1): SLP_TYP and SLP_EN to PM1a_CNT and
  * PM1b_CNT, on reduced hardware to SLEEP_CONTROL_REG. Before it an interpreter still has to run
- * \_TTS and \_PTS, and \_GTS of old machines, with the state. Fails as zacpi_get_sleep_types, with
- * ZACPI_TABLE_MISSING "FACP", ZACPI_NO_REGISTER if PM1a_CNT or SLEEP_CONTROL_REG is absent or at
- * address 0, or ZACPI_INVALID_GENERIC_ADDRESS. */
+ * \_TTS and \_PTS, and \_GTS of old machines, with the state. Fails with an opening error, or
+ * ZACPI_NO_SUCH_STATE; if no table has its package, with ZACPI_TABLE_MISSING "FACP",
+ * ZACPI_INVALID_DSDT_ADDRESS, an error of a table with "DSDT", ZACPI_AML_INVALID or
+ * ZACPI_SLEEP_STATE_NOT_SEEN of the first table with one of them, or ZACPI_SLEEP_STATE_ABSENT; then
+ * with ZACPI_TABLE_MISSING "FACP", ZACPI_INVALID_GENERIC_ADDRESS, ZACPI_NO_REGISTER if PM1a_CNT or
+ * SLEEP_CONTROL_REG is absent or at address 0, or ZACPI_INVALID_GENERIC_ADDRESS of PM1b_CNT. */
 ZACPI_STATUS zacpi_get_sleep_plan(const struct zacpi_source *source, uint32_t state,
                                   struct zacpi_plan *out, struct zacpi_signature *signature);
 
-/* Returns what to write to power the machine off: zacpi_get_sleep_plan of S5. An interpreter would
- * still have to run \_TTS, \_PTS and \_GTS with 5 before. Fails as that does. */
+/* Returns what to write to power the machine off, what zacpi_get_sleep_plan returns for S5. An
+ * interpreter would still have to run \_TTS, \_PTS and \_GTS with 5 before. Fails with an opening
+ * error; if no table has the package of S5, with ZACPI_TABLE_MISSING "FACP",
+ * ZACPI_INVALID_DSDT_ADDRESS, an error of a table with "DSDT", ZACPI_AML_INVALID or
+ * ZACPI_SLEEP_STATE_NOT_SEEN of the first table with one of them, or ZACPI_SLEEP_STATE_ABSENT; then
+ * with ZACPI_TABLE_MISSING "FACP", ZACPI_INVALID_GENERIC_ADDRESS, ZACPI_NO_REGISTER if PM1a_CNT or
+ * SLEEP_CONTROL_REG is absent or at address 0, or ZACPI_INVALID_GENERIC_ADDRESS of PM1b_CNT. */
 ZACPI_STATUS zacpi_get_power_off_plan(const struct zacpi_source *source, struct zacpi_plan *out,
                                       struct zacpi_signature *signature);
 
 /* Returns what to write to reset the machine: RESET_VALUE to RESET_REG (section 4.8.3.6). Fails
- * with an opening error, ZACPI_TABLE_MISSING "FACP", ZACPI_NO_RESET if RESET_REG_SUP is clear or
- * the register at address 0, or ZACPI_INVALID_GENERIC_ADDRESS. */
+ * with an opening error, ZACPI_TABLE_MISSING "FACP", ZACPI_NO_RESET if RESET_REG_SUP is clear,
+ * ZACPI_INVALID_GENERIC_ADDRESS, or ZACPI_NO_RESET if RESET_REG is at address 0. */
 ZACPI_STATUS zacpi_get_reset_plan(const struct zacpi_source *source, struct zacpi_plan *out,
                                   struct zacpi_signature *signature);
 
 /* Returns what to write to enable ACPI: ACPI_ENABLE to the port SMI_CMD, then until SCI_EN of
  * PM1a_CNT is set (section 4.8.3.2.1). No step on reduced hardware, nor if SMI_CMD is 0. Fails with
- * an opening error, ZACPI_TABLE_MISSING "FACP", ZACPI_NO_REGISTER if PM1a_CNT is at address 0, or
- * ZACPI_INVALID_GENERIC_ADDRESS. */
+ * an opening error, or ZACPI_TABLE_MISSING "FACP", and else, unless there is no step, with
+ * ZACPI_INVALID_GENERIC_ADDRESS, or ZACPI_NO_REGISTER if PM1a_CNT is at address 0. */
 ZACPI_STATUS zacpi_get_enable_plan(const struct zacpi_source *source, struct zacpi_plan *out,
                                    struct zacpi_signature *signature);
 
@@ -747,8 +761,8 @@ struct zacpi_processor { /* Processor Local APIC and Processor Local x2APIC, sec
 
 /* Returns which controllers interrupts come to, and how many items the lists of zacpi_platform
  * have. Fails with an opening error, ZACPI_TABLE_MISSING "FACP", the ZACPI_MADT_ error of the first
- * entry with one (of several the least), or ZACPI_INVALID_GENERIC_ADDRESS if zacpi_get_pm_timer
- * does. */
+ * entry with one (of several the least), or ZACPI_INVALID_GENERIC_ADDRESS of X_PM_TMR_BLK if
+ * PM_TMR_LEN is 4. */
 ZACPI_STATUS zacpi_get_interrupt_model(const struct zacpi_source *source,
                                        struct zacpi_interrupt_model *out,
                                        struct zacpi_signature *signature);
@@ -793,16 +807,16 @@ struct zacpi_entry_fault {
     uint32_t status;     /* its error */
     uint16_t entry_type; /* Type there; 0 at the table's end */
 };
-/* Lists the entries with an error, that of zacpi_platform, and last, if bytes are left, where none
- * begins. Fails with an opening error, or ZACPI_TABLE_MISSING "APIC". */
+/* Lists the entries with a ZACPI_MADT_ error (of several the least), and last, if bytes are left,
+ * where none begins. Fails with an opening error, or ZACPI_TABLE_MISSING "APIC". */
 ZACPI_STATUS zacpi_list_madt_faults(const struct zacpi_source *source,
                                     struct zacpi_entry_fault *out, size_t capacity, size_t *count,
                                     struct zacpi_signature *signature);
 
 /* Returns what zacpi_get_interrupt_model returns, and writes the first items of the five lists
  * above. Fails with an opening error, ZACPI_TABLE_MISSING "FACP", the ZACPI_MADT_ error of the
- * first entry with one (of several the least), ZACPI_INVALID_GENERIC_ADDRESS if zacpi_get_pm_timer
- * does, or ZACPI_NO_APICS. */
+ * first entry with one (of several the least), ZACPI_INVALID_GENERIC_ADDRESS of X_PM_TMR_BLK if
+ * PM_TMR_LEN is 4, or ZACPI_NO_APICS. */
 ZACPI_STATUS zacpi_platform(const struct zacpi_source *source, struct zacpi_interrupt_model *out,
                             struct zacpi_processor *processors, size_t processors_capacity,
                             struct zacpi_io_apic *io_apics, size_t io_apics_capacity,
@@ -1022,9 +1036,10 @@ struct zacpi_plic { /* Platform Level Interrupt Controller, Type 0x1b */
     uint8_t id, version;
 };
 
-/* Each lists the entries of one Type of the first valid MADT, up to the first malformed front. One
- * with fewer bytes than its type (20, 16, 36 and 36 for 0x18 to 0x1b) is skipped. Fails with an
- * opening error, or ZACPI_TABLE_MISSING "APIC". */
+/* Each lists the MADT's entries of one Type, up to where none begins, since Length is above the
+ * bytes left or below the least of its Type (at ZACPI_NO_APICS). One with fewer bytes than its
+ * layout (20, 16, 36 and 36 for 0x18 to 0x1b) is skipped. Fails with an opening error, or
+ * ZACPI_TABLE_MISSING "APIC". */
 ZACPI_STATUS zacpi_list_rintcs(const struct zacpi_source *source, struct zacpi_rintc *out,
                                size_t capacity, size_t *count, struct zacpi_signature *signature);
 ZACPI_STATUS zacpi_list_imsics(const struct zacpi_source *source, struct zacpi_imsic *out,
