@@ -7,7 +7,7 @@
 
 /* Each call writes one table to the front of `out`, which has `capacity` bytes, and its length to
  * `length`; the rest of `out` is left as it is. The calls of zacpi.h then read what was passed,
- * unless a comment has otherwise. */
+ * unless a comment has otherwise; none reads an RHCT. */
 
 struct zacpi_table_ids { /* section 5.2.6. Names are filled up with spaces or zeros */
     uint8_t oem_id[6], oem_table_id[8];
@@ -57,7 +57,7 @@ struct zacpi_riscv_contents {
     size_t plics_length;
 };
 struct zacpi_rhct_contents { /* RISC-V Hart Capabilities Table, ACPI 6.6 */
-    const uint8_t *isa;     /* the ISA string of all harts, as rv64imafdc, without a zero at its end */
+    const uint8_t *isa;     /* the ISA string of all harts, as rv64imafdc, with no zero at its end */
     size_t isa_length;
     const uint32_t *harts;  /* ACPI Processor UID of each */
     size_t harts_length;
@@ -106,7 +106,8 @@ struct zacpi_facs_contents { /* section 5.2.10 */
 };
 
 /* Writes an RSDP of revision 2 that points to an XSDT (section 5.2.5.3): 36 bytes. Of `ids` it has
- * OEMID alone. Fails with ZACPI_NO_ADDRESS if `xsdt` is 0, ZACPI_BAD_NAME or ZACPI_NO_ROOM. */
+ * OEMID alone. Fails with ZACPI_NO_ADDRESS if `xsdt` is 0, ZACPI_BAD_NAME, also of another name, or
+ * ZACPI_NO_ROOM. */
 ZACPI_STATUS zacpi_write_rsdp(const struct zacpi_table_ids *ids, uint64_t xsdt, uint8_t *out,
                               size_t capacity, size_t *length);
 /* Write an RSDT, and an XSDT, of these addresses, in order, also of 0 (sections 5.2.7 and 5.2.8).
@@ -152,10 +153,10 @@ ZACPI_STATUS zacpi_write_gic_madt(const struct zacpi_table_ids *ids,
 ZACPI_STATUS zacpi_write_riscv_madt(const struct zacpi_table_ids *ids,
                                     const struct zacpi_riscv_contents *contents, uint8_t *out,
                                     size_t capacity, size_t *length);
-/* Writes an RHCT of revision 1 (ACPI 6.6): an ISA String Node, whose string is filled up with one or
- * two zeros to an even length, and for each hart a Hart Info Node of it. Fails with
- * ZACPI_NO_PROCESSOR, ZACPI_TOO_LONG if isa_length is above 65525, ZACPI_BAD_NAME, ZACPI_NO_ROOM or
- * ZACPI_TOO_LONG. */
+/* Writes an RHCT of revision 1 (ACPI 6.6): an ISA String Node, whose string is filled up with one
+ * or two zeros to an even length, and for each hart a Hart Info Node of it. Fails with
+ * ZACPI_NO_PROCESSOR, ZACPI_TOO_LONG if isa_length is above 65525 or harts_length 2^28 or above,
+ * ZACPI_BAD_NAME, ZACPI_NO_ROOM or ZACPI_TOO_LONG. */
 ZACPI_STATUS zacpi_write_rhct(const struct zacpi_table_ids *ids,
                               const struct zacpi_rhct_contents *contents, uint8_t *out,
                               size_t capacity, size_t *length);
@@ -189,9 +190,10 @@ ZACPI_STATUS zacpi_write_bgrt(const struct zacpi_table_ids *ids,
                               size_t capacity, size_t *length);
 /* Writes an SPCR of revision 4, 90 bytes, with a Language of 0, the NamespaceString "." of a port
  * with no object, and in Configured Baud Rate the rate's code, or 0 if it has none. A base, an
- * interrupt or a rate that isn't there is written as 0 and not looked at; reserved codes of
- * `interface`, `parity` and stop_bits are written. Fails with ZACPI_UNKNOWN_CODE, ZACPI_NO_ADDRESS
- * if `base` is present at address 0, ZACPI_BAD_NAME or ZACPI_NO_ROOM. */
+ * interrupt or a rate that isn't there is written as 0 and not looked at, and a rate of 0 is read
+ * as none; reserved codes of `interface`, `parity` and stop_bits are written. Fails with
+ * ZACPI_UNKNOWN_CODE, ZACPI_NO_ADDRESS if `base` is present at address 0, ZACPI_BAD_NAME or
+ * ZACPI_NO_ROOM. */
 ZACPI_STATUS zacpi_write_spcr(const struct zacpi_table_ids *ids,
                               const struct zacpi_spcr_contents *contents, uint8_t *out,
                               size_t capacity, size_t *length);
@@ -204,7 +206,8 @@ ZACPI_STATUS zacpi_write_spcr(const struct zacpi_table_ids *ids,
 ZACPI_STATUS zacpi_write_gtdt(const struct zacpi_table_ids *ids,
                               const struct zacpi_gtdt_contents *contents, uint8_t *out,
                               size_t capacity, size_t *length);
-/* Returns what the FADT of a guest without fixed hardware has, but for dsdt_address. */
+/* Returns what the FADT of a guest without fixed hardware has, but for dsdt_address. Begin with it
+ * also for other `flags`: a record of zeros is written as having C2 and C3, with latencies of 0. */
 static inline struct zacpi_fixed_hardware zacpi_fadt_reduced(void) {
     struct zacpi_fixed_hardware fadt;
     size_t i;
@@ -215,8 +218,8 @@ static inline struct zacpi_fixed_hardware zacpi_fadt_reduced(void) {
 }
 /* Writes a FADT of version 6.4, 276 bytes (section 5.2.9). An address or a block is in its X_
  * field, and in its field of 32 bits if it fits, a block if it is one of ports; a length in bytes
- * is the whole bytes of bit_width, and X_GPEn_BLK of 32 bytes or more has a width of 255. A
- * register is there by `present` 1 and an address that isn't 0, pm1a unless the hardware is
+ * is the whole bytes of bit_width, of pm_timer 4, and X_GPEn_BLK from 32 bytes on has a width of
+ * 255. A register is there by `present` 1 and an address that isn't 0, pm1a unless the hardware is
  * reduced, and the reset by ZACPI_FADT_RESET_REG_SUP. What isn't there, and reduced fixed hardware,
  * is written as 0 and not looked at, nor are `gpe0`, `gpe1`, the last three fields and reserved
  * flags; sleep registers are read as present. Fails with ZACPI_UNKNOWN_CODE, ZACPI_NO_ADDRESS if
