@@ -45,7 +45,8 @@ pub enum AcpiError {
     InvalidDsdtAddress,
     /// NamespaceString of the SPCR reaches past the table's end or isn't UTF-8.
     InvalidNamespaceString,
-    /// A register's address has a reserved code (section 5.2.3.2), or an HPET's registers don't lie in memory.
+    /// A register's address has a reserved code (section 5.2.3.2), a block has 32 ports or more, or an HPET's registers
+    /// don't lie in memory.
     InvalidGenericAddress,
     /// No region of configuration space holds this PCI function.
     NoSuchFunction,

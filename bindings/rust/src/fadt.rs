@@ -265,8 +265,8 @@ fn always(raw: records::Register) -> AcpiResult<GenericAddress> {
     register(raw)?.ok_or(AcpiError::InvalidGenericAddress)
 }
 
-/// A getter fails with [`AcpiError::InvalidGenericAddress`] if the register's address has a reserved code. An address
-/// is that of the 64-bit field if this isn't 0, and otherwise that of the 32-bit field.
+/// A getter fails with [`AcpiError::InvalidGenericAddress`] if the register's address has a reserved code, or the block
+/// 32 ports or more. An address is that of the 64-bit field if this isn't 0, and otherwise that of the 32-bit field.
 impl Fadt {
     /// X_FIRMWARE_CTRL or FIRMWARE_CTRL. Fails with `InvalidFacsAddress` if both are 0.
     pub fn facs_address(&self) -> AcpiResult<u64> {

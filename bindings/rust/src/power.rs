@@ -109,8 +109,7 @@ impl IntoIterator for Plan {
     }
 }
 
-/// A plan fails with `TableMissing` for the FADT, with `InvalidGenericAddress` if a register's address has a reserved
-/// code, and with the errors of its call.
+/// A plan fails with the first of the errors that its call has.
 impl<'k> AcpiTables<'k> {
     /// The sleep types of the sleep state S0 to S5 (section 7.4.2), which are constants of the first block of AML that
     /// has them, of the DSDT and then the SSDTs.
@@ -125,24 +124,27 @@ impl<'k> AcpiTables<'k> {
     /// What puts the machine to sleep in the state S1 to S5 (section 16.1). An interpreter of AML runs `_TTS` and
     /// `_PTS` before it.
     ///
-    /// Fails as [`AcpiTables::sleep_types`] does, and with `NoRegister` if there is no PM1a_CNT, or on reduced hardware
-    /// no SLEEP_CONTROL_REG.
+    /// Fails as [`AcpiTables::sleep_types`] does; then with `TableMissing` for the FADT, with `InvalidGenericAddress`
+    /// for PM1a_CNT or on reduced hardware SLEEP_CONTROL_REG, with `NoRegister` if there is none, or it is at address
+    /// 0, and with `InvalidGenericAddress` for PM1b_CNT.
     pub fn sleep_plan(&self, state: u32) -> AcpiResult<Plan> {
         Plan::of(raw::zacpi_1_get_sleep_plan(&self.source(), state)?)
     }
 
-    /// What powers the machine off: [`AcpiTables::sleep_plan`] of S5.
+    /// What powers the machine off: [`AcpiTables::sleep_plan`] of S5, and fails as that does.
     pub fn power_off_plan(&self) -> AcpiResult<Plan> {
         Plan::of(raw::zacpi_1_get_power_off_plan(&self.source())?)
     }
 
-    /// What resets the machine (section 4.8.3.6). Fails with `NoReset` if the FADT has no register for that.
+    /// What resets the machine (section 4.8.3.6). Fails with `TableMissing` for the FADT, with `NoReset` if
+    /// RESET_REG_SUP is clear, with `InvalidGenericAddress`, and with `NoReset` if RESET_REG is at address 0.
     pub fn reset_plan(&self) -> AcpiResult<Plan> {
         Plan::of(raw::zacpi_1_get_reset_plan(&self.source())?)
     }
 
     /// What enables ACPI, and waits until it is enabled (section 4.8.3.2.1): no step on reduced hardware, nor if
-    /// SMI_CMD is 0. Fails with `NoRegister` if there is no PM1a_CNT.
+    /// SMI_CMD is 0. Fails with `TableMissing` for the FADT, and unless there is no step with `InvalidGenericAddress`,
+    /// or with `NoRegister` if PM1a_CNT is at address 0.
     pub fn enable_plan(&self) -> AcpiResult<Plan> {
         Plan::of(raw::zacpi_1_get_enable_plan(&self.source())?)
     }

@@ -170,7 +170,7 @@ impl Spcr {
         self
     }
 
-    /// The same with this rate, in bits in a second.
+    /// The same with this rate, in bits in a second. A rate of 0 is written, and read as none.
     pub fn with_baud_rate(mut self, rate: u32) -> Self {
         (self.raw.baud_rate, self.raw.has_baud_rate) = (rate, 1);
         self

@@ -74,7 +74,7 @@ impl Bgrt {
 }
 
 /// An SPCR of revision 4, of a port with no object in the namespace. A base address, an interrupt or a rate that the
-/// console hasn't is written as 0.
+/// console hasn't is written as 0, and a rate of 0 is read as none.
 #[derive(Clone, Copy, Debug)]
 #[non_exhaustive]
 pub struct Spcr {

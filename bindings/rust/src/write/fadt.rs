@@ -9,9 +9,10 @@ use crate::PowerProfile;
 
 /// A FADT of version 6.4, 276 bytes (section 5.2.9).
 ///
-/// An address or a block is in its X_ field, and in its field of 32 bits if it fits, a block if it is one of ports.
-/// Of fixed hardware that is reduced, of what isn't there, and of reserved flags nothing is written. `revision`,
-/// `minor_revision` and `hypervisor_id` aren't looked at: 6, 4 and 0 are written.
+/// An address or a block is in its X_ field, and in its field of 32 bits if it fits, a block if it is one of ports. A
+/// length in bytes is the whole bytes of the block's width, of the timer 4. Of fixed hardware that is reduced, of what
+/// isn't there, and of reserved flags nothing is written. `revision`, `minor_revision` and `hypervisor_id` aren't
+/// looked at: 6, 4 and 0 are written.
 #[derive(Clone, Copy, Debug)]
 pub struct Fadt {
     /// Who made it.

@@ -187,8 +187,8 @@ impl<'a> Rhct<'a> {
         total([56, node, self.harts.len().saturating_mul(16)])
     }
 
-    /// Writes it. Fails with `NoProcessor`, `TooLong` if the ISA string has more than 65525 letters, `BadName`,
-    /// `NoRoom` or `TooLong`.
+    /// Writes it. Fails with `NoProcessor`, `TooLong` if the ISA string has more than 65525 letters or there are 2^28
+    /// harts or more, `BadName`, `NoRoom` or `TooLong`.
     pub fn write(&self, memory: &mut [u8]) -> Result<usize, WriteError> {
         raw::zacpi_1_write_rhct(&self.ids, &RhctContents::new(self), memory)
     }

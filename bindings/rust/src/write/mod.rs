@@ -2,10 +2,10 @@
 //!
 //! Each struct here is what a table contains. `write` writes it to the front of a slice and returns how many bytes it
 //! took; `size` returns how many those are. After an error the slice is as it was. What is written is what reading
-//! returns: the lists are slices of [`Slot`](crate::Slot)s, which are made of the items that reading returns by
-//! [`From`], or with which [`Listing::fill`](crate::Listing::fill) filled a slice, so that nothing is copied and no
-//! allocator is needed. A later version of the specification may add fields to an item, so one is made by its `new`,
-//! and the other fields are set one by one.
+//! returns, but for an [`Rhct`], which no call reads: the lists are slices of [`Slot`](crate::Slot)s, which are made of
+//! the items that reading returns by [`From`], or with which [`Listing::fill`](crate::Listing::fill) filled a slice, so
+//! that nothing is copied and no allocator is needed. A later version of the specification may add fields to an item,
+//! so one is made by its `new`, and the other fields are set one by one.
 //!
 //! ```
 //! use zacpi::write::{Machine, Room, Slit, TableIds};
@@ -99,7 +99,7 @@ errors! {
     67 = NoRoom,
     /// The table has 2^32 bytes or more, which Length can't count.
     68 = TooLong,
-    /// A register of a FADT at address 0, or a block without bytes.
+    /// A register of a FADT at address 0, or a block but the timer's without bytes.
     69 = BadRegister,
     /// A range of memory that has no byte or ends above 2^64 - 1, or one of redistributors that has 2^32 bytes or more.
     70 = BadRange,

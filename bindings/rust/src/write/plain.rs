@@ -3,7 +3,8 @@
 use super::{raw, TableIds, WriteError, HEADER};
 use crate::sdt::Signature;
 
-/// An RSDP of revision 2, which points to an XSDT (section 5.2.5.3). Of `ids` it has OEMID alone.
+/// An RSDP of revision 2, which points to an XSDT (section 5.2.5.3). Of `ids` it has OEMID alone, but all names are
+/// looked at.
 #[derive(Clone, Copy, Debug, Default)]
 pub struct Rsdp {
     /// Who made it.
