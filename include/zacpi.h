@@ -229,8 +229,8 @@ struct zacpi_source {
     size_t regions_length;
     uint64_t address; /* where to start; a search doesn't look at it */
     uint32_t start;   /* one of enum zacpi_start */
-    uint32_t accept;  /* 0, or bits of enum zacpi_accept: a listed table or a DSDT is valid if it has
-                       * no other error. The RSDP and the root table may have none */
+    uint32_t accept;  /* 0, or bits of enum zacpi_accept: a root table, a listed table or a DSDT is
+                       * valid if it has no other error. An RSDP may have none */
 };
 
 /* Lists the ranges to make regions of, from ranges in any order: sorted, joined where they overlap
@@ -359,13 +359,14 @@ ZACPI_STATUS zacpi_find_nth_table(const struct zacpi_source *source, struct zacp
                                   size_t index, struct zacpi_table *out,
                                   struct zacpi_signature *signature);
 
-/* Lists the entries of the table at address `table`, listed or not, by a walk of its kind. Each has
- * Length bytes: at least as many as Type and Length end after, and at most those that are left;
- * `malformed` is 1 if bytes are left in which no entry begins. Fails with
- * ZACPI_REGIONS_NOT_ASCENDING, ZACPI_REGION_TOO_HIGH, ZACPI_UNKNOWN_WIDTH, an error of a table,
- * with its own signature, or ZACPI_SDT_INVALID_LENGTH if its Length is below `first`. */
-ZACPI_STATUS zacpi_list_entries(const struct zacpi_region *regions, size_t regions_length,
-                                uint64_t table, const struct zacpi_walk *walk,
+/* Lists the entries of the table at address `table`, listed or not, by a walk of its kind; `start`
+ * isn't looked at. Each has Length bytes: at least as many as Type and Length end after, and at most
+ * those that are left; `malformed` is 1 if bytes are left in which no entry begins. Fails with
+ * ZACPI_REGIONS_NOT_ASCENDING, ZACPI_REGION_TOO_HIGH, ZACPI_UNKNOWN_POLICY, ZACPI_UNKNOWN_WIDTH, an
+ * error of a table, with its own signature, or ZACPI_SDT_INVALID_LENGTH if its Length is below
+ * `first`. */
+ZACPI_STATUS zacpi_list_entries(const struct zacpi_source *source, uint64_t table,
+                                const struct zacpi_walk *walk,
                                 struct zacpi_entry *out, size_t capacity, size_t *count,
                                 uint8_t *malformed, struct zacpi_signature *signature);
 

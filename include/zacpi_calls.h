@@ -188,19 +188,18 @@ ZACPI_STATUS zacpi_find_nth_table(const struct zacpi_source *source, struct zacp
                                   signature ? signature : &unasked);
 }
 
-zacpi_status zacpi_1_list_entries(const struct zacpi_region *regions, size_t regions_length,
-                                  uint64_t table, const struct zacpi_walk *walk,
-                                  struct zacpi_entry *out, size_t capacity, size_t *count,
-                                  uint8_t *malformed, struct zacpi_signature *signature);
-ZACPI_NONNULL((4, 7, 8))
-ZACPI_STATUS zacpi_list_entries(const struct zacpi_region *regions, size_t regions_length,
-                                uint64_t table, const struct zacpi_walk *walk,
-                                struct zacpi_entry *out, size_t capacity, size_t *count,
-                                uint8_t *malformed, struct zacpi_signature *signature) {
+zacpi_status zacpi_1_list_entries(const struct zacpi_source *source, uint64_t table,
+                                  const struct zacpi_walk *walk, struct zacpi_entry *out,
+                                  size_t capacity, size_t *count, uint8_t *malformed,
+                                  struct zacpi_signature *signature);
+ZACPI_NONNULL((1, 3, 6, 7))
+ZACPI_STATUS zacpi_list_entries(const struct zacpi_source *source, uint64_t table,
+                                const struct zacpi_walk *walk, struct zacpi_entry *out,
+                                size_t capacity, size_t *count, uint8_t *malformed,
+                                struct zacpi_signature *signature) {
+    const struct zacpi_source kept_source = zacpi_source_kept(source);
     struct zacpi_signature unasked;
-    return zacpi_1_list_entries(
-                                regions_length ? regions : (const struct zacpi_region *)ZACPI_NOTHING,
-                                regions_length, table, walk,
+    return zacpi_1_list_entries(&kept_source, table, walk,
                                 capacity ? out : (struct zacpi_entry *)ZACPI_NOTHING, capacity,
                                 count, malformed, signature ? signature : &unasked);
 }

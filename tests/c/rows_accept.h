@@ -71,5 +71,22 @@ static const struct {
     {BOTH, GOOD(list_ranges, LED_BY_IDS, NULL, NO, 3, AT(LED_BY_IDS), 44, AT(FADT_OEM_ID), 116, AT(DSDT_SUM), 47)},
     /* Of a table that is accepted all bytes are needed. */
     {0, NOTHING(list_missing_ranges, LED_BY_IDS)}, {SUMS, NOTHING(list_missing_ranges, LED_BY_IDS)},
-    {IDS, GOOD(list_missing_ranges, LED_BY_IDS, NULL, NO, 1, AT(MADT_LOST), SIZE)}};
+    {IDS, GOOD(list_missing_ranges, LED_BY_IDS, NULL, NO, 1, AT(MADT_LOST), SIZE)},
+
+    /* A root table is accepted as what it lists is, and an RSDP isn't. */
+    {SUMS, GOOD(open, SUM, NULL, NO, 1, AT(SUM), 56, 0, 4, 0, 0)},
+    {BOTH, GOOD(open, RSDP_TO_SUM, NULL, NO, 1, AT(SUM), 56, 0, 4, AT(RSDP_TO_SUM), 20)},
+    {IDS, REFUSED(open, RSDP_TO_SUM, NULL, NO, ZACPI_SDT_INVALID_CHECKSUM, "RSDT")},
+    {SUMS, GOOD(list_ranges, SUM, NULL, NO, 6, AT(SUM), 56, AT(MADT_GIC), 346, AT(GTDT), 260, AT(SRAT), 274,
+                AT(SLIT), 48, AT(MCFG), 108)},
+    {SUMS, NOTHING(list_missing_ranges, SUM)},
+    {0, REFUSED(open, ROOT_OEM_ID, NULL, NO, ZACPI_SDT_INVALID_OEM_ID, "RSDT")},
+    {SUMS, REFUSED(open, ROOT_OEM_ID, NULL, NO, ZACPI_SDT_INVALID_OEM_ID, "RSDT")},
+    {IDS, GOOD(open, ROOT_OEM_ID, NULL, NO, 1, AT(ROOT_OEM_ID), 40, 0, 4, 0, 0)},
+    {IDS, GOOD(list_processors, ROOT_OEM_ID, NULL, NO, 1, 2, 12, 2, 1, 0, 0)},
+    {BOTH, REFUSED(open, RSDP_SHORT, NULL, NO, ZACPI_RSDP_INVALID_CHECKSUM, NULL)},
+    {SUMS, NOTHING(list_missing_ranges, ROOT_LONG)}, {IDS, REFUSED(open, ROOT_LONG, NULL, NO, ZACPI_MAP_FAILED, NULL)},
+    {IDS, GOOD(list_missing_ranges, ROOT_LONG, NULL, NO, 1, AT(ROOT_LONG), SIZE)},
+    {BOTH, GOOD(list_missing_ranges, RSDP_LOST, NULL, NO, 1, 0x300000000, 36)},
+    {BOTH, GOOD(list_missing_ranges, RSDP_LONG, NULL, NO, 1, AT(RSDP_LONG), SIZE)}};
 #endif

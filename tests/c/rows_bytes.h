@@ -118,7 +118,7 @@ static const struct zacpi_region laid[] = {LAID(IN_APIC, madt_whole), LAID(IN_SR
 static const struct entries_row {
     const struct zacpi_region *regions;
     size_t regions_length;
-    uint32_t table;
+    uint32_t accept, table;
     struct zacpi_walk walk;
     zacpi_status status;
     const char *named;
@@ -126,63 +126,68 @@ static const struct entries_row {
     uint8_t malformed;
     uint64_t values[9]; /* of each entry its address, its Type and its Length */
 } entry_rows[] = {
-    {REGIONS(laid), IN_APIC, ZACPI_WALK_APIC, ZACPI_OK, NULL, 3, 0,
+    {REGIONS(laid), 0, IN_APIC, ZACPI_WALK_APIC, ZACPI_OK, NULL, 3, 0,
      {TABLE(IN_APIC) + 44, 0, 8, TABLE(IN_APIC) + 52, 1, 12, TABLE(IN_APIC) + 64, 0x80, 2}},
-    {REGIONS(laid), IN_APIC, {52, 0, 1, 1, 1}, ZACPI_OK, NULL, 2, 0,
+    {REGIONS(laid), 0, IN_APIC, {52, 0, 1, 1, 1}, ZACPI_OK, NULL, 2, 0,
      {TABLE(IN_APIC) + 52, 1, 12, TABLE(IN_APIC) + 64, 0x80, 2}},
-    {REGIONS(laid), IN_APIC, {66, 0, 1, 1, 1}, ZACPI_OK, NULL, 0, 0, {0}}, /* the table's end */
-    {REGIONS(laid), IN_APIC, {65, 0, 1, 1, 1}, ZACPI_OK, NULL, 0, 1, {0}}, /* one byte is left */
-    {REGIONS(laid), IN_APIC, {67, 0, 1, 1, 1}, ZACPI_SDT_INVALID_LENGTH, "APIC", 0, 0, {0}},
-    {REGIONS(laid), IN_APIC, {UINT32_MAX, 0, 2, 2, 2}, ZACPI_SDT_INVALID_LENGTH, "APIC", 0, 0, {0}},
-    {REGIONS(laid), IN_APIC, {44, 0, 2, 2, 2}, ZACPI_OK, NULL, 0, 1, {0}}, /* a Type of 0x800, and a Length of 0x201 */
-    {REGIONS(laid), IN_APIC, {0, 0, 2, 2, 2}, ZACPI_OK, NULL, 0, 1, {0}}, /* the header: a Length of "IC", 0x4349 */
-    {REGIONS(laid), IN_APIC, {44, 0, 0, 0, 0}, ZACPI_UNKNOWN_WIDTH, NULL, 0, 0, {0}},
-    {REGIONS(laid), IN_APIC, {44, 0, 3, 3, 3}, ZACPI_UNKNOWN_WIDTH, NULL, 0, 0, {0}},
-    {REGIONS(laid), IN_SRAT, ZACPI_WALK_SRAT, ZACPI_OK, NULL, 2, 0,
+    {REGIONS(laid), 0, IN_APIC, {66, 0, 1, 1, 1}, ZACPI_OK, NULL, 0, 0, {0}}, /* the table's end */
+    {REGIONS(laid), 0, IN_APIC, {65, 0, 1, 1, 1}, ZACPI_OK, NULL, 0, 1, {0}}, /* one byte is left */
+    {REGIONS(laid), 0, IN_APIC, {67, 0, 1, 1, 1}, ZACPI_SDT_INVALID_LENGTH, "APIC", 0, 0, {0}},
+    {REGIONS(laid), 0, IN_APIC, {UINT32_MAX, 0, 2, 2, 2}, ZACPI_SDT_INVALID_LENGTH, "APIC", 0, 0, {0}},
+    {REGIONS(laid), 0, IN_APIC, {44, 0, 2, 2, 2}, ZACPI_OK, NULL, 0, 1, {0}}, /* a Length of 0x201 */
+    {REGIONS(laid), 0, IN_APIC, {0, 0, 2, 2, 2}, ZACPI_OK, NULL, 0, 1, {0}}, /* the header: a Length of "IC", 0x4349 */
+    {REGIONS(laid), 0, IN_APIC, {44, 0, 0, 0, 0}, ZACPI_UNKNOWN_WIDTH, NULL, 0, 0, {0}},
+    {REGIONS(laid), 0, IN_APIC, {44, 0, 3, 3, 3}, ZACPI_UNKNOWN_WIDTH, NULL, 0, 0, {0}},
+    {REGIONS(laid), 0, IN_SRAT, ZACPI_WALK_SRAT, ZACPI_OK, NULL, 2, 0,
      {TABLE(IN_SRAT) + 48, 1, 40, TABLE(IN_SRAT) + 88, 0, 16}},
-    {REGIONS(laid), IN_DMAR, ZACPI_WALK_DMAR, ZACPI_OK, NULL, 3, 0,
+    {REGIONS(laid), 0, IN_DMAR, ZACPI_WALK_DMAR, ZACPI_OK, NULL, 3, 0,
      {TABLE(IN_DMAR) + 48, 0, 16, TABLE(IN_DMAR) + 64, 1, 24, TABLE(IN_DMAR) + 88, 0x102, 4}},
-    {REGIONS(laid), IN_LPIT, ZACPI_WALK_LPIT, ZACPI_OK, NULL, 2, 0,
+    {REGIONS(laid), 0, IN_LPIT, ZACPI_WALK_LPIT, ZACPI_OK, NULL, 2, 0,
      {TABLE(IN_LPIT) + 36, 0x10002, 12, TABLE(IN_LPIT) + 48, 0xffffffff, 8}},
-    {REGIONS(laid), IN_LPIT, {40, 0, 4, 4, 4}, ZACPI_OK, NULL, 0, 1, {0}}, /* a Type of 12, and a Length of 0 */
-    {REGIONS(laid), IN_LPIT, {49, 0, 4, 4, 4}, ZACPI_OK, NULL, 0, 1, {0}}, /* seven bytes are left */
+    {REGIONS(laid), 0, IN_LPIT, {40, 0, 4, 4, 4}, ZACPI_OK, NULL, 0, 1, {0}}, /* a Type of 12, and a Length of 0 */
+    {REGIONS(laid), 0, IN_LPIT, {49, 0, 4, 4, 4}, ZACPI_OK, NULL, 0, 1, {0}}, /* seven bytes are left */
     /* Type and Length of other widths, and at other places. */
-    {REGIONS(laid), IN_IORT, ZACPI_WALK_IORT(48), ZACPI_OK, NULL, 2, 0,
+    {REGIONS(laid), 0, IN_IORT, ZACPI_WALK_IORT(48), ZACPI_OK, NULL, 2, 0,
      {TABLE(IN_IORT) + 48, 0, 24, TABLE(IN_IORT) + 72, 4, 260}},
-    {REGIONS(laid), IN_IORT, {72, 0, 1, 1, 1}, ZACPI_OK, NULL, 1, 1, {TABLE(IN_IORT) + 72, 4, 4}}, /* then one of 0 */
-    {REGIONS(laid), IN_HMAT, ZACPI_WALK_HMAT, ZACPI_OK, NULL, 2, 0,
+    {REGIONS(laid), 0, IN_IORT, {72, 0, 1, 1, 1}, ZACPI_OK, NULL, 1, 1, {TABLE(IN_IORT) + 72, 4, 4}}, /* then a 0 */
+    {REGIONS(laid), 0, IN_HMAT, ZACPI_WALK_HMAT, ZACPI_OK, NULL, 2, 0,
      {TABLE(IN_HMAT) + 40, 1, 8, TABLE(IN_HMAT) + 48, 0x102, 12}},
-    {REGIONS(laid), IN_CEDT, ZACPI_WALK_CEDT, ZACPI_OK, NULL, 2, 0,
+    {REGIONS(laid), 0, IN_CEDT, ZACPI_WALK_CEDT, ZACPI_OK, NULL, 2, 0,
      {TABLE(IN_CEDT) + 36, 0, 4, TABLE(IN_CEDT) + 40, 1, 6}},
-    {REGIONS(laid), IN_FPDT, ZACPI_WALK_FPDT, ZACPI_OK, NULL, 2, 0,
+    {REGIONS(laid), 0, IN_FPDT, ZACPI_WALK_FPDT, ZACPI_OK, NULL, 2, 0,
      {TABLE(IN_FPDT) + 36, 1, 16, TABLE(IN_FPDT) + 52, 0x102, 3}},
     /* A Length of 7 is less than where a Length of four bytes ends, and more than where one of one byte does. */
-    {REGIONS(laid), IN_SEVEN, {36, 0, 2, 4, 4}, ZACPI_OK, NULL, 0, 1, {0}},
-    {REGIONS(laid), IN_SEVEN, {36, 0, 2, 4, 1}, ZACPI_OK, NULL, 1, 1, {TABLE(IN_SEVEN) + 36, 0, 7}},
+    {REGIONS(laid), 0, IN_SEVEN, {36, 0, 2, 4, 4}, ZACPI_OK, NULL, 0, 1, {0}},
+    {REGIONS(laid), 0, IN_SEVEN, {36, 0, 2, 4, 1}, ZACPI_OK, NULL, 1, 1, {TABLE(IN_SEVEN) + 36, 0, 7}},
     /* Length comes first: the second entry lacks a byte of Type, or has all of it. */
-    {REGIONS(laid), IN_TURNED, {36, 2, 2, 0, 2}, ZACPI_OK, NULL, 1, 1, {TABLE(IN_TURNED) + 36, 9, 4}},
-    {REGIONS(laid), IN_TURNED, {36, 2, 1, 0, 2}, ZACPI_OK, NULL, 2, 1,
+    {REGIONS(laid), 0, IN_TURNED, {36, 2, 2, 0, 2}, ZACPI_OK, NULL, 1, 1, {TABLE(IN_TURNED) + 36, 9, 4}},
+    {REGIONS(laid), 0, IN_TURNED, {36, 2, 1, 0, 2}, ZACPI_OK, NULL, 2, 1,
      {TABLE(IN_TURNED) + 36, 9, 4, TABLE(IN_TURNED) + 40, 1, 3}},
     /* Type or Length is past the table's end. */
-    {REGIONS(laid), IN_APIC, {44, 255, 4, 1, 1}, ZACPI_OK, NULL, 0, 1, {0}},
-    {REGIONS(laid), IN_APIC, {44, 0, 1, 255, 4}, ZACPI_OK, NULL, 0, 1, {0}},
-    {REGIONS(laid), IN_APIC, {66, 255, 4, 255, 4}, ZACPI_OK, NULL, 0, 0, {0}},
-    {REGIONS(laid), IN_APIC, {44, 0, 3, 1, 1}, ZACPI_UNKNOWN_WIDTH, NULL, 0, 0, {0}},
-    {REGIONS(laid), IN_APIC, {44, 0, 1, 1, 0}, ZACPI_UNKNOWN_WIDTH, NULL, 0, 0, {0}},
-    {REGIONS(laid), IN_APIC, {44, 255, 255, 255, 255}, ZACPI_UNKNOWN_WIDTH, NULL, 0, 0, {0}},
-    {REGIONS(laid), IN_LONG, {44, 0, 1, 1, 1}, ZACPI_OK, NULL, 1, 1, {TABLE(IN_LONG) + 44, 0, 8}},
-    {REGIONS(laid), IN_SHORT, {44, 0, 1, 1, 1}, ZACPI_OK, NULL, 1, 1, {TABLE(IN_SHORT) + 44, 0, 8}},
-    {REGIONS(laid), IN_HALF, ZACPI_WALK_NFIT, ZACPI_OK, NULL, 1, 1, {TABLE(IN_HALF) + 40, 7, 4}},
-    {REGIONS(laid), IN_THREE, {36, 0, 2, 2, 2}, ZACPI_OK, NULL, 1, 1, {TABLE(IN_THREE) + 36, 0xff, 4}},
-    {REGIONS(laid), IN_ZEROS, {36, 0, 1, 1, 1}, ZACPI_OK, NULL, 0, 1, {0}},
-    {REGIONS(laid), IN_35, {36, 0, 1, 1, 1}, ZACPI_SDT_INVALID_LENGTH, "OEM3", 0, 0, {0}},
-    {REGIONS(laid), IN_OTHER, {36, 0, 1, 1, 1}, ZACPI_SDT_INVALID_SIGNATURE, "\377OEM", 0, 0, {0}},
-    {REGIONS(laid), IN_SUM, {41, 0, 1, 1, 1}, ZACPI_SDT_INVALID_CHECKSUM, "OEM1", 0, 0, {0}},
-    {REGIONS(laid), IN_LOST, {36, 0, 1, 1, 1}, ZACPI_MAP_FAILED, NULL, 0, 0, {0}},
-    {REGIONS(laid), NOWHERE, {36, 0, 1, 1, 1}, ZACPI_MAP_FAILED, NULL, 0, 0, {0}},
-    {REGIONS(laid), NOWHERE, {36, 0, 8, 8, 8}, ZACPI_UNKNOWN_WIDTH, NULL, 0, 0, {0}},
-    {REGIONS(placed_over), IN_APIC, {44, 0, 8, 8, 8}, ZACPI_REGIONS_NOT_ASCENDING, NULL, 0, 0, {0}},
-    {REGIONS(placed_too_high), IN_APIC, {44, 0, 8, 8, 8}, ZACPI_REGION_TOO_HIGH, NULL, 0, 0, {0}}};
+    {REGIONS(laid), 0, IN_APIC, {44, 255, 4, 1, 1}, ZACPI_OK, NULL, 0, 1, {0}},
+    {REGIONS(laid), 0, IN_APIC, {44, 0, 1, 255, 4}, ZACPI_OK, NULL, 0, 1, {0}},
+    {REGIONS(laid), 0, IN_APIC, {66, 255, 4, 255, 4}, ZACPI_OK, NULL, 0, 0, {0}},
+    {REGIONS(laid), 0, IN_APIC, {44, 0, 3, 1, 1}, ZACPI_UNKNOWN_WIDTH, NULL, 0, 0, {0}},
+    {REGIONS(laid), 0, IN_APIC, {44, 0, 1, 1, 0}, ZACPI_UNKNOWN_WIDTH, NULL, 0, 0, {0}},
+    {REGIONS(laid), 0, IN_APIC, {44, 255, 255, 255, 255}, ZACPI_UNKNOWN_WIDTH, NULL, 0, 0, {0}},
+    {REGIONS(laid), 0, IN_LONG, {44, 0, 1, 1, 1}, ZACPI_OK, NULL, 1, 1, {TABLE(IN_LONG) + 44, 0, 8}},
+    {REGIONS(laid), 0, IN_SHORT, {44, 0, 1, 1, 1}, ZACPI_OK, NULL, 1, 1, {TABLE(IN_SHORT) + 44, 0, 8}},
+    {REGIONS(laid), 0, IN_HALF, ZACPI_WALK_NFIT, ZACPI_OK, NULL, 1, 1, {TABLE(IN_HALF) + 40, 7, 4}},
+    {REGIONS(laid), 0, IN_THREE, {36, 0, 2, 2, 2}, ZACPI_OK, NULL, 1, 1, {TABLE(IN_THREE) + 36, 0xff, 4}},
+    {REGIONS(laid), 0, IN_ZEROS, {36, 0, 1, 1, 1}, ZACPI_OK, NULL, 0, 1, {0}},
+    {REGIONS(laid), 0, IN_35, {36, 0, 1, 1, 1}, ZACPI_SDT_INVALID_LENGTH, "OEM3", 0, 0, {0}},
+    {REGIONS(laid), 0, IN_OTHER, {36, 0, 1, 1, 1}, ZACPI_SDT_INVALID_SIGNATURE, "\377OEM", 0, 0, {0}},
+    {REGIONS(laid), 0, IN_SUM, {41, 0, 1, 1, 1}, ZACPI_SDT_INVALID_CHECKSUM, "OEM1", 0, 0, {0}},
+    {REGIONS(laid), ZACPI_ACCEPT_IDS, IN_SUM, {41, 0, 1, 1, 1}, ZACPI_SDT_INVALID_CHECKSUM, "OEM1", 0, 0, {0}},
+    {REGIONS(laid), ZACPI_ACCEPT_SUMS, IN_SUM, {41, 0, 1, 1, 1}, ZACPI_SDT_INVALID_LENGTH, "OEM1", 0, 0, {0}},
+    {REGIONS(laid), ZACPI_ACCEPT_SUMS, IN_SUM, {36, 0, 1, 1, 1}, ZACPI_OK, NULL, 0, 1, {0}}, /* a Length of 0 */
+    {REGIONS(laid), 4, IN_SUM, {36, 0, 8, 1, 1}, ZACPI_UNKNOWN_POLICY, NULL, 0, 0, {0}},
+    {REGIONS(laid), 3, IN_OTHER, {36, 0, 1, 1, 1}, ZACPI_SDT_INVALID_SIGNATURE, "\377OEM", 0, 0, {0}},
+    {REGIONS(laid), 0, IN_LOST, {36, 0, 1, 1, 1}, ZACPI_MAP_FAILED, NULL, 0, 0, {0}},
+    {REGIONS(laid), 0, NOWHERE, {36, 0, 1, 1, 1}, ZACPI_MAP_FAILED, NULL, 0, 0, {0}},
+    {REGIONS(laid), 0, NOWHERE, {36, 0, 8, 8, 8}, ZACPI_UNKNOWN_WIDTH, NULL, 0, 0, {0}},
+    {REGIONS(placed_over), 4, IN_APIC, {44, 0, 8, 8, 8}, ZACPI_REGIONS_NOT_ASCENDING, NULL, 0, 0, {0}},
+    {REGIONS(placed_too_high), 0, IN_APIC, {44, 0, 8, 8, 8}, ZACPI_REGION_TOO_HIGH, NULL, 0, 0, {0}}};
 
 FIELDS(of_entry, F(struct zacpi_entry, address), F(struct zacpi_entry, entry_type), F(struct zacpi_entry, length));
 static const struct call call_entries = {"list_entries", NULL, of_entry, sizeof(struct zacpi_entry), 1};
@@ -191,10 +196,11 @@ static void check_entries(const struct entries_row *row, size_t room) {
     struct zacpi_signature named = {{'?', '?', '?', '?'}};
     size_t count = UNCOUNTED, items = row->status ? 0 : room < row->count ? room : row->count;
     uint8_t malformed = PAINT;
+    struct zacpi_source source = {row->regions, row->regions_length, 0, 5 /* no start */, row->accept};
     zacpi_status got;
     memset(out.bytes, PAINT, sizeof out.bytes);
-    got = zacpi_list_entries(row->regions, row->regions_length, TABLE(row->table), &row->walk,
-                             (struct zacpi_entry *)(void *)out.bytes, room, &count, &malformed, &named);
+    got = zacpi_list_entries(&source, TABLE(row->table), &row->walk, (struct zacpi_entry *)(void *)out.bytes, room,
+                             &count, &malformed, &named);
     result(got == row->status && !memcmp(named.letters, row->named ? row->named : "????", 4)
            && count == (row->status ? UNCOUNTED : row->count) && malformed == (row->status ? PAINT : row->malformed)
            && is_written(&call_entries, row->values, items), "list_entries", (int)(row - entry_rows), room, got);

@@ -33,8 +33,8 @@ enum { EMPTY, ARM, PC, ODD, HOLES, SUM, DESKTOP, MOBILE, WORKSTATION, SERVER, SO
        RESERVED, WIDE, TIMER_5, LEAST, OLD, HALF, HALF_X, UNITS, UNITS_10, UNITS_CUT,
        UNITS_END, SAPIC_BETWEEN, NMI_2, LENGTH_0, NO_FADT, BUS_1, TRIGGER_2, LINT_2, HPETS, MAILBOX, POWER,
        REDUCED, PLAIN, BARE, BROKEN, FADTLESS, FAULTS, FRONTS, UNITS_BETWEEN, UNITS_FAULTS, UNITS_LATER, RISCV,
-       RISCV_CUT, FLAWED, LED_BY_SUMS, LED_BY_IDS, /* root tables, in the order of `tables` */
-       RSDP_0, RSDP_2, RSDP_40, RSDP_MIXED, RSDP_LONG, RSDP_LOST, RSDP_CUT, RSDP_SHORT,
+       RISCV_CUT, FLAWED, LED_BY_SUMS, LED_BY_IDS, ROOT_OEM_ID, ROOT_LONG, /* root tables, in the order of `tables` */
+       RSDP_0, RSDP_2, RSDP_40, RSDP_MIXED, RSDP_LONG, RSDP_LOST, RSDP_CUT, RSDP_SHORT, RSDP_TO_SUM,
        RSDP_NONE, /* RSDPs, and the last one is none */
        MADT_GIC, GTDT, SRAT, SLIT, MCFG, FADT, MADT_PC, HPET_SHORT, HPET, MADT_CUT, GTDT_CUT, SRAT_CUT, SLIT_ODD,
        FADT_1, SRAT_HIGH, FADT_DESKTOP, FADT_MOBILE, FADT_WORKSTATION, FADT_SERVER, FADT_SOHO, FADT_APPLIANCE,
@@ -278,7 +278,8 @@ static const struct table {
     {AT(BROKEN), "RSDT", 1, 44, broken}, {AT(FADTLESS), "RSDT", 1, 40, fadtless}, {AT(FAULTS), "RSDT", 1, 48, faults},
     {AT(FRONTS), "RSDT", 1, 48, fronts}, {AT(RISCV), "RSDT", 1, 40, riscv}, {AT(RISCV_CUT), "RSDT", 1, 40, riscv_cut},
     {AT(FLAWED), "RSDT", 1, 60, flawed}, {AT(LED_BY_SUMS), "RSDT", 1, 52, led_by_sums},
-    {AT(LED_BY_IDS), "RSDT", 1, 44, led_by_ids},
+    {AT(LED_BY_IDS), "RSDT", 1, 44, led_by_ids}, {AT(ROOT_OEM_ID), "RSDT", 1, 40, root_oem_id},
+    {AT(ROOT_LONG), "RSDT", 1, SIZE, root_long},
     {AT(MADT_GIC), "APIC", 6, 346, madt_gic}, {AT(GTDT), "GTDT", 3, 260, gtdt}, {AT(SRAT), "SRAT", 3, 274, srat},
     {AT(SLIT), "SLIT", 1, 48, slit}, {AT(MCFG), "MCFG", 1, 108, mcfg}, {AT(FADT), "FACP", 6, 276, fadt},
     {AT(MADT_PC), "APIC", 4, 96, madt_pc}, {AT(HPET_SHORT), "HPET", 3, 48, no_fields}, {AT(HPET), "HPET", 1, 56, hpet},
@@ -358,7 +359,8 @@ static const struct rsdp {
     {AT(RSDP_40), 0, 2, 0, 40, AT(PC)},
     {AT(RSDP_MIXED), 0, 2, AT(ARM), 36, 0}, {AT(RSDP_LONG), 0, 2, 0, SIZE, AT(PC)},
     {AT(RSDP_LOST), 0, 2, 0, 36, 0x300000000}, {AT(RSDP_CUT), 0, 0, CUT(2), 0, 0},
-    {AT(RSDP_SHORT), 0, 2, 0, 35, AT(PC)}, {BIOS + 0x1ffe0, 0, 0, BIOS + 0x10000, 0, 0},
+    {AT(RSDP_SHORT), 0, 2, 0, 35, AT(PC)}, {AT(RSDP_TO_SUM), 0, 0, AT(SUM), 0, 0},
+    {BIOS + 0x1ffe0, 0, 0, BIOS + 0x10000, 0, 0},
     {EBDA + 0x40, 0, 0, 0x200000, 0, 0}, {EBDA + 0x3e0, 0, 2, 0, 0x31, AT(PC)},
     /* A byte too long for the area with the 16 bytes after it; too short; not UTF-8; and in the last 32 bytes. */
     {LONG_BIOS, 0, 2, 0, BIOS_SIZE + 1, AT(PC)}, {LONG_BIOS + 0x40, 0, 2, 0, 35, AT(PC)},

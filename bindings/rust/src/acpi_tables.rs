@@ -75,7 +75,7 @@ pub struct Fault {
     pub address: u64,
     /// Why it isn't valid.
     pub refusal: AcpiError,
-    /// Whether it isn't skipped, by [`AcpiTables::accepting`].
+    /// Whether it isn't skipped, by [`AcpiTables::open_accepting`].
     pub accepted: bool,
 }
 
@@ -152,8 +152,14 @@ impl<'k> AcpiTables<'k> {
     /// `MapFailed` if an area isn't mapped; and for the root table with `MapFailed` and, carrying RSDT or XSDT, with
     /// `SdtInvalidSignature`, `SdtInvalidOemId`, `SdtInvalidTableId`, `SdtInvalidLength` and `SdtInvalidChecksum`.
     pub fn open(regions: &'k [Region<'k>], start: Start) -> AcpiResult<Self> {
-        let root = Root::from(raw::zacpi_1_open(&start.source(regions))?);
-        Ok(AcpiTables::at_root(regions, root))
+        Self::open_accepting(regions, start, Accept::default())
+    }
+
+    /// The same tables, and those that are accepted, of which the root table may be one: wherever a call says that a
+    /// table is valid, it may be wrong so.
+    pub fn open_accepting(regions: &'k [Region<'k>], start: Start, accept: Accept) -> AcpiResult<Self> {
+        let root = raw::zacpi_1_open(&start.source(regions).accepting(accept.bits()))?;
+        Ok(AcpiTables::at_root(regions, Root::from(root), accept))
     }
 
     /// The tables below the RSDT at an address, for revision 0, or else below the XSDT there (sections 5.2.7 and
@@ -165,14 +171,8 @@ impl<'k> AcpiTables<'k> {
     }
 
     /// The tables of a root table that was found before in these regions.
-    pub(crate) fn at_root(regions: &'k [Region<'k>], root: Root) -> Self {
-        AcpiTables { regions, root, accept: Accept::default() }
-    }
-
-    /// The same tables, and those that these are accepted of: wherever a call says that a table is valid, it may be
-    /// wrong so.
-    pub fn accepting(self, accept: Accept) -> Self {
-        AcpiTables { accept, ..self }
+    pub(crate) fn at_root(regions: &'k [Region<'k>], root: Root, accept: Accept) -> Self {
+        AcpiTables { regions, root, accept }
     }
 
     /// The regions that the tables were opened in.

@@ -71,7 +71,7 @@ impl<'k> Entries<'k> {
     fn ask(&mut self, first: u32) -> AcpiResult<()> {
         let walk = Walk { first, ..self.walk };
         (self.left, self.is_malformed) =
-            raw::list_entries(self.tables.regions(), self.table.address, walk, &mut self.asked)?;
+            raw::list_entries(&self.tables.source(), self.table.address, walk, &mut self.asked)?;
         self.at = 0;
         Ok(())
     }

@@ -77,7 +77,7 @@ impl<M: PhysicalMapper, const ROOM: usize> MappedTables<M, ROOM> {
         unsafe { Self::open_accepting(mapper, start, Accept::default()) }
     }
 
-    /// Maps what [`MappedTables::open`] does, and what [`AcpiTables::accepting`] needs. Fails as that does.
+    /// Maps what [`MappedTables::open`] does, and what [`AcpiTables::open_accepting`] needs. Fails as that does.
     ///
     /// # Safety
     ///
@@ -86,13 +86,13 @@ impl<M: PhysicalMapper, const ROOM: usize> MappedTables<M, ROOM> {
         let root = Root { address: 0, length: 0, revision: 0, is_xsdt: false, rsdp: None };
         let mut tables = MappedTables { mapper, regions: Room::new(), count: 0, root, accept };
         tables.map_missing(start)?;
-        tables.root = AcpiTables::open(tables.regions(), start)?.root();
+        tables.root = AcpiTables::open_accepting(tables.regions(), start, accept)?.root();
         Ok(tables)
     }
 
     /// The tables.
     pub fn tables(&self) -> AcpiTables<'_> {
-        AcpiTables::at_root(self.regions(), self.root).accepting(self.accept)
+        AcpiTables::at_root(self.regions(), self.root, self.accept)
     }
 
     /// The memory that is mapped, in ascending order.

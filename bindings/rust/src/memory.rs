@@ -23,7 +23,7 @@ pub enum Start {
 }
 
 /// What is accepted of tables that aren't valid (`enum zacpi_accept` of the library for C): a table that is wrong in
-/// these alone is read as a valid one, as firmware needs it. The RSDP and the root table have to be valid.
+/// these alone is read as a valid one, as firmware needs it. An RSDP has to be valid.
 #[derive(Clone, Copy, Debug, Default, PartialEq, Eq)]
 pub struct Accept {
     /// The bytes of a table don't sum to 0.

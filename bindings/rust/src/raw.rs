@@ -253,8 +253,7 @@ unsafe extern "C" {
     ) -> u32;
     fn zacpi_1_start_of_rsdp(rsdp: *const u8, rsdp_length: usize, source: *mut Source<'_>) -> u32;
     fn zacpi_1_list_entries(
-        regions: *const Region<'_>,
-        regions_length: usize,
+        source: *const Source<'_>,
         table: u64,
         walk: *const Walk,
         out: *mut Entry,
@@ -328,18 +327,17 @@ pub(crate) fn start_of_rsdp(copy: &[u8]) -> AcpiResult<(u32, u64)> {
 
 /// The entries of the table at an address, by a walk: how many there are, and whether bytes are left.
 pub(crate) fn list_entries(
-    regions: &[Region<'_>],
+    source: &Source<'_>,
     table: u64,
     walk: Walk,
     out: &mut [Entry],
 ) -> AcpiResult<(usize, bool)> {
     let (mut count, mut malformed, mut named) = (0, 0, Signature::default());
-    // SAFETY: the regions are a live slice and the walk a live variable; the outputs are a live slice with its length,
-    // and three live variables.
+    // SAFETY: the source and the walk are live variables, and the source's regions a live slice; the outputs are a live
+    // slice with its length, and three live variables.
     let status = unsafe {
         zacpi_1_list_entries(
-            regions.as_ptr(),
-            regions.len(),
+            source,
             table,
             &walk,
             out.as_mut_ptr(),

@@ -226,16 +226,31 @@ fn accepts_bad_sums_and_ids() {
         (false, true, Some(SSDT), vec![bad_sum(false), bad_id(true)]),
         (true, true, Some(BAD_SSDT), vec![bad_sum(true)]),
     ];
-    memory.ask(|tables| {
-        for (sums, ids, found, faults) in all {
-            let tables = tables.accepting(Accept { sums, ids });
-            assert_eq!(tables.find(Signature::SSDT).ok().map(|table| table.address), found);
-            assert_eq!(tables.ssdts().count(), Ok(usize::from(sums) + usize::from(ids)));
-            let mut room = [Slot::default(); 2];
-            let list = tables.faults(Signature::SSDT).fill(&mut room).unwrap();
-            assert!(list.iter().map(|it| (it.address, it.refusal, it.accepted)).eq(faults));
-        }
-    });
+    let regions = memory.regions();
+    for (sums, ids, found, faults) in all {
+        let tables = AcpiTables::open_accepting(&regions, Start::Rsdt(ROOT), Accept { sums, ids }).unwrap();
+        assert_eq!(tables.find(Signature::SSDT).ok().map(|table| table.address), found);
+        assert_eq!(tables.ssdts().count(), Ok(usize::from(sums) + usize::from(ids)));
+        let mut room = [Slot::default(); 2];
+        let list = tables.faults(Signature::SSDT).fill(&mut room).unwrap();
+        assert!(list.iter().map(|it| (it.address, it.refusal, it.accepted)).eq(faults));
+    }
+}
+
+/// An RSDT that sums to 1.
+#[test]
+fn accepts_a_bad_root() {
+    let mut memory = Memory::rsdt(&[SSDT]);
+    memory.table(SSDT, "SSDT", 2, 37, &[]);
+    memory.put(ROOT, &[(8, 1, 2)]);
+    let regions = memory.regions();
+    let open = |accept| AcpiTables::open_accepting(&regions, Start::Rsdt(ROOT), accept);
+    let ids = Accept { sums: false, ids: true };
+    let refusal = AcpiError::SdtInvalidChecksum(Signature::RSDT);
+    assert_eq!(open(Accept::default()).map(|tables| tables.root().address), Err(refusal));
+    assert_eq!(open(ids).map(|tables| tables.root().address), Err(refusal));
+    let tables = open(Accept { sums: true, ids: false }).unwrap();
+    assert_eq!((tables.root().address, tables.ssdts().count()), (ROOT, Ok(1)));
 }
 
 #[test]

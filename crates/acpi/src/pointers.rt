@@ -18,7 +18,8 @@ impl<'t> Pointers<'t> {
     ghost use Rattle.acpi.specs.Pointers.{pointers_left};
     ghost use Rattle.acpi.specs.Root.{pointers};
 
-    pub(crate) fn new(width: usize, rest: &'t [u8]) -> Self
+    /// The pointers that bytes encode, each in so many bytes.
+    pub fn new(width: usize, rest: &'t [u8]) -> Self
         requires some { 1 ≤ width }
         requires few { width ≤ 8 }
         ensures { pointers_left result ≡ pointers width rest.now }

@@ -52,11 +52,11 @@ impl RootKind {
 
 /// The address at which a root table is looked for, and its kind.
 #[derive(Clone, Copy)]
-pub(crate) struct RootPointer {
+pub struct RootPointer {
     /// The revision of what names the table.
-    pub(crate) revision: u8,
+    pub revision: u8,
     /// The table's kind.
-    pub(crate) kind: RootKind,
+    pub kind: RootKind,
     /// Its physical address.
-    pub(crate) address: u64,
+    pub address: u64,
 }

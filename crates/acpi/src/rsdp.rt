@@ -115,7 +115,7 @@ impl Rsdp {
 
     /// The root table that a valid RSDP leads to: the RSDT if the revision or the XSDT's address is 0,
     /// else the XSDT, however bad the table there is.
-    pub(crate) fn root(&self) -> RootPointer
+    pub fn root(&self) -> RootPointer
         ensures { result ≡ root_of self.now }
     {
         let (kind, address) = match self.xsdt_address() {

@@ -1,17 +1,17 @@
 -- What isn't lent: of what opening asks for and what leads to a table, and of the candidates of a search.
 use Rattle.std.proofs.Common.{◌≡◌, ℕ, ◌≤◌, List, [], ◌∷◌, ◌++◌, Bool, true, false, Option, Some, None, Result, Ok, Err, arith, refl, sym, ap, subst, ◌∙◌, if◌then◌else◌, ◌+◌, length, ◌^◌, ◌<◌, zero, suc, ◌-◌, ◌*◌, ◌/◌, drop, ◌==◌, ok_or, option_map, bytes_eq, nat_lt}
 use Rattle.acpi_base.specs.FromStd.{last_or, cons_option, is_some, is_ok, result_ok}
-use Rattle.acpi_base.specs.Words.{field_of, has_bit, check_names, check_table, header_at, Memory, at, IsMemory, rest_from, Ranges, ◌>>=◌, holds, lent, table_at, Kind, own_table_at, plain_kind, letters_of}
+use Rattle.acpi_base.specs.Words.{field_of, has_bit, check_names, check_table, header_at, Memory, at, IsMemory, rest_from, ◌>>=◌, holds, lent, table_at, Kind, plain_kind, letters_of}
 use Rattle.acpi.specs.Types.{MapFailed, NoValidRsdp, SdtHeader, Signature, AddressRange}
-use Rattle.acpi.specs.Words.{areas_ranges, bios_areas, found_among, found_in_areas, opened_in_areas, count_in, ebda_area, end_of, first_in, Opened, opened_at, opened_by_rsdp, opened_by_search, opened_from, area_ranges, opened_by_rsdp_ranges, opened_by_search_ranges, opened_ranges, or_else_ranges, search_ranges, length_ranges, rsdp_ranges, root_of_revision, check_first, check_sum, extended_length_of, checked_length, root_of_rsdp, rsdp_at, rsdp_of, first_area, found_in, found_rsdp, or_else, room_of, second_area, word_in, area, count_of, walk, or_later}
+use Rattle.acpi.specs.Words.{bios_areas, found_among, found_in_areas, count_in, ebda_area, end_of, first_in, Opened, area_ranges, or_else_ranges, search_ranges, length_ranges, rsdp_ranges, root_of_revision, signature_of, check_first, check_sum, extended_length_of, checked_length, root_of_rsdp, rsdp_at, rsdp_of, first_area, found_in, found_rsdp, or_else, room_of, second_area, word_in, area, count_of, walk, or_later}
 use Rattle.acpi.specs.Areas.{range}
-use Rattle.acpi_c_lib.specs.Words.{accepted_at, loosened_at, own_accepted_at, member_hole, table_hole, AcpiError, Refusal, Source, check_policy, ebda_in, opened_in, refused_as, started_in, Acpi, UnknownStart, Areas, IsUnlent, OpeningHasHole, areas_holes, candidate_hole, candidate_holes, has_valid, hole, last_range, missing_below, missing_in, opened_as_lent_ranges, range_of, walk_holes, Fills, Writes, items_said, put_from, result_map, memory_in}
-use Rattle.acpi_c_lib.specs.Missing.{Range, no_areas, opening_ranges, pieces, stretches}
+use Rattle.acpi_c_lib.specs.Words.{accepted_at, loosened_at, own_accepted_at, member_hole, table_hole, AcpiError, Refusal, Source, check_policy, ebda_in, opened_in, refused_as, root_pointer_in, root_there, rsdp_in, Acpi, UnknownStart, Areas, IsUnlent, OpeningHasHole, areas_holes, candidate_hole, candidate_holes, has_valid, hole, last_range, missing_below, missing_in, range_of, root_hole, rsdp_hole, walk_holes, Fills, Writes, items_said, put_from, result_map, memory_in}
+use Rattle.acpi_c_lib.specs.Missing.{Range, no_areas, pieces, stretches}
 use Rattle.acpi_c_lib.proofs.Written.{two_parts, one_part}
 use Rattle.acpi_base.proofs.FromStd.{bytes_eq-Decides, length-take, cond_some}
 use Rattle.acpi_base.proofs.Words.{lent_ends, passed, bind_ok, some_lent}
 use Rattle.acpi_base.specs.Ranges as ranges
-use Rattle.acpi_c_lib.specs.Types.{Rsdp, UnknownPolicy}
+use Rattle.acpi_c_lib.specs.Types.{RootPointer, Rsdp, UnknownPolicy}
 
 -- ---- the checks, which refuse by other errors
 
@@ -134,155 +134,126 @@ search_unlent m e =
 
 -- ---- opening
 
-from_unlent : (m : Memory) (place : _) → opened_from m place ≡ Err MapFailed
-    → IsUnlent m (last_range (opened_ranges m place))
-unfolding table_at
-from_unlent m place e = grind (arith, names_not, table_not)
-
-rsdp_unlent : (m : Memory) (a : ℕ) → opened_by_rsdp m a ≡ Err MapFailed
-    → IsUnlent m (last_range (opened_by_rsdp_ranges m a))
+rsdp_unlent : (m : Memory) (a : ℕ) → rsdp_at m a ≡ Err MapFailed → IsUnlent m (last_range (rsdp_ranges m a))
 unfolding rsdp_at
-rsdp_unlent m a e = grind (arith, sum_not, rsdp_not, from_unlent)
-
-by_search_unlent : (m : Memory) → opened_by_search m ≡ Err MapFailed
-    → IsUnlent m (last_range (opened_by_search_ranges m))
-by_search_unlent m e = rw last_append (grind (arith, search_unlent, from_unlent))
+rsdp_unlent m a e = grind (arith, sum_not, rsdp_not)
 
 -- the search in areas has one refusal, and it is another
 
-abbrev opened_by : Memory → Result (ℕ × List ℕ) AcpiError → Result Opened AcpiError
-opened_by m r = r >>= λ found. opened_from m (root_of_rsdp found.1)
+nothing_by : (o : Option (ℕ × List ℕ)) → ok_or o NoValidRsdp ≡ Err MapFailed → ⊥
+nothing_by (Some found) e = cc
+nothing_by None e = cc
 
-abbrev ranges_by : Memory → Result (ℕ × List ℕ) AcpiError → Ranges
-ranges_by m r = ranges.◌>>=◌ r (λ found. opened_ranges m (root_of_rsdp found.1))
-
-nothing_by : (m : Memory) (o : Option (ℕ × List ℕ)) (e : AcpiError) → ok_or o NoValidRsdp ≡ Err e
-    → opened_by m (ok_or o NoValidRsdp) ≡ Err MapFailed → ⊥
-nothing_by m (Some found) e is refused = cc
-nothing_by m None e is refused = cc
-
-pub lent_nothing : (m : Memory) (e : AcpiError) → found_in_areas m (bios_areas (ebda_in m)) ≡ Err e
-    → opened_in_areas m (bios_areas (ebda_in m)) ≡ Err MapFailed → ⊥
+areas_not : (m : Memory) (areas : List AddressRange) → found_in_areas m areas ≡ Err MapFailed → ⊥
 unfolding found_in_areas
-lent_nothing m e is refused = nothing_by m (found_among m (bios_areas (ebda_in m))) e is refused
-
-root_by : (m : Memory) (xs : Ranges) (r : Result (ℕ × List ℕ) AcpiError) (found : ℕ × List ℕ) (x : Range) → r ≡ Ok found
-    → opened_by m r ≡ Err MapFailed
-    → (opened_from m (root_of_rsdp found.1) ≡ Err MapFailed
-    → last_range (opened_ranges m (root_of_rsdp found.1)) ≡ Some x) → last_range (xs ++ ranges_by m r) ≡ Some x
-root_by m xs (Ok y) found x is refused last =
-    let same : found ≡ y = cc in
-    let here : opened_from m (root_of_rsdp y.1) ≡ Err MapFailed
-    → last_range (opened_ranges m (root_of_rsdp y.1)) ≡ Some x =
-    subst (λ (z : ℕ × List ℕ). opened_from m (root_of_rsdp z.1) ≡ Err MapFailed
-    → last_range (opened_ranges m (root_of_rsdp z.1)) ≡ Some x) same last in
-    ap (option_map range_of) (last_append None xs (opened_ranges m (root_of_rsdp y.1))) ∙ here refused
-root_by m xs (Err e) found x is refused last = absurd cc
-
-pub lent_root : (m : Memory) (found : ℕ × List ℕ) (x : Range) → found_in_areas m (bios_areas (ebda_in m)) ≡ Ok found
-    → opened_in_areas m (bios_areas (ebda_in m)) ≡ Err MapFailed
-    → (opened_from m (root_of_rsdp found.1) ≡ Err MapFailed
-    → last_range (opened_ranges m (root_of_rsdp found.1)) ≡ Some x)
-    → last_range (opened_as_lent_ranges m) ≡ Some x
-unfolding opened_as_lent_ranges
-lent_root m found x is refused last = root_by m (areas_ranges m (bios_areas (ebda_in m)))
-    (found_in_areas m (bios_areas (ebda_in m))) found x is refused last
-
-areas_by : (m : Memory) (xs : Ranges) (o : Option (ℕ × List ℕ)) → opened_by m (ok_or o NoValidRsdp) ≡ Err MapFailed
-    → IsUnlent m (last_range (xs ++ ranges_by m (ok_or o NoValidRsdp)))
-areas_by m xs (Some found) refused =
-    subst (λ o. IsUnlent m (option_map range_of o)) (sym (last_append None xs (opened_ranges m (root_of_rsdp found.1))))
-    (from_unlent m (root_of_rsdp found.1) refused)
-areas_by m xs None refused = absurd cc
-
-by_areas_unlent : (m : Memory) → opened_by m (found_in_areas m (bios_areas (ebda_in m))) ≡ Err MapFailed
-    → IsUnlent m (last_range (opened_as_lent_ranges m))
-unfolding opened_as_lent_ranges found_in_areas
-by_areas_unlent m e = areas_by m (areas_ranges m (bios_areas (ebda_in m))) (found_among m (bios_areas (ebda_in m))) e
+areas_not m areas e = nothing_by (found_among m areas) e
 
 refused_is : {A : Type 0} (r : Result A AcpiError) → refused_as r ≡ Err (Acpi MapFailed) → r ≡ Err MapFailed
 refused_is r e = grind arith
 
-started : {A : Type 0} (m : Memory) (b : Bool) (r : Result A AcpiError) (later : Result A Refusal) (R S : Ranges)
-    → (r ≡ Err MapFailed → IsUnlent m (last_range R)) → (later ≡ Err (Acpi MapFailed) → IsUnlent m (last_range S))
-    → (if b then refused_as r else later) ≡ Err (Acpi MapFailed) → IsUnlent m (last_range (if b then R else S))
-started m true r later R S first second e = first (refused_is r e)
-started m false r later R S first second e = second e
+-- by the RSDP that a start is, if it is none of a root table
 
--- by the RSDP that is found, or by what is looked for if this isn't the start
+kept_error : (a : ℕ) (r : Result (List ℕ) AcpiError) → result_map {B = ℕ × List ℕ} (λ bytes. (a, bytes)) r ≡ Err MapFailed
+    → r ≡ Err MapFailed
+kept_error a (Ok bytes) e = cc
+kept_error a (Err d) e = cc
 
-led : (m : Memory) (b : Bool) (r : Result (ℕ × List ℕ) AcpiError) (later : Result (ℕ × List ℕ) Refusal) (R S : Ranges)
-    → (opened_by m r ≡ Err MapFailed → IsUnlent m (last_range R))
-    → ((later >>= λ found. refused_as (opened_from m (root_of_rsdp found.1))) ≡ Err (Acpi MapFailed)
-    → IsUnlent m (last_range S))
-    → ((if b then refused_as r else later) >>= λ found. refused_as (opened_from m (root_of_rsdp found.1)))
-    ≡ Err (Acpi MapFailed) → IsUnlent m (last_range (if b then R else S))
-led m true (Ok found) later R S first second e = first (refused_is (opened_from m (root_of_rsdp found.1)) e)
-led m true (Err d) later R S first second e = first (refused_is (Err d) e)
-led m false r later R S first second e = second e
+by_rsdp : (m : Memory) (s : Source) (at_address by_search by_areas : Bool)
+    → (if at_address then refused_as (result_map (λ bytes. (s.address, bytes)) (rsdp_at m s.address))
+    else if by_search then refused_as (found_rsdp m)
+    else if by_areas then refused_as (found_in_areas m (bios_areas (ebda_in m))) else Err UnknownStart)
+    ≡ Err (Acpi MapFailed)
+    → IsUnlent m (if at_address then hole {A = ℕ} (Err MapFailed) (rsdp_ranges m s.address)
+    else if by_search then hole {A = ℕ} (Err MapFailed) (search_ranges m) else None)
+by_rsdp m s true by_search by_areas e =
+    rsdp_unlent m s.address (kept_error s.address (rsdp_at m s.address) (refused_is _ e))
+by_rsdp m s false true by_areas e = search_unlent m (refused_is _ e)
+by_rsdp m s false false true e = absurd (areas_not m (bios_areas (ebda_in m)) (refused_is _ e))
+by_rsdp m s false false false e = absurd cc
 
-placed_at : (m : Memory) (a : ℕ) (r : Result (List ℕ) AcpiError)
-    → opened_by m (result_map (λ bytes. (a, bytes)) r) ≡ Err MapFailed
-    → (r >>= λ rsdp. opened_from m (root_of_rsdp rsdp)) ≡ Err MapFailed
-placed_at m a (Ok bytes) e = e
-placed_at m a (Err d) e = cc
+abbrev root_as : RootPointer → Result (List ℕ) AcpiError → Result Opened Refusal
+root_as place r = refused_as r
+    >>= λ root. Ok (record { revision = place.revision; kind = place.kind; address = place.address; root = root })
+
+abbrev opened_by : Memory → Source → Result RootPointer Refusal → Result Opened Refusal
+opened_by m s r = r >>= λ place. root_as place (root_there s.accept m place)
+
+no_root : (place : RootPointer) (r : Result (List ℕ) AcpiError) → root_as place r ≡ Err (Acpi MapFailed)
+    → r ≡ Err MapFailed
+no_root place (Ok root) e = cc
+no_root place (Err d) e = cc
+
+there : (m : Memory) (s : Source) (place : RootPointer) → root_as place (root_there s.accept m place) ≡ Err (Acpi MapFailed)
+    → IsUnlent m (root_hole m s (Ok place))
+there m s place e =
+    let refused = no_root place (root_there s.accept m place) e in
+    rw refused (accepted_unlent s.accept m (signature_of place.kind) place.address refused)
+
+led : (m : Memory) (s : Source) (r : Result (ℕ × List ℕ) Refusal)
+    → (r ≡ Err (Acpi MapFailed) → IsUnlent m (rsdp_hole m s MapFailed))
+    → opened_by m s (result_map (λ found. root_of_rsdp found.1) r) ≡ Err (Acpi MapFailed)
+    → IsUnlent m (root_hole m s (result_map (λ found. root_of_rsdp found.1) r))
+led m s (Ok found) none e = there m s (root_of_rsdp found.1) e
+led m s (Err d) none e =
+    let is : d ≡ Acpi MapFailed = cc in
+    rw is (none (ap (λ x. Err x) is))
+
+by_start : (m : Memory) (s : Source) (rsdt xsdt : Bool) → let r =
+    (if rsdt then Ok (root_of_revision 0 s.address) else if xsdt then Ok (root_of_revision 2 s.address)
+    else result_map (λ found. root_of_rsdp found.1) (rsdp_in m s)) in
+    opened_by m s r ≡ Err (Acpi MapFailed) → IsUnlent m (root_hole m s r)
+by_start m s true xsdt e = there m s (root_of_revision 0 s.address) e
+by_start m s false true e = there m s (root_of_revision 2 s.address) e
+by_start m s false false e = led m s (rsdp_in m s) (by_rsdp m s (s.start == 0) (s.start == 3) (s.start == 4)) e
 
 policed : (accepts : Bool) (later : Result Opened Refusal)
     → (holds accepts UnknownPolicy >>= λ _. later) ≡ Err (Acpi MapFailed) → later ≡ Err (Acpi MapFailed)
 policed true later e = e
 policed false later e = absurd cc
 
-started_unlent : (m : Memory) (s : Source) → started_in m s ≡ Err (Acpi MapFailed)
-    → IsUnlent m (last_range (opening_ranges m s))
-started_unlent m s =
-    started m (s.start == 1) (opened_at m (0, s.address)) _ (opened_ranges m (root_of_revision 0 s.address)) _
-    (from_unlent m (root_of_revision 0 s.address))
-    (started m (s.start == 2) (opened_at m (2, s.address)) _ (opened_ranges m (root_of_revision 2 s.address)) _
-    (from_unlent m (root_of_revision 2 s.address))
-    (led m (s.start == 0) (result_map (λ bytes. (s.address, bytes)) (rsdp_at m s.address)) _
-    (opened_by_rsdp_ranges m s.address) _
-    (λ e. rsdp_unlent m s.address (placed_at m s.address (rsdp_at m s.address) e))
-    (led m (s.start == 3) (found_rsdp m) _ (opened_by_search_ranges m) _ (by_search_unlent m)
-    (led m (s.start == 4) (found_in_areas m (bios_areas (ebda_in m))) (Err UnknownStart) (opened_as_lent_ranges m) []
-    (by_areas_unlent m) (λ q. cc)))))
-
 pub opening_unlent : OpeningHasHole
-opening_unlent m s e = started_unlent m s (policed (nat_lt s.accept 4) (started_in m s) e)
+opening_unlent m s e = by_start m s (s.start == 1) (s.start == 2)
+    (policed (nat_lt s.accept 4) (opened_by m s (root_pointer_in m s)) e)
 
 -- ---- the ranges of a search's candidates, and then the others
 
 -- only an unknown start is refused, and that is no search
 
-root_read : (m : Memory) (s : Source) (r : Result Opened AcpiError) (e : Refusal)
-    → missing_in m s (refused_as r) ≡ Err e → ⊥
-root_read m s (Ok o) e is = cc
-root_read m s (Err d) e is = cc
+root_read : (m : Memory) (s : Source) (place : RootPointer) (r : Result (List ℕ) AcpiError) (e : Refusal)
+    → missing_in m s (root_as place r) ≡ Err e → ⊥
+root_read m s place (Ok root) e is = cc
+root_read m s place (Err d) e is = cc
 
-rsdp_found : (m : Memory) (s : Source) (r : Result (ℕ × List ℕ) AcpiError) (e : Refusal)
-    → missing_in m s (refused_as r >>= λ found. refused_as (opened_from m (root_of_rsdp found.1))) ≡ Err e → ⊥
-rsdp_found m s (Ok found) e is = root_read m s (opened_from m (root_of_rsdp found.1)) e is
-rsdp_found m s (Err d) e is = cc
+rsdp_read : (m : Memory) (s : Source) (r : Result (ℕ × List ℕ) AcpiError) (e : Refusal)
+    → missing_in m s (opened_by m s (result_map (λ found. root_of_rsdp found.1) (refused_as r))) ≡ Err e → ⊥
+rsdp_read m s (Ok found) e is =
+    root_read m s (root_of_rsdp found.1) (root_there s.accept m (root_of_rsdp found.1)) e is
+rsdp_read m s (Err d) e is = cc
 
 none_by : (m : Memory) (s : Source) (e : Refusal) (b c d f g : Bool)
-    → missing_in m s (if b then refused_as (opened_at m (0, s.address))
-    else if c then refused_as (opened_at m (2, s.address))
-    else ((if d then refused_as (result_map (λ bytes. (s.address, bytes)) (rsdp_at m s.address))
+    → missing_in m s (opened_by m s (if b then Ok (root_of_revision 0 s.address)
+    else if c then Ok (root_of_revision 2 s.address)
+    else result_map (λ found. root_of_rsdp found.1)
+    (if d then refused_as (result_map (λ bytes. (s.address, bytes)) (rsdp_at m s.address))
     else if f then refused_as (found_rsdp m)
-    else if g then refused_as (found_in_areas m (bios_areas (ebda_in m))) else Err UnknownStart)
-    >>= λ found. refused_as (opened_from m (root_of_rsdp found.1)))) ≡ Err e
+    else if g then refused_as (found_in_areas m (bios_areas (ebda_in m))) else Err UnknownStart))) ≡ Err e
     → areas_holes m (if f then pieces m (word_in m) else if g then stretches (bios_areas (ebda_in m)) else no_areas)
     ≡ []
 unfolding has_valid walk_holes
-none_by m s e true c d f g is = absurd (root_read m s (opened_at m (0, s.address)) e is)
-none_by m s e false true d f g is = absurd (root_read m s (opened_at m (2, s.address)) e is)
+none_by m s e true c d f g is =
+    let place = root_of_revision 0 s.address in
+    absurd (root_read m s place (root_there s.accept m place) e is)
+none_by m s e false true d f g is =
+    let place = root_of_revision 2 s.address in
+    absurd (root_read m s place (root_there s.accept m place) e is)
 none_by m s e false false true f g is =
-    absurd (rsdp_found m s (result_map (λ bytes. (s.address, bytes)) (rsdp_at m s.address)) e is)
-none_by m s e false false false true g is = absurd (rsdp_found m s (found_rsdp m) e is)
+    absurd (rsdp_read m s (result_map (λ bytes. (s.address, bytes)) (rsdp_at m s.address)) e is)
+none_by m s e false false false true g is = absurd (rsdp_read m s (found_rsdp m) e is)
 none_by m s e false false false false true is =
-    absurd (rsdp_found m s (found_in_areas m (bios_areas (ebda_in m))) e is)
+    absurd (rsdp_read m s (found_in_areas m (bios_areas (ebda_in m))) e is)
 none_by m s e false false false false false is = refl
 
-no_candidates : (m : Memory) (s : Source) (e : Refusal) → missing_in m s (started_in m s) ≡ Err e
+no_candidates : (m : Memory) (s : Source) (e : Refusal) → missing_in m s (opened_by m s (root_pointer_in m s)) ≡ Err e
     → candidate_holes m s ≡ []
 unfolding candidate_holes has_valid walk_holes
 no_candidates m s e is = none_by m s e (s.start == 1) (s.start == 2) (s.start == 0) (s.start == 3) (s.start == 4) is
@@ -306,7 +277,7 @@ pub joined : (s : Source) (m : Memory) (old mid new : List Range) (n : ℕ) (sai
     → said ≡ result_map (λ ys. n + length ys) (missing_in m s (opened_in m s))
     → new ≡ put_from mid n (items_said (missing_in m s (opened_in m s))) → Fills said old new (missing_below s)
 joined s m old mid new n said is checked first count items =
-    rw (is, checked) (by_others old mid new (candidate_holes m s) n said (missing_in m s (started_in m s))
+    rw (is, checked) (by_others old mid new (candidate_holes m s) n said (missing_in m s (opened_by m s (root_pointer_in m s)))
     (no_candidates m s) first (rw checked at count) (rw checked at items))
 
 -- ---- a signature is its four bytes, and a table that is lent ends below 2^64
@@ -355,12 +326,12 @@ unfolding accepted_at
 accepted_ends accept m k p table h some e =
     by_bits (accept == 0) (has_bit accept 0) (has_bit accept 1) m k p table h some e
 
-pub own_table_ends : (m : Memory) (p : ℕ) (table : List ℕ) → IsMemory m → 0 < length table → own_table_at m p ≡ Ok table
-    → p + length table < 2 ^ 64
-unfolding own_table_at
-own_table_ends m p table h some e =
+pub own_ends : (accept : ℕ) (m : Memory) (p : ℕ) (table : List ℕ) → IsMemory m → 0 < length table
+    → own_accepted_at accept m p ≡ Ok table → p + length table < 2 ^ 64
+unfolding own_accepted_at
+own_ends accept m p table h some e =
     let head = bind_ok (lent m p 36) _ table e in
-    table_ends m (plain_kind (header_at head.0).signature) p table h some head.2
+    accepted_ends accept m (plain_kind (header_at head.0).signature) p table h some head.2
 
 -- ---- one candidate
 
@@ -489,14 +460,14 @@ abbrev pub SecondFits : ℕ → Type 0
 SecondFits word = let s = second_area word in (s.start + 16 * ((room_of s - 20) / 16) ≤ 2 ^ 20)
     × (count_of s ≡ (room_of s - 20) / 16) × (20 ≤ room_of s) × (room_of s < 2 ^ 32)
 
-by_start : (a : ℕ) (b : Bool) → (b ≡ true → a < 0x9ffff) → let s =
+by_low : (a : ℕ) (b : Bool) → (b ≡ true → a < 0x9ffff) → let s =
     (if b then area a (a + 1024) else area 0x80000 0xa0000) in
     (s.start + 16 * ((room_of s - 20) / 16) ≤ 2 ^ 20) × (count_of s ≡ (room_of s - 20) / 16) × (20 ≤ room_of s)
     × (room_of s < 2 ^ 32)
-by_start a true low =
+by_low a true low =
     let under = low refl in
     (omega (arith, under), omega arith, omega arith, omega arith)
-by_start a false low = (omega arith, refl, omega arith, omega arith)
+by_low a false low = (omega arith, refl, omega arith, omega arith)
 
 pub second_fits : (word : ℕ) → SecondFits word
-second_fits word = by_start (16 * word) _ (λ e. grind (arith, e))
+second_fits word = by_low (16 * word) _ (λ e. grind (arith, e))

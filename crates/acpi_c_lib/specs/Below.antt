@@ -1,15 +1,16 @@
 -- The tables that a caller names.
 use Rattle.std.specs.Prelude.{ℕ, ◌*◌, ◌==◌, List, drop, Option, Result, Ok, Err, if◌then◌else◌, nat_lt, option_map, unwrap_or}
 use Rattle.acpi_base.specs.FromStd.{result_ok}
-use Rattle.acpi_base.specs.Words.{Memory, ◌>>=◌, Kind, holds}
+use Rattle.acpi_base.specs.Words.{Memory, ◌>>=◌, Kind, bytes_of, holds, start_of}
 pub use Rattle.acpi_base.specs.declared.error.AcpiError.{AcpiError}
-use Rattle.acpi.specs.Words.{bios_areas, extended_length_of, found_in_areas, found_rsdp, root_of_rsdp, rsdp_at, rsdp_of, Opened, opened_at, opened_from, pointers, width_of, word_in}
-use Rattle.acpi_c_lib.specs.Accepted.{accepted_lookup}
+use Rattle.acpi.specs.Words.{bios_areas, extended_length_of, found_in_areas, found_rsdp, root_kind, root_of_revision, root_of_rsdp, rsdp_at, rsdp_of, Opened, pointers, width_of, word_in}
+use Rattle.acpi_c_lib.specs.Accepted.{accepted_at, accepted_lookup}
 use Rattle.acpi_c_lib.specs.Answers.{result_map}
 use Rattle.acpi_c_lib.specs.Regions.{memory_in}
+pub use Rattle.acpi_c_lib.specs.declared.root_table.RootTable.{RootTable}
 pub use Rattle.acpi_c_lib.specs.declared.records.Source.{Source}
 pub use Rattle.acpi_c_lib.specs.declared.refusal.Refusal.{Refusal}
-use Rattle.acpi_c_lib.specs.Types.{Acpi, UnknownPolicy, UnknownStart}
+use Rattle.acpi_c_lib.specs.Types.{Acpi, RootPointer, UnknownPolicy, UnknownStart}
 
 -- a refusal of the library's is one of the call's
 abbrev pub refused_as : {A : Type 0} → Result A AcpiError → Result A Refusal
@@ -29,14 +30,16 @@ rsdp_in m s =
     else if s.start == 4 then refused_as (found_in_areas m (bios_areas (ebda_in m)))
     else Err UnknownStart
 
--- the root table that they lead to: as an RSDT (section 5.2.7), as an XSDT (5.2.8), or by the RSDP
-abbrev pub started_in : Memory → Source → Result Opened Refusal
-started_in m s =
-    if s.start == 1 then refused_as (opened_at m (0, s.address))
-    else if s.start == 2 then refused_as (opened_at m (2, s.address))
-    else do
-      found ← rsdp_in m s
-      refused_as (opened_from m (root_of_rsdp found.1))
+-- where they lead to a root table: at an RSDT (section 5.2.7), at an XSDT (5.2.8), or by the RSDP
+abbrev pub root_pointer_in : Memory → Source → Result RootPointer Refusal
+root_pointer_in m s =
+    if s.start == 1 then Ok (root_of_revision 0 s.address)
+    else if s.start == 2 then Ok (root_of_revision 2 s.address)
+    else result_map (λ found. root_of_rsdp found.1) (rsdp_in m s)
+
+-- the root table there, if it is accepted
+abbrev pub root_there : ℕ → Memory → RootPointer → Result (List ℕ) AcpiError
+root_there accept m place = accepted_at accept m (root_kind place.kind) place.address
 
 -- `accept` has no bits but the two that there are
 abbrev pub check_policy : Source → Result (Unit {0}) Refusal
@@ -45,7 +48,22 @@ check_policy s = holds (nat_lt s.accept 4) UnknownPolicy
 abbrev pub opened_in : Memory → Source → Result Opened Refusal
 opened_in m s = do
   _ ← check_policy s
-  started_in m s
+  place ← root_pointer_in m s
+  root ← refused_as (root_there s.accept m place)
+  Ok (record { revision = place.revision; kind = place.kind; address = place.address; root = root })
+
+-- the addresses that it lists
+abbrev pub pointers_in : Opened → List ℕ
+pointers_in o = pointers (width_of o.kind) (drop 36 o.root)
+
+-- what a root table shows that stays mapped
+abbrev pub opened_of : {H h : _} → RootTable H h → Opened
+opened_of t = record {
+  revision = t.revision;
+  kind = t.kind;
+  address = start_of t.table;
+  root = bytes_of t.table;
+}
 
 -- how many bytes an RSDP has (section 5.2.5.3): Length, which revision 0 lacks, or 20
 abbrev pub rsdp_length : List ℕ → ℕ
@@ -64,7 +82,7 @@ opened_below s answer = do
 
 -- what a definition over a memory and the pointers of the root table in it says of the tables that a caller names
 abbrev pub below : {A : Type 0} → Source → (Memory → List ℕ → Result A Refusal) → Result A Refusal
-below s answer = opened_below s (λ m o. answer m (pointers (width_of o.kind) (drop 36 o.root)))
+below s answer = opened_below s (λ m o. answer m (pointers_in o))
 
 -- the same of a definition of the library
 abbrev pub below_source : {A : Type 0} → Source → (Memory → List ℕ → Result A AcpiError)

@@ -1,12 +1,13 @@
 -- The entries of any table as C gets them, by where Type and Length stand in each.
 use Rattle.std.specs.Prelude.{ℕ, ◌+◌, ◌==◌, nat_le, nat_lt, List, [], ◌∷◌, drop, length, None, Result, Ok, Err, if◌then◌else◌}
-use Rattle.acpi_base.specs.Words.{cut, number_at, header_at, ◌>>=◌, holds, own_table_at}
+use Rattle.acpi_base.specs.Words.{cut, number_at, header_at, ◌>>=◌, holds}
 use Rattle.acpi_base.specs.declared.entries.Place.{Place}
 use Rattle.acpi.specs.Types.{EntryLayout, Grammar, Width, One, Two, Four, SdtInvalidLength}
+use Rattle.acpi_c_lib.specs.Accepted.{own_accepted_at}
 use Rattle.acpi_c_lib.specs.Answers.{result_map}
-use Rattle.acpi_c_lib.specs.Below.{Refusal, refused_as}
+use Rattle.acpi_c_lib.specs.Below.{Refusal, Source, check_policy, refused_as}
 use Rattle.acpi_c_lib.specs.Devices.{flag}
-use Rattle.acpi_c_lib.specs.Regions.{Region, memory_in}
+use Rattle.acpi_c_lib.specs.Regions.{memory_in}
 use Rattle.acpi_c_lib.specs.Types.{Entry, Acpi, UnknownWidth, Walk}
 
 -- the width of a number, by how many bytes it has
@@ -49,11 +50,12 @@ entries_at l address bytes =
 
 -- those of the table at an address, from a walk's first on: its fixed fields end there, so a shorter one has not all of
 -- them
-abbrev pub entries_below : List Region → ℕ → Walk → Result (List Entry × ℕ) Refusal
-entries_below regions address w = do
-  m ← memory_in regions
+abbrev pub entries_below : Source → ℕ → Walk → Result (List Entry × ℕ) Refusal
+entries_below s address w = do
+  m ← memory_in s.regions.now
+  _ ← check_policy s
   l ← walk_layout w
-  table ← refused_as (own_table_at m address)
+  table ← refused_as (own_accepted_at s.accept m address)
   _ ← holds (nat_le w.first (length table)) (Acpi (SdtInvalidLength (header_at table).signature))
   Ok (entries_at l (address + w.first) (drop w.first table))
 

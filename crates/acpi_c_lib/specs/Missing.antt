@@ -4,12 +4,12 @@ use Rattle.acpi_base.specs.FromStd.{cons_option, last_or, is_some, is_ok}
 use Rattle.acpi_base.specs.Words.{Memory, at, Ranges, header_at, ◌>>=◌, lent, plain_kind}
 use Rattle.acpi.specs.Types.{DSDT, MapFailed, AddressRange, Fadt}
 use Rattle.acpi_fixed.specs.Words.{dsdt_address_of, fadt_at}
-use Rattle.acpi.specs.Words.{bios_areas, count_in, first_in, opened_in_areas_ranges, or_later, fadt_kind, Opened, opened_by_rsdp_ranges, opened_by_search_ranges, opened_ranges, rsdp_ranges, facs_place, facs_place_ranges, pointers, root_of_revision, width_of, rsdp_at, count_of, first_area, room_of, second_area, walk, word_in}
+use Rattle.acpi.specs.Words.{bios_areas, count_in, first_in, or_later, fadt_kind, Opened, rsdp_ranges, search_ranges, facs_place, facs_place_ranges, rsdp_at, count_of, first_area, room_of, second_area, walk, word_in}
 use Rattle.acpi_c_lib.specs.Accepted.{accepted_at, accepted_lookup, own_accepted_at}
-use Rattle.acpi_c_lib.specs.Below.{AcpiError, Refusal, Source, check_policy, ebda_in, opened_in}
+use Rattle.acpi_c_lib.specs.Below.{AcpiError, Refusal, Source, check_policy, ebda_in, opened_in, pointers_in, root_pointer_in, root_there}
 use Rattle.acpi_c_lib.specs.Regions.{memory_in}
 pub use Rattle.acpi_c_lib.specs.declared.candidates.Areas.{Areas}
-use Rattle.acpi_c_lib.specs.Types.{Candidates, Acpi}
+use Rattle.acpi_c_lib.specs.Types.{Candidates, Acpi, RootPointer}
 pub use Rattle.acpi_c_lib.specs.declared.records.Range.{Range}
 
 abbrev pub range_of : ℕ × ℕ → Range
@@ -119,24 +119,26 @@ candidate_holes m s = areas_holes m (areas_of m s)
 
 -- ---- of the tables that a caller names
 
--- those of the search in the BIOS areas as far as they are lent
-unfoldable pub opened_as_lent_ranges : Memory → Ranges
-opened_as_lent_ranges m = opened_in_areas_ranges m (bios_areas (ebda_in m))
+-- of the RSDP at an address, or of the search that has to be lent whole, by the number of a start
+abbrev pub rsdp_hole : Memory → Source → AcpiError → Option Range
+rsdp_hole m s e =
+    if s.start == 0 then hole {A = ℕ} (Err e) (rsdp_ranges m s.address)
+    else if s.start == 3 then hole {A = ℕ} (Err e) (search_ranges m)
+    else None
 
--- the ranges of opening, by the number of a start
-abbrev pub opening_ranges : Memory → Source → Ranges
-opening_ranges m s =
-    if s.start == 1 then opened_ranges m (root_of_revision 0 s.address)
-    else if s.start == 2 then opened_ranges m (root_of_revision 2 s.address)
-    else if s.start == 0 then opened_by_rsdp_ranges m s.address
-    else if s.start == 3 then opened_by_search_ranges m
-    else if s.start == 4 then opened_as_lent_ranges m
-    else []
+-- of the root table, or of what is to lead to it
+abbrev pub root_hole : Memory → Source → Result RootPointer Refusal → Option Range
+root_hole m s (Ok place) = table_hole m place.address (root_there s.accept m place)
+root_hole m s (Err (Acpi e)) = rsdp_hole m s e
+root_hole m s (Err e) = None
+
+abbrev pub opening_hole : Memory → Source → Option Range
+opening_hole m s = root_hole m s (root_pointer_in m s)
 
 -- those below the root table, or the one of opening
 abbrev pub missing_in : Memory → Source → Result Opened Refusal → Result (List Range) Refusal
-missing_in m s (Ok o) = Ok (holes_below s.accept m (pointers (width_of o.kind) (drop 36 o.root)))
-missing_in m s (Err (Acpi e)) = Ok (cons_option (hole {A = Opened} (Err e) (opening_ranges m s)) [])
+missing_in m s (Ok o) = Ok (holes_below s.accept m (pointers_in o))
+missing_in m s (Err (Acpi e)) = Ok (cons_option (opening_hole m s) [])
 missing_in m s (Err e) = Err e
 
 -- those of a search's candidates, and then the others
@@ -174,4 +176,4 @@ LedHaveHoles = (accept : ℕ) (m : Memory) (f : Fadt)
 -- opening that is refused because something isn't lent has a range
 abbrev pub OpeningHasHole : Type 0
 OpeningHasHole = (m : Memory) (s : Source) → opened_in m s ≡ Err (Acpi MapFailed)
-    → IsUnlent m (last_range (opening_ranges m s))
+    → IsUnlent m (opening_hole m s)

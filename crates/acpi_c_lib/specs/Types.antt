@@ -7,6 +7,7 @@ pub use Rattle.acpi.specs.declared.records.AmlTable.{AmlTable}
 pub use Rattle.acpi.specs.declared.records.TableFault.{TableFault}
 pub use Rattle.acpi.specs.declared.root.RootKind.{RootKind}
 pub use Rattle.acpi.specs.declared.root.RootKind.TheVariants.{Rsdt, Xsdt}
+pub use Rattle.acpi.specs.declared.root.RootPointer.{RootPointer}
 pub use Rattle.acpi.specs.declared.rsdp.Rsdp.{Rsdp}
 pub use Rattle.acpi_arm.specs.declared.gic.part.GicCpuInterface.{GicCpuInterface}
 pub use Rattle.acpi_arm.specs.declared.gic.part.GicDistributor.{GicDistributor}

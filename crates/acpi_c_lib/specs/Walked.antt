@@ -1,13 +1,13 @@
 -- What walks along the members of the root table answer.
-use Rattle.std.specs.Prelude.{ℕ, List, [], ◌∷◌, ◌++◌, drop, filter_map, length, Option, None, option_map, slice_get, Result, Ok, Err, ok_or}
+use Rattle.std.specs.Prelude.{ℕ, List, [], ◌∷◌, ◌++◌, filter_map, length, Option, None, option_map, slice_get, Result, Ok, Err, ok_or}
 use Rattle.acpi_base.specs.FromStd.{cons_option, result_ok}
 use Rattle.acpi_base.specs.Words.{Kind, Memory, ◌>>=◌, plain_kind}
 use Rattle.acpi.specs.Types.{TableMissing, AddressRange, DSDT, Fadt}
 use Rattle.acpi_fixed.specs.Words.{dsdt_address_of, fadt_at}
-use Rattle.acpi.specs.Words.{facs_place, fadt_kind, pointers, width_of}
+use Rattle.acpi.specs.Words.{facs_place, fadt_kind}
 use Rattle.acpi_c_lib.specs.Accepted.{accepted_at, accepted_lookup, own_accepted_at}
 use Rattle.acpi_c_lib.specs.Answers.{result_map}
-use Rattle.acpi_c_lib.specs.Below.{AcpiError, Refusal, Source, below_source, opened_below, rsdp_place_in}
+use Rattle.acpi_c_lib.specs.Below.{AcpiError, Refusal, Source, below_source, opened_below, pointers_in, rsdp_place_in}
 use Rattle.acpi_c_lib.specs.Missing.{range_of}
 use Rattle.acpi_c_lib.specs.Records as records
 use Rattle.acpi_c_lib.specs.Shown.{Signature, Table, signature_named, table_record}
@@ -58,4 +58,4 @@ members_ranges accept m ps =
 abbrev pub ranges_below : Source → Result (List Range) Refusal
 ranges_below s = opened_below s (λ m o. Ok (cons_option (option_map range_of (rsdp_place_in m s))
     (range_of (o.address, length o.root)
-    ∷ members_ranges s.accept m (pointers (width_of o.kind) (drop 36 o.root)))))
+    ∷ members_ranges s.accept m (pointers_in o))))

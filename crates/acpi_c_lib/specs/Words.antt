@@ -8,7 +8,7 @@ pub use Rattle.acpi_c_lib.specs.Apics.{MadtEntry, below_apics, mailbox_below, bo
 unfoldable pub use Rattle.acpi_c_lib.specs.Apics.{apic_entries}
 pub use Rattle.acpi_c_lib.specs.Arm.{below_gic, cpu_interfaces_shown, distributor_below, is_of_gic, msi_frames_shown, redistributors_shown, translation_services_shown}
 pub use Rattle.acpi_c_lib.specs.ArmTimers.{GtFrame, arm_timer_or, arm_timer_record, frame_record, frames_in, frames_of, frames_shown, gtdt_below, or_ones, timers_record, timers_shown, watchdog_in, watchdogs_of, watchdogs_shown}
-pub use Rattle.acpi_c_lib.specs.Below.{AcpiError, Refusal, Source, check_policy, ebda_in, opened_in, refused_as, rsdp_in, rsdp_length, rsdp_place_in, started_in}
+pub use Rattle.acpi_c_lib.specs.Below.{AcpiError, Refusal, Source, check_policy, ebda_in, opened_in, opened_of, pointers_in, refused_as, root_pointer_in, root_there, rsdp_in, rsdp_length, rsdp_place_in}
 unfoldable pub use Rattle.acpi_c_lib.specs.Below.{first_table, found_table}
 pub use Rattle.acpi_c_lib.specs.Clip.{AnswersClip, AreInOrder, FillsClipped, IsNext, Range, all_fit, any_holds, change_in, change_of, fits, holds, wanted}
 pub use Rattle.acpi_c_lib.specs.Console.{console_below, console_record}
@@ -28,8 +28,8 @@ pub use Rattle.acpi_c_lib.specs.IsaList.{IsaInterrupts, IsaRoute, ItemsAreAnswer
 unfoldable pub use Rattle.acpi_c_lib.specs.IsaList.{isa_numbers}
 pub use Rattle.acpi_c_lib.specs.Listed.{lists_by, lists_each, lists_found, lists_some}
 pub use Rattle.acpi_c_lib.specs.Located.{LiesOnlyAt, Place, located, spot_from}
-pub use Rattle.acpi_c_lib.specs.Missing.{Areas, CandidatesHaveHoles, Fits, IsUnlent, LedHaveHoles, MembersHaveHoles, OpeningHasHole, areas_holes, areas_of, dsdt_hole, hole, holes_below, last_range, member_hole, missing_below, missing_in, no_areas, opening_ranges, pieces, range_of, stretch, table_hole, unlent}
-unfoldable pub use Rattle.acpi_c_lib.specs.Missing.{candidate_hole, candidate_holes, has_valid, opened_as_lent_ranges, walk_holes}
+pub use Rattle.acpi_c_lib.specs.Missing.{Areas, CandidatesHaveHoles, Fits, IsUnlent, LedHaveHoles, MembersHaveHoles, OpeningHasHole, areas_holes, areas_of, dsdt_hole, hole, holes_below, last_range, member_hole, missing_below, missing_in, no_areas, opening_hole, pieces, range_of, root_hole, rsdp_hole, stretch, table_hole, unlent}
+unfoldable pub use Rattle.acpi_c_lib.specs.Missing.{candidate_hole, candidate_holes, has_valid, walk_holes}
 pub use Rattle.acpi_c_lib.specs.MadtFaults.{madt_fault, madt_faults_below, madt_faults_of, madt_refusal}
 pub use Rattle.acpi_c_lib.specs.Model.{MadtItem, accepted_model, apics_by, below_platform, counts_of, io_apic_record, listed, model_by, platform_model}
 pub use Rattle.acpi_c_lib.specs.Numa.{IsLocalities, affinities_below, affinity_record, distance_below, domain_of_address_below, domain_of_apic_below, domain_of_processor_below, no_domain, slit_in, srat_fault, srat_faults_below, srat_faults_of}

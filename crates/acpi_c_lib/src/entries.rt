@@ -5,29 +5,32 @@ ghost use Rattle.acpi_base.specs.Words.{IsEntry, cut};
 ghost use Rattle.acpi_c_lib.specs.Words.{Fills, Writes, result_map, entries_below, entries_from, entries_said, entry_record, left_said, number_place, plain_grammar, walk_layout, width_of_bytes};
 
 use crate::lists::put;
-use crate::records::{Entry, Walk};
+use crate::lookup::Lookup;
+use crate::opening::check_policy;
+use crate::records::{Entry, Source, Walk};
 use crate::refusal::Refusal;
-use crate::regions::{Mapped, Region};
+use crate::regions::Mapped;
 use acpi::AcpiError;
-use acpi::sdt::map_own_sdt;
 use acpi_base::bytes::skip;
 use acpi_base::entries::{EntryLayout, Grammar, Place, Width, number_at, split_front};
 
-/// Lists the entries of the table at an address, by a walk, and says whether bytes are left after them.
+/// Lists the entries of the table at an address, by a walk, and says whether bytes are left after them. Of a source
+/// only the regions and what it accepts count.
 pub fn table_entries(
-    regions: &[Region<'_>],
+    source: &Source<'_>,
     address: u64,
     walk: Walk,
     out: &mut [Entry],
     malformed: &mut u8,
 ) -> Result<usize, Refusal>
-    ensures items { Fills result out.old out.new (result_map entries_said (entries_below regions.now address walk)) }
+    ensures items { Fills result out.old out.new (result_map entries_said (entries_below source.now address walk)) }
     ensures malformed { malformed.new ≡ result_unwrap_or
-        (result_map left_said (entries_below regions.now address walk)) malformed.old }
+        (result_map left_said (entries_below source.now address walk)) malformed.old }
 {
-    let memory = Mapped::new(regions)?;
+    let memory = Mapped::new(source.regions)?;
+    check_policy(source)?;
     let layout = walk_layout(walk)?;
-    let table = map_own_sdt(&memory, address)?;
+    let table = Lookup::new(&memory, source).own_sdt_at(address)?;
     let bytes = table.bytes();
     let first = walk.first as usize;
     if bytes.len() < first {

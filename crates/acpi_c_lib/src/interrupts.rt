@@ -2,8 +2,8 @@
 ghost use Rattle.std.specs.Prelude.{◌≡◌, true, IfOk, IfSome, Ok, Some, option_map};
 ghost use Rattle.acpi_base.specs.FromStd.{list_any};
 ghost use Rattle.acpi_base.specs.Words.{counts_of, entries_of, bytes_of, start_of, items_of, Gives};
-ghost use Rattle.acpi.specs.Words.{madt_kind, pointers_left, pointers_of};
-ghost use Rattle.acpi_c_lib.specs.Words.{accepted_lookup, accepted_model, apic_entries, is_of_apics, io_apic_record, model_by, platform_model, mapped_memory, memory_in, known_platform};
+ghost use Rattle.acpi.specs.Words.{madt_kind, pointers_left};
+ghost use Rattle.acpi_c_lib.specs.Words.{accepted_lookup, accepted_model, apic_entries, is_of_apics, io_apic_record, model_by, opened_of, platform_model, mapped_memory, memory_in, known_platform, pointers_in};
 
 use crate::interrupt_records as records;
 use crate::lookup::Lookup;
@@ -11,11 +11,12 @@ use crate::opening::open;
 use crate::records::Source;
 use crate::refusal::Refusal;
 use crate::regions::Mapped;
+use crate::root_table::RootTable;
 use acpi::fadt::Fadt;
 use acpi::madt::Madt;
 use acpi::platform::PmTimer;
 use acpi::platform::interrupt::IoApic;
-use acpi::{AcpiHandler, AcpiResult, AcpiTables, Lender, PhysicalMapping, Pointers};
+use acpi::{AcpiHandler, AcpiResult, Lender, PhysicalMapping, Pointers};
 use acpi_base::model::Counts;
 
 /// A MADT that describes APICs, and how much there is of each sort in it.
@@ -33,13 +34,13 @@ pub(crate) struct ApicMadt<'h, H: Lender> {
 /// answered is what that call answers, if nothing but valid tables is accepted.
 pub(crate) fn apic_madt<'h, H: AcpiHandler>(
     lookup: &Lookup<'h, H>,
-    tables: &AcpiTables<'h, H>,
+    tables: &RootTable<'h, H>,
 ) -> AcpiResult<Option<ApicMadt<'h, H>>>
     ensures model { let l = lookup.now in Gives (λ o. model_by (option_map (λ x. bytes_of x.madt) o)) result
-        (platform_model l.accept (H.memory l.handler.now) (pointers_of tables.now)) }
+        (platform_model l.accept (H.memory l.handler.now) (pointers_in (opened_of tables.now))) }
     ensures counts { IfOk result (λ o. IfSome o (λ x. x.counts ≡ counts_of (items_of (bytes_of x.madt)))) }
     ensures found { let l = lookup.now in IfOk result (λ o. IfSome o (λ x.
-        (accepted_lookup l.accept (H.memory l.handler.now) madt_kind (pointers_of tables.now)
+        (accepted_lookup l.accept (H.memory l.handler.now) madt_kind (pointers_in (opened_of tables.now))
         ≡ Ok (start_of x.madt, bytes_of x.madt))
         × (list_any is_of_apics (entries_of (bytes_of x.madt)) ≡ true))) }
 {

@@ -47,6 +47,7 @@ pub mod records;
 pub mod refusal;
 pub mod regions;
 pub mod riscv;
+mod root_table;
 pub mod routes;
 pub mod srat_faults;
 pub mod tables;

@@ -1,22 +1,21 @@
 //! The ranges of memory that a caller has to map before the calls can read all tables.
 ghost use Rattle.std.specs.Prelude.{◌≡◌, [], ◌+◌, ◌++◌, ◌^◌, ◌<◌, ◌≤◌, filter_map, length, Err, Some};
 ghost use Rattle.acpi_base.specs.FromStd.{IsFinite, cons_option, is_ok};
-ghost use Rattle.acpi_base.specs.Words.{table_ranges, lent, plain_kind, table_at};
+ghost use Rattle.acpi_base.specs.Words.{lent, plain_kind};
 ghost use Rattle.acpi_fixed.specs.Words.{dsdt_address_of};
-ghost use Rattle.acpi.specs.Types.{MapFailed, Signature};
-ghost use Rattle.acpi.specs.Words.{bios_areas, opened_in_areas, opened_by_rsdp, opened_by_search, opened_from, opened_by_rsdp_ranges, opened_by_search_ranges, opened_ranges, search_ranges, facs_place, facs_place_ranges, pointers_left, found_rsdp, room_of, second_area};
-ghost use Rattle.acpi.specs.Rsdp.{root_of};
-ghost use Rattle.acpi_c_lib.specs.Words.{Fills, items_said, put_from, result_map, ebda_in, dsdt_hole, opened_in, hole, last_range, member_hole, unlent, missing_below, missing_in, opened_as_lent_ranges, opening_ranges, range_of, Acpi, lists_some};
+ghost use Rattle.acpi.specs.Types.{MapFailed};
+ghost use Rattle.acpi.specs.Words.{rsdp_at, rsdp_ranges, search_ranges, facs_place, facs_place_ranges, pointers_left, found_rsdp, room_of, second_area};
+ghost use Rattle.acpi_c_lib.specs.Words.{Fills, accepted_at, items_said, put_from, result_map, dsdt_hole, opened_in, hole, last_range, member_hole, unlent, missing_below, missing_in, opening_hole, range_of, rsdp_hole, rsdp_in, table_hole, Acpi, lists_some};
 
 use crate::candidates::candidate_holes;
 use crate::lists::{Listing, fill_from, put};
 use crate::lookup::Lookup;
-use crate::opening::{check_policy, ebda, open};
+use crate::opening::{check_policy, open, root_pointer};
 use crate::records::{Range, Source};
 use crate::refusal::Refusal;
 use crate::regions::Mapped;
 use acpi::fadt::Fadt;
-use acpi::rsdp::{Rsdp, bios_areas};
+use acpi::rsdp::Rsdp;
 use acpi::sdt::{SdtHeader, Signature};
 use acpi::{AcpiError, AcpiHandler, PhysicalMapping, Pointers, facs_length};
 
@@ -53,11 +52,10 @@ fn others<H: AcpiHandler>(
             };
             Ok(fill_with(tables.addresses(), &Unlent { lookup }, led, out, from))
         }
-        Err(Refusal::Acpi(AcpiError::MapFailed)) => {
-            let refused = opening_hole(handler, source);
-            Ok(put_pair((Some(refused), None), out, from))
+        Err(Refusal::Acpi(_)) => {
+            let refused = opening_hole(&Lookup::new(handler, source), source);
+            Ok(put_pair((refused, None), out, from))
         }
-        Err(Refusal::Acpi(_)) => Ok(from),
         Err(refusal) => Err(refusal),
     }
 }
@@ -151,18 +149,28 @@ pub(crate) fn is_lent<H: AcpiHandler>(handler: &H, address: u64, length: u32) ->
     PhysicalMapping::<'_, H, u16>::map(handler, address, length as usize).is_ok()
 }
 
-/// Where a table is refused that isn't lent, whatever its signature: its header, or as many bytes as that says (section
-/// 5.2.6).
-#[tactic(auto, using(crate::proofs::Unlent::names_not), unfolding(acpi_base::specs::Table::table_at))]
+/// Where a table isn't lent, whatever its signature: its header, or as many bytes as that says (section 5.2.6).
 fn table_hole<H: AcpiHandler>(handler: &H, address: u64) -> Range
-    ensures named { let m = H.memory handler.now in (s : Signature)
-        → table_at m (plain_kind s) address ≡ Err MapFailed
-        → last_range (table_ranges m (plain_kind s) address) ≡ Some result }
-    ensures place { result ≡ unlent address (lent (H.memory handler.now) address 36) }
+    ensures { result ≡ unlent address (lent (H.memory handler.now) address 36) }
 {
     match PhysicalMapping::<'_, H, SdtHeader>::map(handler, address, 36) {
         Ok(head) => range(address, head.length),
         Err(_) => range(address, 36),
+    }
+}
+
+/// Where the table at an address is refused under a signature because it isn't lent.
+fn hole_at<H: AcpiHandler>(
+    lookup: &Lookup<'_, H>,
+    address: u64,
+    signature: Signature,
+) -> Option<Range>
+    ensures { let l = lookup.now in let m = H.memory l.handler.now in
+        result ≡ table_hole m address (accepted_at l.accept m (plain_kind signature) address) }
+{
+    match lookup.sdt_at(address, signature) {
+        Err(AcpiError::MapFailed) => Some(table_hole(lookup.handler, address)),
+        _ => None,
     }
 }
 
@@ -171,11 +179,7 @@ fn dsdt_hole<H: AcpiHandler>(lookup: &Lookup<'_, H>, fadt: &Fadt) -> Option<Rang
     ensures { let l = lookup.now in
         result ≡ dsdt_hole l.accept (H.memory l.handler.now) (dsdt_address_of fadt.now) }
 {
-    let address = fadt.dsdt_address().ok()?;
-    match lookup.sdt_at(address, Signature::DSDT) {
-        Err(AcpiError::MapFailed) => Some(table_hole(lookup.handler, address)),
-        _ => None,
-    }
+    hole_at(lookup, fadt.dsdt_address().ok()?, Signature::DSDT)
 }
 
 /// Where the FACS that a FADT leads to is refused so: its first 36 bytes, or as many as its Length says (section
@@ -196,78 +200,47 @@ fn facs_hole<H: AcpiHandler>(handler: &H, fadt: &Fadt) -> Option<Range>
     Some(range(address, length))
 }
 
-/// Where opening is refused because something isn't lent.
-fn opening_hole<H: AcpiHandler>(handler: &H, source: &Source<'_>) -> Range
-    requires { opened_in (H.memory handler.now) source.now ≡ Err (Acpi MapFailed) }
-    ensures { last_range (opening_ranges (H.memory handler.now) source.now) ≡ Some result }
+/// Where opening is refused because something isn't lent: the root table, or what is to lead to it.
+fn opening_hole<H: AcpiHandler>(lookup: &Lookup<'_, H>, source: &Source<'_>) -> Option<Range>
+    requires { lookup.now.accept ≡ source.now.accept }
+    ensures { result ≡ opening_hole (H.memory lookup.now.handler.now) source.now }
+{
+    match root_pointer(lookup.handler, source) {
+        Ok((root, _)) => hole_at(lookup, root.address, root.kind.signature()),
+        Err(Refusal::Acpi(AcpiError::MapFailed)) => rsdp_hole(lookup.handler, source),
+        Err(_) => None,
+    }
+}
+
+/// Where the RSDP is refused so, or the search for it that has to be lent whole (sections 5.2.5.1 and 5.2.5.3).
+fn rsdp_hole<H: AcpiHandler>(handler: &H, source: &Source<'_>) -> Option<Range>
+    requires { rsdp_in (H.memory handler.now) source.now ≡ Err (Acpi MapFailed) }
+    ensures { result ≡ rsdp_hole (H.memory handler.now) source.now MapFailed }
 {
     match source.start {
-        0 => rsdp_hole(handler, source.address),
-        1 | 2 => table_hole(handler, source.address),
-        3 => search_hole(handler),
-        _ => areas_root_hole(handler),
+        0 => Some(own_hole(handler, source.address)),
+        3 => Some(search_hole(handler)),
+        _ => None,
     }
 }
 
-/// Where opening by an RSDP is refused so: its 36 bytes, or as many as its Length says, or those of the root table
-/// (section 5.2.5.3).
-#[tactic(auto, using(crate::proofs::Unlent::rsdp_not, crate::proofs::Unlent::rsdp_length, crate::proofs::Unlent::rsdp_long, crate::proofs::Unlent::sum_not), unfolding(acpi::specs::Rsdp::rsdp_at))]
-fn rsdp_hole<H: AcpiHandler>(handler: &H, address: u64) -> Range
-    requires { opened_by_rsdp (H.memory handler.now) address ≡ Err MapFailed }
-    ensures { last_range (opened_by_rsdp_ranges (H.memory handler.now) address) ≡ Some result }
+/// Where the RSDP at an address is refused so: its 36 bytes, or as many as its Length says (section 5.2.5.3).
+#[tactic(auto, using(crate::proofs::Unlent::rsdp_not, crate::proofs::Unlent::rsdp_length, crate::proofs::Unlent::sum_not), unfolding(acpi::specs::Rsdp::rsdp_at))]
+fn own_hole<H: AcpiHandler>(handler: &H, address: u64) -> Range
+    requires { rsdp_at (H.memory handler.now) address ≡ Err MapFailed }
+    ensures { last_range (rsdp_ranges (H.memory handler.now) address) ≡ Some result }
 {
-    let Ok(rsdp) = PhysicalMapping::<'_, H, Rsdp>::map(handler, address, 36) else {
-        return range(address, 36);
+    let length = match PhysicalMapping::<'_, H, Rsdp>::map(handler, address, 36) {
+        Ok(rsdp) => rsdp.length(),
+        Err(_) => None,
     };
-    match rsdp.length() {
-        Some(length) if length >= 36 && !is_lent(handler, address, length) => range(
-            address, length,
-        ),
-        _ => root_hole(handler, &rsdp),
-    }
-}
-
-/// Where the root table that an RSDP leads to is refused so: that at XsdtAddress, or at RsdtAddress if there is none or
-/// it is 0 (section 5.2.5.3).
-fn root_hole<H: AcpiHandler>(handler: &H, rsdp: &Rsdp) -> Range
-    ensures { let m = H.memory handler.now in opened_from m (root_of rsdp.now) ≡ Err MapFailed
-        → last_range (opened_ranges m (root_of rsdp.now)) ≡ Some result }
-{
-    let address = match rsdp.xsdt_address() {
-        None | Some(0) => u64::from(rsdp.rsdt_address()),
-        Some(address) => address,
-    };
-    table_hole(handler, address)
-}
-
-/// Where opening by the search is refused so: the search, or the root table that the RSDP leads to.
-#[tactic(auto, using(crate::proofs::Unlent::last_append))]
-fn search_hole<H: AcpiHandler>(handler: &H) -> Range
-    requires { opened_by_search (H.memory handler.now) ≡ Err MapFailed }
-    ensures { last_range (opened_by_search_ranges (H.memory handler.now)) ≡ Some result }
-{
-    match Rsdp::search_for_on_bios(handler) {
-        Ok(rsdp) => root_hole(handler, &rsdp),
-        Err(_) => areas_hole(handler),
-    }
-}
-
-/// Where opening by the search in the areas as far as they are lent is refused so: the root table that the RSDP leads
-/// to.
-fn areas_root_hole<H: AcpiHandler>(handler: &H) -> Range
-    requires { let m = H.memory handler.now in opened_in_areas m (bios_areas (ebda_in m)) ≡ Err MapFailed }
-    ensures { last_range (opened_as_lent_ranges (H.memory handler.now)) ≡ Some result }
-{
-    match Rsdp::search_in(handler, &bios_areas(ebda(handler))) {
-        Ok(rsdp) => root_hole(handler, &rsdp),
-        Err(_) => unreachable!(),
-    }
+    range(address, length.unwrap_or(36))
 }
 
 /// Where the search is refused: the word at 0x40e, which is the segment of the extended BIOS data area (EBDA), or the
 /// first area, 0xe0000..0x100000, or the second one, each with 16 bytes after it (section 5.2.5.1).
 #[tactic(auto, using(crate::proofs::Unlent::search_refused))]
-fn areas_hole<H: AcpiHandler>(handler: &H) -> Range
+fn search_hole<H: AcpiHandler>(handler: &H) -> Range
     requires { found_rsdp (H.memory handler.now) ≡ Err MapFailed }
     ensures { last_range (search_ranges (H.memory handler.now)) ≡ Some result }
 {

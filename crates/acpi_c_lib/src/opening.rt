@@ -1,57 +1,78 @@
 //! How the tables that a caller names are opened.
-ghost use Rattle.std.specs.Prelude.{◌≡◌, ◌+◌, ◌^◌, ◌<◌, length, Ok, IfOk};
+ghost use Rattle.std.specs.Prelude.{◌≡◌, ◌+◌, ◌^◌, ◌<◌, length, IfOk};
 ghost use Rattle.acpi_base.specs.Words.{bytes_of, start_of, Gives};
-ghost use Rattle.acpi.specs.Words.{lender_of, opened_of, placed, rsdp_at, word_in};
-ghost use Rattle.acpi_c_lib.specs.Words.{check_policy, ebda_in, first_table, found_table, opened_in, mapped_memory, memory_in, root_below, rsdp_in, rsdp_length, rsdp_place_in};
+ghost use Rattle.acpi.specs.Words.{placed, word_in};
+ghost use Rattle.acpi_c_lib.specs.Words.{check_policy, ebda_in, first_table, found_table, opened_in, opened_of, mapped_memory, memory_in, root_below, root_pointer_in, rsdp_in, rsdp_length, rsdp_place_in};
 
 use crate::lookup::Lookup;
-use crate::records::{Root, Source};
+use crate::records::{Range, Root, Source};
 use crate::refusal::Refusal;
 use crate::regions::Mapped;
+use crate::root_table::RootTable;
+use acpi::root::{RootKind, RootPointer};
 use acpi::rsdp::{Rsdp, bios_areas, map_rsdp};
-use acpi::{AcpiHandler, AcpiResult, AcpiTable, AcpiTables, PhysicalMapping};
+use acpi::{AcpiHandler, AcpiResult, AcpiTable, PhysicalMapping};
 
-/// The tables below what a source's start says: 0 the RSDP at its address (section 5.2.5.3), 1 the RSDT there (section
-/// 5.2.7), 2 the XSDT there (section 5.2.8), 3 the RSDP that the BIOS areas hold (section 5.2.5.1), and 4 that which
-/// they hold as far as they are lent.
+/// The root table that a source leads to, if it is accepted.
 ///
-/// Fails as `check_policy` does, with `UnknownStart` for an unknown start, and else as the constructors of `AcpiTables`
-/// do.
+/// Fails as `check_policy` and `root_pointer` do, and with the error of the table there.
 pub(crate) fn open<'h, H: AcpiHandler>(
     handler: &'h H,
     source: &Source<'_>,
-) -> Result<AcpiTables<'h, H>, Refusal>
-    ensures handler { IfOk result (λ t. lender_of t ≡ handler.now) }
-    ensures opened { Gives (λ t. opened_of t) result (opened_in (H.memory handler.now) source.now) }
+) -> Result<RootTable<'h, H>, Refusal>
+    ensures { Gives opened_of result (opened_in (H.memory handler.now) source.now) }
 {
-    let (tables, _) = open_placed(handler, source)?;
-    Ok(tables)
+    let (root, _) = open_placed(handler, source)?;
+    Ok(root)
 }
 
-/// Those tables, and the address and the length of the RSDP, unless the start is at a root table.
+/// That root table, and the address and the length of the RSDP, unless the start is at a root table.
 ///
 /// Fails as `open` does.
 pub(crate) fn open_placed<'h, H: AcpiHandler>(
     handler: &'h H,
     source: &Source<'_>,
-) -> Result<(AcpiTables<'h, H>, Option<(u64, u32)>), Refusal>
-    ensures handler { IfOk result (λ t. lender_of t.0 ≡ handler.now) }
-    ensures opened { Gives (λ t. opened_of t.0) result (opened_in (H.memory handler.now) source.now) }
-    ensures place { IfOk result (λ t. t.1 ≡ rsdp_place_in (H.memory handler.now) source.now) }
+) -> Result<(RootTable<'h, H>, Option<(u64, u32)>), Refusal>
+    ensures opened { Gives (λ r. opened_of r.0) result (opened_in (H.memory handler.now) source.now) }
+    ensures place { IfOk result (λ r. r.1 ≡ rsdp_place_in (H.memory handler.now) source.now) }
 {
     check_policy(source)?;
-    let revision = match source.start {
-        1 => 0,
-        2 => 2,
+    let (pointer, place) = root_pointer(handler, source)?;
+    let table = Lookup::new(handler, source).sdt_at(pointer.address, pointer.kind.signature())?;
+    let root = RootTable {
+        revision: pointer.revision,
+        kind: pointer.kind,
+        table,
+    };
+    Ok((root, place))
+}
+
+/// What leads to the root table by a source's start: 0 the RSDP at its address (section 5.2.5.3), 1 the RSDT there
+/// (section 5.2.7), 2 the XSDT there (section 5.2.8), 3 the RSDP that the BIOS areas hold (section 5.2.5.1), and 4 that
+/// which they hold as far as they are lent; and the address and the length of the RSDP, if it is one.
+///
+/// Fails with the error of the RSDP or the search for it, and with `UnknownStart` for an unknown start.
+pub(crate) fn root_pointer<H: AcpiHandler>(
+    handler: &H,
+    source: &Source<'_>,
+) -> Result<(RootPointer, Option<(u64, u32)>), Refusal>
+    ensures pointer { Gives (λ r. r.0) result (root_pointer_in (H.memory handler.now) source.now) }
+    ensures place { IfOk result (λ r. r.1 ≡ rsdp_place_in (H.memory handler.now) source.now) }
+{
+    let (revision, kind) = match source.start {
+        1 => (0, RootKind::Rsdt),
+        2 => (2, RootKind::Xsdt),
         _ => {
             let rsdp = find_rsdp(handler, source)?;
-            let place = place_of(&rsdp);
-            let tables = AcpiTables::from_validated_rsdp(handler, rsdp)?;
-            return Ok((tables, Some(place)));
+            return Ok((rsdp.get().root(), Some(place_of(&rsdp))));
         }
     };
-    let tables = AcpiTables::from_rsdt(handler, revision, source.address)?;
-    Ok((tables, None))
+    let pointer = RootPointer {
+        revision,
+        kind,
+        address: source.address,
+    };
+    Ok((pointer, None))
 }
 
 /// Fails with `UnknownPolicy` if `accept` of a source has other bits than the two that there are.
@@ -67,13 +88,11 @@ pub(crate) fn check_policy(source: &Source<'_>) -> Result<(), Refusal>
 /// The RSDP that a source's start leads to.
 ///
 /// Fails with `UnknownStart` for a start at a root table, and an unknown one.
-#[tactic(auto, using(crate::proofs::FoundRsdp::found_valid, crate::proofs::FoundRsdp::listed_valid))]
 fn find_rsdp<'h, H: AcpiHandler>(
     handler: &'h H,
     source: &Source<'_>,
 ) -> Result<PhysicalMapping<'h, H, Rsdp>, Refusal>
-    ensures found { Gives placed result (rsdp_in (H.memory handler.now) source.now) }
-    ensures valid { IfOk result (λ r. rsdp_at (H.memory handler.now) (start_of r) ≡ Ok (bytes_of r)) }
+    ensures { Gives placed result (rsdp_in (H.memory handler.now) source.now) }
 {
     let rsdp = match source.start {
         0 => map_rsdp(handler, source.address)?,
@@ -136,13 +155,14 @@ pub fn root(source: &Source<'_>) -> Result<Root, Refusal>
     ensures { result ≡ root_below source.now }
 {
     let memory = Mapped::new(source.regions)?;
-    let (tables, rsdp) = open_placed(&memory, source)?;
-    let (rsdp_address, rsdp_length) = rsdp.unwrap_or((0, 0));
+    let (root, place) = open_placed(&memory, source)?;
+    let (rsdp_address, rsdp_length) = place.unwrap_or((0, 0));
+    let Range { address, length } = root.range();
     Ok(Root {
-        address: tables.root_address(),
-        length: tables.root_length(),
-        revision: tables.revision(),
-        pointer_width: tables.root_kind().width() as u8,
+        address,
+        length: length as u32,
+        revision: root.revision,
+        pointer_width: root.kind.width() as u8,
         rsdp_address,
         rsdp_length,
     })

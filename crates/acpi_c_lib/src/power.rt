@@ -1,8 +1,8 @@
 //! Sleep types, and what to write to sleep, to power off, to enable ACPI and to reset.
 ghost use Rattle.std.specs.Prelude.{◌≡◌, ◌≤◌};
-ghost use Rattle.acpi.specs.Words.{pointers_left, pointers_of};
+ghost use Rattle.acpi.specs.Words.{pointers_left};
 ghost use Rattle.acpi_sleep.specs.Words.{joined};
-ghost use Rattle.acpi_c_lib.specs.Words.{accepted_answer, dsdt_answer, enable_plan_below, kind_code, plan_record, plan_said, reset_plan_below, sleep_plan_below, sleep_types_below, step_record, types_below};
+ghost use Rattle.acpi_c_lib.specs.Words.{accepted_answer, dsdt_answer, enable_plan_below, kind_code, opened_of, plan_record, plan_said, pointers_in, reset_plan_below, sleep_plan_below, sleep_types_below, step_record, types_below};
 
 use crate::devices::optional_register;
 use crate::lookup::Lookup;
@@ -11,9 +11,10 @@ use crate::power_records::{Plan, SleepTypes, Step};
 use crate::records::Source;
 use crate::refusal::Refusal;
 use crate::regions::Mapped;
+use crate::root_table::RootTable;
 use acpi::fadt::Fadt;
 use acpi::sdt::Signature;
-use acpi::{AcpiHandler, AcpiTables, Pointers};
+use acpi::{AcpiHandler, Pointers};
 use acpi_sleep::tables::{block_answer, or_after};
 use acpi_sleep::{PlanError, PlanStep, SleepAnswer, SleepError, StepKind};
 
@@ -49,12 +50,12 @@ fn types_of(source: &Source<'_>, state: u32) -> Result<acpi_sleep::SleepTypes, R
 #[tactic(auto, using(acpi_sleep::proofs::Answering::one_block, acpi_sleep::proofs::Answering::types_found, acpi_sleep::proofs::Answering::none_left))]
 fn tables_answer<H: AcpiHandler>(
     lookup: &Lookup<'_, H>,
-    tables: &AcpiTables<'_, H>,
+    tables: &RootTable<'_, H>,
     state: u8,
 ) -> Result<SleepAnswer, SleepError>
     requires { state ≤ 5 }
     ensures { let l = lookup.now in
-        result ≡ accepted_answer l.accept state (H.memory l.handler.now) (pointers_of tables.now) }
+        result ≡ accepted_answer l.accept state (H.memory l.handler.now) (pointers_in (opened_of tables.now)) }
 {
     let mut answer = dsdt_answer(lookup, tables.addresses(), state);
     for address in tables.addresses() {

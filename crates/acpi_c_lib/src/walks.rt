@@ -61,8 +61,7 @@ pub fn ranges(source: &Source<'_>, out: &mut [Range]) -> Result<usize, Refusal>
         Some((address, length)) => Some(range(address, length)),
         None => None,
     };
-    let root = range(tables.root_address(), tables.root_length());
-    let after_root = put_pair((rsdp, Some(root)), out, 0);
+    let after_root = put_pair((rsdp, Some(tables.range())), out, 0);
     let lookup = Lookup::new(&memory, source);
     let led = led_ranges(&lookup, tables.addresses());
     Ok(fill_with(tables.addresses(), &lookup, led, out, after_root))
