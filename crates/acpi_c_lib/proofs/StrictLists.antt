@@ -42,10 +42,37 @@ said_first : {B R : Type 0} (g : MadtItem → Option B) (r : B → R) (i : Optio
 said_first g r None items = refl
 said_first g r (Some x) items = map_first r (g x) (filter_map g items)
 
+-- ---- what an entry says, whatever its fault
+
+abbrev said : MadtEntry → Option MadtItem
+said (entry.InterruptSourceOverride e) = Some (item.Override (override_of e))
+said (entry.NmiSource e) = Some (item.NmiSource (nmi_source_of e))
+said (entry.LocalApicNmi e) = Some (item.NmiLine (nmi_line_of (processor_for all_apics e.processor_id) e.nmi_line))
+said (entry.X2ApicNmi e) = Some (item.NmiLine (nmi_line_of (processor_for all_x2apics e.processor_uid) e.nmi_line))
+said e = base.item_in e
+
+-- the fault of an entry that has none, and its item
+unfaulted : (o : Option MadtError) (x : MadtItem) → result_err (unless_fault o x) ≡ None → o ≡ None
+unfaulted None x h = refl
+unfaulted (Some fault) x h = absurd cc
+
+whole : (o : Option MadtError) (x : MadtItem) → result_err (unless_fault o x) ≡ None
+    → result_ok (unless_fault o x) ≡ Some x
+whole None x h = refl
+whole (Some fault) x h = absurd cc
+
+all_said : (e : MadtEntry) → base.fault_in e ≡ None → base.item_in e ≡ said e
+unfolding item_of
+all_said (entry.InterruptSourceOverride e) h = whole (override_fault e) _ h
+all_said (entry.NmiSource e) h = whole (flags_fault e.flags) _ h
+all_said (entry.LocalApicNmi e) h = whole (result_err (line_of e.nmi_line)) _ h
+all_said (entry.X2ApicNmi e) h = whole (result_err (line_of e.nmi_line)) _ h
+all_said _ h = refl
+
 -- the records of a sort of entries show what their items say
 abbrev Agree : {A B R : Type 0} → (MadtEntry → Option A) → (A → R) → (MadtItem → Option B) → (B → R) → Type 0
 Agree f s g r =
-    (e : MadtEntry) → base.fault_in e ≡ None → option_map s (f e) ≡ option_map r (option_and_then g (base.item_in e))
+    (e : MadtEntry) → base.fault_in e ≡ None → option_map s (f e) ≡ option_map r (option_and_then g (said e))
 
 agree : {A B R : Type 0} (f : MadtEntry → Option A) (s : A → R) (g : MadtItem → Option B) (r : B → R) → Agree f s g r
     → (es : List MadtEntry) → filter_map base.fault_in es ≡ []
@@ -55,34 +82,15 @@ agree f s g r each (e ∷ es) h =
     let both = both_none (base.fault_in e) (filter_map base.fault_in es) h in
     map_first s (f e) (filter_map f es)
     ∙ ap (λ o. cons_option o (map s (filter_map f es))) (each e both.0)
-    ∙ ap (cons_option (option_map r (option_and_then g (base.item_in e)))) (agree f s g r each es both.1)
-    ∙ sym (said_first g r (base.item_in e) (filter_map base.item_in es))
-
--- an entry of another sort has no record
-other : {B R : Type 0} (g : MadtItem → Option B) (r : B → R) (o : Option MadtError) (x : MadtItem)
-    → g x ≡ None → None ≡ option_map r (option_and_then g (result_ok (unless_fault o x)))
-other g r None x none = rw none refl
-other g r (Some fault) x none = refl
-
--- the fault of an entry that has none
-unfaulted : (o : Option MadtError) (x : MadtItem) → result_err (unless_fault o x) ≡ None → o ≡ None
-unfaulted None x h = refl
-unfaulted (Some fault) x h = absurd cc
+    ∙ ap (cons_option (option_map r (option_and_then g (said e)))) (agree f s g r each es both.1)
+    ∙ sym (said_first g r (said e) (filter_map base.item_in es))
+    ∙ ap (λ i. map r (filter_map g (cons_option i (filter_map base.item_in es)))) (sym (all_said e both.0))
 
 -- ---- I/O APICs
 
 io_apics : Agree io_apic_in (λ x. x) base.io_apic_in io_apic_record
 unfolding item_of
-io_apics (entry.InterruptSourceOverride e) h =
-    other base.io_apic_in io_apic_record (override_fault e) (item.Override (override_of e)) refl
-io_apics (entry.NmiSource e) h =
-    other base.io_apic_in io_apic_record (flags_fault e.flags) (item.NmiSource (nmi_source_of e)) refl
-io_apics (entry.LocalApicNmi e) h =
-    other base.io_apic_in io_apic_record (result_err (line_of e.nmi_line))
-    (item.NmiLine (nmi_line_of (processor_for all_apics e.processor_id) e.nmi_line)) refl
-io_apics (entry.X2ApicNmi e) h =
-    other base.io_apic_in io_apic_record (result_err (line_of e.nmi_line))
-    (item.NmiLine (nmi_line_of (processor_for all_x2apics e.processor_uid) e.nmi_line)) refl
+io_apics (entry.IoApic e) h = refl
 io_apics _ h = refl
 
 -- ---- polarity and trigger mode
@@ -135,17 +143,7 @@ overrides_said e h =
 
 overrides : Agree override_in (λ x. x) base.override_in override_record
 unfolding item_of
-overrides (entry.InterruptSourceOverride e) h =
-    let none = unfaulted (override_fault e) _ h in
-    rw none (overrides_said e none)
-overrides (entry.NmiSource e) h =
-    other base.override_in override_record (flags_fault e.flags) (item.NmiSource (nmi_source_of e)) refl
-overrides (entry.LocalApicNmi e) h =
-    other base.override_in override_record (result_err (line_of e.nmi_line))
-    (item.NmiLine (nmi_line_of (processor_for all_apics e.processor_id) e.nmi_line)) refl
-overrides (entry.X2ApicNmi e) h =
-    other base.override_in override_record (result_err (line_of e.nmi_line))
-    (item.NmiLine (nmi_line_of (processor_for all_x2apics e.processor_uid) e.nmi_line)) refl
+overrides (entry.InterruptSourceOverride e) h = overrides_said e (unfaulted (override_fault e) _ h)
 overrides _ h = refl
 
 -- ---- NMI sources
@@ -166,17 +164,7 @@ sources_said e h =
 
 nmi_sources : Agree nmi_source_in (λ x. x) base.nmi_source_in nmi_source_record
 unfolding item_of
-nmi_sources (entry.InterruptSourceOverride e) h =
-    other base.nmi_source_in nmi_source_record (override_fault e) (item.Override (override_of e)) refl
-nmi_sources (entry.NmiSource e) h =
-    let none = unfaulted (flags_fault e.flags) _ h in
-    rw none (sources_said e none)
-nmi_sources (entry.LocalApicNmi e) h =
-    other base.nmi_source_in nmi_source_record (result_err (line_of e.nmi_line))
-    (item.NmiLine (nmi_line_of (processor_for all_apics e.processor_id) e.nmi_line)) refl
-nmi_sources (entry.X2ApicNmi e) h =
-    other base.nmi_source_in nmi_source_record (result_err (line_of e.nmi_line))
-    (item.NmiLine (nmi_line_of (processor_for all_x2apics e.processor_uid) e.nmi_line)) refl
+nmi_sources (entry.NmiSource e) h = sources_said e (unfaulted (flags_fault e.flags) _ h)
 nmi_sources _ h = refl
 
 -- ---- LINT pins
@@ -187,28 +175,22 @@ same_processor : (b : Bool) (uid n : ℕ)
 same_processor true uid n = refl
 same_processor false uid n = refl
 
-lines_by : (all uid number flags : ℕ) (o : Result LocalInterruptLine MadtError) → line_of number ≡ o
-    → let said = unless_fault (result_err o) (item.NmiLine (record {
-      processor = processor_for all uid;
-      line = result_unwrap_or o Lint0;
-    })) in
-    result_err said ≡ None
-    → Some (line_shown (nmi_line all uid number flags))
-    ≡ option_map line_said (option_and_then base.nmi_line_in (result_ok said))
-lines_by all uid number flags (Ok line) is h =
+lines_said : (all uid number flags : ℕ) (o : Result LocalInterruptLine MadtError) → line_of number ≡ o
+    → result_err o ≡ None
+    → line_shown (nmi_line all uid number flags)
+    ≡ line_said (record { processor = processor_for all uid; line = result_unwrap_or o Lint0 })
+lines_said all uid number flags (Ok line) is h =
     let n = codes_decode.lines.only number line is in
-    rw (n.1) (ap Some (same_processor (uid == all) uid number))
-lines_by all uid number flags (Err f) is h = absurd cc
+    rw (n.1) (same_processor (uid == all) uid number)
+lines_said all uid number flags (Err f) is h = absurd cc
 
 nmi_lines : Agree nmi_line_in line_shown base.nmi_line_in line_said
 unfolding item_of
-nmi_lines (entry.InterruptSourceOverride e) h =
-    other base.nmi_line_in line_said (override_fault e) (item.Override (override_of e)) refl
-nmi_lines (entry.NmiSource e) h =
-    other base.nmi_line_in line_said (flags_fault e.flags) (item.NmiSource (nmi_source_of e)) refl
-nmi_lines (entry.LocalApicNmi e) h = lines_by all_apics e.processor_id e.nmi_line e.flags (line_of e.nmi_line) refl h
+nmi_lines (entry.LocalApicNmi e) h =
+    ap Some (lines_said all_apics e.processor_id e.nmi_line e.flags _ refl (unfaulted (result_err (line_of e.nmi_line)) _ h))
 nmi_lines (entry.X2ApicNmi e) h =
-    lines_by all_x2apics e.processor_uid e.nmi_line e.flags (line_of e.nmi_line) refl h
+    ap Some (lines_said all_x2apics e.processor_uid e.nmi_line e.flags _ refl
+    (unfaulted (result_err (line_of e.nmi_line)) _ h))
 nmi_lines _ h = refl
 
 -- ---- processors
@@ -222,16 +204,6 @@ waiting : Agree processor_in processor_shown (base.processor_in true) processor_
 unfolding item_of
 waiting (entry.LocalApic e) h = waits (has_bit e.flags 0) e.processor_id e.apic_id
 waiting (entry.LocalX2Apic e) h = waits (has_bit e.flags 0) e.processor_uid e.x2apic_id
-waiting (entry.InterruptSourceOverride e) h =
-    other (base.processor_in true) processor_said (override_fault e) (item.Override (override_of e)) refl
-waiting (entry.NmiSource e) h =
-    other (base.processor_in true) processor_said (flags_fault e.flags) (item.NmiSource (nmi_source_of e)) refl
-waiting (entry.LocalApicNmi e) h =
-    other (base.processor_in true) processor_said (result_err (line_of e.nmi_line))
-    (item.NmiLine (nmi_line_of (processor_for all_apics e.processor_id) e.nmi_line)) refl
-waiting (entry.X2ApicNmi e) h =
-    other (base.processor_in true) processor_said (result_err (line_of e.nmi_line))
-    (item.NmiLine (nmi_line_of (processor_for all_x2apics e.processor_uid) e.nmi_line)) refl
 waiting _ h = refl
 
 runs : (b : Bool) (uid id : ℕ) (xs ys : List (ℕ × ℕ × ℕ × ℕ)) → xs ≡ ys
@@ -243,49 +215,25 @@ runs false uid id xs ys h = ap (λ zs. (uid, id, 0, 1) ∷ zs) h
 abbrev said_by : List MadtItem → List (ℕ × ℕ × ℕ × ℕ)
 said_by items = map processor_said (listed (base.processors_of items))
 
-one_passed : (x : MadtItem) (items : List MadtItem) → base.processor_in false x ≡ None
-    → said_by items ≡ said_by (x ∷ items)
-one_passed (item.Processor uid id is_enabled) items none = absurd cc
-one_passed _ items none = refl
-
-passed : (o : Option MadtError) (x : MadtItem) → base.processor_in false x ≡ None → (items : List MadtItem)
-    → said_by items ≡ said_by (cons_option (result_ok (unless_fault o x)) items)
-passed None x none items = one_passed x items none
-passed (Some fault) x none items = refl
-
-later : (e : MadtEntry) (es : List MadtEntry) → filter_map base.fault_in (e ∷ es) ≡ []
-    → filter_map base.fault_in es ≡ []
-later e es h = (both_none (base.fault_in e) (filter_map base.fault_in es) h).1
+-- one more entry before others, whose first processor is the boot processor
+one_more : (e : MadtEntry) (es : List MadtEntry) → filter_map base.fault_in es ≡ []
+    → map processor_shown (boot_first (filter_map processor_in es)) ≡ said_by (filter_map base.item_in es)
+    → map processor_shown (boot_first (filter_map processor_in (e ∷ es)))
+    ≡ said_by (cons_option (said e) (filter_map base.item_in es))
+unfolding item_of
+one_more (entry.LocalApic e) es none more = runs (has_bit e.flags 0) e.processor_id e.apic_id _ _
+    (agree processor_in processor_shown (base.processor_in true) processor_said waiting es none)
+one_more (entry.LocalX2Apic e) es none more = runs (has_bit e.flags 0) e.processor_uid e.x2apic_id _ _
+    (agree processor_in processor_shown (base.processor_in true) processor_said waiting es none)
+one_more _ es none more = more
 
 processors : (es : List MadtEntry) → filter_map base.fault_in es ≡ []
     → map processor_shown (boot_first (filter_map processor_in es)) ≡ said_by (filter_map base.item_in es)
-unfolding item_of
 processors [] h = refl
-processors (entry.LocalApic e ∷ es) h =
-    runs (has_bit e.flags 0) e.processor_id e.apic_id _ _
-    (agree processor_in processor_shown (base.processor_in true) processor_said waiting es
-    (later (entry.LocalApic e) es h))
-processors (entry.LocalX2Apic e ∷ es) h =
-    runs (has_bit e.flags 0) e.processor_uid e.x2apic_id _ _
-    (agree processor_in processor_shown (base.processor_in true) processor_said waiting es
-    (later (entry.LocalX2Apic e) es h))
-processors (entry.InterruptSourceOverride e ∷ es) h =
-    processors es (later (entry.InterruptSourceOverride e) es h)
-    ∙ passed (override_fault e) (item.Override (override_of e)) refl (filter_map base.item_in es)
-processors (entry.NmiSource e ∷ es) h =
-    processors es (later (entry.NmiSource e) es h)
-    ∙ passed (flags_fault e.flags) (item.NmiSource (nmi_source_of e)) refl (filter_map base.item_in es)
-processors (entry.LocalApicNmi e ∷ es) h =
-    processors es (later (entry.LocalApicNmi e) es h)
-    ∙ passed (result_err (line_of e.nmi_line))
-    (item.NmiLine (nmi_line_of (processor_for all_apics e.processor_id) e.nmi_line)) refl
-    (filter_map base.item_in es)
-processors (entry.X2ApicNmi e ∷ es) h =
-    processors es (later (entry.X2ApicNmi e) es h)
-    ∙ passed (result_err (line_of e.nmi_line))
-    (item.NmiLine (nmi_line_of (processor_for all_x2apics e.processor_uid) e.nmi_line)) refl
-    (filter_map base.item_in es)
-processors (e ∷ es) h = processors es (later e es h)
+processors (e ∷ es) h =
+    let both = both_none (base.fault_in e) (filter_map base.fault_in es) h in
+    one_more e es both.1 (processors es both.1)
+    ∙ ap (λ i. said_by (cons_option i (filter_map base.item_in es))) (sym (all_said e both.0))
 
 -- ---- the law
 
