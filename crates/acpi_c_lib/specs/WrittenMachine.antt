@@ -20,26 +20,22 @@ use Rattle.acpi_writer.specs.Words.{bgrt_written, fadt_written, hpet_written, Ma
 
 -- ---- a table
 
+-- a table of a record whose codes there are
+abbrev pub of_codes : {A : Type 0} → Bool → Result A WriterError → Result A Refusal
+of_codes has_codes table = do
+  _ ← holds has_codes UnknownCode
+  writer_refused table
+
 -- the table that is to say this, in so much room, or the first error
 abbrev pub table_said : ℕ → TableIds → Contents → Result (List ℕ) Refusal
-table_said room ids (Fadt h) = do
-  _ ← holds (fadt.has_codes h) UnknownCode
-  writer_refused (fadt_written room ids (fadt.contents h))
-table_said room ids (Madt c) = do
-  _ ← holds (writing.has_codes c) UnknownCode
-  writer_refused (madt_written room ids (writing.madt_of c))
+table_said room ids (Fadt h) = of_codes (fadt.has_codes h) (fadt_written room ids (fadt.contents h))
+table_said room ids (Madt c) = of_codes (writing.has_codes c) (madt_written room ids (writing.madt_of c))
 table_said room ids (Mcfg rs) = writer_refused (mcfg_written room ids (map region_of rs.now))
 table_said room ids (Hpet i) = writer_refused (hpet_written room ids (hpet_info_of i))
 table_said room ids (Srat c) = writer_refused (srat_written room ids (srat.srat_of c))
-table_said room ids (Bgrt g) = do
-  _ ← holds (bgrt.has_codes g) UnknownCode
-  writer_refused (bgrt_written room ids (bgrt.contents g))
-table_said room ids (Spcr c) = do
-  _ ← holds (spcr.has_codes c) UnknownCode
-  writer_refused (spcr.spcr_laid room ids c)
-table_said room ids (Gtdt c) = do
-  _ ← holds (gtdt.has_codes c) UnknownCode
-  writer_refused (gtdt.gtdt_laid room ids c)
+table_said room ids (Bgrt g) = of_codes (bgrt.has_codes g) (bgrt_written room ids (bgrt.contents g))
+table_said room ids (Spcr c) = of_codes (spcr.has_codes c) (spcr.spcr_laid room ids c)
+table_said room ids (Gtdt c) = of_codes (gtdt.has_codes c) (gtdt.gtdt_laid room ids c)
 table_said room ids (Gic c) = do
   _ ← gic.checked c
   writer_refused (gic_written room ids (gic.gic_of c))
@@ -71,23 +67,23 @@ machine_of m = record { ids = m.ids; dsdt = dsdt_in m.dsdts.now; facs = facs_in 
 
 -- ---- what calls give
 
+-- of a machine whose listed bytes are tables
+abbrev pub of_tables : {A : Type 0} → record_of.Machine → Result A WriterError → Result A Refusal
+of_tables m said = do
+  _ ← holds (list_all is_table m.tables.now) BadTable
+  writer_refused said
+
 -- all tables with the RSDP, for an address, in so much room, or the first error
 abbrev pub machine_said : ℕ → ℕ → record_of.Machine → Result (List ℕ) Refusal
-machine_said room a m = do
-  _ ← holds (list_all is_table m.tables.now) BadTable
-  writer_refused (machine_written listed_written room a (machine_of m))
+machine_said room a m = of_tables m (machine_written listed_written room a (machine_of m))
 
 -- and without it
 abbrev pub tree_said : ℕ → ℕ → record_of.Machine → Result (List ℕ) Refusal
-tree_said room a m = do
-  _ ← holds (list_all is_table m.tables.now) BadTable
-  writer_refused (tree_written listed_written room a (machine_of m))
+tree_said room a m = of_tables m (tree_written listed_written room a (machine_of m))
 
 -- how many bytes there are with the RSDP
 abbrev pub size_said : record_of.Machine → Result ℕ Refusal
-size_said m = do
-  _ ← holds (list_all is_table m.tables.now) BadTable
-  writer_refused (machine_size listed_written (machine_of m))
+size_said m = of_tables m (machine_size listed_written (machine_of m))
 
 -- where the DSDT of so many tables lies
 abbrev pub dsdt_said : ℕ → ℕ → Result ℕ Refusal
