@@ -56,9 +56,6 @@ below_with : (m : Memory) (r : memory.Region) (low : ℕ) → AllBelow low m →
 below_with [] r low h le = (omega arith, tt)
 below_with (s ∷ m) r low h le = (omega (arith, h.0), below_with m r low h.1 le)
 
-pub checked_none : (all : List Region) → IsChecked all 0 0
-checked_none all = record { same = refl; ascending = tt; memory = tt; below = tt }
-
 checked_at : (all : List Region) (i low : ℕ) (r : Region) (rest : List Region) → IsChecked all i low
     → drop i all ≡ r ∷ rest → low ≤ r.address → end_of (region_of r) < 2 ^ 64
     → check_from (end_of (region_of r)) (memory_of rest) ≡ check_regions (memory_of all)

@@ -53,27 +53,6 @@ number_small Four at bytes h = omega (arith, h at, h (at + 1), h (at + 2), h (at
 pub entry_small : (l : EntryLayout 0) (e : List ℕ) → IsBytes e → IsEntry l e → length e < 4294967296
 entry_small l e h entry = omega (arith, number_small l.length_place.width l.length_place.at e h, entry.size)
 
--- the bytes of an entry and those after it are all bytes
-pub front_whole : (l : EntryLayout 0) (rest e others : List ℕ)
-    → cut (plain_grammar l) rest ≡ with_entry e (cut (after_one (plain_grammar l)) others)
-    → length rest ≡ length e + length others
-front_whole l rest e others front =
-    let all = cut_is_cut 0 (plain_grammar l) rest in
-    let more = cut_is_cut 0 (plain_grammar l) others in
-    let here : rest ≡ concat (e ∷ (cut (plain_grammar l) others).0) ++ (cut (plain_grammar l) others).1 =
-    rw front at all.whole in
-    let long = ap length here in
-    let later = ap length more.whole in
-    omega (
-      arith,
-      long,
-      later,
-      length-append (concat (e ∷ (cut (plain_grammar l) others).0))
-          (cut (plain_grammar l) others).1,
-      length-append e (concat (cut (plain_grammar l) others).0),
-      length-append (concat (cut (plain_grammar l) others).0) (cut (plain_grammar l) others).1,
-    )
-
 -- ---- frames
 
 length_frames : (n : ℕ) (bytes : List ℕ) → length (arm.frames_in n bytes) ≡ n

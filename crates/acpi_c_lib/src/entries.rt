@@ -74,7 +74,7 @@ fn walk_layout(walk: Walk) -> Result<EntryLayout<0>, Refusal>
 }
 
 /// Writes the entries of bytes at an address, and answers how many there are, and the bytes after them.
-#[tactic(auto, using(crate::proofs::Written::front_whole))]
+#[tactic(auto, using(crate::proofs::FaultLists::front_whole))]
 fn fill<'a>(
     layout: EntryLayout<0>,
     bytes: &'a [u8],
