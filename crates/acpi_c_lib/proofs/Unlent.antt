@@ -39,6 +39,8 @@ pub rsdp_long : (b : List ℕ) (n : ℕ) → checked_length b ≡ Ok (Some n) �
 unfolding checked_length
 rsdp_long b n e = grind arith
 
+pub ruleset rsdp_refusals = (rsdp_not, rsdp_length, rsdp_long, sum_not)
+
 -- ---- what is accepted
 
 strict_unlent : (m : Memory) (s : Signature) (p : ℕ) → table_at m (plain_kind s) p ≡ Err MapFailed

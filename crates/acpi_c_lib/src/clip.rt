@@ -132,22 +132,15 @@ impl Wanted<'_> {
 /// The memory that is asked for, in order.
 fn fill(wanted: Wanted<'_>, out: &mut [Range]) -> usize
     requires { wanted.window.address + wanted.window.length < 2 ^ 64 }
-    ensures { FillsClipped out.old out.new result wanted.entry.ranges.now wanted.entry.without.now
-        wanted.entry.window }
+    ensures { FillsClipped out.old out.new result wanted.entry.ranges.now wanted.entry.without.now wanted.entry.window }
 {
     let end = wanted.window.address + wanted.window.length;
     let mut count = 0;
     let mut address = wanted.next(0, true);
     while address < end {
         let next = wanted.next(address, false);
-        put(
-            out,
-            count,
-            Range {
-                address,
-                length: next - address,
-            },
-        );
+        let length = next - address;
+        put(out, count, Range { address, length });
         count += 1;
         address = wanted.next(next, true);
     }

@@ -33,11 +33,8 @@ fn fill_faults(table: &[u8], address: u64, out: &mut [EntryFault]) -> usize
     let mut count = 0;
     while let Some((structure, others)) = split_front(&timers_grammar(left), rest) {
         if !is_sound(structure) {
-            put(
-                out,
-                count,
-                entry_fault(at, structure[0] as u16, Refusal::InvalidTimerLength),
-            );
+            let fault = entry_fault(at, structure[0] as u16, Refusal::InvalidTimerLength);
+            put(out, count, fault);
             count += 1;
         }
         at += structure.len() as u64;
@@ -45,12 +42,9 @@ fn fill_faults(table: &[u8], address: u64, out: &mut [EntryFault]) -> usize
         rest = others;
     }
     if left > 0 {
-        let kind = field(rest, 0, 1) as u8; // Type
-        put(
-            out,
-            count,
-            entry_fault(at, kind as u16, Refusal::InvalidTimerLength),
-        );
+        let kind = field(rest, 0, 1) as u16; // Type
+        let front = entry_fault(at, kind, Refusal::InvalidTimerLength);
+        put(out, count, front);
         count += 1;
     }
     count

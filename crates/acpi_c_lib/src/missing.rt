@@ -73,8 +73,7 @@ pub(crate) fn fill_with<C, W: Listing<C, Range>>(
     requires goes_on { W.can_next walk × IsFinite (W.remaining walk) }
     requires few { length (W.left known.now walk) < 2 ^ 32 }
     requires low { from < 2 ^ 30 }
-    ensures count { result
-        ≡ from + length (W.left known.now walk ++ cons_option others.0 (cons_option others.1 [])) }
+    ensures count { result ≡ from + length (W.left known.now walk ++ cons_option others.0 (cons_option others.1 [])) }
     ensures items { out.new
         ≡ put_from out.old from (W.left known.now walk ++ cons_option others.0 (cons_option others.1 [])) }
 {
@@ -176,8 +175,7 @@ fn hole_at<H: AcpiHandler>(
 
 /// Where the DSDT that a FADT leads to is refused so (section 5.2.11.1).
 fn dsdt_hole<H: AcpiHandler>(lookup: &Lookup<'_, H>, fadt: &Fadt) -> Option<Range>
-    ensures { let l = lookup.now in
-        result ≡ dsdt_hole l.accept (H.memory l.handler.now) (dsdt_address_of fadt.now) }
+    ensures { let l = lookup.now in result ≡ dsdt_hole l.accept (H.memory l.handler.now) (dsdt_address_of fadt.now) }
 {
     hole_at(lookup, fadt.dsdt_address().ok()?, Signature::DSDT)
 }
@@ -186,8 +184,7 @@ fn dsdt_hole<H: AcpiHandler>(lookup: &Lookup<'_, H>, fadt: &Fadt) -> Option<Rang
 /// 5.2.10).
 #[tactic(auto, using(crate::proofs::Unlent::no_hole), unfolding(acpi::specs::Places::facs_at, acpi::specs::Places::facs_length))]
 fn facs_hole<H: AcpiHandler>(handler: &H, fadt: &Fadt) -> Option<Range>
-    ensures { let m = H.memory handler.now in
-        result ≡ hole (facs_place m fadt.now) (facs_place_ranges m fadt.now) }
+    ensures { let m = H.memory handler.now in result ≡ hole (facs_place m fadt.now) (facs_place_ranges m fadt.now) }
 {
     let address = fadt.facs_address().ok()?;
     let Ok(head) = PhysicalMapping::<'_, H, SdtHeader>::map(handler, address, 36) else {

@@ -45,11 +45,8 @@ fn fill_faults(table: &[u8], address: u64, out: &mut [EntryFault]) -> usize
         rest = others;
     }
     if let [kind, ..] = rest {
-        put(
-            out,
-            count,
-            entry_fault(at, *kind as u16, Refusal::InvalidSratEntryLength),
-        );
+        let front = entry_fault(at, *kind as u16, Refusal::InvalidSratEntryLength);
+        put(out, count, front);
         count += 1;
     }
     count
