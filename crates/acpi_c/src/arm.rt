@@ -19,8 +19,7 @@ pub extern "C" fn zacpi_1_get_gic_distributor(
     out: &mut GicDistributor,
     named: &mut Signature,
 ) -> u32
-    ensures { Answers result out.old out.new named.old named.new
-        (distributor_below source.now) }
+    ensures { Answers result out.old out.new named.old named.new (distributor_below source.now) }
 {
     answer(distributor(source), out, named)
 }

@@ -53,8 +53,7 @@ pub extern "C" fn zacpi_1_list_hpets(
     count: &mut usize,
     named: &mut Signature,
 ) -> u32
-    ensures { AnswersList result out.old out.new count.old count.new named.old named.new
-        (hpets_below source.now) }
+    ensures { AnswersList result out.old out.new count.old count.new named.old named.new (hpets_below source.now) }
 {
     answer(hpets(source, out), count, named)
 }

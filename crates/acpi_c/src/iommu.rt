@@ -37,8 +37,7 @@ pub extern "C" fn zacpi_1_get_dmar_unit(
     out: &mut DmarUnit,
     named: &mut Signature,
 ) -> u32
-    ensures { Answers result out.old out.new named.old named.new
-        (dmar_unit_below source.now segment bus hops.now) }
+    ensures { Answers result out.old out.new named.old named.new (dmar_unit_below source.now segment bus hops.now) }
 {
     answer(dmar_unit(source, segment, bus, hops), out, named)
 }
@@ -95,8 +94,7 @@ pub extern "C" fn zacpi_1_get_ivrs_unit(
     out: &mut IvrsDevice,
     named: &mut Signature,
 ) -> u32
-    ensures { Answers result out.old out.new named.old named.new
-        (ivrs_unit_below source.now segment device_id) }
+    ensures { Answers result out.old out.new named.old named.new (ivrs_unit_below source.now segment device_id) }
 {
     answer(ivrs_unit(source, segment, device_id), out, named)
 }
@@ -124,8 +122,7 @@ pub extern "C" fn zacpi_1_list_dmar_units(
     count: &mut usize,
     named: &mut Signature,
 ) -> u32
-    ensures { AnswersList result out.old out.new count.old count.new named.old named.new
-        (dmar_units_below source.now) }
+    ensures { AnswersList result out.old out.new count.old count.new named.old named.new (dmar_units_below source.now) }
 {
     answer(dmar_units(source, out), count, named)
 }
@@ -167,8 +164,7 @@ pub extern "C" fn zacpi_1_list_ivrs_units(
     count: &mut usize,
     named: &mut Signature,
 ) -> u32
-    ensures { AnswersList result out.old out.new count.old count.new named.old named.new
-        (ivrs_units_below source.now) }
+    ensures { AnswersList result out.old out.new count.old count.new named.old named.new (ivrs_units_below source.now) }
 {
     answer(ivrs_units(source, out), count, named)
 }

@@ -16,8 +16,7 @@ pub extern "C" fn zacpi_1_list_missing_ranges(
     count: &mut usize,
     named: &mut Signature,
 ) -> u32
-    ensures { AnswersList result out.old out.new count.old count.new named.old named.new
-        (missing_below source.now) }
+    ensures { AnswersList result out.old out.new count.old count.new named.old named.new (missing_below source.now) }
 {
     answer(missing(source, out), count, named)
 }

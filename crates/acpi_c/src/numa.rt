@@ -18,8 +18,7 @@ pub extern "C" fn zacpi_1_list_memory_affinities(
     count: &mut usize,
     named: &mut Signature,
 ) -> u32
-    ensures { AnswersList result out.old out.new count.old count.new named.old named.new
-        (affinities_below source.now) }
+    ensures { AnswersList result out.old out.new count.old count.new named.old named.new (affinities_below source.now) }
 {
     answer(affinities(source, out), count, named)
 }
@@ -32,8 +31,7 @@ pub extern "C" fn zacpi_1_domain_of_address(
     out: &mut u32,
     named: &mut Signature,
 ) -> u32
-    ensures { Answers result out.old out.new named.old named.new
-        (domain_of_address_below source.now address) }
+    ensures { Answers result out.old out.new named.old named.new (domain_of_address_below source.now address) }
 {
     answer(domain_of_address(source, address), out, named)
 }
@@ -46,8 +44,7 @@ pub extern "C" fn zacpi_1_domain_of_apic(
     out: &mut u32,
     named: &mut Signature,
 ) -> u32
-    ensures { Answers result out.old out.new named.old named.new
-        (domain_of_apic_below source.now local_apic_id) }
+    ensures { Answers result out.old out.new named.old named.new (domain_of_apic_below source.now local_apic_id) }
 {
     answer(domain_of_apic(source, local_apic_id), out, named)
 }
@@ -60,8 +57,7 @@ pub extern "C" fn zacpi_1_domain_of_processor(
     out: &mut u32,
     named: &mut Signature,
 ) -> u32
-    ensures { Answers result out.old out.new named.old named.new
-        (domain_of_processor_below source.now uid) }
+    ensures { Answers result out.old out.new named.old named.new (domain_of_processor_below source.now uid) }
 {
     answer(domain_of_processor(source, uid), out, named)
 }

@@ -31,8 +31,7 @@ pub extern "C" fn zacpi_1_pci_ecam_address(
     out: &mut u64,
     named: &mut Signature,
 ) -> u32
-    ensures { Answers result out.old out.new named.old named.new
-        (ecam_below source.now segment bus device function) }
+    ensures { Answers result out.old out.new named.old named.new (ecam_below source.now segment bus device function) }
 {
     answer(
         ecam_address(source, segment, bus, device, function),

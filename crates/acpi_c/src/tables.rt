@@ -33,8 +33,7 @@ pub extern "C" fn zacpi_1_list_tables(
     count: &mut usize,
     named: &mut Signature,
 ) -> u32
-    ensures { AnswersList result out.old out.new count.old count.new named.old named.new
-        (tables_below source.now) }
+    ensures { AnswersList result out.old out.new count.old count.new named.old named.new (tables_below source.now) }
 {
     answer(tables(source, out), count, named)
 }
@@ -86,8 +85,7 @@ pub extern "C" fn zacpi_1_list_ssdts(
     count: &mut usize,
     named: &mut Signature,
 ) -> u32
-    ensures { AnswersList result out.old out.new count.old count.new named.old named.new
-        (ssdts_below source.now) }
+    ensures { AnswersList result out.old out.new count.old count.new named.old named.new (ssdts_below source.now) }
 {
     answer(ssdts(source, out), count, named)
 }
@@ -100,8 +98,7 @@ pub extern "C" fn zacpi_1_list_ranges(
     count: &mut usize,
     named: &mut Signature,
 ) -> u32
-    ensures { AnswersList result out.old out.new count.old count.new named.old named.new
-        (ranges_below source.now) }
+    ensures { AnswersList result out.old out.new count.old count.new named.old named.new (ranges_below source.now) }
 {
     answer(ranges(source, out), count, named)
 }

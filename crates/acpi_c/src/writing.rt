@@ -283,8 +283,7 @@ pub extern "C" fn zacpi_1_write_tables_without_rsdp(
     out: &mut [u8],
     count: &mut usize,
 ) -> u32
-    ensures { WritesTable result out.old out.new count.old count.new
-        (tree_said (length out.old) address machine.now) }
+    ensures { WritesTable result out.old out.new count.old count.new (tree_said (length out.old) address machine.now) }
 {
     answer_plain(write_tables_without_rsdp(out, address, machine), count)
 }

@@ -41,12 +41,8 @@ below_gic s show = result_map show (gic_table s)
 -- ---- the distributor (section 5.2.12.15)
 
 abbrev pub distributor_record : GicDistributor → records.GicDistributor
-distributor_record d = record {
-  address = d.address;
-  id = d.id;
-  system_vector_base = d.system_vector_base;
-  version = d.version;
-}
+distributor_record d =
+    record { address = d.address; id = d.id; system_vector_base = d.system_vector_base; version = d.version }
 
 -- why a table has no distributor: none of its entries is one, or the malformed front might be
 abbrev pub no_distributor : List ℕ → Refusal

@@ -31,11 +31,7 @@ plain_grammar l = record { layout = l; most = None }
 
 -- an entry at an address
 abbrev pub entry_record : EntryLayout 0 → ℕ → List ℕ → Entry
-entry_record l address e = record {
-  address = address;
-  entry_type = number_at l.kind_place e;
-  length = length e;
-}
+entry_record l address e = record { address = address; entry_type = number_at l.kind_place e; length = length e }
 
 -- entries one after the other, from an address on
 abbrev pub entries_from : EntryLayout 0 → ℕ → List (List ℕ) → List Entry

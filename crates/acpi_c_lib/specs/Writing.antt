@@ -70,11 +70,7 @@ processor_of p = record {
 }
 
 abbrev pub io_apic_of : records.IoApic → IoApic
-io_apic_of x = record {
-  id = x.id;
-  address = x.address;
-  global_system_interrupt_base = x.global_system_interrupt_base;
-}
+io_apic_of x = record { id = x.id; address = x.address; global_system_interrupt_base = x.global_system_interrupt_base }
 
 -- a code that is not reserved: Polarity and Trigger Mode have the same ones
 abbrev pub is_wiring : ℕ → Bool

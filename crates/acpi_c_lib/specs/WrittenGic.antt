@@ -11,12 +11,8 @@ use Rattle.acpi_writer.specs.declared.madt.gic.GicContents as writer
 -- ---- records, as the writer has them
 
 abbrev pub distributor_of : records.GicDistributor → GicDistributor
-distributor_of d = record {
-  id = d.id;
-  address = d.address;
-  system_vector_base = d.system_vector_base;
-  version = d.version;
-}
+distributor_of d =
+    record { id = d.id; address = d.address; system_vector_base = d.system_vector_base; version = d.version }
 
 -- an interrupt of 0 is none
 abbrev pub trace_of : ℕ → Option ℕ

@@ -31,8 +31,7 @@ pub(crate) fn candidate_holes<H: AcpiHandler>(
     source: &Source<'_>,
     out: &mut [Range],
 ) -> usize
-    ensures written { Writes result out.old out.new
-        (candidate_holes (H.memory handler.now) source.now) }
+    ensures written { Writes result out.old out.new (candidate_holes (H.memory handler.now) source.now) }
     ensures few { result < 2 ^ 30 }
 {
     let areas = areas_of(handler, source);
@@ -130,8 +129,7 @@ fn walk<H: AcpiHandler>(
     requires few { from < 2 ^ 20 }
     ensures written { out.new ≡ put_from out.old from
         (walk_holes (H.memory handler.now) candidates.count candidates.first) }
-    ensures next { result.0
-        ≡ from + length (walk_holes (H.memory handler.now) candidates.count candidates.first) }
+    ensures next { result.0 ≡ from + length (walk_holes (H.memory handler.now) candidates.count candidates.first) }
     ensures most { result.0 ≤ from + candidates.count }
     ensures found { result.1 ≡ has_valid (H.memory handler.now) candidates.count candidates.first }
 {

@@ -43,8 +43,7 @@ impl<'k> Region<'k> {
     #[tactic(auto, using(std::proofs::lemmas::Bool::Decides::nat_tests))]
     fn rest(&self, address: u64) -> Option<&'k [u8]>
         ensures inside { IfSome result (λ s. lies_in (region_of self.now) address ≡ true) }
-        ensures bytes { IfSome result
-            (λ s. s.now ≡ drop (address - self.now.address) self.now.bytes.now) }
+        ensures bytes { IfSome result (λ s. s.now ≡ drop (address - self.now.address) self.now.bytes.now) }
         ensures outside { IfNone result (lies_in (region_of self.now) address ≡ false) }
     {
         if address < self.address {

@@ -42,8 +42,7 @@ pub fn write_contents(
     ids: &TableIds,
     contents: &Contents<'_>,
 ) -> Result<usize, Refusal>
-    ensures exact { Gives (λ n. take n out.new) result
-        (whole.table_said (length out.old) ids.now contents.now) }
+    ensures exact { Gives (λ n. take n out.new) result (whole.table_said (length out.old) ids.now contents.now) }
     ensures keeps { IsKeptOr result out.old out.new }
 {
     let size = match contents {
@@ -138,8 +137,7 @@ fn are_tables(listed: &[ListedTable<'_>]) -> bool
 /// Returns `BadTable` if bytes that are listed aren't a table, and then the errors of `acpi_writer::write_tables`, in
 /// its order.
 pub fn write_tables(out: &mut [u8], address: u64, machine: &Machine<'_>) -> Result<usize, Refusal>
-    ensures exact { Gives (λ n. take n out.new) result
-        (whole.machine_said (length out.old) address machine.now) }
+    ensures exact { Gives (λ n. take n out.new) result (whole.machine_said (length out.old) address machine.now) }
     ensures keeps { IsKeptOr result out.old out.new }
 {
     require(are_tables(machine.tables), Refusal::BadTable)?;
@@ -155,8 +153,7 @@ pub fn write_tables_without_rsdp(
     address: u64,
     machine: &Machine<'_>,
 ) -> Result<usize, Refusal>
-    ensures exact { Gives (λ n. take n out.new) result
-        (whole.tree_said (length out.old) address machine.now) }
+    ensures exact { Gives (λ n. take n out.new) result (whole.tree_said (length out.old) address machine.now) }
     ensures keeps { IsKeptOr result out.old out.new }
 {
     require(are_tables(machine.tables), Refusal::BadTable)?;
