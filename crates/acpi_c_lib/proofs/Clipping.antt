@@ -1,8 +1,7 @@
 -- What is wanted of ranges, and the ranges that are still to be written.
 use Rattle.std.proofs.Common.{◌≡◌, ℕ, ◌+◌, ◌^◌, ◌-◌, ◌<◌, ◌≤◌, List, [], ◌∷◌, true, refl, arith, ◌⊎◌, inl, inr, length, slice_set, false, sym, subst, ◌∙◌, ap, ◌||◌, nat_le, nat_lt}
 use Rattle.acpi_base.proofs.FromStd.{and_parts, ltb-true, and_left, and_right, and_from, both_ways, cases_lt, le-leb, lt-leb, lt-ltb, le-ltb, or_from, or_left, nat_tests}
-use Rattle.acpi_c_lib.specs.Words.{AreInOrder, FillsClipped, IsNext, Range, any_holds, change_in, change_of, holds, wanted, put_from}
-use Rattle.acpi_base.specs.FromStd.{AllByRecursion}
+use Rattle.acpi_c_lib.specs.Words.{AreInOrder, FillsClipped, IsNext, Range, any_holds, change_in, change_of, holds, wanted, put_from, AllByRecursion}
 
 -- ---- changes
 

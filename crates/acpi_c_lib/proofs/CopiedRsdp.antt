@@ -1,8 +1,6 @@
 -- What checked regions are.
 use Rattle.std.proofs.Common.{◌≡◌, List, Result, Ok, Err}
-use Rattle.acpi_base.specs.Words.{Memory, ◌>>=◌}
-use Rattle.acpi_c_lib.specs.Words.{Refusal, memory_in, memory_of}
-use Rattle.acpi_c_lib.specs.Regions.{Region, check_regions}
+use Rattle.acpi_c_lib.specs.Words.{Memory, ◌>>=◌, Refusal, memory_in, memory_of, Region, check_regions}
 
 memory_by : (m x : Memory) (checked : Result (Unit {0}) Refusal) → (checked >>= λ _. Ok x) ≡ Ok m → m ≡ x
 memory_by m x (Ok done) e = cc

@@ -1,9 +1,7 @@
 -- The bytes of a table's entries.
 use Rattle.std.proofs.Common.{◌≡◌, ◌+◌, ◌≤◌, ℕ, List, ◌∷◌, ◌++◌, drop, length, length-append, length-drop, ap, arith}
-use Rattle.acpi.specs.Types.{Grammar}
-use Rattle.acpi_base.specs.FromStd.{concat}
 use Rattle.acpi_base.proofs.Words.{cut_is_cut}
-use Rattle.acpi_base.specs.Words.{after_one, cut, with_entry}
+use Rattle.acpi_c_lib.specs.Words.{Grammar, concat, after_one, cut, with_entry}
 
 -- the bytes of an entry and those after it are all bytes
 pub front_whole : (n : ℕ) (g : Grammar n) (rest e others : List ℕ)

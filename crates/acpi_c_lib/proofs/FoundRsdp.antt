@@ -1,9 +1,6 @@
 -- What a search finds is valid there.
 use Rattle.std.proofs.Common.{◌≡◌, ℕ, List, Ok, inl, inr}
-use Rattle.acpi_base.specs.Words.{Memory}
-use Rattle.acpi.specs.Types.{AddressRange}
-use Rattle.acpi.specs.Words.{IsFirstIn, rsdp_at}
-use Rattle.acpi.specs.Search.{IsFound}
+use Rattle.acpi_c_lib.specs.Words.{Memory, AddressRange, IsFirstIn, rsdp_at, IsFound}
 
 pub found_valid : (m : Memory) (found : ℕ × List ℕ) → IsFound m found → rsdp_at m found.0 ≡ Ok found.1
 found_valid m found (s, second, inl first) = first.valid

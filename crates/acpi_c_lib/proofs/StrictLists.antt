@@ -1,25 +1,16 @@
 -- Of a MADT none of whose entries is at fault, the lists are those of the strict model.
 use Rattle.std.proofs.Common.{◌≡◌, ℕ, List, [], ◌∷◌, map, Bool, true, false, Option, Some, None, Result, Ok, Err, refl, ap, sym, ◌∙◌, filter_map, option_map}
 use Rattle.std.specs.Prelude.{◌==◌, option_and_then, if◌then◌else◌}
-use Rattle.acpi_base.specs.FromStd.{cons_option, result_err, result_ok, result_unwrap_or}
 use Rattle.acpi_base.proofs.FromStd.{eqb-true}
-use Rattle.acpi_base.specs.Words.{all_apics, all_x2apics, line_of, processor_for}
-use Rattle.acpi_base.specs.Interrupts.{flags_fault, item_of, nmi_line_of, nmi_source_of, override_fault, override_of, polarity_of, trigger_mode_of, unless_fault}
-use Rattle.acpi_base.specs.Words.{bits_of, cut_of, entries_of, has_bit, polarity_code, trigger_code, uid_code, ◌>>=◌}
+use Rattle.acpi_base.specs.Interrupts.{nmi_line_of, nmi_source_of, override_of, polarity_of}
 use Rattle.acpi_base.specs.Model as base
 use Rattle.acpi_base.proofs.Words.{codes_decode}
-use Rattle.acpi.specs.Types.{All, Lint0, LocalInterruptLine, MadtEntry, MadtError, MadtItem, Polarity, ProcessorUid, TriggerMode}
-use Rattle.acpi_base.specs.declared.error.MadtError.TheVariants.{InterruptOverrideEntryHasInvalidBus}
 use Rattle.acpi_base.specs.declared.model.item.MadtItem.TheVariants as item
 use Rattle.acpi_base.specs.declared.model.interrupt.Polarity.TheVariants as polarity
 use Rattle.acpi_base.specs.declared.model.interrupt.TriggerMode.TheVariants as trigger
-use Rattle.acpi_base.specs.declared.tables.madt.apic.InterruptSourceOverrideEntry.{InterruptSourceOverrideEntry}
-use Rattle.acpi_base.specs.declared.tables.madt.apic.NmiSourceEntry.{NmiSourceEntry}
 use Rattle.acpi_base.specs.declared.tables.madt.entry.MadtEntry.TheVariants as entry
-use Rattle.acpi_c_lib.specs.ApicLaws.{ListsAreModels, line_said, line_shown, nmi_source_record, of_all, override_record, processor_said, processor_shown, state_code}
-use Rattle.acpi_c_lib.specs.Devices.{flag}
 use Rattle.acpi_c_lib.specs.Records as records
-use Rattle.acpi_c_lib.specs.Words.{boot_first, io_apic_in, io_apic_record, listed, nmi_line, nmi_line_in, nmi_source_in, override_in, processor_in}
+use Rattle.acpi_c_lib.specs.Words.{cons_option, result_err, result_ok, result_unwrap_or, all_apics, all_x2apics, line_of, processor_for, flags_fault, item_of, override_fault, trigger_mode_of, unless_fault, bits_of, cut_of, entries_of, has_bit, polarity_code, trigger_code, uid_code, ◌>>=◌, All, Lint0, LocalInterruptLine, MadtEntry, MadtError, MadtItem, Polarity, ProcessorUid, TriggerMode, InterruptOverrideEntryHasInvalidBus, InterruptSourceOverrideEntry, NmiSourceEntry, ListsAreModels, line_said, line_shown, nmi_source_record, of_all, override_record, processor_said, processor_shown, state_code, flag, boot_first, io_apic_in, io_apic_record, listed, nmi_line, nmi_line_in, nmi_source_in, override_in, processor_in}
 
 -- ---- what holds of each entry holds of the lists
 

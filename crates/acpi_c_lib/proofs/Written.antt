@@ -1,14 +1,11 @@
 -- Lists that are written, in one part or in two, and how many items they have at most.
 use Rattle.std.proofs.Common.{◌≡◌, ◌∙◌, ◌+◌, ℕ, List, [], ◌∷◌, ◌++◌, length, length-append, slice_set, ap, sym, arith, drop, zero, suc, map, Some, None, true, refl, ◌<◌, ◌≤◌, Bool, false, Option, length-drop, inl, inr, ◌-◌, ◌/◌, ◌==◌, min, nat_lt, if◌then◌else◌, filter_map}
 use Rattle.acpi_base.proofs.FromStd.{append-nil, length-map}
-use Rattle.acpi_c_lib.specs.Words.{Writes, put_from, MadtItem, listed, plain_grammar, GtFrame, frame_record, frames_in, frames_of, frames_shown, watchdog_in, watchdogs_shown}
+use Rattle.acpi_c_lib.specs.Words.{Writes, put_from, MadtItem, listed, GtFrame, frame_record, frames_in, frames_of, frames_shown, watchdog_in, watchdogs_shown, concat, AllByRecursion, cons_option, IsBytes, field_of, IsEntry, cut, number_in, Width, One, Two, Four, EntryLayout, Timer, first_frames, frame_count, frames_there, kind_of, timer_bytes, timer_count, timer_there, timers_grammar, timers_layout, watchdog_at}
 use Rattle.std.proofs.Math.Nat.{div-le_self, min-le_right}
 use Rattle.acpi.proofs.First.{filter_map_few}
-use Rattle.acpi_base.specs.FromStd.{concat, AllByRecursion, cons_option}
-use Rattle.acpi_base.specs.Words.{processor_in, processors_of, IsBytes, field_of, IsEntry, after_one, cut, number_in, with_entry}
+use Rattle.acpi_base.specs.Words.{processor_in, processors_of}
 use Rattle.acpi_base.proofs.Words.{cut_is_cut}
-use Rattle.acpi.specs.Types.{Width, One, Two, Four, EntryLayout}
-use Rattle.acpi_arm.specs.Timers.{Timer, first_frames, frame_count, frames_there, kind_of, timer_bytes, timer_count, timer_there, timers_grammar, timers_layout, watchdog_at}
 use Rattle.acpi_arm.specs.Timers as arm
 use Rattle.acpi_c_lib.specs.Records as records
 

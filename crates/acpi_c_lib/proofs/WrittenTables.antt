@@ -1,11 +1,8 @@
 -- Where the name of a console lies doesn't matter to the SPCR that is written for C.
 use Rattle.std.proofs.Common.{◌≡◌, ◌∙◌, ℕ, List, ap, refl, codes}
-use Rattle.acpi_base.specs.FromStd.{Bor}
-use Rattle.acpi_c_lib.specs.Words.{TableIds}
+use Rattle.acpi_c_lib.specs.Words.{Bor, TableIds, fixed_list, spcr_written, SpcrContents}
 use Rattle.acpi_c_lib.specs.WrittenSpcr as spcr
 use Rattle.acpi_c_lib.specs.declared.written_records.SpcrContents as spcr_record
-use Rattle.acpi_writer.specs.Words.{fixed_list, spcr_written}
-use Rattle.acpi_c_lib.specs.Types.{SpcrContents}
 
 by_name : (room : ℕ) (ids : TableIds) (name : Bor (List ℕ)) (c : spcr_record.SpcrContents) → name.now ≡ codes "."
     → spcr_written room ids (spcr.contents name c) ≡ spcr.spcr_laid room ids c

@@ -1,10 +1,8 @@
 -- What C gets of an answer.
 use Rattle.std.specs.Prelude.{◌≡◌, ℕ, ◌+◌, List, [], ◌∷◌, length, slice_set, Option, Some, None, Result, Ok, Err}
-use Rattle.acpi_base.specs.Words.{letters_of}
-use Rattle.acpi.specs.Types.{Signature}
 use Rattle.acpi_c_lib.specs.Codes.{code_of, signature_of}
 use Rattle.acpi_c_lib.specs.Records as records
-use Rattle.acpi_c_lib.specs.Types.{Refusal}
+use Rattle.acpi_c_lib.specs.Types.{letters_of, Signature, Refusal}
 
 -- what is made of the value, or the refusal
 abbrev pub result_map : {A B E : Type 0} → (A → B) → Result A E → Result B E

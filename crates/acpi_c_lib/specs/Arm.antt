@@ -1,13 +1,9 @@
 -- The generic interrupt controller (GIC) of an Arm machine as C gets it: what the entries of a MADT say of it, each by
 -- itself.
 use Rattle.std.specs.Prelude.{ℕ, Bool, false, true, List, map, slice_get, Option, Result, Ok, if◌then◌else◌, filter_map, ok_or, unwrap_or}
-use Rattle.acpi_base.specs.FromStd.{is_some, list_any}
-use Rattle.acpi_base.specs.Words.{cut_of, entries_of, holds, is_left, trigger_code, ◌>>=◌}
-use Rattle.acpi.specs.Types.{InvalidEntryLength, InvalidMadt, MadtEntry}
+use Rattle.acpi_base.specs.Words.{holds}
 use Rattle.acpi_base.specs.declared.tables.madt.entry.MadtEntry.TheVariants as kinds
-use Rattle.acpi.specs.Words.{madt_kind}
-use Rattle.acpi_arm.specs.Gic.{cpu_interface_in, distributor_in, items_of, msi_frame_in, redistributors_in, translation_service_in}
-use Rattle.acpi_c_lib.specs.Types.{Acpi, GicCpuInterface, GicDistributor, GicMsiFrame, GicRedistributors, GicTranslationService, SpiRange, Range, NoGic}
+use Rattle.acpi_c_lib.specs.Types.{is_some, list_any, cut_of, entries_of, is_left, trigger_code, ◌>>=◌, InvalidEntryLength, InvalidMadt, MadtEntry, madt_kind, cpu_interface_in, distributor_in, items_of, msi_frame_in, redistributors_in, translation_service_in, Acpi, GicCpuInterface, GicDistributor, GicMsiFrame, GicRedistributors, GicTranslationService, SpiRange, Range, NoGic}
 use Rattle.acpi_c_lib.specs.Answers.{result_map}
 use Rattle.acpi_c_lib.specs.Below.{Refusal, Source, first_table}
 use Rattle.acpi_c_lib.specs.Devices.{flag}

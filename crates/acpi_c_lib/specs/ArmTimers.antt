@@ -1,11 +1,9 @@
 -- The generic timers of an Arm machine (GTDT, section 5.2.24) as C gets them.
 use Rattle.std.specs.Prelude.{ℕ, ◌-◌, ◌^◌, nat_lt, Bool, List, [], ◌∷◌, ◌++◌, map, Option, Some, None, Result, filter_map, unwrap_or}
 use Rattle.std.proofs.Common.{inl, inr}
-use Rattle.acpi_base.specs.Words.{polarity_code, trigger_code}
-use Rattle.acpi_arm.specs.Gtdt.{control_base_of, gtdt_at, gtdt_kind, read_base_of, virtual_el2_of}
-use Rattle.acpi_arm.specs.Timers.{Timer, each_of, missing_of}
+use Rattle.acpi_arm.specs.Gtdt.{virtual_el2_of}
 pub use Rattle.acpi_arm.specs.declared.frames.GtFrame.{GtFrame}
-use Rattle.acpi_c_lib.specs.Types.{ArmTimer, Gtdt, SbsaWatchdog, ArmTimers, Watchdog}
+use Rattle.acpi_c_lib.specs.Types.{polarity_code, trigger_code, control_base_of, gtdt_at, gtdt_kind, read_base_of, Timer, each_of, missing_of, ArmTimer, Gtdt, SbsaWatchdog, ArmTimers, Watchdog}
 use Rattle.acpi_c_lib.specs.Below.{Refusal, Source, below_first}
 use Rattle.acpi_c_lib.specs.Devices.{flag}
 use Rattle.acpi_c_lib.specs.Records as records

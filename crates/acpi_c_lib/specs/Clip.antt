@@ -1,10 +1,9 @@
 -- Ranges of memory in order, some of them left out, clipped to a window.
 use Rattle.std.specs.Prelude.{◌≡◌, ℕ, ◌+◌, ◌^◌, ◌<◌, ◌≤◌, ◌&&◌, not, nat_le, nat_lt, Bool, true, false, List, [], ◌∷◌, fold, length, min, if◌then◌else◌}
-use Rattle.acpi_base.specs.FromStd.{AllByRecursion, list_all, list_any}
 use Rattle.acpi_c_lib.specs.Answers.{put_from}
 use Rattle.acpi_c_lib.specs.Codes.{code_of}
 pub use Rattle.acpi_c_lib.specs.declared.records.Range.{Range}
-use Rattle.acpi_c_lib.specs.Types.{RangeTooHigh}
+use Rattle.acpi_c_lib.specs.Types.{AllByRecursion, list_all, list_any, RangeTooHigh}
 
 -- the address after a range's last byte is 2^64 - 1 at most
 abbrev pub fits : Range → Bool

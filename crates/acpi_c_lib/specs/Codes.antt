@@ -1,10 +1,9 @@
 -- The numbers that C gets for refusals, those of `enum zacpi_refusal` in include/zacpi.h, and the signatures. 99
 -- stands for the errors that no call returns.
 use Rattle.std.specs.Prelude.{ℕ, Option, Some, None}
-use Rattle.acpi.specs.Types.{AcpiError, MadtError, Signature}
 use Rattle.acpi_base.specs.declared.error.AcpiError.TheVariants as acpi
 use Rattle.acpi_base.specs.declared.error.MadtError.TheVariants as madt
-use Rattle.acpi_c_lib.specs.Types.{Refusal, WriterError}
+use Rattle.acpi_c_lib.specs.Types.{AcpiError, MadtError, Signature, Refusal, WriterError}
 use Rattle.acpi_c_lib.specs.declared.refusal.Refusal.TheVariants as refusal
 use Rattle.acpi_writer.specs.declared.error.WriterError.TheVariants as writer
 

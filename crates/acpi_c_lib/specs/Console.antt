@@ -1,12 +1,10 @@
 -- The serial console (SPCR, whose layout is Microsoft's) as C gets it.
 use Rattle.std.specs.Prelude.{ℕ, Result, unwrap_or}
-use Rattle.acpi_base.specs.FromStd.{is_some}
-use Rattle.acpi_base.specs.Words.{field_of, baud_of, bus_of, clock_of, device_id_of, device_of, function_of, interrupt_of, irq_of, spcr_at, vendor_id_of, sdt_kind}
-use Rattle.acpi_base.specs.Spcr.{base_of}
-use Rattle.acpi.specs.Types.{SPCR, Spcr}
+use Rattle.acpi_base.specs.Words.{interrupt_of}
+use Rattle.acpi.specs.Types.{Spcr}
 use Rattle.acpi_c_lib.specs.Below.{Refusal, Source, below_first}
 use Rattle.acpi_c_lib.specs.Devices.{flag, register_if}
-use Rattle.acpi_c_lib.specs.Types.{Console}
+use Rattle.acpi_c_lib.specs.Types.{is_some, field_of, baud_of, bus_of, clock_of, device_id_of, device_of, function_of, irq_of, spcr_at, vendor_id_of, sdt_kind, base_of, SPCR, Console}
 
 -- a table's fixed fields, and its Interface Type
 abbrev pub console_record : Spcr → ℕ → Console

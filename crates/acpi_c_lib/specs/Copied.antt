@@ -1,11 +1,8 @@
 -- A start at the root table that a copy of the RSDP leads to (ACPI 6.4, section 5.2.5.3).
 use Rattle.std.specs.Prelude.{ℕ, ◌==◌, ◌&&◌, nat_le, List, [], ◌∷◌, ◌++◌, length, replicate, take, Result, if◌then◌else◌}
-use Rattle.acpi_base.specs.Words.{Memory, field_of}
-use Rattle.acpi.specs.Words.{rsdp_at, rsdp_of}
-use Rattle.acpi.specs.Rsdp.{root_of}
 use Rattle.acpi_c_lib.specs.Answers.{result_map}
 use Rattle.acpi_c_lib.specs.Below.{AcpiError, Refusal, Source, refused_as}
-use Rattle.acpi_c_lib.specs.Types.{RootKind, Rsdp, Rsdt, Xsdt}
+use Rattle.acpi_c_lib.specs.Types.{Memory, field_of, rsdp_at, rsdp_of, root_of, RootKind, Rsdp, Rsdt, Xsdt}
 
 -- the bytes that are checked: an RSDP of Revision 0 ends after 20 bytes, and zeros are in place of those that a memory
 -- has after it, which mean nothing

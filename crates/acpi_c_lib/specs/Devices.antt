@@ -1,10 +1,8 @@
 -- Registers, the timer and the boot graphic as C gets them.
 use Rattle.std.specs.Prelude.{ℕ, ◌*◌, Bool, true, false, List, Option, Some, None, Result, Ok, Err}
-use Rattle.acpi_base.specs.Words.{size_code, space_code, bits_of, has_bit, Memory, ◌>>=◌, sdt_kind}
-use Rattle.acpi.specs.Types.{GenericAddress, BGRT, Bgrt}
-use Rattle.acpi_fixed.specs.Words.{bgrt_at, image_type_of, offset_of, rank_of, status_of, fadt_at}
-use Rattle.acpi.specs.Words.{fadt_kind, timer_of}
-use Rattle.acpi_c_lib.specs.Types.{PmTimer, BootGraphic, Register}
+use Rattle.acpi.specs.Types.{Bgrt}
+use Rattle.acpi.specs.Words.{timer_of}
+use Rattle.acpi_c_lib.specs.Types.{size_code, space_code, bits_of, has_bit, Memory, ◌>>=◌, sdt_kind, GenericAddress, BGRT, bgrt_at, image_type_of, offset_of, rank_of, status_of, fadt_at, fadt_kind, PmTimer, BootGraphic, Register}
 use Rattle.acpi_c_lib.specs.Accepted.{accepted_lookup}
 use Rattle.acpi_c_lib.specs.Answers.{result_map}
 use Rattle.acpi_c_lib.specs.Below.{AcpiError, Refusal, Source, below_first, below_source}

@@ -1,9 +1,8 @@
 -- The entries of a table at fault, as C gets them.
 use Rattle.std.specs.Prelude.{ℕ, ◌+◌, List, [], ◌∷◌, length, slice_index, Option, option_map}
-use Rattle.acpi_base.specs.FromStd.{cons_option}
 use Rattle.acpi_c_lib.specs.Below.{Refusal}
 use Rattle.acpi_c_lib.specs.Codes.{code_of}
-use Rattle.acpi_c_lib.specs.declared.entry_faults.EntryFault.{EntryFault}
+use Rattle.acpi_c_lib.specs.Types.{cons_option, EntryFault}
 
 -- an entry of a Type, at an address, with its error
 abbrev pub entry_fault : ℕ → ℕ → Refusal → EntryFault

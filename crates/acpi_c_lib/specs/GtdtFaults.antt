@@ -1,13 +1,9 @@
 -- The structures of platform timers at fault, as C gets them (GTDT, ACPI 6.4, section 5.2.24.1).
 use Rattle.std.specs.Prelude.{ℕ, ◌+◌, ◌-◌, List, [], ◌∷◌, length, nat_lt, Option, Some, None, Result, if◌then◌else◌}
-use Rattle.acpi_base.specs.Words.{cut, field_of}
-use Rattle.acpi_arm.specs.Gtdt.{gtdt_kind}
-use Rattle.acpi_arm.specs.Timers.{is_sound, timer_bytes, timer_count, timers_grammar}
 use Rattle.acpi_c_lib.specs.Answers.{result_map}
 use Rattle.acpi_c_lib.specs.Below.{Refusal, Source, found_table}
 use Rattle.acpi_c_lib.specs.EntryFaults.{entry_fault, faults_from}
-use Rattle.acpi_c_lib.specs.Types.{InvalidTimerLength}
-use Rattle.acpi_c_lib.specs.declared.entry_faults.EntryFault.{EntryFault}
+use Rattle.acpi_c_lib.specs.Types.{cut, field_of, gtdt_kind, is_sound, timer_bytes, timer_count, timers_grammar, InvalidTimerLength, EntryFault}
 
 -- why a structure is at fault: it is a GT Block whose frames don't lie between its 20 fixed bytes and its end
 abbrev pub timer_fault : List ℕ → Option Refusal

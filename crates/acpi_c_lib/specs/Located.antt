@@ -1,10 +1,9 @@
 -- Where bytes lie in a caller's regions.
 use Rattle.std.specs.Prelude.{◌≡◌, ℕ, ◌+◌, ◌-◌, ◌<◌, true, nat_le, List, [], ◌∷◌, drop, length, slice_index_or, Option, Some, None, Result, Ok, if◌then◌else◌, ok_or}
-use Rattle.acpi_base.specs.Words.{Memory, lies_in, ◌>>=◌, holds}
-use Rattle.acpi.specs.Types.{MapFailed}
+use Rattle.acpi_base.specs.Words.{holds}
 use Rattle.acpi_c_lib.specs.Regions.{Region, memory_in, region_of}
 pub use Rattle.acpi_c_lib.specs.declared.records.Place.{Place}
-use Rattle.acpi_c_lib.specs.Types.{Refusal, Acpi}
+use Rattle.acpi_c_lib.specs.Types.{Memory, lies_in, ◌>>=◌, MapFailed, Refusal, Acpi}
 
 -- where an address lies, by a region counted from this index on, and the bytes from there to the region's end
 abbrev pub spot_from : ℕ → Memory → ℕ → Option (Place × List ℕ)

@@ -1,13 +1,9 @@
 -- The entries of a MADT at fault, as C gets them (ACPI 6.4, section 5.2.12).
 use Rattle.std.specs.Prelude.{ℕ, ◌+◌, List, Option, Result, option_map}
-use Rattle.acpi_base.specs.Words.{cut_of, fault_said}
-use Rattle.acpi.specs.Types.{InvalidEntryLength, InvalidMadt, MadtError}
-use Rattle.acpi.specs.Words.{madt_kind}
 use Rattle.acpi_c_lib.specs.Answers.{result_map}
 use Rattle.acpi_c_lib.specs.Below.{Refusal, Source, found_table}
 use Rattle.acpi_c_lib.specs.EntryFaults.{faults_from, rest_faults}
-use Rattle.acpi_c_lib.specs.Types.{Acpi}
-use Rattle.acpi_c_lib.specs.declared.entry_faults.EntryFault.{EntryFault}
+use Rattle.acpi_c_lib.specs.Types.{cut_of, fault_said, InvalidEntryLength, InvalidMadt, MadtError, madt_kind, Acpi, EntryFault}
 
 abbrev pub madt_refusal : MadtError → Refusal
 madt_refusal error = Acpi (InvalidMadt error)

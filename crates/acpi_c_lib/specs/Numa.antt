@@ -1,14 +1,11 @@
 -- Domains and distances as C gets them. What an entry of a SRAT says changes no answer that isn't about it.
 use Rattle.std.specs.Prelude.{◌≡◌, ◌+◌, ◌≤◌, ◌↔◌, ℕ, List, find, map, Option, Some, None, Result, Ok, Err, if◌then◌else◌, ok_or, option_and_then}
-use Rattle.acpi_base.specs.Words.{◌>>=◌, Kind, is_left, sdt_kind}
-use Rattle.acpi.specs.Types.{SLIT}
-use Rattle.acpi_numa.specs.Words.{cut_of, ends_below, entry_of, lies_in, range_in, ranges_of, revision_of, srat_kind, IsSane, distance_of, localities_of, domain_of_apic, domain_of_processor}
-use Rattle.acpi_c_lib.specs.Types.{MemoryRange, Localities, MemoryAffinity, InvalidMemoryRange, InvalidSratEntryLength, NoDistance, NoDomain}
+use Rattle.acpi_numa.specs.Words.{cut_of, lies_in, range_in}
+use Rattle.acpi_c_lib.specs.Types.{◌>>=◌, Kind, is_left, sdt_kind, SLIT, ends_below, entry_of, ranges_of, revision_of, srat_kind, IsSane, distance_of, localities_of, domain_of_apic, domain_of_processor, MemoryRange, Localities, MemoryAffinity, InvalidMemoryRange, InvalidSratEntryLength, NoDistance, NoDomain, EntryFault}
 use Rattle.acpi_c_lib.specs.Answers.{result_map}
 use Rattle.acpi_c_lib.specs.Below.{Refusal, Source, below_first, first_table, found_table}
 use Rattle.acpi_c_lib.specs.Devices.{flag}
 use Rattle.acpi_c_lib.specs.EntryFaults.{faults_from, rest_faults}
-use Rattle.acpi_c_lib.specs.declared.entry_faults.EntryFault.{EntryFault}
 
 -- ---- ranges of memory
 

@@ -1,8 +1,7 @@
 -- The harts and interrupt controllers of a RISC-V machine as C gets them (ACPI 6.6, section 5.2.12).
 use Rattle.std.specs.Prelude.{List, Option, Some, None, Result, filter_map}
-use Rattle.acpi.specs.Words.{madt_kind}
 use Rattle.acpi_riscv.specs.Words.{entries_of}
-use Rattle.acpi_c_lib.specs.Types.{Aplic, Imsic, Plic, Rintc, RiscvEntry}
+use Rattle.acpi_c_lib.specs.Types.{madt_kind, Aplic, Imsic, Plic, Rintc, RiscvEntry}
 use Rattle.acpi_riscv.specs.declared.entry.RiscvEntry.TheVariants as entry
 use Rattle.acpi_c_lib.specs.Below.{Refusal, Source, below_first}
 

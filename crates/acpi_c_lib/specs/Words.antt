@@ -3,7 +3,7 @@ pub use Rattle.acpi_c_lib.specs.AcceptLaws.{AcceptsNothing, AcceptsValid}
 pub use Rattle.acpi_c_lib.specs.Accepted.{accepted_lookup, names_accepted}
 unfoldable pub use Rattle.acpi_c_lib.specs.Accepted.{accepted_at, loosened_at, own_accepted_at}
 pub use Rattle.acpi_c_lib.specs.Answers.{Answers, AnswersList, AnswersPlain, AnswersSome, Fills, GivesSome, Writes, items_beside, items_said, name_or, put_from, result_map}
-pub use Rattle.acpi_c_lib.specs.ApicLaws.{ListsAreModels}
+pub use Rattle.acpi_c_lib.specs.ApicLaws.{ListsAreModels, line_said, line_shown, nmi_source_record, of_all, override_record, processor_said, processor_shown, state_code}
 pub use Rattle.acpi_c_lib.specs.Apics.{MadtEntry, below_apics, mailbox_below, boot_first, booted, io_apic_in, is_of_apics, local_apic_address_in, nmi_line, nmi_line_in, nmi_source_in, override_in, processor, processor_in, processors_of}
 unfoldable pub use Rattle.acpi_c_lib.specs.Apics.{apic_entries}
 pub use Rattle.acpi_c_lib.specs.Arm.{below_gic, cpu_interfaces_shown, distributor_below, is_of_gic, msi_frames_shown, redistributors_shown, translation_services_shown}
@@ -13,7 +13,7 @@ unfoldable pub use Rattle.acpi_c_lib.specs.Below.{first_table, found_table}
 pub use Rattle.acpi_c_lib.specs.Clip.{AnswersClip, AreInOrder, FillsClipped, IsNext, Range, all_fit, any_holds, change_in, change_of, fits, holds, wanted}
 pub use Rattle.acpi_c_lib.specs.Console.{console_below, console_record}
 pub use Rattle.acpi_c_lib.specs.Copied.{copied_rsdp, copy_memory, padded, source_of_rsdp, started_by}
-pub use Rattle.acpi_c_lib.specs.Devices.{generic_record, graphic_below, graphic_record, optional_register, register_if, required_register, timer_below, timer_record}
+pub use Rattle.acpi_c_lib.specs.Devices.{generic_record, graphic_below, graphic_record, optional_register, register_if, required_register, timer_below, timer_record, flag}
 pub use Rattle.acpi_c_lib.specs.Entries.{entries_below, entries_from, entries_said, entry_record, left_said, plain_grammar, width_of_bytes, number_place, walk_layout}
 pub use Rattle.acpi_c_lib.specs.EntryFaults.{entry_fault, faults_from, rest_faults}
 pub use Rattle.acpi_c_lib.specs.Facs.{facs_below, facs_in}
@@ -39,7 +39,7 @@ pub use Rattle.acpi_c_lib.specs.Riscv.{aplic_in, below_riscv, imsic_in, plic_in,
 pub use Rattle.acpi_c_lib.specs.Routes.{AreWirings, Interrupt, IoApicPin, apic_in, below_known, has_codes, interrupt_or, interrupt_record, is_nearer, isa_below, isa_in, isa_override_in, last_override, own_override, pin_below, pin_in, pin_or, sci_below, sci_in, wirings_of}
 unfoldable pub use Rattle.acpi_c_lib.specs.Routes.{known_platform}
 pub use Rattle.acpi_c_lib.specs.Shown.{aml_at, dsdt_below, ecam_below, ecam_ranges_below, ecam_record, hpet_below, hpet_in, hpet_shown, hpets_below, hpets_in, pci_record, pci_regions_below, root_below, signature_named, ssdt_in, ssdts_below, ssdts_in, table_below, table_in, table_record, tables_below, tables_in}
-pub use Rattle.acpi_c_lib.specs.Types.{Acpi, ArmTimers, Bgrt, Fadt, Gic, Hpet, Madt, Mcfg, Spcr, Srat, UnknownStart, Writer}
+pub use Rattle.acpi_c_lib.specs.Types.{Acpi, ArmTimers, Bgrt, Fadt, Gic, Hpet, Madt, Mcfg, Spcr, Srat, UnknownStart, Writer, AddressRange, All, AllByRecursion, AreApart, Bor, EntryLayout, Four, Gives, Grammar, InterruptOverrideEntryHasInvalidBus, InterruptSourceOverrideEntry, InvalidEntryLength, InvalidSratEntryLength, IsAscending, IsBytes, IsEntry, IsFinite, IsFirstIn, IsFound, IsMemory, IsPartitionPoint, IsRegion, Keeps, Kind, Lint0, LocalInterruptLine, MadtError, MapFailed, Memory, NmiSourceEntry, NoValidRsdp, One, Opened, Polarity, ProcessorUid, Ranges, RiscvEntry, Rsdp, SdtHeader, Signature, SpcrContents, Timer, TriggerMode, Two, UnknownPolicy, Width, after_one, all_apics, all_x2apics, area, area_ranges, areas_ranges, bios_areas, bits_of, bytes_of, concat, cons_option, count_in, count_of, cut_of, distributor_in, dsdt_address_of, each_left, ebda_area, ecam_address, end_of, entries_left, entries_of, extended_length_of, facs_place, facs_place_ranges, first_area, first_frames, first_in, flags_fault, found_among, frame_count, frames_left, frames_there, has_bit, is_of, is_ok, is_some, kind_of, last_or, lender_of, length_ranges, lent, letters_of, lies_in, line_of, list_all, list_any, madt_grammar, madt_kind, madt_layout, mcfg_entries_left, missing_left, number_in, opened_at, opened_by_rsdp, opened_by_rsdp_ranges, opened_by_search, opened_by_search_ranges, opened_from, opened_in_areas, opened_of, opened_ranges, or_else, or_else_ranges, or_later, override_fault, placed, plain_kind, pointers_left, polarity_code, processor_for, range, rest_left, result_err, result_ok, result_unwrap_or, revision_of, room_of, root_of, root_of_revision, root_of_rsdp, rsdp_ranges, search_ranges, second_area, shown_in, srat_grammar, srat_layout, start_of, table_ranges, timer_bytes, timer_count, timer_there, timers_grammar, timers_layout, trigger_code, trigger_mode_of, uid_code, unless_fault, walk, watchdog_at, with_entry, ◌>>=◌}
 pub use Rattle.acpi_c_lib.specs.Walked.{dsdt_range, facs_range, led_ranges, members_ranges, nth_below, nth_in, range_in, ranges_below}
 pub use Rattle.acpi_c_lib.specs.Writing.{IsKeptOr, TableIds, WriterError, WritesTable, hpet_info_of, is_wiring, madt_of, writer_refused}
 pub use Rattle.acpi_c_lib.specs.WrittenFadt.{facs_contents}
@@ -47,3 +47,4 @@ pub use Rattle.acpi_c_lib.specs.WrittenGic.{gic_of}
 pub use Rattle.acpi_c_lib.specs.WrittenMachine.{Contents, dsdt_said, is_table, listed_written, machine_said, size_said, table_said, tree_said}
 pub use Rattle.acpi_c_lib.specs.declared.interrupt_records.Processor.{Processor}
 pub use Rattle.acpi_c_lib.specs.declared.writing.machine.Contents.TheVariants.{Gtdt}
+unfoldable pub use Rattle.acpi_c_lib.specs.Types.{at, check_first, check_names, check_sum, check_table, checked_length, cut, field_of, fixed_list, found_in, found_in_areas, found_rsdp, header_at, item_of, own_table_at, rest_from, rsdp_at, rsdp_of, spcr_written, table_at, table_written, word_in}

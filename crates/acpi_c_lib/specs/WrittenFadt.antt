@@ -1,11 +1,7 @@
 -- The FADT that is written for C (section 5.2.9), from the record as which it is read, and the FACS (section 5.2.10).
 use Rattle.std.specs.Prelude.{ℕ, ◌&&◌, ◌||◌, ◌==◌, Bool, not, is_ok, nat_le, Option, Some, None, if◌then◌else◌}
-use Rattle.acpi_base.specs.FromStd.{result_unwrap_or}
-use Rattle.acpi_base.specs.Words.{access_size_of, space_of, has_bit}
-use Rattle.acpi.specs.Types.{Undefined, AddressSpace, SystemMemory, GenericAddress, GpeBlock}
-use Rattle.acpi_fixed.specs.Words.{profile_for}
 use Rattle.acpi_c_lib.specs.Records as records
-use Rattle.acpi_c_lib.specs.Types.{FixedHardware, Register, FacsContents, FadtContents, FadtHardware, Fixed, Reduced, LegacyFields, ArmBootFeatures, FixedFeatures, PcBootFeatures}
+use Rattle.acpi_c_lib.specs.Types.{result_unwrap_or, access_size_of, space_of, has_bit, Undefined, AddressSpace, SystemMemory, GenericAddress, GpeBlock, profile_for, FixedHardware, Register, FacsContents, FadtContents, FadtHardware, Fixed, Reduced, LegacyFields, ArmBootFeatures, FixedFeatures, PcBootFeatures}
 use Rattle.acpi_c_lib.specs.declared.written_records.FacsContents as facs_record
 
 -- ---- registers

@@ -1,11 +1,10 @@
 -- The MADT of an Arm machine that is written for C (sections 5.2.12.14 to 5.2.12.18).
 use Rattle.std.specs.Prelude.{ℕ, ◌&&◌, ◌==◌, ◌^◌, Bool, not, nat_lt, Option, Some, None, Result, if◌then◌else◌}
-use Rattle.acpi_base.specs.FromStd.{list_all}
-use Rattle.acpi_base.specs.Words.{◌>>=◌, holds}
-use Rattle.acpi_c_lib.specs.Types.{GicCpuInterface, GicDistributor, GicMsiFrame, GicRedistributors, GicTranslationService, Range, GicContents, BadRange, UnknownCode, Writer}
+use Rattle.acpi_base.specs.Words.{holds}
+use Rattle.acpi_c_lib.specs.Types.{list_all, ◌>>=◌, GicCpuInterface, GicDistributor, GicMsiFrame, GicRedistributors, GicTranslationService, Range, GicContents, BadRange, UnknownCode, Writer, gic_meant}
 use Rattle.acpi_c_lib.specs.Records as records
 use Rattle.acpi_c_lib.specs.Writing.{Refusal, is_wiring, trigger_of}
-use Rattle.acpi_writer.specs.Words.{gic_meant, GicContents as WriterGic}
+use Rattle.acpi_writer.specs.Words.{GicContents as WriterGic}
 use Rattle.acpi_writer.specs.declared.madt.gic.GicContents as writer
 
 -- ---- records, as the writer has them

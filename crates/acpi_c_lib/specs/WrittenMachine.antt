@@ -1,7 +1,6 @@
 -- The tables of a whole machine that are written for C.
 use Rattle.std.specs.Prelude.{ℕ, ◌==◌, ◌&&◌, ◌^◌, Bool, List, [], ◌∷◌, map, length, nat_le, nat_lt, Option, Some, None, Result, Ok, ok_or}
-use Rattle.acpi_base.specs.FromStd.{list_all}
-use Rattle.acpi_base.specs.Words.{◌>>=◌, field_of, holds, sum_of}
+use Rattle.acpi_base.specs.Words.{holds}
 use Rattle.acpi_c_lib.specs.WrittenBgrt as bgrt
 use Rattle.acpi_c_lib.specs.WrittenFadt as fadt
 use Rattle.acpi_c_lib.specs.WrittenGic as gic
@@ -10,13 +9,12 @@ use Rattle.acpi_c_lib.specs.WrittenSpcr as spcr
 use Rattle.acpi_c_lib.specs.WrittenSrat as srat
 use Rattle.acpi_c_lib.specs.Writing as writing
 use Rattle.acpi_c_lib.specs.Writing.{Refusal, TableIds, WriterError, hpet_info_of, region_of, writer_refused}
-use Rattle.acpi_c_lib.specs.Types.{UnknownCode, BadTable, Writer, Bgrt, Fadt, Gic, Hpet, Madt, Mcfg, Spcr, Srat, ListedTable, AmlContents, FacsContents, NoAddress, TooLong}
+use Rattle.acpi_c_lib.specs.Types.{list_all, ◌>>=◌, field_of, sum_of, UnknownCode, BadTable, Writer, Bgrt, Fadt, Gic, Hpet, Madt, Mcfg, Spcr, Srat, ListedTable, AmlContents, FacsContents, NoAddress, TooLong, bgrt_written, fadt_written, hpet_written, MachineOf, dsdt_at, gic_written, machine_size, machine_written, tree_written, madt_written, mcfg_written, srat_written}
 pub use Rattle.acpi_c_lib.specs.declared.writing.machine.Contents.{Contents}
 use Rattle.acpi_c_lib.specs.declared.writing.machine.Contents.TheVariants.{Gtdt}
 use Rattle.acpi_c_lib.specs.declared.written_records.AmlContents as aml
 use Rattle.acpi_c_lib.specs.declared.written_records.FacsContents as facs
 use Rattle.acpi_c_lib.specs.declared.written_records.Machine as record_of
-use Rattle.acpi_writer.specs.Words.{bgrt_written, fadt_written, hpet_written, MachineOf, dsdt_at, gic_written, machine_size, machine_written, tree_written, madt_written, mcfg_written, srat_written}
 
 -- ---- a table
 

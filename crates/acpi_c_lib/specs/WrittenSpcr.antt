@@ -1,12 +1,8 @@
 -- The SPCR that is written for C, from the record as which it is read. The layout is Microsoft's.
 use Rattle.std.specs.Prelude.{ℕ, ◌==◌, ◌&&◌, ◌||◌, Bool, not, bit_or, codes, nat_le, nat_lt, List, Option, Some, None, Result, if◌then◌else◌}
-use Rattle.acpi_base.specs.FromStd.{Bor}
-use Rattle.acpi_base.specs.Words.{has_bit, interface_of}
-use Rattle.acpi.specs.Types.{GenericAddress}
 use Rattle.acpi_c_lib.specs.WrittenFadt.{has_codes_at, register}
-use Rattle.acpi_c_lib.specs.Types.{Console, Register, WriterError, TableIds, SpcrContents, SpcrPciDevice}
+use Rattle.acpi_c_lib.specs.Types.{Bor, has_bit, interface_of, GenericAddress, Console, Register, WriterError, TableIds, SpcrContents, SpcrPciDevice, spcr_written}
 use Rattle.acpi_c_lib.specs.declared.written_records.SpcrContents as spcr_record
-use Rattle.acpi_writer.specs.Words.{spcr_written}
 
 abbrev pub base : Register → Option GenericAddress
 base r = if r.present == 0 then None else Some (register r.at)

@@ -1,7 +1,6 @@
 //! The generic timers of an Arm machine, by the GTDT.
 ghost use Rattle.std.specs.Prelude.{◌≡◌, nat_lt, Some, map, refl};
-ghost use Rattle.acpi_arm.specs.Timers.{each_left, missing_left, frames_left, shown_in};
-ghost use Rattle.acpi_c_lib.specs.Words.{Fills, Writes, arm_timer_or, arm_timer_record, frame_record, frames_shown, gtdt_below, or_ones, timers_record, timers_shown, watchdog_in, watchdogs_of, watchdogs_shown, lists_each, lists_by};
+ghost use Rattle.acpi_c_lib.specs.Words.{each_left, missing_left, frames_left, shown_in, Fills, Writes, arm_timer_or, arm_timer_record, frame_record, frames_shown, gtdt_below, or_ones, timers_record, timers_shown, watchdog_in, watchdogs_of, watchdogs_shown, lists_each, lists_by};
 
 use crate::arm_records as records;
 use crate::arm_records::{ArmTimers, Watchdog};

@@ -1,9 +1,6 @@
 //! What isn't lent of the RSDPs that a search comes to (section 5.2.5.1): each is tried as the search tries it.
 ghost use Rattle.std.specs.Prelude.{◌≡◌, ◌+◌, ◌*◌, ◌/◌, ◌<◌, ◌≤◌, ◌^◌, length, Err, IfErr};
-ghost use Rattle.acpi_base.specs.FromStd.{is_ok};
-ghost use Rattle.acpi.specs.Types.{MapFailed};
-ghost use Rattle.acpi.specs.Words.{length_ranges, rsdp_at, word_in};
-ghost use Rattle.acpi_c_lib.specs.Words.{Writes, put_from, areas_of, candidate_hole, candidate_holes, Fits, has_valid, last_range, no_areas, pieces, stretch, walk_holes};
+ghost use Rattle.acpi_c_lib.specs.Words.{is_ok, MapFailed, length_ranges, rsdp_at, word_in, Writes, put_from, areas_of, candidate_hole, candidate_holes, Fits, has_valid, last_range, no_areas, pieces, stretch, walk_holes};
 
 use crate::missing::{is_lent, put_pair, range, second_hole};
 use crate::opening::{ebda, ebda_segment};

@@ -1,7 +1,6 @@
 //! Devices that tables of their own describe.
 ghost use Rattle.std.specs.Prelude.{◌≡◌, ◌≤◌, length};
-ghost use Rattle.acpi_c_lib.specs.Words.{generic_record, graphic_below, graphic_record, optional_register, register_if, required_register, timer_below, timer_record, Fills, hpet_below, hpet_in, hpet_shown, hpets_below, hpets_in, lists_some};
-ghost use Rattle.acpi.specs.Words.{pointers_left};
+ghost use Rattle.acpi_c_lib.specs.Words.{generic_record, graphic_below, graphic_record, optional_register, register_if, required_register, timer_below, timer_record, Fills, hpet_below, hpet_in, hpet_shown, hpets_below, hpets_in, lists_some, pointers_left};
 
 use crate::lists::{Listing, fill};
 use crate::lookup::Lookup;

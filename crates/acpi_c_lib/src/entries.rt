@@ -1,8 +1,6 @@
 //! The entries of any table, which have Type and Length at places that a walk names.
 ghost use Rattle.std.specs.Prelude.{◌≡◌, ◌+◌, ◌^◌, ◌<◌, length};
-ghost use Rattle.acpi_base.specs.FromStd.{result_unwrap_or};
-ghost use Rattle.acpi_base.specs.Words.{IsEntry, cut};
-ghost use Rattle.acpi_c_lib.specs.Words.{Fills, Writes, result_map, entries_below, entries_from, entries_said, entry_record, left_said, number_place, plain_grammar, walk_layout, width_of_bytes};
+ghost use Rattle.acpi_c_lib.specs.Words.{result_unwrap_or, IsEntry, cut, Fills, Writes, result_map, entries_below, entries_from, entries_said, entry_record, left_said, number_place, plain_grammar, walk_layout, width_of_bytes};
 
 use crate::lists::put;
 use crate::lookup::Lookup;

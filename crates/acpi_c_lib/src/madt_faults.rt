@@ -1,7 +1,6 @@
 //! The entries of a MADT at fault, and the malformed front that ends them.
 ghost use Rattle.std.specs.Prelude.{◌≡◌, ◌+◌, ◌^◌, ◌<◌, ◌≤◌, length};
-ghost use Rattle.acpi_base.specs.Words.{IsEntry, madt_layout};
-ghost use Rattle.acpi_c_lib.specs.Words.{Fills, Writes, madt_fault, madt_faults_below, madt_faults_of, madt_refusal};
+ghost use Rattle.acpi_c_lib.specs.Words.{IsEntry, madt_layout, Fills, Writes, madt_fault, madt_faults_below, madt_faults_of, madt_refusal};
 
 use crate::entry_faults::{EntryFault, entry_fault};
 use crate::lists::put;

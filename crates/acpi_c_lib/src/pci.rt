@@ -1,8 +1,7 @@
 //! PCI configuration space.
 ghost use Rattle.std.specs.Prelude.{◌≡◌, ◌≤◌, IfSome, Some, map};
-ghost use Rattle.acpi_base.specs.Words.{mcfg_entries_left};
-ghost use Rattle.acpi.specs.Words.{ecam_address, region_of};
-ghost use Rattle.acpi_c_lib.specs.Words.{Fills, ecam_below, ecam_ranges_below, pci_regions_below, pci_record, ecam_record, lists_each};
+ghost use Rattle.acpi.specs.Words.{region_of};
+ghost use Rattle.acpi_c_lib.specs.Words.{mcfg_entries_left, ecam_address, Fills, ecam_below, ecam_ranges_below, pci_regions_below, pci_record, ecam_record, lists_each};
 
 use crate::fixed_records::EcamRange;
 use crate::lists::{Listing, fill};

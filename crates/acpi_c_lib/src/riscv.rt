@@ -1,10 +1,8 @@
 //! The harts and interrupt controllers of a RISC-V machine, with no heap: each list is written by a walk along the
 //! entries of the MADT.
 ghost use Rattle.std.specs.Prelude.{◌≡◌, Option, filter_map};
-ghost use Rattle.acpi.specs.Words.{madt_kind};
 ghost use Rattle.acpi_riscv.specs.Words.{entries_left, entries_of};
-ghost use Rattle.acpi_c_lib.specs.Types.{RiscvEntry};
-ghost use Rattle.acpi_c_lib.specs.Words.{Fills, Writes, aplic_in, below_riscv, imsic_in, lists_some, plic_in, rintc_in};
+ghost use Rattle.acpi_c_lib.specs.Words.{madt_kind, RiscvEntry, Fills, Writes, aplic_in, below_riscv, imsic_in, lists_some, plic_in, rintc_in};
 
 use crate::lists::{Listing, fill};
 use crate::opening::first;

@@ -1,8 +1,6 @@
 //! The entries of a SRAT at fault, and the malformed front that ends them.
 ghost use Rattle.std.specs.Prelude.{◌≡◌, ◌+◌, ◌^◌, ◌<◌, ◌≤◌, length};
-ghost use Rattle.acpi_base.specs.Words.{IsEntry};
-ghost use Rattle.acpi_numa.specs.Words.{srat_layout};
-ghost use Rattle.acpi_c_lib.specs.Words.{Fills, Writes, srat_fault, srat_faults_below, srat_faults_of};
+ghost use Rattle.acpi_c_lib.specs.Words.{IsEntry, srat_layout, Fills, Writes, srat_fault, srat_faults_below, srat_faults_of};
 
 use crate::entry_faults::{EntryFault, entry_fault};
 use crate::lists::put;

@@ -1,9 +1,7 @@
 //! Tables that are written for C, from its records, as `acpi_writer` writes them.
 ghost use Rattle.std.specs.Prelude.{◌≡◌, length, take};
-ghost use Rattle.acpi_base.specs.Words.{Gives};
-ghost use Rattle.acpi_c_lib.specs.Words.{AnswersPlain, signature_named};
+ghost use Rattle.acpi_c_lib.specs.Words.{Gives, AnswersPlain, signature_named, Keeps, table_written};
 ghost use Rattle.acpi_c_lib.specs.Writing as writing;
-ghost use Rattle.acpi_writer.specs.Words.{Keeps, table_written};
 
 mod bgrt;
 mod fadt;

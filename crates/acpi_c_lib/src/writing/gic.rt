@@ -1,7 +1,6 @@
 //! The MADT of an Arm machine that is written for C (sections 5.2.12.14 to 5.2.12.18), from its records of the GIC.
 ghost use Rattle.std.specs.Prelude.{◌≡◌, ◌&&◌, ◌^◌, ◌<◌};
-ghost use Rattle.acpi_base.specs.FromStd.{list_all};
-ghost use Rattle.acpi_c_lib.specs.Words.{is_wiring};
+ghost use Rattle.acpi_c_lib.specs.Words.{list_all, is_wiring};
 ghost use Rattle.acpi_c_lib.specs.WrittenGic as written;
 
 use super::madt::{is_wiring, trigger};

@@ -1,8 +1,6 @@
 //! The tables of a whole machine that are written for C, from the records of each table.
 ghost use Rattle.std.specs.Prelude.{◌≡◌, length, take};
-ghost use Rattle.acpi_base.specs.FromStd.{list_all};
-ghost use Rattle.acpi_base.specs.Words.{Gives};
-ghost use Rattle.acpi_c_lib.specs.Words.{IsKeptOr};
+ghost use Rattle.acpi_c_lib.specs.Words.{list_all, Gives, IsKeptOr};
 ghost use Rattle.acpi_c_lib.specs.WrittenMachine as whole;
 
 use crate::fixed_records::FixedHardware;

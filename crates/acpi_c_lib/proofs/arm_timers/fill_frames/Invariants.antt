@@ -1,6 +1,5 @@
 use Rattle.std.proofs.Common.{◌≡◌, ◌+◌, length}
-use Rattle.acpi_arm.specs.Timers.{each_left}
-use Rattle.acpi_c_lib.specs.Words.{put_from, frames_of, frames_shown}
+use Rattle.acpi_c_lib.specs.Words.{each_left, put_from, frames_of, frames_shown}
 use Rattle.acpi_c_lib.proofs.arm_timers.fill_frames.Given as goal
 
 -- what is written and what is left are the whole

@@ -1,6 +1,5 @@
 use Rattle.std.proofs.Common.{◌≡◌, ◌+◌, ◌≤◌, length}
-use Rattle.acpi_base.specs.Words.{cut}
-use Rattle.acpi_c_lib.specs.Words.{put_from, entries_from, plain_grammar}
+use Rattle.acpi_c_lib.specs.Words.{cut, put_from, entries_from, plain_grammar}
 use Rattle.acpi_c_lib.proofs.entries.fill.Given as goal
 
 -- what is written and what is left are the whole, the address is that of what is left, and no more are counted than

@@ -1,7 +1,5 @@
 use Rattle.std.proofs.Common.{◌≡◌}
-use Rattle.acpi_base.specs.FromStd.{list_any}
-use Rattle.acpi_base.specs.Words.{entries_left}
-use Rattle.acpi_c_lib.specs.Words.{is_of_gic}
+use Rattle.acpi_c_lib.specs.Words.{list_any, entries_left, is_of_gic}
 use Rattle.acpi_c_lib.proofs.gic.describes_gic.Given as goal
 
 -- one of those that are left is of a GIC exactly if one of all is

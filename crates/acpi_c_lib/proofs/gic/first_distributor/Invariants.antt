@@ -1,6 +1,5 @@
 use Rattle.std.proofs.Common.{◌≡◌, filter_map, length}
-use Rattle.acpi_base.specs.Words.{cut_of, entries_left, entries_of, rest_left}
-use Rattle.acpi_arm.specs.Gic.{distributor_in}
+use Rattle.acpi_c_lib.specs.Words.{cut_of, entries_left, entries_of, rest_left, distributor_in}
 use Rattle.acpi_c_lib.proofs.gic.first_distributor.Given as goal
 
 -- the distributors of those that are left are all, and the rest is the table's

@@ -1,7 +1,5 @@
 use Rattle.std.proofs.Common.{◌≡◌, ◌+◌, ◌-◌, ◌≤◌, length}
-use Rattle.acpi_base.specs.Words.{cut}
-use Rattle.acpi_arm.specs.Timers.{timer_count, timers_grammar}
-use Rattle.acpi_c_lib.specs.Words.{put_from, faults_from, gtdt_faults_of, last_faults, timer_fault, timers_cut}
+use Rattle.acpi_c_lib.specs.Words.{cut, timer_count, timers_grammar, put_from, faults_from, gtdt_faults_of, last_faults, timer_fault, timers_cut}
 use Rattle.acpi_c_lib.proofs.gtdt_faults.fill_faults.Given as goal
 
 -- what is written and what is left are the whole, as many structures are missing before the same rest, the address is

@@ -1,7 +1,5 @@
 use Rattle.std.proofs.Common.{◌≡◌, ◌+◌, ◌≤◌, length}
-use Rattle.acpi_base.specs.Words.{cut, madt_grammar}
-use Rattle.acpi.specs.Types.{InvalidEntryLength}
-use Rattle.acpi_c_lib.specs.Words.{put_from, faults_from, madt_fault, madt_faults_of, madt_refusal, rest_faults}
+use Rattle.acpi_c_lib.specs.Words.{cut, madt_grammar, InvalidEntryLength, put_from, faults_from, madt_fault, madt_faults_of, madt_refusal, rest_faults}
 use Rattle.acpi_c_lib.proofs.madt_faults.fill_faults.Given as goal
 
 -- what is written and what is left are the whole, the address is that of what is left, and no more are counted than

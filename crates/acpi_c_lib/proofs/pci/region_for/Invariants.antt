@@ -1,6 +1,5 @@
 use Rattle.std.proofs.Common.{◌≡◌, find}
-use Rattle.acpi_base.specs.Words.{mcfg_entries_left}
-use Rattle.acpi.specs.Words.{is_of}
+use Rattle.acpi_c_lib.specs.Words.{mcfg_entries_left, is_of}
 use Rattle.acpi_c_lib.proofs.pci.region_for.Given as goal
 
 abbrev pub invariant-loop-entry : goal.invariant-loop-entry

@@ -1,8 +1,5 @@
 use Rattle.std.proofs.Common.{◌≡◌, ◌+◌, ◌≤◌, length}
-use Rattle.acpi_base.specs.Words.{cut}
-use Rattle.acpi_numa.specs.Words.{revision_of, srat_grammar}
-use Rattle.acpi_c_lib.specs.Types.{InvalidSratEntryLength}
-use Rattle.acpi_c_lib.specs.Words.{put_from, faults_from, rest_faults, srat_fault, srat_faults_of}
+use Rattle.acpi_c_lib.specs.Words.{cut, revision_of, srat_grammar, InvalidSratEntryLength, put_from, faults_from, rest_faults, srat_fault, srat_faults_of}
 use Rattle.acpi_c_lib.proofs.srat_faults.fill_faults.Given as goal
 
 -- what is written and what is left are the whole, the address is that of what is left, and no more are counted than
