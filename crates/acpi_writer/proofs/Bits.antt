@@ -1,10 +1,7 @@
 -- Bytes and flags: single bytes, trigger modes and polarities as they are read, the bytes of numbers, flags in a
 -- number, and checks that were passed.
 use Rattle.std.proofs.Common.{◌≡◌, ℕ, Bool, true, false, List, [], ◌∷◌, Result, Ok, Err, refl, sym, ap, ◌∙◌, arith, ◌^◌, ◌<◌, w16, w32, zero, suc, ◌+◌, ◌*◌, ◌%◌, ◌/◌, ◌≤◌, length, drop, add-one, drop-cons, not, if◌then◌else◌, ◌==◌}
-use Rattle.acpi_base.specs.FromStd.{AllByRecursion, to_le_bytes, from_le_bytes}
-use Rattle.acpi_base.specs.Words.{has_bit, number, spelling, ◌>>=◌, holds}
-use Rattle.acpi.specs.Types.{Polarity, TriggerMode, Edge, Level, SameAsBus}
-use Rattle.acpi_writer.specs.Words.{flags_of, has_polarity, has_trigger, is_edge, is_low, all_checked, FlagsAreRead, flag_number, bit_of}
+use Rattle.acpi_writer.specs.Words.{AllByRecursion, to_le_bytes, from_le_bytes, has_bit, number, spelling, ◌>>=◌, holds, Polarity, TriggerMode, Edge, Level, SameAsBus, flags_of, has_polarity, has_trigger, is_edge, is_low, all_checked, FlagsAreRead, flag_number, bit_of}
 use Rattle.acpi_base.proofs.FromStd.{le_bytes_2, le_bytes_4, get_or, div-div-eq-div-mul, pow-succ', zero-div, pow_mono, length-drop}
 use Rattle.acpi_base.proofs.Words.{length-spelling, number-spelling}
 use Rattle.acpi_image.proofs.Written.{IsBytes-spelling}

@@ -1,13 +1,9 @@
 -- What a reader finds in a FADT that is written, and when one is.
 use Rattle.std.proofs.Common.{◌≡◌, ℕ, zero, suc, ◌+◌, ◌*◌, ◌<◌, true, false, List, [], ◌∷◌, ◌++◌, length, take, drop, get_or, Option, Some, None, Ok, refl, sym, ap, ◌∙◌, arith, lit<, append_assoc, length-append, ◌==◌, nat_le, flat_map, replicate, ok_or, option_map}
-use Rattle.acpi_base.specs.FromStd.{AllByRecursion, list_all}
 use Rattle.acpi_base.proofs.FromStd.{and_parts, drop-drop, drop_at, take_at}
-use Rattle.acpi.specs.Words.{timer_of}
-use Rattle.acpi_base.specs.Words.{generic_address_of, has_bit, field_of, filled_part, part, spelling, header_at}
-use Rattle.acpi.specs.Types.{GenericAddress, AcpiError, InvalidDsdtAddress, InvalidFacsAddress, Fadt}
+use Rattle.acpi.specs.Types.{Fadt}
 use Rattle.acpi_fixed.proofs.Profiles.{profile_read}
-use Rattle.acpi_fixed.specs.Words.{fadt_at, is_profile, pm_timer_of, profile_for, feature_bits, gpe_of, address_or, block_at, extended_address, extended_number, has_extended, optional_block_of, register_of, timer_block_of}
-use Rattle.acpi_writer.specs.Words.{address_fields, address_or_zero, are_blocks, are_placed, arm_flags, body_with, bytes_wide, fadt_body, feature_flags, fixed_of, front_fields, gpe_register, has_address, narrow, pc_flags, registers, wide_fields, AreFitFor, FadtIsRead, HasFields, HasFlags, HasHardware, HasLegacy, HasNeededBlocks, IsFadt, field_at, field_bytes, field_size, field_value, fields_bytes, offset_of, FitsRegister, is_register, register_bytes, FadtContents, FadtHardware, Fixed, Reduced, FixedHardware, TableIds, BadProfile, NoAddress, are_registers, is_block, optional_blocks}
+use Rattle.acpi_writer.specs.Words.{AllByRecursion, list_all, timer_of, generic_address_of, has_bit, field_of, filled_part, part, spelling, header_at, GenericAddress, AcpiError, InvalidDsdtAddress, InvalidFacsAddress, fadt_at, is_profile, pm_timer_of, profile_for, feature_bits, gpe_of, address_or, block_at, extended_address, extended_number, has_extended, optional_block_of, register_of, timer_block_of, address_fields, address_or_zero, are_blocks, are_placed, arm_flags, body_with, bytes_wide, fadt_body, feature_flags, fixed_of, front_fields, gpe_register, has_address, narrow, pc_flags, registers, wide_fields, AreFitFor, FadtIsRead, HasFields, HasFlags, HasHardware, HasLegacy, HasNeededBlocks, IsFadt, field_at, field_bytes, field_size, field_value, fields_bytes, offset_of, FitsRegister, is_register, register_bytes, FadtContents, FadtHardware, Fixed, Reduced, FixedHardware, TableIds, BadProfile, NoAddress, are_registers, is_block, optional_blocks}
 use Rattle.acpi_writer.specs.Fadt.{IsReadAs}
 use Rattle.acpi_base.proofs.Words.{holds_ok}
 use Rattle.acpi_writer.proofs.Bits.{flags_read, is_off, was_true}

@@ -2,8 +2,7 @@
 use Rattle.std.proofs.Common.{◌≡◌, ℕ, zero, suc, ◌+◌, ◌<◌, List, [], ◌∷◌, ◌++◌, length, take, drop, refl, sym, ap, ◌∙◌, arith, append_assoc, replicate, All, ◌*◌, flat_map, length-append}
 use Rattle.acpi_base.proofs.FromStd.{append-nil, take_at, drop_at, drop-drop, length-replicate}
 use Rattle.acpi_base.proofs.Words.{length-spelling, number-spelling}
-use Rattle.acpi_base.specs.Words.{field_of, number, part}
-use Rattle.acpi_writer.specs.Words.{field_at, offset_of, FitsField, field_bytes, field_size, field_value, fields_bytes, Field, U8, U16, U32, U64, Zeros}
+use Rattle.acpi_writer.specs.Words.{field_of, number, part, field_at, offset_of, FitsField, field_bytes, field_size, field_value, fields_bytes, Field, U8, U16, U32, U64, Zeros}
 
 pub field_long : (f : Field) → length (field_bytes f) ≡ field_size f
 field_long (U8 n) = refl

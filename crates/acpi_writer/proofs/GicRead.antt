@@ -1,15 +1,11 @@
 -- What a reader finds in the MADT of an Arm machine that is written.
 use Rattle.std.proofs.Common.{◌≡◌, ℕ, ◌<◌, List, [], ◌∷◌, ◌++◌, map, drop, Option, Some, None, Result, Ok, refl, sym, ap, ◌∙◌, arith, lit≤, lit<, flat_map, if◌then◌else◌, not, slice_get, filter_map, option_map}
-use Rattle.acpi_base.specs.FromStd.{cons_option}
 use Rattle.acpi_base.proofs.FromStd.{and_parts, drop-drop, recursion_from_All}
 use Rattle.acpi_base.proofs.Words.{number-spelling, holds_ok}
-use Rattle.acpi_base.specs.Words.{has_bit, field_of, spelling, shown_of, header_at, cut_of, entries_of, entry_of, madt_grammar, madt_layout, is_left, ◌>>=◌, holds}
 use Rattle.acpi_base.specs.MadtEntries as entry
-use Rattle.acpi.specs.Types.{AcpiError, InvalidMadt, InvalidEntryLength, MADT, MadtEntry}
 use Rattle.acpi_base.specs.declared.tables.madt.entry.MadtEntry.TheVariants as kinds
 use Rattle.acpi_arm.specs.Gic as read
-use Rattle.acpi_writer.specs.Types.{GicModel, GicCpuInterface, GicDistributor, GicMsiFrame, GicRedistributors, GicTranslationService, SpiRange}
-use Rattle.acpi_writer.specs.Words.{Fits, is_edge, all_checked, IsTableOf, bit_of, NoProcessor, TableIds, GicContents, AreGicFit, GicMadtIsRead, IsGicMadt, gic_body, gic_checked, gic_read, gicc_entry, gicc_fields, gicc_list, trace_field, gicd_entry, gicd_fields, gicr_entry, gicr_fields, has_spis, interface_checked, its_entry, its_fields, msi_entry, msi_fields, spis_of, is_empty, madt_fields, FitsField, fields_bytes, Zeros}
+use Rattle.acpi_writer.specs.Words.{cons_option, has_bit, field_of, spelling, shown_of, header_at, cut_of, entries_of, entry_of, madt_grammar, madt_layout, is_left, ◌>>=◌, holds, AcpiError, InvalidMadt, InvalidEntryLength, MADT, MadtEntry, GicModel, GicCpuInterface, GicDistributor, GicMsiFrame, GicRedistributors, GicTranslationService, SpiRange, Fits, is_edge, all_checked, IsTableOf, bit_of, NoProcessor, TableIds, GicContents, AreGicFit, GicMadtIsRead, IsGicMadt, gic_body, gic_checked, gic_read, gicc_entry, gicc_fields, gicc_list, trace_field, gicd_entry, gicd_fields, gicr_entry, gicr_fields, has_spis, interface_checked, its_entry, its_fields, msi_entry, msi_fields, spis_of, is_empty, madt_fields, FitsField, fields_bytes, Zeros}
 use Rattle.acpi_writer.proofs.Bits.{each_good, flag_bits, mode_is, was_true}
 use Rattle.acpi_writer.proofs.FieldsRead.{read_at}
 use Rattle.acpi_writer.proofs.Rows.{Speaks, both_known, in_same, known_same, sorts, speaks_both, speaks_each, speaks_row, spoken, spoken_cut}

@@ -1,12 +1,8 @@
 -- What a reader finds in a GTDT that is written.
 use Rattle.std.proofs.Common.{◌≡◌, ℕ, ◌+◌, ◌%◌, ◌^◌, ◌<◌, true, false, List, [], ◌∷◌, length, drop, Some, Ok, refl, sym, ap, ◌∙◌, arith, lit<, if◌then◌else◌, ◌==◌, flat_map, nat_le, nat_lt, All}
-use Rattle.acpi_base.specs.FromStd.{AllByRecursion}
 use Rattle.acpi_base.proofs.FromStd.{or-true, le-leb, drop-drop, All-from_recursion, recursion_from_All}
-use Rattle.acpi_base.specs.Words.{field_of, part, spelling, header_at}
-use Rattle.acpi_arm.specs.Gtdt.{arm_timer_at, gtdt_at, read_base_of, virtual_el2_of}
 use Rattle.acpi_arm.specs.Timers as read
-use Rattle.acpi_writer.specs.Types.{ArmTimer}
-use Rattle.acpi_writer.specs.Words.{base_checked, is_edge, is_low, all_checked, FitsStructure, GtdtIsRead, IsGtdt, SaysTimers, gtdt_body, gtdt_fields, structure_bytes, structure_checked, timer_checked, timer_flags, FitsField, field_at, field_size, field_value, fields_bytes, offset_of, Field, U32, Zeros, GtdtContents, TableIds}
+use Rattle.acpi_writer.specs.Words.{AllByRecursion, field_of, part, spelling, header_at, arm_timer_at, gtdt_at, read_base_of, virtual_el2_of, ArmTimer, base_checked, is_edge, is_low, all_checked, FitsStructure, GtdtIsRead, IsGtdt, SaysTimers, gtdt_body, gtdt_fields, structure_bytes, structure_checked, timer_checked, timer_flags, FitsField, field_at, field_size, field_value, fields_bytes, offset_of, Field, U32, Zeros, GtdtContents, TableIds}
 use Rattle.acpi_writer.proofs.GtdtStructures.{IsGood, base_is, modes_are, none_missing, structures_many, timers_are}
 use Rattle.acpi_writer.proofs.Tables as table
 use Rattle.acpi_writer.proofs.Bits.{each_good, first_good, flag_bits}

@@ -1,13 +1,8 @@
 -- What a reader finds in the Platform Timer Structures of a GTDT that is written.
 use Rattle.std.proofs.Common.{◌≡◌, ℕ, ◌+◌, ◌*◌, ◌%◌, ◌^◌, ◌<◌, ◌≤◌, lit<, Bool, true, false, List, [], ◌∷◌, ◌++◌, length, map, drop, Option, Some, None, Result, Ok, refl, sym, ap, subst, ◌∙◌, arith, lit≤, inl, inr, length-append, ◌-◌, ◌==◌, flat_map, nat_le, All, filter_map}
-use Rattle.acpi_base.specs.FromStd.{AllByRecursion, concat}
 use Rattle.acpi_base.proofs.FromStd.{or-true, and_parts, le-leb, leb-true, ltb-true, ne_eqb, drop_at, length-map, map-id, recursion_from_All}
-use Rattle.acpi_base.specs.Words.{field_of, spelling, IsEntry, IsFew, number_at, ◌>>=◌, holds}
-use Rattle.acpi.specs.Types.{Polarity, TriggerMode}
-use Rattle.acpi_arm.specs.Gtdt.{polarity_in, trigger_in, unless_ones}
 use Rattle.acpi_arm.specs.Timers as read
-use Rattle.acpi_writer.specs.Types.{GtFrame, SbsaWatchdog}
-use Rattle.acpi_writer.specs.Words.{base_checked, flags_of, is_edge, is_low, modes_checked, FitsField, field_at, field_size, field_value, fields_bytes, offset_of, FitsFrame, FitsStructure, FitsWatchdog, base_of, block_fields, frame_bytes, frame_checked, frame_fields, structure_bytes, structure_checked, timer_read, watchdog_fields, WriterError, TooManyFrames, PlatformTimerContents}
+use Rattle.acpi_writer.specs.Words.{AllByRecursion, concat, field_of, spelling, IsEntry, IsFew, number_at, ◌>>=◌, holds, Polarity, TriggerMode, polarity_in, trigger_in, unless_ones, GtFrame, SbsaWatchdog, base_checked, flags_of, is_edge, is_low, modes_checked, FitsField, field_at, field_size, field_value, fields_bytes, offset_of, FitsFrame, FitsStructure, FitsWatchdog, base_of, block_fields, frame_bytes, frame_checked, frame_fields, structure_bytes, structure_checked, timer_read, watchdog_fields, WriterError, TooManyFrames, PlatformTimerContents}
 use Rattle.acpi_writer.proofs.FieldsRead.{each_long, read_at, read_front}
 use Rattle.acpi_writer.specs.declared.gtdt.PlatformTimerContents.TheVariants as kinds
 use Rattle.acpi_writer.proofs.Bits.{each_good, first_good, flag_bits, mode, mode_is, was_true, way, way_is}

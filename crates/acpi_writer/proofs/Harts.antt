@@ -1,9 +1,7 @@
 -- The nodes of an RHCT's harts.
 use Rattle.std.proofs.Common.{◌≡◌, ℕ, List, map, flat_map}
 use Rattle.std.proofs.lemmas.List.Folds.{flat_map-map}
-use Rattle.acpi_writer.specs.Fields.{fields_bytes}
-use Rattle.acpi_writer.specs.Rhct.{hart_fields, hart_node}
-use Rattle.acpi_writer.specs.declared.rhct.HartNode.{HartNode}
+use Rattle.acpi_writer.specs.Words.{fields_bytes, hart_fields, hart_node, HartNode}
 
 abbrev node : ℕ → HartNode
 node uid = record { 0 = uid }

@@ -1,17 +1,11 @@
 -- What a reader finds of tables that are laid one after the other, and in an image that has one.
 use Rattle.std.proofs.Common.{◌≡◌, ℕ, ◌+◌, ◌-◌, ◌≤◌, Bool, true, false, List, [], ◌∷◌, ◌++◌, length, take, drop, Some, None, Result, Ok, Err, refl, sym, ap, ◌∙◌, arith, if◌then◌else◌, length-append, Option, lit≤, map, ◌&&◌, ◌==◌, nat_le, replicate, bytes_eq}
-use Rattle.acpi_base.specs.FromStd.{result_ok, AllByRecursion}
 use Rattle.acpi_base.proofs.FromStd.{eqb-true, le-leb, drop_at, drop-drop, drop-take, take_all, take_at, set-set}
 use Rattle.acpi_base.proofs.Words.{at-front, lent_inside, lent_is_inside, good_rest, header_front, own_table, own_table_is, passes, served, serves, bind_ok, holds_ok}
-use Rattle.acpi_base.specs.Words.{spelling, field_of, part, sum_of, check_names, check_table, header_at, Memory, HoldsRange, IsMemory, Region, at, rest_from, holds, lent, ◌>>=◌, own_table_at, plain_kind, sdt_kind, table_at, kind, letters_of, Model}
-use Rattle.acpi.specs.Types.{AcpiError, SdtInvalidChecksum, SdtInvalidLength, Signature, PowerProfile}
 use Rattle.acpi.proofs.First.{here}
-use Rattle.acpi.specs.Words.{or_later, fadt_kind, lookup, model_in, platform_of, bytes_found, timer_of}
 use Rattle.acpi_image.proofs.Written.{header_names, table_is, length-with_sum, part_front}
-use Rattle.acpi_writer.specs.Words.{is_named, HasFirst, HasPlatform, HpetInImage, MadtInImage, McfgInImage, PlatformInImage, gap, laid, padded, LaidAreFound, IsValid, IsTableOf, table_bytes, unsummed, hpet_fields, madt_fields, model_read, TableIds, MadtContents}
-use Rattle.acpi_fixed.specs.Words.{fadt_at, profile_of}
-use Rattle.acpi_writer.specs.Types.{PlatformInfo, PmTimer}
-use Rattle.acpi_image.specs.Words.{Plan, pointers_of, records_of, with_sum, sum_byte}
+use Rattle.acpi_writer.specs.Words.{result_ok, AllByRecursion, spelling, field_of, part, sum_of, check_names, check_table, header_at, Memory, HoldsRange, IsMemory, Region, at, rest_from, holds, lent, ◌>>=◌, own_table_at, plain_kind, sdt_kind, table_at, kind, letters_of, Model, AcpiError, SdtInvalidChecksum, SdtInvalidLength, Signature, PowerProfile, or_later, fadt_kind, lookup, model_in, platform_of, bytes_found, timer_of, is_named, HasFirst, HasPlatform, HpetInImage, MadtInImage, McfgInImage, PlatformInImage, gap, laid, padded, LaidAreFound, IsValid, IsTableOf, table_bytes, unsummed, hpet_fields, madt_fields, model_read, TableIds, MadtContents, fadt_at, profile_of, PlatformInfo, PmTimer, Plan, records_of, with_sum, sum_byte}
+use Rattle.acpi_image.specs.Words.{pointers_of}
 use Rattle.acpi_writer.proofs.Bits.{was_true}
 use Rattle.acpi_writer.proofs.ShortTables.{hpet_read, mcfg_read}
 use Rattle.acpi_writer.proofs.MadtRead.{madt_read}

@@ -1,15 +1,10 @@
 -- What a reader finds of a machine that is laid out in memory.
 use Rattle.std.proofs.Common.{◌≡◌, ℕ, ◌+◌, ◌%◌, ◌^◌, ◌<◌, ◌≤◌, true, false, List, [], ◌∷◌, ◌++◌, length, Option, Some, None, Result, Ok, Err, refl, sym, ap, subst, ◌∙◌, arith, lit≤, length-append, ◌*◌, ◌&&◌, ◌==◌, nat_lt, not, replicate, bytes_eq}
-use Rattle.acpi_base.specs.FromStd.{AllByRecursion, result_ok}
 use Rattle.acpi_base.proofs.FromStd.{bytes_eq-Decides, and_parts, le-leb, lt-ltb, ltb-true, All-from_recursion, recursion_from_All}
 use Rattle.acpi_base.proofs.Words.{bind_ok, holds_ok, same_ok}
-use Rattle.acpi_base.specs.Words.{Memory, IsMemory, at, plain_kind, sdt_kind, table_at, letters_of}
-use Rattle.acpi.specs.Types.{AcpiError, Signature, DSDT, FADT, XSDT}
 use Rattle.acpi.proofs.Search.{whole_there}
-use Rattle.acpi.specs.Words.{dsdt_stream, stream_at, stream_of, lookup, facs_place, led_by, range, at_hand, check_rsdp, check_whole, checked_length, rsdp_at}
-use Rattle.acpi_writer.specs.Types.{Xsdt}
 use Rattle.acpi_image.proofs.Written.{table_is}
-use Rattle.acpi_writer.specs.Words.{FitsContents, bytes_of, contents_written, most, or_none, FitsFacs, is_named, addresses, gap, laid, padded, rounded, FacsFits, Machine, after_dsdt, check_by, dsdt_address, dsdt_at, dsdt_end, dsdt_length, dsdt_of, dsdt_written, facs_address, facs_at, facs_from, facs_gap, facs_laid, facs_room, listed, machine_by, pointers_of, rest_bytes, size_by, tables_address, tree_by, tree_bytes, tree_size, xsdt_bytes, xsdt_length, HasFacs, IsOpened, IsWritable, MachineIsRead, TreeIsRead, first_at, first_of, place_of, IsRoot, Leads, rsdp_bytes, AreIds, IsValid, are_texts, AmlContents, TableContents, Fadt, BadName, TooLong, FacsContents, FadtContents, TableIds}
+use Rattle.acpi_writer.specs.Words.{AllByRecursion, result_ok, Memory, IsMemory, at, plain_kind, sdt_kind, table_at, letters_of, AcpiError, Signature, DSDT, FADT, XSDT, dsdt_stream, stream_at, stream_of, lookup, facs_place, led_by, range, at_hand, check_rsdp, check_whole, checked_length, rsdp_at, Xsdt, FitsContents, bytes_of, contents_written, most, or_none, FitsFacs, is_named, addresses, gap, laid, padded, rounded, FacsFits, Machine, after_dsdt, check_by, dsdt_address, dsdt_at, dsdt_end, dsdt_length, dsdt_of, dsdt_written, facs_address, facs_at, facs_from, facs_gap, facs_laid, facs_room, listed, machine_by, pointers_of, rest_bytes, size_by, tables_address, tree_by, tree_bytes, tree_size, xsdt_bytes, xsdt_length, HasFacs, IsOpened, IsWritable, MachineIsRead, TreeIsRead, first_at, first_of, place_of, IsRoot, Leads, rsdp_bytes, AreIds, IsValid, are_texts, AmlContents, TableContents, Fadt, BadName, TooLong, FacsContents, FadtContents, TableIds}
 use Rattle.acpi_writer.proofs.Bits.{is_off}
 use Rattle.acpi_writer.proofs.ContentsRead.{IsContents, all_contents, all_valid, fadt_found, first_found, letters_are, says, table_of}
 use Rattle.acpi_writer.proofs.Headless.{has_facs, laid_long, rsdp_long, rsdp_read}

@@ -1,13 +1,9 @@
 -- What a reader finds in a MADT that is written, and when one is.
 use Rattle.std.proofs.Common.{◌≡◌, ℕ, ◌^◌, Bool, true, false, List, [], ◌∷◌, ◌++◌, map, drop, Option, Some, None, Ok, refl, sym, ap, ◌∙◌, arith, not, if◌then◌else◌, nat_lt, slice_get, filter_map, ok_or}
-use Rattle.acpi_base.specs.FromStd.{AllByRecursion, list_all, list_any}
 use Rattle.acpi_base.proofs.FromStd.{and_parts, ltb-true, drop-drop, recursion_from_All}
 use Rattle.acpi_base.proofs.EntryLists.{processors_are as by_lists}
 use Rattle.acpi_base.proofs.Words.{number-spelling, holds_ok}
-use Rattle.acpi_base.specs.Words.{has_bit, field_of, number, spelling, madt_at, no_mailbox}
-use Rattle.acpi.specs.Types.{InvalidMadt, UnexpectedEntry, NmiLine, MadtItem, MADT}
-use Rattle.acpi_writer.specs.Words.{Fits, bit_of, IsTableOf, TableIds, MadtContents, MadtProcessor, io_apic_entry, is_empty, is_single, madt_body, madt_checked, madt_entries, madt_fields, names_one, nmi_line_entry, nmi_source_entry, override_entry, processor_entry, AreFit, IsMadt, MadtIsRead, MailboxIsRead, apic_read, processor_read, processors_read, IdOfAll, NoProcessor}
-use Rattle.acpi_writer.specs.MadtBytes.{io_apic_fields, nmi_source_fields, override_fields, processor_fields}
+use Rattle.acpi_writer.specs.Words.{AllByRecursion, list_all, list_any, has_bit, field_of, number, spelling, madt_at, no_mailbox, InvalidMadt, UnexpectedEntry, NmiLine, MadtItem, MADT, Fits, bit_of, IsTableOf, TableIds, MadtContents, MadtProcessor, io_apic_entry, is_empty, is_single, madt_body, madt_checked, madt_entries, madt_fields, names_one, nmi_line_entry, nmi_source_entry, override_entry, processor_entry, AreFit, IsMadt, MadtIsRead, MailboxIsRead, apic_read, processor_read, processors_read, IdOfAll, NoProcessor, io_apic_fields, nmi_source_fields, override_fields, processor_fields}
 use Rattle.acpi_writer.proofs.Bits.{is_off, was_true}
 use Rattle.acpi_writer.proofs.Rows.{in_same, in_some, missing, sorts, speaks_all, speaks_both}
 use Rattle.acpi_writer.proofs.MadtEntries.{Says, address_items, address_says, box_in, boxes_are, boxes_read, io_apic_says, nmi_line_says, nmi_source_says, override_says, processor_item, processor_says, spoken_model, spoken_rest, wakeup_items, wakeup_says}

@@ -1,11 +1,8 @@
 -- What a reader finds of a register that is written.
 use Rattle.std.proofs.Common.{◌≡◌, ℕ, ◌<◌, true, false, List, length, lit<, Option, Some, None, Ok, refl, ◌==◌, if◌then◌else◌, zero, suc, arith, ◌-◌, ◌*◌, nat_le, nat_lt}
 use Rattle.acpi_base.proofs.FromStd.{and_parts, append-nil, ne_eqb}
-use Rattle.acpi_base.specs.Words.{generic_address_of, is_named_space, space_code, field_of, filled_part, part, spelling}
 use Rattle.acpi_base.proofs.Words.{size_read, space_read}
-use Rattle.acpi.specs.Types.{GenericAddress, RegisterBlock, GpeBlock}
-use Rattle.acpi_fixed.specs.Words.{gpe_of, block_at, block_of, has_extended, optional_block_of, register_of, timer_block_of, usable_extended}
-use Rattle.acpi_writer.specs.Words.{gpe_length, gpe_register, is_given, port_of, FitsAddress, FitsRegister, address_bytes, address_fields, is_register, register_bytes, register_or_zeros, field_at, field_size, field_value, offset_of, is_block}
+use Rattle.acpi_writer.specs.Words.{generic_address_of, is_named_space, space_code, field_of, filled_part, part, spelling, GenericAddress, RegisterBlock, GpeBlock, gpe_of, block_at, block_of, has_extended, optional_block_of, register_of, timer_block_of, usable_extended, gpe_length, gpe_register, is_given, port_of, FitsAddress, FitsRegister, address_bytes, address_fields, is_register, register_bytes, register_or_zeros, field_at, field_size, field_value, offset_of, is_block}
 use Rattle.acpi_writer.proofs.Bits.{is_off}
 use Rattle.acpi_writer.proofs.FieldsRead.{read_at}
 

@@ -1,11 +1,9 @@
 -- What a reader finds in the MADT of a RISC-V machine that is written.
 use Rattle.std.proofs.Common.{◌≡◌, ℕ, ◌<◌, List, [], ◌∷◌, drop, Option, Some, refl, sym, ap, ◌∙◌, lit≤, lit<}
 use Rattle.acpi_base.proofs.FromStd.{drop-drop, recursion_from_All}
-use Rattle.acpi_base.specs.Words.{madt_grammar, madt_layout, spelling}
-use Rattle.acpi_riscv.specs.Words.{aplic_at, entries_of, entry_of, imsic_at, plic_at, rintc_at}
+use Rattle.acpi_riscv.specs.Words.{entries_of, entry_of}
 use Rattle.acpi_riscv.specs.declared.entry.RiscvEntry.TheVariants as kinds
-use Rattle.acpi_writer.specs.Types.{Aplic, Imsic, Plic, Rintc, RiscvEntry, TableIds}
-use Rattle.acpi_writer.specs.Words.{Fits, IsRiscvMadt, RiscvContents, RiscvMadtIsRead, aplic_entry, aplic_fields, imsic_entry, imsic_fields, madt_fields, plic_entry, plic_fields, rintc_entry, rintc_fields, riscv_body, riscv_read}
+use Rattle.acpi_writer.specs.Words.{madt_grammar, madt_layout, spelling, aplic_at, imsic_at, plic_at, rintc_at, Aplic, Imsic, Plic, Rintc, RiscvEntry, TableIds, Fits, IsRiscvMadt, RiscvContents, RiscvMadtIsRead, aplic_entry, aplic_fields, imsic_entry, imsic_fields, madt_fields, plic_entry, plic_fields, rintc_entry, rintc_fields, riscv_body, riscv_read}
 use Rattle.acpi_writer.proofs.FieldsRead.{read_at}
 use Rattle.acpi_writer.proofs.Rows.{Speaks, in_same, speaks_all, speaks_both, speaks_row, spoken}
 use Rattle.acpi_writer.proofs.Tables as table

@@ -1,12 +1,9 @@
 -- Bytes that are entries, one after the other, which are picked apart again, and lists of sorts.
 use Rattle.std.proofs.Common.{◌≡◌, ℕ, ◌≤◌, Bool, true, false, List, [], ◌∷◌, ◌++◌, length, map, Option, Some, None, refl, sym, ap, ◌∙◌, arith, lit≤, length-append, flat_map, filter_map, if◌then◌else◌}
-use Rattle.acpi_base.specs.FromStd.{AllByRecursion, concat, cons_option}
 pub use Rattle.acpi_base.proofs.FromStd.{append-nil, filter_map-append}
 use Rattle.acpi_base.proofs.FromStd.{concat-append, length-map, map-append, map-id}
 use Rattle.acpi_base.proofs.Words.{cut_is_cut, one_cut}
-use Rattle.acpi_base.specs.Entries.{end_of}
-use Rattle.acpi_base.specs.Words.{IsEntry, IsFew, cut, least_length, number_at, width_of}
-use Rattle.acpi.specs.Types.{EntryLayout, Grammar, Width, One, Two, Four}
+use Rattle.acpi_writer.specs.Words.{AllByRecursion, concat, cons_option, end_of, IsEntry, IsFew, cut, least_length, number_at, width_of, EntryLayout, Grammar, Width, One, Two, Four}
 
 -- ---- entries
 

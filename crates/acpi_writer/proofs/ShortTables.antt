@@ -1,21 +1,14 @@
 -- What a reader finds in the short tables that are written: an HPET, a BGRT, an MCFG, a SLIT, root tables, and tables
 -- of AML.
 use Rattle.std.proofs.Common.{◌≡◌, ℕ, ◌^◌, ◌<◌, Ok, refl, ap, ◌∙◌, arith, ◌+◌, ◌*◌, Bool, true, false, [], ◌∷◌, length, ◌/◌, List, ◌++◌, drop, sym, get_or, lit<, flat_map, Option, Some, slice_get}
-use Rattle.acpi_base.specs.FromStd.{chars, is_utf8, AllByRecursion}
 use Rattle.acpi_base.proofs.Words.{number-spelling}
-use Rattle.acpi_base.specs.Words.{letters_of, bits_of, has_bit, field_of, spelling, mcfg_entries_in, mcfg_entry_at, whole_mcfg_entries}
-use Rattle.acpi.specs.Types.{SLIT, McfgEntry}
-use Rattle.acpi.specs.Words.{hpet_at, protection_code, protection_of, pointers, signature_of, width_of}
-use Rattle.acpi_writer.specs.Types.{PageProtection, RootKind, Rsdt, Xsdt}
-use Rattle.acpi_writer.specs.Words.{hpet_fields, HpetIsRead, BgrtIsRead, bgrt_fields, degrees_of, orientation_code, bit_of, IsTableOf, BgrtOrientation, mcfg_entry, mcfg_fields, FitsMcfg, McfgIsRead, IsSlit, SlitIsRead, slit_body, slit_checked, TableIds, DsdtIsRead, SsdtIsRead, RootIsRead, RootIsValid, root_body}
+use Rattle.acpi.specs.Words.{signature_of, width_of}
+use Rattle.acpi_writer.specs.Words.{chars, is_utf8, AllByRecursion, letters_of, bits_of, has_bit, field_of, spelling, mcfg_entries_in, mcfg_entry_at, whole_mcfg_entries, SLIT, McfgEntry, hpet_at, protection_code, protection_of, pointers, PageProtection, RootKind, Rsdt, Xsdt, hpet_fields, HpetIsRead, BgrtIsRead, bgrt_fields, degrees_of, orientation_code, bit_of, IsTableOf, BgrtOrientation, mcfg_entry, mcfg_fields, FitsMcfg, McfgIsRead, IsSlit, SlitIsRead, slit_body, slit_checked, TableIds, DsdtIsRead, SsdtIsRead, RootIsRead, RootIsValid, root_body, bgrt_at, distance_of, localities_of, root_header, root_length, root_to, root_unsummed, sum_byte, with_sum}
 use Rattle.acpi_writer.proofs.Bits.{was_true}
 use Rattle.acpi_writer.proofs.FieldsRead.{each_long, read_end, read_front}
-use Rattle.acpi_fixed.specs.Words.{bgrt_at}
 use Rattle.acpi_base.proofs.FromStd.{drop_at, drop-drop, get_or-drop, drop-set-lt, recursion_from_All, eqb-true, lt-ltb, mul-add-lt, slice_get-get_or}
-use Rattle.acpi_numa.specs.Words.{distance_of, localities_of}
 use Rattle.acpi_image.proofs.Written.{length-root_header}
 use Rattle.acpi_image.proofs.WrittenRoot.{pointers_are}
-use Rattle.acpi_image.specs.Words.{root_header, root_length, root_to, root_unsummed, sum_byte, with_sum}
 use Rattle.acpi.specs.declared.hpet.PageProtection.TheVariants as protections
 use Rattle.acpi_writer.proofs.Tables as table
 use Rattle.acpi_writer.specs.declared.bgrt.BgrtOrientation.TheVariants as orientations

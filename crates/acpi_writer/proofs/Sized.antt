@@ -3,10 +3,7 @@ use Rattle.std.proofs.Common.{◌≡◌, ℕ, ◌+◌, ◌^◌, ◌<◌, ◌≤�
 use Rattle.acpi_base.proofs.FromStd.{leb-true, ltb-true, All-more, take-put_mid, drop-drop, drop_more, length-map, append-nil, length-replicate, length-take-le, take_at, flat_map-append, take_at_read, length-flat_map-take}
 use Rattle.std.proofs.lemmas.List.{get_or-map}
 use Rattle.acpi_base.proofs.Words.{holds_ok, same_ok, length-spelling}
-use Rattle.acpi_base.specs.Words.{◌>>=◌, spelling}
-use Rattle.acpi.specs.Types.{Signature, XSDT}
-use Rattle.acpi_writer.specs.Types.{Xsdt}
-use Rattle.acpi_writer.specs.Words.{most, or_none, Written, bytes_by, placed_by, sized, is_empty, gap, padded, addresses, laid, rounded, AreIds, are_texts, table_bytes, table_written, said_written, WriterError, TableIds, SratContents, GicContents, MadtContents, gic_meant, madt_meant, srat_meant, MachineOf, after_dsdt, check_each, dsdt_address, dsdt_end, dsdt_of, facs_laid, listed_by, rest_bytes, size_by, tables_address, tree_by, xsdt_by, xsdt_from, xsdt_length, root_body, Measures}
+use Rattle.acpi_writer.specs.Words.{◌>>=◌, spelling, Signature, XSDT, Xsdt, most, or_none, Written, bytes_by, placed_by, sized, is_empty, gap, padded, addresses, laid, rounded, AreIds, are_texts, table_bytes, table_written, said_written, WriterError, TableIds, SratContents, GicContents, MadtContents, gic_meant, madt_meant, srat_meant, MachineOf, after_dsdt, check_each, dsdt_address, dsdt_end, dsdt_of, facs_laid, listed_by, rest_bytes, size_by, tables_address, tree_by, xsdt_by, xsdt_from, xsdt_length, root_body, Measures}
 use Rattle.acpi_writer.proofs.Tables.{table_length}
 use Rattle.acpi_writer.proofs.FieldsRead.{each_long}
 use borrow.Rule.Slice.PartMut.{post_of, put_mid}

@@ -1,14 +1,10 @@
 -- What a reader finds in a SRAT that is written, and when one is.
 use Rattle.std.proofs.Common.{◌≡◌, ℕ, ◌+◌, ◌*◌, ◌/◌, ◌%◌, ◌<◌, lit<, Bool, true, false, List, [], ◌∷◌, ◌++◌, map, drop, Some, None, Ok, refl, sym, ap, ◌∙◌, arith, lit≤, ◌==◌, if◌then◌else◌, nat_lt, All, filter_map}
-use Rattle.acpi_base.specs.FromStd.{last_or, list_all}
 use Rattle.acpi_base.proofs.FromStd.{and_parts, drop-drop, recursion_from_All}
-use Rattle.acpi_base.specs.Words.{field_of, spelling, header_at}
-use Rattle.acpi.specs.Types.{SRAT}
-use Rattle.acpi_numa.specs.Words.{affinities_of, ends_below, range_in, ranges_of, apic_domain, cut_of, entries_of, entry_of, processor_domain, revision_of, srat_grammar, srat_layout}
-use Rattle.acpi_writer.specs.Types.{MemoryRange, SratEntry}
+use Rattle.acpi_numa.specs.Words.{cut_of, entries_of, entry_of}
 use Rattle.acpi_numa.specs.declared.srat.entry.SratEntry.TheVariants as kinds
-use Rattle.acpi_writer.specs.Words.{Fits, SratContents, apic_entry, is_one_apic, is_one_gicc, is_range, memory_entry, memory_fields, range_flags, srat_body, srat_checked, srat_entries, IsSrat, SaysDomains, SratIsRead, IsTableOf, bit_of, IdOfAll, TableIds, ApicDomain, GiccDomain, FitsField, fields_bytes, Zeros}
-use Rattle.acpi_writer.specs.Srat.{apic_fields, gicc_entry, gicc_fields, is_small, local_apic_fields, local_x2apic_fields, AreFit}
+use Rattle.acpi_writer.specs.Words.{last_or, list_all, field_of, spelling, header_at, SRAT, affinities_of, ends_below, range_in, ranges_of, apic_domain, processor_domain, revision_of, srat_grammar, srat_layout, MemoryRange, SratEntry, Fits, SratContents, apic_entry, is_one_apic, is_one_gicc, is_range, memory_entry, memory_fields, range_flags, srat_body, srat_checked, srat_entries, IsSrat, SaysDomains, SratIsRead, IsTableOf, bit_of, IdOfAll, TableIds, ApicDomain, GiccDomain, FitsField, fields_bytes, Zeros, apic_fields}
+use Rattle.acpi_writer.specs.Srat.{gicc_entry, gicc_fields, is_small, local_apic_fields, local_x2apic_fields, AreFit}
 use Rattle.acpi_base.proofs.Words.{holds_ok}
 use Rattle.acpi_writer.proofs.FieldsRead.{read_at}
 use Rattle.acpi_writer.proofs.Bits.{was_true}

@@ -1,13 +1,9 @@
 -- What every table that is written has: that it is valid, and what its header says of its makers.
 use Rattle.std.proofs.Common.{◌≡◌, ℕ, zero, suc, ◌+◌, true, List, [], ◌∷◌, ◌++◌, length, take, drop, get_or, set, Ok, refl, sym, ap, ◌∙◌, arith, eq-eqb, length-append}
-use Rattle.acpi_base.specs.FromStd.{is_utf8}
 use Rattle.acpi_base.proofs.FromStd.{and_from, and_parts, bytes_eq-Decides, le-leb, take_all}
 use Rattle.acpi_base.proofs.Words.{number-spelling}
-use Rattle.acpi_base.specs.Words.{field_of, number, part, spelling, sum_of, check_names, check_table, header_at, letters_of}
-use Rattle.acpi.specs.Types.{Signature}
 use Rattle.acpi_image.proofs.Written.{sum_is_set, length-with_sum, IsTable}
-use Rattle.acpi_image.specs.Words.{is_table, sum_byte, with_sum}
-use Rattle.acpi_writer.specs.Words.{is_named, AreIds, IsTableOf, IsValid, table_bytes, table_head, unsummed, HasIds, IdsAreRead, TableIds}
+use Rattle.acpi_writer.specs.Words.{is_utf8, field_of, number, part, spelling, sum_of, check_names, check_table, header_at, letters_of, Signature, is_table, sum_byte, with_sum, is_named, AreIds, IsTableOf, IsValid, table_bytes, table_head, unsummed, HasIds, IdsAreRead, TableIds}
 use Rattle.acpi_writer.proofs.Bits.{one}
 use Rattle.acpi_writer.proofs.FieldsRead.{part_in}
 

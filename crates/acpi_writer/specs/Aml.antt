@@ -1,8 +1,7 @@
 -- The tables of AML that are written (ACPI 6.4, section 5.2.11).
 use Rattle.std.specs.Prelude.{◌≡◌, ℕ, List, drop}
-use Rattle.acpi.specs.Types.{Signature, DSDT, SSDT}
 use Rattle.acpi_writer.specs.Table.{IsTableOf, IsValid}
-use Rattle.acpi_writer.specs.Types.{TableIds}
+use Rattle.acpi_writer.specs.Types.{Signature, DSDT, SSDT, TableIds}
 
 -- a table of AML is valid, and its AML, from 36 on, is what was given
 pub record IsAmlOf (s : Signature) (aml table : List ℕ) : Type 0 where

@@ -1,12 +1,10 @@
 -- What the tables of an Arm machine share: flags, the trigger mode and the polarity of an interrupt in them, and
 -- addresses that may be missing.
 use Rattle.std.specs.Prelude.{ℕ, ◌+◌, ◌*◌, ◌&&◌, Bool, true, false, nat_lt, Option, Some, None, Result, Ok}
-use Rattle.acpi_base.specs.Words.{holds}
-use Rattle.acpi.specs.Types.{Polarity, TriggerMode}
 use Rattle.acpi_base.specs.declared.model.interrupt.Polarity.TheVariants as polarity
 use Rattle.acpi_base.specs.declared.model.interrupt.TriggerMode.TheVariants as trigger
 use Rattle.acpi_writer.specs.Table.{bit_of}
-use Rattle.acpi_writer.specs.Types.{WriterError, NoAddress, SameAsBus}
+use Rattle.acpi_writer.specs.Types.{holds, Polarity, TriggerMode, WriterError, NoAddress, SameAsBus}
 
 -- four flags, from bit 0 on
 abbrev pub flags_of : Bool → Bool → Bool → Bool → ℕ

@@ -1,14 +1,11 @@
 -- The BGRT that is written (ACPI 6.4, section 5.2.22).
 use Rattle.std.specs.Prelude.{◌≡◌, ℕ, ◌+◌, ◌*◌, List, [], ◌∷◌, Result, All}
-use Rattle.acpi_base.specs.Words.{bits_of, has_bit}
-use Rattle.acpi.specs.Types.{BGRT, Bgrt, Bitmap}
-use Rattle.acpi_fixed.specs.Words.{bgrt_at, image_type_of, offset_of, status_of}
+use Rattle.acpi.specs.Types.{Bgrt}
+use Rattle.acpi_fixed.specs.Words.{offset_of}
 use Rattle.acpi_writer.specs.Fields.{FitsField, fields_bytes}
 use Rattle.acpi_writer.specs.Table.{IsTableOf, IsValid, bit_of, table_written}
-use Rattle.acpi_writer.specs.Types.{BgrtContents, BgrtOrientation, WriterError, TableIds}
+use Rattle.acpi_writer.specs.Types.{bits_of, has_bit, BGRT, Bitmap, bgrt_at, image_type_of, status_of, BgrtContents, BgrtOrientation, WriterError, TableIds, Field, U8, U16, U32, U64}
 use Rattle.acpi_writer.specs.declared.bgrt.BgrtOrientation.TheVariants as orientations
-use Rattle.acpi_writer.specs.declared.fields.Field.{Field}
-use Rattle.acpi_writer.specs.declared.fields.Field.TheVariants.{U8, U16, U32, U64}
 
 -- Orientation Offset: the code of each
 abbrev pub orientation_code : BgrtOrientation → ℕ

@@ -1,6 +1,5 @@
 -- The bytes of a table that an XSDT can list, by what it is to say.
 use Rattle.std.specs.Prelude.{ℕ, ◌-◌, ◌^◌, ◌<◌, List, [], length, Result, Ok, Err, All}
-use Rattle.acpi.specs.Types.{Signature, BGRT, FADT, GTDT, HPET, MADT, MCFG, SLIT, SPCR, SRAT, SSDT}
 use Rattle.acpi_writer.specs.Bgrt.{FitsBgrt, bgrt_written}
 use Rattle.acpi_writer.specs.Fadt.{fadt_written, FitsFadt}
 use Rattle.acpi_writer.specs.GicMadt.{AreGicFit, gic_written}
@@ -15,7 +14,7 @@ use Rattle.acpi_writer.specs.Spcr.{spcr_written, FitsSpcr}
 use Rattle.acpi_writer.specs.Srat.{srat_written}
 use Rattle.acpi_writer.specs.Srat as srat
 use Rattle.acpi_writer.specs.Table.{table_written}
-use Rattle.acpi_writer.specs.Types.{TableContents, Bgrt, Fadt, GicMadt, Gtdt, Hpet, Madt, Mcfg, Slit, Spcr, Srat, Ssdt, WriterError, TableIds}
+use Rattle.acpi_writer.specs.Types.{Signature, BGRT, FADT, GTDT, HPET, MADT, MCFG, SLIT, SPCR, SRAT, SSDT, TableContents, Bgrt, Fadt, GicMadt, Gtdt, Hpet, Madt, Mcfg, Slit, Spcr, Srat, Ssdt, WriterError, TableIds}
 
 -- all the room that a slice can have
 abbrev pub most : ℕ

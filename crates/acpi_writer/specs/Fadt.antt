@@ -1,17 +1,11 @@
 -- The bytes of a FADT that says what is given (ACPI 6.4, section 5.2.9).
 use Rattle.std.specs.Prelude.{ℕ, ◌*◌, ◌/◌, ◌^◌, ◌==◌, ◌&&◌, Bool, true, false, not, if◌then◌else◌, List, [], ◌∷◌, ◌++◌, flat_map, nat_le, nat_lt, replicate, Option, Some, None, Result, ◌≡◌, Ok, All, ok_or, option_map}
-use Rattle.acpi_base.specs.FromStd.{list_all}
-use Rattle.acpi_base.specs.Words.{◌>>=◌, holds, generic_address_of, has_bit}
-use Rattle.acpi.specs.Types.{Undefined, AddressSpace, SystemIo, GenericAddress, FADT, GpeBlock, InvalidFacsAddress, Fadt}
-use Rattle.acpi_fixed.specs.Words.{is_profile, profile_code, dsdt_address_of, facs_address_of, fadt_at, pm_timer_of, profile_of, registers_of, arm_bits, feature_bits, pc_bits, gpe_of, block_of, optional_block_of, register_of}
+use Rattle.acpi.specs.Types.{Fadt}
 use Rattle.acpi_writer.specs.Fields.{fields_bytes, FitsField}
 use Rattle.acpi_writer.specs.Flags.{flag_number, flag_at}
 use Rattle.acpi_writer.specs.Generic.{is_register, register_bytes, register_or_zeros, FitsRegister}
 use Rattle.acpi_writer.specs.Table.{table_written, IsTableOf, IsValid}
-use Rattle.acpi_writer.specs.Types.{WriterError, BadProfile, BadRegister, NoAddress, FadtContents, FadtHardware, Fixed, Reduced, FixedHardware, ArmBootFeatures, FixedFeatures, PcBootFeatures, TableIds, PmTimer, LegacyFields}
-use Rattle.acpi_writer.specs.declared.fields.Field.{Field}
-use Rattle.acpi_writer.specs.declared.fields.Field.TheVariants.{U8, U16, U32, U64, Zeros}
-use Rattle.acpi.specs.Words.{timer_of}
+use Rattle.acpi_writer.specs.Types.{list_all, ◌>>=◌, holds, generic_address_of, has_bit, Undefined, AddressSpace, SystemIo, GenericAddress, FADT, GpeBlock, InvalidFacsAddress, is_profile, profile_code, dsdt_address_of, facs_address_of, fadt_at, pm_timer_of, profile_of, registers_of, arm_bits, feature_bits, pc_bits, gpe_of, block_of, optional_block_of, register_of, WriterError, BadProfile, BadRegister, NoAddress, FadtContents, FadtHardware, Fixed, Reduced, FixedHardware, ArmBootFeatures, FixedFeatures, PcBootFeatures, TableIds, PmTimer, LegacyFields, timer_of, Field, U8, U16, U32, U64, Zeros}
 
 -- ---- the values of fields
 

@@ -1,8 +1,6 @@
 -- The bytes of fields, one after the other.
 use Rattle.std.specs.Prelude.{ℕ, zero, suc, get_or, ◌+◌, ◌^◌, ◌<◌, List, [], ◌∷◌, flat_map, replicate, Option, Some, None, All}
-use Rattle.acpi_base.specs.Words.{spelling}
-use Rattle.acpi_writer.specs.declared.fields.Field.{Field}
-use Rattle.acpi_writer.specs.declared.fields.Field.TheVariants.{U8, U16, U32, U64, Zeros}
+use Rattle.acpi_writer.specs.Types.{spelling, Field, U8, U16, U32, U64, Zeros}
 
 abbrev pub field_bytes : Field → List ℕ
 field_bytes (U8 n) = n ∷ []

@@ -1,21 +1,13 @@
 -- The bytes of registers, as generic addresses (ACPI 6.4, section 5.2.3.2).
 use Rattle.std.specs.Prelude.{ℕ, ◌==◌, ◌&&◌, Bool, true, not, List, [], ◌∷◌, Option, Some, None, All}
-use Rattle.acpi_base.specs.Words.{is_named_space, size_code, space_code}
-use Rattle.acpi.specs.Types.{Undefined, SystemMemory, GenericAddress}
+use Rattle.acpi_writer.specs.Types.{is_named_space, size_code, space_code, Undefined, SystemMemory, GenericAddress, Field, U8, U64}
 use Rattle.acpi_writer.specs.Fields.{FitsField, fields_bytes}
-use Rattle.acpi_writer.specs.declared.fields.Field.{Field}
-use Rattle.acpi_writer.specs.declared.fields.Field.TheVariants.{U8, U64}
 
 -- a register, or one of zeros if there is none
 abbrev pub register_or_zeros : Option GenericAddress → GenericAddress
 register_or_zeros (Some g) = g
-register_or_zeros None = record {
-  address_space = SystemMemory;
-  bit_width = 0;
-  bit_offset = 0;
-  access_size = Undefined;
-  address = 0;
-}
+register_or_zeros None =
+    record { address_space = SystemMemory; bit_width = 0; bit_offset = 0; access_size = Undefined; address = 0 }
 
 -- its fields
 unfoldable pub address_fields : GenericAddress → List Field

@@ -1,18 +1,13 @@
 -- The MADT of an Arm machine: its bytes, and that what was given is what is read (ACPI 6.4, sections 5.2.12.14 to
 -- 5.2.12.18).
 use Rattle.std.specs.Prelude.{◌≡◌, ℕ, ◌&&◌, Bool, false, true, not, List, [], ◌∷◌, ◌++◌, flat_map, Option, Some, None, Result, Ok, All}
-use Rattle.acpi_base.specs.Words.{◌>>=◌, holds}
-use Rattle.acpi.specs.Types.{MADT}
-use Rattle.acpi_arm.specs.Gic.{gic_of}
-use Rattle.acpi_writer.specs.Types.{GicModel, GicCpuInterface, GicDistributor, GicMsiFrame, GicRedistributors, GicTranslationService, SpiRange, WriterError, NoProcessor, SameAsBus, TableIds, GicContents}
+use Rattle.acpi_writer.specs.Types.{◌>>=◌, holds, MADT, gic_of, GicModel, GicCpuInterface, GicDistributor, GicMsiFrame, GicRedistributors, GicTranslationService, SpiRange, WriterError, NoProcessor, SameAsBus, TableIds, GicContents, Field, U8, U16, U32, U64, Zeros}
 use Rattle.acpi_writer.specs.Checked.{all_checked}
 use Rattle.acpi_writer.specs.Arm.{flags_of, has_trigger, is_edge}
 use Rattle.acpi_writer.specs.Fields.{Fits, fields_bytes}
 use Rattle.acpi_writer.specs.MadtBytes.{is_empty, madt_fixed}
 use Rattle.acpi_writer.specs.Spelled.{items_of}
 use Rattle.acpi_writer.specs.Table.{IsTableOf, IsValid, bit_of, table_written}
-use Rattle.acpi_writer.specs.declared.fields.Field.{Field}
-use Rattle.acpi_writer.specs.declared.fields.Field.TheVariants.{U8, U16, U32, U64, Zeros}
 use Rattle.acpi_writer.specs.declared.madt.gic.GicContents as declared
 
 -- ---- entries

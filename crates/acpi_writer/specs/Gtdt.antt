@@ -1,17 +1,11 @@
 -- The GTDT that is written (ACPI 6.4, section 5.2.24), and that what was given is what is read.
 use Rattle.std.specs.Prelude.{◌≡◌, ℕ, ◌+◌, ◌*◌, ◌%◌, ◌^◌, false, List, [], ◌∷◌, ◌++◌, flat_map, length, map, nat_le, Option, Some, None, Result, Ok, All}
 use Rattle.std.proofs.Common.{inl, inr}
-use Rattle.acpi_base.specs.Words.{◌>>=◌, holds}
-use Rattle.acpi.specs.Types.{GTDT}
-use Rattle.acpi_arm.specs.Gtdt.{control_base_of, gtdt_at, read_base_of, virtual_el2_of}
-use Rattle.acpi_arm.specs.Timers.{Timer, missing_of, timers_of}
-use Rattle.acpi_writer.specs.Types.{GtFrame, TimerInterrupt, ArmTimer, SbsaWatchdog, WriterError, TooManyFrames, GtdtContents, GtdtOf, PlatformTimerContents, TableIds, TimerOf}
+use Rattle.acpi_writer.specs.Types.{◌>>=◌, holds, GTDT, control_base_of, gtdt_at, read_base_of, virtual_el2_of, Timer, missing_of, timers_of, GtFrame, TimerInterrupt, ArmTimer, SbsaWatchdog, WriterError, TooManyFrames, GtdtContents, GtdtOf, PlatformTimerContents, TableIds, TimerOf, Field, U8, U16, U32, U64, Zeros}
 use Rattle.acpi_writer.specs.Arm.{base_checked, flags_of, is_edge, is_low, modes_checked}
 use Rattle.acpi_writer.specs.Checked.{all_checked}
 use Rattle.acpi_writer.specs.Fields.{FitsField, fields_bytes}
 use Rattle.acpi_writer.specs.Table.{IsTableOf, IsValid, table_written}
-use Rattle.acpi_writer.specs.declared.fields.Field.{Field}
-use Rattle.acpi_writer.specs.declared.fields.Field.TheVariants.{U8, U16, U32, U64, Zeros}
 use Rattle.acpi_writer.specs.declared.gtdt.PlatformTimerContents.TheVariants as kinds
 
 -- ---- parts

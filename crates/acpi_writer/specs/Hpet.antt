@@ -1,12 +1,8 @@
 -- The bytes of an HPET that says what is given. The layout is that of the IA-PC HPET Specification 1.0a, section 3.2.4.
 use Rattle.std.specs.Prelude.{ℕ, List, [], ◌∷◌, Result, ◌≡◌, Ok, All}
-use Rattle.acpi.specs.Types.{HPET}
-use Rattle.acpi_writer.specs.Types.{HpetInfo, WriterError, TableIds}
-use Rattle.acpi.specs.Words.{protection_code, hpet_at, info_of}
+use Rattle.acpi_writer.specs.Types.{HPET, HpetInfo, WriterError, TableIds, protection_code, hpet_at, info_of, Field, U8, U16, U32, U64, Zeros}
 use Rattle.acpi_writer.specs.Fields.{fields_bytes, FitsField}
 use Rattle.acpi_writer.specs.Table.{table_written, IsTableOf, IsValid}
-use Rattle.acpi_writer.specs.declared.fields.Field.{Field}
-use Rattle.acpi_writer.specs.declared.fields.Field.TheVariants.{U8, U16, U32, U64, Zeros}
 
 -- the fields after the header
 unfoldable pub hpet_fields : HpetInfo → List Field

@@ -1,12 +1,7 @@
 -- What a reader finds in an image by `write_image` that has a table that was written.
 use Rattle.std.specs.Prelude.{◌≡◌, ℕ, Bool, false, List, ◌∷◌, ◌++◌, Ok, bytes_eq}
-use Rattle.acpi_base.specs.FromStd.{AllByRecursion}
-use Rattle.acpi_base.specs.Words.{IsBytes, part, Memory, letters_of}
-use Rattle.acpi_base.specs.declared.model.interrupt.InterruptModel.TheVariants.{Apic}
-use Rattle.acpi.specs.Types.{Signature, HPET, MADT, MCFG, McfgEntry}
-use Rattle.acpi.specs.Words.{hpet_of, found_regions, model_in, platform_of}
-use Rattle.acpi_writer.specs.Types.{HpetInfo, PlatformInfo, TableIds, MadtContents}
-use Rattle.acpi_image.specs.Words.{written, Plan, pointers_of, records_of}
+use Rattle.acpi_writer.specs.Types.{AllByRecursion, IsBytes, part, Memory, letters_of, Apic, Signature, HPET, MADT, MCFG, McfgEntry, hpet_of, found_regions, model_in, platform_of, HpetInfo, PlatformInfo, TableIds, MadtContents, written, Plan, records_of}
+use Rattle.acpi_image.specs.Words.{pointers_of}
 use Rattle.acpi_writer.specs.Hpet.{IsHpet}
 use Rattle.acpi_writer.specs.MadtLaws.{IsMadt, apic_read, model_read, processors_read}
 use Rattle.acpi_writer.specs.Mcfg.{IsMcfg}

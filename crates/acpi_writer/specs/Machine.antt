@@ -1,9 +1,7 @@
 -- A whole machine in one region of memory: the RSDP, the XSDT, a DSDT, a FACS, and the tables that the XSDT lists,
 -- which are things that are written as tables.
 use Rattle.std.specs.Prelude.{◌≡◌, ℕ, ◌+◌, ◌-◌, ◌*◌, ◌^◌, ◌%◌, ◌<◌, ◌==◌, ◌&&◌, Bool, true, not, if◌then◌else◌, List, [], ◌∷◌, ◌++◌, length, map, nat_le, nat_lt, replicate, Option, Some, None, Result, Ok, All}
-use Rattle.acpi_writer.specs.Types.{Xsdt, AmlContents, TableContents, WriterError, BadName, NoAddress, NoRoom, TooLong, FacsContents, TableIds}
-use Rattle.acpi_base.specs.Words.{◌>>=◌, holds}
-use Rattle.acpi.specs.Types.{DSDT, XSDT}
+use Rattle.acpi_writer.specs.Types.{Xsdt, AmlContents, TableContents, WriterError, BadName, NoAddress, NoRoom, TooLong, FacsContents, TableIds, ◌>>=◌, holds, DSDT, XSDT}
 use Rattle.acpi_writer.specs.Contents.{Written, bytes_by, contents_written, most, or_none}
 use Rattle.acpi_writer.specs.Facs.{FitsFacs, facs_bytes}
 use Rattle.acpi_writer.specs.Laid.{addresses, laid, padded, rounded}

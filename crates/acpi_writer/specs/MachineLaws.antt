@@ -10,17 +10,8 @@
 --     timer block, the domains, the distances, the console's serial port, the boot image, the generic timers and the
 --     GIC are exactly those that were passed in; and the DSDT is valid at its address.
 use Rattle.std.specs.Prelude.{◌≡◌, ℕ, ◌+◌, ◌*◌, ◌%◌, ◌<◌, ◌≤◌, ◌&&◌, List, [], ◌∷◌, length, drop, nat_le, slice_get, if◌then◌else◌, Option, Some, None, Result, Ok, Err, bytes_eq}
-use Rattle.acpi_base.specs.FromStd.{AllByRecursion}
-use Rattle.acpi.specs.Words.{hpet_of, dsdt_stream, fadt_kind, stream_of, lookup, opened_by_rsdp, found_regions, facs_place, led_by, range, model_in, platform_of, pointers, rsdp_at}
 use Rattle.acpi.specs.Places as places
-use Rattle.acpi_writer.specs.Types.{PlatformInfo, Xsdt, AmlContents, TableContents, Bgrt, Fadt, GicMadt, Gtdt, Hpet, Madt, Mcfg, Slit, Spcr, Srat, FacsContents, FadtContents, TableIds, MadtContents}
-use Rattle.acpi_base.specs.Words.{Memory, IsMemory, at, ◌>>=◌, Kind, plain_kind, sdt_kind, table_at, letters_of}
-use Rattle.acpi.specs.Types.{AcpiError, TableMissing, Signature, BGRT, DSDT, FADT, GTDT, HPET, MADT, MCFG, SLIT, SPCR, SRAT}
-use Rattle.acpi_base.specs.declared.model.interrupt.InterruptModel.TheVariants.{Apic}
-use Rattle.acpi_arm.specs.Gic.{found_gic}
-use Rattle.acpi_arm.specs.Gtdt.{gtdt_kind}
-use Rattle.acpi_fixed.specs.Words.{bgrt_at, fadt_at}
-use Rattle.acpi_numa.specs.Words.{srat_kind, distance_of}
+use Rattle.acpi_writer.specs.Types.{AllByRecursion, hpet_of, dsdt_stream, fadt_kind, stream_of, lookup, opened_by_rsdp, found_regions, facs_place, led_by, range, model_in, platform_of, pointers, rsdp_at, PlatformInfo, Xsdt, AmlContents, TableContents, Bgrt, Fadt, GicMadt, Gtdt, Hpet, Madt, Mcfg, Slit, Spcr, Srat, FacsContents, FadtContents, TableIds, MadtContents, Memory, IsMemory, at, ◌>>=◌, Kind, plain_kind, sdt_kind, table_at, letters_of, AcpiError, TableMissing, Signature, BGRT, DSDT, FADT, GTDT, HPET, MADT, MCFG, SLIT, SPCR, SRAT, Apic, found_gic, gtdt_kind, bgrt_at, fadt_at, srat_kind, distance_of}
 use Rattle.acpi_writer.specs.Bgrt.{SaysImage}
 use Rattle.acpi_writer.specs.Contents.{FitsContents, bytes_of, contents_written, placed, signature_of}
 use Rattle.acpi_writer.specs.Facs as structure

@@ -1,15 +1,10 @@
 -- The bytes of a MADT that says what is given (ACPI 6.4, section 5.2.12).
 use Rattle.std.specs.Prelude.{ℕ, ◌+◌, ◌*◌, ◌^◌, ◌&&◌, Bool, true, false, not, if◌then◌else◌, List, [], ◌∷◌, ◌++◌, flat_map, nat_lt, Option, Some, None, Result}
-use Rattle.acpi_base.specs.FromStd.{list_all}
-use Rattle.acpi_base.specs.Words.{line_code, polarity_code, trigger_code, ◌>>=◌, holds}
-use Rattle.acpi.specs.Types.{MADT, InterruptSourceOverride, IoApic, NmiLine, NmiProcessor, NmiSource, Polarity, TriggerMode}
 use Rattle.acpi_base.specs.declared.model.interrupt.NmiProcessor.TheVariants as nmi
 use Rattle.acpi_writer.specs.Fields.{fields_bytes}
 use Rattle.acpi_writer.specs.Spelled.{items_of}
 use Rattle.acpi_writer.specs.Table.{bit_of, table_written}
-use Rattle.acpi_writer.specs.Types.{WriterError, IdOfAll, NoProcessor, UidOfAll, TableIds, MadtContents, MadtProcessor}
-use Rattle.acpi_writer.specs.declared.fields.Field.{Field}
-use Rattle.acpi_writer.specs.declared.fields.Field.TheVariants.{U8, U16, U32, U64, Zeros}
+use Rattle.acpi_writer.specs.Types.{list_all, line_code, polarity_code, trigger_code, ◌>>=◌, holds, MADT, InterruptSourceOverride, IoApic, NmiLine, NmiProcessor, NmiSource, Polarity, TriggerMode, WriterError, IdOfAll, NoProcessor, UidOfAll, TableIds, MadtContents, MadtProcessor, Field, U8, U16, U32, U64, Zeros}
 use Rattle.acpi_writer.specs.declared.madt.MadtContents as declared
 
 -- ---- entries

@@ -1,13 +1,11 @@
 -- What holds of a MADT that is written: what was given is what is read.
 use Rattle.std.specs.Prelude.{◌≡◌, ℕ, Bool, true, false, List, [], ◌∷◌, map, Option, Some, None, Ok, All, ok_or}
-use Rattle.acpi_base.specs.FromStd.{list_all}
-use Rattle.acpi_base.specs.Words.{mailbox_of, Model, model_of, state_of}
-use Rattle.acpi.specs.Types.{InvalidMadt, UnexpectedEntry, MADT, Apic, Processor, ProcessorInfo}
+use Rattle.acpi.specs.Types.{Apic}
 use Rattle.acpi_base.specs.declared.model.interrupt.InterruptModel.TheVariants as model
 use Rattle.acpi_writer.specs.Fields.{Fits}
 use Rattle.acpi_writer.specs.MadtBytes.{address_fields, mailbox_fields, io_apic_fields, is_empty, madt_body, names_one, nmi_source_fields, override_fields, processor_fields}
 use Rattle.acpi_writer.specs.Table.{IsTableOf, IsValid}
-use Rattle.acpi_writer.specs.Types.{TableIds, MadtContents, MadtProcessor}
+use Rattle.acpi_writer.specs.Types.{list_all, mailbox_of, Model, model_of, state_of, InvalidMadt, UnexpectedEntry, MADT, Processor, ProcessorInfo, TableIds, MadtContents, MadtProcessor}
 
 -- ---- which numbers have a place in an entry
 

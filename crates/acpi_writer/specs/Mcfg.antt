@@ -1,12 +1,8 @@
 -- The bytes of an MCFG that says what is given. The layout is that of the PCI Firmware Specification, section 4.1.2.
 use Rattle.std.specs.Prelude.{ℕ, List, [], ◌∷◌, ◌++◌, flat_map, replicate, Result, ◌≡◌, All}
-use Rattle.acpi.specs.Types.{MCFG, McfgEntry}
 use Rattle.acpi_writer.specs.Fields.{fields_bytes, FitsField}
 use Rattle.acpi_writer.specs.Table.{table_written, IsTableOf, IsValid}
-use Rattle.acpi_writer.specs.Types.{WriterError, TableIds}
-use Rattle.acpi_writer.specs.declared.fields.Field.{Field}
-use Rattle.acpi_writer.specs.declared.fields.Field.TheVariants.{U8, U16, U64, Zeros}
-use Rattle.acpi_base.specs.Words.{mcfg_entries_of}
+use Rattle.acpi_writer.specs.Types.{MCFG, McfgEntry, WriterError, TableIds, mcfg_entries_of, Field, U8, U16, U64, Zeros}
 
 -- a region
 unfoldable pub mcfg_fields : McfgEntry → List Field

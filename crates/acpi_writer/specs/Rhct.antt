@@ -1,13 +1,8 @@
 -- The RHCT that is written (ACPI 6.6, RISC-V Hart Capabilities Table).
 use Rattle.std.specs.Prelude.{ℕ, ◌+◌, ◌-◌, ◌%◌, nat_lt, codes, List, [], ◌∷◌, ◌++◌, length, flat_map, replicate, Result}
-use Rattle.acpi_base.specs.Words.{◌>>=◌, holds}
-use Rattle.acpi.specs.Types.{Signature}
 use Rattle.acpi_writer.specs.Fields.{fields_bytes}
 use Rattle.acpi_writer.specs.Table.{table_written}
-use Rattle.acpi_writer.specs.Types.{NoProcessor, TableIds, TooLong, WriterError}
-use Rattle.acpi_writer.specs.declared.fields.Field.{Field}
-use Rattle.acpi_writer.specs.declared.fields.Field.TheVariants.{U16, U32, U64}
-use Rattle.acpi_writer.specs.declared.rhct.RhctContents.{RhctContents}
+use Rattle.acpi_writer.specs.Types.{◌>>=◌, holds, Signature, NoProcessor, TableIds, TooLong, WriterError, Field, U16, U32, U64, RhctContents}
 
 abbrev pub rhct_signature : Signature
 rhct_signature = record { 0 = codes "RHCT" }

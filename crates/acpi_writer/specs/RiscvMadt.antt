@@ -1,16 +1,10 @@
 -- The MADT of a RISC-V machine: its bytes, and that what was passed is what is read (ACPI 6.6, section 5.2.12).
 use Rattle.std.specs.Prelude.{◌≡◌, ℕ, false, not, List, [], ◌∷◌, ◌++◌, map, flat_map, Result, All}
-use Rattle.acpi_base.specs.Words.{◌>>=◌, holds}
-use Rattle.acpi.specs.Types.{MADT}
-use Rattle.acpi_riscv.specs.Words.{entries_of}
 use Rattle.acpi_riscv.specs.declared.entry.RiscvEntry.TheVariants as kinds
 use Rattle.acpi_writer.specs.Fields.{Fits, fields_bytes}
 use Rattle.acpi_writer.specs.MadtBytes.{is_empty, madt_fixed}
 use Rattle.acpi_writer.specs.Table.{IsTableOf, IsValid, table_written}
-use Rattle.acpi_writer.specs.Types.{Aplic, Imsic, NoProcessor, Plic, Rintc, RiscvEntry, TableIds, WriterError}
-use Rattle.acpi_writer.specs.declared.fields.Field.{Field}
-use Rattle.acpi_writer.specs.declared.fields.Field.TheVariants.{U8, U16, U32, U64, Zeros}
-use Rattle.acpi_writer.specs.declared.madt.riscv.RiscvContents.{RiscvContents}
+use Rattle.acpi_writer.specs.Types.{◌>>=◌, holds, MADT, entries_of, Aplic, Imsic, NoProcessor, Plic, Rintc, RiscvEntry, TableIds, WriterError, Field, U8, U16, U32, U64, Zeros, RiscvContents}
 
 -- ---- entries
 

@@ -1,8 +1,7 @@
 -- The root tables that are written: the RSDT and the XSDT (ACPI 6.4, sections 5.2.7 and 5.2.8).
 use Rattle.std.specs.Prelude.{◌≡◌, ℕ, ◌^◌, ◌<◌, List, drop, flat_map, Result, All}
-use Rattle.acpi.specs.Words.{pointers, signature_of, width_of}
-use Rattle.acpi_writer.specs.Types.{RootKind, WriterError, TableIds}
-use Rattle.acpi_base.specs.Words.{spelling}
+use Rattle.acpi.specs.Words.{signature_of}
+use Rattle.acpi_writer.specs.Types.{pointers, width_of, RootKind, WriterError, TableIds, spelling}
 use Rattle.acpi_writer.specs.Table.{IsTableOf, IsValid, table_written}
 
 -- after the header: Entry, the addresses in order

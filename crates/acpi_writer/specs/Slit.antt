@@ -1,10 +1,7 @@
 -- The SLIT that is written (ACPI 6.4, section 5.2.17).
 use Rattle.std.specs.Prelude.{◌≡◌, ℕ, ◌+◌, ◌*◌, ◌^◌, ◌<◌, ◌==◌, List, ◌++◌, length, slice_get, Result}
-use Rattle.acpi_base.specs.Words.{spelling, ◌>>=◌, holds}
-use Rattle.acpi.specs.Types.{SLIT}
-use Rattle.acpi_numa.specs.Words.{distance_of}
 use Rattle.acpi_writer.specs.Table.{IsTableOf, IsValid, table_written}
-use Rattle.acpi_writer.specs.Types.{WriterError, BadMatrix, TableIds}
+use Rattle.acpi_writer.specs.Types.{spelling, ◌>>=◌, holds, SLIT, distance_of, WriterError, BadMatrix, TableIds}
 
 -- after the header: at 36 Number of System Localities; from 44 on Entry, row by row
 abbrev pub slit_body : ℕ → List ℕ → List ℕ

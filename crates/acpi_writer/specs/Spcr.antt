@@ -1,27 +1,17 @@
 -- The bytes of an SPCR that says what is given (ACPI 6.4, section 5.2.6). The layout is Microsoft's.
 use Rattle.std.specs.Prelude.{ℕ, ◌+◌, ◌%◌, ◌^◌, ◌==◌, ◌&&◌, Bool, true, not, if◌then◌else◌, List, [], ◌∷◌, ◌++◌, length, nat_lt, Option, Some, None, Result, ◌≡◌, IsUtf8, Ok, All, option_map}
-use Rattle.acpi_base.specs.Words.{interface_code, is_interface, is_named_space, size_code, space_code, flow_bits, interrupt_bits, terminal_bits, ◌>>=◌, holds, bits_of, has_bit, baud_of, bus_of, clock_of, device_id_of, device_of, flow_byte, function_of, interface_in, interrupt_byte, interrupt_of, irq_of, namespace_of, spcr_at, terminal_byte, unless, vendor_id_of}
-use Rattle.acpi.specs.Types.{GenericAddress, SPCR, AcpiError, Spcr}
+use Rattle.acpi.specs.Types.{Spcr}
 use Rattle.acpi_writer.specs.Fields.{fields_bytes, FitsField}
 use Rattle.acpi_writer.specs.Generic.{register_or_zeros}
 use Rattle.acpi_writer.specs.Table.{table_written, IsTableOf, IsValid}
-use Rattle.acpi_writer.specs.Types.{WriterError, BadCode, LongName, NoAddress, TableIds, SpcrContents, SpcrPciDevice}
-use Rattle.acpi_writer.specs.declared.fields.Field.{Field}
-use Rattle.acpi_writer.specs.declared.fields.Field.TheVariants.{U8, U16, U32, U64, Zeros}
+use Rattle.acpi_writer.specs.Types.{interface_code, is_interface, is_named_space, size_code, space_code, flow_bits, interrupt_bits, terminal_bits, ◌>>=◌, holds, bits_of, has_bit, baud_of, bus_of, clock_of, device_id_of, device_of, flow_byte, function_of, interface_in, interrupt_byte, interrupt_of, irq_of, namespace_of, spcr_at, terminal_byte, unless, vendor_id_of, GenericAddress, SPCR, AcpiError, WriterError, BadCode, LongName, NoAddress, TableIds, SpcrContents, SpcrPciDevice, Field, U8, U16, U32, U64, Zeros}
 use Rattle.acpi_base.specs.Spcr.{base_of}
 
 -- the PCI device: if there is none, its ids are 0xffff, and its other numbers 0
 abbrev pub device_written : Option SpcrPciDevice → SpcrPciDevice
 device_written (Some d) = d
-device_written None = record {
-  device_id = 0xffff;
-  vendor_id = 0xffff;
-  bus = 0;
-  device = 0;
-  function = 0;
-  flags = 0;
-  segment = 0;
-}
+device_written None =
+    record { device_id = 0xffff; vendor_id = 0xffff; bus = 0; device = 0; function = 0; flags = 0; segment = 0 }
 
 -- Configured Baud Rate: the code of a rate; 0 leaves it as it is
 abbrev pub baud_code : ℕ → ℕ

@@ -1,17 +1,9 @@
 -- The bytes of a SRAT that says what is given (ACPI 6.4, section 5.2.16).
 use Rattle.std.specs.Prelude.{ℕ, ◌+◌, ◌*◌, ◌/◌, ◌%◌, ◌^◌, ◌==◌, ◌&&◌, Bool, not, if◌then◌else◌, List, [], ◌∷◌, ◌++◌, flat_map, nat_lt, Result, ◌≡◌, true, Option, None, Some, Ok, All, filter_map}
-use Rattle.acpi_base.specs.FromStd.{list_all, last_or}
-use Rattle.acpi_base.specs.Words.{◌>>=◌, holds}
-use Rattle.acpi.specs.Types.{SRAT}
-use Rattle.acpi_numa.specs.Words.{ends_below, affinities_of, domain_of_apic, domain_of_processor}
-use Rattle.acpi_writer.specs.Types.{MemoryRange, WriterError, BadRange, IdOfAll, SratContents, TableIds}
+use Rattle.acpi_writer.specs.Types.{list_all, last_or, ◌>>=◌, holds, SRAT, ends_below, affinities_of, domain_of_apic, domain_of_processor, MemoryRange, WriterError, BadRange, IdOfAll, SratContents, TableIds, Field, U8, U16, U32, U64, Zeros, ApicDomain, GiccDomain}
 use Rattle.acpi_writer.specs.Fields.{fields_bytes, Fits}
 use Rattle.acpi_writer.specs.Spelled.{items_of}
 use Rattle.acpi_writer.specs.Table.{bit_of, table_written, IsTableOf, IsValid}
-use Rattle.acpi_writer.specs.declared.fields.Field.{Field}
-use Rattle.acpi_writer.specs.declared.fields.Field.TheVariants.{U8, U16, U32, U64, Zeros}
-use Rattle.acpi_writer.specs.declared.srat.ApicDomain.{ApicDomain}
-use Rattle.acpi_writer.specs.declared.srat.GiccDomain.{GiccDomain}
 use Rattle.acpi_writer.specs.declared.srat.SratContents as declared
 
 -- the contents that those with things that stand for ranges stand for

@@ -1,10 +1,6 @@
 -- What every table that is written has: a header (ACPI 6.4, section 5.2.6), a length that fits, and room.
 use Rattle.std.specs.Prelude.{◌≡◌, ℕ, ◌+◌, ◌^◌, ◌≤◌, ◌<◌, ◌&&◌, Bool, true, if◌then◌else◌, List, [], ◌∷◌, ◌++◌, length, drop, nat_le, nat_lt, Result, Ok, Err}
-use Rattle.acpi_base.specs.FromStd.{is_utf8}
-use Rattle.acpi_base.specs.Words.{number, spelling, check_table, header_at, ◌>>=◌, holds, letters_of}
-use Rattle.acpi.specs.Types.{SdtHeader, Signature}
-use Rattle.acpi_image.specs.Words.{is_table, with_sum}
-use Rattle.acpi_writer.specs.Types.{WriterError, BadName, NoRoom, TooLong, TableIds}
+use Rattle.acpi_writer.specs.Types.{is_utf8, number, spelling, check_table, header_at, ◌>>=◌, holds, letters_of, SdtHeader, Signature, is_table, with_sum, WriterError, BadName, NoRoom, TooLong, TableIds}
 
 -- yes and no, as a bit
 abbrev pub bit_of : Bool → ℕ

@@ -1,8 +1,6 @@
 //! Tables of AML: the DSDT (section 5.2.11.1) and SSDTs (section 5.2.11.2), from AML bytes, taken as they are.
 ghost use Rattle.std.specs.Prelude.{◌≡◌, length, take, IfOk, Ok};
-ghost use Rattle.acpi_base.specs.Words.{Gives};
-ghost use Rattle.acpi.specs.Types.{DSDT, SSDT};
-ghost use Rattle.acpi_writer.specs.Words.{IsTableOf, Keeps, table_written};
+ghost use Rattle.acpi_writer.specs.Words.{Gives, DSDT, SSDT, IsTableOf, Keeps, table_written};
 
 use crate::contents::AmlContents;
 use crate::error::WriterError;

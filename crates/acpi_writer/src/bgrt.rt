@@ -1,9 +1,7 @@
 //! The Boot Graphics Resource Table (BGRT, section 5.2.22), from what it says of an image.
 ghost use Rattle.std.specs.Prelude.{◌≡◌, ◌≤◌, length, take, IfOk, Ok};
-ghost use Rattle.acpi.specs.Types.{BGRT};
-ghost use Rattle.acpi_base.specs.Words.{Gives};
 ghost use Rattle.acpi_writer.specs.Bgrt as bgrt;
-ghost use Rattle.acpi_writer.specs.Words.{Keeps};
+ghost use Rattle.acpi_writer.specs.Words.{BGRT, Gives, Keeps};
 
 use crate::error::WriterError;
 use crate::fields::{Field, Record};

@@ -1,8 +1,7 @@
 //! The Firmware ACPI Control Structure (FACS, section 5.2.10).
 ghost use Rattle.std.specs.Prelude.{◌≡◌, length, take, IfOk};
-ghost use Rattle.acpi_base.specs.Words.{Gives};
 ghost use Rattle.acpi_writer.specs.Facs as facs;
-ghost use Rattle.acpi_writer.specs.Words.{Keeps};
+ghost use Rattle.acpi_writer.specs.Words.{Gives, Keeps};
 
 use crate::error::WriterError;
 use crate::numbers::{bit_of, dword, qword};

@@ -1,10 +1,6 @@
 //! The Fixed ACPI Description Table (FADT, section 5.2.9), from the hardware and the features that it is to say.
 ghost use Rattle.std.specs.Prelude.{◌≡◌, length, take, IfOk};
-ghost use Rattle.acpi.specs.Types.{FADT};
-ghost use Rattle.acpi_base.specs.FromStd.{list_all};
-ghost use Rattle.acpi_base.specs.Words.{Gives};
-ghost use Rattle.acpi_writer.specs.Words.{IsFadt, Keeps, FitsFadt};
-ghost use Rattle.acpi_fixed.specs.Words.{is_profile};
+ghost use Rattle.acpi_writer.specs.Words.{FADT, list_all, Gives, IsFadt, Keeps, FitsFadt, is_profile};
 ghost use Rattle.acpi_writer.specs.Fadt as bytes;
 
 mod contents;

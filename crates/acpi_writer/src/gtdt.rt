@@ -1,8 +1,6 @@
 //! The Generic Timer Description Table (GTDT, section 5.2.24), from the timers of an Arm machine.
 ghost use Rattle.std.specs.Prelude.{◌≡◌, length, take, IfOk};
-ghost use Rattle.acpi.specs.Types.{GTDT};
-ghost use Rattle.acpi_base.specs.Words.{Gives};
-ghost use Rattle.acpi_writer.specs.Words.{AreTimersFitBy, IsGtdtBy, gtdt_body_by, gtdt_checked_by, gtdt_written_by, Keeps};
+ghost use Rattle.acpi_writer.specs.Words.{GTDT, Gives, AreTimersFitBy, IsGtdtBy, gtdt_body_by, gtdt_checked_by, gtdt_written_by, Keeps};
 
 mod structures;
 

@@ -1,9 +1,7 @@
 //! The High Precision Event Timer table (HPET), from what it says of its event timer block.
 ghost use Rattle.std.specs.Prelude.{◌≡◌, length, take, IfOk, Ok};
-ghost use Rattle.acpi.specs.Types.{HPET};
-ghost use Rattle.acpi_base.specs.Words.{Gives};
 ghost use Rattle.acpi_writer.specs.Hpet as bytes;
-ghost use Rattle.acpi_writer.specs.Words.{IsHpet, Keeps};
+ghost use Rattle.acpi_writer.specs.Words.{HPET, Gives, IsHpet, Keeps};
 
 use crate::error::WriterError;
 use crate::fields::{Field, Record};

@@ -1,7 +1,6 @@
 //! A whole machine, laid out in one region of a guest's memory.
 ghost use Rattle.std.specs.Prelude.{◌≡◌, ◌+◌, ◌*◌, ◌^◌, ◌<◌, ◌≤◌, ◌++◌, flat_map, length, map, take, IfOk, All};
-ghost use Rattle.acpi_base.specs.Words.{spelling, Gives};
-ghost use Rattle.acpi_writer.specs.Words.{bytes_by, addresses, laid, padded, rounded, rsdp_bytes, Keeps};
+ghost use Rattle.acpi_writer.specs.Words.{spelling, Gives, bytes_by, addresses, laid, padded, rounded, rsdp_bytes, Keeps};
 ghost use Rattle.acpi_writer.specs.Machine as whole;
 
 use crate::aml::Aml;

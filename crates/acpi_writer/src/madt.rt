@@ -1,9 +1,6 @@
 //! The Multiple APIC Description Table (MADT, section 5.2.12), from lists of processors and interrupt controllers.
 ghost use Rattle.std.specs.Prelude.{◌≡◌, length, map, not, take, IfOk};
-ghost use Rattle.acpi_base.specs.FromStd.{list_all};
-ghost use Rattle.acpi_base.specs.Words.{Gives};
-ghost use Rattle.acpi_writer.specs.Words.{AreFit, IsMadt, Keeps};
-ghost use Rattle.acpi.specs.Types.{MADT};
+ghost use Rattle.acpi_writer.specs.Words.{list_all, Gives, AreFit, IsMadt, Keeps, MADT};
 ghost use Rattle.acpi_writer.specs.MadtBytes as bytes;
 
 mod entries;

@@ -1,8 +1,6 @@
 //! The PCI Express memory mapped configuration space table (MCFG), from its regions.
 ghost use Rattle.std.specs.Prelude.{◌≡◌, length, map, take, IfOk, Ok, All};
-ghost use Rattle.acpi.specs.Types.{MCFG};
-ghost use Rattle.acpi_base.specs.Words.{Gives};
-ghost use Rattle.acpi_writer.specs.Words.{FitsMcfg, IsMcfg, Keeps};
+ghost use Rattle.acpi_writer.specs.Words.{MCFG, Gives, FitsMcfg, IsMcfg, Keeps};
 ghost use Rattle.acpi_writer.specs.Mcfg as bytes;
 
 use crate::error::WriterError;

@@ -1,7 +1,6 @@
 //! The bytes of numbers, the lowest first, and of yes and no.
 ghost use Rattle.std.specs.Prelude.{◌≡◌};
-ghost use Rattle.acpi_base.specs.Words.{spelling};
-ghost use Rattle.acpi_writer.specs.Words.{bit_of};
+ghost use Rattle.acpi_writer.specs.Words.{spelling, bit_of};
 
 /// The two bytes of a number, the lowest first.
 #[tactic(auto, using(crate::proofs::Bits::two_bytes))]

@@ -1,8 +1,7 @@
 //! The RISC-V Hart Capabilities Table (RHCT, ACPI 6.6), of harts that all have one ISA string.
 ghost use Rattle.std.specs.Prelude.{◌≡◌, ◌^◌, ◌<◌, length, take, IfOk};
-ghost use Rattle.acpi_base.specs.Words.{Gives};
-ghost use Rattle.acpi_writer.specs.Rhct.{front_fields, hart_fields, rhct_checked, rhct_written};
-ghost use Rattle.acpi_writer.specs.Words.{Keeps};
+ghost use Rattle.acpi_writer.specs.Rhct.{front_fields};
+ghost use Rattle.acpi_writer.specs.Words.{Gives, hart_fields, rhct_checked, rhct_written, Keeps};
 
 use crate::error::WriterError;
 use crate::fields::{Field, Record};

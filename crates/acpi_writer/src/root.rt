@@ -1,8 +1,6 @@
 //! The root tables: the RSDT (section 5.2.7) and the XSDT (section 5.2.8), from the addresses of the tables.
 ghost use Rattle.std.specs.Prelude.{◌≡◌, ◌^◌, ◌<◌, length, take, IfOk};
-ghost use Rattle.acpi_writer.specs.Types.{Rsdt, Xsdt};
-ghost use Rattle.acpi_base.specs.Words.{spelling, Gives};
-ghost use Rattle.acpi_writer.specs.Words.{IsRoot, root_written, Keeps};
+ghost use Rattle.acpi_writer.specs.Words.{Rsdt, Xsdt, spelling, Gives, IsRoot, root_written, Keeps};
 
 use crate::error::WriterError;
 use crate::fields::Field;

@@ -1,8 +1,7 @@
 //! The Root System Description Pointer (RSDP, section 5.2.5.3), from the address of an XSDT.
 ghost use Rattle.std.specs.Prelude.{◌≡◌, ◌+◌, ◌<◌, length, take, drop, ◌++◌, IfOk};
-ghost use Rattle.acpi_base.specs.Words.{Gives};
 ghost use Rattle.acpi_writer.specs.Rsdp as rsdp;
-ghost use Rattle.acpi_writer.specs.Words.{Keeps, front_written};
+ghost use Rattle.acpi_writer.specs.Words.{Gives, Keeps, front_written};
 
 use crate::error::WriterError;
 use crate::ids::TableIds;

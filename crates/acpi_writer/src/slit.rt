@@ -1,8 +1,6 @@
 //! The System Locality Information Table (SLIT, section 5.2.17), from the distances between localities.
 ghost use Rattle.std.specs.Prelude.{◌≡◌, ◌*◌, ◌==◌, ◌^◌, ◌<◌, length, take, IfOk};
-ghost use Rattle.acpi.specs.Types.{SLIT};
-ghost use Rattle.acpi_base.specs.Words.{Gives};
-ghost use Rattle.acpi_writer.specs.Words.{IsSlit, slit_body, slit_checked, slit_written, Keeps};
+ghost use Rattle.acpi_writer.specs.Words.{SLIT, Gives, IsSlit, slit_body, slit_checked, slit_written, Keeps};
 
 use crate::checked::require;
 use crate::contents::SlitContents;

@@ -1,9 +1,7 @@
 //! The Serial Port Console Redirection Table (SPCR, section 5.2.6), from what it says of a serial port. Its layout is
 //! Microsoft's.
 ghost use Rattle.std.specs.Prelude.{◌≡◌, ◌&&◌, length, take, IfOk, IsUtf8, ◌++◌, [], ◌∷◌};
-ghost use Rattle.acpi_base.specs.Words.{Gives, is_interface};
-ghost use Rattle.acpi_writer.specs.Words.{Keeps};
-ghost use Rattle.acpi.specs.Types.{SPCR};
+ghost use Rattle.acpi_writer.specs.Words.{Gives, is_interface, Keeps, SPCR};
 ghost use Rattle.acpi_writer.specs.Spcr as spcr;
 
 mod fields;

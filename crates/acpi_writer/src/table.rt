@@ -1,10 +1,6 @@
 //! A table from its header's fields and the bytes after its header (section 5.2.6).
 ghost use Rattle.std.specs.Prelude.{◌≡◌, ℕ, ◌+◌, ◌^◌, ◌<◌, ◌≤◌, ◌++◌, drop, length, take, true, IfOk, List, Ok, Result};
-ghost use Rattle.acpi_base.specs.Words.{Gives, letters_of};
-ghost use Rattle.acpi_image.specs.Words.{with_sum};
-ghost use Rattle.acpi_writer.specs.Words.{most, AreIds, are_texts, sized, IsTableOf, Keeps, said_written, table_bytes, table_head, table_written};
-ghost use Rattle.acpi.specs.Types.{Signature};
-ghost use Rattle.acpi_writer.specs.Types.{WriterError};
+ghost use Rattle.acpi_writer.specs.Words.{Gives, letters_of, with_sum, most, AreIds, are_texts, sized, IsTableOf, Keeps, said_written, table_bytes, table_head, table_written, Signature, WriterError};
 
 use crate::checked::require;
 use crate::error::WriterError;

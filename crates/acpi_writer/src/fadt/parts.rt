@@ -1,8 +1,7 @@
 //! The parts of a FADT, each with its bytes (section 5.2.9).
 ghost use Rattle.std.specs.Prelude.{◌≡◌, ◌<◌, ◌^◌, flat_map, All};
-ghost use Rattle.acpi.specs.Types.{SystemIo};
 ghost use Rattle.acpi_writer.specs.Fadt as bytes;
-ghost use Rattle.acpi_writer.specs.Words.{FitsRegister, flag_number, register_bytes};
+ghost use Rattle.acpi_writer.specs.Words.{SystemIo, FitsRegister, flag_number, register_bytes};
 
 use super::contents::{FadtContents, FadtHardware, FixedHardware};
 use super::features::{ArmBootFeatures, PcBootFeatures};

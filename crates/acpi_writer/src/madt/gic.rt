@@ -1,8 +1,6 @@
 //! The MADT of an Arm machine, from its Generic Interrupt Controller (GIC, sections 5.2.12.14 to 5.2.12.18).
 ghost use Rattle.std.specs.Prelude.{◌≡◌, length, map, take, IfOk};
-ghost use Rattle.acpi.specs.Types.{MADT};
-ghost use Rattle.acpi_base.specs.Words.{Gives};
-ghost use Rattle.acpi_writer.specs.Words.{all_checked, AreGicFit, IsGicMadt, gic_body, gic_checked, gic_meant, gic_written, interface_checked, Keeps};
+ghost use Rattle.acpi_writer.specs.Words.{MADT, Gives, all_checked, AreGicFit, IsGicMadt, gic_body, gic_checked, gic_meant, gic_written, interface_checked, Keeps};
 
 mod entries;
 

@@ -1,8 +1,6 @@
 //! The MADT of a RISC-V machine, from its harts and interrupt controllers (ACPI 6.6, section 5.2.12).
 ghost use Rattle.std.specs.Prelude.{◌≡◌, length, take, IfOk};
-ghost use Rattle.acpi.specs.Types.{MADT};
-ghost use Rattle.acpi_base.specs.Words.{Gives};
-ghost use Rattle.acpi_writer.specs.Words.{AreRiscvFit, IsRiscvMadt, Keeps, aplic_fields, imsic_fields, plic_fields, rintc_fields, riscv_body, riscv_checked, riscv_written};
+ghost use Rattle.acpi_writer.specs.Words.{MADT, Gives, AreRiscvFit, IsRiscvMadt, Keeps, aplic_fields, imsic_fields, plic_fields, rintc_fields, riscv_body, riscv_checked, riscv_written};
 
 use super::entries::Fixed;
 use super::has_some;

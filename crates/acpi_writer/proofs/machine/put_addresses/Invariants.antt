@@ -1,6 +1,5 @@
 use Rattle.std.proofs.Common.{◌≡◌, ◌*◌, ◌+◌, ◌++◌, drop, take, length, map, flat_map}
-use Rattle.acpi_base.specs.Words.{spelling}
-use Rattle.acpi_writer.specs.Words.{bytes_by, addresses, laid}
+use Rattle.acpi_writer.specs.Words.{spelling, bytes_by, addresses, laid}
 use Rattle.acpi_writer.proofs.machine.put_addresses.Given as goal
 
 -- what is put, and what is to come

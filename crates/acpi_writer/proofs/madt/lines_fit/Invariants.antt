@@ -1,6 +1,5 @@
 use Rattle.std.proofs.Common.{◌≡◌, drop, map}
-use Rattle.acpi_base.specs.FromStd.{list_all}
-use Rattle.acpi_writer.specs.Words.{names_one}
+use Rattle.acpi_writer.specs.Words.{list_all, names_one}
 use Rattle.acpi_writer.proofs.madt.lines_fit.Given as goal
 
 abbrev pub invariant-loop-line : goal.invariant-loop-line

@@ -1,6 +1,5 @@
 use Rattle.std.proofs.Common.{◌≡◌, drop, map}
-use Rattle.acpi_base.specs.FromStd.{list_all}
-use Rattle.acpi_writer.specs.Words.{is_single}
+use Rattle.acpi_writer.specs.Words.{list_all, is_single}
 use Rattle.acpi_writer.proofs.madt.processors_fit.Given as goal
 
 abbrev pub invariant-loop-processor : goal.invariant-loop-processor

@@ -1,6 +1,5 @@
 use Rattle.std.proofs.Common.{◌≡◌, drop, map}
-use Rattle.acpi_base.specs.FromStd.{list_all}
-use Rattle.acpi_writer.specs.Words.{is_range}
+use Rattle.acpi_writer.specs.Words.{list_all, is_range}
 use Rattle.acpi_writer.proofs.srat.ranges_fit.Given as goal
 
 abbrev pub invariant-loop-range : goal.invariant-loop-range
