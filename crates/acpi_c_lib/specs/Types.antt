@@ -1,21 +1,4 @@
--- The types and constants of the crates below, for the files of this one.
-pub use Rattle.acpi.specs.declared.hpet.HpetInfo.{HpetInfo}
-pub use Rattle.acpi.specs.declared.hpet.PageProtection.{PageProtection}
-pub use Rattle.acpi.specs.declared.platform.PlatformInfo.{PlatformInfo}
-pub use Rattle.acpi.specs.declared.platform.timer.PmTimer.{PmTimer}
-pub use Rattle.acpi.specs.declared.records.AmlTable.{AmlTable}
-pub use Rattle.acpi.specs.declared.records.TableFault.{TableFault}
-pub use Rattle.acpi.specs.declared.root.RootKind.{RootKind}
-pub use Rattle.acpi.specs.declared.root.RootKind.TheVariants.{Rsdt, Xsdt}
-pub use Rattle.acpi.specs.declared.root.RootPointer.{RootPointer}
-pub use Rattle.acpi.specs.declared.rsdp.Rsdp.{Rsdp}
-pub use Rattle.acpi_arm.specs.declared.gic.part.GicCpuInterface.{GicCpuInterface}
-pub use Rattle.acpi_arm.specs.declared.gic.part.GicDistributor.{GicDistributor}
-pub use Rattle.acpi_arm.specs.declared.gic.part.GicMsiFrame.{GicMsiFrame}
-pub use Rattle.acpi_arm.specs.declared.gic.part.GicRedistributors.{GicRedistributors}
-pub use Rattle.acpi_arm.specs.declared.gic.part.GicTranslationService.{GicTranslationService}
-pub use Rattle.acpi_arm.specs.declared.gic.part.SpiRange.{SpiRange}
-pub use Rattle.acpi_arm.specs.declared.gtdt.ArmTimer.{ArmTimer}
+-- What the files of this crate bring in from the crates below: types, constants and words.
 pub use Rattle.acpi_arm.specs.declared.gtdt.Gtdt.{Gtdt}
 pub use Rattle.acpi_c_lib.specs.declared.arm_records.ArmTimers.{ArmTimers}
 pub use Rattle.acpi_c_lib.specs.declared.arm_records.Watchdog.{Watchdog}
@@ -76,8 +59,9 @@ pub use Rattle.acpi.specs.Search.{IsFound}
 pub use Rattle.acpi.specs.Types.{All, LocalInterruptLine, NoValidRsdp, ProcessorUid, SdtHeader, AcpiError, ActiveHigh, AddressRange, AddressSpace, BGRT, DSDT, EntryLayout, Four, GenericAddress, GpeBlock, Grammar, InterruptSourceOverride, InvalidEntryLength, InvalidMadt, IoApic, Level, Lint0, Lint1, MadtEntry, MadtError, MapFailed, McfgEntry, NmiLine, NmiSource, One, Polarity, SLIT, SPCR, SdtInvalidLength, Signature, SystemMemory, TriggerMode, Two, Undefined, Width}
 pub use Rattle.acpi.specs.declared.records.AmlTable.{AmlTable}
 pub use Rattle.acpi.specs.declared.records.TableFault.{TableFault}
+pub use Rattle.acpi.specs.declared.root.RootPointer.{RootPointer}
 pub use Rattle.acpi.specs.declared.rsdp.Rsdp.{Rsdp}
-pub use Rattle.acpi.specs.Words.{IsAscending, IsFirstIn, area, area_ranges, areas_ranges, ebda_area, ecam_address, found_among, is_of, lender_of, length_ranges, opened_by_rsdp, opened_by_search, opened_in_areas, opened_of, or_else, or_else_ranges, placed, pointers_left, search_ranges, Opened, bios_areas, count_in, count_of, extended_length_of, facs_place, facs_place_ranges, fadt_kind, first_area, first_in, madt_kind, opened_at, opened_by_rsdp_ranges, opened_by_search_ranges, opened_from, opened_in_areas_ranges, opened_ranges, or_later, protection_of, room_of, root_of_revision, root_of_rsdp, rsdp_ranges, second_area, walk, width_of}
+pub use Rattle.acpi.specs.Words.{IsAscending, IsFirstIn, area, area_ranges, areas_ranges, ebda_area, ecam_address, found_among, is_of, length_ranges, or_else, or_else_ranges, placed, pointers_left, search_ranges, Opened, bios_areas, count_in, count_of, extended_length_of, facs_place, facs_place_ranges, fadt_kind, first_area, first_in, madt_kind, or_later, protection_of, room_of, root_of_revision, root_of_rsdp, rsdp_ranges, second_area, walk, width_of}
 unfoldable pub use Rattle.acpi.specs.Words.{check_first, check_sum, checked_length, found_in, found_in_areas, found_rsdp, pointers, rsdp_at, rsdp_of, word_in}
 pub use Rattle.acpi_arm.specs.Gic.{cpu_interface_in, distributor_in, items_of, msi_frame_in, redistributors_in, translation_service_in}
 unfoldable pub use Rattle.acpi_arm.specs.Gtdt.{gtdt_at}
