@@ -142,9 +142,9 @@ enum zacpi_status_code {
 
     /* A table that is written. */
     ZACPI_UNKNOWN_CODE = 60,    /* a number that isn't one of the codes: of a polarity, trigger
-                                 * mode, LINT pin, image's orientation or type, timer's kind, or
-                                 * console's interrupt_controllers; of a register's address space,
-                                 * access size or `present` */
+                                 * mode, LINT pin, override's bus, image's orientation or type,
+                                 * timer's kind, or console's interrupt_controllers; of a
+                                 * register's address space, access size or `present` */
     ZACPI_NO_PROCESSOR = 61,
     ZACPI_ID_OF_ALL = 62,       /* a processor's uid or id is 0xffffffff, which means all */
     ZACPI_UID_OF_ALL = 63,      /* an NMI line's processor_uid is 0xffffffff */

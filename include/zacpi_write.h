@@ -16,18 +16,17 @@ struct zacpi_table_ids { /* section 5.2.6. Names are filled up with spaces or ze
     uint32_t creator_revision;
 };
 struct zacpi_madt_contents {
-    const struct zacpi_processor *processors; /* the first is the boot processor; is_boot and
-                                               * is_x2apic aren't looked at; enabled unless the
-                                               * state is ZACPI_PROCESSOR_DISABLED */
+    const struct zacpi_processor *processors; /* the first is the boot processor; is_boot isn't
+                                               * looked at; enabled unless the state is
+                                               * ZACPI_PROCESSOR_DISABLED */
     size_t processors_length;
     const struct zacpi_io_apic *io_apics;
     size_t io_apics_length;
-    const struct zacpi_interrupt_source_override *overrides; /* bus isn't looked at: 0 is written */
+    const struct zacpi_interrupt_source_override *overrides; /* bus has to be 0, ISA */
     size_t overrides_length;
     const struct zacpi_nmi_source *nmi_sources;
     size_t nmi_sources_length;
-    const struct zacpi_nmi_line *nmi_lines; /* polarity and trigger aren't looked at: 0 is written.
-                                             * Nor is processor_uid if of_all isn't 0 */
+    const struct zacpi_nmi_line *nmi_lines; /* processor_uid isn't looked at if of_all isn't 0 */
     size_t nmi_lines_length;
     uint64_t local_apic_address;
     uint64_t wakeup_mailbox; /* MailBoxAddress (section 5.2.12.19), if has_wakeup_mailbox */
@@ -134,9 +133,10 @@ ZACPI_STATUS zacpi_write_table(const struct zacpi_table_ids *ids, struct zacpi_s
 /* Writes a MADT of revision 5 (section 5.2.12): its entries sort by sort in the order of the lists,
  * the mailbox last. An address of 2^32 or above is in a Local APIC Address Override after the
  * processors, with 0 in Local Interrupt Controller Address. Processors whose uid and id are below
- * 255 are Processor Local APICs, others Processor Local x2APICs; lines of a uid of 255 or above are
- * Local x2APIC NMIs, others Local APIC NMIs. Fails with ZACPI_UNKNOWN_CODE, ZACPI_NO_PROCESSOR,
- * ZACPI_ID_OF_ALL, ZACPI_UID_OF_ALL, ZACPI_BAD_NAME, ZACPI_NO_ROOM or ZACPI_TOO_LONG. */
+ * 255 are Processor Local APICs if is_x2apic is 0, others Processor Local x2APICs; lines of a uid
+ * of 255 or above are Local x2APIC NMIs, others Local APIC NMIs. Fails with ZACPI_UNKNOWN_CODE,
+ * ZACPI_NO_PROCESSOR, ZACPI_ID_OF_ALL, ZACPI_UID_OF_ALL, ZACPI_BAD_NAME, ZACPI_NO_ROOM or
+ * ZACPI_TOO_LONG. */
 ZACPI_STATUS zacpi_write_madt(const struct zacpi_table_ids *ids,
                               const struct zacpi_madt_contents *contents, uint8_t *out,
                               size_t capacity, size_t *length);

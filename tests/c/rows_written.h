@@ -30,20 +30,24 @@ static const struct zacpi_hpet_info timers_block = {0x1fed00000, 0x8086a201, 0x1
 static const struct zacpi_hpet_info unprotected = {0x1fed00000, 0x8086a201, 0x1234, 2, 0};
 static const struct zacpi_hpet_info protected_64k = {0x1fed00000, 0x8086a201, 0x1234, 2, 2};
 static const struct zacpi_hpet_info reserved_protection = {0xfed00000, 0x8086a201, 0x80, 2, 9};
-/* The second one's ids are too large for a Processor Local APIC; the third one's uid alone, and the fourth one's id. */
+/* The second one's ids are too large for a Processor Local APIC; the third one's uid alone, and the fourth one's id.
+ * The last one's have a place there, but it is an x2APIC. */
 static const struct zacpi_processor listed[] = {{7, 2, ZACPI_PROCESSOR_RUNNING, 1, 0, 0},
                                                 {255, 0x1234, ZACPI_PROCESSOR_DISABLED, 0, 1, 0},
                                                 {255, 254, ZACPI_PROCESSOR_WAITING, 0, 0, 0},
                                                 {254, 255, ZACPI_PROCESSOR_WAITING, 0, 0, 0},
-                                                {254, 254, ZACPI_PROCESSOR_DISABLED, 1, 1, 0}};
+                                                {254, 254, ZACPI_PROCESSOR_DISABLED, 1, 1, 0},
+                                                {6, 5, ZACPI_PROCESSOR_WAITING, 0, 0, 255}};
 static const struct zacpi_io_apic controllers[] = {{0xfec00000, 24, 3}, {0xfe020304, 0x05060708, 0}};
 static const struct zacpi_interrupt_source_override wirings[] = {
     {20, 9, ZACPI_POLARITY_LOW, ZACPI_TRIGGER_LEVEL, 0}, {0x01020304, 0, ZACPI_POLARITY_HIGH, ZACPI_TRIGGER_BUS, 0},
     {5, 1, ZACPI_POLARITY_BUS, ZACPI_TRIGGER_LEVEL, 0}};
 static const struct zacpi_nmi_source sources_of_nmis[] = {{21, ZACPI_POLARITY_HIGH, ZACPI_TRIGGER_EDGE},
                                                         {0x01020304, ZACPI_POLARITY_BUS, ZACPI_TRIGGER_BUS}};
-static const struct zacpi_nmi_line lines_of_nmis[] = {{9, 1, 1, 0, 0}, {255, 0, 0, 0, 0}, {254, 0, 1, 0, 0},
-                                                       {0xfffffffe, 0, 1, 0, 0}};
+static const struct zacpi_nmi_line lines_of_nmis[] = {
+    {9, 1, 1, ZACPI_POLARITY_HIGH, ZACPI_TRIGGER_EDGE}, {255, 0, 0, ZACPI_POLARITY_BUS, ZACPI_TRIGGER_BUS},
+    {254, 0, 1, ZACPI_POLARITY_LOW, ZACPI_TRIGGER_BUS},
+    {0xfffffffe, 0, 1, ZACPI_POLARITY_HIGH, ZACPI_TRIGGER_LEVEL}};
 /* The second one's uid stands for all processors, or its id. */
 static const struct zacpi_processor of_all_uids[] = {{7, 2, ZACPI_PROCESSOR_RUNNING, 1, 0, 0},
                                                      {0xffffffff, 1, ZACPI_PROCESSOR_RUNNING, 0, 0, 0}};
@@ -54,6 +58,9 @@ static const struct zacpi_interrupt_source_override no_trigger[] = {{20, 9, ZACP
 static const struct zacpi_nmi_source no_source_trigger[] = {{21, ZACPI_POLARITY_LOW, 2}};
 static const struct zacpi_nmi_source no_source_polarity[] = {{21, 4, ZACPI_TRIGGER_BUS}};
 static const struct zacpi_nmi_line no_lint[] = {{9, 0, 2, 0, 0}};
+static const struct zacpi_interrupt_source_override no_isa[] = {{20, 9, ZACPI_POLARITY_LOW, ZACPI_TRIGGER_LEVEL, 1}};
+static const struct zacpi_nmi_line no_line_polarity[] = {{9, 0, 1, 2, ZACPI_TRIGGER_EDGE}};
+static const struct zacpi_nmi_line no_line_trigger[] = {{9, 1, 0, ZACPI_POLARITY_HIGH, 4}};
 static const struct zacpi_nmi_line line_of_all[] = {{0xffffffff, 0, 1, 0, 0}};
 /* The second one's id is too large for a Processor Local APIC/SAPIC Affinity; the second range ends at 2^64 - 1. */
 static const struct zacpi_apic_domain domains_of_apics[] = {{254, 0x04030201}, {300, 1}};
@@ -119,6 +126,12 @@ MADT(madt_no_source_polarity, listed, 1, NONE(controllers), NONE(wirings), LISTE
      NONE(lines_of_nmis), 0xfee00000, 0, 0, 0)
 MADT(madt_no_lint, listed, 1, NONE(controllers), NONE(wirings), NONE(sources_of_nmis), LISTED(no_lint),
      0xfee00000, 0, 0, 0)
+MADT(madt_no_isa, listed, 1, NONE(controllers), LISTED(no_isa), NONE(sources_of_nmis), NONE(lines_of_nmis),
+     0xfee00000, 0, 0, 0)
+MADT(madt_no_line_polarity, listed, 1, NONE(controllers), NONE(wirings), NONE(sources_of_nmis),
+     LISTED(no_line_polarity), 0xfee00000, 0, 0, 0)
+MADT(madt_no_line_trigger, listed, 1, NONE(controllers), NONE(wirings), NONE(sources_of_nmis),
+     LISTED(no_line_trigger), 0xfee00000, 0, 0, 0)
 static const struct zacpi_srat_contents whole_srat = {
     LISTED(domains_of_apics), LISTED(domains_of_giccs), LISTED(domains_of_memory)};
 static const struct zacpi_srat_contents empty_srat = {
@@ -154,12 +167,13 @@ static const uint8_t protected_64k_bytes[] = HPET(0xa3, 2);
 static const uint8_t reserved_hpet_bytes[] = {HEAD('H', 'P', 'E', 'T', 56, 1, 0x69), 1, 0xa2, 0x86, 0x80,
     0, 0, 0, 0, 0, 0, 0xd0, 0xfe, 0, 0, 0, 0, 2, 0x80, 0, 3};
 static const uint8_t slit_bytes[] = {HEAD('S', 'L', 'I', 'T', 48, 1, 0x23), 2, 0, 0, 0, 0, 0, 0, 0, 10, 20, 21, 10};
-static const uint8_t madt_bytes[] = {HEAD('A', 'P', 'I', 'C', 242, 5, 0x9f), 0, 0, 0, 0, 1, 0, 0, 0,
+static const uint8_t madt_bytes[] = {LONG_HEAD('A', 'P', 'I', 'C', 2, 1, 5, 0x54), 0, 0, 0, 0, 1, 0, 0, 0,
     0, 8, 7, 2, 1, 0, 0, 0,                                  /* Processor Local APIC: uid 7, id 2 */
     9, 16, 0, 0, 0x34, 0x12, 0, 0, 2, 0, 0, 0, 255, 0, 0, 0, /* Processor Local x2APIC: disabled, Online Capable */
     9, 16, 0, 0, 254, 0, 0, 0, 1, 0, 0, 0, 255, 0, 0, 0,
     9, 16, 0, 0, 255, 0, 0, 0, 1, 0, 0, 0, 254, 0, 0, 0,
     0, 8, 254, 254, 2, 0, 0, 0,                              /* Processor Local APIC: disabled, Online Capable */
+    9, 16, 0, 0, 5, 0, 0, 0, 1, 0, 0, 0, 6, 0, 0, 0,         /* Processor Local x2APIC: uid 6, id 5 */
     5, 12, 0, 0, 0, 0, 0xe0, 0xfe, 1, 0, 0, 0,               /* Local APIC Address Override */
     1, 12, 3, 0, 0, 0, 0xc0, 0xfe, 24, 0, 0, 0,              /* I/O APIC */
     1, 12, 0, 0, 4, 3, 2, 0xfe, 8, 7, 6, 5,
@@ -168,10 +182,10 @@ static const uint8_t madt_bytes[] = {HEAD('A', 'P', 'I', 'C', 242, 5, 0x9f), 0, 
     2, 10, 0, 1, 5, 0, 0, 0, 12, 0,                          /* as the bus, level */
     3, 8, 5, 0, 21, 0, 0, 0,                                 /* NMI Source: active high, edge */
     3, 8, 0, 0, 4, 3, 2, 1,                                  /* as the bus */
-    4, 6, 255, 0, 0, 1,                                      /* Local APIC NMI: all processors, LINT1 */
-    10, 12, 0, 0, 255, 0, 0, 0, 0, 0, 0, 0,                  /* Local x2APIC NMI: uid 255, LINT0 */
-    4, 6, 254, 0, 0, 1,                                      /* Local APIC NMI: uid 254, LINT1 */
-    10, 12, 0, 0, 0xfe, 255, 255, 255, 1, 0, 0, 0,           /* Local x2APIC NMI: uid 0xfffffffe, LINT1 */
+    4, 6, 255, 5, 0, 1,                                      /* Local APIC NMI: all, active high, edge, LINT1 */
+    10, 12, 0, 0, 255, 0, 0, 0, 0, 0, 0, 0,                  /* Local x2APIC NMI: uid 255, as the bus, LINT0 */
+    4, 6, 254, 3, 0, 1,                                      /* Local APIC NMI: uid 254, active low, LINT1 */
+    10, 12, 13, 0, 0xfe, 255, 255, 255, 1, 0, 0, 0,          /* Local x2APIC NMI: uid 0xfffffffe, high, level, LINT1 */
     16, 16, 0, 0, 0, 0, 0, 0, 0, 0x70, 0, 0, 0, 0, 0, 0};    /* Multiprocessor Wakeup */
 static const uint8_t small_madt_bytes[] = {HEAD('A', 'P', 'I', 'C', 52, 5, 0x89), 0, 0, 0xe0, 0xfe, 0, 0, 0, 0,
     0, 8, 7, 2, 1, 0, 0, 0};
@@ -260,6 +274,9 @@ WRITE(bad_trigger, madt, &madt_no_trigger)
 WRITE(bad_source_trigger, madt, &madt_no_source_trigger)
 WRITE(bad_source_polarity, madt, &madt_no_source_polarity)
 WRITE(bad_lint, madt, &madt_no_lint)
+WRITE(bad_bus, madt, &madt_no_isa)
+WRITE(bad_line_polarity, madt, &madt_no_line_polarity)
+WRITE(bad_line_trigger, madt, &madt_no_line_trigger)
 WRITE(a_srat, srat, &whole_srat)
 WRITE(an_empty_srat, srat, &empty_srat)
 WRITE(domain_of_ids, srat, &srat_of_all_ids)
@@ -341,7 +358,8 @@ static const struct written_row {
     NOT_WRITTEN(all_ids, ZACPI_ID_OF_ALL), NOT_WRITTEN(all_lines, ZACPI_UID_OF_ALL),
     NOT_WRITTEN(bad_polarity, ZACPI_UNKNOWN_CODE), NOT_WRITTEN(bad_trigger, ZACPI_UNKNOWN_CODE),
     NOT_WRITTEN(bad_source_trigger, ZACPI_UNKNOWN_CODE), NOT_WRITTEN(bad_source_polarity, ZACPI_UNKNOWN_CODE),
-    NOT_WRITTEN(bad_lint, ZACPI_UNKNOWN_CODE),
+    NOT_WRITTEN(bad_lint, ZACPI_UNKNOWN_CODE), NOT_WRITTEN(bad_bus, ZACPI_UNKNOWN_CODE),
+    NOT_WRITTEN(bad_line_polarity, ZACPI_UNKNOWN_CODE), NOT_WRITTEN(bad_line_trigger, ZACPI_UNKNOWN_CODE),
     WRITTEN(a_bgrt, bgrt_bytes), WRITTEN(a_bgrt_at_0, bgrt_0_bytes), WRITTEN(a_bgrt_at_180, bgrt_180_bytes),
     WRITTEN(a_bgrt_at_270, bgrt_270_bytes), NOT_WRITTEN(bad_45, ZACPI_UNKNOWN_CODE),
     NOT_WRITTEN(bad_360, ZACPI_UNKNOWN_CODE), NOT_WRITTEN(bad_image_type, ZACPI_UNKNOWN_CODE),

@@ -28,6 +28,7 @@ fn processors(count: u32) -> Vec<Processor> {
             processor.state = ProcessorState::Disabled;
         }
         processor.is_online_capable = n % 5 == 2;
+        processor.is_x2apic |= n % 7 == 1;
         processor
     });
     [Processor::boot(0, 0)].into_iter().chain(others).collect()
@@ -47,11 +48,13 @@ fn read_back(count: u32) {
     let io_apics = [IoApic::new(7, 0xfec0_0000, 0)];
     let overrides = [InterruptSourceOverride::new(9, 20, Polarity::ActiveLow, TriggerMode::Level)];
     let nmi_source = NmiSource::new(2, Polarity::ActiveHigh, TriggerMode::Edge);
-    let lines = [
+    let mut lines = [
         NmiLine::new(NmiProcessor::All, LocalInterruptLine::Lint1),
         NmiLine::new(NmiProcessor::ProcessorUid(3), LocalInterruptLine::Lint0),
         NmiLine::new(NmiProcessor::ProcessorUid(300), LocalInterruptLine::Lint1),
     ];
+    (lines[0].polarity, lines[0].trigger_mode) = (Polarity::ActiveHigh, TriggerMode::Edge);
+    (lines[2].polarity, lines[2].trigger_mode) = (Polarity::ActiveLow, TriggerMode::Level);
     let (override_slots, nmi_slots) = (overrides.map(Slot::from), [nmi_source.into()]);
     let line_slots = lines.map(Slot::from);
     let mut madt = write::Madt::new(IDS, &slots);

@@ -339,7 +339,18 @@ fn errors_have_names() {
     let reserved = [NmiLine::new(NmiProcessor::All, LocalInterruptLine::Reserved(2)).into()];
     table.local_apic_nmi_lines = &reserved;
     assert_eq!(fails(|at| table.write(at), 1000), WriteError::UnknownCode);
+    let mut line = NmiLine::new(NmiProcessor::All, LocalInterruptLine::Lint1);
+    line.trigger_mode = TriggerMode::Reserved;
+    let reserved = [line.into()];
+    table.local_apic_nmi_lines = &reserved;
+    assert_eq!(fails(|at| table.write(at), 1000), WriteError::UnknownCode);
     table.local_apic_nmi_lines = &[];
+    let mut other_bus = InterruptSourceOverride::new(9, 9, Polarity::ActiveLow, TriggerMode::Level);
+    other_bus.bus = 1;
+    let other_bus = [other_bus.into()];
+    table.interrupt_source_overrides = &other_bus;
+    assert_eq!(fails(|at| table.write(at), 1000), WriteError::UnknownCode);
+    table.interrupt_source_overrides = &[];
     for (polarity, trigger) in [(Polarity::Reserved, TriggerMode::Edge), (Polarity::ActiveLow, TriggerMode::Reserved)] {
         let overrides = [InterruptSourceOverride::new(9, 9, polarity, trigger).into()];
         let mut table = table;

@@ -100,6 +100,7 @@ pub use Rattle.acpi_writer.specs.declared.fadt.features.ArmBootFeatures.{ArmBoot
 pub use Rattle.acpi_writer.specs.declared.fadt.features.FixedFeatures.{FixedFeatures}
 pub use Rattle.acpi_writer.specs.declared.fadt.features.PcBootFeatures.{PcBootFeatures}
 pub use Rattle.acpi_writer.specs.declared.ids.TableIds.{TableIds}
+pub use Rattle.acpi_writer.specs.declared.madt.MadtNmiLine.{MadtNmiLine}
 pub use Rattle.acpi_writer.specs.declared.madt.MadtProcessor.{MadtProcessor}
 pub use Rattle.acpi_writer.specs.declared.spcr.SpcrContents.{SpcrContents}
 pub use Rattle.acpi_writer.specs.declared.spcr.SpcrPciDevice.{SpcrPciDevice}

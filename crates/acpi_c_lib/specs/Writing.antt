@@ -1,9 +1,13 @@
 -- Tables that are written for C.
 use Rattle.std.specs.Prelude.{◌≡◌, ℕ, ◌≤◌, ◌&&◌, ◌==◌, Bool, is_ok, not, nat_le, List, length, take, drop, Option, Some, None, Result, Ok, Err, if◌then◌else◌}
+use Rattle.acpi_base.specs.FromStd.{list_all, result_unwrap_or}
+use Rattle.acpi_base.specs.Words.{polarity_for, trigger_for}
+use Rattle.acpi.specs.Types.{InterruptSourceOverride, IoApic, Lint0, Lint1, NmiSource, Polarity, TriggerMode, McfgEntry}
 use Rattle.acpi_base.specs.declared.model.interrupt.NmiProcessor.TheVariants as nmi
 use Rattle.acpi_base.specs.declared.model.interrupt.Polarity.TheVariants as polarity
 use Rattle.acpi_base.specs.declared.model.interrupt.TriggerMode.TheVariants as trigger
-use Rattle.acpi_c_lib.specs.Types.{list_all, result_unwrap_or, polarity_for, trigger_for, InterruptSourceOverride, IoApic, Lint0, Lint1, NmiLine, NmiSource, Polarity, TriggerMode, McfgEntry, HpetInfo, PciRegion, Writer, MadtContents, MadtProcessor, protection_of, madt_meant}
+use Rattle.acpi_c_lib.specs.Types.{HpetInfo, PciRegion, Writer, MadtContents, MadtNmiLine, MadtProcessor}
+use Rattle.acpi.specs.Words.{protection_of}
 use Rattle.acpi_c_lib.specs.Codes.{code_of}
 use Rattle.acpi_c_lib.specs.Records as records
 use Rattle.acpi_writer.specs.declared.madt.MadtContents as writer
@@ -63,6 +67,7 @@ processor_of p = record {
   local_apic_id = p.local_apic_id;
   is_enabled = not (p.state == 0);
   is_online_capable = not (p.is_online_capable == 0);
+  is_x2apic = not (p.is_x2apic == 0);
 }
 
 abbrev pub io_apic_of : records.IoApic → IoApic
@@ -93,18 +98,28 @@ nmi_source_of x = record {
   trigger_mode = trigger_of x.trigger;
 }
 
-abbrev pub nmi_line_of : records.NmiLine → NmiLine
+abbrev pub nmi_line_of : records.NmiLine → MadtNmiLine
 nmi_line_of x = record {
   processor = if x.of_all == 0 then nmi.ProcessorUid x.processor_uid else nmi.All;
   line = if x.lint == 0 then Lint0 else Lint1;
+  polarity = polarity_of x.polarity;
+  trigger_mode = trigger_of x.trigger;
 }
 
--- each polarity, trigger mode and LINT pin is one that there is
+-- the bus is 0, which is ISA, and the codes are of a polarity and a trigger mode
+abbrev pub is_of_isa : records.InterruptSourceOverride → Bool
+is_of_isa x = x.bus == 0 && (is_wiring x.polarity && is_wiring x.trigger)
+
+-- the pin is LINT0 or LINT1, and the codes are of a polarity and a trigger mode
+abbrev pub is_lint : records.NmiLine → Bool
+is_lint x = nat_le x.lint 1 && (is_wiring x.polarity && is_wiring x.trigger)
+
+-- each bus is ISA's, and each polarity, trigger mode and LINT pin is one that there is
 abbrev pub has_codes : MadtContents → Bool
 has_codes c =
-    list_all (λ x. is_wiring x.polarity && is_wiring x.trigger) c.overrides.now
+    list_all is_of_isa c.overrides.now
     && (list_all (λ x. is_wiring x.polarity && is_wiring x.trigger) c.nmi_sources.now
-    && list_all (λ x. nat_le x.lint 1) c.nmi_lines.now)
+    && list_all is_lint c.nmi_lines.now)
 
 abbrev pub mailbox_of : MadtContents → Option ℕ
 mailbox_of c = if c.has_wakeup_mailbox == 0 then None else Some c.wakeup_mailbox

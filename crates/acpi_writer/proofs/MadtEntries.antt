@@ -2,11 +2,11 @@
 use Rattle.std.proofs.Common.{◌≡◌, ℕ, List, [], ◌∷◌, map, drop, Option, Some, None, Result, Ok, Err, refl, sym, ap, ◌∙◌, ◌^◌, ◌<◌, Bool, true, false, arith, lit≤, nat_eq, option_and_then, nat_lt, if◌then◌else◌, filter_map, All, lit<}
 use Rattle.acpi_base.proofs.FromStd.{ltb-true, ne_eqb}
 use Rattle.acpi_base.proofs.Words.{said_faults, said_items, number-spelling}
-use Rattle.acpi_base.specs.Words.{items_of}
-use Rattle.acpi.specs.Types.{Madt}
+use Rattle.acpi_base.specs.Words.{said_of, cut_of, entries_of, entry_of, all_apics, madt_at, madt_grammar, madt_layout, mailbox_in, Model, fault_in, fault_of, first_fault, items_of, model_from, model_of, field_of, spelling, item_of, line_code, polarity_of, trigger_mode_of}
+use Rattle.acpi.specs.Types.{AcpiError, InvalidMadt, MadtError, Madt, MadtEntry, MadtItem, InterruptSourceOverride, IoApic, LocalInterruptLine, Lint0, Lint1, NmiProcessor, NmiSource, Polarity, TriggerMode}
 use Rattle.acpi_writer.proofs.Rows.{Speaks, in_map, in_none, in_same, in_some, speaks_nothing, speaks_row, spoken, spoken_cut}
-use Rattle.acpi_writer.specs.Words.{cons_option, result_err, result_ok, said_of, cut_of, entries_of, entry_of, madt_at, madt_grammar, madt_layout, mailbox_in, Model, fault_in, fault_of, first_fault, model_from, model_of, field_of, spelling, item_of, line_code, polarity_of, trigger_mode_of, AcpiError, InvalidMadt, MadtError, MadtEntry, MadtItem, InterruptSourceOverride, IoApic, LocalInterruptLine, Lint0, Lint1, NmiLine, NmiProcessor, NmiSource, Polarity, TriggerMode, Fits, MadtProcessor, inti_flags, io_apic_fields, nmi_source_fields, override_fields, address_entries, apic_nmi_fields, io_apic_entry, is_small, local_apic_fields, local_x2apic_fields, names_one, nmi_fields, nmi_line_entry, nmi_source_entry, override_address_fields, override_entry, processor_entry, wakeup_entries, wakeup_fields, x2apic_nmi_fields, FitsField, fields_bytes, mailbox_fields, processor_fields}
-use Rattle.acpi_writer.specs.MadtBytes.{address_fields}
+use Rattle.acpi_writer.specs.Words.{Fits, MadtNmiLine, MadtProcessor, inti_flags, line_read, io_apic_fields, nmi_source_fields, override_fields, address_entries, apic_nmi_fields, io_apic_entry, is_small, local_apic_fields, local_x2apic_fields, names_one, nmi_fields, nmi_line_entry, nmi_source_entry, override_address_fields, override_entry, processor_entry, wakeup_entries, wakeup_fields, x2apic_nmi_fields, FitsField, fields_bytes}
+use Rattle.acpi_writer.specs.MadtBytes.{address_fields, mailbox_fields, processor_fields}
 use Rattle.acpi_writer.proofs.FieldsRead.{read_at}
 use Rattle.acpi_writer.proofs.Bits.{one, two_bits}
 use Rattle.acpi_base.specs.declared.model.item.MadtItem.TheVariants as item
@@ -85,6 +85,10 @@ module _ (table : List ℕ) (items : List MadtItem) (o : Option ℕ) (s : Says o
 -- a processor as the item of an entry
 abbrev pub processor_item : MadtProcessor → MadtItem
 processor_item p = item.Processor p.processor_uid p.local_apic_id p.is_enabled
+
+-- and an NMI line
+abbrev pub nmi_line_item : MadtNmiLine → MadtItem
+nmi_line_item x = item.NmiLine (line_read x)
 
 abbrev pub address_items : ℕ → List MadtItem
 address_items a = if nat_lt a (2 ^ 32) then [] else item.LocalApicAddress a ∷ []
@@ -184,37 +188,40 @@ for_other all n uid l e less =
     let other : nat_eq uid all ≡ false = ne_eqb uid all (λ s. omega (arith, s, less)) in
     rw (e, other) refl
 
-apic_nmi_all : (o : Option ℕ) (l : LocalInterruptLine)
-    → Says o (fields_bytes (apic_nmi_fields 255 (line_code l))) (line_item nmi.All l ∷ [])
-unfolding apic_nmi_fields said_of item_of field_of
-apic_nmi_all o Lint0 = speaks_row (lit≤ tt) (lit≤ tt) refl (lit≤ tt) (refl, refl)
-apic_nmi_all o Lint1 = speaks_row (lit≤ tt) (lit≤ tt) refl (lit≤ tt) (refl, refl)
+apic_nmi_all : (o : Option ℕ) (flags : ℕ) (l : LocalInterruptLine)
+    → Says o (fields_bytes (apic_nmi_fields all_apics flags (line_code l))) (line_item nmi.All l ∷ [])
+unfolding apic_nmi_fields said_of item_of field_of spelling
+apic_nmi_all o flags Lint0 = speaks_row (lit≤ tt) (lit≤ tt) refl (lit≤ tt) (refl, refl)
+apic_nmi_all o flags Lint1 = speaks_row (lit≤ tt) (lit≤ tt) refl (lit≤ tt) (refl, refl)
 
-apic_nmi_one : (o : Option ℕ) (uid : ℕ) (l : LocalInterruptLine) → uid < 255
-    → Says o (fields_bytes (apic_nmi_fields uid (line_code l))) (line_item (nmi.ProcessorUid uid) l ∷ [])
-unfolding apic_nmi_fields said_of item_of field_of
-apic_nmi_one o uid Lint0 h = speaks_row (lit≤ tt) (lit≤ tt) refl (lit≤ tt) (for_other 255 _ uid Lint0 (one uid) h, refl)
-apic_nmi_one o uid Lint1 h = speaks_row (lit≤ tt) (lit≤ tt) refl (lit≤ tt) (for_other 255 _ uid Lint1 (one uid) h, refl)
+apic_nmi_one : (o : Option ℕ) (uid flags : ℕ) (l : LocalInterruptLine) → uid < all_apics
+    → Says o (fields_bytes (apic_nmi_fields uid flags (line_code l))) (line_item (nmi.ProcessorUid uid) l ∷ [])
+unfolding apic_nmi_fields said_of item_of field_of spelling
+apic_nmi_one o uid flags Lint0 h = speaks_row (lit≤ tt) (lit≤ tt) refl (lit≤ tt)
+    (for_other all_apics _ uid Lint0 (one uid) h, refl)
+apic_nmi_one o uid flags Lint1 h = speaks_row (lit≤ tt) (lit≤ tt) refl (lit≤ tt)
+    (for_other all_apics _ uid Lint1 (one uid) h, refl)
 
-x2apic_nmi_one : (o : Option ℕ) (uid : ℕ) (l : LocalInterruptLine) → uid < 0xffffffff
-    → Says o (fields_bytes (x2apic_nmi_fields uid (line_code l))) (line_item (nmi.ProcessorUid uid) l ∷ [])
+x2apic_nmi_one : (o : Option ℕ) (uid flags : ℕ) (l : LocalInterruptLine) → uid < 0xffffffff
+    → Says o (fields_bytes (x2apic_nmi_fields uid flags (line_code l))) (line_item (nmi.ProcessorUid uid) l ∷ [])
 unfolding x2apic_nmi_fields said_of item_of field_of spelling
-x2apic_nmi_one o uid Lint0 h = speaks_row (lit≤ tt) (lit≤ tt) refl (lit≤ tt)
+x2apic_nmi_one o uid flags Lint0 h = speaks_row (lit≤ tt) (lit≤ tt) refl (lit≤ tt)
     (for_other 0xffffffff _ uid Lint0 (number-spelling 4 uid (omega (arith, h))) h, refl)
-x2apic_nmi_one o uid Lint1 h = speaks_row (lit≤ tt) (lit≤ tt) refl (lit≤ tt)
+x2apic_nmi_one o uid flags Lint1 h = speaks_row (lit≤ tt) (lit≤ tt) refl (lit≤ tt)
     (for_other 0xffffffff _ uid Lint1 (number-spelling 4 uid (omega (arith, h))) h, refl)
 
-one_line_says : (o : Option ℕ) (small : Bool) (uid : ℕ) (l : LocalInterruptLine) → uid < 0xffffffff
-    → nat_lt uid 255 ≡ small → Says o (fields_bytes (if small then apic_nmi_fields uid (line_code l)
-    else x2apic_nmi_fields uid (line_code l))) (line_item (nmi.ProcessorUid uid) l ∷ [])
-one_line_says o true uid l h e = apic_nmi_one o uid l (ltb-true uid 255 e)
-one_line_says o false uid l h e = x2apic_nmi_one o uid l h
+one_line_says : (o : Option ℕ) (small : Bool) (uid flags : ℕ) (l : LocalInterruptLine) → uid < 0xffffffff
+    → nat_lt uid all_apics ≡ small → Says o (fields_bytes (if small then apic_nmi_fields uid flags (line_code l)
+    else x2apic_nmi_fields uid flags (line_code l))) (line_item (nmi.ProcessorUid uid) l ∷ [])
+one_line_says o true uid flags l h e = apic_nmi_one o uid flags l (ltb-true uid all_apics e)
+one_line_says o false uid flags l h e = x2apic_nmi_one o uid flags l h
 
-line_by : (o : Option ℕ) (p : NmiProcessor) (l : LocalInterruptLine) → names_one p ≡ true
-    → Says o (fields_bytes (nmi_fields p (line_code l))) (line_item p l ∷ [])
-line_by o nmi.All l f = apic_nmi_all o l
-line_by o (nmi.ProcessorUid uid) l f = one_line_says o (nat_lt uid 255) uid l (ltb-true uid 0xffffffff f) refl
+line_by : (o : Option ℕ) (p : NmiProcessor) (flags : ℕ) (l : LocalInterruptLine) → names_one p ≡ true
+    → Says o (fields_bytes (nmi_fields p flags (line_code l))) (line_item p l ∷ [])
+line_by o nmi.All flags l f = apic_nmi_all o flags l
+line_by o (nmi.ProcessorUid uid) flags l f =
+    one_line_says o (nat_lt uid all_apics) uid flags l (ltb-true uid 0xffffffff f) refl
 
-pub nmi_line_says : (o : Option ℕ) (x : NmiLine) → names_one x.processor ≡ true
-    → Says o (nmi_line_entry x) (item.NmiLine x ∷ [])
-nmi_line_says o x f = line_by o x.processor x.line f
+pub nmi_line_says : (o : Option ℕ) (x : MadtNmiLine) → names_one x.processor ≡ true
+    → Says o (nmi_line_entry x) (nmi_line_item x ∷ [])
+nmi_line_says o x f = line_by o x.processor (inti_flags x.polarity x.trigger_mode) x.line f

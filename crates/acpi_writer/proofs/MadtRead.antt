@@ -3,10 +3,13 @@ use Rattle.std.proofs.Common.{◌≡◌, ℕ, ◌^◌, Bool, true, false, List, 
 use Rattle.acpi_base.proofs.FromStd.{and_parts, ltb-true, drop-drop, recursion_from_All}
 use Rattle.acpi_base.proofs.EntryLists.{processors_are as by_lists}
 use Rattle.acpi_base.proofs.Words.{number-spelling, holds_ok}
-use Rattle.acpi_writer.specs.Words.{AllByRecursion, list_all, list_any, has_bit, field_of, number, spelling, madt_at, no_mailbox, InvalidMadt, UnexpectedEntry, NmiLine, MadtItem, MADT, Fits, bit_of, IsTableOf, TableIds, MadtContents, MadtProcessor, io_apic_entry, is_empty, is_single, madt_body, madt_checked, madt_entries, madt_fields, names_one, nmi_line_entry, nmi_source_entry, override_entry, processor_entry, AreFit, IsMadt, MadtIsRead, MailboxIsRead, apic_read, processor_read, processors_read, IdOfAll, NoProcessor, io_apic_fields, nmi_source_fields, override_fields, processor_fields}
+use Rattle.acpi_base.specs.Words.{has_bit, field_of, number, spelling, madt_at, no_mailbox}
+use Rattle.acpi.specs.Types.{InvalidMadt, UnexpectedEntry, MadtItem, MADT}
+use Rattle.acpi_writer.specs.Words.{Fits, bit_of, IsTableOf, TableIds, MadtContents, MadtNmiLine, MadtProcessor, io_apic_entry, is_empty, is_single, madt_body, madt_checked, madt_entries, madt_fields, names_one, nmi_line_entry, nmi_source_entry, override_entry, processor_entry, AreFit, IsMadt, MadtIsRead, MailboxIsRead, apic_read, line_read, processor_read, processors_read, IdOfAll, NoProcessor}
+use Rattle.acpi_writer.specs.MadtBytes.{io_apic_fields, nmi_source_fields, override_fields, processor_fields}
 use Rattle.acpi_writer.proofs.Bits.{is_off, was_true}
 use Rattle.acpi_writer.proofs.Rows.{in_same, in_some, missing, sorts, speaks_all, speaks_both}
-use Rattle.acpi_writer.proofs.MadtEntries.{Says, address_items, address_says, box_in, boxes_are, boxes_read, io_apic_says, nmi_line_says, nmi_source_says, override_says, processor_item, processor_says, spoken_model, spoken_rest, wakeup_items, wakeup_says}
+use Rattle.acpi_writer.proofs.MadtEntries.{Says, address_items, address_says, box_in, boxes_are, boxes_read, io_apic_says, nmi_line_item, nmi_line_says, nmi_source_says, override_says, processor_item, processor_says, spoken_model, spoken_rest, wakeup_items, wakeup_says}
 use Rattle.acpi_base.specs.Model as read
 use Rattle.acpi_base.specs.declared.model.item.MadtItem.TheVariants as item
 use Rattle.acpi_writer.proofs.Tables as table
@@ -19,7 +22,7 @@ madt_items c =
     ++ (map item.IoApic c.io_apics.now
     ++ (map item.Override c.interrupt_source_overrides.now
     ++ (map item.NmiSource c.nmi_sources.now
-    ++ (map item.NmiLine c.local_apic_nmi_lines.now
+    ++ (map nmi_line_item c.local_apic_nmi_lines.now
     ++ wakeup_items c.wakeup_mailbox)))))
 
 module _ (c : MadtContents) where
@@ -32,8 +35,8 @@ module _ (c : MadtContents) where
   sources_are : filter_map read.nmi_source_in (madt_items c) ≡ c.nmi_sources.now
   sources_are = simp (sorts, missing, in_same)
 
-  lines_are : filter_map read.nmi_line_in (madt_items c) ≡ c.local_apic_nmi_lines.now
-  lines_are = simp (sorts, missing, in_same)
+  lines_are : filter_map read.nmi_line_in (madt_items c) ≡ map line_read c.local_apic_nmi_lines.now
+  lines_are = simp (sorts, missing) (in_some line_read c.local_apic_nmi_lines.now)
 
   processors_are : (is_ap : Bool) → filter_map (read.processor_in is_ap) (madt_items c)
       ≡ map (processor_read is_ap) c.processors.now
@@ -45,7 +48,7 @@ module _ (c : MadtContents) where
 
 -- ---- the table
 
-all_lines : (xs : List NmiLine) → list_all (λ x. names_one x.processor) xs ≡ true
+all_lines : (xs : List MadtNmiLine) → list_all (λ x. names_one x.processor) xs ≡ true
     → AllByRecursion (λ x. names_one x.processor ≡ true) xs
 all_lines [] e = tt
 all_lines (x ∷ xs) e =
@@ -67,7 +70,7 @@ module _ (c : MadtContents) (f : AreFit c) (lines : list_all (λ x. names_one x.
       (recursion_from_All (Fits override_fields) c.interrupt_source_overrides.now f.overrides))
       (speaks_both (speaks_all (Fits nmi_source_fields) nmi_source_entry item.NmiSource (nmi_source_says o)
       c.nmi_sources.now (recursion_from_All (Fits nmi_source_fields) c.nmi_sources.now f.nmi_sources))
-      (speaks_both (speaks_all (λ x. names_one x.processor ≡ true) nmi_line_entry item.NmiLine (nmi_line_says o)
+      (speaks_both (speaks_all (λ x. names_one x.processor ≡ true) nmi_line_entry nmi_line_item (nmi_line_says o)
       c.local_apic_nmi_lines.now (all_lines c.local_apic_nmi_lines.now lines))
       (wakeup_says o f.wakeup))))))
 

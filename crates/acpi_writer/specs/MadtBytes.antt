@@ -1,10 +1,15 @@
 -- The bytes of a MADT that says what is given (ACPI 6.4, section 5.2.12).
 use Rattle.std.specs.Prelude.{ℕ, ◌+◌, ◌*◌, ◌^◌, ◌&&◌, Bool, true, false, not, if◌then◌else◌, List, [], ◌∷◌, ◌++◌, flat_map, nat_lt, Option, Some, None, Result}
+use Rattle.acpi_base.specs.FromStd.{list_all}
+use Rattle.acpi_base.specs.Words.{all_apics, line_code, polarity_code, trigger_code, ◌>>=◌, holds}
+use Rattle.acpi.specs.Types.{MADT, InterruptSourceOverride, IoApic, NmiProcessor, NmiSource, Polarity, TriggerMode}
 use Rattle.acpi_base.specs.declared.model.interrupt.NmiProcessor.TheVariants as nmi
 use Rattle.acpi_writer.specs.Fields.{fields_bytes}
 use Rattle.acpi_writer.specs.Spelled.{items_of}
 use Rattle.acpi_writer.specs.Table.{bit_of, table_written}
-use Rattle.acpi_writer.specs.Types.{list_all, line_code, polarity_code, trigger_code, ◌>>=◌, holds, MADT, InterruptSourceOverride, IoApic, NmiLine, NmiProcessor, NmiSource, Polarity, TriggerMode, WriterError, IdOfAll, NoProcessor, UidOfAll, TableIds, MadtContents, MadtProcessor, Field, U8, U16, U32, U64, Zeros}
+use Rattle.acpi_writer.specs.Types.{WriterError, IdOfAll, NoProcessor, UidOfAll, TableIds, MadtContents, MadtNmiLine, MadtProcessor}
+use Rattle.acpi_writer.specs.declared.fields.Field.{Field}
+use Rattle.acpi_writer.specs.declared.fields.Field.TheVariants.{U8, U16, U32, U64, Zeros}
 use Rattle.acpi_writer.specs.declared.madt.MadtContents as declared
 
 -- ---- entries
@@ -27,9 +32,9 @@ local_x2apic_fields p =
     ∷ U32 (processor_flags p) ∷ U32 p.processor_uid  -- 8: Flags, 12: ACPI Processor UID
     ∷ []
 
--- the ids have a place in the first, in which 255 stands for all
+-- it isn't to be the second, and the ids have a place in the first, in which 255 stands for all
 abbrev pub is_small : MadtProcessor → Bool
-is_small p = nat_lt p.processor_uid 255 && nat_lt p.local_apic_id 255
+is_small p = not p.is_x2apic && (nat_lt p.processor_uid 255 && nat_lt p.local_apic_id 255)
 
 abbrev pub processor_fields : MadtProcessor → List Field
 processor_fields p = if is_small p then local_apic_fields p else local_x2apic_fields p
@@ -85,29 +90,29 @@ abbrev pub nmi_source_entry : NmiSource → List ℕ
 nmi_source_entry x = fields_bytes (nmi_source_fields x)
 
 -- Local APIC NMI (section 5.2.12.7)
-unfoldable pub apic_nmi_fields : ℕ → ℕ → List Field
-apic_nmi_fields uid line =
+unfoldable pub apic_nmi_fields : ℕ → ℕ → ℕ → List Field
+apic_nmi_fields uid flags line =
     U8 4 ∷ U8 6 ∷ U8 uid  -- 0: Type, 1: Length, 2: ACPI Processor UID
-    ∷ Zeros 2 ∷ U8 line ∷ Zeros 0  -- 3: Flags, 5: Local APIC LINT#
+    ∷ U16 flags ∷ U8 line ∷ Zeros 0  -- 3: Flags, 5: Local APIC LINT#
     ∷ []
 
 -- Local x2APIC NMI (section 5.2.12.13)
-unfoldable pub x2apic_nmi_fields : ℕ → ℕ → List Field
-x2apic_nmi_fields uid line =
-    U8 10 ∷ U8 12 ∷ Zeros 2 ∷ U32 uid  -- 0: Type, 1: Length, 2: Flags, 4: ACPI Processor UID
+unfoldable pub x2apic_nmi_fields : ℕ → ℕ → ℕ → List Field
+x2apic_nmi_fields uid flags line =
+    U8 10 ∷ U8 12 ∷ U16 flags ∷ U32 uid  -- 0: Type, 1: Length, 2: Flags, 4: ACPI Processor UID
     ∷ U8 line ∷ Zeros 3  -- 8: Local x2APIC LINT#, 9: Reserved
     ∷ []
 
 -- the first if the uid has a place there, in which 255 stands for all
-abbrev pub nmi_fields : NmiProcessor → ℕ → List Field
-nmi_fields nmi.All line = apic_nmi_fields 255 line
-nmi_fields (nmi.ProcessorUid uid) line =
-    if nat_lt uid 255 then apic_nmi_fields uid line else x2apic_nmi_fields uid line
+abbrev pub nmi_fields : NmiProcessor → ℕ → ℕ → List Field
+nmi_fields nmi.All flags line = apic_nmi_fields all_apics flags line
+nmi_fields (nmi.ProcessorUid uid) flags line =
+    if nat_lt uid all_apics then apic_nmi_fields uid flags line else x2apic_nmi_fields uid flags line
 
-abbrev pub nmi_line_fields : NmiLine → List Field
-nmi_line_fields x = nmi_fields x.processor (line_code x.line)
+abbrev pub nmi_line_fields : MadtNmiLine → List Field
+nmi_line_fields x = nmi_fields x.processor (inti_flags x.polarity x.trigger_mode) (line_code x.line)
 
-abbrev pub nmi_line_entry : NmiLine → List ℕ
+abbrev pub nmi_line_entry : MadtNmiLine → List ℕ
 nmi_line_entry x = fields_bytes (nmi_line_fields x)
 
 -- Multiprocessor Wakeup (section 5.2.12.19)
@@ -128,7 +133,7 @@ wakeup_entries o = fields_bytes (mailbox_fields o)
 
 -- the contents that those with things that stand for items stand for
 abbrev pub madt_meant : {P I O S L : Type 0} → (P → MadtProcessor) → (I → IoApic) → (O → InterruptSourceOverride)
-    → (S → NmiSource) → (L → NmiLine) → declared.MadtContents P I O S L → MadtContents
+    → (S → NmiSource) → (L → MadtNmiLine) → declared.MadtContents P I O S L → MadtContents
 madt_meant processor io_apic override source line c = record {
   local_apic_address = c.local_apic_address;
   also_has_legacy_pics = c.also_has_legacy_pics;

@@ -1,11 +1,13 @@
 -- What holds of a MADT that is written: what was given is what is read.
 use Rattle.std.specs.Prelude.{◌≡◌, ℕ, Bool, true, false, List, [], ◌∷◌, map, Option, Some, None, Ok, All, ok_or}
-use Rattle.acpi.specs.Types.{Apic}
+use Rattle.acpi_base.specs.FromStd.{list_all}
+use Rattle.acpi_base.specs.Words.{mailbox_of, Model, model_of, state_of}
+use Rattle.acpi.specs.Types.{InvalidMadt, UnexpectedEntry, MADT, Apic, NmiLine, Processor, ProcessorInfo}
 use Rattle.acpi_base.specs.declared.model.interrupt.InterruptModel.TheVariants as model
 use Rattle.acpi_writer.specs.Fields.{Fits}
 use Rattle.acpi_writer.specs.MadtBytes.{address_fields, mailbox_fields, io_apic_fields, is_empty, madt_body, names_one, nmi_source_fields, override_fields, processor_fields}
 use Rattle.acpi_writer.specs.Table.{IsTableOf, IsValid}
-use Rattle.acpi_writer.specs.Types.{list_all, mailbox_of, Model, model_of, state_of, InvalidMadt, UnexpectedEntry, MADT, Processor, ProcessorInfo, TableIds, MadtContents, MadtProcessor}
+use Rattle.acpi_writer.specs.Types.{TableIds, MadtContents, MadtNmiLine, MadtProcessor}
 
 -- ---- which numbers have a place in an entry
 
@@ -44,12 +46,16 @@ processors_read (p ∷ ps) = Some (record {
   application_processors = map (processor_read true) ps;
 })
 
+-- an NMI line as the model has it, in which no flags are
+abbrev pub line_read : MadtNmiLine → NmiLine
+line_read x = record { processor = x.processor; line = x.line }
+
 -- the model that is to be read: exactly what was given
 abbrev pub apic_read : {A : Type 0} → MadtContents → Apic A
 apic_read c = record {
   local_apic_address = c.local_apic_address;
   io_apics = c.io_apics.now;
-  local_apic_nmi_lines = c.local_apic_nmi_lines.now;
+  local_apic_nmi_lines = map line_read c.local_apic_nmi_lines.now;
   interrupt_source_overrides = c.interrupt_source_overrides.now;
   nmi_sources = c.nmi_sources.now;
   also_has_legacy_pics = c.also_has_legacy_pics;

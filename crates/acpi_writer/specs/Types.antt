@@ -97,3 +97,5 @@ PlatformTimerContents = TimerOf GtFrame
 
 abbrev pub GtdtContents : Type 0
 GtdtContents = GtdtOf PlatformTimerContents
+
+pub use Rattle.acpi_writer.specs.declared.madt.MadtNmiLine.{MadtNmiLine}

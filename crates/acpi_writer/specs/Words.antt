@@ -30,7 +30,7 @@ unfoldable pub use Rattle.acpi_writer.specs.Machine.{check_by, machine_by, size_
 pub use Rattle.acpi_writer.specs.MachineLaws.{AreValid, HasFacs, HasFadt, HasTable, IsOpened, IsWritable, LaidAreFound, MachineIsRead, Says, TreeIsRead, first_at, first_of, place_of, platform_read}
 pub use Rattle.acpi_writer.specs.MadtBytes.{address_entries, inti_flags, io_apic_entry, is_empty, is_single, is_small, madt_body, madt_checked, madt_entries, madt_fixed, madt_meant, names_one, nmi_fields, nmi_line_entry, nmi_source_entry, override_entry, processor_entry, wakeup_entries, mailbox_fields, processor_fields}
 unfoldable pub use Rattle.acpi_writer.specs.MadtBytes.{apic_nmi_fields, io_apic_fields, local_apic_fields, local_x2apic_fields, madt_fields, madt_written, nmi_source_fields, override_address_fields, override_fields, wakeup_fields, x2apic_nmi_fields}
-pub use Rattle.acpi_writer.specs.MadtLaws.{AreFit, IsMadt, MadtIsRead, MadtIsValid, MailboxIsRead, apic_read, model_read, processor_read, processors_read}
+pub use Rattle.acpi_writer.specs.MadtLaws.{AreFit, IsMadt, MadtIsRead, MadtIsValid, MailboxIsRead, apic_read, model_read, processor_read, processors_read, line_read}
 pub use Rattle.acpi_writer.specs.Mcfg.{mcfg_body, mcfg_entry, mcfg_reserved, mcfg_written, FitsMcfg, IsMcfg, McfgIsRead, McfgIsValid}
 unfoldable pub use Rattle.acpi_writer.specs.Mcfg.{mcfg_fields}
 pub use Rattle.acpi_writer.specs.Root.{IsRoot, RootIsRead, RootIsValid, root_body, root_written}
@@ -45,7 +45,7 @@ pub use Rattle.acpi_writer.specs.Srat.{apic_entry, is_one_apic, is_one_gicc, is_
 unfoldable pub use Rattle.acpi_writer.specs.Srat.{memory_fields, srat_written}
 pub use Rattle.acpi_writer.specs.Table.{AreIds, HasIds, IdsAreRead, IsTableOf, IsValid, Keeps, are_texts, bit_of, front_written, said_written, unsummed}
 unfoldable pub use Rattle.acpi_writer.specs.Table.{table_bytes, table_head, table_written}
-pub use Rattle.acpi_writer.specs.Types.{AmlContents, BadCode, BadName, BadProfile, Bgrt, BgrtContents, BgrtOrientation, FacsContents, Fadt, FadtContents, FadtHardware, Fixed, FixedHardware, GicContents, GicMadt, Gtdt, GtdtContents, Hpet, IdOfAll, Madt, MadtContents, MadtProcessor, Mcfg, NoAddress, NoProcessor, PlatformTimerContents, Reduced, Slit, Spcr, SpcrContents, Srat, SratContents, Ssdt, TableContents, TableIds, TooLong, TooManyFrames, WriterError, GtdtOf, TimerOf, AcpiError, AllByRecursion, Aplic, ArmTimer, BGRT, DSDT, Edge, EntryLayout, FADT, Four, GTDT, GenericAddress, GicCpuInterface, GicDistributor, GicModel, GicMsiFrame, GicRedistributors, GicTranslationService, Gives, GpeBlock, Grammar, GtFrame, HPET, HoldsRange, HpetInfo, Imsic, InterruptSourceOverride, InvalidDsdtAddress, InvalidEntryLength, InvalidFacsAddress, InvalidMadt, IoApic, IsEntry, IsFew, IsMemory, Level, Lint0, Lint1, LocalInterruptLine, MADT, MCFG, MadtEntry, MadtError, MadtItem, McfgEntry, Memory, MemoryRange, Model, NmiLine, NmiProcessor, NmiSource, One, PageProtection, Plan, PlatformInfo, Plic, PmTimer, Polarity, PowerProfile, Region, RegisterBlock, Rintc, RiscvEntry, RootKind, Rsdt, SLIT, SPCR, SRAT, SSDT, SbsaWatchdog, SdtInvalidChecksum, SdtInvalidLength, Signature, SpiRange, SratEntry, SystemIo, TriggerMode, Two, UnexpectedEntry, Width, XSDT, Xsdt, address_or, affinities_of, apic_domain, aplic_at, arm_timer_at, at_hand, bits_of, block_of, bytes_found, check_whole, concat, configured_baud, cons_option, cut_of, dsdt_stream, end_of, ends_below, entry_of, extended_address, extended_number, facs_length_in, facs_place, fadt_kind, fault_in, fault_of, feature_bits, filled_part, first_fault, found_gic, found_regions, from_le_bytes, gpe_of, gtdt_kind, has_bit, has_extended, holds, hpet_of, imsic_at, interface_of, interrupt_bits, is_interface, is_left, is_named_space, is_profile, kind, last_or, least_length, led_by, lent, letters_of, line_code, list_all, list_any, localities_of, lookup, madt_grammar, madt_layout, mailbox_in, mcfg_entries_in, mcfg_entry_at, model_from, model_in, model_of, namespace_of, no_mailbox, number, number_at, option_or, optional_block_of, or_later, part, plain_kind, platform_of, plic_at, pm_timer_of, polarity_in, polarity_of, processor_domain, profile_for, profile_of, protection_code, protection_of, range, range_in, ranges_of, read_base_of, records_of, register_of, result_err, result_ok, revision_of, rintc_at, root_length, root_to, root_unsummed, sdt_kind, shown_of, space_code, srat_grammar, srat_kind, srat_layout, stream_of, timer_block_of, timer_of, to_le_bytes, trigger_in, trigger_mode_of, unless, unless_ones, usable_extended, virtual_el2_of, whole_mcfg_entries, ◌>>=◌}
+pub use Rattle.acpi_writer.specs.Types.{AmlContents, BadCode, BadName, BadProfile, Bgrt, BgrtContents, BgrtOrientation, FacsContents, Fadt, FadtContents, FadtHardware, Fixed, FixedHardware, GicContents, GicMadt, Gtdt, GtdtContents, Hpet, IdOfAll, Madt, MadtContents, MadtProcessor, Mcfg, NoAddress, NoProcessor, PlatformTimerContents, Reduced, Slit, Spcr, SpcrContents, Srat, SratContents, Ssdt, TableContents, TableIds, TooLong, TooManyFrames, WriterError, GtdtOf, TimerOf, AcpiError, AllByRecursion, Aplic, ArmTimer, BGRT, DSDT, Edge, EntryLayout, FADT, Four, GTDT, GenericAddress, GicCpuInterface, GicDistributor, GicModel, GicMsiFrame, GicRedistributors, GicTranslationService, Gives, GpeBlock, Grammar, GtFrame, HPET, HoldsRange, HpetInfo, Imsic, InterruptSourceOverride, InvalidDsdtAddress, InvalidEntryLength, InvalidFacsAddress, InvalidMadt, IoApic, IsEntry, IsFew, IsMemory, Level, Lint0, Lint1, LocalInterruptLine, MADT, MCFG, MadtEntry, MadtError, MadtItem, McfgEntry, Memory, MemoryRange, Model, NmiLine, NmiProcessor, NmiSource, One, PageProtection, Plan, PlatformInfo, Plic, PmTimer, Polarity, PowerProfile, Region, RegisterBlock, Rintc, RiscvEntry, RootKind, Rsdt, SLIT, SPCR, SRAT, SSDT, SbsaWatchdog, SdtInvalidChecksum, SdtInvalidLength, Signature, SpiRange, SratEntry, SystemIo, TriggerMode, Two, UnexpectedEntry, Width, XSDT, Xsdt, address_or, affinities_of, apic_domain, aplic_at, arm_timer_at, at_hand, bits_of, block_of, bytes_found, check_whole, concat, configured_baud, cons_option, cut_of, dsdt_stream, end_of, ends_below, entry_of, extended_address, extended_number, facs_length_in, facs_place, fadt_kind, fault_in, fault_of, feature_bits, filled_part, first_fault, found_gic, found_regions, from_le_bytes, gpe_of, gtdt_kind, has_bit, has_extended, holds, hpet_of, imsic_at, interface_of, interrupt_bits, is_interface, is_left, is_named_space, is_profile, kind, last_or, least_length, led_by, lent, letters_of, line_code, list_all, list_any, localities_of, lookup, madt_grammar, madt_layout, mailbox_in, mcfg_entries_in, mcfg_entry_at, model_from, model_in, model_of, namespace_of, no_mailbox, number, number_at, option_or, optional_block_of, or_later, part, plain_kind, platform_of, plic_at, pm_timer_of, polarity_in, polarity_of, processor_domain, profile_for, profile_of, protection_code, protection_of, range, range_in, ranges_of, read_base_of, records_of, register_of, result_err, result_ok, revision_of, rintc_at, root_length, root_to, root_unsummed, sdt_kind, shown_of, space_code, srat_grammar, srat_kind, srat_layout, stream_of, timer_block_of, timer_of, to_le_bytes, trigger_in, trigger_mode_of, unless, unless_ones, usable_extended, virtual_el2_of, whole_mcfg_entries, ◌>>=◌, MadtNmiLine}
 pub use Rattle.acpi_writer.specs.declared.contents.SlitContents.{SlitContents}
 pub use Rattle.acpi_writer.specs.declared.fields.Field.{Field}
 pub use Rattle.acpi_writer.specs.declared.fields.Field.TheVariants.{U16, U32, U64, U8, Zeros}

@@ -48,7 +48,7 @@ pub use machine::{
 };
 pub use madt::gic::{GicContents, write_gic_madt};
 pub use madt::riscv::{RiscvContents, write_riscv_madt};
-pub use madt::{MadtContents, MadtProcessor, write_madt};
+pub use madt::{MadtContents, MadtNmiLine, MadtProcessor, write_madt};
 pub use mcfg::write_mcfg;
 pub use rhct::{RhctContents, write_rhct};
 pub use root::{write_rsdt, write_xsdt};

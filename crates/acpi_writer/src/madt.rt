@@ -13,7 +13,10 @@ use crate::ids::TableIds;
 use crate::spelled::{EachItem, StandsFor, Then};
 use crate::table::{Table, write};
 use acpi_base::Signature;
-use acpi_base::model::{InterruptSourceOverride, IoApic, NmiLine, NmiProcessor, NmiSource};
+use acpi_base::model::{
+    InterruptSourceOverride, IoApic, LocalInterruptLine, NmiProcessor, NmiSource, Polarity,
+    TriggerMode,
+};
 pub use entries::Fixed;
 use entries::{AddressOverride, Wakeup};
 use std::alloc::AllocError;
@@ -31,6 +34,21 @@ pub struct MadtProcessor {
     /// Online Capable, bit 1 of the flags: whether a processor that is not enabled can be enabled later. The
     /// specification wants it clear if Enabled is set.
     pub is_online_capable: bool,
+    /// Whether it is to be a Processor Local x2APIC also if its ids have a place in a Processor Local APIC.
+    pub is_x2apic: bool,
+}
+
+/// A LINT pin that NMIs are connected to, which a MADT is to list (sections 5.2.12.7 and 5.2.12.13).
+#[derive(Clone, Copy)]
+pub struct MadtNmiLine {
+    /// The processors whose local APICs it is a pin of.
+    pub processor: NmiProcessor,
+    /// The pin.
+    pub line: LocalInterruptLine,
+    /// Polarity, bits 0 and 1 of the flags.
+    pub polarity: Polarity,
+    /// Trigger Mode, bits 2 and 3 of the flags.
+    pub trigger_mode: TriggerMode,
 }
 
 /// What a MADT is to say, in the words of `InterruptModel` and `ProcessorInfo`, as which it is read; or of what stands
@@ -42,7 +60,7 @@ pub struct MadtContents<
     I = IoApic,
     O = InterruptSourceOverride,
     S = NmiSource,
-    L = NmiLine,
+    L = MadtNmiLine,
 > {
     /// The physical address of each processor's local APIC.
     pub local_apic_address: u64,
@@ -103,7 +121,7 @@ fn names_one(processor: NmiProcessor) -> bool
 }
 
 /// Whether no line is of the uid that stands for all processors.
-fn lines_fit<L: StandsFor<NmiLine>>(lines: &[L]) -> bool
+fn lines_fit<L: StandsFor<MadtNmiLine>>(lines: &[L]) -> bool
     ensures { result ≡ list_all (λ x. bytes.names_one x.processor) (map L.meant lines.now) }
 {
     for line in lines {
@@ -130,7 +148,7 @@ where
     I: StandsFor<IoApic>,
     O: StandsFor<InterruptSourceOverride>,
     S: StandsFor<NmiSource>,
-    L: StandsFor<NmiLine>,
+    L: StandsFor<MadtNmiLine>,
 {
     type Body = Then<
         Fixed,
@@ -142,7 +160,10 @@ where
                     EachItem<'a, IoApic, I>,
                     Then<
                         EachItem<'a, InterruptSourceOverride, O>,
-                        Then<EachItem<'a, NmiSource, S>, Then<EachItem<'a, NmiLine, L>, Wakeup>>,
+                        Then<
+                            EachItem<'a, NmiSource, S>,
+                            Then<EachItem<'a, MadtNmiLine, L>, Wakeup>,
+                        >,
                     >,
                 >,
             >,
@@ -185,11 +206,11 @@ where
 }
 
 /// Writes a MADT of revision 5 to the front of a slice, and returns how many bytes it has. Its entries stand sort by
-/// sort, in the order of the fields: a processor is a Processor Local APIC if both its ids are below 255, otherwise a
-/// Processor Local x2APIC. An NMI line is a Local x2APIC NMI if its uid is 255 or above, whatever the id of that
-/// processor is (section 5.2.12.13 goes by the id); one of all processors is a Local APIC NMI of uid 255. An address of
-/// the local APICs of 2^32 or above has an entry of its own, a Local APIC Address Override, after the processors. Two
-/// processors of one uid, and one with both flags set, are written as they are.
+/// sort, in the order of the fields: a processor is a Processor Local APIC if both its ids are below 255 and it isn't
+/// to be an x2APIC, otherwise a Processor Local x2APIC. An NMI line is a Local x2APIC NMI if its uid is 255 or above,
+/// whatever the id of that processor is (section 5.2.12.13 goes by the id); one of all processors is a Local APIC NMI
+/// of uid 255. An address of the local APICs of 2^32 or above has an entry of its own, a Local APIC Address Override,
+/// after the processors. Two processors of one uid, and one with both flags set, are written as they are.
 ///
 /// Returns, in this order, `NoProcessor` if there is no processor, `IdOfAll` if a processor's uid or id is 0xffffffff,
 /// `UidOfAll` if an NMI line is of the processor 0xffffffff, `BadName` if a name of the ids is not valid UTF-8,
@@ -205,7 +226,7 @@ where
     I: StandsFor<IoApic>,
     O: StandsFor<InterruptSourceOverride>,
     S: StandsFor<NmiSource>,
-    L: StandsFor<NmiLine>,
+    L: StandsFor<MadtNmiLine>,
     // The bytes, or the first error, are those that are defined.
     ensures exact { Gives (λ n. take n out.new) result (bytes.madt_written (length out.old) ids.now
         (bytes.madt_meant P.meant I.meant O.meant S.meant L.meant contents.now)) }

@@ -14,9 +14,9 @@ const ENTRIES_AT: usize = 44;
 
 /// A MADT of revision 5, with its entries sort by sort in the order of these lists, and the mailbox last.
 ///
-/// A processor whose uid and id are below 255 is a Processor Local APIC, any other a Processor Local x2APIC; an NMI
-/// line of a uid of 255 or above is a Local x2APIC NMI, any other a Local APIC NMI. A local APIC address of 2^32 or
-/// above is in an override of it after the processors.
+/// A processor whose uid and id are below 255 is a Processor Local APIC if `is_x2apic` isn't set, any other a Processor
+/// Local x2APIC; an NMI line of a uid of 255 or above is a Local x2APIC NMI, any other a Local APIC NMI. A local APIC
+/// address of 2^32 or above is in an override of it after the processors.
 #[derive(Clone, Copy, Debug, Default)]
 #[non_exhaustive]
 pub struct Madt<'a> {
@@ -27,7 +27,7 @@ pub struct Madt<'a> {
     pub processors: &'a [Slot<Processor>],
     /// The I/O APICs.
     pub io_apics: &'a [IoApic],
-    /// The interrupts of the ISA bus that come in another way.
+    /// The interrupts of the ISA bus, 0, that come in another way.
     pub interrupt_source_overrides: &'a [Slot<InterruptSourceOverride>],
     /// The I/O APIC pins that are non-maskable.
     pub nmi_sources: &'a [Slot<NmiSource>],
@@ -51,7 +51,7 @@ impl<'a> Madt<'a> {
     pub fn size(&self) -> usize {
         let processors = self.processors.iter().map(|slot| {
             let processor = slot.item();
-            if processor.processor_uid < 255 && processor.local_apic_id < 255 {
+            if !processor.is_x2apic && processor.processor_uid < 255 && processor.local_apic_id < 255 {
                 8
             } else {
                 16

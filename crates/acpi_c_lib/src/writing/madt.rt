@@ -1,5 +1,5 @@
 //! The MADT that is written for C (section 5.2.12), from its records of processors and interrupt controllers.
-ghost use Rattle.std.specs.Prelude.{◌≡◌, ◌&&◌, nat_le};
+ghost use Rattle.std.specs.Prelude.{◌≡◌, ◌&&◌};
 ghost use Rattle.acpi_base.specs.FromStd.{list_all};
 ghost use Rattle.acpi_c_lib.specs.Writing as writing;
 
@@ -7,7 +7,7 @@ use crate::interrupt_records::{InterruptSourceOverride, IoApic, NmiLine, NmiSour
 use crate::written_records::MadtContents;
 use acpi_base::model;
 use acpi_base::model::{LocalInterruptLine, NmiProcessor, Polarity, TriggerMode};
-use acpi_writer::MadtProcessor;
+use acpi_writer::{MadtNmiLine, MadtProcessor};
 use acpi_writer::spelled::StandsFor;
 
 /// Whether a number is the code of a polarity, which is one of a trigger mode too.
@@ -38,6 +38,7 @@ impl StandsFor<MadtProcessor> for Processor {
             local_apic_id: self.local_apic_id,
             is_enabled: self.state != 0,
             is_online_capable: self.is_online_capable != 0,
+            is_x2apic: self.is_x2apic != 0,
         }
     }
 }
@@ -79,11 +80,11 @@ impl StandsFor<model::NmiSource> for NmiSource {
     }
 }
 
-impl StandsFor<model::NmiLine> for NmiLine {
+impl StandsFor<MadtNmiLine> for NmiLine {
     ghost meant = { writing.nmi_line_of };
 
-    fn item(&self) -> model::NmiLine {
-        model::NmiLine {
+    fn item(&self) -> MadtNmiLine {
+        MadtNmiLine {
             processor: if self.of_all == 0 {
                 NmiProcessor::ProcessorUid(self.processor_uid)
             } else {
@@ -94,16 +95,18 @@ impl StandsFor<model::NmiLine> for NmiLine {
             } else {
                 LocalInterruptLine::Lint1
             },
+            polarity: polarity(self.polarity),
+            trigger_mode: trigger(self.trigger),
         }
     }
 }
 
 fn overrides_have_codes(overrides: &[InterruptSourceOverride]) -> bool
-    ensures { result ≡ list_all (λ x. writing.is_wiring x.polarity && writing.is_wiring x.trigger) overrides.now }
+    ensures { result ≡ list_all writing.is_of_isa overrides.now }
 {
     overrides
         .iter()
-        .all(|x| is_wiring(x.polarity) && is_wiring(x.trigger))
+        .all(|x| x.bus == 0 && is_wiring(x.polarity) && is_wiring(x.trigger))
 }
 
 fn sources_have_codes(sources: &[NmiSource]) -> bool
@@ -115,12 +118,14 @@ fn sources_have_codes(sources: &[NmiSource]) -> bool
 }
 
 fn lines_have_codes(lines: &[NmiLine]) -> bool
-    ensures { result ≡ list_all (λ x. nat_le x.lint 1) lines.now }
+    ensures { result ≡ list_all writing.is_lint lines.now }
 {
-    lines.iter().all(|x| x.lint <= 1)
+    lines
+        .iter()
+        .all(|x| x.lint <= 1 && is_wiring(x.polarity) && is_wiring(x.trigger))
 }
 
-/// Whether each polarity, trigger mode and LINT pin is one that there is.
+/// Whether each bus is ISA's, and each polarity, trigger mode and LINT pin one that there is.
 pub(crate) fn has_codes(contents: &MadtContents<'_>) -> bool
     ensures { result ≡ writing.has_codes contents.now }
 {

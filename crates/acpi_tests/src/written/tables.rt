@@ -141,8 +141,12 @@ pub(super) const FACS_BYTES: [u8; 64] = [
 /// One that will be online, by both flags, and one whose ids are too large for a Processor Local APIC.
 #[rattlefmt::skip]
 pub(super) const PROCESSORS: [MadtProcessor; 2] = [
-    MadtProcessor { processor_uid: 254, local_apic_id: 254, is_enabled: true, is_online_capable: true },
-    MadtProcessor { processor_uid: 255, local_apic_id: 0x1234, is_enabled: false, is_online_capable: true },
+    MadtProcessor {
+        processor_uid: 254, local_apic_id: 254, is_enabled: true, is_online_capable: true, is_x2apic: false,
+    },
+    MadtProcessor {
+        processor_uid: 255, local_apic_id: 0x1234, is_enabled: false, is_online_capable: true, is_x2apic: false,
+    },
 ];
 
 /// What `acpi_examples::machine` writes for these processors.

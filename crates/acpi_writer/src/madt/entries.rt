@@ -2,12 +2,12 @@
 ghost use Rattle.std.specs.Prelude.{◌≡◌, ◌≤◌};
 ghost use Rattle.acpi_writer.specs.MadtBytes as bytes;
 
-use super::MadtProcessor;
+use super::{MadtNmiLine, MadtProcessor};
 use crate::fields::{Field, Record};
 use crate::numbers::bit_of;
 use acpi_base::model::{
-    InterruptSourceOverride, IoApic, LocalInterruptLine, NmiLine, NmiProcessor, NmiSource,
-    Polarity, TriggerMode,
+    InterruptSourceOverride, IoApic, LocalInterruptLine, NmiProcessor, NmiSource, Polarity,
+    TriggerMode,
 };
 
 /// The fields between the header and the entries.
@@ -45,11 +45,11 @@ fn processor_flags(p: &MadtProcessor) -> u8
     bit_of(p.is_enabled) + 2 * bit_of(p.is_online_capable)
 }
 
-/// Whether the processor's ids have a place in a Processor Local APIC.
+/// Whether the processor is a Processor Local APIC, in which its ids have to have a place.
 fn is_small(p: &MadtProcessor) -> bool
     ensures { result ≡ bytes.is_small p.now }
 {
-    p.processor_uid < 255 && p.local_apic_id < 255
+    !p.is_x2apic && p.processor_uid < 255 && p.local_apic_id < 255
 }
 
 impl Record for MadtProcessor {
@@ -170,34 +170,37 @@ impl Record for NmiSource {
 
 /// A Local APIC NMI, of whose uids 255 stands for all processors.
 #[tactic(auto, unfolding(crate::specs::MadtBytes::apic_nmi_fields))]
-fn apic_nmi(uid: u8, line: u8) -> [Field; 6]
-    ensures { result ≡ bytes.apic_nmi_fields uid line }
+fn apic_nmi(uid: u8, flags: u8, line: u8) -> [Field; 6]
+    ensures { result ≡ bytes.apic_nmi_fields uid flags line }
 {
     [
         Field::U8(4),
         Field::U8(6),
         Field::U8(uid),
-        Field::Zeros(2),
+        Field::U16(flags as u16),
         Field::U8(line),
         Field::Zeros(0),
     ]
 }
 
-impl Record for NmiLine {
+impl Record for MadtNmiLine {
     type Fields = [Field; 6];
 
     ghost fields_of = { bytes.nmi_line_fields };
 
     #[tactic(auto, unfolding(crate::specs::MadtBytes::x2apic_nmi_fields))]
     fn fields(&self) -> [Field; 6] {
+        let flags = inti_flags(self.polarity, self.trigger_mode);
         let line = self.line.code();
         match self.processor {
-            NmiProcessor::All => apic_nmi(255, line),
-            NmiProcessor::ProcessorUid(uid) if uid < 255 => apic_nmi(uid as u8, line),
+            NmiProcessor::All => apic_nmi(NmiProcessor::ALL_APICS as u8, flags, line),
+            NmiProcessor::ProcessorUid(uid) if uid < NmiProcessor::ALL_APICS => {
+                apic_nmi(uid as u8, flags, line)
+            }
             NmiProcessor::ProcessorUid(uid) => [
                 Field::U8(10),
                 Field::U8(12),
-                Field::Zeros(2),
+                Field::U16(flags as u16),
                 Field::U32(uid),
                 Field::U8(line),
                 Field::Zeros(3),
