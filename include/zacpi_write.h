@@ -199,10 +199,10 @@ ZACPI_STATUS zacpi_write_spcr(const struct zacpi_table_ids *ids,
                               size_t capacity, size_t *length);
 /* Writes a GTDT of revision 3 (section 5.2.24): 104 bytes, 28 for each watchdog, 20 for each GT
  * Block, and 40 for each frame, in order, with a Platform Timer Offset of 104. A virtual_el2 that
- * isn't present is written as zeros, and read as present; `present` of other timers and
- * platform_timers_malformed aren't looked at. Fails with ZACPI_UNKNOWN_CODE, timer after timer with
- * ZACPI_TOO_MANY_FRAMES (above 1637) or ZACPI_SAME_AS_BUS, then with ZACPI_BAD_NAME, ZACPI_NO_ROOM
- * or ZACPI_TOO_LONG. */
+ * isn't present isn't looked at, written as zeros, and read as present; `present` of other timers
+ * and platform_timers_malformed aren't looked at. Fails with ZACPI_UNKNOWN_CODE, timer after timer
+ * with ZACPI_TOO_MANY_FRAMES (above 1637) or ZACPI_SAME_AS_BUS, then with ZACPI_BAD_NAME,
+ * ZACPI_NO_ROOM or ZACPI_TOO_LONG. */
 ZACPI_STATUS zacpi_write_gtdt(const struct zacpi_table_ids *ids,
                               const struct zacpi_gtdt_contents *contents, uint8_t *out,
                               size_t capacity, size_t *length);

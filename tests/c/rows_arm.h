@@ -33,6 +33,8 @@ static const struct zacpi_gtdt_contents no_virtual_el2 = {
     {0xffffffffffffffff, 0xffffffffffffffff, EL1_TIMERS, EL2({9, EDGE_LOW, 1, 0}), 0}, platform_timers, 0};
 static const struct zacpi_gtdt_contents virtual_el2_of_zeros = {
     {0xffffffffffffffff, 0xffffffffffffffff, EL1_TIMERS, EL2({0, 0, 0, 0, 0}), 0}, platform_timers, 0};
+static const struct zacpi_gtdt_contents virtual_el2_of_no_codes = {
+    {0xffffffffffffffff, 0xffffffffffffffff, EL1_TIMERS, EL2({9, 2, 4, 1, 0}), 0}, platform_timers, 0};
 static const struct zacpi_gtdt_contents timers_as_bus = {{0, 0, EL1_TIMERS,
     {26, ZACPI_POLARITY_BUS, ZACPI_TRIGGER_LEVEL, 0, 1}, {9, EDGE_LOW, 1, 1}, 0}, platform_timers, 0};
 

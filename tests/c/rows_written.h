@@ -304,6 +304,7 @@ WRITE(a_gtdt, gtdt, &all_timers)
 WRITE(a_gtdt_of_the_platform, gtdt, &with_platform_timers)
 WRITE(a_gtdt_without_virtual_el2, gtdt, &no_virtual_el2)
 WRITE(a_gtdt_of_zeros, gtdt, &virtual_el2_of_zeros)
+WRITE(a_gtdt_of_no_codes, gtdt, &virtual_el2_of_no_codes)
 WRITE(a_gtdt_as_the_bus, gtdt, &timers_as_bus)
 WRITE(a_gic, gic_madt, &whole_gic)
 WRITE(a_small_gic, gic_madt, &small_gic)
@@ -385,7 +386,8 @@ static const struct written_row {
     NOT_WRITTEN(no_table_at_first, ZACPI_BAD_TABLE),
     WRITTEN(a_gtdt, gtdt_bytes), WRITTEN(a_gtdt_without_virtual_el2, gtdt_without_virtual_el2),
     WRITTEN(a_gtdt_of_the_platform, platform_gtdt_bytes),
-    WRITTEN(a_gtdt_of_zeros, gtdt_without_virtual_el2), WRITTEN(an_arm_machine, arm_machine_bytes),
+    WRITTEN(a_gtdt_of_zeros, gtdt_without_virtual_el2), WRITTEN(a_gtdt_of_no_codes, gtdt_without_virtual_el2),
+    WRITTEN(an_arm_machine, arm_machine_bytes),
     NOT_WRITTEN(a_gtdt_as_the_bus, ZACPI_SAME_AS_BUS),
     WRITTEN(a_gic, gic_bytes), WRITTEN(a_small_gic, small_gic_bytes),
     NOT_WRITTEN(no_interface, ZACPI_NO_PROCESSOR), NOT_WRITTEN(long_range, ZACPI_BAD_RANGE),

@@ -1,6 +1,10 @@
 -- The GTDT that is written for C (section 5.2.24), from the records as which it is read.
-use Rattle.std.specs.Prelude.{ℕ, ◌-◌, ◌^◌, ◌&&◌, ◌==◌, Bool, false, not, List, Option, Some, None, Result, if◌then◌else◌}
-use Rattle.acpi_c_lib.specs.Types.{list_all, ActiveHigh, Level, GtFrame, TimerInterrupt, ArmTimer, SbsaWatchdog, Watchdog, GtdtOf, TimerOf, frame_bytes, frame_checked, gtdt_written_by, structure_bytes_by, structure_checked_by, GtdtContents, PlatformTimer}
+use Rattle.std.specs.Prelude.{ℕ, ◌-◌, ◌^◌, ◌&&◌, ◌||◌, ◌==◌, Bool, false, not, List, Option, Some, None, Result, if◌then◌else◌}
+use Rattle.acpi_base.specs.FromStd.{list_all}
+use Rattle.acpi.specs.Types.{ActiveHigh, Level}
+use Rattle.acpi_arm.specs.declared.frames.GtFrame.{GtFrame}
+use Rattle.acpi_arm.specs.declared.frames.TimerInterrupt.{TimerInterrupt}
+use Rattle.acpi_c_lib.specs.Types.{ArmTimer, SbsaWatchdog, Watchdog}
 use Rattle.acpi_c_lib.specs.Records as records
 use Rattle.acpi_c_lib.specs.Writing.{TableIds, WriterError, is_wiring, polarity_of, trigger_of}
 use Rattle.acpi_writer.specs.declared.gtdt.PlatformTimerContents.TheVariants as kinds
@@ -66,7 +70,7 @@ platform_bytes t = structure_bytes_by (λ f. frame_bytes (frame_of f)) (platform
 abbrev pub platform_checked : PlatformTimer → Result (Unit {0}) WriterError
 platform_checked t = structure_checked_by (λ f. frame_checked (frame_of f)) (platform_of t)
 
--- ---- each kind, polarity and trigger mode is one that there is
+-- ---- each kind, polarity and trigger mode that is written is one that there is
 
 abbrev pub is_wired : records.ArmTimer → Bool
 is_wired t = is_wiring t.polarity && is_wiring t.trigger
@@ -84,7 +88,7 @@ is_platform_wired t =
 abbrev pub has_codes : GtdtContents → Bool
 has_codes c =
     is_wired c.timers.secure_el1 && (is_wired c.timers.non_secure_el1 && (is_wired c.timers.virtual_el1
-    && (is_wired c.timers.el2 && (is_wired c.timers.virtual_el2
+    && (is_wired c.timers.el2 && ((c.timers.virtual_el2.present == 0 || is_wired c.timers.virtual_el2)
     && list_all is_platform_wired c.platform_timers.now))))
 
 -- ---- the table

@@ -203,7 +203,7 @@ fn are_platform_wired(timers: &[PlatformTimer<'_>]) -> bool
     timers.iter().all(|timer| is_platform_wired(timer))
 }
 
-/// Whether each kind, polarity and trigger mode is one that there is.
+/// Whether each kind, polarity and trigger mode is one that there is, but for those of a timer that isn't written.
 pub(crate) fn has_codes(given: &GtdtContents<'_>) -> bool
     ensures { result ≡ written.has_codes given.now }
 {
@@ -211,6 +211,6 @@ pub(crate) fn has_codes(given: &GtdtContents<'_>) -> bool
         && is_wired(&given.timers.non_secure_el1)
         && is_wired(&given.timers.virtual_el1)
         && is_wired(&given.timers.el2)
-        && is_wired(&given.timers.virtual_el2)
+        && (given.timers.virtual_el2.present == 0 || is_wired(&given.timers.virtual_el2))
         && are_platform_wired(given.platform_timers)
 }
