@@ -1,7 +1,8 @@
 //! The judgement of an input's tables by rules: what firmware has wrong, by the specifications that define the tables.
 //!
 //! A rule is a line of its subject's `RULES`, and code of the subject that adds a finding by the rule's id. A line is `ID
-//! SEVERITY SECTION | WHAT`: what the rule finds, and the section that it rests on.
+//! SEVERITY SECTION | WHAT | MESSAGE`: what the rule finds, the section that it rests on, and what a finding says, in which
+//! `#` and `%` stand for its numbers. A rule without a message has several, or one that tells a value.
 
 mod affinities;
 mod devices;
@@ -19,7 +20,7 @@ mod report;
 mod roots;
 mod rules;
 mod spans;
-mod unnamed;
+mod values;
 
 pub(crate) use findings::{Finding, Findings, Judgement};
 pub(crate) use machine::Machine;
@@ -44,16 +45,15 @@ const RULES: [&str; 9] = [
 ///
 /// Fails if memory runs out.
 pub(crate) fn findings_of(machine: &Machine<'_>) -> Result<Judgement, AllocError> {
-    let mut findings = Findings::new(machine.alloc);
+    let mut findings = Findings::new(machine.alloc)?;
     roots::check_roots(machine, &mut findings);
     headers::check_headers(machine, &mut findings);
     fadt::check_fadt(machine, &mut findings);
     facs::check_facs(machine, &mut findings);
     madt::check_madt(machine, &mut findings);
     affinities::check_affinities(machine, &mut findings);
-    unnamed::check_unnamed(machine, &mut findings);
     devices::check_devices(machine, &mut findings);
     iommu::check_iommu(machine, &mut findings);
     machines::check_machines(machine, &mut findings);
-    findings.in_order(machine.alloc, machine.entries)
+    findings.in_order(machine.entries)
 }

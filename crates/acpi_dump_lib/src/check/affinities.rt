@@ -2,28 +2,57 @@
 
 use super::findings::Findings;
 use super::machine::{Machine, Table};
-use super::numbers::Numbers;
+use super::numbers::{Kept, Numbers};
 use super::pieces::Pieces;
 use super::spans::{Span, overlaps};
-use acpi::PhysicalRecord;
-use acpi::madt::{GiccEntry, LocalApicEntry, LocalX2ApicEntry};
+use acpi::madt::MADT_GRAMMAR;
 use acpi::sdt::{Signature, field};
-use acpi_base::bytes::{has_bit, skip};
+use acpi_base::bytes::skip;
 use acpi_base::entries::split_front;
 use acpi_numa::Distances;
 use acpi_numa::srat::{SRAT_GRAMMAR, SratEntry};
-use std::alloc::Global;
 
 pub(super) const RULES: &str = "
 srat-no-domain warning ACPI 6.5, section 5.2.16 | An enabled processor of the MADT has no domain
 srat-unknown-processor warning ACPI 6.5, section 5.2.16 | An enabled entry is of a processor that the MADT lacks
-srat-overlap error ACPI 6.5, section 5.2.16.2 | Ranges of memory of two domains overlap
-srat-repeated warning ACPI 6.5, section 5.2.16.2 | Ranges of memory of one domain overlap
-slit-diagonal error ACPI 6.5, section 5.2.17 | The distance of a locality from itself isn't 10
-slit-reserved-distance error ACPI 6.5, section 5.2.17 | A distance is one of 0 to 9, which are reserved
-slit-asymmetric note ACPI 6.5, section 5.2.17 | Two localities are at different distances from each other
-slit-too-few warning ACPI 6.5, section 5.2.17 | A domain of the SRAT isn't one of the localities
+srat-overlap error ACPI 6.5, section 5.2.16.2 | Ranges of memory of two domains overlap \
+    | # is in domain %, and in domain % by the range at #
+srat-repeated warning ACPI 6.5, section 5.2.16.2 | Ranges of memory of one domain overlap | # is in the range at # too
+slit-diagonal error ACPI 6.5, section 5.2.17 | The distance of a locality from itself isn't 10 \
+    | locality % is at % from itself
+slit-reserved-distance error ACPI 6.5, section 5.2.17 | A distance is one of 0 to 9, which are reserved \
+    | locality % is at % from locality %
+slit-asymmetric note ACPI 6.5, section 5.2.17 | Two localities are at different distances from each other \
+    | % from % to %, % from % to %
+slit-too-few warning ACPI 6.5, section 5.2.17 | A domain of the SRAT isn't one of the localities \
+    | domain %, and the SLIT has % localities
 ";
+
+// The lists of numbers that are judged together: the processors of the SRAT, by the ids of their local APICs and by their
+// UIDs, those of the MADT, and those of the MADT that are enabled.
+const PLACED_APICS: u64 = 0;
+
+const PLACED_UIDS: u64 = 1;
+
+const LISTED_APICS: u64 = 2;
+
+const LISTED_UIDS: u64 = 3;
+
+const ENABLED_APICS: u64 = 4;
+
+const ENABLED_UIDS: u64 = 5;
+/// The domains of the SRAT.
+const DOMAINS: u64 = 6;
+
+/// The processors of a MADT.
+const PROCESSORS: [Kept; 6] = [
+    (0, LISTED_APICS, (3, 1), 0),
+    (0, ENABLED_APICS, (3, 1), 4),
+    (9, LISTED_APICS, (4, 4), 0),
+    (9, ENABLED_APICS, (4, 4), 8),
+    (0xb, LISTED_UIDS, (8, 4), 0),
+    (0xb, ENABLED_UIDS, (8, 4), 12),
+];
 
 /// Judges them.
 pub(super) fn check_affinities(machine: &Machine<'_>, findings: &mut Findings) {
@@ -34,235 +63,183 @@ pub(super) fn check_affinities(machine: &Machine<'_>, findings: &mut Findings) {
     let Some(srat) = machine.first(Signature::SRAT) else {
         return;
     };
-    let mut found = Affinities::of(machine.alloc, srat.bytes, findings);
-    check_ranges(machine.alloc, srat, &mut found.ranges, findings);
-    if let Some(madt) = machine.first(Signature::MADT) {
-        check_processors(machine.alloc, srat, madt, &mut found.processors, findings);
+    let mut numbers = Numbers::new(machine.alloc);
+    check_ranges(srat, &mut numbers, findings);
+    let madt = machine.first(Signature::MADT);
+    let has_processors = match madt {
+        Some(madt) => add_processors(madt.bytes, &mut numbers),
+        None => false,
+    };
+    findings.need(numbers.sort());
+    if let Some(madt) = madt
+        && has_processors
+    {
+        check_processors(srat.index, madt.index, &numbers, findings);
     }
     if let Some(slit) = slit {
-        check_localities(srat, slit, &mut found.domains, findings);
+        check_localities(srat, slit, &numbers, findings);
     }
 }
 
-/// What a processor's number is more than its ACPI Processor UID, if it is named by that; else it is the id of its
-/// local APIC.
-const BY_UID: u64 = 1 << 32;
-
-/// What the entries of a SRAT say that count.
-#[derive(Drop)]
-struct Affinities {
-    processors: Numbers,
-    ranges: Vec<Span>,
-    domains: Numbers,
+/// Adds the processors of a MADT. It answers whether these can be compared: local SAPICs the SRAT names by two numbers.
+fn add_processors(madt: &[u8], numbers: &mut Numbers) -> bool {
+    let mut has_sapic = false;
+    for (offset, entry) in Pieces::of(madt, 44, (1, 1)) {
+        let kind = field(entry, 0, 1);
+        has_sapic |= kind == 7;
+        let least = MADT_GRAMMAR.layout.least_lengths.get(kind as usize);
+        if entry.len() >= least.copied().unwrap_or(0) {
+            numbers.add(&PROCESSORS, offset, entry);
+        }
+    }
+    !has_sapic
 }
 
-impl Affinities {
-    /// What the entries of a SRAT say that count.
-    fn of(alloc: Global, srat: &[u8], findings: &mut Findings) -> Affinities {
-        let mut all = Affinities {
-            processors: Numbers::new(alloc),
-            ranges: Vec::new(alloc),
-            domains: Numbers::new(alloc),
-        };
-        let revision = field(srat, 8, 1) as u8; // Revision
-        let mut rest = skip(srat, 48);
-        while let Some((entry, others)) = split_front(&SRAT_GRAMMAR, rest) {
-            let offset = srat.len().saturating_sub(rest.len());
-            if let Some(entry) = SratEntry::read(revision, entry)
-                && entry.is_enabled() != Some(false)
-            {
-                all.add(offset, &entry, findings);
+/// Adds what the enabled entries of a SRAT name, and judges their ranges of memory.
+fn check_ranges(srat: Table<'_>, numbers: &mut Numbers, findings: &mut Findings) {
+    let mut ranges = Vec::new(findings.alloc);
+    let revision = field(srat.bytes, 8, 1) as u8; // Revision
+    let mut rest = skip(srat.bytes, 48);
+    while let Some((entry, others)) = split_front(&SRAT_GRAMMAR, rest) {
+        let offset = srat.bytes.len().saturating_sub(rest.len());
+        if let Some(entry) = SratEntry::read(revision, entry)
+            && entry.is_enabled() != Some(false)
+        {
+            add_entry(offset, &entry, numbers);
+            if let Some(range) = entry.memory_range() {
+                let span = Span {
+                    first: range.base,
+                    last: range.base.saturating_add(range.length.saturating_sub(1)),
+                    offset: offset.saturating_add(8),
+                    owner: range.domain as u64,
+                };
+                findings.need(ranges.push(span).is_ok());
             }
-            rest = others;
         }
-        all
+        rest = others;
     }
-
-    /// Adds what the entry at an offset says.
-    fn add(&mut self, offset: usize, entry: &SratEntry, findings: &mut Findings) {
-        let (domain, place, processor) = match entry {
-            SratEntry::LocalApic(it) => (it.domain as u64, 2, Some((it.apic_id as u64, 3))),
-            SratEntry::Memory(it) => (it.domain as u64, 2, None),
-            SratEntry::LocalX2Apic(it) => (it.domain as u64, 4, Some((it.x2apic_id as u64, 8))),
-            SratEntry::Gicc(it) => {
-                let uid = BY_UID + it.processor_uid as u64;
-                (it.domain as u64, 2, Some((uid, 6)))
-            }
-            SratEntry::GicIts(it) => (it.domain as u64, 2, None),
-            SratEntry::GenericInitiator(it) => (it.domain as u64, 4, None),
-            SratEntry::GenericPort(it) => (it.domain as u64, 4, None),
-        };
-        self.domains.push(domain, offset.saturating_add(place));
-        if let Some((processor, place)) = processor {
-            self.processors
-                .push(processor, offset.saturating_add(place));
-        }
-        if let Some(range) = entry.memory_range() {
-            let span = Span {
-                first: range.base,
-                last: range.base.saturating_add(range.length.saturating_sub(1)),
-                offset: offset.saturating_add(8),
-                owner: range.domain as u64,
-            };
-            findings.need(self.ranges.push(span).is_ok());
-        }
-    }
-}
-
-/// Judges the ranges of memory of a SRAT.
-fn check_ranges(alloc: Global, srat: Table<'_>, ranges: &mut Vec<Span>, findings: &mut Findings) {
-    for (before, range) in overlaps(alloc, ranges, findings) {
-        let (first, domain, other) = (range.first, range.owner, before.owner);
-        let place = before.offset as u64;
-        if domain == other {
-            let (words, numbers) = ("# is in the range at # too", &[first, place]);
-            findings.add("srat-repeated", srat.index, range.offset, words, numbers);
+    for (before, range) in overlaps(&mut ranges, findings) {
+        let (first, place) = (range.first, before.offset as u64);
+        if range.owner == before.owner {
+            findings.add("srat-repeated", srat.index, range.offset, &[first, place]);
         } else {
-            let words = "# is in domain %, and in domain % by the range at #";
-            let numbers = &[first, domain, other, place];
-            findings.add("srat-overlap", srat.index, range.offset, words, numbers);
+            let numbers = &[first, range.owner, before.owner, place];
+            findings.add("srat-overlap", srat.index, range.offset, numbers);
         }
     }
 }
 
-/// The processor that an entry of a MADT is of, the offset in the entry that names it, and the flags, if it is of one.
-fn processor_in(entry: &[u8]) -> Option<(u64, usize, u32)> {
-    match field(entry, 0, 1) {
-        0 if entry.len() >= LocalApicEntry::MIN_LENGTH => {
-            let it = LocalApicEntry::read(entry);
-            Some((it.apic_id as u64, 3, it.flags))
+/// Adds the domain and the processor of the entry at an offset of a SRAT.
+fn add_entry(offset: usize, entry: &SratEntry, numbers: &mut Numbers) {
+    let (domain, place) = match entry {
+        SratEntry::LocalApic(it) => {
+            numbers.push(PLACED_APICS, it.apic_id as u64, offset.saturating_add(3));
+            (it.domain, 2)
         }
-        9 if entry.len() >= LocalX2ApicEntry::MIN_LENGTH => {
-            let it = LocalX2ApicEntry::read(entry);
-            Some((it.x2apic_id as u64, 4, it.flags))
+        SratEntry::Memory(it) => (it.domain, 2),
+        SratEntry::LocalX2Apic(it) => {
+            numbers.push(PLACED_APICS, it.x2apic_id as u64, offset.saturating_add(8));
+            (it.domain, 4)
         }
-        0xb if entry.len() >= GiccEntry::MIN_LENGTH => {
-            let it = GiccEntry::read(entry);
-            Some((BY_UID + it.processor_uid as u64, 8, it.flags))
+        SratEntry::Gicc(it) => {
+            numbers.push(
+                PLACED_UIDS,
+                it.processor_uid as u64,
+                offset.saturating_add(6),
+            );
+            (it.domain, 2)
         }
-        _ => None,
-    }
+        SratEntry::GicIts(it) => (it.domain, 2),
+        SratEntry::GenericInitiator(it) | SratEntry::GenericPort(it) => (it.domain, 4usize),
+    };
+    numbers.push(DOMAINS, domain as u64, offset.saturating_add(place));
 }
 
-/// Judges the processors of a MADT and those of a SRAT beside each other, unless the MADT has local SAPICs, which the
-/// SRAT names by two numbers.
-fn check_processors(
-    alloc: Global,
-    srat: Table<'_>,
-    madt: Table<'_>,
-    placed: &mut Numbers,
-    findings: &mut Findings,
-) {
-    let mut listed = Numbers::new(alloc);
-    let mut without = Numbers::new(alloc);
-    let is_sorted = placed.sort();
-    for (offset, entry) in Pieces::of(madt.bytes, 44, (1, 1)) {
-        if field(entry, 0, 1) == 7 {
-            return;
-        }
-        if let Some((processor, at, flags)) = processor_in(entry) {
-            listed.push(processor, offset);
-            // Enabled.
-            if has_bit(flags as u64, 0) && placed.find(processor).is_none() {
-                without.push(processor, offset.saturating_add(at));
+/// What is said of processors, by the lists that have them, and which list lacks them.
+const LACKING: [(u64, u64, &str, &str); 4] = [
+    (
+        PLACED_APICS,
+        LISTED_APICS,
+        "srat-unknown-processor",
+        "the processor with the APIC ID % isn't in the MADT",
+    ),
+    (
+        PLACED_UIDS,
+        LISTED_UIDS,
+        "srat-unknown-processor",
+        "the processor with the UID % isn't in the MADT",
+    ),
+    (
+        ENABLED_APICS,
+        PLACED_APICS,
+        "srat-no-domain",
+        "the processor with the APIC ID % has no domain in the SRAT",
+    ),
+    (
+        ENABLED_UIDS,
+        PLACED_UIDS,
+        "srat-no-domain",
+        "the processor with the UID % has no domain in the SRAT",
+    ),
+];
+
+/// Judges the processors of a MADT and those of a SRAT beside each other.
+fn check_processors(srat: usize, madt: usize, numbers: &Numbers, findings: &mut Findings) {
+    for (list, number, offset) in numbers.all.iter() {
+        for (of, other, id, words) in &LACKING {
+            if *of == *list && !numbers.has(*other, *number) {
+                let table = if *id == "srat-no-domain" { madt } else { srat };
+                findings.add_words(*id, table, *offset, *words, &[*number]);
             }
-        }
-    }
-    findings.need(listed.sort() && without.sort() && is_sorted);
-    for (processor, offset) in without.list.iter() {
-        let words = if *processor < BY_UID {
-            "the processor with the APIC ID % has no domain in the SRAT"
-        } else {
-            "the processor with the UID % has no domain in the SRAT"
-        };
-        let number = &[*processor % BY_UID];
-        findings.add("srat-no-domain", madt.index, *offset, words, number);
-    }
-    for (processor, offset) in placed.list.iter() {
-        if listed.find(*processor).is_none() {
-            let words = if *processor < BY_UID {
-                "the processor with the APIC ID % isn't in the MADT"
-            } else {
-                "the processor with the UID % isn't in the MADT"
-            };
-            let number = &[*processor % BY_UID];
-            let id = "srat-unknown-processor";
-            findings.add(id, srat.index, *offset, words, number);
         }
     }
 }
 
 /// Judges whether each domain of a SRAT is a locality of a SLIT.
-fn check_localities(
-    srat: Table<'_>,
-    slit: Table<'_>,
-    domains: &mut Numbers,
-    findings: &mut Findings,
-) {
+fn check_localities(srat: Table<'_>, slit: Table<'_>, numbers: &Numbers, findings: &mut Findings) {
     let count = Distances::over(slit.bytes).localities();
-    findings.need(domains.sort());
     let mut before = None;
-    for (domain, offset) in domains.list.iter() {
-        if *domain >= count && before != Some(*domain) {
-            let (words, numbers) = ("domain %, and the SLIT has % localities", &[*domain, count]);
-            findings.add("slit-too-few", srat.index, *offset, words, numbers);
+    for (list, domain, offset) in numbers.all.iter() {
+        if *list == DOMAINS && *domain >= count && before != Some(*domain) {
+            findings.add("slit-too-few", srat.index, *offset, &[*domain, count]);
+            before = Some(*domain);
         }
-        before = Some(*domain);
     }
 }
 
-/// Judges the distances of a SLIT.
+/// Judges the distances of a SLIT: of each rule, the first from a locality to others.
 fn check_distances(slit: Table<'_>, findings: &mut Findings) {
     let distances = Distances::over(slit.bytes);
-    for from in 0..distances.localities() {
+    let count = distances.localities();
+    for from in 0..count {
         let Some(own) = distances.distance(from, from) else {
             return;
         };
+        let row = count.saturating_mul(from).saturating_add(44);
         if own != 10 {
-            let (at, words) = (
-                place_of(distances, from, from),
-                "locality % is at % from itself",
-            );
-            findings.add("slit-diagonal", slit.index, at, words, &[from, own as u64]);
+            let at = row.saturating_add(from) as usize;
+            findings.add("slit-diagonal", slit.index, at, &[from, own as u64]);
         }
-        check_row(slit, distances, from, findings);
-    }
-}
-
-/// The offset of the distance from one locality to another.
-fn place_of(distances: Distances<'_>, from: u64, to: u64) -> usize {
-    distances
-        .localities()
-        .saturating_mul(from)
-        .saturating_add(to)
-        .saturating_add(44) as usize
-}
-
-/// Judges the distances from a locality to others: of each rule, the first that it finds.
-fn check_row(slit: Table<'_>, distances: Distances<'_>, from: u64, findings: &mut Findings) {
-    let (mut is_low, mut is_other) = (false, false);
-    for to in 0..distances.localities() {
-        let Some(distance) = distances.distance(from, to) else {
-            return;
-        };
-        let offset = place_of(distances, from, to);
-        if distance < 10 && from != to && !is_low {
-            let (words, numbers) = (
-                "locality % is at % from locality %",
-                &[to, distance as u64, from],
-            );
-            findings.add("slit-reserved-distance", slit.index, offset, words, numbers);
-            is_low = true;
-        }
-        if to < from
-            && !is_other
-            && let Some(back) = distances.distance(to, from)
-            && back != distance
-        {
-            let words = "% from % to %, % from % to %";
-            let numbers = &[distance as u64, from, to, back as u64, to, from];
-            findings.add("slit-asymmetric", slit.index, offset, words, numbers);
-            is_other = true;
+        let (mut is_low, mut is_other) = (false, false);
+        for to in 0..count {
+            let Some(distance) = distances.distance(from, to) else {
+                break;
+            };
+            let (at, distance) = (row.saturating_add(to) as usize, distance as u64);
+            if distance < 10 && from != to && !is_low {
+                let numbers = &[to, distance, from];
+                findings.add("slit-reserved-distance", slit.index, at, numbers);
+                is_low = true;
+            }
+            if to < from
+                && !is_other
+                && let Some(back) = distances.distance(to, from)
+                && back as u64 != distance
+            {
+                let numbers = &[distance, from, to, back as u64, to, from];
+                findings.add("slit-asymmetric", slit.index, at, numbers);
+                is_other = true;
+            }
         }
     }
 }

@@ -1,9 +1,11 @@
 //! The headers of all tables (ACPI 6.5, section 5.2.6), and what all of them reserve.
 
+use super::devices::register_at;
 use super::findings::Findings;
 use super::machine::Machine;
 use crate::entries::{Entry, own_signature};
-use crate::language::{cut_at, is_chosen, next_word, number_of};
+use crate::fields::unnamed_in;
+use crate::out::Out;
 use crate::status::Status;
 use crate::walk::{Field, Show, walk_table};
 use acpi::AcpiError;
@@ -13,60 +15,110 @@ pub(super) const RULES: &str = "
 header-sum error ACPI 6.5, section 5.2.6 | The bytes of a table don't sum to 0
 header-refused error ACPI 6.5, section 5.2.6 | A table has no valid header, or its bytes aren't all there
 header-length warning ACPI 6.5, section 5.2.6 | The Length isn't one that the table's revision has
-header-revision note ACPI 6.5, section 5.2.6 | No specification has the table's Revision
-header-letters note ACPI 6.5, section 5.2.6 | OEMID, OEM Table ID or Creator ID has letters that aren't printable
-header-reserved note ACPI 6.5, section 5.2.1 | A reserved field isn't 0
+header-revision note ACPI 6.5, section 5.2.6 | No specification has the table's Revision \
+    | no revision % is known
+header-letters note ACPI 6.5, section 5.2.6 | OEMID, OEM Table ID or Creator ID has letters that aren't printable \
+    | letters that aren't printable
+header-reserved note ACPI 6.5, section 5.2.1 | A reserved field isn't 0 | isn't 0
 ";
 
-/// Revisions of tables with their lengths: `SIGNATURE REVISION LENGTH`, or `FIRST-LAST` for revisions, and for lengths
-/// `LEAST+STEP`. Each table's own specification has them.
-const FORMS: &str = "
-RSDT 1 36+4
-XSDT 1 36+8
-FACP 1 116
-FACP 2 132
-FACP 3-4 244
-FACP 5 268
-FACP 6 276
-DSDT 1-2 36+1
-SSDT 1-2 36+1
-APIC 1-7 44+1
-SBST 1 48
-ECDT 1 66+1
-SRAT 1-3 48+1
-SLIT 1 44+1
-MSCT 1 56+1
-BGRT 1 56
-FPDT 1 36+1
-GTDT 1 80
-GTDT 2 96+1
-GTDT 3 96+1
-PCCT 1-2 48+1
-PPTT 1-3 36+1
-HMAT 1-2 40+1
-HEST 1-2 40+1
-BERT 1 48
-ERST 1 48+32
-EINJ 1-2 48+32
-NFIT 1 40+1
-HPET 1 56
-MCFG 1 44+16
-SPCR 1-3 80
-SPCR 4 88+1
-DBGP 1 52
-DBG2 0 44+1
-WAET 1 40
-TPM2 3-5 52+1
-BOOT 1 40
-WSMT 1 40
-UEFI 1 54+1";
+/// A form of a table: its signature, the first and the last revision that have it, and the table's length: a least one
+/// and steps from that on, or that one alone if the step is 0.
+type Form = (&'static str, (u64, u64), (u64, u64));
+
+/// The forms of tables. Each table's own specification has them.
+const FORMS: [Form; 39] = [
+    ("RSDT", (1, 1), (36, 4)),
+    ("XSDT", (1, 1), (36, 8)),
+    ("FACP", (1, 1), (116, 0)),
+    ("FACP", (2, 2), (132, 0)),
+    ("FACP", (3, 4), (244, 0)),
+    ("FACP", (5, 5), (268, 0)),
+    ("FACP", (6, 6), (276, 0)),
+    ("DSDT", (1, 2), (36, 1)),
+    ("SSDT", (1, 2), (36, 1)),
+    ("APIC", (1, 7), (44, 1)),
+    ("SBST", (1, 1), (48, 0)),
+    ("ECDT", (1, 1), (66, 1)),
+    ("SRAT", (1, 3), (48, 1)),
+    ("SLIT", (1, 1), (44, 1)),
+    ("MSCT", (1, 1), (56, 1)),
+    ("BGRT", (1, 1), (56, 0)),
+    ("FPDT", (1, 1), (36, 1)),
+    ("GTDT", (1, 1), (80, 0)),
+    ("GTDT", (2, 2), (96, 1)),
+    ("GTDT", (3, 3), (96, 1)),
+    ("PCCT", (1, 2), (48, 1)),
+    ("PPTT", (1, 3), (36, 1)),
+    ("HMAT", (1, 2), (40, 1)),
+    ("HEST", (1, 2), (40, 1)),
+    ("BERT", (1, 1), (48, 0)),
+    ("ERST", (1, 1), (48, 32)),
+    ("EINJ", (1, 2), (48, 32)),
+    ("NFIT", (1, 1), (40, 1)),
+    ("HPET", (1, 1), (56, 0)),
+    ("MCFG", (1, 1), (44, 16)),
+    ("SPCR", (1, 3), (80, 0)),
+    ("SPCR", (4, 4), (88, 1)),
+    ("DBGP", (1, 1), (52, 0)),
+    ("DBG2", (0, 0), (44, 1)),
+    ("WAET", (1, 1), (40, 0)),
+    ("TPM2", (3, 5), (52, 1)),
+    ("BOOT", (1, 1), (40, 0)),
+    ("WSMT", (1, 1), (40, 0)),
+    ("UEFI", (1, 1), (54, 1)),
+];
+
+/// The rules of codes and flags that no specification names, each with the table whose layout names all others.
+const UNNAMED: [(&str, &str); 6] = [
+    ("hpet-code", "HPET"),
+    ("dbg2-code", "DBG2"),
+    ("pptt-flag", "PPTT"),
+    ("gtdt-flag", "GTDT"),
+    ("pcct-flag", "PCCT"),
+    ("spcr-code", "SPCR"),
+];
 
 /// Judges the header of each table, and the fields that it reserves.
 pub(super) fn check_headers(machine: &Machine<'_>, findings: &mut Findings) {
     for (index, entry) in machine.entries.iter().enumerate() {
         check_status(entry, index, findings);
-        check_entry(entry, index, findings);
+        let name = own_signature(entry.bytes);
+        let name = name.as_str().unwrap_or("");
+        let is_known = if entry.bytes.starts_with(b"FACS") || entry.bytes.starts_with(b"RSD PTR ") {
+            true
+        } else if entry.bytes.len() < 36 {
+            continue;
+        } else {
+            check_form(entry.bytes, index, name, findings)
+        };
+        let id = unnamed_rule(machine, index, name);
+        if is_known || !id.is_empty() {
+            let mut fields = Fields {
+                findings,
+                index,
+                name,
+                is_known,
+                id,
+            };
+            walk_table(own_signature(entry.bytes), entry.bytes, &mut fields);
+        }
     }
+}
+
+/// The rule of what no specification names in the table of this number, if it is the first one of such a name: an SPCR
+/// whose base address is all zeros says that there is no console.
+fn unnamed_rule(machine: &Machine<'_>, index: usize, name: &str) -> &'static str {
+    for (id, of) in &UNNAMED {
+        if *of == name
+            && let Some(table) = machine.first(own_signature(of.as_bytes()))
+            && table.index == index
+            && (name != "SPCR" || register_at(table.bytes, 40).is_some())
+        {
+            return *id;
+        }
+    }
+    ""
 }
 
 /// Judges what the checks of a table say. What they say of a FACS of under 64 bytes is a rule of its own.
@@ -75,43 +127,56 @@ fn check_status(entry: &Entry<'_>, index: usize, findings: &mut Findings) {
     if is_short_facs || entry.bytes.is_empty() {
         return;
     }
-    match entry.status {
+    let mut text = Out::new(findings.alloc);
+    let offset = match entry.status {
         Status::WrongSum { is, should, .. } => {
-            let what = &format_args!("is 0x{is:02x}, should be 0x{should:02x}");
-            findings.add_value("header-sum", index, 9, what);
+            write!(text, "is 0x{is:02x}, should be 0x{should:02x}");
+            return findings.add_text("header-sum", index, 9, &text);
         }
-        Status::Cut { .. } | Status::Refused(AcpiError::SdtInvalidLength(_)) => {
-            findings.add_value("header-refused", index, 4, &entry.status);
-        }
-        Status::Refused(_) => findings.add_value("header-refused", index, 0, &entry.status),
-        _ => {}
-    }
+        Status::Cut { .. } | Status::Refused(AcpiError::SdtInvalidLength(_)) => 4,
+        Status::Refused(_) => 0,
+        _ => return,
+    };
+    text.value(&entry.status);
+    findings.add_text("header-refused", index, offset, &text);
 }
 
-/// Judges the fields of a table's header, if it has one, and those that it reserves.
-fn check_entry(entry: &Entry<'_>, index: usize, findings: &mut Findings) {
-    let is_headless = entry.bytes.starts_with(b"FACS") || entry.bytes.starts_with(b"RSD PTR ");
-    let signature = own_signature(entry.bytes);
-    if !is_headless {
-        if entry.bytes.len() < 36 {
-            return;
-        }
-        for (offset, end) in [(10usize, 16usize), (16, 24), (28, 32)].iter() {
-            if !is_printable(entry.bytes.get(*offset..*end).unwrap_or(&[])) {
-                let words = "letters that aren't printable";
-                findings.add("header-letters", index, *offset, words, &[]);
-            }
-        }
-        if !check_form(entry, index, signature, findings) {
-            return;
+/// Judges the letters, the length and the revision in the header of a table of a name. It answers whether the revision
+/// is known, or none of that name is.
+fn check_form(table: &[u8], index: usize, name: &str, findings: &mut Findings) -> bool {
+    for (offset, end) in [(10usize, 16usize), (16, 24), (28, 32)].iter() {
+        if !is_printable(table.get(*offset..*end).unwrap_or(&[])) {
+            findings.add("header-letters", index, *offset, &[]);
         }
     }
-    let mut reserved = Reserved {
-        findings,
-        index,
-        signature,
-    };
-    walk_table(signature, entry.bytes, &mut reserved);
+    let (length, revision) = (field(table, 4, 4), field(table, 8, 1));
+    let mut has_form = false;
+    for (of, (first, last), (least, step)) in &FORMS {
+        if *of != name {
+            continue;
+        }
+        has_form = true;
+        if *first <= revision && revision <= *last {
+            let is_right = match length.checked_sub(*least) {
+                Some(over) if *step > 0 => over % *step == 0,
+                over => over == Some(0),
+            };
+            if length >= 36 && !is_right {
+                let words = if *step > 0 {
+                    "is %, and for revision % %+%"
+                } else {
+                    "is %, and for revision % %"
+                };
+                let numbers = &[length, revision, *least, *step];
+                findings.add_words("header-length", index, 4, words, numbers);
+            }
+            return true;
+        }
+    }
+    if has_form {
+        findings.add("header-revision", index, 8, &[revision]);
+    }
+    !has_form
 }
 
 /// Whether letters are printable ASCII, but for zeros at the end.
@@ -127,79 +192,38 @@ fn is_printable(letters: &[u8]) -> bool {
     true
 }
 
-/// Judges the length and the revision of a table. It answers whether its revision is known, or no revision of its
-/// signature is.
-fn check_form(
-    entry: &Entry<'_>,
-    index: usize,
-    signature: Signature,
-    findings: &mut Findings,
-) -> bool {
-    let (length, revision) = (field(entry.bytes, 4, 4), field(entry.bytes, 8, 1));
-    let letters = signature.to_bytes();
-    let letters: &[u8] = &letters;
-    let mut has_form = false;
-    for line in FORMS.split('\n') {
-        if line.as_bytes().starts_with(letters) {
-            let (_, line) = next_word(line);
-            let (revisions, form) = next_word(line);
-            has_form = true;
-            if is_chosen(revision, revisions) {
-                if length >= 36 && !is_length(length, form) {
-                    let what = &format_args!("is {length}, and for revision {revision} {form}");
-                    findings.add_value("header-length", index, 4, what);
-                }
-                return true;
-            }
-        }
-    }
-    if has_form {
-        let words = "no revision % is known";
-        findings.add("header-revision", index, 8, words, &[revision]);
-    }
-    !has_form
-}
-
-/// Whether a length is as a word says: that number, or `LEAST+STEP`.
-fn is_length(length: u64, word: &str) -> bool {
-    let (least, step) = cut_at(word, '+');
-    let least = number_of(least).unwrap_or(0);
-    match number_of(step) {
-        Some(step) if step > 0 => least <= length && (length - least) % step == 0,
-        _ => length == least,
-    }
-}
-
-/// What finds the fields that a table reserves and that aren't 0.
+/// What judges the fields of a table of a name by themselves.
 #[derive(Drop)]
-struct Reserved<'f> {
+struct Fields<'f> {
     findings: &'f mut Findings,
     index: usize,
-    signature: Signature,
+    name: &'f str,
+    /// Whether what it reserves is known.
+    is_known: bool,
+    /// The rule of codes and flags that its layout doesn't name, if all others are named.
+    id: &'static str,
 }
 
-impl Reserved<'_> {
-    /// Whether a field that is 1 is right: one of a SRAT is reserved to be 1, and INT_MODEL of ACPI 1.0 may be.
-    fn may_be_one(&self, offset: u64) -> bool {
-        (self.signature == Signature::SRAT && offset == 36)
-            || (self.signature == Signature::FADT && offset == 44)
-    }
-}
-
-impl Show for Reserved<'_> {
+impl Show for Fields<'_> {
     fn field(&mut self, shown: &Field<'_>) {
-        if shown.label.name != "Reserved" {
+        let offset = shown.offset as usize;
+        if !self.id.is_empty()
+            && let Some(number) = unnamed_in(shown)
+        {
+            self.findings.add(self.id, self.index, offset, &[number]);
+        }
+        if !self.is_known || shown.label.name != "Reserved" {
             return;
         }
-        let is_one = matches!(shown.bytes, [1] | [1, 0, 0, 0]);
-        let mut is_zero = true;
-        for byte in shown.bytes {
-            is_zero &= *byte == 0;
-        }
-        if !is_zero && !(is_one && self.may_be_one(shown.offset)) {
-            let offset = shown.offset as usize;
+        // A field of a SRAT is reserved to be 1, and INT_MODEL of ACPI 1.0 may be.
+        let may_be_one = matches!((self.name, offset), ("SRAT", 36) | ("FACP", 44));
+        let is_right = match shown.bytes {
+            [1] | [1, 0, 0, 0] => may_be_one,
+            bytes => bytes.iter().all(|byte| *byte == 0),
+        };
+        if !is_right {
             self.findings
-                .add("header-reserved", self.index, offset, "isn't 0", &[]);
+                .add("header-reserved", self.index, offset, &[]);
         }
     }
 }

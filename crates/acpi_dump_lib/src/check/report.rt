@@ -1,6 +1,6 @@
 //! What the rules find, and the rules themselves, as lines and as documents.
 
-use super::findings::{Finding, Judgement};
+use super::findings::Judgement;
 use super::rules::{Severity, rules};
 use crate::contents::print_name;
 use crate::document::Document;
@@ -29,29 +29,24 @@ pub(crate) fn print_findings(
     out: &mut Out,
 ) {
     for finding in findings.list() {
-        if finding.rule.severity.rank() >= least.rank()
+        let rule = finding.rule;
+        if rule.severity.rank() >= least.rank()
             && let Some(entry) = entries.get(finding.table)
         {
-            print_finding(findings, finding, entry, out);
+            out.fill("$ $: ", &[rule.severity.word(), rule.id]);
+            print_name(entry, out);
+            write!(out, " 0x{:04x}", finding.offset);
+            if !finding.field.is_empty() {
+                out.fill(" $", &[finding.field]);
+            }
+            out.text(": ");
+            out.text(findings.message(finding));
+            out.fill(" ($)\n", &[rule.section]);
         }
     }
     let [notes, warnings, errors] = counts_of(findings, least);
     let counts = [errors as u64, warnings as u64, notes as u64];
     out.words("errors %, warnings %, notes %\n", &counts);
-}
-
-/// Prints the line of a finding.
-fn print_finding(findings: &Judgement, finding: &Finding, entry: &Entry<'_>, out: &mut Out) {
-    let rule = finding.rule;
-    out.fill("$ $: ", &[rule.severity.word(), rule.id]);
-    print_name(entry, out);
-    write!(out, " 0x{:04x}", finding.offset);
-    if !finding.field.is_empty() {
-        out.fill(" $", &[finding.field]);
-    }
-    out.text(": ");
-    out.text(findings.message(finding));
-    out.fill(" ($)\n", &[rule.section]);
 }
 
 /// Adds the findings of a severity or a higher one.
@@ -62,38 +57,31 @@ pub(crate) fn add_findings(
     document: &mut Document,
 ) {
     for finding in findings.list() {
-        if finding.rule.severity.rank() >= least.rank()
-            && let Some(entry) = entries.get(finding.table)
-        {
-            add_finding(findings, finding, entry, document);
+        let Some(entry) = entries.get(finding.table) else {
+            continue;
+        };
+        let rule = finding.rule;
+        if rule.severity.rank() < least.rank() {
+            continue;
         }
+        document.token(Token::BeginObject);
+        if let Place::Address(address) = entry.place {
+            document.address("address", address);
+        }
+        if !finding.field.is_empty() {
+            document.text("field", finding.field);
+        }
+        if let Place::File(name) = entry.place {
+            document.text("file", name);
+        }
+        document.text("message", findings.message(finding));
+        document.number("offset", finding.offset as u64);
+        document.text("rule", rule.id);
+        document.text("section", rule.section);
+        document.text("severity", rule.severity.word());
+        document.letters("signature", &own_signature(entry.bytes).to_bytes());
+        document.token(Token::EndObject);
     }
-}
-
-/// Adds a finding.
-fn add_finding(
-    findings: &Judgement,
-    finding: &Finding,
-    entry: &Entry<'_>,
-    document: &mut Document,
-) {
-    document.token(Token::BeginObject);
-    if let Place::Address(address) = entry.place {
-        document.address("address", address);
-    }
-    if !finding.field.is_empty() {
-        document.text("field", finding.field);
-    }
-    if let Place::File(name) = entry.place {
-        document.text("file", name);
-    }
-    document.text("message", findings.message(finding));
-    document.number("offset", finding.offset as u64);
-    document.text("rule", finding.rule.id);
-    document.text("section", finding.rule.section);
-    document.text("severity", finding.rule.severity.word());
-    document.letters("signature", &own_signature(entry.bytes).to_bytes());
-    document.token(Token::EndObject);
 }
 
 /// Prints the rules, a line each.

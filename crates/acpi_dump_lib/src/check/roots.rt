@@ -3,20 +3,22 @@
 use super::findings::Findings;
 use super::machine::Machine;
 use super::numbers::Numbers;
+use super::spans::{Span, overlaps};
 use crate::entries::{Place, own_signature};
+use crate::out::Out;
 use crate::status::Status;
 use acpi::sdt::{Signature, field};
-use std::alloc::Global;
 
 pub(super) const RULES: &str = "
-root-null-pointer warning ACPI 6.5, section 5.2.8 | The root table lists the address 0
-root-listed-twice warning ACPI 6.5, section 5.2.8 | The root table lists an address twice
+root-null-pointer warning ACPI 6.5, section 5.2.8 | The root table lists the address 0 | no table is at 0
+root-listed-twice warning ACPI 6.5, section 5.2.8 | The root table lists an address twice | the address # is also at #
 root-lists-differ warning ACPI 6.5, section 5.2.5.3 | The RSDT and the XSDT list different tables
 root-rsdt-in-use note ACPI 6.5, section 5.2.8 | An RSDT leads to the tables of a machine since ACPI 2.0, which \
 has an XSDT
-root-second-table warning ACPI 6.5, section 5.2.6 | A table of which a machine has one is there twice
+root-second-table warning ACPI 6.5, section 5.2.6 | A table of which a machine has one is there twice \
+    | a machine has one of them
 root-nothing-there note ACPI 6.5, section 5.2.8 | The input has no byte of a table that is listed
-root-overlap error ACPI 6.5, section 5.2 | Two tables share bytes
+root-overlap error ACPI 6.5, section 5.2 | Two tables share bytes | shares bytes with the table at #
 ";
 
 /// The signatures of tables of which a machine has one.
@@ -24,65 +26,60 @@ const SINGLE: &str =
     "APIC BERT BGRT CPEP DBG2 DMAR DSDT ECDT EINJ ERST FACP FACS FPDT GTDT HEST HMAT IORT IVRS \
                       MCFG MSCT NFIT PCCT PPTT RHCT SBST SLIT SPCR SRAT TPM2 WAET WDAT WSMT";
 
+/// The pointers of the root table, and those of the RSDT beside it, as lists of numbers.
+const LISTED: u64 = 0;
+
+const BESIDE: u64 = 1;
+
 /// Judges what leads to the tables, and where these are.
 pub(super) fn check_roots(machine: &Machine<'_>, findings: &mut Findings) {
+    let mut pointers = Numbers::new(machine.alloc);
     if let Some(xsdt) = machine.first(Signature::XSDT) {
-        let mut wide = pointers_in(machine.alloc, xsdt.bytes, 8);
-        check_pointers(xsdt.index, &mut wide, findings);
-        if !machine.rsdt.is_empty() {
-            let mut narrow = pointers_in(machine.alloc, machine.rsdt, 4);
-            compare_lists(xsdt.index, &mut wide, &mut narrow, findings);
-        }
+        add_pointers(LISTED, xsdt.bytes, 8, &mut pointers);
+        add_pointers(BESIDE, machine.rsdt, 4, &mut pointers);
+        check_pointers(
+            xsdt.index,
+            !machine.rsdt.is_empty(),
+            &mut pointers,
+            findings,
+        );
     } else if let Some(rsdt) = machine.first(Signature::RSDT) {
-        let mut narrow = pointers_in(machine.alloc, rsdt.bytes, 4);
-        check_pointers(rsdt.index, &mut narrow, findings);
+        add_pointers(LISTED, rsdt.bytes, 4, &mut pointers);
+        check_pointers(rsdt.index, false, &mut pointers, findings);
         check_revision(machine, rsdt.index, findings);
     }
     check_second(machine, findings);
     check_overlap(machine, findings);
 }
 
-/// The pointers of a root table, each of so many bytes.
-fn pointers_in(alloc: Global, table: &[u8], width: usize) -> Numbers {
-    let mut pointers = Numbers::new(alloc);
+/// Adds the pointers of a root table, each of so many bytes, to a list.
+fn add_pointers(list: u64, table: &[u8], width: usize, pointers: &mut Numbers) {
     let mut offset = 36usize;
     for pointer in table.get(36..).unwrap_or(&[]).chunks(width.max(1)) {
         if pointer.len() == width {
-            pointers.push(field(pointer, 0, width.min(8)), offset);
+            pointers.push(list, field(pointer, 0, width.min(8)), offset);
         }
         offset = offset.saturating_add(width);
     }
-    pointers
 }
 
-/// Judges the pointers of the root table.
-fn check_pointers(table: usize, pointers: &mut Numbers, findings: &mut Findings) {
-    findings.add_repeated(
-        "root-listed-twice",
-        table,
-        pointers,
-        "the address # is also at #",
-    );
-    for (address, offset) in pointers.list.iter() {
-        if *address == 0 {
-            findings.add("root-null-pointer", table, *offset, "no table is at 0", &[]);
-        }
-    }
-}
-
-/// Compares the pointers of an XSDT with those of the RSDT that is beside it.
-fn compare_lists(xsdt: usize, wide: &mut Numbers, narrow: &mut Numbers, findings: &mut Findings) {
-    findings.need(wide.sort() && narrow.sort());
-    for (address, offset) in wide.list.iter() {
-        if *address != 0 && *address < 1 << 32 && narrow.find(*address).is_none() {
+/// Judges the pointers of the root table, and compares those of an XSDT with those of the RSDT that is beside it.
+fn check_pointers(table: usize, has_beside: bool, pointers: &mut Numbers, findings: &mut Findings) {
+    findings.add_repeated(&["root-listed-twice"], table, pointers);
+    for (list, address, offset) in pointers.all.iter() {
+        let (list, address) = (*list, *address);
+        if address == 0 {
+            if list == LISTED {
+                findings.add("root-null-pointer", table, *offset, &[]);
+            }
+        } else if list == BESIDE {
+            if !pointers.has(LISTED, address) {
+                let words = "the RSDT lists # as well";
+                findings.add_words("root-lists-differ", table, 4, words, &[address]);
+            }
+        } else if has_beside && address < 1 << 32 && !pointers.has(BESIDE, address) {
             let words = "the RSDT doesn't list #";
-            findings.add("root-lists-differ", xsdt, *offset, words, &[*address]);
-        }
-    }
-    for (address, _) in narrow.list.iter() {
-        if *address != 0 && wide.find(*address).is_none() {
-            let words = "the RSDT lists # as well";
-            findings.add("root-lists-differ", xsdt, 4, words, &[*address]);
+            findings.add_words("root-lists-differ", table, *offset, words, &[address]);
         }
     }
 }
@@ -104,70 +101,60 @@ fn check_revision(machine: &Machine<'_>, rsdt: usize, findings: &mut Findings) {
     } else {
         return;
     };
-    findings.add("root-rsdt-in-use", rsdt, 0, words, &[revision]);
+    findings.add_words("root-rsdt-in-use", rsdt, 0, words, &[revision]);
 }
 
-/// Whether the tables of two numbers are at one place.
-fn is_same_place(machine: &Machine<'_>, one: usize, other: usize) -> bool {
-    match (machine.entries.get(one), machine.entries.get(other)) {
-        (Some(one), Some(other)) => match (one.place, other.place) {
-            (Place::Address(one), Place::Address(other)) => one == other && one != 0,
-            _ => false,
-        },
-        _ => false,
-    }
-}
-
-/// Finds second tables of which a machine has one.
+/// Finds second tables of which a machine has one, unless the one before it is at the same place.
 fn check_second(machine: &Machine<'_>, findings: &mut Findings) {
-    let mut signatures = Numbers::new(machine.alloc);
+    let mut tables = Numbers::new(machine.alloc);
     for (index, entry) in machine.entries.iter().enumerate() {
         if SINGLE.contains(own_signature(entry.bytes).as_str().unwrap_or("-")) {
-            signatures.push(field(entry.bytes, 0, 4), index);
+            tables.push(0, field(entry.bytes, 0, 4), index);
         }
     }
-    findings.need(signatures.sort());
-    let mut before = None;
-    for (letters, index) in signatures.list.iter() {
-        if let Some((same, first)) = before
-            && same == *letters
-            && !is_same_place(machine, first, *index)
-        {
-            let words = "a machine has one of them";
-            findings.add("root-second-table", *index, 0, words, &[]);
+    findings.need(tables.sort());
+    let mut before = (0, Place::Nowhere);
+    for (_, letters, index) in tables.all.iter() {
+        let place = match machine.entries.get(*index) {
+            Some(entry) => entry.place,
+            None => Place::Nowhere,
+        };
+        let is_same_place = match (before.1, place) {
+            (Place::Address(one), Place::Address(other)) => one == other && one != 0,
+            _ => false,
+        };
+        if before.0 == *letters && !is_same_place {
+            findings.add("root-second-table", *index, 0, &[]);
         }
-        before = Some((*letters, *index));
+        before = (*letters, place);
     }
 }
 
 /// Finds tables that have no bytes, and those that share some, of which it takes the one of a higher address.
 fn check_overlap(machine: &Machine<'_>, findings: &mut Findings) {
-    let mut starts = Numbers::new(machine.alloc);
+    let mut spans = Vec::new(machine.alloc);
     for (index, entry) in machine.entries.iter().enumerate() {
-        if let Place::Address(address) = entry.place
-            && address != 0
-        {
-            if !entry.bytes.is_empty() {
-                starts.push(address, index);
-            } else if !matches!(entry.status, Status::NotHere) {
-                findings.add_value("root-nothing-there", index, 0, &entry.status);
-            }
+        let Place::Address(first) = entry.place else {
+            continue;
+        };
+        let length = entry.bytes.len() as u64;
+        if first != 0 && length != 0 {
+            let span = Span {
+                first,
+                last: first.saturating_add(length).saturating_sub(1),
+                offset: index,
+                owner: first,
+            };
+            findings.need(spans.push(span).is_ok());
+        } else if first != 0 && !matches!(entry.status, Status::NotHere) {
+            let mut text = Out::new(machine.alloc);
+            text.value(&entry.status);
+            findings.add_text("root-nothing-there", index, 0, &text);
         }
     }
-    findings.need(starts.sort());
-    let (mut start, mut end) = (0u64, 0u64);
-    for (address, index) in starts.list.iter() {
-        if *address < end && *address != start {
-            let words = "shares bytes with the table at #";
-            findings.add("root-overlap", *index, 0, words, &[start]);
-        }
-        let length = match machine.entries.get(*index) {
-            Some(entry) => entry.bytes.len() as u64,
-            None => 0,
-        };
-        if end < address.saturating_add(length) {
-            start = *address;
-            end = address.saturating_add(length);
+    for (before, span) in overlaps(&mut spans, findings) {
+        if span.first != before.first {
+            findings.add("root-overlap", span.offset, 0, &[before.first]);
         }
     }
 }

@@ -54,6 +54,8 @@ pub(crate) struct Rule {
     pub(crate) section: &'static str,
     /// What it finds.
     pub(crate) what: &'static str,
+    /// What a finding says, as `Out::words` prints it, or no letters if only its code tells.
+    pub(super) message: &'static str,
 }
 
 impl Rule {
@@ -63,18 +65,21 @@ impl Rule {
         severity: Severity::Error,
         section: "",
         what: "",
+        message: "",
     };
 
     /// The rule that a line describes.
     fn read(line: &'static str) -> Rule {
         let (id, line) = next_word(line);
         let (severity, line) = next_word(line);
-        let (section, what) = cut_at(line, '|');
+        let (section, line) = cut_at(line, '|');
+        let (what, message) = cut_at(line, '|');
         Rule {
             id,
             severity: Severity::read(severity).unwrap_or(Severity::Error),
             section: section.trim_ascii(),
             what: what.trim_ascii(),
+            message: message.trim_ascii(),
         }
     }
 }

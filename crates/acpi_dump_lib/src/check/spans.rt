@@ -1,7 +1,6 @@
 //! Ranges of numbers, such as addresses, that should not overlap.
 
 use super::findings::Findings;
-use std::alloc::Global;
 
 /// A range of numbers, from its first to its last.
 #[derive(Clone, Copy)]
@@ -15,13 +14,9 @@ pub(super) struct Span {
 }
 
 /// The spans that begin within one that begins before them or with them, each after that one.
-pub(super) fn overlaps(
-    alloc: Global,
-    spans: &mut Vec<Span>,
-    findings: &mut Findings,
-) -> Vec<(Span, Span)> {
+pub(super) fn overlaps(spans: &mut Vec<Span>, findings: &mut Findings) -> Vec<(Span, Span)> {
     findings.need(spans.sort_by_key(|it| (it.first, it.offset)).is_ok());
-    let mut found = Vec::new(alloc);
+    let mut found = Vec::new(findings.alloc);
     let mut furthest: Option<Span> = None;
     for span in spans.iter() {
         if let Some(before) = furthest {

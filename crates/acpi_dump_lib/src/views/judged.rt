@@ -9,9 +9,7 @@ use crate::check::{
 use crate::entries::{Entry, bytes_from, entries_of, entries_of_files, entry_at};
 use crate::errors::{Log, Stop};
 use crate::out::Out;
-use acpi::PhysicalRecord;
-use acpi::rsdp::Rsdp;
-use acpi::sdt::Signature;
+use acpi::sdt::{Signature, field};
 use acpi_cli::root::Root;
 use acpi_image_reader::MemoryImage;
 use std::alloc::Global;
@@ -75,7 +73,7 @@ fn judged_files(entries: Vec<Entry<'_>>) -> Judged<'_> {
     }
 }
 
-/// The tables of a memory, whose RSDP may give an RSDT beside an XSDT.
+/// The tables of a memory, whose RSDP may give a valid RSDT beside an XSDT.
 fn judged_memory<'i>(
     output: Output<'_, '_>,
     number: usize,
@@ -84,37 +82,23 @@ fn judged_memory<'i>(
 ) -> Result<Judged<'i>, Stop> {
     let root = start_of(output, number, image, log)?;
     let tables = open_at(output, number, image, root, log)?;
-    let rsdp = match root {
-        Root::Rsdp { address } => bytes_from(image, address),
-        _ => &[],
-    };
     let entries = entries_of(output.alloc, image, &tables)?;
-    let rsdt = rsdt_beside(image, rsdp);
-    let rsdp = match rsdp.get(..36) {
-        Some(first) => first,
-        None => &[],
-    };
-    Ok(Judged {
+    let mut judged = Judged {
         entries,
-        rsdp,
-        rsdt,
-    })
-}
-
-/// The RSDT that an RSDP gives beside an XSDT, if it is valid.
-fn rsdt_beside<'i>(image: &'i MemoryImage<'_>, rsdp: &[u8]) -> &'i [u8] {
-    if rsdp.len() < Rsdp::MIN_LENGTH {
-        return &[];
+        rsdp: &[],
+        rsdt: &[],
+    };
+    if let Root::Rsdp { address } = root {
+        let rsdp = bytes_from(image, address);
+        judged.rsdp = rsdp.get(..36).unwrap_or(&[]);
+        // Revision, RsdtAddress.
+        let (revision, address) = (field(rsdp, 15, 1), field(rsdp, 16, 4));
+        let beside = entry_at(image, address, Some(Signature::RSDT));
+        if revision != 0 && !beside.status.is_invalid() {
+            judged.rsdt = beside.bytes;
+        }
     }
-    let rsdp = Rsdp::read(rsdp);
-    if rsdp.revision() == 0 {
-        return &[];
-    }
-    let entry = entry_at(image, rsdp.rsdt_address() as u64, Some(Signature::RSDT));
-    if entry.status.is_invalid() {
-        return &[];
-    }
-    entry.bytes
+    Ok(judged)
 }
 
 /// Prints what rules find in the tables of an input. It answers the status: 4 if something is bad.

@@ -2,5 +2,5 @@ use Rattle.std.proofs.Common.{length}
 use Rattle.acpi_dump_lib.proofs.check.madt.check_madt.Given as goal
 
 -- each entry leaves fewer bytes
-abbrev pub decreases-loop-bytes : goal.decreases-loop-bytes
-decreases-loop-bytes l = length l.entries
+abbrev pub decreases-loop-entry : goal.decreases-loop-bytes
+decreases-loop-entry l = length l.rest

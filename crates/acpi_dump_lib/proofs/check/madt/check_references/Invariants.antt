@@ -1,6 +1,0 @@
-use Rattle.std.proofs.Common.{length}
-use Rattle.acpi_dump_lib.proofs.check.madt.check_references.Given as goal
-
--- each entry leaves fewer bytes
-abbrev pub decreases-loop-bytes : goal.decreases-loop-bytes
-decreases-loop-bytes l = length l.entries
