@@ -76,8 +76,16 @@ pub(super) fn check_affinities(machine: &Machine<'_>, findings: &mut Findings) {
     {
         check_processors(srat.index, madt.index, &numbers, findings);
     }
-    if let Some(slit) = slit {
-        check_localities(srat, slit, &numbers, findings);
+    let Some(slit) = slit else {
+        return;
+    };
+    let count = Distances::over(slit.bytes).localities();
+    let mut before = None;
+    for (list, domain, offset) in numbers.all.iter() {
+        if *list == DOMAINS && *domain >= count && before != Some(*domain) {
+            findings.add("slit-too-few", srat.index, *offset, &[*domain, count]);
+            before = Some(*domain);
+        }
     }
 }
 
@@ -191,18 +199,6 @@ fn check_processors(srat: usize, madt: usize, numbers: &Numbers, findings: &mut 
                 let table = if *id == "srat-no-domain" { madt } else { srat };
                 findings.add_words(*id, table, *offset, *words, &[*number]);
             }
-        }
-    }
-}
-
-/// Judges whether each domain of a SRAT is a locality of a SLIT.
-fn check_localities(srat: Table<'_>, slit: Table<'_>, numbers: &Numbers, findings: &mut Findings) {
-    let count = Distances::over(slit.bytes).localities();
-    let mut before = None;
-    for (list, domain, offset) in numbers.all.iter() {
-        if *list == DOMAINS && *domain >= count && before != Some(*domain) {
-            findings.add("slit-too-few", srat.index, *offset, &[*domain, count]);
-            before = Some(*domain);
         }
     }
 }

@@ -112,7 +112,7 @@ fn check_regions(mcfg: Table<'_>, findings: &mut Findings) {
                 first: segment << 8 | first,
                 last: segment << 8 | last,
                 offset,
-                owner: segment << 16 | first << 8 | last,
+                owner: segment << 16 | first << 8 | last, // the segment and its buses
             };
             let bytes = Span {
                 first: base.saturating_add(first << 20),
@@ -133,16 +133,16 @@ fn check_regions(mcfg: Table<'_>, findings: &mut Findings) {
         );
     }
     for (before, region) in overlaps(&mut memory, findings) {
-        if !shares_bus(before.owner, region.owner) {
+        // Those that have a bus are found above.
+        let (one, other) = (before.owner, region.owner);
+        if one >> 16 != other >> 16
+            || one >> 8 & 0xff > other & 0xff
+            || other >> 8 & 0xff > one & 0xff
+        {
             let numbers = &[region.first, before.offset as u64];
             findings.add("mcfg-overlap", mcfg.index, region.offset, numbers);
         }
     }
-}
-
-/// Whether two regions are of one segment, and both have a bus: each is its segment, its first bus and its last one.
-fn shares_bus(one: u64, other: u64) -> bool {
-    one >> 16 == other >> 16 && one >> 8 & 0xff <= other & 0xff && other >> 8 & 0xff <= one & 0xff
 }
 
 /// The address space and the address of the generic address at an offset, unless all its bytes are zeros or it isn't

@@ -67,21 +67,6 @@ impl Rule {
         what: "",
         message: "",
     };
-
-    /// The rule that a line describes.
-    fn read(line: &'static str) -> Rule {
-        let (id, line) = next_word(line);
-        let (severity, line) = next_word(line);
-        let (section, line) = cut_at(line, '|');
-        let (what, message) = cut_at(line, '|');
-        Rule {
-            id,
-            severity: Severity::read(severity).unwrap_or(Severity::Error),
-            section: section.trim_ascii(),
-            what: what.trim_ascii(),
-            message: message.trim_ascii(),
-        }
-    }
 }
 
 /// All rules, subject by subject.
@@ -91,8 +76,18 @@ pub(super) fn rules(alloc: Global) -> Result<Vec<Rule>, AllocError> {
     let mut all = Vec::new(alloc);
     for subject in &RULES {
         for line in subject.split('\n') {
-            if !line.is_empty() {
-                all.push(Rule::read(line))?;
+            let (id, line) = next_word(line);
+            let (severity, line) = next_word(line);
+            let (section, line) = cut_at(line, '|');
+            let (what, message) = cut_at(line, '|');
+            if let Some(severity) = Severity::read(severity) {
+                all.push(Rule {
+                    id,
+                    severity,
+                    section: section.trim_ascii(),
+                    what: what.trim_ascii(),
+                    message: message.trim_ascii(),
+                })?;
             }
         }
     }
