@@ -142,12 +142,12 @@ fn add_entry(offset: usize, entry: &SratEntry, numbers: &mut Numbers) {
     let (domain, place) = match entry {
         SratEntry::LocalApic(it) => {
             numbers.push(PLACED_APICS, it.apic_id as u64, offset.saturating_add(3));
-            (it.domain, 2)
+            (it.domain as u64, 2)
         }
-        SratEntry::Memory(it) => (it.domain, 2),
+        SratEntry::Memory(it) => (it.domain as u64, 2),
         SratEntry::LocalX2Apic(it) => {
             numbers.push(PLACED_APICS, it.x2apic_id as u64, offset.saturating_add(8));
-            (it.domain, 4)
+            (it.domain as u64, 4)
         }
         SratEntry::Gicc(it) => {
             numbers.push(
@@ -155,12 +155,12 @@ fn add_entry(offset: usize, entry: &SratEntry, numbers: &mut Numbers) {
                 it.processor_uid as u64,
                 offset.saturating_add(6),
             );
-            (it.domain, 2)
+            (it.domain as u64, 2)
         }
-        SratEntry::GicIts(it) => (it.domain, 2),
-        SratEntry::GenericInitiator(it) | SratEntry::GenericPort(it) => (it.domain, 4usize),
+        SratEntry::GicIts(it) => (it.domain as u64, 2),
+        SratEntry::GenericInitiator(it) | SratEntry::GenericPort(it) => (it.domain as u64, 4usize),
     };
-    numbers.push(DOMAINS, domain as u64, offset.saturating_add(place));
+    numbers.push(DOMAINS, domain, offset.saturating_add(place));
 }
 
 /// What is said of processors, by the lists that have them, and which list lacks them.
