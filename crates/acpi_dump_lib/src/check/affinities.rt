@@ -28,8 +28,8 @@ slit-too-few warning ACPI 6.5, section 5.2.17 | A domain of the SRAT isn't one o
     | domain %, and the SLIT has % localities
 ";
 
-// The lists of numbers that are judged together: the processors of the SRAT, by the ids of their local APICs and by their
-// UIDs, those of the MADT, and those of the MADT that are enabled.
+// The lists of numbers that are judged together: the processors of the SRAT, by the ids of their local APICs and by
+// their UIDs, those of the MADT, and those of the MADT that are enabled.
 const PLACED_APICS: u64 = 0;
 
 const PLACED_UIDS: u64 = 1;
@@ -41,6 +41,7 @@ const LISTED_UIDS: u64 = 3;
 const ENABLED_APICS: u64 = 4;
 
 const ENABLED_UIDS: u64 = 5;
+
 /// The domains of the SRAT.
 const DOMAINS: u64 = 6;
 
@@ -76,16 +77,8 @@ pub(super) fn check_affinities(machine: &Machine<'_>, findings: &mut Findings) {
     {
         check_processors(srat.index, madt.index, &numbers, findings);
     }
-    let Some(slit) = slit else {
-        return;
-    };
-    let count = Distances::over(slit.bytes).localities();
-    let mut before = None;
-    for (list, domain, offset) in numbers.all.iter() {
-        if *list == DOMAINS && *domain >= count && before != Some(*domain) {
-            findings.add("slit-too-few", srat.index, *offset, &[*domain, count]);
-            before = Some(*domain);
-        }
+    if let Some(slit) = slit {
+        check_localities(srat.index, slit, &numbers, findings);
     }
 }
 
@@ -199,6 +192,18 @@ fn check_processors(srat: usize, madt: usize, numbers: &Numbers, findings: &mut 
                 let table = if *id == "srat-no-domain" { madt } else { srat };
                 findings.add_words(*id, table, *offset, *words, &[*number]);
             }
+        }
+    }
+}
+
+/// Judges whether each domain of a SRAT is a locality of a SLIT.
+fn check_localities(srat: usize, slit: Table<'_>, numbers: &Numbers, findings: &mut Findings) {
+    let count = Distances::over(slit.bytes).localities();
+    let mut before = None;
+    for (list, domain, offset) in numbers.all.iter() {
+        if *list == DOMAINS && *domain >= count && before != Some(*domain) {
+            findings.add("slit-too-few", srat, *offset, &[*domain, count]);
+            before = Some(*domain);
         }
     }
 }

@@ -93,7 +93,6 @@ fn check_regions(mcfg: Table<'_>, findings: &mut Findings) {
     for region in McfgEntryIter::over(mcfg.bytes) {
         let (first, last) = (region.bus_number_start as u64, region.bus_number_end as u64);
         let (base, segment) = (region.base_address, region.pci_segment_group as u64);
-        let last_byte = last << 20 | 0xfffff; // after the base, of the last bus's configuration space
         if last < first {
             findings.add(
                 "mcfg-buses",
@@ -102,12 +101,7 @@ fn check_regions(mcfg: Table<'_>, findings: &mut Findings) {
                 &[first, last],
             );
         } else {
-            if base % (1 << 20) != 0 {
-                findings.add("mcfg-unaligned", mcfg.index, offset, &[base]);
-            }
-            if last_byte > u64::MAX - base {
-                findings.add("mcfg-past-end", mcfg.index, offset, &[last, base]);
-            }
+            check_base(mcfg.index, offset, base, last, findings);
             let bus = Span {
                 first: segment << 8 | first,
                 last: segment << 8 | last,
@@ -116,7 +110,7 @@ fn check_regions(mcfg: Table<'_>, findings: &mut Findings) {
             };
             let bytes = Span {
                 first: base.saturating_add(first << 20),
-                last: base.saturating_add(last_byte),
+                last: base.saturating_add(last << 20 | 0xfffff),
                 ..bus
             };
             findings.need(buses.push(bus).is_ok() && memory.push(bytes).is_ok());
@@ -133,16 +127,26 @@ fn check_regions(mcfg: Table<'_>, findings: &mut Findings) {
         );
     }
     for (before, region) in overlaps(&mut memory, findings) {
-        // Those that have a bus are found above.
-        let (one, other) = (before.owner, region.owner);
-        if one >> 16 != other >> 16
-            || one >> 8 & 0xff > other & 0xff
-            || other >> 8 & 0xff > one & 0xff
-        {
+        if !shares_bus(before.owner, region.owner) {
             let numbers = &[region.first, before.offset as u64];
             findings.add("mcfg-overlap", mcfg.index, region.offset, numbers);
         }
     }
+}
+
+/// Judges where a region lies, by its base and its last bus.
+fn check_base(mcfg: usize, offset: usize, base: u64, last: u64, findings: &mut Findings) {
+    if base % (1 << 20) != 0 {
+        findings.add("mcfg-unaligned", mcfg, offset, &[base]);
+    }
+    if last << 20 | 0xfffff > u64::MAX - base {
+        findings.add("mcfg-past-end", mcfg, offset, &[last, base]);
+    }
+}
+
+/// Whether two regions are of one segment, and both have a bus: each is its segment, its first bus and its last one.
+fn shares_bus(one: u64, other: u64) -> bool {
+    one >> 16 == other >> 16 && one >> 8 & 0xff <= other & 0xff && other >> 8 & 0xff <= one & 0xff
 }
 
 /// The address space and the address of the generic address at an offset, unless all its bytes are zeros or it isn't

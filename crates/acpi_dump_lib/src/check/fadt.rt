@@ -63,6 +63,23 @@ pub(super) fn check_fadt(machine: &Machine<'_>, findings: &mut Findings) {
         return;
     };
     check_addresses(index, fadt, findings);
+    check_general(index, fadt, findings);
+    // HW_REDUCED_ACPI.
+    let is_reduced = field(fadt, 112, 4) & 1 << 20 != 0;
+    if !is_reduced {
+        check_values(&FIXED, 0, index, 0, fadt, findings);
+        // SMI_CMD, ACPI_ENABLE.
+        if field(fadt, 48, 4) == 0 && field(fadt, 52, 1) != 0 {
+            findings.add("fadt-smi-command", index, 48, &[]);
+        }
+    }
+    for block in &BLOCKS {
+        check_block(index, fadt, *block, is_reduced, findings);
+    }
+}
+
+/// Judges what a FADT of any hardware has.
+fn check_general(index: usize, fadt: &[u8], findings: &mut Findings) {
     check_values(&ALL, 0, index, 0, fadt, findings);
     let (space, width) = (field(fadt, 116, 1), field(fadt, 117, 1)); // RESET_REG
     // RESET_REG_SUP.
@@ -79,18 +96,6 @@ pub(super) fn check_fadt(machine: &Machine<'_>, findings: &mut Findings) {
         if flags != 0 {
             findings.add("fadt-reserved-flags", index, offset, &[flags]);
         }
-    }
-    // HW_REDUCED_ACPI.
-    let is_reduced = field(fadt, 112, 4) & 1 << 20 != 0;
-    if !is_reduced {
-        check_values(&FIXED, 0, index, 0, fadt, findings);
-        // SMI_CMD, ACPI_ENABLE.
-        if field(fadt, 48, 4) == 0 && field(fadt, 52, 1) != 0 {
-            findings.add("fadt-smi-command", index, 48, &[]);
-        }
-    }
-    for block in &BLOCKS {
-        check_block(index, fadt, *block, is_reduced, findings);
     }
 }
 

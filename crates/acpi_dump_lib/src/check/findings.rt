@@ -97,8 +97,8 @@ impl Findings {
         self.end(rule, table, offset, start);
     }
 
-    /// Adds, for each number of a table that came before in its list, what the rule of the list finds there: its message
-    /// with the number and where else it is. The ids are those of the first lists' rules, and the others have none.
+    /// Adds, for each number of a table that came before in its list, what the rule of the list finds there: its
+    /// message with the number and where else it is. The ids are of the rules of the first lists: others have none.
     pub(super) fn add_repeated(&mut self, ids: &[&str], table: usize, numbers: &mut Numbers) {
         self.is_refused |= !numbers.sort();
         let mut before = None;

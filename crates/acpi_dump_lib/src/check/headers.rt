@@ -83,27 +83,30 @@ const UNNAMED: [(&str, &str); 6] = [
 pub(super) fn check_headers(machine: &Machine<'_>, findings: &mut Findings) {
     for (index, entry) in machine.entries.iter().enumerate() {
         check_status(entry, index, findings);
-        let name = own_signature(entry.bytes);
-        let name = name.as_str().unwrap_or("");
-        let is_known = if entry.bytes.starts_with(b"FACS") || entry.bytes.starts_with(b"RSD PTR ") {
-            true
-        } else if entry.bytes.len() < 36 {
-            continue;
-        } else {
-            check_form(entry.bytes, index, name, findings)
-        };
-        let id = unnamed_rule(machine, index, name);
-        if is_known || !id.is_empty() {
-            let mut fields = Fields {
-                findings,
-                index,
-                name,
-                is_known,
-                id,
-            };
-            walk_table(own_signature(entry.bytes), entry.bytes, &mut fields);
-        }
+        check_entry(machine, entry, index, findings);
     }
+}
+
+/// Judges the fields of a table's header, if it has one, and each field by itself.
+fn check_entry(machine: &Machine<'_>, entry: &Entry<'_>, index: usize, findings: &mut Findings) {
+    let signature = own_signature(entry.bytes);
+    let name = signature.as_str().unwrap_or("");
+    let mut is_known = true;
+    if !entry.bytes.starts_with(b"FACS") && !entry.bytes.starts_with(b"RSD PTR ") {
+        if entry.bytes.len() < 36 {
+            return;
+        }
+        is_known = check_form(entry.bytes, index, name, findings);
+    }
+    let id = unnamed_rule(machine, index, name);
+    let mut fields = Fields {
+        findings,
+        index,
+        name,
+        is_known,
+        id,
+    };
+    walk_table(signature, entry.bytes, &mut fields);
 }
 
 /// The rule of what no specification names in the table of this number, if it is the first one of such a name: an SPCR

@@ -138,13 +138,17 @@ fn check_entry(table: usize, offset: usize, entry: &[u8], findings: &mut Finding
         );
     }
     check_values(&WANTED, kind, table, offset, entry, findings);
-    let place = match kind {
+    check_signal(table, offset, entry, findings);
+}
+
+/// Judges the MPS INTI Flags of the entry at an offset, if it has some.
+fn check_signal(table: usize, offset: usize, entry: &[u8], findings: &mut Findings) {
+    let place = match field(entry, 0, 1) {
         2 => 8,
         3 | 8 | 0xa => 2,
         4 => 3usize,
         _ => return,
     };
-    // MPS INTI Flags.
     let flags = field(entry, place, 2);
     let words = if flags & 3 == 2 {
         "polarity 2 is reserved"
