@@ -1,6 +1,7 @@
 //! Which structures the drawing has, and the texts of their boxes.
 
-use super::escape::print_escaped;
+use super::escape::Piece::{Decimal, Text};
+use super::escape::{print_escaped, print_html};
 use super::sheet::Sheet;
 use crate::fields::number_of;
 use crate::language::cut_at;
@@ -51,7 +52,7 @@ APIC GIC I|5|box|ITS {GIC ITS ID} at {Physical Base Address}";
 
 /// The tile's kind, the class and the text that a line has for a structure, if it is drawn.
 pub(super) fn line_of(
-    sheet: Sheet<'_>,
+    sheet: &Sheet<'_>,
     structure: &Part,
 ) -> Option<(&'static str, &'static str, &'static str)> {
     for line in DRAWN.split('\n') {
@@ -67,7 +68,7 @@ pub(super) fn line_of(
 }
 
 /// Prints a text, in it what a structure and its fields have in the place of names in braces.
-pub(super) fn print_line(sheet: Sheet<'_>, structure: usize, line: &'static str, out: &mut Out) {
+pub(super) fn print_line(sheet: &Sheet<'_>, structure: usize, line: &'static str, out: &mut Out) {
     for (place, piece) in line.split('{').enumerate() {
         let (name, text) = cut_at(piece, '}');
         match sheet.side.parts.get(structure) {
@@ -80,7 +81,7 @@ pub(super) fn print_line(sheet: Sheet<'_>, structure: usize, line: &'static str,
 }
 
 /// Prints the fields of a name that a structure has after its type and its length, as the name asks for it.
-fn print_fields(sheet: Sheet<'_>, structure: usize, name: &'static str, out: &mut Out) {
+fn print_fields(sheet: &Sheet<'_>, structure: usize, name: &'static str, out: &mut Out) {
     let wanted = name.trim_start_matches(['%', '#']);
     let mut from = 0usize;
     let mut gap = "";
@@ -98,13 +99,13 @@ fn print_fields(sheet: Sheet<'_>, structure: usize, name: &'static str, out: &mu
         gap = "/";
         if name.starts_with('%') {
             let (size, unit) = size_of(number);
-            write!(out, "{size} {unit}");
+            print_html("$ $", &[Decimal(size), Text(unit)], out);
         } else if name.starts_with('#') {
             write!(out, "{number:02x}");
         } else if !meaning.is_empty() {
             print_escaped(meaning.get(..26).unwrap_or(meaning), out);
         } else if name != "Flags" {
-            write!(out, "0x{number:x}");
+            out.words("#", &[number]);
         }
     }
 }

@@ -1,65 +1,76 @@
 //! What rules find, as a list with links to the fields.
 
-use super::Page;
-use super::escape::print_escaped;
-use crate::check::{Finding, Severity, counts_of};
+use super::escape::Piece::{Decimal, Hex, Letters, Text};
+use super::escape::print_html;
+use super::sheet::Sheet;
+use crate::check::{Finding, Judgement, Severity, counts_of};
 use crate::out::Out;
 
-/// Prints how much rules find, and what: errors first, then warnings, then notes.
-pub(super) fn print_findings(page: Page<'_>, out: &mut Out) {
-    let [notes, warnings, errors] = counts_of(page.findings, Severity::Note);
-    writeln!(
-        out,
-        "<section id=\"findings\" class=\"card\"><h2>Findings <small>errors {errors}, warnings {warnings}, notes \
-         {notes}</small></h2><ol class=\"finds\">"
+/// Prints how much rules find in tables, and what: errors first, then warnings, then notes.
+pub(super) fn print_findings(findings: &Judgement, sheets: &[Sheet<'_>], out: &mut Out) {
+    let [notes, warnings, errors] = counts_of(findings, Severity::Note);
+    let counts = [errors as u64, warnings as u64, notes as u64];
+    out.words(
+        "<section id=\"findings\" class=\"card\"><h2>Findings <small>errors %, warnings %, notes %</small></h2>\
+         <ol class=\"finds\">\n",
+        &counts,
     );
     for rank in [2usize, 1, 0] {
-        for (number, finding) in page.findings.list().iter().enumerate() {
-            if finding.rule.severity.rank() == rank {
-                print_finding(page, number, finding, out);
+        for (number, finding) in findings.list().iter().enumerate() {
+            if finding.rule.severity.rank() == rank
+                && let Some(sheet) = sheets.get(finding.table)
+            {
+                print_finding(findings, number, finding, sheet, out);
             }
         }
     }
     out.text("</ol></section>\n");
 }
 
-/// Prints what a rule finds, with a link to the field.
-fn print_finding(page: Page<'_>, number: usize, finding: &Finding, out: &mut Out) {
-    let word = finding.rule.severity.word();
-    write!(
+/// Prints what a rule finds in a table, with a link to the field.
+fn print_finding(
+    findings: &Judgement,
+    number: usize,
+    finding: &Finding,
+    sheet: &Sheet<'_>,
+    out: &mut Out,
+) {
+    let (rule, offset) = (finding.rule, finding.offset as u64);
+    let word = Text(rule.severity.word());
+    print_html(
+        "<li id=\"check-$\" class=\"$\"><span class=\"sev\">$</span> <a href=\"#$\">$ +$</a> \
+         <span class=\"msg\">$</span> <small>$ · $</small>\n",
+        &[
+            Decimal(number as u64),
+            word,
+            word,
+            sheet.link(offset),
+            Letters(sheet.signature),
+            Hex(offset),
+            Text(findings.message(finding)),
+            Text(rule.id),
+            Text(rule.section),
+        ],
         out,
-        "<li id=\"check-{number}\" class=\"{word}\"><span class=\"sev\">{word}</span> "
-    );
-    if let Some(sheet) = page.sheets.get(finding.table) {
-        out.text("<a href=\"");
-        sheet.print_anchor(finding.offset as u64, out);
-        out.text("\">");
-        print_escaped(&sheet.signature().to_bytes(), out);
-        write!(out, " +0x{:x}</a> ", finding.offset);
-    }
-    out.text("<span class=\"msg\">");
-    print_escaped(page.findings.message(finding).as_bytes(), out);
-    out.text("</span> <small>");
-    print_escaped(finding.rule.id.as_bytes(), out);
-    out.text(" · ");
-    print_escaped(finding.rule.section.as_bytes(), out);
-    out.text("</small>\n");
+    )
 }
 
-/// Prints what rules find in a field, after its row.
-pub(super) fn print_findings_of(page: Page<'_>, numbers: (usize, usize), out: &mut Out) {
+/// Prints the findings between two numbers, which rules find in a field, after its row.
+pub(super) fn print_findings_of(findings: &Judgement, numbers: (usize, usize), out: &mut Out) {
     for number in numbers.0..numbers.1 {
-        let Some(finding) = page.findings.list().get(number) else {
-            return;
-        };
-        let word = finding.rule.severity.word();
-        write!(
-            out,
-            "<tr class=\"finding {word}\"><td><td colspan=\"3\"><b>{word}</b> "
-        );
-        print_escaped(page.findings.message(finding).as_bytes(), out);
-        write!(out, " <a href=\"#check-{number}\">");
-        print_escaped(finding.rule.id.as_bytes(), out);
-        out.text("</a>\n");
+        if let Some(finding) = findings.list().get(number) {
+            let word = Text(finding.rule.severity.word());
+            print_html(
+                "<tr class=\"finding $\"><td><td colspan=\"3\"><b>$</b> $ <a href=\"#check-$\">$</a>\n",
+                &[
+                    word,
+                    word,
+                    Text(findings.message(finding)),
+                    Decimal(number as u64),
+                    Text(finding.rule.id),
+                ],
+                out,
+            );
+        }
     }
 }

@@ -2,7 +2,6 @@
 
 use crate::entries::Entry;
 use crate::out::Out;
-use std::alloc::{AllocError, Global};
 
 /// The id of a table: the letters of its signature, and its number from 1 on among the tables of the same letters. The
 /// ids of what isn't a table's aren't four letters long.
@@ -28,34 +27,21 @@ fn letters_of(entry: &Entry<'_>) -> [u8; 4] {
     letters
 }
 
-/// The ids of tables.
-///
-/// Fails if memory runs out.
-pub(super) fn ids_of(
-    alloc: Global,
-    entries: &[Entry<'_>],
-    is_first: bool,
-) -> Result<Vec<Id>, AllocError> {
-    let mut ids: Vec<Id> = Vec::new(alloc);
-    for entry in entries {
+impl Id {
+    /// The id of a table that comes after others.
+    pub(super) fn of(entry: &Entry<'_>, before: &[Entry<'_>], is_first: bool) -> Id {
         let letters = letters_of(entry);
         let mut number = 1u64;
-        for id in ids.iter().rev() {
-            if id.letters == letters {
-                number = id.number.saturating_add(1);
-                break;
-            }
+        for other in before {
+            number = number.saturating_add((letters_of(other) == letters) as u64);
         }
-        ids.push(Id {
+        Id {
             letters,
             number,
             is_first,
-        })?;
+        }
     }
-    Ok(ids)
-}
 
-impl Id {
     /// Prints it: `APIC`, or `SSDT.2` for the second one.
     pub(super) fn print(self, out: &mut Out) {
         if self.is_first {
@@ -65,12 +51,5 @@ impl Id {
         if self.number > 1 {
             write!(out, ".{}", self.number);
         }
-    }
-
-    /// Prints what a link to a byte of the table is: `#APIC-0x4c`.
-    pub(super) fn print_anchor(self, offset: u64, out: &mut Out) {
-        out.text("#");
-        self.print(out);
-        write!(out, "-0x{offset:x}");
     }
 }

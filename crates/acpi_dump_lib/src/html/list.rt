@@ -1,7 +1,7 @@
 //! The list of the tables.
 
-use super::Page;
-use super::escape::{print_escaped, print_value};
+use super::escape::Piece::{Bytes, Decimal, Hex, Id, Letters, Markup, Text};
+use super::escape::{Piece, print_html};
 use super::sheet::{Sheet, Standing};
 use crate::document::header_of;
 use crate::entries::Place;
@@ -9,8 +9,8 @@ use crate::layouts::title_of;
 use crate::out::Out;
 use crate::status::Status;
 
-/// Prints the list: the tables of the input, and those that only the first one of two has.
-pub(super) fn print_list(page: Page<'_>, old: &[Sheet<'_>], out: &mut Out) {
+/// Prints the list of tables.
+pub(super) fn print_list(sheets: &[Sheet<'_>], out: &mut Out) {
     out.text(
         "<section id=\"tables\"><h2>The tables <span class=\"tools\" hidden><button data-all=\"1\">Unfold all</button> \
          <button data-all=\"0\">Fold all</button></span></h2>\n\
@@ -20,81 +20,76 @@ pub(super) fn print_list(page: Page<'_>, old: &[Sheet<'_>], out: &mut Out) {
          <th scope=\"col\" class=\"w\">OEM id<th scope=\"col\" class=\"w\">OEM table id\
          <th scope=\"col\" class=\"w num\">OEM revision<th scope=\"col\" class=\"w\">Creator<tbody>\n",
     );
-    for sheet in page.sheets {
-        print_row(page, *sheet, out);
-    }
-    for sheet in old {
-        if let Standing::Only(_) = sheet.standing {
-            print_row(page, *sheet, out);
-        }
+    for sheet in sheets {
+        print_row(sheet, out);
     }
     out.text("</table></div></section>\n");
 }
 
 /// Prints the row of a table.
-fn print_row(page: Page<'_>, sheet: Sheet<'_>, out: &mut Out) {
+fn print_row(sheet: &Sheet<'_>, out: &mut Out) {
     let class = if sheet.id.is_first {
         " class=\"del\""
     } else {
         ""
     };
-    write!(out, "<tr{class}><th scope=\"row\"><a href=\"#");
-    sheet.id.print(out);
-    out.text("\">");
-    print_escaped(&sheet.signature().to_bytes(), out);
-    out.text("</a><td class=\"w\">");
-    out.text(title_of(sheet.signature()));
-    out.text("<td>");
-    print_badges(page, sheet, out);
-    out.text("<td><code>");
-    print_place(sheet, out);
-    write!(
+    let [badge, status, standing] = badges_of(sheet);
+    print_html(
+        "<tr$><th scope=\"row\"><a href=\"#$\">$</a><td class=\"w\">$<td><span class=\"$\">$</span>$\
+         <td><code>$</code><td class=\"num\">$<td class=\"num\">",
+        &[
+            Markup(class),
+            Id(sheet.id, None),
+            Letters(sheet.signature),
+            Markup(title_of(sheet.signature)),
+            badge,
+            status,
+            standing,
+            place_of(sheet),
+            Decimal(sheet.entry.bytes.len() as u64),
+        ],
         out,
-        "</code><td class=\"num\">{}<td class=\"num\">",
-        sheet.entry.bytes.len()
     );
-    if let Some(header) = &header_of(&sheet.entry) {
-        write!(out, "{}<td class=\"w\"><code>", header.revision);
-        print_escaped(&header.oem_id, out);
-        out.text("</code><td class=\"w\"><code>");
-        print_escaped(&header.oem_table_id, out);
-        write!(
+    match header_of(&sheet.entry) {
+        Some(header) => print_html(
+            "$<td class=\"w\"><code>$</code><td class=\"w\"><code>$</code><td class=\"w num\">$\
+             <td class=\"w\"><code>$</code>\n",
+            &[
+                Decimal(header.revision as u64),
+                Bytes(&header.oem_id),
+                Bytes(&header.oem_table_id),
+                Hex(header.oem_revision as u64),
+                Bytes(&header.creator_id.to_le_bytes()),
+            ],
             out,
-            "</code><td class=\"w num\">0x{:x}<td class=\"w\"><code>",
-            header.oem_revision
-        );
-        print_escaped(&header.creator_id.to_le_bytes(), out);
-        out.text("</code>");
-    } else {
-        out.text("<td class=\"w\"><td class=\"w\"><td class=\"w\"><td class=\"w\">");
+        ),
+        None => out.text("<td class=\"w\"><td class=\"w\"><td class=\"w\"><td class=\"w\">\n"),
     }
-    out.text("\n");
 }
 
-/// Prints where a table lies.
-pub(super) fn print_place(sheet: Sheet<'_>, out: &mut Out) {
+/// Where a table lies.
+pub(super) fn place_of<'p>(sheet: &Sheet<'p>) -> Piece<'p> {
     match sheet.entry.place {
-        Place::Address(address) => write!(out, "0x{address:x}"),
-        Place::File(name) => print_escaped(name.as_bytes(), out),
-        Place::Nowhere => {}
+        Place::Address(address) => Hex(address),
+        Place::File(name) => Text(name),
+        Place::Nowhere => Text(""),
     }
 }
 
-/// Prints what the checks of a table say, and how it stands to the other input.
-pub(super) fn print_badges(page: Page<'_>, sheet: Sheet<'_>, out: &mut Out) {
+/// The class of what the checks of a table say, what they say, and how it stands to the other input.
+pub(super) fn badges_of<'p>(sheet: &Sheet<'p>) -> [Piece<'p>; 3] {
     let status = sheet.entry.status;
     let class = match status {
         Status::Valid => "ok",
         _ if status.is_invalid() => "bad",
         _ => "warn",
     };
-    write!(out, "<span class=\"{class}\">");
-    print_value(page.alloc, &status, out);
-    out.text("</span>");
-    match sheet.standing {
-        Standing::Alone => {}
-        Standing::Only(name) => write!(out, " <span class=\"diff\">only in the {name}</span>"),
-        Standing::Same => out.text(" <span class=\"same\">same bytes</span>"),
-        Standing::Beside(_, _) => out.text(" <span class=\"diff\">differs</span>"),
-    }
+    let standing = match sheet.standing {
+        Standing::Alone => "",
+        Standing::Only if sheet.id.is_first => " <span class=\"diff\">only in the first</span>",
+        Standing::Only => " <span class=\"diff\">only in the second</span>",
+        Standing::Same => " <span class=\"same\">same bytes</span>",
+        Standing::Beside(_, _) => " <span class=\"diff\">differs</span>",
+    };
+    [Text(class), Piece::Status(status), Markup(standing)]
 }

@@ -1,8 +1,8 @@
 //! The machine as a drawing: a tile for each domain, controller, unit and so on, in which a structure is a box.
 
-use super::Page;
 use super::drawn::{line_of, print_line};
-use super::escape::print_escaped;
+use super::escape::Piece::Text;
+use super::escape::print_html;
 use super::matrices::print_matrices;
 use super::rows::print_digest;
 use super::sheet::{Sheet, classes_of};
@@ -41,7 +41,7 @@ const ROWS: usize = 40;
 
 /// A structure in the drawing.
 #[derive(Clone, Copy)]
-struct Piece {
+struct Shape {
     /// The kind of its tile, the number of the table, and that of the tile.
     tile: (u64, usize, u64),
     part: usize,
@@ -54,7 +54,7 @@ struct Piece {
 }
 
 /// Where a structure is drawn, if it is, within the one of this number that the table itself has.
-fn piece_of(sheet: Sheet<'_>, table: usize, part: usize, unit: usize) -> Option<Piece> {
+fn shape_of(sheet: &Sheet<'_>, table: usize, part: usize, unit: usize) -> Option<Shape> {
     let structure = sheet.side.parts.get(part)?;
     let entry = sheet.bytes(structure.offset, structure.length);
     let (kind, class, text) = line_of(sheet, structure)?;
@@ -69,7 +69,7 @@ fn piece_of(sheet: Sheet<'_>, table: usize, part: usize, unit: usize) -> Option<
         IO_APICS | UNITS => unit as u64,
         _ => 0,
     };
-    Some(Piece {
+    Some(Shape {
         tile: (kind, table, tile),
         part,
         is_wide: flags.is_empty(),
@@ -82,18 +82,18 @@ fn piece_of(sheet: Sheet<'_>, table: usize, part: usize, unit: usize) -> Option<
 /// Adds the structures of a table that are drawn.
 ///
 /// Fails if memory runs out.
-fn add_pieces(sheet: Sheet<'_>, table: usize, pieces: &mut Vec<Piece>) -> Result<(), AllocError> {
+fn add_shapes(sheet: &Sheet<'_>, table: usize, shapes: &mut Vec<Shape>) -> Result<(), AllocError> {
     let mut unit = 0usize;
     for (part, structure) in sheet.side.parts.iter().enumerate().skip(1) {
         if structure.parent == 0 {
             unit = part;
         }
-        if let Some(piece) = piece_of(sheet, table, part, unit) {
-            pieces.push(piece)?;
+        if let Some(shape) = shape_of(sheet, table, part, unit) {
+            shapes.push(shape)?;
         }
     }
     if sheet.is(b"APIC") {
-        add_interrupts(sheet, table, pieces)?;
+        add_interrupts(sheet, table, shapes)?;
     }
     Ok(())
 }
@@ -103,9 +103,9 @@ fn add_pieces(sheet: Sheet<'_>, table: usize, pieces: &mut Vec<Piece>) -> Result
 ///
 /// Fails if memory runs out.
 fn add_interrupts(
-    sheet: Sheet<'_>,
+    sheet: &Sheet<'_>,
     table: usize,
-    pieces: &mut Vec<Piece>,
+    shapes: &mut Vec<Shape>,
 ) -> Result<(), AllocError> {
     let (mut overrides, mut parts) = (IsaOverrides::new(), [0usize; 256]);
     for part in 0..sheet.side.len() {
@@ -131,7 +131,7 @@ fn add_interrupts(
             && let Some((controller, pin)) = pin_of(sheet, isa.global_system_interrupt as u64)
         {
             let part = parts[irq as usize];
-            pieces.push(Piece {
+            shapes.push(Shape {
                 tile: (IO_APICS, table, controller as u64),
                 part: if part == 0 { controller } else { part },
                 is_wide: false,
@@ -146,7 +146,7 @@ fn add_interrupts(
 
 /// The I/O APIC of a MADT that an interrupt comes to, by the number of its structure, and the pin: the first one with
 /// the greatest base up to the interrupt.
-fn pin_of(sheet: Sheet<'_>, interrupt: u64) -> Option<(usize, u64)> {
+fn pin_of(sheet: &Sheet<'_>, interrupt: u64) -> Option<(usize, u64)> {
     let mut nearest: Option<(usize, u64)> = None;
     for (part, structure) in sheet.side.parts.iter().enumerate() {
         let entry = sheet.bytes(structure.offset, structure.length);
@@ -165,111 +165,114 @@ fn pin_of(sheet: Sheet<'_>, interrupt: u64) -> Option<(usize, u64)> {
 /// Prints the tiles of the drawing: none if there is nothing to draw.
 ///
 /// Fails if memory runs out.
-pub(super) fn print_machine(page: Page<'_>, out: &mut Out) -> Result<(), AllocError> {
-    let mut pieces = Vec::new(page.alloc);
-    for (table, sheet) in page.sheets.iter().enumerate() {
-        if sheet.entry.status.is_read() {
-            add_pieces(*sheet, table, &mut pieces)?;
+pub(super) fn print_machine(sheets: &[Sheet<'_>], out: &mut Out) -> Result<(), AllocError> {
+    let mut shapes = Vec::new(out.allocator());
+    for (table, sheet) in sheets.iter().enumerate() {
+        if sheet.is_drawn() {
+            add_shapes(sheet, table, &mut shapes)?;
         }
     }
-    pieces.sort_by_key(|piece| (piece.tile, piece.is_wide))?;
-    let place = pieces.partition_point(|piece| piece.tile.0 < IO_APICS);
-    let (processors, others) = pieces.split_at(place);
-    print_tiles(page, processors, out);
-    print_matrices(page, out);
-    print_tiles(page, others, out);
+    shapes.sort_by_key(|shape| (shape.tile, shape.is_wide))?;
+    let place = shapes.partition_point(|shape| shape.tile.0 < IO_APICS);
+    let (processors, others) = shapes.split_at(place);
+    print_tiles(sheets, processors, out);
+    print_matrices(sheets, out);
+    print_tiles(sheets, others, out);
     Ok(())
 }
 
 /// Prints the tiles of structures in order.
-fn print_tiles(page: Page<'_>, pieces: &[Piece], out: &mut Out) {
+fn print_tiles(sheets: &[Sheet<'_>], shapes: &[Shape], out: &mut Out) {
     let mut start = 0usize;
-    for (place, piece) in pieces.iter().enumerate() {
-        match pieces.get(place + 1) {
-            Some(next) if next.tile == piece.tile => continue,
-            _ => print_tile(page, pieces.get(start..place + 1).unwrap_or(&[]), out),
+    for (place, shape) in shapes.iter().enumerate() {
+        match shapes.get(place + 1) {
+            Some(next) if next.tile == shape.tile => continue,
+            _ => print_tile(sheets, shapes.get(start..place + 1).unwrap_or(&[]), out),
         }
         start = place + 1;
     }
 }
 
 /// Prints the front of a tile of a kind and a number.
-fn print_title(sheet: Sheet<'_>, kind: u64, number: u64, out: &mut Out) {
-    let title = TITLES.get(kind as usize).unwrap_or(&"");
+fn print_title(sheet: &Sheet<'_>, kind: u64, number: u64, out: &mut Out) {
     if kind == DOMAINS {
-        let color = number % 6;
-        return write!(
-            out,
-            "<figure class=\"tile d{color}\"><div><figcaption><h3>{title} {number}</h3>"
-        );
+        let domain = "<figure class=\"tile d%\"><div><figcaption><h3>Domain %</h3>";
+        return out.words(domain, &[number % 6, number]);
     }
     out.text("<figure class=\"tile\"><div><figcaption><h3>");
+    let title = TITLES.get(kind as usize).unwrap_or(&"");
     print_line(sheet, number as usize, title, out);
     out.text("</h3>")
 }
 
 /// Prints a tile of structures.
-fn print_tile(page: Page<'_>, pieces: &[Piece], out: &mut Out) {
-    let [first, ..] = pieces else {
+fn print_tile(sheets: &[Sheet<'_>], shapes: &[Shape], out: &mut Out) {
+    let [first, ..] = shapes else {
         return;
     };
     let (kind, table, number) = first.tile;
-    let Some(sheet) = page.sheets.get(table) else {
+    let Some(sheet) = sheets.get(table) else {
         return;
     };
-    let (boxes, rows) = pieces.split_at(pieces.partition_point(|piece| !piece.is_wide));
+    let (boxes, rows) = shapes.split_at(shapes.partition_point(|shape| !shape.is_wide));
     let (each, columns) = match boxes.len() {
         _ if kind == IO_APICS => (1, 3),
         0..=64 => (1, 8),
         65..=SINGLE => (1, 12),
         count => (count.div_ceil(BOXES), 8),
     };
-    print_title(*sheet, kind, number, out);
+    print_title(sheet, kind, number, out);
     if each > 1 {
-        write!(out, "<p>{} processors, {each} in a box</p>", boxes.len());
+        let counts = [boxes.len() as u64, each as u64];
+        out.words("<p>% processors, % in a box</p>", &counts);
     }
-    let mut tile = Tile::new(page.alloc, columns);
+    let mut tile = Tile::new(out.allocator(), columns);
     for some in boxes.chunks(each) {
-        add_box(*sheet, some, &mut tile);
+        add_box(sheet, some, &mut tile);
     }
     tile.columns = 1;
     for some in rows.chunks(1).take(ROWS) {
-        add_box(*sheet, some, &mut tile);
+        add_box(sheet, some, &mut tile);
     }
     if rows.len() > ROWS {
-        write!(tile.text, "and {} more", rows.len() - ROWS);
+        let others = (rows.len() - ROWS) as u64;
+        tile.text.words("and % more", &[others]);
         tile.add(None, "", "");
     }
     tile.print(out)
 }
 
 /// Adds a box for structures, of which there are several only if they are processors.
-fn add_box(sheet: Sheet<'_>, some: &[Piece], tile: &mut Tile) {
+fn add_box(sheet: &Sheet<'_>, some: &[Shape], tile: &mut Tile) {
     let [first, ..] = some else {
         return;
     };
     let Some(structure) = sheet.side.parts.get(first.part) else {
         return;
     };
-    let mut seen = (None, false);
-    for piece in some {
-        if let Some(other) = sheet.side.parts.get(piece.part) {
+    let mut seen = (0, false);
+    for shape in some {
+        if let Some(other) = sheet.side.parts.get(shape.part) {
             seen = sheet.seen(other.offset, other.length, seen);
         }
     }
     print_line(sheet, first.part, first.text, &mut tile.text);
     if let Some((irq, pin)) = first.isa {
-        write!(tile.text, "ISA {irq}→{pin}");
-        write!(tile.title, "ISA interrupt {irq}, pin {pin}: ");
+        let numbers = [irq as u64, pin];
+        tile.text.words("ISA %→%", &numbers);
+        tile.title.words("ISA interrupt %, pin %: ", &numbers);
     }
     if some.len() > 1 {
-        write!(tile.title, "{} processors from this one on: ", some.len());
+        let words = "% processors from this one on: ";
+        tile.title.words(words, &[some.len() as u64]);
     }
-    if first.class == "cpu off" {
-        tile.title.text("disabled: ");
-    }
-    print_escaped(structure.name.as_bytes(), &mut tile.title);
-    tile.title.text(": ");
+    let state = if first.class == "cpu off" {
+        "disabled: "
+    } else {
+        ""
+    };
+    let name = [Text(state), Text(structure.name)];
+    print_html("$$: ", &name, &mut tile.title);
     print_digest(sheet.side, first.part, structure, &mut tile.title);
     tile.add(
         Some((sheet, structure.offset)),

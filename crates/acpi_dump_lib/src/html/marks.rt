@@ -1,17 +1,16 @@
 //! What a page marks in a table: findings, and what differs from the first of two inputs.
 
 use crate::check::Finding;
-use crate::compare::{Difference, differences};
-use crate::outline::{BYTES, Item, Items, Side};
-use crate::walk::DEEPEST;
+use crate::compare::Difference;
+use crate::outline::{BYTES, Item, Side};
 use std::alloc::{AllocError, Global};
 
 /// How a field stands to the first of two inputs.
 #[derive(Clone, Copy)]
 pub(super) enum Change {
     Same,
-    /// The first one hasn't got it.
-    Added,
+    /// The first one hasn't got it, or the structure of this number that it is in, if that isn't 0.
+    Added(usize),
     /// The first one has this in its place.
     From(Item),
 }
@@ -26,168 +25,87 @@ pub(super) struct Mark {
     pub(super) change: Change,
 }
 
-/// The marks of a structure, which has those of what is in it.
-#[derive(Clone, Copy)]
-pub(super) struct Fold {
-    pub(super) has_findings: bool,
-    pub(super) has_changes: bool,
-    pub(super) is_added: bool,
-}
-
-/// What the first of two inputs alone has.
-#[derive(Clone, Copy)]
-pub(super) enum Gone {
-    Structure(usize),
-    Field(Item),
-}
-
 /// The marks of a table.
 #[derive(Drop)]
 pub(super) struct Marks {
     pub(super) fields: Vec<Mark>,
-    pub(super) folds: Vec<Fold>,
-    pub(super) gone: Vec<Gone>,
+    /// What the first of two inputs alone has: structures, and fields of them.
+    pub(super) gone: Vec<(usize, Option<Item>)>,
 }
 
-/// No marks of a table, of which each run of bytes that no field covers has one row.
-fn unmarked(alloc: Global, side: Side<'_>) -> Result<Marks, AllocError> {
-    let field = Mark {
-        row: 0,
-        findings: (0, 0),
-        change: Change::Same,
-    };
-    let fold = Fold {
-        has_findings: false,
-        has_changes: false,
-        is_added: false,
-    };
-    let mut fields = vec![in alloc; field; side.items.len()]?;
-    let mut row = 0usize;
-    let mut before: Option<Item> = None;
-    for (place, item) in side.items.iter().enumerate() {
-        match before {
-            Some(last) if last.name == BYTES && item.name == BYTES && last.part == item.part => {}
-            _ => row = place,
-        }
-        before = Some(*item);
-        if let Some(mark) = fields.get_mut(place) {
-            mark.row = row;
-        }
-    }
-    Ok(Marks {
-        fields,
-        folds: vec![in alloc; fold; side.parts.len()]?,
-        gone: Vec::new(alloc),
-    })
-}
-
-impl Marks {
-    /// Marks the structures that a structure is in, and itself.
-    fn fold(&mut self, side: Side<'_>, part: usize, is_finding: bool) {
-        let mut part = part;
-        for _ in 0..DEEPEST {
-            if let Some(fold) = self.folds.get_mut(part) {
-                fold.has_findings |= is_finding;
-                fold.has_changes |= !is_finding;
-            }
-            part = match side.parts.get(part) {
-                Some(inner) if part > 0 => inner.parent,
-                _ => break,
-            };
-        }
-    }
-
-    /// Adds findings, which are in the order of their offsets, from a number among all on, each to the row of its byte.
-    fn add_findings(&mut self, side: Side<'_>, table: usize, findings: &[Finding], from: usize) {
-        let mut next = from;
-        for (place, item) in side.items.iter().enumerate() {
-            let end = item.offset.saturating_add(item.length);
-            let first = next;
-            for number in first..findings.len() {
-                let finding = &findings[number];
-                if finding.table != table || finding.offset as u64 >= end {
-                    break;
-                }
-                next = number + 1;
-            }
-            if first < next {
-                self.add_to_row(place, first, next);
-                self.fold(side, item.part, true);
-            }
-        }
-    }
-
-    /// Adds the findings between two numbers to the row that shows a field.
-    fn add_to_row(&mut self, place: usize, first: usize, next: usize) {
-        let row = match self.fields.get(place) {
-            Some(mark) => mark.row,
-            None => place,
-        };
-        if let Some(mark) = self.fields.get_mut(row) {
-            if mark.findings.0 == mark.findings.1 {
-                mark.findings.0 = first;
-            }
-            mark.findings.1 = next;
-        }
-    }
-
-    /// Marks the field of a number.
-    fn change(&mut self, side: Side<'_>, place: usize, change: Change) {
-        if let Some(mark) = self.fields.get_mut(place) {
-            mark.change = change;
-        }
-        if let Some(item) = side.items.get(place) {
-            self.fold(side, item.part, false);
-        }
-    }
-
-    /// Adds a difference.
-    fn add_difference(&mut self, side: Side<'_>, found: &Difference<'_>) -> Result<(), AllocError> {
-        match (found.place, found.was) {
-            (Some(place), _) if found.name.is_empty() => self.add_structure(side, place),
-            (Some(place), Some(was)) => self.change(side, place, Change::From(was)),
-            (Some(place), None) => self.change(side, place, Change::Added),
-            (None, Some(was)) => self.gone.push(Gone::Field(was))?,
-            (None, None) => self.gone.push(Gone::Structure(found.part))?,
-        }
-        Ok(())
-    }
-
-    /// Marks a structure that is added, with all that is in it.
-    fn add_structure(&mut self, side: Side<'_>, part: usize) {
-        let (first, last) = match side.parts.get(part) {
-            Some(part) => (part.first, part.last),
-            None => (0, 0),
-        };
-        for place in first..last {
-            self.change(side, place, Change::Added);
-        }
-        if let Some(fold) = self.folds.get_mut(part) {
-            fold.is_added = true;
-        }
-    }
-}
-
-/// The marks of a table that has this number, with findings from a number among all on, and what differs from the table
-/// of the first input, if that has one.
+/// The marks of the table of this number by findings, which are in the order of the tables and of their offsets: each
+/// is that of the row of its byte. A run of bytes that no field covers has one row.
 ///
 /// Fails if memory runs out.
 pub(super) fn marks_of(
     alloc: Global,
-    items: &Items,
-    old: Option<&Items>,
-    ignored: &[&str],
+    side: Side<'_>,
     table: usize,
     findings: &[Finding],
-    from: usize,
 ) -> Result<Marks, AllocError> {
-    let side = items.side()?;
-    let mut marks = unmarked(alloc, side)?;
-    marks.add_findings(side, table, findings, from);
-    if let Some(old) = old {
-        for found in differences(alloc, old, items, ignored)?.iter() {
-            marks.add_difference(side, found)?;
+    let mut fields: Vec<Mark> = Vec::new(alloc);
+    let mut next = findings.partition_point(|finding| finding.table < table);
+    let mut row = 0usize;
+    for (place, item) in side.items.iter().enumerate() {
+        let first = next;
+        let end = item.offset.saturating_add(item.length);
+        for number in first..findings.len() {
+            if findings[number].table != table || findings[number].offset as u64 >= end {
+                break;
+            }
+            next = number + 1;
         }
+        match fields.get_mut(row) {
+            Some(mark) if item.name == BYTES && is_run(side, row, item) => mark.findings.1 = next,
+            _ => row = place,
+        }
+        fields.push(Mark {
+            row,
+            findings: (if row == place { first } else { next }, next),
+            change: Change::Same,
+        })?;
     }
-    Ok(marks)
+    Ok(Marks {
+        fields,
+        gone: Vec::new(alloc),
+    })
+}
+
+/// Whether bytes that no field covers follow others in a structure, those in the row of this number.
+fn is_run(side: Side<'_>, row: usize, item: &Item) -> bool {
+    match side.items.get(row) {
+        Some(first) => first.name == BYTES && first.part == item.part,
+        None => false,
+    }
+}
+
+impl Marks {
+    /// Adds the differences of a table from that of the first input.
+    ///
+    /// Fails if memory runs out.
+    pub(super) fn add(
+        &mut self,
+        side: Side<'_>,
+        differences: &[Difference<'_>],
+    ) -> Result<(), AllocError> {
+        for found in differences {
+            let Some(place) = found.place else {
+                self.gone.push((found.part, found.was))?;
+                continue;
+            };
+            let (places, change) = match (side.parts.get(place), found.was) {
+                (Some(part), None) if found.name.is_empty() => {
+                    (part.first..part.last, Change::Added(place))
+                }
+                (_, Some(was)) => (place..place.saturating_add(1), Change::From(was)),
+                _ => (place..place.saturating_add(1), Change::Added(0)),
+            };
+            for place in places {
+                if let Some(mark) = self.fields.get_mut(place) {
+                    mark.change = change;
+                }
+            }
+        }
+        Ok(())
+    }
 }

@@ -1,6 +1,7 @@
 //! Distances, latencies and bandwidths between domains, as matrices of boxes.
 
-use super::Page;
+use super::escape::Piece::{Decimal, Printed, Text};
+use super::escape::print_html;
 use super::sheet::{Sheet, classes_of};
 use super::tile::Tile;
 use crate::out::Out;
@@ -13,8 +14,8 @@ const SHOWN: usize = 16;
 const STEPS: [&str; 4] = ["k0", "k1", "k2", "k3"];
 
 /// Prints the matrices of the SLITs and HMATs that are read, a tile for each.
-pub(super) fn print_matrices(page: Page<'_>, out: &mut Out) {
-    for sheet in page.sheets {
+pub(super) fn print_matrices(sheets: &[Sheet<'_>], out: &mut Out) {
+    for sheet in sheets {
         for part in sheet.side.parts {
             let bytes = match part.kind {
                 None if sheet.is(b"SLIT") => sheet.entry.bytes,
@@ -22,39 +23,45 @@ pub(super) fn print_matrices(page: Page<'_>, out: &mut Out) {
                 _ => continue,
             };
             if let Some(matrix) = matrix_of(bytes)
-                && sheet.entry.status.is_read()
+                && sheet.is_drawn()
             {
-                print_matrix(page, *sheet, part.offset, matrix, out);
+                print_matrix(sheet, part.offset, matrix, out);
             }
         }
     }
 }
 
 /// Prints the tile of a matrix at an offset of a table.
-fn print_matrix(page: Page<'_>, sheet: Sheet<'_>, offset: u64, matrix: Matrix<'_>, out: &mut Out) {
+fn print_matrix(sheet: &Sheet<'_>, offset: u64, matrix: Matrix<'_>, out: &mut Out) {
     let (all, others) = (matrix.rows, matrix.columns);
     let (rows, columns) = (all.min(SHOWN), others.min(SHOWN));
-    let (words, unit) = (matrix.words, matrix.unit);
-    write!(
+    let first = if all > rows || others > columns {
+        " the first ones of $ to $,"
+    } else {
+        ""
+    };
+    let title = [Text(matrix.words), Text(matrix.unit)];
+    print_html(
+        "<figure class=\"tile\"><div><figcaption><h3>$</h3><p>$",
+        &title,
         out,
-        "<figure class=\"tile\"><div><figcaption><h3>{words}</h3><p>{unit}"
     );
-    if all > rows || others > columns {
-        write!(out, " the first ones of {all} to {others},");
-    }
+    let counts = [Decimal(all as u64), Decimal(others as u64)];
+    print_html(first, &counts, out);
     out.text(" from the left to the top</p>");
     let mut least = u64::MAX;
-    let mut tile = Tile::new(page.alloc, columns as u64 + 1);
+    let mut tile = Tile::new(out.allocator(), columns as u64 + 1);
     tile.add(None, "", "");
     for column in 0..columns {
-        write!(tile.text, "{}", matrix.name(all.saturating_add(column)));
+        let name = matrix.name(matrix.rows.saturating_add(column));
+        tile.text.words("%", &[name]);
         tile.add(None, "", "");
         for row in 0..rows {
             least = least.min(matrix.value(row, column).unwrap_or(u64::MAX));
         }
     }
     for row in 0..rows {
-        write!(tile.text, "{}", matrix.name(row));
+        tile.text.words("%", &[matrix.name(row)]);
         tile.add(None, "", "");
         for column in 0..columns {
             add_value(sheet, offset, matrix, (row, column), least, &mut tile);
@@ -63,9 +70,10 @@ fn print_matrix(page: Page<'_>, sheet: Sheet<'_>, offset: u64, matrix: Matrix<'_
     tile.print(out)
 }
 
-/// Adds the box of a value of a matrix whose least one is this.
+/// Adds the box of a value of a matrix whose least one is this. Its class says by how many halves of the least one it
+/// is greater than that.
 fn add_value(
-    sheet: Sheet<'_>,
+    sheet: &Sheet<'_>,
     offset: u64,
     matrix: Matrix<'_>,
     place: (usize, usize),
@@ -73,27 +81,28 @@ fn add_value(
     tile: &mut Tile,
 ) {
     let (row, column) = place;
-    let (from, to) = (
-        matrix.name(row),
-        matrix.name(matrix.rows.saturating_add(column)),
-    );
-    let value = matrix.value(row, column);
-    match value {
-        Some(value) => write!(tile.text, "{value}"),
-        None => tile.text.text("-"),
-    }
-    write!(tile.title, "{} from {from} to {to}: ", matrix.words);
-    tile.title.append(&tile.text);
-    let at = offset.saturating_add(matrix.offset(row, column) as u64);
-    let marks = classes_of(sheet.seen(at, matrix.width as u64, (None, false)));
-    tile.add(Some((sheet, at)), step_of(value, least), marks)
-}
-
-/// The class of a value, by how many halves of the least one it is greater than that.
-fn step_of(value: Option<u64>, least: u64) -> &'static str {
-    let Some(value) = value else {
-        return "rail";
+    let class = match matrix.value(row, column) {
+        Some(value) => {
+            tile.text.words("%", &[value]);
+            let steps = value.saturating_sub(least).saturating_mul(2) / least.max(1);
+            STEPS.get(steps as usize).copied().unwrap_or("k4")
+        }
+        None => {
+            tile.text.text("-");
+            "rail"
+        }
     };
-    let steps = value.saturating_sub(least).saturating_mul(2) / least.max(1);
-    STEPS.get(steps as usize).unwrap_or(&"k4")
+    print_html(
+        "$ from $ to $: $",
+        &[
+            Text(matrix.words),
+            Decimal(matrix.name(row)),
+            Decimal(matrix.name(matrix.rows.saturating_add(column))),
+            Printed(&tile.text),
+        ],
+        &mut tile.title,
+    );
+    let at = offset.saturating_add(matrix.offset(row, column) as u64);
+    let marks = classes_of(sheet.seen(at, matrix.width as u64, (0, false)));
+    tile.add(Some((sheet, at)), class, marks)
 }

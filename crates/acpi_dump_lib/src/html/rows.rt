@@ -1,14 +1,15 @@
 //! The fields of a table: a row for each, in folds by the structures that they are in.
 
-use super::Page;
-use super::escape::print_escaped;
+use super::escape::Piece::{Bytes, Decimal, Digits, Hex, Id, Name, Offset, Text, Value};
+use super::escape::print_html;
 use super::findings::print_findings_of;
-use super::marks::{Change, Gone};
+use super::marks::Change;
 use super::sheet::{Sheet, Standing};
 use crate::document::header_of;
 use crate::out::Out;
 use crate::outline::{BYTES, Item, MALFORMED, Part, Side};
 use crate::walk::DEEPEST;
+use acpi::sdt::SdtHeader;
 
 /// From how many structures of one name in a row on they are in a fold.
 const MANY: usize = 9;
@@ -19,36 +20,35 @@ const SHORT: usize = 128;
 /// The length of a header (ACPI 6.5, section 5.2.6).
 const HEADER: u64 = 36;
 
-/// How many digits of a value are shown.
-const DIGITS: usize = 26;
+/// What ends rows of fields that follow each other, and those of the header.
+const ROWS_END: &str = "</table>\n";
+
+const HEADER_END: &str = "</table>\n</details>\n";
 
 /// The rows of a table as they are printed.
 #[derive(Drop)]
-struct Rows<'p, 'o> {
-    page: Page<'p>,
-    sheet: Sheet<'p>,
+struct Rows<'s, 'p, 'o> {
+    sheet: &'s Sheet<'p>,
     out: &'o mut Out,
     /// The structure whose fields come.
     open: usize,
     /// The last structure of the row of structures that is in a fold, or 0.
     group: usize,
-    is_in_header: bool,
-    is_in_rows: bool,
+    /// What ends the rows that have begun: nothing if none have.
+    end: &'static str,
 }
 
 /// Prints the fields of a table, and what only that of the first input has.
-pub(super) fn print_rows(page: Page<'_>, sheet: Sheet<'_>, out: &mut Out) {
+pub(super) fn print_rows(sheet: &Sheet<'_>, out: &mut Out) {
     let mut rows = Rows {
-        page,
         sheet,
         out,
         open: 0,
         group: 0,
-        is_in_header: false,
-        is_in_rows: false,
+        end: "",
     };
-    if header_of(&sheet.entry).is_some() {
-        rows.begin_header();
+    if let Some(header) = &header_of(&sheet.entry) {
+        rows.begin_header(header);
     }
     let mut next = 1usize;
     for (place, item) in sheet.side.items.iter().enumerate() {
@@ -66,104 +66,89 @@ pub(super) fn print_rows(page: Page<'_>, sheet: Sheet<'_>, out: &mut Out) {
         rows.item(place, *item);
     }
     rows.close_to(0);
-    rows.end_header();
-    rows.end_rows();
+    rows.end();
     rows.gone();
 }
 
-impl Rows<'_, '_> {
+impl Rows<'_, '_, '_> {
     /// Begins the rows of fields that follow each other, unless they have begun.
-    fn begin_rows(&mut self) {
-        if !self.is_in_rows {
+    fn start(&mut self) {
+        if self.end.is_empty() {
             self.out.text("<table class=\"fl\">");
-            self.is_in_rows = true;
+            self.end = ROWS_END;
         }
     }
 
     /// Ends the rows that have begun.
-    fn end_rows(&mut self) {
-        if self.is_in_rows {
-            self.out.text("</table>\n");
-            self.is_in_rows = false;
-        }
+    fn end(&mut self) {
+        self.out.text(self.end);
+        self.end = "";
     }
 
     /// Begins the fold of the header, which is open if the table is invalid or something in it is marked.
-    fn begin_header(&mut self) {
+    fn begin_header(&mut self, header: &SdtHeader) {
         let sheet = self.sheet;
         let marks = sheet.classes(0, HEADER);
-        self.is_in_header = true;
         let is_open = marks.starts_with(" hit") || sheet.entry.status.is_invalid();
-        let words = [marks, if is_open { " open" } else { "" }];
-        self.out.fill("<details class=\"s hd$\"$", &words);
-        self.out.text("><summary data-o=\"0\" data-n=\"24\"><span>0000</span> Header <small>");
-        if let Some(header) = &header_of(&sheet.entry) {
-            print_escaped(&header.oem_id, self.out);
-            self.out.text(" ");
-            print_escaped(&header.oem_table_id, self.out);
-        }
-        self.out.text(
-            "</small></summary>\n<table class=\"fl\"><thead><tr><th scope=\"col\">Offset<th scope=\"col\">Field\
+        print_html(
+            "<details class=\"s hd$\"$><summary data-o=\"0\" data-n=\"24\"><span>0000</span> Header <small>$ $</small>\
+             </summary>\n<table class=\"fl\"><thead><tr><th scope=\"col\">Offset<th scope=\"col\">Field\
              <th scope=\"col\">Value<th scope=\"col\">Meaning<tbody>\n",
+            &[
+                Text(marks),
+                Text(if is_open { " open" } else { "" }),
+                Bytes(&header.oem_id),
+                Bytes(&header.oem_table_id),
+            ],
+            self.out,
         );
-        self.is_in_rows = true;
-    }
-
-    /// Ends the fold of the header, if it has begun.
-    fn end_header(&mut self) {
-        if self.is_in_header {
-            self.end_rows();
-            self.out.text("</details>\n");
-            self.is_in_header = false;
-        }
+        self.end = HEADER_END;
     }
 
     /// Begins the fold of a structure, and before it that of a row of structures if it is the first of many.
     fn begin(&mut self, number: usize, part: &Part) {
-        self.end_header();
-        self.end_rows();
+        let sheet = self.sheet;
+        self.end();
         self.open = number;
-        let fold = self.sheet.fold(number);
+        let fold = sheet.fold(number);
         if self.group == 0 {
             self.begin_group(number, part);
         }
-        let is_short = self.sheet.entry.bytes.len() <= SHORT && self.group == 0;
-        let is_compared = matches!(self.sheet.standing, Standing::Beside(_, _));
+        let is_short = sheet.entry.bytes.len() <= SHORT && self.group == 0;
+        let is_compared = matches!(sheet.standing, Standing::Beside(_, _));
         let is_changed = fold.has_changes && !fold.is_added;
         let is_open = fold.has_findings || is_changed || is_short && !is_compared;
-        let words = [
-            if fold.is_added { " new" } else { "" },
-            if is_changed { " chg" } else { "" },
-            if fold.has_findings { " hit" } else { "" },
-            if is_open { " open" } else { "" },
-        ];
-        self.out.fill("<details class=\"s$$$\"$", &words);
-        write!(
+        print_html(
+            "<details class=\"s$$$\"$><summary data-o=\"$\" data-n=\"$\"><span>$</span> $ <small>$",
+            &[
+                Text(if fold.is_added { " new" } else { "" }),
+                Text(if is_changed { " chg" } else { "" }),
+                Text(if fold.has_findings { " hit" } else { "" }),
+                Text(if is_open { " open" } else { "" }),
+                Digits(part.offset),
+                Digits(part.length),
+                Offset(part.offset),
+                Text(part.name),
+                Text(if fold.is_added { "added: " } else { "" }),
+            ],
             self.out,
-            "><summary data-o=\"{:x}\" data-n=\"{:x}\"><span>{:04x}</span> ",
-            part.offset, part.length, part.offset
         );
-        print_escaped(part.name.as_bytes(), self.out);
-        self.out.text(if fold.is_added {
-            " <small>added: "
-        } else {
-            " <small>"
-        });
-        print_digest(self.sheet.side, number, part, self.out);
+        print_digest(sheet.side, number, part, self.out);
         self.out.text("</small></summary>\n");
     }
 
     /// Begins the fold of a row of structures of one name, if these are many from this one on.
     fn begin_group(&mut self, number: usize, part: &Part) {
+        let sheet = self.sheet;
         let (mut count, mut last, mut end) = (0usize, number, part.offset);
         let mut has_changes = false;
-        for place in number..self.sheet.side.len() {
-            match self.sheet.side.parts.get(place) {
+        for place in number..sheet.side.len() {
+            match sheet.side.parts.get(place) {
                 Some(other) if other.parent == part.parent && other.name == part.name => {
                     count = count.saturating_add(1);
                     last = place;
                     end = other.offset.saturating_add(other.length);
-                    has_changes |= self.sheet.fold(place).has_changes;
+                    has_changes |= sheet.fold(place).has_changes;
                 }
                 Some(other) if other.parent >= number => {}
                 _ => break,
@@ -173,30 +158,33 @@ impl Rows<'_, '_> {
             return;
         }
         self.group = last;
-        self.out.text(if has_changes {
-            "<details class=\"g chg\"><summary>"
-        } else {
-            "<details class=\"g\"><summary>"
-        });
-        print_escaped(part.name.as_bytes(), self.out);
-        let numbers = [count as u64, part.offset, end.saturating_sub(1)];
-        self.out
-            .words(" <b>×%</b> <small># to #</small></summary>\n", &numbers);
+        print_html(
+            "<details class=\"g$\"><summary>$ <b>×$</b> <small>$ to $</small></summary>\n",
+            &[
+                Text(if has_changes { " chg" } else { "" }),
+                Text(part.name),
+                Decimal(count as u64),
+                Hex(part.offset),
+                Hex(end.saturating_sub(1)),
+            ],
+            self.out,
+        )
     }
 
     /// Ends the folds of structures up to that of one that they are in.
     fn close_to(&mut self, part: usize) {
+        let sheet = self.sheet;
         for _ in 0..DEEPEST {
             if self.open == part {
                 break;
             }
-            self.end_rows();
+            self.end();
             self.out.text("</details>\n");
             if self.open == self.group {
                 self.out.text("</details>\n");
                 self.group = 0;
             }
-            self.open = match self.sheet.side.parts.get(self.open) {
+            self.open = match sheet.side.parts.get(self.open) {
                 Some(inner) => inner.parent,
                 None => 0,
             };
@@ -205,140 +193,131 @@ impl Rows<'_, '_> {
 
     /// Prints a field's row, with its findings.
     fn item(&mut self, place: usize, item: Item) {
-        if item.part == 0 && item.offset >= HEADER {
-            self.end_header();
+        let sheet = self.sheet;
+        if item.part == 0 && item.offset >= HEADER && self.end == HEADER_END {
+            self.end();
         }
-        let mark = self.sheet.mark(place);
+        let (mark, side) = (sheet.mark(place), sheet.side);
         if mark.row != place {
             return;
         }
-        self.begin_rows();
+        self.start();
         self.begin_row(place, item);
-        if item.name == BYTES {
-            return self.bytes(place);
-        }
-        self.print_name(item);
-        self.out.text("<td>");
-        match (mark.change, self.sheet.standing) {
-            (Change::From(was), Standing::Beside(_, old)) => self.print_changed(item, was, old),
-            _ => {
-                print_cut("", self.sheet.side.digits(item), "<td>", self.out);
-                print_escaped(self.sheet.side.meaning(item).as_bytes(), self.out)
+        let meaning = side.meaning(item);
+        match (mark.change, sheet.standing) {
+            _ if item.name == BYTES => {
+                let length = self.length(place);
+                let words = "<th scope=\"row\">not decoded<td><td>% bytes\n";
+                self.out.words(words, &[length])
             }
+            (Change::From(was), Standing::Beside(_, old)) => print_html(
+                if old.meaning(was) == meaning {
+                    "<th scope=\"row\">$<td><del>$</del> <ins>$</ins><td>$\n"
+                } else {
+                    "<th scope=\"row\">$<td><del>$</del> <ins>$</ins><td><del>$</del> $\n"
+                },
+                &[
+                    Name(item),
+                    Value(old.digits(was)),
+                    Value(side.digits(item)),
+                    Text(old.meaning(was)),
+                    Text(meaning),
+                ],
+                self.out,
+            ),
+            _ => print_html(
+                "<th scope=\"row\">$<td>$<td>$\n",
+                &[Name(item), Value(side.digits(item)), Text(meaning)],
+                self.out,
+            ),
         }
-        self.out.text("\n");
-        print_findings_of(self.page, mark.findings, self.out)
+        print_findings_of(sheet.findings, mark.findings, self.out)
     }
 
-    /// Prints the rest of the row of bytes that no field covers.
-    fn bytes(&mut self, place: usize) {
+    /// How many bytes that no field covers are in a row.
+    fn length(&self, row: usize) -> u64 {
+        let sheet = self.sheet;
         let mut length = 0u64;
-        for number in place..self.sheet.side.size() {
-            match self.sheet.side.items.get(number) {
-                Some(item) if self.sheet.mark(number).row == place => {
+        for number in row..sheet.side.size() {
+            match sheet.side.items.get(number) {
+                Some(item) if sheet.mark(number).row == row => {
                     length = length.saturating_add(item.length);
                 }
                 _ => break,
             }
         }
-        let words = "<th scope=\"row\">not decoded<td><td>% bytes\n";
-        self.out.words(words, &[length]);
-        print_findings_of(self.page, self.sheet.mark(place).findings, self.out)
+        length
     }
 
     /// Prints what a row begins with: its id, its marks and its offset.
     fn begin_row(&mut self, place: usize, item: Item) {
-        let (offset, mark) = (item.offset, self.sheet.mark(place));
-        self.out.text("<tr");
-        if item.length > 0 {
-            self.out.text(" id=\"");
-            self.sheet.id.print(self.out);
-            write!(self.out, "-0x{offset:x}\"");
-        }
+        let sheet = self.sheet;
+        let (offset, mark) = (item.offset, sheet.mark(place));
+        let id = Id(sheet.id, Some(offset));
+        let start = if item.length > 0 {
+            "<tr id=\"$\""
+        } else {
+            "<tr"
+        };
+        print_html(start, &[id], self.out);
         if item.name == MALFORMED {
-            self.out.text(" class=\"wrong\"><td>");
-            return write!(self.out, "{offset:04x}");
+            return print_html(" class=\"wrong\"><td>$", &[Offset(offset)], self.out);
         }
-        write!(self.out, " class=\"f{offset:x}");
-        self.out.text(match mark.change {
+        let change = match mark.change {
             Change::Same => "",
-            Change::Added => " new",
+            Change::Added(_) => " new",
             Change::From(_) => " chg",
-        });
-        if mark.findings.0 < mark.findings.1 {
-            self.out
-                .text(self.sheet.classes(offset, item.length.max(1)));
-        }
-        self.out.text("\"><td><a href=\"");
-        self.sheet.id.print_anchor(offset, self.out);
-        write!(self.out, "\">{offset:04x}</a>")
-    }
-
-    /// Prints what a field is called.
-    fn print_name(&mut self, item: Item) {
-        self.out.text("<th scope=\"row\">");
-        self.out.text(item.name);
-        if let Some(number) = item.number {
-            write!(self.out, " {number}");
-        }
-    }
-
-    /// Prints the value and the meaning of a field before and after.
-    fn print_changed(&mut self, item: Item, was: Item, old: Side<'_>) {
-        let new = self.sheet.side;
-        print_cut("<del>", old.digits(was), "</del> <ins>", self.out);
-        print_cut("", new.digits(item), "</ins><td>", self.out);
-        if old.meaning(was) != new.meaning(item) {
-            self.out.text("<del>");
-            print_escaped(old.meaning(was).as_bytes(), self.out);
-            self.out.text("</del> ");
-        }
-        print_escaped(new.meaning(item).as_bytes(), self.out)
+        };
+        let found = if mark.findings.0 < mark.findings.1 {
+            sheet.classes(offset, item.length.max(1))
+        } else {
+            ""
+        };
+        print_html(
+            " class=\"f$$$\"><td><a href=\"#$\">$</a>",
+            &[
+                Digits(offset),
+                Text(change),
+                Text(found),
+                id,
+                Offset(offset),
+            ],
+            self.out,
+        )
     }
 
     /// Prints the structures and fields that only the table of the first input has.
     fn gone(&mut self) {
-        let Standing::Beside(_, old) = self.sheet.standing else {
+        let sheet = self.sheet;
+        let Standing::Beside(_, old) = sheet.standing else {
             return;
         };
-        for gone in self.sheet.marks.gone.iter() {
-            self.begin_rows();
-            self.out.text("<tr class=\"del\"><td>");
-            match gone {
-                Gone::Field(item) => {
-                    write!(self.out, "{:04x}", item.offset);
-                    self.print_name(*item);
-                    let digits = old.digits(*item);
-                    print_cut("<td><del>", digits, "</del><td><del>", self.out);
-                    print_escaped(old.meaning(*item).as_bytes(), self.out);
-                    self.out.text("</del>\n");
-                }
-                Gone::Structure(part) => {
-                    write!(self.out, "{:04x}<th scope=\"row\">", old.offset(*part));
-                    self.out.text("<del>");
-                    let mut path = Out::new(self.page.alloc);
+        for (part, field) in sheet.marks.gone.iter() {
+            self.start();
+            match field {
+                Some(item) => print_html(
+                    "<tr class=\"del\"><td>$<th scope=\"row\">$<td><del>$</del><td><del>$</del>\n",
+                    &[
+                        Offset(item.offset),
+                        Name(*item),
+                        Value(old.digits(*item)),
+                        Text(old.meaning(*item)),
+                    ],
+                    self.out,
+                ),
+                None => {
+                    let mut path = Out::new(self.out.allocator());
                     old.print_path(*part, &mut path);
-                    print_escaped(path.since(0), self.out);
-                    self.out.text("</del><td><td>only in the first\n");
+                    print_html(
+                        "<tr class=\"del\"><td>$<th scope=\"row\"><del>$</del><td><td>only in the first\n",
+                        &[Offset(old.offset(*part)), Bytes(path.since(0))],
+                        self.out,
+                    )
                 }
             }
         }
-        self.end_rows();
+        self.end();
     }
-}
-
-/// Prints the first digits of a value between two texts.
-fn print_cut(before: &str, digits: &str, after: &str, out: &mut Out) {
-    let digits = digits.as_bytes();
-    out.text(before);
-    match digits.get(..DIGITS) {
-        Some(first) if digits.len() > DIGITS => {
-            print_escaped(first, out);
-            out.text("..");
-        }
-        _ => print_escaped(digits, out),
-    }
-    out.text(after)
 }
 
 /// Prints the first fields that tell of a folded structure what it is.
@@ -346,8 +325,7 @@ pub(super) fn print_digest(side: Side<'_>, number: usize, part: &Part, out: &mut
     let mut count = 0usize;
     let mut from = 0usize;
     for _ in part.first..part.last {
-        let (item, next) = side.next_item(number, from);
-        let Some(item) = item else {
+        let (Some(item), next) = side.next_item(number, from) else {
             break;
         };
         from = next;
@@ -355,17 +333,14 @@ pub(super) fn print_digest(side: Side<'_>, number: usize, part: &Part, out: &mut
         if is_front || item.name == BYTES || item.name.starts_with("Reserved") {
             continue;
         }
-        if count > 0 {
-            out.text(", ");
-        }
-        print_escaped(item.name.as_bytes(), out);
-        out.text(" ");
         let meaning = side.meaning(item).as_bytes();
-        if meaning.is_empty() {
-            print_cut("", side.digits(item), "", out);
+        let value = if meaning.is_empty() {
+            Value(side.digits(item))
         } else {
-            print_escaped(meaning.get(..48).unwrap_or(meaning), out);
-        }
+            Bytes(meaning.get(..48).unwrap_or(meaning))
+        };
+        let gap = Text(if count > 0 { ", " } else { "" });
+        print_html("$$ $", &[gap, Text(item.name), value], out);
         count = count.saturating_add(1);
         if count == 4 {
             break;

@@ -1,5 +1,7 @@
 //! The tiles of the drawing: boxes in rows, each of which leads to the bytes that it stands for.
 
+use super::escape::Piece::{Decimal, Printed, Text};
+use super::escape::print_html;
 use super::sheet::Sheet;
 use crate::out::Out;
 use std::alloc::Global;
@@ -39,7 +41,12 @@ impl Tile {
 
     /// Draws a box that leads to a byte of a table, or only its text, beside the one before if it fits there. The marks
     /// are the classes of findings and changes.
-    pub(super) fn add(&mut self, target: Option<(Sheet<'_>, u64)>, class: &str, marks: &str) {
+    pub(super) fn add(
+        &mut self,
+        target: Option<(&Sheet<'_>, u64)>,
+        class: &'static str,
+        marks: &'static str,
+    ) {
         let width = WIDTH / self.columns.max(1);
         if self.x > WIDTH.saturating_sub(width) {
             self.x = 0;
@@ -48,14 +55,20 @@ impl Tile {
         let (x, y, inner) = (self.x, self.y, width.saturating_sub(GAP));
         self.x = x.saturating_add(width);
         if let Some((sheet, offset)) = target {
-            write!(self.boxes, "<a class=\"{marks}\" href=\"");
-            sheet.print_anchor(offset, &mut self.boxes);
-            self.boxes.text("\"><title>");
-            self.boxes.append(&self.title);
-            write!(
-                self.boxes,
-                "</title><rect class=\"{class}\" x=\"{x}\" y=\"{y}\" width=\"{inner}\" height=\"{}\"/>",
-                HEIGHT - GAP
+            print_html(
+                "<a class=\"$\" href=\"#$\"><title>$</title>\
+                 <rect class=\"$\" x=\"$\" y=\"$\" width=\"$\" height=\"$\"/>",
+                &[
+                    Text(marks),
+                    sheet.link(offset),
+                    Printed(&self.title),
+                    Text(class),
+                    Decimal(x),
+                    Decimal(y),
+                    Decimal(inner),
+                    Decimal(HEIGHT - GAP),
+                ],
+                &mut self.boxes,
             );
         }
         let (class, letter, start) = match self.columns {
@@ -64,13 +77,16 @@ impl Tile {
             _ => ("s c", 7, inner / 2),
         };
         if (self.text.length() as u64).saturating_mul(letter) <= width {
-            let (start, base) = (x.saturating_add(start), y.saturating_add(14));
-            write!(
-                self.boxes,
-                "<text class=\"{class}\" x=\"{start}\" y=\"{base}\">"
+            print_html(
+                "<text class=\"$\" x=\"$\" y=\"$\">$</text>",
+                &[
+                    Text(class),
+                    Decimal(x.saturating_add(start)),
+                    Decimal(y.saturating_add(14)),
+                    Printed(&self.text),
+                ],
+                &mut self.boxes,
             );
-            self.boxes.append(&self.text);
-            self.boxes.text("</text>");
         }
         self.boxes
             .text(if target.is_some() { "</a>\n" } else { "\n" });
@@ -80,12 +96,11 @@ impl Tile {
 
     /// Prints the tile after its title.
     pub(super) fn print(self, out: &mut Out) {
-        let height = self.y.saturating_add(HEIGHT);
-        writeln!(
+        let height = Decimal(self.y.saturating_add(HEIGHT));
+        print_html(
+            "</figcaption><svg viewBox=\"0 0 $ $\" role=\"group\">\n$</svg></div></figure>\n",
+            &[Decimal(WIDTH), height, Printed(&self.boxes)],
             out,
-            "</figcaption><svg viewBox=\"0 0 {WIDTH} {height}\" role=\"group\">"
-        );
-        out.append(&self.boxes);
-        out.text("</svg></div></figure>\n")
+        )
     }
 }

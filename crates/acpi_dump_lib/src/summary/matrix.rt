@@ -19,18 +19,15 @@ pub(crate) struct Matrix<'a> {
     bytes: &'a [u8],
 }
 
-/// What a System Locality Latency and Bandwidth Information Structure of this Data Type has, and in which unit.
-fn words_of(kind: u64) -> Option<(&'static str, &'static str)> {
-    match kind {
-        0 => Some(("access latency", "ps")),
-        1 => Some(("read latency", "ps")),
-        2 => Some(("write latency", "ps")),
-        3 => Some(("access bandwidth", "MB/s")),
-        4 => Some(("read bandwidth", "MB/s")),
-        5 => Some(("write bandwidth", "MB/s")),
-        _ => None,
-    }
-}
+/// What a System Locality Latency and Bandwidth Information Structure of each Data Type has, and in which unit.
+const WORDS: [(&str, &str); 6] = [
+    ("access latency", "ps"),
+    ("read latency", "ps"),
+    ("write latency", "ps"),
+    ("access bandwidth", "MB/s"),
+    ("read bandwidth", "MB/s"),
+    ("write bandwidth", "MB/s"),
+];
 
 /// The matrix of a SLIT (section 5.2.17) or of a System Locality Latency and Bandwidth Information Structure (section
 /// 5.2.29.4), if all its values are there.
@@ -46,7 +43,7 @@ pub(crate) fn matrix_of(bytes: &[u8]) -> Option<Matrix<'_>> {
         bytes,
     };
     if !bytes.starts_with(b"SLIT") {
-        (matrix.words, matrix.unit) = words_of(number_at(bytes, 9, 1))?; // Data Type
+        (matrix.words, matrix.unit) = *WORDS.get(number_at(bytes, 9, 1) as usize)?; // Data Type
         matrix.rows = number_at(bytes, 12, 4) as usize; // Number of Initiator Proximity Domains
         matrix.columns = number_at(bytes, 16, 4) as usize; // Number of Target Proximity Domains
         matrix.width = 2;
