@@ -172,23 +172,25 @@ pub(crate) fn sum_of(word: &'static str, bytes: &[u8]) -> Sum {
     sum
 }
 
-/// Whether a number is one that a word says, or lies between the two that it says.
-fn is_within(number: u64, word: &str) -> bool {
+/// Whether a number is one that a word says, or lies between the two that it says: `None` if it isn't understood.
+fn is_within(number: u64, word: &str) -> Option<bool> {
     let (first, last) = cut_at(word, '-');
     let last = if last.is_empty() { first } else { last };
-    match (number_of(first), number_of(last)) {
-        (Some(first), Some(last)) => first <= number && number <= last,
-        _ => false,
+    Some(number_of(first)? <= number && number <= number_of(last)?)
+}
+
+/// Whether a number is as a word of `if` says: `None` if the word isn't understood.
+pub(crate) fn choice_of(number: u64, word: &str) -> Option<bool> {
+    match (word.strip_prefix('&'), word.strip_prefix('!')) {
+        (Some(mask), _) => Some(number & number_of(mask)? != 0),
+        (_, Some(mask)) => Some(number & number_of(mask)? == 0),
+        _ => is_within(number, word),
     }
 }
 
 /// Whether a number is as a word of `if` says.
 pub(crate) fn is_chosen(number: u64, word: &str) -> bool {
-    match (word.strip_prefix('&'), word.strip_prefix('!')) {
-        (Some(mask), _) => number & number_of(mask).unwrap_or(0) != 0,
-        (_, Some(mask)) => number & number_of(mask).unwrap_or(0) == 0,
-        _ => is_within(number, word),
-    }
+    choice_of(number, word) == Some(true)
 }
 
 impl Sum {
@@ -251,7 +253,7 @@ impl Block {
     fn is_of_kind(&self, kind: Option<u64>) -> bool {
         match kind {
             None => self.kinds == "*",
-            Some(kind) => is_within(kind, self.kinds),
+            Some(kind) => is_within(kind, self.kinds) == Some(true),
         }
     }
 }

@@ -7,7 +7,7 @@ ghost use Rattle.std.specs.Prelude.{◌<◌, length};
 
 use crate::aml::{Ends, Object, show_objects};
 use crate::fault::Fault;
-use crate::language::{Label, is_chosen, is_number, next_word, sum_of};
+use crate::language::{Label, choice_of, is_number, next_word, sum_of};
 use crate::layouts::{HEADER, layout_of};
 use acpi::PhysicalRecord;
 use acpi::sdt::{SdtHeader, Signature};
@@ -242,12 +242,16 @@ fn split(bytes: &[u8], place: usize) -> (&[u8], &[u8])
 
 /// The lines of the block that a line names, or no lines if it begins with `if` and the number at the place that it
 /// says isn't as it says.
+///
+/// Fails if a word isn't understood.
 fn chosen_lines(piece: Piece<'_>, word: &str, rest: &'static str) -> Result<&'static str, Fault> {
     let mut name = rest;
     if word == "if" {
         let (place, rest) = next_word(rest);
         let (range, rest) = next_word(rest);
-        if !is_chosen(sum_of(place, piece.bytes).number, range) {
+        let sum = sum_of(place, piece.bytes);
+        sum.size()?;
+        if !choice_of(sum.number, range).ok_or(Fault::Unread(range))? {
             return Ok("");
         }
         name = rest;
