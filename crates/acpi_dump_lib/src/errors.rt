@@ -8,8 +8,8 @@ use std::fmt::Display;
 /// Why nothing more is shown.
 #[derive(Clone, Copy)]
 pub(crate) enum Stop {
-    /// For what has been said.
-    Told,
+    /// A message says why.
+    Message,
     /// The allocator refused memory.
     OutOfMemory,
 }
@@ -62,7 +62,7 @@ pub(crate) fn tell(log: &mut Log, name: &str, what: &impl Display) {
 pub(crate) fn fail(log: &mut Log, name: &str, why: &impl Display) -> Stop {
     log.is_incomplete = true;
     tell(log, name, why);
-    Stop::Told
+    Stop::Message
 }
 
 /// Says which word is wrong, and what would be right.

@@ -42,7 +42,7 @@ pub fn dump<S: Sources, T: Storage, W: Write + Drop, E: Write + Drop>(
     let status = match status {
         Ok(0 | 3 | 4) if log.is_incomplete => 1,
         Ok(status) => status,
-        Err(Stop::Told) => 1,
+        Err(Stop::Message) => 1,
         Err(Stop::OutOfMemory) => return Err(io::Error::from(AllocError)),
     };
     shown.and(told)?;
