@@ -85,8 +85,7 @@ impl Document {
     pub(crate) fn token(&mut self, token: Token<'_>)
         requires { IsPrintable (token_of token) }
     {
-        let put = self.pieces.token(token);
-        self.is_refused |= put.is_err();
+        self.is_refused |= self.pieces.token(token).is_err();
     }
 
     /// Begins a member that is a list.
@@ -110,6 +109,21 @@ impl Document {
             Some(digits) if is_number(digits) => self.token(Token::Number(digits)),
             _ => self.is_refused = true,
         }
+    }
+
+    /// Adds numbers by their names, which stand in one text.
+    fn numbers(&mut self, names: &str, numbers: &[u64]) {
+        for (name, number) in names.split(' ').zip(numbers) {
+            self.number(name, *number);
+        }
+    }
+
+    /// Adds an object that says why no more is shown from an offset on.
+    fn reason(&mut self, name: &str, why: &Out, offset: u64) {
+        self.token(Token::BeginObject);
+        self.printed(name, why);
+        self.number("offset", offset);
+        self.token(Token::EndObject);
     }
 
     /// Adds a yes or no.
@@ -190,8 +204,7 @@ impl Show for Document {
         }
         self.token(Token::BeginObject);
         self.hex("bytes", bytes);
-        self.number("length", bytes.len() as u64);
-        self.number("offset", offset);
+        self.numbers("length offset", &[bytes.len() as u64, offset]);
         self.token(Token::EndObject);
     }
 
@@ -199,8 +212,7 @@ impl Show for Document {
         self.token(Token::BeginObject);
         self.number("entry", group.number);
         self.begin_list("fields");
-        let pushed = self.open.push(*group);
-        self.is_refused |= pushed.is_err();
+        self.is_refused |= self.open.push(*group).is_err();
     }
 
     fn end(&mut self) {
@@ -220,10 +232,7 @@ impl Show for Document {
     fn malformed(&mut self, offset: u64, fault: Fault) {
         let mut why = Out::new(self.alloc);
         fault.print(offset, &mut why);
-        self.token(Token::BeginObject);
-        self.printed("malformed", &why);
-        self.number("offset", offset);
-        self.token(Token::EndObject);
+        self.reason("malformed", &why, offset)
     }
 }
 
@@ -231,8 +240,7 @@ impl ShowObjects for Document {
     fn object(&mut self, object: &Object<'_>) {
         self.token(Token::BeginObject);
         self.text("kind", object.kind);
-        self.number("length", object.length);
-        self.number("offset", object.offset);
+        self.numbers("length offset", &[object.length, object.offset]);
         if let Some(path) = object.path {
             let mut text = Out::new(self.alloc);
             print_path(path, &mut text);
@@ -242,12 +250,9 @@ impl ShowObjects for Document {
     }
 
     fn ends(&mut self, offset: u64, why: Ends) {
-        self.token(Token::BeginObject);
         let mut text = Out::new(self.alloc);
         why.print(&mut text);
-        self.printed("ends", &text);
-        self.number("offset", offset);
-        self.token(Token::EndObject);
+        self.reason("ends", &text, offset)
     }
 }
 
@@ -273,9 +278,8 @@ fn add_parts(document: &mut Document, bytes: &[u8]) {
     document.token(Token::BeginObject);
     document.number("access", *size as u64);
     document.address("address", number_of(address));
-    document.number("offset", *offset as u64);
-    document.number("space", *space as u64);
-    document.number("width", *width as u64);
+    let numbers = [*offset as u64, *space as u64, *width as u64];
+    document.numbers("offset space width", &numbers);
     document.token(Token::EndObject);
 }
 

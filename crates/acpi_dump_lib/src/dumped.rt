@@ -1,6 +1,6 @@
 //! A table in the text of acpidump, which acpixtract and this program read back.
 
-use crate::entries::{Entry, Place};
+use crate::entries::Entry;
 use crate::fields::print_text;
 use crate::input::machine::letters_of;
 use crate::out::Out;
@@ -24,10 +24,7 @@ pub(crate) fn print_letters(table: &[u8], out: &mut Out) {
 
 /// Prints a table: a heading with its address, or 0 if nothing gives one, rows of its bytes, and a blank line.
 pub(crate) fn print_dumped(entry: &Entry<'_>, out: &mut Out) {
-    let address = match entry.place {
-        Place::Address(address) => address,
-        _ => 0,
-    };
+    let address = entry.place.address().unwrap_or(0);
     print_letters(entry.bytes, out);
     writeln!(out, " @ 0x{address:016X}");
     let mut offset: u64 = 0;

@@ -27,6 +27,16 @@ pub(crate) enum Place<'a> {
     Nowhere,
 }
 
+impl Place<'_> {
+    /// The physical address, if it lies at one.
+    pub(crate) fn address(self) -> Option<u64> {
+        match self {
+            Place::Address(address) => Some(address),
+            _ => None,
+        }
+    }
+}
+
 /// A table of an input, valid or not.
 #[derive(Clone, Copy)]
 pub(crate) struct Entry<'a> {

@@ -5,6 +5,7 @@ use crate::arguments::{Choice, Contents};
 use crate::compare::{Difference, ShowDifferences};
 use crate::contents::chooses;
 use crate::entries::{Entry, Place};
+use crate::fields::number_of;
 use crate::out::Out;
 use crate::walk::walk_with_objects;
 use acpi::PhysicalRecord;
@@ -34,9 +35,41 @@ impl ShowDifferences for Document {
     }
 }
 
+/// Fields of a header (section 5.2.6): the names, the offsets, the lengths, and whether they are texts.
+const CREATOR: [(&str, usize, usize, bool); 2] = [
+    ("creator_id", 28, 4, true),
+    ("creator_revision", 32, 4, false),
+];
+
+const OEM: [(&str, usize, usize, bool); 4] = [
+    ("length", 4, 4, false),
+    ("oem_id", 10, 6, true),
+    ("oem_revision", 24, 4, false),
+    ("oem_table_id", 16, 8, true),
+];
+
+const REVISION: [(&str, usize, usize, bool); 1] = [("revision", 8, 1, false)];
+
+/// Adds fields of a header, if it is there.
+fn add_header(document: &mut Document, header: &[u8], fields: &[(&str, usize, usize, bool)]) {
+    for (name, offset, length, is_text) in fields {
+        let Some(bytes) = header.get(*offset..offset.saturating_add(*length)) else {
+            return;
+        };
+        if *is_text {
+            document.letters(*name, bytes);
+        } else {
+            document.number(*name, number_of(bytes));
+        }
+    }
+}
+
 /// Adds a table.
 fn add_table(document: &mut Document, entry: &Entry<'_>, part: Part<'_>) {
-    let header = header_of(entry);
+    let header: &[u8] = match header_of(entry) {
+        Some(_) => entry.bytes,
+        None => &[],
+    };
     document.token(Token::BeginObject);
     if let Place::Address(address) = entry.place {
         document.address("address", address);
@@ -44,24 +77,21 @@ fn add_table(document: &mut Document, entry: &Entry<'_>, part: Part<'_>) {
     if let Part::Whole(Contents::Bytes) = part {
         document.hex("bytes", entry.bytes);
     }
-    if let Some(header) = &header {
-        document.letters("creator_id", &header.creator_id.to_le_bytes());
-        document.number("creator_revision", header.creator_revision as u64);
-    }
+    add_header(document, header, &CREATOR);
     add_fields(document, entry, part);
     if let Place::File(name) = entry.place {
         document.text("file", name);
     }
-    if let Some(header) = &header {
-        add_oem(document, header);
-    }
+    add_header(document, header, &OEM);
     if let Part::Only(side) = part {
         document.text("only", side);
     }
-    if let Some(header) = &header {
-        document.number("revision", header.revision as u64);
+    add_header(document, header, &REVISION);
+    if let Some(signature) = entry.signature() {
+        document.letters("signature", &signature.to_bytes());
     }
-    add_status(document, entry);
+    document.shown("status", &entry.status);
+    document.flag("valid", !entry.status.is_invalid());
     document.token(Token::EndObject);
 }
 
@@ -73,23 +103,6 @@ pub(crate) fn header_of(entry: &Entry<'_>) -> Option<SdtHeader> {
     } else {
         Some(SdtHeader::read(entry.bytes))
     }
-}
-
-/// Adds the length in a header, and what it says of the OEM.
-fn add_oem(document: &mut Document, header: &SdtHeader) {
-    document.number("length", header.length as u64);
-    document.letters("oem_id", &header.oem_id);
-    document.number("oem_revision", header.oem_revision as u64);
-    document.letters("oem_table_id", &header.oem_table_id);
-}
-
-/// Adds the signature that a table begins with, and what the checks say.
-fn add_status(document: &mut Document, entry: &Entry<'_>) {
-    if let Some(signature) = entry.signature() {
-        document.letters("signature", &signature.to_bytes());
-    }
-    document.shown("status", &entry.status);
-    document.flag("valid", !entry.status.is_invalid());
 }
 
 /// Adds the fields of a table, if they are shown.
@@ -113,7 +126,8 @@ fn add_fields(document: &mut Document, entry: &Entry<'_>, part: Part<'_>) {
     }
 }
 
-/// Adds a field that differs between two tables, or a structure that one alone has.
+/// Adds a field that differs between two tables, or a structure that one alone has, with what the structure is called,
+/// unless that is all of the table.
 fn add_difference(document: &mut Document, difference: Difference<'_>) {
     let is_field = !difference.name.is_empty();
     document.token(Token::BeginObject);
@@ -130,17 +144,12 @@ fn add_difference(document: &mut Document, difference: Difference<'_>) {
         None if is_field => {}
         None => document.text("only", "second"),
     }
-    add_path(document, difference);
-    document.token(Token::EndObject);
-}
-
-/// Adds what the structure is called in which two tables differ, unless that is all of them.
-fn add_path(document: &mut Document, difference: Difference<'_>) {
     if difference.part > 0 {
         let mut path = Out::new(document.alloc);
         difference.side.print_path(difference.part, &mut path);
         document.printed("structure", &path);
     }
+    document.token(Token::EndObject);
 }
 
 /// Adds tables, without their contents.
