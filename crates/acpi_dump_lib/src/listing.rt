@@ -15,30 +15,21 @@ fn last_part(path: &str) -> &str {
     }
 }
 
-/// How wide the column of places is: as an address, or as the longest name of a file.
-fn width_of(entries: &[Entry<'_>]) -> usize {
-    let mut width = 16usize;
+/// The heading of the column of places, and how wide that is: as an address, or as the longest name of a file.
+fn place_column(entries: &[Entry<'_>]) -> (&'static str, usize) {
+    let (mut heading, mut width) = ("ADDRESS", 16usize);
     for entry in entries {
         if let Place::File(path) = entry.place {
+            heading = "FILE";
             width = width.max(last_part(path).len());
         }
     }
-    width
-}
-
-/// The heading of the column of places.
-fn place_heading(entries: &[Entry<'_>]) -> &'static str {
-    for entry in entries {
-        if matches!(entry.place, Place::File(_)) {
-            return "FILE";
-        }
-    }
-    "ADDRESS"
+    (heading, width)
 }
 
 /// Prints the headings, then a line for each table.
 pub(crate) fn print_lines(entries: &[Entry<'_>], paint: Paint, out: &mut Out) {
-    let (place, width) = (place_heading(entries), width_of(entries));
+    let (place, width) = place_column(entries);
     let columns = "LENGTH   REV OEM ID TABLE ID OEM REV  CRTR CRTR REV STATUS";
     paint.heading(&format_args!("SIG  {place:<width$} {columns}"), out);
     out.text("\n");

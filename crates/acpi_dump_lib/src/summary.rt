@@ -9,11 +9,10 @@ mod units;
 
 use crate::out::Out;
 use acpi::madt::Madt;
-use acpi::mcfg::PciConfigEntry;
 use acpi::platform::interrupt::{
-    Apic, InterruptModel, IoApic, NmiLine, NmiProcessor, NmiSource, Polarity, TriggerMode,
+    Apic, InterruptModel, NmiLine, NmiProcessor, Polarity, TriggerMode,
 };
-use acpi::platform::{PmTimer, Processor, ProcessorState};
+use acpi::platform::{Processor, ProcessorState};
 use acpi::spcr::Spcr;
 use acpi::{AcpiError, AcpiHandler, AcpiTables, HpetInfo, PciConfigRegions, PlatformInfo};
 use acpi_arm::gic::GicModel;
@@ -100,7 +99,12 @@ fn add_parts<H: AcpiHandler>(
         InterruptModel::Apic(apic) => add_apic(facts, apic),
     }
     if let Some(timer) = platform.pm_timer {
-        add_timer(facts, timer);
+        let bits = if timer.supports_32bit { 32 } else { 24 };
+        let (space, address) = (timer.base.address_space, timer.base.address);
+        writeln!(
+            facts,
+            "PM timer\t{bits} bits, {space:?} 0x{address:x}, 3579545 Hz"
+        );
     }
 }
 
@@ -109,7 +113,10 @@ fn add_regions<H: AcpiHandler>(alloc: Global, tables: &AcpiTables<'_, H>, facts:
     match &PciConfigRegions::new(alloc, tables) {
         Ok(regions) => {
             for region in regions.iter() {
-                add_region(facts, region);
+                let (first, last) = region.bus_range.into_inner();
+                let (segment, address) = (region.segment_group, region.physical_address);
+                let numbers = [segment as u64, first as u64, last as u64, address as u64];
+                facts.words("PCI segment %\tbuses % to %, from # on\n", &numbers);
             }
         }
         Err(refusal) => add_unless_missing(facts, "PCI", *refusal),
@@ -197,39 +204,29 @@ fn add_apic(facts: &mut Facts, apic: &Apic<Global>) {
     };
     facts.words(words, &[apic.local_apic_address]);
     for io_apic in apic.io_apics.as_slice() {
-        add_io_apic(facts, io_apic);
+        let numbers = [
+            io_apic.id as u64,
+            io_apic.address as u64,
+            io_apic.global_system_interrupt_base as u64,
+        ];
+        facts.words("I/O APIC %\tat #, interrupts from % on\n", &numbers);
     }
     for irq in 0..16u8 {
         add_isa(facts, apic, irq);
     }
     for source in apic.nmi_sources.as_slice() {
-        add_nmi_source(facts, source);
+        facts.words("NMI\tinterrupt %", &[source.global_system_interrupt as u64]);
+        add_signal(facts, source.polarity, source.trigger_mode);
     }
     for line in apic.local_apic_nmi_lines.as_slice() {
         add_nmi_line(facts, line);
     }
 }
 
-/// Adds an I/O APIC.
-fn add_io_apic(facts: &mut Facts, io_apic: &IoApic) {
-    let numbers = [
-        io_apic.id as u64,
-        io_apic.address as u64,
-        io_apic.global_system_interrupt_base as u64,
-    ];
-    facts.words("I/O APIC %\tat #, interrupts from % on\n", &numbers);
-}
-
 /// Adds what signals an interrupt, at the end of its line.
 fn add_signal(facts: &mut Facts, polarity: Polarity, trigger: TriggerMode) {
     facts.text(polarity_words(polarity));
     facts.text(trigger_words(trigger));
-}
-
-/// Adds an interrupt that can't be masked.
-fn add_nmi_source(facts: &mut Facts, source: &NmiSource) {
-    facts.words("NMI\tinterrupt %", &[source.global_system_interrupt as u64]);
-    add_signal(facts, source.polarity, source.trigger_mode);
 }
 
 /// Adds the pin of local APICs that such interrupts come to.
@@ -254,16 +251,6 @@ fn add_isa(facts: &mut Facts, apic: &Apic<Global>, irq: u8) {
         facts.words(", pin % of I/O APIC %", &numbers);
     }
     add_signal(facts, isa.polarity, isa.trigger_mode);
-}
-
-/// Adds the power management timer.
-fn add_timer(facts: &mut Facts, timer: PmTimer) {
-    let bits = if timer.supports_32bit { 32 } else { 24 };
-    let (space, address) = (timer.base.address_space, timer.base.address);
-    writeln!(
-        facts,
-        "PM timer\t{bits} bits, {space:?} 0x{address:x}, 3579545 Hz"
-    );
 }
 
 /// Adds the high precision event timers.
@@ -296,14 +283,6 @@ pub(crate) fn size_of(bytes: u64) -> (u64, &'static str) {
     } else {
         (bytes >> 30, "GiB")
     }
-}
-
-/// Adds a region of PCI configuration space, of which each bus takes 1 MiB.
-fn add_region(facts: &mut Facts, region: PciConfigEntry) {
-    let (first, last) = region.bus_range.into_inner();
-    let (segment, address) = (region.segment_group, region.physical_address);
-    let numbers = [segment as u64, first as u64, last as u64, address as u64];
-    facts.words("PCI segment %\tbuses % to %, from # on\n", &numbers);
 }
 
 /// Adds a range of memory and its domain.

@@ -14,7 +14,7 @@ use crate::entries::{Entry, Place, bytes_from, entries_of, entries_of_files};
 use crate::errors::{Log, Stop, begin, fail, tell};
 use crate::extract::{Saving, save_tables};
 use crate::find::{add_candidates, add_fact_lines, print_candidates, print_facts};
-use crate::input::candidates::{Candidate, candidates, ebda_of, starts};
+use crate::input::candidates::{candidates, ebda_of, starts};
 use crate::input::gather::Input;
 use crate::input::tables::TableFile;
 use crate::listing::print_lines;
@@ -205,7 +205,16 @@ pub(crate) fn print_input(
     out: &mut Out,
     log: &mut Log,
 ) -> Result<u8, Stop> {
-    print_loaded(output, &load(output, 0, input, log)?, out, log)
+    let loaded = &load(output, 0, input, log)?;
+    if has_no_start(output, loaded, log) {
+        return Ok(2);
+    }
+    match output.request.view {
+        View::Candidates => print_found(output, loaded, out, log),
+        View::Summary => print_summary(output, loaded, out, log),
+        View::Findings => print_judged(output, loaded, out, log),
+        _ => print_entries(output, &entries_in(output, 0, loaded, log)?, out, log),
+    }
 }
 
 /// Whether a start is given for tables: it says so.
@@ -242,24 +251,6 @@ pub(crate) fn save_input<S: Sources, T: Storage>(
     Ok(strict_status(output, entries))
 }
 
-/// Prints what is asked for of memory or of tables.
-fn print_loaded(
-    output: Output<'_, '_>,
-    loaded: &Loaded<'_>,
-    out: &mut Out,
-    log: &mut Log,
-) -> Result<u8, Stop> {
-    if has_no_start(output, loaded, log) {
-        return Ok(2);
-    }
-    match output.request.view {
-        View::Candidates => print_found(output, loaded, out, log),
-        View::Summary => print_summary(output, loaded, out, log),
-        View::Findings => print_judged(output, loaded, out, log),
-        _ => print_entries(output, &entries_in(output, 0, loaded, log)?, out, log),
-    }
-}
-
 /// Prints what is asked for of tables.
 fn print_entries(
     output: Output<'_, '_>,
@@ -270,7 +261,15 @@ fn print_entries(
     let choices = output.request.choices.as_slice();
     let is_chosen = matches!(output.request.view, View::Tables);
     if output.request.is_json {
-        print_document(output, entries, is_chosen, out)?;
+        let mut document = output.document("tables");
+        let view = if is_chosen {
+            add_chosen(&mut document, entries, choices);
+            "contents"
+        } else {
+            add_all(&mut document, entries);
+            "tables"
+        };
+        output.print(document, view, "tables", out)?;
     } else if is_chosen {
         print_tables(entries, choices, output.paint, out);
     } else {
@@ -280,23 +279,6 @@ fn print_entries(
         tell_missing(entries, choices, output.name(0), log);
     }
     Ok(strict_status(output, entries))
-}
-
-/// Prints tables as a document: those that are chosen, with their contents, or all of them without.
-fn print_document(
-    output: Output<'_, '_>,
-    entries: &[Entry<'_>],
-    is_chosen: bool,
-    out: &mut Out,
-) -> Result<(), AllocError> {
-    let mut document = output.document("tables");
-    if is_chosen {
-        add_chosen(&mut document, entries, &output.request.choices);
-    } else {
-        add_all(&mut document, entries);
-    }
-    let view = if is_chosen { "contents" } else { "tables" };
-    output.print(document, view, "tables", out)
 }
 
 /// The status if all is shown: 3 if a table is invalid and that counts.
@@ -316,24 +298,11 @@ fn print_found(
     out: &mut Out,
     log: &mut Log,
 ) -> Result<u8, Stop> {
-    match loaded {
-        Loaded::Memory(image) => {
-            print_rsdps(output, &candidates(output.alloc, image)?, out, log)
-        }
-        Loaded::Tables(_) => {
-            let why = "tables, not memory: there is no RSDP to find";
-            Err(fail(log, output.name(0), &why))
-        }
-    }
-}
-
-/// Prints RSDPs.
-fn print_rsdps(
-    output: Output<'_, '_>,
-    found: &[Candidate],
-    out: &mut Out,
-    log: &mut Log,
-) -> Result<u8, Stop> {
+    let Loaded::Memory(image) = loaded else {
+        let why = "tables, not memory: there is no RSDP to find";
+        return Err(fail(log, output.name(0), &why));
+    };
+    let found = &candidates(output.alloc, image)?;
     if output.request.is_json {
         let mut document = output.document("rsdps");
         add_candidates(&mut document, found);

@@ -1,7 +1,7 @@
 //! The interrupts and the processors of an Arm machine.
 
 use super::Facts;
-use acpi_arm::gic::{GicCpuInterface, GicModel, GicMsiFrame};
+use acpi_arm::gic::{GicCpuInterface, GicModel};
 use std::alloc::Global;
 
 /// Adds the parts of a GIC, the processors first.
@@ -26,7 +26,12 @@ pub(super) fn add_gic(facts: &mut Facts, gic: &GicModel<Global>) {
         facts.words("ITS %\tat #\n", &[service.id as u64, service.address]);
     }
     for frame in gic.msi_frames.as_slice() {
-        add_frame(facts, frame);
+        facts.words("MSI frame %\tat #", &[frame.id as u64, frame.address]);
+        if let Some(spis) = frame.spis {
+            let numbers = [spis.count as u64, spis.base as u64];
+            facts.words(", % interrupts from % on", &numbers);
+        }
+        facts.text("\n");
     }
 }
 
@@ -42,14 +47,4 @@ fn add_processor(facts: &mut Facts, processor: &GicCpuInterface) {
     };
     facts.words("processor %\tMPIDR #, ", &[uid as u64, mpidr]);
     facts.text(state);
-}
-
-/// Adds a frame that turns messages into interrupts.
-fn add_frame(facts: &mut Facts, frame: &GicMsiFrame) {
-    facts.words("MSI frame %\tat #", &[frame.id as u64, frame.address]);
-    if let Some(spis) = frame.spis {
-        let numbers = [spis.count as u64, spis.base as u64];
-        facts.words(", % interrupts from % on", &numbers);
-    }
-    facts.text("\n");
 }

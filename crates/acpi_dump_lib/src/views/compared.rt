@@ -1,6 +1,6 @@
 //! What differs between two inputs.
 
-use super::{Loaded, Output, entries_in, load, strict_status};
+use super::{Output, entries_in, load, strict_status};
 use crate::compare::{DifferenceLines, compare};
 use crate::entries::Entry;
 use crate::errors::{Log, Stop};
@@ -19,17 +19,6 @@ pub(crate) fn print_compared(
 ) -> Result<u8, Stop> {
     let first = &load(output, 0, first, log)?;
     let second = &load(output, 1, second, log)?;
-    compare_loaded(output, first, second, out, log)
-}
-
-/// Prints what differs between two memories or lists of tables.
-fn compare_loaded(
-    output: Output<'_, '_>,
-    first: &Loaded<'_>,
-    second: &Loaded<'_>,
-    out: &mut Out,
-    log: &mut Log,
-) -> Result<u8, Stop> {
     let old = &entries_in(output, 0, first, log)?;
     let new = &entries_in(output, 1, second, log)?;
     compare_entries(output, old, new, out)
