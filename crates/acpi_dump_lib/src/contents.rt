@@ -33,21 +33,15 @@ pub(crate) fn print_tables(entries: &[Entry<'_>], choices: &[Choice], paint: Pai
     }
 }
 
-/// Whether a choice has some table.
-fn is_there(entries: &[Entry<'_>], choice: Choice) -> bool {
-    for entry in entries {
-        if chooses(choice, entry) {
-            return true;
-        }
-    }
-    false
-}
-
 /// Says of each signature that is chosen and has no table that it has none.
 pub(crate) fn tell_missing(entries: &[Entry<'_>], choices: &[Choice], name: &str, log: &mut Log) {
     for choice in choices {
+        let mut is_there = false;
+        for entry in entries {
+            is_there |= chooses(*choice, entry);
+        }
         if let Some(signature) = choice.signature
-            && !is_there(entries, *choice)
+            && !is_there
         {
             fail(log, name, &format_args!("no table {signature}"));
         }

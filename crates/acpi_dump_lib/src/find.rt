@@ -24,31 +24,26 @@ pub(crate) fn print_candidates(found: &[Candidate], out: &mut Out) {
     }
 }
 
-/// Adds an RSDP.
-fn add_candidate(document: &mut Document, candidate: &Candidate) {
-    document.token(Token::BeginObject);
-    document.address("address", candidate.address);
-    if let Some(fields) = candidate.fields {
-        document.number("revision", fields.revision as u64);
-        document.address("rsdt", fields.rsdt as u64);
-    }
-    match &candidate.refusal {
-        Some(refusal) => document.shown("status", refusal),
-        None => document.text("status", "ok"),
-    }
-    document.flag("valid", candidate.refusal.is_none());
-    if let Some(fields) = candidate.fields
-        && let Some(xsdt) = fields.xsdt
-    {
-        document.address("xsdt", xsdt);
-    }
-    document.token(Token::EndObject);
-}
-
 /// Adds RSDPs.
 pub(crate) fn add_candidates(document: &mut Document, found: &[Candidate]) {
     for candidate in found {
-        add_candidate(document, candidate);
+        document.token(Token::BeginObject);
+        document.address("address", candidate.address);
+        if let Some(fields) = candidate.fields {
+            document.number("revision", fields.revision as u64);
+            document.address("rsdt", fields.rsdt as u64);
+        }
+        match &candidate.refusal {
+            Some(refusal) => document.shown("status", refusal),
+            None => document.text("status", "ok"),
+        }
+        document.flag("valid", candidate.refusal.is_none());
+        if let Some(fields) = candidate.fields
+            && let Some(xsdt) = fields.xsdt
+        {
+            document.address("xsdt", xsdt);
+        }
+        document.token(Token::EndObject);
     }
 }
 

@@ -54,7 +54,18 @@ fn print_line(entry: &Entry<'_>, width: usize, paint: Paint, out: &mut Out) {
     }
     print_place(entry.place, width, out);
     match &header {
-        Some(header) if is_headless => print_headless(header, entry, out),
+        Some(header) if is_headless => {
+            // A FACS or an RSDP has the length alone.
+            let length = if entry.bytes.starts_with(b"RSD PTR ") {
+                entry.bytes.len() as u64
+            } else {
+                header.length as u64
+            };
+            write!(
+                out,
+                "{length:08x} -   -      -        -        -    -       "
+            )
+        }
         Some(header) => print_columns(header, out),
         None => out.text("-        -   -      -        -        -    -       "),
     }
@@ -76,19 +87,6 @@ fn print_place(place: Place<'_>, width: usize, out: &mut Out) {
         out.text(" ");
     }
     out.text(" ")
-}
-
-/// Prints the columns of a FACS or an RSDP, which have no header: the length alone.
-fn print_headless(header: &SdtHeader, entry: &Entry<'_>, out: &mut Out) {
-    let length = if entry.bytes.starts_with(b"RSD PTR ") {
-        entry.bytes.len() as u64
-    } else {
-        header.length as u64
-    };
-    write!(
-        out,
-        "{length:08x} -   -      -        -        -    -       "
-    )
 }
 
 /// Prints the columns of a header.

@@ -177,24 +177,6 @@ fn add_processor(facts: &mut Facts, processor: &Processor, srat: &[u8]) {
     facts.text("\n");
 }
 
-/// The words of a polarity.
-fn polarity_words(polarity: Polarity) -> &'static str {
-    match polarity {
-        Polarity::SameAsBus => ", polarity of the bus",
-        Polarity::ActiveHigh => ", active high",
-        Polarity::ActiveLow => ", active low",
-    }
-}
-
-/// The words of a trigger mode.
-fn trigger_words(trigger: TriggerMode) -> &'static str {
-    match trigger {
-        TriggerMode::SameAsBus => ", trigger of the bus\n",
-        TriggerMode::Edge => ", edge\n",
-        TriggerMode::Level => ", level\n",
-    }
-}
-
 /// Adds the controllers, where each ISA interrupt comes, and the interrupts that can't be masked.
 fn add_apic(facts: &mut Facts, apic: &Apic<Global>) {
     let words = if apic.also_has_legacy_pics {
@@ -225,8 +207,16 @@ fn add_apic(facts: &mut Facts, apic: &Apic<Global>) {
 
 /// Adds what signals an interrupt, at the end of its line.
 fn add_signal(facts: &mut Facts, polarity: Polarity, trigger: TriggerMode) {
-    facts.text(polarity_words(polarity));
-    facts.text(trigger_words(trigger));
+    facts.text(match polarity {
+        Polarity::SameAsBus => ", polarity of the bus",
+        Polarity::ActiveHigh => ", active high",
+        Polarity::ActiveLow => ", active low",
+    });
+    facts.text(match trigger {
+        TriggerMode::SameAsBus => ", trigger of the bus\n",
+        TriggerMode::Edge => ", edge\n",
+        TriggerMode::Level => ", level\n",
+    });
 }
 
 /// Adds the pin of local APICs that such interrupts come to.

@@ -22,7 +22,7 @@ use crate::out::Out;
 use crate::paint::Paint;
 use crate::sources::Sources;
 use crate::summary::{Facts, add_domains, add_facts, add_units};
-use acpi::{AcpiError, AcpiTables};
+use acpi::AcpiTables;
 use acpi_cli::root::Root;
 use acpi_image_reader::MemoryImage;
 use acpi_pack_lib::storage::Storage;
@@ -139,16 +139,6 @@ fn start_of(
     Ok(Root::Rsdp { address: *address })
 }
 
-/// Says why the root table isn't opened.
-fn unopened(name: &str, root: Root, refusal: AcpiError, log: &mut Log) -> Stop {
-    match root {
-        Root::Rsdt { address, .. } | Root::Rsdp { address } => {
-            fail(log, name, &format_args!("0x{address:x}: {refusal}"))
-        }
-        Root::Bios => fail(log, name, &refusal),
-    }
-}
-
 /// The tables below the root table of a memory.
 ///
 /// Fails, after saying why, if there are none.
@@ -172,9 +162,13 @@ fn open_at<'h, 'i>(
     root: Root,
     log: &mut Log,
 ) -> Result<AcpiTables<'h, MemoryImage<'i>>, Stop> {
-    match root.open(image) {
-        Ok(tables) => Ok(tables),
-        Err(refusal) => Err(unopened(output.name(number), root, refusal, log)),
+    let name = output.name(number);
+    match (root.open(image), root) {
+        (Ok(tables), _) => Ok(tables),
+        (Err(refusal), Root::Bios) => Err(fail(log, name, &refusal)),
+        (Err(refusal), Root::Rsdt { address, .. } | Root::Rsdp { address }) => {
+            Err(fail(log, name, &format_args!("0x{address:x}: {refusal}")))
+        }
     }
 }
 
@@ -337,19 +331,6 @@ fn add_facts_in<'l>(
     }
 }
 
-/// Adds the tables that are somewhere and can't be read.
-fn add_unread(facts: &mut Facts, entries: &[Entry<'_>]) {
-    for entry in entries {
-        if entry.status.is_invalid() && !matches!(entry.place, Place::Nowhere) {
-            facts.text("not read\t");
-            print_name(entry, facts);
-            facts.text(": ");
-            facts.value(&entry.status);
-            facts.text("\n");
-        }
-    }
-}
-
 /// Prints the machine in short.
 fn print_summary(
     output: Output<'_, '_>,
@@ -361,7 +342,16 @@ fn print_summary(
     let entries = add_facts_in(output, loaded, &mut facts, log)?;
     add_domains(output.alloc, &entries, &mut facts)?;
     add_units(output.alloc, &entries, &mut facts);
-    add_unread(&mut facts, &entries);
+    for entry in &entries {
+        // A table that is somewhere, and can't be read.
+        if entry.status.is_invalid() && !matches!(entry.place, Place::Nowhere) {
+            facts.text("not read\t");
+            print_name(entry, &mut facts);
+            facts.text(": ");
+            facts.value(&entry.status);
+            facts.text("\n");
+        }
+    }
     let Some(facts) = facts.printed() else {
         return Err(Stop::OutOfMemory);
     };

@@ -75,18 +75,6 @@ pub(crate) fn has_valid_rsdp(bytes: &[u8]) -> bool {
     false
 }
 
-/// Adds the candidates that bytes from an address on have, in ascending order.
-fn push_candidates(found: &mut Vec<Candidate>, start: u64, bytes: &[u8]) -> Result<(), AllocError> {
-    let first = ((16 - start % 16) % 16) as usize;
-    for offset in (first..bytes.len()).step_by(16) {
-        let rest = bytes.get(offset..).unwrap_or(&[]);
-        if rest.starts_with(SIGNATURE) {
-            found.push(candidate_of(start.saturating_add(offset as u64), rest))?;
-        }
-    }
-    Ok(())
-}
-
 /// The candidates that a memory has, in ascending order.
 ///
 /// Fails if memory runs out.
@@ -96,7 +84,14 @@ pub(crate) fn candidates(
 ) -> Result<Vec<Candidate>, AllocError> {
     let mut found = Vec::new(alloc);
     for record in image.records() {
-        push_candidates(&mut found, record.start, record.bytes)?;
+        let (start, bytes) = (record.start, record.bytes);
+        let first = ((16 - start % 16) % 16) as usize;
+        for offset in (first..bytes.len()).step_by(16) {
+            let rest = bytes.get(offset..).unwrap_or(&[]);
+            if rest.starts_with(SIGNATURE) {
+                found.push(candidate_of(start.saturating_add(offset as u64), rest))?;
+            }
+        }
     }
     found.sort_by_key(|candidate| candidate.address)?;
     Ok(found)

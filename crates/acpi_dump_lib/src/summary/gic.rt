@@ -1,7 +1,7 @@
 //! The interrupts and the processors of an Arm machine.
 
 use super::Facts;
-use acpi_arm::gic::{GicCpuInterface, GicModel};
+use acpi_arm::gic::GicModel;
 use std::alloc::Global;
 
 /// Adds the parts of a GIC, the processors first.
@@ -9,7 +9,15 @@ pub(super) fn add_gic(facts: &mut Facts, gic: &GicModel<Global>) {
     let all = gic.cpu_interfaces.as_slice();
     facts.words("processors\t%\n", &[all.len() as u64]);
     for processor in all {
-        add_processor(facts, processor);
+        let (uid, mpidr) = (processor.processor_uid, processor.mpidr);
+        facts.words("processor %\tMPIDR #, ", &[uid as u64, mpidr]);
+        facts.text(if processor.is_enabled {
+            "enabled\n"
+        } else if processor.is_online_capable {
+            "can be enabled\n"
+        } else {
+            "disabled\n"
+        });
     }
     let distributor = gic.distributor;
     let words = if distributor.version == 0 {
@@ -33,18 +41,4 @@ pub(super) fn add_gic(facts: &mut Facts, gic: &GicModel<Global>) {
         }
         facts.text("\n");
     }
-}
-
-/// Adds a processor.
-fn add_processor(facts: &mut Facts, processor: &GicCpuInterface) {
-    let (uid, mpidr) = (processor.processor_uid, processor.mpidr);
-    let state = if processor.is_enabled {
-        "enabled\n"
-    } else if processor.is_online_capable {
-        "can be enabled\n"
-    } else {
-        "disabled\n"
-    };
-    facts.words("processor %\tMPIDR #, ", &[uid as u64, mpidr]);
-    facts.text(state);
 }
