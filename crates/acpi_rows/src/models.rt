@@ -1,6 +1,6 @@
 //! What models of a machine's interrupts and memory say.
 
-use crate::text::Text;
+use crate::out::Out;
 use acpi::AcpiResult;
 use acpi::platform::ProcessorInfo;
 use acpi::platform::interrupt::{Apic, InterruptModel};
@@ -11,7 +11,7 @@ use std::alloc::Allocator;
 
 /// Prints an interrupt model and the processors.
 pub(crate) fn print_model<A: Allocator>(
-    out: &mut Text<'_>,
+    out: Out<'_>,
     model: &InterruptModel<A>,
     processors: &Option<ProcessorInfo<A>>,
 ) {
@@ -20,31 +20,35 @@ pub(crate) fn print_model<A: Allocator>(
         InterruptModel::Apic(apic) => print_apics(out, apic),
     }
     if let Some(processors) = processors {
-        out.show(&("boot", processors.boot_processor));
-        out.slice("others", processors.application_processors.as_slice());
+        out.spread(&(
+            ("boot", processors.boot_processor),
+            ("others", processors.application_processors.as_slice()),
+        ));
     }
 }
 
 /// Prints the APICs of a model.
-pub(crate) fn print_apics<A: Allocator>(out: &mut Text<'_>, apic: &Apic<A>) {
-    out.show(&("local apics", apic.local_apic_address));
-    out.show(&("legacy pics", apic.also_has_legacy_pics));
-    out.slice("io apics", apic.io_apics.as_slice());
-    out.slice("nmi lines", apic.local_apic_nmi_lines.as_slice());
-    out.slice("overrides", apic.interrupt_source_overrides.as_slice());
-    out.slice("nmi sources", apic.nmi_sources.as_slice());
+pub(crate) fn print_apics<A: Allocator>(out: Out<'_>, apic: &Apic<A>) {
+    out.spread(&(
+        ("local apics", apic.local_apic_address),
+        ("legacy pics", apic.also_has_legacy_pics),
+        ("io apics", apic.io_apics.as_slice()),
+        ("nmi lines", apic.local_apic_nmi_lines.as_slice()),
+        ("overrides", apic.interrupt_source_overrides.as_slice()),
+        ("nmi sources", apic.nmi_sources.as_slice()),
+    ));
 }
 
 /// Prints a GIC.
-pub(crate) fn print_gic<A: Allocator>(out: &mut Text<'_>, gic: AcpiResult<Option<GicModel<A>>>) {
+pub(crate) fn print_gic<A: Allocator>(out: Out<'_>, gic: AcpiResult<Option<GicModel<A>>>) {
     match gic {
-        Ok(Some(gic)) => {
-            out.show(&gic.distributor);
-            out.slice("interfaces", gic.cpu_interfaces.as_slice());
-            out.slice("redistributors", gic.redistributors.as_slice());
-            out.slice("services", gic.translation_services.as_slice());
-            out.slice("frames", gic.msi_frames.as_slice());
-        }
+        Ok(Some(gic)) => out.spread(&(
+            gic.distributor,
+            ("interfaces", gic.cpu_interfaces.as_slice()),
+            ("redistributors", gic.redistributors.as_slice()),
+            ("services", gic.translation_services.as_slice()),
+            ("frames", gic.msi_frames.as_slice()),
+        )),
         Ok(None) => out.print(&"None"),
         Err(refusal) => out.show(&refusal),
     }
@@ -52,14 +56,14 @@ pub(crate) fn print_gic<A: Allocator>(out: &mut Text<'_>, gic: AcpiResult<Option
 
 /// Prints the ranges of memory in domains, or the domain of an address.
 pub(crate) fn print_ranges<A: Allocator>(
-    out: &mut Text<'_>,
+    out: Out<'_>,
     memory: NumaResult<MemoryAffinities<A>>,
     address: &str,
 ) {
     match memory {
         Ok(memory) => match parse_address(address) {
             Some(address) => out.show(&memory.domain_of(address)),
-            None => out.slice("ranges", memory.ranges()),
+            None => out.show(&("ranges", memory.ranges())),
         },
         Err(refusal) => {
             out.show(&refusal);

@@ -1,18 +1,18 @@
 //! What the program prints, and what it does if a write fails or memory runs out.
 //!
-//! A call is followed by words, each after a `|`. The row's bytes are its file (`file`), or the table that its file is
-//! an image of (`written-REVISION`); the file of a row of the kind `unreadable` is not read.
+//! A call's words are each after a `|`. The bytes are the file (`file`), or the table that the file is an image of
+//! (`written-REVISION`); the file of the kind `unreadable` is not read.
 //!
-//! - `run`: the status, the file that the words name, and what is printed to standard output and to standard error;
-//! - `command`: the command that the words give;
-//! - `writes`: see `Program::writes`;
-//! - `heaps`: the lines of the platform and of the PCI regions over a heap that is full, and over one with ample
-//!   memory, where the file has an RSDT at 0x1000;
+//! - `run OUT ERR|WORD..`: the status, the file that the words name, and what is printed to standard output and to
+//!   standard error, where these refuse the writes or the flush of these numbers; then how many writes and flushes of
+//!   both came;
+//! - `command |WORD..`: the command that the words give;
+//! - `heap SIZE TAKEN`: the lines of the platform and of the PCI regions over a heap of so many bytes, some of which are
+//!   taken before, where the file has an RSDT at 0x1000;
 //! - `no_memory`: the status that a run ends with where memory for the image is refused, and the line.
 
-mod refusing;
-
-use crate::text::Text;
+use crate::out::Out;
+use crate::words::{first_word, number_of};
 use acpi::{AcpiTables, ManagedSlice};
 use acpi_cli::root::Root;
 use acpi_image::{ImageError, MemoryImage, PlacedTable, write_image};
@@ -20,33 +20,50 @@ use acpi_view_lib::arguments::{file_named, parse_command};
 use acpi_view_lib::lines::{print_pci, print_platform};
 use acpi_view_lib::run::{refused, run};
 use linked_list_allocator::LocalHeap;
-use refusing::{Refused, Refusing};
 use std::alloc::{AllocError, Global};
-use std::str;
+use std::io::{ErrorKind, Write};
+use std::{io, str};
 
 /// Prints what a call gives.
-pub(crate) fn answer(out: &mut Text<'_>, kind: &str, bytes: &[u8], (call, rest): (&str, &str)) {
-    let alloc = out.alloc;
-    let Ok(words) = split_words(alloc, rest) else {
-        return out.require(false);
+pub(crate) fn answer(out: Out<'_>, kind: &str, bytes: &[u8], call: &str, rest: &str) {
+    let alloc = out.alloc();
+    let file = written(alloc, bytes, kind);
+    let image = match kind {
+        "file" => Some(bytes),
+        "unreadable" => None,
+        _ => file.as_deref(),
     };
-    match kind {
-        "file" => with_file(out, call, Program::new(alloc, &words, Some(bytes))),
-        "unreadable" => with_file(out, call, Program::new(alloc, &words, None)),
-        _ => match written(alloc, bytes, kind) {
-            Some(file) => with_file(out, call, Program::new(alloc, &words, Some(&file))),
-            None => out.print(&"no such call"),
-        },
+    let Ok(words) = split_words(alloc, rest) else {
+        return;
+    };
+    let (first, second) = numbers_before(rest);
+    match call {
+        "command" => command(out, &words),
+        "heap" => over_heap(out, image.unwrap_or(&[]), first, second),
+        "no_memory" => {
+            if let Ok(report) = refused(alloc, ImageError::OutOfMemory) {
+                out.spread(&(report.status, report.complaints.as_str()));
+            }
+        }
+        _ => {
+            let (mut printed, mut errors) = (Refusing::new(alloc, first), Refusing::new(alloc, second));
+            let status = run(alloc, &words, image, &mut printed, &mut errors);
+            out.spread(&(
+                status,
+                file_named(&words),
+                str::from_utf8(&printed.bytes),
+                str::from_utf8(&errors.bytes),
+                (printed.steps, errors.steps),
+            ));
+        }
     }
 }
 
-/// The words, without what stands before the first `|`.
-fn split_words(alloc: Global, words: &str) -> Result<Vec<&str>, AllocError> {
-    let mut split = Vec::new(alloc);
-    for word in words.split('|').skip(1) {
-        split.push(word)?;
-    }
-    Ok(split)
+/// The two numbers before the words.
+fn numbers_before(rest: &str) -> (u64, u64) {
+    let (numbers, _) = rest.split_once('|').unwrap_or((rest, ""));
+    let (first, second) = first_word(numbers);
+    (number_of(first), number_of(second))
 }
 
 /// The image that `write_image` makes of a table at 0x2000, with an RSDP of this revision at 0x500
@@ -60,45 +77,17 @@ fn written(alloc: Global, table: &[u8], kind: &str) -> Option<Vec<u8>> {
     write_image(alloc, 0x500, 0x1000, revision, &[placed]).ok()
 }
 
-/// Prints what a call gives over words and a file.
-fn with_file(out: &mut Text<'_>, call: &str, program: Program<'_, '_>) {
-    match call {
-        "command" => command(out, program.words),
-        "writes" => program.writes(out),
-        "heaps" => {
-            if let Ok(image) = MemoryImage::from_bytes(out.alloc, program.image.unwrap_or(&[])) {
-                over_heap(out, &image, 16, 16);
-                over_heap(out, &image, 65536, 0);
-            }
-        }
-        "no_memory" => {
-            let Ok(report) = refused(out.alloc, ImageError::OutOfMemory) else {
-                return out.require(false);
-            };
-            out.show(&Some(report.status));
-            out.show(&report.complaints.as_str());
-        }
-        _ => {
-            let (alloc, words) = (out.alloc, program.words);
-            let (mut printed, mut errors) = (Vec::new(alloc), Vec::new(alloc));
-            out.show(&run(alloc, words, program.image, &mut printed, &mut errors));
-            match file_named(words) {
-                Some(file) => out.show(&file),
-                None => out.print(&"no file"),
-            }
-            quote(out, &printed);
-            quote(out, &errors);
-        }
+/// The words, without what stands before the first `|`.
+fn split_words(alloc: Global, words: &str) -> Result<Vec<&str>, AllocError> {
+    let mut split = Vec::new(alloc);
+    for word in words.split('|').skip(1) {
+        split.push(word)?;
     }
-}
-
-/// Prints bytes as they are debugged as a text.
-fn quote(out: &mut Text<'_>, bytes: &[u8]) {
-    out.show(&str::from_utf8(bytes).unwrap_or("no text"));
+    Ok(split)
 }
 
 /// The command that words give.
-fn command(out: &mut Text<'_>, words: &[&str]) {
+fn command(out: Out<'_>, words: &[&str]) {
     match parse_command(words) {
         Some(Root::Rsdt { revision, address }) => out.show(&("rsdt", revision, address)),
         Some(Root::Rsdp { address }) => out.show(&("rsdp", address)),
@@ -108,79 +97,63 @@ fn command(out: &mut Text<'_>, words: &[&str]) {
 }
 
 /// The lines over a heap of so many bytes, of which some are taken before.
-fn over_heap(out: &mut Text<'_>, image: &MemoryImage<'_>, size: usize, taken: usize) {
+fn over_heap(out: Out<'_>, file: &[u8], size: u64, taken: u64) {
+    let Ok(image) = MemoryImage::from_bytes(out.alloc(), file) else {
+        return;
+    };
     let (Ok(heap), Ok(tables)) = (
-        LocalHeap::new(out.alloc, size),
-        AcpiTables::from_rsdt(image, 0, 0x1000),
+        LocalHeap::new(out.alloc(), size as usize),
+        AcpiTables::from_rsdt(&image, 0, 0x1000),
     ) else {
         return;
     };
-    let _filled = ManagedSlice::new_in(taken, 0u8, &heap);
-    let mut lines = String::new(out.alloc);
-    out.require(print_platform(&heap, &tables, &mut lines).is_ok());
-    out.require(print_pci(&heap, &tables, &mut lines).is_ok());
-    out.show(&lines.as_str());
+    let _filled = ManagedSlice::new_in(taken as usize, 0u8, &heap);
+    let mut lines = String::new(out.alloc());
+    let platform = print_platform(&heap, &tables, &mut lines);
+    if platform.and(print_pci(&heap, &tables, &mut lines)).is_ok() {
+        out.show(&lines.as_str());
+    }
 }
 
-/// A run over two writers, and what they took.
+/// A writer that keeps what it takes, and refuses one step: a write or a flush.
 #[derive(Drop)]
-struct Run {
-    status: u8,
-    out: Refusing,
-    err: Refusing,
+struct Refusing {
+    refused: u64,
+    steps: u64,
+    bytes: Vec<u8>,
 }
 
-/// What is run: words, and the file.
-#[derive(Clone, Copy)]
-struct Program<'w, 'f> {
-    alloc: Global,
-    words: &'w [&'w str],
-    image: Option<&'f [u8]>,
+impl Refusing {
+    fn new(alloc: Global, refused: u64) -> Self {
+        Refusing {
+            refused,
+            steps: 0,
+            bytes: Vec::new(alloc),
+        }
+    }
+
+    /// Counts a step, and fails if it is the one that is refused.
+    fn step(&mut self) -> io::Result<()> {
+        let number = self.steps;
+        self.steps = number.saturating_add(1);
+        if number == self.refused {
+            Err(io::Error::from(ErrorKind::Other))
+        } else {
+            Ok(())
+        }
+    }
 }
 
-impl<'w, 'f> Program<'w, 'f> {
-    fn new(alloc: Global, words: &'w [&'w str], image: Option<&'f [u8]>) -> Self {
-        Program {
-            alloc,
-            words,
-            image,
+impl Write for Refusing {
+    fn write(&mut self, buf: &[u8]) -> io::Result<usize> {
+        self.step()?;
+        match self.bytes.extend_from_slice(buf) {
+            Ok(()) => Ok(buf.len()),
+            Err(refusal) => Err(io::Error::from(refusal)),
         }
     }
 
-    /// Runs over two writers that refuse what is named.
-    fn run(&self, out: Refused, err: Refused) -> Run {
-        let mut out = Refusing::new(self.alloc, out);
-        let mut err = Refusing::new(self.alloc, err);
-        let status = run(self.alloc, self.words, self.image, &mut out, &mut err);
-        Run { status, out, err }
-    }
-
-    /// Whether a run with what is refused ends with status 1, and each output has a front of what it has otherwise.
-    fn leaves_fronts(&self, whole: &Run, out: Refused, err: Refused) -> bool {
-        let run = self.run(out, err);
-        run.status == 1
-            && whole.out.bytes().starts_with(run.out.bytes())
-            && whole.err.bytes().starts_with(run.err.bytes())
-    }
-
-    /// Prints the status of a run where nothing is refused, and after how many writes of standard output and of
-    /// standard error, and whether a run ends with status 1 if any one write is refused, or the flush of
-    /// either output alone, and each output then has a front of what it has otherwise.
-    fn writes(&self, out: &mut Text<'_>) {
-        let whole = self.run(Refused::Nothing, Refused::Nothing);
-        let mut is_right = self.leaves_fronts(&whole, Refused::Flush, Refused::Nothing)
-            && self.leaves_fronts(&whole, Refused::Nothing, Refused::Flush);
-        for n in 0..whole.out.writes() {
-            is_right &= self.leaves_fronts(&whole, Refused::Write(n), Refused::Nothing);
-        }
-        for n in 0..whole.err.writes() {
-            is_right &= self.leaves_fronts(&whole, Refused::Nothing, Refused::Write(n));
-        }
-        out.show(&(
-            whole.status,
-            whole.out.writes(),
-            whole.err.writes(),
-            is_right,
-        ));
+    fn flush(&mut self) -> io::Result<()> {
+        self.step()
     }
 }

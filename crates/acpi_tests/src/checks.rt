@@ -1,7 +1,15 @@
 //! The comparisons that all tests make. They stand here once, since each is long to prove.
+ghost use Rattle.std.specs.Prelude.{◌≤◌, length};
 
 use std::fmt::Debug;
 use std::process::Abort;
+
+/// The first `count` bytes, or all if there are fewer.
+pub(crate) fn front(memory: &[u8], count: usize) -> &[u8]
+    ensures { length result.now ≤ count }
+{
+    &memory[..count.min(memory.len())]
+}
 
 /// What stands at which offset.
 pub(crate) type Part = (usize, &'static [u8]);

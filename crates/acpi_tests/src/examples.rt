@@ -1,6 +1,6 @@
 //! The examples: the tables that they find and write.
 
-use crate::checks::{check, check_same};
+use crate::checks::{check, check_same, front};
 use crate::image::{FILE, graphic, memory};
 use acpi::handler::MappedRegion;
 use acpi::madt::Madt;
@@ -14,7 +14,6 @@ use acpi_examples::resolved::isa_pin;
 use acpi_examples::table_type::find_both;
 use acpi_examples::writer::{GuestError, tables_of_guest};
 use acpi_image::{MemoryImage, PlacedTable, WriteError};
-use acpi_testkit::samples::front;
 use std::alloc::Global;
 use std::test::Fail;
 

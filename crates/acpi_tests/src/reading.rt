@@ -1,10 +1,9 @@
 //! Files of memory that are read in too little memory. `acpi_rows` has what others lend, and why they are refused
 //! (`data/lent.rows` and `data/runs.rows`).
 
-use crate::checks::check;
+use crate::checks::{check, front};
 use acpi_image::ImageError;
 use acpi_image_reader::reader::records_of;
-use acpi_testkit::samples::front;
 use linked_list_allocator::LocalHeap;
 use std::alloc::Global;
 

@@ -1,9 +1,8 @@
 //! A kernel's memory: what it lends, and which regions are refused.
 
-use crate::checks::check;
+use crate::checks::{check, front};
 use acpi::AcpiHandler;
 use acpi::handler::{MappedRegion, MappedRegions, RegionError};
-use acpi_testkit::samples::front;
 use std::test::Fail;
 
 /// A region of so many bytes.

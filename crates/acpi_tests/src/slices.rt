@@ -1,9 +1,8 @@
 //! Owned slices: their items, their clones, and what a small heap refuses.
 ghost use Rattle.std.specs.Prelude.{◌≡◌};
 
-use crate::checks::{check, check_same};
+use crate::checks::{check, check_same, front};
 use acpi::{AcpiError, AcpiResult, ManagedSlice};
-use acpi_testkit::samples::front;
 use linked_list_allocator::LocalHeap;
 use std::alloc::{AllocError, Global};
 use std::cell::Cell;

@@ -1,4 +1,4 @@
-//! Images that are written, and why others are not.
+//! Images that are written. `data/images.rows` of `acpi_rows` has more, and why others are not.
 
 mod heaps;
 
@@ -6,7 +6,7 @@ use crate::checks::{Part, check, check_parts};
 use acpi::bgrt::Bgrt;
 use acpi::sdt::Signature;
 use acpi::{AcpiError, AcpiResult, AcpiTables};
-use acpi_image::{ImageError, MemoryImage, PlacedTable, WriteError, write_image};
+use acpi_image::{ImageError, MemoryImage, PlacedTable, write_image};
 use std::alloc::Global;
 use std::test::Fail;
 
@@ -135,110 +135,6 @@ fn what_is_written_is_opened(rt: HostRuntime) -> Result<(), Fail> {
     Ok(())
 }
 
-/// The front of the boot graphic, by its address and how many bytes it has.
-type Table = (u64, usize);
-
-/// A plan: where the RSDP and the root table are to lie, the RSDP's revision, and the tables; and
-/// why it is not written.
-type Plan = (u64, u64, u8, &'static [Table], Option<WriteError>);
-
-#[rattlefmt::skip]
-static PLANS: [Plan; 19] = [
-    // in order
-    (0x500, 0, 0, &[(0x2000, 35)], Some(WriteError::ZeroRoot)),
-    (0x500, 0x1000, 0, &[(0x2000, 56), (0x1_0000_0000, 35)], Some(WriteError::BadTable(1))),
-    (0x1000, 0x1010, 0, &[], Some(WriteError::Overlap)),
-    // pointers
-    (0x500, 0x1000, 0, &[(0x1_0000_0000, 56)], Some(WriteError::PointerTooLarge)),
-    (0x500, 0x1000, 0, &[(0xFFFF_FFFF, 56)], None),
-    (0x500, 0x1000, 2, &[(0x1_0000_0000, 56)], None),
-    (0x500, 0x1_0000_0000, 0, &[], Some(WriteError::PointerTooLarge)),
-    // ends
-    (0x500, 0x1000, 2, &[(0xFFFF_FFFF_FFFF_FFC8, 56)], Some(WriteError::EndTooLarge)),
-    (0x500, 0x1000, 2, &[(0xFFFF_FFFF_FFFF_FFC7, 56)], None),
-    (0xFFFF_FFFF_FFFF_FFDC, 0x1000, 0, &[(0x1010, 56)], Some(WriteError::EndTooLarge)),
-    // overlaps
-    (0x500, 0x1000, 0, &[(0x523, 56)], Some(WriteError::Overlap)),
-    (0x500, 0x1000, 0, &[(0x4C9, 56)], Some(WriteError::Overlap)),
-    (0x500, 0x1000, 0, &[(0x1027, 56)], Some(WriteError::Overlap)),
-    (0x500, 0x1000, 0, &[(0xFC9, 56)], Some(WriteError::Overlap)),
-    (0x500, 0x1000, 0, &[(0x524, 56)], None),
-    (0x500, 0x1000, 0, &[(0x4C8, 56)], None),
-    (0x500, 0x1000, 0, &[(0x1028, 56)], None),
-    (0x500, 0x1000, 0, &[(0xFC8, 56)], None),
-    (0x500, 0x1000, 0, &[(0x2000, 56), (0x3000, 56), (0x2037, 56)], Some(WriteError::Overlap)),
-];
-
-/// Why a plan is not written.
-fn refusal_of(
-    alloc: Global,
-    rsdp: u64,
-    root: u64,
-    revision: u8,
-    tables: &[PlacedTable<'_>],
-) -> Option<WriteError> {
-    write_image(alloc, rsdp, root, revision, tables).err()
-}
-
-/// The tables of a plan, and after them as many as make three.
-fn three_of(places: &[Table]) -> [PlacedTable<'static>; 3] {
-    let mut tables = [graphic_at(0); 3];
-    for (table, (address, length)) in tables.iter_mut().zip(places) {
-        *table = PlacedTable {
-            address: *address,
-            bytes: &GRAPHIC[..(*length).min(56)],
-        };
-    }
-    tables
-}
-
-#[test]
-fn each_plan_is_refused_as_its_row_says(rt: HostRuntime) {
-    for (index, (rsdp, root, revision, places, answer)) in PLANS.iter().enumerate() {
-        let tables = three_of(places);
-        let tables = &tables[..places.len().min(3)];
-        let refused = refusal_of(rt.alloc(), *rsdp, *root, *revision, tables);
-        check(&rt, "plan", (index, refused), (index, *answer));
-    }
-}
-
-/// So many bytes of the graphic, of which one is another one or not, and whether they are refused as
-/// no table.
-#[rattlefmt::skip]
-static CHANGES: [(usize, usize, u8, bool); 13] = [
-    (56, 0, b'B', false), (55, 0, b'B', true), (56, 4, 55, true), (56, 7, 1, true), (56, 0, 0xFF, true),
-    (56, 3, 0xC3, true), (56, 10, 0xFF, true), (56, 23, 0xFF, true), (56, 8, 0xFF, false), (56, 9, 0xFF, false),
-    (56, 15, 0x7F, false), (56, 24, 0xFF, false), (56, 55, 0xFF, false),
-];
-
-/// The graphic with another byte at an offset.
-fn changed_graphic(offset: usize, byte: u8) -> [u8; 56] {
-    let mut bytes = GRAPHIC;
-    if let Some(there) = bytes.get_mut(offset) {
-        *there = byte;
-    }
-    bytes
-}
-
-/// Why bytes at 0x2000 are refused.
-fn table_refusal(alloc: Global, bytes: &[u8]) -> Option<WriteError> {
-    let table = PlacedTable {
-        address: 0x2000,
-        bytes,
-    };
-    refusal_of(alloc, 0x500, 0x1000, 0, &[table])
-}
-
-#[test]
-fn refuses_bytes_that_are_no_table(rt: HostRuntime) {
-    for (count, offset, byte, is_bad) in &CHANGES {
-        let bytes = changed_graphic(*offset, *byte);
-        let refused = table_refusal(rt.alloc(), &bytes[..(*count).min(56)]);
-        let wanted = is_bad.then_some(WriteError::BadTable(0));
-        check(&rt, "table", (*offset, refused), (*offset, wanted));
-    }
-}
-
 /// Fourteen boot graphics that touch, from 0x2000 to 0x2310, in another order than that of their
 /// addresses, and after them one at an address.
 fn fifteen_with(address: u64) -> [PlacedTable<'static>; 15] {
@@ -247,22 +143,4 @@ fn fifteen_with(address: u64) -> [PlacedTable<'static>; 15] {
         tables[index] = graphic_at(0x2000 + 56 * (5 * index as u64 % 14));
     }
     tables
-}
-
-/// Where the last of fifteen graphics lies, and whether it shares a byte with what is before it.
-/// The RSDP lies from 0x500 to 0x524, and the root table from 0x1000 to 0x109C.
-#[rattlefmt::skip]
-static LASTS: [(u64, bool); 12] = [
-    (0x4C8, false), (0x4C9, true), (0x523, true), (0x524, false), (0xFC9, true), (0x109B, true),
-    (0x109C, false), (0x1FC8, false), (0x1FC9, true), (0x2150, true), (0x230F, true), (0x2310, false),
-];
-
-#[test]
-fn compares_a_table_with_all_before_it(rt: HostRuntime) {
-    for (address, is_shared) in &LASTS {
-        let tables = fifteen_with(*address);
-        let refused = refusal_of(rt.alloc(), 0x500, 0x1000, 2, &tables);
-        let wanted = is_shared.then_some(WriteError::Overlap);
-        check(&rt, "the last", (*address, refused), (*address, wanted));
-    }
 }

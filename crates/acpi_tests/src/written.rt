@@ -7,10 +7,6 @@ mod tables;
 
 use crate::checks::{check, check_same};
 use acpi_examples::machine::write_processors;
-use acpi_writer::{
-    TableContents, TableIds, WriterError, write_bgrt, write_fadt, write_gic_madt, write_gtdt,
-    write_hpet, write_madt, write_mcfg, write_slit, write_spcr, write_srat, write_ssdt,
-};
 use tables::{IDS, MADT_BYTES, PROCESSORS};
 
 /// A slice of sevens that begins with some bytes.
@@ -20,27 +16,6 @@ fn before_sevens(bytes: &[u8]) -> [u8; 288] {
         *there = *byte;
     }
     left
-}
-
-/// Writes a table by the function of its name.
-fn write(
-    out: &mut [u8],
-    ids: &TableIds,
-    contents: &TableContents<'_>,
-) -> Result<usize, WriterError> {
-    match contents {
-        TableContents::Madt(contents) => write_madt(out, ids, contents),
-        TableContents::Mcfg(regions) => write_mcfg(out, ids, regions),
-        TableContents::Hpet(info) => write_hpet(out, ids, info),
-        TableContents::Slit(slit) => write_slit(out, ids, slit.localities, slit.distances),
-        TableContents::Ssdt(aml) => write_ssdt(out, ids, aml.revision, aml.bytes),
-        TableContents::Fadt(contents) => write_fadt(out, ids, contents),
-        TableContents::Srat(contents) => write_srat(out, ids, contents),
-        TableContents::Spcr(contents) => write_spcr(out, ids, contents),
-        TableContents::Bgrt(contents) => write_bgrt(out, ids, contents),
-        TableContents::Gtdt(contents) => write_gtdt(out, ids, contents),
-        TableContents::GicMadt(contents) => write_gic_madt(out, ids, contents),
-    }
 }
 
 #[test]

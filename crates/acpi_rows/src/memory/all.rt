@@ -1,35 +1,34 @@
 //! Calls over tables that are open.
 //!
 //! - `root`: revision, address, length and signature of the root table;
-//! - `headers`, `whole_headers`, `members`, `ssdts` and `ranges`, each of them with a number of the most that are asked
-//!   for, and `after_last`: how many headers and SSDTs there are, and what is given after the last;
+//! - `headers`, `whole_headers`, `members`, `ssdts` and `ranges`, each of them with the most that are asked for, and
+//!   `after_last`: how many headers and SSDTs there are, and what is given after the last;
 //! - `dsdt`, `facs`, `sdt SIGNATURE` (where the first of these lies), `fadt_view` (where the FADT lies, and then, while
 //!   its bytes are lent, where it places the DSDT) and `checks` (how often the table was checked that is given);
-//! - `hpet_info`, `mailbox` and `wake READS`;
-//! - those that need memory (`gathered`), and `platforms`, the answer of each of the four calls for a platform;
-//! - `KIND CALL` and `each CALL`, about a type of table, or those of six (`types`).
+//! - `hpet_info`, and `wake ID READS COMMAND ..`, by a mailbox that has these commands where it is read, as often at most;
+//! - those that need memory (`gathered`), and `platforms WAY`, by each of the four calls for a platform;
+//! - `KIND CALL`, about a type of table (`types`).
 
 use super::gathered::{InMemory, print_platform};
 use super::types;
 use crate::heaps::{self, Gathers};
-use crate::numbers::{first_word, number_of};
-use crate::rows::signature_of;
-use crate::text::Text;
+use crate::out::Out;
 use crate::watched::Watched;
+use crate::words::{first_word, id_of, number_of, signature_of};
 use acpi::platform::{PlatformInfo, ScriptedMailbox, wakeup_aps};
 use acpi::sdt::{SdtHeader, Signature};
 use acpi::{AcpiHandler, AcpiResult, AcpiTables, HpetInfo, TableMember};
-use std::alloc::Global;
-use std::fmt::Debug;
+use acpi_cli::parse_address;
+use std::alloc::{AllocError, Global};
 
 /// Prints what a call gives over tables.
 pub(super) fn answer<H: AcpiHandler>(
-    out: &mut Text<'_>,
+    out: Out<'_>,
     tables: &AcpiTables<'_, H>,
     call: &str,
     rest: &str,
 ) {
-    let most = rest.parse::<u16>().unwrap_or(u16::MAX) as usize;
+    let most = number_of(rest) as usize;
     match call {
         "root" => {
             let place = (tables.root_address(), tables.root_length());
@@ -52,8 +51,7 @@ pub(super) fn answer<H: AcpiHandler>(
 }
 
 /// Prints what a call gives that sums tables up, or is about a type of table.
-fn alone<H: AcpiHandler>(out: &mut Text<'_>, tables: &AcpiTables<'_, H>, call: &str, rest: &str) {
-    let alloc = out.alloc;
+fn alone<H: AcpiHandler>(out: Out<'_>, tables: &AcpiTables<'_, H>, call: &str, rest: &str) {
     match call {
         "fadt_view" => view_fadt(out, tables),
         "checks" => match tables.find_table::<Watched>() {
@@ -61,17 +59,16 @@ fn alone<H: AcpiHandler>(out: &mut Text<'_>, tables: &AcpiTables<'_, H>, call: &
             Err(refusal) => out.show(&refusal),
         },
         "hpet_info" => print_timers(out, HpetInfo::new(tables)),
-        "mailbox" => wake(out, tables, 7, 1),
-        "wake" => wake(out, tables, 1, number_of(rest)),
-        "platforms" => platforms(out, tables),
+        "wake" => wake(out, tables, rest),
+        "platforms" => platforms(out, tables, number_of(rest)),
         "platform" | "regions" | "gic" | "memory" | "address" | "ecam" | "domain" | "processor" => {
-            InMemory { tables, call, rest }.gather(out, alloc, None);
+            InMemory { tables, call, rest }.gather(out, out.alloc(), None);
         }
         "heap" => {
             let (size, rest) = first_word(rest);
-            heaps::over(out, &InMemory::of(tables, rest), number_of(size) as usize);
+            let (call, rest) = first_word(rest);
+            heaps::over(out, &InMemory { tables, call, rest }, number_of(size));
         }
-        "heaps" => heaps::over_all(out, &InMemory::of(tables, rest)),
         _ => types::answer(out, tables, call, rest),
     }
 }
@@ -95,13 +92,13 @@ fn member_of(member: TableMember) -> (u64, AcpiResult<(Signature, u32)>) {
     (member.address, front)
 }
 
-fn after_last<H: AcpiHandler>(out: &mut Text<'_>, tables: &AcpiTables<'_, H>) {
+fn after_last<H: AcpiHandler>(out: Out<'_>, tables: &AcpiTables<'_, H>) {
     let (mut headers, mut ssdts) = (tables.headers(), tables.ssdts());
     let counts = (headers.by_ref().count(), ssdts.by_ref().count());
     out.show(&(counts, headers.next(), ssdts.next()));
 }
 
-fn view_fadt<H: AcpiHandler>(out: &mut Text<'_>, tables: &AcpiTables<'_, H>) {
+fn view_fadt<H: AcpiHandler>(out: Out<'_>, tables: &AcpiTables<'_, H>) {
     match tables.find_fadt() {
         Ok(fadt) => {
             out.show(&fadt.physical_start());
@@ -112,7 +109,7 @@ fn view_fadt<H: AcpiHandler>(out: &mut Text<'_>, tables: &AcpiTables<'_, H>) {
 }
 
 /// Prints a block of timers, and what its id says.
-fn print_timers(out: &mut Text<'_>, info: AcpiResult<HpetInfo>) {
+fn print_timers(out: Out<'_>, info: AcpiResult<HpetInfo>) {
     out.show(&info);
     if let Ok(info) = info {
         let counts = (info.hardware_rev(), info.num_comparators());
@@ -121,26 +118,44 @@ fn print_timers(out: &mut Text<'_>, info: AcpiResult<HpetInfo>) {
     }
 }
 
-/// Prints whether a processor is woken that answers its mailbox in so many reads, the mailbox' address, and how many
-/// writes came.
-fn wake<H: AcpiHandler>(out: &mut Text<'_>, tables: &AcpiTables<'_, H>, apic_id: u32, reads: u64) {
-    let mut mailbox = ScriptedMailbox::new(&[0]);
-    let woken = wakeup_aps(tables, &mut mailbox, apic_id, 0x8000, reads);
-    out.show(&(woken, mailbox.opened(), mailbox.writes().len()));
+/// Prints whether a processor is woken, the mailbox' address, how many writes came, and what else was done to it.
+fn wake<H: AcpiHandler>(out: Out<'_>, tables: &AcpiTables<'_, H>, rest: &str) {
+    let (apic_id, rest) = first_word(rest);
+    let (timeout, answers) = first_word(rest);
+    if let Ok(answers) = commands_of(out.alloc(), answers) {
+        let mut mailbox = ScriptedMailbox::new(&answers);
+        let woken = wakeup_aps(
+            tables,
+            &mut mailbox,
+            id_of(apic_id),
+            0x8000,
+            number_of(timeout),
+        );
+        out.spread(&(
+            (woken, mailbox.opened(), mailbox.writes().len()),
+            mailbox.calls(),
+        ));
+    }
 }
 
-/// Prints what each of the four calls for a platform answers, if all answer the same.
-fn platforms<H: AcpiHandler>(out: &mut Text<'_>, tables: &AcpiTables<'_, H>) {
-    let alloc = out.alloc;
-    print_platform(out, PlatformInfo::new(alloc, tables), None);
-    again(out, PlatformInfo::new_in(tables, alloc));
-    again(out, tables.platform_info(alloc));
-    again(out, tables.platform_info_in(alloc));
+/// The commands that a text lists.
+fn commands_of(alloc: Global, text: &str) -> Result<Vec<u16>, AllocError> {
+    let mut commands = Vec::new(alloc);
+    for word in text.split(' ') {
+        if let Some(number) = parse_address(word) {
+            commands.push((number % 0x10000) as u16)?;
+        }
+    }
+    Ok(commands)
 }
 
-/// Prints what a further call for a platform answers, unless it is all that is printed.
-fn again<E: Debug + Drop>(out: &mut Text<'_>, answer: Result<PlatformInfo<Global>, E>) {
-    let mut part = out.part();
-    print_platform(&mut part, answer, None);
-    out.add_other(&part);
+/// Prints what a call for a platform answers, of which there are four.
+fn platforms<H: AcpiHandler>(out: Out<'_>, tables: &AcpiTables<'_, H>, way: u64) {
+    let alloc = out.alloc();
+    match way {
+        0 => print_platform(out, PlatformInfo::new(alloc, tables), None),
+        1 => print_platform(out, PlatformInfo::new_in(tables, alloc), None),
+        2 => print_platform(out, tables.platform_info(alloc), None),
+        _ => print_platform(out, tables.platform_info_in(alloc), None),
+    }
 }

@@ -2,15 +2,15 @@
 //!
 //! - `platform`, what a machine has, `processor INDEX`, an application processor, and the clones of the platform and
 //!   its parts: `clone`, `clone_model`, `clone_apics`, `clone_io_apics` and `clone_processors`;
-//! - `regions`, those of configuration space, by entries and by their ECAM, and the place of a function: `address
-//!   DIGITS` by the first of them and `ecam DIGITS` by the second, where five bytes in hexadecimal digits are its
-//!   segment group, its bus, its device and its own number;
+//! - `regions`, those of configuration space, by entries and by their ECAM, and the place of a function: `address NUMBER`
+//!   by the first of them and `ecam NUMBER` by the second, where the number's bytes are its segment group, of two, its
+//!   bus, its device and its own number;
 //! - `gic`, the GIC, `memory`, the ranges of memory in domains, and `domain ADDRESS`.
 
 use crate::heaps::{Gathers, held};
 use crate::models::{print_apics, print_gic, print_model, print_ranges};
-use crate::numbers::{first_word, number_of};
-use crate::text::Text;
+use crate::out::Out;
+use crate::words::number_of;
 use acpi::mcfg::PciConfigRegions;
 use acpi::platform::PlatformInfo;
 use acpi::platform::interrupt::InterruptModel;
@@ -29,21 +29,8 @@ pub(super) struct InMemory<'t, 'h, H: Lender> {
     pub(super) rest: &'t str,
 }
 
-impl<'t, 'h, H: AcpiHandler> InMemory<'t, 'h, H> {
-    /// The call of this text.
-    pub(super) fn of(tables: &'t AcpiTables<'h, H>, text: &'t str) -> Self {
-        let (call, rest) = first_word(text);
-        InMemory { tables, call, rest }
-    }
-}
-
 impl<H: AcpiHandler> Gathers for InMemory<'_, '_, H> {
-    fn gather<A: Allocator + Copy>(
-        &self,
-        out: &mut Text<'_>,
-        allocator: A,
-        heap: Option<&LocalHeap>,
-    ) {
+    fn gather<A: Allocator + Copy>(&self, out: Out<'_>, allocator: A, heap: Option<&LocalHeap>) {
         let (tables, rest) = (self.tables, self.rest);
         match self.call {
             "regions" => print_regions(out, PciConfigRegions::new_in(tables, allocator), heap),
@@ -67,7 +54,7 @@ impl<H: AcpiHandler> Gathers for InMemory<'_, '_, H> {
 
 /// Prints the regions of configuration space.
 fn print_regions<A: Allocator>(
-    out: &mut Text<'_>,
+    out: Out<'_>,
     regions: AcpiResult<PciConfigRegions<A>>,
     heap: Option<&LocalHeap>,
 ) {
@@ -83,17 +70,15 @@ fn print_regions<A: Allocator>(
 
 /// Prints where a function lies.
 fn print_place<A: Allocator>(
-    out: &mut Text<'_>,
+    out: Out<'_>,
     regions: AcpiResult<PciConfigRegions<A>>,
     call: &str,
-    digits: &str,
+    place: &str,
 ) {
-    let mut bytes = [0; 5];
-    let is_read = hex::decode_to_slice(digits, &mut bytes).is_ok();
-    let [high, low, bus, device, number] = bytes;
+    let [_, _, _, high, low, bus, device, number] = number_of(place).to_be_bytes();
     let segment = u16::from_be_bytes([high, low]);
     match regions {
-        Ok(regions) if is_read && call == "ecam" => {
+        Ok(regions) if call == "ecam" => {
             out.show(&regions.ecam_address(segment, bus, device, number));
         }
         Ok(regions) => out.show(&regions.physical_address(segment, bus, device, number)),
@@ -103,14 +88,13 @@ fn print_place<A: Allocator>(
 
 /// Prints what a platform says, or the refusal.
 pub(super) fn print_platform<A: Allocator, E: Debug + Drop>(
-    out: &mut Text<'_>,
+    out: Out<'_>,
     answer: Result<PlatformInfo<A>, E>,
     heap: Option<&LocalHeap>,
 ) {
     match answer {
         Ok(platform) => {
-            out.show(&platform.power_profile);
-            out.show(&platform.pm_timer);
+            out.spread(&(platform.power_profile, &platform.pm_timer));
             print_model(out, &platform.interrupt_model, &platform.processor_info);
             held(out, heap);
             let_go(platform);
@@ -131,7 +115,7 @@ fn let_go<A: Allocator>(platform: PlatformInfo<A>) {
 /// Prints a processor, or what a clone of the platform or of a part of it says. A platform that is refused says
 /// nothing.
 fn print_part<A: Allocator + Clone>(
-    out: &mut Text<'_>,
+    out: Out<'_>,
     answer: AcpiResult<PlatformInfo<A>>,
     call: &str,
     index: &str,
@@ -151,7 +135,7 @@ fn print_part<A: Allocator + Clone>(
 
 /// Prints a processor, or what a clone of a list says.
 fn print_list<A: Allocator + Clone>(
-    out: &mut Text<'_>,
+    out: Out<'_>,
     platform: &PlatformInfo<A>,
     call: &str,
     index: &str,
@@ -170,7 +154,7 @@ fn print_list<A: Allocator + Clone>(
             Err(refusal) => out.show(&refusal),
         },
         "clone_io_apics" => match apic.io_apics.clone() {
-            Ok(clone) => out.slice("io apics", clone.as_slice()),
+            Ok(clone) => out.show(&("io apics", clone.as_slice())),
             Err(refusal) => out.show(&refusal),
         },
         _ => match processors.clone() {

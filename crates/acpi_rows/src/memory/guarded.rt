@@ -2,7 +2,7 @@
 ghost use Rattle.std.specs.Prelude.{◌≡◌, true};
 ghost use Rattle.acpi_base.specs.Words.{is_listed};
 
-use crate::text::Text;
+use crate::out::Out;
 use acpi::{AcpiHandler, AcpiResult, Guarded, Lender, PhysicalMapping};
 
 /// The number of eight bytes at an address, from a lender that may be asked for it.
@@ -26,7 +26,7 @@ fn number_within<H: AcpiHandler>(
 }
 
 /// Prints the numbers at 0x1000 and at 0x119c, of which both are listed.
-pub(super) fn numbers<H: AcpiHandler>(out: &mut Text<'_>, handler: &H) {
+pub(super) fn numbers<H: AcpiHandler>(out: Out<'_>, handler: &H) {
     let listed = [(0x1000, 8), (0x119C, 8)];
     out.show(&number_within(handler, &listed, 0x1000));
     out.show(&number_within(handler, &listed, 0x119C));

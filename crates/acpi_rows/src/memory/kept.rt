@@ -1,7 +1,7 @@
 //! Mappings that a scene keeps.
 
-use crate::rows::signature_of;
-use crate::text::Text;
+use crate::out::Out;
+use crate::words::{first_word, number_of, signature_of};
 use acpi::bgrt::Bgrt;
 use acpi::sdt::{SdtHeader, map_own_sdt, map_sdt, map_table};
 use acpi::{AcpiHandler, AcpiResult, Lender, PhysicalMapping};
@@ -15,7 +15,7 @@ pub(super) enum Kept<'h, H: Lender> {
 
 impl<H: AcpiHandler> Kept<'_, H> {
     /// Prints where it lies.
-    pub(super) fn place(&self, out: &mut Text<'_>) {
+    pub(super) fn place(&self, out: Out<'_>) {
         match self {
             Kept::Graphic(mapping) => out.place(mapping),
             Kept::Header(mapping) => out.place(mapping),
@@ -23,16 +23,18 @@ impl<H: AcpiHandler> Kept<'_, H> {
     }
 
     /// Prints what it holds, and its bytes.
-    pub(super) fn show(&self, out: &mut Text<'_>) {
+    pub(super) fn show(&self, out: Out<'_>) {
         match self {
             Kept::Header(header) => {
                 out.show(&(header.signature, header.length));
                 out.bytes(header.bytes());
             }
             Kept::Graphic(graphic) => {
-                out.show(&(graphic.version, graphic.was_displayed()));
-                out.show(&(graphic.orientation_offset(), graphic.image_type()));
-                out.show(&(graphic.image_address, graphic.image_offset()));
+                out.spread(&(
+                    (graphic.version, graphic.was_displayed()),
+                    (graphic.orientation_offset(), graphic.image_type()),
+                    (graphic.image_address, graphic.image_offset()),
+                ));
                 out.bytes(graphic.bytes());
             }
         }
@@ -44,9 +46,10 @@ impl<H: AcpiHandler> Kept<'_, H> {
 pub(super) fn mapped<'h, H: AcpiHandler>(
     handler: &'h H,
     call: &str,
-    name: &str,
-    address: u64,
+    rest: &str,
 ) -> AcpiResult<Kept<'h, H>> {
+    let (address, name) = first_word(rest);
+    let address = number_of(address);
     if call == "table" {
         return Ok(Kept::Graphic(map_table(handler, address)?));
     }

@@ -5,24 +5,24 @@
 //! - `search` and `within ADDRESS LENGTH, ..` look an RSDP up and drop it, and `bios_areas EBDA` says where the former
 //!   looks. `lend ADDRESS LENGTH, ..` asks for bytes, and prints those that are lent to their end;
 //!   `guarded` asks for two numbers, as it may (`guarded`).
-//! - `keep` finds the boot graphic and keeps its mapping. `table ADDRESS`, `named NAME ADDRESS`, `own ADDRESS`, `given
+//! - `keep` finds the boot graphic and keeps its mapping. `table ADDRESS`, `named ADDRESS NAME`, `own ADDRESS`, `given
 //!   ADDRESS` and `map ADDRESS` keep what they map (`kept`). `show` prints what was kept last, and `release PLACE`
 //!   drops one, or else the first.
 //! - All other steps ask the tables (`all`).
 
 use super::kept::{Kept, mapped};
-use super::ways::{areas_of, found, open};
+use super::ways::{found, open};
 use super::{all, guarded};
-use crate::numbers::number_of;
-use crate::text::Text;
+use crate::out::Out;
+use crate::words::{areas_of, number_of};
 use acpi::rsdp::bios_areas;
 use acpi::{AcpiHandler, AcpiResult, AcpiTables, AddressRange, Lender};
 use acpi_cli::parse_address;
-use std::alloc::Global;
 
 /// What the steps so far have opened and kept.
 #[derive(Drop)]
 pub(super) struct Scene<'r, H: Lender> {
+    out: Out<'r>,
     handler: &'r H,
     tables: Option<AcpiTables<'r, H>>,
     kept: Vec<Kept<'r, H>>,
@@ -30,41 +30,26 @@ pub(super) struct Scene<'r, H: Lender> {
 
 impl<'r, H: AcpiHandler> Scene<'r, H> {
     /// A scene before its first step.
-    pub(super) fn new(alloc: Global, handler: &'r H) -> Scene<'r, H> {
+    pub(super) fn new(out: Out<'r>, handler: &'r H) -> Scene<'r, H> {
         Scene {
+            out,
             handler,
             tables: None,
-            kept: Vec::new(alloc),
-        }
-    }
-
-    /// Does a step by itself, after tables are opened by a way if it is about tables.
-    pub(super) fn perform_alone(
-        &mut self,
-        out: &mut Text<'_>,
-        (way, place): (&str, &str),
-        (call, rest): (&str, &str),
-    ) {
-        if matches!(call, "search" | "within" | "bios_areas") {
-            self.perform(out, call, rest);
-            return;
-        }
-        match open(out.alloc, self.handler, way, place) {
-            Err(refusal) => out.show(&refusal),
-            Ok(tables) => all::answer(out, &tables, call, rest),
+            kept: Vec::new(out.alloc()),
         }
     }
 
     /// Does a step.
-    pub(super) fn perform(&mut self, out: &mut Text<'_>, call: &str, rest: &str) {
+    pub(super) fn perform(&mut self, call: &str, rest: &str) {
+        let out = self.out;
         match call {
-            "rsdt" | "rsdp" | "bios" | "areas" | "validated" => self.open(out, call, rest),
-            "search" | "within" => match found(out.alloc, self.handler, call, rest) {
+            "rsdt" | "rsdp" | "bios" | "areas" | "validated" => self.open(call, rest),
+            "search" | "within" => match found(out.alloc(), self.handler, call, rest) {
                 Ok(rsdp) => out.place(&rsdp),
                 Err(refusal) => out.show(&refusal),
             },
             "bios_areas" => out.show(&bios_areas(parse_address(rest))),
-            "lend" => match areas_of(out.alloc, rest) {
+            "lend" => match areas_of(out.alloc(), rest) {
                 Ok(areas) => lend(out, self.handler, &areas),
                 Err(refusal) => out.show(&refusal),
             },
@@ -76,12 +61,9 @@ impl<'r, H: AcpiHandler> Scene<'r, H> {
                     kept.show(out);
                 }
             }
-            "keep" => self.keep_graphic(out),
+            "keep" => self.keep_graphic(),
             "table" | "named" | "own" | "given" | "map" => {
-                let (name, address) = rest.split_once(' ').unwrap_or(("", rest));
-                let address = parse_address(address).unwrap_or(0);
-                let mapping = mapped(self.handler, call, name, address);
-                self.keep(out, mapping);
+                self.keep(mapped(self.handler, call, rest));
             }
             _ => {
                 if let Some(tables) = &self.tables {
@@ -92,31 +74,33 @@ impl<'r, H: AcpiHandler> Scene<'r, H> {
     }
 
     /// Opens tables, and keeps them if there are any.
-    fn open(&mut self, out: &mut Text<'_>, way: &str, place: &str) {
-        match open(out.alloc, self.handler, way, place) {
-            Err(refusal) => out.show(&refusal),
+    fn open(&mut self, way: &str, place: &str) {
+        match open(self.out.alloc(), self.handler, way, place) {
+            Err(refusal) => self.out.show(&refusal),
             Ok(tables) => {
-                out.show(&tables.revision());
+                self.out.show(&tables.revision());
                 self.tables = Some(tables);
             }
         }
     }
 
     /// Keeps the boot graphic, if it is found in tables that are open.
-    fn keep_graphic(&mut self, out: &mut Text<'_>) {
+    fn keep_graphic(&mut self) {
         if let Some(tables) = &self.tables {
             let graphic = found_graphic(tables);
-            self.keep(out, graphic);
+            self.keep(graphic);
         }
     }
 
     /// Keeps a mapping, if there is one.
-    fn keep(&mut self, out: &mut Text<'_>, mapping: AcpiResult<Kept<'r, H>>) {
+    fn keep(&mut self, mapping: AcpiResult<Kept<'r, H>>) {
         match mapping {
-            Err(refusal) => out.show(&refusal),
+            Err(refusal) => self.out.show(&refusal),
             Ok(mapping) => {
-                mapping.place(out);
-                out.require(self.kept.push(mapping).is_ok());
+                mapping.place(self.out);
+                if self.kept.push(mapping).is_err() {
+                    self.out.print(&"no memory");
+                }
             }
         }
     }
@@ -130,7 +114,7 @@ impl<'r, H: AcpiHandler> Scene<'r, H> {
 }
 
 /// Asks for each of these ranges, and lets go what is lent.
-fn lend<H: AcpiHandler>(out: &mut Text<'_>, handler: &H, areas: &[AddressRange]) {
+fn lend<H: AcpiHandler>(out: Out<'_>, handler: &H, areas: &[AddressRange]) {
     for area in areas {
         let (address, size) = (area.address, area.length as usize);
         if size != 0 {

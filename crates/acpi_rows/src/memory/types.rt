@@ -1,10 +1,10 @@
-//! Calls about a type of table: `find` (where the first valid one lies), `faults` and `all` (where each lies, with a
-//! number of the most that are asked for), `whole` (its bytes), `lent` (how many are lent of it), and those over
+//! Calls about a type of table: `find` (where the first valid one lies), `faults` and `all` (where each lies, with the
+//! most that are asked for), `whole` (its bytes), `lent` (how many are lent of it), and those over
 //! its bytes (`tables`).
 
-use crate::numbers::first_word;
+use crate::out::Out;
 use crate::tables;
-use crate::text::Text;
+use crate::words::{first_word, number_of};
 use crate::wsmt::Wsmt;
 use acpi::bgrt::Bgrt;
 use acpi::fadt::Fadt;
@@ -17,24 +17,9 @@ use acpi_arm::gtdt::Gtdt;
 use acpi_iommu::{Dmar, Ivrs};
 use acpi_numa::{Slit, Srat};
 
-/// Prints what a call gives about a type of table, or about each of six.
+/// Prints what a call gives about a type of table.
 pub(super) fn answer<H: AcpiHandler>(
-    out: &mut Text<'_>,
-    tables: &AcpiTables<'_, H>,
-    kind: &str,
-    call: &str,
-) {
-    if kind == "each" {
-        for kind in &["fadt", "madt", "hpet", "mcfg", "bgrt", "spcr"] {
-            answer_one(out, tables, kind, call);
-        }
-    } else {
-        answer_one(out, tables, kind, call);
-    }
-}
-
-fn answer_one<H: AcpiHandler>(
-    out: &mut Text<'_>,
+    out: Out<'_>,
     tables: &AcpiTables<'_, H>,
     kind: &str,
     call: &str,
@@ -57,13 +42,13 @@ fn answer_one<H: AcpiHandler>(
 }
 
 fn of_type<T: AcpiTable, H: AcpiHandler>(
-    out: &mut Text<'_>,
+    out: Out<'_>,
     tables: &AcpiTables<'_, H>,
     kind: &str,
     call: &str,
 ) {
     let (call, rest) = first_word(call);
-    let most = rest.parse::<u16>().unwrap_or(u16::MAX) as usize;
+    let most = number_of(rest) as usize;
     match call {
         "faults" => out.list(tables.faults::<T>().take(most)),
         "all" => {

@@ -1,11 +1,9 @@
 //! Ways to the tables in a memory, and searches for an RSDP.
 
-use crate::numbers::{first_word, number_of};
-use crate::text::Text;
+use crate::words::{areas_of, number_of};
 use acpi::rsdp::Rsdp;
-use acpi::{AcpiHandler, AcpiResult, AcpiTables, AddressRange, PhysicalMapping};
-use acpi_cli::{parse_address, parse_revision};
-use std::alloc::{AllocError, Global};
+use acpi::{AcpiHandler, AcpiResult, AcpiTables, PhysicalMapping};
+use std::alloc::Global;
 
 /// The tables that a way leads to: `bios`, `validated` (by the mapping that the search for an RSDP alone finds),
 /// `areas` (by a search in these), `rsdp ADDRESS`, or `rsdt REVISION ADDRESS` for a root table.
@@ -16,7 +14,7 @@ pub(super) fn open<'h, H: AcpiHandler>(
     place: &str,
 ) -> AcpiResult<AcpiTables<'h, H>> {
     let (number, address) = place.rsplit_once(' ').unwrap_or(("", place));
-    let address = parse_address(address).unwrap_or(0);
+    let address = number_of(address);
     match way {
         "areas" => AcpiTables::search_in(handler, &areas_of(alloc, place)?),
         "bios" => AcpiTables::search_for_rsdp_bios(handler),
@@ -24,7 +22,7 @@ pub(super) fn open<'h, H: AcpiHandler>(
             AcpiTables::from_validated_rsdp(handler, Rsdp::search_for_on_bios(handler)?)
         }
         "rsdp" => AcpiTables::from_rsdp(handler, address),
-        _ => AcpiTables::from_rsdt(handler, parse_revision(number).unwrap_or(0), address),
+        _ => AcpiTables::from_rsdt(handler, (number_of(number) % 0x100) as u8, address),
     }
 }
 
@@ -39,17 +37,4 @@ pub(super) fn found<'h, H: AcpiHandler>(
         "search" => Rsdp::search_for_on_bios(handler),
         _ => Rsdp::search_in(handler, &areas_of(alloc, areas)?),
     }
-}
-
-/// The areas that a text lists: the address and the length of each, and `, ` between them.
-pub(super) fn areas_of(alloc: Global, text: &str) -> Result<Vec<AddressRange>, AllocError> {
-    let mut areas = Vec::new(alloc);
-    for area in text.split(", ") {
-        let (address, length) = first_word(area);
-        if let Some(address) = parse_address(address) {
-            let length = number_of(length);
-            areas.push(AddressRange { address, length })?;
-        }
-    }
-    Ok(areas)
 }

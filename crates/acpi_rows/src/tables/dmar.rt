@@ -2,19 +2,19 @@
 //!
 //! - `record`: Host Address Width and the flags;
 //! - `structures`: each with its type, its fields and what they say, its object's name and its scopes, of which each
-//!   has Type, Flags, Enumeration ID, Start Bus Number and hops, and how these end; then whether they have ended
-//!   malformed before the first one is asked for, how many there are, and whether they have after the last one;
-//! - `unit DEVICE`, `io_apic ID`, `hpet NUMBER`, `reserved DEVICE`. A device is `SEGMENT BUS` and the hops from there
-//!   to it, as `0 0 1c.0 00.1`: segments and buses are decimal, the two numbers of a hop hexadecimal.
+//!   has Type, Flags, Enumeration ID, Start Bus Number and hops, and whether these have ended malformed before the first
+//!   one is asked for and after the last one; then the same of the structures, with how many there are between;
+//! - `unit DEVICE`, `io_apic ID`, `hpet NUMBER`, `reserved DEVICE`. A device is a segment, a bus, and the device and the
+//!   function of each hop from there to it.
 
-use crate::numbers::{first_word, hex_of, number_of};
-use crate::text::Text;
+use crate::out::Out;
+use crate::words::{first_word, number_of};
 use acpi_base::PhysicalRecord;
 use acpi_iommu::{Dmar, DmarFields, DmarStructure, DmarUnits, Hop};
 use std::alloc::{AllocError, Global};
 
 /// Prints what a DMAR says.
-pub(super) fn answer(out: &mut Text<'_>, table: &[u8], call: &str, rest: &str) {
+pub(super) fn answer(out: Out<'_>, table: &[u8], call: &str, rest: &str) {
     let units = DmarUnits::over(table);
     let number = (number_of(rest) % 0x100) as u8;
     match call {
@@ -26,16 +26,18 @@ pub(super) fn answer(out: &mut Text<'_>, table: &[u8], call: &str, rest: &str) {
     }
 }
 
-fn record(out: &mut Text<'_>, table: &[u8]) {
+fn record(out: Out<'_>, table: &[u8]) {
     if table.len() < Dmar::MIN_LENGTH {
         return out.print(&"short");
     }
     let dmar = Dmar::read(table);
-    out.show(&(dmar.address_bits(), dmar.remaps_interrupts()));
-    out.show(&(dmar.opts_out_of_x2apic(), dmar.opts_into_dma_control()));
+    out.spread(&(
+        (dmar.address_bits(), dmar.remaps_interrupts()),
+        (dmar.opts_out_of_x2apic(), dmar.opts_into_dma_control()),
+    ));
 }
 
-fn structures(out: &mut Text<'_>, units: &DmarUnits<'_>) {
+fn structures(out: Out<'_>, units: &DmarUnits<'_>) {
     let mut structures = units.structures();
     let before = structures.ended_malformed();
     let mut count = 0u32;
@@ -52,7 +54,7 @@ fn structures(out: &mut Text<'_>, units: &DmarUnits<'_>) {
 }
 
 /// What the fields of a structure say.
-fn fields(out: &mut Text<'_>, fields: Option<DmarFields>) {
+fn fields(out: Out<'_>, fields: Option<DmarFields>) {
     match fields {
         Some(DmarFields::Drhd(unit)) => {
             out.show(&(unit.includes_pci_all(), unit.register_bytes()));
@@ -64,11 +66,9 @@ fn fields(out: &mut Text<'_>, fields: Option<DmarFields>) {
     }
 }
 
-fn scopes(out: &mut Text<'_>, structure: &DmarStructure<'_>) {
+fn scopes(out: Out<'_>, structure: &DmarStructure<'_>) {
     let mut scopes = structure.scopes();
-    if scopes.ended_malformed() {
-        out.print(&"malformed before it began");
-    }
+    let before = scopes.ended_malformed();
     for scope in scopes.by_ref() {
         out.show(&(
             scope.kind(),
@@ -78,23 +78,19 @@ fn scopes(out: &mut Text<'_>, structure: &DmarStructure<'_>) {
         ));
         out.list(scope.hops());
     }
-    out.print(&if scopes.ended_malformed() {
-        "malformed"
-    } else {
-        "whole"
-    });
+    out.show(&(before, scopes.ended_malformed()));
 }
 
 /// What is said of a device.
-fn of_device(out: &mut Text<'_>, units: &DmarUnits<'_>, call: &str, rest: &str) {
+fn of_device(out: Out<'_>, units: &DmarUnits<'_>, call: &str, rest: &str) {
     let (segment, rest) = first_word(rest);
     let (bus, rest) = first_word(rest);
     let (segment, bus) = (
         (number_of(segment) % 0x10000) as u16,
         (number_of(bus) % 0x100) as u8,
     );
-    let Ok(hops) = hops_of(out.alloc, rest) else {
-        return out.require(false);
+    let Ok(hops) = hops_of(out.alloc(), rest) else {
+        return;
     };
     if call == "unit" {
         return out.show(&units.unit_for(segment, bus, &hops));
@@ -115,8 +111,8 @@ fn hops_of(alloc: Global, text: &str) -> Result<Vec<Hop>, AllocError> {
     for part in text.split(' ') {
         if let Some((device, function)) = part.split_once('.') {
             hops.push(Hop {
-                device: (hex_of(device) % 0x100) as u8,
-                function: (hex_of(function) % 0x100) as u8,
+                device: (number_of(device) % 0x100) as u8,
+                function: (number_of(function) % 0x100) as u8,
             })?;
         }
     }

@@ -1,11 +1,11 @@
 //! The timers that a GTDT describes: `record`, those of each processor, and `platform`, those of the machine.
 
-use crate::text::Text;
+use crate::out::Out;
 use acpi::{AcpiTable, PhysicalRecord};
 use acpi_arm::gtdt::{Gtdt, PlatformTimer, PlatformTimerIter};
 
 /// Prints what a GTDT says.
-pub(super) fn answer(out: &mut Text<'_>, bytes: &[u8], call: &str) {
+pub(super) fn answer(out: Out<'_>, bytes: &[u8], call: &str) {
     if bytes.len() < 96 {
         return out.print(&"short");
     }
@@ -13,17 +13,19 @@ pub(super) fn answer(out: &mut Text<'_>, bytes: &[u8], call: &str) {
         return platform(out, PlatformTimerIter::over(bytes));
     }
     let table = Gtdt::read(bytes);
-    out.show(&table.validate(bytes));
-    out.show(&(table.counter_control_base(), table.counter_read_base()));
-    out.show(&("secure el1", table.secure_el1_timer));
-    out.show(&("non-secure el1", table.non_secure_el1_timer));
-    out.show(&("virtual el1", table.virtual_el1_timer));
-    out.show(&("el2", table.el2_timer));
-    out.show(&("virtual el2", table.virtual_el2_timer()));
+    out.spread(&(
+        table.validate(bytes),
+        (table.counter_control_base(), table.counter_read_base()),
+        ("secure el1", table.secure_el1_timer),
+        ("non-secure el1", table.non_secure_el1_timer),
+        ("virtual el1", table.virtual_el1_timer),
+        ("el2", table.el2_timer),
+        ("virtual el2", table.virtual_el2_timer()),
+    ));
 }
 
-/// Blocks of timers, each with its address and its frames, and watchdogs, and how they end.
-fn platform(out: &mut Text<'_>, mut timers: PlatformTimerIter<'_>) {
+/// Blocks of timers, each with its address and its frames, and watchdogs, and whether they end malformed.
+fn platform(out: Out<'_>, mut timers: PlatformTimerIter<'_>) {
     for timer in timers.by_ref() {
         match timer {
             PlatformTimer::SbsaWatchdog(watchdog) => out.show(&watchdog),
@@ -33,9 +35,5 @@ fn platform(out: &mut Text<'_>, mut timers: PlatformTimerIter<'_>) {
             }
         }
     }
-    out.print(&if timers.ended_malformed() {
-        "malformed"
-    } else {
-        "end"
-    });
+    out.show(&timers.ended_malformed());
 }

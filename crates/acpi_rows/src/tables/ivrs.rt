@@ -2,18 +2,18 @@
 //!
 //! - `record`: IVinfo;
 //! - `blocks`: each with its type and its fields, and its device entries with their type, first and last device and
-//!   settings, and what else their type has, and how these end; then whether they have ended malformed before the first
-//!   one is asked for, how many there are, and whether they have after the last one;
+//!   settings, and what else their type has, and whether these have ended malformed before the first one is asked for
+//!   and after the last one; then the same of the blocks, with how many there are between;
 //! - `best`: the fields of the blocks of the best type;
-//! - `unit SEGMENT ID`, `memory ID`, ids in hexadecimal.
+//! - `unit SEGMENT ID`, `memory ID`.
 
-use crate::numbers::{first_word, hex_of, number_of};
-use crate::text::Text;
+use crate::out::Out;
+use crate::words::{first_word, number_of};
 use acpi_base::PhysicalRecord;
 use acpi_iommu::{DeviceEntry, Ivrs, IvrsBlock, IvrsBlocks};
 
 /// Prints what an IVRS says.
-pub(super) fn answer(out: &mut Text<'_>, table: &[u8], call: &str, rest: &str) {
+pub(super) fn answer(out: Out<'_>, table: &[u8], call: &str, rest: &str) {
     let all = IvrsBlocks::over(table);
     let (segment, id) = first_word(rest);
     match call {
@@ -30,16 +30,16 @@ pub(super) fn answer(out: &mut Text<'_>, table: &[u8], call: &str, rest: &str) {
         },
         "unit" => {
             let segment = (number_of(segment) % 0x10000) as u16;
-            out.show(&all.block_for(segment, (hex_of(id) % 0x10000) as u16));
+            out.show(&all.block_for(segment, (number_of(id) % 0x10000) as u16));
         }
-        _ => match all.memory_for((hex_of(rest) % 0x10000) as u16) {
+        _ => match all.memory_for((number_of(rest) % 0x10000) as u16) {
             Err(refusal) => out.show(&refusal),
             Ok(ranges) => out.list(ranges),
         },
     }
 }
 
-fn blocks(out: &mut Text<'_>, all: &IvrsBlocks<'_>) {
+fn blocks(out: Out<'_>, all: &IvrsBlocks<'_>) {
     let mut blocks = all.blocks();
     let before = blocks.ended_malformed();
     let mut count = 0u32;
@@ -51,24 +51,18 @@ fn blocks(out: &mut Text<'_>, all: &IvrsBlocks<'_>) {
     out.show(&(before, count, blocks.ended_malformed()));
 }
 
-fn entries(out: &mut Text<'_>, block: &IvrsBlock<'_>) {
+fn entries(out: Out<'_>, block: &IvrsBlock<'_>) {
     let mut entries = block.entries();
-    if entries.ended_malformed() {
-        out.print(&"malformed before it began");
-    }
+    let before = entries.ended_malformed();
     for entry in entries.by_ref() {
         out.show(&(entry.kind(), entry.first(), entry.last(), entry.settings()));
         more(out, &entry);
     }
-    out.print(&if entries.ended_malformed() {
-        "malformed"
-    } else {
-        "whole"
-    });
+    out.show(&(before, entries.ended_malformed()));
 }
 
 /// What else the type of an entry has.
-fn more(out: &mut Text<'_>, entry: &DeviceEntry<'_>) {
+fn more(out: Out<'_>, entry: &DeviceEntry<'_>) {
     if let Some(source) = entry.alias() {
         out.show(&("as", source));
     }
@@ -79,7 +73,9 @@ fn more(out: &mut Text<'_>, entry: &DeviceEntry<'_>) {
         out.show(&device);
     }
     if entry.kind() == 0xf0 {
-        out.show(&(entry.hardware_id(), entry.compatible_id()));
-        out.show(&(entry.unique_id_format(), entry.unique_id()));
+        out.spread(&(
+            (entry.hardware_id(), entry.compatible_id()),
+            (entry.unique_id_format(), entry.unique_id()),
+        ));
     }
 }

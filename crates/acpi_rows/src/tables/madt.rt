@@ -6,56 +6,42 @@
 //! - `trace_interrupt REVISION`: that of the trace buffer in the first entry, as a table of this revision has it;
 //! - `record`: the fixed fields, and of a mapping how many entries it has, the mailbox, and older interrupt
 //!   controllers;
-//! - `model`, the APICs and the processors, `gic`, the GIC, and `heap SIZE CALL` and `heaps CALL` for both;
+//! - `model`, the APICs and the processors, `gic`, the GIC, and `heap SIZE CALL` for both;
 //! - `isa N`, `sci N`, `pin N` and `lines N`: where the APICs have an interrupt come to. A number that is too large for
 //!   what is asked counts as its low bits.
 
 use crate::heaps::{self, Gathers};
 use crate::models::{print_gic, print_model};
-use crate::numbers::{first_word, id_of, number_of};
-use crate::text::Text;
+use crate::out::Out;
+use crate::words::{first_word, id_of, number_of};
 use acpi::handler::MappedRegion;
 use acpi::platform::interrupt::{Apic, InterruptModel};
 use acpi::{PhysicalMapping, PhysicalRecord};
 use acpi_arm::gic::GicModel;
 use acpi_base::madt::{Madt, MadtEntry, MadtEntryIter};
 use linked_list_allocator::LocalHeap;
-use std::alloc::{Allocator, Global};
+use std::alloc::Allocator;
 
 /// Prints what a MADT says.
-pub(super) fn answer(out: &mut Text<'_>, bytes: &[u8], call: &str, rest: &str) {
+pub(super) fn answer(out: Out<'_>, bytes: &[u8], call: &str, rest: &str) {
     match call {
         "entries" => entries(out, bytes),
         "steps" => steps(out, MadtEntryIter::over(bytes)),
         "trace_interrupt" => trace_interrupt(out, bytes, number_of(rest)),
         "heap" => {
             let (size, call) = first_word(rest);
-            heaps::over(
-                out,
-                &InBytes {
-                    bytes,
-                    call,
-                    rest: "",
-                },
-                number_of(size) as usize,
-            );
-        }
-        "heaps" => heaps::over_all(
-            out,
-            &InBytes {
+            let gathers = InBytes {
                 bytes,
-                call: rest,
+                call,
                 rest: "",
-            },
-        ),
-        _ => {
-            let alloc = out.alloc;
-            InBytes { bytes, call, rest }.gather(out, alloc, None);
+            };
+            heaps::over(out, &gathers, number_of(size));
         }
+        _ => InBytes { bytes, call, rest }.gather(out, out.alloc(), None),
     }
 }
 
-fn entries(out: &mut Text<'_>, bytes: &[u8]) {
+fn entries(out: Out<'_>, bytes: &[u8]) {
     let mut entries = MadtEntryIter::over(bytes);
     let before = entries.ended_malformed();
     let mut count = 0u32;
@@ -71,7 +57,7 @@ fn entries(out: &mut Text<'_>, bytes: &[u8]) {
 
 /// What the flags of an entry say: of a processor whether it is enabled and whether it can be enabled
 /// later, of a local NMI its polarity and its trigger mode.
-fn flags(out: &mut Text<'_>, entry: &MadtEntry) {
+fn flags(out: Out<'_>, entry: &MadtEntry) {
     match entry {
         MadtEntry::LocalApic(it) => out.show(&(it.is_enabled(), it.is_online_capable())),
         MadtEntry::LocalX2Apic(it) => out.show(&(it.is_enabled(), it.is_online_capable())),
@@ -81,14 +67,14 @@ fn flags(out: &mut Text<'_>, entry: &MadtEntry) {
     }
 }
 
-fn steps(out: &mut Text<'_>, mut entries: MadtEntryIter<'_>) {
+fn steps(out: Out<'_>, mut entries: MadtEntryIter<'_>) {
     for _ in 0..4 {
         let ended = entries.ended_malformed();
         out.show(&(ended, entries.next().is_some()));
     }
 }
 
-fn trace_interrupt(out: &mut Text<'_>, bytes: &[u8], revision: u64) {
+fn trace_interrupt(out: Out<'_>, bytes: &[u8], revision: u64) {
     if let Some(MadtEntry::Gicc(entry)) = MadtEntryIter::over(bytes).next() {
         out.show(&entry.trbe_interrupt.access((revision % 0x100) as u8));
     }
@@ -103,12 +89,7 @@ struct InBytes<'t> {
 }
 
 impl Gathers for InBytes<'_> {
-    fn gather<A: Allocator + Copy>(
-        &self,
-        out: &mut Text<'_>,
-        allocator: A,
-        _heap: Option<&LocalHeap>,
-    ) {
+    fn gather<A: Allocator + Copy>(&self, out: Out<'_>, allocator: A, _heap: Option<&LocalHeap>) {
         let bytes = self.bytes;
         if self.call == "gic" {
             print_gic(out, GicModel::of(bytes, allocator));
@@ -118,9 +99,11 @@ impl Gathers for InBytes<'_> {
         ) {
             let madt = PhysicalMapping::<_, Madt>::new(0, bytes, bytes.len(), &region);
             if self.call == "record" {
-                out.show(&(madt.entries().count(), madt.get_mpwk_mailbox_addr()));
-                out.show(&madt.supports_8259());
-                out.show(madt.get());
+                out.spread(&(
+                    (madt.entries().count(), madt.get_mpwk_mailbox_addr()),
+                    madt.supports_8259(),
+                    madt.get(),
+                ));
             } else {
                 of_model(out, &madt, allocator, (self.call, self.rest));
             }
@@ -130,7 +113,7 @@ impl Gathers for InBytes<'_> {
 
 /// Prints what the interrupt model of a MADT says.
 fn of_model<A: Allocator + Copy>(
-    out: &mut Text<'_>,
+    out: Out<'_>,
     madt: &PhysicalMapping<'_, MappedRegion<'_>, Madt>,
     allocator: A,
     (call, rest): (&str, &str),
@@ -146,7 +129,7 @@ fn of_model<A: Allocator + Copy>(
 }
 
 /// Prints where an interrupt comes to.
-fn of_apics<A: Allocator>(out: &mut Text<'_>, apic: &Apic<A>, call: &str, number: u32) {
+fn of_apics<A: Allocator>(out: Out<'_>, apic: &Apic<A>, call: &str, number: u32) {
     match call {
         "lines" => out.list(apic.local_nmi_lines_for(number)),
         "isa" => out.show(&apic.isa_interrupt((number % 0x100) as u8)),

@@ -1,7 +1,7 @@
 //! Signatures and refusals, and their texts.
 
-use crate::rows::signature_of;
-use crate::text::Text;
+use crate::out::Out;
+use crate::words::signature_of;
 use acpi::sdt::Signature;
 use acpi::{AcpiError, MadtError};
 
@@ -51,7 +51,7 @@ static OTHERS: [AcpiError; 17] = [
 
 /// What four letters say as a signature: `signature`, how it is printed, debugged, and stored, `against SIGNATURE`,
 /// how they compare, `refusals`, those that name a table, and of all `others` and `constants`.
-pub(super) fn answer(out: &mut Text<'_>, bytes: &[u8], call: &str, rest: &str) {
+pub(super) fn answer(out: Out<'_>, bytes: &[u8], call: &str, rest: &str) {
     let Some(letters) = bytes.first_chunk::<4>() else {
         return;
     };
@@ -61,9 +61,17 @@ pub(super) fn answer(out: &mut Text<'_>, bytes: &[u8], call: &str, rest: &str) {
             let other = signature_of(rest);
             out.show(&(signature.cmp(&other), signature == other));
         }
-        "constants" => print_constants(out),
-        "others" => print_others(out),
-        "refusals" => print_refusals(out, signature),
+        "constants" => {
+            for constant in &CONSTANTS {
+                out.show(constant);
+            }
+        }
+        "others" => print_all(out, &OTHERS),
+        "refusals" => print_all(
+            out,
+            &refusals!(signature: SdtInvalidSignature SdtInvalidOemId SdtInvalidTableId
+            SdtInvalidChecksum SdtInvalidLength TableMissing),
+        ),
         _ => {
             out.print(&signature);
             out.show(&(signature, signature.as_str(), signature.to_bytes()));
@@ -71,22 +79,8 @@ pub(super) fn answer(out: &mut Text<'_>, bytes: &[u8], call: &str, rest: &str) {
     }
 }
 
-fn print_constants(out: &mut Text<'_>) {
-    for constant in &CONSTANTS {
-        out.show(constant);
-    }
-}
-
-fn print_refusals(out: &mut Text<'_>, signature: Signature) {
-    let refusals = refusals!(signature: SdtInvalidSignature SdtInvalidOemId SdtInvalidTableId
-        SdtInvalidChecksum SdtInvalidLength TableMissing);
-    for refusal in &refusals {
-        out.print(refusal);
-    }
-}
-
-fn print_others(out: &mut Text<'_>) {
-    for refusal in &OTHERS {
+fn print_all(out: Out<'_>, refusals: &[AcpiError]) {
+    for refusal in refusals {
         out.print(refusal);
     }
 }

@@ -7,7 +7,7 @@
 //!   bits stand for.
 ghost use Rattle.std.specs.Prelude.{◌≤◌, length};
 
-use crate::text::Text;
+use crate::out::Out;
 use acpi::handler::MappedRegion;
 use acpi::spcr::{Spcr, SpcrFlowControl, SpcrInterruptType, SpcrTerminalType};
 use acpi::{AcpiTable, PhysicalMapping, PhysicalRecord};
@@ -16,7 +16,7 @@ use bitflags::Flags;
 use bitflags::parser::to_writer;
 
 /// Prints what the table of a serial console says.
-pub(super) fn answer(out: &mut Text<'_>, bytes: &[u8], call: &str, rest: &str) {
+pub(super) fn answer(out: Out<'_>, bytes: &[u8], call: &str, rest: &str) {
     match call {
         "interrupt_type" => out.show(&bits_of::<SpcrInterruptType>(rest)),
         "terminal_type" => out.show(&bits_of::<SpcrTerminalType>(rest)),
@@ -24,8 +24,7 @@ pub(super) fn answer(out: &mut Text<'_>, bytes: &[u8], call: &str, rest: &str) {
         _ if bytes.len() < 80 => out.print(&"short"),
         "record" => {
             let table = Spcr::read(bytes);
-            out.show(&table.validate(bytes));
-            out.show(&table);
+            out.spread(&(table.validate(bytes), &table));
         }
         _ => {
             console(out, &Spcr::read(bytes));
@@ -43,28 +42,31 @@ fn bits_of<F: Flags<Bits = u8>>(word: &str) -> Option<u8> {
     Some(set?.bits())
 }
 
-fn console(out: &mut Text<'_>, table: &Spcr) {
-    out.show(&table.interface_type());
-    out.show(&table.base_address());
-    out.show(&(table.irq(), table.global_system_interrupt()));
-    out.show(&(table.baud_rate(), table.uart_clock_frequency()));
+fn console(out: Out<'_>, table: &Spcr) {
     let (bus, device) = (table.pci_bus_number(), table.pci_device_number());
     let place = (bus, device, table.pci_function_number());
-    out.show(&(table.pci_device_id(), table.pci_vendor_id(), place));
+    out.spread(&(
+        table.interface_type(),
+        table.base_address(),
+        (table.irq(), table.global_system_interrupt()),
+        (table.baud_rate(), table.uart_clock_frequency()),
+        (table.pci_device_id(), table.pci_vendor_id(), place),
+    ));
     names(out, &table.interrupt_type());
     names(out, &table.terminal_type());
     names(out, &table.flow_control());
 }
 
 /// The names of the flags in a set, and the bits that have none.
-fn names<F: Flags<Bits = u8>>(out: &mut Text<'_>, set: &F) {
-    let mut text = String::new(out.alloc);
-    out.require(to_writer(set, &mut text).is_ok());
-    out.show(&text);
+fn names<F: Flags<Bits = u8>>(out: Out<'_>, set: &F) {
+    let mut text = String::new(out.alloc());
+    if to_writer(set, &mut text).is_ok() {
+        out.show(&text);
+    }
 }
 
 /// The name of its device in the namespace, which a mapping answers.
-fn name(out: &mut Text<'_>, bytes: &[u8])
+fn name(out: Out<'_>, bytes: &[u8])
     requires { 80 ≤ length bytes.now }
 {
     if let Ok(region) = MappedRegion::new(0, bytes) {

@@ -6,13 +6,13 @@
 //! - `ranges`: those of memory, `domain ADDRESS`, the domain of an address.
 
 use crate::models::print_ranges;
-use crate::numbers::id_of;
-use crate::text::Text;
+use crate::out::Out;
+use crate::words::id_of;
 use acpi_numa::{Domains, MemoryAffinities, SratEntry};
 
 /// Prints what a SRAT says.
-pub(super) fn answer(out: &mut Text<'_>, table: &[u8], call: &str, rest: &str) {
-    let (alloc, domains) = (out.alloc, Domains::over(table));
+pub(super) fn answer(out: Out<'_>, table: &[u8], call: &str, rest: &str) {
+    let (alloc, domains) = (out.alloc(), Domains::over(table));
     match call {
         "apic" => out.show(&domains.domain_of_apic(id_of(rest))),
         "processor" => out.show(&domains.domain_of_processor(id_of(rest))),
@@ -21,7 +21,7 @@ pub(super) fn answer(out: &mut Text<'_>, table: &[u8], call: &str, rest: &str) {
     }
 }
 
-fn entries(out: &mut Text<'_>, domains: &Domains<'_>) {
+fn entries(out: Out<'_>, domains: &Domains<'_>) {
     let mut entries = domains.entries();
     let before = entries.ended_malformed();
     let mut count = 0u32;
@@ -36,7 +36,7 @@ fn entries(out: &mut Text<'_>, domains: &Domains<'_>) {
 }
 
 /// The flags of an entry other than bit 0.
-fn bits(out: &mut Text<'_>, entry: &SratEntry) {
+fn bits(out: Out<'_>, entry: &SratEntry) {
     match entry {
         SratEntry::Memory(memory) => {
             out.show(&(memory.is_hot_pluggable(), memory.is_non_volatile()));

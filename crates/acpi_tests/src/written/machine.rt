@@ -2,12 +2,11 @@
 //! 5.2.5.3, 5.2.8, 5.2.9, 5.2.10, 5.2.16 and 5.2.17).
 
 use super::tables::{AML, DSDT_BYTES, FACS, FACS_BYTES, IDS, TABLES, WRITTEN};
-use crate::checks::{check, check_same};
+use crate::checks::{check, check_same, front};
 use acpi::handler::MappedRegion;
 use acpi::{AcpiResult, AcpiTables, HpetInfo};
 use acpi_base::AddressRange;
 use acpi_numa::{Distances, Domains, Slit, Srat};
-use acpi_testkit::samples::front;
 use acpi_writer::{Machine, facs_address, tables_size, write_tables, write_tables_without_rsdp};
 use std::process::Abort;
 use std::test::Fail;

@@ -2,7 +2,6 @@
 //! room, and names that aren't UTF-8. `TooLong` isn't tried: it needs a slice of 4 GiB.
 
 use super::tables::{FADT, GTDT, HARDWARE, IDS, PORT, SECURE, SPCR};
-use super::write;
 use crate::checks::{check, check_same};
 use acpi_arm::gtdt::{GtFrame, TimerInterrupt};
 use acpi_base::address::{AddressSpace, GenericAddress};
@@ -12,7 +11,7 @@ use acpi_fixed::fadt::PowerProfile;
 use acpi_writer::fadt::FixedHardware;
 use acpi_writer::{
     FadtContents, FadtHardware, GtBlockContents, GtdtContents, PlatformTimerContents, SpcrContents,
-    TableContents, TableIds, WriterError,
+    TableContents, TableIds, WriterError, write_fadt, write_gtdt, write_spcr,
 };
 
 /// A byte that begins no text.
@@ -82,6 +81,20 @@ static REFUSED: [(&TableIds, TableContents<'static>, WriterError); 13] = [
     (&BAD, frames!(&[SECURE; 1638]), WriterError::TooManyFrames),
     (&IDS, frames!(&[SECURE; 1637]), WriterError::NoRoom),
 ];
+
+/// Writes a table by the function of its name. Only tables of these kinds are written so.
+fn write(
+    out: &mut [u8],
+    ids: &TableIds,
+    contents: &TableContents<'_>,
+) -> Result<usize, WriterError> {
+    match contents {
+        TableContents::Fadt(contents) => write_fadt(out, ids, contents),
+        TableContents::Spcr(contents) => write_spcr(out, ids, contents),
+        TableContents::Gtdt(contents) => write_gtdt(out, ids, contents),
+        _ => Ok(0),
+    }
+}
 
 #[test]
 fn bad_contents_are_refused(rt: HostRuntime) {
