@@ -8,7 +8,8 @@ use acpi_c_lib::records::{Range, Signature, Source};
 /// The ranges of memory that were asked for, and that lie in no one region: as many as there is room for, and how many
 /// there are. `include/zacpi.h` says which these are, and in which order.
 ///
-/// Fails with `ZACPI_REGIONS_NOT_ASCENDING`, `ZACPI_REGION_TOO_HIGH` and `ZACPI_UNKNOWN_START`, and with nothing else.
+/// Fails with `ZACPI_REGIONS_NOT_ASCENDING`, `ZACPI_REGION_TOO_HIGH`, `ZACPI_UNKNOWN_POLICY` and `ZACPI_UNKNOWN_START`,
+/// and with nothing else.
 #[unsafe(no_mangle)]
 pub extern "C" fn zacpi_1_list_missing_ranges(
     source: &Source<'_>,

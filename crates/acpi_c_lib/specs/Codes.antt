@@ -1,4 +1,4 @@
--- The numbers that C gets for refusals, those of `enum zacpi_refusal` in include/zacpi.h, and the signatures. 99
+-- The numbers that C gets for refusals, those of `enum zacpi_status_code` in include/zacpi.h, and the signatures. 99
 -- stands for the errors that no call returns.
 use Rattle.std.specs.Prelude.{ℕ, Option, Some, None}
 use Rattle.acpi_base.specs.declared.error.AcpiError.TheVariants as acpi

@@ -8,7 +8,7 @@ use acpi::{AcpiError, MadtError};
 use acpi_sleep::{PlanError, SleepError};
 use acpi_writer::WriterError;
 
-/// Why a call refuses. What each means is said once, at `enum zacpi_refusal` of `include/zacpi.h`.
+/// Why a call refuses. What each means is said once, at `enum zacpi_status_code` of `include/zacpi.h`.
 #[derive(Clone, Copy)]
 pub enum Refusal {
     RegionsNotAscending,
@@ -86,7 +86,7 @@ impl From<PlanError> for Refusal {
 }
 
 impl Refusal {
-    /// The number of the refusal, as `enum zacpi_refusal` of `include/zacpi.h` has it.
+    /// The number of the refusal, as `enum zacpi_status_code` of `include/zacpi.h` has it.
     pub(crate) fn code(self) -> u32
         ensures { result ≡ codes.code_of self }
     {

@@ -72,7 +72,7 @@ pub enum PlanError {
     NoRegister,
     /// The machine can't be reset by its FADT (section 4.8.3.6).
     NoReset,
-    /// A register's address has a reserved code.
+    /// A register's address has a reserved code, or its block has 32 ports or more.
     BadRegister(AcpiError),
 }
 

@@ -144,8 +144,8 @@ fn sleep_control(fadt: &Fadt) -> Result<GenericAddress, PlanError>
 /// SLP_EN of PM1a_CNT, and then of PM1b_CNT if the machine has it, each with its own type; on reduced hardware
 /// those of SLEEP_CONTROL_REG, with the type of PM1a_CNT. Of a type only the three low bits count.
 ///
-/// Fails with `NoRegister` if the FADT has no PM1a_CNT, or on reduced hardware no SLEEP_CONTROL_REG, and with
-/// `BadRegister` if a register's address has a reserved code.
+/// Fails with `BadRegister` for the address of PM1a_CNT, or on reduced hardware of SLEEP_CONTROL_REG, with `NoRegister`
+/// if the FADT has no such register, and with `BadRegister` for the address of PM1b_CNT.
 #[tactic(auto, unfolding(crate::specs::Plans::sleep_plan))]
 pub fn sleep_plan(fadt: &Fadt, types: SleepTypes) -> Result<Plan, PlanError>
     ensures exact { result ≡ sleep_plan fadt.now types }
@@ -191,8 +191,8 @@ pub fn enable_plan(fadt: &Fadt) -> Result<Plan, PlanError>
 
 /// Resets the machine (section 4.8.3.6): RESET_VALUE to RESET_REG.
 ///
-/// Fails with `NoReset` if RESET_REG_SUP isn't set or RESET_REG is at address 0, and with `BadRegister` if its
-/// address has a reserved code.
+/// Fails with `NoReset` if RESET_REG_SUP isn't set, with `BadRegister` if the address of RESET_REG has a reserved code,
+/// and with `NoReset` if it is 0.
 #[tactic(auto, unfolding(crate::specs::Plans::reset_plan))]
 pub fn reset_plan(fadt: &Fadt) -> Result<Plan, PlanError>
     ensures exact { result ≡ reset_plan fadt.now }
