@@ -70,6 +70,7 @@ unfoldable pub use Rattle.acpi_numa.specs.Words.{distance_of}
 pub use Rattle.acpi_riscv.specs.Words.{aplic_at, imsic_at, plic_at, rintc_at, entries_of}
 pub use Rattle.acpi_writer.specs.declared.fields.Field.{Field}
 pub use Rattle.acpi_writer.specs.declared.fields.Field.TheVariants.{U16, U32, U64, U8, Zeros}
+pub use Rattle.acpi_writer.specs.declared.madt.MadtNmiLine.{MadtNmiLine}
 pub use Rattle.acpi_writer.specs.declared.madt.riscv.RiscvContents.{RiscvContents}
 pub use Rattle.acpi_writer.specs.declared.rhct.RhctContents.{RhctContents}
 pub use Rattle.acpi_writer.specs.declared.srat.ApicDomain.{ApicDomain}
@@ -98,4 +99,3 @@ PlatformTimerContents = TimerOf GtFrame
 abbrev pub GtdtContents : Type 0
 GtdtContents = GtdtOf PlatformTimerContents
 
-pub use Rattle.acpi_writer.specs.declared.madt.MadtNmiLine.{MadtNmiLine}
