@@ -5,7 +5,7 @@ use Rattle.acpi_base.proofs.Words.{said_faults, said_items, number-spelling}
 use Rattle.acpi_base.specs.Words.{said_of, cut_of, entries_of, entry_of, all_apics, madt_at, madt_grammar, madt_layout, mailbox_in, Model, fault_in, fault_of, first_fault, items_of, model_from, model_of, field_of, spelling, item_of, line_code, polarity_of, trigger_mode_of}
 use Rattle.acpi.specs.Types.{AcpiError, InvalidMadt, MadtError, Madt, MadtEntry, MadtItem, InterruptSourceOverride, IoApic, LocalInterruptLine, Lint0, Lint1, NmiProcessor, NmiSource, Polarity, TriggerMode}
 use Rattle.acpi_writer.proofs.Rows.{Speaks, in_map, in_none, in_same, in_some, speaks_nothing, speaks_row, spoken, spoken_cut}
-use Rattle.acpi_writer.specs.Words.{Fits, MadtNmiLine, MadtProcessor, inti_flags, line_read, io_apic_fields, nmi_source_fields, override_fields, address_entries, apic_nmi_fields, io_apic_entry, is_small, local_apic_fields, local_x2apic_fields, names_one, nmi_fields, nmi_line_entry, nmi_source_entry, override_address_fields, override_entry, processor_entry, wakeup_entries, wakeup_fields, x2apic_nmi_fields, FitsField, fields_bytes}
+use Rattle.acpi_writer.specs.Words.{Fits, MadtNmiLine, MadtProcessor, inti_flags, line_read, io_apic_fields, nmi_source_fields, override_fields, address_entries, apic_nmi_fields, io_apic_entry, is_small, local_apic_fields, local_x2apic_fields, names_one, nmi_fields, nmi_line_entry, nmi_source_entry, override_address_fields, override_entry, processor_entry, wakeup_entries, wakeup_fields, x2apic_nmi_fields, FitsField, fields_bytes, cons_option, result_ok, result_err}
 use Rattle.acpi_writer.specs.MadtBytes.{address_fields, mailbox_fields, processor_fields}
 use Rattle.acpi_writer.proofs.FieldsRead.{read_at}
 use Rattle.acpi_writer.proofs.Bits.{one, two_bits}

@@ -5,7 +5,7 @@ use Rattle.acpi_base.proofs.EntryLists.{processors_are as by_lists}
 use Rattle.acpi_base.proofs.Words.{number-spelling, holds_ok}
 use Rattle.acpi_base.specs.Words.{has_bit, field_of, number, spelling, madt_at, no_mailbox}
 use Rattle.acpi.specs.Types.{InvalidMadt, UnexpectedEntry, MadtItem, MADT}
-use Rattle.acpi_writer.specs.Words.{Fits, bit_of, IsTableOf, TableIds, MadtContents, MadtNmiLine, MadtProcessor, io_apic_entry, is_empty, is_single, madt_body, madt_checked, madt_entries, madt_fields, names_one, nmi_line_entry, nmi_source_entry, override_entry, processor_entry, AreFit, IsMadt, MadtIsRead, MailboxIsRead, apic_read, line_read, processor_read, processors_read, IdOfAll, NoProcessor}
+use Rattle.acpi_writer.specs.Words.{Fits, bit_of, IsTableOf, TableIds, MadtContents, MadtNmiLine, MadtProcessor, io_apic_entry, is_empty, is_single, madt_body, madt_checked, madt_entries, madt_fields, names_one, nmi_line_entry, nmi_source_entry, override_entry, processor_entry, AreFit, IsMadt, MadtIsRead, MailboxIsRead, apic_read, line_read, processor_read, processors_read, IdOfAll, NoProcessor, list_all, list_any, AllByRecursion}
 use Rattle.acpi_writer.specs.MadtBytes.{io_apic_fields, nmi_source_fields, override_fields, processor_fields}
 use Rattle.acpi_writer.proofs.Bits.{is_off, was_true}
 use Rattle.acpi_writer.proofs.Rows.{in_same, in_some, missing, sorts, speaks_all, speaks_both}

@@ -78,7 +78,7 @@ pub use Rattle.acpi_writer.specs.declared.srat.GiccDomain.{GiccDomain}
 
 -- contents whose items are the items themselves
 abbrev pub MadtContents : Type 0
-MadtContents = madt.MadtContents MadtProcessor IoApic InterruptSourceOverride NmiSource NmiLine
+MadtContents = madt.MadtContents MadtProcessor IoApic InterruptSourceOverride NmiSource MadtNmiLine
 
 abbrev pub GicContents : Type 0
 GicContents = gic.GicContents GicCpuInterface GicRedistributors GicTranslationService GicMsiFrame

@@ -7,8 +7,8 @@ use crate::interrupt_records::{InterruptSourceOverride, IoApic, NmiLine, NmiSour
 use crate::written_records::MadtContents;
 use acpi_base::model;
 use acpi_base::model::{LocalInterruptLine, NmiProcessor, Polarity, TriggerMode};
-use acpi_writer::{MadtNmiLine, MadtProcessor};
 use acpi_writer::spelled::StandsFor;
+use acpi_writer::{MadtNmiLine, MadtProcessor};
 
 /// Whether a number is the code of a polarity, which is one of a trigger mode too.
 pub(super) fn is_wiring(code: u8) -> bool
@@ -104,9 +104,7 @@ impl StandsFor<MadtNmiLine> for NmiLine {
 fn overrides_have_codes(overrides: &[InterruptSourceOverride]) -> bool
     ensures { result ≡ list_all writing.is_of_isa overrides.now }
 {
-    overrides
-        .iter()
-        .all(|x| x.bus == 0 && is_wiring(x.polarity) && is_wiring(x.trigger))
+    overrides.iter().all(|x| x.bus == 0 && is_wiring(x.polarity) && is_wiring(x.trigger))
 }
 
 fn sources_have_codes(sources: &[NmiSource]) -> bool
@@ -120,9 +118,7 @@ fn sources_have_codes(sources: &[NmiSource]) -> bool
 fn lines_have_codes(lines: &[NmiLine]) -> bool
     ensures { result ≡ list_all writing.is_lint lines.now }
 {
-    lines
-        .iter()
-        .all(|x| x.lint <= 1 && is_wiring(x.polarity) && is_wiring(x.trigger))
+    lines.iter().all(|x| x.lint <= 1 && is_wiring(x.polarity) && is_wiring(x.trigger))
 }
 
 /// Whether each bus is ISA's, and each polarity, trigger mode and LINT pin one that there is.
