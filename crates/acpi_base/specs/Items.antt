@@ -1,10 +1,10 @@
 -- What a walk along the MADT's entries shows of what they say.
 use Rattle.std.specs.Prelude.{ℕ, ◌+◌, ◌||◌, List, length, false, true, Option, None, Some, option_and_then, Result, Ok, Err, filter_map, option_map}
-use Rattle.acpi_base.specs.FromStd.{list_any, result_err, result_ok}
+use Rattle.acpi_base.specs.FromStd.{last_or, list_any, result_err, result_ok}
 use Rattle.acpi_base.specs.Entries.{cut}
 use Rattle.acpi_base.specs.Interrupts.{item_of}
 use Rattle.acpi_base.specs.Madt.{entry_of, madt_grammar}
-use Rattle.acpi_base.specs.Model.{fault_of, io_apic_in, is_of_apic, nmi_line_in, nmi_source_in, override_in, items_of, processor_in}
+use Rattle.acpi_base.specs.Model.{fault_of, io_apic_in, is_of_apic, local_apic_address_in, nmi_line_in, nmi_source_in, override_in, items_of, processor_in}
 use Rattle.acpi_base.specs.Types.{AcpiError, InvalidMadt, MadtError, Counts, MadtItem, MadtItems}
 
 -- what an entry's bytes say, or why it is refused; nothing if its type isn't defined
@@ -23,7 +23,8 @@ fault_said e = option_and_then result_err (said_of e)
 abbrev pub said_in : List ℕ → List (Result MadtItem MadtError)
 said_in bytes = filter_map said_of (cut madt_grammar bytes).0
 
--- how many there are of each, if these counts have been made and these items come after them
+-- how many there are of each, and where the local APICs lie, if these counts have been made and these items come after
+-- them
 abbrev pub counted_behind : Counts → List MadtItem → Counts
 counted_behind c items = record {
   processors = c.processors + length (filter_map (processor_in true) items);
@@ -32,6 +33,7 @@ counted_behind c items = record {
   nmi_sources = c.nmi_sources + length (filter_map nmi_source_in items);
   nmi_lines = c.nmi_lines + length (filter_map nmi_line_in items);
   is_of_apic = c.is_of_apic || list_any is_of_apic items;
+  local_apic_address = last_or c.local_apic_address (filter_map local_apic_address_in items);
 }
 
 abbrev pub no_counts : Counts
@@ -42,6 +44,7 @@ no_counts = record {
   nmi_sources = 0;
   nmi_lines = 0;
   is_of_apic = false;
+  local_apic_address = None;
 }
 
 abbrev pub counts_of : List MadtItem → Counts

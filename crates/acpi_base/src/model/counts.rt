@@ -9,7 +9,8 @@ use crate::error::{AcpiError, AcpiResult, MadtError};
 use crate::memory::handler::PhysicalRecord;
 use crate::tables::madt::{MADT_GRAMMAR, Madt};
 
-/// How many items of each sort the entries have, and whether any entry is of a model of APICs.
+/// How many items of each sort the entries have, whether any entry is of a model of APICs, and where the local APICs
+/// lie.
 #[derive(Clone, Copy)]
 pub struct Counts {
     /// The processors, the boot processor among them: Processor Local APIC and Local x2APIC entries.
@@ -24,6 +25,8 @@ pub struct Counts {
     pub nmi_lines: usize,
     /// Whether any entry is of a model of APICs.
     pub is_of_apic: bool,
+    /// The address that the last Local APIC Address Override gives the local APICs, if there is one.
+    pub local_apic_address: Option<u64>,
 }
 
 impl Counts {
@@ -41,6 +44,7 @@ impl Counts {
             nmi_sources: 0,
             nmi_lines: 0,
             is_of_apic: false,
+            local_apic_address: None,
         };
         let mut rest = skip(table, Madt::MIN_LENGTH);
         while let Some((entry, others)) = split_front(&MADT_GRAMMAR, rest) {
@@ -58,7 +62,7 @@ impl Counts {
                 MadtItem::Override(_) => counts.overrides += 1,
                 MadtItem::NmiSource(_) => counts.nmi_sources += 1,
                 MadtItem::NmiLine(_) => counts.nmi_lines += 1,
-                MadtItem::LocalApicAddress(_) => {}
+                MadtItem::LocalApicAddress(address) => counts.local_apic_address = Some(address),
                 MadtItem::Wakeup => continue,
             }
             counts.is_of_apic = true;
