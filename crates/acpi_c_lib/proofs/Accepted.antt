@@ -24,7 +24,7 @@ strict_by : (m : Memory) (p : ℕ) (r : Result (List ℕ) AcpiError)
 strict_by m p (Ok head) = strict_at m (plain_kind (header_at head).signature) p
 strict_by m p (Err e) = refl
 
-own_strict : (m : Memory) (p : ℕ) → own_accepted_at 0 m p ≡ own_table_at m p
+pub own_strict : (m : Memory) (p : ℕ) → own_accepted_at 0 m p ≡ own_table_at m p
 unfolding own_accepted_at own_table_at
 own_strict m p = strict_by m p (lent m p 36)
 

@@ -7,7 +7,6 @@ use crate::opening::open;
 use crate::records::{Facs, Source};
 use crate::refusal::Refusal;
 use crate::regions::Mapped;
-use acpi::fadt::Fadt;
 use acpi::sdt::{SdtHeader, Signature};
 use acpi::{AcpiError, AcpiHandler, AcpiResult, PhysicalMapping, PhysicalRecord, facs_length};
 use acpi_base::bytes::{field_in, u8_in, u32_in};
@@ -18,7 +17,7 @@ pub fn facs(source: &Source<'_>) -> Result<Facs, Refusal>
 {
     let memory = Mapped::new(source.regions)?;
     let tables = open(&memory, source)?;
-    let fadt = Lookup::new(&memory, source).find_table::<Fadt>(tables.addresses())?;
+    let fadt = Lookup::new(&memory, source).find_fadt(tables.addresses())?;
     let missing = AcpiError::TableMissing(Signature::FACS);
     let address = fadt.facs_address().ok().ok_or(missing)?;
     let facs = facs_at(&memory, address)?;

@@ -12,7 +12,6 @@ use crate::records::Source;
 use crate::refusal::Refusal;
 use crate::regions::Mapped;
 use crate::root_table::RootTable;
-use acpi::fadt::Fadt;
 use acpi::madt::Madt;
 use acpi::platform::PmTimer;
 use acpi::platform::interrupt::IoApic;
@@ -44,8 +43,8 @@ pub(crate) fn apic_madt<'h, H: AcpiHandler>(
         ≡ Ok (start_of x.madt, bytes_of x.madt))
         × (list_any is_of_apics (entries_of (bytes_of x.madt)) ≡ true))) }
 {
-    let fadt = lookup.find_table::<Fadt>(tables.addresses())?;
-    let timer = PmTimer::new(&fadt);
+    let fadt = lookup.find_fadt(tables.addresses())?;
+    let timer = PmTimer::of(&fadt);
     let found = found_madt(lookup, tables.addresses())?;
     timer?;
     Ok(found)

@@ -1,16 +1,18 @@
 //! Lookups of tables by what a caller accepts of them (section 5.2.6).
 ghost use Rattle.std.specs.Prelude.{◌≡◌, ◌+◌, ◌^◌, ◌<◌, ◌≤◌, IfOk, Ok, length};
-ghost use Rattle.acpi_base.specs.Words.{Gives, bytes_of, has_bit, lent, plain_kind, start_of};
+ghost use Rattle.acpi_base.specs.Words.{Gives, bytes_of, claimed_at, has_bit, lent, plain_kind, shown_by, start_of};
 ghost use Rattle.acpi_base.specs.Words as steps;
-ghost use Rattle.acpi.specs.Words.{pointers_left};
+ghost use Rattle.acpi.specs.Words.{fadt_kind, pointers_left};
 ghost use Rattle.acpi_c_lib.specs.Words.{accepted_at, accepted_lookup, loosened_at, names_accepted, own_accepted_at};
 
 use crate::records::Source;
-use acpi::sdt::{SdtHeader, Signature, map_sdt, map_table};
+use acpi::fadt::{Fadt, FadtView};
+use acpi::sdt::{SdtHeader, Signature, map_own_sdt, map_sdt};
 use acpi::{
     AcpiError, AcpiHandler, AcpiResult, AcpiTable, PhysicalMapping, PhysicalRecord, Pointers,
 };
 use acpi_base::bytes::{byte_sum, has_bit, is_text};
+use acpi_base::table::{ValidTable, valid_at};
 
 /// How tables are looked up: in which memory, and by which bits of `accept`.
 #[derive(Drop)]
@@ -31,9 +33,24 @@ impl<'h, H: AcpiHandler> Lookup<'h, H> {
         }
     }
 
-    /// The table at an address, if it is accepted as a `T`.
+    /// The bytes of the table at an address, if it is accepted as a `T`.
     #[inline(always)]
     #[tactic(auto, unfolding(crate::specs::Accepted::accepted_at))]
+    fn bytes_at<T: AcpiTable>(&self, address: u64) -> AcpiResult<ValidTable<'h, H>>
+        ensures place { IfOk result (λ v. claimed_at v.claim ≡ address) }
+        ensures least { IfOk result (λ v. T.MIN_LENGTH ≤ length (shown_by v.claim)) }
+        ensures table { Gives (λ v. shown_by v.claim) result
+            (accepted_at self.now.accept (H.memory self.now.handler.now) T.kind address) }
+    {
+        if self.accept == 0 {
+            return valid_at::<H, T>(self.handler, address);
+        }
+        let length = self.loosened(T::SIGNATURE, T::MIN_LENGTH, address)?;
+        ValidTable::trusted(self.handler, address, length)
+    }
+
+    /// The table at an address, if it is accepted as a `T`.
+    #[inline(always)]
     pub(crate) fn table_at<T: AcpiTable>(
         &self,
         address: u64,
@@ -42,11 +59,8 @@ impl<'h, H: AcpiHandler> Lookup<'h, H> {
         ensures table { Gives (λ t. bytes_of t) result
             (accepted_at self.now.accept (H.memory self.now.handler.now) T.kind address) }
     {
-        if self.accept == 0 {
-            return map_table::<H, T>(self.handler, address);
-        }
-        let length = self.loosened(T::SIGNATURE, T::MIN_LENGTH, address)?;
-        PhysicalMapping::map(self.handler, address, length)
+        let bytes = self.bytes_at::<T>(address)?;
+        Ok(bytes.mapping())
     }
 
     /// The table at an address, if it is accepted under a signature.
@@ -71,19 +85,39 @@ impl<'h, H: AcpiHandler> Lookup<'h, H> {
     }
 
     /// The table at an address, if it is accepted under its own signature.
-    #[tactic(auto, unfolding(crate::specs::Accepted::own_accepted_at))]
+    #[tactic(auto, using(crate::proofs::Accepted::own_strict), unfolding(crate::specs::Accepted::own_accepted_at))]
     pub(crate) fn own_sdt_at(&self, address: u64) -> AcpiResult<PhysicalMapping<'h, H, SdtHeader>>
         ensures place { IfOk result (λ t. start_of t ≡ address) }
         ensures short { IfOk result (λ t. length (bytes_of t) < 2 ^ 32) }
         ensures table { Gives (λ t. bytes_of t) result
             (own_accepted_at self.now.accept (H.memory self.now.handler.now) address) }
     {
+        if self.accept == 0 {
+            return map_own_sdt(self.handler, address);
+        }
         let head = PhysicalMapping::<'_, H, SdtHeader>::map(
             self.handler,
             address,
             SdtHeader::MIN_LENGTH,
         )?;
         self.sdt_at(address, head.signature)
+    }
+
+    /// The bytes of the first table that is accepted as a `T`.
+    #[inline(always)]
+    fn first_bytes<T: AcpiTable>(&self, addresses: Pointers<'_>) -> AcpiResult<ValidTable<'h, H>>
+        ensures least { IfOk result (λ v. T.MIN_LENGTH ≤ length (shown_by v.claim)) }
+        ensures found { Gives (λ v. (claimed_at v.claim, shown_by v.claim)) result (accepted_lookup self.now.accept
+            (H.memory self.now.handler.now) T.kind (pointers_left addresses.entry)) }
+        ensures table { IfOk result (λ v. accepted_at self.now.accept (H.memory self.now.handler.now)
+            T.kind (claimed_at v.claim) ≡ Ok (shown_by v.claim)) }
+    {
+        for address in addresses {
+            if let Ok(found) = self.bytes_at::<T>(address) {
+                return Ok(found);
+            }
+        }
+        Err(AcpiError::TableMissing(T::SIGNATURE))
     }
 
     /// The first table that is accepted as a `T`.
@@ -98,12 +132,21 @@ impl<'h, H: AcpiHandler> Lookup<'h, H> {
         ensures table { IfOk result (λ t. accepted_at self.now.accept (H.memory self.now.handler.now)
             T.kind (start_of t) ≡ Ok (bytes_of t)) }
     {
-        for address in addresses {
-            if let Ok(found) = self.table_at::<T>(address) {
-                return Ok(found);
-            }
+        match self.first_bytes::<T>(addresses) {
+            Ok(found) => Ok(found.mapping()),
+            Err(error) => Err(error),
         }
-        Err(AcpiError::TableMissing(T::SIGNATURE))
+    }
+
+    /// The first table that is accepted as a FADT, of which a field is read when it is asked for.
+    ///
+    /// Fails with `TableMissing` if none is.
+    pub(crate) fn find_fadt(&self, addresses: Pointers<'_>) -> AcpiResult<FadtView<'h, H>>
+        ensures { Gives (λ v. (start_of v.mapping, bytes_of v.mapping)) result (accepted_lookup self.now.accept
+            (H.memory self.now.handler.now) fadt_kind (pointers_left addresses.entry)) }
+    {
+        let found = self.first_bytes::<Fadt>(addresses)?;
+        Ok(FadtView::new(found))
     }
 
     /// The first table that is accepted under a signature.

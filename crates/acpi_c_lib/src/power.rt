@@ -79,7 +79,7 @@ fn dsdt_answer<H: AcpiHandler>(
     ensures { let l = lookup.now in result
         ≡ joined (dsdt_answer l.accept state (H.memory l.handler.now) (pointers_left addresses.entry)) }
 {
-    let fadt = lookup.find_table::<Fadt>(addresses)?;
+    let fadt = lookup.find_fadt(addresses)?;
     let dsdt = lookup.sdt_at(fadt.dsdt_address()?, Signature::DSDT)?;
     block_answer(Signature::DSDT, state, dsdt.bytes())
 }

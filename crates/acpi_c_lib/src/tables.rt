@@ -10,7 +10,6 @@ use crate::opening::open;
 use crate::records::{self, AmlTable, Source, Table};
 use crate::refusal::Refusal;
 use crate::regions::Mapped;
-use acpi::fadt::Fadt;
 use acpi::sdt::{SdtHeader, Signature};
 use acpi::{AcpiHandler, AcpiResult, PhysicalMapping, PhysicalRecord, Pointers};
 use acpi_base::bytes::filled;
@@ -84,7 +83,7 @@ pub fn dsdt(source: &Source<'_>) -> Result<AmlTable, Refusal>
     let memory = Mapped::new(source.regions)?;
     let tables = open(&memory, source)?;
     let lookup = Lookup::new(&memory, source);
-    let fadt = lookup.find_table::<Fadt>(tables.addresses())?;
+    let fadt = lookup.find_fadt(tables.addresses())?;
     let aml = aml_at(&lookup, Signature::DSDT, fadt.dsdt_address()?)?;
     Ok(aml)
 }

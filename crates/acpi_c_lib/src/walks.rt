@@ -2,6 +2,7 @@
 //! take.
 ghost use Rattle.std.specs.Prelude.{◌≡◌, filter_map};
 ghost use Rattle.acpi.specs.Words.{fadt_kind, pointers_left};
+ghost use Rattle.acpi_fixed.specs.Words.{viewed};
 ghost use Rattle.acpi_c_lib.specs.Words.{Fills, accepted_lookup, dsdt_range, facs_range, led_ranges, nth_below, nth_in, range_in, ranges_below, lists_some};
 
 use crate::facs::facs_at;
@@ -13,7 +14,7 @@ use crate::records::{self, Range, Source, Table};
 use crate::refusal::Refusal;
 use crate::regions::Mapped;
 use crate::tables::{entry, signature_named};
-use acpi::fadt::Fadt;
+use acpi::fadt::FadtView;
 use acpi::sdt::Signature;
 use acpi::{AcpiError, AcpiHandler, AcpiResult, Pointers};
 
@@ -91,15 +92,15 @@ fn led_ranges<H: AcpiHandler>(
     ensures { let l = lookup.now in let m = H.memory l.handler.now in result
         ≡ led_ranges l.accept m (accepted_lookup l.accept m fadt_kind (pointers_left addresses.entry)) }
 {
-    match lookup.find_table::<Fadt>(addresses) {
+    match lookup.find_fadt(addresses) {
         Ok(fadt) => (dsdt_range(lookup, &fadt), facs_range(lookup.handler, &fadt)),
         Err(_) => (None, None),
     }
 }
 
 /// Where the DSDT lies that a FADT leads to (section 5.2.11.1), if it is accepted.
-fn dsdt_range<H: AcpiHandler>(lookup: &Lookup<'_, H>, fadt: &Fadt) -> Option<Range>
-    ensures { result ≡ dsdt_range lookup.now.accept (H.memory lookup.now.handler.now) fadt.now }
+fn dsdt_range<H: AcpiHandler>(lookup: &Lookup<'_, H>, fadt: &FadtView<'_, H>) -> Option<Range>
+    ensures { result ≡ dsdt_range lookup.now.accept (H.memory lookup.now.handler.now) (viewed fadt.now) }
 {
     let address = fadt.dsdt_address().ok()?;
     let dsdt = lookup.sdt_at(address, Signature::DSDT).ok()?;
@@ -108,8 +109,8 @@ fn dsdt_range<H: AcpiHandler>(lookup: &Lookup<'_, H>, fadt: &Fadt) -> Option<Ran
 
 /// Where the FACS lies that a FADT leads to (section 5.2.10), if it is valid.
 #[tactic(auto, unfolding(acpi::specs::Places::facs_at))]
-fn facs_range<H: AcpiHandler>(handler: &H, fadt: &Fadt) -> Option<Range>
-    ensures { result ≡ facs_range (H.memory handler.now) fadt.now }
+fn facs_range<H: AcpiHandler>(handler: &H, fadt: &FadtView<'_, H>) -> Option<Range>
+    ensures { result ≡ facs_range (H.memory handler.now) (viewed fadt.now) }
 {
     let address = fadt.facs_address().ok()?;
     let facs = facs_at(handler, address).ok()?;

@@ -1,7 +1,7 @@
 use Rattle.std.proofs.Common.{◌≡◌}
 use Rattle.acpi.specs.Words.{pointers_left}
 use Rattle.acpi_c_lib.specs.Words.{accepted_lookup}
-use Rattle.acpi_c_lib.proofs.lookup.Lookup.find_table.Given as goal
+use Rattle.acpi_c_lib.proofs.lookup.Lookup.first_bytes.Given as goal
 
 -- none of those before is accepted
 abbrev pub invariant-loop-address : goal.invariant-loop-address
