@@ -1,16 +1,13 @@
 -- The list of processors, whose first is made the boot processor after all are written, and what the strict model says
 -- of the same entries.
 use Rattle.std.proofs.Common.{◌≡◌, ℕ, suc, ◌+◌, ◌<◌, ◌≤◌, List, [], ◌∷◌, length, get_or, slice_set, subst, true, refl, add-one, arith, ◌∙◌, sym, ap, filter_map, Option, Some, None}
-use Rattle.std.specs.Prelude.{option_and_then}
-use Rattle.acpi_base.specs.FromStd.{cons_option, list_any, result_err, result_ok}
-use Rattle.acpi_base.specs.Words.{item_in, item_of, line_of}
-use Rattle.acpi_base.specs.Interrupts.{flags_fault, nmi_line_of, nmi_source_of, override_fault, override_of, unless_fault}
+use Rattle.std.specs.Prelude.{unwrap_or}
+use Rattle.acpi_base.specs.FromStd.{last_or, list_any}
+use Rattle.acpi_base.specs.Words.{item_in, item_of, last_address}
 use Rattle.acpi_base.specs.Model.{is_of_apic}
-use Rattle.acpi_base.specs.Model as base
-use Rattle.acpi.specs.Types.{MadtEntry, MadtError, MadtItem}
-use Rattle.acpi_base.specs.declared.model.item.MadtItem.TheVariants as item
+use Rattle.acpi.specs.Types.{MadtEntry}
 use Rattle.acpi_base.specs.declared.tables.madt.entry.MadtEntry.TheVariants as entry
-use Rattle.acpi_c_lib.specs.Words.{put_from, Processor, boot_first, booted, is_of_apics, local_apic_address_in}
+use Rattle.acpi_c_lib.specs.Words.{put_from, Processor, boot_first, booted, is_of_apics}
 
 -- what is written from the second place on leaves the first
 put_later : {X : Type 0} (z : X) (zs xs : List X) (n : ℕ) → put_from (z ∷ zs) (suc n) xs ≡ z ∷ put_from zs n xs
@@ -81,33 +78,10 @@ any_said (e ∷ es) any = any_with e es (any_said es) any
 
 -- ---- the address of the local APICs
 
--- an entry that says another thing has none
-none_said : (o : Option MadtError) (x : MadtItem) → base.local_apic_address_in x ≡ None
-    → None ≡ option_and_then base.local_apic_address_in (result_ok (unless_fault o x))
-none_said None x none = sym none
-none_said (Some fault) x none = refl
+last_after : (address : ℕ) (so_far : Option ℕ) (given : List ℕ)
+    → unwrap_or (last_or so_far given) address ≡ last_address (unwrap_or so_far address) given
+last_after address so_far [] = refl
+last_after address so_far (x ∷ given) = last_after address (Some x) given
 
-one_address : (e : MadtEntry) → local_apic_address_in e ≡ option_and_then base.local_apic_address_in (item_in e)
-unfolding item_of
-one_address (entry.InterruptSourceOverride e) = none_said (override_fault e) (item.Override (override_of e)) refl
-one_address (entry.NmiSource e) = none_said (flags_fault e.flags) (item.NmiSource (nmi_source_of e)) refl
-one_address (entry.LocalApicNmi e) =
-    none_said (result_err (line_of e.nmi_line)) (item.NmiLine (nmi_line_of _ e.nmi_line)) refl
-one_address (entry.X2ApicNmi e) =
-    none_said (result_err (line_of e.nmi_line)) (item.NmiLine (nmi_line_of _ e.nmi_line)) refl
-one_address _ = refl
-
-address_first : (i : Option MadtItem) (items : List MadtItem)
-    → filter_map base.local_apic_address_in (cons_option i items)
-    ≡ cons_option (option_and_then base.local_apic_address_in i) (filter_map base.local_apic_address_in items)
-address_first None items = refl
-address_first (Some x) items = refl
-
--- those of the strict model
-pub same_addresses : (es : List MadtEntry)
-    → filter_map base.local_apic_address_in (filter_map item_in es) ≡ filter_map local_apic_address_in es
-same_addresses [] = refl
-same_addresses (e ∷ es) =
-    address_first (item_in e) (filter_map item_in es)
-    ∙ sym (ap (λ o. cons_option o (filter_map base.local_apic_address_in (filter_map item_in es))) (one_address e))
-    ∙ ap (cons_option (local_apic_address_in e)) (same_addresses es)
+pub last_said : (address : ℕ) (given : List ℕ) → unwrap_or (last_or None given) address ≡ last_address address given
+last_said address given = last_after address None given

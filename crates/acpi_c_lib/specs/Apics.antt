@@ -122,9 +122,3 @@ abbrev pub nmi_line_in : MadtEntry → Option records.NmiLine
 nmi_line_in (entry.LocalApicNmi e) = Some (nmi_line all_apics e.processor_id e.nmi_line e.flags)
 nmi_line_in (entry.X2ApicNmi e) = Some (nmi_line all_x2apics e.processor_uid e.nmi_line e.flags)
 nmi_line_in _ = None
-
--- ---- the address of the local APICs (section 5.2.12.8)
-
-abbrev pub local_apic_address_in : MadtEntry → Option ℕ
-local_apic_address_in (entry.LocalApicAddressOverride e) = Some e.local_apic_address
-local_apic_address_in _ = None

@@ -1,8 +1,8 @@
 //! The interrupt model with all its lists at once: the entries of the MADT are walked along once to count them, and
 //! once to write them.
 ghost use Rattle.std.specs.Prelude.{◌≡◌, ◌∷◌, ◌+◌, ◌^◌, ◌<◌, ◌≤◌, List, length, filter_map};
-ghost use Rattle.acpi_base.specs.Words.{entries_of, last_address};
-ghost use Rattle.acpi_c_lib.specs.Words.{MadtEntry, items_beside, put_from, below_apics, below_known, counts_of, io_apic_in, local_apic_address_in, nmi_line_in, nmi_source_in, override_in, processors_of};
+ghost use Rattle.acpi_base.specs.Words.{entries_of};
+ghost use Rattle.acpi_c_lib.specs.Words.{MadtEntry, items_beside, put_from, below_apics, below_known, counts_of, io_apic_in, nmi_line_in, nmi_source_in, override_in, processors_of};
 
 use crate::apics::{MadtRecord, boot_first};
 use crate::interrupt_records::{
@@ -39,29 +39,26 @@ pub fn platform(
 {
     let memory = Mapped::new(source.regions);
     let found = known_madt(&memory, source)?;
-    let address = write_all(
+    write_all(
         found.madt.bytes(),
-        found.madt.local_apic_address as u64,
         processors,
         io_apics,
         overrides,
         nmi_sources,
         nmi_lines,
     );
-    Ok(known_model(&found, address))
+    Ok(known_model(&found))
 }
 
-/// Writes each list as far as there is room, and says Local APIC Address of the last override, or else this address.
+/// Writes each list as far as there is room.
 fn write_all(
     table: &[u8],
-    address: u64,
     processors: &mut [Processor],
     io_apics: &mut [IoApic],
     overrides: &mut [InterruptSourceOverride],
     nmi_sources: &mut [NmiSource],
     nmi_lines: &mut [NmiLine],
-) -> u64
-    ensures address { result ≡ last_address address (filter_map local_apic_address_in (entries_of table.now)) }
+)
     ensures processors { processors.new ≡ put_from processors.old 0 (processors_of (entries_of table.now)) }
     ensures io_apics { io_apics.new ≡ put_from io_apics.old 0 (filter_map io_apic_in (entries_of table.now)) }
     ensures overrides { overrides.new ≡ put_from overrides.old 0 (filter_map override_in (entries_of table.now)) }
@@ -69,24 +66,26 @@ fn write_all(
         ≡ put_from nmi_sources.old 0 (filter_map nmi_source_in (entries_of table.now)) }
     ensures nmi_lines { nmi_lines.new ≡ put_from nmi_lines.old 0 (filter_map nmi_line_in (entries_of table.now)) }
 {
-    let mut last = address;
     let mut processor = 0;
     let mut io_apic = 0;
     let mut wiring = 0;
     let mut nmi_source = 0;
     let mut nmi_line = 0;
     for entry in MadtEntryIter::over(table) {
-        if let MadtEntry::LocalApicAddressOverride(given) = entry {
-            last = given.local_apic_address;
+        match entry {
+            MadtEntry::LocalApic(_) | MadtEntry::LocalX2Apic(_) => {
+                processor = add(&entry, processors, processor);
+            }
+            MadtEntry::IoApic(_) => io_apic = add(&entry, io_apics, io_apic),
+            MadtEntry::InterruptSourceOverride(_) => wiring = add(&entry, overrides, wiring),
+            MadtEntry::NmiSource(_) => nmi_source = add(&entry, nmi_sources, nmi_source),
+            MadtEntry::LocalApicNmi(_) | MadtEntry::X2ApicNmi(_) => {
+                nmi_line = add(&entry, nmi_lines, nmi_line);
+            }
+            _ => {}
         }
-        processor = add(&entry, processors, processor);
-        io_apic = add(&entry, io_apics, io_apic);
-        wiring = add(&entry, overrides, wiring);
-        nmi_source = add(&entry, nmi_sources, nmi_source);
-        nmi_line = add(&entry, nmi_lines, nmi_line);
     }
     boot_first(processors, processor);
-    last
 }
 
 /// Writes what an entry says at an index, if it is of this sort, and says where the next is to stand.

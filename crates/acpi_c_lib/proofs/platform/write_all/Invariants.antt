@@ -1,17 +1,14 @@
 use Rattle.std.proofs.Common.{◌≡◌, ◌+◌, ◌≤◌, length, filter_map}
-use Rattle.acpi_base.specs.Words.{entries_left, last_address}
-use Rattle.acpi_c_lib.specs.Words.{put_from, io_apic_in, local_apic_address_in, nmi_line_in, nmi_source_in, override_in, processor_in}
+use Rattle.acpi_base.specs.Words.{entries_left}
+use Rattle.acpi_c_lib.specs.Words.{put_from, io_apic_in, nmi_line_in, nmi_source_in, override_in, processor_in}
 use Rattle.acpi_c_lib.proofs.platform.write_all.Given as goal
 
--- of each list, what is written and what is left are the whole, and there is room to count what is left; so of the last
--- address
+-- of each list, what is written and what is left are the whole, and there is room to count what is left
 abbrev pub invariant-loop-entry : goal.invariant-loop-entry
 invariant-loop-entry l =
     let left = entries_left l.entry-iterator in
     let all = entries_left l.initial.entry-iterator in
-    (last_address l.last (filter_map local_apic_address_in left) ≡ last_address l.initial.last
-    (filter_map local_apic_address_in all))
-    × (put_from l.processors l.processor (filter_map processor_in left)
+    (put_from l.processors l.processor (filter_map processor_in left)
     ≡ put_from l.initial.processors 0 (filter_map processor_in all))
     × (l.processor + length (filter_map processor_in left) ≡ length (filter_map processor_in all))
     × (put_from l.io_apics l.io_apic (filter_map io_apic_in left)
