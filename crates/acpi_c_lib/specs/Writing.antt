@@ -1,13 +1,9 @@
 -- Tables that are written for C.
 use Rattle.std.specs.Prelude.{◌≡◌, ℕ, ◌≤◌, ◌&&◌, ◌==◌, Bool, is_ok, not, nat_le, List, length, take, drop, Option, Some, None, Result, Ok, Err, if◌then◌else◌}
-use Rattle.acpi_base.specs.FromStd.{list_all, result_unwrap_or}
-use Rattle.acpi_base.specs.Words.{polarity_for, trigger_for}
-use Rattle.acpi.specs.Types.{InterruptSourceOverride, IoApic, Lint0, Lint1, NmiSource, Polarity, TriggerMode, McfgEntry}
 use Rattle.acpi_base.specs.declared.model.interrupt.NmiProcessor.TheVariants as nmi
 use Rattle.acpi_base.specs.declared.model.interrupt.Polarity.TheVariants as polarity
 use Rattle.acpi_base.specs.declared.model.interrupt.TriggerMode.TheVariants as trigger
-use Rattle.acpi_c_lib.specs.Types.{HpetInfo, PciRegion, Writer, MadtContents, MadtNmiLine, MadtProcessor}
-use Rattle.acpi.specs.Words.{protection_of}
+use Rattle.acpi_c_lib.specs.Types.{list_all, result_unwrap_or, polarity_for, trigger_for, InterruptSourceOverride, IoApic, Lint0, Lint1, NmiSource, Polarity, TriggerMode, McfgEntry, HpetInfo, PciRegion, Writer, MadtContents, MadtNmiLine, MadtProcessor, protection_of, madt_meant}
 use Rattle.acpi_c_lib.specs.Codes.{code_of}
 use Rattle.acpi_c_lib.specs.Records as records
 use Rattle.acpi_writer.specs.declared.madt.MadtContents as writer

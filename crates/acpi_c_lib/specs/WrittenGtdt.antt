@@ -1,10 +1,6 @@
 -- The GTDT that is written for C (section 5.2.24), from the records as which it is read.
 use Rattle.std.specs.Prelude.{ℕ, ◌-◌, ◌^◌, ◌&&◌, ◌||◌, ◌==◌, Bool, false, not, List, Option, Some, None, Result, if◌then◌else◌}
-use Rattle.acpi_base.specs.FromStd.{list_all}
-use Rattle.acpi.specs.Types.{ActiveHigh, Level}
-use Rattle.acpi_arm.specs.declared.frames.GtFrame.{GtFrame}
-use Rattle.acpi_arm.specs.declared.frames.TimerInterrupt.{TimerInterrupt}
-use Rattle.acpi_c_lib.specs.Types.{ArmTimer, SbsaWatchdog, Watchdog}
+use Rattle.acpi_c_lib.specs.Types.{list_all, ActiveHigh, Level, GtFrame, TimerInterrupt, ArmTimer, SbsaWatchdog, Watchdog, GtdtOf, TimerOf, frame_bytes, frame_checked, gtdt_written_by, structure_bytes_by, structure_checked_by, GtdtContents, PlatformTimer}
 use Rattle.acpi_c_lib.specs.Records as records
 use Rattle.acpi_c_lib.specs.Writing.{TableIds, WriterError, is_wiring, polarity_of, trigger_of}
 use Rattle.acpi_writer.specs.declared.gtdt.PlatformTimerContents.TheVariants as kinds

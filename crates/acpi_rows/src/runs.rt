@@ -27,12 +27,8 @@ use std::{io, str};
 /// Prints what a call gives.
 pub(crate) fn answer(out: Out<'_>, kind: &str, bytes: &[u8], call: &str, rest: &str) {
     let alloc = out.alloc();
-    let file = written(alloc, bytes, kind);
-    let image = match kind {
-        "file" => Some(bytes),
-        "unreadable" => None,
-        _ => file.as_deref(),
-    };
+    let file = file_of(alloc, bytes, kind);
+    let image = file.as_deref();
     let Ok(words) = split_words(alloc, rest) else {
         return;
     };
@@ -46,7 +42,10 @@ pub(crate) fn answer(out: Out<'_>, kind: &str, bytes: &[u8], call: &str, rest: &
             }
         }
         _ => {
-            let (mut printed, mut errors) = (Refusing::new(alloc, first), Refusing::new(alloc, second));
+            let (mut printed, mut errors) = (
+                Refusing::new(alloc, first),
+                Refusing::new(alloc, second),
+            );
             let status = run(alloc, &words, image, &mut printed, &mut errors);
             out.spread(&(
                 status,
@@ -66,12 +65,15 @@ fn numbers_before(rest: &str) -> (u64, u64) {
     (number_of(first), number_of(second))
 }
 
-/// The image that `write_image` makes of a table at 0x2000, with an RSDP of this revision at 0x500
-/// and a root table at 0x1000.
-fn written(alloc: Global, table: &[u8], kind: &str) -> Option<Vec<u8>> {
+/// The file of a kind: the bytes, or the image that `write_image` makes of a table at 0x2000, with an RSDP of a revision
+/// at 0x500 and a root table at 0x1000.
+fn file_of(alloc: Global, bytes: &[u8], kind: &str) -> Option<Vec<u8>> {
+    if kind == "file" {
+        return bytes.to_vec(alloc).ok();
+    }
     let placed = PlacedTable {
         address: 0x2000,
-        bytes: table,
+        bytes,
     };
     let revision = kind.strip_prefix("written-")?.parse::<u8>().ok()?;
     write_image(alloc, 0x500, 0x1000, revision, &[placed]).ok()

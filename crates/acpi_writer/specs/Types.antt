@@ -98,4 +98,3 @@ PlatformTimerContents = TimerOf GtFrame
 
 abbrev pub GtdtContents : Type 0
 GtdtContents = GtdtOf PlatformTimerContents
-

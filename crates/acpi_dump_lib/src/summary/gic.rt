@@ -1,7 +1,7 @@
 //! The interrupts and the processors of an Arm machine.
 
 use super::Facts;
-use acpi_arm::gic::GicModel;
+use acpi_arm::gic::{GicCpuInterface, GicModel, GicMsiFrame};
 use std::alloc::Global;
 
 /// Adds the parts of a GIC, the processors first.
@@ -9,15 +9,7 @@ pub(super) fn add_gic(facts: &mut Facts, gic: &GicModel<Global>) {
     let all = gic.cpu_interfaces.as_slice();
     facts.words("processors\t%\n", &[all.len() as u64]);
     for processor in all {
-        let (uid, mpidr) = (processor.processor_uid, processor.mpidr);
-        facts.words("processor %\tMPIDR #, ", &[uid as u64, mpidr]);
-        facts.text(if processor.is_enabled {
-            "enabled\n"
-        } else if processor.is_online_capable {
-            "can be enabled\n"
-        } else {
-            "disabled\n"
-        });
+        add_processor(facts, processor);
     }
     let distributor = gic.distributor;
     let words = if distributor.version == 0 {
@@ -34,11 +26,30 @@ pub(super) fn add_gic(facts: &mut Facts, gic: &GicModel<Global>) {
         facts.words("ITS %\tat #\n", &[service.id as u64, service.address]);
     }
     for frame in gic.msi_frames.as_slice() {
-        facts.words("MSI frame %\tat #", &[frame.id as u64, frame.address]);
-        if let Some(spis) = frame.spis {
-            let numbers = [spis.count as u64, spis.base as u64];
-            facts.words(", % interrupts from % on", &numbers);
-        }
-        facts.text("\n");
+        add_frame(facts, frame);
     }
+}
+
+/// Adds a processor.
+fn add_processor(facts: &mut Facts, processor: &GicCpuInterface) {
+    let (uid, mpidr) = (processor.processor_uid, processor.mpidr);
+    let state = if processor.is_enabled {
+        "enabled\n"
+    } else if processor.is_online_capable {
+        "can be enabled\n"
+    } else {
+        "disabled\n"
+    };
+    facts.words("processor %\tMPIDR #, ", &[uid as u64, mpidr]);
+    facts.text(state);
+}
+
+/// Adds a frame that turns messages into interrupts.
+fn add_frame(facts: &mut Facts, frame: &GicMsiFrame) {
+    facts.words("MSI frame %\tat #", &[frame.id as u64, frame.address]);
+    if let Some(spis) = frame.spis {
+        let numbers = [spis.count as u64, spis.base as u64];
+        facts.words(", % interrupts from % on", &numbers);
+    }
+    facts.text("\n");
 }
