@@ -35,8 +35,7 @@ static inline size_t walk_entries(struct zacpi_walk walk) {
     static struct zacpi_entry entries[1024];
     size_t count = 0, i;
     uint8_t malformed;
-    if (zacpi_list_entries(&source, table.address, &walk, entries, 1024, &count, &malformed, NULL))
-        return 0;
+    if (zacpi_list_entries(&source, table.address, &walk, entries, 1024, &count, &malformed, NULL)) return 0;
     if (count > 1024) count = 1024;
     for (i = 0; i < count; i++) offsets[i] = (uint32_t)(entries[i].address - table.address);
     return count;

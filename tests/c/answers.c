@@ -98,8 +98,7 @@ static void print_entries(const struct zacpi_source *source, const char *letters
     size_t count = 0, i, k;
     uint8_t malformed = 0;
     zacpi_status refused = zacpi_find_table(source, zacpi_signature_of(letters), &table, &named);
-    if (!refused)
-        refused = zacpi_list_entries(source, table.address, walk, items, MOST, &count, &malformed, &named);
+    if (!refused) refused = zacpi_list_entries(source, table.address, walk, items, MOST, &count, &malformed, &named);
     if (is_missing("entries", refused, &named)) return;
     printf("entries %lu %u\n", (unsigned long)count, malformed);
     for (i = 0; i < count && i < MOST; i++) {
