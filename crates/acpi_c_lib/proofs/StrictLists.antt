@@ -178,7 +178,8 @@ lines_said all uid number flags (Err f) is h = absurd cc
 nmi_lines : Agree nmi_line_in line_shown base.nmi_line_in line_said
 unfolding item_of
 nmi_lines (entry.LocalApicNmi e) h =
-    ap Some (lines_said all_apics e.processor_id e.nmi_line e.flags _ refl (unfaulted (result_err (line_of e.nmi_line)) _ h))
+    ap Some (lines_said all_apics e.processor_id e.nmi_line e.flags _ refl
+    (unfaulted (result_err (line_of e.nmi_line)) _ h))
 nmi_lines (entry.X2ApicNmi e) h =
     ap Some (lines_said all_x2apics e.processor_uid e.nmi_line e.flags _ refl
     (unfaulted (result_err (line_of e.nmi_line)) _ h))

@@ -155,8 +155,8 @@ refused_is r e = grind arith
 
 -- by the RSDP that a start is, if it is none of a root table
 
-kept_error : (a : ℕ) (r : Result (List ℕ) AcpiError) → result_map {B = ℕ × List ℕ} (λ bytes. (a, bytes)) r ≡ Err MapFailed
-    → r ≡ Err MapFailed
+kept_error : (a : ℕ) (r : Result (List ℕ) AcpiError)
+    → result_map {B = ℕ × List ℕ} (λ bytes. (a, bytes)) r ≡ Err MapFailed → r ≡ Err MapFailed
 kept_error a (Ok bytes) e = cc
 kept_error a (Err d) e = cc
 
@@ -185,8 +185,8 @@ no_root : (place : RootPointer) (r : Result (List ℕ) AcpiError) → root_as pl
 no_root place (Ok root) e = cc
 no_root place (Err d) e = cc
 
-there : (m : Memory) (s : Source) (place : RootPointer) → root_as place (root_there s.accept m place) ≡ Err (Acpi MapFailed)
-    → IsUnlent m (root_hole m s (Ok place))
+there : (m : Memory) (s : Source) (place : RootPointer)
+    → root_as place (root_there s.accept m place) ≡ Err (Acpi MapFailed) → IsUnlent m (root_hole m s (Ok place))
 there m s place e =
     let refused = no_root place (root_there s.accept m place) e in
     rw refused (accepted_unlent s.accept m (signature_of place.kind) place.address refused)
@@ -279,8 +279,9 @@ pub joined : (s : Source) (m : Memory) (old mid new : List Range) (n : ℕ) (sai
     → said ≡ result_map (λ ys. n + length ys) (missing_in m s (opened_in m s))
     → new ≡ put_from mid n (items_said (missing_in m s (opened_in m s))) → Fills said old new (missing_below s)
 joined s m old mid new n said is checked first count items =
-    rw (is, checked) (by_others old mid new (candidate_holes m s) n said (missing_in m s (opened_by m s (root_pointer_in m s)))
-    (no_candidates m s) first (rw checked at count) (rw checked at items))
+    rw (is, checked) (by_others old mid new (candidate_holes m s) n said
+    (missing_in m s (opened_by m s (root_pointer_in m s))) (no_candidates m s) first (rw checked at count)
+    (rw checked at items))
 
 -- ---- a signature is its four bytes, and a table that is lent ends below 2^64
 

@@ -33,8 +33,8 @@ pub(super) fn print_table(sheet: &Sheet<'_>, out: &mut Out) {
     out.text("</div></div></details></section>\n");
 }
 
-/// Prints what a table's section begins with: what it is called, and what there is to say of it. It begins unfolded if
-/// it is no table of AML, not long, and not the same in both inputs.
+/// Prints what a table's section begins with: what it is called, and what there is to say of it. It begins unfolded
+/// unless it is a table of AML, long, or the same in both inputs.
 fn print_beginning(sheet: &Sheet<'_>, out: &mut Out) {
     let (class, is_same) = match sheet.standing {
         Standing::Alone | Standing::Beside(_, _) => ("t", false),
