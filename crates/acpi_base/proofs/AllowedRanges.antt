@@ -2,7 +2,7 @@
 use Rattle.std.proofs.Common.{◌≡◌, ℕ, ◌==◌, ◌&&◌, List, [], ◌∷◌, ◌++◌, get_or, Bool, true, Ok, ap, arith, refl, subst, sym, ◌≤◌}
 use Rattle.acpi_base.specs.FromStd.{AllByRecursion}
 use Rattle.acpi_base.proofs.FromStd.{eq-eqb, le-leb, list_any_at, All-cons, All-head, All-nil, All-tail}
-use Rattle.acpi_base.specs.Words.{part, letters_of, Signature, check_names, header_at, Memory, Allows, Ranges, is_listed, own_table_ranges, table_ranges, whole_ranges, lent, Kind}
+use Rattle.acpi_base.specs.Words.{part, letters_of, Signature, check_names, header_at, Memory, Allows, Ranges, is_listed, own_table_ranges, table_ranges, whole_ranges, lent, Kind, plain_kind, unchecked}
 
 abbrev the_signature : List ℕ → Signature
 the_signature letters = record { 0 = letters }
@@ -45,23 +45,23 @@ module _ (may : ℕ → ℕ → Bool) where
 
   pub asked_whole : (m : Memory) (k : Kind) (p : ℕ) (head : List ℕ) → Allows may (table_ranges m k p)
       → lent m p 36 ≡ Ok head
-      → Allows may (whole_ranges k.signature k.least p head)
+      → Allows may (whole_ranges k p head)
   asked_whole m k p head h there = rw there at (all_rest (p, 36) _ h)
 
   pub asked_own_header : (m : Memory) (p : ℕ) → Allows may (own_table_ranges m p) → may p 36 ≡ true
   asked_own_header m p h = all_here (p, 36) _ h
 
-  of_equal : (s t : Signature) (p : ℕ) (head : List ℕ) → t ≡ s → Allows may (whole_ranges t 36 p head)
-      → Allows may (whole_ranges s 36 p head)
+  of_equal : (s t : Signature) (p : ℕ) (head : List ℕ) → t ≡ s → Allows may (whole_ranges (plain_kind t) p head)
+      → Allows may (whole_ranges (plain_kind s) p head)
   of_equal s t p head same h = rw same at h
 
   pub asked_own : (m : Memory) (s : Signature) (p : ℕ) (head : List ℕ) → Allows may (own_table_ranges m p)
       → lent m p 36 ≡ Ok head
-      → letters_of s ≡ part head 0 4 → Allows may (whole_ranges s 36 p head)
+      → letters_of s ≡ part head 0 4 → Allows may (whole_ranges (plain_kind s) p head)
   asked_own m s p head h there letters = of_equal s (header_at head).signature p head (own_signature s head letters)
       (rw there at (all_rest (p, 36) _ h))
 
-  pub asked_length : (s : Signature) (least p n : ℕ) (head : List ℕ) → Allows may (whole_ranges s least p head)
+  pub asked_length : (s : Signature) (least p n : ℕ) (head : List ℕ) → Allows may (whole_ranges (unchecked s least) p head)
       → check_names s (header_at head) ≡ Ok tt → least ≤ n → n ≡ (header_at head).length → may p n ≡ true
   asked_length s least p n head h names long is =
       let enough = le-leb least (header_at head).length (omega (arith, long, is)) in

@@ -30,7 +30,7 @@ served s least (Some table) = only (serves s least table) (Some table)
 pub record Passed (m : Memory) (k : Kind) (p : ℕ) (table : List ℕ) : Type 0 where
   pub head : List ℕ
   pub front : lent m p 36 ≡ Ok head
-  pub names : check_names k.signature (header_at head) ≡ Ok tt
+  pub names : k.names (header_at head) ≡ Ok tt
   pub long : nat_le k.least (header_at head).length ≡ true
   pub whole : lent m p (header_at head).length ≡ Ok table
   pub checked : k.check table ≡ Ok tt
@@ -39,7 +39,7 @@ pub passed : (m : Memory) (k : Kind) (p : ℕ) (table : List ℕ) → table_at m
 unfolding table_at
 passed m k p table e =
     let head = bind_ok (lent m p 36) _ table e in
-    let names = bind_ok (check_names k.signature (header_at head.0)) _ table head.2 in
+    let names = bind_ok (k.names (header_at head.0)) _ table head.2 in
     let long = holds_ok (nat_le k.least (header_at head.0).length) _ _ table names.2 in
     let whole = bind_ok (lent m p (header_at head.0).length) _ table long.1 in
     let checked = bind_ok (k.check whole.0) _ table whole.2 in
@@ -200,18 +200,19 @@ check_last (Ok x) (Ok y) (Err d) f = refl
 check_last (Ok x) (Err d) w f = refl
 check_last (Err d) b w f = refl
 
-check_after : (m : Memory) (k : Kind) (p : ℕ) (r : Result (List ℕ) AcpiError) → lent m p 36 ≡ r
+check_after : (m : Memory) (k : Kind) (p : ℕ) (r : Result (List ℕ) AcpiError) → k.names ≡ check_names k.signature
+    → lent m p 36 ≡ r
     → table_at m k p ≡ (table_at m (unchecked k.signature k.least) p >>= λ t. k.check t >>= λ _. Ok t)
 unfolding table_at
-check_after m k p (Ok head) front =
+check_after m k p (Ok head) own front =
     let long = holds (nat_le k.least (header_at head).length) (SdtInvalidLength k.signature) in
-    rw front (check_last (check_names k.signature (header_at head)) long (lent m p (header_at head).length)
+    rw (front, own) (check_last (check_names k.signature (header_at head)) long (lent m p (header_at head).length)
     (λ t. k.check t >>= λ _. Ok t))
-check_after m k p (Err d) front = rw front refl
+check_after m k p (Err d) own front = rw front refl
 
-pub checked_last : (m : Memory) (k : Kind) (p : ℕ)
+pub checked_last : (m : Memory) (k : Kind) (p : ℕ) → k.names ≡ check_names k.signature
     → table_at m k p ≡ (table_at m (unchecked k.signature k.least) p >>= λ t. k.check t >>= λ _. Ok t)
-checked_last m k p = check_after m k p (lent m p 36) refl
+checked_last m k p own = check_after m k p (lent m p 36) own refl
 
 sum_left : (s : Signature) (b : List ℕ) → check_names s (header_at b) ≡ Ok tt → nat_le 36 (length b) ≡ true
     → field_of b 4 4 ≡ length b
@@ -247,28 +248,28 @@ pub good_rest : (s : Signature) (b : List ℕ) → 36 ≤ length b → check_nam
 good_rest s b long names same good = rw (only_sum_left s b long names same, good) refl
 
 -- what is claimed is left to the kind's own check
-check_refused : (m : Memory) (k : Kind) (p : ℕ) (table : List ℕ) (e : AcpiError)
+check_refused : (m : Memory) (k : Kind) (p : ℕ) (table : List ℕ) (e : AcpiError) → k.names ≡ check_names k.signature
     → table_at m (unchecked k.signature k.least) p ≡ Ok table
     → k.check table ≡ Err e → table_at m k p ≡ Err e
-check_refused m k p table e claimed refused = rw (checked_last m k p, claimed, refused) refl
+check_refused m k p table e own claimed refused = rw (checked_last m k p own, claimed, refused) refl
 
-check_passed : (m : Memory) (k : Kind) (p : ℕ) (table : List ℕ)
+check_passed : (m : Memory) (k : Kind) (p : ℕ) (table : List ℕ) → k.names ≡ check_names k.signature
     → table_at m (unchecked k.signature k.least) p ≡ Ok table
     → k.check table ≡ Ok tt → table_at m k p ≡ Ok table
-check_passed m k p table claimed passes = rw (checked_last m k p, claimed, passes) refl
+check_passed m k p table own claimed passes = rw (checked_last m k p own, claimed, passes) refl
 
 -- of a table of which only the header and the sum matter, the sum decides
 pub sum_refused : (m : Memory) (s : Signature) (p : ℕ) (table : List ℕ) → 36 ≤ length table
     → table_at m (unchecked s 36) p ≡ Ok table
     → (sum_of table ≡ 0 → ⊥) → table_at m (plain_kind s) p ≡ Err (SdtInvalidChecksum s)
-sum_refused m s p table long claimed bad = check_refused m (plain_kind s) p table _ claimed
+sum_refused m s p table long claimed bad = check_refused m (plain_kind s) p table _ refl claimed
     (bad_rest s table long (names_there m s 36 p table (lit≤ tt) claimed)
     (length_there m s 36 p table (lit≤ tt) claimed) bad)
 
 pub sum_passed : (m : Memory) (s : Signature) (p : ℕ) (table : List ℕ) → 36 ≤ length table
     → table_at m (unchecked s 36) p ≡ Ok table
     → sum_of table ≡ 0 → table_at m (plain_kind s) p ≡ Ok table
-sum_passed m s p table long claimed good = check_passed m (plain_kind s) p table claimed
+sum_passed m s p table long claimed good = check_passed m (plain_kind s) p table refl claimed
     (good_rest s table long (names_there m s 36 p table (lit≤ tt) claimed)
     (length_there m s 36 p table (lit≤ tt) claimed) good)
 
@@ -278,11 +279,12 @@ pub no_header : (m : Memory) (k : Kind) (p : ℕ) (e : AcpiError) → lent m p 3
 unfolding table_at
 no_header m k p e refused = rw refused refl
 
-pub another_signature : (m : Memory) (k : Kind) (p : ℕ) (head : List ℕ) → lent m p 36 ≡ Ok head
+pub another_signature : (m : Memory) (k : Kind) (p : ℕ) (head : List ℕ) → k.names ≡ check_names k.signature
+    → lent m p 36 ≡ Ok head
     → bytes_eq (part head 0 4) k.signature.0 ≡ false
     → table_at m k p ≡ Err (SdtInvalidSignature k.signature)
 unfolding table_at check_names header_at
-another_signature m k p head front other = rw (front, other) refl
+another_signature m k p head own front other = rw (front, own, other) refl
 
 -- ---- in another memory
 
@@ -297,7 +299,7 @@ pub same_table : (k : Kind) → DependsOn (λ m. table_ranges m k) (λ m. table_
 unfolding table_at
 same_table k m n p h =
     rw (← h.0) (after (lent m p 36) _ _ (λ head front.
-    after (check_names k.signature (header_at head)) _ _ (λ _ names.
+    after (k.names (header_at head)) _ _ (λ _ names.
     after (holds (nat_le k.least (header_at head).length) (SdtInvalidLength k.signature)) _ _ (λ _ long.
     let whole = rw (front, names, long) at h.1 in
     rw (← whole.0) refl))))

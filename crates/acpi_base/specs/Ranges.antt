@@ -2,11 +2,11 @@
 -- steps: they go on after a step that succeeds, and end at one that fails.
 use Rattle.std.specs.Prelude.{◌≡◌, ℕ, ◌==◌, ◌&&◌, Bool, true, List, [], ◌∷◌, All, nat_le, Result, Ok, Err}
 use Rattle.acpi_base.specs.FromStd.{AllByRecursion, list_any}
-use Rattle.acpi_base.specs.Types.{SdtInvalidLength, Signature}
-use Rattle.acpi_base.specs.Header.{check_names, header_at}
+use Rattle.acpi_base.specs.Types.{SdtInvalidLength}
+use Rattle.acpi_base.specs.Header.{header_at}
 use Rattle.acpi_base.specs.Memory.{Memory, at}
 use Rattle.acpi_base.specs.Steps.{holds, lent}
-use Rattle.acpi_base.specs.Table.{Kind}
+use Rattle.acpi_base.specs.Table.{Kind, plain_kind}
 
 -- each an address and a number of bytes
 abbrev pub Ranges : Type 0
@@ -49,21 +49,21 @@ unless_found (Err e) ranges = ranges
 -- ---- of one table
 
 -- after its header: as many bytes as that says, if it has the names and the least length
-abbrev pub whole_ranges : Signature → ℕ → ℕ → List ℕ → Ranges
-whole_ranges s least p head = do
+abbrev pub whole_ranges : Kind → ℕ → List ℕ → Ranges
+whole_ranges k p head = do
   let header = header_at head
-  _ ← check_names s header
-  _ ← holds (nat_le least header.length) (SdtInvalidLength s)
+  _ ← k.names header
+  _ ← holds (nat_le k.least header.length) (SdtInvalidLength k.signature)
   (p, header.length) ∷ []
 
 -- those of `table_at`
 abbrev pub table_ranges : Memory → Kind → ℕ → Ranges
 table_ranges m k p = (p, 36) ∷ do
   head ← lent m p 36
-  whole_ranges k.signature k.least p head
+  whole_ranges k p head
 
 -- those of `own_table_at`
 abbrev pub own_table_ranges : Memory → ℕ → Ranges
 own_table_ranges m p = (p, 36) ∷ do
   head ← lent m p 36
-  whole_ranges (header_at head).signature 36 p head
+  whole_ranges (plain_kind (header_at head).signature) p head

@@ -1,19 +1,20 @@
 -- The table at an address (ACPI 6.4, sections 5.2.5 and 5.2.6).
 use Rattle.std.specs.Prelude.{ℕ, List, nat_le, Result, Ok}
-use Rattle.acpi_base.specs.Types.{AcpiError, SdtInvalidLength, Signature}
+use Rattle.acpi_base.specs.Types.{AcpiError, SdtHeader, SdtInvalidLength, Signature}
 use Rattle.acpi_base.specs.Header.{header_at, check_names, check_table}
 use Rattle.acpi_base.specs.Memory.{Memory}
 use Rattle.acpi_base.specs.Steps.{◌>>=◌, holds, lent}
 
--- what a type of tables asks for: its signature, its least length, and its check of a table's bytes. A table type `T`
--- has its own, `T.kind`: its two constants, and the meaning of its `validate`
+-- what a type of tables checks: the signature, the least length, the header (`names`), and the table's bytes (`check`).
+-- A table type `T` has its own, `T.kind`: its two constants, and the meaning of its `validate`
 pub record Kind : Type 0 where
   pub signature : Signature
   pub least : ℕ
+  pub names : SdtHeader → Result (Unit {0}) AcpiError
   pub check : List ℕ → Result (Unit {0}) AcpiError
 
 abbrev pub kind : Signature → ℕ → (List ℕ → Result (Unit {0}) AcpiError) → Kind
-kind s n c = record { signature = s; least = n; check = c }
+kind s n c = record { signature = s; least = n; names = check_names s; check = c }
 
 -- a table of this signature and least length that has nothing to pass but the checks of each table
 abbrev pub sdt_kind : Signature → ℕ → Kind
@@ -32,7 +33,7 @@ unfoldable pub table_at : Memory → Kind → ℕ → Result (List ℕ) AcpiErro
 table_at m k p = do
   head ← lent m p 36
   let header = header_at head
-  _ ← check_names k.signature header
+  _ ← k.names header
   _ ← holds (nat_le k.least header.length) (SdtInvalidLength k.signature)
   table ← lent m p header.length
   _ ← k.check table

@@ -57,7 +57,8 @@ pub trait AcpiTable: PhysicalRecord {
     ghost least: { 36 ≤ Self.MIN_LENGTH };
 
     // The constants are those of the kind.
-    ghost agrees: { (kind.signature ≡ SIGNATURE) × (kind.least ≡ Self.MIN_LENGTH) };
+    ghost agrees: { (kind.signature ≡ SIGNATURE) × (kind.least ≡ Self.MIN_LENGTH)
+        × (kind.names ≡ check_names SIGNATURE) };
 }
 
 /// A type of table of which a lookup checks the header and the sum and no more, as most are. A lookup finds such tables
@@ -97,7 +98,7 @@ impl<T: SdtTable> AcpiTable for T {
 
     ghost least = { T.least };
 
-    ghost agrees = { (refl, refl) };
+    ghost agrees = { (refl, refl, refl) };
 }
 
 /// Checks what is left to check of a table whose header has the names, and a length that is the number of

@@ -30,11 +30,12 @@ first_is_found m k [] = refl
 first_is_found m k (p ∷ ps) = first_later p (table_at m k p) (tables_found m k ps) (lookup m k ps)
     (first_is_found m k ps)
 
-same_kind : (k : Kind) → k.least ≡ 36 → k.check ≡ check_table k.signature → plain_kind k.signature ≡ k
-same_kind k least check = rw (← least, ← check) refl
+same_kind : (k : Kind) → k.least ≡ 36 → k.names ≡ check_names k.signature → k.check ≡ check_table k.signature
+    → plain_kind k.signature ≡ k
+same_kind k least names check = rw (← least, ← names, ← check) refl
 
 pub found_by_signature : FoundBySignature
-found_by_signature m k ps least check = ap (λ x. lookup m x ps) (same_kind k least check)
+found_by_signature m k ps least names check = ap (λ x. lookup m x ps) (same_kind k least names check)
 
 -- ---- how long a valid table is
 
@@ -80,23 +81,24 @@ head_fits p n l (Ok x) (Ok y) is = ((refl, omega (arith, is)), tt)
 head_fits p n l (Ok x) (Err e) is = tt
 head_fits p n l (Err e) long is = tt
 
-fits_from : (p n : ℕ) (s : List ℕ → Signature) (least : ℕ) (r : Result (List ℕ) AcpiError)
+fits_from : (p n : ℕ) (k : List ℕ → Kind) (r : Result (List ℕ) AcpiError)
     → ((head : List ℕ) → r ≡ Ok head → n ≡ (header_at head).length)
-    → AllByRecursion (Fits p n) (ranges.◌>>=◌ r (λ head. whole_ranges (s head) least p head))
-fits_from p n s least (Ok head) is =
-    let long = holds (nat_le least (header_at head).length) (SdtInvalidLength (s head)) in
-    head_fits p n (header_at head).length (check_names (s head) (header_at head)) long (is head refl)
-fits_from p n s least (Err e) is = tt
+    → AllByRecursion (Fits p n) (ranges.◌>>=◌ r (λ head. whole_ranges (k head) p head))
+fits_from p n k (Ok head) is =
+    let long = holds (nat_le (k head).least (header_at head).length) (SdtInvalidLength (k head).signature) in
+    head_fits p n (header_at head).length ((k head).names (header_at head)) long (is head refl)
+fits_from p n k (Err e) is = tt
 
 -- the ranges of any kind at an address where a table lies that is as long as its header says
 kind_fits : (m : Memory) (k : Kind) (p n : ℕ)
     → ((head : List ℕ) → lent m p 36 ≡ Ok head → n ≡ (header_at head).length) → 36 ≤ n
     → AllByRecursion (Fits p n) (table_ranges m k p)
-kind_fits m k p n long enough = ((refl, enough), fits_from p n (λ _. k.signature) k.least (lent m p 36) long)
+kind_fits m k p n long enough = ((refl, enough), fits_from p n (λ _. k) (lent m p 36) long)
 
 own_fits : (m : Memory) (p n : ℕ) → ((head : List ℕ) → lent m p 36 ≡ Ok head → n ≡ (header_at head).length) → 36 ≤ n
     → AllByRecursion (Fits p n) (own_table_ranges m p)
-own_fits m p n long enough = ((refl, enough), fits_from p n (λ head. (header_at head).signature) 36 (lent m p 36) long)
+own_fits m p n long enough =
+    ((refl, enough), fits_from p n (λ head. plain_kind (header_at head).signature) (lent m p 36) long)
 
 -- each begins at the table
 abbrev Begins : ℕ → ℕ × ℕ → Type 0
@@ -108,12 +110,12 @@ length_begins p l (Ok x) (Ok y) = (refl, tt)
 length_begins p l (Ok x) (Err e) = tt
 length_begins p l (Err e) long = tt
 
-whole_begins : (p : ℕ) (s : List ℕ → Signature) (least : ℕ) (r : Result (List ℕ) AcpiError)
-    → AllByRecursion (Begins p) (ranges.◌>>=◌ r (λ head. whole_ranges (s head) least p head))
-whole_begins p s least (Ok head) =
-    let long = holds (nat_le least (header_at head).length) (SdtInvalidLength (s head)) in
-    length_begins p (header_at head).length (check_names (s head) (header_at head)) long
-whole_begins p s least (Err e) = tt
+whole_begins : (p : ℕ) (k : List ℕ → Kind) (r : Result (List ℕ) AcpiError)
+    → AllByRecursion (Begins p) (ranges.◌>>=◌ r (λ head. whole_ranges (k head) p head))
+whole_begins p k (Ok head) =
+    let long = holds (nat_le (k head).least (header_at head).length) (SdtInvalidLength (k head).signature) in
+    length_begins p (header_at head).length ((k head).names (header_at head)) long
+whole_begins p k (Err e) = tt
 
 -- ---- lists
 
@@ -195,14 +197,14 @@ module _ (root : AddressRange) (m : Memory) (all : List ℕ) where
       at_member p (table_ranges m k p) (own_table_at m p) refl there
       (λ table is. kind_fits m k p (length table) (λ head front. (own_long m p head table front is).0)
       (own_enough m p table is))
-      (refl, whole_begins p (λ _. k.signature) k.least (lent m p 36))
+      (refl, whole_begins p (λ _. k) (lent m p 36))
 
   own_member : (p : ℕ) → IsListed all p → AreReserved root m all (own_table_ranges m p)
   own_member p there =
       at_member p (own_table_ranges m p) (own_table_at m p) refl there
       (λ table is. own_fits m p (length table) (λ head front. (own_long m p head table front is).0)
       (own_enough m p table is))
-      (refl, whole_begins p (λ head. (header_at head).signature) 36 (lent m p 36))
+      (refl, whole_begins p (λ head. plain_kind (header_at head).signature) (lent m p 36))
 
   -- ---- lists of members
 
@@ -250,7 +252,7 @@ module _ (root : AddressRange) (m : Memory) (all : List ℕ) where
   dsdt_at found a (Err e) there address is =
       all_map (Begins a) IsReserved
       (λ asked h. inr (inr (found, there, address ∙ ap done_at (sym h), rw (h, is) refl)))
-      (table_ranges m (plain_kind DSDT) a) (refl, whole_begins a (λ _. DSDT) 36 (lent m a 36))
+      (table_ranges m (plain_kind DSDT) a) (refl, whole_begins a (λ _. plain_kind DSDT) (lent m a 36))
 
   dsdt_from : (found : ℕ × List ℕ) (r : Result ℕ AcpiError) → lookup m fadt_kind all ≡ Ok found
       → dsdt_address_of (fadt_at found.1) ≡ r

@@ -3,7 +3,7 @@
 use Rattle.std.specs.Prelude.{◌≡◌, ◌⊎◌, ℕ, ◌+◌, ◌≤◌, List, [], ◌∷◌, IsErr, Ok, filter_map, length, map, slice_get}
 use Rattle.acpi_base.specs.FromStd.{AllByRecursion, result_ok}
 use Rattle.acpi.specs.Types.{DSDT, AddressRange}
-use Rattle.acpi_base.specs.Words.{check_table, Memory, Ranges, Kind, own_table_at, plain_kind, table_at}
+use Rattle.acpi_base.specs.Words.{check_names, check_table, Memory, Ranges, Kind, own_table_at, plain_kind, table_at}
 use Rattle.acpi_fixed.specs.Words.{dsdt_address_of, fadt_at}
 use Rattle.acpi.specs.Words.{dsdt_ranges, header_ranges, lookup_ranges, platform_ranges, root_ranges, ssdt_ranges, fadt_kind, valid_headers, lookup, kind_ranges, members_of, tables_found, places_of, range, root_at}
 use Rattle.acpi.specs.declared.root.RootKind.{RootKind}
@@ -25,7 +25,7 @@ FirstIsFound = (m : Memory) (k : Kind) (ps : List ℕ)
 -- a lookup by a signature alone is that of a type that asks for no more than a header's checks
 abbrev pub FoundBySignature : Type 0
 FoundBySignature = (m : Memory) (k : Kind) (ps : List ℕ)
-    → k.least ≡ 36 → k.check ≡ check_table k.signature
+    → k.least ≡ 36 → k.names ≡ check_names k.signature → k.check ≡ check_table k.signature
     → lookup m (plain_kind k.signature) ps ≡ lookup m k ps
 
 -- ---- the ranges in which the tables lie

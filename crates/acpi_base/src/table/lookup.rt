@@ -1,6 +1,6 @@
 //! The table at an address (section 5.2.6).
 ghost use Rattle.std.specs.Prelude.{◌≡◌, true, ◌+◌, ◌^◌, ◌<◌, ◌≤◌, length, IfErr, IfOk, Ok, Err};
-ghost use Rattle.acpi_base.specs.Words.{IsLentOf, IsWholeClaim, claimed_at, claimed_from, shown_by, unchecked, all_of, IsOfMemory, start_of, bytes_of, handler_of, lent_of, Allows, own_table_ranges, table_ranges, whole_ranges, Gives, lent, Kind, own_table_at, plain_kind, table_at};
+ghost use Rattle.acpi_base.specs.Words.{IsLentOf, IsWholeClaim, claimed_at, claimed_from, shown_by, unchecked, all_of, IsOfMemory, start_of, bytes_of, handler_of, lent_of, Allows, own_table_ranges, table_ranges, whole_ranges, Gives, lent, Kind, own_table_at, plain_kind, table_at, check_names};
 
 use super::AcpiTable;
 use super::header::SdtHeader;
@@ -27,7 +27,7 @@ fn claim_header<'h, H: Lender>(
     ensures shown { IfOk result (λ c. lent (H.memory handler.now) address 36 ≡ Ok (shown_by c)) }
     ensures all { IfOk result (λ c. IsLentOf (H.memory handler.now) c) }
     ensures refused { IfErr result (λ e. (k : Kind) → k.signature ≡ signature
-        → table_at (H.memory handler.now) k address ≡ Err e) }
+        → k.names ≡ check_names signature → table_at (H.memory handler.now) k address ≡ Err e) }
 {
     let head = Claim::request(handler, address, SdtHeader::MIN_LENGTH)?;
     if !Signature::leading(head.shown()).is(signature) {
@@ -50,7 +50,7 @@ fn claim_whole<'h, H: Lender>(
     requires lent { IsLentOf (H.memory (claimed_from head)) head }
     requires some { 0 < least }
     requires asked { Allows (H.may (claimed_from head))
-        (whole_ranges signature least (claimed_at head) (shown_by head)) }
+        (whole_ranges (unchecked signature least) (claimed_at head) (shown_by head)) }
     ensures whole { let m = H.memory (claimed_from head.entry) in
         IfOk result (λ c. IsWholeClaim m head.entry least c) }
     ensures shown { let m = H.memory (claimed_from head.entry) in Gives (λ c. shown_by c) result
@@ -109,7 +109,7 @@ fn claim_valid<'h, H: Lender, T: AcpiTable>(head: Claim<'h, H>) -> AcpiResult<Va
     requires header { length (shown_by head) ≡ 36 }
     requires lent { IsLentOf (H.memory (claimed_from head)) head }
     requires asked { Allows (H.may (claimed_from head))
-        (whole_ranges T.kind.signature T.kind.least (claimed_at head) (shown_by head)) }
+        (whole_ranges T.kind (claimed_at head) (shown_by head)) }
     ensures whole { let m = H.memory (claimed_from head.entry) in
         IfOk result (λ v. IsWholeClaim m head.entry T.MIN_LENGTH v.claim) }
     ensures shown { let m = H.memory (claimed_from head.entry) in Gives (λ v. shown_by v.claim) result
@@ -180,7 +180,7 @@ fn map_by_header_and_sum<'h, H: Lender>(
     requires header { length (shown_by head) ≡ 36 }
     requires lent { IsLentOf (H.memory (claimed_from head)) head }
     requires asked { Allows (H.may (claimed_from head))
-        (whole_ranges signature 36 (claimed_at head) (shown_by head)) }
+        (whole_ranges (plain_kind signature) (claimed_at head) (shown_by head)) }
     ensures place { IfOk result (λ m. start_of m ≡ claimed_at head.entry) }
     ensures handler { IfOk result (λ m. handler_of m ≡ claimed_from head.entry) }
     ensures lent { IfOk result (λ m. IsOfMemory (H.memory (claimed_from head.entry)) m) }
