@@ -59,8 +59,28 @@
 #endif
 #define ZACPI_STATUS static inline ZACPI_CHECKED zacpi_status /* of each call: an inline, below */
 
+#if UINTPTR_MAX == 0xffffffff
+#error "zacpi is for pointers of 64 bits"
+#endif
 #ifdef __cplusplus
 extern "C" {
+#if defined(__GNUC__)
+#pragma GCC diagnostic push
+#pragma GCC diagnostic ignored "-Wold-style-cast"
+#endif
+#endif
+
+/* What is compiled without vector registers refers in each call to a byte that only the archives
+ * for kernels and UEFI have: with another archive it doesn't link. */
+#if (defined(__x86_64__) && !defined(__SSE2__)) || \
+    (defined(__aarch64__) && !defined(__ARM_NEON)) || (defined(__riscv) && !defined(__riscv_flen))
+#if !defined(_WIN32)
+__attribute__((__visibility__("hidden"))) /* by no table of addresses */
+#endif
+extern const volatile uint8_t zacpi_needs_kernel_archive;
+#define ZACPI_FITS (void)zacpi_needs_kernel_archive
+#else
+#define ZACPI_FITS (void)0
 #endif
 
 /* Errors --------------------------------------------------------------------------------------- */
@@ -1277,6 +1297,9 @@ ZACPI_STATUS zacpi_list_ivrs_memory(const struct zacpi_source *source, uint16_t 
 #include "zacpi_calls.h"
 
 #ifdef __cplusplus
+#if defined(__GNUC__)
+#pragma GCC diagnostic pop
+#endif
 }
 #endif
 #endif

@@ -1,6 +1,9 @@
 /* SPDX-License-Identifier: MIT */
 /* The inlines of zacpi.h, which includes this file. scripts/calls made it of the prototypes there, and says what they are
  * for. */
+#ifndef ZACPI_H
+#error "include zacpi.h, which includes this file"
+#else
 #define ZACPI_NOTHING ((void *)(uintptr_t)16) /* where the items of a list of none are: aligned for any type */
 
 static inline struct zacpi_source zacpi_source_kept(const struct zacpi_source *given) {
@@ -98,6 +101,7 @@ ZACPI_STATUS zacpi_clip_ranges(const struct zacpi_range *ranges, size_t ranges_l
                                const struct zacpi_range *without, size_t without_length,
                                const struct zacpi_range *window, struct zacpi_range *out,
                                size_t capacity, size_t *count) {
+    ZACPI_FITS;
     return zacpi_1_clip_ranges(ranges_length ? ranges : (const struct zacpi_range *)ZACPI_NOTHING,
                                ranges_length,
                                without_length ? without : (const struct zacpi_range *)ZACPI_NOTHING,
@@ -111,6 +115,7 @@ zacpi_status zacpi_1_locate(const struct zacpi_region *regions, size_t regions_l
 ZACPI_NONNULL((5))
 ZACPI_STATUS zacpi_locate(const struct zacpi_region *regions, size_t regions_length,
                           uint64_t address, uint64_t length, struct zacpi_place *out) {
+    ZACPI_FITS;
     return zacpi_1_locate(regions_length ? regions : (const struct zacpi_region *)ZACPI_NOTHING,
                           regions_length, address, length, out);
 }
@@ -124,6 +129,7 @@ ZACPI_STATUS zacpi_start_of_rsdp(const uint8_t *rsdp, size_t rsdp_length,
     const zacpi_status status = zacpi_1_start_of_rsdp(
                                                       rsdp_length ? rsdp : (const uint8_t *)ZACPI_NOTHING,
                                                       rsdp_length, &kept_source);
+    ZACPI_FITS;
     source->address = kept_source.address;
     source->start = kept_source.start;
     source->accept = kept_source.accept;
@@ -137,6 +143,7 @@ ZACPI_STATUS zacpi_open(const struct zacpi_source *source, struct zacpi_root *ou
                         struct zacpi_signature *signature) {
     const struct zacpi_source kept_source = zacpi_source_kept(source);
     struct zacpi_signature unasked;
+    ZACPI_FITS;
     return zacpi_1_open(&kept_source, out, signature ? signature : &unasked);
 }
 
@@ -149,6 +156,7 @@ ZACPI_STATUS zacpi_list_missing_ranges(const struct zacpi_source *source, struct
                                        struct zacpi_signature *signature) {
     const struct zacpi_source kept_source = zacpi_source_kept(source);
     struct zacpi_signature unasked;
+    ZACPI_FITS;
     return zacpi_1_list_missing_ranges(&kept_source,
                                        capacity ? out : (struct zacpi_range *)ZACPI_NOTHING,
                                        capacity, count, signature ? signature : &unasked);
@@ -161,6 +169,7 @@ ZACPI_STATUS zacpi_list_tables(const struct zacpi_source *source, struct zacpi_t
                                size_t capacity, size_t *count, struct zacpi_signature *signature) {
     const struct zacpi_source kept_source = zacpi_source_kept(source);
     struct zacpi_signature unasked;
+    ZACPI_FITS;
     return zacpi_1_list_tables(&kept_source, capacity ? out : (struct zacpi_table *)ZACPI_NOTHING,
                                capacity, count, signature ? signature : &unasked);
 }
@@ -172,6 +181,7 @@ ZACPI_STATUS zacpi_find_table(const struct zacpi_source *source, struct zacpi_si
                               struct zacpi_table *out, struct zacpi_signature *signature) {
     const struct zacpi_source kept_source = zacpi_source_kept(source);
     struct zacpi_signature unasked;
+    ZACPI_FITS;
     return zacpi_1_find_table(&kept_source, wanted, out, signature ? signature : &unasked);
 }
 
@@ -184,6 +194,7 @@ ZACPI_STATUS zacpi_find_nth_table(const struct zacpi_source *source, struct zacp
                                   struct zacpi_signature *signature) {
     const struct zacpi_source kept_source = zacpi_source_kept(source);
     struct zacpi_signature unasked;
+    ZACPI_FITS;
     return zacpi_1_find_nth_table(&kept_source, wanted, index, out,
                                   signature ? signature : &unasked);
 }
@@ -199,6 +210,7 @@ ZACPI_STATUS zacpi_list_entries(const struct zacpi_source *source, uint64_t tabl
                                 struct zacpi_signature *signature) {
     const struct zacpi_source kept_source = zacpi_source_kept(source);
     struct zacpi_signature unasked;
+    ZACPI_FITS;
     return zacpi_1_list_entries(&kept_source, table, walk,
                                 capacity ? out : (struct zacpi_entry *)ZACPI_NOTHING, capacity,
                                 count, malformed, signature ? signature : &unasked);
@@ -213,6 +225,7 @@ ZACPI_STATUS zacpi_list_faults(const struct zacpi_source *source, struct zacpi_s
                                struct zacpi_signature *signature) {
     const struct zacpi_source kept_source = zacpi_source_kept(source);
     struct zacpi_signature unasked;
+    ZACPI_FITS;
     return zacpi_1_list_faults(&kept_source, wanted,
                                capacity ? out : (struct zacpi_fault *)ZACPI_NOTHING, capacity,
                                count, signature ? signature : &unasked);
@@ -225,6 +238,7 @@ ZACPI_STATUS zacpi_dsdt(const struct zacpi_source *source, struct zacpi_aml_tabl
                         struct zacpi_signature *signature) {
     const struct zacpi_source kept_source = zacpi_source_kept(source);
     struct zacpi_signature unasked;
+    ZACPI_FITS;
     return zacpi_1_dsdt(&kept_source, out, signature ? signature : &unasked);
 }
 
@@ -235,6 +249,7 @@ ZACPI_STATUS zacpi_list_ssdts(const struct zacpi_source *source, struct zacpi_am
                               size_t capacity, size_t *count, struct zacpi_signature *signature) {
     const struct zacpi_source kept_source = zacpi_source_kept(source);
     struct zacpi_signature unasked;
+    ZACPI_FITS;
     return zacpi_1_list_ssdts(&kept_source,
                               capacity ? out : (struct zacpi_aml_table *)ZACPI_NOTHING, capacity,
                               count, signature ? signature : &unasked);
@@ -247,6 +262,7 @@ ZACPI_STATUS zacpi_list_ranges(const struct zacpi_source *source, struct zacpi_r
                                size_t capacity, size_t *count, struct zacpi_signature *signature) {
     const struct zacpi_source kept_source = zacpi_source_kept(source);
     struct zacpi_signature unasked;
+    ZACPI_FITS;
     return zacpi_1_list_ranges(&kept_source, capacity ? out : (struct zacpi_range *)ZACPI_NOTHING,
                                capacity, count, signature ? signature : &unasked);
 }
@@ -260,6 +276,7 @@ ZACPI_STATUS zacpi_get_fixed_hardware(const struct zacpi_source *source,
                                       struct zacpi_signature *signature) {
     const struct zacpi_source kept_source = zacpi_source_kept(source);
     struct zacpi_signature unasked;
+    ZACPI_FITS;
     return zacpi_1_get_fixed_hardware(&kept_source, out, signature ? signature : &unasked);
 }
 
@@ -270,6 +287,7 @@ ZACPI_STATUS zacpi_get_facs(const struct zacpi_source *source, struct zacpi_facs
                             struct zacpi_signature *signature) {
     const struct zacpi_source kept_source = zacpi_source_kept(source);
     struct zacpi_signature unasked;
+    ZACPI_FITS;
     return zacpi_1_get_facs(&kept_source, out, signature ? signature : &unasked);
 }
 
@@ -280,6 +298,7 @@ ZACPI_STATUS zacpi_get_console(const struct zacpi_source *source, struct zacpi_c
                                struct zacpi_signature *signature) {
     const struct zacpi_source kept_source = zacpi_source_kept(source);
     struct zacpi_signature unasked;
+    ZACPI_FITS;
     return zacpi_1_get_console(&kept_source, out, signature ? signature : &unasked);
 }
 
@@ -290,6 +309,7 @@ ZACPI_STATUS zacpi_get_pm_timer(const struct zacpi_source *source, struct zacpi_
                                 struct zacpi_signature *signature) {
     const struct zacpi_source kept_source = zacpi_source_kept(source);
     struct zacpi_signature unasked;
+    ZACPI_FITS;
     return zacpi_1_get_pm_timer(&kept_source, out, signature ? signature : &unasked);
 }
 
@@ -300,6 +320,7 @@ ZACPI_STATUS zacpi_hpet(const struct zacpi_source *source, struct zacpi_hpet_inf
                         struct zacpi_signature *signature) {
     const struct zacpi_source kept_source = zacpi_source_kept(source);
     struct zacpi_signature unasked;
+    ZACPI_FITS;
     return zacpi_1_hpet(&kept_source, out, signature ? signature : &unasked);
 }
 
@@ -310,6 +331,7 @@ ZACPI_STATUS zacpi_list_hpets(const struct zacpi_source *source, struct zacpi_hp
                               size_t capacity, size_t *count, struct zacpi_signature *signature) {
     const struct zacpi_source kept_source = zacpi_source_kept(source);
     struct zacpi_signature unasked;
+    ZACPI_FITS;
     return zacpi_1_list_hpets(&kept_source,
                               capacity ? out : (struct zacpi_hpet_info *)ZACPI_NOTHING, capacity,
                               count, signature ? signature : &unasked);
@@ -324,6 +346,7 @@ ZACPI_STATUS zacpi_get_boot_graphic(const struct zacpi_source *source,
                                     struct zacpi_signature *signature) {
     const struct zacpi_source kept_source = zacpi_source_kept(source);
     struct zacpi_signature unasked;
+    ZACPI_FITS;
     return zacpi_1_get_boot_graphic(&kept_source, out, signature ? signature : &unasked);
 }
 
@@ -336,6 +359,7 @@ ZACPI_STATUS zacpi_get_sleep_types(const struct zacpi_source *source, uint32_t s
                                    struct zacpi_signature *signature) {
     const struct zacpi_source kept_source = zacpi_source_kept(source);
     struct zacpi_signature unasked;
+    ZACPI_FITS;
     return zacpi_1_get_sleep_types(&kept_source, state, out, signature ? signature : &unasked);
 }
 
@@ -346,6 +370,7 @@ ZACPI_STATUS zacpi_get_sleep_plan(const struct zacpi_source *source, uint32_t st
                                   struct zacpi_plan *out, struct zacpi_signature *signature) {
     const struct zacpi_source kept_source = zacpi_source_kept(source);
     struct zacpi_signature unasked;
+    ZACPI_FITS;
     return zacpi_1_get_sleep_plan(&kept_source, state, out, signature ? signature : &unasked);
 }
 
@@ -356,6 +381,7 @@ ZACPI_STATUS zacpi_get_power_off_plan(const struct zacpi_source *source, struct 
                                       struct zacpi_signature *signature) {
     const struct zacpi_source kept_source = zacpi_source_kept(source);
     struct zacpi_signature unasked;
+    ZACPI_FITS;
     return zacpi_1_get_power_off_plan(&kept_source, out, signature ? signature : &unasked);
 }
 
@@ -366,6 +392,7 @@ ZACPI_STATUS zacpi_get_reset_plan(const struct zacpi_source *source, struct zacp
                                   struct zacpi_signature *signature) {
     const struct zacpi_source kept_source = zacpi_source_kept(source);
     struct zacpi_signature unasked;
+    ZACPI_FITS;
     return zacpi_1_get_reset_plan(&kept_source, out, signature ? signature : &unasked);
 }
 
@@ -376,6 +403,7 @@ ZACPI_STATUS zacpi_get_enable_plan(const struct zacpi_source *source, struct zac
                                    struct zacpi_signature *signature) {
     const struct zacpi_source kept_source = zacpi_source_kept(source);
     struct zacpi_signature unasked;
+    ZACPI_FITS;
     return zacpi_1_get_enable_plan(&kept_source, out, signature ? signature : &unasked);
 }
 
@@ -388,6 +416,7 @@ ZACPI_STATUS zacpi_list_pci_regions(const struct zacpi_source *source, struct za
                                     struct zacpi_signature *signature) {
     const struct zacpi_source kept_source = zacpi_source_kept(source);
     struct zacpi_signature unasked;
+    ZACPI_FITS;
     return zacpi_1_list_pci_regions(&kept_source,
                                     capacity ? out : (struct zacpi_pci_region *)ZACPI_NOTHING,
                                     capacity, count, signature ? signature : &unasked);
@@ -402,6 +431,7 @@ ZACPI_STATUS zacpi_list_ecam_ranges(const struct zacpi_source *source, struct za
                                     struct zacpi_signature *signature) {
     const struct zacpi_source kept_source = zacpi_source_kept(source);
     struct zacpi_signature unasked;
+    ZACPI_FITS;
     return zacpi_1_list_ecam_ranges(&kept_source,
                                     capacity ? out : (struct zacpi_ecam_range *)ZACPI_NOTHING,
                                     capacity, count, signature ? signature : &unasked);
@@ -416,6 +446,7 @@ ZACPI_STATUS zacpi_pci_ecam_address(const struct zacpi_source *source, uint16_t 
                                     struct zacpi_signature *signature) {
     const struct zacpi_source kept_source = zacpi_source_kept(source);
     struct zacpi_signature unasked;
+    ZACPI_FITS;
     return zacpi_1_pci_ecam_address(&kept_source, segment_group, bus, device, function, out,
                                     signature ? signature : &unasked);
 }
@@ -429,6 +460,7 @@ ZACPI_STATUS zacpi_get_interrupt_model(const struct zacpi_source *source,
                                        struct zacpi_signature *signature) {
     const struct zacpi_source kept_source = zacpi_source_kept(source);
     struct zacpi_signature unasked;
+    ZACPI_FITS;
     return zacpi_1_get_interrupt_model(&kept_source, out, signature ? signature : &unasked);
 }
 
@@ -441,6 +473,7 @@ ZACPI_STATUS zacpi_list_io_apics(const struct zacpi_source *source, struct zacpi
                                  struct zacpi_signature *signature) {
     const struct zacpi_source kept_source = zacpi_source_kept(source);
     struct zacpi_signature unasked;
+    ZACPI_FITS;
     return zacpi_1_list_io_apics(&kept_source,
                                  capacity ? out : (struct zacpi_io_apic *)ZACPI_NOTHING, capacity,
                                  count, signature ? signature : &unasked);
@@ -455,6 +488,7 @@ ZACPI_STATUS zacpi_list_overrides(const struct zacpi_source *source,
                                   size_t *count, struct zacpi_signature *signature) {
     const struct zacpi_source kept_source = zacpi_source_kept(source);
     struct zacpi_signature unasked;
+    ZACPI_FITS;
     return zacpi_1_list_overrides(&kept_source,
                                   capacity ? out : (struct zacpi_interrupt_source_override *)ZACPI_NOTHING,
                                   capacity, count, signature ? signature : &unasked);
@@ -469,6 +503,7 @@ ZACPI_STATUS zacpi_list_nmi_sources(const struct zacpi_source *source, struct za
                                     struct zacpi_signature *signature) {
     const struct zacpi_source kept_source = zacpi_source_kept(source);
     struct zacpi_signature unasked;
+    ZACPI_FITS;
     return zacpi_1_list_nmi_sources(&kept_source,
                                     capacity ? out : (struct zacpi_nmi_source *)ZACPI_NOTHING,
                                     capacity, count, signature ? signature : &unasked);
@@ -483,6 +518,7 @@ ZACPI_STATUS zacpi_list_nmi_lines(const struct zacpi_source *source, struct zacp
                                   struct zacpi_signature *signature) {
     const struct zacpi_source kept_source = zacpi_source_kept(source);
     struct zacpi_signature unasked;
+    ZACPI_FITS;
     return zacpi_1_list_nmi_lines(&kept_source,
                                   capacity ? out : (struct zacpi_nmi_line *)ZACPI_NOTHING, capacity,
                                   count, signature ? signature : &unasked);
@@ -497,6 +533,7 @@ ZACPI_STATUS zacpi_list_processors(const struct zacpi_source *source, struct zac
                                    struct zacpi_signature *signature) {
     const struct zacpi_source kept_source = zacpi_source_kept(source);
     struct zacpi_signature unasked;
+    ZACPI_FITS;
     return zacpi_1_list_processors(&kept_source,
                                    capacity ? out : (struct zacpi_processor *)ZACPI_NOTHING,
                                    capacity, count, signature ? signature : &unasked);
@@ -509,6 +546,7 @@ ZACPI_STATUS zacpi_mailbox_address(const struct zacpi_source *source, uint64_t *
                                    struct zacpi_signature *signature) {
     const struct zacpi_source kept_source = zacpi_source_kept(source);
     struct zacpi_signature unasked;
+    ZACPI_FITS;
     return zacpi_1_mailbox_address(&kept_source, out, signature ? signature : &unasked);
 }
 
@@ -521,6 +559,7 @@ ZACPI_STATUS zacpi_list_madt_faults(const struct zacpi_source *source,
                                     struct zacpi_signature *signature) {
     const struct zacpi_source kept_source = zacpi_source_kept(source);
     struct zacpi_signature unasked;
+    ZACPI_FITS;
     return zacpi_1_list_madt_faults(&kept_source,
                                     capacity ? out : (struct zacpi_entry_fault *)ZACPI_NOTHING,
                                     capacity, count, signature ? signature : &unasked);
@@ -543,6 +582,7 @@ ZACPI_STATUS zacpi_platform(const struct zacpi_source *source, struct zacpi_inte
                             size_t nmi_lines_capacity, struct zacpi_signature *signature) {
     const struct zacpi_source kept_source = zacpi_source_kept(source);
     struct zacpi_signature unasked;
+    ZACPI_FITS;
     return zacpi_1_platform(&kept_source, out,
                             processors_capacity ? processors : (struct zacpi_processor *)ZACPI_NOTHING,
                             processors_capacity,
@@ -563,6 +603,7 @@ ZACPI_STATUS zacpi_isa_interrupt(const struct zacpi_source *source, uint8_t irq,
                                  struct zacpi_interrupt *out, struct zacpi_signature *signature) {
     const struct zacpi_source kept_source = zacpi_source_kept(source);
     struct zacpi_signature unasked;
+    ZACPI_FITS;
     return zacpi_1_isa_interrupt(&kept_source, irq, out, signature ? signature : &unasked);
 }
 
@@ -573,6 +614,7 @@ ZACPI_STATUS zacpi_sci_interrupt(const struct zacpi_source *source, struct zacpi
                                  struct zacpi_signature *signature) {
     const struct zacpi_source kept_source = zacpi_source_kept(source);
     struct zacpi_signature unasked;
+    ZACPI_FITS;
     return zacpi_1_sci_interrupt(&kept_source, out, signature ? signature : &unasked);
 }
 
@@ -586,6 +628,7 @@ ZACPI_STATUS zacpi_get_io_apic_pin(const struct zacpi_source *source,
                                    struct zacpi_signature *signature) {
     const struct zacpi_source kept_source = zacpi_source_kept(source);
     struct zacpi_signature unasked;
+    ZACPI_FITS;
     return zacpi_1_get_io_apic_pin(&kept_source, global_system_interrupt, out,
                                    signature ? signature : &unasked);
 }
@@ -599,6 +642,7 @@ ZACPI_STATUS zacpi_list_isa_interrupts(const struct zacpi_source *source,
                                        struct zacpi_signature *signature) {
     const struct zacpi_source kept_source = zacpi_source_kept(source);
     struct zacpi_signature unasked;
+    ZACPI_FITS;
     return zacpi_1_list_isa_interrupts(&kept_source, out, signature ? signature : &unasked);
 }
 
@@ -611,6 +655,7 @@ ZACPI_STATUS zacpi_get_gic_distributor(const struct zacpi_source *source,
                                        struct zacpi_signature *signature) {
     const struct zacpi_source kept_source = zacpi_source_kept(source);
     struct zacpi_signature unasked;
+    ZACPI_FITS;
     return zacpi_1_get_gic_distributor(&kept_source, out, signature ? signature : &unasked);
 }
 
@@ -623,6 +668,7 @@ ZACPI_STATUS zacpi_list_gic_cpu_interfaces(const struct zacpi_source *source,
                                            size_t *count, struct zacpi_signature *signature) {
     const struct zacpi_source kept_source = zacpi_source_kept(source);
     struct zacpi_signature unasked;
+    ZACPI_FITS;
     return zacpi_1_list_gic_cpu_interfaces(&kept_source,
                                            capacity ? out : (struct zacpi_gic_cpu_interface *)ZACPI_NOTHING,
                                            capacity, count, signature ? signature : &unasked);
@@ -637,6 +683,7 @@ ZACPI_STATUS zacpi_list_gic_redistributors(const struct zacpi_source *source,
                                            struct zacpi_signature *signature) {
     const struct zacpi_source kept_source = zacpi_source_kept(source);
     struct zacpi_signature unasked;
+    ZACPI_FITS;
     return zacpi_1_list_gic_redistributors(&kept_source,
                                            capacity ? out : (struct zacpi_range *)ZACPI_NOTHING,
                                            capacity, count, signature ? signature : &unasked);
@@ -653,6 +700,7 @@ ZACPI_STATUS zacpi_list_gic_translation_services(const struct zacpi_source *sour
                                                  struct zacpi_signature *signature) {
     const struct zacpi_source kept_source = zacpi_source_kept(source);
     struct zacpi_signature unasked;
+    ZACPI_FITS;
     return zacpi_1_list_gic_translation_services(&kept_source,
                                                  capacity ? out : (struct zacpi_gic_translation_service *)ZACPI_NOTHING,
                                                  capacity, count, signature ? signature : &unasked);
@@ -667,6 +715,7 @@ ZACPI_STATUS zacpi_list_gic_msi_frames(const struct zacpi_source *source,
                                        size_t *count, struct zacpi_signature *signature) {
     const struct zacpi_source kept_source = zacpi_source_kept(source);
     struct zacpi_signature unasked;
+    ZACPI_FITS;
     return zacpi_1_list_gic_msi_frames(&kept_source,
                                        capacity ? out : (struct zacpi_gic_msi_frame *)ZACPI_NOTHING,
                                        capacity, count, signature ? signature : &unasked);
@@ -679,6 +728,7 @@ ZACPI_STATUS zacpi_get_arm_timers(const struct zacpi_source *source, struct zacp
                                   struct zacpi_signature *signature) {
     const struct zacpi_source kept_source = zacpi_source_kept(source);
     struct zacpi_signature unasked;
+    ZACPI_FITS;
     return zacpi_1_get_arm_timers(&kept_source, out, signature ? signature : &unasked);
 }
 
@@ -691,6 +741,7 @@ ZACPI_STATUS zacpi_list_gt_frames(const struct zacpi_source *source, struct zacp
                                   struct zacpi_signature *signature) {
     const struct zacpi_source kept_source = zacpi_source_kept(source);
     struct zacpi_signature unasked;
+    ZACPI_FITS;
     return zacpi_1_list_gt_frames(&kept_source,
                                   capacity ? out : (struct zacpi_gt_frame *)ZACPI_NOTHING, capacity,
                                   count, signature ? signature : &unasked);
@@ -705,6 +756,7 @@ ZACPI_STATUS zacpi_list_watchdogs(const struct zacpi_source *source, struct zacp
                                   struct zacpi_signature *signature) {
     const struct zacpi_source kept_source = zacpi_source_kept(source);
     struct zacpi_signature unasked;
+    ZACPI_FITS;
     return zacpi_1_list_watchdogs(&kept_source,
                                   capacity ? out : (struct zacpi_watchdog *)ZACPI_NOTHING, capacity,
                                   count, signature ? signature : &unasked);
@@ -719,6 +771,7 @@ ZACPI_STATUS zacpi_list_gtdt_faults(const struct zacpi_source *source,
                                     struct zacpi_signature *signature) {
     const struct zacpi_source kept_source = zacpi_source_kept(source);
     struct zacpi_signature unasked;
+    ZACPI_FITS;
     return zacpi_1_list_gtdt_faults(&kept_source,
                                     capacity ? out : (struct zacpi_entry_fault *)ZACPI_NOTHING,
                                     capacity, count, signature ? signature : &unasked);
@@ -731,6 +784,7 @@ ZACPI_STATUS zacpi_list_rintcs(const struct zacpi_source *source, struct zacpi_r
                                size_t capacity, size_t *count, struct zacpi_signature *signature) {
     const struct zacpi_source kept_source = zacpi_source_kept(source);
     struct zacpi_signature unasked;
+    ZACPI_FITS;
     return zacpi_1_list_rintcs(&kept_source, capacity ? out : (struct zacpi_rintc *)ZACPI_NOTHING,
                                capacity, count, signature ? signature : &unasked);
 }
@@ -742,6 +796,7 @@ ZACPI_STATUS zacpi_list_imsics(const struct zacpi_source *source, struct zacpi_i
                                size_t capacity, size_t *count, struct zacpi_signature *signature) {
     const struct zacpi_source kept_source = zacpi_source_kept(source);
     struct zacpi_signature unasked;
+    ZACPI_FITS;
     return zacpi_1_list_imsics(&kept_source, capacity ? out : (struct zacpi_imsic *)ZACPI_NOTHING,
                                capacity, count, signature ? signature : &unasked);
 }
@@ -753,6 +808,7 @@ ZACPI_STATUS zacpi_list_aplics(const struct zacpi_source *source, struct zacpi_a
                                size_t capacity, size_t *count, struct zacpi_signature *signature) {
     const struct zacpi_source kept_source = zacpi_source_kept(source);
     struct zacpi_signature unasked;
+    ZACPI_FITS;
     return zacpi_1_list_aplics(&kept_source, capacity ? out : (struct zacpi_aplic *)ZACPI_NOTHING,
                                capacity, count, signature ? signature : &unasked);
 }
@@ -764,6 +820,7 @@ ZACPI_STATUS zacpi_list_plics(const struct zacpi_source *source, struct zacpi_pl
                               size_t capacity, size_t *count, struct zacpi_signature *signature) {
     const struct zacpi_source kept_source = zacpi_source_kept(source);
     struct zacpi_signature unasked;
+    ZACPI_FITS;
     return zacpi_1_list_plics(&kept_source, capacity ? out : (struct zacpi_plic *)ZACPI_NOTHING,
                               capacity, count, signature ? signature : &unasked);
 }
@@ -777,6 +834,7 @@ ZACPI_STATUS zacpi_list_memory_affinities(const struct zacpi_source *source,
                                           size_t *count, struct zacpi_signature *signature) {
     const struct zacpi_source kept_source = zacpi_source_kept(source);
     struct zacpi_signature unasked;
+    ZACPI_FITS;
     return zacpi_1_list_memory_affinities(&kept_source,
                                           capacity ? out : (struct zacpi_memory_affinity *)ZACPI_NOTHING,
                                           capacity, count, signature ? signature : &unasked);
@@ -791,6 +849,7 @@ ZACPI_STATUS zacpi_list_srat_faults(const struct zacpi_source *source,
                                     struct zacpi_signature *signature) {
     const struct zacpi_source kept_source = zacpi_source_kept(source);
     struct zacpi_signature unasked;
+    ZACPI_FITS;
     return zacpi_1_list_srat_faults(&kept_source,
                                     capacity ? out : (struct zacpi_entry_fault *)ZACPI_NOTHING,
                                     capacity, count, signature ? signature : &unasked);
@@ -803,6 +862,7 @@ ZACPI_STATUS zacpi_domain_of_address(const struct zacpi_source *source, uint64_t
                                      uint32_t *out, struct zacpi_signature *signature) {
     const struct zacpi_source kept_source = zacpi_source_kept(source);
     struct zacpi_signature unasked;
+    ZACPI_FITS;
     return zacpi_1_domain_of_address(&kept_source, address, out, signature ? signature : &unasked);
 }
 
@@ -813,6 +873,7 @@ ZACPI_STATUS zacpi_domain_of_apic(const struct zacpi_source *source, uint32_t lo
                                   uint32_t *out, struct zacpi_signature *signature) {
     const struct zacpi_source kept_source = zacpi_source_kept(source);
     struct zacpi_signature unasked;
+    ZACPI_FITS;
     return zacpi_1_domain_of_apic(&kept_source, local_apic_id, out,
                                   signature ? signature : &unasked);
 }
@@ -824,6 +885,7 @@ ZACPI_STATUS zacpi_domain_of_processor(const struct zacpi_source *source, uint32
                                        uint32_t *out, struct zacpi_signature *signature) {
     const struct zacpi_source kept_source = zacpi_source_kept(source);
     struct zacpi_signature unasked;
+    ZACPI_FITS;
     return zacpi_1_domain_of_processor(&kept_source, uid, out, signature ? signature : &unasked);
 }
 
@@ -834,6 +896,7 @@ ZACPI_STATUS zacpi_get_localities(const struct zacpi_source *source, struct zacp
                                   struct zacpi_signature *signature) {
     const struct zacpi_source kept_source = zacpi_source_kept(source);
     struct zacpi_signature unasked;
+    ZACPI_FITS;
     return zacpi_1_get_localities(&kept_source, out, signature ? signature : &unasked);
 }
 
@@ -844,6 +907,7 @@ ZACPI_STATUS zacpi_distance(const struct zacpi_source *source, uint64_t from, ui
                             uint8_t *out, struct zacpi_signature *signature) {
     const struct zacpi_source kept_source = zacpi_source_kept(source);
     struct zacpi_signature unasked;
+    ZACPI_FITS;
     return zacpi_1_distance(&kept_source, from, to, out, signature ? signature : &unasked);
 }
 
@@ -854,6 +918,7 @@ ZACPI_STATUS zacpi_get_dmar_flags(const struct zacpi_source *source, struct zacp
                                   struct zacpi_signature *signature) {
     const struct zacpi_source kept_source = zacpi_source_kept(source);
     struct zacpi_signature unasked;
+    ZACPI_FITS;
     return zacpi_1_get_dmar_flags(&kept_source, out, signature ? signature : &unasked);
 }
 
@@ -866,6 +931,7 @@ ZACPI_STATUS zacpi_list_dmar_units(const struct zacpi_source *source, struct zac
                                    struct zacpi_signature *signature) {
     const struct zacpi_source kept_source = zacpi_source_kept(source);
     struct zacpi_signature unasked;
+    ZACPI_FITS;
     return zacpi_1_list_dmar_units(&kept_source,
                                    capacity ? out : (struct zacpi_dmar_unit *)ZACPI_NOTHING,
                                    capacity, count, signature ? signature : &unasked);
@@ -880,6 +946,7 @@ ZACPI_STATUS zacpi_list_dmar_scopes(const struct zacpi_source *source, size_t in
                                     struct zacpi_signature *signature) {
     const struct zacpi_source kept_source = zacpi_source_kept(source);
     struct zacpi_signature unasked;
+    ZACPI_FITS;
     return zacpi_1_list_dmar_scopes(&kept_source, index,
                                     capacity ? out : (struct zacpi_dmar_scope *)ZACPI_NOTHING,
                                     capacity, count, signature ? signature : &unasked);
@@ -894,6 +961,7 @@ ZACPI_STATUS zacpi_list_dmar_faults(const struct zacpi_source *source,
                                     struct zacpi_signature *signature) {
     const struct zacpi_source kept_source = zacpi_source_kept(source);
     struct zacpi_signature unasked;
+    ZACPI_FITS;
     return zacpi_1_list_dmar_faults(&kept_source,
                                     capacity ? out : (struct zacpi_entry_fault *)ZACPI_NOTHING,
                                     capacity, count, signature ? signature : &unasked);
@@ -908,6 +976,7 @@ ZACPI_STATUS zacpi_get_dmar_unit(const struct zacpi_source *source, uint16_t seg
                                  struct zacpi_dmar_unit *out, struct zacpi_signature *signature) {
     const struct zacpi_source kept_source = zacpi_source_kept(source);
     struct zacpi_signature unasked;
+    ZACPI_FITS;
     return zacpi_1_get_dmar_unit(&kept_source, segment, bus,
                                  hops_length ? hops : (const struct zacpi_hop *)ZACPI_NOTHING,
                                  hops_length, out, signature ? signature : &unasked);
@@ -920,6 +989,7 @@ ZACPI_STATUS zacpi_dmar_io_apic(const struct zacpi_source *source, uint8_t id,
                                 struct zacpi_dmar_source *out, struct zacpi_signature *signature) {
     const struct zacpi_source kept_source = zacpi_source_kept(source);
     struct zacpi_signature unasked;
+    ZACPI_FITS;
     return zacpi_1_dmar_io_apic(&kept_source, id, out, signature ? signature : &unasked);
 }
 
@@ -930,6 +1000,7 @@ ZACPI_STATUS zacpi_dmar_hpet(const struct zacpi_source *source, uint8_t number,
                              struct zacpi_dmar_source *out, struct zacpi_signature *signature) {
     const struct zacpi_source kept_source = zacpi_source_kept(source);
     struct zacpi_signature unasked;
+    ZACPI_FITS;
     return zacpi_1_dmar_hpet(&kept_source, number, out, signature ? signature : &unasked);
 }
 
@@ -945,6 +1016,7 @@ ZACPI_STATUS zacpi_list_dmar_reserved(const struct zacpi_source *source, uint16_
                                       size_t *count, struct zacpi_signature *signature) {
     const struct zacpi_source kept_source = zacpi_source_kept(source);
     struct zacpi_signature unasked;
+    ZACPI_FITS;
     return zacpi_1_list_dmar_reserved(&kept_source, segment, bus,
                                       hops_length ? hops : (const struct zacpi_hop *)ZACPI_NOTHING,
                                       hops_length,
@@ -961,6 +1033,7 @@ ZACPI_STATUS zacpi_list_ivrs_units(const struct zacpi_source *source, struct zac
                                    struct zacpi_signature *signature) {
     const struct zacpi_source kept_source = zacpi_source_kept(source);
     struct zacpi_signature unasked;
+    ZACPI_FITS;
     return zacpi_1_list_ivrs_units(&kept_source,
                                    capacity ? out : (struct zacpi_ivrs_unit *)ZACPI_NOTHING,
                                    capacity, count, signature ? signature : &unasked);
@@ -975,6 +1048,7 @@ ZACPI_STATUS zacpi_list_ivrs_entries(const struct zacpi_source *source, size_t i
                                      struct zacpi_signature *signature) {
     const struct zacpi_source kept_source = zacpi_source_kept(source);
     struct zacpi_signature unasked;
+    ZACPI_FITS;
     return zacpi_1_list_ivrs_entries(&kept_source, index,
                                      capacity ? out : (struct zacpi_ivrs_entry *)ZACPI_NOTHING,
                                      capacity, count, signature ? signature : &unasked);
@@ -989,6 +1063,7 @@ ZACPI_STATUS zacpi_list_ivrs_faults(const struct zacpi_source *source,
                                     struct zacpi_signature *signature) {
     const struct zacpi_source kept_source = zacpi_source_kept(source);
     struct zacpi_signature unasked;
+    ZACPI_FITS;
     return zacpi_1_list_ivrs_faults(&kept_source,
                                     capacity ? out : (struct zacpi_entry_fault *)ZACPI_NOTHING,
                                     capacity, count, signature ? signature : &unasked);
@@ -1003,6 +1078,7 @@ ZACPI_STATUS zacpi_get_ivrs_unit(const struct zacpi_source *source, uint16_t seg
                                  struct zacpi_signature *signature) {
     const struct zacpi_source kept_source = zacpi_source_kept(source);
     struct zacpi_signature unasked;
+    ZACPI_FITS;
     return zacpi_1_get_ivrs_unit(&kept_source, segment, device_id, out,
                                  signature ? signature : &unasked);
 }
@@ -1016,6 +1092,7 @@ ZACPI_STATUS zacpi_list_ivrs_memory(const struct zacpi_source *source, uint16_t 
                                     struct zacpi_signature *signature) {
     const struct zacpi_source kept_source = zacpi_source_kept(source);
     struct zacpi_signature unasked;
+    ZACPI_FITS;
     return zacpi_1_list_ivrs_memory(&kept_source, device_id,
                                     capacity ? out : (struct zacpi_ivrs_memory *)ZACPI_NOTHING,
                                     capacity, count, signature ? signature : &unasked);
@@ -1026,6 +1103,7 @@ zacpi_status zacpi_1_write_rsdp(const struct zacpi_table_ids *ids, uint64_t xsdt
 ZACPI_NONNULL((1, 5))
 ZACPI_STATUS zacpi_write_rsdp(const struct zacpi_table_ids *ids, uint64_t xsdt, uint8_t *out,
                               size_t capacity, size_t *length) {
+    ZACPI_FITS;
     return zacpi_1_write_rsdp(ids, xsdt, capacity ? out : (uint8_t *)ZACPI_NOTHING, capacity,
                               length);
 }
@@ -1037,6 +1115,7 @@ ZACPI_NONNULL((1, 6))
 ZACPI_STATUS zacpi_write_rsdt(const struct zacpi_table_ids *ids, const uint32_t *addresses,
                               size_t addresses_length, uint8_t *out, size_t capacity,
                               size_t *length) {
+    ZACPI_FITS;
     return zacpi_1_write_rsdt(ids, addresses_length ? addresses : (const uint32_t *)ZACPI_NOTHING,
                               addresses_length, capacity ? out : (uint8_t *)ZACPI_NOTHING, capacity,
                               length);
@@ -1049,6 +1128,7 @@ ZACPI_NONNULL((1, 6))
 ZACPI_STATUS zacpi_write_xsdt(const struct zacpi_table_ids *ids, const uint64_t *addresses,
                               size_t addresses_length, uint8_t *out, size_t capacity,
                               size_t *length) {
+    ZACPI_FITS;
     return zacpi_1_write_xsdt(ids, addresses_length ? addresses : (const uint64_t *)ZACPI_NOTHING,
                               addresses_length, capacity ? out : (uint8_t *)ZACPI_NOTHING, capacity,
                               length);
@@ -1061,6 +1141,7 @@ ZACPI_NONNULL((1, 7))
 ZACPI_STATUS zacpi_write_dsdt(const struct zacpi_table_ids *ids, uint8_t revision,
                               const uint8_t *aml, size_t aml_length, uint8_t *out, size_t capacity,
                               size_t *length) {
+    ZACPI_FITS;
     return zacpi_1_write_dsdt(ids, revision, aml_length ? aml : (const uint8_t *)ZACPI_NOTHING,
                               aml_length, capacity ? out : (uint8_t *)ZACPI_NOTHING, capacity,
                               length);
@@ -1073,6 +1154,7 @@ ZACPI_NONNULL((1, 7))
 ZACPI_STATUS zacpi_write_ssdt(const struct zacpi_table_ids *ids, uint8_t revision,
                               const uint8_t *aml, size_t aml_length, uint8_t *out, size_t capacity,
                               size_t *length) {
+    ZACPI_FITS;
     return zacpi_1_write_ssdt(ids, revision, aml_length ? aml : (const uint8_t *)ZACPI_NOTHING,
                               aml_length, capacity ? out : (uint8_t *)ZACPI_NOTHING, capacity,
                               length);
@@ -1085,6 +1167,7 @@ ZACPI_NONNULL((1, 8))
 ZACPI_STATUS zacpi_write_table(const struct zacpi_table_ids *ids, struct zacpi_signature wanted,
                                uint8_t revision, const uint8_t *body, size_t body_length,
                                uint8_t *out, size_t capacity, size_t *length) {
+    ZACPI_FITS;
     return zacpi_1_write_table(ids, wanted, revision,
                                body_length ? body : (const uint8_t *)ZACPI_NOTHING, body_length,
                                capacity ? out : (uint8_t *)ZACPI_NOTHING, capacity, length);
@@ -1098,6 +1181,7 @@ ZACPI_STATUS zacpi_write_madt(const struct zacpi_table_ids *ids,
                               const struct zacpi_madt_contents *contents, uint8_t *out,
                               size_t capacity, size_t *length) {
     const struct zacpi_madt_contents kept_contents = zacpi_madt_contents_kept(contents);
+    ZACPI_FITS;
     return zacpi_1_write_madt(ids, &kept_contents, capacity ? out : (uint8_t *)ZACPI_NOTHING,
                               capacity, length);
 }
@@ -1110,6 +1194,7 @@ ZACPI_STATUS zacpi_write_gic_madt(const struct zacpi_table_ids *ids,
                                   const struct zacpi_gic_contents *contents, uint8_t *out,
                                   size_t capacity, size_t *length) {
     const struct zacpi_gic_contents kept_contents = zacpi_gic_contents_kept(contents);
+    ZACPI_FITS;
     return zacpi_1_write_gic_madt(ids, &kept_contents, capacity ? out : (uint8_t *)ZACPI_NOTHING,
                                   capacity, length);
 }
@@ -1122,6 +1207,7 @@ ZACPI_STATUS zacpi_write_riscv_madt(const struct zacpi_table_ids *ids,
                                     const struct zacpi_riscv_contents *contents, uint8_t *out,
                                     size_t capacity, size_t *length) {
     const struct zacpi_riscv_contents kept_contents = zacpi_riscv_contents_kept(contents);
+    ZACPI_FITS;
     return zacpi_1_write_riscv_madt(ids, &kept_contents, capacity ? out : (uint8_t *)ZACPI_NOTHING,
                                     capacity, length);
 }
@@ -1134,6 +1220,7 @@ ZACPI_STATUS zacpi_write_rhct(const struct zacpi_table_ids *ids,
                               const struct zacpi_rhct_contents *contents, uint8_t *out,
                               size_t capacity, size_t *length) {
     const struct zacpi_rhct_contents kept_contents = zacpi_rhct_contents_kept(contents);
+    ZACPI_FITS;
     return zacpi_1_write_rhct(ids, &kept_contents, capacity ? out : (uint8_t *)ZACPI_NOTHING,
                               capacity, length);
 }
@@ -1145,6 +1232,7 @@ ZACPI_NONNULL((1, 6))
 ZACPI_STATUS zacpi_write_mcfg(const struct zacpi_table_ids *ids,
                               const struct zacpi_pci_region *regions, size_t regions_length,
                               uint8_t *out, size_t capacity, size_t *length) {
+    ZACPI_FITS;
     return zacpi_1_write_mcfg(ids,
                               regions_length ? regions : (const struct zacpi_pci_region *)ZACPI_NOTHING,
                               regions_length, capacity ? out : (uint8_t *)ZACPI_NOTHING, capacity,
@@ -1157,6 +1245,7 @@ zacpi_status zacpi_1_write_hpet(const struct zacpi_table_ids *ids,
 ZACPI_NONNULL((1, 2, 5))
 ZACPI_STATUS zacpi_write_hpet(const struct zacpi_table_ids *ids, const struct zacpi_hpet_info *info,
                               uint8_t *out, size_t capacity, size_t *length) {
+    ZACPI_FITS;
     return zacpi_1_write_hpet(ids, info, capacity ? out : (uint8_t *)ZACPI_NOTHING, capacity,
                               length);
 }
@@ -1168,6 +1257,7 @@ ZACPI_NONNULL((1, 7))
 ZACPI_STATUS zacpi_write_slit(const struct zacpi_table_ids *ids, uint64_t localities,
                               const uint8_t *distances, size_t distances_length, uint8_t *out,
                               size_t capacity, size_t *length) {
+    ZACPI_FITS;
     return zacpi_1_write_slit(ids, localities,
                               distances_length ? distances : (const uint8_t *)ZACPI_NOTHING,
                               distances_length, capacity ? out : (uint8_t *)ZACPI_NOTHING, capacity,
@@ -1182,6 +1272,7 @@ ZACPI_STATUS zacpi_write_srat(const struct zacpi_table_ids *ids,
                               const struct zacpi_srat_contents *contents, uint8_t *out,
                               size_t capacity, size_t *length) {
     const struct zacpi_srat_contents kept_contents = zacpi_srat_contents_kept(contents);
+    ZACPI_FITS;
     return zacpi_1_write_srat(ids, &kept_contents, capacity ? out : (uint8_t *)ZACPI_NOTHING,
                               capacity, length);
 }
@@ -1193,6 +1284,7 @@ ZACPI_NONNULL((1, 2, 5))
 ZACPI_STATUS zacpi_write_bgrt(const struct zacpi_table_ids *ids,
                               const struct zacpi_boot_graphic *graphic, uint8_t *out,
                               size_t capacity, size_t *length) {
+    ZACPI_FITS;
     return zacpi_1_write_bgrt(ids, graphic, capacity ? out : (uint8_t *)ZACPI_NOTHING, capacity,
                               length);
 }
@@ -1204,6 +1296,7 @@ ZACPI_NONNULL((1, 2, 5))
 ZACPI_STATUS zacpi_write_spcr(const struct zacpi_table_ids *ids,
                               const struct zacpi_spcr_contents *contents, uint8_t *out,
                               size_t capacity, size_t *length) {
+    ZACPI_FITS;
     return zacpi_1_write_spcr(ids, contents, capacity ? out : (uint8_t *)ZACPI_NOTHING, capacity,
                               length);
 }
@@ -1216,6 +1309,7 @@ ZACPI_STATUS zacpi_write_gtdt(const struct zacpi_table_ids *ids,
                               const struct zacpi_gtdt_contents *contents, uint8_t *out,
                               size_t capacity, size_t *length) {
     const struct zacpi_gtdt_contents kept_contents = zacpi_gtdt_contents_kept(contents);
+    ZACPI_FITS;
     return zacpi_1_write_gtdt(ids, &kept_contents, capacity ? out : (uint8_t *)ZACPI_NOTHING,
                               capacity, length);
 }
@@ -1227,6 +1321,7 @@ ZACPI_NONNULL((1, 2, 5))
 ZACPI_STATUS zacpi_write_fadt(const struct zacpi_table_ids *ids,
                               const struct zacpi_fixed_hardware *fadt, uint8_t *out,
                               size_t capacity, size_t *length) {
+    ZACPI_FITS;
     return zacpi_1_write_fadt(ids, fadt, capacity ? out : (uint8_t *)ZACPI_NOTHING, capacity,
                               length);
 }
@@ -1236,6 +1331,7 @@ zacpi_status zacpi_1_write_facs(const struct zacpi_facs_contents *contents, uint
 ZACPI_NONNULL((1, 4))
 ZACPI_STATUS zacpi_write_facs(const struct zacpi_facs_contents *contents, uint8_t *out,
                               size_t capacity, size_t *length) {
+    ZACPI_FITS;
     return zacpi_1_write_facs(contents, capacity ? out : (uint8_t *)ZACPI_NOTHING, capacity,
                               length);
 }
@@ -1246,6 +1342,7 @@ ZACPI_NONNULL((1, 5))
 ZACPI_STATUS zacpi_write_tables(const struct zacpi_machine *machine, uint64_t address, uint8_t *out,
                                 size_t capacity, size_t *length) {
     const struct zacpi_machine kept_machine = zacpi_machine_kept(machine);
+    ZACPI_FITS;
     return zacpi_1_write_tables(&kept_machine, address, capacity ? out : (uint8_t *)ZACPI_NOTHING,
                                 capacity, length);
 }
@@ -1257,6 +1354,7 @@ ZACPI_NONNULL((1, 5))
 ZACPI_STATUS zacpi_write_tables_without_rsdp(const struct zacpi_machine *machine, uint64_t address,
                                              uint8_t *out, size_t capacity, size_t *length) {
     const struct zacpi_machine kept_machine = zacpi_machine_kept(machine);
+    ZACPI_FITS;
     return zacpi_1_write_tables_without_rsdp(&kept_machine, address,
                                              capacity ? out : (uint8_t *)ZACPI_NOTHING, capacity,
                                              length);
@@ -1266,11 +1364,14 @@ zacpi_status zacpi_1_tables_size(const struct zacpi_machine *machine, size_t *le
 ZACPI_NONNULL((1, 2))
 ZACPI_STATUS zacpi_tables_size(const struct zacpi_machine *machine, size_t *length) {
     const struct zacpi_machine kept_machine = zacpi_machine_kept(machine);
+    ZACPI_FITS;
     return zacpi_1_tables_size(&kept_machine, length);
 }
 
 zacpi_status zacpi_1_dsdt_address(uint64_t address, size_t tables_length, uint64_t *out);
 ZACPI_NONNULL((3))
 ZACPI_STATUS zacpi_dsdt_address(uint64_t address, size_t tables_length, uint64_t *out) {
+    ZACPI_FITS;
     return zacpi_1_dsdt_address(address, tables_length, out);
 }
+#endif

@@ -1,6 +1,8 @@
 /* SPDX-License-Identifier: MIT */
 /* The tables that are written: a part of zacpi.h, which includes this file. */
-#ifndef ZACPI_WRITE_H
+#ifndef ZACPI_H
+#error "include zacpi.h, which includes this file"
+#elif !defined(ZACPI_WRITE_H)
 #define ZACPI_WRITE_H
 
 /* Tables that are written ---------------------------------------------------------------------- */

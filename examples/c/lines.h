@@ -3,6 +3,9 @@
 #ifndef LINES_H
 #define LINES_H
 #include "zacpi.h"
+#ifdef __cplusplus
+extern "C" {
+#endif
 
 struct printer {
     void (*write)(void *to, const char *bytes, size_t length);
@@ -22,4 +25,8 @@ void say_refused(const struct printer *p, const char *what, zacpi_status status,
  * Answers ZACPI_OK, or the refusal of opening the tables, and has then printed nothing. */
 zacpi_status print_lines(const struct zacpi_source *source, const uint8_t *revision, const struct printer *p,
                          const struct printer *skipped, struct zacpi_signature *named);
+
+#ifdef __cplusplus
+}
+#endif
 #endif

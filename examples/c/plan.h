@@ -3,6 +3,9 @@
 #ifndef PLAN_H
 #define PLAN_H
 #include "zacpi.h"
+#ifdef __cplusplus
+extern "C" {
+#endif
 
 /* Where a kernel has the memory of a device's register: mapped to be written, uncached; null if it can't be mapped. */
 typedef volatile void *plan_map(uint64_t address);
@@ -12,4 +15,8 @@ typedef volatile void *plan_map(uint64_t address);
  * run after such a step. A plan that powers off or resets the machine may return too, since a machine takes its time:
  * halt then. Call it with interrupts disabled, on one processor. */
 uint32_t run_plan(const struct zacpi_plan *plan, plan_map *map);
+
+#ifdef __cplusplus
+}
+#endif
 #endif

@@ -3,7 +3,14 @@
 #define POWER_H
 #include "lines.h"
 #include "plan.h"
+#ifdef __cplusplus
+extern "C" {
+#endif
 
 /* Prints each plan's steps, or why there is none, and runs that which enables ACPI. */
 void enable_acpi(const struct zacpi_source *source, const struct printer *p, plan_map *map);
+
+#ifdef __cplusplus
+}
+#endif
 #endif

@@ -2,6 +2,9 @@
 #ifndef LOADER_H
 #define LOADER_H
 #include "lines.h"
+#ifdef __cplusplus
+extern "C" {
+#endif
 
 struct loaded {
     const char *by;                 /* the loader's protocol; null if it is none of the three */
@@ -16,4 +19,8 @@ struct loaded {
 void ask_loader(uint32_t magic, uint32_t information, const struct printer *p, struct loaded *out);
 /* What follows a name that a word of the command line begins with, or null. */
 const volatile uint8_t *word_after(const struct loaded *loaded, const char *name);
+
+#ifdef __cplusplus
+}
+#endif
 #endif
