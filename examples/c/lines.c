@@ -296,7 +296,7 @@ static void faults(const struct zacpi_source *source, const char *letters, const
     for (i = 0; i < 4; i++) signature.letters[i] = (uint8_t)letters[i];
     count = zacpi_list_faults(source, signature, list.faults, MOST, &count, &named) ? 0 : shown(p, count);
     for (i = 0; i < count; i++) {
-        say(p, "skipped ");
+        say(p, list.faults[i].accepted ? "accepted " : "skipped ");
         say_signature(p, signature.letters);
         say(p, " ");
         say_address(p, list.faults[i].address);

@@ -33,7 +33,7 @@ static zacpi_status count_processors(uint64_t rsdp, size_t *count) {
     struct zacpi_processor first;
     struct zacpi_signature signature;
     struct zacpi_mapper mapper = {NULL, map, unmap, 0}; /* by pages of 4 KiB */
-    struct zacpi_source source = {regions, 0, rsdp, ZACPI_START_RSDP, 0};
+    struct zacpi_source source = {regions, 0, rsdp, ZACPI_START_RSDP, ZACPI_ACCEPT_SUMS | ZACPI_ACCEPT_IDS};
     zacpi_status status = zacpi_map_tables(&mapper, &source, regions, 64, ranges, 128);
     if (status != ZACPI_OK) return status;
     status = zacpi_list_processors(&source, &first, 1, count, &signature);

@@ -28,20 +28,6 @@ void on_fault(uint64_t number, uint64_t code, uint64_t instruction) {
     say(&serial, " at "), say_address(&serial, instruction), line();
     leave(LEAVE_FAULT);
 }
-/* Of ranges the pages that have a byte of them, joined; of these at most `capacity`. */
-static size_t pages_of(struct zacpi_range *ranges, size_t n, const struct zacpi_range *without, size_t without_length,
-                       struct zacpi_range *out, size_t capacity) {
-    const struct zacpi_range all = {0, 1ull << 40};
-    size_t count = 0;
-    for (size_t i = 0; i < n; i++) {
-        const uint64_t in_page = ranges[i].length ? ranges[i].address % 4096 : 0;
-        ranges[i].address -= in_page, ranges[i].length = (ranges[i].length + in_page + 4095) / 4096 * 4096;
-    }
-    if (zacpi_clip_ranges(ranges, n, without, without_length, &all, out, capacity, &count))
-        stop("a range ends too high");
-    if (count > capacity) stop("too many ranges");
-    return count;
-}
 /* What a search looks at, which the loader's map may leave out: the word at 0x40e, the first KiB of the extended BIOS
  * data area (EBDA), whose segment that is, as far as it lies below video memory (section 5.2.5.1), and the BIOS area
  * with the 16 bytes after it, in which an RSDP may end. */
@@ -55,18 +41,19 @@ static size_t bios_areas(struct zacpi_range *out) {
 /* The memory that may be looked at: what the loader's map names, free or not, and what a search looks at, without this
  * kernel itself, whose stack and lists are written while calls run. */
 static void make_memory(void) {
-    const uint64_t start = (uint64_t)load_start, end = ((uint64_t)bss_end + 4095) / 4096 * 4096; /* whole pages */
-    const struct zacpi_range own = {start, end - start};
+    const struct zacpi_range own = {(uint64_t)load_start, (uint64_t)(bss_end - load_start)};
     static struct zacpi_range all[sizeof loaded.memory / sizeof *loaded.memory + 3];
     size_t n = 0;
     for (; n < loaded.memory_length; n++) all[n] = loaded.memory[n];
     n += bios_areas(all + n);
-    memory.length = pages_of(all, n, &own, 1, kept, sizeof kept / sizeof *kept);
+    memory.length = pages_of(all, n, own, kept, sizeof kept / sizeof *kept);
+    if (!memory.length) stop("no memory, or too many ranges");
 }
 /* Maps what a search looks at. */
 static void map_areas(struct zacpi_source *source) {
     struct zacpi_range areas[3], pages[3];
-    const size_t count = pages_of(areas, bios_areas(areas), 0, 0, pages, 3);
+    const struct zacpi_range none = {0, 0};
+    const size_t count = pages_of(areas, bios_areas(areas), none, pages, 3);
     source->regions_length = 0;
     for (size_t i = 0; i < count; i++) {
         const uint8_t *bytes = map_window(&memory, pages[i].address, pages[i].length);
@@ -241,6 +228,8 @@ void kernel(uint32_t magic, uint32_t information) {
     catch_faults();
     ask_loader(magic, information, &serial, &loaded);
     if (!loaded.by || !loaded.memory_length) stop("no memory map of a loader");
+    /* As Linux takes them. A kernel in a guest, or in a measured boot, takes none, as this one by the word `strict`. */
+    if (!word_after(&loaded, "strict")) source.accept = ZACPI_ACCEPT_SUMS | ZACPI_ACCEPT_IDS;
     say(&serial, "loader "), say(&serial, loaded.by), line();
     make_memory();
     find_tables(&source);

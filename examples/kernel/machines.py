@@ -225,7 +225,27 @@ def cases(lines, memory):
         'RSDT to nowhere, sum': summed('RSDT', (36, b'\xfc\xff\xff\xff')),
         'RSDT to the null page, sum': summed('RSDT', (40, b'\0\0\0\0')),
     })
-    return {name: {'writes': writes} for name, writes in plain.items()}
+    return {name: {'writes': writes, 'words': 'hold strict'} for name, writes in plain.items()}
+
+
+def accepted(lines, memory):
+    """Machines on which a kernel that isn't told to be strict takes a table with a wrong sum, and one with a wrong OEMID,
+    at 10, too: what is written, and the line that there is besides those of the right table."""
+    at = {l.split()[1]: int(l.split()[2], 16) for l in lines if l.startswith('listed ')}
+    return {'%s %s accepted' % (signature, error): {
+        'writes': [(at[signature] + offset, bytes([memory.bytes_at(at[signature] + offset)[0] ^ 0x80]))],
+        'besides': 'accepted %s %#x: SdtInvalid%s %s' % (signature, at[signature], error, signature)}
+        for signature, error, offset in (('HPET', 'Checksum', 9), ('APIC', 'OemId', 10))}
+
+
+def restore(files, writes):
+    """Makes the saved bytes as they were before these writes, each of which turned bit 7."""
+    for start, name in zip(files[::2], files[1::2]):
+        for address, data in writes:
+            if 0 <= address - int(start, 16) < os.path.getsize(name):
+                with open(name, 'r+b') as f:
+                    f.seek(address - int(start, 16))
+                    f.write(bytes(x ^ 0x80 for x in data))
 
 
 # What the kernel says of the first PCI function if it isn't Q35_ECAM.
@@ -285,7 +305,7 @@ def asked(memory):
 
 
 def tried(name, machine, ecam, writes=None, words='hold', kernel=KERNEL, told=None, args=(), more=(), asked=None,
-          loader='multiboot'):
+          loader='multiboot', besides=None):
     """Boots a machine, prints whether all is right, and answers that with the lines and the memory."""
     with tempfile.TemporaryDirectory() as folder:
         began = time.time()
@@ -294,6 +314,10 @@ def tried(name, machine, ecam, writes=None, words='hold', kernel=KERNEL, told=No
             lines, files, ended = boot(machine + list(args), folder, writes, words, kernel, more, loader)
             if words == 'reset':
                 wrong = check_reset(lines, ended)
+            elif besides:
+                restore(files, writes)
+                wrong = [] if lines.count(besides) == 1 else ['not once: ' + besides]
+                wrong += check([l for l in lines if l != besides], files, ended, folder, (VIEW, PACK), IMAGE, ecam)
             else:
                 wrong = check(lines, files, ended, folder, (VIEW, PACK), IMAGE, ecam, UNITS.get(name, ()), loader, told,
                               asked)
@@ -336,7 +360,7 @@ def main():
             good, lines, memory = tried(name, args, Q35_ECAM if name.startswith('q35') else NO_MCFG)
             passed, failed = passed + good, failed + (not good)
             if good and name == 'q35 4 128M':
-                changed = {**cases(lines, memory), **told(lines, memory), **asked(memory)}
+                changed = {**cases(lines, memory), **accepted(lines, memory), **told(lines, memory), **asked(memory)}
     for name, (loader, args) in other_loaders().items():
         if loader == 'multiboot2' and not HAS_GRUB:
             print('skipped: %s, since grub-mkrescue, xorriso and %s are not all there' % (name, GRUB))

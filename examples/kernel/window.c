@@ -7,6 +7,19 @@ static uint64_t mapped, most;
 
 uint64_t window_most(void) { return most; }
 
+static void to_pages(struct zacpi_range *range) {
+    const uint64_t in_page = range->length ? range->address % PAGE : 0;
+    range->address -= in_page, range->length = (range->length + in_page + PAGE - 1) / PAGE * PAGE;
+}
+size_t pages_of(struct zacpi_range *ranges, size_t length, struct zacpi_range own, struct zacpi_range *out,
+                size_t capacity) {
+    const struct zacpi_range all = {0, 1ull << 40};
+    size_t count = 0;
+    to_pages(&own);
+    for (size_t i = 0; i < length; i++) to_pages(ranges + i);
+    return zacpi_clip_ranges(ranges, length, &own, 1, &all, out, capacity, &count) || count > capacity ? 0 : count;
+}
+
 /* The first of so many pages that are free one after the other; PAGES if there aren't. */
 static uint64_t free_pages(uint64_t count) {
     uint64_t first = 0, i;

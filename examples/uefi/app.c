@@ -80,7 +80,7 @@ static void power_off(const struct zacpi_source *source) {
 
 uint64_t efi_main(void *image, struct system_table *system);
 uint64_t efi_main(void *image, struct system_table *system) {
-    struct zacpi_source source = {regions, 0, 0, ZACPI_START_RSDP, 0};
+    struct zacpi_source source = {regions, 0, 0, ZACPI_START_RSDP, ZACPI_ACCEPT_SUMS | ZACPI_ACCEPT_IDS};
     struct zacpi_signature named = {{0}};
     zacpi_status refused;
     (void)image;
