@@ -18,6 +18,15 @@ KERNEL := $(firstword $(subst -, ,$(TARGET)))-kernel
 ABI_riscv64 = -march=rv64gc -mabi=lp64d
 ABI_riscv64-kernel = -march=rv64imac -mabi=lp64
 ASSEMBLE = $(if $(filter default undefined,$(origin AS)),$(CC) -c,$(AS))
+# Whether $(CC) is for a target, by its macros, since gcc -m32 has the machine's name of 64 bits.
+MACROS := $(shell $(CC) -dM -E -x c /dev/null)
+MACRO_x86_64 = __x86_64__
+MACRO_aarch64 = __aarch64__
+MACRO_riscv64 = __riscv_xlen 64
+has = $(findstring define $(1),$(MACROS))
+is_for = $(and $(call has,__SIZEOF_POINTER__ 8),$(call has,$(MACRO_$(firstword $(subst -, ,$(1))))),$(if \
+    $(call has,__APPLE__)$(call has,$(if $(filter %-uefi,$(1)),__ELF__,_WIN32)),,yes))
+UNSERVED = $(error zacpi: $(CC) isn't for dist/$*; TARGET names a folder of dist/, and CC a compiler for it)
 PREFIX ?= /usr/local
 LIBDIR ?= $(PREFIX)/lib
 SHARE = $(DESTDIR)$(PREFIX)/share
@@ -28,10 +37,13 @@ INSTALL = install -m 644
 
 all: $(OUT)/$(TARGET)/libzacpi.a
 $(OUT)/%/libzacpi.a: dist/%/zacpi.s
+	$(if $(filter default undefined,$(origin AS)),$(if $(call is_for,$*),,$(UNSERVED)))
 	@mkdir -p $(@D)
 	$(ASSEMBLE) $(ABI_$*) $< -o $(@D)/zacpi.o
 	@rm -f $@
 	$(AR) rcs $@ $(@D)/zacpi.o
+$(OUT)/%/libzacpi.a:
+	$(UNSERVED)
 
 CHECKED = $(OUT)/$(TARGET)/libzacpi.a
 LINKED = $(CC) -std=c99 $(CFLAGS) -Iinclude $(1) $(CHECKED) $(LDFLAGS) -o $(OUT)/$(TARGET)/$(2)
