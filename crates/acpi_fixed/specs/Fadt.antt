@@ -88,7 +88,7 @@ facs_address_of f = address_or refusal.InvalidFacsAddress f.x_firmware_ctrl f.fi
 abbrev pub dsdt_address_of : Fadt → Result ℕ AcpiError
 dsdt_address_of f = address_or refusal.InvalidDsdtAddress f.x_dsdt_address f.dsdt_address
 
--- of a table's bytes they are its `registers_at`: the law `registers_are_the_tables` (`acpi_laws::fixed`)
+-- of a table's bytes they are its `registers_at`: the law `RegistersAreTheTables` of `acpi_laws`
 abbrev pub registers_of : Fadt → Registers
 registers_of f = f.registers
 

@@ -1,5 +1,4 @@
--- What holds of the members of a root table, and of the ranges in which the tables lie: the contracts of
--- `acpi_laws::places`.
+-- What holds of the members of a root table, and of the ranges in which the tables lie (`definitions_hold`).
 use Rattle.std.specs.Prelude.{◌≡◌, ◌⊎◌, ℕ, ◌+◌, ◌≤◌, List, [], ◌∷◌, IsErr, Ok, filter_map, length, map, slice_get}
 use Rattle.acpi_base.specs.FromStd.{AllByRecursion, result_ok}
 use Rattle.acpi.specs.Types.{DSDT, AddressRange}
