@@ -62,7 +62,6 @@ impl<'h, H: Lender> AcpiTables<'h, H> {
     }
 
     /// The bytes of the first member that is valid for `T`.
-    #[inline(always)]
     fn first_valid<T: AcpiTable>(&self) -> AcpiResult<ValidTable<'h, H>>
         requires { AllowsBelow self.now (λ m. lookup_ranges m T.kind) }
         ensures handler { IfOk result (λ v. claimed_from v.claim ≡ lender_of self.now) }
@@ -84,6 +83,7 @@ impl<'h, H: Lender> AcpiTables<'h, H> {
     ///
     /// Fails with `TableMissing`, carrying `T::SIGNATURE`, if no member is valid for `T`. A
     /// member that isn't lent, or fails another check, is passed over.
+    #[inline(always)]
     pub fn find_table<T: AcpiTable>(&self) -> AcpiResult<PhysicalMapping<'h, H, T>>
         requires { AllowsBelow self.now (λ m. lookup_ranges m T.kind) }
         ensures handler { IfOk result (λ m. handler_of m ≡ lender_of self.now) }

@@ -4,7 +4,7 @@ ghost use Rattle.acpi_base.specs.Words.{part, IsOfMemory, handler_of, start_of, 
 ghost use Rattle.acpi.specs.Words.{area_ranges, search_ranges, rsd_ptr, rsdp_at, second_area, count_of, found_in, found_rsdp, last_in, placed, room_of, walk, word_in, IsSearched};
 
 use super::{RawBytes, Rsdp, map_rsdp};
-use acpi_base::bytes::u16_in;
+use acpi_base::bytes::{filled_in, u16_in};
 use acpi_base::{AcpiError, AcpiResult, Lender, PhysicalMapping};
 
 /// A range of physical addresses; `end` is the first after it.
@@ -46,9 +46,8 @@ fn has_signature(bytes: &[u8], offset: usize) -> bool
     requires { offset + 8 ≤ length bytes.now }
     ensures { result ≡ bytes_eq (part bytes.now offset 8) rsd_ptr }
 {
-    let front = &bytes[offset..];
-    let signature = &front[..8];
-    signature == b"RSD PTR ".as_slice()
+    let signature: [u8; 8] = filled_in(bytes, offset);
+    signature == *b"RSD PTR "
 }
 
 /// The least valid candidate of an area that is lent, with the 16 bytes after it, as these bytes.
