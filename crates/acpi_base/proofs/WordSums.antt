@@ -1,136 +1,187 @@
--- Sums of bytes in words: every other byte of eight is a lane of 16 bits.
-use Rattle.std.proofs.Common.{◌≡◌, ℕ, suc, zero, ◌+◌, ◌*◌, ◌-◌, ◌%◌, ◌/◌, ◌^◌, ◌≤◌, ◌<◌, List, [], ◌∷◌, length, length-drop, refl, arith, sum, bit_and, take, drop, get_or, Fits, w8, ap, ◌∙◌}
-use Rattle.acpi_base.specs.FromStd.{Each1, chunk, digits_l, fold_l, number_l, sum_l, zip2}
-use Rattle.acpi_base.proofs.FromStd.{and_mask, chunk-fits, drop-drop, length-chunk, sum_by-append, sum_by-cons, sum_by-take-drop, take-add, take_all}
-use Rattle.acpi_base.specs.Words.{evens, sum_of}
+-- Sums of bytes in words: the whole words, and of each the bytes at even places in lanes of 16 bits.
+use Rattle.std.proofs.Common.{◌≡◌, ℕ, ◌+◌, ◌*◌, ◌-◌, ◌%◌, ◌/◌, ◌^◌, ◌≤◌, ◌<◌, List, [], ◌∷◌, ◌++◌, length, length-append, length-drop, refl, arith, sum, bit_and, take, drop, get_or, Fits, w8, ap, sym, subst, lit≤, ◌∙◌}
+use Rattle.std.proofs.lemmas.Nat.{and_assoc, and_shr}
+use Rattle.acpi_base.specs.FromStd.{Each1, chunk}
+use Rattle.acpi_base.proofs.FromStd.{and_mask, chunk-fits, length-chunk, length-take-le, sum_by-append, sum_by-cons, sum_by-take-drop, take-add, take_all}
+use Rattle.acpi_base.specs.Words.{AddsUpInWords, field_of, in_lanes, number, sum_of}
 
--- a word of four bytes in lanes of 16 bits
-abbrev word : ℕ → ℕ → ℕ → ℕ → ℕ
-word a b c d = a + 65536 * b + 4294967296 * c + 281474976710656 * d
+-- a mask whose two lowest bytes are 255 and 0 keeps the lowest byte, and of what is above what the rest of it keeps
+kept_first : (a c : ℕ) → bit_and a (255 + 65536 * c) ≡ a % 256 + 65536 * bit_and (a / 65536) c
+kept_first a c =
+    let mask : ℕ = 255 + 65536 * c in
+    let high : bit_and a mask / 65536 ≡ bit_and (a / 65536) c =
+    and_shr a mask 16 ∙ ap (bit_and (a / 65536)) (omega arith) in
+    let byte : mask % 65536 ≡ 255 = omega arith in
+    let low : bit_and a mask % 65536 ≡ a % 256 =
+    sym (and_mask (bit_and a mask) 16) ∙ and_assoc 65535 a mask
+    ∙ ap (bit_and a) (and_mask mask 16 ∙ byte) ∙ and_mask a 8 in
+    omega (arith, high, low)
 
--- that word's bytes, before those of a number
-abbrev before : ℕ → ℕ → ℕ → ℕ → ℕ → ℕ
-before a b c d n = a + 256 * (0 + 256 * (b + 256 * (0 + 256 * (c + 256 * (0 + 256 * (d + 256 * (0 + 256 * n)))))))
+-- the bytes at even places of a number below 2^64
+kept : (a : ℕ) → bit_and a 71777214294589695
+    ≡ in_lanes (a % 256) (a / 65536 % 256) (a / 4294967296 % 256) (a / 281474976710656 % 256)
+kept a =
+    let first : bit_and a 71777214294589695 ≡ a % 256 + 65536 * bit_and (a / 65536) 1095233372415 =
+    kept_first a 1095233372415 in
+    let second : bit_and (a / 65536) 1095233372415 ≡ a / 65536 % 256 + 65536 * bit_and (a / 65536 / 65536) 16711935 =
+    kept_first (a / 65536) 16711935 in
+    let third : bit_and (a / 65536 / 65536) 16711935
+    ≡ a / 65536 / 65536 % 256 + 65536 * bit_and (a / 65536 / 65536 / 65536) 255 =
+    kept_first (a / 65536 / 65536) 255 in
+    let fourth = and_mask (a / 65536 / 65536 / 65536) 8 in
+    omega (arith, first, second, third, fourth)
 
-first_word : (a b c d n : ℕ) → a < 256 → b < 256 → c < 256 → d < 256
-    → (before a b c d n % 2 ^ 64 ≡ word a b c d) × (before a b c d n / 2 ^ 64 ≡ n)
-first_word a b c d n la lb lc ld = (omega arith, omega arith)
+-- a word's bytes as a number
+abbrev byte_of : ℕ → ℕ → ℕ → ℕ → ℕ → ℕ → ℕ → ℕ → ℕ
+byte_of a b c d e f g h = number (a ∷ b ∷ c ∷ d ∷ e ∷ f ∷ g ∷ h ∷ [])
 
--- what keeps the lower byte of each two, of so many words
-abbrev lower : ℕ → List ℕ
-lower zero = []
-lower (suc n) = 255 ∷ 0 ∷ 255 ∷ 0 ∷ 255 ∷ 0 ∷ 255 ∷ 0 ∷ lower n
-
--- so many words of what is kept of the bytes
-abbrev pub words : ℕ → List ℕ → List ℕ
-words n bytes = digits_l (2 ^ 64) n (number_l 256 (zip2 bit_and bytes (lower n)))
-
-kept : (x : ℕ) → x < 256 → bit_and x 255 ≡ x
-kept x small = omega (arith, and_mask x 8)
-
-cleared : (x : ℕ) → bit_and x 0 ≡ 0
-cleared x = omega (arith, and_mask x 0)
-
-words-cons : (n : ℕ) (x0 x1 x2 x3 x4 x5 x6 x7 : ℕ) (xs : List ℕ) → x0 < 256 → x2 < 256 → x4 < 256 → x6 < 256
-    → words (suc n) (x0 ∷ x1 ∷ x2 ∷ x3 ∷ x4 ∷ x5 ∷ x6 ∷ x7 ∷ xs) ≡ word x0 x2 x4 x6 ∷ words n xs
-words-cons n x0 x1 x2 x3 x4 x5 x6 x7 xs l0 l2 l4 l6 =
-    rw (kept x0 l0, cleared x1, kept x2 l2, cleared x3, kept x4 l4, cleared x5, kept x6 l6, cleared x7) (
-    let is = first_word x0 x2 x4 x6 (number_l 256 (zip2 bit_and xs (lower n))) l0 l2 l4 l6 in
-    rw (is.0, is.1) refl
-    )
-
--- a lane's weight is 1 modulo 65535
-sum-words : (n : ℕ) (xs : List ℕ) → length xs ≡ 8 * n → Each1 (Fits w8) xs
-    → (sum_l (words n xs) ≤ n * 2 ^ 56) × (sum_l (words n xs) % 65535 ≡ evens xs % 65535)
-unfolding evens
-sum-words zero [] long fit = (omega arith, refl)
-sum-words zero (x ∷ xs) long fit = absurd (omega arith)
-sum-words (suc n) [] long fit = absurd (omega arith)
-sum-words (suc n) (x0 ∷ []) long fit = absurd (omega arith)
-sum-words (suc n) (x0 ∷ x1 ∷ []) long fit = absurd (omega arith)
-sum-words (suc n) (x0 ∷ x1 ∷ x2 ∷ []) long fit = absurd (omega arith)
-sum-words (suc n) (x0 ∷ x1 ∷ x2 ∷ x3 ∷ []) long fit = absurd (omega arith)
-sum-words (suc n) (x0 ∷ x1 ∷ x2 ∷ x3 ∷ x4 ∷ []) long fit = absurd (omega arith)
-sum-words (suc n) (x0 ∷ x1 ∷ x2 ∷ x3 ∷ x4 ∷ x5 ∷ []) long fit = absurd (omega arith)
-sum-words (suc n) (x0 ∷ x1 ∷ x2 ∷ x3 ∷ x4 ∷ x5 ∷ x6 ∷ []) long fit = absurd (omega arith)
-sum-words (suc n) (x0 ∷ x1 ∷ x2 ∷ x3 ∷ x4 ∷ x5 ∷ x6 ∷ x7 ∷ xs) long fit =
-    let l0 : x0 < 256 = fit.0.fits in
-    let l2 : x2 < 256 = fit.1.1.0.fits in
-    let l4 : x4 < 256 = fit.1.1.1.1.0.fits in
-    let l6 : x6 < 256 = fit.1.1.1.1.1.1.0.fits in
-    let rest = sum-words n xs (omega arith) fit.1.1.1.1.1.1.1.1 in
-    let next = ap sum_l (words-cons n x0 x1 x2 x3 x4 x5 x6 x7 xs l0 l2 l4 l6) in
-    (omega (arith, next, rest.0), omega (arith, next, rest.1))
-
--- a sum that doesn't wrap
-fold-words : (a : ℕ) (xs : List ℕ) → a + sum_l xs < 2 ^ 64
-    → fold_l (λ s x. (s + x) % 2 ^ 64) a xs ≡ a + sum_l xs
-fold-words a [] fits = omega arith
-fold-words a (x ∷ xs) fits =
-    let now : (a + x) % 2 ^ 64 ≡ a + x = omega arith in
-    rw now (omega (arith, fold-words (a + x) xs (omega arith)))
-
-evens-below : (xs : List ℕ) → Each1 (Fits w8) xs → evens xs ≤ 255 * length xs
-unfolding evens
-evens-below [] fit = omega arith
-evens-below (x ∷ []) fit = let l : x < 256 = fit.0.fits in omega arith
-evens-below (x ∷ y ∷ xs) fit = let l : x < 256 = fit.0.fits in omega (arith, evens-below xs fit.1.1)
-
-pub lanes_of : (bytes : List ℕ) (at : ℕ) → at + 64 ≤ length bytes → ((k : ℕ) → Fits w8 (get_or bytes k 0))
-    → (fold_l (λ s x. (s + x) % 2 ^ 64) 0 (words 8 (chunk at 64 bytes)) < 2 ^ 60)
-    × (fold_l (λ s x. (s + x) % 2 ^ 64) 0 (words 8 (chunk at 64 bytes)) % 65535 ≡ evens (chunk at 64 bytes))
-lanes_of bytes at room fit =
-    let block : List ℕ = chunk at 64 bytes in
-    let long : length block ≡ 64 = length-chunk at 64 bytes room in
-    let small = chunk-fits w8 at 64 bytes fit in
-    let is = sum-words 8 block long small in
-    let plain = fold-words 0 (words 8 block) (omega (arith, is.0)) in
-    (omega (arith, plain, is.0), omega (arith, plain, is.1, evens-below block small, long))
+kept_word : (a b c d e f g h : ℕ) → a < 256 → b < 256 → c < 256 → d < 256 → e < 256 → f < 256 → g < 256 → h < 256
+    → bit_and (byte_of a b c d e f g h) 71777214294589695 ≡ in_lanes a c e g
+kept_word a b c d e f g h la lb lc ld le lf lg lh = omega (arith, kept (byte_of a b c d e f g h))
 
 sum-cons : (x : ℕ) (xs : List ℕ) → sum (x ∷ xs) ≡ x + sum xs
 sum-cons = sum_by-cons (λ x. x)
 
--- every other byte from the first on, and from the second on, are all
-evens-both : (n : ℕ) (xs : List ℕ) → 2 * n < length xs
-    → evens (take (2 * n) xs) + evens (take (2 * n) (drop 1 xs)) ≡ sum (take (2 * n) xs)
-unfolding evens
-evens-both zero xs long = refl
-evens-both (suc n) [] long = absurd (omega arith)
-evens-both (suc n) (x ∷ []) long = absurd (omega arith)
-evens-both (suc n) (x ∷ y ∷ []) long = absurd (omega arith)
-evens-both (suc n) (x ∷ y ∷ z ∷ xs) long =
-    let two : 2 * suc n ≡ suc (suc (2 * n)) = omega arith in
-    rw two (
-    omega (
-      arith,
-      evens-both n (z ∷ xs) (omega arith),
-      sum-cons x (y ∷ take (2 * n) (z ∷ xs)),
-      sum-cons y (take (2 * n) (z ∷ xs)),
-    )
+-- one word more
+with_eight : (whole even : ℕ) (before xs : List ℕ) → length xs ≡ 8 → Each1 (Fits w8) xs → length before + 8 ≤ 2048
+    → AddsUpInWords whole even before
+    → AddsUpInWords ((whole + number xs) % 2 ^ 64) ((even + bit_and (number xs) 71777214294589695) % 2 ^ 64) (before ++ xs)
+with_eight whole even before [] long fit room sums = absurd (omega arith)
+with_eight whole even before (a ∷ []) long fit room sums = absurd (omega arith)
+with_eight whole even before (a ∷ b ∷ []) long fit room sums = absurd (omega arith)
+with_eight whole even before (a ∷ b ∷ c ∷ []) long fit room sums = absurd (omega arith)
+with_eight whole even before (a ∷ b ∷ c ∷ d ∷ []) long fit room sums = absurd (omega arith)
+with_eight whole even before (a ∷ b ∷ c ∷ d ∷ e ∷ []) long fit room sums = absurd (omega arith)
+with_eight whole even before (a ∷ b ∷ c ∷ d ∷ e ∷ f ∷ []) long fit room sums = absurd (omega arith)
+with_eight whole even before (a ∷ b ∷ c ∷ d ∷ e ∷ f ∷ g ∷ []) long fit room sums = absurd (omega arith)
+with_eight whole even before (a ∷ b ∷ c ∷ d ∷ e ∷ f ∷ g ∷ h ∷ i ∷ xs) long fit room sums = absurd (omega arith)
+with_eight whole even before (a ∷ b ∷ c ∷ d ∷ e ∷ f ∷ g ∷ h ∷ []) long fit room sums =
+    let xs : List ℕ = a ∷ b ∷ c ∷ d ∷ e ∷ f ∷ g ∷ h ∷ [] in
+    let la : a < 256 = fit.0.fits in
+    let lb : b < 256 = fit.1.0.fits in
+    let lc : c < 256 = fit.1.1.0.fits in
+    let ld : d < 256 = fit.1.1.1.0.fits in
+    let le : e < 256 = fit.1.1.1.1.0.fits in
+    let lf : f < 256 = fit.1.1.1.1.1.0.fits in
+    let lg : g < 256 = fit.1.1.1.1.1.1.0.fits in
+    let lh : h < 256 = fit.1.1.1.1.1.1.1.0.fits in
+    let mask = kept_word a b c d e f g h la lb lc ld le lf lg lh in
+    let n : length (before ++ xs) ≡ length before + 8 = length-append before xs in
+    let total : sum (before ++ xs) ≡ sum before + (a + (b + (c + (d + (e + (f + (g + h))))))) =
+    sum_by-append (λ x. x) before xs ∙ omega arith in
+    record {
+      s0 = sums.s0 + a;
+      s1 = sums.s1 + b;
+      s2 = sums.s2 + c;
+      s3 = sums.s3 + d;
+      s4 = sums.s4 + e;
+      s5 = sums.s5 + f;
+      s6 = sums.s6 + g;
+      s7 = sums.s7 + h;
+      all = omega (arith, sums.all, total);
+      room = (
+        omega (arith, n, sums.room.0),
+        omega (arith, n, sums.room.1),
+        omega (arith, n, sums.room.2),
+        omega (arith, n, sums.room.3),
+        omega (arith, n, sums.room.4),
+        omega (arith, n, sums.room.5),
+        omega (arith, n, sums.room.6),
+        omega (arith, n, sums.room.7),
+      );
+      even_lanes = omega (arith, mask, sums.even_lanes, sums.room.0, sums.room.2, sums.room.4, sums.room.6);
+      whole_words = omega (arith, mask, sums.even_lanes, sums.whole_words, sums.room.0, sums.room.2, sums.room.4, sums.room.6);
+    }
+
+pub word_next : (bytes : List ℕ) (at end whole even : ℕ) → at + 8 ≡ end → at + 8 ≤ length bytes → at + 8 ≤ 2048
+    → ((k : ℕ) → Fits w8 (get_or bytes k 0)) → AddsUpInWords whole even (take at bytes)
+    → AddsUpInWords ((whole + field_of bytes at 8) % 2 ^ 64)
+    ((even + bit_and (field_of bytes at 8) 71777214294589695) % 2 ^ 64) (take end bytes)
+unfolding field_of
+word_next bytes at end whole even is there room fit sums =
+    let before : length (take at bytes) ≡ at = length-take-le at bytes (omega (arith, there)) in
+    let next = with_eight whole even (take at bytes) (chunk at 8 bytes) (length-chunk at 8 bytes there)
+    (chunk-fits w8 at 8 bytes fit) (omega (arith, before, room)) sums in
+    let all : take at bytes ++ chunk at 8 bytes ≡ take end bytes =
+    sym (take-add at 8 bytes) ∙ ap (λ n. take n bytes) is in
+    subst (λ l. AddsUpInWords ((whole + field_of bytes at 8) % 2 ^ 64)
+    ((even + bit_and (field_of bytes at 8) 71777214294589695) % 2 ^ 64) l) all next
+
+pub no_words : AddsUpInWords 0 0 []
+no_words = record {
+  s0 = 0;
+  s1 = 0;
+  s2 = 0;
+  s3 = 0;
+  s4 = 0;
+  s5 = 0;
+  s6 = 0;
+  s7 = 0;
+  all = refl;
+  room = (lit≤ tt, lit≤ tt, lit≤ tt, lit≤ tt, lit≤ tt, lit≤ tt, lit≤ tt, lit≤ tt);
+  even_lanes = refl;
+  whole_words = refl;
+}
+
+-- the lowest byte of each lane
+low_bytes : (a b c d : ℕ) → a < 65536 → b < 65536 → c < 65536 → d < 65536
+    → bit_and (in_lanes a b c d) 71777214294589695 ≡ in_lanes (a % 256) (b % 256) (c % 256) (d % 256)
+low_bytes a b c d la lb lc ld = omega (arith, kept (in_lanes a b c d))
+
+-- what the whole words have beside the even bytes, without a lane's part past 2^64
+odd_lanes : (even a b c d : ℕ) → even < 2 ^ 64 → a < 65536 → b < 65536 → c < 65536 → d < 65536
+    → ((even + 256 * in_lanes a b c d) % 2 ^ 64 + (2 ^ 64 - even)) % 2 ^ 64 / 256 ≡ in_lanes a b c (d % 256)
+odd_lanes even a b c d le la lb lc ld = omega arith
+
+folded_lanes : (a b c d e f g h s : ℕ) → a + b + c + d + e + f + g + h ≡ s
+    → (in_lanes (a % 256) (c % 256) (e % 256) (g % 256) + in_lanes (b % 256) (d % 256) (f % 256) (h % 256)) % 65535 % 256
+    ≡ s % 256
+folded_lanes a b c d e f g h s all =
+    let sum : ℕ = a % 256 + b % 256 + c % 256 + d % 256 + e % 256 + f % 256 + g % 256 + h % 256 in
+    let one : (in_lanes (a % 256) (c % 256) (e % 256) (g % 256) + in_lanes (b % 256) (d % 256) (f % 256) (h % 256)) % 65535
+    ≡ sum = omega arith in
+    omega (arith, one, all)
+
+-- the sum of all lanes
+pub lanes_add_up : (whole even : ℕ) (bytes : List ℕ) → length bytes ≤ 2048 → AddsUpInWords whole even bytes
+    → (bit_and even 71777214294589695
+    + bit_and ((whole + (2 ^ 64 - even)) % 2 ^ 64 / 256) 71777214294589695) % 65535 % 256 ≡ sum_of bytes
+unfolding sum_of
+lanes_add_up whole even bytes few sums =
+    let l0 : sums.s0 < 65536 = omega (arith, few, sums.room.0) in
+    let l1 : sums.s1 < 65536 = omega (arith, few, sums.room.1) in
+    let l2 : sums.s2 < 65536 = omega (arith, few, sums.room.2) in
+    let l3 : sums.s3 < 65536 = omega (arith, few, sums.room.3) in
+    let l4 : sums.s4 < 65536 = omega (arith, few, sums.room.4) in
+    let l5 : sums.s5 < 65536 = omega (arith, few, sums.room.5) in
+    let l6 : sums.s6 < 65536 = omega (arith, few, sums.room.6) in
+    let l7 : sums.s7 < 65536 = omega (arith, few, sums.room.7) in
+    let small : even < 2 ^ 64 = omega (arith, sums.even_lanes) in
+    let evens : bit_and even 71777214294589695
+    ≡ in_lanes (sums.s0 % 256) (sums.s2 % 256) (sums.s4 % 256) (sums.s6 % 256) =
+    ap (λ n. bit_and n 71777214294589695) sums.even_lanes ∙ low_bytes sums.s0 sums.s2 sums.s4 sums.s6 l0 l2 l4 l6 in
+    let odds : (whole + (2 ^ 64 - even)) % 2 ^ 64 / 256 ≡ in_lanes sums.s1 sums.s3 sums.s5 (sums.s7 % 256) =
+    ap (λ n. (n + (2 ^ 64 - even)) % 2 ^ 64 / 256) sums.whole_words
+    ∙ odd_lanes even sums.s1 sums.s3 sums.s5 sums.s7 small l1 l3 l5 l7 in
+    let kept_odds : bit_and ((whole + (2 ^ 64 - even)) % 2 ^ 64 / 256) 71777214294589695
+    ≡ in_lanes (sums.s1 % 256) (sums.s3 % 256) (sums.s5 % 256) (sums.s7 % 256) =
+    ap (λ n. bit_and n 71777214294589695) odds
+    ∙ low_bytes sums.s1 sums.s3 sums.s5 (sums.s7 % 256) l1 l3 l5 (omega arith) ∙ omega arith in
+    rw (evens, kept_odds) (
+    folded_lanes sums.s0 sums.s1 sums.s2 sums.s3 sums.s4 sums.s5 sums.s6 sums.s7 (sum bytes) sums.all
     )
 
-pub sum_block : (bytes : List ℕ) (at a b : ℕ) → at + 64 < length bytes → ((k : ℕ) → Fits w8 (get_or bytes k 0))
-    → a % 65535 ≡ evens (chunk at 64 bytes) → b % 65535 ≡ evens (chunk (at + 1) 64 bytes)
-    → (a + b) % 65535 % 256 ≡ sum_of (chunk at 64 bytes)
+pub sum_next : (bytes : List ℕ) (at end : ℕ) → at ≤ end
+    → (sum_of (take at bytes) + sum_of (take (end - at) (drop at bytes))) % 256 ≡ sum_of (take end bytes)
 unfolding sum_of
-sum_block bytes at a b room fit first second =
-    let there : drop 1 (drop at bytes) ≡ drop (at + 1) bytes =
-    drop-drop 1 at bytes ∙ ap (λ k. drop k bytes) (omega arith) in
+sum_next bytes at end later =
+    let there : at + (end - at) ≡ end = omega arith in
     omega (
       arith,
-      evens-both 32 (drop at bytes) (omega (arith, length-drop at bytes)),
-      ap (λ l. evens (take 64 l)) there,
-      evens-below (chunk at 64 bytes) (chunk-fits w8 at 64 bytes fit),
-      evens-below (chunk (at + 1) 64 bytes) (chunk-fits w8 (at + 1) 64 bytes fit),
-      length-chunk at 64 bytes (omega arith),
-      length-chunk (at + 1) 64 bytes (omega arith),
+      ap (λ n. sum (take n bytes)) there,
+      ap sum (take-add at (end - at) bytes),
+      sum_by-append (λ x. x) (take at bytes) (take (end - at) (drop at bytes)),
     )
-
-pub sum_next : (bytes : List ℕ) (at : ℕ)
-    → (sum_of (take at bytes) + sum_of (chunk at 64 bytes)) % 256 ≡ sum_of (take (at + 64) bytes)
-unfolding sum_of
-sum_next bytes at =
-    omega (arith, ap sum (take-add at 64 bytes), sum_by-append (λ x. x) (take at bytes) (chunk at 64 bytes))
 
 pub sum_whole : (bytes : List ℕ) (at : ℕ)
     → (sum_of (take at bytes) + sum_of (take (length bytes - at) (drop at bytes))) % 256 ≡ sum_of bytes

@@ -1,12 +1,16 @@
 //! The sum of bytes modulo 256: in lanes, where sixteen bytes are added at once, each to a sum of its own, or in words
 //! of eight bytes.
-ghost use Rattle.std.specs.Prelude.{◌≡◌, ◌⊎◌, ◌-◌, ◌+◌, ◌%◌, ◌^◌, ◌<◌, ◌≤◌, length, take, ℕ};
+ghost use Rattle.std.specs.Prelude.{◌≡◌, ◌⊎◌, ◌-◌, ◌+◌, ◌%◌, ◌^◌, ◌<◌, ◌≤◌, length, take, ℕ, List};
 ghost use Rattle.acpi_base.specs.FromStd.{chunk};
-ghost use Rattle.acpi_base.specs.Words.{sum_of, AddsUp, evens};
+ghost use Rattle.acpi_base.specs.Words.{sum_of, AddsUp, AddsUpInWords};
 
+use crate::bytes::field_in;
 use std::simd::prelude::*;
 
 const LANES: usize = 16;
+
+/// As many bytes as a word has.
+const WORD: usize = 8;
 
 /// As many bytes as one turn of a loop adds.
 const BLOCK: usize = 4 * LANES;
@@ -17,12 +21,11 @@ static TAIL_MASKS: [u8; 32] = [
     255, 255, 255, 255, 255, 255, 255,
 ];
 
-/// Keeps the lower byte of each two.
-const LOWER: [u8; BLOCK] = [
-    255, 0, 255, 0, 255, 0, 255, 0, 255, 0, 255, 0, 255, 0, 255, 0, 255, 0, 255, 0, 255, 0, 255, 0,
-    255, 0, 255, 0, 255, 0, 255, 0, 255, 0, 255, 0, 255, 0, 255, 0, 255, 0, 255, 0, 255, 0, 255, 0,
-    255, 0, 255, 0, 255, 0, 255, 0, 255, 0, 255, 0, 255, 0, 255, 0,
-];
+/// The bytes of a word that are at even places.
+const EVEN: u64 = 0x00ff_00ff_00ff_00ff;
+
+/// As many bytes as `WordSums` has room for: 256 words.
+const MOST: usize = 2048;
 
 /// Whether the processor has vectors to add lanes in. `scripts/dist` makes it false for code that may use none, and may
 /// read a word at any address. It has no contract, so its callers are proved for either answer.
@@ -143,31 +146,86 @@ fn word_sum(bytes: &[u8]) -> u8
 {
     let mut total: u8 = 0;
     let mut at = 0;
-    while bytes.len() - at > BLOCK {
-        total = total.wrapping_add(block_sum(bytes, at));
-        at += BLOCK;
+    while bytes.len() - at >= WORD {
+        let words = ((bytes.len() - at) / WORD).min(MOST / WORD);
+        let end = at + words * WORD;
+        total = total.wrapping_add(sum_of_words(&bytes[at..end]));
+        at = end;
     }
     total.wrapping_add(plain_sum(&bytes[at..]))
 }
 
-/// The sum of a block's bytes modulo 256.
+/// The sum of few words' bytes modulo 256.
 #[inline(always)]
-fn block_sum(bytes: &[u8], at: usize) -> u8
-    requires { at + BLOCK < length bytes.now }
-    ensures { result ≡ sum_of (chunk at BLOCK bytes.now) }
+fn sum_of_words(bytes: &[u8]) -> u8
+    requires few { length bytes.now ≤ MOST }
+    requires words { length bytes.now % WORD ≡ 0 }
+    ensures { result ≡ sum_of bytes.now }
 {
-    let lanes = every_other(bytes, at) + every_other(bytes, at + 1);
-    // Modulo 65535 a lane's weight, a power of 65536, is 1, so the lanes add up.
-    (lanes % 65535 % 256) as u8
+    let mut sums = WordSums { whole: 0, even: 0 };
+    let mut at = 0;
+    while bytes.len() - at >= BLOCK {
+        sums = sums.with_block(bytes, at);
+        at += BLOCK;
+    }
+    while bytes.len() - at >= WORD {
+        sums = sums.with_word(bytes, at);
+        at += WORD;
+    }
+    sums.folded()
 }
 
-/// Every other byte of a block, the first among them, added up in a word's four lanes of 16 bits.
-#[inline(always)]
-fn every_other(bytes: &[u8], at: usize) -> u64
-    requires { at + BLOCK ≤ length bytes.now }
-    ensures lanes { result % 65535 ≡ evens (chunk at BLOCK bytes.now) }
-    ensures room { result < 2 ^ 60 }
-{
-    let kept = u8x64::from_slice(&bytes[at..]) & u8x64::from_array(LOWER);
-    u64x8::from_le_bytes(kept).reduce_sum()
+/// What words add up to: the whole words modulo 2^64, and their bytes at even places, each in a lane of 16 bits. What
+/// the whole words have beside the even bytes are the odd ones, so only the even ones are taken out of each word.
+#[derive(Clone, Copy)]
+struct WordSums {
+    whole: u64,
+    even: u64,
+}
+
+impl WordSums {
+    /// These with the word at a place added.
+    #[inline(always)]
+    fn with_word(self, bytes: &[u8], at: usize) -> WordSums
+        requires there { at + WORD ≤ length bytes.now }
+        requires few { at + WORD ≤ MOST }
+        requires sums { AddsUpInWords self.whole self.even (take at bytes.now) }
+        ensures { (end : ℕ) → at + WORD ≡ end → AddsUpInWords result.whole result.even (take end bytes.now) }
+    {
+        let word = field_in(bytes, at, WORD);
+        WordSums {
+            whole: self.whole.wrapping_add(word),
+            even: self.even.wrapping_add(word & EVEN),
+        }
+    }
+
+    /// These with the eight words of a block added.
+    #[inline(always)]
+    fn with_block(self, bytes: &[u8], at: usize) -> WordSums
+        requires there { at + BLOCK ≤ length bytes.now }
+        requires few { at + BLOCK ≤ MOST }
+        requires sums { AddsUpInWords self.whole self.even (take at bytes.now) }
+        ensures { (end : ℕ) → at + BLOCK ≡ end → AddsUpInWords result.whole result.even (take end bytes.now) }
+    {
+        let sums = self.with_word(bytes, at);
+        let sums = sums.with_word(bytes, at + WORD);
+        let sums = sums.with_word(bytes, at + 2 * WORD);
+        let sums = sums.with_word(bytes, at + 3 * WORD);
+        let sums = sums.with_word(bytes, at + 4 * WORD);
+        let sums = sums.with_word(bytes, at + 5 * WORD);
+        let sums = sums.with_word(bytes, at + 6 * WORD);
+        sums.with_word(bytes, at + 7 * WORD)
+    }
+
+    /// The sum of all lanes modulo 256.
+    #[inline(always)]
+    fn folded(self) -> u8
+        ensures { (bytes : List ℕ) → length bytes ≤ MOST → AddsUpInWords self.whole self.even bytes
+            → result ≡ sum_of bytes }
+    {
+        let odd = self.whole.wrapping_sub(self.even) >> 8;
+        let lanes = (self.even & EVEN) + (odd & EVEN);
+        // Modulo 65535 a lane's weight, a power of 65536, is 1, so the lanes add up.
+        (lanes % 65535 % 256) as u8
+    }
 }
