@@ -1,15 +1,8 @@
 -- Each of some ranges may be asked for: so may each part of them.
-use Rattle.std.proofs.Common.{◌≡◌, ℕ, ◌==◌, ◌&&◌, List, [], ◌∷◌, ◌++◌, get_or, Bool, true, Ok, ap, arith, refl, subst, sym, ◌≤◌}
+use Rattle.std.proofs.Common.{◌≡◌, ℕ, ◌==◌, ◌&&◌, List, [], ◌∷◌, ◌++◌, get_or, Bool, true, Ok, arith, refl, subst, sym, ◌≤◌}
 use Rattle.acpi_base.specs.FromStd.{AllByRecursion}
 use Rattle.acpi_base.proofs.FromStd.{eq-eqb, le-leb, list_any_at, All-cons, All-head, All-nil, All-tail}
-use Rattle.acpi_base.specs.Words.{part, letters_of, Signature, check_names, header_at, Memory, Allows, Ranges, is_listed, own_table_ranges, table_ranges, whole_ranges, lent, Kind, plain_kind, unchecked}
-
-abbrev the_signature : List ℕ → Signature
-the_signature letters = record { 0 = letters }
-
-own_signature : (s : Signature) (head : List ℕ) → letters_of s ≡ part head 0 4 → (header_at head).signature ≡ s
-unfolding header_at
-own_signature s head letters = ap the_signature (sym letters)
+use Rattle.acpi_base.specs.Words.{Signature, accepted, header_at, Memory, Allows, Ranges, is_listed, own_accepted_ranges, sdt_kind, table_ranges, whole_ranges, lent, Kind}
 
 same_range : (r : ℕ × ℕ) → (r.0 == r.0 && r.1 == r.1) ≡ true
 same_range r = rw (eq-eqb r.0 r.0 refl, eq-eqb r.1 r.1 refl) refl
@@ -48,23 +41,26 @@ module _ (may : ℕ → ℕ → Bool) where
       → Allows may (whole_ranges k p head)
   asked_whole m k p head h there = rw there at (all_rest (p, 36) _ h)
 
-  pub asked_own_header : (m : Memory) (p : ℕ) → Allows may (own_table_ranges m p) → may p 36 ≡ true
-  asked_own_header m p h = all_here (p, 36) _ h
+  -- of a table that is accepted under its own signature
+  pub asked_own_header : (accept : ℕ) (m : Memory) (p : ℕ) → Allows may (own_accepted_ranges accept m p)
+      → may p 36 ≡ true
+  asked_own_header accept m p h = all_here (p, 36) _ h
 
-  of_equal : (s t : Signature) (p : ℕ) (head : List ℕ) → t ≡ s → Allows may (whole_ranges (plain_kind t) p head)
-      → Allows may (whole_ranges (plain_kind s) p head)
-  of_equal s t p head same h = rw same at h
+  of_equal : (accept : ℕ) (s t : Signature) (least p : ℕ) (head : List ℕ) → t ≡ s
+      → Allows may (whole_ranges (accepted accept (sdt_kind s least)) p head)
+      → Allows may (whole_ranges (accepted accept (sdt_kind t least)) p head)
+  of_equal accept s t least p head same h = rw same h
 
-  pub asked_own : (m : Memory) (s : Signature) (p : ℕ) (head : List ℕ) → Allows may (own_table_ranges m p)
-      → lent m p 36 ≡ Ok head
-      → letters_of s ≡ part head 0 4 → Allows may (whole_ranges (plain_kind s) p head)
-  asked_own m s p head h there letters = of_equal s (header_at head).signature p head (own_signature s head letters)
-      (rw there at (all_rest (p, 36) _ h))
+  pub asked_own : (accept : ℕ) (m : Memory) (s : Signature) (p : ℕ) (head : List ℕ)
+      → Allows may (own_accepted_ranges accept m p) → lent m p 36 ≡ Ok head → (header_at head).signature ≡ s
+      → Allows may (whole_ranges (accepted accept (sdt_kind s 36)) p head)
+  asked_own accept m s p head h there own =
+      of_equal accept (header_at head).signature s 36 p head (sym own) (rw there at (all_rest (p, 36) _ h))
 
-  pub asked_length : (s : Signature) (least p n : ℕ) (head : List ℕ) → Allows may (whole_ranges (unchecked s least) p head)
-      → check_names s (header_at head) ≡ Ok tt → least ≤ n → n ≡ (header_at head).length → may p n ≡ true
-  asked_length s least p n head h names long is =
-      let enough = le-leb least (header_at head).length (omega (arith, long, is)) in
+  pub asked_length : (k : Kind) (p n : ℕ) (head : List ℕ) → Allows may (whole_ranges k p head)
+      → k.names (header_at head) ≡ Ok tt → k.least ≤ n → n ≡ (header_at head).length → may p n ≡ true
+  asked_length k p n head h names long is =
+      let enough = le-leb k.least (header_at head).length (omega (arith, long, is)) in
       rw is (all_here (p, (header_at head).length) [] (rw (names, enough) at h))
 
 -- what holds of each of some ranges holds of each part of them

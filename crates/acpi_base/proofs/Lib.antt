@@ -1,3 +1,4 @@
+pub mod Accepted
 pub mod AllowedRanges
 pub mod Clones
 pub mod Cuts

@@ -109,7 +109,7 @@ is_whole m k p table enough h =
 abbrev the_signature : List ℕ → Signature
 the_signature letters = record { 0 = letters }
 
-same_signature : (s : Signature) (h : SdtHeader) → bears s h ≡ true → h.signature ≡ s
+pub same_signature : (s : Signature) (h : SdtHeader) → bears s h ≡ true → h.signature ≡ s
 same_signature s h e = ap the_signature ((bytes_eq-Decides h.signature.0 s.0).0 e)
 
 is_named : (s : Signature) (h : SdtHeader) → check_names s h ≡ Ok tt → bears s h ≡ true
@@ -169,6 +169,16 @@ pub own_table_is : (m : Memory) (s : Signature) (least p : ℕ) → 36 ≤ least
     → result_ok (table_at m (kind s least (check_table s)) p) ≡ served s least (result_ok (own_table_at m p))
 own_table_is m s least p enough = by_both s least _ _ (own_of m s least p enough) (of_own m s least p)
 
+pub own_signature : (s : Signature) (head : List ℕ) → letters_of s ≡ part head 0 4 → (header_at head).signature ≡ s
+unfolding header_at
+own_signature s head letters = ap the_signature (sym letters)
+
+-- a header with these four letters has the signature that they were compared with
+pub is_signature : (s t : Signature) (head : List ℕ) → letters_of t ≡ part head 0 4 → bytes_eq t.0 s.0 ≡ true
+    → (header_at head).signature ≡ s
+is_signature s t head letters same =
+    own_signature t head letters ∙ ap the_signature ((bytes_eq-Decides t.0 s.0).0 same)
+
 pub own_table : (m : Memory) (s : Signature) (p : ℕ) (head : List ℕ) → lent m p 36 ≡ Ok head
     → letters_of s ≡ part head 0 4
     → own_table_at m p ≡ table_at m (plain_kind s) p
@@ -177,19 +187,17 @@ own_table m s p head front letters = own_is m s p head front (ap the_signature (
 
 -- ---- before the kind's own check, and then only the sum is left
 
--- what is known of a table that was claimed by its signature and its least length
-pub names_there : (m : Memory) (s : Signature) (least p : ℕ) (table : List ℕ) → 36 ≤ least
-    → table_at m (unchecked s least) p ≡ Ok table
-    → check_names s (header_at table) ≡ Ok tt
-names_there m s least p table enough e =
-    let h = passed m (unchecked s least) p table e in
-    rw (is_whole m (unchecked s least) p table enough h).0 h.names
+-- what is known of a table that was claimed as one of a kind
+pub names_there : (m : Memory) (k : Kind) (p : ℕ) (table : List ℕ) → 36 ≤ k.least
+    → table_at m (unchecked k) p ≡ Ok table → k.names (header_at table) ≡ Ok tt
+names_there m k p table enough e =
+    let h = passed m (unchecked k) p table e in
+    rw (is_whole m (unchecked k) p table enough h).0 h.names
 
-pub length_there : (m : Memory) (s : Signature) (least p : ℕ) (table : List ℕ) → 36 ≤ least
-    → table_at m (unchecked s least) p ≡ Ok table
-    → (header_at table).length ≡ length table
-length_there m s least p table enough e =
-    (is_whole m (unchecked s least) p table enough (passed m (unchecked s least) p table e)).1
+pub length_there : (m : Memory) (k : Kind) (p : ℕ) (table : List ℕ) → 36 ≤ k.least
+    → table_at m (unchecked k) p ≡ Ok table → (header_at table).length ≡ length table
+length_there m k p table enough e =
+    (is_whole m (unchecked k) p table enough (passed m (unchecked k) p table e)).1
 
 -- the kind's own check is the last
 check_last : (a b : Result (Unit {0}) AcpiError) (w : Result (List ℕ) AcpiError) (f : List ℕ
@@ -200,19 +208,18 @@ check_last (Ok x) (Ok y) (Err d) f = refl
 check_last (Ok x) (Err d) w f = refl
 check_last (Err d) b w f = refl
 
-check_after : (m : Memory) (k : Kind) (p : ℕ) (r : Result (List ℕ) AcpiError) → k.names ≡ check_names k.signature
-    → lent m p 36 ≡ r
-    → table_at m k p ≡ (table_at m (unchecked k.signature k.least) p >>= λ t. k.check t >>= λ _. Ok t)
+check_after : (m : Memory) (k : Kind) (p : ℕ) (r : Result (List ℕ) AcpiError) → lent m p 36 ≡ r
+    → table_at m k p ≡ (table_at m (unchecked k) p >>= λ t. k.check t >>= λ _. Ok t)
 unfolding table_at
-check_after m k p (Ok head) own front =
+check_after m k p (Ok head) front =
     let long = holds (nat_le k.least (header_at head).length) (SdtInvalidLength k.signature) in
-    rw (front, own) (check_last (check_names k.signature (header_at head)) long (lent m p (header_at head).length)
+    rw front (check_last (k.names (header_at head)) long (lent m p (header_at head).length)
     (λ t. k.check t >>= λ _. Ok t))
-check_after m k p (Err d) own front = rw front refl
+check_after m k p (Err d) front = rw front refl
 
-pub checked_last : (m : Memory) (k : Kind) (p : ℕ) → k.names ≡ check_names k.signature
-    → table_at m k p ≡ (table_at m (unchecked k.signature k.least) p >>= λ t. k.check t >>= λ _. Ok t)
-checked_last m k p own = check_after m k p (lent m p 36) own refl
+pub checked_last : (m : Memory) (k : Kind) (p : ℕ)
+    → table_at m k p ≡ (table_at m (unchecked k) p >>= λ t. k.check t >>= λ _. Ok t)
+checked_last m k p = check_after m k p (lent m p 36) refl
 
 sum_left : (s : Signature) (b : List ℕ) → check_names s (header_at b) ≡ Ok tt → nat_le 36 (length b) ≡ true
     → field_of b 4 4 ≡ length b
@@ -232,7 +239,7 @@ unfolding header_at
 header_length b = refl
 
 -- the sum is all that is left of the check
-only_sum_left : (s : Signature) (b : List ℕ) → 36 ≤ length b → check_names s (header_at b) ≡ Ok tt
+pub only_sum_left : (s : Signature) (b : List ℕ) → 36 ≤ length b → check_names s (header_at b) ≡ Ok tt
     → (header_at b).length ≡ length b
     → check_table s b ≡ holds (sum_of b == 0) (SdtInvalidChecksum s)
 only_sum_left s b long names same = sum_left s b names (le-leb 36 (length b) long) (sym (header_length b) ∙ same)
@@ -247,44 +254,29 @@ pub good_rest : (s : Signature) (b : List ℕ) → 36 ≤ length b → check_nam
     → sum_of b ≡ 0 → check_table s b ≡ Ok tt
 good_rest s b long names same good = rw (only_sum_left s b long names same, good) refl
 
--- what is claimed is left to the kind's own check
-check_refused : (m : Memory) (k : Kind) (p : ℕ) (table : List ℕ) (e : AcpiError) → k.names ≡ check_names k.signature
-    → table_at m (unchecked k.signature k.least) p ≡ Ok table
-    → k.check table ≡ Err e → table_at m k p ≡ Err e
-check_refused m k p table e own claimed refused = rw (checked_last m k p own, claimed, refused) refl
-
-check_passed : (m : Memory) (k : Kind) (p : ℕ) (table : List ℕ) → k.names ≡ check_names k.signature
-    → table_at m (unchecked k.signature k.least) p ≡ Ok table
-    → k.check table ≡ Ok tt → table_at m k p ≡ Ok table
-check_passed m k p table own claimed passes = rw (checked_last m k p own, claimed, passes) refl
-
--- of a table of which only the header and the sum matter, the sum decides
-pub sum_refused : (m : Memory) (s : Signature) (p : ℕ) (table : List ℕ) → 36 ≤ length table
-    → table_at m (unchecked s 36) p ≡ Ok table
-    → (sum_of table ≡ 0 → ⊥) → table_at m (plain_kind s) p ≡ Err (SdtInvalidChecksum s)
-sum_refused m s p table long claimed bad = check_refused m (plain_kind s) p table _ refl claimed
-    (bad_rest s table long (names_there m s 36 p table (lit≤ tt) claimed)
-    (length_there m s 36 p table (lit≤ tt) claimed) bad)
-
-pub sum_passed : (m : Memory) (s : Signature) (p : ℕ) (table : List ℕ) → 36 ≤ length table
-    → table_at m (unchecked s 36) p ≡ Ok table
-    → sum_of table ≡ 0 → table_at m (plain_kind s) p ≡ Ok table
-sum_passed m s p table long claimed good = check_passed m (plain_kind s) p table refl claimed
-    (good_rest s table long (names_there m s 36 p table (lit≤ tt) claimed)
-    (length_there m s 36 p table (lit≤ tt) claimed) good)
-
 -- ---- if the header isn't lent, or has another signature
 
 pub no_header : (m : Memory) (k : Kind) (p : ℕ) (e : AcpiError) → lent m p 36 ≡ Err e → table_at m k p ≡ Err e
 unfolding table_at
 no_header m k p e refused = rw refused refl
 
+pub refused_by_names : (m : Memory) (k : Kind) (p : ℕ) (head : List ℕ) (e : AcpiError) → lent m p 36 ≡ Ok head
+    → k.names (header_at head) ≡ Err e → table_at m k p ≡ Err e
+unfolding table_at
+refused_by_names m k p head e front refused = rw (front, refused) refl
+
+pub signature_first : (s : Signature) (h : SdtHeader) → bytes_eq h.signature.0 s.0 ≡ false
+    → check_names s h ≡ Err (SdtInvalidSignature s)
+unfolding check_names
+signature_first s h other = rw other refl
+
 pub another_signature : (m : Memory) (k : Kind) (p : ℕ) (head : List ℕ) → k.names ≡ check_names k.signature
     → lent m p 36 ≡ Ok head
     → bytes_eq (part head 0 4) k.signature.0 ≡ false
     → table_at m k p ≡ Err (SdtInvalidSignature k.signature)
-unfolding table_at check_names header_at
-another_signature m k p head own front other = rw (front, own, other) refl
+unfolding header_at
+another_signature m k p head own front other =
+    refused_by_names m k p head _ front (rw own (signature_first k.signature (header_at head) other))
 
 -- ---- in another memory
 

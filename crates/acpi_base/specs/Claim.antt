@@ -1,9 +1,8 @@
 -- What a claim shows.
 use Rattle.std.specs.Prelude.{◌≡◌, ◌+◌, ◌^◌, ◌<◌, ◌≤◌, ℕ, List, length, take, Some, Ok}
 use Rattle.acpi_base.specs.Memory.{Memory, at}
-use Rattle.acpi_base.specs.Table.{Kind, kind}
+use Rattle.acpi_base.specs.Table.{Kind}
 use Rattle.acpi_base.specs.declared.memory.claim.Claim.{Claim}
-use Rattle.acpi_base.specs.Types.{Signature}
 
 -- where the lent bytes start
 abbrev pub claimed_at : {H h : _} → Claim H h → ℕ
@@ -25,9 +24,9 @@ claimed_from c = c.handler.now
 abbrev pub IsLentOf : {H h : _} → Memory → Claim H h → Type 0
 IsLentOf m c = at m (claimed_at c) (length (all_of c)) ≡ Some (all_of c)
 
--- a table of this signature and least length, whatever else its bytes are: what is claimed before they are checked
-abbrev pub unchecked : Signature → ℕ → Kind
-unchecked s least = kind s least (λ _. Ok tt)
+-- a kind without its own check: what is claimed before the bytes are looked at
+abbrev pub unchecked : Kind → Kind
+unchecked k = record { signature = k.signature; least = k.least; names = k.names; check = λ _. Ok tt }
 
 -- it shows at least so many bytes and fewer than 2^32, at the place and from the handler of the claim of their header,
 -- all that was lent is the memory's, and they end below 2^64

@@ -19,12 +19,21 @@ header_at b = record {
   creator_revision = field_of b 32 4;  -- Creator Revision
 }
 
--- the signature is this one and a text, and both ids are texts
-unfoldable pub check_names : Signature → SdtHeader → Result (Unit {0}) AcpiError
-check_names s h = do
-  _ ← holds (bytes_eq h.signature.0 s.0 && is_utf8 h.signature.0) (SdtInvalidSignature s)
+-- the signature is this one and a text
+abbrev pub check_signature : Signature → SdtHeader → Result (Unit {0}) AcpiError
+check_signature s h = holds (bytes_eq h.signature.0 s.0 && is_utf8 h.signature.0) (SdtInvalidSignature s)
+
+-- both ids are texts
+abbrev pub check_ids : Signature → SdtHeader → Result (Unit {0}) AcpiError
+check_ids s h = do
   _ ← holds (is_utf8 h.oem_id) (SdtInvalidOemId s)
   holds (is_utf8 h.oem_table_id) (SdtInvalidTableId s)
+
+-- the names are those that a table of this signature may have
+unfoldable pub check_names : Signature → SdtHeader → Result (Unit {0}) AcpiError
+check_names s h = do
+  _ ← check_signature s h
+  check_ids s h
 
 -- what `SdtHeader::validate` returns: the names, then Length, which lies at 4, then the sum of that many bytes
 unfoldable pub check_table : Signature → List ℕ → Result (Unit {0}) AcpiError

@@ -1,3 +1,4 @@
+pub mod Accepted
 pub mod Address
 pub mod Bits
 pub mod Bytes

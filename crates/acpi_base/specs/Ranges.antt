@@ -6,6 +6,7 @@ use Rattle.acpi_base.specs.Types.{SdtInvalidLength}
 use Rattle.acpi_base.specs.Header.{header_at}
 use Rattle.acpi_base.specs.Memory.{Memory, at}
 use Rattle.acpi_base.specs.Steps.{holds, lent}
+use Rattle.acpi_base.specs.Accepted.{own_kind}
 use Rattle.acpi_base.specs.Table.{Kind, plain_kind}
 
 -- each an address and a number of bytes
@@ -61,6 +62,12 @@ abbrev pub table_ranges : Memory → Kind → ℕ → Ranges
 table_ranges m k p = (p, 36) ∷ do
   head ← lent m p 36
   whole_ranges k p head
+
+-- those of `own_accepted`
+abbrev pub own_accepted_ranges : ℕ → Memory → ℕ → Ranges
+own_accepted_ranges accept m p = (p, 36) ∷ do
+  head ← lent m p 36
+  whole_ranges (own_kind accept (header_at head) 36) p head
 
 -- those of `own_table_at`
 abbrev pub own_table_ranges : Memory → ℕ → Ranges

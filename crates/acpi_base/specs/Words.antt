@@ -1,4 +1,6 @@
 -- This crate's words: what proofs, contracts and the crates above bring in from its specs.
+pub use Rattle.acpi_base.specs.Accepted.{AcceptsNothing, AcceptsValid, KeepsNames, KeepsSums, accepted, check_sum_alone, loosened, own_kind}
+unfoldable pub use Rattle.acpi_base.specs.Accepted.{own_accepted}
 unfoldable pub use Rattle.acpi_base.specs.Address.{generic_address_of}
 pub use Rattle.acpi_base.specs.Bits.{bits_of, has_bit}
 pub use Rattle.acpi_base.specs.Bytes.{IsBytes, filled_part, number, part}
@@ -12,6 +14,7 @@ pub use Rattle.acpi_base.specs.EntryLaws.{CutIsCut, OneCut}
 pub use Rattle.acpi_base.specs.ErrorText.{error_text, madt_error_text}
 pub use Rattle.acpi_base.specs.Extended.{extended_at, held_of, shown_of}
 pub use Rattle.acpi_base.specs.Guarded.{guarded_by, listed_by}
+pub use Rattle.acpi_base.specs.Header.{check_ids, check_signature}
 unfoldable pub use Rattle.acpi_base.specs.Header.{check_names, check_table, header_at}
 pub use Rattle.acpi_base.specs.Interrupts.{flags_fault, io_apic_of, nmi_line_of, nmi_source_of, override_fault, override_of, polarity_of, trigger_mode_of, unless_fault}
 unfoldable pub use Rattle.acpi_base.specs.Interrupts.{item_of}
@@ -36,7 +39,7 @@ pub use Rattle.acpi_base.specs.NmiLines.{is_line_of, lines_for, lines_left}
 pub use Rattle.acpi_base.specs.OneRegion.{one_region}
 pub use Rattle.acpi_base.specs.Pin.{IsNearest, IsNoNearer, base_of, io_apic_for, nearer, nearest, pin_of}
 pub use Rattle.acpi_base.specs.Range.{range_fits, range_holds}
-pub use Rattle.acpi_base.specs.Ranges.{AgreesOn, Allows, DependsOn, Footprint, Ranges, is_listed, own_table_ranges, table_ranges, unless_found, whole_ranges}
+pub use Rattle.acpi_base.specs.Ranges.{AgreesOn, Allows, DependsOn, Footprint, Ranges, is_listed, own_accepted_ranges, own_table_ranges, table_ranges, unless_found, whole_ranges}
 pub use Rattle.acpi_base.specs.Spcr.{baud_of, bus_of, clock_of, configured_baud, device_id_of, device_of, flow_byte, function_of, interface_in, interrupt_byte, interrupt_of, irq_of, name_of, namespace_in, namespace_of, terminal_byte, unless, vendor_id_of}
 unfoldable pub use Rattle.acpi_base.specs.Spcr.{spcr_at}
 pub use Rattle.acpi_base.specs.SpcrFlags.{FlagsAreNumbered, flow_bits, interrupt_bits, terminal_bits}

@@ -1,8 +1,8 @@
 //! The header that every table begins with, and its checks (section 5.2.6).
 ghost use Rattle.std.specs.Prelude.{◌≡◌, ◌⊎◌, ◌^◌, ◌<◌, ◌≤◌, IfErr, IfOk, IsOk, Ok, Err};
-ghost use Rattle.acpi_base.specs.Words.{SdtInvalidLength, header_at, check_names, check_table, DamageShows, IsTextOf};
+ghost use Rattle.acpi_base.specs.Words.{SdtInvalidLength, header_at, check_ids, check_names, check_table, accepted, sdt_kind, DamageShows, IsTextOf};
 
-use crate::bytes::{is_text, text_of, u8_in, u32_in};
+use crate::bytes::{has_bit, is_text, text_of, u8_in, u32_in};
 pub use crate::bytes::{byte_sum, field};
 use crate::error::{AcpiError, AcpiResult};
 pub use crate::extended::ExtendedField;
@@ -111,6 +111,12 @@ impl SdtHeader {
         if !self.signature.is(signature) || !is_text(&self.signature.0) {
             return Err(AcpiError::SdtInvalidSignature(signature));
         }
+        self.validate_ids(signature)
+    }
+
+    fn validate_ids(&self, signature: Signature) -> AcpiResult<()>
+        ensures { result ≡ check_ids signature self.now }
+    {
         if !is_text(&self.oem_id) {
             return Err(AcpiError::SdtInvalidOemId(signature));
         }
@@ -120,16 +126,40 @@ impl SdtHeader {
         Ok(())
     }
 
-    /// The length of the table, if the header has the names and the least length.
-    pub(crate) fn table_length(&self, signature: Signature, least: usize) -> AcpiResult<usize>
+    /// Checks the names, of which the signature is known to be this one, but for those that the bits of `accept` give
+    /// up.
+    #[tactic(auto, using(crate::proofs::Accepted::no_text, crate::proofs::Accepted::any_ids, crate::proofs::Accepted::ids_left))]
+    fn validate_own(&self, signature: Signature, accept: u32) -> AcpiResult<()>
+        requires { self.now.signature ≡ signature }
+        ensures { result ≡ (accepted accept (sdt_kind signature 36)).names self.now }
+    {
+        if !is_text(&self.signature.0) {
+            return Err(AcpiError::SdtInvalidSignature(signature));
+        }
+        if has_bit(accept as u64, 1) {
+            return Ok(());
+        }
+        self.validate_ids(signature)
+    }
+
+    /// The length of the table, if the header passes those checks and has the least length.
+    #[inline(never)]
+    pub(crate) fn table_length(
+        &self,
+        signature: Signature,
+        least: usize,
+        accept: u32,
+    ) -> AcpiResult<usize>
+        requires { self.now.signature ≡ signature }
         ensures long { IfOk result (λ n. least ≤ n) }
         ensures short { IfOk result (λ n. n < 2 ^ 32) }
         ensures length { IfOk result (λ n. n ≡ self.now.length) }
-        ensures names { IfOk result (λ n. check_names signature self.now ≡ Ok tt) }
-        ensures refused { let names = check_names signature self.now in IfErr result (λ e. (names ≡ Err e)
+        ensures names { IfOk result (λ n. (accepted accept (sdt_kind signature least)).names self.now ≡ Ok tt) }
+        ensures refused { let names = (accepted accept (sdt_kind signature least)).names self.now in
+            IfErr result (λ e. (names ≡ Err e)
             ⊎ ((names ≡ Ok tt) × (self.now.length < least) × (e ≡ SdtInvalidLength signature))) }
     {
-        self.validate_names(signature)?;
+        self.validate_own(signature, accept)?;
         let length = self.length as usize;
         if length < least {
             return Err(AcpiError::SdtInvalidLength(signature));

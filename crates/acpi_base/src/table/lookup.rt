@@ -1,11 +1,11 @@
 //! The table at an address (section 5.2.6).
-ghost use Rattle.std.specs.Prelude.{◌≡◌, true, ◌+◌, ◌^◌, ◌<◌, ◌≤◌, length, IfErr, IfOk, Ok, Err};
-ghost use Rattle.acpi_base.specs.Words.{IsLentOf, IsWholeClaim, claimed_at, claimed_from, shown_by, unchecked, all_of, IsOfMemory, start_of, bytes_of, handler_of, lent_of, Allows, own_table_ranges, table_ranges, whole_ranges, Gives, lent, Kind, own_table_at, plain_kind, table_at, check_names};
+ghost use Rattle.std.specs.Prelude.{◌≡◌, ℕ, true, ◌+◌, ◌^◌, ◌<◌, ◌≤◌, length, IfErr, IfOk, Ok, Err};
+ghost use Rattle.acpi_base.specs.Words.{IsLentOf, IsWholeClaim, accepted, claimed_at, claimed_from, header_at, own_accepted, own_accepted_ranges, sdt_kind, shown_by, unchecked, all_of, IsOfMemory, start_of, bytes_of, handler_of, lent_of, Allows, own_table_ranges, table_ranges, whole_ranges, Gives, lent, Kind, own_table_at, plain_kind, table_at, check_names};
 
 use super::AcpiTable;
 use super::header::SdtHeader;
 use super::signature::Signature;
-use crate::bytes::byte_sum;
+use crate::bytes::{byte_sum, has_bit};
 use crate::error::{AcpiError, AcpiResult};
 use crate::memory::claim::Claim;
 use crate::memory::handler::{Lender, PhysicalRecord};
@@ -14,7 +14,7 @@ use crate::memory::mapping::PhysicalMapping;
 /// The header's bytes at an address, if they begin with this signature. Most members that a
 /// lookup passes over have another one: so that is compared before anything else is made of them.
 #[inline(always)]
-#[tactic(auto, using(crate::proofs::OwnTable::no_header, crate::proofs::OwnTable::another_signature))]
+#[tactic(auto, using(crate::proofs::OwnTable::no_header, crate::proofs::OwnTable::another_signature, crate::proofs::Accepted::another_accepted))]
 fn claim_header<'h, H: Lender>(
     handler: &'h H,
     address: u64,
@@ -26,8 +26,11 @@ fn claim_header<'h, H: Lender>(
     ensures size { IfOk result (λ c. length (shown_by c) ≡ 36) }
     ensures shown { IfOk result (λ c. lent (H.memory handler.now) address 36 ≡ Ok (shown_by c)) }
     ensures all { IfOk result (λ c. IsLentOf (H.memory handler.now) c) }
+    ensures signature { IfOk result (λ c. (header_at (shown_by c)).signature ≡ signature) }
     ensures refused { IfErr result (λ e. (k : Kind) → k.signature ≡ signature
         → k.names ≡ check_names signature → table_at (H.memory handler.now) k address ≡ Err e) }
+    ensures unaccepted { IfErr result (λ e. (accept least : ℕ)
+        → table_at (H.memory handler.now) (accepted accept (sdt_kind signature least)) address ≡ Err e) }
 {
     let head = Claim::request(handler, address, SdtHeader::MIN_LENGTH)?;
     if !Signature::leading(head.shown()).is(signature) {
@@ -37,26 +40,28 @@ fn claim_header<'h, H: Lender>(
     Ok(head)
 }
 
-/// The bytes of the table whose header is claimed, as many as that header says, if it has these names and
-/// the least length. The sum is still to be checked. If the bytes lent for the header hold the whole table,
-/// they are shown; else the header's claim ends before the request.
+/// The bytes of the table whose header is claimed and has this signature, as many as that header says, if it passes the
+/// checks that the bits of `accept` leave and has the least length. The sum is still to be checked. If the bytes lent
+/// for the header hold the whole table, they are shown; else the header's claim ends before the request.
 #[inline(always)]
 fn claim_whole<'h, H: Lender>(
     head: Claim<'h, H>,
     signature: Signature,
     least: usize,
+    accept: u32,
 ) -> AcpiResult<Claim<'h, H>>
     requires header { length (shown_by head) ≡ 36 }
     requires lent { IsLentOf (H.memory (claimed_from head)) head }
+    requires signature { (header_at (shown_by head)).signature ≡ signature }
     requires some { 0 < least }
     requires asked { Allows (H.may (claimed_from head))
-        (whole_ranges (unchecked signature least) (claimed_at head) (shown_by head)) }
+        (whole_ranges (accepted accept (sdt_kind signature least)) (claimed_at head) (shown_by head)) }
     ensures whole { let m = H.memory (claimed_from head.entry) in
         IfOk result (λ c. IsWholeClaim m head.entry least c) }
     ensures shown { let m = H.memory (claimed_from head.entry) in Gives (λ c. shown_by c) result
-        (table_at m (unchecked signature least) (claimed_at head.entry)) }
+        (table_at m (unchecked (accepted accept (sdt_kind signature least))) (claimed_at head.entry)) }
 {
-    match SdtHeader::read(head.shown()).table_length(signature, least) {
+    match SdtHeader::read(head.shown()).table_length(signature, least, accept) {
         Ok(length) => head.widen(length),
         Err(error) => {
             head.end();
@@ -108,6 +113,7 @@ impl<'h, H: Lender> ValidTable<'h, H> {
 fn claim_valid<'h, H: Lender, T: AcpiTable>(head: Claim<'h, H>) -> AcpiResult<ValidTable<'h, H>>
     requires header { length (shown_by head) ≡ 36 }
     requires lent { IsLentOf (H.memory (claimed_from head)) head }
+    requires signature { (header_at (shown_by head)).signature ≡ T.SIGNATURE }
     requires asked { Allows (H.may (claimed_from head))
         (whole_ranges T.kind (claimed_at head) (shown_by head)) }
     ensures whole { let m = H.memory (claimed_from head.entry) in
@@ -115,7 +121,7 @@ fn claim_valid<'h, H: Lender, T: AcpiTable>(head: Claim<'h, H>) -> AcpiResult<Va
     ensures shown { let m = H.memory (claimed_from head.entry) in Gives (λ v. shown_by v.claim) result
         (table_at m T.kind (claimed_at head.entry)) }
 {
-    let claim = claim_whole(head, T::SIGNATURE, T::MIN_LENGTH)?;
+    let claim = claim_whole(head, T::SIGNATURE, T::MIN_LENGTH, 0)?;
     match T::validate_rest(claim.shown()) {
         Ok(()) => Ok(ValidTable { claim }),
         Err(error) => {
@@ -170,32 +176,89 @@ pub fn map_table<'h, H: Lender, T: AcpiTable>(
     Ok(valid.mapping())
 }
 
-/// The table whose header is claimed, if it is valid under this signature as one of which only
-/// the header and the sum matter.
+/// The bytes of the table whose header is claimed and has this signature, if by the bits of `accept` it is accepted as
+/// one of a least length of which only the header and the sum matter.
 #[inline(never)]
-fn map_by_header_and_sum<'h, H: Lender>(
+fn claim_by<'h, H: Lender>(
     head: Claim<'h, H>,
     signature: Signature,
-) -> AcpiResult<PhysicalMapping<'h, H, SdtHeader>>
+    least: usize,
+    accept: u32,
+) -> AcpiResult<ValidTable<'h, H>>
     requires header { length (shown_by head) ≡ 36 }
     requires lent { IsLentOf (H.memory (claimed_from head)) head }
+    requires signature { (header_at (shown_by head)).signature ≡ signature }
+    requires least { 36 ≤ least }
     requires asked { Allows (H.may (claimed_from head))
-        (whole_ranges (plain_kind signature) (claimed_at head) (shown_by head)) }
-    ensures place { IfOk result (λ m. start_of m ≡ claimed_at head.entry) }
-    ensures handler { IfOk result (λ m. handler_of m ≡ claimed_from head.entry) }
-    ensures lent { IfOk result (λ m. IsOfMemory (H.memory (claimed_from head.entry)) m) }
-    ensures short { IfOk result (λ m. length (bytes_of m) < 2 ^ 32) }
-    ensures ends { IfOk result (λ m. start_of m + length (bytes_of m) < 2 ^ 64) }
-    ensures table { let m = H.memory (claimed_from head.entry) in Gives (λ x. bytes_of x) result
-        (table_at m (plain_kind signature) (claimed_at head.entry)) }
+        (whole_ranges (accepted accept (sdt_kind signature least)) (claimed_at head) (shown_by head)) }
+    ensures whole { let m = H.memory (claimed_from head.entry) in
+        IfOk result (λ v. IsWholeClaim m head.entry least v.claim) }
+    ensures shown { let m = H.memory (claimed_from head.entry) in Gives (λ v. shown_by v.claim) result
+        (table_at m (accepted accept (sdt_kind signature least)) (claimed_at head.entry)) }
 {
-    let whole = claim_whole(head, signature, SdtHeader::MIN_LENGTH)?;
-    // The names and the length are those of the header, which is the table's own.
-    if byte_sum(whole.shown()) != 0 {
-        whole.end();
+    let claim = claim_whole(head, signature, least, accept)?;
+    if !has_bit(accept as u64, 0) && byte_sum(claim.shown()) != 0 {
+        claim.end();
         return Err(AcpiError::SdtInvalidChecksum(signature));
     }
-    Ok(PhysicalMapping::of_claim(whole))
+    Ok(ValidTable { claim })
+}
+
+/// The bytes of the table at a physical address, if it is accepted under a signature that is known only at run time, as
+/// one of a least length of which only the header and the sum matter (section 5.2.6). By bit 0 of `accept` its sum may
+/// be any, by bit 1 both of its ids, and by 0 it has to be valid.
+///
+/// Fails as `map_table` does for a type with that signature and least length, but for the checks that are given up.
+#[inline(always)]
+#[tactic(auto, using(crate::proofs::AllowedRanges::asked_header, crate::proofs::AllowedRanges::asked_whole))]
+pub fn valid_by<'h, H: Lender>(
+    handler: &'h H,
+    address: u64,
+    signature: Signature,
+    least: usize,
+    accept: u32,
+) -> AcpiResult<ValidTable<'h, H>>
+    requires least { 36 ≤ least }
+    requires asked { Allows (H.may handler.now) (table_ranges (H.memory handler.now)
+        (accepted accept (sdt_kind signature least)) address) }
+    ensures place { IfOk result (λ v. claimed_at v.claim ≡ address) }
+    ensures handler { IfOk result (λ v. claimed_from v.claim ≡ handler.now) }
+    ensures least { IfOk result (λ v. least ≤ length (shown_by v.claim)) }
+    ensures short { IfOk result (λ v. length (shown_by v.claim) < 2 ^ 32) }
+    ensures ends { IfOk result (λ v. claimed_at v.claim + length (shown_by v.claim) < 2 ^ 64) }
+    // However many bytes were lent, all of them are the memory's.
+    ensures lent { IfOk result (λ v. IsLentOf (H.memory handler.now) v.claim) }
+    ensures table { Gives (λ v. shown_by v.claim) result
+        (table_at (H.memory handler.now) (accepted accept (sdt_kind signature least)) address) }
+{
+    let head = claim_header(handler, address, signature)?;
+    claim_by(head, signature, least, accept)
+}
+
+/// The bytes of the table at a physical address, if it is accepted so under the signature that it has itself, whatever
+/// that is, with the least length 36 (section 5.2.6).
+///
+/// Fails as `valid_by` does for that signature.
+#[inline(always)]
+#[tactic(auto, unfolding(crate::specs::Accepted::own_accepted))]
+pub fn own_valid_by<'h, H: Lender>(
+    handler: &'h H,
+    address: u64,
+    accept: u32,
+) -> AcpiResult<ValidTable<'h, H>>
+    requires { Allows (H.may handler.now) (own_accepted_ranges accept (H.memory handler.now) address) }
+    ensures place { IfOk result (λ v. claimed_at v.claim ≡ address) }
+    ensures handler { IfOk result (λ v. claimed_from v.claim ≡ handler.now) }
+    ensures least { IfOk result (λ v. 36 ≤ length (shown_by v.claim)) }
+    ensures short { IfOk result (λ v. length (shown_by v.claim) < 2 ^ 32) }
+    ensures ends { IfOk result (λ v. claimed_at v.claim + length (shown_by v.claim) < 2 ^ 64) }
+    // However many bytes were lent, all of them are the memory's.
+    ensures lent { IfOk result (λ v. IsLentOf (H.memory handler.now) v.claim) }
+    ensures table { Gives (λ v. shown_by v.claim) result (own_accepted accept (H.memory handler.now) address) }
+{
+    let head = Claim::request(handler, address, SdtHeader::MIN_LENGTH)?;
+    let signature = Signature::leading(head.shown());
+    claim_by(head, signature, SdtHeader::MIN_LENGTH, accept)
 }
 
 /// The table at a physical address under a signature that is known only at run time, mapped as its header
@@ -203,7 +266,6 @@ fn map_by_header_and_sum<'h, H: Lender>(
 ///
 /// Fails as `map_table` does for a type with that signature, the least length 36 and these checks.
 #[inline(always)]
-#[tactic(auto, using(crate::proofs::AllowedRanges::asked_header, crate::proofs::AllowedRanges::asked_whole))]
 pub fn map_sdt<'h, H: Lender>(
     handler: &'h H,
     address: u64,
@@ -220,15 +282,16 @@ pub fn map_sdt<'h, H: Lender>(
     ensures table { Gives (λ m. bytes_of m) result
         (table_at (H.memory handler.now) (plain_kind signature) address) }
 {
-    let head = claim_header(handler, address, signature)?;
-    map_by_header_and_sum(head, signature)
+    let valid = valid_by(handler, address, signature, SdtHeader::MIN_LENGTH, 0)?;
+    Ok(valid.mapping())
 }
 
 /// The table at a physical address under the signature that it has itself, whatever that is, mapped as
 /// its header (section 5.2.6).
 ///
 /// Fails as `map_sdt` does for that signature.
-#[tactic(auto, using(crate::proofs::AllowedRanges::asked_own_header, crate::proofs::AllowedRanges::asked_own), unfolding(crate::specs::Table::own_table_at))]
+#[inline(always)]
+#[tactic(auto, unfolding(crate::specs::Table::own_table_at, crate::specs::Accepted::own_accepted))]
 pub fn map_own_sdt<'h, H: Lender>(
     handler: &'h H,
     address: u64,
@@ -241,7 +304,6 @@ pub fn map_own_sdt<'h, H: Lender>(
     ensures short { IfOk result (λ m. length (bytes_of m) < 2 ^ 32) }
     ensures table { Gives (λ m. bytes_of m) result (own_table_at (H.memory handler.now) address) }
 {
-    let head = Claim::request(handler, address, SdtHeader::MIN_LENGTH)?;
-    let signature = Signature::leading(head.shown());
-    map_by_header_and_sum(head, signature)
+    let valid = own_valid_by(handler, address, 0)?;
+    Ok(valid.mapping())
 }
