@@ -1,5 +1,6 @@
-//! Laws of the definitions of memory, numbers, codes, entries, pointers, lookups, the search, members and places.
-ghost use Rattle.acpi_base.specs.Words.{CodesDecode, CutIsCut, OneCut, FieldPastEnd, LentIsInside, NamesAreSpelled};
+//! Laws of the definitions of memory, numbers, codes, entries, pointers, lookups, what is accepted, the search, members
+//! and places.
+ghost use Rattle.acpi_base.specs.Words.{AcceptsNothing, AcceptsValid, CodesDecode, CutIsCut, KeepsNames, KeepsSums, OneCut, FieldPastEnd, LentIsInside, NamesAreSpelled};
 ghost use Rattle.acpi_fixed.specs.Words.{ProfilesDecode};
 ghost use Rattle.acpi.specs.Words.{LookupIsFirst, OnePointers, SecondAreas, SkipsInvalid};
 ghost use Rattle.acpi_laws.specs.PlatformLaws.{FirstBoots, ListedOnce, PlatformIsTheirs, RegistersAreTheTables};
@@ -38,6 +39,13 @@ pub fn definitions_hold()
     ensures lookup { LookupIsFirst }
     // A member that isn't valid, put anywhere into the list of pointers, changes nothing in a lookup.
     ensures skips { SkipsInvalid }
+    // By an `accept` of 0 a kind of tables is as it was, so each call is that for valid tables.
+    ensures strict { AcceptsNothing }
+    // A table that is valid is accepted by any bits.
+    ensures valid { AcceptsValid }
+    // Bit 0 alone gives up the sum, and bit 1 alone the ids.
+    ensures sums_kept { KeepsSums }
+    ensures names_kept { KeepsNames }
     // The area that is searched second for the RSDP, for four words at 0x40e (section 5.2.5.1): the first KiB of an
     // EBDA in its place, 0x80000..0xa0000 for none and for one out of range, and the highest EBDA that is taken.
     ensures second_areas { SecondAreas }
