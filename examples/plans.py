@@ -38,16 +38,16 @@ def has_flag(fadt, bit):
 
 def plans(fadt, dsdt, unread=None):
     """The lines, by a FADT's bytes and those of its DSDT. Without the first no plan can be made, without the second
-    none that powers off: `unread` is then why. Of the FADT SMI_CMD is at 48, ACPI_ENABLE at 52, RESET_REG at 116 and
-    RESET_VALUE at 128."""
+    none that powers off: `unread` is then why. Of the FADT SMI_CMD is at 48, ACPI_ENABLE at 52, ACPI_DISABLE at 53,
+    RESET_REG at 116 and RESET_VALUE at 128."""
     if not fadt:
         return [line for name in ('off', 'reset', 'enable') for line in steps(name, unread)]
     fadt = bytes(fadt) + bytes(268)
-    command, value = struct.unpack_from('<IB', fadt, 48)
+    command, value, back = struct.unpack_from('<IBB', fadt, 48)
     control = struct.unpack_from('<I', fadt, 64)[0]
     space, at = struct.unpack_from('<BxxxQ', fadt, 116)
     enable = [('write', 1, command, 8, 0xff, value), ('wait', 1, control, 16, 1, 1)]
-    enable = enable if command and not has_flag(fadt, 20) else []
+    enable = enable if command and (value or back) and not has_flag(fadt, 20) else []
     reset = [('write', space, at, 8, 0xff, fadt[128])] if has_flag(fadt, 10) else 'NoReset'
     lines = steps('off', power_off(fadt, dsdt, unread)) + steps('reset', reset) + steps('enable', enable)
     return lines + ['enabled by steps %d' % len(enable)]

@@ -123,10 +123,12 @@ enum zacpi_status_code {
     ZACPI_NO_SUCH_FUNCTION = 32,        /* no region of configuration space contains it */
     ZACPI_NO_REGISTER = 33,             /* PM1a_CNT, on reduced hardware SLEEP_CONTROL_REG */
     ZACPI_NO_RESET = 34,                /* RESET_REG_SUP is clear, or RESET_REG at address 0 */
-    ZACPI_SLEEP_STATE_ABSENT = 35,      /* no table has the state's package */
-    ZACPI_SLEEP_STATE_NOT_SEEN = 36,    /* a table may have it, if its AML is run */
-    ZACPI_AML_INVALID = 37,             /* the AML of the table whose signature is written can't be
-                                         * passed, or the package isn't one of constants */
+    ZACPI_SLEEP_STATE_ABSENT = 35,      /* no table defines the state's name */
+    ZACPI_SLEEP_STATE_NOT_SEEN = 36,    /* a table may define it, if its AML is run, or defines it,
+                                         * but not as a package of constants */
+    ZACPI_AML_INVALID = 37,             /* the table whose signature is written has bytes that no
+                                         * AML is (section 20.2) */
+    ZACPI_SLEEP_TYPE_TOO_HIGH = 38,     /* above 7, where SLP_TYP has three bits */
 
     /* The MADT (section 5.2.12). An entry begins, from byte 44 on, where its Length is at most the
      * bytes left and at least 8, 12, 10, 8, 6, 12, 16, 16, 16, 16, 12, 76, 24, 24, 16, 20 and 16
@@ -194,7 +196,8 @@ static inline const char *zacpi_status_name(zacpi_status status) {
         "20:SdtInvalidSignature\0""21:SdtInvalidOemId\0""22:SdtInvalidTableId\0"
         "23:SdtInvalidLength\0""24:SdtInvalidChecksum\0""25:TableMissing\0""30:InvalidDsdtAddress\0"
         "31:InvalidGenericAddress\0""32:NoSuchFunction\0""33:NoRegister\0""34:NoReset\0"
-        "35:SleepStateAbsent\0""36:SleepStateNotSeen\0""37:AmlInvalid\0""40:NoApics\0""41:NoGic\0"
+        "35:SleepStateAbsent\0""36:SleepStateNotSeen\0""37:AmlInvalid\0"
+        "38:SleepTypeTooHigh\0""40:NoApics\0""41:NoGic\0"
         "42:NoSuchInterrupt\0""43:NoSuchIoApic\0""44:InvalidMadt UnexpectedEntry\0"
         "45:InvalidMadt InterruptOverrideEntryHasInvalidBus\0""46:InvalidMadt InvalidLocalNmiLine\0"
         "47:InvalidMadt MpsIntiInvalidPolarity\0""48:InvalidMadt MpsIntiInvalidTriggerMode\0"
@@ -651,7 +654,8 @@ ZACPI_STATUS zacpi_get_sleep_types(const struct zacpi_source *source, uint32_t s
  * ZACPI_INVALID_DSDT_ADDRESS, an error of a table with "DSDT", ZACPI_AML_INVALID or
  * ZACPI_SLEEP_STATE_NOT_SEEN of the first table with one of them, or ZACPI_SLEEP_STATE_ABSENT; then
  * with ZACPI_TABLE_MISSING "FACP", ZACPI_INVALID_GENERIC_ADDRESS, ZACPI_NO_REGISTER if PM1a_CNT or
- * SLEEP_CONTROL_REG is absent or at address 0, or ZACPI_INVALID_GENERIC_ADDRESS of PM1b_CNT. */
+ * SLEEP_CONTROL_REG is absent or at address 0, ZACPI_INVALID_GENERIC_ADDRESS of PM1b_CNT, or
+ * ZACPI_SLEEP_TYPE_TOO_HIGH of a type that would be written. */
 ZACPI_STATUS zacpi_get_sleep_plan(const struct zacpi_source *source, uint32_t state,
                                   struct zacpi_plan *out, struct zacpi_signature *signature);
 
@@ -661,7 +665,8 @@ ZACPI_STATUS zacpi_get_sleep_plan(const struct zacpi_source *source, uint32_t st
  * ZACPI_INVALID_DSDT_ADDRESS, an error of a table with "DSDT", ZACPI_AML_INVALID or
  * ZACPI_SLEEP_STATE_NOT_SEEN of the first table with one of them, or ZACPI_SLEEP_STATE_ABSENT; then
  * with ZACPI_TABLE_MISSING "FACP", ZACPI_INVALID_GENERIC_ADDRESS, ZACPI_NO_REGISTER if PM1a_CNT or
- * SLEEP_CONTROL_REG is absent or at address 0, or ZACPI_INVALID_GENERIC_ADDRESS of PM1b_CNT. */
+ * SLEEP_CONTROL_REG is absent or at address 0, ZACPI_INVALID_GENERIC_ADDRESS of PM1b_CNT, or
+ * ZACPI_SLEEP_TYPE_TOO_HIGH of a type that would be written. */
 ZACPI_STATUS zacpi_get_power_off_plan(const struct zacpi_source *source, struct zacpi_plan *out,
                                       struct zacpi_signature *signature);
 
@@ -672,9 +677,12 @@ ZACPI_STATUS zacpi_get_reset_plan(const struct zacpi_source *source, struct zacp
                                   struct zacpi_signature *signature);
 
 /* Returns what to write to enable ACPI: ACPI_ENABLE to the port SMI_CMD, then until SCI_EN of
- * PM1a_CNT is set (section 4.8.3.2.1). No step on reduced hardware, nor if SMI_CMD is 0. Fails with
- * an opening error, or ZACPI_TABLE_MISSING "FACP", and else, unless there is no step, with
- * ZACPI_INVALID_GENERIC_ADDRESS, or ZACPI_NO_REGISTER if PM1a_CNT is at address 0. */
+ * PM1a_CNT is set (section 4.8.3.2.1). No step on a machine that is always in ACPI mode: on reduced
+ * hardware, and if SMI_CMD is 0, or ACPI_ENABLE and ACPI_DISABLE both are (section 5.2.9). If
+ * SCI_EN is set already, ACPI is enabled: look at the register of the last step before the first
+ * one, and run none. Fails with an opening error, or ZACPI_TABLE_MISSING "FACP", and else, unless
+ * there is no step, with ZACPI_INVALID_GENERIC_ADDRESS, or ZACPI_NO_REGISTER if PM1a_CNT is at
+ * address 0. */
 ZACPI_STATUS zacpi_get_enable_plan(const struct zacpi_source *source, struct zacpi_plan *out,
                                    struct zacpi_signature *signature);
 

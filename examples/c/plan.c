@@ -56,14 +56,25 @@ static void write_bits(const struct place *place, const struct zacpi_step *step)
     const uint32_t kept = (step->mask & all) == all ? 0 : read_place(place) & ~step->mask;
     write_place(place, kept | (step->value & step->mask));
 }
+static int has_bits(const struct place *place, const struct zacpi_step *step) {
+    return (read_place(place) & step->mask) == (step->value & step->mask);
+}
 static int wait_for_bits(const struct place *place, const struct zacpi_step *step) {
     for (uint32_t reads = 0; reads < MOST_READS; reads++, relax())
-        if ((read_place(place) & step->mask) == (step->value & step->mask)) return 1;
+        if (has_bits(place, step)) return 1;
     return 0;
+}
+
+/* Whether the last step waits for bits that are there before the first. */
+static int is_reached(const struct zacpi_plan *plan, plan_map *map) {
+    const struct zacpi_step *last = plan->steps + plan->count - 1;
+    struct place place;
+    return plan->count && last->kind == ZACPI_STEP_WAIT && find_place(last, map, &place) && has_bits(&place, last);
 }
 
 uint32_t run_plan(const struct zacpi_plan *plan, plan_map *map) {
     struct place place;
+    if (is_reached(plan, map)) return plan->count;
     for (uint32_t i = 0; i < plan->count; i++) {
         const struct zacpi_step *step = plan->steps + i;
         if (!find_place(step, map, &place)) return i;

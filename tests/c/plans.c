@@ -28,6 +28,19 @@ static void check(const char *name, struct zacpi_step tried, uint32_t run, uint1
     failed = 1;
 }
 
+/* Runs a plan that writes 0x56 and then waits for bit 0: so many steps are run, and this has to be written. */
+static void check_last(const char *name, uint16_t bit, uint32_t run, uint16_t written) {
+    struct zacpi_plan plan = {{{{{0, 0, 0, 0, 0}, 0}, 0, 0, 0, 0}}, 2};
+    uint32_t done;
+    registers[0] = bit, registers[2] = 0;
+    plan.steps[0] = step(4, 8, 0xff, 0x56, ZACPI_STEP_WRITE);
+    plan.steps[1] = step(0, 16, 1, 1, ZACPI_STEP_WAIT);
+    done = run_plan(&plan, map);
+    if (done == run && registers[2] == written) return;
+    printf("%s: %u steps, %x\n", name, done, registers[2]);
+    failed = 1;
+}
+
 int main(void) {
     struct zacpi_step other = step(0, 16, 1, 1, ZACPI_STEP_WRITE);
     check("bits 10 to 13 of 16", step(0, 16, 0x3c00, 0x3400, ZACPI_STEP_WRITE), 3, 0xb605);
@@ -46,5 +59,7 @@ int main(void) {
     check("a port above 0xffff", other, 1, 0x8a05);
     other = step(0, 16, 1, 0, ZACPI_STEP_WRITE), other.at.present = 0;
     check("no register", other, 1, 0x8a05);
+    check_last("a last bit that is set before", 1, 2, 0);
+    check_last("a last bit that stays clear", 0, 1, 0x56);
     return failed;
 }

@@ -24,17 +24,17 @@ ONE(get_enable_plan, plan, of_plan, )
 #define ONE_STEP(...) __VA_ARGS__, NO_STEP, NO_STEPS_6, 1
 #define TWO_STEPS(...) __VA_ARGS__, NO_STEPS_6, 2
 #define NO_STEPS NO_STEP, NO_STEP, NO_STEPS_6, 0
-/* SLP_TYP 5 at bit 10 and SLP_EN at bit 13: 0x1400 and 0x2000. Of type 14 only the three low bits count, 6. */
+/* SLP_TYP 5 and 6 at bit 10, 0x1400 and 0x1800, and SLP_EN at bit 13, 0x2000. */
 #define PM1A STEP(1, 16, 0, 0x604, 0x3c00, 0x3400, 16, ZACPI_STEP_WRITE)
 #define PM1B STEP(1, 16, 0, 0x704, 0x3c00, 0x3800, 16, ZACPI_STEP_WRITE)
 /* SLP_TYP 5 at bit 2 and SLP_EN at bit 5: 0x14 and 0x20. */
 #define SLEEP_CONTROL STEP(0, 8, 1, 0xfee00010, 0x3c, 0x34, 8, ZACPI_STEP_WRITE)
 
 static const struct row power_rows[] = {
-    GOOD(get_sleep_types, POWER, NULL, A(5), 1, 5, 14),
+    GOOD(get_sleep_types, POWER, NULL, A(5), 1, 5, 6),
     GOOD(get_sleep_types, REDUCED, NULL, A(5), 1, 5, 1),
-    GOOD(get_sleep_types, BROKEN, NULL, A(5), 1, 5, 14), /* the DSDT has an error */
-    GOOD(get_sleep_types, FADTLESS, NULL, A(5), 1, 5, 14),
+    GOOD(get_sleep_types, BROKEN, NULL, A(5), 1, 5, 6), /* the DSDT has an error */
+    GOOD(get_sleep_types, FADTLESS, NULL, A(5), 1, 5, 6),
     REFUSED(get_sleep_types, POWER, NULL, A(3), ZACPI_SLEEP_STATE_NOT_SEEN, NULL), /* a method in the DSDT */
     REFUSED(get_sleep_types, POWER, NULL, A(4), ZACPI_SLEEP_STATE_ABSENT, NULL),
     REFUSED(get_sleep_types, POWER, NULL, A(6), ZACPI_NO_SUCH_STATE, NULL),
@@ -45,6 +45,10 @@ static const struct row power_rows[] = {
     REFUSED(get_sleep_types, HOLES, NULL, A(5), ZACPI_MAP_FAILED, NULL), /* the DSDT isn't mapped */
     REFUSED(get_sleep_types, DESKTOP, NULL, A(5), ZACPI_INVALID_DSDT_ADDRESS, NULL),
     REFUSED(get_sleep_types, EMPTY, NULL, A(6), ZACPI_NO_SUCH_STATE, NULL),
+    GOOD(get_sleep_types, HIGH, NULL, A(5), 1, 8, 1),
+    GOOD(get_sleep_types, HIGH, NULL, A(2), 1, 5, 6), /* in a scope of the root in another */
+    REFUSED(get_sleep_types, HIGH, NULL, A(3), ZACPI_SLEEP_STATE_NOT_SEEN, NULL), /* in a scope that is passed */
+    REFUSED(get_sleep_types, HIGH, NULL, A(1), ZACPI_SLEEP_STATE_NOT_SEEN, NULL), /* StoreOp */
 
     GOOD(get_sleep_plan, POWER, NULL, A(5), 1, TWO_STEPS(PM1A, PM1B)),
     GOOD(get_sleep_plan, PLAIN, NULL, A(5), 1, ONE_STEP(PM1A)),
@@ -54,6 +58,12 @@ static const struct row power_rows[] = {
     REFUSED(get_sleep_plan, BARE, NULL, A(5), ZACPI_NO_REGISTER, NULL),
     REFUSED(get_sleep_plan, BROKEN, NULL, A(5), ZACPI_NO_REGISTER, NULL),
     REFUSED(get_sleep_plan, FADTLESS, NULL, A(5), ZACPI_TABLE_MISSING, "FACP"),
+    REFUSED(get_sleep_plan, HIGH, NULL, A(5), ZACPI_SLEEP_TYPE_TOO_HIGH, NULL), /* of PM1a_CNT */
+    REFUSED(get_sleep_plan, HIGH, NULL, A(4), ZACPI_SLEEP_TYPE_TOO_HIGH, NULL), /* of PM1b_CNT */
+    REFUSED(get_sleep_plan, HIGH, NULL, A(3), ZACPI_SLEEP_STATE_NOT_SEEN, NULL),
+    GOOD(get_sleep_plan, HIGH_PLAIN, NULL, A(4), 1,
+         ONE_STEP(STEP(1, 16, 0, 0x604, 0x3c00, 0x3c00, 16, ZACPI_STEP_WRITE))), /* SLP_TYP 7 */
+    REFUSED(get_power_off_plan, HIGH, NULL, NO, ZACPI_SLEEP_TYPE_TOO_HIGH, NULL),
     GOOD(get_power_off_plan, POWER, NULL, NO, 1, TWO_STEPS(PM1A, PM1B)),
     GOOD(get_power_off_plan, REDUCED, NULL, NO, 1, ONE_STEP(SLEEP_CONTROL)),
     REFUSED(get_power_off_plan, BARE, NULL, NO, ZACPI_NO_REGISTER, NULL),
@@ -67,6 +77,7 @@ static const struct row power_rows[] = {
                                                          STEP(1, 16, 0, 0x604, 1, 1, 16, ZACPI_STEP_WAIT))),
     GOOD(get_enable_plan, REDUCED, NULL, NO, 1, NO_STEPS),
     GOOD(get_enable_plan, PLAIN, NULL, NO, 1, NO_STEPS),
+    GOOD(get_enable_plan, HIGH, NULL, NO, 1, NO_STEPS),
     REFUSED(get_enable_plan, BROKEN, NULL, NO, ZACPI_NO_REGISTER, NULL),
     REFUSED(get_enable_plan, PC, NULL, NO, ZACPI_INVALID_GENERIC_ADDRESS, NULL), /* X_PM1a_CNT_BLK */
 };

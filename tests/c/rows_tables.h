@@ -6,7 +6,7 @@
 #include "zacpi.h"
 
 #define BASE 0x100000u
-#define SIZE 0x18000u
+#define SIZE 0x1a000u
 #define AT(n) (BASE + 0x200u * (n))       /* where table N lies */
 #define TAIL (BASE + SIZE - 36u)          /* the last 36 bytes: a header whose table isn't lent as a whole */
 #define CUT(n) (0x180000u + 0x1000u * (n)) /* three regions with the first bytes of a table each */
@@ -32,7 +32,8 @@ struct put {
 enum { EMPTY, ARM, PC, ODD, HOLES, SUM, DESKTOP, MOBILE, WORKSTATION, SERVER, SOHO, APPLIANCE, PERFORMANCE, TABLET,
        RESERVED, WIDE, TIMER_5, LEAST, OLD, HALF, HALF_X, UNITS, UNITS_10, UNITS_CUT,
        UNITS_END, SAPIC_BETWEEN, NMI_2, LENGTH_0, NO_FADT, BUS_1, TRIGGER_2, LINT_2, HPETS, MAILBOX, POWER,
-       REDUCED, PLAIN, BARE, BROKEN, FADTLESS, FAULTS, FRONTS, UNITS_BETWEEN, UNITS_FAULTS, UNITS_LATER, RISCV,
+       REDUCED, PLAIN, BARE, BROKEN, FADTLESS, HIGH, HIGH_PLAIN, FAULTS, FRONTS, UNITS_BETWEEN, UNITS_FAULTS,
+       UNITS_LATER, RISCV,
        RISCV_CUT, FLAWED, LED_BY_SUMS, LED_BY_IDS, ROOT_OEM_ID, ROOT_LONG, /* root tables, in the order of `tables` */
        RSDP_0, RSDP_2, RSDP_40, RSDP_MIXED, RSDP_LONG, RSDP_LOST, RSDP_CUT, RSDP_SHORT, RSDP_TO_SUM,
        RSDP_NONE, /* RSDPs, and the last one is none */
@@ -45,7 +46,8 @@ enum { EMPTY, ARM, PC, ODD, HOLES, SUM, DESKTOP, MOBILE, WORKSTATION, SERVER, SO
        OEM2_35, OEM2_36, FADT_OLD, MADT_OLD, GTDT_OLD, SRAT_OLD, OEM_BYTE, FADT_HALF, SPCR_HALF, GTDT_HALF, MADT_HALF,
        MCFG_HALF, FADT_HALF_X, DMAR, DMAR_CUT, DMAR_END, DMAR_47, DMAR_48, IVRS, IVRS_10, IVRS_CUT, IVRS_END, IVRS_47,
        IVRS_48, MADT_SAPIC_BETWEEN, MADT_NMI_2, MADT_LENGTH_0, MADT_BUS_1, MADT_TRIGGER_2, MADT_LINT_2, MADT_MAILBOX,
-       FADT_POWER, FADT_REDUCED, FADT_PLAIN, FADT_BARE, FADT_BROKEN, DSDT_POWER, DSDT_S5, SSDT_S5, MADT_NO_GICD,
+       FADT_POWER, FADT_REDUCED, FADT_PLAIN, FADT_BARE, FADT_BROKEN, FADT_HIGH, DSDT_POWER, DSDT_S5, DSDT_HIGH,
+       SSDT_S5, SSDT_HIGH, MADT_NO_GICD,
        MADT_FRONT, GTDT_FAULTS, GTDT_FRONT, SRAT_FAULTS, SRAT_FRONT, DMAR_BETWEEN, DMAR_FAULTS, DMAR_LATER,
        IVRS_BETWEEN, IVRS_FAULTS, MADT_RISCV, MADT_RISCV_CUT, MADT_BOTH, MADT_OEM_ID, MADT_TABLE_ID, MADT_SUM,
        MADT_VALID, MADT_LOST, FADT_SUM, FADT_OEM_ID, DSDT_SUM, DSDT_TABLE_ID, SSDT_SUM, HPET_SUM };
@@ -275,7 +277,8 @@ static const struct table {
     {AT(TRIGGER_2), "RSDT", 1, 44, trigger_2}, {AT(LINT_2), "RSDT", 1, 44, lint_2},
     {AT(HPETS), "RSDT", 1, 52, hpets}, {AT(MAILBOX), "RSDT", 1, 40, mailbox}, {AT(POWER), "RSDT", 1, 48, power},
     {AT(REDUCED), "RSDT", 1, 40, reduced}, {AT(PLAIN), "RSDT", 1, 40, plain}, {AT(BARE), "RSDT", 1, 40, bare},
-    {AT(BROKEN), "RSDT", 1, 44, broken}, {AT(FADTLESS), "RSDT", 1, 40, fadtless}, {AT(FAULTS), "RSDT", 1, 48, faults},
+    {AT(BROKEN), "RSDT", 1, 44, broken}, {AT(FADTLESS), "RSDT", 1, 40, fadtless},
+    {AT(HIGH), "RSDT", 1, 44, high}, {AT(HIGH_PLAIN), "RSDT", 1, 44, high_plain}, {AT(FAULTS), "RSDT", 1, 48, faults},
     {AT(FRONTS), "RSDT", 1, 48, fronts}, {AT(RISCV), "RSDT", 1, 40, riscv}, {AT(RISCV_CUT), "RSDT", 1, 40, riscv_cut},
     {AT(FLAWED), "RSDT", 1, 60, flawed}, {AT(LED_BY_SUMS), "RSDT", 1, 52, led_by_sums},
     {AT(LED_BY_IDS), "RSDT", 1, 44, led_by_ids}, {AT(ROOT_OEM_ID), "RSDT", 1, 40, root_oem_id},
@@ -332,6 +335,8 @@ static const struct table {
     {AT(MADT_MAILBOX), "APIC", 5, 85, madt_mailbox}, {AT(FADT_POWER), "FACP", 3, 244, fadt_power},
     {AT(FADT_REDUCED), "FACP", 5, 268, fadt_reduced}, {AT(FADT_PLAIN), "FACP", 3, 244, fadt_plain},
     {AT(FADT_BARE), "FACP", 3, 244, fadt_bare}, {AT(FADT_BROKEN), "FACP", 1, 116, fadt_broken},
+    {AT(FADT_HIGH), "FACP", 1, 116, fadt_high}, {AT(DSDT_HIGH), "DSDT", 2, 76, dsdt_high},
+    {AT(SSDT_HIGH), "SSDT", 2, 59, ssdt_high},
     {AT(DSDT_POWER), "DSDT", 2, 43, dsdt_power}, {AT(DSDT_S5), "DSDT", 2, 47, dsdt_s5},
     {AT(SSDT_S5), "SSDT", 2, 50, ssdt_s5}, {AT(MADT_NO_GICD), "APIC", 6, 146, madt_no_gicd},
     {AT(MADT_FRONT), "APIC", 6, 146, madt_front}, {AT(GTDT_FAULTS), "GTDT", 2, 256, gtdt_faults},

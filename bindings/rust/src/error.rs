@@ -52,12 +52,15 @@ pub enum AcpiError {
     NoSuchFunction,
     /// A sleep state is above 5.
     NoSuchState,
-    /// No table has the package of the sleep state (section 7.4.2).
+    /// No table defines the name of the sleep state (section 7.4.2).
     SleepStateAbsent,
-    /// A table may have the package of the sleep state, if its AML is run.
+    /// A table may define the name of the sleep state, if its AML is run, or defines it, but not as a package of
+    /// constants.
     SleepStateNotSeen,
-    /// The AML of a table can't be passed, or the package of the sleep state isn't one of constants.
+    /// A table has bytes that no AML is (section 20.2).
     AmlInvalid(Signature),
+    /// A sleep type is above 7, where SLP_TYP has three bits (section 4.8.3.2.1).
+    SleepTypeTooHigh,
     /// The FADT has no PM1a_CNT, or on reduced hardware no SLEEP_CONTROL_REG (section 5.2.9).
     NoRegister,
     /// RESET_REG_SUP of the FADT is clear, or RESET_REG is at address 0 (section 4.8.3.6).
@@ -145,6 +148,7 @@ impl AcpiError {
             35 => SleepStateAbsent,
             36 => SleepStateNotSeen,
             37 => AmlInvalid(named),
+            38 => SleepTypeTooHigh,
             40 => NoApics,
             41 => NoGic,
             42 => NoSuchInterrupt,

@@ -115,8 +115,7 @@ impl<'k> AcpiTables<'k> {
     /// has them, of the DSDT and then the SSDTs.
     ///
     /// Fails with `NoSuchState` above 5. If no block has them, it fails with what [`AcpiTables::dsdt`] fails with, with
-    /// `AmlInvalid` or with `SleepStateNotSeen`, as the first block does that isn't read to its end, and else with
-    /// `SleepStateAbsent`.
+    /// `AmlInvalid` or with `SleepStateNotSeen` of the first block with one of them, and else with `SleepStateAbsent`.
     pub fn sleep_types(&self, state: u32) -> AcpiResult<SleepTypes> {
         raw::zacpi_1_get_sleep_types(&self.source(), state)
     }
@@ -126,7 +125,7 @@ impl<'k> AcpiTables<'k> {
     ///
     /// Fails as [`AcpiTables::sleep_types`] does; then with `TableMissing` for the FADT, with `InvalidGenericAddress`
     /// for PM1a_CNT or on reduced hardware SLEEP_CONTROL_REG, with `NoRegister` if there is none, or it is at address
-    /// 0, and with `InvalidGenericAddress` for PM1b_CNT.
+    /// 0, with `InvalidGenericAddress` for PM1b_CNT, and with `SleepTypeTooHigh` of a type that would be written.
     pub fn sleep_plan(&self, state: u32) -> AcpiResult<Plan> {
         Plan::of(raw::zacpi_1_get_sleep_plan(&self.source(), state)?)
     }
@@ -142,9 +141,11 @@ impl<'k> AcpiTables<'k> {
         Plan::of(raw::zacpi_1_get_reset_plan(&self.source())?)
     }
 
-    /// What enables ACPI, and waits until it is enabled (section 4.8.3.2.1): no step on reduced hardware, nor if
-    /// SMI_CMD is 0. Fails with `TableMissing` for the FADT, and unless there is no step with `InvalidGenericAddress`,
-    /// or with `NoRegister` if PM1a_CNT is at address 0.
+    /// What enables ACPI, and waits until it is enabled (section 4.8.3.2.1): no step on a machine that is always in
+    /// ACPI mode, on reduced hardware, and if SMI_CMD is 0, or ACPI_ENABLE and ACPI_DISABLE both are (section 5.2.9).
+    /// If SCI_EN is set already, ACPI is enabled: [`Step::is_reached`] tells it of the last step's register, before the
+    /// first step, and then none is to be taken. Fails with `TableMissing` for the FADT, and unless there is no step
+    /// with `InvalidGenericAddress`, or with `NoRegister` if PM1a_CNT is at address 0.
     pub fn enable_plan(&self) -> AcpiResult<Plan> {
         Plan::of(raw::zacpi_1_get_enable_plan(&self.source())?)
     }

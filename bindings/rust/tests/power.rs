@@ -53,6 +53,14 @@ fn sleep_types_are_constants_of_aml() {
     let branch = [&[0xa0, 2 + S5.len() as u8, 1], S5].concat();
     assert_eq!(types(&branch, &[], 5), Err(AcpiError::SleepStateNotSeen));
     assert_eq!(types(&branch, S5, 5), Ok(SleepTypes { a: 5, b: 7 }));
+    // ScopeOp, PkgLength, _SB_; and two of \, one in the other.
+    let other = [&[0x10, 5 + S5.len() as u8], &b"_SB_"[..], S5].concat();
+    assert_eq!(types(&other, &[], 5), Err(AcpiError::SleepStateNotSeen));
+    assert_eq!(types(&other, &[], 4), Err(AcpiError::SleepStateAbsent));
+    let root = [&[0x10, 7 + S5.len() as u8], &b"\\\0"[..], &[0x10, 3 + S5.len() as u8], b"\\\0", S5].concat();
+    assert_eq!(types(&root, &[], 5), Ok(SleepTypes { a: 5, b: 7 }));
+    // StoreOp.
+    assert_eq!(types(b"\x70\x01\x60", &[], 5), Err(AcpiError::SleepStateNotSeen));
     // The package ends after the block.
     assert_eq!(types(&S5[..S5.len() - 1], &[], 5), Err(AcpiError::AmlInvalid(Signature::DSDT)));
 }
@@ -65,6 +73,12 @@ fn powers_off_by_pm1_control() {
     assert_eq!(off(&[]), Ok(vec![a]));
     assert_eq!(off(&[(68, 4, 0x614)]), Ok(vec![a, (1, 0x614, 16, 0x3c00, 0x3c00, false)]));
     assert_eq!(off(&[(64, 4, 0)]), Err(AcpiError::NoRegister));
+    // Name (_S5, Package {7, 8}): the second is written to PM1b_CNT alone.
+    let high = |fields: &[Field]| {
+        machine(fields, b"\x08_S5_\x12\x06\x02\x0a\x07\x0a\x08", S3).ask(|tables| steps(tables.power_off_plan()))
+    };
+    assert_eq!(high(&[]), Ok(vec![(1, 0x604, 16, 0x3c00, 0x3c00, false)]));
+    assert_eq!(high(&[(68, 4, 0x614)]), Err(AcpiError::SleepTypeTooHigh));
     let sleep = |state| machine(&[], S5, S3).ask(|tables| steps(tables.sleep_plan(state)));
     assert_eq!(sleep(3), Ok(vec![(1, 0x604, 16, 0x3c00, 0x2400, false)]));
     assert_eq!(sleep(2), Err(AcpiError::SleepStateAbsent));
@@ -91,6 +105,10 @@ fn acpi_is_enabled_by_a_port() {
     let enable = |fields: &[Field]| machine(fields, S5, S3).ask(|tables| steps(tables.enable_plan()));
     assert_eq!(enable(&[]), Ok(vec![(1, 0xb2, 8, 0xff, 0xa0, false), (1, 0x604, 16, 1, 1, true)]));
     assert_eq!(enable(&[(48, 4, 0)]), Ok(vec![]));
+    // ACPI_DISABLE is at 53.
+    assert_eq!(enable(&[(52, 1, 0)]), Ok(vec![]));
+    let zero = Ok(vec![(1, 0xb2, 8, 0xff, 0, false), (1, 0x604, 16, 1, 1, true)]);
+    assert_eq!(enable(&[(52, 1, 0), (53, 1, 0xa1)]), zero);
     assert_eq!(enable(&[(64, 4, 0)]), Err(AcpiError::NoRegister));
 }
 

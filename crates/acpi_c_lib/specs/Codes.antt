@@ -69,6 +69,7 @@ code_of refusal.NoReset = 34
 code_of refusal.SleepStateAbsent = 35
 code_of refusal.SleepStateNotSeen = 36
 code_of (refusal.AmlInvalid s) = 37
+code_of refusal.SleepTypeTooHigh = 38
 code_of refusal.NoApics = 40
 code_of refusal.NoGic = 41
 code_of refusal.NoSuchInterrupt = 42

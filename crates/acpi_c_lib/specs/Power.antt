@@ -14,7 +14,7 @@ use Rattle.acpi_c_lib.specs.Accepted.{accepted_at, accepted_lookup}
 use Rattle.acpi_c_lib.specs.Answers.{result_map}
 use Rattle.acpi_c_lib.specs.Below.{Refusal, Source, below, first_table}
 use Rattle.acpi_c_lib.specs.Devices.{flag, optional_register}
-use Rattle.acpi_c_lib.specs.Types.{Acpi, AmlInvalid, NoRegister, NoReset, NoSuchState, Plan, PlanError, PlanStep, SleepError, SleepStateAbsent, SleepStateNotSeen, SleepTypes, Step, StepKind}
+use Rattle.acpi_c_lib.specs.Types.{Acpi, AmlInvalid, NoRegister, NoReset, NoSuchState, Plan, PlanError, PlanStep, SleepError, SleepStateAbsent, SleepStateNotSeen, SleepTypeTooHigh, SleepTypes, Step, StepKind}
 use Rattle.acpi_c_lib.specs.Records as records
 use Rattle.acpi_c_lib.specs.Walked.{tables_accepted}
 
@@ -29,6 +29,7 @@ sleep_refusal (errors.Acpi e) = Acpi e
 abbrev pub plan_refusal : PlanError → Refusal
 plan_refusal plans.NoRegister = NoRegister
 plan_refusal plans.NoReset = NoReset
+plan_refusal plans.SleepTypeTooHigh = SleepTypeTooHigh
 plan_refusal (plans.BadRegister e) = Acpi e
 
 -- ---- sleep types

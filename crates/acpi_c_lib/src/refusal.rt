@@ -25,6 +25,7 @@ pub enum Refusal {
     SleepStateNotSeen,
     /// The AML is that of a table of this signature.
     AmlInvalid(Signature),
+    SleepTypeTooHigh,
     NoApics,
     NoGic,
     NoSuchInterrupt,
@@ -80,6 +81,7 @@ impl From<PlanError> for Refusal {
         match error {
             PlanError::NoRegister => Refusal::NoRegister,
             PlanError::NoReset => Refusal::NoReset,
+            PlanError::SleepTypeTooHigh => Refusal::SleepTypeTooHigh,
             PlanError::BadRegister(error) => Refusal::Acpi(error),
         }
     }
@@ -104,6 +106,7 @@ impl Refusal {
             Refusal::SleepStateAbsent => 35,
             Refusal::SleepStateNotSeen => 36,
             Refusal::AmlInvalid(_) => 37,
+            Refusal::SleepTypeTooHigh => 38,
             Refusal::NoApics => 40,
             Refusal::NoGic => 41,
             Refusal::NoSuchInterrupt => 42,

@@ -6,7 +6,8 @@ use crate::walk::ShowObjects;
 use acpi_sleep::AmlError;
 use acpi_sleep::block::block_at;
 use acpi_sleep::name::{Name, name_at};
-use acpi_sleep::term::{Part, opcode_at, parts_end, parts_of};
+use acpi_sleep::opcode::opcode_at;
+use acpi_sleep::term::{Part, parts_end, parts_of};
 use std::alloc::{AllocError, Global};
 
 /// How many objects are entered one in another at most, and how many segments a path has at most, so that the paths of
@@ -58,11 +59,7 @@ impl Ends {
                 at,
             ),
             Ends::Aml(AmlError::InvalidName(at)) => ("there is no name at #", at),
-            Ends::Aml(AmlError::NestedScope(at) | AmlError::NotPackage(at)) => (
-                "unexpected at #",
-                at,
-            ),
-            Ends::Aml(AmlError::UnknownTerm(at) | AmlError::NotConstant(at)) => {
+            Ends::Aml(AmlError::UnknownTerm(at) | AmlError::NotRead(at)) => {
                 ("no object of a known length begins at #", at)
             }
             Ends::Deep(at) => ("too many names lead to the object at #", at),

@@ -1,18 +1,15 @@
--- What is read of bytes is also read of them if more bytes follow.
-use Rattle.std.proofs.Common.{◌≡◌, ℕ, zero, suc, ◌+◌, ◌-◌, ◌*◌, ◌/◌, ◌%◌, ◌<◌, ◌≤◌, Bool, true, false, cond, List, [], ◌∷◌, ◌++◌, length, take, drop, Option, Some, None, Result, Ok, Err, refl, sym, ap, ◌∙◌, arith, leb, eqb, ok_or}
+-- What is read of bytes is also read of them if more bytes follow: blocks, names and arguments.
+use Rattle.std.proofs.Common.{◌≡◌, ℕ, zero, suc, ◌+◌, ◌-◌, ◌*◌, ◌/◌, ◌%◌, ◌<◌, ◌≤◌, Bool, true, false, cond, List, [], ◌∷◌, ◌++◌, length, take, drop, Option, Some, None, Result, Ok, Err, refl, sym, ap, ◌∙◌, arith, eqb, ok_or}
 use Rattle.std.specs.Prelude.{◌==◌, ◌&&◌, nat_le, nat_lt, slice_get, slice_index, not}
 use Rattle.std.specs.List.{position, prefix_len, take_while}
-use Rattle.std.specs.Option.{option_or}
 use Rattle.std.proofs.Math.ListN.{get_or-append}
-use Rattle.std.proofs.lemmas.Bool.{and_parts, le-leb, lt-leb, leb-true, leb-false, lt-ltb, ltb-true, eqb-true}
-use Rattle.std.proofs.lemmas.List.{drop-append-le, take-append-le, length-append, length-drop, length-take-le}
+use Rattle.std.proofs.lemmas.Bool.{and_parts, le-leb, leb-true, lt-ltb, ltb-true}
+use Rattle.std.proofs.lemmas.List.{drop-append-le, take-append-le, length-append, length-drop}
 use Rattle.std.proofs.lemmas.List.Folds.{length-prefix_len}
 use Rattle.std.proofs.lemmas.Option.{slice_get_within}
 use Rattle.acpi_base.proofs.Words.{bind_ok, holds_ok, same_ok}
 use Rattle.acpi_base.specs.Words.{field_of, number, ◌>>=◌}
-use Rattle.acpi_sleep.specs.Words.{AmlError, Block, Found, Name, NothingBehindMatters, On, Part, PastEnd, Place, SleepAnswer, SleepTypes, Step, Types, UnknownTerm, Unseen, alias_at, answer_past, argument_end, arguments_end, begins_name, block_at, block_end, byte_at, bytes_end, carets, first_place, integer_width, is_lead, is_letter, is_operator, is_single, is_state, many_at, method_at, name_at, name_end, name_of, named_at, object_at, opcode_at, operand_end, other_end, package_size, part_end, parts_end, parts_of, passed_at, path_at, scope_at, segment_end, segments_end, sleep_types_of, state_code, step_at, text_end, types_at, walked}
-use Rattle.acpi_sleep.specs.declared.term.Opcode.{Opcode}
-use Rattle.acpi_sleep.specs.declared.term.Part.TheVariants as part
+use Rattle.acpi_sleep.specs.Words.{no_operand, AmlError, Block, Name, PastEnd, argument_end, arguments_end, begins_name, block_at, block_end, byte_at, bytes_end, carets, integer_width, is_lead, is_letter, is_operator, is_single, many_at, name_at, name_end, name_of, operand_end, other_end, package_size, path_at, segment_end, segments_end, text_end}
 
 -- ---- choices
 
@@ -21,7 +18,7 @@ some_of None d x e = absurd cc
 some_of (Some y) d x e = cc
 
 -- each way that is taken stays
-stays_if : {A : Type 0} (b : Bool) (r s t u : Result A AmlError) (y : A) → (r ≡ Ok y → t ≡ Ok y) → (s ≡ Ok y
+pub stays_if : {A : Type 0} (b : Bool) (r s t u : Result A AmlError) (y : A) → (r ≡ Ok y → t ≡ Ok y) → (s ≡ Ok y
     → u ≡ Ok y) → cond b r s ≡ Ok y → cond b t u ≡ Ok y
 stays_if true r s t u y one other e = one e
 stays_if false r s t u y one other e = other e
@@ -33,7 +30,7 @@ get_stays [] ys i b e = absurd cc
 get_stays (x ∷ xs) ys zero b e = e
 get_stays (x ∷ xs) ys (suc i) b e = get_stays xs ys i b e
 
-byte_stays : (xs ys : List ℕ) (i b : ℕ) → byte_at xs i ≡ Ok b → byte_at (xs ++ ys) i ≡ Ok b
+pub byte_stays : (xs ys : List ℕ) (i b : ℕ) → byte_at xs i ≡ Ok b → byte_at (xs ++ ys) i ≡ Ok b
 byte_stays xs ys i b e = ap (λ o. ok_or o (PastEnd i)) (get_stays xs ys i b (some_of (slice_get xs i) (PastEnd i) b e))
 
 byte_within : (xs : List ℕ) (i b : ℕ) → byte_at xs i ≡ Ok b → i < length xs
@@ -42,12 +39,12 @@ byte_within xs i b e = slice_get_within xs i b (some_of (slice_get xs i) (PastEn
 le_stays : (xs ys : List ℕ) (n : ℕ) → nat_le n (length xs) ≡ true → nat_le n (length (xs ++ ys)) ≡ true
 le_stays xs ys n e = le-leb n (length (xs ++ ys)) (omega (arith, leb-true n (length xs) e, length-append xs ys))
 
-bytes_stay : (xs ys : List ℕ) (at n end : ℕ) → bytes_end xs at n ≡ Ok end → bytes_end (xs ++ ys) at n ≡ Ok end
+pub bytes_stay : (xs ys : List ℕ) (at n end : ℕ) → bytes_end xs at n ≡ Ok end → bytes_end (xs ++ ys) at n ≡ Ok end
 bytes_stay xs ys at n end e =
     let fits = holds_ok (nat_le (at + n) (length xs)) _ _ end e in
     rw (le_stays xs ys (at + n) fits.0) fits.1
 
-field_stays : (xs ys : List ℕ) (at n : ℕ) → at + n ≤ length xs → field_of (xs ++ ys) at n ≡ field_of xs at n
+pub field_stays : (xs ys : List ℕ) (at n : ℕ) → at + n ≤ length xs → field_of (xs ++ ys) at n ≡ field_of xs at n
 unfolding field_of
 field_stays xs ys at n fits =
     ap (λ l. number (take n l)) (drop-append-le at xs ys (omega (arith, fits))) ∙ ap number
@@ -74,14 +71,14 @@ block_of xs at b e =
     let both = and_parts _ _ fits.0 in
     record { lead = lead.0; read = lead.1; ordered = both.0; fits = both.1; same = cc }
 
-block_stays : (xs ys : List ℕ) (at : ℕ) (b : Block) → block_at xs at ≡ Ok b → block_at (xs ++ ys) at ≡ Ok b
+pub block_stays : (xs ys : List ℕ) (at : ℕ) (b : Block) → block_at xs at ≡ Ok b → block_at (xs ++ ys) at ≡ Ok b
 unfolding block_at
 block_stays xs ys at b e =
     let h = block_of xs at b e in
     let size = size_stays xs ys at h.lead (omega (arith, leb-true _ _ h.ordered, leb-true _ _ h.fits)) in
     rw (byte_stays xs ys at h.lead h.read, size, h.ordered, le_stays xs ys _ h.fits) (ap Ok (sym h.same))
 
-block_within : (xs : List ℕ) (at : ℕ) (b : Block) → block_at xs at ≡ Ok b → b.end ≤ length xs
+pub block_within : (xs : List ℕ) (at : ℕ) (b : Block) → block_at xs at ≡ Ok b → b.end ≤ length xs
 block_within xs at b e =
     let h = block_of xs at b e in
     omega (arith, leb-true _ _ h.fits, ap (λ (b : Block). b.end) h.same)
@@ -119,7 +116,7 @@ segments_stay (suc n) xs ys at end e =
     rw (segment_stays xs ys at first.0 first.1) (segments_stay n xs ys first.0 end first.2)
 
 -- a single segment lies within the bytes
-abbrev Single : List ℕ → Name → Type 0
+abbrev pub Single : List ℕ → Name → Type 0
 Single xs name = name.segments ≡ 1 → name.first + 4 ≤ length xs
 
 single_of : (xs : List ℕ) (ups segments first : ℕ) (name : Name) → name_of xs ups segments first ≡ Ok name
@@ -156,7 +153,7 @@ path_stays xs ys ups path name e =
     (name_of_stays xs ys ups 0 (path + 1) name) two lead.2)
 
 -- what holds whichever way is taken
-either_way : {A : Type 0} (P : Type 0) (b : Bool) (r s : Result A AmlError) (y : A) → (r ≡ Ok y → P) → (s ≡ Ok y
+pub either_way : {A : Type 0} (P : Type 0) (b : Bool) (r s : Result A AmlError) (y : A) → (r ≡ Ok y → P) → (s ≡ Ok y
     → P) → cond b r s ≡ Ok y → P
 either_way P true r s y one other e = one e
 either_way P false r s y one other e = other e
@@ -175,7 +172,7 @@ single_path xs ups path name e =
     let two = either_way (Single xs name) (lead.0 == 0x2E) _ _ name (single_of xs ups 2 (path + 1) name) one in
     either_way (Single xs name) (lead.0 == 0x00) _ _ name (single_of xs ups 0 (path + 1) name) two lead.2
 
-single_name : (xs : List ℕ) (at : ℕ) (name : Name) → name_at xs at ≡ Ok name → Single xs name
+pub single_name : (xs : List ℕ) (at : ℕ) (name : Name) → name_at xs at ≡ Ok name → Single xs name
 unfolding name_at
 single_name xs at name e =
     let first = bind_ok (byte_at xs at) _ name e in
@@ -201,7 +198,7 @@ carets_stay xs ys at less =
     length-prefix_len (λ (c : ℕ). c == 94) (drop at xs ++ ys) ∙ front_stays (λ (c : ℕ). c == 94) (drop at xs) ys
     (omega (arith, less, n, length-drop at xs)) ∙ sym n
 
-name_stays : (xs ys : List ℕ) (at : ℕ) (name : Name) → name_at xs at ≡ Ok name → name_at (xs ++ ys) at ≡ Ok name
+pub name_stays : (xs ys : List ℕ) (at : ℕ) (name : Name) → name_at xs at ≡ Ok name → name_at (xs ++ ys) at ≡ Ok name
 unfolding name_at
 name_stays xs ys at name e =
     let first = bind_ok (byte_at xs at) _ name e in
@@ -244,12 +241,12 @@ text_stays xs ys at end e =
     ) in
     rw (drop-append-le at xs ys within, position_stays (λ (b : ℕ). b == 0) (drop at xs) ys n.0 found) n.2
 
-block_end_stays : (xs ys : List ℕ) (at end : ℕ) → block_end xs at ≡ Ok end → block_end (xs ++ ys) at ≡ Ok end
+pub block_end_stays : (xs ys : List ℕ) (at end : ℕ) → block_end xs at ≡ Ok end → block_end (xs ++ ys) at ≡ Ok end
 block_end_stays xs ys at end e =
     let block = bind_ok (block_at xs at) _ end e in
     rw (block_stays xs ys at block.0 block.1) block.2
 
-name_end_stays : (xs ys : List ℕ) (at end : ℕ) → name_end xs at ≡ Ok end → name_end (xs ++ ys) at ≡ Ok end
+pub name_end_stays : (xs ys : List ℕ) (at end : ℕ) → name_end xs at ≡ Ok end → name_end (xs ++ ys) at ≡ Ok end
 name_end_stays xs ys at end e =
     let name = bind_ok (name_at xs at) _ end e in
     rw (name_stays xs ys at name.0 name.1) name.2
@@ -257,19 +254,19 @@ name_end_stays xs ys at end e =
 other_stays : (xs ys : List ℕ) (at lead end : ℕ) → other_end xs at lead ≡ Ok end → other_end (xs ++ ys) at lead ≡ Ok end
 other_stays xs ys at lead end e =
     let name = stays_if (begins_name lead) _ _ _ _ end (name_end_stays xs ys at end)
-    (λ (e : Err (UnknownTerm at) ≡ Ok end). e) in
+    (λ (e : Err (no_operand xs at) ≡ Ok end). absurd cc) in
     let block = stays_if (nat_le 0x11 lead && nat_le lead 0x13) _ _ _ _ end (block_end_stays xs ys (at + 1) end) name in
     let text = stays_if (lead == 0x0D) _ _ _ _ end (text_stays xs ys (at + 1) end) block in
     stays_if (is_single lead) (Ok (at + 1)) _ (Ok (at + 1)) _ end (λ e. e) text e
 
-stays_option : {A : Type 0} (o : Option ℕ) (f g : ℕ → Result A AmlError) (r s : Result A AmlError) (y : A)
+pub stays_option : {A : Type 0} (o : Option ℕ) (f g : ℕ → Result A AmlError) (r s : Result A AmlError) (y : A)
     → ((n : ℕ) → f n ≡ Ok y → g n ≡ Ok y) → (r ≡ Ok y → s ≡ Ok y)
     → ◌≡◌ {A = Result A AmlError} (elim o [ Some n ↦ f n | None ↦ r ]) (Ok y)
     → ◌≡◌ {A = Result A AmlError} (elim o [ Some n ↦ g n | None ↦ s ]) (Ok y)
 stays_option None f g r s y one other e = other e
 stays_option (Some n) f g r s y one other e = one n e
 
-operand_stays : (xs ys : List ℕ) (at end : ℕ) → operand_end xs at ≡ Ok end → operand_end (xs ++ ys) at ≡ Ok end
+pub operand_stays : (xs ys : List ℕ) (at end : ℕ) → operand_end xs at ≡ Ok end → operand_end (xs ++ ys) at ≡ Ok end
 unfolding operand_end
 operand_stays xs ys at end e =
     let lead = bind_ok (byte_at xs at) _ end e in
@@ -306,204 +303,7 @@ arguments_stay (suc n) (suc m) left xs ys at end le e = stays_if (left == 0) _ _
     rw (byte_stays xs ys at lead.0 lead.1) (argument_next n m left xs ys at end lead.0
     (λ left at e. arguments_stay n m left xs ys at end less e) lead.2)) e
 
-argument_stays : (xs ys : List ℕ) (at end : ℕ) → argument_end xs at ≡ Ok end → argument_end (xs ++ ys) at ≡ Ok end
+pub argument_stays : (xs ys : List ℕ) (at end : ℕ) → argument_end xs at ≡ Ok end → argument_end (xs ++ ys) at ≡ Ok end
 unfolding argument_end
 argument_stays xs ys at end e = arguments_stay (length xs + 1) (length (xs ++ ys) + 1) 1 xs ys at end
     (omega (arith, length-append xs ys)) e
-
--- ---- objects
-
-types_stay : (xs ys : List ℕ) (at : ℕ) (types : SleepTypes) → types_at xs at ≡ Ok types
-    → types_at (xs ++ ys) at ≡ Ok types
-unfolding types_at
-types_stay xs ys at types e =
-    let lead = bind_ok (byte_at xs at) _ types e in
-    let is = holds_ok (lead.0 == 0x12) _ _ types lead.2 in
-    let block = bind_ok (block_at xs (at + 1)) _ types is.1 in
-    let same = take-append-le block.0.end xs ys (block_within xs (at + 1) block.0 block.1) in
-    rw (byte_stays xs ys at lead.0 lead.1, is.0, block_stays xs ys (at + 1) block.0 block.1, same) block.2
-
-opcode_stays : (xs ys : List ℕ) (at : ℕ) (op : Opcode) → opcode_at xs at ≡ Ok op → opcode_at (xs ++ ys) at ≡ Ok op
-unfolding opcode_at
-opcode_stays xs ys at op e =
-    let first = bind_ok (byte_at xs at) _ op e in
-    rw (byte_stays xs ys at first.0 first.1) (stays_if (first.0 == 0x5B) _ _ _ _ op (λ e.
-    let second = bind_ok (byte_at xs (at + 1)) _ op e in
-    rw (byte_stays xs ys (at + 1) second.0 second.1) second.2) (λ e. e) first.2)
-
-part_stays : (p : Part) (xs ys : List ℕ) (at end : ℕ) → part_end p xs at ≡ Ok end → part_end p (xs ++ ys) at ≡ Ok end
-part_stays part.Name xs ys at end e = name_end_stays xs ys at end e
-part_stays part.Byte xs ys at end e = bytes_stay xs ys at 1 end e
-part_stays part.Argument xs ys at end e = argument_stays xs ys at end e
-part_stays part.Block xs ys at end e = block_end_stays xs ys at end e
-
-parts_stay : (ps : List Part) (xs ys : List ℕ) (at end : ℕ) → parts_end ps xs at ≡ Ok end
-    → parts_end ps (xs ++ ys) at ≡ Ok end
-parts_stay [] xs ys at end e = e
-parts_stay (p ∷ ps) xs ys at end e =
-    let first = bind_ok (part_end p xs at) _ end e in
-    rw (part_stays p xs ys at first.0 first.1) (parts_stay ps xs ys first.0 end first.2)
-
-same_if : (a b c : Bool) → (a ≡ true → b ≡ c) → (a && b) ≡ (a && c)
-same_if true b c same = same refl
-same_if false b c same = refl
-
-state_stays : (xs ys : List ℕ) (state : ℕ) (name : Name) → Single xs name
-    → is_state (xs ++ ys) state name ≡ is_state xs state name
-state_stays xs ys state name single =
-    same_if (name.ups == 0 && name.segments == 1) (field_of (xs ++ ys) name.first 4 == state_code state)
-    (field_of xs name.first 4 == state_code state) (λ is.
-    ap (λ f. f == state_code state) (field_stays xs ys name.first 4
-    (single (eqb-true name.segments 1 (and_parts (name.ups == 0) (name.segments == 1) is).1))))
-
-named_stays : (xs ys : List ℕ) (state : ℕ) (scope : Option ℕ) (at : ℕ) (s : Step)
-    → named_at xs state scope at ≡ Ok s → named_at (xs ++ ys) state scope at ≡ Ok s
-unfolding named_at
-named_stays xs ys state scope at s e =
-    let name = bind_ok (name_at xs at) _ s e in
-    rw (name_stays xs ys at name.0 name.1, state_stays xs ys state name.0 (single_name xs at name.0 name.1))
-    (stays_if (is_state xs state name.0) _ _ _ _ s (λ e.
-    let types = bind_ok (types_at xs name.0.end) _ s e in
-    rw (types_stay xs ys name.0.end types.0 types.1) types.2) (λ e.
-    let next = bind_ok (argument_end xs name.0.end) _ s e in
-    rw (argument_stays xs ys name.0.end next.0 next.1) next.2) name.2)
-
-scope_stays : (xs ys : List ℕ) (scope : Option ℕ) (at : ℕ) (s : Step) → scope_at xs scope at ≡ Ok s
-    → scope_at (xs ++ ys) scope at ≡ Ok s
-unfolding scope_at
-scope_stays xs ys scope at s e =
-    let block = bind_ok (block_at xs at) _ s e in
-    rw (block_stays xs ys at block.0 block.1, take-append-le block.0.end xs ys (block_within xs at block.0 block.1))
-    block.2
-
-method_stays : (xs ys : List ℕ) (state : ℕ) (scope : Option ℕ) (at : ℕ) (s : Step)
-    → method_at xs state scope at ≡ Ok s → method_at (xs ++ ys) state scope at ≡ Ok s
-unfolding method_at
-method_stays xs ys state scope at s e =
-    let block = bind_ok (block_at xs at) _ s e in
-    let within = block_within xs at block.0 block.1 in
-    let name = bind_ok (name_at (take block.0.end xs) block.0.start) _ s block.2 in
-    let single : Single xs name.0 = λ one. omega (
-      arith,
-      within,
-      length-take-le block.0.end xs within,
-      single_name (take block.0.end xs) block.0.start name.0
-          name.1 one,
-    ) in
-    rw (
-      block_stays xs ys at block.0 block.1,
-      take-append-le block.0.end xs ys within,
-      name.1,
-      state_stays xs ys
-          state name.0 single,
-    ) name.2
-
-alias_stays : (xs ys : List ℕ) (state : ℕ) (scope : Option ℕ) (at : ℕ) (s : Step)
-    → alias_at xs state scope at ≡ Ok s → alias_at (xs ++ ys) state scope at ≡ Ok s
-unfolding alias_at
-alias_stays xs ys state scope at s e =
-    let object = bind_ok (name_at xs at) _ s e in
-    let name = bind_ok (name_at xs object.0.end) _ s object.2 in
-    rw (
-      name_stays xs ys at object.0 object.1,
-      name_stays xs ys object.0.end name.0 name.1,
-      state_stays xs ys state
-          name.0 (single_name xs object.0.end name.0 name.1),
-    ) name.2
-
-passed_stays : (xs ys : List ℕ) (code : ℕ) (scope : Option ℕ) (at after : ℕ) (s : Step)
-    → passed_at xs code scope at after ≡ Ok s → passed_at (xs ++ ys) code scope at after ≡ Ok s
-unfolding passed_at
-passed_stays xs ys code scope at after s e =
-    let parts = bind_ok (ok_or (parts_of code) (UnknownTerm at)) _ s e in
-    let end = bind_ok (parts_end parts.0 xs after) _ s parts.2 in
-    rw (parts.1, parts_stay parts.0 xs ys after end.0 end.1) end.2
-
-object_stays : (xs ys : List ℕ) (state : ℕ) (scope : Option ℕ) (at : ℕ) (s : Step)
-    → object_at xs state scope at ≡ Ok s → object_at (xs ++ ys) state scope at ≡ Ok s
-unfolding object_at
-object_stays xs ys state scope at s e =
-    let op = bind_ok (opcode_at xs at) _ s e in
-    let alias = stays_if (op.0.code == 0x06) _ _ _ _ s (alias_stays xs ys state scope op.0.end s)
-    (passed_stays xs ys op.0.code scope at op.0.end s) in
-    let method = stays_if (op.0.code == 0x14) _ _ _ _ s (method_stays xs ys state scope op.0.end s) alias in
-    let other = stays_if (op.0.code == 0x10) _ _ _ _ s (scope_stays xs ys scope op.0.end s) method in
-    rw (opcode_stays xs ys at op.0 op.1) (stays_if (op.0.code == 0x08) _ _ _ _ s
-    (named_stays xs ys state scope op.0.end s) other op.2)
-
--- ---- the walk
-
-front_of_both : (n : ℕ) (xs ys : List ℕ) → (zs : List ℕ) × (take n (xs ++ ys) ≡ take n xs ++ zs)
-front_of_both zero xs ys = ([], refl)
-front_of_both (suc n) [] ys = (take (suc n) ys, refl)
-front_of_both (suc n) (x ∷ xs) ys =
-    let rest = front_of_both n xs ys in
-    (rest.0, ap (λ l. x ∷ l) rest.1)
-
-inside_stays : (xs ys : List ℕ) (state end at : ℕ) (s : Step) → object_at (take end xs) state (Some end) at ≡ Ok s
-    → object_at (take end (xs ++ ys)) state (Some end) at ≡ Ok s
-inside_stays xs ys state end at s e =
-    let front = front_of_both end xs ys in
-    ap (λ l. object_at l state (Some end) at) front.1 ∙ object_stays (take end xs) front.0 state (Some end) at s e
-
-step_stays : (xs ys : List ℕ) (state : ℕ) (place : Place) (s : Step) → step_at xs state place ≡ Ok s
-    → step_at (xs ++ ys) state place ≡ Ok s
-unfolding step_at
-step_stays xs ys state place s e =
-    stays_option place.scope (λ end. cond (nat_lt place.at end) (object_at (take end xs) state (Some end) place.at)
-    (object_at xs state None place.at)) (λ end. cond (nat_lt place.at end)
-    (object_at (take end (xs ++ ys)) state (Some end) place.at) (object_at (xs ++ ys) state None place.at))
-    (object_at xs state None place.at) (object_at (xs ++ ys) state None place.at) s
-    (λ end. stays_if (nat_lt place.at end) _ _ _ _ s (inside_stays xs ys state end place.at s)
-    (object_stays xs ys state None place.at s)) (object_stays xs ys state None place.at s) e
-
--- what is answered after a step
-abbrev found_after : ℕ → List ℕ → ℕ → ℕ → Option ℕ → Step → Result SleepAnswer AmlError
-found_after more aml state at unseen s = elim s [
-  | Found types ↦ Ok (Types types)
-  | On next ↦ walked more aml state next unseen
-  | Unseen next ↦ walked more aml state next (option_or unseen (Some at))
-]
-
-abbrev answered : SleepAnswer → Result SleepAnswer AmlError
-answered answer = Ok answer
-
-no_types : (unseen : Option ℕ) (types : SleepTypes) → answered (answer_past unseen) ≡ Ok (Types types) → ⊥
-no_types None types e = cc
-no_types (Some at) types e = cc
-
-walk_after : (n m : ℕ) (xs ys : List ℕ) (state at : ℕ) (unseen : Option ℕ) (types : SleepTypes) (s : Step)
-    → ((place : Place) (unseen : Option ℕ) → walked n xs state place unseen ≡ Ok (Types types)
-    → walked m (xs ++ ys) state place unseen ≡ Ok (Types types))
-    → found_after n xs state at unseen s ≡ Ok (Types types)
-    → found_after m (xs ++ ys) state at unseen s ≡ Ok (Types types)
-walk_after n m xs ys state at unseen types (Found found) rest e = e
-walk_after n m xs ys state at unseen types (On next) rest e = rest next unseen e
-walk_after n m xs ys state at unseen types (Unseen next) rest e = rest next (option_or unseen (Some at)) e
-
-walk_from : (n m : ℕ) (xs ys : List ℕ) (state : ℕ) (place : Place) (unseen : Option ℕ) (types : SleepTypes)
-    (b : Bool) → ((place : Place) (unseen : Option ℕ) → walked n xs state place unseen ≡ Ok (Types types)
-    → walked m (xs ++ ys) state place unseen ≡ Ok (Types types)) → leb (length xs) place.at ≡ b
-    → cond b (Ok (answer_past unseen)) (step_at xs state place >>= found_after n xs state place.at unseen) ≡ Ok
-    (Types types) → walked (suc m) (xs ++ ys) state place unseen ≡ Ok (Types types)
-walk_from n m xs ys state place unseen types true rest h e = absurd (no_types unseen types e)
-walk_from n m xs ys state place unseen types false rest h e =
-    let past : leb (length (xs ++ ys)) place.at ≡ false = lt-leb (length (xs ++ ys)) place.at
-    (omega (arith, leb-false (length xs) place.at h, length-append xs ys)) in
-    let s = bind_ok (step_at xs state place) (found_after n xs state place.at unseen) (Types types) e in
-    rw (past, step_stays xs ys state place s.0 s.1) (walk_after n m xs ys state place.at unseen types s.0 rest s.2)
-
-walk_stays : (n m : ℕ) (xs ys : List ℕ) (state : ℕ) (place : Place) (unseen : Option ℕ) (types : SleepTypes)
-    → n ≤ m → walked n xs state place unseen ≡ Ok (Types types)
-    → walked m (xs ++ ys) state place unseen ≡ Ok (Types types)
-walk_stays zero m xs ys state place unseen types le e = absurd (no_types unseen types e)
-walk_stays (suc n) zero xs ys state place unseen types le e = absurd (omega (arith, le))
-walk_stays (suc n) (suc m) xs ys state place unseen types le e = walk_from n m xs ys state place unseen types
-    (leb (length xs) place.at) (λ place unseen e. walk_stays n m xs ys state place unseen types (omega (arith, le))
-    e) refl e
-
-pub nothing_behind_matters : NothingBehindMatters
-unfolding sleep_types_of
-nothing_behind_matters aml more state types e =
-    walk_stays (length aml) (length (aml ++ more)) aml more state first_place None types
-    (omega (arith, length-append aml more)) e

@@ -1,9 +1,12 @@
 -- Steps of the loops.
-use Rattle.std.proofs.Common.{◌≡◌, ℕ, zero, suc, ◌+◌, ◌-◌, ◌<◌, ◌≤◌, true, false, cond, List, length, Option, Some, None, Result, Ok, Err, refl, sym, ap, ◌∙◌, arith, leb, eqb}
-use Rattle.std.proofs.lemmas.Bool.{le-leb, lt-leb, ne_eqb}
+use Rattle.std.proofs.Common.{◌≡◌, ◌≢◌, take, drop, ℕ, zero, suc, ◌+◌, ◌-◌, ◌<◌, ◌≤◌, true, false, cond, List, length, Option, Some, None, Result, Ok, Err, refl, sym, ap, ◌∙◌, arith, leb, eqb}
+use Rattle.std.proofs.lemmas.Bool.{eq-eqb, le-leb, lt-leb, ne_eqb}
+use Rattle.std.proofs.lemmas.List.{drop_more}
+use Rattle.std.specs.Prelude.{◌==◌, ◌||◌}
+use Rattle.acpi_base.specs.Words.{field_of, number}
 use Rattle.acpi_base.specs.Steps.{◌>>=◌}
 use Rattle.std.specs.Option.{option_or}
-use Rattle.acpi_sleep.specs.Words.{Absent, AmlError, Found, IsAnswer, IsReached, NotSeen, On, Place, SleepAnswer, SleepTypes, Step, Types, Unseen, after_step, after_unseen, answer_past, argument_end, arguments_end, at_start, byte_at, is_operator, operand_end, first_place, segment_end, segments_end, sleep_types_of, step_at, walked}
+use Rattle.acpi_sleep.specs.Words.{Absent, AmlError, Found, IsAnswer, IsReached, NotSeen, On, Place, SleepAnswer, SleepTypes, Step, Types, Unseen, after_step, after_unseen, answer_past, argument_end, arguments_end, at_start, byte_at, contains_name, is_operator, operand_end, first_place, segment_end, segments_end, sleep_types_of, step_at, walked}
 
 -- what is left after one that succeeded
 after_one : {A B : Type 0} (r : Result A AmlError) (f : A → Result B AmlError) (x : A) → r ≡ Ok x → (r >>= f) ≡ f x
@@ -16,6 +19,32 @@ one_segment i count aml at end less e =
     let n : count - i ≡ suc (count - (i + 1)) = omega arith in
     ap (λ k. segments_end k aml at) n ∙ after_one (segment_end aml at)
     (λ next. segments_end (count - (i + 1)) aml next) end e
+
+-- ---- a name in bytes
+
+contains_next : (code : ℕ) (bytes : List ℕ) (i : ℕ) → i < length bytes → contains_name code (drop i bytes)
+    ≡ ((field_of bytes i 4 == code) || contains_name code (drop (i + 1) bytes))
+unfolding field_of
+contains_next code bytes i less =
+    let h = drop_more bytes i 0 less in
+    ap (contains_name code) h
+    ∙ ap (λ l. (number (take 4 l) == code) || contains_name code (drop (i + 1) bytes)) (sym h)
+
+pub contains_here : (code : ℕ) (bytes : List ℕ) (i n : ℕ)
+    → contains_name code (drop i bytes) ≡ contains_name code bytes → i < length bytes → n ≡ field_of bytes i 4
+    → n ≡ code → true ≡ contains_name code bytes
+contains_here code bytes i n left less is same =
+    let here : (field_of bytes i 4 == code) ≡ true = ap (λ n. n == code) (sym is) ∙ eq-eqb n code same in
+    sym (ap (λ b. b || contains_name code (drop (i + 1) bytes)) here) ∙ sym (contains_next code bytes i less) ∙ left
+
+pub contains_later : (code : ℕ) (bytes : List ℕ) (i n : ℕ)
+    → contains_name code (drop i bytes) ≡ contains_name code bytes → i < length bytes → n ≡ field_of bytes i 4
+    → n ≢ code → contains_name code (drop (i + 1) bytes) ≡ contains_name code bytes
+contains_later code bytes i n left less is other =
+    let here : (field_of bytes i 4 == code) ≡ false = ap (λ n. n == code) (sym is) ∙ ne_eqb n code other in
+    sym (ap (λ b. b || contains_name code (drop (i + 1) bytes)) here) ∙ sym (contains_next code bytes i less) ∙ left
+
+pub ruleset search_steps = (contains_here, contains_later)
 
 -- ---- an argument
 
@@ -119,7 +148,7 @@ pub record Finds (aml : List ℕ) (state : ℕ) (place : Place) (unseen : Option
   pub same : walked steps aml state place unseen ≡ sleep_types_of aml state
 
 -- what is answered after a step
-abbrev found_after : ℕ → List ℕ → ℕ → ℕ → Option ℕ → Step → Result SleepAnswer AmlError
+abbrev pub found_after : ℕ → List ℕ → ℕ → ℕ → Option ℕ → Step → Result SleepAnswer AmlError
 found_after more aml state at unseen s = elim s [
   | Found types ↦ Ok (Types types)
   | On next ↦ walked more aml state next unseen
@@ -183,7 +212,7 @@ finds_error aml state place unseen error f less e =
     less
 
 -- past the bytes nothing more is found, however many steps there are
-at_end : (steps : ℕ) (aml : List ℕ) (state : ℕ) (place : Place) (unseen : Option ℕ) → length aml ≤ place.at
+pub at_end : (steps : ℕ) (aml : List ℕ) (state : ℕ) (place : Place) (unseen : Option ℕ) → length aml ≤ place.at
     → walked steps aml state place unseen ≡ Ok (answer_past unseen)
 at_end zero aml state place unseen past = refl
 at_end (suc more) aml state place unseen past =

@@ -9,6 +9,4 @@ aml_error_text (refusal.PastEnd at) = codes "PastEnd " ++ decimal at
 aml_error_text (refusal.InvalidLength at) = codes "InvalidLength " ++ decimal at
 aml_error_text (refusal.InvalidName at) = codes "InvalidName " ++ decimal at
 aml_error_text (refusal.UnknownTerm at) = codes "UnknownTerm " ++ decimal at
-aml_error_text (refusal.NestedScope at) = codes "NestedScope " ++ decimal at
-aml_error_text (refusal.NotPackage at) = codes "NotPackage " ++ decimal at
-aml_error_text (refusal.NotConstant at) = codes "NotConstant " ++ decimal at
+aml_error_text (refusal.NotRead at) = codes "NotRead " ++ decimal at

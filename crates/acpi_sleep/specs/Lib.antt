@@ -4,6 +4,7 @@ pub mod Behind
 pub mod Blocks
 pub mod ErrorText
 pub mod Names
+pub mod Opcodes
 pub mod Plans
 pub mod Sleep
 pub mod Steps

@@ -1,11 +1,11 @@
 -- What to write, and where, to sleep, to enable ACPI and to reset (ACPI 6.4, sections 4.8.3.2, 4.8.3.6, 4.8.3.7 and
 -- 16.1).
-use Rattle.std.specs.Prelude.{ℕ, Bool, ◌+◌, ◌-◌, ◌*◌, ◌^◌, ◌%◌, ◌==◌, ◌||◌, Some, None, ok_or, option_map, Result, Ok, Err, if◌then◌else◌}
+use Rattle.std.specs.Prelude.{ℕ, Bool, ◌+◌, ◌-◌, ◌*◌, ◌^◌, ◌%◌, ◌==◌, ◌&&◌, ◌||◌, nat_le, Some, None, is_none, ok_or, option_map, Result, Ok, Err, if◌then◌else◌}
 use Rattle.acpi_base.specs.Words.{◌>>=◌, generic_address_of, has_bit, holds}
 use Rattle.acpi.specs.Types.{AcpiError, ByteAccess, Fadt, GenericAddress, SystemIo}
 use Rattle.acpi_fixed.specs.Words.{block_of, feature_bits, optional_block_of, register_of, registers_of}
 use Rattle.acpi_sleep.specs.declared.error.PlanError.{PlanError}
-use Rattle.acpi_sleep.specs.declared.error.PlanError.TheVariants.{BadRegister, NoRegister, NoReset}
+use Rattle.acpi_sleep.specs.declared.error.PlanError.TheVariants.{BadRegister, NoRegister, NoReset, SleepTypeTooHigh}
 use Rattle.acpi_sleep.specs.declared.plan.Plan.{Plan}
 use Rattle.acpi_sleep.specs.declared.plan.PlanStep.{PlanStep}
 use Rattle.acpi_sleep.specs.declared.plan.StepKind.TheVariants.{Wait, Write}
@@ -19,7 +19,7 @@ pm1_step at type = record {
   register = at;
   width = 16;
   mask = 7 * 2 ^ 10 + 2 ^ 13;
-  value = type % 8 * 2 ^ 10 + 2 ^ 13;
+  value = type * 2 ^ 10 + 2 ^ 13;
   kind = Write;
 }
 
@@ -29,7 +29,7 @@ sleep_control_step at type = record {
   register = at;
   width = 8;
   mask = 7 * 2 ^ 2 + 2 ^ 5;
-  value = type % 8 * 2 ^ 2 + 2 ^ 5;
+  value = type * 2 ^ 2 + 2 ^ 5;
   kind = Write;
 }
 
@@ -88,22 +88,32 @@ is_reduced f = has_bit (feature_bits f.flags) 20
 
 -- ---- plans
 
--- to enter the sleep state of these types. PM1b_CNT need not be there
+-- SLP_TYPx has three bits
+abbrev pub fits : ℕ → Bool
+fits type = nat_le type 7
+
+-- to enter the sleep state of these types. PM1b_CNT need not be there, and then its type isn't written
 unfoldable pub sleep_plan : Fadt → SleepTypes → Result Plan PlanError
 sleep_plan f types =
     if is_reduced f then (do
       control ← sleep_control f
+      _ ← holds (fits types.a) SleepTypeTooHigh
       Ok (one_step (sleep_control_step control types.a)))
     else (do
       a ← pm1a_control f
       b ← in_plan (optional_block_of (registers_of f).pm1b_control)
+      _ ← holds (fits types.a && (is_none b || fits types.b)) SleepTypeTooHigh
       Ok (record { first = Some (pm1_step a types.a); second = option_map (λ at. pm1_step at types.b) b }))
 
--- to enable ACPI: ACPI_ENABLE to SMI_CMD, and then until SCI_EN is set (section 4.8.3.2.1). Reduced hardware is always
--- enabled, and so is a machine without SMI_CMD (section 5.2.9)
+-- whether a machine is always in ACPI mode: reduced hardware, and one without SMI_CMD or a value to write to it (section
+-- 5.2.9)
+abbrev pub is_always_enabled : Fadt → Bool
+is_always_enabled f = is_reduced f || (f.smi_cmd_port == 0 || (f.acpi_enable == 0 && f.acpi_disable == 0))
+
+-- to enable ACPI: ACPI_ENABLE to SMI_CMD, and then until SCI_EN is set (section 4.8.3.2.1)
 unfoldable pub enable_plan : Fadt → Result Plan PlanError
 enable_plan f =
-    if is_reduced f || f.smi_cmd_port == 0 then Ok no_step
+    if is_always_enabled f then Ok no_step
     else (do
       control ← pm1a_control f
       Ok (record { first = Some (byte_step (port f.smi_cmd_port) f.acpi_enable); second = Some (sci_step control) }))

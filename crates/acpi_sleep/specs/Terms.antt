@@ -1,34 +1,26 @@
 -- Terms: what follows each opcode (ACPI 6.4, section 20.2.5).
-use Rattle.std.specs.Prelude.{ℕ, ◌+◌, ◌==◌, ◌&&◌, ◌||◌, nat_le, List, [], ◌∷◌, Option, Some, None, Result, Ok, if◌then◌else◌}
+use Rattle.std.specs.Prelude.{ℕ, ◌==◌, ◌&&◌, ◌||◌, nat_le, List, [], ◌∷◌, Option, Some, None, Result, Ok, Err, if◌then◌else◌}
 use Rattle.acpi_base.specs.Steps.{◌>>=◌}
-use Rattle.acpi_sleep.specs.Arguments.{argument_end, block_end, name_end}
+use Rattle.acpi_sleep.specs.Arguments.{argument_end, block_end, name_end, operand_end}
 use Rattle.acpi_sleep.specs.Blocks.{byte_at, bytes_end}
+use Rattle.acpi_sleep.specs.Names.{begins_name}
 use Rattle.acpi_sleep.specs.declared.error.AmlError.{AmlError}
-use Rattle.acpi_sleep.specs.declared.term.Opcode.{Opcode}
+use Rattle.acpi_sleep.specs.declared.error.AmlError.TheVariants.{NotRead}
 use Rattle.acpi_sleep.specs.declared.term.Part.{Part}
 use Rattle.acpi_sleep.specs.declared.term.Part.TheVariants as part
-
--- the opcode at an offset: one byte, or two if the first is ExtOpPrefix
-unfoldable pub opcode_at : List ℕ → ℕ → Result Opcode AmlError
-opcode_at aml at = do
-  first ← byte_at aml at
-  if first == 0x5B then (do
-    second ← byte_at aml (at + 1)
-    Ok (record { code = 0x5B00 + second; end = at + 2 }))
-      else Ok (record { code = first; end = at + 1 })
 
 -- what follows the opcode of a term; an alias, a name, a scope and a method are not among these
 unfoldable pub parts_of : ℕ → Option (List Part)
 parts_of code =
     if code == 0x15 then Some (part.Name ∷ part.Byte ∷ part.Byte ∷ [])  -- DefExternal
     else if nat_le 0x8A code && nat_le code 0x8D || code == 0x8F
-    then Some (part.Argument ∷ part.Argument ∷ part.Name ∷ [])  -- DefCreateDWordField and the like
+    then Some (part.Argument ∷ part.Argument ∷ part.Field ∷ [])  -- DefCreateDWordField and the like
     else if nat_le 0xA0 code && nat_le code 0xA2 then Some (part.Block ∷ [])  -- DefIfElse, DefWhile
     else if code == 0xA3 then Some []  -- DefNoop
     else if code == 0x5B01 then Some (part.Name ∷ part.Byte ∷ [])  -- DefMutex
     else if code == 0x5B02 then Some (part.Name ∷ [])  -- DefEvent
     else if code == 0x5B13
-    then Some (part.Argument ∷ part.Argument ∷ part.Argument ∷ part.Name ∷ [])  -- DefCreateField
+    then Some (part.Argument ∷ part.Argument ∷ part.Argument ∷ part.Field ∷ [])  -- DefCreateField
     else if code == 0x5B80
     then Some (part.Name ∷ part.Byte ∷ part.Argument ∷ part.Argument ∷ [])  -- DefOpRegion
     else if nat_le 0x5B81 code && nat_le code 0x5B87
@@ -37,12 +29,20 @@ parts_of code =
     then Some (part.Name ∷ part.Argument ∷ part.Argument ∷ part.Argument ∷ [])  -- DefDataRegion
     else None
 
+-- where a buffer field's name ends. If another argument begins there, one before it is a call, which is run
+abbrev pub field_end : List ℕ → ℕ → Result ℕ AmlError
+field_end aml at = do
+  lead ← byte_at aml at
+  end ← operand_end aml at
+  if begins_name lead then Ok end else Err (NotRead at)
+
 -- where the part ends that begins at an offset
 abbrev pub part_end : Part → List ℕ → ℕ → Result ℕ AmlError
 part_end part.Name aml at = name_end aml at
 part_end part.Byte aml at = bytes_end aml at 1
 part_end part.Argument aml at = argument_end aml at
 part_end part.Block aml at = block_end aml at
+part_end part.Field aml at = field_end aml at
 
 -- where the last of parts ends
 abbrev pub parts_end : List Part → List ℕ → ℕ → Result ℕ AmlError

@@ -1,10 +1,11 @@
 //! Arguments of terms, and what a name is set to: where they end (sections 20.2.3 and 20.2.5).
 ghost use Rattle.std.specs.Prelude.{◌≡◌, ◌+◌, ◌<◌, ◌≤◌, ◌==◌, length, position, IfOk, IfSome};
-ghost use Rattle.acpi_sleep.specs.Words.{argument_end, begins_name, integer_at, integer_width, is_operator, is_single, operand_end, text_end};
+ghost use Rattle.acpi_sleep.specs.Words.{argument_end, begins_name, integer_at, integer_width, is_operator, is_single, no_operand, operand_end, text_end};
 
 use crate::block::{block_at, byte_at, bytes_end};
 use crate::error::AmlError;
 use crate::name::{begins_name, name_at};
+use crate::opcode::{is_expression, opcode_at};
 use acpi_base::bytes::{field, skip};
 
 /// How many bytes follow the first of an integer constant.
@@ -31,19 +32,21 @@ pub(crate) struct Integer {
     pub(crate) end: usize,
 }
 
-/// The integer constant that begins at an offset.
+/// The integer constant that begins at an offset. Fails with `NotRead` for another value, and if none is there.
 #[tactic(auto, unfolding(crate::specs::Arguments::integer_at))]
 pub(crate) fn integer_at(aml: &[u8], at: usize) -> Result<Integer, AmlError>
     requires { at ≤ length aml.now }
     ensures exact { result ≡ integer_at aml.now at }
     ensures within { IfOk result (λ i. i.end ≤ length aml.now) }
 {
-    let lead = byte_at(aml, at)?;
-    let Some(width) = integer_width(lead) else {
-        return Err(AmlError::NotConstant(at));
+    let Some(lead) = aml.get(at) else {
+        return Err(AmlError::NotRead(at));
     };
-    let end = bytes_end(aml, at + 1, width)?;
-    let value = match lead {
+    let end = operand_end(aml, at)?;
+    let Some(width) = integer_width(*lead) else {
+        return Err(AmlError::NotRead(at));
+    };
+    let value = match *lead {
         0x00 => 0,
         0x01 => 1,
         0xFF => u64::MAX,
@@ -80,9 +83,23 @@ fn is_single(lead: u8) -> bool
     0x60 <= lead && lead <= 0x6E
 }
 
+/// Why the argument isn't passed that begins at an offset.
+fn no_operand(aml: &[u8], at: usize) -> AmlError
+    requires { at ≤ length aml.now }
+    ensures { result ≡ no_operand aml.now at }
+{
+    match opcode_at(aml, at) {
+        Ok(opcode) if is_expression(opcode.code) || matches!(opcode.code, 0x5B30 | 0x5B31) => {
+            AmlError::NotRead(at)
+        }
+        Ok(_) => AmlError::UnknownTerm(at),
+        Err(error) => error,
+    }
+}
+
 /// Where the argument ends that begins at an offset and is no operator.
 #[tactic(auto, unfolding(crate::specs::Arguments::operand_end))]
-fn operand_end(aml: &[u8], at: usize) -> Result<usize, AmlError>
+pub(crate) fn operand_end(aml: &[u8], at: usize) -> Result<usize, AmlError>
     requires { at ≤ length aml.now }
     ensures exact { result ≡ operand_end aml.now at }
     ensures after { IfOk result (λ end. at < end) }
@@ -103,14 +120,14 @@ fn operand_end(aml: &[u8], at: usize) -> Result<usize, AmlError>
         return Ok(block.end);
     }
     if !begins_name(lead) {
-        return Err(AmlError::UnknownTerm(at));
+        return Err(no_operand(aml, at));
     }
     let name = name_at(aml, at)?;
     Ok(name.end)
 }
 
 /// Whether a byte is an operator of two operands and a target.
-fn is_operator(lead: u8) -> bool
+pub(crate) fn is_operator(lead: u8) -> bool
     ensures { result ≡ is_operator lead }
 {
     matches!(lead, 0x72 | 0x74 | 0x79 | 0x7A | 0x7B | 0x7D)

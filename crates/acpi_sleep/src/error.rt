@@ -12,14 +12,11 @@ pub enum AmlError {
     InvalidLength(usize),
     /// No name begins here: a character isn't one of a name's, or there are no segments (section 20.2.2).
     InvalidName(usize),
-    /// The term that begins here is none of those whose length is known.
+    /// What begins here is no term and no argument of AML (section 20.2.5).
     UnknownTerm(usize),
-    /// A scope of the root, whose PkgLength stands here, lies in a scope of the root.
-    NestedScope(usize),
-    /// The object of this name isn't a package.
-    NotPackage(usize),
-    /// The package has no element here, or one that isn't an integer constant.
-    NotConstant(usize),
+    /// AML begins here that this crate doesn't read: a statement, an expression or a call, which is run; or another
+    /// value than a package of integer constants where a sleep state has one.
+    NotRead(usize),
 }
 
 /// Prints the variant's name and, after a space, the offset.
@@ -35,9 +32,7 @@ impl fmt::Display for AmlError {
             AmlError::InvalidLength(at) => write!(f, "InvalidLength {at}"),
             AmlError::InvalidName(at) => write!(f, "InvalidName {at}"),
             AmlError::UnknownTerm(at) => write!(f, "UnknownTerm {at}"),
-            AmlError::NestedScope(at) => write!(f, "NestedScope {at}"),
-            AmlError::NotPackage(at) => write!(f, "NotPackage {at}"),
-            AmlError::NotConstant(at) => write!(f, "NotConstant {at}"),
+            AmlError::NotRead(at) => write!(f, "NotRead {at}"),
         }
     }
 }
@@ -72,6 +67,8 @@ pub enum PlanError {
     NoRegister,
     /// The machine can't be reset by its FADT (section 4.8.3.6).
     NoReset,
+    /// A sleep type that would be written is above 7: SLP_TYP has three bits (section 4.8.3.2.1).
+    SleepTypeTooHigh,
     /// A register's address has a reserved code, or its block has 32 ports or more.
     BadRegister(AcpiError),
 }

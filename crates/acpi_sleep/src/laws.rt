@@ -8,7 +8,7 @@ pub fn arguments_begin_no_term()
 {}
 
 /// What follows the answer's package doesn't matter, nor what follows the scope of the root that it stands in.
-#[tactic(auto, using(crate::proofs::Behind::nothing_behind_matters))]
+#[tactic(auto, using(crate::proofs::BehindSteps::nothing_behind_matters))]
 pub fn nothing_behind_matters()
     ensures { NothingBehindMatters }
 {}

@@ -1,8 +1,8 @@
 //! The sleep types of a machine: what its AML says to write to the power management registers, to sleep or to power
 //! off (ACPI 6.4, section 7.4.2).
 //!
-//! AML is not run. A walk goes along the objects at the root of one block of AML, a DSDT's or an SSDT's, skips what has
-//! a length, and ends with an error where it doesn't know how long an object is.
+//! AML is not run. A walk goes along the objects at the root of one block of AML, a DSDT's or an SSDT's, and skips what
+//! has a length. What it would have to run hides what follows it, and bytes that are no AML end it with an error.
 //!
 //! Section numbers are those of the ACPI Specification, version 6.4.
 #![tactic(auto)]
@@ -12,6 +12,7 @@ pub mod block;
 pub mod error;
 pub mod laws;
 pub mod name;
+pub mod opcode;
 mod package;
 pub mod plan;
 pub mod sleep;

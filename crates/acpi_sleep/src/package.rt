@@ -2,7 +2,7 @@
 ghost use Rattle.std.specs.Prelude.{◌≡◌, ◌≤◌, length, take};
 ghost use Rattle.acpi_sleep.specs.Words.{elements_at, types_at};
 
-use crate::argument::integer_at;
+use crate::argument::{integer_at, operand_end};
 use crate::block::{block_at, byte_at};
 use crate::error::AmlError;
 use crate::sleep::SleepTypes;
@@ -13,7 +13,7 @@ fn elements_at(aml: &[u8], at: usize, count: u8) -> Result<SleepTypes, AmlError>
     ensures exact { result ≡ elements_at aml.now at count }
 {
     if count == 0 {
-        return Err(AmlError::NotConstant(at));
+        return Err(AmlError::NotRead(at));
     }
     let first = integer_at(aml, at)?;
     if count == 1 {
@@ -29,14 +29,15 @@ fn elements_at(aml: &[u8], at: usize, count: u8) -> Result<SleepTypes, AmlError>
     })
 }
 
-/// The sleep types of the package at an offset.
+/// The sleep types of the package at an offset. Fails with `NotRead` for another value.
 #[tactic(auto, unfolding(crate::specs::Sleep::types_at))]
 pub(crate) fn types_at(aml: &[u8], at: usize) -> Result<SleepTypes, AmlError>
     requires { at ≤ length aml.now }
     ensures exact { result ≡ types_at aml.now at }
 {
     if byte_at(aml, at)? != 0x12 {
-        return Err(AmlError::NotPackage(at));
+        operand_end(aml, at)?;
+        return Err(AmlError::NotRead(at));
     }
     let block = block_at(aml, at + 1)?;
     let contents = &aml[..block.end];

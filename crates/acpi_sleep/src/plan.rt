@@ -4,7 +4,7 @@
 //! Sleep states have methods of AML besides: before the first step an interpreter runs `_TTS` and `_PTS` with the
 //! state's number, and `_GTS` where a machine still has it, and after a sleep `_WAK` (section 7.4).
 ghost use Rattle.std.specs.Prelude.{◌≡◌};
-ghost use Rattle.acpi_sleep.specs.Words.{byte_step, enable_plan, pm1_step, pm1a_control, port, reset_plan, sci_step, sleep_control, sleep_control_step, sleep_plan, timer_bits, timer_ticks, unless_zero};
+ghost use Rattle.acpi_sleep.specs.Words.{byte_step, enable_plan, fits, is_always_enabled, pm1_step, pm1a_control, port, reset_plan, sci_step, sleep_control, sleep_control_step, sleep_plan, timer_bits, timer_ticks, unless_zero};
 
 use crate::error::PlanError;
 use crate::sleep::SleepTypes;
@@ -53,7 +53,7 @@ fn pm1_step(register: GenericAddress, sleep_type: u8) -> PlanStep
         register,
         width: 16,
         mask: 7 * (1 << 10) + (1 << 13),
-        value: sleep_type as u32 % 8 * (1 << 10) + (1 << 13), // SLP_TYPx, SLP_EN
+        value: sleep_type as u32 * (1 << 10) + (1 << 13), // SLP_TYPx, SLP_EN
         kind: StepKind::Write,
     }
 }
@@ -66,7 +66,7 @@ fn sleep_control_step(register: GenericAddress, sleep_type: u8) -> PlanStep
         register,
         width: 8,
         mask: 7 * (1 << 2) + (1 << 5),
-        value: sleep_type as u32 % 8 * (1 << 2) + (1 << 5), // SLP_TYPx, SLP_EN
+        value: sleep_type as u32 * (1 << 2) + (1 << 5), // SLP_TYPx, SLP_EN
         kind: StepKind::Write,
     }
 }
@@ -140,25 +140,40 @@ fn sleep_control(fadt: &Fadt) -> Result<GenericAddress, PlanError>
     }
 }
 
+/// Whether a sleep type fits the three bits of SLP_TYPx.
+fn fits(sleep_type: u8) -> bool
+    ensures { result ≡ fits sleep_type }
+{
+    sleep_type <= 7
+}
+
 /// Enters the sleep state of these sleep types (section 16.1), or with those of S5 powers the machine off: SLP_TYP and
 /// SLP_EN of PM1a_CNT, and then of PM1b_CNT if the machine has it, each with its own type; on reduced hardware
-/// those of SLEEP_CONTROL_REG, with the type of PM1a_CNT. Of a type only the three low bits count.
+/// those of SLEEP_CONTROL_REG, with the type of PM1a_CNT.
 ///
 /// Fails with `BadRegister` for the address of PM1a_CNT, or on reduced hardware of SLEEP_CONTROL_REG, with `NoRegister`
-/// if the FADT has no such register, and with `BadRegister` for the address of PM1b_CNT.
+/// if the FADT has no such register, with `BadRegister` for the address of PM1b_CNT, and with `SleepTypeTooHigh` if a
+/// type that the plan writes is above 7.
 #[tactic(auto, unfolding(crate::specs::Plans::sleep_plan))]
 pub fn sleep_plan(fadt: &Fadt, types: SleepTypes) -> Result<Plan, PlanError>
     ensures exact { result ≡ sleep_plan fadt.now types }
 {
     if fadt.flags.system_is_hw_reduced_acpi() {
         let control = sleep_control(fadt)?;
+        if !fits(types.a) {
+            return Err(PlanError::SleepTypeTooHigh);
+        }
         return Ok(Plan {
             first: Some(sleep_control_step(control, types.a)),
             second: None,
         });
     }
     let a = pm1a_control(fadt)?;
-    let second = match fadt.pm1b_control_block()? {
+    let b = fadt.pm1b_control_block()?;
+    if !fits(types.a) || (b.is_some() && !fits(types.b)) {
+        return Err(PlanError::SleepTypeTooHigh);
+    }
+    let second = match b {
         Some(b) => Some(pm1_step(b, types.b)),
         None => None,
     };
@@ -168,15 +183,26 @@ pub fn sleep_plan(fadt: &Fadt, types: SleepTypes) -> Result<Plan, PlanError>
     })
 }
 
+/// Whether a machine is always in ACPI mode (section 5.2.9).
+fn is_always_enabled(fadt: &Fadt) -> bool
+    ensures { result ≡ is_always_enabled fadt.now }
+{
+    fadt.flags.system_is_hw_reduced_acpi()
+        || fadt.smi_cmd_port == 0
+        || (fadt.acpi_enable == 0 && fadt.acpi_disable == 0)
+}
+
 /// Enables ACPI: ACPI_ENABLE to the port SMI_CMD, and then until SCI_EN of PM1a_CNT is set (section 4.8.3.2.1). It has
-/// no step on reduced hardware, nor if SMI_CMD is 0.
+/// no step on a machine that is always in ACPI mode: on reduced hardware, and if SMI_CMD is 0, or ACPI_ENABLE and
+/// ACPI_DISABLE both are (section 5.2.9). If SCI_EN is set already, nothing is to be written: a caller looks there, at
+/// the register of the second step, before the first.
 ///
 /// Fails as `sleep_plan` does over PM1a_CNT.
 #[tactic(auto, unfolding(crate::specs::Plans::enable_plan))]
 pub fn enable_plan(fadt: &Fadt) -> Result<Plan, PlanError>
     ensures exact { result ≡ enable_plan fadt.now }
 {
-    if fadt.flags.system_is_hw_reduced_acpi() || fadt.smi_cmd_port == 0 {
+    if is_always_enabled(fadt) {
         return Ok(Plan {
             first: None,
             second: None,

@@ -19,10 +19,12 @@ pub struct SleepTypes {
 pub enum SleepAnswer {
     /// It can be entered with these sleep types.
     Types(SleepTypes),
-    /// The block doesn't define its name at the root, unless by an object in another scope.
+    /// The block doesn't define its name at the root.
     Absent,
-    /// The name may be defined if AML is run: the first `If`, `Else` or `While` at the root, or `Method` or `Alias` of
-    /// that name there, begins at this offset.
+    /// The block may define the name, or does, but not where AML that isn't run has it. The first object that may begins
+    /// at this offset: an `If`, `Else` or `While`; a `Method` or `Alias` of the name; a block that is passed, or another
+    /// term with the four letters of the name in its bytes; a `Name` of it that is set to something else than a package
+    /// of constants; or what isn't passed, which hides what follows it.
     NotSeen(usize),
 }
 
@@ -31,10 +33,10 @@ pub enum SleepAnswer {
 /// whose first elements are integer constants: the low bytes of its first two elements, or of an only one the two low
 /// bytes.
 ///
-/// Methods, devices, other scopes, and what stands under an `If` are passed by their length, so a name in one of them
-/// isn't found.
+/// Methods, devices, other scopes, and what stands under an `If` are passed by their length. What a method's body
+/// defines ends with the call of it, so that bodies of methods at the root don't matter.
 ///
-/// Fails with an `AmlError` where the walk meets what it can't pass, or a package of the name has other elements.
+/// Fails with an `AmlError` where the walk meets bytes that are no AML.
 #[tactic(auto, using(crate::proofs::Walks::walk_steps))]
 pub fn sleep_types(aml: &[u8], state: u8) -> Result<SleepAnswer, AmlError>
     requires { state ≤ 5 }
@@ -43,7 +45,7 @@ pub fn sleep_types(aml: &[u8], state: u8) -> Result<SleepAnswer, AmlError>
     // The types are those of a name that the walk reaches, and without one it has reached the end of the bytes.
     ensures answer { IsAnswer aml.now state result }
 {
-    let mut place = Place { at: 0, scope: None };
+    let mut place = Place::after(None, 0);
     let mut unseen: Option<usize> = None;
     while place.at < aml.len() {
         match step_at(aml, state, place)? {

@@ -1,23 +1,39 @@
 //! One step of the walk: the object at a place (sections 20.2.5.1 and 20.2.5.2).
 ghost use Rattle.std.specs.Prelude.{◌≡◌, ◌<◌, ◌≤◌, length, IfOk, IfSome};
-ghost use Rattle.acpi_sleep.specs.Words.{IsAfter, IsWithin, alias_at, is_conditional, is_state, method_at, named_at, object_at, scope_at, state_code, step_at};
+ghost use Rattle.acpi_sleep.specs.Words.{IsAfter, IsWithin, alias_at, contains_name, has_arguments, is_conditional, is_state, is_value, may_define, method_at, named_at, no_term, object_at, passed, place_after, scope_at, seen_at, state_code, step_at};
 
-use crate::argument::argument_end;
-use crate::block::block_at;
+use crate::argument::{argument_end, is_operator, operand_end};
+use crate::block::{block_at, byte_at};
 use crate::error::AmlError;
-use crate::name::{Name, name_at};
+use crate::name::{Name, begins_name, name_at};
+use crate::opcode::{is_expression, is_statement, opcode_at};
 use crate::package::types_at;
 use crate::sleep::SleepTypes;
-use crate::term::{opcode_at, parts_end, parts_of};
-use acpi_base::bytes::field;
+use crate::term::{parts_end, parts_of};
+use acpi_base::bytes::{field, skip};
 
 /// A place of the walk.
 #[derive(Clone, Copy)]
 pub(crate) struct Place {
     /// The offset of the next object.
     pub(crate) at: usize,
-    /// The offset after the scope of the root that it stands in, if there is one.
+    /// The offset after the scope of the root that it stands in, if there is one: the outermost.
     pub(crate) scope: Option<usize>,
+    /// Whether an argument of a call may begin here: the object before it has arguments, of which one may be a call.
+    pub(crate) called: bool,
+}
+
+impl Place {
+    /// The place at an offset after an object that has no arguments.
+    pub(crate) fn after(scope: Option<usize>, at: usize) -> Place
+        ensures { result ≡ place_after scope at }
+    {
+        Place {
+            at,
+            scope,
+            called: false,
+        }
+    }
 }
 
 /// What an object leads to.
@@ -27,8 +43,19 @@ pub(crate) enum Step {
     Found(SleepTypes),
     /// The walk goes on.
     On(Place),
-    /// It goes on past an object which may define the name, but only if it is run.
+    /// It goes on past an object which may define the name where the walk doesn't see it.
     Unseen(Place),
+}
+
+/// The step past an object.
+fn passed(may_define: bool, next: Place) -> Step
+    ensures { result ≡ passed may_define next }
+{
+    if may_define {
+        Step::Unseen(next)
+    } else {
+        Step::On(next)
+    }
 }
 
 /// The number of the four bytes of a state's name.
@@ -47,6 +74,19 @@ fn is_state(aml: &[u8], state: u8, name: &Name) -> bool
     name.ups == 0 && name.segments == 1 && field(aml, name.first, 4) == state_code(state) as u64
 }
 
+/// Whether bytes contain the four letters of a name, which this is the number of.
+#[tactic(auto, using(crate::proofs::Walks::search_steps))]
+fn contains_name(code: u32, bytes: &[u8]) -> bool
+    ensures { result ≡ contains_name code bytes.now }
+{
+    for i in 0..bytes.len() {
+        if field(bytes, i, 4) == code as u64 {
+            return true;
+        }
+    }
+    false
+}
+
 /// The step at a name whose opcode ends at an offset.
 #[tactic(auto, unfolding(crate::specs::Steps::named_at))]
 fn named_at(aml: &[u8], state: u8, scope: Option<usize>, at: usize) -> Result<Step, AmlError>
@@ -62,34 +102,32 @@ fn named_at(aml: &[u8], state: u8, scope: Option<usize>, at: usize) -> Result<St
         let types = types_at(aml, name.end)?;
         return Ok(Step::Found(types));
     }
+    let lead = byte_at(aml, name.end)?;
     let next = argument_end(aml, name.end)?;
-    Ok(Step::On(Place { at: next, scope }))
+    Ok(Step::On(Place {
+        at: next,
+        scope,
+        called: begins_name(lead) || is_operator(lead),
+    }))
 }
 
 /// The step at a scope whose opcode ends at an offset.
 #[tactic(auto, unfolding(crate::specs::Steps::scope_at))]
-fn scope_at(aml: &[u8], scope: Option<usize>, at: usize) -> Result<Step, AmlError>
+fn scope_at(aml: &[u8], state: u8, scope: Option<usize>, at: usize) -> Result<Step, AmlError>
+    requires state { state ≤ 5 }
     requires scope { IfSome scope (λ end. end ≤ length aml.now) }
     requires at { at ≤ length aml.now }
-    ensures exact { result ≡ scope_at aml.now scope at }
+    ensures exact { result ≡ scope_at aml.now state scope at }
     ensures after { IfOk result (IsAfter at) }
     ensures within { IfOk result (IsWithin (length aml.now)) }
 {
     let block = block_at(aml, at)?;
     let name = name_at(&aml[..block.end], block.start)?;
-    if !name.is_root() {
-        return Ok(Step::On(Place {
-            at: block.end,
-            scope,
-        }));
+    if name.is_root() {
+        return Ok(Step::On(Place::after(scope.or(Some(block.end)), name.end)));
     }
-    if scope.is_some() {
-        return Err(AmlError::NestedScope(at));
-    }
-    Ok(Step::On(Place {
-        at: name.end,
-        scope: Some(block.end),
-    }))
+    let may_define = contains_name(state_code(state), skip(&aml[..block.end], block.start));
+    Ok(passed(may_define, Place::after(scope, block.end)))
 }
 
 /// The step at a method whose opcode ends at an offset.
@@ -104,15 +142,7 @@ fn method_at(aml: &[u8], state: u8, scope: Option<usize>, at: usize) -> Result<S
 {
     let block = block_at(aml, at)?;
     let name = name_at(&aml[..block.end], block.start)?;
-    let next = Place {
-        at: block.end,
-        scope,
-    };
-    if is_state(aml, state, &name) {
-        Ok(Step::Unseen(next))
-    } else {
-        Ok(Step::On(next))
-    }
+    Ok(passed(is_state(aml, state, &name), Place::after(scope, block.end)))
 }
 
 /// The step at an alias whose opcode ends at an offset.
@@ -127,15 +157,7 @@ fn alias_at(aml: &[u8], state: u8, scope: Option<usize>, at: usize) -> Result<St
 {
     let object = name_at(aml, at)?;
     let name = name_at(aml, object.end)?;
-    let next = Place {
-        at: name.end,
-        scope,
-    };
-    if is_state(aml, state, &name) {
-        Ok(Step::Unseen(next))
-    } else {
-        Ok(Step::On(next))
-    }
+    Ok(passed(is_state(aml, state, &name), Place::after(scope, name.end)))
 }
 
 /// Whether an opcode is that of an `If`, an `Else` or a `While`.
@@ -145,13 +167,58 @@ fn is_conditional(code: u16) -> bool
     0xA0 <= code && code <= 0xA2
 }
 
+/// Whether a term with these bytes after its opcode may define the name of a state.
+fn may_define(state: u8, code: u16, bytes: &[u8]) -> bool
+    requires { state ≤ 5 }
+    ensures { result ≡ may_define state code bytes.now }
+{
+    is_conditional(code) || (code != 0x15 && contains_name(state_code(state), bytes))
+}
+
+/// Whether an opcode is that of a term with arguments: a buffer field or a region.
+fn has_arguments(code: u16) -> bool
+    ensures { result ≡ has_arguments code }
+{
+    (0x8A <= code && code <= 0x8F) || matches!(code, 0x5B13 | 0x5B80 | 0x5B88)
+}
+
+/// Whether a byte begins an expression that is no operator: a buffer, a package, or a call.
+fn is_value(lead: u8) -> bool
+    ensures { result ≡ is_value lead }
+{
+    (0x11 <= lead && lead <= 0x13) || begins_name(lead)
+}
+
+/// Why the walk doesn't pass what begins at an offset with an opcode that isn't that of an object.
+fn no_term(aml: &[u8], code: u16, called: bool, at: usize) -> AmlError
+    requires { at < length aml.now }
+    ensures { result ≡ no_term aml.now code called at }
+{
+    if is_statement(code) || is_expression(code) {
+        return AmlError::NotRead(at);
+    }
+    if !called && !is_value(aml[at]) {
+        return AmlError::UnknownTerm(at);
+    }
+    match operand_end(aml, at) {
+        Ok(_) => AmlError::NotRead(at),
+        Err(error) => error,
+    }
+}
+
 /// The step at the object at an offset.
 #[tactic(auto, unfolding(crate::specs::Steps::object_at, crate::specs::Steps::passed_at))]
-fn object_at(aml: &[u8], state: u8, scope: Option<usize>, at: usize) -> Result<Step, AmlError>
+fn object_at(
+    aml: &[u8],
+    state: u8,
+    scope: Option<usize>,
+    called: bool,
+    at: usize,
+) -> Result<Step, AmlError>
     requires state { state ≤ 5 }
     requires scope { IfSome scope (λ end. end ≤ length aml.now) }
     requires at { at ≤ length aml.now }
-    ensures exact { result ≡ object_at aml.now state scope at }
+    ensures exact { result ≡ object_at aml.now state scope called at }
     ensures after { IfOk result (IsAfter at) }
     ensures within { IfOk result (IsWithin (length aml.now)) }
 {
@@ -160,7 +227,7 @@ fn object_at(aml: &[u8], state: u8, scope: Option<usize>, at: usize) -> Result<S
         return named_at(aml, state, scope, opcode.end);
     }
     if opcode.code == 0x10 {
-        return scope_at(aml, scope, opcode.end);
+        return scope_at(aml, state, scope, opcode.end);
     }
     if opcode.code == 0x14 {
         return method_at(aml, state, scope, opcode.end);
@@ -169,14 +236,33 @@ fn object_at(aml: &[u8], state: u8, scope: Option<usize>, at: usize) -> Result<S
         return alias_at(aml, state, scope, opcode.end);
     }
     let Some(parts) = parts_of(opcode.code) else {
-        return Err(AmlError::UnknownTerm(at));
+        return Err(no_term(aml, opcode.code, called, at));
     };
     let end = parts_end(parts, aml, opcode.end)?;
-    let next = Place { at: end, scope };
-    if is_conditional(opcode.code) {
-        Ok(Step::Unseen(next))
-    } else {
-        Ok(Step::On(next))
+    let next = Place {
+        at: end,
+        scope,
+        called: has_arguments(opcode.code),
+    };
+    Ok(passed(
+        may_define(state, opcode.code, skip(&aml[..end], opcode.end)),
+        next,
+    ))
+}
+
+/// The same, where what isn't read is passed with all that follows it.
+#[tactic(auto, unfolding(crate::specs::Steps::seen_at))]
+fn seen_at(aml: &[u8], state: u8, scope: Option<usize>, place: Place) -> Result<Step, AmlError>
+    requires state { state ≤ 5 }
+    requires scope { IfSome scope (λ end. end ≤ length aml.now) }
+    requires at { place.at < length aml.now }
+    ensures exact { result ≡ seen_at aml.now state scope place }
+    ensures after { IfOk result (IsAfter place.at) }
+    ensures within { IfOk result (IsWithin (length aml.now)) }
+{
+    match object_at(aml, state, scope, place.called, place.at) {
+        Err(AmlError::NotRead(_)) => Ok(Step::Unseen(Place::after(scope, aml.len()))),
+        step => step,
     }
 }
 
@@ -191,7 +277,7 @@ pub(crate) fn step_at(aml: &[u8], state: u8, place: Place) -> Result<Step, AmlEr
     ensures within { IfOk result (IsWithin (length aml.now)) }
 {
     match place.scope {
-        Some(end) if place.at < end => object_at(&aml[..end], state, place.scope, place.at),
-        _ => object_at(aml, state, None, place.at),
+        Some(end) if place.at < end => seen_at(&aml[..end], state, place.scope, place),
+        _ => seen_at(aml, state, None, place),
     }
 }

@@ -1,11 +1,11 @@
 //! Terms: what follows each opcode (section 20.2.5).
 ghost use Rattle.std.specs.Prelude.{◌≡◌, ◌<◌, ◌≤◌, length, IfOk, MatchOption, None, Some};
-ghost use Rattle.acpi_sleep.specs.Words.{opcode_at, part_end, parts_end, parts_of};
+ghost use Rattle.acpi_sleep.specs.Words.{field_end, part_end, parts_end, parts_of};
 
-use crate::argument::argument_end;
+use crate::argument::{argument_end, operand_end};
 use crate::block::{block_at, byte_at, bytes_end};
 use crate::error::AmlError;
-use crate::name::name_at;
+use crate::name::{begins_name, name_at};
 
 /// A part of a term.
 #[derive(Clone, Copy)]
@@ -18,39 +18,8 @@ pub enum Part {
     Argument,
     /// A PkgLength, and all that it stands before.
     Block,
-}
-
-/// An opcode.
-#[derive(Clone, Copy)]
-pub struct Opcode {
-    /// Its number: of an opcode of two bytes, the first is the higher one.
-    pub code: u16,
-    /// The offset after it.
-    pub end: usize,
-}
-
-/// The opcode that begins at an offset, which is at most the length of the AML.
-///
-/// Fails with `PastEnd` if the AML ends before the opcode does.
-#[tactic(auto, unfolding(crate::specs::Terms::opcode_at))]
-pub fn opcode_at(aml: &[u8], at: usize) -> Result<Opcode, AmlError>
-    requires { at ≤ length aml.now }
-    ensures exact { result ≡ opcode_at aml.now at }
-    ensures after { IfOk result (λ op. at < op.end) }
-    ensures within { IfOk result (λ op. op.end ≤ length aml.now) }
-{
-    let first = byte_at(aml, at)?;
-    if first == 0x5B {
-        let second = byte_at(aml, at + 1)?;
-        return Ok(Opcode {
-            code: 0x5B00 + second as u16,
-            end: at + 2,
-        });
-    }
-    Ok(Opcode {
-        code: first as u16,
-        end: at + 1,
-    })
+    /// The name of a buffer field, after arguments.
+    Field,
 }
 
 /// The parts that follow an opcode, or `None` if that is none of those that are known.
@@ -60,16 +29,32 @@ pub fn parts_of(code: u16) -> Option<&'static [Part]>
 {
     match code {
         0x15 => Some(&[Part::Name, Part::Byte, Part::Byte]),
-        0x8A | 0x8B | 0x8C | 0x8D | 0x8F => Some(&[Part::Argument, Part::Argument, Part::Name]),
+        0x8A | 0x8B | 0x8C | 0x8D | 0x8F => Some(&[Part::Argument, Part::Argument, Part::Field]),
         0xA0 | 0xA1 | 0xA2 => Some(&[Part::Block]),
         0xA3 => Some(&[]),
         0x5B01 => Some(&[Part::Name, Part::Byte]),
         0x5B02 => Some(&[Part::Name]),
-        0x5B13 => Some(&[Part::Argument, Part::Argument, Part::Argument, Part::Name]),
+        0x5B13 => Some(&[Part::Argument, Part::Argument, Part::Argument, Part::Field]),
         0x5B80 => Some(&[Part::Name, Part::Byte, Part::Argument, Part::Argument]),
         0x5B81 | 0x5B82 | 0x5B83 | 0x5B84 | 0x5B85 | 0x5B86 | 0x5B87 => Some(&[Part::Block]),
         0x5B88 => Some(&[Part::Name, Part::Argument, Part::Argument, Part::Argument]),
         _ => None,
+    }
+}
+
+/// Where a buffer field's name ends that begins at an offset.
+fn field_end(aml: &[u8], at: usize) -> Result<usize, AmlError>
+    requires { at ≤ length aml.now }
+    ensures exact { result ≡ field_end aml.now at }
+    ensures after { IfOk result (λ end. at < end) }
+    ensures within { IfOk result (λ end. end ≤ length aml.now) }
+{
+    let lead = byte_at(aml, at)?;
+    let end = operand_end(aml, at)?;
+    if begins_name(lead) {
+        Ok(end)
+    } else {
+        Err(AmlError::NotRead(at))
     }
 }
 
@@ -91,6 +76,7 @@ fn part_end(part: Part, aml: &[u8], at: usize) -> Result<usize, AmlError>
             let block = block_at(aml, at)?;
             Ok(block.end)
         }
+        Part::Field => field_end(aml, at),
     }
 }
 
