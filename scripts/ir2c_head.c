@@ -1,0 +1,224 @@
+/* What the C of scripts/ir2c stands on. That script copies this file to the front of what it makes, and leaves out the
+ * paragraphs whose first function nobody calls; tests/c/helpers.c takes it as it is. Numbers are unsigned, so nothing
+ * overflows; an address is a number until memory is read or written, which memcpy alone does. */
+#if defined(__BYTE_ORDER__) && __BYTE_ORDER__ != __ORDER_LITTLE_ENDIAN__
+#error "zacpi.c is for processors that are little endian"
+#endif
+#if defined(__GNUC__)
+#define memcpy __builtin_memcpy
+#define memmove __builtin_memmove
+#define memset __builtin_memset
+#define ALIGNED(n) __attribute__((aligned(n)))
+#define APART static __attribute__((noinline))
+#define INLINE static inline __attribute__((always_inline))
+#define IS_ALIGNED(at, n) __builtin_assume_aligned(at, n)
+#define UNREACHABLE() __builtin_unreachable()
+#else
+#include <string.h>
+#if defined(_MSC_VER)
+#define ALIGNED(n) __declspec(align(n))
+#define INLINE static __inline
+#else
+#define ALIGNED(n) _Alignas(n)
+#define INLINE static inline
+#endif
+#define APART static
+#define IS_ALIGNED(at, n) (at)
+#define UNREACHABLE() for (;;) { }
+#endif
+
+/* Whether sums of bytes are made in vectors; the library is proved for either. */
+#if defined(__GNUC__) && (defined(__SSE2__) || defined(__ARM_NEON))
+#define HAS_VECTORS 1
+#else
+#define HAS_VECTORS 0
+#endif
+
+typedef uint8_t u8;
+typedef uint16_t u16;
+typedef uint32_t u32;
+typedef uint64_t u64;
+typedef int8_t s8;
+typedef int16_t s16;
+typedef int32_t s32;
+typedef int64_t s64;
+typedef uintptr_t uptr;
+
+/* The memory at an address. */
+#define AT(number) ((u8 *)(number))
+
+/* The alignment of words of 8 bytes, where a processor of 32 bits has no use for more than 4. */
+#define EIGHT (sizeof(uptr) < 8 ? 4 : 8)
+
+INLINE u16 load16(const void *at) { u16 value; memcpy(&value, IS_ALIGNED(at, 2), 2); return value; }
+
+INLINE u32 load32(const void *at) { u32 value; memcpy(&value, IS_ALIGNED(at, 4), 4); return value; }
+
+INLINE u64 load64(const void *at) { u64 value; memcpy(&value, IS_ALIGNED(at, EIGHT), 8); return value; }
+
+/* The same at any address. */
+INLINE u16 load16u(const void *at) { u16 value; memcpy(&value, at, 2); return value; }
+
+INLINE u32 load32u(const void *at) { u32 value; memcpy(&value, at, 4); return value; }
+
+INLINE u64 load64u(const void *at) { u64 value; memcpy(&value, at, 8); return value; }
+
+/* Numbers of 3, 5, 6 or 7 bytes. */
+INLINE u64 load_bytes(const void *at, unsigned count) { u64 value = 0; memcpy(&value, at, count); return value; }
+
+INLINE void store16(void *at, u16 value) { memcpy(IS_ALIGNED(at, 2), &value, 2); }
+
+INLINE void store32(void *at, u32 value) { memcpy(IS_ALIGNED(at, 4), &value, 4); }
+
+INLINE void store64(void *at, u64 value) { memcpy(IS_ALIGNED(at, EIGHT), &value, 8); }
+
+INLINE void store16u(void *at, u16 value) { memcpy(at, &value, 2); }
+
+INLINE void store32u(void *at, u32 value) { memcpy(at, &value, 4); }
+
+INLINE void store64u(void *at, u64 value) { memcpy(at, &value, 8); }
+
+INLINE void store_bytes(void *at, u64 value, unsigned count) { memcpy(at, &value, count); }
+
+/* A pointer in memory has 8 bytes, of which one of 32 bits is in the first 4, and the others are 0. */
+INLINE uptr load_address(const void *at) { return (uptr)load64u(at); }
+
+INLINE void store_address(void *at, uptr value) { store64u(at, value); }
+
+/* C wants a pointer to memory even for no bytes. */
+INLINE void copy(uptr to, uptr from, size_t count) { if (count) memcpy(AT(to), AT(from), count); }
+
+INLINE void move(uptr to, uptr from, size_t count) { if (count) memmove(AT(to), AT(from), count); }
+
+INLINE void fill(uptr to, u8 value, size_t count) { if (count) memset(AT(to), value, count); }
+
+INLINE u8 umin8(u8 a, u8 b) { return a < b ? a : b; }
+
+INLINE u16 umin16(u16 a, u16 b) { return a < b ? a : b; }
+
+INLINE u32 umin32(u32 a, u32 b) { return a < b ? a : b; }
+
+INLINE u64 umin64(u64 a, u64 b) { return a < b ? a : b; }
+
+INLINE u8 umax8(u8 a, u8 b) { return a > b ? a : b; }
+
+INLINE u16 umax16(u16 a, u16 b) { return a > b ? a : b; }
+
+INLINE u32 umax32(u32 a, u32 b) { return a > b ? a : b; }
+
+INLINE u64 umax64(u64 a, u64 b) { return a > b ? a : b; }
+
+/* A difference that is 0 rather than below, and a sum that is all ones rather than above. */
+INLINE u8 usub_sat8(u8 a, u8 b) { return a > b ? (u8)(a - b) : 0; }
+
+INLINE u16 usub_sat16(u16 a, u16 b) { return a > b ? (u16)(a - b) : 0; }
+
+INLINE u32 usub_sat32(u32 a, u32 b) { return a > b ? a - b : 0; }
+
+INLINE u64 usub_sat64(u64 a, u64 b) { return a > b ? a - b : 0; }
+
+INLINE u32 uadd_sat32(u32 a, u32 b) { return a > 0xffffffff - b ? 0xffffffff : a + b; }
+
+INLINE u64 uadd_sat64(u64 a, u64 b) { return a > ~(u64)0 - b ? ~(u64)0 : a + b; }
+
+/* The upper half of two numbers beside each other that are shifted to the left by n modulo their bits. */
+INLINE u16 fshl16(u16 a, u16 b, u16 n) { return n & 15 ? (u16)((u32)a << (n & 15) | b >> (16 - (n & 15))) : a; }
+
+INLINE u32 fshl32(u32 a, u32 b, u32 n) { return n & 31 ? a << (n & 31) | b >> (32 - (n & 31)) : a; }
+
+INLINE u64 fshl64(u64 a, u64 b, u64 n) { return n & 63 ? a << (n & 63) | b >> (64 - (n & 63)) : a; }
+
+/* How many zeros are below the lowest bit that is set, or 64. */
+INLINE u64 cttz64(u64 value) {
+    u64 count = 0;
+    unsigned step;
+    if (!value) return 64;
+    for (step = 32; step; step /= 2) {
+        if (value & (((u64)1 << step) - 1)) continue;
+        value >>= step;
+        count += step;
+    }
+    return count;
+}
+
+/* Sum and product, and whether they have more than 64 bits: with no number of 128 bits, and no division. */
+struct pair_64_1 { u64 a; _Bool b; };
+
+INLINE struct pair_64_1 uadd_over64(u64 a, u64 b) {
+    struct pair_64_1 made;
+    made.a = a + b;
+    made.b = made.a < a;
+    return made;
+}
+
+INLINE struct pair_64_1 umul_over64(u64 a, u64 b) {
+    const u64 low = (a & 0xffffffff) * (b & 0xffffffff);
+    const u64 one = (a >> 32) * (b & 0xffffffff), other = (a & 0xffffffff) * (b >> 32);
+    const u64 middle = (low >> 32) + (one & 0xffffffff) + (other & 0xffffffff);
+    struct pair_64_1 made;
+    made.a = a * b;
+    made.b = ((a >> 32) * (b >> 32) + (one >> 32) + (other >> 32) + (middle >> 32)) != 0;
+    return made;
+}
+
+/* Division with no call of the compiler's library, which kernels of 32 bits don't link: a bit at a time. */
+#if UINTPTR_MAX > 0xffffffff
+INLINE u64 udiv64(u64 a, u64 b) { return a / b; }
+#else
+APART u64 udiv64(u64 a, u64 b) {
+    u64 rest = 0;
+    int place, carry;
+    for (place = 0; place < 64; place++) {
+        carry = (int)(rest >> 63);
+        rest = rest << 1 | a >> 63;
+        a <<= 1;
+        if (carry || rest >= b) {
+            rest -= b;
+            a |= 1;
+        }
+    }
+    return a;
+}
+#endif
+
+/* The rest modulo 65535, of which 2^16 is 1: each two bytes count alike. */
+#if UINTPTR_MAX > 0xffffffff
+INLINE u64 modulo_65535(u64 a) { return a % 65535; }
+#else
+INLINE u64 modulo_65535(u64 a) {
+    u32 rest;
+    a = (a >> 32) + (a & 0xffffffff);
+    rest = (u32)(a >> 32) + (u32)(a >> 16 & 0xffff) + (u32)(a & 0xffff);
+    rest = (rest >> 16) + (rest & 0xffff);
+    rest = (rest >> 16) + (rest & 0xffff);
+    return rest == 65535 ? 0 : rest;
+}
+#endif
+
+/* The sum of eight words, of each the bits of the mask. */
+INLINE u64 sum_words(const u8 *at, u64 mask) {
+    return (load64u(at) & mask) + (load64u(at + 8) & mask) + (load64u(at + 16) & mask) + (load64u(at + 24) & mask) +
+           (load64u(at + 32) & mask) + (load64u(at + 40) & mask) + (load64u(at + 48) & mask) + (load64u(at + 56) & mask);
+}
+
+/* Sixteen bytes, each of which is a number of its own. Without vectors this is compiled, but never runs. */
+#if HAS_VECTORS
+typedef u8 lanes __attribute__((vector_size(16)));
+INLINE lanes lanes_load(const void *at) { lanes value; memcpy(&value, at, 16); return value; }
+INLINE lanes lanes_add(lanes a, lanes b) { return a + b; }
+INLINE lanes lanes_and(lanes a, lanes b) { return a & b; }
+#else
+typedef struct { u8 at[16]; } lanes;
+INLINE lanes lanes_load(const void *at) { lanes value; memcpy(&value, at, 16); return value; }
+INLINE lanes lanes_add(lanes a, lanes b) { int i; for (i = 0; i < 16; i++) a.at[i] = (u8)(a.at[i] + b.at[i]); return a; }
+INLINE lanes lanes_and(lanes a, lanes b) { int i; for (i = 0; i < 16; i++) a.at[i] &= b.at[i]; return a; }
+#endif
+
+/* The sum of the sixteen modulo 256: in four lanes of 16 bits, which a product adds up in its upper one. */
+INLINE u8 lanes_sum(lanes value) {
+    const u64 mask = 0x00ff00ff00ff00ff;
+    u64 half[2], four;
+    memcpy(half, &value, 16);
+    four = (half[0] & mask) + (half[0] >> 8 & mask) + (half[1] & mask) + (half[1] >> 8 & mask);
+    return (u8)((four * 0x0001000100010001) >> 48);
+}
