@@ -51,6 +51,22 @@
 #define ZACPI_VERSION_NUMBER 0x010000 /* to compare: one byte for each part of the version */
 #define ZACPI_ABI 1 /* part of the library's symbols: with another library nothing links */
 
+/* With pointers of 32 bits a record is laid out as with those of 64: a pointer lies in the first half of its 8 bytes,
+ * and what counts or measures has 64 bits. */
+#if UINTPTR_MAX > 0xffffffff
+typedef uint64_t zacpi_u64;
+typedef size_t zacpi_size;
+#define ZACPI_SLOT
+#elif defined(__GNUC__)
+typedef uint64_t zacpi_u64 __attribute__((__aligned__(8)));
+typedef zacpi_u64 zacpi_size;
+#define ZACPI_SLOT __attribute__((__aligned__(8))) /* of a pointer that doesn't come after such a number */
+#else
+typedef uint64_t zacpi_u64; /* MSVC's is aligned to 8 */
+typedef uint64_t zacpi_size;
+#define ZACPI_SLOT __declspec(align(8))
+#endif
+
 #if defined(__GNUC__)
 #define ZACPI_CHECKED __attribute__((__warn_unused_result__))
 #define ZACPI_NONNULL(places) __attribute__((__nonnull__ places))
@@ -224,13 +240,13 @@ static inline const char *zacpi_status_name(zacpi_status status) {
 /* Physical memory from `address` on, and the pointer to it, which is never null: with an identity
  * map the first region begins above address 0. */
 struct zacpi_region {
-    uint64_t address;
+    zacpi_u64 address;
     const uint8_t *bytes;
-    size_t length;
+    zacpi_size length;
 };
 
 struct zacpi_range {
-    uint64_t address, length;
+    zacpi_u64 address, length;
 };
 
 enum zacpi_start {
@@ -250,8 +266,8 @@ enum zacpi_accept {
  * Bytes are mapped if one region contains all of them. */
 struct zacpi_source {
     const struct zacpi_region *regions;
-    size_t regions_length;
-    uint64_t address; /* where to start; a search doesn't look at it */
+    zacpi_size regions_length;
+    zacpi_u64 address; /* where to start; a search doesn't look at it */
     uint32_t start;   /* one of enum zacpi_start */
     uint32_t accept;  /* 0, or bits of enum zacpi_accept: a root table, a listed table or a DSDT is
                        * valid if it has no other error. An RSDP may have none */
@@ -266,7 +282,7 @@ ZACPI_STATUS zacpi_clip_ranges(const struct zacpi_range *ranges, size_t ranges_l
                                size_t capacity, size_t *count);
 
 struct zacpi_place {
-    size_t region, offset;
+    zacpi_size region, offset;
 };
 
 /* Returns where memory is in the regions: the byte at `address` is regions[region].bytes[offset],
@@ -291,15 +307,15 @@ static inline struct zacpi_signature zacpi_signature_of(const char *letters) {
 #define ZACPI_SIGNATURE(letters) \
     zacpi_signature_of(&("" letters)[0 * sizeof(char[sizeof("" letters) == 5 ? 1 : -1])])
 struct zacpi_root {
-    uint64_t address;
+    zacpi_u64 address;
     uint32_t length;
     uint8_t revision;      /* of the RSDP; 0 if opened at an RSDT, 2 if at an XSDT */
     uint8_t pointer_width; /* 4 for an RSDT, 8 for an XSDT */
-    uint64_t rsdp_address; /* 0 if opened at a root table, and so is the length */
+    zacpi_u64 rsdp_address; /* 0 if opened at a root table, and so is the length */
     uint32_t rsdp_length;
 };
 struct zacpi_table {
-    uint64_t address;
+    zacpi_u64 address;
     uint32_t length;
     uint8_t signature[4], revision, oem_id[6], oem_table_id[8];
     uint32_t oem_revision;
@@ -307,7 +323,7 @@ struct zacpi_table {
     uint32_t creator_revision;
 };
 struct zacpi_fault {
-    uint64_t address;
+    zacpi_u64 address;
     zacpi_status status; /* why it isn't valid: ZACPI_MAP_FAILED or a ZACPI_SDT_ error, but for
                           * ZACPI_SDT_INVALID_SIGNATURE */
     uint8_t accepted;    /* 1: it isn't skipped, by `accept` of the source */
@@ -320,15 +336,15 @@ struct zacpi_walk {
     uint8_t length_offset, length_width;
 };
 struct zacpi_entry {
-    uint64_t address;
+    zacpi_u64 address;
     uint32_t entry_type;
     uint32_t length; /* with Type and Length */
 };
 struct zacpi_aml_table {
-    uint64_t address; /* of the byte after the table's header */
+    zacpi_u64 address; /* of the byte after the table's header */
     uint32_t length;  /* Length less 36 */
     uint8_t revision; /* of a DSDT: below 2 integers have 32 bits, else 64 */
-    uint64_t table_address;
+    zacpi_u64 table_address;
 };
 
 /* Makes the root table that a copy of the RSDP points to (multiboot2's tags 14 and 15) the start of
@@ -421,7 +437,7 @@ ZACPI_STATUS zacpi_list_ranges(const struct zacpi_source *source, struct zacpi_r
 /* Fixed hardware and devices ------------------------------------------------------------------- */
 
 struct zacpi_generic_address { /* Generic Address Structure, section 5.2.3.2 */
-    uint64_t address;    /* in its space */
+    zacpi_u64 address;   /* in its space */
     uint8_t space;       /* of enum zacpi_address_space */
     uint8_t bit_width, bit_offset;
     uint8_t access_size; /* 0 unspecified, 1 one byte, 2 two, 3 four, 4 eight */
@@ -443,7 +459,7 @@ struct zacpi_pm_timer {
     uint8_t is_32_bit;                 /* TMR_VAL_EXT: it counts in 32 bits, else in 24 */
 };
 struct zacpi_hpet_info {
-    uint64_t base_address;
+    zacpi_u64 base_address;
     uint32_t event_timer_block_id;
     uint16_t clock_tick_unit; /* Main Counter Minimum Clock_tick in Periodic Mode */
     uint8_t number;
@@ -457,7 +473,7 @@ enum { /* of event_timer_block_id */
     ZACPI_HPET_LEGACY_REPLACEMENT = 0x8000     /* in bits 16 to 31 is the PCI Vendor ID */
 };
 struct zacpi_boot_graphic {
-    uint64_t address;
+    zacpi_u64 address;
     uint32_t x, y;        /* Image Offset X and Y: of its upper left corner, in pixels */
     uint16_t orientation; /* Orientation Offset, bits 1 and 2 of Status: in degrees, clockwise, 0,
                            * 90, 180 or 270 */
@@ -467,7 +483,7 @@ struct zacpi_boot_graphic {
 
 struct zacpi_gpe_block { /* general purpose events (sections 4.8.4.1 and 5.2.9), by the length in
                           * bytes; zeros unless it is present */
-    uint64_t address;    /* X_GPEn_BLK or GPEn_BLK: of the first register, in its space */
+    zacpi_u64 address;   /* X_GPEn_BLK or GPEn_BLK: of the first register, in its space */
     uint8_t space;       /* as in struct zacpi_generic_address */
     uint8_t byte_length; /* GPEn_BLK_LEN: first the status bits, in the second half the enable
                           * bits */
@@ -479,8 +495,8 @@ struct zacpi_gpe_block { /* general purpose events (sections 4.8.4.1 and 5.2.9),
  * block is I/O ports, of eight bits for each byte of its length (PM1_EVT_LEN to GPE1_BLK_LEN),
  * which may be 0; from 32 bytes on it is an error, but for gpe0_block and gpe1_block. */
 struct zacpi_fixed_hardware {
-    uint64_t facs_address;                   /* FIRMWARE_CTRL. 0: none */
-    uint64_t dsdt_address;                   /* DSDT. 0: none */
+    zacpi_u64 facs_address;                  /* FIRMWARE_CTRL. 0: none */
+    zacpi_u64 dsdt_address;                  /* DSDT. 0: none */
     struct zacpi_register pm1a_event, pm1b_event; /* PM1n_EVT_BLK */
     struct zacpi_register pm1a_control, pm1b_control; /* PM1n_CNT_BLK */
     struct zacpi_register pm2_control;       /* PM2_CNT_BLK */
@@ -513,11 +529,11 @@ struct zacpi_fixed_hardware {
     uint8_t day_alarm, month_alarm, century; /* registers of the clock. 0: none */
     uint8_t reset_value, revision;
     uint8_t minor_revision;                  /* FADT Minor Version: errata in bits 4 to 7 */
-    uint64_t hypervisor_id;                  /* Hypervisor Vendor Identity; 0 below revision 6 */
+    zacpi_u64 hypervisor_id;                 /* Hypervisor Vendor Identity; 0 below revision 6 */
 };
 struct zacpi_facs { /* section 5.2.10 */
-    uint64_t address;
-    uint64_t waking_vector_64; /* X_Firmware_Waking_Vector */
+    zacpi_u64 address;
+    zacpi_u64 waking_vector_64; /* X_Firmware_Waking_Vector */
     uint32_t length, hardware_signature, waking_vector;
     uint32_t flags;            /* bit 0 S4BIOS_F, 1 64BIT_WAKE_SUPPORTED_F */
     uint8_t version;
@@ -696,12 +712,12 @@ static inline uint32_t zacpi_pm_timer_ticks(uint32_t before, uint32_t after, uin
 
 struct zacpi_pci_region { /* an allocation of the MCFG (PCI Firmware Specification, section
                            * 4.1.2) */
-    uint64_t base_address; /* where bus 0 of the segment group would lie */
+    zacpi_u64 base_address; /* where bus 0 of the segment group would lie */
     uint16_t segment_group;
     uint8_t first_bus, last_bus;
 };
 struct zacpi_ecam_range {
-    uint64_t address, length; /* zeros if it isn't present */
+    zacpi_u64 address, length; /* zeros if it isn't present */
     uint16_t segment_group;
     uint8_t present;          /* 0: the last bus is below the first, or the range ends at 2^64 or
                                * above */
@@ -749,10 +765,10 @@ enum zacpi_processor_state {
 };
 
 struct zacpi_interrupt_model {
-    uint64_t local_apic_address; /* of the last override of it (section 5.2.12.8), or else Local
+    zacpi_u64 local_apic_address; /* of the last override of it (section 5.2.12.8), or else Local
                                   * Interrupt Controller Address */
     /* how many each list below has */
-    size_t io_apics, overrides, nmi_sources, nmi_lines, processors;
+    zacpi_size io_apics, overrides, nmi_sources, nmi_lines, processors;
     uint8_t known;         /* 1 if a MADT has an entry of Types 0 to 5, 9 or 0xa; else all is 0 */
     uint8_t also_has_8259; /* PCAT_COMPAT, bit 0 of Flags: there is a pair of 8259s to be masked */
 };
@@ -833,7 +849,7 @@ ZACPI_STATUS zacpi_mailbox_address(const struct zacpi_source *source, uint64_t *
                                    struct zacpi_signature *signature);
 
 struct zacpi_entry_fault {
-    uint64_t address;    /* of the entry, or where none begins */
+    zacpi_u64 address;   /* of the entry, or where none begins */
     uint32_t status;     /* its error */
     uint16_t entry_type; /* Type there; 0 at the table's end */
 };
@@ -911,7 +927,7 @@ ZACPI_STATUS zacpi_list_isa_interrupts(const struct zacpi_source *source,
 /* On Arm no `polarity` or `trigger` is as the bus has it. */
 
 struct zacpi_gic_distributor { /* GIC Distributor (GICD), section 5.2.12.15 */
-    uint64_t address;
+    zacpi_u64 address;
     uint32_t id;
     uint32_t system_vector_base; /* reserved, and kept as it is */
     uint8_t version;             /* 1 to 4; 0: the hardware tells */
@@ -920,11 +936,11 @@ struct zacpi_gic_cpu_interface { /* GIC CPU Interface (GICC), section 5.2.12.14.
                                   * interrupt of 0 is none. Flags: bit 0 is_enabled, 1
                                   * performance_trigger, 2 maintenance_trigger, 3 (since ACPI 6.5)
                                   * is_online_capable */
-    uint64_t mpidr;
-    uint64_t parked_address;           /* the parking protocol's mailbox */
-    uint64_t address;                  /* Physical Base Address */
+    zacpi_u64 mpidr;
+    zacpi_u64 parked_address;          /* the parking protocol's mailbox */
+    zacpi_u64 address;                 /* Physical Base Address */
     /* GICV, GICH, GICR Base Address */
-    uint64_t virtual_address, hypervisor_address, redistributor_address;
+    zacpi_u64 virtual_address, hypervisor_address, redistributor_address;
     uint32_t number, processor_uid, performance_interrupt, maintenance_interrupt;
     uint32_t parking_protocol_version; /* 0: none; PSCI wakes processors */
     uint16_t spe_overflow_interrupt;
@@ -935,11 +951,11 @@ struct zacpi_gic_cpu_interface { /* GIC CPU Interface (GICC), section 5.2.12.14.
 };
 struct zacpi_gic_translation_service { /* GIC Interrupt Translation Service (ITS), section
                                         * 5.2.12.18 */
-    uint64_t address;
+    zacpi_u64 address;
     uint32_t id;
 };
 struct zacpi_gic_msi_frame { /* GIC MSI Frame, section 5.2.12.16 */
-    uint64_t address;
+    zacpi_u64 address;
     uint32_t id;
     uint16_t spi_base, spi_count; /* zeros if has_spis is 0 */
     uint8_t has_spis;             /* SPI Count/Base Select, bit 0 of Flags. 0: the frame's registers
@@ -983,8 +999,8 @@ struct zacpi_arm_timer { /* its flags: bit 0 trigger, 1 polarity, 2 always_on */
     uint8_t present;    /* 0: the table hasn't this timer's fields, and all else is 0 */
 };
 struct zacpi_arm_timers {
-    uint64_t control_base; /* CntControlBase Physical Address; all ones: none */
-    uint64_t read_base;    /* CntReadBase Physical Address; all ones: none, also below revision 2 */
+    zacpi_u64 control_base; /* CntControlBase Physical Address; all ones: none */
+    zacpi_u64 read_base;   /* CntReadBase Physical Address; all ones: none, also below revision 2 */
     /* virtual_el2 is present from revision 3 on, if the table has all its eight bytes, and Platform
      * Timer Count is 0 or Platform Timer Offset at least 104. */
     struct zacpi_arm_timer secure_el1, non_secure_el1, virtual_el1, el2, virtual_el2;
@@ -993,9 +1009,9 @@ struct zacpi_arm_timers {
 };
 struct zacpi_gt_frame { /* a frame of a GT Block, section 5.2.24.1.1. GTx Common Flags: bit 0
                          * is_secure, 1 is_always_on */
-    uint64_t block_address;      /* of the block's control frame */
-    uint64_t address;
-    uint64_t el0_address;        /* CntEL0BaseX: of the registers as EL0 sees them; all ones:
+    zacpi_u64 block_address;     /* of the block's control frame */
+    zacpi_u64 address;
+    zacpi_u64 el0_address;       /* CntEL0BaseX: of the registers as EL0 sees them; all ones:
                                   * none */
     uint32_t physical_interrupt, virtual_interrupt; /* 0: no such timer */
     uint8_t number; /* in the block, from 0 to 7 */
@@ -1004,7 +1020,7 @@ struct zacpi_gt_frame { /* a frame of a GT Block, section 5.2.24.1.1. GTx Common
 };
 struct zacpi_watchdog { /* Arm Generic Watchdog, section 5.2.24.1.2. Watchdog Timer Flags: bit 0
                          * trigger, 1 polarity, 2 is_secure */
-    uint64_t refresh_frame, control_frame;
+    zacpi_u64 refresh_frame, control_frame;
     uint32_t interrupt;
     uint8_t polarity, trigger, is_secure;
 };
@@ -1035,8 +1051,8 @@ ZACPI_STATUS zacpi_list_gtdt_faults(const struct zacpi_source *source,
 
 struct zacpi_rintc { /* RISC-V Interrupt Controller, Type 0x18: a hart. An entry of 20 bytes has
                       * neither controller id nor IMSIC: zeros */
-    uint64_t hart_id;
-    uint64_t imsic_address; /* IMSIC Base Address. 0: none */
+    zacpi_u64 hart_id;
+    zacpi_u64 imsic_address; /* IMSIC Base Address. 0: none */
     uint32_t flags;         /* bit 0 Enabled, 1 Online Capable */
     uint32_t processor_uid; /* ACPI Processor UID */
     uint32_t external_interrupt_controller_id; /* bits 24 to 31 the id of a PLIC or an APLIC, bits 0
@@ -1051,16 +1067,16 @@ struct zacpi_imsic { /* Incoming MSI Controller, Type 0x19: what those of all ha
     uint8_t version;
 };
 struct zacpi_aplic { /* Advanced Platform Level Interrupt Controller, Type 0x1a */
-    uint64_t address;
-    uint64_t hardware_id; /* its first byte is the lowest */
+    zacpi_u64 address;
+    zacpi_u64 hardware_id; /* its first byte is the lowest */
     uint32_t flags, global_system_interrupt_base, size;
     uint16_t idc_count;   /* Number of IDCs. 0: it sends messages to the IMSICs */
     uint16_t source_count;
     uint8_t id, version;
 };
 struct zacpi_plic { /* Platform Level Interrupt Controller, Type 0x1b */
-    uint64_t address;
-    uint64_t hardware_id; /* its first byte is the lowest */
+    zacpi_u64 address;
+    zacpi_u64 hardware_id; /* its first byte is the lowest */
     uint32_t flags, global_system_interrupt_base, size;
     uint16_t source_count, max_priority;
     uint8_t id, version;
@@ -1083,13 +1099,13 @@ ZACPI_STATUS zacpi_list_plics(const struct zacpi_source *source, struct zacpi_pl
 
 struct zacpi_memory_affinity { /* Memory Affinity, section 5.2.16.2. Flags: bit 0 Enabled, 1
                                 * is_hot_pluggable, 2 is_non_volatile */
-    uint64_t address;
-    uint64_t length; /* at least one */
+    zacpi_u64 address;
+    zacpi_u64 length; /* at least one */
     uint32_t domain; /* Proximity Domain; below revision 2 its lowest byte */
     uint8_t is_hot_pluggable, is_non_volatile;
 };
 struct zacpi_localities {
-    uint64_t localities; /* Number of System Localities: rows of the matrix, from 0 on */
+    zacpi_u64 localities; /* Number of System Localities: rows of the matrix, from 0 on */
     uint8_t is_sane;     /* 1: there are localities, the table has all distances, 10 of each
                           * locality from itself, and more than 10 of others */
 };
@@ -1149,14 +1165,14 @@ struct zacpi_hop { /* a step of Path, from a bus to a device on it */
     uint8_t device, function;
 };
 struct zacpi_dmar_unit { /* DMA Remapping Hardware Unit Definition (DRHD), section 8.3 */
-    uint64_t register_base;
-    uint64_t register_bytes;  /* 2^n pages of 4 KiB, with n in bits 0 to 3 of Size */
+    zacpi_u64 register_base;
+    zacpi_u64 register_bytes; /* 2^n pages of 4 KiB, with n in bits 0 to 3 of Size */
     uint16_t segment;
     uint8_t includes_pci_all; /* bit 0 of Flags */
     uint8_t flags, size;
 };
 struct zacpi_dmar_scope {
-    size_t path_length; /* how many hops Path has; `path` has the first 16, and zeros after them */
+    zacpi_size path_length; /* how many hops Path has; `path` has the first 16, and zeros after them */
     uint8_t scope_type, flags, enumeration_id;
     uint8_t bus;        /* Start Bus Number */
     struct zacpi_hop path[16];
@@ -1168,8 +1184,8 @@ struct zacpi_dmar_source { /* how a unit knows a device that sends interrupts, s
     uint8_t has_hop;
 };
 struct zacpi_dmar_reserved { /* Reserved Memory Region Reporting (RMRR), section 8.4 */
-    uint64_t base;  /* the first byte */
-    uint64_t limit; /* the last byte */
+    zacpi_u64 base; /* the first byte */
+    zacpi_u64 limit; /* the last byte */
     uint16_t segment;
 };
 
@@ -1228,8 +1244,8 @@ ZACPI_STATUS zacpi_list_dmar_reserved(const struct zacpi_source *source, uint16_
  * its Type, but one of Type 0xf0 22 and those of its UID. The end of a range, Type 4, is right
  * after its start. A device id is 256 times the bus, 8 times the device, and the function. */
 struct zacpi_ivrs_unit { /* I/O Virtualization Hardware Definition (IVHD) */
-    uint64_t base;
-    uint64_t extended_features;    /* EFR Register Image, or 0 */
+    zacpi_u64 base;
+    zacpi_u64 extended_features;   /* EFR Register Image, or 0 */
     uint32_t features;             /* IOMMU Feature Reporting; of Types 0x11 and 0x40 IOMMU
                                     * Attributes */
     uint16_t segment;
@@ -1254,7 +1270,7 @@ struct zacpi_ivrs_device {
     uint8_t settings;   /* DTE Setting of the entry */
 };
 struct zacpi_ivrs_memory { /* I/O Virtualization Memory Definition (IVMD) */
-    uint64_t start, length;
+    zacpi_u64 start, length;
     uint16_t device_id;
     uint16_t auxiliary; /* Auxiliary Data: of Type 0x22 the last device */
     uint8_t block_type; /* 0x20 for all devices, 0x21 for one, 0x22 for a range */
@@ -1262,7 +1278,7 @@ struct zacpi_ivrs_memory { /* I/O Virtualization Memory Definition (IVMD) */
 };
 
 struct zacpi_ivrs_entry { /* a device entry; a field that its Type lacks is 0 */
-    size_t unique_id_length; /* `unique_id` has the first 32 bytes of Unique ID, and zeros */
+    zacpi_size unique_id_length; /* `unique_id` has the first 32 bytes of Unique ID, and zeros */
     uint32_t extended_settings;
     uint16_t first, last;    /* DeviceID; of a range, that of its end */
     uint16_t source_id;      /* Source DeviceID of Types 0x42, 0x43 and 0x48 */

@@ -6,6 +6,29 @@
 #else
 #define ZACPI_NOTHING ((void *)(uintptr_t)16) /* where the items of a list of none are: aligned for any type */
 
+/* How the library is called, whatever -mregparm makes of the caller's own functions. */
+#if defined(__GNUC__) && defined(__i386__)
+#define ZACPI_CALL __attribute__((__cdecl__, __regparm__(0)))
+#else
+#define ZACPI_CALL
+#endif
+
+/* What the library writes a count to, and the call that does it. With pointers of 32 bits that is a variable, of which
+ * the caller has a copy: the largest size_t if it has more bits. */
+#if UINTPTR_MAX > 0xffffffff
+typedef size_t zacpi_number;
+#define ZACPI_COUNTED(count) count
+#define ZACPI_COUNTING(count, call) return call
+#else
+typedef uint64_t zacpi_number;
+#define ZACPI_COUNTED(count) &zacpi_counted
+#define ZACPI_COUNTING(count, call) \
+    zacpi_number zacpi_counted; \
+    const zacpi_status zacpi_returned = call; \
+    if (!zacpi_returned) *count = zacpi_counted > SIZE_MAX ? SIZE_MAX : (size_t)zacpi_counted; \
+    return zacpi_returned
+#endif
+
 static inline struct zacpi_source zacpi_source_kept(const struct zacpi_source *given) {
     struct zacpi_source kept = *given;
     if (!kept.regions_length)
@@ -83,8 +106,6 @@ static inline struct zacpi_gtdt_contents zacpi_gtdt_contents_kept(const struct z
 
 static inline struct zacpi_machine zacpi_machine_kept(const struct zacpi_machine *given) {
     struct zacpi_machine kept = *given;
-    if (!kept.tables_length)
-        kept.tables = (const struct zacpi_listed_table *)ZACPI_NOTHING;
     if (!kept.dsdts_length)
         kept.dsdts = (const struct zacpi_aml_contents *)ZACPI_NOTHING;
     if (!kept.facs_length)
@@ -92,26 +113,30 @@ static inline struct zacpi_machine zacpi_machine_kept(const struct zacpi_machine
     return kept;
 }
 
-zacpi_status zacpi_1_clip_ranges(const struct zacpi_range *ranges, size_t ranges_length,
-                                 const struct zacpi_range *without, size_t without_length,
-                                 const struct zacpi_range *window, struct zacpi_range *out,
-                                 size_t capacity, size_t *count);
+zacpi_status ZACPI_CALL zacpi_1_clip_ranges(const struct zacpi_range *ranges,
+                                            zacpi_number ranges_length,
+                                            const struct zacpi_range *without,
+                                            zacpi_number without_length,
+                                            const struct zacpi_range *window,
+                                            struct zacpi_range *out, zacpi_number capacity,
+                                            zacpi_number *count);
 ZACPI_NONNULL((5, 8))
 ZACPI_STATUS zacpi_clip_ranges(const struct zacpi_range *ranges, size_t ranges_length,
                                const struct zacpi_range *without, size_t without_length,
                                const struct zacpi_range *window, struct zacpi_range *out,
                                size_t capacity, size_t *count) {
     ZACPI_FITS;
-    return zacpi_1_clip_ranges(ranges_length ? ranges : (const struct zacpi_range *)ZACPI_NOTHING,
-                               ranges_length,
-                               without_length ? without : (const struct zacpi_range *)ZACPI_NOTHING,
-                               without_length, window,
-                               capacity ? out : (struct zacpi_range *)ZACPI_NOTHING, capacity,
-                               count);
+    ZACPI_COUNTING(count, zacpi_1_clip_ranges(
+                   ranges_length ? ranges : (const struct zacpi_range *)ZACPI_NOTHING,
+                   ranges_length,
+                   without_length ? without : (const struct zacpi_range *)ZACPI_NOTHING,
+                   without_length, window, capacity ? out : (struct zacpi_range *)ZACPI_NOTHING,
+                   capacity, ZACPI_COUNTED(count)));
 }
 
-zacpi_status zacpi_1_locate(const struct zacpi_region *regions, size_t regions_length,
-                            uint64_t address, uint64_t length, struct zacpi_place *out);
+zacpi_status ZACPI_CALL zacpi_1_locate(const struct zacpi_region *regions,
+                                       zacpi_number regions_length, uint64_t address,
+                                       uint64_t length, struct zacpi_place *out);
 ZACPI_NONNULL((5))
 ZACPI_STATUS zacpi_locate(const struct zacpi_region *regions, size_t regions_length,
                           uint64_t address, uint64_t length, struct zacpi_place *out) {
@@ -120,8 +145,8 @@ ZACPI_STATUS zacpi_locate(const struct zacpi_region *regions, size_t regions_len
                           regions_length, address, length, out);
 }
 
-zacpi_status zacpi_1_start_of_rsdp(const uint8_t *rsdp, size_t rsdp_length,
-                                   struct zacpi_source *source);
+zacpi_status ZACPI_CALL zacpi_1_start_of_rsdp(const uint8_t *rsdp, zacpi_number rsdp_length,
+                                              struct zacpi_source *source);
 ZACPI_NONNULL((3))
 ZACPI_STATUS zacpi_start_of_rsdp(const uint8_t *rsdp, size_t rsdp_length,
                                  struct zacpi_source *source) {
@@ -136,8 +161,8 @@ ZACPI_STATUS zacpi_start_of_rsdp(const uint8_t *rsdp, size_t rsdp_length,
     return status;
 }
 
-zacpi_status zacpi_1_open(const struct zacpi_source *source, struct zacpi_root *out,
-                          struct zacpi_signature *signature);
+zacpi_status ZACPI_CALL zacpi_1_open(const struct zacpi_source *source, struct zacpi_root *out,
+                                     struct zacpi_signature *signature);
 ZACPI_NONNULL((1, 2))
 ZACPI_STATUS zacpi_open(const struct zacpi_source *source, struct zacpi_root *out,
                         struct zacpi_signature *signature) {
@@ -147,9 +172,10 @@ ZACPI_STATUS zacpi_open(const struct zacpi_source *source, struct zacpi_root *ou
     return zacpi_1_open(&kept_source, out, signature ? signature : &unasked);
 }
 
-zacpi_status zacpi_1_list_missing_ranges(const struct zacpi_source *source, struct zacpi_range *out,
-                                         size_t capacity, size_t *count,
-                                         struct zacpi_signature *signature);
+zacpi_status ZACPI_CALL zacpi_1_list_missing_ranges(const struct zacpi_source *source,
+                                                    struct zacpi_range *out, zacpi_number capacity,
+                                                    zacpi_number *count,
+                                                    struct zacpi_signature *signature);
 ZACPI_NONNULL((1, 4))
 ZACPI_STATUS zacpi_list_missing_ranges(const struct zacpi_source *source, struct zacpi_range *out,
                                        size_t capacity, size_t *count,
@@ -157,25 +183,28 @@ ZACPI_STATUS zacpi_list_missing_ranges(const struct zacpi_source *source, struct
     const struct zacpi_source kept_source = zacpi_source_kept(source);
     struct zacpi_signature unasked;
     ZACPI_FITS;
-    return zacpi_1_list_missing_ranges(&kept_source,
-                                       capacity ? out : (struct zacpi_range *)ZACPI_NOTHING,
-                                       capacity, count, signature ? signature : &unasked);
+    ZACPI_COUNTING(count, zacpi_1_list_missing_ranges(&kept_source,
+                   capacity ? out : (struct zacpi_range *)ZACPI_NOTHING, capacity,
+                   ZACPI_COUNTED(count), signature ? signature : &unasked));
 }
 
-zacpi_status zacpi_1_list_tables(const struct zacpi_source *source, struct zacpi_table *out,
-                                 size_t capacity, size_t *count, struct zacpi_signature *signature);
+zacpi_status ZACPI_CALL zacpi_1_list_tables(const struct zacpi_source *source,
+                                            struct zacpi_table *out, zacpi_number capacity,
+                                            zacpi_number *count, struct zacpi_signature *signature);
 ZACPI_NONNULL((1, 4))
 ZACPI_STATUS zacpi_list_tables(const struct zacpi_source *source, struct zacpi_table *out,
                                size_t capacity, size_t *count, struct zacpi_signature *signature) {
     const struct zacpi_source kept_source = zacpi_source_kept(source);
     struct zacpi_signature unasked;
     ZACPI_FITS;
-    return zacpi_1_list_tables(&kept_source, capacity ? out : (struct zacpi_table *)ZACPI_NOTHING,
-                               capacity, count, signature ? signature : &unasked);
+    ZACPI_COUNTING(count, zacpi_1_list_tables(&kept_source,
+                   capacity ? out : (struct zacpi_table *)ZACPI_NOTHING, capacity,
+                   ZACPI_COUNTED(count), signature ? signature : &unasked));
 }
 
-zacpi_status zacpi_1_find_table(const struct zacpi_source *source, struct zacpi_signature wanted,
-                                struct zacpi_table *out, struct zacpi_signature *signature);
+zacpi_status ZACPI_CALL zacpi_1_find_table(const struct zacpi_source *source,
+                                           struct zacpi_signature wanted, struct zacpi_table *out,
+                                           struct zacpi_signature *signature);
 ZACPI_NONNULL((1, 3))
 ZACPI_STATUS zacpi_find_table(const struct zacpi_source *source, struct zacpi_signature wanted,
                               struct zacpi_table *out, struct zacpi_signature *signature) {
@@ -185,9 +214,10 @@ ZACPI_STATUS zacpi_find_table(const struct zacpi_source *source, struct zacpi_si
     return zacpi_1_find_table(&kept_source, wanted, out, signature ? signature : &unasked);
 }
 
-zacpi_status zacpi_1_find_nth_table(const struct zacpi_source *source,
-                                    struct zacpi_signature wanted, size_t index,
-                                    struct zacpi_table *out, struct zacpi_signature *signature);
+zacpi_status ZACPI_CALL zacpi_1_find_nth_table(const struct zacpi_source *source,
+                                               struct zacpi_signature wanted, zacpi_number index,
+                                               struct zacpi_table *out,
+                                               struct zacpi_signature *signature);
 ZACPI_NONNULL((1, 4))
 ZACPI_STATUS zacpi_find_nth_table(const struct zacpi_source *source, struct zacpi_signature wanted,
                                   size_t index, struct zacpi_table *out,
@@ -199,10 +229,10 @@ ZACPI_STATUS zacpi_find_nth_table(const struct zacpi_source *source, struct zacp
                                   signature ? signature : &unasked);
 }
 
-zacpi_status zacpi_1_list_entries(const struct zacpi_source *source, uint64_t table,
-                                  const struct zacpi_walk *walk, struct zacpi_entry *out,
-                                  size_t capacity, size_t *count, uint8_t *malformed,
-                                  struct zacpi_signature *signature);
+zacpi_status ZACPI_CALL zacpi_1_list_entries(const struct zacpi_source *source, uint64_t table,
+                                             const struct zacpi_walk *walk, struct zacpi_entry *out,
+                                             zacpi_number capacity, zacpi_number *count,
+                                             uint8_t *malformed, struct zacpi_signature *signature);
 ZACPI_NONNULL((1, 3, 6, 7))
 ZACPI_STATUS zacpi_list_entries(const struct zacpi_source *source, uint64_t table,
                                 const struct zacpi_walk *walk, struct zacpi_entry *out,
@@ -211,14 +241,15 @@ ZACPI_STATUS zacpi_list_entries(const struct zacpi_source *source, uint64_t tabl
     const struct zacpi_source kept_source = zacpi_source_kept(source);
     struct zacpi_signature unasked;
     ZACPI_FITS;
-    return zacpi_1_list_entries(&kept_source, table, walk,
-                                capacity ? out : (struct zacpi_entry *)ZACPI_NOTHING, capacity,
-                                count, malformed, signature ? signature : &unasked);
+    ZACPI_COUNTING(count, zacpi_1_list_entries(&kept_source, table, walk,
+                   capacity ? out : (struct zacpi_entry *)ZACPI_NOTHING, capacity,
+                   ZACPI_COUNTED(count), malformed, signature ? signature : &unasked));
 }
 
-zacpi_status zacpi_1_list_faults(const struct zacpi_source *source, struct zacpi_signature wanted,
-                                 struct zacpi_fault *out, size_t capacity, size_t *count,
-                                 struct zacpi_signature *signature);
+zacpi_status ZACPI_CALL zacpi_1_list_faults(const struct zacpi_source *source,
+                                            struct zacpi_signature wanted, struct zacpi_fault *out,
+                                            zacpi_number capacity, zacpi_number *count,
+                                            struct zacpi_signature *signature);
 ZACPI_NONNULL((1, 5))
 ZACPI_STATUS zacpi_list_faults(const struct zacpi_source *source, struct zacpi_signature wanted,
                                struct zacpi_fault *out, size_t capacity, size_t *count,
@@ -226,13 +257,13 @@ ZACPI_STATUS zacpi_list_faults(const struct zacpi_source *source, struct zacpi_s
     const struct zacpi_source kept_source = zacpi_source_kept(source);
     struct zacpi_signature unasked;
     ZACPI_FITS;
-    return zacpi_1_list_faults(&kept_source, wanted,
-                               capacity ? out : (struct zacpi_fault *)ZACPI_NOTHING, capacity,
-                               count, signature ? signature : &unasked);
+    ZACPI_COUNTING(count, zacpi_1_list_faults(&kept_source, wanted,
+                   capacity ? out : (struct zacpi_fault *)ZACPI_NOTHING, capacity,
+                   ZACPI_COUNTED(count), signature ? signature : &unasked));
 }
 
-zacpi_status zacpi_1_dsdt(const struct zacpi_source *source, struct zacpi_aml_table *out,
-                          struct zacpi_signature *signature);
+zacpi_status ZACPI_CALL zacpi_1_dsdt(const struct zacpi_source *source, struct zacpi_aml_table *out,
+                                     struct zacpi_signature *signature);
 ZACPI_NONNULL((1, 2))
 ZACPI_STATUS zacpi_dsdt(const struct zacpi_source *source, struct zacpi_aml_table *out,
                         struct zacpi_signature *signature) {
@@ -242,34 +273,37 @@ ZACPI_STATUS zacpi_dsdt(const struct zacpi_source *source, struct zacpi_aml_tabl
     return zacpi_1_dsdt(&kept_source, out, signature ? signature : &unasked);
 }
 
-zacpi_status zacpi_1_list_ssdts(const struct zacpi_source *source, struct zacpi_aml_table *out,
-                                size_t capacity, size_t *count, struct zacpi_signature *signature);
+zacpi_status ZACPI_CALL zacpi_1_list_ssdts(const struct zacpi_source *source,
+                                           struct zacpi_aml_table *out, zacpi_number capacity,
+                                           zacpi_number *count, struct zacpi_signature *signature);
 ZACPI_NONNULL((1, 4))
 ZACPI_STATUS zacpi_list_ssdts(const struct zacpi_source *source, struct zacpi_aml_table *out,
                               size_t capacity, size_t *count, struct zacpi_signature *signature) {
     const struct zacpi_source kept_source = zacpi_source_kept(source);
     struct zacpi_signature unasked;
     ZACPI_FITS;
-    return zacpi_1_list_ssdts(&kept_source,
-                              capacity ? out : (struct zacpi_aml_table *)ZACPI_NOTHING, capacity,
-                              count, signature ? signature : &unasked);
+    ZACPI_COUNTING(count, zacpi_1_list_ssdts(&kept_source,
+                   capacity ? out : (struct zacpi_aml_table *)ZACPI_NOTHING, capacity,
+                   ZACPI_COUNTED(count), signature ? signature : &unasked));
 }
 
-zacpi_status zacpi_1_list_ranges(const struct zacpi_source *source, struct zacpi_range *out,
-                                 size_t capacity, size_t *count, struct zacpi_signature *signature);
+zacpi_status ZACPI_CALL zacpi_1_list_ranges(const struct zacpi_source *source,
+                                            struct zacpi_range *out, zacpi_number capacity,
+                                            zacpi_number *count, struct zacpi_signature *signature);
 ZACPI_NONNULL((1, 4))
 ZACPI_STATUS zacpi_list_ranges(const struct zacpi_source *source, struct zacpi_range *out,
                                size_t capacity, size_t *count, struct zacpi_signature *signature) {
     const struct zacpi_source kept_source = zacpi_source_kept(source);
     struct zacpi_signature unasked;
     ZACPI_FITS;
-    return zacpi_1_list_ranges(&kept_source, capacity ? out : (struct zacpi_range *)ZACPI_NOTHING,
-                               capacity, count, signature ? signature : &unasked);
+    ZACPI_COUNTING(count, zacpi_1_list_ranges(&kept_source,
+                   capacity ? out : (struct zacpi_range *)ZACPI_NOTHING, capacity,
+                   ZACPI_COUNTED(count), signature ? signature : &unasked));
 }
 
-zacpi_status zacpi_1_get_fixed_hardware(const struct zacpi_source *source,
-                                        struct zacpi_fixed_hardware *out,
-                                        struct zacpi_signature *signature);
+zacpi_status ZACPI_CALL zacpi_1_get_fixed_hardware(const struct zacpi_source *source,
+                                                   struct zacpi_fixed_hardware *out,
+                                                   struct zacpi_signature *signature);
 ZACPI_NONNULL((1, 2))
 ZACPI_STATUS zacpi_get_fixed_hardware(const struct zacpi_source *source,
                                       struct zacpi_fixed_hardware *out,
@@ -280,8 +314,8 @@ ZACPI_STATUS zacpi_get_fixed_hardware(const struct zacpi_source *source,
     return zacpi_1_get_fixed_hardware(&kept_source, out, signature ? signature : &unasked);
 }
 
-zacpi_status zacpi_1_get_facs(const struct zacpi_source *source, struct zacpi_facs *out,
-                              struct zacpi_signature *signature);
+zacpi_status ZACPI_CALL zacpi_1_get_facs(const struct zacpi_source *source, struct zacpi_facs *out,
+                                         struct zacpi_signature *signature);
 ZACPI_NONNULL((1, 2))
 ZACPI_STATUS zacpi_get_facs(const struct zacpi_source *source, struct zacpi_facs *out,
                             struct zacpi_signature *signature) {
@@ -291,8 +325,9 @@ ZACPI_STATUS zacpi_get_facs(const struct zacpi_source *source, struct zacpi_facs
     return zacpi_1_get_facs(&kept_source, out, signature ? signature : &unasked);
 }
 
-zacpi_status zacpi_1_get_console(const struct zacpi_source *source, struct zacpi_console *out,
-                                 struct zacpi_signature *signature);
+zacpi_status ZACPI_CALL zacpi_1_get_console(const struct zacpi_source *source,
+                                            struct zacpi_console *out,
+                                            struct zacpi_signature *signature);
 ZACPI_NONNULL((1, 2))
 ZACPI_STATUS zacpi_get_console(const struct zacpi_source *source, struct zacpi_console *out,
                                struct zacpi_signature *signature) {
@@ -302,8 +337,9 @@ ZACPI_STATUS zacpi_get_console(const struct zacpi_source *source, struct zacpi_c
     return zacpi_1_get_console(&kept_source, out, signature ? signature : &unasked);
 }
 
-zacpi_status zacpi_1_get_pm_timer(const struct zacpi_source *source, struct zacpi_pm_timer *out,
-                                  struct zacpi_signature *signature);
+zacpi_status ZACPI_CALL zacpi_1_get_pm_timer(const struct zacpi_source *source,
+                                             struct zacpi_pm_timer *out,
+                                             struct zacpi_signature *signature);
 ZACPI_NONNULL((1, 2))
 ZACPI_STATUS zacpi_get_pm_timer(const struct zacpi_source *source, struct zacpi_pm_timer *out,
                                 struct zacpi_signature *signature) {
@@ -313,8 +349,8 @@ ZACPI_STATUS zacpi_get_pm_timer(const struct zacpi_source *source, struct zacpi_
     return zacpi_1_get_pm_timer(&kept_source, out, signature ? signature : &unasked);
 }
 
-zacpi_status zacpi_1_hpet(const struct zacpi_source *source, struct zacpi_hpet_info *out,
-                          struct zacpi_signature *signature);
+zacpi_status ZACPI_CALL zacpi_1_hpet(const struct zacpi_source *source, struct zacpi_hpet_info *out,
+                                     struct zacpi_signature *signature);
 ZACPI_NONNULL((1, 2))
 ZACPI_STATUS zacpi_hpet(const struct zacpi_source *source, struct zacpi_hpet_info *out,
                         struct zacpi_signature *signature) {
@@ -324,22 +360,23 @@ ZACPI_STATUS zacpi_hpet(const struct zacpi_source *source, struct zacpi_hpet_inf
     return zacpi_1_hpet(&kept_source, out, signature ? signature : &unasked);
 }
 
-zacpi_status zacpi_1_list_hpets(const struct zacpi_source *source, struct zacpi_hpet_info *out,
-                                size_t capacity, size_t *count, struct zacpi_signature *signature);
+zacpi_status ZACPI_CALL zacpi_1_list_hpets(const struct zacpi_source *source,
+                                           struct zacpi_hpet_info *out, zacpi_number capacity,
+                                           zacpi_number *count, struct zacpi_signature *signature);
 ZACPI_NONNULL((1, 4))
 ZACPI_STATUS zacpi_list_hpets(const struct zacpi_source *source, struct zacpi_hpet_info *out,
                               size_t capacity, size_t *count, struct zacpi_signature *signature) {
     const struct zacpi_source kept_source = zacpi_source_kept(source);
     struct zacpi_signature unasked;
     ZACPI_FITS;
-    return zacpi_1_list_hpets(&kept_source,
-                              capacity ? out : (struct zacpi_hpet_info *)ZACPI_NOTHING, capacity,
-                              count, signature ? signature : &unasked);
+    ZACPI_COUNTING(count, zacpi_1_list_hpets(&kept_source,
+                   capacity ? out : (struct zacpi_hpet_info *)ZACPI_NOTHING, capacity,
+                   ZACPI_COUNTED(count), signature ? signature : &unasked));
 }
 
-zacpi_status zacpi_1_get_boot_graphic(const struct zacpi_source *source,
-                                      struct zacpi_boot_graphic *out,
-                                      struct zacpi_signature *signature);
+zacpi_status ZACPI_CALL zacpi_1_get_boot_graphic(const struct zacpi_source *source,
+                                                 struct zacpi_boot_graphic *out,
+                                                 struct zacpi_signature *signature);
 ZACPI_NONNULL((1, 2))
 ZACPI_STATUS zacpi_get_boot_graphic(const struct zacpi_source *source,
                                     struct zacpi_boot_graphic *out,
@@ -350,9 +387,9 @@ ZACPI_STATUS zacpi_get_boot_graphic(const struct zacpi_source *source,
     return zacpi_1_get_boot_graphic(&kept_source, out, signature ? signature : &unasked);
 }
 
-zacpi_status zacpi_1_get_sleep_types(const struct zacpi_source *source, uint32_t state,
-                                     struct zacpi_sleep_types *out,
-                                     struct zacpi_signature *signature);
+zacpi_status ZACPI_CALL zacpi_1_get_sleep_types(const struct zacpi_source *source, uint32_t state,
+                                                struct zacpi_sleep_types *out,
+                                                struct zacpi_signature *signature);
 ZACPI_NONNULL((1, 3))
 ZACPI_STATUS zacpi_get_sleep_types(const struct zacpi_source *source, uint32_t state,
                                    struct zacpi_sleep_types *out,
@@ -363,8 +400,9 @@ ZACPI_STATUS zacpi_get_sleep_types(const struct zacpi_source *source, uint32_t s
     return zacpi_1_get_sleep_types(&kept_source, state, out, signature ? signature : &unasked);
 }
 
-zacpi_status zacpi_1_get_sleep_plan(const struct zacpi_source *source, uint32_t state,
-                                    struct zacpi_plan *out, struct zacpi_signature *signature);
+zacpi_status ZACPI_CALL zacpi_1_get_sleep_plan(const struct zacpi_source *source, uint32_t state,
+                                               struct zacpi_plan *out,
+                                               struct zacpi_signature *signature);
 ZACPI_NONNULL((1, 3))
 ZACPI_STATUS zacpi_get_sleep_plan(const struct zacpi_source *source, uint32_t state,
                                   struct zacpi_plan *out, struct zacpi_signature *signature) {
@@ -374,8 +412,9 @@ ZACPI_STATUS zacpi_get_sleep_plan(const struct zacpi_source *source, uint32_t st
     return zacpi_1_get_sleep_plan(&kept_source, state, out, signature ? signature : &unasked);
 }
 
-zacpi_status zacpi_1_get_power_off_plan(const struct zacpi_source *source, struct zacpi_plan *out,
-                                        struct zacpi_signature *signature);
+zacpi_status ZACPI_CALL zacpi_1_get_power_off_plan(const struct zacpi_source *source,
+                                                   struct zacpi_plan *out,
+                                                   struct zacpi_signature *signature);
 ZACPI_NONNULL((1, 2))
 ZACPI_STATUS zacpi_get_power_off_plan(const struct zacpi_source *source, struct zacpi_plan *out,
                                       struct zacpi_signature *signature) {
@@ -385,8 +424,9 @@ ZACPI_STATUS zacpi_get_power_off_plan(const struct zacpi_source *source, struct 
     return zacpi_1_get_power_off_plan(&kept_source, out, signature ? signature : &unasked);
 }
 
-zacpi_status zacpi_1_get_reset_plan(const struct zacpi_source *source, struct zacpi_plan *out,
-                                    struct zacpi_signature *signature);
+zacpi_status ZACPI_CALL zacpi_1_get_reset_plan(const struct zacpi_source *source,
+                                               struct zacpi_plan *out,
+                                               struct zacpi_signature *signature);
 ZACPI_NONNULL((1, 2))
 ZACPI_STATUS zacpi_get_reset_plan(const struct zacpi_source *source, struct zacpi_plan *out,
                                   struct zacpi_signature *signature) {
@@ -396,8 +436,9 @@ ZACPI_STATUS zacpi_get_reset_plan(const struct zacpi_source *source, struct zacp
     return zacpi_1_get_reset_plan(&kept_source, out, signature ? signature : &unasked);
 }
 
-zacpi_status zacpi_1_get_enable_plan(const struct zacpi_source *source, struct zacpi_plan *out,
-                                     struct zacpi_signature *signature);
+zacpi_status ZACPI_CALL zacpi_1_get_enable_plan(const struct zacpi_source *source,
+                                                struct zacpi_plan *out,
+                                                struct zacpi_signature *signature);
 ZACPI_NONNULL((1, 2))
 ZACPI_STATUS zacpi_get_enable_plan(const struct zacpi_source *source, struct zacpi_plan *out,
                                    struct zacpi_signature *signature) {
@@ -407,9 +448,10 @@ ZACPI_STATUS zacpi_get_enable_plan(const struct zacpi_source *source, struct zac
     return zacpi_1_get_enable_plan(&kept_source, out, signature ? signature : &unasked);
 }
 
-zacpi_status zacpi_1_list_pci_regions(const struct zacpi_source *source,
-                                      struct zacpi_pci_region *out, size_t capacity, size_t *count,
-                                      struct zacpi_signature *signature);
+zacpi_status ZACPI_CALL zacpi_1_list_pci_regions(const struct zacpi_source *source,
+                                                 struct zacpi_pci_region *out,
+                                                 zacpi_number capacity, zacpi_number *count,
+                                                 struct zacpi_signature *signature);
 ZACPI_NONNULL((1, 4))
 ZACPI_STATUS zacpi_list_pci_regions(const struct zacpi_source *source, struct zacpi_pci_region *out,
                                     size_t capacity, size_t *count,
@@ -417,14 +459,15 @@ ZACPI_STATUS zacpi_list_pci_regions(const struct zacpi_source *source, struct za
     const struct zacpi_source kept_source = zacpi_source_kept(source);
     struct zacpi_signature unasked;
     ZACPI_FITS;
-    return zacpi_1_list_pci_regions(&kept_source,
-                                    capacity ? out : (struct zacpi_pci_region *)ZACPI_NOTHING,
-                                    capacity, count, signature ? signature : &unasked);
+    ZACPI_COUNTING(count, zacpi_1_list_pci_regions(&kept_source,
+                   capacity ? out : (struct zacpi_pci_region *)ZACPI_NOTHING, capacity,
+                   ZACPI_COUNTED(count), signature ? signature : &unasked));
 }
 
-zacpi_status zacpi_1_list_ecam_ranges(const struct zacpi_source *source,
-                                      struct zacpi_ecam_range *out, size_t capacity, size_t *count,
-                                      struct zacpi_signature *signature);
+zacpi_status ZACPI_CALL zacpi_1_list_ecam_ranges(const struct zacpi_source *source,
+                                                 struct zacpi_ecam_range *out,
+                                                 zacpi_number capacity, zacpi_number *count,
+                                                 struct zacpi_signature *signature);
 ZACPI_NONNULL((1, 4))
 ZACPI_STATUS zacpi_list_ecam_ranges(const struct zacpi_source *source, struct zacpi_ecam_range *out,
                                     size_t capacity, size_t *count,
@@ -432,14 +475,15 @@ ZACPI_STATUS zacpi_list_ecam_ranges(const struct zacpi_source *source, struct za
     const struct zacpi_source kept_source = zacpi_source_kept(source);
     struct zacpi_signature unasked;
     ZACPI_FITS;
-    return zacpi_1_list_ecam_ranges(&kept_source,
-                                    capacity ? out : (struct zacpi_ecam_range *)ZACPI_NOTHING,
-                                    capacity, count, signature ? signature : &unasked);
+    ZACPI_COUNTING(count, zacpi_1_list_ecam_ranges(&kept_source,
+                   capacity ? out : (struct zacpi_ecam_range *)ZACPI_NOTHING, capacity,
+                   ZACPI_COUNTED(count), signature ? signature : &unasked));
 }
 
-zacpi_status zacpi_1_pci_ecam_address(const struct zacpi_source *source, uint16_t segment_group,
-                                      uint8_t bus, uint8_t device, uint8_t function, uint64_t *out,
-                                      struct zacpi_signature *signature);
+zacpi_status ZACPI_CALL zacpi_1_pci_ecam_address(const struct zacpi_source *source,
+                                                 uint16_t segment_group, uint8_t bus,
+                                                 uint8_t device, uint8_t function, uint64_t *out,
+                                                 struct zacpi_signature *signature);
 ZACPI_NONNULL((1, 6))
 ZACPI_STATUS zacpi_pci_ecam_address(const struct zacpi_source *source, uint16_t segment_group,
                                     uint8_t bus, uint8_t device, uint8_t function, uint64_t *out,
@@ -451,9 +495,9 @@ ZACPI_STATUS zacpi_pci_ecam_address(const struct zacpi_source *source, uint16_t 
                                     signature ? signature : &unasked);
 }
 
-zacpi_status zacpi_1_get_interrupt_model(const struct zacpi_source *source,
-                                         struct zacpi_interrupt_model *out,
-                                         struct zacpi_signature *signature);
+zacpi_status ZACPI_CALL zacpi_1_get_interrupt_model(const struct zacpi_source *source,
+                                                    struct zacpi_interrupt_model *out,
+                                                    struct zacpi_signature *signature);
 ZACPI_NONNULL((1, 2))
 ZACPI_STATUS zacpi_get_interrupt_model(const struct zacpi_source *source,
                                        struct zacpi_interrupt_model *out,
@@ -464,9 +508,10 @@ ZACPI_STATUS zacpi_get_interrupt_model(const struct zacpi_source *source,
     return zacpi_1_get_interrupt_model(&kept_source, out, signature ? signature : &unasked);
 }
 
-zacpi_status zacpi_1_list_io_apics(const struct zacpi_source *source, struct zacpi_io_apic *out,
-                                   size_t capacity, size_t *count,
-                                   struct zacpi_signature *signature);
+zacpi_status ZACPI_CALL zacpi_1_list_io_apics(const struct zacpi_source *source,
+                                              struct zacpi_io_apic *out, zacpi_number capacity,
+                                              zacpi_number *count,
+                                              struct zacpi_signature *signature);
 ZACPI_NONNULL((1, 4))
 ZACPI_STATUS zacpi_list_io_apics(const struct zacpi_source *source, struct zacpi_io_apic *out,
                                  size_t capacity, size_t *count,
@@ -474,14 +519,15 @@ ZACPI_STATUS zacpi_list_io_apics(const struct zacpi_source *source, struct zacpi
     const struct zacpi_source kept_source = zacpi_source_kept(source);
     struct zacpi_signature unasked;
     ZACPI_FITS;
-    return zacpi_1_list_io_apics(&kept_source,
-                                 capacity ? out : (struct zacpi_io_apic *)ZACPI_NOTHING, capacity,
-                                 count, signature ? signature : &unasked);
+    ZACPI_COUNTING(count, zacpi_1_list_io_apics(&kept_source,
+                   capacity ? out : (struct zacpi_io_apic *)ZACPI_NOTHING, capacity,
+                   ZACPI_COUNTED(count), signature ? signature : &unasked));
 }
 
-zacpi_status zacpi_1_list_overrides(const struct zacpi_source *source,
-                                    struct zacpi_interrupt_source_override *out, size_t capacity,
-                                    size_t *count, struct zacpi_signature *signature);
+zacpi_status ZACPI_CALL zacpi_1_list_overrides(const struct zacpi_source *source,
+                                               struct zacpi_interrupt_source_override *out,
+                                               zacpi_number capacity, zacpi_number *count,
+                                               struct zacpi_signature *signature);
 ZACPI_NONNULL((1, 4))
 ZACPI_STATUS zacpi_list_overrides(const struct zacpi_source *source,
                                   struct zacpi_interrupt_source_override *out, size_t capacity,
@@ -489,14 +535,15 @@ ZACPI_STATUS zacpi_list_overrides(const struct zacpi_source *source,
     const struct zacpi_source kept_source = zacpi_source_kept(source);
     struct zacpi_signature unasked;
     ZACPI_FITS;
-    return zacpi_1_list_overrides(&kept_source,
-                                  capacity ? out : (struct zacpi_interrupt_source_override *)ZACPI_NOTHING,
-                                  capacity, count, signature ? signature : &unasked);
+    ZACPI_COUNTING(count, zacpi_1_list_overrides(&kept_source,
+                   capacity ? out : (struct zacpi_interrupt_source_override *)ZACPI_NOTHING,
+                   capacity, ZACPI_COUNTED(count), signature ? signature : &unasked));
 }
 
-zacpi_status zacpi_1_list_nmi_sources(const struct zacpi_source *source,
-                                      struct zacpi_nmi_source *out, size_t capacity, size_t *count,
-                                      struct zacpi_signature *signature);
+zacpi_status ZACPI_CALL zacpi_1_list_nmi_sources(const struct zacpi_source *source,
+                                                 struct zacpi_nmi_source *out,
+                                                 zacpi_number capacity, zacpi_number *count,
+                                                 struct zacpi_signature *signature);
 ZACPI_NONNULL((1, 4))
 ZACPI_STATUS zacpi_list_nmi_sources(const struct zacpi_source *source, struct zacpi_nmi_source *out,
                                     size_t capacity, size_t *count,
@@ -504,14 +551,15 @@ ZACPI_STATUS zacpi_list_nmi_sources(const struct zacpi_source *source, struct za
     const struct zacpi_source kept_source = zacpi_source_kept(source);
     struct zacpi_signature unasked;
     ZACPI_FITS;
-    return zacpi_1_list_nmi_sources(&kept_source,
-                                    capacity ? out : (struct zacpi_nmi_source *)ZACPI_NOTHING,
-                                    capacity, count, signature ? signature : &unasked);
+    ZACPI_COUNTING(count, zacpi_1_list_nmi_sources(&kept_source,
+                   capacity ? out : (struct zacpi_nmi_source *)ZACPI_NOTHING, capacity,
+                   ZACPI_COUNTED(count), signature ? signature : &unasked));
 }
 
-zacpi_status zacpi_1_list_nmi_lines(const struct zacpi_source *source, struct zacpi_nmi_line *out,
-                                    size_t capacity, size_t *count,
-                                    struct zacpi_signature *signature);
+zacpi_status ZACPI_CALL zacpi_1_list_nmi_lines(const struct zacpi_source *source,
+                                               struct zacpi_nmi_line *out, zacpi_number capacity,
+                                               zacpi_number *count,
+                                               struct zacpi_signature *signature);
 ZACPI_NONNULL((1, 4))
 ZACPI_STATUS zacpi_list_nmi_lines(const struct zacpi_source *source, struct zacpi_nmi_line *out,
                                   size_t capacity, size_t *count,
@@ -519,14 +567,15 @@ ZACPI_STATUS zacpi_list_nmi_lines(const struct zacpi_source *source, struct zacp
     const struct zacpi_source kept_source = zacpi_source_kept(source);
     struct zacpi_signature unasked;
     ZACPI_FITS;
-    return zacpi_1_list_nmi_lines(&kept_source,
-                                  capacity ? out : (struct zacpi_nmi_line *)ZACPI_NOTHING, capacity,
-                                  count, signature ? signature : &unasked);
+    ZACPI_COUNTING(count, zacpi_1_list_nmi_lines(&kept_source,
+                   capacity ? out : (struct zacpi_nmi_line *)ZACPI_NOTHING, capacity,
+                   ZACPI_COUNTED(count), signature ? signature : &unasked));
 }
 
-zacpi_status zacpi_1_list_processors(const struct zacpi_source *source, struct zacpi_processor *out,
-                                     size_t capacity, size_t *count,
-                                     struct zacpi_signature *signature);
+zacpi_status ZACPI_CALL zacpi_1_list_processors(const struct zacpi_source *source,
+                                                struct zacpi_processor *out, zacpi_number capacity,
+                                                zacpi_number *count,
+                                                struct zacpi_signature *signature);
 ZACPI_NONNULL((1, 4))
 ZACPI_STATUS zacpi_list_processors(const struct zacpi_source *source, struct zacpi_processor *out,
                                    size_t capacity, size_t *count,
@@ -534,13 +583,13 @@ ZACPI_STATUS zacpi_list_processors(const struct zacpi_source *source, struct zac
     const struct zacpi_source kept_source = zacpi_source_kept(source);
     struct zacpi_signature unasked;
     ZACPI_FITS;
-    return zacpi_1_list_processors(&kept_source,
-                                   capacity ? out : (struct zacpi_processor *)ZACPI_NOTHING,
-                                   capacity, count, signature ? signature : &unasked);
+    ZACPI_COUNTING(count, zacpi_1_list_processors(&kept_source,
+                   capacity ? out : (struct zacpi_processor *)ZACPI_NOTHING, capacity,
+                   ZACPI_COUNTED(count), signature ? signature : &unasked));
 }
 
-zacpi_status zacpi_1_mailbox_address(const struct zacpi_source *source, uint64_t *out,
-                                     struct zacpi_signature *signature);
+zacpi_status ZACPI_CALL zacpi_1_mailbox_address(const struct zacpi_source *source, uint64_t *out,
+                                                struct zacpi_signature *signature);
 ZACPI_NONNULL((1, 2))
 ZACPI_STATUS zacpi_mailbox_address(const struct zacpi_source *source, uint64_t *out,
                                    struct zacpi_signature *signature) {
@@ -550,9 +599,10 @@ ZACPI_STATUS zacpi_mailbox_address(const struct zacpi_source *source, uint64_t *
     return zacpi_1_mailbox_address(&kept_source, out, signature ? signature : &unasked);
 }
 
-zacpi_status zacpi_1_list_madt_faults(const struct zacpi_source *source,
-                                      struct zacpi_entry_fault *out, size_t capacity, size_t *count,
-                                      struct zacpi_signature *signature);
+zacpi_status ZACPI_CALL zacpi_1_list_madt_faults(const struct zacpi_source *source,
+                                                 struct zacpi_entry_fault *out,
+                                                 zacpi_number capacity, zacpi_number *count,
+                                                 struct zacpi_signature *signature);
 ZACPI_NONNULL((1, 4))
 ZACPI_STATUS zacpi_list_madt_faults(const struct zacpi_source *source,
                                     struct zacpi_entry_fault *out, size_t capacity, size_t *count,
@@ -560,18 +610,24 @@ ZACPI_STATUS zacpi_list_madt_faults(const struct zacpi_source *source,
     const struct zacpi_source kept_source = zacpi_source_kept(source);
     struct zacpi_signature unasked;
     ZACPI_FITS;
-    return zacpi_1_list_madt_faults(&kept_source,
-                                    capacity ? out : (struct zacpi_entry_fault *)ZACPI_NOTHING,
-                                    capacity, count, signature ? signature : &unasked);
+    ZACPI_COUNTING(count, zacpi_1_list_madt_faults(&kept_source,
+                   capacity ? out : (struct zacpi_entry_fault *)ZACPI_NOTHING, capacity,
+                   ZACPI_COUNTED(count), signature ? signature : &unasked));
 }
 
-zacpi_status zacpi_1_platform(const struct zacpi_source *source, struct zacpi_interrupt_model *out,
-                              struct zacpi_processor *processors, size_t processors_capacity,
-                              struct zacpi_io_apic *io_apics, size_t io_apics_capacity,
-                              struct zacpi_interrupt_source_override *overrides,
-                              size_t overrides_capacity, struct zacpi_nmi_source *nmi_sources,
-                              size_t nmi_sources_capacity, struct zacpi_nmi_line *nmi_lines,
-                              size_t nmi_lines_capacity, struct zacpi_signature *signature);
+zacpi_status ZACPI_CALL zacpi_1_platform(const struct zacpi_source *source,
+                                         struct zacpi_interrupt_model *out,
+                                         struct zacpi_processor *processors,
+                                         zacpi_number processors_capacity,
+                                         struct zacpi_io_apic *io_apics,
+                                         zacpi_number io_apics_capacity,
+                                         struct zacpi_interrupt_source_override *overrides,
+                                         zacpi_number overrides_capacity,
+                                         struct zacpi_nmi_source *nmi_sources,
+                                         zacpi_number nmi_sources_capacity,
+                                         struct zacpi_nmi_line *nmi_lines,
+                                         zacpi_number nmi_lines_capacity,
+                                         struct zacpi_signature *signature);
 ZACPI_NONNULL((1, 2))
 ZACPI_STATUS zacpi_platform(const struct zacpi_source *source, struct zacpi_interrupt_model *out,
                             struct zacpi_processor *processors, size_t processors_capacity,
@@ -596,8 +652,9 @@ ZACPI_STATUS zacpi_platform(const struct zacpi_source *source, struct zacpi_inte
                             nmi_lines_capacity, signature ? signature : &unasked);
 }
 
-zacpi_status zacpi_1_isa_interrupt(const struct zacpi_source *source, uint8_t irq,
-                                   struct zacpi_interrupt *out, struct zacpi_signature *signature);
+zacpi_status ZACPI_CALL zacpi_1_isa_interrupt(const struct zacpi_source *source, uint8_t irq,
+                                              struct zacpi_interrupt *out,
+                                              struct zacpi_signature *signature);
 ZACPI_NONNULL((1, 3))
 ZACPI_STATUS zacpi_isa_interrupt(const struct zacpi_source *source, uint8_t irq,
                                  struct zacpi_interrupt *out, struct zacpi_signature *signature) {
@@ -607,8 +664,9 @@ ZACPI_STATUS zacpi_isa_interrupt(const struct zacpi_source *source, uint8_t irq,
     return zacpi_1_isa_interrupt(&kept_source, irq, out, signature ? signature : &unasked);
 }
 
-zacpi_status zacpi_1_sci_interrupt(const struct zacpi_source *source, struct zacpi_interrupt *out,
-                                   struct zacpi_signature *signature);
+zacpi_status ZACPI_CALL zacpi_1_sci_interrupt(const struct zacpi_source *source,
+                                              struct zacpi_interrupt *out,
+                                              struct zacpi_signature *signature);
 ZACPI_NONNULL((1, 2))
 ZACPI_STATUS zacpi_sci_interrupt(const struct zacpi_source *source, struct zacpi_interrupt *out,
                                  struct zacpi_signature *signature) {
@@ -618,10 +676,10 @@ ZACPI_STATUS zacpi_sci_interrupt(const struct zacpi_source *source, struct zacpi
     return zacpi_1_sci_interrupt(&kept_source, out, signature ? signature : &unasked);
 }
 
-zacpi_status zacpi_1_get_io_apic_pin(const struct zacpi_source *source,
-                                     uint32_t global_system_interrupt,
-                                     struct zacpi_io_apic_pin *out,
-                                     struct zacpi_signature *signature);
+zacpi_status ZACPI_CALL zacpi_1_get_io_apic_pin(const struct zacpi_source *source,
+                                                uint32_t global_system_interrupt,
+                                                struct zacpi_io_apic_pin *out,
+                                                struct zacpi_signature *signature);
 ZACPI_NONNULL((1, 3))
 ZACPI_STATUS zacpi_get_io_apic_pin(const struct zacpi_source *source,
                                    uint32_t global_system_interrupt, struct zacpi_io_apic_pin *out,
@@ -633,9 +691,9 @@ ZACPI_STATUS zacpi_get_io_apic_pin(const struct zacpi_source *source,
                                    signature ? signature : &unasked);
 }
 
-zacpi_status zacpi_1_list_isa_interrupts(const struct zacpi_source *source,
-                                         struct zacpi_isa_interrupts *out,
-                                         struct zacpi_signature *signature);
+zacpi_status ZACPI_CALL zacpi_1_list_isa_interrupts(const struct zacpi_source *source,
+                                                    struct zacpi_isa_interrupts *out,
+                                                    struct zacpi_signature *signature);
 ZACPI_NONNULL((1, 2))
 ZACPI_STATUS zacpi_list_isa_interrupts(const struct zacpi_source *source,
                                        struct zacpi_isa_interrupts *out,
@@ -646,9 +704,9 @@ ZACPI_STATUS zacpi_list_isa_interrupts(const struct zacpi_source *source,
     return zacpi_1_list_isa_interrupts(&kept_source, out, signature ? signature : &unasked);
 }
 
-zacpi_status zacpi_1_get_gic_distributor(const struct zacpi_source *source,
-                                         struct zacpi_gic_distributor *out,
-                                         struct zacpi_signature *signature);
+zacpi_status ZACPI_CALL zacpi_1_get_gic_distributor(const struct zacpi_source *source,
+                                                    struct zacpi_gic_distributor *out,
+                                                    struct zacpi_signature *signature);
 ZACPI_NONNULL((1, 2))
 ZACPI_STATUS zacpi_get_gic_distributor(const struct zacpi_source *source,
                                        struct zacpi_gic_distributor *out,
@@ -659,9 +717,10 @@ ZACPI_STATUS zacpi_get_gic_distributor(const struct zacpi_source *source,
     return zacpi_1_get_gic_distributor(&kept_source, out, signature ? signature : &unasked);
 }
 
-zacpi_status zacpi_1_list_gic_cpu_interfaces(const struct zacpi_source *source,
-                                             struct zacpi_gic_cpu_interface *out, size_t capacity,
-                                             size_t *count, struct zacpi_signature *signature);
+zacpi_status ZACPI_CALL zacpi_1_list_gic_cpu_interfaces(const struct zacpi_source *source,
+                                                        struct zacpi_gic_cpu_interface *out,
+                                                        zacpi_number capacity, zacpi_number *count,
+                                                        struct zacpi_signature *signature);
 ZACPI_NONNULL((1, 4))
 ZACPI_STATUS zacpi_list_gic_cpu_interfaces(const struct zacpi_source *source,
                                            struct zacpi_gic_cpu_interface *out, size_t capacity,
@@ -669,14 +728,15 @@ ZACPI_STATUS zacpi_list_gic_cpu_interfaces(const struct zacpi_source *source,
     const struct zacpi_source kept_source = zacpi_source_kept(source);
     struct zacpi_signature unasked;
     ZACPI_FITS;
-    return zacpi_1_list_gic_cpu_interfaces(&kept_source,
-                                           capacity ? out : (struct zacpi_gic_cpu_interface *)ZACPI_NOTHING,
-                                           capacity, count, signature ? signature : &unasked);
+    ZACPI_COUNTING(count, zacpi_1_list_gic_cpu_interfaces(&kept_source,
+                   capacity ? out : (struct zacpi_gic_cpu_interface *)ZACPI_NOTHING, capacity,
+                   ZACPI_COUNTED(count), signature ? signature : &unasked));
 }
 
-zacpi_status zacpi_1_list_gic_redistributors(const struct zacpi_source *source,
-                                             struct zacpi_range *out, size_t capacity,
-                                             size_t *count, struct zacpi_signature *signature);
+zacpi_status ZACPI_CALL zacpi_1_list_gic_redistributors(const struct zacpi_source *source,
+                                                        struct zacpi_range *out,
+                                                        zacpi_number capacity, zacpi_number *count,
+                                                        struct zacpi_signature *signature);
 ZACPI_NONNULL((1, 4))
 ZACPI_STATUS zacpi_list_gic_redistributors(const struct zacpi_source *source,
                                            struct zacpi_range *out, size_t capacity, size_t *count,
@@ -684,15 +744,16 @@ ZACPI_STATUS zacpi_list_gic_redistributors(const struct zacpi_source *source,
     const struct zacpi_source kept_source = zacpi_source_kept(source);
     struct zacpi_signature unasked;
     ZACPI_FITS;
-    return zacpi_1_list_gic_redistributors(&kept_source,
-                                           capacity ? out : (struct zacpi_range *)ZACPI_NOTHING,
-                                           capacity, count, signature ? signature : &unasked);
+    ZACPI_COUNTING(count, zacpi_1_list_gic_redistributors(&kept_source,
+                   capacity ? out : (struct zacpi_range *)ZACPI_NOTHING, capacity,
+                   ZACPI_COUNTED(count), signature ? signature : &unasked));
 }
 
-zacpi_status zacpi_1_list_gic_translation_services(const struct zacpi_source *source,
-                                                   struct zacpi_gic_translation_service *out,
-                                                   size_t capacity, size_t *count,
-                                                   struct zacpi_signature *signature);
+zacpi_status ZACPI_CALL zacpi_1_list_gic_translation_services(const struct zacpi_source *source,
+                                                              struct zacpi_gic_translation_service *out,
+                                                              zacpi_number capacity,
+                                                              zacpi_number *count,
+                                                              struct zacpi_signature *signature);
 ZACPI_NONNULL((1, 4))
 ZACPI_STATUS zacpi_list_gic_translation_services(const struct zacpi_source *source,
                                                  struct zacpi_gic_translation_service *out,
@@ -701,14 +762,15 @@ ZACPI_STATUS zacpi_list_gic_translation_services(const struct zacpi_source *sour
     const struct zacpi_source kept_source = zacpi_source_kept(source);
     struct zacpi_signature unasked;
     ZACPI_FITS;
-    return zacpi_1_list_gic_translation_services(&kept_source,
-                                                 capacity ? out : (struct zacpi_gic_translation_service *)ZACPI_NOTHING,
-                                                 capacity, count, signature ? signature : &unasked);
+    ZACPI_COUNTING(count, zacpi_1_list_gic_translation_services(&kept_source,
+                   capacity ? out : (struct zacpi_gic_translation_service *)ZACPI_NOTHING, capacity,
+                   ZACPI_COUNTED(count), signature ? signature : &unasked));
 }
 
-zacpi_status zacpi_1_list_gic_msi_frames(const struct zacpi_source *source,
-                                         struct zacpi_gic_msi_frame *out, size_t capacity,
-                                         size_t *count, struct zacpi_signature *signature);
+zacpi_status ZACPI_CALL zacpi_1_list_gic_msi_frames(const struct zacpi_source *source,
+                                                    struct zacpi_gic_msi_frame *out,
+                                                    zacpi_number capacity, zacpi_number *count,
+                                                    struct zacpi_signature *signature);
 ZACPI_NONNULL((1, 4))
 ZACPI_STATUS zacpi_list_gic_msi_frames(const struct zacpi_source *source,
                                        struct zacpi_gic_msi_frame *out, size_t capacity,
@@ -716,13 +778,14 @@ ZACPI_STATUS zacpi_list_gic_msi_frames(const struct zacpi_source *source,
     const struct zacpi_source kept_source = zacpi_source_kept(source);
     struct zacpi_signature unasked;
     ZACPI_FITS;
-    return zacpi_1_list_gic_msi_frames(&kept_source,
-                                       capacity ? out : (struct zacpi_gic_msi_frame *)ZACPI_NOTHING,
-                                       capacity, count, signature ? signature : &unasked);
+    ZACPI_COUNTING(count, zacpi_1_list_gic_msi_frames(&kept_source,
+                   capacity ? out : (struct zacpi_gic_msi_frame *)ZACPI_NOTHING, capacity,
+                   ZACPI_COUNTED(count), signature ? signature : &unasked));
 }
 
-zacpi_status zacpi_1_get_arm_timers(const struct zacpi_source *source, struct zacpi_arm_timers *out,
-                                    struct zacpi_signature *signature);
+zacpi_status ZACPI_CALL zacpi_1_get_arm_timers(const struct zacpi_source *source,
+                                               struct zacpi_arm_timers *out,
+                                               struct zacpi_signature *signature);
 ZACPI_NONNULL((1, 2))
 ZACPI_STATUS zacpi_get_arm_timers(const struct zacpi_source *source, struct zacpi_arm_timers *out,
                                   struct zacpi_signature *signature) {
@@ -732,9 +795,10 @@ ZACPI_STATUS zacpi_get_arm_timers(const struct zacpi_source *source, struct zacp
     return zacpi_1_get_arm_timers(&kept_source, out, signature ? signature : &unasked);
 }
 
-zacpi_status zacpi_1_list_gt_frames(const struct zacpi_source *source, struct zacpi_gt_frame *out,
-                                    size_t capacity, size_t *count,
-                                    struct zacpi_signature *signature);
+zacpi_status ZACPI_CALL zacpi_1_list_gt_frames(const struct zacpi_source *source,
+                                               struct zacpi_gt_frame *out, zacpi_number capacity,
+                                               zacpi_number *count,
+                                               struct zacpi_signature *signature);
 ZACPI_NONNULL((1, 4))
 ZACPI_STATUS zacpi_list_gt_frames(const struct zacpi_source *source, struct zacpi_gt_frame *out,
                                   size_t capacity, size_t *count,
@@ -742,14 +806,15 @@ ZACPI_STATUS zacpi_list_gt_frames(const struct zacpi_source *source, struct zacp
     const struct zacpi_source kept_source = zacpi_source_kept(source);
     struct zacpi_signature unasked;
     ZACPI_FITS;
-    return zacpi_1_list_gt_frames(&kept_source,
-                                  capacity ? out : (struct zacpi_gt_frame *)ZACPI_NOTHING, capacity,
-                                  count, signature ? signature : &unasked);
+    ZACPI_COUNTING(count, zacpi_1_list_gt_frames(&kept_source,
+                   capacity ? out : (struct zacpi_gt_frame *)ZACPI_NOTHING, capacity,
+                   ZACPI_COUNTED(count), signature ? signature : &unasked));
 }
 
-zacpi_status zacpi_1_list_watchdogs(const struct zacpi_source *source, struct zacpi_watchdog *out,
-                                    size_t capacity, size_t *count,
-                                    struct zacpi_signature *signature);
+zacpi_status ZACPI_CALL zacpi_1_list_watchdogs(const struct zacpi_source *source,
+                                               struct zacpi_watchdog *out, zacpi_number capacity,
+                                               zacpi_number *count,
+                                               struct zacpi_signature *signature);
 ZACPI_NONNULL((1, 4))
 ZACPI_STATUS zacpi_list_watchdogs(const struct zacpi_source *source, struct zacpi_watchdog *out,
                                   size_t capacity, size_t *count,
@@ -757,14 +822,15 @@ ZACPI_STATUS zacpi_list_watchdogs(const struct zacpi_source *source, struct zacp
     const struct zacpi_source kept_source = zacpi_source_kept(source);
     struct zacpi_signature unasked;
     ZACPI_FITS;
-    return zacpi_1_list_watchdogs(&kept_source,
-                                  capacity ? out : (struct zacpi_watchdog *)ZACPI_NOTHING, capacity,
-                                  count, signature ? signature : &unasked);
+    ZACPI_COUNTING(count, zacpi_1_list_watchdogs(&kept_source,
+                   capacity ? out : (struct zacpi_watchdog *)ZACPI_NOTHING, capacity,
+                   ZACPI_COUNTED(count), signature ? signature : &unasked));
 }
 
-zacpi_status zacpi_1_list_gtdt_faults(const struct zacpi_source *source,
-                                      struct zacpi_entry_fault *out, size_t capacity, size_t *count,
-                                      struct zacpi_signature *signature);
+zacpi_status ZACPI_CALL zacpi_1_list_gtdt_faults(const struct zacpi_source *source,
+                                                 struct zacpi_entry_fault *out,
+                                                 zacpi_number capacity, zacpi_number *count,
+                                                 struct zacpi_signature *signature);
 ZACPI_NONNULL((1, 4))
 ZACPI_STATUS zacpi_list_gtdt_faults(const struct zacpi_source *source,
                                     struct zacpi_entry_fault *out, size_t capacity, size_t *count,
@@ -772,62 +838,71 @@ ZACPI_STATUS zacpi_list_gtdt_faults(const struct zacpi_source *source,
     const struct zacpi_source kept_source = zacpi_source_kept(source);
     struct zacpi_signature unasked;
     ZACPI_FITS;
-    return zacpi_1_list_gtdt_faults(&kept_source,
-                                    capacity ? out : (struct zacpi_entry_fault *)ZACPI_NOTHING,
-                                    capacity, count, signature ? signature : &unasked);
+    ZACPI_COUNTING(count, zacpi_1_list_gtdt_faults(&kept_source,
+                   capacity ? out : (struct zacpi_entry_fault *)ZACPI_NOTHING, capacity,
+                   ZACPI_COUNTED(count), signature ? signature : &unasked));
 }
 
-zacpi_status zacpi_1_list_rintcs(const struct zacpi_source *source, struct zacpi_rintc *out,
-                                 size_t capacity, size_t *count, struct zacpi_signature *signature);
+zacpi_status ZACPI_CALL zacpi_1_list_rintcs(const struct zacpi_source *source,
+                                            struct zacpi_rintc *out, zacpi_number capacity,
+                                            zacpi_number *count, struct zacpi_signature *signature);
 ZACPI_NONNULL((1, 4))
 ZACPI_STATUS zacpi_list_rintcs(const struct zacpi_source *source, struct zacpi_rintc *out,
                                size_t capacity, size_t *count, struct zacpi_signature *signature) {
     const struct zacpi_source kept_source = zacpi_source_kept(source);
     struct zacpi_signature unasked;
     ZACPI_FITS;
-    return zacpi_1_list_rintcs(&kept_source, capacity ? out : (struct zacpi_rintc *)ZACPI_NOTHING,
-                               capacity, count, signature ? signature : &unasked);
+    ZACPI_COUNTING(count, zacpi_1_list_rintcs(&kept_source,
+                   capacity ? out : (struct zacpi_rintc *)ZACPI_NOTHING, capacity,
+                   ZACPI_COUNTED(count), signature ? signature : &unasked));
 }
 
-zacpi_status zacpi_1_list_imsics(const struct zacpi_source *source, struct zacpi_imsic *out,
-                                 size_t capacity, size_t *count, struct zacpi_signature *signature);
+zacpi_status ZACPI_CALL zacpi_1_list_imsics(const struct zacpi_source *source,
+                                            struct zacpi_imsic *out, zacpi_number capacity,
+                                            zacpi_number *count, struct zacpi_signature *signature);
 ZACPI_NONNULL((1, 4))
 ZACPI_STATUS zacpi_list_imsics(const struct zacpi_source *source, struct zacpi_imsic *out,
                                size_t capacity, size_t *count, struct zacpi_signature *signature) {
     const struct zacpi_source kept_source = zacpi_source_kept(source);
     struct zacpi_signature unasked;
     ZACPI_FITS;
-    return zacpi_1_list_imsics(&kept_source, capacity ? out : (struct zacpi_imsic *)ZACPI_NOTHING,
-                               capacity, count, signature ? signature : &unasked);
+    ZACPI_COUNTING(count, zacpi_1_list_imsics(&kept_source,
+                   capacity ? out : (struct zacpi_imsic *)ZACPI_NOTHING, capacity,
+                   ZACPI_COUNTED(count), signature ? signature : &unasked));
 }
 
-zacpi_status zacpi_1_list_aplics(const struct zacpi_source *source, struct zacpi_aplic *out,
-                                 size_t capacity, size_t *count, struct zacpi_signature *signature);
+zacpi_status ZACPI_CALL zacpi_1_list_aplics(const struct zacpi_source *source,
+                                            struct zacpi_aplic *out, zacpi_number capacity,
+                                            zacpi_number *count, struct zacpi_signature *signature);
 ZACPI_NONNULL((1, 4))
 ZACPI_STATUS zacpi_list_aplics(const struct zacpi_source *source, struct zacpi_aplic *out,
                                size_t capacity, size_t *count, struct zacpi_signature *signature) {
     const struct zacpi_source kept_source = zacpi_source_kept(source);
     struct zacpi_signature unasked;
     ZACPI_FITS;
-    return zacpi_1_list_aplics(&kept_source, capacity ? out : (struct zacpi_aplic *)ZACPI_NOTHING,
-                               capacity, count, signature ? signature : &unasked);
+    ZACPI_COUNTING(count, zacpi_1_list_aplics(&kept_source,
+                   capacity ? out : (struct zacpi_aplic *)ZACPI_NOTHING, capacity,
+                   ZACPI_COUNTED(count), signature ? signature : &unasked));
 }
 
-zacpi_status zacpi_1_list_plics(const struct zacpi_source *source, struct zacpi_plic *out,
-                                size_t capacity, size_t *count, struct zacpi_signature *signature);
+zacpi_status ZACPI_CALL zacpi_1_list_plics(const struct zacpi_source *source,
+                                           struct zacpi_plic *out, zacpi_number capacity,
+                                           zacpi_number *count, struct zacpi_signature *signature);
 ZACPI_NONNULL((1, 4))
 ZACPI_STATUS zacpi_list_plics(const struct zacpi_source *source, struct zacpi_plic *out,
                               size_t capacity, size_t *count, struct zacpi_signature *signature) {
     const struct zacpi_source kept_source = zacpi_source_kept(source);
     struct zacpi_signature unasked;
     ZACPI_FITS;
-    return zacpi_1_list_plics(&kept_source, capacity ? out : (struct zacpi_plic *)ZACPI_NOTHING,
-                              capacity, count, signature ? signature : &unasked);
+    ZACPI_COUNTING(count, zacpi_1_list_plics(&kept_source,
+                   capacity ? out : (struct zacpi_plic *)ZACPI_NOTHING, capacity,
+                   ZACPI_COUNTED(count), signature ? signature : &unasked));
 }
 
-zacpi_status zacpi_1_list_memory_affinities(const struct zacpi_source *source,
-                                            struct zacpi_memory_affinity *out, size_t capacity,
-                                            size_t *count, struct zacpi_signature *signature);
+zacpi_status ZACPI_CALL zacpi_1_list_memory_affinities(const struct zacpi_source *source,
+                                                       struct zacpi_memory_affinity *out,
+                                                       zacpi_number capacity, zacpi_number *count,
+                                                       struct zacpi_signature *signature);
 ZACPI_NONNULL((1, 4))
 ZACPI_STATUS zacpi_list_memory_affinities(const struct zacpi_source *source,
                                           struct zacpi_memory_affinity *out, size_t capacity,
@@ -835,14 +910,15 @@ ZACPI_STATUS zacpi_list_memory_affinities(const struct zacpi_source *source,
     const struct zacpi_source kept_source = zacpi_source_kept(source);
     struct zacpi_signature unasked;
     ZACPI_FITS;
-    return zacpi_1_list_memory_affinities(&kept_source,
-                                          capacity ? out : (struct zacpi_memory_affinity *)ZACPI_NOTHING,
-                                          capacity, count, signature ? signature : &unasked);
+    ZACPI_COUNTING(count, zacpi_1_list_memory_affinities(&kept_source,
+                   capacity ? out : (struct zacpi_memory_affinity *)ZACPI_NOTHING, capacity,
+                   ZACPI_COUNTED(count), signature ? signature : &unasked));
 }
 
-zacpi_status zacpi_1_list_srat_faults(const struct zacpi_source *source,
-                                      struct zacpi_entry_fault *out, size_t capacity, size_t *count,
-                                      struct zacpi_signature *signature);
+zacpi_status ZACPI_CALL zacpi_1_list_srat_faults(const struct zacpi_source *source,
+                                                 struct zacpi_entry_fault *out,
+                                                 zacpi_number capacity, zacpi_number *count,
+                                                 struct zacpi_signature *signature);
 ZACPI_NONNULL((1, 4))
 ZACPI_STATUS zacpi_list_srat_faults(const struct zacpi_source *source,
                                     struct zacpi_entry_fault *out, size_t capacity, size_t *count,
@@ -850,13 +926,14 @@ ZACPI_STATUS zacpi_list_srat_faults(const struct zacpi_source *source,
     const struct zacpi_source kept_source = zacpi_source_kept(source);
     struct zacpi_signature unasked;
     ZACPI_FITS;
-    return zacpi_1_list_srat_faults(&kept_source,
-                                    capacity ? out : (struct zacpi_entry_fault *)ZACPI_NOTHING,
-                                    capacity, count, signature ? signature : &unasked);
+    ZACPI_COUNTING(count, zacpi_1_list_srat_faults(&kept_source,
+                   capacity ? out : (struct zacpi_entry_fault *)ZACPI_NOTHING, capacity,
+                   ZACPI_COUNTED(count), signature ? signature : &unasked));
 }
 
-zacpi_status zacpi_1_domain_of_address(const struct zacpi_source *source, uint64_t address,
-                                       uint32_t *out, struct zacpi_signature *signature);
+zacpi_status ZACPI_CALL zacpi_1_domain_of_address(const struct zacpi_source *source,
+                                                  uint64_t address, uint32_t *out,
+                                                  struct zacpi_signature *signature);
 ZACPI_NONNULL((1, 3))
 ZACPI_STATUS zacpi_domain_of_address(const struct zacpi_source *source, uint64_t address,
                                      uint32_t *out, struct zacpi_signature *signature) {
@@ -866,8 +943,9 @@ ZACPI_STATUS zacpi_domain_of_address(const struct zacpi_source *source, uint64_t
     return zacpi_1_domain_of_address(&kept_source, address, out, signature ? signature : &unasked);
 }
 
-zacpi_status zacpi_1_domain_of_apic(const struct zacpi_source *source, uint32_t local_apic_id,
-                                    uint32_t *out, struct zacpi_signature *signature);
+zacpi_status ZACPI_CALL zacpi_1_domain_of_apic(const struct zacpi_source *source,
+                                               uint32_t local_apic_id, uint32_t *out,
+                                               struct zacpi_signature *signature);
 ZACPI_NONNULL((1, 3))
 ZACPI_STATUS zacpi_domain_of_apic(const struct zacpi_source *source, uint32_t local_apic_id,
                                   uint32_t *out, struct zacpi_signature *signature) {
@@ -878,8 +956,9 @@ ZACPI_STATUS zacpi_domain_of_apic(const struct zacpi_source *source, uint32_t lo
                                   signature ? signature : &unasked);
 }
 
-zacpi_status zacpi_1_domain_of_processor(const struct zacpi_source *source, uint32_t uid,
-                                         uint32_t *out, struct zacpi_signature *signature);
+zacpi_status ZACPI_CALL zacpi_1_domain_of_processor(const struct zacpi_source *source, uint32_t uid,
+                                                    uint32_t *out,
+                                                    struct zacpi_signature *signature);
 ZACPI_NONNULL((1, 3))
 ZACPI_STATUS zacpi_domain_of_processor(const struct zacpi_source *source, uint32_t uid,
                                        uint32_t *out, struct zacpi_signature *signature) {
@@ -889,8 +968,9 @@ ZACPI_STATUS zacpi_domain_of_processor(const struct zacpi_source *source, uint32
     return zacpi_1_domain_of_processor(&kept_source, uid, out, signature ? signature : &unasked);
 }
 
-zacpi_status zacpi_1_get_localities(const struct zacpi_source *source, struct zacpi_localities *out,
-                                    struct zacpi_signature *signature);
+zacpi_status ZACPI_CALL zacpi_1_get_localities(const struct zacpi_source *source,
+                                               struct zacpi_localities *out,
+                                               struct zacpi_signature *signature);
 ZACPI_NONNULL((1, 2))
 ZACPI_STATUS zacpi_get_localities(const struct zacpi_source *source, struct zacpi_localities *out,
                                   struct zacpi_signature *signature) {
@@ -900,8 +980,9 @@ ZACPI_STATUS zacpi_get_localities(const struct zacpi_source *source, struct zacp
     return zacpi_1_get_localities(&kept_source, out, signature ? signature : &unasked);
 }
 
-zacpi_status zacpi_1_distance(const struct zacpi_source *source, uint64_t from, uint64_t to,
-                              uint8_t *out, struct zacpi_signature *signature);
+zacpi_status ZACPI_CALL zacpi_1_distance(const struct zacpi_source *source, uint64_t from,
+                                         uint64_t to, uint8_t *out,
+                                         struct zacpi_signature *signature);
 ZACPI_NONNULL((1, 4))
 ZACPI_STATUS zacpi_distance(const struct zacpi_source *source, uint64_t from, uint64_t to,
                             uint8_t *out, struct zacpi_signature *signature) {
@@ -911,8 +992,9 @@ ZACPI_STATUS zacpi_distance(const struct zacpi_source *source, uint64_t from, ui
     return zacpi_1_distance(&kept_source, from, to, out, signature ? signature : &unasked);
 }
 
-zacpi_status zacpi_1_get_dmar_flags(const struct zacpi_source *source, struct zacpi_dmar_flags *out,
-                                    struct zacpi_signature *signature);
+zacpi_status ZACPI_CALL zacpi_1_get_dmar_flags(const struct zacpi_source *source,
+                                               struct zacpi_dmar_flags *out,
+                                               struct zacpi_signature *signature);
 ZACPI_NONNULL((1, 2))
 ZACPI_STATUS zacpi_get_dmar_flags(const struct zacpi_source *source, struct zacpi_dmar_flags *out,
                                   struct zacpi_signature *signature) {
@@ -922,9 +1004,10 @@ ZACPI_STATUS zacpi_get_dmar_flags(const struct zacpi_source *source, struct zacp
     return zacpi_1_get_dmar_flags(&kept_source, out, signature ? signature : &unasked);
 }
 
-zacpi_status zacpi_1_list_dmar_units(const struct zacpi_source *source, struct zacpi_dmar_unit *out,
-                                     size_t capacity, size_t *count,
-                                     struct zacpi_signature *signature);
+zacpi_status ZACPI_CALL zacpi_1_list_dmar_units(const struct zacpi_source *source,
+                                                struct zacpi_dmar_unit *out, zacpi_number capacity,
+                                                zacpi_number *count,
+                                                struct zacpi_signature *signature);
 ZACPI_NONNULL((1, 4))
 ZACPI_STATUS zacpi_list_dmar_units(const struct zacpi_source *source, struct zacpi_dmar_unit *out,
                                    size_t capacity, size_t *count,
@@ -932,14 +1015,15 @@ ZACPI_STATUS zacpi_list_dmar_units(const struct zacpi_source *source, struct zac
     const struct zacpi_source kept_source = zacpi_source_kept(source);
     struct zacpi_signature unasked;
     ZACPI_FITS;
-    return zacpi_1_list_dmar_units(&kept_source,
-                                   capacity ? out : (struct zacpi_dmar_unit *)ZACPI_NOTHING,
-                                   capacity, count, signature ? signature : &unasked);
+    ZACPI_COUNTING(count, zacpi_1_list_dmar_units(&kept_source,
+                   capacity ? out : (struct zacpi_dmar_unit *)ZACPI_NOTHING, capacity,
+                   ZACPI_COUNTED(count), signature ? signature : &unasked));
 }
 
-zacpi_status zacpi_1_list_dmar_scopes(const struct zacpi_source *source, size_t index,
-                                      struct zacpi_dmar_scope *out, size_t capacity, size_t *count,
-                                      struct zacpi_signature *signature);
+zacpi_status ZACPI_CALL zacpi_1_list_dmar_scopes(const struct zacpi_source *source,
+                                                 zacpi_number index, struct zacpi_dmar_scope *out,
+                                                 zacpi_number capacity, zacpi_number *count,
+                                                 struct zacpi_signature *signature);
 ZACPI_NONNULL((1, 5))
 ZACPI_STATUS zacpi_list_dmar_scopes(const struct zacpi_source *source, size_t index,
                                     struct zacpi_dmar_scope *out, size_t capacity, size_t *count,
@@ -947,14 +1031,15 @@ ZACPI_STATUS zacpi_list_dmar_scopes(const struct zacpi_source *source, size_t in
     const struct zacpi_source kept_source = zacpi_source_kept(source);
     struct zacpi_signature unasked;
     ZACPI_FITS;
-    return zacpi_1_list_dmar_scopes(&kept_source, index,
-                                    capacity ? out : (struct zacpi_dmar_scope *)ZACPI_NOTHING,
-                                    capacity, count, signature ? signature : &unasked);
+    ZACPI_COUNTING(count, zacpi_1_list_dmar_scopes(&kept_source, index,
+                   capacity ? out : (struct zacpi_dmar_scope *)ZACPI_NOTHING, capacity,
+                   ZACPI_COUNTED(count), signature ? signature : &unasked));
 }
 
-zacpi_status zacpi_1_list_dmar_faults(const struct zacpi_source *source,
-                                      struct zacpi_entry_fault *out, size_t capacity, size_t *count,
-                                      struct zacpi_signature *signature);
+zacpi_status ZACPI_CALL zacpi_1_list_dmar_faults(const struct zacpi_source *source,
+                                                 struct zacpi_entry_fault *out,
+                                                 zacpi_number capacity, zacpi_number *count,
+                                                 struct zacpi_signature *signature);
 ZACPI_NONNULL((1, 4))
 ZACPI_STATUS zacpi_list_dmar_faults(const struct zacpi_source *source,
                                     struct zacpi_entry_fault *out, size_t capacity, size_t *count,
@@ -962,14 +1047,15 @@ ZACPI_STATUS zacpi_list_dmar_faults(const struct zacpi_source *source,
     const struct zacpi_source kept_source = zacpi_source_kept(source);
     struct zacpi_signature unasked;
     ZACPI_FITS;
-    return zacpi_1_list_dmar_faults(&kept_source,
-                                    capacity ? out : (struct zacpi_entry_fault *)ZACPI_NOTHING,
-                                    capacity, count, signature ? signature : &unasked);
+    ZACPI_COUNTING(count, zacpi_1_list_dmar_faults(&kept_source,
+                   capacity ? out : (struct zacpi_entry_fault *)ZACPI_NOTHING, capacity,
+                   ZACPI_COUNTED(count), signature ? signature : &unasked));
 }
 
-zacpi_status zacpi_1_get_dmar_unit(const struct zacpi_source *source, uint16_t segment, uint8_t bus,
-                                   const struct zacpi_hop *hops, size_t hops_length,
-                                   struct zacpi_dmar_unit *out, struct zacpi_signature *signature);
+zacpi_status ZACPI_CALL zacpi_1_get_dmar_unit(const struct zacpi_source *source, uint16_t segment,
+                                              uint8_t bus, const struct zacpi_hop *hops,
+                                              zacpi_number hops_length, struct zacpi_dmar_unit *out,
+                                              struct zacpi_signature *signature);
 ZACPI_NONNULL((1, 6))
 ZACPI_STATUS zacpi_get_dmar_unit(const struct zacpi_source *source, uint16_t segment, uint8_t bus,
                                  const struct zacpi_hop *hops, size_t hops_length,
@@ -982,8 +1068,9 @@ ZACPI_STATUS zacpi_get_dmar_unit(const struct zacpi_source *source, uint16_t seg
                                  hops_length, out, signature ? signature : &unasked);
 }
 
-zacpi_status zacpi_1_dmar_io_apic(const struct zacpi_source *source, uint8_t id,
-                                  struct zacpi_dmar_source *out, struct zacpi_signature *signature);
+zacpi_status ZACPI_CALL zacpi_1_dmar_io_apic(const struct zacpi_source *source, uint8_t id,
+                                             struct zacpi_dmar_source *out,
+                                             struct zacpi_signature *signature);
 ZACPI_NONNULL((1, 3))
 ZACPI_STATUS zacpi_dmar_io_apic(const struct zacpi_source *source, uint8_t id,
                                 struct zacpi_dmar_source *out, struct zacpi_signature *signature) {
@@ -993,8 +1080,9 @@ ZACPI_STATUS zacpi_dmar_io_apic(const struct zacpi_source *source, uint8_t id,
     return zacpi_1_dmar_io_apic(&kept_source, id, out, signature ? signature : &unasked);
 }
 
-zacpi_status zacpi_1_dmar_hpet(const struct zacpi_source *source, uint8_t number,
-                               struct zacpi_dmar_source *out, struct zacpi_signature *signature);
+zacpi_status ZACPI_CALL zacpi_1_dmar_hpet(const struct zacpi_source *source, uint8_t number,
+                                          struct zacpi_dmar_source *out,
+                                          struct zacpi_signature *signature);
 ZACPI_NONNULL((1, 3))
 ZACPI_STATUS zacpi_dmar_hpet(const struct zacpi_source *source, uint8_t number,
                              struct zacpi_dmar_source *out, struct zacpi_signature *signature) {
@@ -1004,11 +1092,13 @@ ZACPI_STATUS zacpi_dmar_hpet(const struct zacpi_source *source, uint8_t number,
     return zacpi_1_dmar_hpet(&kept_source, number, out, signature ? signature : &unasked);
 }
 
-zacpi_status zacpi_1_list_dmar_reserved(const struct zacpi_source *source, uint16_t segment,
-                                        uint8_t bus, const struct zacpi_hop *hops,
-                                        size_t hops_length, struct zacpi_dmar_reserved *out,
-                                        size_t capacity, size_t *count,
-                                        struct zacpi_signature *signature);
+zacpi_status ZACPI_CALL zacpi_1_list_dmar_reserved(const struct zacpi_source *source,
+                                                   uint16_t segment, uint8_t bus,
+                                                   const struct zacpi_hop *hops,
+                                                   zacpi_number hops_length,
+                                                   struct zacpi_dmar_reserved *out,
+                                                   zacpi_number capacity, zacpi_number *count,
+                                                   struct zacpi_signature *signature);
 ZACPI_NONNULL((1, 8))
 ZACPI_STATUS zacpi_list_dmar_reserved(const struct zacpi_source *source, uint16_t segment,
                                       uint8_t bus, const struct zacpi_hop *hops, size_t hops_length,
@@ -1017,16 +1107,16 @@ ZACPI_STATUS zacpi_list_dmar_reserved(const struct zacpi_source *source, uint16_
     const struct zacpi_source kept_source = zacpi_source_kept(source);
     struct zacpi_signature unasked;
     ZACPI_FITS;
-    return zacpi_1_list_dmar_reserved(&kept_source, segment, bus,
-                                      hops_length ? hops : (const struct zacpi_hop *)ZACPI_NOTHING,
-                                      hops_length,
-                                      capacity ? out : (struct zacpi_dmar_reserved *)ZACPI_NOTHING,
-                                      capacity, count, signature ? signature : &unasked);
+    ZACPI_COUNTING(count, zacpi_1_list_dmar_reserved(&kept_source, segment, bus,
+                   hops_length ? hops : (const struct zacpi_hop *)ZACPI_NOTHING, hops_length,
+                   capacity ? out : (struct zacpi_dmar_reserved *)ZACPI_NOTHING, capacity,
+                   ZACPI_COUNTED(count), signature ? signature : &unasked));
 }
 
-zacpi_status zacpi_1_list_ivrs_units(const struct zacpi_source *source, struct zacpi_ivrs_unit *out,
-                                     size_t capacity, size_t *count,
-                                     struct zacpi_signature *signature);
+zacpi_status ZACPI_CALL zacpi_1_list_ivrs_units(const struct zacpi_source *source,
+                                                struct zacpi_ivrs_unit *out, zacpi_number capacity,
+                                                zacpi_number *count,
+                                                struct zacpi_signature *signature);
 ZACPI_NONNULL((1, 4))
 ZACPI_STATUS zacpi_list_ivrs_units(const struct zacpi_source *source, struct zacpi_ivrs_unit *out,
                                    size_t capacity, size_t *count,
@@ -1034,14 +1124,15 @@ ZACPI_STATUS zacpi_list_ivrs_units(const struct zacpi_source *source, struct zac
     const struct zacpi_source kept_source = zacpi_source_kept(source);
     struct zacpi_signature unasked;
     ZACPI_FITS;
-    return zacpi_1_list_ivrs_units(&kept_source,
-                                   capacity ? out : (struct zacpi_ivrs_unit *)ZACPI_NOTHING,
-                                   capacity, count, signature ? signature : &unasked);
+    ZACPI_COUNTING(count, zacpi_1_list_ivrs_units(&kept_source,
+                   capacity ? out : (struct zacpi_ivrs_unit *)ZACPI_NOTHING, capacity,
+                   ZACPI_COUNTED(count), signature ? signature : &unasked));
 }
 
-zacpi_status zacpi_1_list_ivrs_entries(const struct zacpi_source *source, size_t index,
-                                       struct zacpi_ivrs_entry *out, size_t capacity, size_t *count,
-                                       struct zacpi_signature *signature);
+zacpi_status ZACPI_CALL zacpi_1_list_ivrs_entries(const struct zacpi_source *source,
+                                                  zacpi_number index, struct zacpi_ivrs_entry *out,
+                                                  zacpi_number capacity, zacpi_number *count,
+                                                  struct zacpi_signature *signature);
 ZACPI_NONNULL((1, 5))
 ZACPI_STATUS zacpi_list_ivrs_entries(const struct zacpi_source *source, size_t index,
                                      struct zacpi_ivrs_entry *out, size_t capacity, size_t *count,
@@ -1049,14 +1140,15 @@ ZACPI_STATUS zacpi_list_ivrs_entries(const struct zacpi_source *source, size_t i
     const struct zacpi_source kept_source = zacpi_source_kept(source);
     struct zacpi_signature unasked;
     ZACPI_FITS;
-    return zacpi_1_list_ivrs_entries(&kept_source, index,
-                                     capacity ? out : (struct zacpi_ivrs_entry *)ZACPI_NOTHING,
-                                     capacity, count, signature ? signature : &unasked);
+    ZACPI_COUNTING(count, zacpi_1_list_ivrs_entries(&kept_source, index,
+                   capacity ? out : (struct zacpi_ivrs_entry *)ZACPI_NOTHING, capacity,
+                   ZACPI_COUNTED(count), signature ? signature : &unasked));
 }
 
-zacpi_status zacpi_1_list_ivrs_faults(const struct zacpi_source *source,
-                                      struct zacpi_entry_fault *out, size_t capacity, size_t *count,
-                                      struct zacpi_signature *signature);
+zacpi_status ZACPI_CALL zacpi_1_list_ivrs_faults(const struct zacpi_source *source,
+                                                 struct zacpi_entry_fault *out,
+                                                 zacpi_number capacity, zacpi_number *count,
+                                                 struct zacpi_signature *signature);
 ZACPI_NONNULL((1, 4))
 ZACPI_STATUS zacpi_list_ivrs_faults(const struct zacpi_source *source,
                                     struct zacpi_entry_fault *out, size_t capacity, size_t *count,
@@ -1064,14 +1156,14 @@ ZACPI_STATUS zacpi_list_ivrs_faults(const struct zacpi_source *source,
     const struct zacpi_source kept_source = zacpi_source_kept(source);
     struct zacpi_signature unasked;
     ZACPI_FITS;
-    return zacpi_1_list_ivrs_faults(&kept_source,
-                                    capacity ? out : (struct zacpi_entry_fault *)ZACPI_NOTHING,
-                                    capacity, count, signature ? signature : &unasked);
+    ZACPI_COUNTING(count, zacpi_1_list_ivrs_faults(&kept_source,
+                   capacity ? out : (struct zacpi_entry_fault *)ZACPI_NOTHING, capacity,
+                   ZACPI_COUNTED(count), signature ? signature : &unasked));
 }
 
-zacpi_status zacpi_1_get_ivrs_unit(const struct zacpi_source *source, uint16_t segment,
-                                   uint16_t device_id, struct zacpi_ivrs_device *out,
-                                   struct zacpi_signature *signature);
+zacpi_status ZACPI_CALL zacpi_1_get_ivrs_unit(const struct zacpi_source *source, uint16_t segment,
+                                              uint16_t device_id, struct zacpi_ivrs_device *out,
+                                              struct zacpi_signature *signature);
 ZACPI_NONNULL((1, 4))
 ZACPI_STATUS zacpi_get_ivrs_unit(const struct zacpi_source *source, uint16_t segment,
                                  uint16_t device_id, struct zacpi_ivrs_device *out,
@@ -1083,9 +1175,10 @@ ZACPI_STATUS zacpi_get_ivrs_unit(const struct zacpi_source *source, uint16_t seg
                                  signature ? signature : &unasked);
 }
 
-zacpi_status zacpi_1_list_ivrs_memory(const struct zacpi_source *source, uint16_t device_id,
-                                      struct zacpi_ivrs_memory *out, size_t capacity, size_t *count,
-                                      struct zacpi_signature *signature);
+zacpi_status ZACPI_CALL zacpi_1_list_ivrs_memory(const struct zacpi_source *source,
+                                                 uint16_t device_id, struct zacpi_ivrs_memory *out,
+                                                 zacpi_number capacity, zacpi_number *count,
+                                                 struct zacpi_signature *signature);
 ZACPI_NONNULL((1, 5))
 ZACPI_STATUS zacpi_list_ivrs_memory(const struct zacpi_source *source, uint16_t device_id,
                                     struct zacpi_ivrs_memory *out, size_t capacity, size_t *count,
@@ -1093,282 +1186,295 @@ ZACPI_STATUS zacpi_list_ivrs_memory(const struct zacpi_source *source, uint16_t 
     const struct zacpi_source kept_source = zacpi_source_kept(source);
     struct zacpi_signature unasked;
     ZACPI_FITS;
-    return zacpi_1_list_ivrs_memory(&kept_source, device_id,
-                                    capacity ? out : (struct zacpi_ivrs_memory *)ZACPI_NOTHING,
-                                    capacity, count, signature ? signature : &unasked);
+    ZACPI_COUNTING(count, zacpi_1_list_ivrs_memory(&kept_source, device_id,
+                   capacity ? out : (struct zacpi_ivrs_memory *)ZACPI_NOTHING, capacity,
+                   ZACPI_COUNTED(count), signature ? signature : &unasked));
 }
 
-zacpi_status zacpi_1_write_rsdp(const struct zacpi_table_ids *ids, uint64_t xsdt, uint8_t *out,
-                                size_t capacity, size_t *length);
+zacpi_status ZACPI_CALL zacpi_1_write_rsdp(const struct zacpi_table_ids *ids, uint64_t xsdt,
+                                           uint8_t *out, zacpi_number capacity,
+                                           zacpi_number *length);
 ZACPI_NONNULL((1, 5))
 ZACPI_STATUS zacpi_write_rsdp(const struct zacpi_table_ids *ids, uint64_t xsdt, uint8_t *out,
                               size_t capacity, size_t *length) {
     ZACPI_FITS;
-    return zacpi_1_write_rsdp(ids, xsdt, capacity ? out : (uint8_t *)ZACPI_NOTHING, capacity,
-                              length);
+    ZACPI_COUNTING(length, zacpi_1_write_rsdp(ids, xsdt, capacity ? out : (uint8_t *)ZACPI_NOTHING,
+                   capacity, ZACPI_COUNTED(length)));
 }
 
-zacpi_status zacpi_1_write_rsdt(const struct zacpi_table_ids *ids, const uint32_t *addresses,
-                                size_t addresses_length, uint8_t *out, size_t capacity,
-                                size_t *length);
+zacpi_status ZACPI_CALL zacpi_1_write_rsdt(const struct zacpi_table_ids *ids,
+                                           const uint32_t *addresses, zacpi_number addresses_length,
+                                           uint8_t *out, zacpi_number capacity,
+                                           zacpi_number *length);
 ZACPI_NONNULL((1, 6))
 ZACPI_STATUS zacpi_write_rsdt(const struct zacpi_table_ids *ids, const uint32_t *addresses,
                               size_t addresses_length, uint8_t *out, size_t capacity,
                               size_t *length) {
     ZACPI_FITS;
-    return zacpi_1_write_rsdt(ids, addresses_length ? addresses : (const uint32_t *)ZACPI_NOTHING,
-                              addresses_length, capacity ? out : (uint8_t *)ZACPI_NOTHING, capacity,
-                              length);
+    ZACPI_COUNTING(length, zacpi_1_write_rsdt(ids,
+                   addresses_length ? addresses : (const uint32_t *)ZACPI_NOTHING, addresses_length,
+                   capacity ? out : (uint8_t *)ZACPI_NOTHING, capacity, ZACPI_COUNTED(length)));
 }
 
-zacpi_status zacpi_1_write_xsdt(const struct zacpi_table_ids *ids, const uint64_t *addresses,
-                                size_t addresses_length, uint8_t *out, size_t capacity,
-                                size_t *length);
+zacpi_status ZACPI_CALL zacpi_1_write_xsdt(const struct zacpi_table_ids *ids,
+                                           const uint64_t *addresses, zacpi_number addresses_length,
+                                           uint8_t *out, zacpi_number capacity,
+                                           zacpi_number *length);
 ZACPI_NONNULL((1, 6))
 ZACPI_STATUS zacpi_write_xsdt(const struct zacpi_table_ids *ids, const uint64_t *addresses,
                               size_t addresses_length, uint8_t *out, size_t capacity,
                               size_t *length) {
     ZACPI_FITS;
-    return zacpi_1_write_xsdt(ids, addresses_length ? addresses : (const uint64_t *)ZACPI_NOTHING,
-                              addresses_length, capacity ? out : (uint8_t *)ZACPI_NOTHING, capacity,
-                              length);
+    ZACPI_COUNTING(length, zacpi_1_write_xsdt(ids,
+                   addresses_length ? addresses : (const uint64_t *)ZACPI_NOTHING, addresses_length,
+                   capacity ? out : (uint8_t *)ZACPI_NOTHING, capacity, ZACPI_COUNTED(length)));
 }
 
-zacpi_status zacpi_1_write_dsdt(const struct zacpi_table_ids *ids, uint8_t revision,
-                                const uint8_t *aml, size_t aml_length, uint8_t *out,
-                                size_t capacity, size_t *length);
+zacpi_status ZACPI_CALL zacpi_1_write_dsdt(const struct zacpi_table_ids *ids, uint8_t revision,
+                                           const uint8_t *aml, zacpi_number aml_length,
+                                           uint8_t *out, zacpi_number capacity,
+                                           zacpi_number *length);
 ZACPI_NONNULL((1, 7))
 ZACPI_STATUS zacpi_write_dsdt(const struct zacpi_table_ids *ids, uint8_t revision,
                               const uint8_t *aml, size_t aml_length, uint8_t *out, size_t capacity,
                               size_t *length) {
     ZACPI_FITS;
-    return zacpi_1_write_dsdt(ids, revision, aml_length ? aml : (const uint8_t *)ZACPI_NOTHING,
-                              aml_length, capacity ? out : (uint8_t *)ZACPI_NOTHING, capacity,
-                              length);
+    ZACPI_COUNTING(length, zacpi_1_write_dsdt(ids, revision,
+                   aml_length ? aml : (const uint8_t *)ZACPI_NOTHING, aml_length,
+                   capacity ? out : (uint8_t *)ZACPI_NOTHING, capacity, ZACPI_COUNTED(length)));
 }
 
-zacpi_status zacpi_1_write_ssdt(const struct zacpi_table_ids *ids, uint8_t revision,
-                                const uint8_t *aml, size_t aml_length, uint8_t *out,
-                                size_t capacity, size_t *length);
+zacpi_status ZACPI_CALL zacpi_1_write_ssdt(const struct zacpi_table_ids *ids, uint8_t revision,
+                                           const uint8_t *aml, zacpi_number aml_length,
+                                           uint8_t *out, zacpi_number capacity,
+                                           zacpi_number *length);
 ZACPI_NONNULL((1, 7))
 ZACPI_STATUS zacpi_write_ssdt(const struct zacpi_table_ids *ids, uint8_t revision,
                               const uint8_t *aml, size_t aml_length, uint8_t *out, size_t capacity,
                               size_t *length) {
     ZACPI_FITS;
-    return zacpi_1_write_ssdt(ids, revision, aml_length ? aml : (const uint8_t *)ZACPI_NOTHING,
-                              aml_length, capacity ? out : (uint8_t *)ZACPI_NOTHING, capacity,
-                              length);
+    ZACPI_COUNTING(length, zacpi_1_write_ssdt(ids, revision,
+                   aml_length ? aml : (const uint8_t *)ZACPI_NOTHING, aml_length,
+                   capacity ? out : (uint8_t *)ZACPI_NOTHING, capacity, ZACPI_COUNTED(length)));
 }
 
-zacpi_status zacpi_1_write_table(const struct zacpi_table_ids *ids, struct zacpi_signature wanted,
-                                 uint8_t revision, const uint8_t *body, size_t body_length,
-                                 uint8_t *out, size_t capacity, size_t *length);
+zacpi_status ZACPI_CALL zacpi_1_write_table(const struct zacpi_table_ids *ids,
+                                            struct zacpi_signature wanted, uint8_t revision,
+                                            const uint8_t *body, zacpi_number body_length,
+                                            uint8_t *out, zacpi_number capacity,
+                                            zacpi_number *length);
 ZACPI_NONNULL((1, 8))
 ZACPI_STATUS zacpi_write_table(const struct zacpi_table_ids *ids, struct zacpi_signature wanted,
                                uint8_t revision, const uint8_t *body, size_t body_length,
                                uint8_t *out, size_t capacity, size_t *length) {
     ZACPI_FITS;
-    return zacpi_1_write_table(ids, wanted, revision,
-                               body_length ? body : (const uint8_t *)ZACPI_NOTHING, body_length,
-                               capacity ? out : (uint8_t *)ZACPI_NOTHING, capacity, length);
+    ZACPI_COUNTING(length, zacpi_1_write_table(ids, wanted, revision,
+                   body_length ? body : (const uint8_t *)ZACPI_NOTHING, body_length,
+                   capacity ? out : (uint8_t *)ZACPI_NOTHING, capacity, ZACPI_COUNTED(length)));
 }
 
-zacpi_status zacpi_1_write_madt(const struct zacpi_table_ids *ids,
-                                const struct zacpi_madt_contents *contents, uint8_t *out,
-                                size_t capacity, size_t *length);
+zacpi_status ZACPI_CALL zacpi_1_write_madt(const struct zacpi_table_ids *ids,
+                                           const struct zacpi_madt_contents *contents, uint8_t *out,
+                                           zacpi_number capacity, zacpi_number *length);
 ZACPI_NONNULL((1, 2, 5))
 ZACPI_STATUS zacpi_write_madt(const struct zacpi_table_ids *ids,
                               const struct zacpi_madt_contents *contents, uint8_t *out,
                               size_t capacity, size_t *length) {
     const struct zacpi_madt_contents kept_contents = zacpi_madt_contents_kept(contents);
     ZACPI_FITS;
-    return zacpi_1_write_madt(ids, &kept_contents, capacity ? out : (uint8_t *)ZACPI_NOTHING,
-                              capacity, length);
+    ZACPI_COUNTING(length, zacpi_1_write_madt(ids, &kept_contents,
+                   capacity ? out : (uint8_t *)ZACPI_NOTHING, capacity, ZACPI_COUNTED(length)));
 }
 
-zacpi_status zacpi_1_write_gic_madt(const struct zacpi_table_ids *ids,
-                                    const struct zacpi_gic_contents *contents, uint8_t *out,
-                                    size_t capacity, size_t *length);
+zacpi_status ZACPI_CALL zacpi_1_write_gic_madt(const struct zacpi_table_ids *ids,
+                                               const struct zacpi_gic_contents *contents,
+                                               uint8_t *out, zacpi_number capacity,
+                                               zacpi_number *length);
 ZACPI_NONNULL((1, 2, 5))
 ZACPI_STATUS zacpi_write_gic_madt(const struct zacpi_table_ids *ids,
                                   const struct zacpi_gic_contents *contents, uint8_t *out,
                                   size_t capacity, size_t *length) {
     const struct zacpi_gic_contents kept_contents = zacpi_gic_contents_kept(contents);
     ZACPI_FITS;
-    return zacpi_1_write_gic_madt(ids, &kept_contents, capacity ? out : (uint8_t *)ZACPI_NOTHING,
-                                  capacity, length);
+    ZACPI_COUNTING(length, zacpi_1_write_gic_madt(ids, &kept_contents,
+                   capacity ? out : (uint8_t *)ZACPI_NOTHING, capacity, ZACPI_COUNTED(length)));
 }
 
-zacpi_status zacpi_1_write_riscv_madt(const struct zacpi_table_ids *ids,
-                                      const struct zacpi_riscv_contents *contents, uint8_t *out,
-                                      size_t capacity, size_t *length);
+zacpi_status ZACPI_CALL zacpi_1_write_riscv_madt(const struct zacpi_table_ids *ids,
+                                                 const struct zacpi_riscv_contents *contents,
+                                                 uint8_t *out, zacpi_number capacity,
+                                                 zacpi_number *length);
 ZACPI_NONNULL((1, 2, 5))
 ZACPI_STATUS zacpi_write_riscv_madt(const struct zacpi_table_ids *ids,
                                     const struct zacpi_riscv_contents *contents, uint8_t *out,
                                     size_t capacity, size_t *length) {
     const struct zacpi_riscv_contents kept_contents = zacpi_riscv_contents_kept(contents);
     ZACPI_FITS;
-    return zacpi_1_write_riscv_madt(ids, &kept_contents, capacity ? out : (uint8_t *)ZACPI_NOTHING,
-                                    capacity, length);
+    ZACPI_COUNTING(length, zacpi_1_write_riscv_madt(ids, &kept_contents,
+                   capacity ? out : (uint8_t *)ZACPI_NOTHING, capacity, ZACPI_COUNTED(length)));
 }
 
-zacpi_status zacpi_1_write_rhct(const struct zacpi_table_ids *ids,
-                                const struct zacpi_rhct_contents *contents, uint8_t *out,
-                                size_t capacity, size_t *length);
+zacpi_status ZACPI_CALL zacpi_1_write_rhct(const struct zacpi_table_ids *ids,
+                                           const struct zacpi_rhct_contents *contents, uint8_t *out,
+                                           zacpi_number capacity, zacpi_number *length);
 ZACPI_NONNULL((1, 2, 5))
 ZACPI_STATUS zacpi_write_rhct(const struct zacpi_table_ids *ids,
                               const struct zacpi_rhct_contents *contents, uint8_t *out,
                               size_t capacity, size_t *length) {
     const struct zacpi_rhct_contents kept_contents = zacpi_rhct_contents_kept(contents);
     ZACPI_FITS;
-    return zacpi_1_write_rhct(ids, &kept_contents, capacity ? out : (uint8_t *)ZACPI_NOTHING,
-                              capacity, length);
+    ZACPI_COUNTING(length, zacpi_1_write_rhct(ids, &kept_contents,
+                   capacity ? out : (uint8_t *)ZACPI_NOTHING, capacity, ZACPI_COUNTED(length)));
 }
 
-zacpi_status zacpi_1_write_mcfg(const struct zacpi_table_ids *ids,
-                                const struct zacpi_pci_region *regions, size_t regions_length,
-                                uint8_t *out, size_t capacity, size_t *length);
+zacpi_status ZACPI_CALL zacpi_1_write_mcfg(const struct zacpi_table_ids *ids,
+                                           const struct zacpi_pci_region *regions,
+                                           zacpi_number regions_length, uint8_t *out,
+                                           zacpi_number capacity, zacpi_number *length);
 ZACPI_NONNULL((1, 6))
 ZACPI_STATUS zacpi_write_mcfg(const struct zacpi_table_ids *ids,
                               const struct zacpi_pci_region *regions, size_t regions_length,
                               uint8_t *out, size_t capacity, size_t *length) {
     ZACPI_FITS;
-    return zacpi_1_write_mcfg(ids,
-                              regions_length ? regions : (const struct zacpi_pci_region *)ZACPI_NOTHING,
-                              regions_length, capacity ? out : (uint8_t *)ZACPI_NOTHING, capacity,
-                              length);
+    ZACPI_COUNTING(length, zacpi_1_write_mcfg(ids,
+                   regions_length ? regions : (const struct zacpi_pci_region *)ZACPI_NOTHING,
+                   regions_length, capacity ? out : (uint8_t *)ZACPI_NOTHING, capacity,
+                   ZACPI_COUNTED(length)));
 }
 
-zacpi_status zacpi_1_write_hpet(const struct zacpi_table_ids *ids,
-                                const struct zacpi_hpet_info *info, uint8_t *out, size_t capacity,
-                                size_t *length);
+zacpi_status ZACPI_CALL zacpi_1_write_hpet(const struct zacpi_table_ids *ids,
+                                           const struct zacpi_hpet_info *info, uint8_t *out,
+                                           zacpi_number capacity, zacpi_number *length);
 ZACPI_NONNULL((1, 2, 5))
 ZACPI_STATUS zacpi_write_hpet(const struct zacpi_table_ids *ids, const struct zacpi_hpet_info *info,
                               uint8_t *out, size_t capacity, size_t *length) {
     ZACPI_FITS;
-    return zacpi_1_write_hpet(ids, info, capacity ? out : (uint8_t *)ZACPI_NOTHING, capacity,
-                              length);
+    ZACPI_COUNTING(length, zacpi_1_write_hpet(ids, info, capacity ? out : (uint8_t *)ZACPI_NOTHING,
+                   capacity, ZACPI_COUNTED(length)));
 }
 
-zacpi_status zacpi_1_write_slit(const struct zacpi_table_ids *ids, uint64_t localities,
-                                const uint8_t *distances, size_t distances_length, uint8_t *out,
-                                size_t capacity, size_t *length);
+zacpi_status ZACPI_CALL zacpi_1_write_slit(const struct zacpi_table_ids *ids, uint64_t localities,
+                                           const uint8_t *distances, zacpi_number distances_length,
+                                           uint8_t *out, zacpi_number capacity,
+                                           zacpi_number *length);
 ZACPI_NONNULL((1, 7))
 ZACPI_STATUS zacpi_write_slit(const struct zacpi_table_ids *ids, uint64_t localities,
                               const uint8_t *distances, size_t distances_length, uint8_t *out,
                               size_t capacity, size_t *length) {
     ZACPI_FITS;
-    return zacpi_1_write_slit(ids, localities,
-                              distances_length ? distances : (const uint8_t *)ZACPI_NOTHING,
-                              distances_length, capacity ? out : (uint8_t *)ZACPI_NOTHING, capacity,
-                              length);
+    ZACPI_COUNTING(length, zacpi_1_write_slit(ids, localities,
+                   distances_length ? distances : (const uint8_t *)ZACPI_NOTHING, distances_length,
+                   capacity ? out : (uint8_t *)ZACPI_NOTHING, capacity, ZACPI_COUNTED(length)));
 }
 
-zacpi_status zacpi_1_write_srat(const struct zacpi_table_ids *ids,
-                                const struct zacpi_srat_contents *contents, uint8_t *out,
-                                size_t capacity, size_t *length);
+zacpi_status ZACPI_CALL zacpi_1_write_srat(const struct zacpi_table_ids *ids,
+                                           const struct zacpi_srat_contents *contents, uint8_t *out,
+                                           zacpi_number capacity, zacpi_number *length);
 ZACPI_NONNULL((1, 2, 5))
 ZACPI_STATUS zacpi_write_srat(const struct zacpi_table_ids *ids,
                               const struct zacpi_srat_contents *contents, uint8_t *out,
                               size_t capacity, size_t *length) {
     const struct zacpi_srat_contents kept_contents = zacpi_srat_contents_kept(contents);
     ZACPI_FITS;
-    return zacpi_1_write_srat(ids, &kept_contents, capacity ? out : (uint8_t *)ZACPI_NOTHING,
-                              capacity, length);
+    ZACPI_COUNTING(length, zacpi_1_write_srat(ids, &kept_contents,
+                   capacity ? out : (uint8_t *)ZACPI_NOTHING, capacity, ZACPI_COUNTED(length)));
 }
 
-zacpi_status zacpi_1_write_bgrt(const struct zacpi_table_ids *ids,
-                                const struct zacpi_boot_graphic *graphic, uint8_t *out,
-                                size_t capacity, size_t *length);
+zacpi_status ZACPI_CALL zacpi_1_write_bgrt(const struct zacpi_table_ids *ids,
+                                           const struct zacpi_boot_graphic *graphic, uint8_t *out,
+                                           zacpi_number capacity, zacpi_number *length);
 ZACPI_NONNULL((1, 2, 5))
 ZACPI_STATUS zacpi_write_bgrt(const struct zacpi_table_ids *ids,
                               const struct zacpi_boot_graphic *graphic, uint8_t *out,
                               size_t capacity, size_t *length) {
     ZACPI_FITS;
-    return zacpi_1_write_bgrt(ids, graphic, capacity ? out : (uint8_t *)ZACPI_NOTHING, capacity,
-                              length);
+    ZACPI_COUNTING(length, zacpi_1_write_bgrt(ids, graphic,
+                   capacity ? out : (uint8_t *)ZACPI_NOTHING, capacity, ZACPI_COUNTED(length)));
 }
 
-zacpi_status zacpi_1_write_spcr(const struct zacpi_table_ids *ids,
-                                const struct zacpi_spcr_contents *contents, uint8_t *out,
-                                size_t capacity, size_t *length);
+zacpi_status ZACPI_CALL zacpi_1_write_spcr(const struct zacpi_table_ids *ids,
+                                           const struct zacpi_spcr_contents *contents, uint8_t *out,
+                                           zacpi_number capacity, zacpi_number *length);
 ZACPI_NONNULL((1, 2, 5))
 ZACPI_STATUS zacpi_write_spcr(const struct zacpi_table_ids *ids,
                               const struct zacpi_spcr_contents *contents, uint8_t *out,
                               size_t capacity, size_t *length) {
     ZACPI_FITS;
-    return zacpi_1_write_spcr(ids, contents, capacity ? out : (uint8_t *)ZACPI_NOTHING, capacity,
-                              length);
+    ZACPI_COUNTING(length, zacpi_1_write_spcr(ids, contents,
+                   capacity ? out : (uint8_t *)ZACPI_NOTHING, capacity, ZACPI_COUNTED(length)));
 }
 
-zacpi_status zacpi_1_write_gtdt(const struct zacpi_table_ids *ids,
-                                const struct zacpi_gtdt_contents *contents, uint8_t *out,
-                                size_t capacity, size_t *length);
+zacpi_status ZACPI_CALL zacpi_1_write_gtdt(const struct zacpi_table_ids *ids,
+                                           const struct zacpi_gtdt_contents *contents, uint8_t *out,
+                                           zacpi_number capacity, zacpi_number *length);
 ZACPI_NONNULL((1, 2, 5))
 ZACPI_STATUS zacpi_write_gtdt(const struct zacpi_table_ids *ids,
                               const struct zacpi_gtdt_contents *contents, uint8_t *out,
                               size_t capacity, size_t *length) {
     const struct zacpi_gtdt_contents kept_contents = zacpi_gtdt_contents_kept(contents);
     ZACPI_FITS;
-    return zacpi_1_write_gtdt(ids, &kept_contents, capacity ? out : (uint8_t *)ZACPI_NOTHING,
-                              capacity, length);
+    ZACPI_COUNTING(length, zacpi_1_write_gtdt(ids, &kept_contents,
+                   capacity ? out : (uint8_t *)ZACPI_NOTHING, capacity, ZACPI_COUNTED(length)));
 }
 
-zacpi_status zacpi_1_write_fadt(const struct zacpi_table_ids *ids,
-                                const struct zacpi_fixed_hardware *fadt, uint8_t *out,
-                                size_t capacity, size_t *length);
+zacpi_status ZACPI_CALL zacpi_1_write_fadt(const struct zacpi_table_ids *ids,
+                                           const struct zacpi_fixed_hardware *fadt, uint8_t *out,
+                                           zacpi_number capacity, zacpi_number *length);
 ZACPI_NONNULL((1, 2, 5))
 ZACPI_STATUS zacpi_write_fadt(const struct zacpi_table_ids *ids,
                               const struct zacpi_fixed_hardware *fadt, uint8_t *out,
                               size_t capacity, size_t *length) {
     ZACPI_FITS;
-    return zacpi_1_write_fadt(ids, fadt, capacity ? out : (uint8_t *)ZACPI_NOTHING, capacity,
-                              length);
+    ZACPI_COUNTING(length, zacpi_1_write_fadt(ids, fadt, capacity ? out : (uint8_t *)ZACPI_NOTHING,
+                   capacity, ZACPI_COUNTED(length)));
 }
 
-zacpi_status zacpi_1_write_facs(const struct zacpi_facs_contents *contents, uint8_t *out,
-                                size_t capacity, size_t *length);
+zacpi_status ZACPI_CALL zacpi_1_write_facs(const struct zacpi_facs_contents *contents, uint8_t *out,
+                                           zacpi_number capacity, zacpi_number *length);
 ZACPI_NONNULL((1, 4))
 ZACPI_STATUS zacpi_write_facs(const struct zacpi_facs_contents *contents, uint8_t *out,
                               size_t capacity, size_t *length) {
     ZACPI_FITS;
-    return zacpi_1_write_facs(contents, capacity ? out : (uint8_t *)ZACPI_NOTHING, capacity,
-                              length);
+    ZACPI_COUNTING(length, zacpi_1_write_facs(contents, capacity ? out : (uint8_t *)ZACPI_NOTHING,
+                   capacity, ZACPI_COUNTED(length)));
 }
 
-zacpi_status zacpi_1_write_tables(const struct zacpi_machine *machine, uint64_t address,
-                                  uint8_t *out, size_t capacity, size_t *length);
+zacpi_status ZACPI_CALL zacpi_1_write_tables(const struct zacpi_machine *machine, uint64_t address,
+                                             uint8_t *out, zacpi_number capacity,
+                                             zacpi_number *length);
 ZACPI_NONNULL((1, 5))
 ZACPI_STATUS zacpi_write_tables(const struct zacpi_machine *machine, uint64_t address, uint8_t *out,
                                 size_t capacity, size_t *length) {
     const struct zacpi_machine kept_machine = zacpi_machine_kept(machine);
     ZACPI_FITS;
-    return zacpi_1_write_tables(&kept_machine, address, capacity ? out : (uint8_t *)ZACPI_NOTHING,
-                                capacity, length);
+    ZACPI_COUNTING(length, zacpi_1_write_tables(&kept_machine, address,
+                   capacity ? out : (uint8_t *)ZACPI_NOTHING, capacity, ZACPI_COUNTED(length)));
 }
 
-zacpi_status zacpi_1_write_tables_without_rsdp(const struct zacpi_machine *machine,
-                                               uint64_t address, uint8_t *out, size_t capacity,
-                                               size_t *length);
+zacpi_status ZACPI_CALL zacpi_1_write_tables_without_rsdp(const struct zacpi_machine *machine,
+                                                          uint64_t address, uint8_t *out,
+                                                          zacpi_number capacity,
+                                                          zacpi_number *length);
 ZACPI_NONNULL((1, 5))
 ZACPI_STATUS zacpi_write_tables_without_rsdp(const struct zacpi_machine *machine, uint64_t address,
                                              uint8_t *out, size_t capacity, size_t *length) {
     const struct zacpi_machine kept_machine = zacpi_machine_kept(machine);
     ZACPI_FITS;
-    return zacpi_1_write_tables_without_rsdp(&kept_machine, address,
-                                             capacity ? out : (uint8_t *)ZACPI_NOTHING, capacity,
-                                             length);
+    ZACPI_COUNTING(length, zacpi_1_write_tables_without_rsdp(&kept_machine, address,
+                   capacity ? out : (uint8_t *)ZACPI_NOTHING, capacity, ZACPI_COUNTED(length)));
 }
 
-zacpi_status zacpi_1_tables_size(const struct zacpi_machine *machine, size_t *length);
+zacpi_status ZACPI_CALL zacpi_1_tables_size(const struct zacpi_machine *machine,
+                                            zacpi_number *length);
 ZACPI_NONNULL((1, 2))
 ZACPI_STATUS zacpi_tables_size(const struct zacpi_machine *machine, size_t *length) {
     const struct zacpi_machine kept_machine = zacpi_machine_kept(machine);
     ZACPI_FITS;
-    return zacpi_1_tables_size(&kept_machine, length);
+    ZACPI_COUNTING(length, zacpi_1_tables_size(&kept_machine, ZACPI_COUNTED(length)));
 }
 
-zacpi_status zacpi_1_dsdt_address(uint64_t address, size_t tables_length, uint64_t *out);
+zacpi_status ZACPI_CALL zacpi_1_dsdt_address(uint64_t address, zacpi_number tables_length,
+                                             uint64_t *out);
 ZACPI_NONNULL((3))
 ZACPI_STATUS zacpi_dsdt_address(uint64_t address, size_t tables_length, uint64_t *out) {
     ZACPI_FITS;

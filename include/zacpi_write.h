@@ -21,48 +21,48 @@ struct zacpi_madt_contents {
     const struct zacpi_processor *processors; /* the first is the boot processor; is_boot isn't
                                                * looked at; enabled unless the state is
                                                * ZACPI_PROCESSOR_DISABLED */
-    size_t processors_length;
+    zacpi_size processors_length;
     const struct zacpi_io_apic *io_apics;
-    size_t io_apics_length;
+    zacpi_size io_apics_length;
     const struct zacpi_interrupt_source_override *overrides; /* bus has to be 0, ISA */
-    size_t overrides_length;
+    zacpi_size overrides_length;
     const struct zacpi_nmi_source *nmi_sources;
-    size_t nmi_sources_length;
+    zacpi_size nmi_sources_length;
     const struct zacpi_nmi_line *nmi_lines; /* processor_uid isn't looked at if of_all isn't 0 */
-    size_t nmi_lines_length;
-    uint64_t local_apic_address;
-    uint64_t wakeup_mailbox; /* MailBoxAddress (section 5.2.12.19), if has_wakeup_mailbox */
+    zacpi_size nmi_lines_length;
+    zacpi_u64 local_apic_address;
+    zacpi_u64 wakeup_mailbox; /* MailBoxAddress (section 5.2.12.19), if has_wakeup_mailbox */
     uint8_t also_has_8259;   /* PCAT_COMPAT */
     uint8_t has_wakeup_mailbox;
 };
 struct zacpi_gic_contents {
     struct zacpi_gic_distributor distributor;
     const struct zacpi_gic_cpu_interface *cpu_interfaces; /* the first is the boot processor */
-    size_t cpu_interfaces_length;
+    zacpi_size cpu_interfaces_length;
     const struct zacpi_range *redistributors;
-    size_t redistributors_length;
+    zacpi_size redistributors_length;
     const struct zacpi_gic_translation_service *translation_services;
-    size_t translation_services_length;
+    zacpi_size translation_services_length;
     const struct zacpi_gic_msi_frame *msi_frames; /* spi_base and spi_count aren't looked at if
                                                    * has_spis is 0 */
-    size_t msi_frames_length;
+    zacpi_size msi_frames_length;
 };
 struct zacpi_riscv_contents {
     const struct zacpi_rintc *rintcs;
-    size_t rintcs_length;
+    zacpi_size rintcs_length;
     const struct zacpi_imsic *imsics;
-    size_t imsics_length;
+    zacpi_size imsics_length;
     const struct zacpi_aplic *aplics;
-    size_t aplics_length;
+    zacpi_size aplics_length;
     const struct zacpi_plic *plics;
-    size_t plics_length;
+    zacpi_size plics_length;
 };
 struct zacpi_rhct_contents { /* RISC-V Hart Capabilities Table, ACPI 6.6 */
     const uint8_t *isa;     /* the ISA string of all harts, as rv64imafdc, with no zero at its end */
-    size_t isa_length;
+    zacpi_size isa_length;
     const uint32_t *harts;  /* ACPI Processor UID of each */
-    size_t harts_length;
-    uint64_t time_base_frequency;
+    zacpi_size harts_length;
+    zacpi_u64 time_base_frequency;
     uint32_t flags;         /* bit 0: the timer can't wake the processor */
 };
 struct zacpi_apic_domain { /* sections 5.2.16.1 and 5.2.16.3 */
@@ -74,11 +74,11 @@ struct zacpi_gicc_domain { /* section 5.2.16.4 */
 };
 struct zacpi_srat_contents {
     const struct zacpi_apic_domain *apics;
-    size_t apics_length;
+    zacpi_size apics_length;
     const struct zacpi_gicc_domain *giccs;
-    size_t giccs_length;
+    zacpi_size giccs_length;
     const struct zacpi_memory_affinity *ranges;
-    size_t ranges_length;
+    zacpi_size ranges_length;
 };
 struct zacpi_spcr_contents {
     struct zacpi_console console;
@@ -90,18 +90,18 @@ struct zacpi_spcr_contents {
 struct zacpi_platform_timer { /* section 5.2.24.1: a GT Block or a watchdog */
     uint32_t kind;                       /* 0: the block. 1: the watchdog. The other isn't looked
                                           * at */
-    uint64_t block_address;
+    zacpi_u64 block_address;
     const struct zacpi_gt_frame *frames; /* block_address isn't looked at */
-    size_t frames_length;
+    zacpi_size frames_length;
     struct zacpi_watchdog watchdog;
 };
 struct zacpi_gtdt_contents {
     struct zacpi_arm_timers timers;
     const struct zacpi_platform_timer *platform_timers;
-    size_t platform_timers_length;
+    zacpi_size platform_timers_length;
 };
 struct zacpi_facs_contents { /* section 5.2.10 */
-    uint64_t waking_vector_64; /* X_Firmware_Waking_Vector */
+    zacpi_u64 waking_vector_64; /* X_Firmware_Waking_Vector */
     uint32_t hardware_signature, waking_vector;
     uint8_t supports_s4bios, supports_64_bit_wake;
 };
@@ -238,21 +238,21 @@ ZACPI_STATUS zacpi_write_facs(const struct zacpi_facs_contents *contents, uint8_
 
 struct zacpi_aml_contents {
     const uint8_t *aml;
-    size_t aml_length;
+    zacpi_size aml_length;
     uint8_t revision;
 };
 struct zacpi_listed_table { /* a whole table, whoever wrote it */
     const uint8_t *bytes;
-    size_t length;
+    zacpi_size length;
 };
 struct zacpi_machine {
     struct zacpi_table_ids ids;
-    const struct zacpi_listed_table *tables; /* in the order of the XSDT */
-    size_t tables_length;
+    const struct zacpi_listed_table *ZACPI_SLOT tables; /* in the order of the XSDT */
+    zacpi_size tables_length;
     const struct zacpi_aml_contents *dsdts;  /* the first is the DSDT, if there is one */
-    size_t dsdts_length;
+    zacpi_size dsdts_length;
     const struct zacpi_facs_contents *facs;  /* the first is the FACS, if there is one */
-    size_t facs_length;
+    zacpi_size facs_length;
 };
 
 /* Writes all tables of a machine, for memory from `address` on: the RSDP, after 48 bytes the XSDT,

@@ -2,7 +2,7 @@
 # Reads the crate's records, `#[repr(C)] pub struct`s, lays them out as C does, and prints what a compiler is to check:
 # of the header a C file, with one assertion for each size and each offset; or, if `records` names the file of the Rust
 # bindings' records, a Rust program that asserts the same of them. A record `IoApic` is `struct zacpi_io_apic` of the
-# header, and `IoApic` of the bindings. A slice is a pointer and a length. It stops with status 1 at a type that it
+# header, and `IoApic` of the bindings. A slice is a pointer, in 8 bytes, and a length. It stops with status 1 at a type that it
 # doesn't know.
 function fail(why) { print FILENAME ":" FNR ": " why > "/dev/stderr"; failed = 1; exit 1 }
 function check(text) { printf "typedef char check_%d[(%s) ? 1 : -1];\n", ++checks, text }
@@ -50,7 +50,7 @@ inside && /^    pub [a-z_0-9]+: / {
     field = $2; sub(/:$/, "", field)
     type = $0; sub(/^    pub [a-z_0-9]+: /, "", type); sub(/,.*$/, "", type)
     if (type ~ /^&'[a-z]+ \[/) {
-        place(8, 8); has_field(field, begin, 8); lends = 1
+        place(8, 8); has_field(field, begin, records ? 8 : "sizeof(void *)"); lends = 1
         place(8, 8); has_field(field == "bytes" ? "length" : field "_length", begin, 8)
         next
     }

@@ -44,7 +44,8 @@ static void write_place(const struct place *place, uint32_t x) {
 static int find_place(const struct zacpi_step *step, plan_map *map, struct place *out) {
     const struct zacpi_generic_address *at = &step->at.at;
     const int is_memory = at->space == ZACPI_SPACE_SYSTEM_MEMORY, is_port = at->space == ZACPI_SPACE_SYSTEM_IO;
-    if (step->at.present != 1 || (step->width != 8 && step->width != 16) || at->address % (step->width / 8)) return 0;
+    if (step->at.present != 1 || (step->width != 8 && step->width != 16) || (at->address & (step->width / 8 - 1)))
+        return 0;
     if (!is_memory && !(is_port && HAS_PORTS && at->address <= UINT16_MAX)) return 0;
     *out = (struct place){is_memory ? map(at->address) : 0, (uint16_t)at->address, step->width};
     return !is_memory || out->memory;

@@ -63,12 +63,12 @@ static zacpi_status write_machine(size_t count, size_t *length) {
     struct zacpi_listed_table tables[6];
     const struct zacpi_machine machine = {
         .ids = ids, .tables = tables, .tables_length = 6, .dsdts = &dsdt, .dsdts_length = 1};
-    size_t used = 0; /* of `scratch`, to which each table is written first */
+    size_t written, used = 0; /* of `scratch`, to which each table is written first */
     zacpi_status refused = zacpi_dsdt_address(TABLES, 6, &fadt.dsdt_address);
 #define LIST(i, table, ...) \
     tables[i].bytes = scratch + used; \
-    if (!refused) refused = zacpi_write_##table(&ids, __VA_ARGS__, scratch + used, ROOM - used, &tables[i].length); \
-    if (!refused) used += tables[i].length
+    if (!refused) refused = zacpi_write_##table(&ids, __VA_ARGS__, scratch + used, ROOM - used, &written); \
+    if (!refused) used += tables[i].length = written
     LIST(0, fadt, &fadt);
     LIST(1, madt, &madt);
     LIST(2, mcfg, &pci, 1);

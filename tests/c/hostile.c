@@ -33,7 +33,8 @@ int main(int argc, char **argv) {
     struct zacpi_source source = {0};
     uint8_t revision = 0, *image, *copy;
     const int taken = start_of(argc, argv, &source, &revision);
-    size_t length, i, count;
+    size_t length, i;
+    zacpi_size count;
     FILE *copies;
     if (!taken || argc != taken + 2) return 2;
     image = contents(argv[1], &length);

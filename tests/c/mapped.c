@@ -16,7 +16,8 @@ enum { PAGE = 4096, MOST = 4096 };
 /* The memory: the pages of the image's records, zeros around the records, and those that touch as one. There is what of
  * it isn't missing. */
 static struct zacpi_region records[MOST], memory[MOST], there[MOST + 1];
-static size_t records_count, memory_count, there_count;
+static zacpi_size records_count;
+static size_t memory_count, there_count;
 static uint8_t *bytes;
 /* The mapper's page: each range begins and ends at a multiple of it. */
 static uint64_t unit;
