@@ -100,8 +100,11 @@ static void check_sums_and_products(void) {
     IS(umul_over64(0xffffffff, 0x100000002).b, 1);
     IS(umul_over64(0x100000002, 0xffffffff).b, 1);
     IS(umul_over64(0xffffffff, 0x100000002).a, 0xfffffffe); /* 2^64 - 1 + 2^32 - 1 */
-    /* Of the four products of halves none reaches 2^32 but by their sum: 1 and twice 2^31, and 2^30 of the lowest. */
+    /* 2.25 times 2^64: above are 1, of the upper halves, and 1, of the sum of the other products. */
     IS(umul_over64(0x180000000, 0x180000000).b, 1);
+    IS(umul_over64(0x100010000, 0x10000).a, 0x1000100000000); /* 2^48 and 2^32 */
+    IS(umul_over64(0x100010000, 0x10000).b, 0);
+    IS(umul_over64(0x10000, 0x100010000).b, 0);
     IS(umul_over64(24, 0x0aaaaaaaaaaaaaaa).a, ALL - 15);
     IS(umul_over64(24, 0x0aaaaaaaaaaaaaaa).b, 0);
     IS(umul_over64(24, 0x0aaaaaaaaaaaaaab).b, 1);
