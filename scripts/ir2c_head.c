@@ -48,7 +48,11 @@ typedef uintptr_t uptr;
 #define AT(number) ((u8 *)(number))
 
 /* The alignment of words of 8 bytes, where a processor of 32 bits has no use for more than 4. */
-#define EIGHT (sizeof(uptr) < 8 ? 4 : 8)
+#if UINTPTR_MAX > 0xffffffff
+#define EIGHT 8
+#else
+#define EIGHT 4
+#endif
 
 INLINE u16 load16(const void *at) { u16 value; memcpy(&value, IS_ALIGNED(at, 2), 2); return value; }
 
