@@ -76,9 +76,6 @@ typedef uint64_t zacpi_size;
 #endif
 #define ZACPI_STATUS static inline ZACPI_CHECKED zacpi_status /* of each call: an inline, below */
 
-#if UINTPTR_MAX == 0xffffffff
-#error "zacpi is for pointers of 64 bits"
-#endif
 #ifdef __cplusplus
 extern "C" {
 #if defined(__GNUC__)
