@@ -45,7 +45,8 @@ sum-cons = sum_by-cons (λ x. x)
 -- one word more
 with_eight : (whole even : ℕ) (before xs : List ℕ) → length xs ≡ 8 → Each1 (Fits w8) xs → length before + 8 ≤ 2048
     → AddsUpInWords whole even before
-    → AddsUpInWords ((whole + number xs) % 2 ^ 64) ((even + bit_and (number xs) 71777214294589695) % 2 ^ 64) (before ++ xs)
+    → AddsUpInWords ((whole + number xs) % 2 ^ 64) ((even + bit_and (number xs) 71777214294589695) % 2 ^ 64)
+        (before ++ xs)
 with_eight whole even before [] long fit room sums = absurd (omega arith)
 with_eight whole even before (a ∷ []) long fit room sums = absurd (omega arith)
 with_eight whole even before (a ∷ b ∷ []) long fit room sums = absurd (omega arith)
@@ -90,7 +91,8 @@ with_eight whole even before (a ∷ b ∷ c ∷ d ∷ e ∷ f ∷ g ∷ h ∷ []
         omega (arith, n, sums.room.7),
       );
       even_lanes = omega (arith, mask, sums.even_lanes, sums.room.0, sums.room.2, sums.room.4, sums.room.6);
-      whole_words = omega (arith, mask, sums.even_lanes, sums.whole_words, sums.room.0, sums.room.2, sums.room.4, sums.room.6);
+      whole_words = omega
+          (arith, mask, sums.even_lanes, sums.whole_words, sums.room.0, sums.room.2, sums.room.4, sums.room.6);
     }
 
 pub word_next : (bytes : List ℕ) (at end whole even : ℕ) → at + 8 ≡ end → at + 8 ≤ length bytes → at + 8 ≤ 2048
@@ -134,12 +136,12 @@ odd_lanes : (even a b c d : ℕ) → even < 2 ^ 64 → a < 65536 → b < 65536 �
 odd_lanes even a b c d le la lb lc ld = omega arith
 
 folded_lanes : (a b c d e f g h s : ℕ) → a + b + c + d + e + f + g + h ≡ s
-    → (in_lanes (a % 256) (c % 256) (e % 256) (g % 256) + in_lanes (b % 256) (d % 256) (f % 256) (h % 256)) % 65535 % 256
-    ≡ s % 256
+    → (in_lanes (a % 256) (c % 256) (e % 256) (g % 256)
+    + in_lanes (b % 256) (d % 256) (f % 256) (h % 256)) % 65535 % 256 ≡ s % 256
 folded_lanes a b c d e f g h s all =
     let sum : ℕ = a % 256 + b % 256 + c % 256 + d % 256 + e % 256 + f % 256 + g % 256 + h % 256 in
-    let one : (in_lanes (a % 256) (c % 256) (e % 256) (g % 256) + in_lanes (b % 256) (d % 256) (f % 256) (h % 256)) % 65535
-    ≡ sum = omega arith in
+    let one : (in_lanes (a % 256) (c % 256) (e % 256) (g % 256)
+    + in_lanes (b % 256) (d % 256) (f % 256) (h % 256)) % 65535 ≡ sum = omega arith in
     omega (arith, one, all)
 
 -- the sum of all lanes

@@ -91,18 +91,26 @@ impl GenericAddress {
     ///
     /// Refuses a reserved code of the space, or else of the access size, with
     /// `InvalidGenericAddress`.
-    #[tactic(auto, unfolding(crate::specs::Address::generic_address_of))]
     pub fn from_raw(raw: RawAddress) -> AcpiResult<GenericAddress>
         ensures { result ≡ generic_address_of raw }
     {
-        let address_space = AddressSpace::try_from(u8_in(&raw, 0))?; // Address Space ID
-        let access_size = AccessSize::try_from(u8_in(&raw, 3))?; // Access Size
+        GenericAddress::read_raw(&raw)
+    }
+
+    /// The register that these bytes encode, where they are: `from_raw` without a copy of them.
+    #[inline(always)]
+    #[tactic(auto, unfolding(crate::specs::Address::generic_address_of))]
+    pub fn read_raw(raw: &RawAddress) -> AcpiResult<GenericAddress>
+        ensures { result ≡ generic_address_of raw.now }
+    {
+        let address_space = AddressSpace::try_from(u8_in(raw, 0))?; // Address Space ID
+        let access_size = AccessSize::try_from(u8_in(raw, 3))?; // Access Size
         Ok(GenericAddress {
             address_space,
-            bit_width: u8_in(&raw, 1), // Register Bit Width
-            bit_offset: u8_in(&raw, 2), // Register Bit Offset
+            bit_width: u8_in(raw, 1), // Register Bit Width
+            bit_offset: u8_in(raw, 2), // Register Bit Offset
             access_size,
-            address: field_in(&raw, 4, 8), // Address
+            address: field_in(raw, 4, 8), // Address
         })
     }
 }

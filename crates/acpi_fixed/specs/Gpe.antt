@@ -25,9 +25,11 @@ block_or None port byte_length =
     else Ok (Some (record { space = SystemIo; address = port; byte_length = byte_length }))
 
 -- the block of a pair of fields: nothing if its length is 0, before anything else
+abbrev pub gpe_with : Option (List ℕ) → ℕ → ℕ → Result (Option GpeBlock) AcpiError
+gpe_with extended port byte_length = if byte_length == 0 then Ok None else block_or extended port byte_length
+
 abbrev pub gpe_of : RegisterBlock → Result (Option GpeBlock) AcpiError
-gpe_of r =
-    if r.size == 0 then Ok None else block_or (usable_extended r.extended) (port_of r) r.size
+gpe_of r = gpe_with (usable_extended r.extended) (port_of r) r.size
 
 -- GPE1_BASE: the number of the first event of a block, if there is one
 abbrev pub base_beside : ℕ → Result (Option GpeBlock) AcpiError → Option ℕ

@@ -1,6 +1,6 @@
 -- Blocks of registers and addresses that the FADT gives in two ways: by a field of its first
 -- versions, and by an extended one (ACPI 6.4, section 5.2.9).
-use Rattle.std.specs.Prelude.{ℕ, ◌+◌, ◌*◌, ◌≤◌, ◌&&◌, ◌==◌, nat_le, nat_lt, Bool, if◌then◌else◌, List, length, replicate, Option, Some, None, is_none, Result, Ok, Err}
+use Rattle.std.specs.Prelude.{◌≡◌, ℕ, ◌+◌, ◌*◌, ◌<◌, ◌≤◌, ◌&&◌, ◌==◌, nat_le, nat_lt, Bool, if◌then◌else◌, List, length, replicate, Option, Some, None, is_none, option_map, Result, Ok, Err}
 use Rattle.acpi_base.specs.FromStd.{option_map_or}
 use Rattle.acpi_base.specs.declared.address.AccessSize.TheVariants.{Undefined}
 use Rattle.acpi_base.specs.declared.address.AddressSpace.TheVariants.{SystemIo}
@@ -8,12 +8,21 @@ use Rattle.acpi_base.specs.declared.address.GenericAddress.{GenericAddress}
 use Rattle.acpi_base.specs.declared.error.AcpiError.{AcpiError}
 use Rattle.acpi_base.specs.declared.error.AcpiError.TheVariants.{InvalidGenericAddress}
 use Rattle.acpi_base.specs.Words.{generic_address_of, field_of, filled_part, ◌>>=◌, holds}
+use Rattle.acpi_fixed.specs.declared.fadt.registers.BlockFields.{BlockFields}
 use Rattle.acpi_fixed.specs.declared.fadt.registers.RegisterBlock.{RegisterBlock}
 use Rattle.acpi_fixed.specs.declared.fadt.registers.Registers.{Registers}
 
 -- whether a table's FADT Major Version, at 8, is 2 or above, and it has all of the n bytes at an offset
 abbrev pub has_extended : List ℕ → ℕ → ℕ → Bool
 has_extended b offset n = nat_le 2 (field_of b 8 1) && nat_le (offset + n) (length b)
+
+-- where extended fields may be: up to a table's end, and in one below revision 2 nowhere
+abbrev pub reach_of : List ℕ → ℕ
+reach_of b = if nat_le 2 (field_of b 8 1) then length b else 0
+
+-- of the extended fields up to the last block's, a table has those that end by this offset
+abbrev pub Reaches : List ℕ → ℕ → Type 0
+Reaches b reach = (offset n : ℕ) → 0 < n → offset + n ≤ 244 → has_extended b offset n ≡ nat_le (offset + n) reach
 
 -- a number of eight bytes, 0 if the table doesn't have it: for a number, as for a block's address, no field and a field
 -- of 0 mean the same (section 5.2.9)
@@ -76,23 +85,37 @@ ports_at address size = do
     address = address;
   })
 
--- the extended block if its address is not 0, else the ports. Each of the eight getters of blocks returns this, or one
--- of the two definitions after it, for one block of `registers_of`
-abbrev pub block_of : RegisterBlock → Result GenericAddress AcpiError
-block_of r =
-    option_map_or generic_address_of (usable_extended r.extended) (ports_at (port_of r) r.size)
+-- the extended block, or else the ports
+abbrev pub block_or_ports : Option (List ℕ) → ℕ → ℕ → Result GenericAddress AcpiError
+block_or_ports extended port size = option_map_or generic_address_of extended (ports_at port size)
 
--- a block that a machine need not have: none if neither field gives an address, else that of `block_of`
-abbrev pub optional_block_of : RegisterBlock → Result (Option GenericAddress) AcpiError
-optional_block_of r =
-    if is_none (usable_extended r.extended) && port_of r == 0 then Ok None
+-- a block that a machine need not have: none if neither field gives an address
+abbrev pub optional_block_or_ports : Option (List ℕ) → ℕ → ℕ → Result (Option GenericAddress) AcpiError
+optional_block_or_ports extended port size =
+    if is_none extended && port == 0 then Ok None
     else do
-      block ← block_of r
+      block ← block_or_ports extended port size
       Ok (Some block)
 
 -- the timer's block, which a table has only if PM_TMR_LEN is 4
+abbrev pub timer_block_or_ports : Option (List ℕ) → ℕ → ℕ → Result (Option GenericAddress) AcpiError
+timer_block_or_ports extended port size =
+    if size == 4 then optional_block_or_ports extended port size else Ok None
+
+-- the extended block if its address is not 0, else the ports. Each of the eight getters of blocks returns this, or one
+-- of the two definitions after it, for one block of `registers_of`
+abbrev pub block_of : RegisterBlock → Result GenericAddress AcpiError
+block_of r = block_or_ports (usable_extended r.extended) (port_of r) r.size
+
+abbrev pub optional_block_of : RegisterBlock → Result (Option GenericAddress) AcpiError
+optional_block_of r = optional_block_or_ports (usable_extended r.extended) (port_of r) r.size
+
 abbrev pub timer_block_of : RegisterBlock → Result (Option GenericAddress) AcpiError
-timer_block_of r = if r.size == 4 then optional_block_of r else Ok None
+timer_block_of r = timer_block_or_ports (usable_extended r.extended) (port_of r) r.size
+
+-- the extended field of what a table has of a block
+abbrev pub extended_of : BlockFields → Option (List ℕ)
+extended_of f = option_map (λ raw. raw.now) f.extended
 
 -- a register that only an extended field gives
 abbrev pub register_of : Option (List ℕ) → Result (Option GenericAddress) AcpiError

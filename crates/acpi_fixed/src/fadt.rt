@@ -11,12 +11,14 @@ mod registers;
 mod view;
 
 use acpi_base::address::GenericAddress;
-use acpi_base::bytes::{field, field_in, u8_in, u16_in, u32_in};
+use acpi_base::bytes::{field_in, u8_in, u16_in, u32_in};
 use acpi_base::sdt::SdtHeader;
 use acpi_base::{AcpiError, AcpiResult, PhysicalRecord, SdtTable, Signature};
 pub use flags::{ArmBootArchFlags, FixedFeatureFlags, IaPcBootArchFlags};
 pub use registers::GpeBlock;
-use registers::{Registers, address_from, extended_number_in, register_from};
+use registers::{
+    Registers, address_from, block_reach_in, extended_number_in, number_in, register_from,
+};
 pub use view::FadtView;
 
 /// Preferred_PM_Profile: the machine's purpose (ACPI 6.4, section 5.2.9).
@@ -181,6 +183,7 @@ impl Fadt {
     {
         // Read first, since they are in part tested for: what follows is read with no branch between.
         let registers = Registers::read(bytes, WHOLE);
+        let reach = block_reach_in(bytes, WHOLE);
         Fadt {
             header: SdtHeader::read(bytes),
             firmware_ctrl: u32_in(bytes, places::FIRMWARE_CTRL),
@@ -206,10 +209,12 @@ impl Fadt {
             century: u8_in(bytes, 108), // CENTURY
             iapc_boot_arch: IaPcBootArchFlags::new(u16_in(bytes, places::IAPC_BOOT_ARCH)),
             flags: FixedFeatureFlags::new(u32_in(bytes, places::FLAGS)),
-            reset_value: field(bytes, places::RESET_VALUE, 1) as u8,
-            arm_boot_arch: ArmBootArchFlags::new(field(bytes, places::ARM_BOOT_ARCH, 2) as u16),
-            x_firmware_ctrl: extended_number_in(bytes, places::X_FIRMWARE_CTRL, WHOLE),
-            x_dsdt_address: extended_number_in(bytes, places::X_DSDT, WHOLE),
+            reset_value: number_in(bytes, places::RESET_VALUE, 1, WHOLE) as u8,
+            arm_boot_arch: ArmBootArchFlags::new(
+                number_in(bytes, places::ARM_BOOT_ARCH, 2, WHOLE) as u16,
+            ),
+            x_firmware_ctrl: extended_number_in(bytes, reach, places::X_FIRMWARE_CTRL),
+            x_dsdt_address: extended_number_in(bytes, reach, places::X_DSDT),
         }
     }
 }
@@ -270,7 +275,7 @@ impl Fadt {
     pub fn pm1a_event_block(&self) -> AcpiResult<GenericAddress>
         ensures { result ≡ block_of (registers_of self.now).pm1a_event }
     {
-        self.registers.pm1a_event.block()
+        self.registers.pm1a_event.fields().block()
     }
 
     /// X_PM1b_EVT_BLK or PM1b_EVT_BLK: the second block of event registers, or `None` if neither
@@ -280,7 +285,7 @@ impl Fadt {
     pub fn pm1b_event_block(&self) -> AcpiResult<Option<GenericAddress>>
         ensures { result ≡ optional_block_of (registers_of self.now).pm1b_event }
     {
-        self.registers.pm1b_event.optional_block()
+        self.registers.pm1b_event.fields().optional_block()
     }
 
     /// X_PM1a_CNT_BLK or PM1a_CNT_BLK: the control registers of the fixed hardware (section 5.2.9): the
@@ -293,7 +298,7 @@ impl Fadt {
     pub fn pm1a_control_block(&self) -> AcpiResult<GenericAddress>
         ensures { result ≡ block_of (registers_of self.now).pm1a_control }
     {
-        self.registers.pm1a_control.block()
+        self.registers.pm1a_control.fields().block()
     }
 
     /// X_PM1b_CNT_BLK or PM1b_CNT_BLK: the second block of control registers, or `None` if
@@ -303,7 +308,7 @@ impl Fadt {
     pub fn pm1b_control_block(&self) -> AcpiResult<Option<GenericAddress>>
         ensures { result ≡ optional_block_of (registers_of self.now).pm1b_control }
     {
-        self.registers.pm1b_control.optional_block()
+        self.registers.pm1b_control.fields().optional_block()
     }
 
     /// X_PM2_CNT_BLK or PM2_CNT_BLK: the second control register, or `None` if neither field
@@ -313,7 +318,7 @@ impl Fadt {
     pub fn pm2_control_block(&self) -> AcpiResult<Option<GenericAddress>>
         ensures { result ≡ optional_block_of (registers_of self.now).pm2_control }
     {
-        self.registers.pm2_control.optional_block()
+        self.registers.pm2_control.fields().optional_block()
     }
 
     /// X_PM_TMR_BLK or PM_TMR_BLK: the register of the power management timer, or `None` if PM_TMR_LEN isn't
@@ -323,7 +328,7 @@ impl Fadt {
     pub fn pm_timer_block(&self) -> AcpiResult<Option<GenericAddress>>
         ensures { result ≡ pm_timer_of self.now }
     {
-        self.registers.pm_timer.timer_block()
+        self.registers.pm_timer.fields().timer_block()
     }
 
     /// X_GPE0_BLK or GPE0_BLK: the registers of the first general purpose events, or `None` if
@@ -335,7 +340,7 @@ impl Fadt {
     pub fn gpe0_block(&self) -> AcpiResult<Option<GenericAddress>>
         ensures { result ≡ optional_block_of (registers_of self.now).gpe0 }
     {
-        self.registers.gpe0.optional_block()
+        self.registers.gpe0.fields().optional_block()
     }
 
     /// X_GPE1_BLK or GPE1_BLK: the registers of further general purpose events, or `None` if
@@ -347,7 +352,7 @@ impl Fadt {
     pub fn gpe1_block(&self) -> AcpiResult<Option<GenericAddress>>
         ensures { result ≡ optional_block_of (registers_of self.now).gpe1 }
     {
-        self.registers.gpe1.optional_block()
+        self.registers.gpe1.fields().optional_block()
     }
 
     /// RESET_REG: the register that resets the machine, if `flags.supports_system_reset_via_fadt()` says
@@ -367,7 +372,7 @@ impl Fadt {
     pub fn sleep_control_register(&self) -> AcpiResult<Option<GenericAddress>>
         ensures { result ≡ register_of (registers_of self.now).sleep_control }
     {
-        register_from(self.registers.sleep_control)
+        register_from(self.registers.sleep_control.as_ref())
     }
 
     /// SLEEP_STATUS_REG: the register that tells how a hardware-reduced machine woke, or `None`
@@ -377,6 +382,6 @@ impl Fadt {
     pub fn sleep_status_register(&self) -> AcpiResult<Option<GenericAddress>>
         ensures { result ≡ register_of (registers_of self.now).sleep_status }
     {
-        register_from(self.registers.sleep_status)
+        register_from(self.registers.sleep_status.as_ref())
     }
 }

@@ -84,3 +84,6 @@ pub(super) const GPE1: BlockPlace = BlockPlace {
     size: 93,
     extended: 232,
 };
+
+/// Where the last of these ends, X_GPE1_BLK.
+pub(super) const BLOCKS_END: usize = 244;

@@ -3,29 +3,58 @@
 //!
 //! Extended fields came with revision 2. Most tables have all the extended blocks: a reader that knows it says so
 //! (`whole`), and then nothing is tested.
-ghost use Rattle.std.specs.Prelude.{◌≡◌, ◌+◌, ◌≤◌, length, true};
-ghost use Rattle.acpi_base.specs.Words.{filled_part};
-ghost use Rattle.acpi_fixed.specs.Words.{HasBlocks, address_or, extended_address, extended_bytes, extended_number, has_extended, register_of, block_at, block_of, port_of, usable_extended, optional_block_of, ports_at, timer_block_of, registers_at};
+ghost use Rattle.std.specs.Prelude.{◌≡◌, ◌+◌, ◌*◌, ◌^◌, ◌<◌, ◌≤◌, length, true, nat_le, option_and_then, option_map, if◌then◌else◌};
+ghost use Rattle.acpi_base.specs.Words.{field_of, filled_part};
+ghost use Rattle.acpi_fixed.specs.Words.{HasBlocks, Reaches, address_or, extended_address, extended_bytes, extended_number, extended_of, reach_of, register_of, block_at, block_or_ports, port_of, usable_extended, optional_block_or_ports, ports_at, timer_block_or_ports, registers_at};
 
 mod gpe;
 
 use super::places;
 use acpi_base::address::{AccessSize, AddressSpace, GenericAddress, RawAddress};
-use acpi_base::bytes::{field_in, filled, filled_in};
+use acpi_base::bytes::{field, field_in, filled, filled_in, u8_in, u32_in};
 use acpi_base::{AcpiError, AcpiResult};
 pub use gpe::GpeBlock;
 pub(super) use gpe::base_beside;
 
-/// Whether FADT Major Version, at 8, is 2 or above and the table has the `n` bytes at an offset.
+/// Where extended fields may be: before this offset, the length of a table whose FADT Major Version, at 8, is 2 or
+/// above, and of an older one 0.
 #[inline(always)]
-#[tactic(auto, using(crate::proofs::ExtendedFields::field_known))]
-fn is_extended(table: &[u8], offset: usize, n: usize, whole: bool) -> bool
-    requires table { 116 ≤ length table.now }
-    requires offset { offset + n ≤ 276 }
-    requires whole { (whole ≡ true) → HasBlocks table.now × (offset + n ≤ 244) }
-    ensures { result ≡ has_extended table.now offset n }
+pub(super) fn reach_in(table: &[u8]) -> usize
+    requires { 116 ≤ length table.now }
+    ensures { result ≡ reach_of table.now }
 {
-    whole || (field_in(table, 8, 1) >= 2 && offset + n <= table.len())
+    if u8_in(table, 8) >= 2 { table.len() } else { 0 }
+}
+
+/// What `reach_in` is, as far as the extended blocks go: their end, if the table is known to have all of them.
+#[inline(always)]
+#[tactic(auto, using(crate::proofs::ExtendedFields::whole_reaches, crate::proofs::ExtendedFields::reaches))]
+pub(super) fn block_reach_in(table: &[u8], whole: bool) -> usize
+    requires table { 116 ≤ length table.now }
+    requires whole { (whole ≡ true) → HasBlocks table.now }
+    ensures { Reaches table.now result }
+{
+    if whole {
+        places::BLOCKS_END
+    } else {
+        reach_in(table)
+    }
+}
+
+/// The number of a plain field: nothing is tested if the table is known to have all extended blocks.
+#[inline(always)]
+pub(super) fn number_in(table: &[u8], offset: usize, n: usize, whole: bool) -> u64
+    requires few { n ≤ 8 }
+    requires offset { offset + n ≤ 244 }
+    requires whole { (whole ≡ true) → HasBlocks table.now }
+    ensures value { result ≡ field_of table.now offset n }
+    ensures fits { result < 2 ^ (8 * n) }
+{
+    if whole {
+        field_in(table, offset, n)
+    } else {
+        field(table, offset, n)
+    }
 }
 
 /// The twelve bytes of a generic address at an offset, all of which are there. They stand one by one, since
@@ -42,47 +71,56 @@ fn address_in(table: &[u8], offset: usize) -> RawAddress
     ]
 }
 
-/// The number of eight bytes at an offset, or 0 if the table is below revision 2 or doesn't have all of
-/// these bytes.
+/// The twelve bytes of a generic address at an offset, where they are, or `None` if they end after `reach`.
 #[inline(always)]
-pub(super) fn extended_number_in(table: &[u8], offset: usize, whole: bool) -> u64
-    requires table { 116 ≤ length table.now }
+pub(super) fn raw_in(table: &[u8], reach: usize, offset: usize) -> Option<&RawAddress>
+    requires reach { reach ≤ length table.now }
+    requires offset { offset + 12 ≤ 276 }
+    ensures { option_map (λ raw. raw.now) result
+        ≡ (if nat_le (offset + 12) reach then Some (filled_part table.now offset 12) else None) }
+{
+    if offset + 12 > reach {
+        return None;
+    }
+    <&RawAddress>::try_from(&table[offset..offset + 12]).ok()
+}
+
+/// The number of eight bytes at an offset, or 0 if they end after `reach`.
+#[inline(always)]
+pub(super) fn extended_number_in(table: &[u8], reach: usize, offset: usize) -> u64
     requires offset { offset + 8 ≤ 244 }
-    requires whole { (whole ≡ true) → HasBlocks table.now }
+    requires reach { Reaches table.now reach }
     ensures { result ≡ extended_number table.now offset }
 {
-    if is_extended(table, offset, 8, whole) {
+    if offset + 8 <= reach {
         field_in(table, offset, 8)
     } else {
         0
     }
 }
 
-/// The twelve bytes of a generic address at an offset, or zeros if the table is below revision 2 or doesn't
-/// have all of these bytes.
+/// The twelve bytes of a generic address at an offset, or zeros if they end after `reach`.
 #[inline(always)]
-fn extended_bytes_in(table: &[u8], offset: usize, whole: bool) -> RawAddress
-    requires table { 116 ≤ length table.now }
+fn extended_bytes_in(table: &[u8], reach: usize, offset: usize) -> RawAddress
     requires offset { offset + 12 ≤ 244 }
-    requires whole { (whole ≡ true) → HasBlocks table.now }
+    requires reach { Reaches table.now reach }
     ensures { result ≡ extended_bytes table.now offset }
 {
-    if is_extended(table, offset, 12, whole) {
+    if offset + 12 <= reach {
         address_in(table, offset)
     } else {
         [0; 12]
     }
 }
 
-/// The twelve bytes of a generic address at an offset, or `None` if the table is below revision 2 or
-/// doesn't have all of these bytes.
+/// The twelve bytes of a generic address at an offset, or `None` if they end after `reach`.
 #[inline(always)]
-pub(super) fn extended_address_in(table: &[u8], offset: usize) -> Option<RawAddress>
-    requires table { 116 ≤ length table.now }
+fn extended_address_in(table: &[u8], reach: usize, offset: usize) -> Option<RawAddress>
     requires offset { offset + 12 ≤ 276 }
+    requires reach { reach ≡ reach_of table.now }
     ensures { result ≡ extended_address table.now offset }
 {
-    if is_extended(table, offset, 12, false) {
+    if offset + 12 <= reach {
         Some(address_in(table, offset))
     } else {
         None
@@ -105,11 +143,11 @@ pub(crate) fn address_from(refusal: AcpiError, wide: u64, narrow: u32) -> AcpiRe
 /// The register that an extended field gives, or `None` if the table has no such field.
 ///
 /// Refuses reserved codes with `InvalidGenericAddress`.
-pub(crate) fn register_from(raw: Option<RawAddress>) -> AcpiResult<Option<GenericAddress>>
-    ensures { result ≡ register_of raw }
+pub(crate) fn register_from(raw: Option<&RawAddress>) -> AcpiResult<Option<GenericAddress>>
+    ensures { result ≡ register_of (option_map (λ raw. raw.now) raw.entry) }
 {
     match raw {
-        Some(raw) => Ok(Some(GenericAddress::from_raw(raw)?)),
+        Some(raw) => Ok(Some(GenericAddress::read_raw(raw)?)),
         None => Ok(None),
     }
 }
@@ -133,49 +171,92 @@ pub(crate) struct RegisterBlock {
 }
 
 impl RegisterBlock {
-    /// The block that a table has at a place. The extended field isn't tested for if the table is known to
-    /// have all of them.
+    /// The block that a table has at a place.
     #[inline(always)]
     #[tactic(auto, unfolding(crate::specs::Registers::block_at))]
-    pub(super) fn read(table: &[u8], place: BlockPlace, whole: bool) -> RegisterBlock
-        requires table { 116 ≤ length table.now }
-        requires address { place.address + 4 ≤ 116 }
-        requires size { place.size + 1 ≤ 116 }
+    fn read(table: &[u8], reach: usize, place: BlockPlace) -> RegisterBlock
+        requires address { place.address + 4 ≤ length table.now }
+        requires size { place.size + 1 ≤ length table.now }
         requires extended { place.extended + 12 ≤ 244 }
-        requires whole { (whole ≡ true) → HasBlocks table.now }
+        requires reach { Reaches table.now reach }
         ensures { result ≡ block_at table.now place.address place.size place.extended }
     {
         RegisterBlock {
             size: field_in(table, place.size, 1) as u8,
             port: filled_in(table, place.address),
-            extended: extended_bytes_in(table, place.extended, whole),
+            extended: extended_bytes_in(table, reach, place.extended),
         }
     }
 
-    /// The first port.
+    /// What its getters look at.
     #[inline(always)]
-    fn port(&self) -> u64
-        ensures { result ≡ port_of self.now }
+    pub(crate) fn fields(&self) -> BlockFields<'_>
+        ensures extended { extended_of result ≡ usable_extended self.now.extended }
+        ensures port { result.port ≡ port_of self.now }
+        ensures size { result.size ≡ self.now.size }
     {
-        field_in(&self.port, 0, 4)
-    }
-
-    /// The extended field, or `None` if its address is 0.
-    fn usable_extended(&self) -> Option<RawAddress>
-        ensures { result ≡ usable_extended self.now.extended }
-    {
-        // Address
-        if field_in(&self.extended, 4, 8) == 0 {
-            return None;
+        BlockFields {
+            extended: usable(Some(&self.extended)),
+            port: field_in(&self.port, 0, 4) as u32,
+            size: self.size,
         }
-        Some(self.extended)
+    }
+}
+
+/// What a table has of a block of registers: the extended field, unless its address is 0, and of the first versions'
+/// fields the first port and the number of bytes.
+#[derive(Clone, Copy)]
+pub(crate) struct BlockFields<'t> {
+    extended: Option<&'t RawAddress>,
+    port: u32,
+    size: u8,
+}
+
+/// An extended field, or `None` if there is none or its address is 0.
+#[inline(always)]
+fn usable(raw: Option<&RawAddress>) -> Option<&RawAddress>
+    ensures { option_map (λ field. field.now) result
+        ≡ option_and_then usable_extended (option_map (λ field. field.now) raw.entry) }
+{
+    match raw {
+        Some(field) => {
+            // Address
+            if field_in(field, 4, 8) == 0 {
+                return None;
+            }
+            Some(field)
+        }
+        None => None,
+    }
+}
+
+impl<'t> BlockFields<'t> {
+    /// The fields that a table has at a place, where they are.
+    #[inline(always)]
+    #[tactic(auto, unfolding(crate::specs::Registers::block_at))]
+    pub(super) fn read(table: &'t [u8], reach: usize, place: BlockPlace) -> BlockFields<'t>
+        requires address { place.address + 4 ≤ length table.now }
+        requires size { place.size + 1 ≤ length table.now }
+        requires extended { place.extended + 12 ≤ 244 }
+        requires reach { reach ≡ reach_of table.now }
+        ensures extended { extended_of result
+            ≡ usable_extended (block_at table.now place.address place.size place.extended).extended }
+        ensures port { result.port ≡ port_of (block_at table.now place.address place.size place.extended) }
+        ensures size { result.size ≡ (block_at table.now place.address place.size place.extended).size }
+    {
+        BlockFields {
+            extended: usable(raw_in(table, reach, place.extended)),
+            port: u32_in(table, place.address),
+            size: u8_in(table, place.size),
+        }
     }
 
     /// The ports of the first versions, eight bits for each byte.
     ///
     /// Fails with `InvalidGenericAddress` if these are 32 bytes or more, more than a width can say.
-    fn ports(&self) -> AcpiResult<GenericAddress>
-        ensures { result ≡ ports_at (port_of self.now) self.now.size }
+    #[inline(always)]
+    fn ports(self) -> AcpiResult<GenericAddress>
+        ensures { result ≡ ports_at self.entry.port self.entry.size }
     {
         if self.size >= 32 {
             return Err(AcpiError::InvalidGenericAddress);
@@ -185,19 +266,20 @@ impl RegisterBlock {
             bit_width: self.size * 8,
             bit_offset: 0,
             access_size: AccessSize::Undefined,
-            address: self.port(),
+            address: self.port as u64,
         })
     }
 
     /// The extended block if its address is not 0, else the ports.
     ///
-    /// Fails with `InvalidGenericAddress` reserved codes in the extended block, and 32 bytes of
-    /// ports and more.
-    pub(crate) fn block(&self) -> AcpiResult<GenericAddress>
-        ensures { result ≡ block_of self.now }
+    /// Fails with `InvalidGenericAddress` for reserved codes in the extended block, and for 32 bytes of ports and
+    /// more.
+    #[inline(always)]
+    pub(crate) fn block(self) -> AcpiResult<GenericAddress>
+        ensures { result ≡ block_or_ports (extended_of self.entry) self.entry.port self.entry.size }
     {
-        match self.usable_extended() {
-            Some(raw) => GenericAddress::from_raw(raw),
+        match self.extended {
+            Some(raw) => GenericAddress::read_raw(raw),
             None => self.ports(),
         }
     }
@@ -206,10 +288,11 @@ impl RegisterBlock {
     /// `None` if neither field gives an address.
     ///
     /// Fails as `block` does.
-    pub(crate) fn optional_block(&self) -> AcpiResult<Option<GenericAddress>>
-        ensures { result ≡ optional_block_of self.now }
+    #[inline(always)]
+    pub(crate) fn optional_block(self) -> AcpiResult<Option<GenericAddress>>
+        ensures { result ≡ optional_block_or_ports (extended_of self.entry) self.entry.port self.entry.size }
     {
-        if self.port() == 0 && self.usable_extended().is_none() {
+        if self.port == 0 && self.extended.is_none() {
             return Ok(None);
         }
         Ok(Some(self.block()?))
@@ -218,9 +301,10 @@ impl RegisterBlock {
     /// The block of the timer: the extended block if its address is not 0, else the ports, or `None` if the
     /// length isn't 4 or neither field gives an address.
     ///
-    /// Refuses a reserved code in the extended block with `InvalidGenericAddress`.
-    pub(crate) fn timer_block(&self) -> AcpiResult<Option<GenericAddress>>
-        ensures { result ≡ timer_block_of self.now }
+    /// Fails with `InvalidGenericAddress` for a reserved code in the extended block.
+    #[inline(always)]
+    pub(crate) fn timer_block(self) -> AcpiResult<Option<GenericAddress>>
+        ensures { result ≡ timer_block_or_ports (extended_of self.entry) self.entry.port self.entry.size }
     {
         if self.size != 4 {
             return Ok(None);
@@ -259,18 +343,19 @@ impl Registers {
         } else {
             filled(table, places::RESET_REG)
         };
+        let reach = block_reach_in(table, whole);
         Registers {
-            pm1a_event: RegisterBlock::read(table, places::PM1A_EVENT, whole),
-            pm1b_event: RegisterBlock::read(table, places::PM1B_EVENT, whole),
-            pm1a_control: RegisterBlock::read(table, places::PM1A_CONTROL, whole),
-            pm1b_control: RegisterBlock::read(table, places::PM1B_CONTROL, whole),
-            pm2_control: RegisterBlock::read(table, places::PM2_CONTROL, whole),
-            pm_timer: RegisterBlock::read(table, places::PM_TIMER, whole),
-            gpe0: RegisterBlock::read(table, places::GPE0, whole),
-            gpe1: RegisterBlock::read(table, places::GPE1, whole),
+            pm1a_event: RegisterBlock::read(table, reach, places::PM1A_EVENT),
+            pm1b_event: RegisterBlock::read(table, reach, places::PM1B_EVENT),
+            pm1a_control: RegisterBlock::read(table, reach, places::PM1A_CONTROL),
+            pm1b_control: RegisterBlock::read(table, reach, places::PM1B_CONTROL),
+            pm2_control: RegisterBlock::read(table, reach, places::PM2_CONTROL),
+            pm_timer: RegisterBlock::read(table, reach, places::PM_TIMER),
+            gpe0: RegisterBlock::read(table, reach, places::GPE0),
+            gpe1: RegisterBlock::read(table, reach, places::GPE1),
             reset,
-            sleep_control: extended_address_in(table, places::SLEEP_CONTROL_REG),
-            sleep_status: extended_address_in(table, places::SLEEP_STATUS_REG),
+            sleep_control: extended_address_in(table, reach_in(table), places::SLEEP_CONTROL_REG),
+            sleep_status: extended_address_in(table, reach_in(table), places::SLEEP_STATUS_REG),
         }
     }
 }

@@ -2,9 +2,11 @@
 #![tactic(auto, unfolding(crate::specs::Fadt::fadt_at))]
 
 ghost use Rattle.std.specs.Prelude.{◌≡◌, ◌+◌, ◌≤◌, length};
+ghost use Rattle.acpi_base.specs.Words.{bytes_of};
+ghost use Rattle.acpi_fixed.specs.Registers.{reach_of};
 
 use super::registers::{
-    BlockPlace, RegisterBlock, address_from, base_beside, extended_address_in, extended_number_in,
+    BlockFields, BlockPlace, address_from, base_beside, extended_number_in, raw_in, reach_in,
     register_from,
 };
 use super::{
@@ -37,11 +39,13 @@ impl PhysicalRecord for Unread {
 #[derive(Drop)]
 pub struct FadtView<'h, H: Lender> {
     mapping: PhysicalMapping<'h, H, Unread>,
+    reach: usize,
+    ghost reaches: { reach ≡ reach_of (bytes_of mapping) },
 }
 
 impl<'h, H: Lender> FadtView<'h, H> {
-    ghost use Rattle.acpi_base.specs.Words.{generic_address_of, all_of, claimed_at, claimed_from, shown_by, bytes_of, handler_of, lent_of, start_of};
-    ghost use Rattle.acpi_fixed.specs.Words.{dsdt_address_of, facs_address_of, pm_timer_of, profile_of, registers_of, gpe1_base_of, gpe_of, block_at, block_of, optional_block_of, register_of, viewed};
+    ghost use Rattle.acpi_base.specs.Words.{generic_address_of, all_of, claimed_at, claimed_from, shown_by, handler_of, lent_of, start_of};
+    ghost use Rattle.acpi_fixed.specs.Words.{dsdt_address_of, facs_address_of, pm_timer_of, profile_of, registers_of, gpe1_base_of, gpe_of, block_at, block_of, extended_of, optional_block_of, port_of, register_of, usable_extended, viewed};
 
     /// The view of a table that is valid for `Fadt`: its bytes stay lent.
     pub fn new(table: ValidTable<'h, H>) -> Self
@@ -51,9 +55,9 @@ impl<'h, H: Lender> FadtView<'h, H> {
         ensures lent { lent_of result.mapping ≡ all_of table.entry.claim }
         ensures handler { handler_of result.mapping ≡ claimed_from table.entry.claim }
     {
-        FadtView {
-            mapping: table.mapping(),
-        }
+        let mapping: PhysicalMapping<'h, H, Unread> = table.mapping();
+        let reach = reach_in(mapping.bytes());
+        FadtView { mapping, reach }
     }
 
     /// The physical address of the table.
@@ -78,15 +82,20 @@ impl<'h, H: Lender> FadtView<'h, H> {
         Fadt::read(self.bytes())
     }
 
-    /// The block of registers at a place.
+    /// What the table has of a block of registers.
     #[inline(always)]
-    fn registers(&self, place: BlockPlace) -> RegisterBlock
+    fn fields(&self, place: BlockPlace) -> BlockFields<'_>
         requires address { place.address + 4 ≤ 116 }
         requires size { place.size + 1 ≤ 116 }
         requires extended { place.extended + 12 ≤ 244 }
-        ensures { result ≡ block_at (bytes_of self.now.mapping) place.address place.size place.extended }
+        ensures extended { extended_of result ≡ usable_extended
+            (block_at (bytes_of self.now.mapping) place.address place.size place.extended).extended }
+        ensures port { result.port
+            ≡ port_of (block_at (bytes_of self.now.mapping) place.address place.size place.extended) }
+        ensures size { result.size
+            ≡ (block_at (bytes_of self.now.mapping) place.address place.size place.extended).size }
     {
-        RegisterBlock::read(self.bytes(), place, false)
+        BlockFields::read(self.bytes(), self.reach, place)
     }
 
     /// Preferred_PM_Profile: the machine's purpose.
@@ -146,91 +155,101 @@ impl<'h, H: Lender> FadtView<'h, H> {
     }
 
     /// X_FIRMWARE_CTRL or FIRMWARE_CTRL: the physical address of the FACS.
+    #[inline(always)]
     pub fn facs_address(&self) -> AcpiResult<u64>
         ensures { result ≡ facs_address_of (viewed self.now) }
     {
-        let wide = extended_number_in(self.bytes(), places::X_FIRMWARE_CTRL, false);
+        let wide = extended_number_in(self.bytes(), self.reach, places::X_FIRMWARE_CTRL);
         let narrow = u32_in(self.bytes(), places::FIRMWARE_CTRL);
         address_from(AcpiError::InvalidFacsAddress, wide, narrow)
     }
 
     /// X_DSDT or DSDT: the physical address of the DSDT.
+    #[inline(always)]
     pub fn dsdt_address(&self) -> AcpiResult<u64>
         ensures { result ≡ dsdt_address_of (viewed self.now) }
     {
-        let wide = extended_number_in(self.bytes(), places::X_DSDT, false);
+        let wide = extended_number_in(self.bytes(), self.reach, places::X_DSDT);
         let narrow = u32_in(self.bytes(), places::DSDT);
         address_from(AcpiError::InvalidDsdtAddress, wide, narrow)
     }
 
     /// X_PM1a_EVT_BLK or PM1a_EVT_BLK: the registers of the fixed events.
+    #[inline(always)]
     pub fn pm1a_event_block(&self) -> AcpiResult<GenericAddress>
         ensures { result ≡ block_of (registers_of (viewed self.now)).pm1a_event }
     {
-        self.registers(places::PM1A_EVENT).block()
+        self.fields(places::PM1A_EVENT).block()
     }
 
     /// X_PM1b_EVT_BLK or PM1b_EVT_BLK: the second block of event registers.
+    #[inline(always)]
     pub fn pm1b_event_block(&self) -> AcpiResult<Option<GenericAddress>>
         ensures { result ≡ optional_block_of (registers_of (viewed self.now)).pm1b_event }
     {
-        self.registers(places::PM1B_EVENT).optional_block()
+        self.fields(places::PM1B_EVENT).optional_block()
     }
 
     /// X_PM1a_CNT_BLK or PM1a_CNT_BLK: the control registers of the fixed hardware.
+    #[inline(always)]
     pub fn pm1a_control_block(&self) -> AcpiResult<GenericAddress>
         ensures { result ≡ block_of (registers_of (viewed self.now)).pm1a_control }
     {
-        self.registers(places::PM1A_CONTROL).block()
+        self.fields(places::PM1A_CONTROL).block()
     }
 
     /// X_PM1b_CNT_BLK or PM1b_CNT_BLK: the second block of control registers.
+    #[inline(always)]
     pub fn pm1b_control_block(&self) -> AcpiResult<Option<GenericAddress>>
         ensures { result ≡ optional_block_of (registers_of (viewed self.now)).pm1b_control }
     {
-        self.registers(places::PM1B_CONTROL).optional_block()
+        self.fields(places::PM1B_CONTROL).optional_block()
     }
 
     /// X_PM2_CNT_BLK or PM2_CNT_BLK: the second control register.
+    #[inline(always)]
     pub fn pm2_control_block(&self) -> AcpiResult<Option<GenericAddress>>
         ensures { result ≡ optional_block_of (registers_of (viewed self.now)).pm2_control }
     {
-        self.registers(places::PM2_CONTROL).optional_block()
+        self.fields(places::PM2_CONTROL).optional_block()
     }
 
     /// X_PM_TMR_BLK or PM_TMR_BLK: the register of the power management timer.
+    #[inline(always)]
     pub fn pm_timer_block(&self) -> AcpiResult<Option<GenericAddress>>
         ensures { result ≡ pm_timer_of (viewed self.now) }
     {
-        self.registers(places::PM_TIMER).timer_block()
+        self.fields(places::PM_TIMER).timer_block()
     }
 
     /// X_GPE0_BLK or GPE0_BLK: the registers of the first general purpose events.
+    #[inline(always)]
     pub fn gpe0_block(&self) -> AcpiResult<Option<GenericAddress>>
         ensures { result ≡ optional_block_of (registers_of (viewed self.now)).gpe0 }
     {
-        self.registers(places::GPE0).optional_block()
+        self.fields(places::GPE0).optional_block()
     }
 
     /// X_GPE1_BLK or GPE1_BLK: the registers of further general purpose events.
+    #[inline(always)]
     pub fn gpe1_block(&self) -> AcpiResult<Option<GenericAddress>>
         ensures { result ≡ optional_block_of (registers_of (viewed self.now)).gpe1 }
     {
-        self.registers(places::GPE1).optional_block()
+        self.fields(places::GPE1).optional_block()
     }
 
     /// X_GPE0_BLK or GPE0_BLK with GPE0_BLK_LEN: a block of any length.
     pub fn gpe0(&self) -> AcpiResult<Option<GpeBlock>>
         ensures { result ≡ gpe_of (registers_of (viewed self.now)).gpe0 }
     {
-        self.registers(places::GPE0).gpe()
+        self.fields(places::GPE0).gpe()
     }
 
     /// X_GPE1_BLK or GPE1_BLK with GPE1_BLK_LEN: a block of any length.
     pub fn gpe1(&self) -> AcpiResult<Option<GpeBlock>>
         ensures { result ≡ gpe_of (registers_of (viewed self.now)).gpe1 }
     {
-        self.registers(places::GPE1).gpe()
+        self.fields(places::GPE1).gpe()
     }
 
     /// GPE1_BASE: the number of the first event of `gpe1`.
@@ -241,10 +260,15 @@ impl<'h, H: Lender> FadtView<'h, H> {
     }
 
     /// RESET_REG: the register that resets the machine.
+    #[inline(always)]
     pub fn reset_register(&self) -> AcpiResult<GenericAddress>
         ensures { result ≡ generic_address_of (registers_of (viewed self.now)).reset }
     {
-        GenericAddress::from_raw(filled(self.bytes(), places::RESET_REG))
+        let table = self.bytes();
+        match raw_in(table, table.len(), places::RESET_REG) {
+            Some(raw) => GenericAddress::read_raw(raw),
+            None => GenericAddress::from_raw(filled(table, places::RESET_REG)),
+        }
     }
 
     /// RESET_VALUE: the value that resets the machine if it is written to RESET_REG.
@@ -258,13 +282,13 @@ impl<'h, H: Lender> FadtView<'h, H> {
     pub fn sleep_control_register(&self) -> AcpiResult<Option<GenericAddress>>
         ensures { result ≡ register_of (registers_of (viewed self.now)).sleep_control }
     {
-        register_from(extended_address_in(self.bytes(), places::SLEEP_CONTROL_REG))
+        register_from(raw_in(self.bytes(), self.reach, places::SLEEP_CONTROL_REG))
     }
 
     /// SLEEP_STATUS_REG: the register that says how a machine of reduced hardware woke.
     pub fn sleep_status_register(&self) -> AcpiResult<Option<GenericAddress>>
         ensures { result ≡ register_of (registers_of (viewed self.now)).sleep_status }
     {
-        register_from(extended_address_in(self.bytes(), places::SLEEP_STATUS_REG))
+        register_from(raw_in(self.bytes(), self.reach, places::SLEEP_STATUS_REG))
     }
 }

@@ -1,8 +1,8 @@
 //! The blocks of registers of general purpose events, by their length in bytes (section 4.8.4.1).
 ghost use Rattle.std.specs.Prelude.{◌≡◌};
-ghost use Rattle.acpi_fixed.specs.Words.{base_beside, block_from, gpe_of, gpe1_base_of, registers_of};
+ghost use Rattle.acpi_fixed.specs.Words.{base_beside, block_from, extended_of, gpe_of, gpe_with, gpe1_base_of, registers_of};
 
-use super::RegisterBlock;
+use super::BlockFields;
 use crate::fadt::Fadt;
 use acpi_base::AcpiResult;
 use acpi_base::address::{AddressSpace, RawAddress};
@@ -42,25 +42,25 @@ pub(crate) fn base_beside(base: u8, block: AcpiResult<Option<GpeBlock>>) -> Opti
     }
 }
 
-impl RegisterBlock {
+impl BlockFields<'_> {
     /// The block by its length in bytes, or `None` if that is 0 or neither field gives an address.
     ///
-    /// Refuses a reserved space of the extended field with `InvalidGenericAddress`.
-    pub(crate) fn gpe(&self) -> AcpiResult<Option<GpeBlock>>
-        ensures { result ≡ gpe_of self.now }
+    /// Fails with `InvalidGenericAddress` for a reserved space of the extended field.
+    pub(crate) fn gpe(self) -> AcpiResult<Option<GpeBlock>>
+        ensures { result ≡ gpe_with (extended_of self.entry) self.entry.port self.entry.size }
     {
         if self.size == 0 {
             return Ok(None);
         }
-        if let Some(raw) = self.usable_extended() {
-            return Ok(Some(block_from(&raw, self.size)?));
+        if let Some(raw) = self.extended {
+            return Ok(Some(block_from(raw, self.size)?));
         }
-        if self.port() == 0 {
+        if self.port == 0 {
             return Ok(None);
         }
         Ok(Some(GpeBlock {
             space: AddressSpace::SystemIo,
-            address: self.port(),
+            address: self.port as u64,
             byte_length: self.size,
         }))
     }
@@ -79,7 +79,7 @@ impl Fadt {
     pub fn gpe0(&self) -> AcpiResult<Option<GpeBlock>>
         ensures { result ≡ gpe_of (registers_of self.now).gpe0 }
     {
-        self.registers.gpe0.gpe()
+        self.registers.gpe0.fields().gpe()
     }
 
     /// X_GPE1_BLK or GPE1_BLK with GPE1_BLK_LEN: the registers of further general purpose events (sections
@@ -89,7 +89,7 @@ impl Fadt {
     pub fn gpe1(&self) -> AcpiResult<Option<GpeBlock>>
         ensures { result ≡ gpe_of (registers_of self.now).gpe1 }
     {
-        self.registers.gpe1.gpe()
+        self.registers.gpe1.fields().gpe()
     }
 
     /// GPE1_BASE: the number of the first event of `gpe1`, or `None` if there is no such block or it is
