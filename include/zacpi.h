@@ -196,7 +196,9 @@ enum zacpi_status_code {
                                  * 2^32 bytes or more */
     ZACPI_SAME_AS_BUS = 71,     /* an Arm machine's trigger mode or polarity is 0 */
     ZACPI_TOO_MANY_FRAMES = 72, /* a GT Block has more frames than Length can count */
-    ZACPI_BAD_TABLE = 73        /* a listed table's bytes aren't one table */
+    ZACPI_BAD_TABLE = 73,       /* a listed table's bytes aren't one table */
+    ZACPI_HAS_HEADER = 74       /* a DSDT's or an SSDT's AML is the whole table: it begins with the
+                                 * Signature, and a Length that is aml_length */
 };
 
 /* Returns the name of a status, as acpi_view prints it ("MapFailed"), or "Unknown". */
@@ -220,7 +222,7 @@ static inline const char *zacpi_status_name(zacpi_status status) {
         "56:NoIommu\0""57:InvalidTimerLength\0""60:UnknownCode\0"
         "61:NoProcessor\0""62:IdOfAll\0""63:UidOfAll\0"
         "64:BadMatrix\0""65:NoAddress\0""66:BadName\0""67:NoRoom\0""68:TooLong\0""69:BadRegister\0"
-        "70:BadRange\0""71:SameAsBus\0""72:TooManyFrames\0""73:BadTable\0";
+        "70:BadRange\0""71:SameAsBus\0""72:TooManyFrames\0""73:BadTable\0""74:HasHeader\0";
     const char *name = names;
     while (*name) {
         zacpi_status number = 0;

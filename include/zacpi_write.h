@@ -120,7 +120,9 @@ ZACPI_STATUS zacpi_write_xsdt(const struct zacpi_table_ids *ids, const uint64_t 
                               size_t addresses_length, uint8_t *out, size_t capacity,
                               size_t *length);
 /* Write a DSDT, and an SSDT, of these bytes of AML, whose integers have 32 bits by a revision of 1,
- * 64 by 2 (section 5.2.11). Fail with ZACPI_BAD_NAME, ZACPI_NO_ROOM or ZACPI_TOO_LONG. */
+ * 64 by 2 (section 5.2.11). What iasl compiles, as the array of `iasl -tc`, is a whole table, whose
+ * AML is at `+ 36`, after its header, and 36 bytes shorter. Fail with ZACPI_HAS_HEADER,
+ * ZACPI_BAD_NAME, ZACPI_NO_ROOM or ZACPI_TOO_LONG. */
 ZACPI_STATUS zacpi_write_dsdt(const struct zacpi_table_ids *ids, uint8_t revision,
                               const uint8_t *aml, size_t aml_length, uint8_t *out, size_t capacity,
                               size_t *length);
@@ -237,7 +239,7 @@ ZACPI_STATUS zacpi_write_facs(const struct zacpi_facs_contents *contents, uint8_
 /* A whole machine that is written -------------------------------------------------------------- */
 
 struct zacpi_aml_contents {
-    const uint8_t *aml;
+    const uint8_t *aml; /* of what iasl compiles, which has a header, + 36 */
     zacpi_size aml_length;
     uint8_t revision;
 };
@@ -259,16 +261,17 @@ struct zacpi_machine {
  * the DSDT, 128 bytes with the FACS at their first multiple of 64, and the listed tables in order,
  * each table at a multiple of 16 and filled up with zeros to the next. Fails with ZACPI_BAD_TABLE
  * if a listed one has fewer than 36 bytes, a Length that isn't theirs, or a sum that isn't 0,
- * ZACPI_BAD_NAME, ZACPI_TOO_LONG, ZACPI_NO_ROOM, or ZACPI_NO_ADDRESS if `address` is 0 or no
- * multiple of 16, or the memory ends at 2^64 or above. */
+ * ZACPI_BAD_NAME, ZACPI_TOO_LONG of the XSDT, ZACPI_HAS_HEADER of the DSDT, ZACPI_TOO_LONG,
+ * ZACPI_NO_ROOM, or ZACPI_NO_ADDRESS if `address` is 0 or no multiple of 16, or the memory ends at
+ * 2^64 or above. */
 ZACPI_STATUS zacpi_write_tables(const struct zacpi_machine *machine, uint64_t address, uint8_t *out,
                                 size_t capacity, size_t *length);
 /* Writes what zacpi_write_tables writes after the RSDP's 48 bytes, with the XSDT at `address`.
- * Fails with ZACPI_BAD_TABLE, ZACPI_BAD_NAME, ZACPI_TOO_LONG, ZACPI_NO_ROOM or ZACPI_NO_ADDRESS. */
+ * Fails as it does. */
 ZACPI_STATUS zacpi_write_tables_without_rsdp(const struct zacpi_machine *machine, uint64_t address,
                                              uint8_t *out, size_t capacity, size_t *length);
-/* Returns how many bytes zacpi_write_tables writes. Fails with ZACPI_BAD_TABLE, ZACPI_BAD_NAME or
- * ZACPI_TOO_LONG. */
+/* Returns how many bytes zacpi_write_tables writes. Fails with ZACPI_BAD_TABLE, ZACPI_BAD_NAME,
+ * ZACPI_TOO_LONG of the XSDT, ZACPI_HAS_HEADER or ZACPI_TOO_LONG. */
 ZACPI_STATUS zacpi_tables_size(const struct zacpi_machine *machine, size_t *length);
 /* Returns where zacpi_write_tables lays the DSDT for this address and so many listed tables. Fails
  * with ZACPI_NO_ADDRESS if that is 2^64 or above, or an XSDT can't list so many. */

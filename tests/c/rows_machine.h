@@ -188,7 +188,7 @@ static void lay_machines(void) {
 }
 
 static const struct zacpi_listed_table not_listed;
-static const struct zacpi_aml_contents some_aml = {LISTED(code), 2};
+static const struct zacpi_aml_contents some_aml = {LISTED(code), 2}, whole_dsdt = {LISTED(dsdt_bytes), 2};
 
 /* What a call of machines gives for these tables, and the machine's size. */
 static zacpi_status on_machine(const struct zacpi_listed_table *tables, size_t count, size_t dsdts, size_t facs_count,
@@ -218,6 +218,11 @@ MACHINE(an_empty_machine, on_machine(&not_listed, 0, 0, 0, 0x7fe00000, 1, to, ro
 MACHINE(a_machine_of_a_facs, on_machine(&not_listed, 0, 0, 1, 0x7fe00000, 1, to, room, length))
 MACHINE(a_machine_of_firmware, on_two(LISTED(bgrt_bytes), LISTED(spcr_bytes), to, room, length))
 MACHINE(a_machine_of_an_oem, on_machine(&oem_table, 1, 0, 0, 0x7fe00000, 1, to, room, length))
+/* The DSDT's AML is a table, with its header. */
+static zacpi_status a_machine_of_a_whole_dsdt(uint8_t *to, size_t room, size_t *length) {
+    const struct zacpi_machine machine = {*ids, NULL, 0, &whole_dsdt, 1, NULL, 0};
+    return zacpi_write_tables(&machine, 0x7fe00000, to, room, length);
+}
 /* The second table isn't one: it has no whole header, more bytes than its Length says, fewer, or a sum of 0xff. */
 #define NO_TABLE(verb, bytes, size) MACHINE(verb, on_two(LISTED(hpet_bytes), bytes, size, to, room, length))
 NO_TABLE(no_byte_listed, oem_bytes, 0)

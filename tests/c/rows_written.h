@@ -155,6 +155,9 @@ static const uint8_t rsdt_bytes[] = {HEAD('R', 'S', 'D', 'T', 44, 1, 0xf6), 0, 0
 static const uint8_t xsdt_bytes[] = {HEAD('X', 'S', 'D', 'T', 52, 1, 0xc4), 0, 0x10, 0xe0, 0x7f, 0, 0, 0, 0,
     8, 7, 6, 5, 4, 3, 2, 1};
 static const uint8_t dsdt_bytes[] = {HEAD('D', 'S', 'D', 'T', 39, 2, 0xd0), 0xa4, 1, 2};
+/* A DSDT whose AML is all of that one's bytes but the last. */
+static const uint8_t cut_dsdt_bytes[] = {
+    HEAD('D', 'S', 'D', 'T', 74, 2, 0x56), HEAD('D', 'S', 'D', 'T', 39, 2, 0xd0), 0xa4, 1};
 static const uint8_t ssdt_bytes[] = {HEAD('S', 'S', 'D', 'T', 36, 1, 0x6c)};
 static const uint8_t mcfg_bytes[] = {HEAD('M', 'C', 'F', 'G', 76, 1, 0x64), 0, 0, 0, 0, 0, 0, 0, 0,
     0, 0, 0, 0xb0, 0, 0, 0, 0, 0, 0, 0, 255, 0, 0, 0, 0, 0, 0, 0, 0, 0x20, 0, 0, 0, 2, 1, 16, 31, 0, 0, 0, 0};
@@ -251,6 +254,9 @@ WRITE(an_rsdt, rsdt, LISTED(addresses_32))
 WRITE(an_xsdt, xsdt, LISTED(addresses_64))
 WRITE(a_dsdt, dsdt, 2, LISTED(code))
 WRITE(an_ssdt, ssdt, 1, NONE(code))
+WRITE(a_dsdt_with_a_header, dsdt, 2, LISTED(dsdt_bytes))
+WRITE(an_ssdt_with_a_header, ssdt, 1, LISTED(ssdt_bytes))
+WRITE(a_dsdt_of_a_cut_dsdt, dsdt, 2, dsdt_bytes, sizeof dsdt_bytes - 1)
 WRITE(a_tpm2, table, tpm2, 4, LISTED(tpm2_body))
 WRITE(a_bodiless_table, table, oem9, 255, NONE(tpm2_body))
 WRITE(an_mcfg, mcfg, LISTED(buses))
@@ -345,6 +351,9 @@ static const struct written_row {
 #define NOT_WRITTEN(verb, status) {#verb, verb, NULL, 0, status, status}
     WRITTEN(an_rsdp, rsdp_bytes), WRITTEN(an_rsdt, rsdt_bytes), WRITTEN(an_xsdt, xsdt_bytes),
     WRITTEN(a_dsdt, dsdt_bytes), WRITTEN(an_ssdt, ssdt_bytes), WRITTEN(a_tpm2, tpm2_bytes),
+    NOT_WRITTEN(a_dsdt_with_a_header, ZACPI_HAS_HEADER), NOT_WRITTEN(an_ssdt_with_a_header, ZACPI_HAS_HEADER),
+    WRITTEN(a_dsdt_of_a_cut_dsdt, cut_dsdt_bytes),
+    {"a_machine_of_a_whole_dsdt", a_machine_of_a_whole_dsdt, NULL, 0, ZACPI_HAS_HEADER, ZACPI_BAD_NAME},
     WRITTEN(a_bodiless_table, bodiless_bytes), WRITTEN(an_mcfg, mcfg_bytes),
     WRITTEN(an_mcfg_of_none, no_region_bytes), WRITTEN(an_hpet, hpet_bytes),
     WRITTEN(an_unprotected_hpet, unprotected_bytes), WRITTEN(an_hpet_of_64k, protected_64k_bytes),

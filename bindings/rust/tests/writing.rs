@@ -94,6 +94,10 @@ fn writes_roots_and_aml() {
     let regions = [Region::new(ROOT, &memory)];
     let tables = AcpiTables::open_root(&regions, 0, ROOT).unwrap();
     assert_eq!(tables.find(Signature::DSDT).map(|table| table.revision), Ok(2));
+    // The table that was written isn't the AML of one.
+    let whole = Aml { bytes: &memory[0x80..0x80 + 38], ..aml };
+    assert_eq!(whole.write_dsdt(&mut [0; 0x100]), Err(WriteError::HasHeader));
+    assert_eq!(whole.write_ssdt(&mut [0; 0x100]), Ok(74));
 }
 
 /// The FADT of a PC, with each register.

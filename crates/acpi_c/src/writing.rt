@@ -4,7 +4,7 @@ ghost use Rattle.acpi.specs.declared.root.RootKind.TheVariants.{Rsdt, Xsdt};
 ghost use Rattle.acpi.specs.Types.{DSDT, SSDT};
 ghost use Rattle.acpi_c_lib.specs.Words.{AnswersPlain, WritesTable, writer_refused, facs_contents, dsdt_said, machine_said, signature_named, size_said, table_said, tree_said};
 ghost use Rattle.acpi_c_lib.specs.declared.writing.machine.Contents.TheVariants.{Bgrt, Fadt, Gic, Gtdt, Hpet, Madt, Mcfg, Spcr, Srat};
-ghost use Rattle.acpi_writer.specs.Words.{facs_written, root_written, rsdp_written, slit_written, table_written};
+ghost use Rattle.acpi_writer.specs.Words.{aml_written, facs_written, root_written, rsdp_written, slit_written, table_written};
 
 use acpi_c_lib::answer::answer_plain;
 use acpi_c_lib::fixed_records::FixedHardware;
@@ -71,7 +71,7 @@ pub extern "C" fn zacpi_1_write_dsdt(
     count: &mut usize,
 ) -> u32
     ensures { WritesTable result out.old out.new count.old count.new
-        (writer_refused (table_written (length out.old) DSDT revision ids.now aml.now)) }
+        (writer_refused (aml_written (length out.old) DSDT revision ids.now aml.now)) }
 {
     written(write_dsdt(out, ids, revision, aml), count)
 }
@@ -86,7 +86,7 @@ pub extern "C" fn zacpi_1_write_ssdt(
     count: &mut usize,
 ) -> u32
     ensures { WritesTable result out.old out.new count.old count.new
-        (writer_refused (table_written (length out.old) SSDT revision ids.now aml.now)) }
+        (writer_refused (aml_written (length out.old) SSDT revision ids.now aml.now)) }
 {
     written(write_ssdt(out, ids, revision, aml), count)
 }

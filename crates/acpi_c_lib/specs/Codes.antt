@@ -50,6 +50,7 @@ writer_code writer.BadRegister = 69
 writer_code writer.BadRange = 70
 writer_code writer.SameAsBus = 71
 writer_code writer.TooManyFrames = 72
+writer_code writer.HasHeader = 74
 writer_code writer.BadProfile = 99
 writer_code writer.BadCode = 99
 writer_code writer.LongName = 99

@@ -184,6 +184,7 @@ fn writer_code(error: WriterError) -> u32
         WriterError::BadCode => 99,
         WriterError::LongName => 99,
     }
+        WriterError::HasHeader => 74,
 }
 
 /// The number of a refusal of the MADT's entries (section 5.2.12); 99 stands for that which no call returns.

@@ -3,7 +3,7 @@
 use Rattle.std.proofs.Common.{◌≡◌, ℕ, ◌+◌, ◌*◌, ◌<◌, ◌≤◌, Bool, true, false, List, [], ◌∷◌, length, map, Option, Some, Ok, refl, sym, ap, subst, if◌then◌else◌, Result, arith, ◌&&◌, slice_get, bytes_eq}
 use Rattle.acpi_base.proofs.FromStd.{and_parts, le-leb, bytes_eq-Decides}
 use Rattle.acpi_base.proofs.Words.{bind_ok}
-use Rattle.acpi_writer.specs.Words.{AllByRecursion, chars, is_utf8, part, spelling, check_names, check_table, header_at, ◌>>=◌, holds, letters_of, Memory, sdt_kind, Signature, BGRT, FADT, GTDT, HPET, MADT, MCFG, SLIT, SPCR, SRAT, SSDT, AcpiError, IsBgrt, bgrt_body, SaysImage, FitsContents, bytes_of, contents_written, most, or_none, placed, signature_of, fadt_body, fadt_checked, fadt_written, IsFadt, IsGicMadt, gic_body, gic_checked, gic_written, gic_read, IsGtdt, gtdt_body, gtdt_checked, SaysTimers, hpet_body, IsHpet, is_named, check_tables, AreValid, first_at, first_of, place_of, HasFadt, HasTable, Says, platform_read, madt_body, madt_checked, madt_written, IsMadt, model_read, mcfg_body, IsMcfg, IsSlit, slit_body, slit_checked, slit_written, spcr_body, spcr_checked, spcr_written, IsSpcr, SaysConsole, SratContents, srat_body, srat_checked, srat_written, AreIds, IsTableOf, IsValid, table_written, TableContents, Bgrt, Fadt, GicMadt, Gtdt, Hpet, Madt, Mcfg, Slit, Spcr, Srat, Ssdt, WriterError, FadtContents, GtdtContents, TableIds, GicContents, MadtContents, SpcrContents, IsSrat, SaysDomains, BgrtContents, SlitContents, gtdt_written_by, madt_fields, hpet_fields, front_fields, fixed_list, bgrt_fields, gtdt_fields, hpet_of, lookup, found_regions, model_in, platform_of, HpetInfo, found_gic, gtdt_kind, bgrt_at, srat_kind, distance_of}
+use Rattle.acpi_writer.specs.Words.{AllByRecursion, chars, is_utf8, part, spelling, check_names, check_table, header_at, ◌>>=◌, holds, letters_of, Memory, sdt_kind, Signature, BGRT, FADT, GTDT, HPET, MADT, MCFG, SLIT, SPCR, SRAT, SSDT, AcpiError, aml_checked, IsBgrt, bgrt_body, SaysImage, FitsContents, bytes_of, contents_written, most, or_none, placed, signature_of, fadt_body, fadt_checked, fadt_written, IsFadt, IsGicMadt, gic_body, gic_checked, gic_written, gic_read, IsGtdt, gtdt_body, gtdt_checked, SaysTimers, hpet_body, IsHpet, is_named, check_tables, AreValid, first_at, first_of, place_of, HasFadt, HasTable, Says, platform_read, madt_body, madt_checked, madt_written, IsMadt, model_read, mcfg_body, IsMcfg, IsSlit, slit_body, slit_checked, slit_written, spcr_body, spcr_checked, spcr_written, IsSpcr, SaysConsole, SratContents, srat_body, srat_checked, srat_written, AreIds, IsTableOf, IsValid, table_written, TableContents, Bgrt, Fadt, GicMadt, Gtdt, Hpet, Madt, Mcfg, Slit, Spcr, Srat, Ssdt, WriterError, FadtContents, GtdtContents, TableIds, GicContents, MadtContents, SpcrContents, IsSrat, SaysDomains, BgrtContents, SlitContents, gtdt_written_by, madt_fields, hpet_fields, front_fields, fixed_list, bgrt_fields, gtdt_fields, hpet_of, lookup, found_regions, model_in, platform_of, HpetInfo, found_gic, gtdt_kind, bgrt_at, srat_kind, distance_of}
 use Rattle.acpi_writer.proofs.ShortTables.{bgrt_read, hpet_read, mcfg_read, slit_is, slit_read}
 use Rattle.acpi_writer.proofs.Bits.{was_true}
 use Rattle.acpi_writer.proofs.FadtRead.{fadt_read}
@@ -39,7 +39,7 @@ table_of s revision ids body t are e =
     record { ids_fit = are; texts = w.texts; short = w.short; bytes = w.bytes }
 
 -- of contents that are checked first
-checked_table : (checked : Result (Unit {0}) WriterError) (s : Signature) (revision : ℕ) (ids : TableIds)
+pub checked_table : (checked : Result (Unit {0}) WriterError) (s : Signature) (revision : ℕ) (ids : TableIds)
     (body t : List ℕ)
     → AreIds ids → (checked >>= λ _. table_written most s revision ids body) ≡ Ok t
     → IsTableOf s revision ids body t × (checked ≡ Ok tt)
@@ -61,7 +61,8 @@ contents_of ids (Slit c) t are fit e =
     let distances = c.distances.now in
     let both = checked_table (slit_checked n distances) SLIT 1 ids (slit_body n distances) t are e in
     slit_is ids n distances t both.0 fit both.1
-contents_of ids (Ssdt c) t are fit e = table_of SSDT c.revision ids c.bytes.now t are e
+contents_of ids (Ssdt c) t are fit e =
+    (checked_table (aml_checked SSDT c.bytes.now) SSDT c.revision ids c.bytes.now t are e).0
 contents_of ids (Fadt c) t are fit e =
     let both = checked_table (fadt_checked c) FADT 6 ids (fadt_body c) t are e in
     record { written = both.0; fit = fit; checked = both.1 }

@@ -4,9 +4,9 @@ use Rattle.acpi_base.proofs.FromStd.{bytes_eq-Decides, and_parts, le-leb, lt-ltb
 use Rattle.acpi_base.proofs.Words.{bind_ok, holds_ok, same_ok}
 use Rattle.acpi.proofs.Search.{whole_there}
 use Rattle.acpi_image.proofs.Written.{table_is}
-use Rattle.acpi_writer.specs.Words.{AllByRecursion, result_ok, Memory, IsMemory, at, plain_kind, sdt_kind, table_at, letters_of, AcpiError, Signature, DSDT, FADT, XSDT, dsdt_stream, stream_at, stream_of, lookup, facs_place, led_by, range, at_hand, check_rsdp, check_whole, checked_length, rsdp_at, Xsdt, FitsContents, bytes_of, contents_written, most, or_none, FitsFacs, is_named, addresses, gap, laid, padded, rounded, FacsFits, Machine, after_dsdt, check_by, dsdt_address, dsdt_at, dsdt_end, dsdt_length, dsdt_of, dsdt_written, facs_address, facs_at, facs_from, facs_gap, facs_laid, facs_room, listed, machine_by, pointers_of, rest_bytes, size_by, tables_address, tree_by, tree_bytes, tree_size, xsdt_bytes, xsdt_length, HasFacs, IsOpened, IsWritable, MachineIsRead, TreeIsRead, first_at, first_of, place_of, IsRoot, Leads, rsdp_bytes, AreIds, IsValid, are_texts, AmlContents, TableContents, Fadt, BadName, TooLong, FacsContents, FadtContents, TableIds}
+use Rattle.acpi_writer.specs.Words.{AllByRecursion, aml_checked, table_written, result_ok, Memory, IsMemory, at, plain_kind, sdt_kind, table_at, letters_of, AcpiError, Signature, DSDT, FADT, XSDT, dsdt_stream, stream_at, stream_of, lookup, facs_place, led_by, range, at_hand, check_rsdp, check_whole, checked_length, rsdp_at, Xsdt, FitsContents, bytes_of, contents_written, most, or_none, FitsFacs, is_named, addresses, gap, laid, padded, rounded, FacsFits, Machine, after_dsdt, check_by, dsdt_address, dsdt_at, dsdt_end, dsdt_length, dsdt_of, dsdt_written, facs_address, facs_at, facs_from, facs_gap, facs_laid, facs_room, listed, machine_by, pointers_of, rest_bytes, size_by, tables_address, tree_by, tree_bytes, tree_size, xsdt_bytes, xsdt_length, HasFacs, IsOpened, IsWritable, MachineIsRead, TreeIsRead, first_at, first_of, place_of, IsRoot, Leads, rsdp_bytes, AreIds, IsValid, are_texts, AmlContents, TableContents, Fadt, BadName, TooLong, FacsContents, FadtContents, TableIds}
 use Rattle.acpi_writer.proofs.Bits.{is_off}
-use Rattle.acpi_writer.proofs.ContentsRead.{IsContents, all_contents, all_valid, fadt_found, first_found, letters_are, says, table_of}
+use Rattle.acpi_writer.proofs.ContentsRead.{IsContents, all_contents, all_valid, checked_table, fadt_found, first_found, letters_are, says}
 use Rattle.acpi_writer.proofs.Headless.{has_facs, laid_long, rsdp_long, rsdp_read}
 use Rattle.acpi_writer.proofs.LaidRead.{front_lent, laid_found, rest_lent, there}
 use Rattle.acpi_writer.proofs.ShortTables.{dsdt_read, root_read, root_valid}
@@ -80,7 +80,8 @@ dsdt_is_valid : (ids : TableIds) (d : Option AmlContents) (c : AmlContents) (t :
     → dsdt_written ids d ≡ Ok t → IsValid DSDT t
 dsdt_is_valid ids None c t are some e = absurd cc
 dsdt_is_valid ids (Some d) c t are some e =
-    (dsdt_read d.revision ids d.bytes.now t (table_of DSDT d.revision ids d.bytes.now t are e)).valid
+    let both = checked_table (aml_checked DSDT d.bytes.now) DSDT d.revision ids d.bytes.now t are e in
+    (dsdt_read d.revision ids d.bytes.now t both.0).valid
 
 module _ (m : Memory) (rsdp a : ℕ) (x : Machine) (h : IsMemory m) (is : IsWritable a x)
     (first : at m rsdp 36 ≡ Some (rsdp_bytes x.ids.oem_id a)) (e : at m a (tree_size x) ≡ Some (tree_bytes a x)) where
@@ -233,7 +234,8 @@ dsdt_room : (ids : TableIds) (d : Option AmlContents) (t : List ℕ) → AreIds 
     → (length (padded t) ≡ rounded (dsdt_length d)) × (dsdt_length d < 2 ^ 32)
 dsdt_room ids None t are e = (ap (λ b. length (padded b)) (sym (same_ok [] t e)), lit≤ tt)
 dsdt_room ids (Some d) t are e =
-    let w = wrote most DSDT d.revision ids d.bytes.now t e in
+    let written = λ (_ : _). table_written most DSDT d.revision ids d.bytes.now in
+    let w = wrote most DSDT d.revision ids d.bytes.now t (bind_ok (aml_checked DSDT d.bytes.now) written t e).2 in
     (padded_long t ∙ ap rounded (ap length w.bytes ∙ table_length DSDT d.revision ids d.bytes.now refl are), w.short)
 
 module _ (a : ℕ) (x : Machine) (is : IsWritable (a + 48) x) where

@@ -1,7 +1,22 @@
 -- The tables of AML that are written (ACPI 6.4, section 5.2.11).
-use Rattle.std.specs.Prelude.{◌≡◌, ℕ, List, drop}
-use Rattle.acpi_writer.specs.Table.{IsTableOf, IsValid}
-use Rattle.acpi_writer.specs.Types.{Signature, DSDT, SSDT, TableIds}
+use Rattle.std.specs.Prelude.{◌≡◌, ℕ, ◌==◌, ◌&&◌, Bool, not, List, drop, length, Result, bytes_eq}
+use Rattle.acpi_writer.specs.Table.{IsTableOf, IsValid, table_written}
+use Rattle.acpi_writer.specs.Types.{field_of, filled_part, letters_of, ◌>>=◌, holds, Signature, DSDT, SSDT, WriterError, HasHeader, TableIds}
+
+-- whether bytes are a table, as a compiler of AML writes it, and not the AML after its header: they begin with
+-- Signature, and Length, at 4, is how many there are
+abbrev pub has_header : Signature → List ℕ → Bool
+has_header s bytes = bytes_eq (filled_part bytes 0 4) (letters_of s) && (field_of bytes 4 4 == length bytes)
+
+-- they aren't, or the error
+abbrev pub aml_checked : Signature → List ℕ → Result (Unit {0}) WriterError
+aml_checked s aml = holds (not (has_header s aml)) HasHeader
+
+-- the table in so much room, or the first error
+abbrev pub aml_written : ℕ → Signature → ℕ → TableIds → List ℕ → Result (List ℕ) WriterError
+aml_written room s revision ids aml = do
+  _ ← aml_checked s aml
+  table_written room s revision ids aml
 
 -- a table of AML is valid, and its AML, from 36 on, is what was given
 pub record IsAmlOf (s : Signature) (aml table : List ℕ) : Type 0 where

@@ -1,5 +1,6 @@
 -- The bytes of a table that an XSDT can list, by what it is to say.
 use Rattle.std.specs.Prelude.{ℕ, ◌-◌, ◌^◌, ◌<◌, List, [], length, Result, Ok, Err, All}
+use Rattle.acpi_writer.specs.Aml.{aml_written}
 use Rattle.acpi_writer.specs.Bgrt.{FitsBgrt, bgrt_written}
 use Rattle.acpi_writer.specs.Fadt.{fadt_written, FitsFadt}
 use Rattle.acpi_writer.specs.GicMadt.{AreGicFit, gic_written}
@@ -13,7 +14,6 @@ use Rattle.acpi_writer.specs.Slit.{slit_written}
 use Rattle.acpi_writer.specs.Spcr.{spcr_written, FitsSpcr}
 use Rattle.acpi_writer.specs.Srat.{srat_written}
 use Rattle.acpi_writer.specs.Srat as srat
-use Rattle.acpi_writer.specs.Table.{table_written}
 use Rattle.acpi_writer.specs.Types.{Signature, BGRT, FADT, GTDT, HPET, MADT, MCFG, SLIT, SPCR, SRAT, SSDT, TableContents, Bgrt, Fadt, GicMadt, Gtdt, Hpet, Madt, Mcfg, Slit, Spcr, Srat, Ssdt, WriterError, TableIds}
 
 -- all the room that a slice can have
@@ -26,7 +26,7 @@ contents_written ids (Madt c) = madt_written most ids c
 contents_written ids (Mcfg regions) = mcfg_written most ids regions.now
 contents_written ids (Hpet info) = hpet_written most ids info
 contents_written ids (Slit c) = slit_written most ids c.localities c.distances.now
-contents_written ids (Ssdt c) = table_written most SSDT c.revision ids c.bytes.now
+contents_written ids (Ssdt c) = aml_written most SSDT c.revision ids c.bytes.now
 contents_written ids (Fadt c) = fadt_written most ids c
 contents_written ids (Srat c) = srat_written most ids c
 contents_written ids (Spcr c) = spcr_written most ids c

@@ -2,12 +2,13 @@
 -- which are things that are written as tables.
 use Rattle.std.specs.Prelude.{◌≡◌, ℕ, ◌+◌, ◌-◌, ◌*◌, ◌^◌, ◌%◌, ◌<◌, ◌==◌, ◌&&◌, Bool, true, not, if◌then◌else◌, List, [], ◌∷◌, ◌++◌, length, map, nat_le, nat_lt, replicate, Option, Some, None, Result, Ok, All}
 use Rattle.acpi_writer.specs.Types.{Xsdt, AmlContents, TableContents, WriterError, BadName, NoAddress, NoRoom, TooLong, FacsContents, TableIds, ◌>>=◌, holds, DSDT, XSDT}
+use Rattle.acpi_writer.specs.Aml.{aml_written}
 use Rattle.acpi_writer.specs.Contents.{Written, bytes_by, contents_written, most, or_none}
 use Rattle.acpi_writer.specs.Facs.{FitsFacs, facs_bytes}
 use Rattle.acpi_writer.specs.Laid.{addresses, laid, padded, rounded}
 use Rattle.acpi_writer.specs.Root.{root_body}
 use Rattle.acpi_writer.specs.Rsdp.{rsdp_bytes}
-use Rattle.acpi_writer.specs.Table.{AreIds, are_texts, table_bytes, table_written}
+use Rattle.acpi_writer.specs.Table.{AreIds, are_texts, table_bytes}
 use Rattle.acpi_writer.specs.declared.machine.Machine as declared
 
 -- a machine of things of a type, and one of contents
@@ -22,7 +23,7 @@ Machine = MachineOf TableContents
 -- the DSDT, which has no bytes if there is none, or its first error
 abbrev pub dsdt_written : TableIds → Option AmlContents → Result (List ℕ) WriterError
 dsdt_written ids None = Ok []
-dsdt_written ids (Some c) = table_written most DSDT c.revision ids c.bytes.now
+dsdt_written ids (Some c) = aml_written most DSDT c.revision ids c.bytes.now
 
 abbrev pub dsdt_of : {A : Type 0} → MachineOf A → List ℕ
 dsdt_of m = or_none (dsdt_written m.ids m.dsdt)

@@ -23,7 +23,7 @@ pub use Rattle.acpi_writer.specs.declared.contents.AmlContents.{AmlContents}
 pub use Rattle.acpi_writer.specs.declared.contents.TableContents.{TableContents}
 pub use Rattle.acpi_writer.specs.declared.contents.TableContents.TheVariants.{Bgrt, Fadt, GicMadt, Gtdt, Hpet, Madt, Mcfg, Slit, Spcr, Srat, Ssdt}
 pub use Rattle.acpi_writer.specs.declared.error.WriterError.{WriterError}
-pub use Rattle.acpi_writer.specs.declared.error.WriterError.TheVariants.{BadCode, BadMatrix, BadName, BadProfile, BadRange, BadRegister, IdOfAll, LongName, NoAddress, NoProcessor, NoRoom, SameAsBus, TooLong, TooManyFrames, UidOfAll}
+pub use Rattle.acpi_writer.specs.declared.error.WriterError.TheVariants.{BadCode, BadMatrix, BadName, BadProfile, BadRange, BadRegister, HasHeader, IdOfAll, LongName, NoAddress, NoProcessor, NoRoom, SameAsBus, TooLong, TooManyFrames, UidOfAll}
 pub use Rattle.acpi_writer.specs.declared.facs.FacsContents.{FacsContents}
 pub use Rattle.acpi_writer.specs.declared.fadt.contents.FadtContents.{FadtContents}
 pub use Rattle.acpi_writer.specs.declared.fadt.contents.FadtHardware.{FadtHardware}

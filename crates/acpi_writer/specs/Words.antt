@@ -1,5 +1,5 @@
 -- This crate's words: what proofs, contracts and the crates above bring in from its specs.
-pub use Rattle.acpi_writer.specs.Aml.{DsdtIsRead, SsdtIsRead}
+pub use Rattle.acpi_writer.specs.Aml.{DsdtIsRead, SsdtIsRead, aml_checked, aml_written, has_header}
 pub use Rattle.acpi_writer.specs.Arm.{base_checked, flags_of, has_polarity, has_trigger, is_edge, is_low, modes_checked}
 pub use Rattle.acpi_writer.specs.Bgrt.{BgrtIsRead, BgrtIsValid, IsBgrt, SaysImage, bgrt_body, bgrt_written, degrees_of, orientation_code}
 unfoldable pub use Rattle.acpi_writer.specs.Bgrt.{bgrt_fields}

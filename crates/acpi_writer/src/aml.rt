@@ -1,19 +1,22 @@
 //! Tables of AML: the DSDT (section 5.2.11.1) and SSDTs (section 5.2.11.2), from AML bytes, taken as they are.
-ghost use Rattle.std.specs.Prelude.{◌≡◌, length, take, IfOk, Ok};
-ghost use Rattle.acpi_writer.specs.Words.{Gives, DSDT, SSDT, IsTableOf, Keeps, table_written};
+ghost use Rattle.std.specs.Prelude.{◌≡◌, length, take, IfOk};
+ghost use Rattle.acpi_writer.specs.Words.{Gives, DSDT, SSDT, IsTableOf, Keeps, aml_checked, aml_written, has_header};
 
+use crate::checked::require;
 use crate::contents::AmlContents;
 use crate::error::WriterError;
 use crate::ids::TableIds;
 use crate::spelled::Bytes;
-use crate::table::{Table, write_table};
+use crate::table::{Table, write};
 use acpi_base::Signature;
+use acpi_base::bytes::{field, filled};
 
 /// Writes a DSDT to the front of a slice, and returns how many bytes it has: 36, and the AML bytes. By a revision of 1
 /// AML's integers have 32 bits, by one of 2 they have 64.
 ///
-/// Returns, in this order, `BadName` if a name of the ids is not valid UTF-8, `NoRoom` if the slice is shorter than
-/// the table, and `TooLong` if the table has 2^32 bytes or more.
+/// Returns, in this order, `HasHeader` if the bytes begin with a DSDT's Signature, and with a Length that is how many
+/// there are (what `iasl` compiles is AML from byte 36 on), `BadName` if a name of the ids is not valid UTF-8, `NoRoom`
+/// if the slice is shorter than the table, and `TooLong` if the table has 2^32 bytes or more.
 pub fn write_dsdt(
     out: &mut [u8],
     ids: &TableIds,
@@ -22,18 +25,18 @@ pub fn write_dsdt(
 ) -> Result<usize, WriterError>
     // The bytes, or the first error, are those that are defined.
     ensures exact { Gives (λ n. take n out.new) result
-        (table_written (length out.old) DSDT revision ids.now aml.now) }
+        (aml_written (length out.old) DSDT revision ids.now aml.now) }
     // What stands after the table is unchanged, and after an error the whole slice is.
     ensures keeps { Keeps result out.old out.new }
     // The bytes are such a table, so that it is valid and its AML is what was given (`tables_are_read`).
     ensures fits { IfOk result (λ n. IsTableOf DSDT revision ids.now aml.now (take n out.new)) }
 {
-    write_table(out, Signature::DSDT, revision, ids, &Bytes(aml))
+    write(out, ids, &Aml::of(Signature::DSDT, revision, aml))
 }
 
 /// Writes an SSDT to the front of a slice, as `write_dsdt` writes a DSDT.
 ///
-/// Returns, in this order, `BadName`, `NoRoom` and `TooLong`, as `write_dsdt` does.
+/// Returns, in this order, `HasHeader`, by an SSDT's Signature, `BadName`, `NoRoom` and `TooLong`, as `write_dsdt` does.
 pub fn write_ssdt(
     out: &mut [u8],
     ids: &TableIds,
@@ -42,25 +45,41 @@ pub fn write_ssdt(
 ) -> Result<usize, WriterError>
     // The bytes, or the first error, are those that are defined.
     ensures exact { Gives (λ n. take n out.new) result
-        (table_written (length out.old) SSDT revision ids.now aml.now) }
+        (aml_written (length out.old) SSDT revision ids.now aml.now) }
     // What stands after the table is unchanged, and after an error the whole slice is.
     ensures keeps { Keeps result out.old out.new }
     // The bytes are such a table, so that it is valid and its AML is what was given (`tables_are_read`).
     ensures fits { IfOk result (λ n. IsTableOf SSDT revision ids.now aml.now (take n out.new)) }
 {
-    write_table(out, Signature::SSDT, revision, ids, &Bytes(aml))
+    write(out, ids, &Aml::of(Signature::SSDT, revision, aml))
 }
 
 /// A table of AML with this signature.
 #[derive(Clone, Copy)]
 pub(crate) struct Aml<'a>(pub(crate) Signature, pub(crate) AmlContents<'a>);
 
+impl<'a> Aml<'a> {
+    fn of(signature: Signature, revision: u8, bytes: &'a [u8]) -> Aml<'a>
+        ensures { (result.0 ≡ signature) × (result.1.revision ≡ revision) × (result.1.bytes.now ≡ bytes.now) }
+    {
+        Aml(signature, AmlContents { revision, bytes })
+    }
+}
+
+/// Whether bytes are a table of this signature, with its header.
+fn has_header(signature: Signature, bytes: &[u8]) -> bool
+    ensures { result ≡ has_header signature bytes.now }
+{
+    let first = Signature::from_bytes(filled(bytes, 0));
+    first == signature && field(bytes, 4, 4) == bytes.len() as u64 // Length
+}
+
 impl<'a> Table for Aml<'a> {
     type Body = Bytes<'a>;
 
     ghost head_of = { λ t. (t.0, t.1.revision) };
 
-    ghost checked = { λ _. Ok tt };
+    ghost checked = { λ t. aml_checked t.0 t.1.bytes.now };
 
     ghost body_of = { λ t. t.1.bytes.now };
 
@@ -71,7 +90,7 @@ impl<'a> Table for Aml<'a> {
     }
 
     fn check(&self) -> Result<(), WriterError> {
-        Ok(())
+        require(!has_header(self.0, self.1.bytes), WriterError::HasHeader)
     }
 
     fn body(&self) -> Bytes<'a> {

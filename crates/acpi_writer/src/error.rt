@@ -20,6 +20,8 @@ pub enum WriterError {
     BadRegister,
     /// OEMID, OEM Table ID or Creator ID is not valid UTF-8.
     BadName,
+    /// The bytes that were given as a table's AML are a whole table, with its header.
+    HasHeader,
     /// The slice ends before the table does.
     NoRoom,
     /// The table has 2^32 bytes or more, which its field Length can't say.

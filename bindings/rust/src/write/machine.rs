@@ -32,7 +32,7 @@ impl<'a> Machine<'a> {
     /// bytes were written.
     ///
     /// Fails with `BadTable` if a listed one has fewer than 36 bytes, another number of them than its Length, or a sum
-    /// that isn't 0; `BadName`; `TooLong`; `NoRoom`; `NoAddress` if the address is 0 or no multiple of 16, or the
+    /// that isn't 0; `BadName`; `TooLong` of the XSDT; `HasHeader` of the DSDT; `TooLong`; `NoRoom`; `NoAddress` if the address is 0 or no multiple of 16, or the
     /// address after the last byte is 2^64 or above.
     pub fn write(&self, address: u64, memory: &mut [u8]) -> Result<usize, WriteError> {
         raw::with_machine(self, |machine| raw::zacpi_1_write_tables(machine, address, memory))

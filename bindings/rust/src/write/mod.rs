@@ -109,6 +109,8 @@ errors! {
     72 = TooManyFrames,
     /// A listed table whose bytes aren't one table.
     73 = BadTable,
+    /// The AML of a DSDT or an SSDT is the whole table, with its header: what `iasl` compiles is AML from byte 36 on.
+    74 = HasHeader,
 }
 
 /// Its name.

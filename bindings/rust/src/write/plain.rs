@@ -64,7 +64,7 @@ pub struct Aml<'a> {
     pub ids: TableIds,
     /// Revision: by 1 AML's integers have 32 bits, by 2 they have 64.
     pub revision: u8,
-    /// The AML after the header.
+    /// The AML after the header: of what `iasl` compiles the bytes from 36 on.
     pub bytes: &'a [u8],
 }
 
@@ -74,12 +74,12 @@ impl Aml<'_> {
         HEADER + self.bytes.len()
     }
 
-    /// Writes it as a DSDT. Fails with `BadName`, `NoRoom` or `TooLong`.
+    /// Writes it as a DSDT. Fails with `HasHeader`, `BadName`, `NoRoom` or `TooLong`.
     pub fn write_dsdt(&self, memory: &mut [u8]) -> Result<usize, WriteError> {
         raw::zacpi_1_write_dsdt(&self.ids, self.revision, self.bytes, memory)
     }
 
-    /// Writes it as an SSDT. Fails with `BadName`, `NoRoom` or `TooLong`.
+    /// Writes it as an SSDT. Fails with `HasHeader`, `BadName`, `NoRoom` or `TooLong`.
     pub fn write_ssdt(&self, memory: &mut [u8]) -> Result<usize, WriteError> {
         raw::zacpi_1_write_ssdt(&self.ids, self.revision, self.bytes, memory)
     }
