@@ -934,7 +934,7 @@ struct zacpi_gic_distributor { /* GIC Distributor (GICD), section 5.2.12.15 */
 struct zacpi_gic_cpu_interface { /* GIC CPU Interface (GICC), section 5.2.12.14. An address or
                                   * interrupt of 0 is none. Flags: bit 0 is_enabled, 1
                                   * performance_trigger, 2 maintenance_trigger, 3 (since ACPI 6.5)
-                                  * is_online_capable */
+                                  * is_online_capable, 0 below revision 6 */
     zacpi_u64 mpidr;
     zacpi_u64 parked_address;          /* the parking protocol's mailbox */
     zacpi_u64 address;                 /* Physical Base Address */

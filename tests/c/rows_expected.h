@@ -448,7 +448,7 @@ static const struct row rows[] = {
          1, 1, ZACPI_TRIGGER_EDGE, ZACPI_TRIGGER_LEVEL, 9,
          3, 0, 0, 0, 0, 0, 4, 18, 0, 0, 0, 0, 0, 0, 0, ZACPI_TRIGGER_LEVEL, ZACPI_TRIGGER_EDGE, 0),
     GOOD(list_gic_cpu_interfaces, OLD, NULL, NO, 1, 0, 0, 0, 0, 0, 0, 0, 0, 0, 0, 0, 21, 0,
-         0, 1, ZACPI_TRIGGER_LEVEL, ZACPI_TRIGGER_LEVEL, 0),
+         0, 0, ZACPI_TRIGGER_LEVEL, ZACPI_TRIGGER_LEVEL, 0),
     GOOD(list_gic_cpu_interfaces, HALF, NULL, NO, 2,
          0, 0, 0, 0, 0, 0, 0, 0, 0, 0, 0, 0, 0, 0, 0, ZACPI_TRIGGER_LEVEL, ZACPI_TRIGGER_LEVEL, 0,
          0, 0, 0, 0, 0, 0, 0, 0, 0, 0, 0, 0x15, 0, 0, 0, ZACPI_TRIGGER_LEVEL, ZACPI_TRIGGER_LEVEL, 0),

@@ -156,7 +156,7 @@ PUTS(madt_riscv_cut, {44, 2, HEADER(0x18, 19)}, {63, 2, HEADER(0x19, 15)}, {78, 
      {170, 2, HEADER(0x18, 20)}, {170 + 8, 8, 5} /* Hart ID */);
 /* A distributor, and one byte after it in which no entry begins. */
 PUTS(madt_cut, {44, 2, HEADER(0x0c, 24)});
-/* Revision 5, in which a GICC has no TRBE Interrupt. */
+/* Revision 5, in which a GICC has neither Online Capable nor TRBE Interrupt. */
 PUTS(madt_old,
     {44, 2, HEADER(0x0c, 24)}, {68, 2, HEADER(0x0b, 82)}, {68 + 12, 4, 8} /* Flags: Online Capable */,
     {68 + 78, 2, 21} /* SPE overflow Interrupt */, {68 + 80, 2, 22} /* TRBE Interrupt */);

@@ -52,7 +52,7 @@ pub struct GicCpuInterface {
     pub processor_uid: u32,
     /// Enabled, bit 0 of Flags.
     pub is_enabled: bool,
-    /// Online Capable, bit 3 of Flags, since ACPI 6.5.
+    /// Online Capable, bit 3 of Flags, since ACPI 6.5. False below revision 6 of the MADT.
     pub is_online_capable: bool,
     /// Physical Base Address: of the interface's registers.
     pub address: Option<u64>,

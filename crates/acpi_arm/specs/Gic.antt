@@ -1,6 +1,6 @@
 -- The interrupt controller of an Arm machine: what the entries of the MADT say together of its GIC
 -- (ACPI 6.4, sections 5.2.12.14 to 5.2.12.18).
-use Rattle.std.specs.Prelude.{ℕ, ◌+◌, ◌<◌, not, List, length, slice_get, Option, Some, None, Result, Ok, Err, if◌then◌else◌, filter_map, option_map}
+use Rattle.std.specs.Prelude.{ℕ, ◌+◌, ◌<◌, ◌&&◌, nat_le, not, List, length, slice_get, Option, Some, None, Result, Ok, Err, if◌then◌else◌, filter_map, option_map}
 use Rattle.acpi_base.specs.Words.{has_bit, field_of, shown_of, cut_of, entries_of, is_left, Memory, ◌>>=◌, holds}
 use Rattle.acpi.specs.Types.{AcpiError, InvalidMadt, InvalidEntryLength, MadtEntry, GicMsiFrameEntry, GiccEntry}
 use Rattle.acpi_base.specs.declared.tables.madt.entry.MadtEntry.TheVariants as kinds
@@ -25,14 +25,15 @@ distributor_in (kinds.Gicd e) = Some (record {
 })
 distributor_in _ = None
 
--- GICC CPU Interface Flags (section 5.2.12.14): of bits 1 and 2 a 1 is Edge; bit 3 came with ACPI 6.5
+-- GICC CPU Interface Flags (section 5.2.12.14): of bits 1 and 2 a 1 is Edge; bit 3 came with ACPI 6.5, which is revision
+-- 6 of the MADT, and is reserved below
 abbrev pub cpu_interface_of : ℕ → GiccEntry → GicCpuInterface
 cpu_interface_of revision e = record {
   number = e.cpu_interface_number;
   processor_uid = e.processor_uid;
   mpidr = e.mpidr;
   is_enabled = has_bit e.flags 0;  -- bit 0: Enabled
-  is_online_capable = has_bit e.flags 3;  -- bit 3: Online Capable
+  is_online_capable = nat_le 6 revision && has_bit e.flags 3;  -- bit 3: Online Capable
   performance_interrupt = e.performance_interrupt_gsiv;
   performance_trigger = trigger_in e.flags 1;  -- bit 1: Performance Interrupt Mode
   parking_protocol_version = e.parking_protocol_version;

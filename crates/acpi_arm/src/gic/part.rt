@@ -34,7 +34,7 @@ pub struct GicCpuInterface {
     /// Enabled (bit 0 of the flags): the processor can be used.
     pub is_enabled: bool,
     /// Online Capable (bit 3 of the flags, since ACPI 6.5): a processor that isn't enabled can be enabled
-    /// later.
+    /// later. False for a MADT below revision 6, in which the bit is reserved.
     pub is_online_capable: bool,
     /// Performance Interrupt GSIV: the interrupt of the performance counters. 0: there is none.
     pub performance_interrupt: u32,
@@ -208,7 +208,7 @@ fn cpu_interface_of(entry: &GiccEntry, revision: u8) -> GicCpuInterface
         mpidr: entry.mpidr,
         is_enabled: has_bit(entry.flags as u64, 0), // Enabled
         // Online Capable, since ACPI 6.5.
-        is_online_capable: has_bit(entry.flags as u64, 3),
+        is_online_capable: revision >= 6 && has_bit(entry.flags as u64, 3),
         performance_interrupt: entry.performance_interrupt_gsiv,
         performance_trigger: trigger_in(entry.flags, 1), // Performance Interrupt Mode
         parking_protocol_version: entry.parking_protocol_version,
