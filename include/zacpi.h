@@ -1276,10 +1276,12 @@ struct zacpi_ivrs_memory { /* I/O Virtualization Memory Definition (IVMD) */
     uint8_t flags;      /* of enum zacpi_ivmd_flag */
 };
 
-struct zacpi_ivrs_entry { /* a device entry; a field that its Type lacks is 0 */
+struct zacpi_ivrs_entry { /* a device entry; a field that its Type lacks is 0. Padding, Types 0 and
+                           * 0x40, has entry_type alone */
     zacpi_size unique_id_length; /* `unique_id` has the first 32 bytes of Unique ID, and zeros */
     uint32_t extended_settings;
-    uint16_t first, last;    /* DeviceID; of a range, that of its end */
+    uint16_t first, last;    /* DeviceID; of a range, that of its end. 0 and 0xffff for all devices,
+                              * Type 1 */
     uint16_t source_id;      /* Source DeviceID of Types 0x42, 0x43 and 0x48 */
     uint8_t entry_type, settings;
     uint8_t handle, variety; /* of Type 0x48, and those below of 0xf0 */

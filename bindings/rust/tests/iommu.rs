@@ -137,10 +137,14 @@ fn reads_an_ivrs() {
     });
     // Type 0x10 has no image, and an entry for all devices. Then a byte after the fixed fields.
     let mut memory = Memory::rsdt(&[TABLE]);
-    memory.table(TABLE, "IVRS", 2, 76, &[(48, 4, 0x1c_0010), (72, 1, 1)]);
+    memory.table(TABLE, "IVRS", 2, 76, &[(48, 4, 0x1c_0010), (72, 4, 0xd700_0901)]);
     memory.ask(|tables| {
-        let device = tables.find_table::<Ivrs>().unwrap().block_for(0, 0x1234).unwrap().unwrap();
+        let ivrs = tables.find_table::<Ivrs>().unwrap();
+        let device = ivrs.block_for(0, 0x1234).unwrap().unwrap();
         assert_eq!((device.unit.extended_features, device.source_id), (None, 0x1234));
+        let mut entries = [Slot::default(); 1];
+        let all = ivrs.entries(0, &mut entries).unwrap().unwrap().get(0).unwrap();
+        assert_eq!((all.entry_type, all.first, all.last, all.settings), (1, 0, 0xffff, 0xd7));
     });
     let mut memory = Memory::rsdt(&[TABLE]);
     memory.table(TABLE, "IVRS", 2, 49, &[]);

@@ -44,15 +44,24 @@ entries_of b = (entries_cut b).0
 
 -- ---- one entry
 
+-- padding, of 4 bytes or of 8: type 0 or 0x40
+abbrev pub is_padding : List ℕ → Bool
+is_padding e = (entry_kind e == 0) || (entry_kind e == 0x40)
+
+-- DeviceID, at 1; all devices, a special device and padding have none: 0
 abbrev pub first_id : List ℕ → ℕ
-first_id e = field_of e 1 2  -- DeviceID
+first_id e = if is_padding e || (entry_kind e == 1) || (entry_kind e == 0x48) then 0 else field_of e 1 2
 
--- the last one of a range: DeviceID of its end; of others the first
+-- the last one of a range: DeviceID of its end; of all devices 0xffff; of others the first
 abbrev pub last_id : List ℕ → ℕ
-last_id e = if is_start e then field_of e (own_size e + 1) 2 else first_id e
+last_id e =
+    if is_start e then field_of e (own_size e + 1) 2
+    else if entry_kind e == 1 then 0xffff
+    else first_id e
 
+-- DTE Setting, at 3; padding has none: 0
 abbrev pub settings_of : List ℕ → ℕ
-settings_of e = field_of e 3 1  -- DTE Setting
+settings_of e = if is_padding e then 0 else field_of e 3 1
 
 abbrev pub source_id : List ℕ → ℕ
 source_id e = field_of e 5 2  -- Source DeviceID

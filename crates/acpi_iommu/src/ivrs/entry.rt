@@ -42,29 +42,36 @@ impl<'a> DeviceEntry<'a> {
         kind_of(self.bytes)
     }
 
-    /// DeviceID: the device, or the first of a range.
+    /// DeviceID: the device, or the first of a range. 0 of all devices, a special device and padding, types 0 and 0x40,
+    /// which have none.
     pub fn first(&self) -> u16
         ensures { result ≡ first_id (bytes_of_entry self.now) }
     {
-        field(self.bytes, 1, 2) as u16 // DeviceID
-    }
-
-    /// The last device of a range, DeviceID of its end, or of another entry `first`.
-    pub fn last(&self) -> u16
-        ensures { result ≡ last_id (bytes_of_entry self.now) }
-    {
-        if is_start(self.bytes) {
-            field(self.bytes, own_size(self.bytes) + 1, 2) as u16 // DeviceID of the end
-        } else {
-            self.first()
+        match self.kind() {
+            0 | 1 | 0x40 | 0x48 => 0,
+            _ => field(self.bytes, 1, 2) as u16, // DeviceID
         }
     }
 
-    /// DTE Setting: how the unit treats what the devices send.
+    /// The last device of a range, DeviceID of its end. 0xffff of all devices, and of another entry `first`.
+    pub fn last(&self) -> u16
+        ensures { result ≡ last_id (bytes_of_entry self.now) }
+    {
+        match self.kind() {
+            3 | 0x43 | 0x47 => field(self.bytes, own_size(self.bytes) + 1, 2) as u16, // DeviceID of the end
+            1 => 0xffff,
+            _ => self.first(),
+        }
+    }
+
+    /// DTE Setting: how the unit treats what the devices send. 0 of padding, which has none.
     pub fn settings(&self) -> u8
         ensures { result ≡ settings_of (bytes_of_entry self.now) }
     {
-        field(self.bytes, 3, 1) as u8 // DTE Setting
+        match self.kind() {
+            0 | 0x40 => 0,
+            _ => field(self.bytes, 3, 1) as u8, // DTE Setting
+        }
     }
 
     /// Source DeviceID of an alias, types 0x42 and 0x43: the id by which the unit knows the devices. `None` of other
