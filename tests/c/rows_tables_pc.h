@@ -149,10 +149,10 @@ PUTS(madt_first,
     {44, 2, HEADER(9, 16)}, {44 + 4, 4, 7} /* X2APIC ID */, {44 + 8, 4, 1} /* Flags: Enabled */,
     {44 + 12, 4, 8} /* ACPI Processor UID */,
     {60, 2, HEADER(0, 8)}, {60 + 2, 1, 6} /* ACPI Processor UID */, {60 + 3, 1, 5} /* APIC ID; not Enabled */);
-/* An entry of a reserved type and one of waking: no APICs. */
+/* An entry of the first reserved type and one of waking, of the last that isn't: no APICs. */
 PUTS(madt_unknown,
     {36, 4, 0xfee04000} /* Local Interrupt Controller Address */, {40, 4, 1} /* Flags: PCAT_COMPAT */,
-    {44, 2, HEADER(0x80, 4)}, {48, 2, HEADER(0x10, 16)});
+    {44, 2, HEADER(0x11, 4)}, {48, 2, HEADER(0x10, 16)});
 PUTS(madt_sapic, {44, 2, HEADER(6, 16)});
 /* Two processors, and between them a Local SAPIC, which is at fault. */
 PUTS(madt_sapic_between,
