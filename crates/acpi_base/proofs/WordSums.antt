@@ -46,7 +46,7 @@ sum-cons = sum_by-cons (λ x. x)
 with_eight : (whole even : ℕ) (before xs : List ℕ) → length xs ≡ 8 → Each1 (Fits w8) xs → length before + 8 ≤ 2048
     → AddsUpInWords whole even before
     → AddsUpInWords ((whole + number xs) % 2 ^ 64) ((even + bit_and (number xs) 71777214294589695) % 2 ^ 64)
-        (before ++ xs)
+    (before ++ xs)
 with_eight whole even before [] long fit room sums = absurd (omega arith)
 with_eight whole even before (a ∷ []) long fit room sums = absurd (omega arith)
 with_eight whole even before (a ∷ b ∷ []) long fit room sums = absurd (omega arith)
