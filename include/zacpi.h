@@ -850,7 +850,7 @@ ZACPI_STATUS zacpi_mailbox_address(const struct zacpi_source *source, uint64_t *
 struct zacpi_entry_fault {
     zacpi_u64 address;   /* of the entry, or where none begins */
     uint32_t status;     /* its error */
-    uint16_t entry_type; /* Type there; 0 at the table's end */
+    uint16_t entry_type; /* Type of the entry, or there; 0 at the table's end */
 };
 /* Lists the entries with a ZACPI_MADT_ error (of several the least), and last, if bytes are left,
  * where none begins. Fails with an opening error, or ZACPI_TABLE_MISSING "APIC". */
@@ -1039,9 +1039,11 @@ ZACPI_STATUS zacpi_list_watchdogs(const struct zacpi_source *source, struct zacp
                                   size_t capacity, size_t *count,
                                   struct zacpi_signature *signature);
 
-/* Lists the GT Blocks with frames that don't lie in them, and last, if structures are missing,
- * where none begins; below revision 2 none. Fails with an opening error, or ZACPI_TABLE_MISSING
- * "GTDT". */
+/* Lists where none begins: of each GT Block with frames that don't lie in it, no frame, after those
+ * that do or else at GT Block Timer Offset, at most at the block's end; and last, if structures are
+ * missing, no structure, after those before or else at Platform Timer Offset, at most at the
+ * table's end. entry_type is 0 if Platform Timer Offset is below 96. Below revision 2 there is no
+ * item. Fails with an opening error, or ZACPI_TABLE_MISSING "GTDT". */
 ZACPI_STATUS zacpi_list_gtdt_faults(const struct zacpi_source *source,
                                     struct zacpi_entry_fault *out, size_t capacity, size_t *count,
                                     struct zacpi_signature *signature);

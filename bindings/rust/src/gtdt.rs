@@ -191,8 +191,8 @@ impl<'k> Gtdt<'k> {
         self.tables.list(raw::zacpi_1_list_watchdogs)
     }
 
-    /// The blocks with frames that don't lie in them and, last, the first byte at which no structure begins, if there
-    /// are fewer structures than the table counts. None below revision 2 of the table.
+    /// The first byte at which no frame begins, of each block with frames that don't lie in it, and, last, that at which
+    /// no structure begins, if there are fewer structures than the table counts. None below revision 2 of the table.
     pub fn faults(&self) -> Listing<'k, EntryFault> {
         self.tables.list(raw::zacpi_1_list_gtdt_faults)
     }

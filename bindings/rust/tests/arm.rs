@@ -143,6 +143,17 @@ fn reads_generic_timers() {
         let mut room = [Slot::default(); 2];
         assert_eq!(timers.faults().fill(&mut room).unwrap().iter().collect::<Vec<_>>(), [fault]);
     });
+    // A block of 60 bytes whose frame of 40 begins at its byte 21, and structures from 95 on, in the table's fixed bytes.
+    for (offset, at) in [(96, 117), (95, 95)] {
+        let mut memory = Memory::rsdt(&[TABLE]);
+        let block = [(88, 4, 1), (92, 4, offset), (97, 2, 60), (108, 4, 1), (112, 4, 21)];
+        memory.table(TABLE, "GTDT", 2, 156, &block);
+        memory.ask(|tables| {
+            let fault = EntryFault { address: TABLE + at, entry_type: 0, refusal: AcpiError::InvalidTimerLength };
+            let timers = tables.find_table::<Gtdt>().unwrap();
+            assert!(timers.faults().fill(&mut [Slot::default(); 2]).unwrap().iter().eq([fault]));
+        });
+    }
     let missing = AcpiError::TableMissing(Signature::GTDT);
     Memory::rsdt(&[]).ask(|tables| assert_eq!(tables.find_table::<Gtdt>().unwrap_err(), missing));
 }

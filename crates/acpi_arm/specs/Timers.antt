@@ -71,6 +71,10 @@ abbrev pub frames_there : List ℕ → ℕ
 frames_there e =
     if nat_lt (frames_offset e) 20 then 0 else min (frame_count e) ((length e - frames_offset e) / 40)
 
+-- where in the block no further frame begins, from its first byte on; at most at its end
+abbrev pub frames_end : List ℕ → ℕ
+frames_end e = min (frames_offset e + 40 * frames_there e) (length e)
+
 -- the first n of them
 abbrev pub first_frames : ℕ → List ℕ → List GtFrame
 first_frames n e = frames_in n (drop (frames_offset e) e)
@@ -123,7 +127,11 @@ timer_there e = timer_with (frames_there e) e
 abbrev pub timer_count : List ℕ → ℕ
 timer_count table = if nat_lt (field_of table 8 1) 2 then 0 else field_of table 88 4
 
--- Platform Timer Offset, at 92: the bytes from which on they lie; they can't begin in the first 96 bytes
+-- Platform Timer Offset, at 92: where in the table they begin; at most at its end
+abbrev pub timers_offset : List ℕ → ℕ
+timers_offset table = min (field_of table 92 4) (length table)
+
+-- the bytes from there on; they can't begin in the first 96 bytes
 abbrev pub timer_bytes : List ℕ → List ℕ
 timer_bytes table =
     if nat_lt (field_of table 92 4) 96 then [] else drop (field_of table 92 4) table

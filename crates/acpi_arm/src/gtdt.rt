@@ -7,8 +7,8 @@ pub use crate::frames::{GtFrame, GtFrameIter, TimerInterrupt};
 use crate::interrupt::{polarity_in, trigger_in, unless_ones};
 pub use crate::structures::TimerStructureIter;
 pub use crate::timers::{
-    GtBlock, PlatformTimer, PlatformTimerIter, SbsaWatchdog, is_sound, timer_bytes, timer_count,
-    timers_grammar,
+    GtBlock, PlatformTimer, PlatformTimerIter, SbsaWatchdog, frames_end, is_sound, timer_bytes,
+    timer_count, timers_grammar, timers_offset,
 };
 use acpi_base::bytes::{field_in, has_bit, u32_in};
 use acpi_base::extended::ExtendedField;

@@ -1,6 +1,6 @@
 //! The Platform Timer Structures of a GTDT, one at a time (section 5.2.24.1).
 ghost use Rattle.std.specs.Prelude.{◌≡◌, option_map};
-ghost use Rattle.acpi_arm.specs.Timers.{frames_fit, frames_there, is_sound, shown_in, timer_bytes, timer_count, timer_with, timers_grammar, watchdog_at};
+ghost use Rattle.acpi_arm.specs.Timers.{frames_end, frames_fit, frames_there, is_sound, shown_in, timer_bytes, timer_count, timer_with, timers_grammar, timers_offset, watchdog_at};
 
 use crate::frames::{FRAME_LENGTH, GtFrameIter};
 use crate::interrupt::{polarity_in, trigger_in};
@@ -87,6 +87,15 @@ pub(crate) fn frames_there(block: &[u8]) -> u32
     }
     let room = block.len().saturating_sub(offset) / FRAME_LENGTH;
     count.min(room as u64) as u32
+}
+
+/// Where in a GT Block no further frame begins, in bytes from its first one on: after those that lie between its 20
+/// fixed bytes and its end, or at GT Block Timer Offset if none does; at most at the block's end.
+pub fn frames_end(block: &[u8]) -> usize
+    ensures { result ≡ frames_end block.now }
+{
+    let offset = field(block, 16, 4) as usize; // GT Block Timer Offset
+    (offset + FRAME_LENGTH * frames_there(block) as usize).min(block.len())
 }
 
 /// Whether a structure isn't malformed: only a GT Block can still be, whose frames have to lie between its 20 fixed
@@ -183,6 +192,14 @@ pub fn timer_count(table: &[u8]) -> u32
     } else {
         field(table, 88, 4) as u32 // Platform Timer Count
     }
+}
+
+/// Where in a table the structures begin, in bytes from its first one on: at Platform Timer Offset, at most at the
+/// table's end.
+pub fn timers_offset(table: &[u8]) -> usize
+    ensures { result ≡ timers_offset table.now }
+{
+    (field(table, 92, 4) as usize).min(table.len()) // Platform Timer Offset
 }
 
 /// The bytes from Platform Timer Offset on, or none if that is before byte 96.

@@ -1,8 +1,8 @@
 -- Lists that are written, in one part or in two, and how many items they have at most.
 use Rattle.std.proofs.Common.{◌≡◌, ◌∙◌, ◌+◌, ℕ, List, [], ◌∷◌, ◌++◌, length, length-append, slice_set, ap, sym, arith, drop, zero, suc, map, Some, None, true, refl, ◌<◌, ◌≤◌, Bool, false, Option, length-drop, inl, inr, ◌-◌, ◌/◌, ◌==◌, min, nat_lt, if◌then◌else◌, filter_map}
 use Rattle.acpi_base.proofs.FromStd.{append-nil, length-map}
-use Rattle.acpi_c_lib.specs.Words.{Writes, put_from, MadtItem, listed, GtFrame, frame_record, frames_in, frames_of, frames_shown, watchdog_in, watchdogs_shown, concat, AllByRecursion, cons_option, IsBytes, field_of, IsEntry, cut, number_in, Width, One, Two, Four, EntryLayout, Timer, first_frames, frame_count, frames_there, kind_of, timer_bytes, timer_count, timer_there, timers_grammar, timers_layout, watchdog_at}
-use Rattle.std.proofs.Math.Nat.{div-le_self, min-le_right}
+use Rattle.acpi_c_lib.specs.Words.{Writes, put_from, MadtItem, listed, GtFrame, frame_record, frames_in, frames_of, frames_shown, watchdog_in, watchdogs_shown, concat, AllByRecursion, cons_option, IsBytes, field_of, IsEntry, cut, number_in, Width, One, Two, Four, EntryLayout, Timer, first_frames, frame_count, frames_there, kind_of, timer_bytes, timer_count, timer_there, timers_grammar, timers_layout, timers_offset, watchdog_at}
+use Rattle.std.proofs.Math.Nat.{div-le_self, min-le_left, min-le_right}
 use Rattle.acpi.proofs.First.{filter_map_few}
 use Rattle.acpi_base.specs.Words.{processor_in, processors_of}
 use Rattle.acpi_base.proofs.Words.{cut_is_cut}
@@ -109,6 +109,16 @@ few_bytes false table n = omega (arith, length-drop n table)
 
 pub bytes_few : (table : List ℕ) → length (timer_bytes table) ≤ length table
 bytes_few table = few_bytes _ table (field_of table 92 4)
+
+-- the structures of platform timers lie in their table
+lie_inside : (b : Bool) (table : List ℕ) (n : ℕ)
+    → min n (length table) + length (if b then [] else drop n table) ≤ length table
+lie_inside true table n = omega (arith, min-le_right n (length table))
+lie_inside false table n =
+    omega (arith, length-drop n table, min-le_left n (length table), min-le_right n (length table))
+
+pub timers_inside : (table : List ℕ) → timers_offset table + length (timer_bytes table) ≤ length table
+timers_inside table = lie_inside _ table (field_of table 92 4)
 
 pub frames_few : (table : List ℕ) → length (frames_shown table) ≤ length table
 frames_few table =

@@ -2,8 +2,8 @@
 use Rattle.std.specs.Prelude.{ℕ, ◌+◌, List, Option, Result, option_map}
 use Rattle.acpi_c_lib.specs.Answers.{result_map}
 use Rattle.acpi_c_lib.specs.Below.{Refusal, Source, found_table}
-use Rattle.acpi_c_lib.specs.EntryFaults.{faults_from, rest_faults}
-use Rattle.acpi_c_lib.specs.Types.{cut_of, fault_said, InvalidEntryLength, InvalidMadt, MadtError, madt_kind, Acpi, EntryFault}
+use Rattle.acpi_c_lib.specs.EntryFaults.{fault_at, faults_from, rest_faults}
+use Rattle.acpi_c_lib.specs.Types.{cut_of, fault_said, InvalidEntryLength, InvalidMadt, MadtError, madt_kind, Acpi, ShortRiscvEntry, EntryFault}
 
 abbrev pub madt_refusal : MadtError → Refusal
 madt_refusal error = Acpi (InvalidMadt error)
@@ -14,7 +14,7 @@ madt_fault e = option_map madt_refusal (fault_said e)
 
 -- those of the table at an address
 abbrev pub madt_faults_of : ℕ × List ℕ → List EntryFault
-madt_faults_of found = faults_from madt_fault (rest_faults (madt_refusal InvalidEntryLength) (cut_of found.1).1)
+madt_faults_of found = faults_from (fault_at madt_fault) (rest_faults (madt_refusal InvalidEntryLength) (cut_of found.1).1)
     (found.0 + 44) (cut_of found.1).0
 
 abbrev pub madt_faults_below : Source → Result (List EntryFault) Refusal

@@ -5,7 +5,7 @@ use Rattle.acpi_c_lib.specs.Types.{◌>>=◌, Kind, is_left, sdt_kind, SLIT, end
 use Rattle.acpi_c_lib.specs.Answers.{result_map}
 use Rattle.acpi_c_lib.specs.Below.{Refusal, Source, below_first, first_table, found_table}
 use Rattle.acpi_c_lib.specs.Devices.{flag}
-use Rattle.acpi_c_lib.specs.EntryFaults.{faults_from, rest_faults}
+use Rattle.acpi_c_lib.specs.EntryFaults.{fault_at, faults_from, rest_faults}
 
 -- ---- ranges of memory
 
@@ -34,7 +34,7 @@ srat_fault revision e = option_and_then range_fault (option_and_then range_in (e
 
 -- those of the table at an address
 abbrev pub srat_faults_of : ℕ × List ℕ → List EntryFault
-srat_faults_of found = faults_from (srat_fault (revision_of found.1))
+srat_faults_of found = faults_from (fault_at (srat_fault (revision_of found.1)))
     (rest_faults InvalidSratEntryLength (cut_of found.1).1) (found.0 + 48) (cut_of found.1).0
 
 abbrev pub srat_faults_below : Source → Result (List EntryFault) Refusal

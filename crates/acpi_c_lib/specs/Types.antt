@@ -65,7 +65,7 @@ pub use Rattle.acpi.specs.Words.{IsAscending, IsFirstIn, area, area_ranges, area
 unfoldable pub use Rattle.acpi.specs.Words.{check_first, check_sum, checked_length, found_in, found_in_areas, found_rsdp, pointers, rsdp_at, rsdp_of, word_in}
 pub use Rattle.acpi_arm.specs.Gic.{cpu_interface_in, distributor_in, items_of, msi_frame_in, redistributors_in, translation_service_in}
 unfoldable pub use Rattle.acpi_arm.specs.Gtdt.{gtdt_at}
-pub use Rattle.acpi_arm.specs.Timers.{each_left, first_frames, frame_count, frames_left, frames_there, kind_of, missing_left, shown_in, timer_there, timers_layout, watchdog_at, each_of, is_sound, timer_bytes, timer_count, timers_grammar, Timer, missing_of}
+pub use Rattle.acpi_arm.specs.Timers.{each_left, first_frames, frame_count, frames_end, frames_left, frames_there, kind_of, missing_left, shown_in, timer_there, timers_layout, watchdog_at, each_of, is_sound, timer_bytes, timer_count, timers_grammar, timers_offset, Timer, missing_of}
 pub use Rattle.acpi_base.specs.FromStd.{IsFinite, IsPartitionPoint, concat, result_err, AllByRecursion, Bor, cons_option, is_ok, is_some, last_or, list_all, list_any, result_ok, result_unwrap_or}
 pub use Rattle.acpi_base.specs.Interrupts.{flags_fault, override_fault, unless_fault, trigger_mode_of}
 unfoldable pub use Rattle.acpi_base.specs.Interrupts.{item_of}

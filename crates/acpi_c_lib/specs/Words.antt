@@ -15,7 +15,7 @@ pub use Rattle.acpi_c_lib.specs.Console.{console_below, console_record}
 pub use Rattle.acpi_c_lib.specs.Copied.{copied_rsdp, copy_memory, padded, source_of_rsdp, started_by}
 pub use Rattle.acpi_c_lib.specs.Devices.{generic_record, graphic_below, graphic_record, optional_register, register_if, required_register, timer_below, timer_record, flag}
 pub use Rattle.acpi_c_lib.specs.Entries.{entries_below, entries_from, entries_said, entry_record, left_said, plain_grammar, width_of_bytes, number_place, walk_layout}
-pub use Rattle.acpi_c_lib.specs.EntryFaults.{entry_fault, faults_from, rest_faults}
+pub use Rattle.acpi_c_lib.specs.EntryFaults.{entry_fault, fault_at, faults_from, rest_faults}
 pub use Rattle.acpi_c_lib.specs.Facs.{facs_below, facs_in}
 pub use Rattle.acpi_c_lib.specs.Faults.{accepted_fault, fault_record, faults_among, faults_below, kind_named}
 pub use Rattle.acpi_c_lib.specs.Fixed.{fixed_below, fixed_record, gpe_record, hypervisor_id_in, minor_revision_in, revision_in}
@@ -39,7 +39,7 @@ pub use Rattle.acpi_c_lib.specs.Riscv.{aplic_in, below_riscv, imsic_in, plic_in,
 pub use Rattle.acpi_c_lib.specs.Routes.{AreWirings, Interrupt, IoApicPin, apic_in, below_known, has_codes, interrupt_or, interrupt_record, is_nearer, isa_below, isa_in, isa_override_in, last_override, own_override, pin_below, pin_in, pin_or, sci_below, sci_in, wirings_of}
 unfoldable pub use Rattle.acpi_c_lib.specs.Routes.{known_platform}
 pub use Rattle.acpi_c_lib.specs.Shown.{aml_at, dsdt_below, ecam_below, ecam_ranges_below, ecam_record, hpet_below, hpet_in, hpet_shown, hpets_below, hpets_in, pci_record, pci_regions_below, root_below, signature_named, ssdt_in, ssdts_below, ssdts_in, table_below, table_in, table_record, tables_below, tables_in}
-pub use Rattle.acpi_c_lib.specs.Types.{Acpi, ArmTimers, Bgrt, Fadt, Gic, Hpet, Madt, Mcfg, Spcr, Srat, UnknownStart, Writer, AddressRange, All, AllByRecursion, AreApart, Bor, EntryLayout, Four, Gives, Grammar, InterruptOverrideEntryHasInvalidBus, InterruptSourceOverrideEntry, InvalidEntryLength, InvalidSratEntryLength, IsAscending, IsBytes, IsEntry, IsFinite, IsFirstIn, IsFound, IsMemory, IsPartitionPoint, IsRegion, Keeps, Kind, Lint0, LocalInterruptLine, MadtError, MapFailed, Memory, NmiSourceEntry, NoValidRsdp, One, Opened, Polarity, ProcessorUid, Ranges, RiscvEntry, Rsdp, SdtHeader, Signature, SpcrContents, Timer, TriggerMode, Two, UnknownPolicy, Width, after_one, all_apics, all_x2apics, area, area_ranges, areas_ranges, bios_areas, bits_of, bytes_of, concat, cons_option, count_in, count_of, cut_of, distributor_in, dsdt_address_of, each_left, ebda_area, ecam_address, end_of, entries_left, entries_of, extended_length_of, facs_place, facs_place_ranges, first_area, first_frames, first_in, flags_fault, found_among, frame_count, frames_left, frames_there, has_bit, is_of, is_ok, is_some, kind_of, last_or, length_ranges, lent, letters_of, lies_in, line_of, list_all, list_any, madt_grammar, madt_kind, madt_layout, mcfg_entries_left, missing_left, number_in, or_else, or_else_ranges, or_later, override_fault, placed, plain_kind, pointers_left, polarity_code, processor_for, range, rest_left, result_err, result_ok, result_unwrap_or, revision_of, room_of, root_of, root_of_revision, root_of_rsdp, rsdp_ranges, search_ranges, second_area, shown_in, srat_grammar, srat_layout, start_of, table_ranges, timer_bytes, timer_count, timer_there, timers_grammar, timers_layout, trigger_code, trigger_mode_of, uid_code, unless_fault, walk, watchdog_at, with_entry, ◌>>=◌}
+pub use Rattle.acpi_c_lib.specs.Types.{Acpi, ArmTimers, Bgrt, Fadt, Gic, Hpet, Madt, Mcfg, Spcr, Srat, UnknownStart, Writer, AddressRange, All, AllByRecursion, AreApart, Bor, EntryLayout, Four, Gives, Grammar, InterruptOverrideEntryHasInvalidBus, InterruptSourceOverrideEntry, InvalidEntryLength, InvalidSratEntryLength, IsAscending, IsBytes, IsEntry, IsFinite, IsFirstIn, IsFound, IsMemory, IsPartitionPoint, IsRegion, Keeps, Kind, Lint0, LocalInterruptLine, MadtError, MapFailed, Memory, NmiSourceEntry, NoValidRsdp, One, Opened, Polarity, ProcessorUid, Ranges, RiscvEntry, Rsdp, SdtHeader, Signature, SpcrContents, Timer, TriggerMode, Two, UnknownPolicy, Width, after_one, all_apics, all_x2apics, area, area_ranges, areas_ranges, bios_areas, bits_of, bytes_of, concat, cons_option, count_in, count_of, cut_of, distributor_in, dsdt_address_of, each_left, ebda_area, ecam_address, end_of, entries_left, entries_of, extended_length_of, facs_place, facs_place_ranges, first_area, first_frames, first_in, flags_fault, found_among, frame_count, frames_left, frames_there, has_bit, is_of, is_ok, is_some, kind_of, last_or, length_ranges, lent, letters_of, lies_in, line_of, list_all, list_any, madt_grammar, madt_kind, madt_layout, mcfg_entries_left, missing_left, number_in, or_else, or_else_ranges, or_later, override_fault, placed, plain_kind, pointers_left, polarity_code, processor_for, range, rest_left, result_err, result_ok, result_unwrap_or, revision_of, room_of, root_of, root_of_revision, root_of_rsdp, rsdp_ranges, search_ranges, second_area, shown_in, srat_grammar, srat_layout, start_of, table_ranges, timer_bytes, timer_count, timer_there, timers_grammar, timers_offset, timers_layout, trigger_code, trigger_mode_of, uid_code, unless_fault, walk, watchdog_at, with_entry, ◌>>=◌}
 pub use Rattle.acpi_c_lib.specs.Walked.{dsdt_range, facs_range, led_ranges, members_ranges, nth_below, nth_in, range_in, ranges_below}
 pub use Rattle.acpi_c_lib.specs.Writing.{IsKeptOr, TableIds, WriterError, WritesTable, hpet_info_of, is_wiring, madt_of, writer_refused}
 pub use Rattle.acpi_c_lib.specs.WrittenFadt.{facs_contents}

@@ -1,4 +1,4 @@
-//! The structures of platform timers of a GTDT at fault, and the malformed front that ends them.
+//! The structures of platform timers of a GTDT at fault, and where none begins.
 ghost use Rattle.std.specs.Prelude.{◌≡◌, ◌+◌, ◌^◌, ◌<◌, length};
 ghost use Rattle.acpi_c_lib.specs.Words.{Fills, Writes, gtdt_faults_below, gtdt_faults_of};
 
@@ -8,11 +8,13 @@ use crate::opening::first;
 use crate::records::Source;
 use crate::refusal::Refusal;
 use crate::regions::Mapped;
-use acpi_arm::gtdt::{Gtdt, is_sound, timer_bytes, timer_count, timers_grammar};
+use acpi_arm::gtdt::{
+    Gtdt, frames_end, is_sound, timer_bytes, timer_count, timers_grammar, timers_offset,
+};
 use acpi_base::bytes::field;
 use acpi_base::entries::split_front;
 
-/// Lists the structures of the first valid GTDT at fault and, last, the malformed front.
+/// Lists of the structures of the first valid GTDT at fault where no frame begins and, last, where no structure does.
 pub fn gtdt_faults(source: &Source<'_>, out: &mut [EntryFault]) -> Result<usize, Refusal>
     ensures { Fills result out.old out.new (gtdt_faults_below source.now) }
 {
@@ -29,11 +31,12 @@ fn fill_faults(table: &[u8], address: u64, out: &mut [EntryFault]) -> usize
 {
     let mut rest = timer_bytes(table);
     let mut left = timer_count(table);
-    let mut at = address + (table.len() - rest.len()) as u64;
+    let mut at = address + timers_offset(table) as u64;
     let mut count = 0;
     while let Some((structure, others)) = split_front(&timers_grammar(left), rest) {
         if !is_sound(structure) {
-            let fault = entry_fault(at, structure[0] as u16, Refusal::InvalidTimerLength);
+            let end = at + frames_end(structure) as u64;
+            let fault = entry_fault(end, structure[0] as u16, Refusal::InvalidTimerLength);
             put(out, count, fault);
             count += 1;
         }

@@ -326,9 +326,9 @@ fn route(raw: records::IsaRoute) -> Option<IsaRoute> {
 /// first byte at which none begins.
 #[derive(Clone, Copy, Debug, PartialEq, Eq)]
 pub struct EntryFault {
-    /// The physical address of its first byte.
+    /// The physical address of its first byte; in a GTDT that of the first frame that isn't there.
     pub address: u64,
-    /// Type, as it is at that address, or 0 if the table ends there.
+    /// Type, of the entry or as it is at that address, or 0 if the table ends there.
     pub entry_type: u16,
     /// Its error: in a MADT that which [`AcpiTables::platform_info`] has for it.
     pub refusal: AcpiError,

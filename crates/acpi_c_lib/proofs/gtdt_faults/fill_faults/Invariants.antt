@@ -2,8 +2,8 @@ use Rattle.std.proofs.Common.{◌≡◌, ◌+◌, ◌-◌, ◌≤◌, length}
 use Rattle.acpi_c_lib.specs.Words.{cut, timer_count, timers_grammar, put_from, faults_from, gtdt_faults_of, last_faults, timer_fault, timers_cut}
 use Rattle.acpi_c_lib.proofs.gtdt_faults.fill_faults.Given as goal
 
--- what is written and what is left are the whole, as many structures are missing before the same rest, the address is
--- that of what is left, and no more are counted than there were bytes
+-- what is written and what is left are the whole, as many structures are missing before the same rest, what is left
+-- ends in the table, and no more are counted than there were bytes
 abbrev pub invariant-loop-structure : goal.invariant-loop-structure
 invariant-loop-structure l =
     let left = cut (timers_grammar l.left) l.rest in
@@ -13,7 +13,7 @@ invariant-loop-structure l =
     × (l.count + length faults ≡ length all)
     × (l.left - length left.0 ≡ timer_count l.table - length (timers_cut l.table).0)
     × (left.1 ≡ (timers_cut l.table).1)
-    × (l.at + length l.rest ≡ l.address + length l.table)
+    × (l.at + length l.rest ≤ l.address + length l.table)
     × (l.count + length l.rest ≤ length l.table)
 
 abbrev pub decreases-loop-structure : goal.decreases-loop-structure

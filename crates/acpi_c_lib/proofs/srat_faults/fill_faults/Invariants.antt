@@ -1,5 +1,5 @@
 use Rattle.std.proofs.Common.{◌≡◌, ◌+◌, ◌≤◌, length}
-use Rattle.acpi_c_lib.specs.Words.{cut, revision_of, srat_grammar, InvalidSratEntryLength, put_from, faults_from, rest_faults, srat_fault, srat_faults_of}
+use Rattle.acpi_c_lib.specs.Words.{cut, revision_of, srat_grammar, InvalidSratEntryLength, put_from, fault_at, faults_from, rest_faults, srat_fault, srat_faults_of}
 use Rattle.acpi_c_lib.proofs.srat_faults.fill_faults.Given as goal
 
 -- what is written and what is left are the whole, the address is that of what is left, and no more are counted than
@@ -7,7 +7,7 @@ use Rattle.acpi_c_lib.proofs.srat_faults.fill_faults.Given as goal
 abbrev pub invariant-loop-entry : goal.invariant-loop-entry
 invariant-loop-entry l =
     let left = cut srat_grammar l.rest in
-    let faults = faults_from (srat_fault l.revision) (rest_faults InvalidSratEntryLength left.1) l.at left.0 in
+    let faults = faults_from (fault_at (srat_fault l.revision)) (rest_faults InvalidSratEntryLength left.1) l.at left.0 in
     let all = srat_faults_of (l.address, l.table) in
     (put_from l.out l.count faults ≡ put_from l.initial.out 0 all)
     × (l.count + length faults ≡ length all)
