@@ -175,6 +175,11 @@ enum zacpi_status_code {
      * left or below 20 (GT Block), 28 (watchdog) or 4 (others), or frames of a GT Block don't lie
      * between its byte 20 and its end. */
     ZACPI_INVALID_TIMER_LENGTH = 57,
+    /* A RISC-V machine's MADT (ACPI 6.6, section 5.2.12), whose entries of Types 0x18 to 0x1b have
+     * at least 20, 16, 36 and 36 bytes. */
+    ZACPI_NO_RISCV = 58,          /* the MADT has no such entry */
+    ZACPI_SHORT_RISCV_ENTRY = 59, /* an entry of one of these Types has fewer bytes: it is
+                                   * skipped */
 
     /* A table that is written. */
     ZACPI_UNKNOWN_CODE = 60,    /* a number that isn't one of the codes: of a polarity, trigger
@@ -219,7 +224,8 @@ static inline const char *zacpi_status_name(zacpi_status status) {
         "49:InvalidMadt InvalidEntryLength\0""50:InvalidSrat InvalidEntryLength\0"
         "51:InvalidSrat InvalidMemoryRange\0""52:NoDomain\0""53:NoDistance\0"
         "54:InvalidIommu InvalidStructureLength\0""55:InvalidIommu InvalidMemoryRange\0"
-        "56:NoIommu\0""57:InvalidTimerLength\0""60:UnknownCode\0"
+        "56:NoIommu\0""57:InvalidTimerLength\0""58:NoRiscv\0""59:ShortRiscvEntry\0"
+        "60:UnknownCode\0"
         "61:NoProcessor\0""62:IdOfAll\0""63:UidOfAll\0"
         "64:BadMatrix\0""65:NoAddress\0""66:BadName\0""67:NoRoom\0""68:TooLong\0""69:BadRegister\0"
         "70:BadRange\0""71:SameAsBus\0""72:TooManyFrames\0""73:BadTable\0""74:HasHeader\0";
@@ -852,8 +858,10 @@ struct zacpi_entry_fault {
     uint32_t status;     /* its error */
     uint16_t entry_type; /* Type of the entry, or there; 0 at the table's end */
 };
-/* Lists the entries with a ZACPI_MADT_ error (of several the least), and last, if bytes are left,
- * where none begins. Fails with an opening error, or ZACPI_TABLE_MISSING "APIC". */
+/* Lists the entries with a ZACPI_MADT_ error (of several the least) or ZACPI_SHORT_RISCV_ENTRY, and
+ * last, if bytes are left, where none begins, with ZACPI_MADT_INVALID_ENTRY_LENGTH. That one alone
+ * ends the lists of the MADT's entries, also of an Arm machine, whose entries of a GIC have
+ * ZACPI_MADT_UNEXPECTED_ENTRY. Fails with an opening error, or ZACPI_TABLE_MISSING "APIC". */
 ZACPI_STATUS zacpi_list_madt_faults(const struct zacpi_source *source,
                                     struct zacpi_entry_fault *out, size_t capacity, size_t *count,
                                     struct zacpi_signature *signature);
@@ -1084,9 +1092,9 @@ struct zacpi_plic { /* Platform Level Interrupt Controller, Type 0x1b */
 };
 
 /* Each lists the MADT's entries of one Type, up to where none begins, since Length is above the
- * bytes left or below the least of its Type (at ZACPI_NO_APICS). One with fewer bytes than its
- * layout (20, 16, 36 and 36 for 0x18 to 0x1b) is skipped. Fails with an opening error, or
- * ZACPI_TABLE_MISSING "APIC". */
+ * bytes left or below the least of its Type (at ZACPI_NO_APICS). zacpi_list_madt_faults has those
+ * that are skipped, with ZACPI_SHORT_RISCV_ENTRY. Fails with an opening error, ZACPI_TABLE_MISSING
+ * "APIC", or ZACPI_NO_RISCV if no entry of Types 0x18 to 0x1b is listed. */
 ZACPI_STATUS zacpi_list_rintcs(const struct zacpi_source *source, struct zacpi_rintc *out,
                                size_t capacity, size_t *count, struct zacpi_signature *signature);
 ZACPI_STATUS zacpi_list_imsics(const struct zacpi_source *source, struct zacpi_imsic *out,

@@ -33,8 +33,8 @@ enum { EMPTY, ARM, PC, ODD, HOLES, SUM, DESKTOP, MOBILE, WORKSTATION, SERVER, SO
        RESERVED, WIDE, TIMER_5, LEAST, OLD, HALF, HALF_X, UNITS, UNITS_10, UNITS_CUT,
        UNITS_END, SAPIC_BETWEEN, NMI_2, LENGTH_0, NO_FADT, BUS_1, TRIGGER_2, LINT_2, HPETS, MAILBOX, POWER,
        REDUCED, PLAIN, BARE, BROKEN, FADTLESS, HIGH, HIGH_PLAIN, FAULTS, FRONTS, UNITS_BETWEEN, UNITS_FAULTS,
-       UNITS_LATER, RISCV,
-       RISCV_CUT, FLAWED, LED_BY_SUMS, LED_BY_IDS, ROOT_OEM_ID, ROOT_LONG, /* root tables, in the order of `tables` */
+       UNITS_LATER, RISCV, RISCV_CUT, RISCV_SHORT, EARLY, LATE, PAST, FLAWED, LED_BY_SUMS, LED_BY_IDS, ROOT_OEM_ID,
+       ROOT_LONG, /* root tables, in the order of `tables` */
        RSDP_0, RSDP_2, RSDP_40, RSDP_MIXED, RSDP_LONG, RSDP_LOST, RSDP_CUT, RSDP_SHORT, RSDP_TO_SUM,
        RSDP_NONE, /* RSDPs, and the last one is none */
        MADT_GIC, GTDT, SRAT, SLIT, MCFG, FADT, MADT_PC, HPET_SHORT, HPET, MADT_CUT, GTDT_CUT, SRAT_CUT, SLIT_ODD,
@@ -49,7 +49,8 @@ enum { EMPTY, ARM, PC, ODD, HOLES, SUM, DESKTOP, MOBILE, WORKSTATION, SERVER, SO
        FADT_POWER, FADT_REDUCED, FADT_PLAIN, FADT_BARE, FADT_BROKEN, FADT_HIGH, DSDT_POWER, DSDT_S5, DSDT_HIGH,
        SSDT_S5, SSDT_HIGH, MADT_NO_GICD,
        MADT_FRONT, GTDT_FAULTS, GTDT_FRONT, SRAT_FAULTS, SRAT_FRONT, DMAR_BETWEEN, DMAR_FAULTS, DMAR_LATER,
-       IVRS_BETWEEN, IVRS_FAULTS, MADT_RISCV, MADT_RISCV_CUT, MADT_BOTH, MADT_OEM_ID, MADT_TABLE_ID, MADT_SUM,
+       IVRS_BETWEEN, IVRS_FAULTS, MADT_RISCV, MADT_RISCV_CUT, MADT_RISCV_SHORT,
+       GTDT_EARLY, GTDT_LATE, GTDT_PAST, MADT_BOTH, MADT_OEM_ID, MADT_TABLE_ID, MADT_SUM,
        MADT_VALID, MADT_LOST, FADT_SUM, FADT_OEM_ID, DSDT_SUM, DSDT_TABLE_ID, SSDT_SUM, HPET_SUM };
 
 /* Entry[n] of an RSDT, from 36 on (section 5.2.7), and of an XSDT (section 5.2.8). */
@@ -99,6 +100,7 @@ PUTS(hpets, {36, 4, AT(HPET_0)}, {40, 4, AT(HPET_PORT)}, {44, 4, AT(HPET_3)}, {4
 PUTS(mailbox, {36, 4, AT(MADT_MAILBOX)});
 PUTS(riscv, {36, 4, AT(MADT_RISCV)});
 PUTS(riscv_cut, {36, 4, AT(MADT_RISCV_CUT)});
+PUTS(riscv_short, {36, 4, AT(MADT_RISCV_SHORT)});
 
 PUTS(madt_gic,
     {44, 2, HEADER(0x0c, 24)}, {44 + 4, 4, 7} /* GIC ID */, {44 + 8, 8, 0x2f000000} /* Physical Base Address */,
@@ -154,6 +156,8 @@ PUTS(madt_riscv,
 PUTS(madt_riscv_cut, {44, 2, HEADER(0x18, 19)}, {63, 2, HEADER(0x19, 15)}, {78, 2, HEADER(0x1a, 35)},
      {113, 2, HEADER(0x1b, 35)}, {148, 2, HEADER(0x18, 20)}, {148 + 8, 8, 6} /* Hart ID */, {168, 2, HEADER(0x18, 0)},
      {170, 2, HEADER(0x18, 20)}, {170 + 8, 8, 5} /* Hart ID */);
+/* A hart of 19 bytes alone. */
+PUTS(madt_riscv_short, {44, 2, HEADER(0x18, 19)});
 /* A distributor, and one byte after it in which no entry begins. */
 PUTS(madt_cut, {44, 2, HEADER(0x0c, 24)});
 /* Revision 5, in which a GICC has neither Online Capable nor TRBE Interrupt. */
@@ -280,6 +284,8 @@ static const struct table {
     {AT(BROKEN), "RSDT", 1, 44, broken}, {AT(FADTLESS), "RSDT", 1, 40, fadtless},
     {AT(HIGH), "RSDT", 1, 44, high}, {AT(HIGH_PLAIN), "RSDT", 1, 44, high_plain}, {AT(FAULTS), "RSDT", 1, 48, faults},
     {AT(FRONTS), "RSDT", 1, 48, fronts}, {AT(RISCV), "RSDT", 1, 40, riscv}, {AT(RISCV_CUT), "RSDT", 1, 40, riscv_cut},
+    {AT(RISCV_SHORT), "RSDT", 1, 40, riscv_short}, {AT(EARLY), "RSDT", 1, 40, early}, {AT(LATE), "RSDT", 1, 40, late},
+    {AT(PAST), "RSDT", 1, 40, past},
     {AT(FLAWED), "RSDT", 1, 60, flawed}, {AT(LED_BY_SUMS), "RSDT", 1, 52, led_by_sums},
     {AT(LED_BY_IDS), "RSDT", 1, 44, led_by_ids}, {AT(ROOT_OEM_ID), "RSDT", 1, 40, root_oem_id},
     {AT(ROOT_LONG), "RSDT", 1, SIZE, root_long},
@@ -345,6 +351,8 @@ static const struct table {
     {AT(DMAR_FAULTS), "DMAR", 1, 150, dmar_faults}, {AT(DMAR_LATER), "DMAR", 1, 93, dmar_later},
     {AT(IVRS_BETWEEN), "IVRS", 2, 132, ivrs_between}, {AT(IVRS_FAULTS), "IVRS", 2, 184, ivrs_faults},
     {AT(MADT_RISCV), "APIC", 6, 188, madt_riscv}, {AT(MADT_RISCV_CUT), "APIC", 6, 190, madt_riscv_cut},
+    {AT(MADT_RISCV_SHORT), "APIC", 6, 63, madt_riscv_short}, {AT(GTDT_EARLY), "GTDT", 2, 124, gtdt_early},
+    {AT(GTDT_LATE), "GTDT", 2, 116, gtdt_late}, {AT(GTDT_PAST), "GTDT", 2, 96, gtdt_past},
     {AT(MADT_BOTH), "APIC", 5, 52, madt_both}, {AT(MADT_OEM_ID), "APIC", 5, 52, madt_oem_id},
     {AT(MADT_TABLE_ID), "APIC", 5, 52, madt_table_id}, {AT(MADT_SUM), "APIC", 5, 52, madt_sum},
     {AT(MADT_VALID), "APIC", 5, 52, madt_valid}, {AT(MADT_LOST), "APIC", 5, SIZE, madt_lost},

@@ -3,6 +3,9 @@
 #define ROWS_TABLES_FAULTS_H
 
 PUTS(faults, {36, 4, AT(MADT_NO_GICD)}, {40, 4, AT(GTDT_FAULTS)}, {44, 4, AT(SRAT_FAULTS)});
+PUTS(early, {36, 4, AT(GTDT_EARLY)});
+PUTS(late, {36, 4, AT(GTDT_LATE)});
+PUTS(past, {36, 4, AT(GTDT_PAST)});
 PUTS(fronts, {36, 4, AT(MADT_FRONT)}, {40, 4, AT(GTDT_FRONT)}, {44, 4, AT(SRAT_FRONT)});
 
 /* No GICD, and reserved bits that are set. */
@@ -36,6 +39,17 @@ PUTS(gtdt_front,
     {96 + 16, 4, 19} /* GT Block Timer Offset */,
     {156, 1, 1} /* Type: Arm Generic Watchdog */, {156 + 1, 2, 28} /* Length */, {156 + 20, 4, 62} /* GSIV */,
     {184, 1, 0x7f} /* Type: reserved */, {184 + 1, 2, 3} /* Length */);
+/* Revision 2: a watchdog, but Platform Timer Offset is 95. */
+PUTS(gtdt_early,
+    {88, 4, 1} /* Platform Timer Count */, {92, 4, 95} /* Platform Timer Offset */,
+    {96, 1, 1} /* Type: Arm Generic Watchdog */, {96 + 1, 2, 28} /* Length */);
+/* Revision 2: a block whose frame begins after it, and no second structure. */
+PUTS(gtdt_late,
+    {88, 4, 2} /* Platform Timer Count */, {92, 4, 96} /* Platform Timer Offset */,
+    {96, 1, 0} /* Type: GT Block */, {96 + 1, 2, 20} /* Length */, {96 + 12, 4, 1} /* GT Block Timer Count */,
+    {96 + 16, 4, 21} /* GT Block Timer Offset */);
+/* Revision 2: the structures begin after the table. */
+PUTS(gtdt_past, {88, 4, 1} /* Platform Timer Count */, {92, 4, 0xffffffff} /* Platform Timer Offset */);
 
 /* Memory that ends above 2^64 between others, and as much that isn't enabled; a reserved Type. */
 PUTS(srat_faults,

@@ -94,6 +94,10 @@ pub enum AcpiError {
     NoIommu,
     /// A platform timer of the GTDT has a Length that doesn't fit, or frames that don't lie in it (section 5.2.24.1).
     InvalidTimerLength,
+    /// The MADT has no entry of a RISC-V machine, Types 0x18 to 0x1b (ACPI 6.6, section 5.2.12).
+    NoRiscv,
+    /// An entry of the MADT of Types 0x18 to 0x1b has fewer bytes than its layout, and is skipped.
+    ShortRiscvEntry,
     /// There is no memory for a list, or no capacity for a region.
     AllocError,
     /// The library fails with a number that this version doesn't know.
@@ -167,6 +171,8 @@ impl AcpiError {
             55 => InvalidMemoryRange,
             56 => NoIommu,
             57 => InvalidTimerLength,
+            58 => NoRiscv,
+            59 => ShortRiscvEntry,
             other => Other(other),
         }
     }

@@ -26,8 +26,9 @@ use crate::raw;
 pub use crate::raw::records::{Aplic, Imsic, Plic, Rintc};
 
 /// The entries of one type of the first valid MADT, up to the first byte at which no entry begins. One with fewer bytes
-/// than its type (20, 16, 36 and 36 for types 0x18 to 0x1b) is skipped. Each of these fails with `TableMissing` for the
-/// MADT.
+/// than its type (20, 16, 36 and 36 for types 0x18 to 0x1b) is skipped, with `ShortRiscvEntry` among the MADT's
+/// `faults`. Each of these fails with `TableMissing` for the MADT, and with `NoRiscv` if it has no entry of any of these
+/// types that is read.
 impl<'k> AcpiTables<'k> {
     /// The harts.
     pub fn rintcs(&self) -> Listing<'k, Rintc> {

@@ -1,6 +1,7 @@
 //! The harts and interrupt controllers of a RISC-V machine.
 mod common;
 use common::{Memory, ROOT};
+use zacpi::platform::interrupt::EntryFault;
 use zacpi::write::{Rhct, RiscvMadt, TableIds, WriteError};
 use zacpi::{AcpiError, Region, Signature, Slot, Start};
 
@@ -55,6 +56,15 @@ fn lists_harts_and_controllers() {
         assert_eq!((plic.address, plic.size, plic.hardware_id), (0xc00_0000, 0x60_0000, 0x33));
         assert_eq!((plic.source_count, plic.max_priority, plic.global_system_interrupt_base), (95, 7, 0x20));
         assert_eq!((plic.id, plic.version, plic.flags), (3, 1, 0));
+    });
+    // A RINTC of 19 bytes, and no other entry.
+    let mut memory = Memory::rsdt(&[TABLE]);
+    memory.table(TABLE, "APIC", 6, 63, &[(44, 2, 0x1318)]);
+    memory.ask(|tables| {
+        assert_eq!(tables.rintcs().count(), Err(AcpiError::NoRiscv));
+        assert_eq!(tables.plics().count(), Err(AcpiError::NoRiscv));
+        let fault = EntryFault { address: TABLE + 44, entry_type: 0x18, refusal: AcpiError::ShortRiscvEntry };
+        assert!(tables.madt_faults().fill(&mut [Slot::default(); 2]).unwrap().iter().eq([fault]));
     });
     Memory::rsdt(&[]).ask(|tables| {
         let missing = AcpiError::TableMissing(Signature::MADT);

@@ -1,5 +1,6 @@
 -- The entries of a MADT at fault, as C gets them (ACPI 6.4, section 5.2.12).
-use Rattle.std.specs.Prelude.{ℕ, ◌+◌, List, Option, Result, option_map}
+use Rattle.std.specs.Prelude.{ℕ, ◌+◌, List, Option, Some, Result, if◌then◌else◌, option_map}
+use Rattle.acpi_riscv.specs.Words.{is_short}
 use Rattle.acpi_c_lib.specs.Answers.{result_map}
 use Rattle.acpi_c_lib.specs.Below.{Refusal, Source, found_table}
 use Rattle.acpi_c_lib.specs.EntryFaults.{fault_at, faults_from, rest_faults}
@@ -8,9 +9,10 @@ use Rattle.acpi_c_lib.specs.Types.{cut_of, fault_said, InvalidEntryLength, Inval
 abbrev pub madt_refusal : MadtError → Refusal
 madt_refusal error = Acpi (InvalidMadt error)
 
--- why an entry is at fault
+-- why an entry is at fault: it is of a RISC-V machine, and has fewer bytes than its layout (ACPI 6.6), or as the strict
+-- model has it, which takes no notice of these
 abbrev pub madt_fault : List ℕ → Option Refusal
-madt_fault e = option_map madt_refusal (fault_said e)
+madt_fault e = if is_short e then Some ShortRiscvEntry else option_map madt_refusal (fault_said e)
 
 -- those of the table at an address
 abbrev pub madt_faults_of : ℕ × List ℕ → List EntryFault

@@ -29,7 +29,7 @@ pub use Rattle.acpi_c_lib.specs.declared.records.Register.{Register}
 pub use Rattle.acpi_c_lib.specs.declared.records.Root.{Root}
 pub use Rattle.acpi_c_lib.specs.declared.records.Walk.{Walk}
 pub use Rattle.acpi_c_lib.specs.declared.refusal.Refusal.{Refusal}
-pub use Rattle.acpi_c_lib.specs.declared.refusal.Refusal.TheVariants.{Acpi, AmlInvalid, InvalidIommuMemoryRange, InvalidIommuStructureLength, InvalidMemoryRange, InvalidSratEntryLength, InvalidTimerLength, NoApics, NoDistance, NoDomain, NoGic, NoIommu, NoRegister, NoReset, NoSuchFunction, NoSuchInterrupt, NoSuchIoApic, NoSuchState, RangeTooHigh, RegionTooHigh, RegionsNotAscending, SleepStateAbsent, SleepStateNotSeen, SleepTypeTooHigh, UnknownCode, UnknownStart, BadTable, UnknownWidth, Writer, UnknownPolicy}
+pub use Rattle.acpi_c_lib.specs.declared.refusal.Refusal.TheVariants.{Acpi, AmlInvalid, InvalidIommuMemoryRange, InvalidIommuStructureLength, InvalidMemoryRange, InvalidSratEntryLength, InvalidTimerLength, NoApics, NoDistance, NoDomain, NoGic, NoIommu, NoRegister, NoReset, NoRiscv, NoSuchFunction, NoSuchInterrupt, NoSuchIoApic, NoSuchState, RangeTooHigh, RegionTooHigh, RegionsNotAscending, ShortRiscvEntry, SleepStateAbsent, SleepStateNotSeen, SleepTypeTooHigh, UnknownCode, UnknownStart, BadTable, UnknownWidth, Writer, UnknownPolicy}
 pub use Rattle.acpi_c_lib.specs.declared.writing.machine.Contents.TheVariants.{Bgrt, Fadt, Gic, Hpet, Madt, Mcfg, Spcr, Srat}
 pub use Rattle.acpi_c_lib.specs.declared.written_records.GicContents.{GicContents}
 pub use Rattle.acpi_c_lib.specs.declared.written_records.ListedTable.{ListedTable}

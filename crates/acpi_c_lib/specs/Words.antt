@@ -36,6 +36,7 @@ pub use Rattle.acpi_c_lib.specs.Numa.{IsLocalities, affinities_below, affinity_r
 pub use Rattle.acpi_c_lib.specs.Power.{accepted_answer, dsdt_answer, enable_plan_below, kind_code, plan_record, plan_refusal, plan_said, reset_plan_below, sleep_plan_below, sleep_refusal, sleep_types_below, step_record, types_below}
 pub use Rattle.acpi_c_lib.specs.Regions.{Region, check_from, check_regions, memory_in, memory_of, region_of}
 pub use Rattle.acpi_c_lib.specs.Riscv.{aplic_in, below_riscv, imsic_in, plic_in, rintc_in}
+unfoldable pub use Rattle.acpi_c_lib.specs.Riscv.{riscv_entries}
 pub use Rattle.acpi_c_lib.specs.Routes.{AreWirings, Interrupt, IoApicPin, apic_in, below_known, has_codes, interrupt_or, interrupt_record, is_nearer, isa_below, isa_in, isa_override_in, last_override, own_override, pin_below, pin_in, pin_or, sci_below, sci_in, wirings_of}
 unfoldable pub use Rattle.acpi_c_lib.specs.Routes.{known_platform}
 pub use Rattle.acpi_c_lib.specs.Shown.{aml_at, dsdt_below, ecam_below, ecam_ranges_below, ecam_record, hpet_below, hpet_in, hpet_shown, hpets_below, hpets_in, pci_record, pci_regions_below, root_below, signature_named, ssdt_in, ssdts_below, ssdts_in, table_below, table_in, table_record, tables_below, tables_in}

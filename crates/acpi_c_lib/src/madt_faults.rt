@@ -14,6 +14,7 @@ use acpi_base::bytes::skip;
 use acpi_base::entries::split_front;
 use acpi_base::madt::MADT_GRAMMAR;
 use acpi_base::model::MadtItem;
+use acpi_riscv::RiscvEntry;
 
 /// Lists the entries of the first valid MADT at fault and, last, the malformed front.
 pub fn madt_faults(source: &Source<'_>, out: &mut [EntryFault]) -> Result<usize, Refusal>
@@ -62,5 +63,8 @@ fn fault_in(entry: &[u8]) -> Option<Refusal>
     requires { IsEntry madt_layout entry.now }
     ensures { result ≡ madt_fault entry.now }
 {
+    if RiscvEntry::is_short(entry) {
+        return Some(Refusal::ShortRiscvEntry);
+    }
     Some(refusal(MadtItem::fault(entry)?))
 }

@@ -38,6 +38,8 @@ pub enum Refusal {
     InvalidIommuMemoryRange,
     NoIommu,
     InvalidTimerLength,
+    NoRiscv,
+    ShortRiscvEntry,
     UnknownCode,
     BadTable,
     /// The error is one of a table that is written.
@@ -119,6 +121,8 @@ impl Refusal {
             Refusal::InvalidIommuMemoryRange => 55,
             Refusal::NoIommu => 56,
             Refusal::InvalidTimerLength => 57,
+            Refusal::NoRiscv => 58,
+            Refusal::ShortRiscvEntry => 59,
             Refusal::UnknownCode => 60,
             Refusal::BadTable => 73,
             Refusal::Writer(error) => writer_code(error),
@@ -180,11 +184,11 @@ fn writer_code(error: WriterError) -> u32
         WriterError::BadRange => 70,
         WriterError::SameAsBus => 71,
         WriterError::TooManyFrames => 72,
+        WriterError::HasHeader => 74,
         WriterError::BadProfile => 99,
         WriterError::BadCode => 99,
         WriterError::LongName => 99,
     }
-        WriterError::HasHeader => 74,
 }
 
 /// The number of a refusal of the MADT's entries (section 5.2.12); 99 stands for that which no call returns.

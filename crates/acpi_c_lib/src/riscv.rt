@@ -2,7 +2,7 @@
 //! entries of the MADT.
 ghost use Rattle.std.specs.Prelude.{◌≡◌, Option, filter_map};
 ghost use Rattle.acpi_riscv.specs.Words.{entries_left, entries_of};
-ghost use Rattle.acpi_c_lib.specs.Words.{madt_kind, RiscvEntry, Fills, Writes, aplic_in, below_riscv, imsic_in, lists_some, plic_in, rintc_in};
+ghost use Rattle.acpi_c_lib.specs.Words.{RiscvEntry, Fills, Writes, aplic_in, below_riscv, imsic_in, lists_some, plic_in, rintc_in};
 
 use crate::lists::{Listing, fill};
 use crate::opening::first;
@@ -37,11 +37,17 @@ impl<R: RiscvRecord> Listing<(), R> for RiscvEntryIter<'_> {
 }
 
 /// Lists the entries of one type of the first valid MADT.
+///
+/// Fails as `first` does, and then with `NoRiscv` if it has none of any of these types.
+#[tactic(auto, unfolding(crate::specs::Riscv::riscv_entries))]
 pub fn riscv_entries<R: RiscvRecord>(source: &Source<'_>, out: &mut [R]) -> Result<usize, Refusal>
     ensures { Fills result out.old out.new (below_riscv source.now R.record_in) }
 {
     let memory = Mapped::new(source.regions);
     let madt = first::<Madt>(&memory, source)?;
+    if RiscvEntryIter::over(madt.bytes()).next().is_none() {
+        return Err(Refusal::NoRiscv);
+    }
     Ok(fill_entries(madt.bytes(), out))
 }
 

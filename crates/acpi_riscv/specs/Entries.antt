@@ -1,6 +1,6 @@
 -- The entries of a MADT that describe a RISC-V machine (ACPI 6.6, section 5.2.12). A field past the end of an entry is
 -- read as zeros.
-use Rattle.std.specs.Prelude.{ℕ, ◌==◌, ◌&&◌, Bool, nat_le, List, length, slice_index, Option, Some, None, if◌then◌else◌, filter_map}
+use Rattle.std.specs.Prelude.{ℕ, ◌==◌, ◌&&◌, ◌||◌, Bool, nat_le, nat_lt, List, length, slice_index, Option, Some, None, if◌then◌else◌, filter_map}
 use Rattle.acpi_base.specs.Words.{cut, cut_of, field_of, madt_grammar}
 use Rattle.acpi_riscv.specs.declared.entry.Aplic.{Aplic}
 use Rattle.acpi_riscv.specs.declared.entry.Imsic.{Imsic}
@@ -63,17 +63,29 @@ plic_at b = record {
   global_system_interrupt_base = field_of b 32 4;  -- Global System Interrupt Vector Base
 }
 
--- whether an entry is of a type (Type is its byte 0), and has all bytes of it
-abbrev pub is_a : ℕ → ℕ → List ℕ → Bool
-is_a kind least e = slice_index e 0 == kind && nat_le least (length e)
+-- how many bytes an entry of one of these types has at least, by its layout
+abbrev pub least_of : ℕ → ℕ
+least_of kind =
+    if kind == 0x18 then 20
+    else if kind == 0x19 then 16
+    else if (kind == 0x1a) || (kind == 0x1b) then 36
+    else 0
+
+-- whether an entry is of one of these types (Type is its byte 0), and has fewer
+abbrev pub is_short : List ℕ → Bool
+is_short e = nat_lt (length e) (least_of (slice_index e 0))
+
+-- whether an entry is of a type, and has all bytes of its layout
+abbrev pub is_a : ℕ → List ℕ → Bool
+is_a kind e = slice_index e 0 == kind && nat_le (least_of kind) (length e)
 
 -- what an entry of one of these types says
 abbrev pub entry_of : List ℕ → Option RiscvEntry
 entry_of e =
-    if is_a 0x18 20 e then Some (kinds.Rintc (rintc_at e)) else
-    if is_a 0x19 16 e then Some (kinds.Imsic (imsic_at e)) else
-    if is_a 0x1a 36 e then Some (kinds.Aplic (aplic_at e)) else
-    if is_a 0x1b 36 e then Some (kinds.Plic (plic_at e)) else None
+    if is_a 0x18 e then Some (kinds.Rintc (rintc_at e)) else
+    if is_a 0x19 e then Some (kinds.Imsic (imsic_at e)) else
+    if is_a 0x1a e then Some (kinds.Aplic (aplic_at e)) else
+    if is_a 0x1b e then Some (kinds.Plic (plic_at e)) else None
 
 -- those of a MADT's entries, in order
 abbrev pub entries_of : List ℕ → List RiscvEntry

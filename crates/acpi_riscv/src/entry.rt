@@ -1,7 +1,7 @@
 //! The entries of a MADT that describe a RISC-V machine (section 5.2.12).
 ghost use Rattle.std.specs.Prelude.{◌≡◌};
 ghost use Rattle.acpi_base.specs.Words.{IsEntry, madt_layout};
-ghost use Rattle.acpi_riscv.specs.Words.{aplic_at, entry_of, imsic_at, plic_at, rintc_at};
+ghost use Rattle.acpi_riscv.specs.Words.{aplic_at, entry_of, imsic_at, is_short, least_of, plic_at, rintc_at};
 
 use acpi_base::bytes::field;
 
@@ -111,19 +111,42 @@ pub enum RiscvEntry {
 }
 
 impl RiscvEntry {
-    /// The entry that bytes mean, or `None` if it is of another type, or has fewer bytes than its type: 20, 16, 36 and
-    /// 36 for types 0x18 to 0x1b.
+    /// Whether an entry is of one of these types and has fewer bytes than its layout: 20, 16, 36 and 36 for types 0x18
+    /// to 0x1b.
+    pub fn is_short(entry: &[u8]) -> bool
+        requires { IsEntry madt_layout entry.now }
+        ensures { result ≡ is_short entry.now }
+    {
+        entry.len() < least_of(entry[0])
+    }
+
+    /// The entry that bytes mean, or `None` if it is of another type, or is short.
     pub(crate) fn read(entry: &[u8]) -> Option<RiscvEntry>
         requires { IsEntry madt_layout entry.now }
         ensures { result ≡ entry_of entry.now }
     {
+        if RiscvEntry::is_short(entry) {
+            return None;
+        }
         match entry[0] {
-            0x18 if entry.len() >= 20 => Some(RiscvEntry::Rintc(rintc_at(entry))),
-            0x19 if entry.len() >= 16 => Some(RiscvEntry::Imsic(imsic_at(entry))),
-            0x1a if entry.len() >= 36 => Some(RiscvEntry::Aplic(aplic_at(entry))),
-            0x1b if entry.len() >= 36 => Some(RiscvEntry::Plic(plic_at(entry))),
+            0x18 => Some(RiscvEntry::Rintc(rintc_at(entry))),
+            0x19 => Some(RiscvEntry::Imsic(imsic_at(entry))),
+            0x1a => Some(RiscvEntry::Aplic(aplic_at(entry))),
+            0x1b => Some(RiscvEntry::Plic(plic_at(entry))),
             _ => None,
         }
+    }
+}
+
+/// How many bytes an entry of a type has at least, by its layout; of other types than these none are asked.
+fn least_of(kind: u8) -> usize
+    ensures { result ≡ least_of kind }
+{
+    match kind {
+        0x18 => 20,
+        0x19 => 16,
+        0x1a | 0x1b => 36,
+        _ => 0,
     }
 }
 
