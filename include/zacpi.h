@@ -317,7 +317,8 @@ struct zacpi_root {
     uint8_t revision;      /* of the RSDP; 0 if opened at an RSDT, 2 if at an XSDT */
     uint8_t pointer_width; /* 4 for an RSDT, 8 for an XSDT */
     zacpi_u64 rsdp_address; /* 0 if opened at a root table, and so is the length */
-    uint32_t rsdp_length;
+    uint32_t rsdp_length;  /* Length; at revision 0, which lacks it, 20, though 36 bytes have to be
+                            * mapped there too */
 };
 struct zacpi_table {
     zacpi_u64 address;
@@ -330,7 +331,8 @@ struct zacpi_table {
 struct zacpi_fault {
     zacpi_u64 address;
     zacpi_status status; /* why it isn't valid: ZACPI_MAP_FAILED or a ZACPI_SDT_ error, but for
-                          * ZACPI_SDT_INVALID_SIGNATURE */
+                          * ZACPI_SDT_INVALID_SIGNATURE. Of several the first of zacpi_open's order
+                          * that `accept` doesn't take, or if it takes all, the first */
     uint8_t accepted;    /* 1: it isn't skipped, by `accept` of the source */
 };
 /* How the entries of a table are laid out. zacpi_tables.h has the walk of each table that is so, as
@@ -353,10 +355,11 @@ struct zacpi_aml_table {
 };
 
 /* Makes the root table that a copy of the RSDP points to (multiboot2's tags 14 and 15) the start of
- * `source`, whose regions stay. Fails with ZACPI_MAP_FAILED if the copy is shorter than 20 bytes,
- * or than 36 above revision 0, ZACPI_RSDP_INCORRECT_SIGNATURE, ZACPI_RSDP_INVALID_OEM_ID,
- * ZACPI_RSDP_INVALID_CHECKSUM of the first 20 bytes or for a Length below 36, or above revision 0
- * ZACPI_MAP_FAILED if it is shorter than Length, or ZACPI_RSDP_INVALID_CHECKSUM of all. */
+ * `source`, whose regions and `accept` stay. Fails with ZACPI_MAP_FAILED if the copy is shorter
+ * than 20 bytes, or than 36 above revision 0, ZACPI_RSDP_INCORRECT_SIGNATURE,
+ * ZACPI_RSDP_INVALID_OEM_ID, ZACPI_RSDP_INVALID_CHECKSUM of the first 20 bytes or for a Length
+ * below 36, or above revision 0 ZACPI_MAP_FAILED if it is shorter than Length, or
+ * ZACPI_RSDP_INVALID_CHECKSUM of all. */
 ZACPI_STATUS zacpi_start_of_rsdp(const uint8_t *rsdp, size_t rsdp_length,
                                  struct zacpi_source *source);
 
@@ -619,8 +622,9 @@ ZACPI_STATUS zacpi_get_console(const struct zacpi_source *source, struct zacpi_c
                                struct zacpi_signature *signature);
 
 /* Returns the power management timer of the FADT, which counts at 3.579545 MHz (sections 4.8.3.3
- * and 5.2.9). There is none if PM_TMR_LEN isn't 4, or no field gives an address. Fails with an
- * opening error, ZACPI_TABLE_MISSING "FACP", or ZACPI_INVALID_GENERIC_ADDRESS if there is a timer,
+ * and 5.2.9). There is none if PM_TMR_LEN isn't 4, or no field gives an address; reduced hardware
+ * (ZACPI_FADT_HW_REDUCED_ACPI) has none, whatever this returns of its fields. Fails with an opening
+ * error, ZACPI_TABLE_MISSING "FACP", or ZACPI_INVALID_GENERIC_ADDRESS if there is a timer,
  * and X_PM_TMR_BLK has a reserved code and an Address that isn't 0. */
 ZACPI_STATUS zacpi_get_pm_timer(const struct zacpi_source *source, struct zacpi_pm_timer *out,
                                 struct zacpi_signature *signature);
@@ -698,12 +702,12 @@ ZACPI_STATUS zacpi_get_reset_plan(const struct zacpi_source *source, struct zacp
                                   struct zacpi_signature *signature);
 
 /* Returns what to write to enable ACPI: ACPI_ENABLE to the port SMI_CMD, then until SCI_EN of
- * PM1a_CNT is set (section 4.8.3.2.1). No step on a machine that is always in ACPI mode: on reduced
- * hardware, and if SMI_CMD is 0, or ACPI_ENABLE and ACPI_DISABLE both are (section 5.2.9). If
- * SCI_EN is set already, ACPI is enabled: look at the register of the last step before the first
- * one, and run none. Fails with an opening error, or ZACPI_TABLE_MISSING "FACP", and else, unless
- * there is no step, with ZACPI_INVALID_GENERIC_ADDRESS, or ZACPI_NO_REGISTER if PM1a_CNT is at
- * address 0. */
+ * PM1a_CNT is set (section 4.8.3.2.1). The port is a register of one byte: its bit_width is 8, and
+ * its access_size 1. No step on a machine that is always in ACPI mode: on reduced hardware, and if
+ * SMI_CMD is 0, or ACPI_ENABLE and ACPI_DISABLE both are (section 5.2.9). If SCI_EN is set already,
+ * ACPI is enabled: look at the register of the last step before the first one, and run none. Fails
+ * with an opening error, or ZACPI_TABLE_MISSING "FACP", and else, unless there is no step, with
+ * ZACPI_INVALID_GENERIC_ADDRESS, or ZACPI_NO_REGISTER if PM1a_CNT is at address 0. */
 ZACPI_STATUS zacpi_get_enable_plan(const struct zacpi_source *source, struct zacpi_plan *out,
                                    struct zacpi_signature *signature);
 
@@ -974,7 +978,8 @@ struct zacpi_gic_msi_frame { /* GIC MSI Frame, section 5.2.12.16 */
 ZACPI_STATUS zacpi_get_gic_distributor(const struct zacpi_source *source,
                                        struct zacpi_gic_distributor *out,
                                        struct zacpi_signature *signature);
-/* zacpi_list_madt_faults has where the four lists below end. */
+/* Where the four lists below end is an item of zacpi_list_madt_faults with
+ * ZACPI_MADT_INVALID_ENTRY_LENGTH; its other items end none. */
 
 /* Lists the GICCs. Fails with an opening error, ZACPI_TABLE_MISSING "APIC", or ZACPI_NO_GIC. */
 ZACPI_STATUS zacpi_list_gic_cpu_interfaces(const struct zacpi_source *source,
