@@ -809,8 +809,8 @@ struct zacpi_processor { /* Processor Local APIC and Processor Local x2APIC, sec
     uint32_t local_apic_id;    /* APIC ID or X2APIC ID */
     uint8_t state;             /* one of enum zacpi_processor_state */
     uint8_t is_boot;
-    uint8_t is_online_capable; /* bit 1 of Flags: disabled, it can be enabled later; reserved
-                                * below revision 5 */
+    uint8_t is_online_capable; /* bit 1 of Flags: disabled, it can be enabled later. 0 below
+                                * revision 5 (ACPI 6.3), where the bit is reserved */
     uint8_t is_x2apic;         /* the entry is a Processor Local x2APIC */
 };
 

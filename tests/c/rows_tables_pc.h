@@ -143,12 +143,14 @@ PUTS(madt_many,
     {180, 2, HEADER(0xa, 12)}, {180 + 4, 4, 0x567} /* ACPI Processor UID */, {180 + 8, 1, 1} /* Local x2APIC LINT# */,
     {192, 2, HEADER(5, 12)}, {192 + 4, 8, 0x1fee01000} /* Local APIC Address */,
     {204, 2, HEADER(5, 12)}, {204 + 4, 8, 0x1fee02000} /* Local APIC Address */, {216, 2, HEADER(0x7f, 5)});
-/* The first processor is enabled, and there are no 8259s, though all other bits of Flags are set. */
+/* The first processor is enabled, and there are no 8259s, though all other bits of Flags are set. Online Capable is
+ * reserved in revision 4. */
 PUTS(madt_first,
     {36, 4, 0xfee03000} /* Local Interrupt Controller Address */, {40, 4, 0xfffffffe} /* Flags */,
-    {44, 2, HEADER(9, 16)}, {44 + 4, 4, 7} /* X2APIC ID */, {44 + 8, 4, 1} /* Flags: Enabled */,
+    {44, 2, HEADER(9, 16)}, {44 + 4, 4, 7} /* X2APIC ID */, {44 + 8, 4, 3} /* Flags: Enabled, reserved */,
     {44 + 12, 4, 8} /* ACPI Processor UID */,
-    {60, 2, HEADER(0, 8)}, {60 + 2, 1, 6} /* ACPI Processor UID */, {60 + 3, 1, 5} /* APIC ID; not Enabled */);
+    {60, 2, HEADER(0, 8)}, {60 + 2, 1, 6} /* ACPI Processor UID */, {60 + 3, 1, 5} /* APIC ID */,
+    {60 + 4, 4, 2} /* Flags: not Enabled, reserved */);
 /* An entry of the first reserved type and one of waking, of the last that isn't: no APICs. */
 PUTS(madt_unknown,
     {36, 4, 0xfee04000} /* Local Interrupt Controller Address */, {40, 4, 1} /* Flags: PCAT_COMPAT */,

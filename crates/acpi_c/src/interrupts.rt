@@ -1,6 +1,6 @@
 //! The interrupt model and the processors, and how interrupts come to the I/O APICs.
 ghost use Rattle.std.specs.Prelude.{◌≡◌, filter_map};
-ghost use Rattle.acpi_c_lib.specs.Words.{Answers, AnswersList, items_beside, put_from, isa_list_below, below_platform, counts_of, io_apic_in, madt_faults_below, nmi_line_in, nmi_source_in, override_in, processors_of, below_apics, below_known, isa_below, mailbox_below, pin_below, sci_below};
+ghost use Rattle.acpi_c_lib.specs.Words.{Answers, AnswersList, items_beside, put_from, isa_list_below, below_platform, counts_of, io_apic_in, madt_faults_below, nmi_line_in, nmi_source_in, override_in, processors_below, below_apics, below_known, isa_below, mailbox_below, pin_below, sci_below};
 
 use acpi_c_lib::answer::answer;
 use acpi_c_lib::apics::{entries, mailbox, processors};
@@ -49,7 +49,7 @@ pub extern "C" fn zacpi_1_list_processors(
     named: &mut Signature,
 ) -> u32
     ensures { AnswersList result out.old out.new count.old count.new named.old named.new
-        (below_apics source.now processors_of) }
+        (processors_below source.now) }
 {
     answer(processors(source, out), count, named)
 }
@@ -69,7 +69,7 @@ pub extern "C" fn zacpi_1_platform(
     ensures model { Answers result out.old out.new named.old named.new (below_known source.now counts_of) }
     ensures processors { processors.new
         ≡ put_from processors.old 0 (items_beside (below_known source.now counts_of)
-        (below_apics source.now processors_of)) }
+        (processors_below source.now)) }
     ensures io_apics { io_apics.new
         ≡ put_from io_apics.old 0 (items_beside (below_known source.now counts_of)
         (below_apics source.now (filter_map io_apic_in))) }

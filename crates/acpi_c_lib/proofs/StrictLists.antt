@@ -10,7 +10,7 @@ use Rattle.acpi_base.specs.declared.model.interrupt.Polarity.TheVariants as pola
 use Rattle.acpi_base.specs.declared.model.interrupt.TriggerMode.TheVariants as trigger
 use Rattle.acpi_base.specs.declared.tables.madt.entry.MadtEntry.TheVariants as entry
 use Rattle.acpi_c_lib.specs.Records as records
-use Rattle.acpi_c_lib.specs.Words.{cons_option, result_err, result_ok, result_unwrap_or, all_apics, all_x2apics, line_of, processor_for, flags_fault, item_of, override_fault, trigger_mode_of, unless_fault, bits_of, cut_of, entries_of, has_bit, polarity_code, trigger_code, uid_code, ◌>>=◌, All, Lint0, LocalInterruptLine, MadtEntry, MadtError, MadtItem, Polarity, ProcessorUid, TriggerMode, InterruptOverrideEntryHasInvalidBus, InterruptSourceOverrideEntry, NmiSourceEntry, ListsAreModels, line_said, line_shown, nmi_source_record, of_all, override_record, processor_said, processor_shown, state_code, flag, boot_first, io_apic_in, io_apic_record, listed, nmi_line, nmi_line_in, nmi_source_in, override_in, processor_in}
+use Rattle.acpi_c_lib.specs.Words.{cons_option, result_err, result_ok, result_unwrap_or, all_apics, all_x2apics, line_of, processor_for, flags_fault, item_of, override_fault, trigger_mode_of, unless_fault, bits_of, cut_of, entries_of, field_of, has_bit, polarity_code, trigger_code, uid_code, ◌>>=◌, All, Lint0, LocalInterruptLine, MadtEntry, MadtError, MadtItem, Polarity, ProcessorUid, TriggerMode, InterruptOverrideEntryHasInvalidBus, InterruptSourceOverrideEntry, NmiSourceEntry, ListsAreModels, line_said, line_shown, nmi_source_record, of_all, override_record, processor_said, processor_shown, state_code, flag, boot_first, io_apic_in, io_apic_record, listed, nmi_line, nmi_line_in, nmi_source_in, override_in, processor_in}
 
 -- ---- what holds of each entry holds of the lists
 
@@ -192,11 +192,11 @@ waits : (b : Bool) (uid id : ℕ) → ◌≡◌ {A = Option (ℕ × ℕ × ℕ �
 waits true uid id = refl
 waits false uid id = refl
 
-waiting : Agree processor_in processor_shown (base.processor_in true) processor_said
+waiting : (revision : ℕ) → Agree (processor_in revision) processor_shown (base.processor_in true) processor_said
 unfolding item_of
-waiting (entry.LocalApic e) h = waits (has_bit e.flags 0) e.processor_id e.apic_id
-waiting (entry.LocalX2Apic e) h = waits (has_bit e.flags 0) e.processor_uid e.x2apic_id
-waiting _ h = refl
+waiting revision (entry.LocalApic e) h = waits (has_bit e.flags 0) e.processor_id e.apic_id
+waiting revision (entry.LocalX2Apic e) h = waits (has_bit e.flags 0) e.processor_uid e.x2apic_id
+waiting revision _ h = refl
 
 runs : (b : Bool) (uid id : ℕ) (xs ys : List (ℕ × ℕ × ℕ × ℕ)) → xs ≡ ys
     → ◌≡◌ {A = List (ℕ × ℕ × ℕ × ℕ)} ((uid, id, if flag b == 0 then 0 else 2, 1) ∷ xs)
@@ -208,23 +208,23 @@ abbrev said_by : List MadtItem → List (ℕ × ℕ × ℕ × ℕ)
 said_by items = map processor_said (listed (base.processors_of items))
 
 -- one more entry before others, whose first processor is the boot processor
-one_more : (e : MadtEntry) (es : List MadtEntry) → filter_map base.fault_in es ≡ []
-    → map processor_shown (boot_first (filter_map processor_in es)) ≡ said_by (filter_map base.item_in es)
-    → map processor_shown (boot_first (filter_map processor_in (e ∷ es)))
+one_more : (revision : ℕ) (e : MadtEntry) (es : List MadtEntry) → filter_map base.fault_in es ≡ []
+    → map processor_shown (boot_first (filter_map (processor_in revision) es)) ≡ said_by (filter_map base.item_in es)
+    → map processor_shown (boot_first (filter_map (processor_in revision) (e ∷ es)))
     ≡ said_by (cons_option (said e) (filter_map base.item_in es))
 unfolding item_of
-one_more (entry.LocalApic e) es none more = runs (has_bit e.flags 0) e.processor_id e.apic_id _ _
-    (agree processor_in processor_shown (base.processor_in true) processor_said waiting es none)
-one_more (entry.LocalX2Apic e) es none more = runs (has_bit e.flags 0) e.processor_uid e.x2apic_id _ _
-    (agree processor_in processor_shown (base.processor_in true) processor_said waiting es none)
-one_more _ es none more = more
+one_more revision (entry.LocalApic e) es none more = runs (has_bit e.flags 0) e.processor_id e.apic_id _ _
+    (agree (processor_in revision) processor_shown (base.processor_in true) processor_said (waiting revision) es none)
+one_more revision (entry.LocalX2Apic e) es none more = runs (has_bit e.flags 0) e.processor_uid e.x2apic_id _ _
+    (agree (processor_in revision) processor_shown (base.processor_in true) processor_said (waiting revision) es none)
+one_more revision _ es none more = more
 
-processors : (es : List MadtEntry) → filter_map base.fault_in es ≡ []
-    → map processor_shown (boot_first (filter_map processor_in es)) ≡ said_by (filter_map base.item_in es)
-processors [] h = refl
-processors (e ∷ es) h =
+processors : (revision : ℕ) (es : List MadtEntry) → filter_map base.fault_in es ≡ []
+    → map processor_shown (boot_first (filter_map (processor_in revision) es)) ≡ said_by (filter_map base.item_in es)
+processors revision [] h = refl
+processors revision (e ∷ es) h =
     let both = both_none (base.fault_in e) (filter_map base.fault_in es) h in
-    one_more e es both.1 (processors es both.1)
+    one_more revision e es both.1 (processors revision es both.1)
     ∙ ap (λ i. said_by (cons_option i (filter_map base.item_in es))) (sym (all_said e both.0))
 
 -- ---- the law
@@ -242,5 +242,5 @@ lists_are_models table h =
       nmi_sources =
           sym (unmapped _) ∙ agree nmi_source_in (λ x. x) base.nmi_source_in nmi_source_record nmi_sources es none;
       nmi_lines = agree nmi_line_in line_shown base.nmi_line_in line_said nmi_lines es none;
-      processors = processors es none;
+      processors = processors (field_of table 8 1) es none;
     }

@@ -57,7 +57,7 @@ pub record AreModels (table : List ℕ) : Type 0 where
       ≡ map nmi_source_record (filter_map base.nmi_source_in (base.items_of table))
   pub nmi_lines : map line_shown (filter_map nmi_line_in (entries_of table))
       ≡ map line_said (filter_map base.nmi_line_in (base.items_of table))
-  pub processors : map processor_shown (processors_of (entries_of table))
+  pub processors : map processor_shown (processors_of table)
       ≡ map processor_said (listed (base.processors_of (base.items_of table)))
 
 abbrev pub ListsAreModels : Type 0

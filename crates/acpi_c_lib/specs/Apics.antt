@@ -1,8 +1,8 @@
 -- What the entries of a MADT that describes APICs say, each by itself (ACPI 6.4, section 5.2.12): what another entry
 -- says, or why the strict model refuses it, changes nothing.
-use Rattle.std.specs.Prelude.{ℕ, ◌==◌, Bool, true, false, List, [], ◌∷◌, Option, Some, None, Result, Ok, if◌then◌else◌, filter_map}
+use Rattle.std.specs.Prelude.{ℕ, ◌==◌, ◌&&◌, Bool, true, false, nat_le, List, [], ◌∷◌, Option, Some, None, Result, Ok, if◌then◌else◌, filter_map}
 use Rattle.acpi_base.specs.FromStd.{list_any}
-use Rattle.acpi_base.specs.Words.{all_apics, all_x2apics, bits_of, has_bit, entries_of, mailbox_of, ◌>>=◌, holds}
+use Rattle.acpi_base.specs.Words.{all_apics, all_x2apics, bits_of, field_of, has_bit, entries_of, mailbox_of, ◌>>=◌, holds}
 pub use Rattle.acpi.specs.Types.{MadtEntry}
 use Rattle.acpi_base.specs.declared.tables.madt.entry.MadtEntry.TheVariants as entry
 use Rattle.acpi.specs.Words.{madt_kind}
@@ -30,17 +30,21 @@ is_of_apics (entry.LocalX2Apic e) = true
 is_of_apics (entry.X2ApicNmi e) = true
 is_of_apics _ = false
 
--- the entries of a table, if any is of APICs
-abbrev pub apics_among : List MadtEntry → Result (List MadtEntry) Refusal
-apics_among entries = do
-  _ ← holds (list_any is_of_apics entries) NoApics
-  Ok entries
+-- the bytes of a table, if one of its entries up to the first malformed front is of APICs
+abbrev pub apics_among : List ℕ → Result (List ℕ) Refusal
+apics_among table = do
+  _ ← holds (list_any is_of_apics (entries_of table)) NoApics
+  Ok table
 
--- those of the first valid MADT, up to the first malformed front
-unfoldable pub apic_entries : Source → Result (List MadtEntry) Refusal
-apic_entries s = do
+-- those of the first valid MADT
+unfoldable pub apic_table : Source → Result (List ℕ) Refusal
+apic_table s = do
   table ← first_table madt_kind s
-  apics_among (entries_of table)
+  apics_among table
+
+-- its entries
+abbrev pub apic_entries : Source → Result (List MadtEntry) Refusal
+apic_entries s = result_map entries_of (apic_table s)
 
 -- what is shown of them
 abbrev pub below_apics : {A : Type 0} → Source → (List MadtEntry → A) → Result A Refusal
@@ -48,21 +52,22 @@ below_apics s show = result_map show (apic_entries s)
 
 -- ---- processors (sections 5.2.12.2 and 5.2.12.12)
 
--- a processor that waits, if it is enabled. Flags (Local APIC Flags): bit 0 Enabled, bit 1 Online Capable
-abbrev pub processor : Bool → ℕ → ℕ → ℕ → records.Processor
-processor is_x2apic uid id flags = record {
+-- a processor that waits, if it is enabled, in a table of a revision. Flags (Local APIC Flags): bit 0 Enabled, bit 1
+-- Online Capable, which came with ACPI 6.3, revision 5 of the MADT, and is reserved below
+abbrev pub processor : ℕ → Bool → ℕ → ℕ → ℕ → records.Processor
+processor revision is_x2apic uid id flags = record {
   uid = uid;
   local_apic_id = id;
   state = flag (has_bit flags 0);
   is_boot = 0;
-  is_online_capable = flag (has_bit flags 1);
+  is_online_capable = flag (nat_le 5 revision && has_bit flags 1);
   is_x2apic = flag is_x2apic;
 }
 
-abbrev pub processor_in : MadtEntry → Option records.Processor
-processor_in (entry.LocalApic e) = Some (processor false e.processor_id e.apic_id e.flags)
-processor_in (entry.LocalX2Apic e) = Some (processor true e.processor_uid e.x2apic_id e.flags)
-processor_in _ = None
+abbrev pub processor_in : ℕ → MadtEntry → Option records.Processor
+processor_in revision (entry.LocalApic e) = Some (processor revision false e.processor_id e.apic_id e.flags)
+processor_in revision (entry.LocalX2Apic e) = Some (processor revision true e.processor_uid e.x2apic_id e.flags)
+processor_in revision _ = None
 
 -- as the boot processor: it runs, if it is enabled
 abbrev pub booted : records.Processor → records.Processor
@@ -73,8 +78,12 @@ abbrev pub boot_first : List records.Processor → List records.Processor
 boot_first [] = []
 boot_first (p ∷ others) = booted p ∷ others
 
-abbrev pub processors_of : List MadtEntry → List records.Processor
-processors_of entries = boot_first (filter_map processor_in entries)
+-- those of a table, whose Revision is its byte 8
+abbrev pub processors_of : List ℕ → List records.Processor
+processors_of table = boot_first (filter_map (processor_in (field_of table 8 1)) (entries_of table))
+
+abbrev pub processors_below : Source → Result (List records.Processor) Refusal
+processors_below s = result_map processors_of (apic_table s)
 
 -- ---- I/O APICs (section 5.2.12.3)
 

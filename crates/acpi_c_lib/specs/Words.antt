@@ -4,8 +4,8 @@ pub use Rattle.acpi_c_lib.specs.Accepted.{accepted_lookup, names_accepted}
 unfoldable pub use Rattle.acpi_c_lib.specs.Accepted.{accepted_at, loosened_at, own_accepted_at}
 pub use Rattle.acpi_c_lib.specs.Answers.{Answers, AnswersList, AnswersPlain, AnswersSome, Fills, GivesSome, Writes, items_beside, items_said, name_or, put_from, result_map}
 pub use Rattle.acpi_c_lib.specs.ApicLaws.{ListsAreModels, line_said, line_shown, nmi_source_record, of_all, override_record, processor_said, processor_shown, state_code}
-pub use Rattle.acpi_c_lib.specs.Apics.{MadtEntry, below_apics, mailbox_below, boot_first, booted, io_apic_in, is_of_apics, nmi_line, nmi_line_in, nmi_source_in, override_in, processor, processor_in, processors_of}
-unfoldable pub use Rattle.acpi_c_lib.specs.Apics.{apic_entries}
+pub use Rattle.acpi_c_lib.specs.Apics.{MadtEntry, apic_entries, below_apics, mailbox_below, boot_first, booted, io_apic_in, is_of_apics, nmi_line, nmi_line_in, nmi_source_in, override_in, processor, processor_in, processors_below, processors_of}
+unfoldable pub use Rattle.acpi_c_lib.specs.Apics.{apic_table}
 pub use Rattle.acpi_c_lib.specs.Arm.{below_gic, cpu_interfaces_shown, distributor_below, is_of_gic, msi_frames_shown, redistributors_shown, translation_services_shown}
 pub use Rattle.acpi_c_lib.specs.ArmTimers.{GtFrame, arm_timer_or, arm_timer_record, frame_record, frames_in, frames_of, frames_shown, gtdt_below, or_ones, timers_record, timers_shown, watchdog_in, watchdogs_of, watchdogs_shown}
 pub use Rattle.acpi_c_lib.specs.Below.{AcpiError, Refusal, Source, check_policy, ebda_in, opened_in, opened_of, pointers_in, refused_as, root_pointer_in, root_there, rsdp_in, rsdp_length, rsdp_place_in}

@@ -2,7 +2,7 @@
 ghost use Rattle.std.specs.Prelude.{◌≡◌, Option, length, filter_map};
 ghost use Rattle.acpi_base.specs.FromStd.{list_any};
 ghost use Rattle.acpi_base.specs.Words.{entries_of, bytes_of, entries_left, Gives};
-ghost use Rattle.acpi_c_lib.specs.Words.{Fills, Writes, put_from, MadtEntry, apic_entries, below_apics, boot_first, booted, io_apic_in, is_of_apics, mailbox_below, nmi_line, nmi_line_in, nmi_source_in, override_in, processor, processor_in, processors_of, mapped_memory, lists_some, memory_in};
+ghost use Rattle.acpi_c_lib.specs.Words.{Fills, Writes, put_from, MadtEntry, apic_table, below_apics, boot_first, booted, io_apic_in, is_of_apics, mailbox_below, nmi_line, nmi_line_in, nmi_source_in, override_in, processor, processor_in, processors_below, processors_of, mapped_memory, lists_some, memory_in};
 
 use crate::interrupt_records::{InterruptSourceOverride, IoApic, NmiLine, NmiSource, Processor};
 use crate::lists::{Listing, fill};
@@ -13,7 +13,7 @@ use crate::regions::Mapped;
 use acpi::PhysicalMapping;
 use acpi::madt::Madt;
 use acpi::platform::interrupt::NmiProcessor;
-use acpi_base::bytes::{bits, has_bit};
+use acpi_base::bytes::{bits, field, has_bit};
 use acpi_base::madt::{MadtEntry, MadtEntryIter};
 
 /// Where the mailbox lies by which processors are woken, by the first valid MADT (section 5.2.12.19).
@@ -29,13 +29,13 @@ pub fn mailbox(source: &Source<'_>) -> Result<u64, Refusal>
 /// The first valid MADT, if one of its entries is of APICs.
 ///
 /// Fails as `first` does, and then with `NoApics`.
-#[tactic(auto, unfolding(crate::specs::Apics::apic_entries))]
+#[tactic(auto, unfolding(crate::specs::Apics::apic_table))]
 pub(crate) fn apics<'h, 'k>(
     memory: &'h Result<Mapped<'k>, Refusal>,
     source: &Source<'_>,
 ) -> Result<PhysicalMapping<'h, Mapped<'k>, Madt>, Refusal>
     requires { Gives (λ m. mapped_memory m) memory.now (memory_in source.now.regions.now) }
-    ensures { Gives (λ m. entries_of (bytes_of m)) result (apic_entries source.now) }
+    ensures { Gives (λ m. bytes_of m) result (apic_table source.now) }
 {
     let madt = first::<Madt>(memory, source)?;
     if !describes_apics(madt.bytes()) {
@@ -116,7 +116,7 @@ fn fill_entries<R: MadtRecord>(table: &[u8], out: &mut [R]) -> usize
 
 /// Lists the processors, the boot processor first.
 pub fn processors(source: &Source<'_>, out: &mut [Processor]) -> Result<usize, Refusal>
-    ensures { Fills result out.old out.new (below_apics source.now processors_of) }
+    ensures { Fills result out.old out.new (processors_below source.now) }
 {
     let memory = Mapped::new(source.regions);
     let madt = apics(&memory, source)?;
@@ -124,11 +124,12 @@ pub fn processors(source: &Source<'_>, out: &mut [Processor]) -> Result<usize, R
 }
 
 /// Writes the processors of a MADT, the boot processor first.
-#[tactic(auto, using(crate::proofs::ApicLists::as_many))]
+#[tactic(auto, using(crate::proofs::ApicLists::as_many, acpi::proofs::First::filter_map_few))]
 fn fill_processors(table: &[u8], out: &mut [Processor]) -> usize
-    ensures { Writes result out.old out.new (processors_of (entries_of table.now)) }
+    ensures { Writes result out.old out.new (processors_of table.now) }
 {
-    let count = fill_entries(table, out);
+    let revision = field(table, 8, 1) as u8; // Revision
+    let count = fill(MadtEntryIter::over(table), &revision, out);
     boot_first(out, count);
     count
 }
@@ -154,33 +155,50 @@ fn booted(processor: Processor) -> Processor
     }
 }
 
-/// A processor that waits, if it is enabled.
-fn processor(is_x2apic: bool, uid: u32, local_apic_id: u32, flags: u32) -> Processor
-    ensures { result ≡ processor is_x2apic uid local_apic_id flags }
+impl Listing<u8, Processor> for MadtEntryIter<'_> {
+    ghost record_of = { processor_in };
+
+    ghost left = { λ revision s. filter_map (processor_in revision) (entries_left s) };
+
+    ghost gives_first = { λ revision s item t given.
+        lists_some (processor_in revision) (λ x. entries_left x) s item t given.0 };
+
+    fn record(revision: &u8, entry: MadtEntry) -> Option<Processor>
+        ensures { result ≡ processor_in revision.now entry }
+    {
+        processor_in(*revision, &entry)
+    }
+}
+
+/// The processor that an entry describes in a table of a revision, if it describes one.
+pub(crate) fn processor_in(revision: u8, entry: &MadtEntry) -> Option<Processor>
+    ensures { result ≡ processor_in revision entry.now }
 {
+    match entry {
+        MadtEntry::LocalApic(e) => {
+            let uid = e.processor_id as u32;
+            Some(processor(revision, false, uid, e.apic_id as u32, e.flags))
+        }
+        MadtEntry::LocalX2Apic(e) => {
+            Some(processor(revision, true, e.processor_uid, e.x2apic_id, e.flags))
+        }
+        _ => None,
+    }
+}
+
+/// A processor that waits, if it is enabled, in a table of a revision.
+fn processor(revision: u8, is_x2apic: bool, uid: u32, local_apic_id: u32, flags: u32) -> Processor
+    ensures { result ≡ processor revision is_x2apic uid local_apic_id flags }
+{
+    // Online Capable, since ACPI 6.3.
+    let is_online_capable = revision >= 5 && has_bit(flags as u64, 1);
     Processor {
         uid,
         local_apic_id,
         state: has_bit(flags as u64, 0) as u8, // Enabled
         is_boot: 0,
-        is_online_capable: has_bit(flags as u64, 1) as u8, // Online Capable
+        is_online_capable: is_online_capable as u8,
         is_x2apic: is_x2apic as u8,
-    }
-}
-
-impl MadtRecord for Processor {
-    ghost record_in = { processor_in };
-
-    fn said(entry: &MadtEntry) -> Option<Processor> {
-        match entry {
-            MadtEntry::LocalApic(e) => {
-                Some(processor(false, e.processor_id as u32, e.apic_id as u32, e.flags))
-            }
-            MadtEntry::LocalX2Apic(e) => {
-                Some(processor(true, e.processor_uid, e.x2apic_id, e.flags))
-            }
-            _ => None,
-        }
     }
 }
 

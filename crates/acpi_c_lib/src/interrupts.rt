@@ -3,7 +3,7 @@ ghost use Rattle.std.specs.Prelude.{◌≡◌, true, IfOk, IfSome, Ok, Some, opt
 ghost use Rattle.acpi_base.specs.FromStd.{list_any};
 ghost use Rattle.acpi_base.specs.Words.{counts_of, entries_of, bytes_of, start_of, items_of, Gives};
 ghost use Rattle.acpi.specs.Words.{madt_kind, pointers_left};
-ghost use Rattle.acpi_c_lib.specs.Words.{accepted_lookup, accepted_model, apic_entries, is_of_apics, io_apic_record, model_by, opened_of, platform_model, mapped_memory, memory_in, known_platform, pointers_in};
+ghost use Rattle.acpi_c_lib.specs.Words.{accepted_lookup, accepted_model, apic_table, is_of_apics, io_apic_record, model_by, opened_of, platform_model, mapped_memory, memory_in, known_platform, pointers_in};
 
 use crate::interrupt_records as records;
 use crate::lookup::Lookup;
@@ -54,7 +54,7 @@ pub(crate) fn apic_madt<'h, H: AcpiHandler>(
 /// to in the memory of its regions.
 ///
 /// Fails as `Mapped::new` does, then as `open` and `apic_madt` do, and then with `NoApics` if there is none.
-#[tactic(auto, unfolding(crate::specs::Apics::apic_entries, crate::specs::Below::first_table, crate::specs::Routes::known_platform))]
+#[tactic(auto, unfolding(crate::specs::Apics::apic_table, crate::specs::Below::first_table, crate::specs::Routes::known_platform))]
 pub(crate) fn known_madt<'h, 'k>(
     memory: &'h Result<Mapped<'k>, Refusal>,
     source: &Source<'_>,
@@ -63,7 +63,7 @@ pub(crate) fn known_madt<'h, 'k>(
     ensures platform { Gives (λ x. model_by (Some (bytes_of x.madt))) result (known_platform source.now) }
     ensures counts { IfOk result (λ x. x.counts ≡ counts_of (items_of (bytes_of x.madt))) }
     // So the lists, which look at no fault, are those of this table.
-    ensures entries { IfOk result (λ x. apic_entries source.now ≡ Ok (entries_of (bytes_of x.madt))) }
+    ensures table { IfOk result (λ x. apic_table source.now ≡ Ok (bytes_of x.madt)) }
 {
     let memory = match memory {
         Ok(memory) => memory,

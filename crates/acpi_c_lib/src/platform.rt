@@ -1,10 +1,11 @@
 //! The interrupt model with all its lists at once: the entries of the MADT are walked along once to count them, and
 //! once to write them.
-ghost use Rattle.std.specs.Prelude.{◌≡◌, ◌∷◌, ◌+◌, ◌^◌, ◌<◌, ◌≤◌, List, length, filter_map};
+ghost use Rattle.std.specs.Prelude.{◌≡◌, ◌+◌, ◌^◌, ◌<◌, ◌≤◌, List, length, filter_map};
+ghost use Rattle.acpi_base.specs.FromStd.{cons_option};
 ghost use Rattle.acpi_base.specs.Words.{entries_of};
-ghost use Rattle.acpi_c_lib.specs.Words.{MadtEntry, items_beside, put_from, below_apics, below_known, counts_of, io_apic_in, nmi_line_in, nmi_source_in, override_in, processors_of};
+ghost use Rattle.acpi_c_lib.specs.Words.{items_beside, put_from, below_apics, below_known, counts_of, io_apic_in, nmi_line_in, nmi_source_in, override_in, processors_below, processors_of};
 
-use crate::apics::{MadtRecord, boot_first};
+use crate::apics::{MadtRecord, boot_first, processor_in};
 use crate::interrupt_records::{
     InterruptModel, InterruptSourceOverride, IoApic, NmiLine, NmiSource, Processor,
 };
@@ -14,6 +15,7 @@ use crate::processors::known_model;
 use crate::records::Source;
 use crate::refusal::Refusal;
 use crate::regions::Mapped;
+use acpi_base::bytes::field;
 use acpi_base::madt::{MadtEntry, MadtEntryIter};
 
 /// The model of a machine with APICs, with its lists, each as the call for it alone answers it.
@@ -27,7 +29,7 @@ pub fn platform(
 ) -> Result<InterruptModel, Refusal>
     ensures model { result ≡ below_known source.now counts_of }
     ensures processors { processors.new
-        ≡ put_from processors.old 0 (items_beside result (below_apics source.now processors_of)) }
+        ≡ put_from processors.old 0 (items_beside result (processors_below source.now)) }
     ensures io_apics { io_apics.new
         ≡ put_from io_apics.old 0 (items_beside result (below_apics source.now (filter_map io_apic_in))) }
     ensures overrides { overrides.new
@@ -59,13 +61,14 @@ fn write_all(
     nmi_sources: &mut [NmiSource],
     nmi_lines: &mut [NmiLine],
 )
-    ensures processors { processors.new ≡ put_from processors.old 0 (processors_of (entries_of table.now)) }
+    ensures processors { processors.new ≡ put_from processors.old 0 (processors_of table.now) }
     ensures io_apics { io_apics.new ≡ put_from io_apics.old 0 (filter_map io_apic_in (entries_of table.now)) }
     ensures overrides { overrides.new ≡ put_from overrides.old 0 (filter_map override_in (entries_of table.now)) }
     ensures nmi_sources { nmi_sources.new
         ≡ put_from nmi_sources.old 0 (filter_map nmi_source_in (entries_of table.now)) }
     ensures nmi_lines { nmi_lines.new ≡ put_from nmi_lines.old 0 (filter_map nmi_line_in (entries_of table.now)) }
 {
+    let revision = field(table, 8, 1) as u8; // Revision
     let mut processor = 0;
     let mut io_apic = 0;
     let mut wiring = 0;
@@ -74,13 +77,17 @@ fn write_all(
     for entry in MadtEntryIter::over(table) {
         match entry {
             MadtEntry::LocalApic(_) | MadtEntry::LocalX2Apic(_) => {
-                processor = add(&entry, processors, processor);
+                processor = add(processor_in(revision, &entry), processors, processor);
             }
-            MadtEntry::IoApic(_) => io_apic = add(&entry, io_apics, io_apic),
-            MadtEntry::InterruptSourceOverride(_) => wiring = add(&entry, overrides, wiring),
-            MadtEntry::NmiSource(_) => nmi_source = add(&entry, nmi_sources, nmi_source),
+            MadtEntry::IoApic(_) => io_apic = add(IoApic::said(&entry), io_apics, io_apic),
+            MadtEntry::InterruptSourceOverride(_) => {
+                wiring = add(InterruptSourceOverride::said(&entry), overrides, wiring);
+            }
+            MadtEntry::NmiSource(_) => {
+                nmi_source = add(NmiSource::said(&entry), nmi_sources, nmi_source);
+            }
             MadtEntry::LocalApicNmi(_) | MadtEntry::X2ApicNmi(_) => {
-                nmi_line = add(&entry, nmi_lines, nmi_line);
+                nmi_line = add(NmiLine::said(&entry), nmi_lines, nmi_line);
             }
             _ => {}
         }
@@ -88,18 +95,15 @@ fn write_all(
     boot_first(processors, processor);
 }
 
-/// Writes what an entry says at an index, if it is of this sort, and says where the next is to stand.
+/// Writes the record of an entry at an index, if it has one, and returns the index of the next.
 #[inline(always)]
-fn add<R: MadtRecord>(entry: &MadtEntry, out: &mut [R], at: usize) -> usize
+fn add<R: Copy>(said: Option<R>, out: &mut [R], at: usize) -> usize
     requires { at < 2 ^ 63 }
-    ensures written { (more : List MadtEntry)
-        → put_from out.new result (filter_map R.record_in more)
-        ≡ put_from out.old at (filter_map R.record_in (entry.now ∷ more)) }
-    ensures count { (more : List MadtEntry)
-        → result + length (filter_map R.record_in more) ≡ at + length (filter_map R.record_in (entry.now ∷ more)) }
+    ensures written { (more : List R) → put_from out.new result more ≡ put_from out.old at (cons_option said more) }
+    ensures count { (more : List R) → result + length more ≡ at + length (cons_option said more) }
     ensures next { result ≤ at + 1 }
 {
-    match R::said(entry) {
+    match said {
         Some(record) => {
             put(out, at, record);
             at + 1

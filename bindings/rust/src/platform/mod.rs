@@ -66,7 +66,8 @@ pub struct Processor {
     pub state: ProcessorState,
     /// Whether it is an application processor: any but the first one.
     pub is_ap: bool,
-    /// Online Capable, bit 1 of Flags: whether it can be enabled later. Reserved below revision 5 of the MADT.
+    /// Online Capable, bit 1 of Flags: whether it can be enabled later. False below revision 5 of the MADT, where the
+    /// bit is reserved.
     pub is_online_capable: bool,
     /// Whether its entry is a Processor Local x2APIC.
     pub is_x2apic: bool,

@@ -8,9 +8,10 @@ abbrev pub invariant-loop-entry : goal.invariant-loop-entry
 invariant-loop-entry l =
     let left = entries_left l.entry-iterator in
     let all = entries_left l.initial.entry-iterator in
-    (put_from l.processors l.processor (filter_map processor_in left)
-    ≡ put_from l.initial.processors 0 (filter_map processor_in all))
-    × (l.processor + length (filter_map processor_in left) ≡ length (filter_map processor_in all))
+    let processor_said = processor_in l.revision in
+    (put_from l.processors l.processor (filter_map processor_said left)
+    ≡ put_from l.initial.processors 0 (filter_map processor_said all))
+    × (l.processor + length (filter_map processor_said left) ≡ length (filter_map processor_said all))
     × (put_from l.io_apics l.io_apic (filter_map io_apic_in left)
     ≡ put_from l.initial.io_apics 0 (filter_map io_apic_in all))
     × (put_from l.overrides l.wiring (filter_map override_in left)
