@@ -1,11 +1,11 @@
 # SPDX-License-Identifier: MIT
-"""The layouts of acpi_dump, as crates/acpi_dump_lib/src/language.rt describes their language: for the scripts that
+"""The layouts of acpi_dump, as crates/acpi_dump_walk/src/language.rt describes their language: for the scripts that
 check them, and that make other texts of them."""
 import os
 import re
 
 TOP = os.path.dirname(os.path.dirname(os.path.realpath(__file__)))
-SOURCE = f"{TOP}/crates/acpi_dump_lib/src"
+SOURCE = f"{TOP}/crates/acpi_dump_walk/src"
 
 # Numbers, sums, and how a line of each form begins.
 NUMBER = r"(?:0x[0-9a-fA-F]+|[0-9]+)"

@@ -2,8 +2,8 @@
 #![tactic(auto)]
 
 use acpi_cli::borrowed;
+use acpi_dump_input::sources::HostSources;
 use acpi_dump_lib::run::{dump, refuse_arguments};
-use acpi_dump_lib::sources::HostSources;
 use acpi_pack_lib::storage::HostStorage;
 use std::process::ExitCode;
 use std::{env, io};

@@ -1,31 +1,13 @@
 //! The arguments of the program.
 
-use crate::check::Severity;
-use crate::input::kind::{Kind, parse_kind};
+use crate::options::{Choice, Contents, WrongWord};
 use acpi::sdt::Signature;
 use acpi_cli::parse_address;
 use acpi_cli::root::{Root, parse_root};
+use acpi_dump_input::judgement::Severity;
+use acpi_dump_input::kind::{Kind, parse_kind};
 use clap::ArgMatches;
 use std::alloc::Global;
-
-/// The form in which the tables of a signature are shown.
-#[derive(Clone, Copy)]
-pub(crate) enum Contents {
-    /// By their fields.
-    Fields,
-    /// By their bytes.
-    Bytes,
-    /// By their bytes, in the text of acpidump.
-    Dumped,
-}
-
-/// Some tables, and the form in which they are shown.
-#[derive(Clone, Copy)]
-pub(crate) struct Choice {
-    /// The signature that the tables have, or `None` for all tables.
-    pub(crate) signature: Option<Signature>,
-    pub(crate) contents: Contents,
-}
 
 /// The part of an input that is shown.
 #[derive(Clone, Copy)]
@@ -56,14 +38,6 @@ pub(crate) enum Color {
     Auto,
     Always,
     Never,
-}
-
-/// A word that is wrong: the option that it belongs to, the word, and what would be right.
-#[derive(Clone, Copy)]
-pub(crate) struct WrongWord<'w> {
-    pub(crate) option: &'static str,
-    pub(crate) word: &'w str,
-    pub(crate) usage: &'static str,
 }
 
 /// Why arguments ask for nothing.

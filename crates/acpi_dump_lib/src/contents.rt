@@ -1,17 +1,17 @@
 //! The contents of chosen tables.
 
-use crate::arguments::{Choice, Contents};
-use crate::dumped::print_dumped;
-use crate::entries::{Entry, Place, own_signature};
-use crate::errors::{Log, fail};
 use crate::getters::print_getters;
-use crate::hex::print_dump;
-use crate::out::Out;
+use crate::options::{Choice, Contents};
 use crate::paint::Paint;
-use crate::status::Status;
-use crate::text::Text;
-use crate::walk::walk_with_objects;
 use acpi::sdt::Signature;
+use acpi_dump_input::dumped::print_dumped;
+use acpi_dump_input::entries::{Entry, own_signature, print_name};
+use acpi_dump_input::errors::{Log, fail};
+use acpi_dump_input::status::Status;
+use acpi_dump_walk::hex::print_dump;
+use acpi_dump_walk::out::Out;
+use acpi_dump_walk::text::Text;
+use acpi_dump_walk::walk::walk_with_objects;
 
 /// Whether a choice has a table, of which some byte is there.
 pub(crate) fn chooses(choice: Choice, entry: &Entry<'_>) -> bool {
@@ -45,22 +45,6 @@ pub(crate) fn tell_missing(entries: &[Entry<'_>], choices: &[Choice], name: &str
         {
             fail(log, name, &format_args!("no table {signature}"));
         }
-    }
-}
-
-/// Prints what a table is called and where it lies.
-pub(crate) fn print_name(entry: &Entry<'_>, out: &mut Out) {
-    match entry.signature().or(entry.sought) {
-        Some(signature) => out.escaped(&signature.to_bytes()),
-        None => out.text("-"),
-    }
-    match entry.place {
-        Place::Address(address) => write!(out, " at {address:016x}"),
-        Place::File(name) => {
-            out.text(" in ");
-            out.escaped(name.as_bytes())
-        }
-        Place::Nowhere => {}
     }
 }
 

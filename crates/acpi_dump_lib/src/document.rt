@@ -7,16 +7,18 @@ mod tables;
 ghost use Rattle.json.specs.Reads.{token_of};
 ghost use Rattle.json.specs.Print.{IsPrintable};
 
-use crate::aml::{Ends, Object};
-use crate::fault::Fault;
-use crate::fields::{number_of, print_hex, print_meaning, print_path, print_text, print_value};
-use crate::language::Meaning;
-use crate::out::Out;
-use crate::walk::{Field, Group, Show, ShowObjects};
+use acpi_dump_walk::aml::{Ends, Object};
+use acpi_dump_walk::fault::Fault;
+use acpi_dump_walk::fields::{
+    number_of, print_hex, print_meaning, print_path, print_text, print_value,
+};
+use acpi_dump_walk::language::Meaning;
+use acpi_dump_walk::out::Out;
+use acpi_dump_walk::walk::{Field, Group, Show, ShowObjects};
 use json::{Pretty, Token, is_number};
 use std::alloc::{AllocError, Global};
 use std::fmt::Display;
-pub(crate) use tables::{add_all, add_chosen, header_of};
+pub(crate) use tables::{add_all, add_chosen};
 
 /// The version of the document's form.
 const VERSION: u64 = 1;

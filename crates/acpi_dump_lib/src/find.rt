@@ -1,9 +1,9 @@
 //! The RSDPs of a memory, valid or not, and the facts of a summary, as lines and in a document.
 
 use crate::document::Document;
-use crate::input::candidates::Candidate;
-use crate::language::cut_at;
-use crate::out::Out;
+use acpi_dump_input::candidates::Candidate;
+use acpi_dump_walk::language::cut_at;
+use acpi_dump_walk::out::Out;
 use json::Token;
 
 /// Prints a line for each RSDP: its address, what it points to, and what the checks say.

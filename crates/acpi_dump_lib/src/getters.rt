@@ -1,9 +1,9 @@
 //! The answers of a FADT's getters, which take several fields together.
 
-use crate::out::Out;
 use acpi::address::GenericAddress;
 use acpi::fadt::Fadt;
 use acpi::{AcpiResult, PhysicalRecord};
+use acpi_dump_walk::out::Out;
 
 /// Prints the answers of the getters, if the table is as long as a FADT.
 pub(crate) fn print_getters(table: &[u8], out: &mut Out) {

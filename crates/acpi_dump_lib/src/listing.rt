@@ -1,11 +1,11 @@
 //! One line a table.
 
-use crate::entries::{Entry, Place};
-use crate::fields::print_text;
-use crate::out::Out;
 use crate::paint::Paint;
 use acpi::PhysicalRecord;
 use acpi::sdt::{SdtHeader, Signature};
+use acpi_dump_input::entries::{Entry, Place};
+use acpi_dump_walk::fields::print_text;
+use acpi_dump_walk::out::Out;
 
 /// The name of a file without the folders before it.
 fn last_part(path: &str) -> &str {

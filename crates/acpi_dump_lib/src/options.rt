@@ -1,6 +1,8 @@
 //! The options, and what the help says of them.
 
-use crate::language::{cut_at, next_word};
+use acpi::sdt::Signature;
+use acpi_dump_input::errors::Log;
+use acpi_dump_walk::language::{cut_at, next_word};
 use clap::{Arg, ArgAction, Command};
 use std::alloc::{AllocError, Global};
 
@@ -85,4 +87,48 @@ pub(crate) fn command<'a>(alloc: Global) -> Result<Command<'a>, AllocError> {
         command = command.arg(option(alloc, line))?;
     }
     Ok(command)
+}
+
+/// The form in which the tables of a signature are shown.
+#[derive(Clone, Copy)]
+pub(crate) enum Contents {
+    /// By their fields.
+    Fields,
+    /// By their bytes.
+    Bytes,
+    /// By their bytes, in the text of acpidump.
+    Dumped,
+}
+
+/// Some tables, and the form in which they are shown.
+#[derive(Clone, Copy)]
+pub(crate) struct Choice {
+    /// The signature that the tables have, or `None` for all tables.
+    pub(crate) signature: Option<Signature>,
+    pub(crate) contents: Contents,
+}
+
+/// A word that is wrong: the option that it belongs to, the word, and what would be right.
+#[derive(Clone, Copy)]
+pub(crate) struct WrongWord<'w> {
+    pub(crate) option: &'static str,
+    pub(crate) word: &'w str,
+    pub(crate) usage: &'static str,
+}
+
+/// Says which word is wrong, and what would be right.
+pub(crate) fn tell_word(log: &mut Log, wrong: WrongWord<'_>) {
+    let WrongWord {
+        option,
+        word,
+        usage,
+    } = wrong;
+    let (before, after) = if option.is_empty() {
+        ("acpi_dump: ", "\nusage: acpi_dump$ $\n")
+    } else {
+        ("acpi_dump: --$: ", "\nusage: --$ $\n")
+    };
+    log.text.fill(before, &[option]);
+    log.text.escaped(word.as_bytes());
+    log.text.fill(after, &[option, usage]);
 }

@@ -1,7 +1,7 @@
 //! Colors, if the output is to have them.
 
-use crate::out::Out;
-use crate::status::Status;
+use acpi_dump_input::status::Status;
+use acpi_dump_walk::out::Out;
 use std::fmt::Display;
 
 /// Whether colors are printed.

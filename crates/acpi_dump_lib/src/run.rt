@@ -1,15 +1,15 @@
 //! The program over any files, any storage and any writers.
-ghost use Rattle.acpi_dump_lib.specs.Extract.{AddsInOne};
+ghost use Rattle.acpi_dump_input.specs.Extract.{AddsInOne};
 
-use crate::arguments::{Color, Mistake, Request, View, WrongWord, request_of};
-use crate::errors::{Log, Stop, tell, tell_word};
-use crate::input::gather::{Input, gather};
-use crate::input::read::Reading;
-use crate::options::command;
-use crate::out::Out;
+use crate::arguments::{Color, Mistake, Request, View, request_of};
+use crate::options::{WrongWord, command, tell_word};
 use crate::paint::Paint;
-use crate::sources::{Sources, reason_of};
 use crate::views::{Output, print_all_rules, print_compared, print_input, save_input, save_page};
+use acpi_dump_input::errors::{Log, Stop, tell};
+use acpi_dump_input::gather::{Input, gather};
+use acpi_dump_input::read::Reading;
+use acpi_dump_input::sources::{Sources, reason_of};
+use acpi_dump_walk::out::Out;
 use acpi_pack_lib::storage::Storage;
 use clap::ArgMatches;
 use std::alloc::{AllocError, Global};
@@ -50,7 +50,7 @@ pub fn dump<S: Sources, T: Storage, W: Write + Drop, E: Write + Drop>(
 }
 
 /// Prints what the arguments ask for.
-#[tactic(auto, using(crate::proofs::Within::none_in_one))]
+#[tactic(auto, using(acpi_dump_input::proofs::Within::none_in_one))]
 fn print_asked<S: Sources, T: Storage>(
     alloc: Global,
     arguments: &[&str],
@@ -101,7 +101,7 @@ fn print_refusal(
 }
 
 /// Prints what is asked for of the inputs.
-#[tactic(auto, using(crate::proofs::Within::none_in_one))]
+#[tactic(auto, using(acpi_dump_input::proofs::Within::none_in_one))]
 fn print_inputs<S: Sources, T: Storage>(
     alloc: Global,
     request: &Request<'_>,
@@ -136,7 +136,7 @@ fn print_inputs<S: Sources, T: Storage>(
 }
 
 /// Prints what differs between the two inputs that are named, or saves the page of it.
-#[tactic(auto, using(crate::proofs::Within::none_in_one))]
+#[tactic(auto, using(acpi_dump_input::proofs::Within::none_in_one))]
 fn print_two<S: Sources, T: Storage>(
     output: Output<'_, '_>,
     sources: &mut S,

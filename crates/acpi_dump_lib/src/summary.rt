@@ -4,10 +4,8 @@
 mod distances;
 mod domains;
 mod gic;
-mod matrix;
 mod units;
 
-use crate::out::Out;
 use acpi::madt::Madt;
 use acpi::platform::interrupt::{
     Apic, InterruptModel, NmiLine, NmiProcessor, Polarity, TriggerMode,
@@ -16,11 +14,12 @@ use acpi::platform::{Processor, ProcessorState};
 use acpi::spcr::Spcr;
 use acpi::{AcpiError, AcpiHandler, AcpiTables, HpetInfo, PciConfigRegions, PlatformInfo};
 use acpi_arm::gic::GicModel;
+use acpi_dump_walk::fields::size_of;
+use acpi_dump_walk::out::Out;
 use acpi_numa::{Domains, MemoryAffinities, MemoryRange, Slit, Srat};
 use distances::add_distances;
-pub(crate) use domains::{add_domains, share_of};
+pub(crate) use domains::add_domains;
 use gic::add_gic;
-pub(crate) use matrix::{Matrix, matrix_of};
 use std::alloc::Global;
 pub(crate) use units::add_units;
 
@@ -260,19 +259,6 @@ fn add_hpet(facts: &mut Facts, info: &HpetInfo) {
         "HPET %\tat #, % bits, % comparators, periods of % ticks or more\n",
         &numbers,
     );
-}
-
-/// A number of bytes in the largest unit that has a whole number of it.
-pub(crate) fn size_of(bytes: u64) -> (u64, &'static str) {
-    if bytes == 0 || bytes % 1024 != 0 {
-        (bytes, "B")
-    } else if bytes % (1 << 20) != 0 {
-        (bytes >> 10, "KiB")
-    } else if bytes % (1 << 30) != 0 {
-        (bytes >> 20, "MiB")
-    } else {
-        (bytes >> 30, "GiB")
-    }
 }
 
 /// Adds a range of memory and its domain.

@@ -4,26 +4,29 @@ mod compared;
 mod judged;
 mod packed;
 mod page;
+mod report;
 
-ghost use Rattle.acpi_dump_lib.specs.Extract.{AddsWithin};
+ghost use Rattle.acpi_dump_input.specs.Extract.{AddsWithin};
 
 use crate::arguments::{Request, View};
-use crate::contents::{print_name, print_tables, tell_missing};
+use crate::contents::{print_tables, tell_missing};
 use crate::document::{Document, add_all, add_chosen};
-use crate::entries::{Entry, Place, bytes_from, entries_of, entries_of_files};
-use crate::errors::{Log, Stop, begin, fail, tell};
-use crate::extract::{Saving, save_tables};
 use crate::find::{add_candidates, add_fact_lines, print_candidates, print_facts};
-use crate::input::candidates::{candidates, ebda_of, starts};
-use crate::input::gather::Input;
-use crate::input::tables::TableFile;
 use crate::listing::print_lines;
-use crate::out::Out;
 use crate::paint::Paint;
-use crate::sources::Sources;
 use crate::summary::{Facts, add_domains, add_facts, add_units};
 use acpi::AcpiTables;
 use acpi_cli::root::Root;
+use acpi_dump_input::candidates::{candidates, ebda_of, starts};
+use acpi_dump_input::entries::{
+    Entry, Place, bytes_from, entries_of, entries_of_files, print_name,
+};
+use acpi_dump_input::errors::{Log, Stop, begin, fail, tell};
+use acpi_dump_input::extract::{Saving, save_tables};
+use acpi_dump_input::gather::Input;
+use acpi_dump_input::sources::Sources;
+use acpi_dump_input::tables::TableFile;
+use acpi_dump_walk::out::Out;
 use acpi_image_reader::MemoryImage;
 use acpi_pack_lib::storage::Storage;
 pub(crate) use compared::print_compared;
@@ -224,7 +227,7 @@ fn has_no_start(output: Output<'_, '_>, loaded: &Loaded<'_>, log: &mut Log) -> b
 /// Saves the tables of an input as files of a folder.
 ///
 /// Fails, after saying why, if there are none, or if memory runs out.
-#[tactic(auto, using(crate::proofs::Within::none_added))]
+#[tactic(auto, using(acpi_dump_input::proofs::Within::none_added))]
 pub(crate) fn save_input<S: Sources, T: Storage>(
     output: Output<'_, '_>,
     folder: &str,

@@ -1,15 +1,15 @@
 //! The tables in a document.
 
 use super::Document;
-use crate::arguments::{Choice, Contents};
-use crate::compare::{Difference, ShowDifferences};
 use crate::contents::chooses;
-use crate::entries::{Entry, Place};
-use crate::fields::number_of;
-use crate::out::Out;
-use crate::walk::walk_with_objects;
+use crate::options::{Choice, Contents};
 use acpi::PhysicalRecord;
 use acpi::sdt::SdtHeader;
+use acpi_dump_input::entries::{Entry, Place, header_of};
+use acpi_dump_page::compare::{Difference, ShowDifferences};
+use acpi_dump_walk::fields::number_of;
+use acpi_dump_walk::out::Out;
+use acpi_dump_walk::walk::walk_with_objects;
 use json::Token;
 
 /// What is shown of a table beside where it lies, its header and what the checks say.
@@ -93,16 +93,6 @@ fn add_table(document: &mut Document, entry: &Entry<'_>, part: Part<'_>) {
     document.shown("status", &entry.status);
     document.flag("valid", !entry.status.is_invalid());
     document.token(Token::EndObject);
-}
-
-/// The header of a table, unless it has none or is cut in it.
-pub(crate) fn header_of(entry: &Entry<'_>) -> Option<SdtHeader> {
-    let is_headless = entry.bytes.starts_with(b"FACS") || entry.bytes.starts_with(b"RSD PTR ");
-    if is_headless || entry.bytes.len() < SdtHeader::MIN_LENGTH {
-        None
-    } else {
-        Some(SdtHeader::read(entry.bytes))
-    }
 }
 
 /// Adds the fields of a table, if they are shown.

@@ -1,46 +1,12 @@
 //! What the domains of an SRAT have, and the latencies and bandwidths of an HMAT.
 
-use super::{Facts, Matrix, matrix_of, size_of};
-use crate::entries::{Entry, own_signature};
-use crate::language::number_at;
-use crate::walk::{Group, Show, walk_table};
+use super::Facts;
+use acpi_dump_input::entries::{Entry, own_signature};
+use acpi_dump_walk::fields::size_of;
+use acpi_dump_walk::matrix::{Matrix, matrix_of};
+use acpi_dump_walk::share::{MEMORY, Share, share_of};
+use acpi_dump_walk::walk::{Group, Show, walk_table};
 use std::alloc::{AllocError, Global};
-
-/// What stands in the place of a processor's number for a range of memory.
-const MEMORY: u64 = u64::MAX;
-
-/// A processor or a range of memory of a domain.
-#[derive(Clone, Copy)]
-pub(crate) struct Share {
-    pub(crate) domain: u64,
-    /// The number of the processor, or `MEMORY`.
-    number: u64,
-    /// How many bytes the range has.
-    size: u64,
-}
-
-/// The processor, by its APIC ID or its UID, or the range of memory that an entry of an SRAT enables (section 5.2.16).
-pub(crate) fn share_of(kind: u64, entry: &[u8]) -> Option<Share> {
-    let (flags, domain, number, size) = match kind {
-        0 => {
-            let domain = number_at(entry, 2, 1) | number_at(entry, 9, 3) << 8;
-            (4, domain, number_at(entry, 3, 1), 0)
-        }
-        1 => (28, number_at(entry, 2, 4), MEMORY, number_at(entry, 16, 8)),
-        2 => (12, number_at(entry, 4, 4), number_at(entry, 8, 4), 0),
-        3 => (10, number_at(entry, 2, 4), number_at(entry, 6, 4), 0),
-        7 => (12, number_at(entry, 4, 4), number_at(entry, 8, 4), 0),
-        _ => return None,
-    };
-    if number_at(entry, flags, 4) & 1 == 0 {
-        return None;
-    }
-    Some(Share {
-        domain,
-        number,
-        size,
-    })
-}
 
 /// What a walk over an SRAT or an HMAT finds.
 #[derive(Drop)]

@@ -1,11 +1,11 @@
 //! Units and devices that tables tell of, a line each, by the fields of their structures.
 
-use super::{Facts, size_of};
-use crate::entries::{Entry, own_signature};
-use crate::fields::{number_of, print_meaning};
-use crate::language::{Meaning, cut_at, next_word, number_of as number_in};
-use crate::out::Out;
-use crate::walk::{Field, Group, Show, walk_table};
+use super::Facts;
+use acpi_dump_input::entries::{Entry, own_signature};
+use acpi_dump_walk::fields::{number_of, print_meaning, size_of};
+use acpi_dump_walk::language::{Meaning, cut_at, next_word, number_of as number_in};
+use acpi_dump_walk::out::Out;
+use acpi_dump_walk::walk::{Field, Group, Show, walk_table};
 use std::alloc::Global;
 
 /// The structures that have a line: the table's signature, the type or `-` for the table itself, and, after a bar, the

@@ -1,11 +1,11 @@
 //! What differs between two inputs.
 
 use super::{Output, entries_in, load, strict_status};
-use crate::compare::{DifferenceLines, compare};
-use crate::entries::Entry;
-use crate::errors::{Log, Stop};
-use crate::input::gather::Input;
-use crate::out::Out;
+use acpi_dump_input::entries::Entry;
+use acpi_dump_input::errors::{Log, Stop};
+use acpi_dump_input::gather::Input;
+use acpi_dump_page::compare::{DifferenceLines, compare};
+use acpi_dump_walk::out::Out;
 
 /// Prints what differs between two inputs.
 ///

@@ -1,16 +1,15 @@
 //! What rules find in the tables of an input.
 
+use super::report::{add_findings, add_rules, print_findings, print_rules};
 use super::{Loaded, Output, open_at, start_of, strict_status};
 use crate::arguments::View;
-use crate::check::{
-    Judgement, Machine, Severity, add_findings, add_rules, counts_of, findings_of, print_findings,
-    print_rules,
-};
-use crate::entries::{Entry, bytes_from, entries_of, entries_of_files, entry_at};
-use crate::errors::{Log, Stop};
-use crate::out::Out;
 use acpi::sdt::{Signature, field};
 use acpi_cli::root::Root;
+use acpi_dump_check::{Machine, findings_of};
+use acpi_dump_input::entries::{Entry, bytes_from, entries_of, entries_of_files, entry_at};
+use acpi_dump_input::errors::{Log, Stop};
+use acpi_dump_input::judgement::{Judgement, Severity, counts_of};
+use acpi_dump_walk::out::Out;
 use acpi_image_reader::MemoryImage;
 use std::alloc::Global;
 

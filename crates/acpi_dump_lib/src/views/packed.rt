@@ -1,10 +1,10 @@
 //! The facts of tables that come as files: of the valid ones, in a memory where each has a place.
 
 use super::{Output, open};
-use crate::entries::Entry;
-use crate::errors::{Log, Stop, fail};
-use crate::input::machine::letters_of;
 use crate::summary::{Facts, add_facts};
+use acpi_dump_input::entries::Entry;
+use acpi_dump_input::errors::{Log, Stop, fail};
+use acpi_dump_input::machine::letters_of;
 use acpi_image::{PlacedTable, write_image};
 use acpi_image_reader::MemoryImage;
 use std::alloc::{AllocError, Global};

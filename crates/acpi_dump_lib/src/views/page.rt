@@ -1,16 +1,16 @@
 //! A page of an input, or of what differs between two.
 
-ghost use Rattle.acpi_dump_lib.specs.Extract.{AddsNamed};
+ghost use Rattle.acpi_dump_input.specs.Extract.{AddsNamed};
 
 use super::judged::{Judged, judged_in, status_of};
 use super::{Output, entries_in, has_no_start, load, strict_status};
-use crate::check::findings_of;
-use crate::errors::{Log, Stop};
-use crate::extract::save_file;
-use crate::html::{Given, Source, print_page};
-use crate::input::gather::Input;
-use crate::out::Out;
-use crate::sources::Sources;
+use acpi_dump_check::findings_of;
+use acpi_dump_input::errors::{Log, Stop};
+use acpi_dump_input::extract::save_file;
+use acpi_dump_input::gather::Input;
+use acpi_dump_input::sources::Sources;
+use acpi_dump_page::html::{Given, Source, print_page};
+use acpi_dump_walk::out::Out;
 use acpi_pack_lib::storage::Storage;
 
 /// Prints the page of tables, beside those of a first input if there is one. It answers the status.
@@ -81,7 +81,7 @@ fn print_compared_page(
 /// standard output.
 ///
 /// Fails, after saying why, if one has no tables, or if memory runs out.
-#[tactic(auto, using(crate::proofs::Within::none_named))]
+#[tactic(auto, using(acpi_dump_input::proofs::Within::none_named))]
 pub(crate) fn save_page<S: Sources, T: Storage>(
     output: Output<'_, '_>,
     file: &str,

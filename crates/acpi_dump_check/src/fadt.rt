@@ -1,0 +1,146 @@
+//! The FADT (ACPI 6.5, section 5.2.9).
+
+use crate::findings::Findings;
+use crate::machine::{Machine, Table};
+use crate::values::{Wanted, check_values};
+use acpi::sdt::{Signature, field};
+use acpi_dump_walk::out::Out;
+
+pub(crate) const RULES: &str = "
+fadt-dsdt-differs warning ACPI 6.5, section 5.2.9 | DSDT and X_DSDT are two addresses \
+    | is #, and the field of 32 bits #
+fadt-facs-differs warning ACPI 6.5, section 5.2.9 | FIRMWARE_CTRL and X_FIRMWARE_CTRL are two addresses \
+    | is #, and the field of 32 bits #
+fadt-no-dsdt error ACPI 6.5, section 5.2.9 | Neither DSDT nor X_DSDT is an address | is 0, as X_DSDT is
+fadt-block-differs warning ACPI 6.5, section 5.2.9 | The two fields of a block of registers give it two places
+fadt-block-width warning ACPI 6.5, section 5.2.9 | The Register Bit Width of a block isn't that of its length
+fadt-event-length error ACPI 6.5, section 5.2.9 | PM1_EVT_LEN is under 4 | is %
+fadt-control-length error ACPI 6.5, section 5.2.9 | PM1_CNT_LEN is under 2 | is %
+fadt-gpe-length error ACPI 6.5, section 5.2.9 | The length of a block of general purpose events is odd \
+    | is %: half are status registers, half enable them
+fadt-timer-length error ACPI 6.5, section 5.2.9 | PM_TMR_LEN is neither 0 nor 4 | is %
+fadt-sci-interrupt error ACPI 6.5, section 5.2.9 | SCI_INT is 0 on fixed hardware | is %, the timer's
+fadt-smi-command warning ACPI 6.5, section 5.2.9 | SMI_CMD is 0, but ACPI_ENABLE isn't | is 0, but ACPI_ENABLE isn't
+fadt-fixed-blocks warning ACPI 6.5, section 5.2.9 | A machine of reduced hardware has blocks of fixed hardware \
+    | HW_REDUCED_ACPI is set
+fadt-reset-register warning ACPI 6.5, section 4.8.3.6 | RESET_REG isn't 8 bits of memory, ports or PCI \
+    | has % bits of the address space %
+fadt-profile note ACPI 6.5, section 5.2.9.1 | Preferred_PM_Profile is a reserved one | % is reserved
+fadt-reserved-flags note ACPI 6.5, sections 5.2.9.2 to 5.2.9.4 | A reserved flag is set | has the reserved flags #
+";
+
+/// A block of registers: the name of its 32-bit field, and the offsets of that, of its length and of its generic
+/// address.
+type Block = (&'static str, usize, usize, usize);
+
+const BLOCKS: [Block; 8] = [
+    ("PM1a_EVT_BLK", 56, 88, 148),
+    ("PM1b_EVT_BLK", 60, 88, 160),
+    ("PM1a_CNT_BLK", 64, 89, 172),
+    ("PM1b_CNT_BLK", 68, 89, 184),
+    ("PM2_CNT_BLK", 72, 90, 196),
+    ("PM_TMR_BLK", 76, 91, 208),
+    ("GPE0_BLK", 80, 92, 220),
+    ("GPE1_BLK", 84, 93, 232),
+];
+
+/// What a FADT has.
+const ALL: [Wanted; 1] = [(0, "fadt-profile", (45, 1), (0, 8, 0))]; // Preferred_PM_Profile
+
+/// What fixed hardware needs.
+const FIXED: [Wanted; 6] = [
+    (0, "fadt-event-length", (88, 1), (4, 255, 0)), // PM1_EVT_LEN
+    (0, "fadt-control-length", (89, 1), (2, 255, 0)), // PM1_CNT_LEN
+    (0, "fadt-timer-length", (91, 1), (0, 4, 3)), // PM_TMR_LEN
+    (0, "fadt-gpe-length", (92, 1), (0, 255, 1)), // GPE0_BLK_LEN
+    (0, "fadt-gpe-length", (93, 1), (0, 255, 1)), // GPE1_BLK_LEN
+    (0, "fadt-sci-interrupt", (46, 2), (1, 0xffff, 0)), // SCI_INT
+];
+
+/// Judges the first FADT.
+pub(crate) fn check_fadt(machine: &Machine<'_>, findings: &mut Findings) {
+    let Some(Table { index, bytes: fadt }) = machine.first(Signature::FADT) else {
+        return;
+    };
+    check_addresses(index, fadt, findings);
+    check_general(index, fadt, findings);
+    // HW_REDUCED_ACPI.
+    let is_reduced = field(fadt, 112, 4) & 1 << 20 != 0;
+    if !is_reduced {
+        check_values(&FIXED, 0, index, 0, fadt, findings);
+        // SMI_CMD, ACPI_ENABLE.
+        if field(fadt, 48, 4) == 0 && field(fadt, 52, 1) != 0 {
+            findings.add("fadt-smi-command", index, 48, &[]);
+        }
+    }
+    for block in &BLOCKS {
+        check_block(index, fadt, *block, is_reduced, findings);
+    }
+}
+
+/// Judges what a FADT of any hardware has.
+fn check_general(index: usize, fadt: &[u8], findings: &mut Findings) {
+    check_values(&ALL, 0, index, 0, fadt, findings);
+    let (space, width) = (field(fadt, 116, 1), field(fadt, 117, 1)); // RESET_REG
+    // RESET_REG_SUP.
+    if field(fadt, 112, 4) & 1 << 10 != 0 && (space > 2 || width != 8) {
+        findings.add("fadt-reset-register", index, 116, &[width, space]);
+    }
+    // IAPC_BOOT_ARCH, Flags, ARM_BOOT_ARCH, and their reserved flags.
+    for (offset, length, reserved) in [
+        (109usize, 2usize, 0xffc0),
+        (112, 4, 0xff00_0000),
+        (129, 2, 0xfffc),
+    ] {
+        let flags = field(fadt, offset, length) & reserved;
+        if flags != 0 {
+            findings.add("fadt-reserved-flags", index, offset, &[flags]);
+        }
+    }
+}
+
+/// Judges the addresses of the DSDT and the FACS.
+fn check_addresses(index: usize, fadt: &[u8], findings: &mut Findings) {
+    for (id, narrow, wide) in [
+        ("fadt-dsdt-differs", 40usize, 140usize), // DSDT, X_DSDT
+        ("fadt-facs-differs", 36, 132), // FIRMWARE_CTRL, X_FIRMWARE_CTRL
+    ] {
+        let (short, long) = (field(fadt, narrow, 4), field(fadt, wide, 8));
+        if short != 0 && long != 0 && short != long {
+            findings.add(id, index, wide, &[long, short]);
+        }
+        if narrow == 40 && short == 0 && long == 0 {
+            findings.add("fadt-no-dsdt", index, 40, &[]);
+        }
+    }
+}
+
+/// Judges the two fields of a block: reduced hardware has none, and else they agree if its generic address is given.
+fn check_block(index: usize, fadt: &[u8], block: Block, is_reduced: bool, findings: &mut Findings) {
+    let (name, narrow, length, wide) = block;
+    let (port, length) = (field(fadt, narrow, 4), field(fadt, length, 1));
+    let register = fadt.get(wide..).unwrap_or(&[]);
+    let (space, width) = (field(register, 0, 1), field(register, 1, 1));
+    let address = field(register, 4, 8);
+    if is_reduced {
+        if port != 0 || address != 0 {
+            let offset = if port != 0 { narrow } else { wide };
+            findings.add("fadt-fixed-blocks", index, offset, &[]);
+        }
+        return;
+    }
+    if address != 0 && port != 0 && (address != port || space != 1) {
+        let mut text = Out::new(findings.alloc);
+        write!(
+            text,
+            "0x{address:x} in space {space}, and {name} is port 0x{port:x}"
+        );
+        findings.add_text("fadt-block-differs", index, wide, &text);
+    }
+    // A width has eight bits, so that 32 bytes don't fit it.
+    if address != 0 && length < 32 && width != 8 * length {
+        let mut text = Out::new(findings.alloc);
+        write!(text, "{width} bits wide, and {name} has {length} bytes");
+        findings.add_text("fadt-block-width", index, wide, &text);
+    }
+}

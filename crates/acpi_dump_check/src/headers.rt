@@ -1,0 +1,233 @@
+//! The headers of all tables (ACPI 6.5, section 5.2.6), and what all of them reserve.
+
+use crate::devices::register_at;
+use crate::findings::Findings;
+use crate::machine::Machine;
+use acpi::AcpiError;
+use acpi::sdt::{Signature, field};
+use acpi_dump_input::entries::{Entry, own_signature};
+use acpi_dump_input::status::Status;
+use acpi_dump_walk::fields::unnamed_in;
+use acpi_dump_walk::out::Out;
+use acpi_dump_walk::walk::{Field, Show, walk_table};
+
+pub(crate) const RULES: &str = "
+header-sum error ACPI 6.5, section 5.2.6 | The bytes of a table don't sum to 0
+header-refused error ACPI 6.5, section 5.2.6 | A table has no valid header, or its bytes aren't all there
+header-length warning ACPI 6.5, section 5.2.6 | The Length isn't one that the table's revision has
+header-revision note ACPI 6.5, section 5.2.6 | No specification has the table's Revision \
+    | no revision % is known
+header-letters note ACPI 6.5, section 5.2.6 | OEMID, OEM Table ID or Creator ID has letters that aren't printable \
+    | letters that aren't printable
+header-reserved note ACPI 6.5, section 5.2.1 | A reserved field isn't 0 | isn't 0
+";
+
+/// A form of a table: its signature, the first and the last revision that have it, and the table's length: a least one
+/// and steps from that on, or that one alone if the step is 0.
+type Form = (&'static str, (u64, u64), (u64, u64));
+
+/// The forms of tables. Each table's own specification has them.
+const FORMS: [Form; 39] = [
+    ("RSDT", (1, 1), (36, 4)),
+    ("XSDT", (1, 1), (36, 8)),
+    ("FACP", (1, 1), (116, 0)),
+    ("FACP", (2, 2), (132, 0)),
+    ("FACP", (3, 4), (244, 0)),
+    ("FACP", (5, 5), (268, 0)),
+    ("FACP", (6, 6), (276, 0)),
+    ("DSDT", (1, 2), (36, 1)),
+    ("SSDT", (1, 2), (36, 1)),
+    ("APIC", (1, 7), (44, 1)),
+    ("SBST", (1, 1), (48, 0)),
+    ("ECDT", (1, 1), (66, 1)),
+    ("SRAT", (1, 3), (48, 1)),
+    ("SLIT", (1, 1), (44, 1)),
+    ("MSCT", (1, 1), (56, 1)),
+    ("BGRT", (1, 1), (56, 0)),
+    ("FPDT", (1, 1), (36, 1)),
+    ("GTDT", (1, 1), (80, 0)),
+    ("GTDT", (2, 2), (96, 1)),
+    ("GTDT", (3, 3), (96, 1)),
+    ("PCCT", (1, 2), (48, 1)),
+    ("PPTT", (1, 3), (36, 1)),
+    ("HMAT", (1, 2), (40, 1)),
+    ("HEST", (1, 2), (40, 1)),
+    ("BERT", (1, 1), (48, 0)),
+    ("ERST", (1, 1), (48, 32)),
+    ("EINJ", (1, 2), (48, 32)),
+    ("NFIT", (1, 1), (40, 1)),
+    ("HPET", (1, 1), (56, 0)),
+    ("MCFG", (1, 1), (44, 16)),
+    ("SPCR", (1, 3), (80, 0)),
+    ("SPCR", (4, 4), (88, 1)),
+    ("DBGP", (1, 1), (52, 0)),
+    ("DBG2", (0, 0), (44, 1)),
+    ("WAET", (1, 1), (40, 0)),
+    ("TPM2", (3, 5), (52, 1)),
+    ("BOOT", (1, 1), (40, 0)),
+    ("WSMT", (1, 1), (40, 0)),
+    ("UEFI", (1, 1), (54, 1)),
+];
+
+/// The rules of codes and flags that no specification names, each with the table whose layout names all others.
+const UNNAMED: [(&str, &str); 6] = [
+    ("hpet-code", "HPET"),
+    ("dbg2-code", "DBG2"),
+    ("pptt-flag", "PPTT"),
+    ("gtdt-flag", "GTDT"),
+    ("pcct-flag", "PCCT"),
+    ("spcr-code", "SPCR"),
+];
+
+/// Judges the header of each table, and the fields that it reserves.
+pub(crate) fn check_headers(machine: &Machine<'_>, findings: &mut Findings) {
+    for (index, entry) in machine.entries.iter().enumerate() {
+        check_status(entry, index, findings);
+        check_entry(machine, entry, index, findings);
+    }
+}
+
+/// Judges the fields of a table's header, if it has one, and each field by itself.
+fn check_entry(machine: &Machine<'_>, entry: &Entry<'_>, index: usize, findings: &mut Findings) {
+    let signature = own_signature(entry.bytes);
+    let name = signature.as_str().unwrap_or("");
+    let mut is_known = true;
+    if !entry.bytes.starts_with(b"FACS") && !entry.bytes.starts_with(b"RSD PTR ") {
+        if entry.bytes.len() < 36 {
+            return;
+        }
+        is_known = check_form(entry.bytes, index, name, findings);
+    }
+    let id = unnamed_rule(machine, index, name);
+    let mut fields = Fields {
+        findings,
+        index,
+        name,
+        is_known,
+        id,
+    };
+    walk_table(signature, entry.bytes, &mut fields);
+}
+
+/// The rule of what no specification names in the table of this number, if it is the first one of such a name: an SPCR
+/// whose base address is all zeros says that there is no console.
+fn unnamed_rule(machine: &Machine<'_>, index: usize, name: &str) -> &'static str {
+    for (id, of) in &UNNAMED {
+        if *of == name
+            && let Some(table) = machine.first(own_signature(of.as_bytes()))
+            && table.index == index
+            && (name != "SPCR" || register_at(table.bytes, 40).is_some())
+        {
+            return *id;
+        }
+    }
+    ""
+}
+
+/// Judges what the checks of a table say. What they say of a FACS of under 64 bytes is a rule of its own.
+fn check_status(entry: &Entry<'_>, index: usize, findings: &mut Findings) {
+    let is_short_facs = entry.bytes.starts_with(b"FACS") && field(entry.bytes, 4, 4) < 64;
+    if is_short_facs || entry.bytes.is_empty() {
+        return;
+    }
+    let mut text = Out::new(findings.alloc);
+    let offset = match entry.status {
+        Status::WrongSum { is, should, .. } => {
+            write!(text, "is 0x{is:02x}, should be 0x{should:02x}");
+            return findings.add_text("header-sum", index, 9, &text);
+        }
+        Status::Cut { .. } | Status::Refused(AcpiError::SdtInvalidLength(_)) => 4,
+        Status::Refused(_) => 0,
+        _ => return,
+    };
+    text.value(&entry.status);
+    findings.add_text("header-refused", index, offset, &text);
+}
+
+/// Judges the letters, the length and the revision in the header of a table of a name. It answers whether the revision
+/// is known, or none of that name is.
+fn check_form(table: &[u8], index: usize, name: &str, findings: &mut Findings) -> bool {
+    for (offset, end) in [(10usize, 16usize), (16, 24), (28, 32)].iter() {
+        if !is_printable(table.get(*offset..*end).unwrap_or(&[])) {
+            findings.add("header-letters", index, *offset, &[]);
+        }
+    }
+    let (length, revision) = (field(table, 4, 4), field(table, 8, 1));
+    let mut has_form = false;
+    for (of, (first, last), (least, step)) in &FORMS {
+        if *of != name {
+            continue;
+        }
+        has_form = true;
+        if *first <= revision && revision <= *last {
+            let is_right = match length.checked_sub(*least) {
+                Some(over) if *step > 0 => over % *step == 0,
+                over => over == Some(0),
+            };
+            if length >= 36 && !is_right {
+                let words = if *step > 0 {
+                    "is %, and for revision % %+%"
+                } else {
+                    "is %, and for revision % %"
+                };
+                let numbers = &[length, revision, *least, *step];
+                findings.add_words("header-length", index, 4, words, numbers);
+            }
+            return true;
+        }
+    }
+    if has_form {
+        findings.add("header-revision", index, 8, &[revision]);
+    }
+    !has_form
+}
+
+/// Whether letters are printable ASCII, but for zeros at the end.
+fn is_printable(letters: &[u8]) -> bool {
+    let mut has_ended = false;
+    for letter in letters {
+        if *letter == 0 {
+            has_ended = true;
+        } else if has_ended || !(0x20..0x7f).contains(letter) {
+            return false;
+        }
+    }
+    true
+}
+
+/// What judges the fields of a table of a name by themselves.
+#[derive(Drop)]
+struct Fields<'f> {
+    findings: &'f mut Findings,
+    index: usize,
+    name: &'f str,
+    /// Whether what it reserves is known.
+    is_known: bool,
+    /// The rule of codes and flags that its layout doesn't name, if all others are named.
+    id: &'static str,
+}
+
+impl Show for Fields<'_> {
+    fn field(&mut self, shown: &Field<'_>) {
+        let offset = shown.offset as usize;
+        if !self.id.is_empty()
+            && let Some(number) = unnamed_in(shown)
+        {
+            self.findings.add(self.id, self.index, offset, &[number]);
+        }
+        if !self.is_known || shown.label.name != "Reserved" {
+            return;
+        }
+        // A field of a SRAT is reserved to be 1, and INT_MODEL of ACPI 1.0 may be.
+        let may_be_one = matches!((self.name, offset), ("SRAT", 36) | ("FACP", 44));
+        let is_one = matches!(shown.bytes, [1] | [1, 0, 0, 0]);
+        let mut is_zero = true;
+        for byte in shown.bytes {
+            is_zero &= *byte == 0;
+        }
+        if !is_zero && !(is_one && may_be_one) {
+            self.findings
+                .add("header-reserved", self.index, offset, &[]);
+        }
+    }
+}

@@ -1,0 +1,49 @@
+//! The pieces of a table, one after the other, each of which gives its length.
+
+use acpi::sdt::field;
+use acpi_base::bytes::skip;
+
+/// Where a piece has its length: at an offset, of so many bytes.
+pub(crate) type LengthPlace = (usize, usize);
+
+/// The pieces from an offset of a table on, in order: the offset of each, and its bytes. It ends where no piece begins:
+/// if the length there ends before the place that has it, or goes past the table's end.
+#[derive(Drop)]
+pub(crate) struct Pieces<'a> {
+    offset: usize,
+    rest: &'a [u8],
+    place: LengthPlace,
+}
+
+impl<'a> Pieces<'a> {
+    /// The pieces from an offset on, which have their lengths at a place.
+    pub(crate) fn of(table: &'a [u8], offset: usize, place: LengthPlace) -> Pieces<'a> {
+        Pieces {
+            offset,
+            rest: skip(table, offset),
+            place,
+        }
+    }
+}
+
+impl<'a> Iterator for Pieces<'a> {
+    ghost use Rattle.std.specs.Prelude.{length};
+    ghost use Rattle.std.specs.Iterator.{at_most};
+
+    type Item = (usize, &'a [u8]);
+
+    ghost remaining = { λ s. at_most (length s.rest.now) };
+
+    fn next(&mut self) -> Option<(usize, &'a [u8])> {
+        let (at, width) = self.place;
+        let length = field(self.rest, at, width.min(8)) as usize;
+        if length <= at || self.rest.len() < length {
+            return None;
+        }
+        let (piece, rest) = self.rest.split_at(length);
+        let offset = self.offset;
+        self.offset = offset.saturating_add(length);
+        self.rest = rest;
+        Some((offset, piece))
+    }
+}

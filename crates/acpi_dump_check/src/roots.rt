@@ -1,0 +1,160 @@
+//! What leads to the tables: the RSDP, the RSDT and the XSDT (ACPI 6.5, sections 5.2.5, 5.2.7 and 5.2.8).
+
+use crate::findings::Findings;
+use crate::machine::Machine;
+use crate::numbers::Numbers;
+use crate::spans::{Span, overlaps};
+use acpi::sdt::{Signature, field};
+use acpi_dump_input::entries::{Place, own_signature};
+use acpi_dump_input::status::Status;
+use acpi_dump_walk::out::Out;
+
+pub(crate) const RULES: &str = "
+root-null-pointer warning ACPI 6.5, section 5.2.8 | The root table lists the address 0 | no table is at 0
+root-listed-twice warning ACPI 6.5, section 5.2.8 | The root table lists an address twice | the address # is also at #
+root-lists-differ warning ACPI 6.5, section 5.2.5.3 | The RSDT and the XSDT list different tables
+root-rsdt-in-use note ACPI 6.5, section 5.2.8 | An RSDT leads to the tables of a machine since ACPI 2.0, which \
+has an XSDT
+root-second-table warning ACPI 6.5, section 5.2.6 | A table of which a machine has one is there twice \
+    | a machine has one of them
+root-nothing-there note ACPI 6.5, section 5.2.8 | The input has no byte of a table that is listed
+root-overlap error ACPI 6.5, section 5.2 | Two tables share bytes | shares bytes with the table at #
+";
+
+/// The signatures of tables of which a machine has one.
+const SINGLE: &str =
+    "APIC BERT BGRT CPEP DBG2 DMAR DSDT ECDT EINJ ERST FACP FACS FPDT GTDT HEST HMAT IORT IVRS \
+                      MCFG MSCT NFIT PCCT PPTT RHCT SBST SLIT SPCR SRAT TPM2 WAET WDAT WSMT";
+
+/// The pointers of the root table, and those of the RSDT beside it, as lists of numbers.
+const LISTED: u64 = 0;
+
+const BESIDE: u64 = 1;
+
+/// Judges what leads to the tables, and where these are.
+pub(crate) fn check_roots(machine: &Machine<'_>, findings: &mut Findings) {
+    let mut pointers = Numbers::new(machine.alloc);
+    if let Some(xsdt) = machine.first(Signature::XSDT) {
+        add_pointers(LISTED, xsdt.bytes, 8, &mut pointers);
+        add_pointers(BESIDE, machine.rsdt, 4, &mut pointers);
+        check_pointers(
+            xsdt.index,
+            !machine.rsdt.is_empty(),
+            &mut pointers,
+            findings,
+        );
+    } else if let Some(rsdt) = machine.first(Signature::RSDT) {
+        add_pointers(LISTED, rsdt.bytes, 4, &mut pointers);
+        check_pointers(rsdt.index, false, &mut pointers, findings);
+        check_revision(machine, rsdt.index, findings);
+    }
+    check_second(machine, findings);
+    check_overlap(machine, findings);
+}
+
+/// Adds the pointers of a root table, each of so many bytes, to a list.
+fn add_pointers(list: u64, table: &[u8], width: usize, pointers: &mut Numbers) {
+    let mut offset = 36usize;
+    for pointer in table.get(36..).unwrap_or(&[]).chunks(width.max(1)) {
+        if pointer.len() == width {
+            pointers.push(list, field(pointer, 0, width.min(8)), offset);
+        }
+        offset = offset.saturating_add(width);
+    }
+}
+
+/// Judges the pointers of the root table, and compares those of an XSDT with those of the RSDT that is beside it.
+fn check_pointers(table: usize, has_beside: bool, pointers: &mut Numbers, findings: &mut Findings) {
+    findings.add_repeated(&["root-listed-twice"], table, pointers);
+    for (list, address, offset) in pointers.all.iter() {
+        let (list, address) = (*list, *address);
+        if address == 0 {
+            if list == LISTED {
+                findings.add("root-null-pointer", table, *offset, &[]);
+            }
+        } else if list == BESIDE {
+            if !pointers.has(LISTED, address) {
+                let words = "the RSDT lists # as well";
+                findings.add_words("root-lists-differ", table, 4, words, &[address]);
+            }
+        } else if has_beside && address < 1 << 32 && !pointers.has(BESIDE, address) {
+            let words = "the RSDT doesn't list #";
+            findings.add_words("root-lists-differ", table, *offset, words, &[address]);
+        }
+    }
+}
+
+/// Judges that an RSDT leads to the tables, by the revisions of the RSDP and the FADT.
+fn check_revision(machine: &Machine<'_>, rsdt: usize, findings: &mut Findings) {
+    let fadt = match machine.first(Signature::FADT) {
+        Some(fadt) => field(fadt.bytes, 8, 1),
+        None => 0,
+    };
+    let rsdp = field(machine.rsdp, 15, 1);
+    let (words, revision) = if rsdp >= 2 {
+        ("the RSDP has revision %, and so an XSDT", rsdp)
+    } else if fadt >= 3 {
+        (
+            "the FADT has revision %, as machines with an XSDT have it",
+            fadt,
+        )
+    } else {
+        return;
+    };
+    findings.add_words("root-rsdt-in-use", rsdt, 0, words, &[revision]);
+}
+
+/// Finds second tables of which a machine has one, unless the one before it is at the same place.
+fn check_second(machine: &Machine<'_>, findings: &mut Findings) {
+    let mut tables = Numbers::new(machine.alloc);
+    for (index, entry) in machine.entries.iter().enumerate() {
+        if SINGLE.contains(own_signature(entry.bytes).as_str().unwrap_or("-")) {
+            tables.push(0, field(entry.bytes, 0, 4), index);
+        }
+    }
+    findings.need(tables.sort());
+    let mut before = (0, Place::Nowhere);
+    for (_, letters, index) in tables.all.iter() {
+        let place = match machine.entries.get(*index) {
+            Some(entry) => entry.place,
+            None => Place::Nowhere,
+        };
+        let is_same_place = match (before.1, place) {
+            (Place::Address(one), Place::Address(other)) => one == other && one != 0,
+            _ => false,
+        };
+        if before.0 == *letters && !is_same_place {
+            findings.add("root-second-table", *index, 0, &[]);
+        }
+        before = (*letters, place);
+    }
+}
+
+/// Finds tables that have no bytes, and those that share some, of which it takes the one of a higher address.
+fn check_overlap(machine: &Machine<'_>, findings: &mut Findings) {
+    let mut spans = Vec::new(machine.alloc);
+    for (index, entry) in machine.entries.iter().enumerate() {
+        let Place::Address(first) = entry.place else {
+            continue;
+        };
+        let length = entry.bytes.len() as u64;
+        if first != 0 && length != 0 {
+            let span = Span {
+                first,
+                last: first.saturating_add(length).saturating_sub(1),
+                offset: index,
+                owner: first,
+            };
+            findings.need(spans.push(span).is_ok());
+        } else if first != 0 && !matches!(entry.status, Status::NotHere) {
+            let mut text = Out::new(machine.alloc);
+            text.value(&entry.status);
+            findings.add_text("root-nothing-there", index, 0, &text);
+        }
+    }
+    for (before, span) in overlaps(&mut spans, findings) {
+        if span.first != before.first {
+            findings.add("root-overlap", span.offset, 0, &[before.first]);
+        }
+    }
+}

@@ -1,0 +1,40 @@
+//! The rules that the lines of the subjects describe.
+
+use crate::RULES;
+use acpi_dump_input::judgement::{Rule, Severity};
+use acpi_dump_walk::language::{cut_at, next_word};
+use std::alloc::{AllocError, Global};
+
+/// What stands in place of a rule that no line describes.
+pub(crate) const UNKNOWN: Rule = Rule {
+    id: "",
+    severity: Severity::Error,
+    section: "",
+    what: "",
+    message: "",
+};
+
+/// All rules, subject by subject.
+///
+/// Fails if memory runs out.
+pub fn rules(alloc: Global) -> Result<Vec<Rule>, AllocError> {
+    let mut all = Vec::new(alloc);
+    for subject in &RULES {
+        for line in subject.split('\n') {
+            let (id, line) = next_word(line);
+            let (severity, line) = next_word(line);
+            let (section, line) = cut_at(line, '|');
+            let (what, message) = cut_at(line, '|');
+            if let Some(severity) = Severity::read(severity) {
+                all.push(Rule {
+                    id,
+                    severity,
+                    section: section.trim_ascii(),
+                    what: what.trim_ascii(),
+                    message: message.trim_ascii(),
+                })?;
+            }
+        }
+    }
+    Ok(all)
+}

@@ -1,0 +1,144 @@
+//! The RSDPs in memory, valid or not (section 5.2.5.1): each lies at a multiple of 16.
+
+use acpi::rsdp::Rsdp;
+use acpi::{AcpiError, AcpiResult, AddressRange, PhysicalRecord};
+use acpi_base::bytes::field;
+use acpi_image_reader::MemoryImage;
+use std::alloc::{AllocError, Global};
+
+const SIGNATURE: &[u8] = b"RSD PTR ";
+
+/// An RSDP, by its signature: where it lies, and what its fields say.
+#[derive(Clone, Copy)]
+pub struct Candidate {
+    /// The physical address of its first byte.
+    pub address: u64,
+    /// The refusal of the first check that it fails.
+    pub refusal: Option<AcpiError>,
+    /// The fields of its 36 bytes, if so many are lent.
+    pub fields: Option<Pointers>,
+}
+
+/// What an RSDP's fields say (section 5.2.5.3).
+#[derive(Clone, Copy)]
+pub struct Pointers {
+    pub revision: u8,
+    pub rsdt: u32,
+    pub xsdt: Option<u64>,
+}
+
+/// The candidate that bytes begin with, which go on to the end of what is lent.
+fn candidate_of(address: u64, lent: &[u8]) -> Candidate {
+    if lent.len() < Rsdp::MIN_LENGTH {
+        return Candidate {
+            address,
+            refusal: Some(AcpiError::MapFailed),
+            fields: None,
+        };
+    }
+    let rsdp = Rsdp::read(lent);
+    let fields = Pointers {
+        revision: rsdp.revision(),
+        rsdt: rsdp.rsdt_address(),
+        xsdt: rsdp.xsdt_address(),
+    };
+    Candidate {
+        address,
+        refusal: rsdp.validate(lent).err(),
+        fields: Some(fields),
+    }
+}
+
+/// The refusal of an RSDP in a file of its own, which for revision 0 has 20 bytes.
+pub(crate) fn check_file(bytes: &[u8]) -> AcpiResult<()> {
+    if bytes.len() >= Rsdp::MIN_LENGTH {
+        return Rsdp::read(bytes).validate(bytes);
+    }
+    let mut padded = [0u8; 36];
+    padded[..bytes.len()].copy_from_slice(bytes);
+    let padded: &[u8] = &padded;
+    let rsdp = Rsdp::read(padded);
+    if bytes.len() < 20 || rsdp.revision() != 0 {
+        return Err(AcpiError::MapFailed);
+    }
+    rsdp.validate(padded)
+}
+
+/// Whether bytes have a valid RSDP at a multiple of 16.
+pub(crate) fn has_valid_rsdp(bytes: &[u8]) -> bool {
+    for offset in (0..bytes.len()).step_by(16) {
+        let rest = bytes.get(offset..).unwrap_or(&[]);
+        if rest.starts_with(SIGNATURE) && candidate_of(0, rest).refusal.is_none() {
+            return true;
+        }
+    }
+    false
+}
+
+/// The candidates that a memory has, in ascending order.
+///
+/// Fails if memory runs out.
+pub fn candidates(alloc: Global, image: &MemoryImage<'_>) -> Result<Vec<Candidate>, AllocError> {
+    let mut found = Vec::new(alloc);
+    for record in image.records() {
+        let (start, bytes) = (record.start, record.bytes);
+        let first = ((16 - start % 16) % 16) as usize;
+        for offset in (first..bytes.len()).step_by(16) {
+            let rest = bytes.get(offset..).unwrap_or(&[]);
+            if rest.starts_with(SIGNATURE) {
+                found.push(candidate_of(start.saturating_add(offset as u64), rest))?;
+            }
+        }
+    }
+    found.sort_by_key(|candidate| candidate.address)?;
+    Ok(found)
+}
+
+/// Where the extended BIOS data area begins: 16 times the word at 0x40e, if that is lent.
+pub fn ebda_of(lent: &[u8]) -> Option<u64> {
+    if lent.len() < 2 {
+        return None;
+    }
+    Some(field(lent, 0, 2).saturating_mul(16))
+}
+
+/// The addresses of the valid candidates that the BIOS areas have, those from 0xe0000 on first, or else
+/// of all valid candidates.
+///
+/// Fails if memory runs out.
+pub fn starts(
+    alloc: Global,
+    found: &[Candidate],
+    ebda: Option<u64>,
+) -> Result<Vec<u64>, AllocError> {
+    let [first, second] = acpi::rsdp::bios_areas(ebda);
+    let mut addresses = Vec::new(alloc);
+    push_valid(&mut addresses, found, second)?;
+    push_valid(&mut addresses, found, first)?;
+    if addresses.is_empty() {
+        push_valid(&mut addresses, found, ANYWHERE)?;
+    }
+    Ok(addresses)
+}
+
+/// An area that has all addresses of an RSDP.
+const ANYWHERE: AddressRange = AddressRange {
+    address: 0,
+    length: u64::MAX,
+};
+
+/// Adds the addresses of the valid candidates in an area.
+fn push_valid(
+    addresses: &mut Vec<u64>,
+    found: &[Candidate],
+    area: AddressRange,
+) -> Result<(), AllocError> {
+    for candidate in found {
+        let is_inside = candidate.address >= area.address
+            && candidate.address - area.address < area.length;
+        if is_inside && candidate.refusal.is_none() {
+            addresses.push(candidate.address)?;
+        }
+    }
+    Ok(())
+}

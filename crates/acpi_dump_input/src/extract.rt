@@ -1,0 +1,154 @@
+//! Files that are saved: tables in one folder, and a page.
+ghost use Rattle.std.specs.Prelude.{IfOk, IfSome, string_bytes};
+ghost use Rattle.acpi_dump_input.specs.Extract.{AddsNamed, AddsWithin, IsNamed};
+
+use crate::dumped::print_letters;
+use crate::entries::Entry;
+use crate::errors::{Log, Stop, fail};
+use crate::sources::{Sources, reason_of};
+use acpi_dump_walk::out::Out;
+use acpi_pack_lib::storage::Storage;
+use std::alloc::{AllocError, Global};
+use std::io::ErrorKind;
+
+/// How files are saved.
+#[derive(Clone, Copy)]
+pub struct Saving<'s> {
+    pub alloc: Global,
+    /// Whether the files replace those that are there.
+    pub is_forced: bool,
+    /// The names of what the tables were read from.
+    pub inputs: &'s [&'s str],
+}
+
+/// The path of a file in a folder, or `None` if the name would lead out of it.
+///
+/// Fails if memory runs out.
+fn path_within(alloc: Global, folder: &str, name: &str) -> Result<Option<String>, AllocError>
+    ensures { IfOk result (λ o. IfSome o (λ p. IsNamed folder.now name.now (string_bytes p))) }
+{
+    if name.as_bytes().contains(&b'/') || name.as_bytes().contains(&0) {
+        return Ok(None);
+    }
+    Ok(Some(format!(in alloc; "{folder}/{name}.dat")?))
+}
+
+/// The names of tables' files, less the numbers, each on its line.
+fn names_of(alloc: Global, entries: &[Entry<'_>]) -> Out {
+    let mut names = Out::new(alloc);
+    for entry in entries {
+        print_letters(entry.bytes, &mut names);
+        names.text("\n");
+    }
+    names
+}
+
+/// Prints the name on a line, with its number among those that are the same if there are several.
+fn print_numbered(names: &str, line: usize, name: &str, out: &mut Out) {
+    let (mut before, mut all) = (0u64, 0u64);
+    for (number, other) in names.lines().enumerate() {
+        if other == name {
+            all = all.saturating_add(1);
+            before = before.saturating_add((number <= line) as u64);
+        }
+    }
+    out.text(name);
+    if all > 1 {
+        write!(out, "{before}");
+    }
+}
+
+/// Saves a file, or says why it isn't saved. It answers whether it is.
+///
+/// Fails if memory runs out.
+#[tactic(auto, using(crate::proofs::Within::none_named, crate::proofs::Within::one_named))]
+pub fn save_file<S: Sources, T: Storage>(
+    saving: Saving<'_>,
+    path: &str,
+    bytes: &[u8],
+    sources: &mut S,
+    storage: &mut T,
+    log: &mut Log,
+) -> Result<bool, AllocError>
+    ensures { AddsNamed path.now (T.saved storage.old) (T.saved storage.new) }
+{
+    match sources.kind_of(path) {
+        Ok(_) if !saving.is_forced => {
+            fail(log, path, &"it is there: --force replaces it");
+            return Ok(false);
+        }
+        Err(refusal) if refusal.kind() != ErrorKind::NotFound => {
+            fail(log, path, &reason_of(&refusal));
+            return Ok(false);
+        }
+        _ => {}
+    }
+    let bytes = Vec::from_slice(saving.alloc, bytes)?;
+    if let Err(refusal) = storage.save(path, saving.inputs, bytes)? {
+        fail(log, path, &refusal);
+        return Ok(false);
+    }
+    Ok(true)
+}
+
+/// Saves a table under a name in a folder, and prints it with what the checks say, or says why it isn't saved.
+///
+/// Fails if memory runs out.
+#[tactic(auto, using(crate::proofs::Within::none_added, crate::proofs::Within::named_added))]
+fn save_table<S: Sources, T: Storage>(
+    saving: Saving<'_>,
+    folder: &str,
+    name: &str,
+    entry: &Entry<'_>,
+    sources: &mut S,
+    storage: &mut T,
+    out: &mut Out,
+    log: &mut Log,
+) -> Result<(), AllocError>
+    ensures { AddsWithin folder.now (T.saved storage.old) (T.saved storage.new) }
+{
+    let Some(path) = path_within(saving.alloc, folder, name)? else {
+        fail(log, name, &"not a name of a file");
+        return Ok(());
+    };
+    if save_file(saving, path.as_str(), entry.bytes, sources, storage, log)? {
+        write!(out, "{name}.dat: ");
+        out.value(&entry.status);
+        out.text("\n");
+    }
+    Ok(())
+}
+
+/// Saves each table of which some byte is there as a file of a folder.
+///
+/// Fails if memory runs out.
+#[tactic(auto, using(crate::proofs::Within::none_added, crate::proofs::Within::more_added))]
+pub fn save_tables<S: Sources, T: Storage>(
+    saving: Saving<'_>,
+    folder: &str,
+    entries: &[Entry<'_>],
+    sources: &mut S,
+    storage: &mut T,
+    out: &mut Out,
+    log: &mut Log,
+) -> Result<(), Stop>
+    ensures { AddsWithin folder.now (T.saved storage.old) (T.saved storage.new) }
+{
+    let names = names_of(saving.alloc, entries);
+    let Some(names) = names.printed() else {
+        return Err(Stop::OutOfMemory);
+    };
+    for (line, name) in names.lines().enumerate() {
+        if let Some(entry) = entries.get(line)
+            && !entry.bytes.is_empty()
+        {
+            let mut file = Out::new(saving.alloc);
+            print_numbered(names, line, name, &mut file);
+            let Some(file) = file.printed() else {
+                return Err(Stop::OutOfMemory);
+            };
+            save_table(saving, folder, file, entry, sources, storage, out, log)?;
+        }
+    }
+    Ok(())
+}

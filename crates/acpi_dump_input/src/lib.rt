@@ -1,0 +1,27 @@
+//! Inputs: what the program is pointed at, as memory or as tables, the tables that it has with what their checks say, and
+//! how these are saved as files.
+//!
+//! Every function returns for every input, without fault. The tables of acpidump's text are exact by a definition, and
+//! files are saved in the folder, or under the name, that is given; which bytes are saved is tested, and not proved.
+#![tactic(auto)]
+
+pub mod candidates;
+pub mod dumped;
+pub mod entries;
+pub mod errors;
+pub mod extract;
+mod flaws;
+mod folder;
+pub mod gather;
+pub mod judgement;
+pub mod kind;
+pub mod machine;
+mod memory;
+mod order;
+pub mod read;
+mod row;
+pub mod sources;
+pub mod status;
+pub mod tables;
+mod text;
+mod wide;

@@ -1,0 +1,62 @@
+//! The tables of which a machine has one each.
+
+use crate::errors::{Log, fail};
+use crate::tables::TableFile;
+use std::alloc::{AllocError, Global};
+
+/// The letters that a table begins with.
+pub fn letters_of(bytes: &[u8]) -> &[u8] {
+    bytes.get(..4).unwrap_or(bytes)
+}
+
+/// The signatures of which a machine has one table each.
+const SINGLE: [&[u8]; 6] = [b"FACP", b"DSDT", b"FACS", b"RSDT", b"XSDT", b"RSD "];
+
+/// The number of the signature of which a machine has one table, if bytes begin with one.
+fn single_of(bytes: &[u8]) -> usize {
+    let mut number = 0usize;
+    for letters in &SINGLE {
+        if letters_of(bytes) == *letters {
+            break;
+        }
+        number = number.saturating_add(1);
+    }
+    number
+}
+
+/// These tables, less those of which another one comes before: it says which these are.
+///
+/// Fails if memory runs out.
+pub(crate) fn of_one_machine(
+    alloc: Global,
+    tables: Vec<TableFile>,
+    log: &mut Log,
+) -> Result<Vec<TableFile>, AllocError> {
+    let mut kept: Vec<TableFile> = Vec::new(alloc);
+    let mut firsts = [usize::MAX; 6];
+    for table in tables {
+        let single = single_of(&table.bytes);
+        if single < 6 {
+            if let Some(first) = kept.get(firsts[single]) {
+                tell_second(&table, first, log);
+                continue;
+            }
+            firsts[single] = kept.len();
+        }
+        kept.push(table)?;
+    }
+    Ok(kept)
+}
+
+/// Says that a table isn't shown, beside the first of its signature.
+fn tell_second(table: &TableFile, first: &TableFile, log: &mut Log) {
+    let (name, other) = (table.name.as_str(), first.name.as_str());
+    let letters = str::from_utf8(letters_of(&table.bytes))
+        .unwrap_or("")
+        .trim_ascii();
+    fail(
+        log,
+        name,
+        &format_args!("a second {letters} beside {other}: not shown"),
+    );
+}

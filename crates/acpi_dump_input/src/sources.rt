@@ -1,0 +1,145 @@
+//! What the program reads: folders, files and standard input, and whether its output is a terminal.
+
+use std::alloc::{AllocError, Global};
+use std::fs::File;
+use std::io::{ErrorKind, IsTerminal, Read};
+use std::{env, fs, io};
+
+/// What a name leads to.
+#[derive(Clone, Copy, PartialEq, Eq)]
+pub enum Kind {
+    Folder,
+    File,
+    /// A pipe, a device or the like, whose bytes may have no end.
+    Other,
+}
+
+/// What lies in a folder.
+#[derive(Drop)]
+pub struct Listing {
+    /// The names, in no order.
+    pub names: Vec<String>,
+    /// How many names there are besides that are not UTF-8.
+    pub unnamed: usize,
+}
+
+/// Files and folders, as the program or a test reaches them.
+pub trait Sources {
+    /// What a name leads to.
+    ///
+    /// Fails if the system doesn't say what it leads to.
+    fn kind_of(&mut self, name: &str) -> io::Result<Kind>;
+
+    /// The names of what lies in a folder.
+    ///
+    /// Fails if the system refuses the folder, or memory runs out.
+    fn names_in(&mut self, alloc: Global, folder: &str) -> io::Result<Listing>;
+
+    /// The bytes of a file.
+    ///
+    /// Fails if the system refuses the file, if it has more than so many bytes (`FileTooLarge`), or if memory runs out.
+    fn read(&mut self, alloc: Global, name: &str, most: u64) -> io::Result<Vec<u8>>;
+
+    /// All bytes of standard input.
+    ///
+    /// Fails if the system refuses them, if they are more than so many (`FileTooLarge`), or if memory runs out.
+    fn read_standard_input(&mut self, alloc: Global, most: u64) -> io::Result<Vec<u8>>;
+
+    /// Whether standard output is a terminal that has colors, whose user hasn't set `NO_COLOR`.
+    fn takes_color(&mut self) -> bool;
+}
+
+/// The folders and files of the system that the program runs on.
+#[derive(Drop)]
+pub struct HostSources<'r> {
+    rt: &'r HostRuntime,
+}
+
+impl<'r> HostSources<'r> {
+    /// The folders and files of the system.
+    pub fn new(rt: &'r HostRuntime) -> HostSources<'r> {
+        HostSources { rt }
+    }
+}
+
+impl Sources for HostSources<'_> {
+    fn kind_of(&mut self, name: &str) -> io::Result<Kind> {
+        let found = fs::metadata(self.rt, name)?;
+        Ok(if found.is_dir() {
+            Kind::Folder
+        } else if found.is_file() {
+            Kind::File
+        } else {
+            Kind::Other
+        })
+    }
+
+    fn names_in(&mut self, alloc: Global, folder: &str) -> io::Result<Listing> {
+        let mut names = Vec::new(alloc);
+        let mut unnamed = 0usize;
+        for entry in fs::read_dir(self.rt, folder)? {
+            match entry {
+                Ok(entry) => push_name(alloc, &mut names, entry.file_name())?,
+                Err(refusal) if refusal.kind() == ErrorKind::InvalidFilename => {
+                    unnamed = unnamed.saturating_add(1);
+                }
+                Err(refusal) => return Err(refusal),
+            }
+        }
+        Ok(Listing { names, unnamed })
+    }
+
+    fn read(&mut self, alloc: Global, name: &str, most: u64) -> io::Result<Vec<u8>> {
+        read_at_most(alloc, File::open(self.rt, name)?, most)
+    }
+
+    fn read_standard_input(&mut self, alloc: Global, most: u64) -> io::Result<Vec<u8>> {
+        read_at_most(alloc, self.rt.reader(), most)
+    }
+
+    fn takes_color(&mut self) -> bool {
+        let asked_not = match env::var(self.rt, "NO_COLOR") {
+            Ok(value) => !value.is_empty(),
+            Err(_) => false,
+        };
+        let is_plain = match env::var(self.rt, "TERM") {
+            Ok(value) => value.as_str() == "dumb",
+            Err(_) => false,
+        };
+        !asked_not && !is_plain && self.rt.stdout().is_terminal()
+    }
+}
+
+/// All bytes of a reader, if they are at most so many.
+fn read_at_most<R: Read + Drop>(alloc: Global, reader: R, most: u64) -> io::Result<Vec<u8>> {
+    let mut bytes = Vec::new(alloc);
+    reader.take(most.saturating_add(1)).read_to_end(&mut bytes)?;
+    if bytes.len() as u64 > most {
+        return Err(io::Error::from(ErrorKind::FileTooLarge));
+    }
+    Ok(bytes)
+}
+
+/// Adds a name.
+fn push_name(alloc: Global, names: &mut Vec<String>, name: &str) -> Result<(), AllocError> {
+    let name = String::from_str(alloc, name)?;
+    Ok(names.push(name)?)
+}
+
+/// Why the system refuses, in a few words.
+pub fn reason_of(error: &io::Error) -> &'static str {
+    match error.kind() {
+        ErrorKind::NotFound => "no such file or folder",
+        ErrorKind::PermissionDenied => "permission denied",
+        ErrorKind::IsADirectory => "it is a folder",
+        ErrorKind::NotADirectory => "a part of its path isn't a folder",
+        ErrorKind::OutOfMemory => "out of memory",
+        ErrorKind::FileTooLarge => "more bytes than --max-bytes allows",
+        ErrorKind::StorageFull => "no space left",
+        ErrorKind::BrokenPipe => "no one reads it any more",
+        ErrorKind::InvalidFilename => "the name is too long, or not valid UTF-8",
+        ErrorKind::FilesystemLoop => "too many links",
+        ErrorKind::InvalidInput => "not a name of a file",
+        _ => "it can't be read",
+    }
+}

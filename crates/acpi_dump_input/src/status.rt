@@ -1,0 +1,75 @@
+//! What the checks of a table say.
+
+use acpi::AcpiError;
+use acpi::sdt::Signature;
+use std::fmt;
+
+/// What the checks of a table say.
+#[derive(Clone, Copy)]
+pub enum Status {
+    /// It is valid.
+    Valid,
+    /// It is valid by its header and sum, but the lookup of its type refuses it.
+    NoLookup(AcpiError),
+    /// A check refuses it.
+    Refused(AcpiError),
+    /// Its bytes don't sum to 0: its checksum, and the one by which they would (section 5.2.6).
+    WrongSum {
+        signature: Signature,
+        is: u8,
+        should: u8,
+    },
+    /// Fewer bytes are there than its length says.
+    Cut {
+        refusal: AcpiError,
+        has: usize,
+        length: u32,
+    },
+    /// It is valid, but so many bytes come after what its length says.
+    Longer(usize),
+    /// It is valid by its header and sum, but a part of it isn't as the layout of its type says.
+    Malformed,
+    /// A FADT gives its address, at which the input has no byte.
+    NotHere,
+}
+
+impl Status {
+    /// Whether the table is read, as far as it is as its layout says.
+    pub fn is_read(self) -> bool {
+        matches!(
+            self,
+            Status::Valid | Status::NoLookup(_) | Status::Longer(_) | Status::Malformed
+        )
+    }
+
+    /// Whether it is wrong: a table that isn't there isn't.
+    pub fn is_invalid(self) -> bool {
+        !matches!(self, Status::Valid | Status::NotHere)
+    }
+}
+
+impl fmt::Display for Status {
+    fn fmt<W: fmt::Write>(&self, f: &mut fmt::Formatter<W>) -> fmt::Result {
+        match self {
+            Status::Valid => f.write_str("ok"),
+            Status::NoLookup(refusal) => write!(f, "ok, but its lookup answers {refusal}"),
+            Status::Refused(refusal) => write!(f, "{refusal}"),
+            Status::WrongSum {
+                signature,
+                is,
+                should,
+            } => write!(
+                f,
+                "SdtInvalidChecksum {signature}: checksum is {is:02x}, should be {should:02x}"
+            ),
+            Status::Cut {
+                refusal,
+                has,
+                length,
+            } => write!(f, "{refusal}: {has} of {length} bytes are there"),
+            Status::Longer(over) => write!(f, "{over} bytes after its length"),
+            Status::Malformed => f.write_str("malformed"),
+            Status::NotHere => f.write_str("not in this input"),
+        }
+    }
+}

@@ -1,0 +1,203 @@
+//! The text of acpidump: for each table a heading, `FACP @ 0x00000000BFFE0000`, and rows of its bytes,
+//! `    0010: 42 4F 43 48 ..`, up to a blank line.
+ghost use Rattle.std.specs.Prelude.{◌≡◌, ◌==◌, ◌<◌, ℕ, IfOk, Ok, Err, length};
+ghost use Rattle.acpi_base.specs.FromStd.{after_first, before_first};
+ghost use Rattle.acpi_dump_input.specs.DumpText.{heading_of, tables_of};
+ghost use Rattle.acpi_dump_input.specs.declared.text.TextError.TheVariants.{Line};
+ghost use Rattle.acpi_dump_input.specs.Held.{tables_in as spelled_in};
+
+use crate::row::{Row, push_pairs, row_in};
+use acpi_cli::parse_address;
+use std::alloc::{AllocError, Global};
+
+/// A table that a text spells.
+#[derive(Drop)]
+pub(crate) struct SpelledTable {
+    /// The physical address that its heading gives.
+    pub(crate) address: u64,
+    /// The bytes that its rows spell.
+    pub(crate) bytes: Vec<u8>,
+}
+
+/// Why a text is refused.
+#[derive(Clone, Copy)]
+pub(crate) enum TextError {
+    /// The line of this number, counted from 1, is wrong.
+    Line(usize),
+    /// The allocator refused memory.
+    OutOfMemory,
+}
+
+/// Makes `OutOfMemory`.
+impl From<AllocError> for TextError {
+    ghost use Rattle.acpi_dump_input.specs.declared.text.TextError.TheVariants.{OutOfMemory};
+
+    ghost from_gives = { λ _ e. e ≡ OutOfMemory };
+
+    fn from(_refused: AllocError) -> TextError {
+        TextError::OutOfMemory
+    }
+}
+
+/// The tables of the lines that were read.
+#[derive(Drop)]
+pub struct Reading {
+    /// Those that are whole.
+    whole: Vec<SpelledTable>,
+    /// The one whose rows are read.
+    current: Option<SpelledTable>,
+}
+
+/// The first line of a text without its line feed, and what stands after that.
+#[tactic(auto, using(crate::proofs::Reading::after_shorter))]
+pub(crate) fn first_line(text: &str) -> (&str, &str)
+    ensures line { result.0.now ≡ before_first (λ c. c == 10) text.now }
+    ensures rest { result.1.now ≡ after_first (λ c. c == 10) text.now }
+    ensures shorter { 0 < length text.now → length result.1.now < length text.now }
+{
+    match text.split_once('\n') {
+        Some(parts) => parts,
+        None => (text, ""),
+    }
+}
+
+/// The address that a line gives if it is a heading: after an `@`, `0x` and one to sixteen hexadecimal digits.
+#[tactic(auto, unfolding(crate::specs::DumpText::heading_of))]
+pub(crate) fn heading_in(line: &str) -> Option<u64>
+    ensures { result ≡ heading_of line.now }
+{
+    parse_address(after_at(line).trim())
+}
+
+/// What stands after the first `@` of a line, or nothing if it has none.
+fn after_at(line: &str) -> &str
+    ensures { result.now ≡ after_first (λ c. c == 64) line.now }
+{
+    match line.split_once('@') {
+        Some((_, after)) => after,
+        None => "",
+    }
+}
+
+impl Reading {
+    ghost use Rattle.std.specs.Prelude.{◌≡◌, [], None, Some, IfOk, option_map};
+    ghost use Rattle.acpi_dump_input.specs.DumpText.{all_of, opened, with_line, with_row};
+    ghost use Rattle.acpi_dump_input.specs.Held.{reading_of, tables_in};
+
+    /// No table.
+    fn none(alloc: Global) -> Reading
+        ensures { reading_of result ≡ record { whole = []; current = None } }
+    {
+        Reading {
+            whole: Vec::new(alloc),
+            current: None,
+        }
+    }
+
+    /// All tables, of which the one whose rows were read is the last.
+    fn all(self) -> Result<Vec<SpelledTable>, AllocError>
+        ensures { IfOk result (λ v. tables_in v.items ≡ all_of (reading_of self)) }
+    {
+        let Reading { mut whole, current } = self;
+        if let Some(table) = current {
+            whole.push(table)?;
+        }
+        Ok(whole)
+    }
+
+    /// These tables, all of them whole.
+    fn closed(self) -> Result<Reading, AllocError>
+        ensures { IfOk result (λ r. reading_of r
+            ≡ record { whole = all_of (reading_of self); current = None }) }
+    {
+        Ok(Reading {
+            whole: self.all()?,
+            current: None,
+        })
+    }
+
+    /// These tables, and one more of which no row was read.
+    fn opened(self, alloc: Global, address: u64) -> Result<Reading, AllocError>
+        ensures { IfOk result (λ r. reading_of r ≡ opened (reading_of self) address) }
+    {
+        let whole = self.all()?;
+        let table = SpelledTable {
+            address,
+            bytes: Vec::new(alloc),
+        };
+        Ok(Reading {
+            whole,
+            current: Some(table),
+        })
+    }
+
+    /// These tables with one more row, or `None` if it is wrong.
+    #[tactic(auto, unfolding(crate::specs::DumpText::with_row))]
+    fn with_row(self, row: Row<'_>) -> Result<Option<Reading>, AllocError>
+        ensures { IfOk result (λ o. option_map reading_of o
+            ≡ with_row (reading_of self) (row.entry.offset, row.entry.pairs.now)) }
+    {
+        let Reading { whole, current } = self;
+        let Some(table) = current else {
+            return Ok(None);
+        };
+        let SpelledTable { address, mut bytes } = table;
+        if row.offset != bytes.len() as u64 {
+            return Ok(None);
+        }
+        if !push_pairs(&mut bytes, row.pairs)? {
+            return Ok(None);
+        }
+        Ok(Some(Reading {
+            whole,
+            current: Some(SpelledTable { address, bytes }),
+        }))
+    }
+
+    /// These tables with one more line, or `None` if it is wrong.
+    #[tactic(auto, unfolding(crate::specs::DumpText::with_line, crate::specs::DumpText::with_other))]
+    fn with_line(self, alloc: Global, line: &str) -> Result<Option<Reading>, AllocError>
+        ensures { IfOk result (λ o. option_map reading_of o
+            ≡ with_line (reading_of self) line.now) }
+    {
+        if let Some(row) = row_in(line) {
+            return self.with_row(row);
+        }
+        if let Some(address) = heading_in(line) {
+            return Ok(Some(self.opened(alloc, address)?));
+        }
+        if line.trim().is_empty() {
+            return Ok(Some(self.closed()?));
+        }
+        if self.current.is_some() {
+            return Ok(None);
+        }
+        Ok(Some(self))
+    }
+}
+
+/// The tables that a text spells, in order. A line outside a table that is neither heading, row nor blank is
+/// passed over.
+///
+/// Fails with `Line` at the first line that is wrong: a row outside a table, or in a table a row whose offset
+/// isn't the number of the bytes before it or whose pairs can't be read, or a line that is neither row, heading nor
+/// blank. It refuses with `OutOfMemory` if memory runs out.
+#[tactic(auto, using(crate::proofs::Reading::lines_end, crate::proofs::Reading::lines_wrong, crate::proofs::Reading::lines_more, crate::proofs::Reading::after_shorter))]
+pub(crate) fn tables_in(alloc: Global, text: &str) -> Result<Vec<SpelledTable>, TextError>
+    ensures spelled { IfOk result (λ v. tables_of text.now ≡ Ok (spelled_in v.items)) }
+    ensures wrong { (n : ℕ) → result ≡ Err (Line n) → tables_of text.now ≡ Err n }
+{
+    let mut reading = Reading::none(alloc);
+    let mut rest = text;
+    let mut number = 1usize;
+    while !rest.is_empty() {
+        let (line, after) = first_line(rest);
+        reading = match reading.with_line(alloc, line)? {
+            Some(longer) => longer,
+            None => return Err(TextError::Line(number)),
+        };
+        number += 1;
+        rest = after;
+    }
+    Ok(reading.all()?)
+}

@@ -1,6 +1,0 @@
-use Rattle.acpi_dump_lib.specs.Extract.{AddsWithin}
-use Rattle.acpi_dump_lib.proofs.extract.save_tables.Given as goal
-
-abbrev pub invariant-loop-line : goal.invariant-loop-line
-invariant-loop-line g l =
-    AddsWithin l.folder (g.T.Storage.saved l.fn.storage) (g.T.Storage.saved l.storage)

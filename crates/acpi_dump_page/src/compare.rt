@@ -1,0 +1,307 @@
+//! What differs between the tables of two inputs.
+
+mod pairs;
+
+use crate::outline::{Item, Items, Side, items_of};
+use acpi_dump_input::entries::{Entry, print_name};
+use acpi_dump_walk::out::Out;
+use pairs::pairs_of;
+use std::alloc::{AllocError, Global};
+
+/// A difference: the structure that it is in, where it is, the name of the field, which is empty if one input alone has
+/// the structure, and the values in the two inputs, if they have it.
+#[derive(Clone, Copy)]
+pub struct Difference<'a> {
+    pub side: Side<'a>,
+    pub part: usize,
+    pub offset: u64,
+    pub name: &'static str,
+    pub old: Option<&'a str>,
+    pub new: Option<&'a str>,
+    /// The field of the first table, if it has it.
+    pub(crate) was: Option<Item>,
+    /// The number of the field or of the structure in the second table, if it has it.
+    pub place: Option<usize>,
+}
+
+/// The item that comes first of those that are left on two sides, with the one beside it if that is the same field.
+fn next_pair(old: Option<Item>, new: Option<Item>) -> (Option<Item>, Option<Item>) {
+    match (old, new) {
+        (Some(a), Some(b)) if a.within == b.within && a.name == b.name => (old, new),
+        (Some(a), Some(b)) if b.within < a.within => (None, new),
+        (Some(_), _) => (old, None),
+        (None, _) => (None, new),
+    }
+}
+
+/// The differences between two tables, as they are found.
+#[derive(Drop)]
+struct Found<'a, 'i, 's> {
+    old: Side<'a>,
+    new: Side<'a>,
+    /// The names of the fields that are left out.
+    ignored: &'i [&'s str],
+    differences: Vec<Difference<'a>>,
+}
+
+impl<'a> Found<'a, '_, '_> {
+    /// Adds a difference between two items, the second one of this number, of a structure of the first table, if they
+    /// differ.
+    fn add(
+        &mut self,
+        part: usize,
+        a: Option<Item>,
+        b: Option<Item>,
+        place: usize,
+    ) -> Result<(), AllocError> {
+        let (old, new) = (self.old.value(a), self.new.value(b));
+        if let Some(item) = a.or(b)
+            && old != new
+            && !self.ignored.contains(&item.name)
+        {
+            self.differences.push(Difference {
+                side: self.old,
+                part,
+                offset: item.offset,
+                name: item.name,
+                old,
+                new,
+                was: a,
+                place: b.and(Some(place)),
+            })?;
+        }
+        Ok(())
+    }
+
+    /// Adds the fields that differ between two structures, in the order of their offsets.
+    fn add_fields(&mut self, part: usize, other: usize) -> Result<(), AllocError> {
+        let (mut old, mut i) = self.old.next_item(part, 0);
+        let (mut new, mut j) = self.new.next_item(other, 0);
+        for _ in 0..self.old.size().saturating_add(self.new.size()) {
+            let (a, b) = next_pair(old, new);
+            if a.or(b).is_none() {
+                break;
+            }
+            self.add(part, a, b, j.saturating_sub(1))?;
+            if a.is_some() {
+                (old, i) = self.old.next_item(part, i);
+            }
+            if b.is_some() {
+                (new, j) = self.new.next_item(other, j);
+            }
+        }
+        Ok(())
+    }
+
+    /// Adds that one input alone has a structure.
+    fn add_alone(&mut self, side: Side<'a>, part: usize, is_first: bool) -> Result<(), AllocError> {
+        let (old, new) = if is_first {
+            (Some(""), None)
+        } else {
+            (None, Some(""))
+        };
+        Ok(
+            self.differences.push(Difference {
+                side,
+                part,
+                offset: side.offset(part),
+                name: "",
+                old,
+                new,
+                was: None,
+                place: if is_first { None } else { Some(part) },
+            })?,
+        )
+    }
+
+    /// Adds all differences: of the structures of the first table in their order, and then those that the second one
+    /// alone has.
+    fn add_all(&mut self, alloc: Global) -> Result<(), AllocError> {
+        let (old, new) = (self.old, self.new);
+        let pairs = pairs_of(alloc, old, new)?;
+        for part in 0..old.len() {
+            if let Some(other) = pairs.other(part) {
+                self.add_fields(part, other)?;
+            } else if pairs.is_gone(old, part) {
+                self.add_alone(old, part, true)?;
+            }
+        }
+        for part in 0..new.len() {
+            if pairs.is_added(new, part) {
+                self.add_alone(new, part, false)?;
+            }
+        }
+        Ok(())
+    }
+}
+
+/// Whether a table is the same in two inputs, as far as its letters say: its signature and, of an SSDT, its OEM table
+/// id.
+fn is_alike(one: &Entry<'_>, other: &Entry<'_>) -> bool {
+    let (one, other) = (one.bytes, other.bytes);
+    one.get(..4) == other.get(..4)
+        && (!one.starts_with(b"SSDT") || one.get(16..24) == other.get(16..24))
+}
+
+/// The number of the table of another input that is the same as one by its letters, and by how many with these stand
+/// before it.
+pub(crate) fn same_in(entries: &[Entry<'_>], index: usize, others: &[Entry<'_>]) -> Option<usize> {
+    let wanted = entries.get(index)?;
+    let mut before = 0usize;
+    for entry in entries.get(..index)? {
+        before = before.saturating_add(is_alike(entry, wanted) as usize);
+    }
+    for (number, other) in others.iter().enumerate() {
+        if is_alike(other, wanted) {
+            if before == 0 {
+                return Some(number);
+            }
+            before -= 1;
+        }
+    }
+    None
+}
+
+/// What the differences between two inputs are shown to.
+pub trait ShowDifferences {
+    /// Shows a table that is in one input alone, the first or else the second.
+    fn alone(&mut self, is_first: bool, entry: &Entry<'_>);
+
+    /// Shows the fields that differ between two tables, of which there are some.
+    fn pair(&mut self, old: &Entry<'_>, new: &Entry<'_>, found: &[Difference<'_>]);
+}
+
+/// Differences as lines of text: the names of the two inputs, and where the lines are written to.
+#[derive(Drop)]
+pub struct DifferenceLines<'a> {
+    pub names: (&'a str, &'a str),
+    pub out: &'a mut Out,
+}
+
+impl ShowDifferences for DifferenceLines<'_> {
+    fn alone(&mut self, is_first: bool, entry: &Entry<'_>) {
+        print_only(is_first, self.names, self.out);
+        print_name(entry, self.out);
+        self.out.text("\n");
+    }
+
+    fn pair(&mut self, old: &Entry<'_>, new: &Entry<'_>, found: &[Difference<'_>]) {
+        print_found(old, new, found, self.names, self.out)
+    }
+}
+
+/// Prints which of two inputs alone has what comes next.
+fn print_only(is_first: bool, names: (&str, &str), out: &mut Out) {
+    out.text("only in ");
+    out.escaped(if is_first { names.0 } else { names.1 }.as_bytes());
+    out.text(": ");
+}
+
+/// Prints differences between two tables, under their names, and those within a structure under what that is called.
+fn print_found(
+    old: &Entry<'_>,
+    new: &Entry<'_>,
+    found: &[Difference<'_>],
+    names: (&str, &str),
+    out: &mut Out,
+) {
+    print_name(old, out);
+    out.text(" and ");
+    print_name(new, out);
+    out.text("\n");
+    let mut part = 0usize;
+    for difference in found {
+        if difference.name.is_empty() {
+            out.text("  ");
+            print_only(difference.old.is_some(), names, out);
+            difference.side.print_path(difference.part, out);
+            out.text("\n");
+        } else {
+            if difference.part != part {
+                part = difference.part;
+                out.text("  ");
+                difference.side.print_path(part, out);
+                out.text("\n");
+            }
+            print_difference(difference, out);
+        }
+    }
+}
+
+/// Prints a field that differs, within a structure by two blanks more.
+fn print_difference(difference: &Difference<'_>, out: &mut Out) {
+    let (offset, name) = (difference.offset, difference.name);
+    if difference.part > 0 {
+        out.text("  ");
+    }
+    write!(out, "  {offset:04x}  {name:<38}  ");
+    let values = [
+        difference.old.unwrap_or("none"),
+        difference.new.unwrap_or("none"),
+    ];
+    out.fill("$ -> $\n", &values);
+}
+
+/// The differences between the structures and items of two tables, less those of the names that are ignored.
+pub(crate) fn differences<'a>(
+    alloc: Global,
+    old: &'a Items,
+    new: &'a Items,
+    ignored: &[&str],
+) -> Result<Vec<Difference<'a>>, AllocError> {
+    let mut found = Found {
+        old: old.side()?,
+        new: new.side()?,
+        ignored,
+        differences: Vec::new(alloc),
+    };
+    found.add_all(alloc)?;
+    Ok(found.differences)
+}
+
+/// Shows the differences between two tables, and answers whether there are some.
+fn compare_pair<S: ShowDifferences>(
+    alloc: Global,
+    old: &Entry<'_>,
+    new: &Entry<'_>,
+    ignored: &[&str],
+    show: &mut S,
+) -> Result<bool, AllocError> {
+    let (items, others) = (items_of(alloc, old), items_of(alloc, new));
+    let found = differences(alloc, &items, &others, ignored)?;
+    if !found.is_empty() {
+        show.pair(old, new, &found);
+    }
+    Ok(!found.is_empty())
+}
+
+/// Shows the tables that are in one input alone, and of those in both the fields that differ, less those of the names
+/// that are ignored. It answers whether it shows something.
+///
+/// Fails if memory runs out.
+pub fn compare<S: ShowDifferences>(
+    alloc: Global,
+    old: &[Entry<'_>],
+    new: &[Entry<'_>],
+    ignored: &[&str],
+    show: &mut S,
+) -> Result<bool, AllocError> {
+    let mut any = false;
+    for index in 0..old.len() {
+        if let Some(number) = same_in(old, index, new)
+            && let Some(other) = new.get(number)
+        {
+            any |= compare_pair(alloc, &old[index], other, ignored, show)?;
+        } else {
+            any = true;
+            show.alone(true, &old[index]);
+        }
+    }
+    for index in 0..new.len() {
+        if same_in(new, index, old).is_none() {
+            any = true;
+            show.alone(false, &new[index]);
+        }
+    }
+    Ok(any)
+}

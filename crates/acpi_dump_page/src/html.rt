@@ -1,0 +1,190 @@
+//! A page of an input's tables, or of what differs between two inputs: one file of HTML, with nothing from elsewhere.
+//!
+//! A text from a table, a file's name or an option comes to the page by `escape` alone.
+
+mod bytes;
+mod drawn;
+mod escape;
+mod findings;
+mod frame;
+mod ids;
+mod list;
+mod machine;
+mod marks;
+mod matrices;
+mod rows;
+mod script;
+mod sheet;
+mod style;
+mod table;
+mod tile;
+
+use crate::compare::{differences, same_in};
+use crate::outline::{Items, items_of};
+use acpi::sdt::Signature;
+use acpi_dump_input::entries::{Entry, own_signature};
+use acpi_dump_input::judgement::Judgement;
+use acpi_dump_walk::out::Out;
+use escape::Piece::Printed;
+use escape::print_html;
+use findings::print_findings;
+use frame::{print_end, print_front};
+use ids::Id;
+use list::print_list;
+use machine::print_machine;
+use marks::marks_of;
+use sheet::{Sheet, Standing};
+use std::alloc::{AllocError, Global};
+use table::print_table;
+
+/// The tables of an input, and the names of what they were read from.
+#[derive(Clone, Copy)]
+pub struct Given<'p> {
+    pub names: &'p [&'p str],
+    pub entries: &'p [Entry<'p>],
+}
+
+/// What a page is made of.
+#[derive(Clone, Copy)]
+pub struct Source<'p> {
+    pub alloc: Global,
+    /// The input, or the second one of two.
+    pub input: Given<'p>,
+    /// The input that it is compared with.
+    pub first: Option<Given<'p>>,
+    /// The names of the fields that are left out of what differs.
+    pub ignored: &'p [&'p str],
+    /// What rules find in the input.
+    pub findings: &'p Judgement,
+}
+
+impl<'p> Source<'p> {
+    /// The tables of the input that it is compared with.
+    fn old(self) -> &'p [Entry<'p>] {
+        if let Some(first) = self.first {
+            return first.entries;
+        }
+        &[]
+    }
+}
+
+/// The structures and fields of tables.
+fn outlines_of(alloc: Global, entries: &[Entry<'_>]) -> Result<Vec<Items>, AllocError> {
+    let mut outlines = Vec::new(alloc);
+    for entry in entries {
+        outlines.push(items_of(alloc, entry))?;
+    }
+    Ok(outlines)
+}
+
+/// The tables of one input with their structures and fields.
+#[derive(Clone, Copy)]
+struct Outlined<'p> {
+    entries: &'p [Entry<'p>],
+    outlines: &'p [Items],
+}
+
+/// The signature that a table begins with, or should.
+fn signature_of(entry: &Entry<'_>) -> Signature {
+    match entry.sought {
+        Some(sought) if entry.bytes.len() < 4 => sought,
+        _ => own_signature(entry.bytes),
+    }
+}
+
+/// Adds the tables of an input as a page shows them beside those of the other one; of the first input only those that
+/// the other one hasn't got.
+///
+/// Fails if memory runs out.
+fn add_sheets<'p>(
+    source: Source<'p>,
+    it: Outlined<'p>,
+    other: Outlined<'p>,
+    is_first: bool,
+    sheets: &mut Vec<Sheet<'p>>,
+) -> Result<(), AllocError> {
+    for (number, (entry, items)) in it.entries.iter().zip(it.outlines).enumerate() {
+        let beside = match same_in(it.entries, number, other.entries) {
+            Some(_) if is_first => continue,
+            Some(place) => other.entries.get(place).zip(other.outlines.get(place)),
+            None => None,
+        };
+        let side = items.side()?;
+        let findings = if is_first {
+            &[]
+        } else {
+            source.findings.list()
+        };
+        let mut marks = marks_of(source.alloc, side, number, findings)?;
+        let mut standing = match source.first {
+            Some(_) => Standing::Only,
+            None => Standing::Alone,
+        };
+        if let Some((old, old_items)) = beside {
+            let found = differences(source.alloc, old_items, items, source.ignored)?;
+            marks.add(side, &found)?;
+            standing = if old.bytes == entry.bytes {
+                Standing::Same
+            } else {
+                Standing::Beside(*old, old_items.side()?)
+            };
+        }
+        sheets.push(Sheet {
+            entry: *entry,
+            id: Id::of(entry, it.entries.get(..number).unwrap_or(&[]), is_first),
+            signature: signature_of(entry),
+            side,
+            marks,
+            findings: source.findings,
+            standing,
+        })?;
+    }
+    Ok(())
+}
+
+/// Prints the page.
+///
+/// Fails if memory runs out.
+pub fn print_page(source: Source<'_>, out: &mut Out) -> Result<(), AllocError> {
+    let outlines = outlines_of(source.alloc, source.input.entries)?;
+    let old_outlines = outlines_of(source.alloc, source.old())?;
+    print_outlined(source, &outlines, &old_outlines, out)
+}
+
+/// Prints the page of the tables of the input, and of those of the first one that aren't in it, by their structures and
+/// fields.
+///
+/// Fails if memory runs out.
+fn print_outlined<'p>(
+    source: Source<'p>,
+    outlines: &'p [Items],
+    old_outlines: &'p [Items],
+    out: &mut Out,
+) -> Result<(), AllocError> {
+    let new = Outlined {
+        entries: source.input.entries,
+        outlines,
+    };
+    let old = Outlined {
+        entries: source.old(),
+        outlines: old_outlines,
+    };
+    let mut sheets = Vec::new(source.alloc);
+    add_sheets(source, new, old, false, &mut sheets)?;
+    add_sheets(source, old, new, true, &mut sheets)?;
+    let mut machine = Out::new(source.alloc);
+    print_machine(&sheets, &mut machine)?;
+    print_front(source, &sheets, machine.length() > 0, out);
+    if machine.length() > 0 {
+        let section =
+            "<section id=\"machine\"><h2>The machine</h2><div class=\"board\">\n$</div></section>\n";
+        print_html(section, &[Printed(&machine)], out);
+    }
+    print_findings(source.findings, &sheets, out);
+    print_list(&sheets, out);
+    for sheet in sheets.iter() {
+        print_table(sheet, out);
+    }
+    print_end(out);
+    Ok(())
+}

@@ -1,0 +1,282 @@
+//! The machine as a drawing: a tile for each domain, controller, unit and so on, in which a structure is a box.
+
+use super::drawn::{line_of, print_line};
+use super::escape::Piece::Text;
+use super::escape::print_html;
+use super::matrices::print_matrices;
+use super::rows::print_digest;
+use super::sheet::{Sheet, classes_of};
+use super::tile::Tile;
+use acpi::platform::interrupt::{InterruptSourceOverride, Polarity, TriggerMode};
+use acpi::sdt::field;
+use acpi_base::model::IsaOverrides;
+use acpi_dump_walk::language::{next_word, number_at, number_of};
+use acpi_dump_walk::out::Out;
+use acpi_dump_walk::share::share_of;
+use std::alloc::AllocError;
+
+/// What the tiles of each kind are called.
+const TITLES: [&str; 6] = [
+    "Domain",
+    "Processors",
+    "I/O APIC {I/O APIC ID}",
+    "PCI segments",
+    "{}",
+    "GIC",
+];
+
+const DOMAINS: u64 = 0;
+
+const IO_APICS: u64 = 2;
+
+const UNITS: u64 = 4;
+
+/// Up to how many processors of a tile have a box each, and how many boxes there are for more.
+const SINGLE: usize = 512;
+
+const BOXES: usize = 128;
+
+/// How many boxes as wide as the tile it has at most.
+const ROWS: usize = 40;
+
+/// A structure in the drawing.
+#[derive(Clone, Copy)]
+struct Shape {
+    /// The kind of its tile, the number of the table, and that of the tile.
+    tile: (u64, usize, u64),
+    part: usize,
+    /// Whether its box is as wide as the tile.
+    is_wide: bool,
+    class: &'static str,
+    text: &'static str,
+    /// An ISA interrupt, and the pin that it comes to.
+    isa: Option<(u8, u64)>,
+}
+
+/// Where a structure is drawn, if it is, within the one of this number that the table itself has.
+fn shape_of(sheet: &Sheet<'_>, table: usize, part: usize, unit: usize) -> Option<Shape> {
+    let structure = sheet.side.parts.get(part)?;
+    let entry = sheet.bytes(structure.offset, structure.length);
+    let (kind, class, text) = line_of(sheet, structure)?;
+    let (class, flags) = next_word(class);
+    let is_off = match number_of(flags) {
+        Some(flags) => number_at(entry, flags as usize, 4) & 1 == 0,
+        None => false,
+    };
+    let kind = number_of(kind)?;
+    let tile = match kind {
+        DOMAINS => share_of(structure.kind?, entry)?.domain,
+        IO_APICS | UNITS => unit as u64,
+        _ => 0,
+    };
+    Some(Shape {
+        tile: (kind, table, tile),
+        part,
+        is_wide: flags.is_empty(),
+        class: if is_off { "cpu off" } else { class },
+        text,
+        isa: None,
+    })
+}
+
+/// Adds the structures of a table that are drawn.
+///
+/// Fails if memory runs out.
+fn add_shapes(sheet: &Sheet<'_>, table: usize, shapes: &mut Vec<Shape>) -> Result<(), AllocError> {
+    let mut unit = 0usize;
+    for (part, structure) in sheet.side.parts.iter().enumerate().skip(1) {
+        if structure.parent == 0 {
+            unit = part;
+        }
+        if let Some(shape) = shape_of(sheet, table, part, unit) {
+            shapes.push(shape)?;
+        }
+    }
+    if sheet.is(b"APIC") {
+        add_interrupts(sheet, table, shapes)?;
+    }
+    Ok(())
+}
+
+/// Adds the ISA interrupts of a MADT to the tiles of the I/O APICs that they come to (sections 5.2.12.3 and 5.2.12.5).
+/// Each leads to its override, or to the I/O APIC if it has none.
+///
+/// Fails if memory runs out.
+fn add_interrupts(
+    sheet: &Sheet<'_>,
+    table: usize,
+    shapes: &mut Vec<Shape>,
+) -> Result<(), AllocError> {
+    let (mut overrides, mut parts) = (IsaOverrides::new(), [0usize; 256]);
+    for part in 0..sheet.side.len() {
+        if let Some(structure) = sheet.side.parts.get(part)
+            && structure.kind == Some(2)
+        {
+            let entry = sheet.bytes(structure.offset, structure.length);
+            if field(entry, 2, 1) != 0 {
+                continue; // Bus
+            }
+            let isa_source = field(entry, 3, 1) as u8; // Source
+            parts[isa_source as usize] = part;
+            overrides.add(&InterruptSourceOverride {
+                isa_source,
+                global_system_interrupt: field(entry, 4, 4) as u32,
+                polarity: Polarity::SameAsBus,
+                trigger_mode: TriggerMode::SameAsBus,
+            });
+        }
+    }
+    for irq in 0..16u8 {
+        if let Some(isa) = overrides.isa_interrupt(irq)
+            && let Some((controller, pin)) = pin_of(sheet, isa.global_system_interrupt as u64)
+        {
+            let part = parts[irq as usize];
+            shapes.push(Shape {
+                tile: (IO_APICS, table, controller as u64),
+                part: if part == 0 { controller } else { part },
+                is_wide: false,
+                class: if part == 0 { "pin" } else { "pin hot" },
+                text: "",
+                isa: Some((irq, pin)),
+            })?;
+        }
+    }
+    Ok(())
+}
+
+/// The I/O APIC of a MADT that an interrupt comes to, by the number of its structure, and the pin: the first one with
+/// the greatest base up to the interrupt.
+fn pin_of(sheet: &Sheet<'_>, interrupt: u64) -> Option<(usize, u64)> {
+    let mut nearest: Option<(usize, u64)> = None;
+    for (part, structure) in sheet.side.parts.iter().enumerate() {
+        let entry = sheet.bytes(structure.offset, structure.length);
+        let base = number_at(entry, 8, 4); // Global System Interrupt Base
+        let is_nearer = match nearest {
+            Some((_, pin)) => interrupt.saturating_sub(base) < pin,
+            None => true,
+        };
+        if structure.kind == Some(1) && base <= interrupt && is_nearer {
+            nearest = Some((part, interrupt - base));
+        }
+    }
+    nearest
+}
+
+/// Prints the tiles of the drawing: none if there is nothing to draw.
+///
+/// Fails if memory runs out.
+pub(super) fn print_machine(sheets: &[Sheet<'_>], out: &mut Out) -> Result<(), AllocError> {
+    let mut shapes = Vec::new(out.allocator());
+    for (table, sheet) in sheets.iter().enumerate() {
+        if sheet.is_drawn() {
+            add_shapes(sheet, table, &mut shapes)?;
+        }
+    }
+    shapes.sort_by_key(|shape| (shape.tile, shape.is_wide))?;
+    let place = shapes.partition_point(|shape| shape.tile.0 < IO_APICS);
+    let (processors, others) = shapes.split_at(place);
+    print_tiles(sheets, processors, out);
+    print_matrices(sheets, out);
+    print_tiles(sheets, others, out);
+    Ok(())
+}
+
+/// Prints the tiles of structures in order.
+fn print_tiles(sheets: &[Sheet<'_>], shapes: &[Shape], out: &mut Out) {
+    let mut start = 0usize;
+    for (place, shape) in shapes.iter().enumerate() {
+        match shapes.get(place + 1) {
+            Some(next) if next.tile == shape.tile => continue,
+            _ => print_tile(sheets, shapes.get(start..place + 1).unwrap_or(&[]), out),
+        }
+        start = place + 1;
+    }
+}
+
+/// Prints the front of a tile of a kind and a number.
+fn print_title(sheet: &Sheet<'_>, kind: u64, number: u64, out: &mut Out) {
+    if kind == DOMAINS {
+        let domain = "<figure class=\"tile d%\"><div><figcaption><h3>Domain %</h3>";
+        return out.words(domain, &[number % 6, number]);
+    }
+    out.text("<figure class=\"tile\"><div><figcaption><h3>");
+    let title = TITLES.get(kind as usize).unwrap_or(&"");
+    print_line(sheet, number as usize, title, out);
+    out.text("</h3>")
+}
+
+/// Prints a tile of structures.
+fn print_tile(sheets: &[Sheet<'_>], shapes: &[Shape], out: &mut Out) {
+    let [first, ..] = shapes else {
+        return;
+    };
+    let (kind, table, number) = first.tile;
+    let Some(sheet) = sheets.get(table) else {
+        return;
+    };
+    let (boxes, rows) = shapes.split_at(shapes.partition_point(|shape| !shape.is_wide));
+    let (each, columns) = match boxes.len() {
+        _ if kind == IO_APICS => (1, 3),
+        0..=64 => (1, 8),
+        65..=SINGLE => (1, 12),
+        count => (count.div_ceil(BOXES), 8),
+    };
+    print_title(sheet, kind, number, out);
+    if each > 1 {
+        let counts = [boxes.len() as u64, each as u64];
+        out.words("<p>% processors, % in a box</p>", &counts);
+    }
+    let mut tile = Tile::new(out.allocator(), columns);
+    for some in boxes.chunks(each) {
+        add_box(sheet, some, &mut tile);
+    }
+    tile.columns = 1;
+    for some in rows.chunks(1).take(ROWS) {
+        add_box(sheet, some, &mut tile);
+    }
+    if rows.len() > ROWS {
+        let others = (rows.len() - ROWS) as u64;
+        tile.text.words("and % more", &[others]);
+        tile.add(None, "", "");
+    }
+    tile.print(out)
+}
+
+/// Adds a box for structures, of which there are several only if they are processors.
+fn add_box(sheet: &Sheet<'_>, some: &[Shape], tile: &mut Tile) {
+    let [first, ..] = some else {
+        return;
+    };
+    let Some(structure) = sheet.side.parts.get(first.part) else {
+        return;
+    };
+    let mut seen = (0, false);
+    for shape in some {
+        if let Some(other) = sheet.side.parts.get(shape.part) {
+            seen = sheet.seen(other.offset, other.length, seen);
+        }
+    }
+    print_line(sheet, first.part, first.text, &mut tile.text);
+    if let Some((irq, pin)) = first.isa {
+        let numbers = [irq as u64, pin];
+        tile.text.words("ISA %→%", &numbers);
+        tile.title.words("ISA interrupt %, pin %: ", &numbers);
+    }
+    if some.len() > 1 {
+        let words = "% processors from this one on: ";
+        tile.title.words(words, &[some.len() as u64]);
+    }
+    let state = if first.class == "cpu off" {
+        "disabled: "
+    } else {
+        ""
+    };
+    let name = [Text(state), Text(structure.name)];
+    print_html("$$: ", &name, &mut tile.title);
+    print_digest(sheet.side, first.part, structure, &mut tile.title);
+    tile.add(
+        Some((sheet, structure.offset)),
+        first.class,
+        classes_of(seen),
+    )
+}

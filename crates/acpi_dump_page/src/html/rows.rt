@@ -1,0 +1,349 @@
+//! The fields of a table: a row for each, in folds by the structures that they are in.
+
+use super::escape::Piece::{Bytes, Decimal, Digits, Hex, Id, Name, Offset, Text, Value};
+use super::escape::print_html;
+use super::findings::print_findings_of;
+use super::marks::Change;
+use super::sheet::{Sheet, Standing};
+use crate::outline::{BYTES, Item, MALFORMED, Part, Side};
+use acpi::sdt::SdtHeader;
+use acpi_dump_input::entries::header_of;
+use acpi_dump_walk::out::Out;
+use acpi_dump_walk::walk::DEEPEST;
+
+/// From how many structures of one name in a row on they are in a fold.
+const MANY: usize = 9;
+
+/// The longest table whose structures begin unfolded.
+const SHORT: usize = 128;
+
+/// The length of a header (ACPI 6.5, section 5.2.6).
+const HEADER: u64 = 36;
+
+/// What ends rows of fields that follow each other, and those of the header.
+const ROWS_END: &str = "</table>\n";
+
+const HEADER_END: &str = "</table>\n</details>\n";
+
+/// The rows of a table as they are printed.
+#[derive(Drop)]
+struct Rows<'s, 'p, 'o> {
+    sheet: &'s Sheet<'p>,
+    out: &'o mut Out,
+    /// The structure whose fields come.
+    open: usize,
+    /// The last structure of the row of structures that is in a fold, or 0.
+    group: usize,
+    /// What ends the rows that have begun: nothing if none have.
+    end: &'static str,
+}
+
+/// Prints the fields of a table, and what only that of the first input has.
+pub(super) fn print_rows(sheet: &Sheet<'_>, out: &mut Out) {
+    let mut rows = Rows {
+        sheet,
+        out,
+        open: 0,
+        group: 0,
+        end: "",
+    };
+    if let Some(header) = &header_of(&sheet.entry) {
+        rows.begin_header(header);
+    }
+    let mut next = 1usize;
+    for (place, item) in sheet.side.items.iter().enumerate() {
+        for number in next..sheet.side.len() {
+            match sheet.side.parts.get(number) {
+                Some(part) if part.first <= place => {
+                    rows.close_to(part.parent);
+                    rows.begin(number, part);
+                }
+                _ => break,
+            }
+            next = number + 1;
+        }
+        rows.close_to(item.part);
+        rows.item(place, *item);
+    }
+    rows.close_to(0);
+    rows.end();
+    rows.gone();
+}
+
+impl Rows<'_, '_, '_> {
+    /// Begins the rows of fields that follow each other, unless they have begun.
+    fn start(&mut self) {
+        if self.end.is_empty() {
+            self.out.text("<table class=\"fl\">");
+            self.end = ROWS_END;
+        }
+    }
+
+    /// Ends the rows that have begun.
+    fn end(&mut self) {
+        self.out.text(self.end);
+        self.end = "";
+    }
+
+    /// Begins the fold of the header, which is open if the table is invalid or something in it is marked.
+    fn begin_header(&mut self, header: &SdtHeader) {
+        let sheet = self.sheet;
+        let marks = sheet.classes(0, HEADER);
+        let is_open = marks.starts_with(" hit") || sheet.entry.status.is_invalid();
+        print_html(
+            "<details class=\"s hd$\"$><summary data-o=\"0\" data-n=\"24\"><span>0000</span> Header <small>$ $</small>\
+             </summary>\n<table class=\"fl\"><thead><tr><th scope=\"col\">Offset<th scope=\"col\">Field\
+             <th scope=\"col\">Value<th scope=\"col\">Meaning<tbody>\n",
+            &[
+                Text(marks),
+                Text(if is_open { " open" } else { "" }),
+                Bytes(&header.oem_id),
+                Bytes(&header.oem_table_id),
+            ],
+            self.out,
+        );
+        self.end = HEADER_END;
+    }
+
+    /// Begins the fold of a structure, and before it that of a row of structures if it is the first of many.
+    fn begin(&mut self, number: usize, part: &Part) {
+        let sheet = self.sheet;
+        self.end();
+        self.open = number;
+        let fold = sheet.fold(number);
+        if self.group == 0 {
+            self.begin_group(number, part);
+        }
+        let is_short = sheet.entry.bytes.len() <= SHORT && self.group == 0;
+        let is_compared = matches!(sheet.standing, Standing::Beside(_, _));
+        let is_changed = fold.has_changes && !fold.is_added;
+        let is_open = fold.has_findings || is_changed || is_short && !is_compared;
+        print_html(
+            "<details class=\"s$$$\"$><summary data-o=\"$\" data-n=\"$\"><span>$</span> $ <small>$",
+            &[
+                Text(if fold.is_added { " new" } else { "" }),
+                Text(if is_changed { " chg" } else { "" }),
+                Text(if fold.has_findings { " hit" } else { "" }),
+                Text(if is_open { " open" } else { "" }),
+                Digits(part.offset),
+                Digits(part.length),
+                Offset(part.offset),
+                Text(part.name),
+                Text(if fold.is_added { "added: " } else { "" }),
+            ],
+            self.out,
+        );
+        print_digest(sheet.side, number, part, self.out);
+        self.out.text("</small></summary>\n");
+    }
+
+    /// Begins the fold of a row of structures of one name, if these are many from this one on.
+    fn begin_group(&mut self, number: usize, part: &Part) {
+        let sheet = self.sheet;
+        let (mut count, mut last, mut end) = (0usize, number, part.offset);
+        let mut has_changes = false;
+        for place in number..sheet.side.len() {
+            match sheet.side.parts.get(place) {
+                Some(other) if other.parent == part.parent && other.name == part.name => {
+                    count = count.saturating_add(1);
+                    last = place;
+                    end = other.offset.saturating_add(other.length);
+                    has_changes |= sheet.fold(place).has_changes;
+                }
+                Some(other) if other.parent >= number => {}
+                _ => break,
+            }
+        }
+        if count < MANY {
+            return;
+        }
+        self.group = last;
+        print_html(
+            "<details class=\"g$\"><summary>$ <b>×$</b> <small>$ to $</small></summary>\n",
+            &[
+                Text(if has_changes { " chg" } else { "" }),
+                Text(part.name),
+                Decimal(count as u64),
+                Hex(part.offset),
+                Hex(end.saturating_sub(1)),
+            ],
+            self.out,
+        )
+    }
+
+    /// Ends the folds of structures up to that of one that they are in.
+    fn close_to(&mut self, part: usize) {
+        let sheet = self.sheet;
+        for _ in 0..DEEPEST {
+            if self.open == part {
+                break;
+            }
+            self.end();
+            self.out.text("</details>\n");
+            if self.open == self.group {
+                self.out.text("</details>\n");
+                self.group = 0;
+            }
+            self.open = match sheet.side.parts.get(self.open) {
+                Some(inner) => inner.parent,
+                None => 0,
+            };
+        }
+    }
+
+    /// Prints a field's row, with its findings.
+    fn item(&mut self, place: usize, item: Item) {
+        let sheet = self.sheet;
+        if item.part == 0 && item.offset >= HEADER && self.end == HEADER_END {
+            self.end();
+        }
+        let (mark, side) = (sheet.mark(place), sheet.side);
+        if mark.row != place {
+            return;
+        }
+        self.start();
+        self.begin_row(place, item);
+        let meaning = side.meaning(item);
+        match (mark.change, sheet.standing) {
+            _ if item.name == BYTES => {
+                let length = self.length(place);
+                let words = "<th scope=\"row\">not decoded<td><td>% bytes\n";
+                self.out.words(words, &[length])
+            }
+            (Change::From(was), Standing::Beside(_, old)) => print_html(
+                if old.meaning(was) == meaning {
+                    "<th scope=\"row\">$<td><del>$</del> <ins>$</ins><td>$\n"
+                } else {
+                    "<th scope=\"row\">$<td><del>$</del> <ins>$</ins><td><del>$</del> $\n"
+                },
+                &[
+                    Name(item),
+                    Value(old.digits(was)),
+                    Value(side.digits(item)),
+                    Text(old.meaning(was)),
+                    Text(meaning),
+                ],
+                self.out,
+            ),
+            _ => print_html(
+                "<th scope=\"row\">$<td>$<td>$\n",
+                &[Name(item), Value(side.digits(item)), Text(meaning)],
+                self.out,
+            ),
+        }
+        print_findings_of(sheet.findings, mark.findings, self.out)
+    }
+
+    /// How many bytes that no field covers are in a row.
+    fn length(&self, row: usize) -> u64 {
+        let sheet = self.sheet;
+        let mut length = 0u64;
+        for number in row..sheet.side.size() {
+            match sheet.side.items.get(number) {
+                Some(item) if sheet.mark(number).row == row => {
+                    length = length.saturating_add(item.length);
+                }
+                _ => break,
+            }
+        }
+        length
+    }
+
+    /// Prints what a row begins with: its id, its marks and its offset.
+    fn begin_row(&mut self, place: usize, item: Item) {
+        let sheet = self.sheet;
+        let (offset, mark) = (item.offset, sheet.mark(place));
+        let id = Id(sheet.id, Some(offset));
+        let start = if item.length > 0 {
+            "<tr id=\"$\""
+        } else {
+            "<tr"
+        };
+        print_html(start, &[id], self.out);
+        if item.name == MALFORMED {
+            return print_html(" class=\"wrong\"><td>$", &[Offset(offset)], self.out);
+        }
+        let change = match mark.change {
+            Change::Same => "",
+            Change::Added(_) => " new",
+            Change::From(_) => " chg",
+        };
+        let found = if mark.findings.0 < mark.findings.1 {
+            sheet.classes(offset, item.length.max(1))
+        } else {
+            ""
+        };
+        print_html(
+            " class=\"f$$$\"><td><a href=\"#$\">$</a>",
+            &[
+                Digits(offset),
+                Text(change),
+                Text(found),
+                id,
+                Offset(offset),
+            ],
+            self.out,
+        )
+    }
+
+    /// Prints the structures and fields that only the table of the first input has.
+    fn gone(&mut self) {
+        let sheet = self.sheet;
+        let Standing::Beside(_, old) = sheet.standing else {
+            return;
+        };
+        for (part, field) in sheet.marks.gone.iter() {
+            self.start();
+            match field {
+                Some(item) => print_html(
+                    "<tr class=\"del\"><td>$<th scope=\"row\">$<td><del>$</del><td><del>$</del>\n",
+                    &[
+                        Offset(item.offset),
+                        Name(*item),
+                        Value(old.digits(*item)),
+                        Text(old.meaning(*item)),
+                    ],
+                    self.out,
+                ),
+                None => {
+                    let mut path = Out::new(self.out.allocator());
+                    old.print_path(*part, &mut path);
+                    print_html(
+                        "<tr class=\"del\"><td>$<th scope=\"row\"><del>$</del><td><td>only in the first\n",
+                        &[Offset(old.offset(*part)), Bytes(path.since(0))],
+                        self.out,
+                    )
+                }
+            }
+        }
+        self.end();
+    }
+}
+
+/// Prints the first fields that tell of a folded structure what it is.
+pub(super) fn print_digest(side: Side<'_>, number: usize, part: &Part, out: &mut Out) {
+    let mut count = 0usize;
+    let mut from = 0usize;
+    for _ in part.first..part.last {
+        let (Some(item), next) = side.next_item(number, from) else {
+            break;
+        };
+        from = next;
+        let is_front = item.within < 5 && matches!(item.name, "Type" | "Length" | "Revision");
+        if is_front || item.name == BYTES || item.name.starts_with("Reserved") {
+            continue;
+        }
+        let meaning = side.meaning(item).as_bytes();
+        let value = if meaning.is_empty() {
+            Value(side.digits(item))
+        } else {
+            Bytes(meaning.get(..48).unwrap_or(meaning))
+        };
+        let gap = Text(if count > 0 { ", " } else { "" });
+        print_html("$$ $", &[gap, Text(item.name), value], out);
+        count = count.saturating_add(1);
+        if count == 4 {
+            break;
+        }
+    }
+}

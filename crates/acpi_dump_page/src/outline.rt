@@ -1,0 +1,308 @@
+//! The structures of a table with their fields.
+
+use acpi_dump_input::entries::Entry;
+use acpi_dump_walk::fault::Fault;
+use acpi_dump_walk::fields::{print_hex, print_meaning, print_value};
+use acpi_dump_walk::out::Out;
+use acpi_dump_walk::walk::{DEEPEST, Field, Group, Show, walk_table};
+use std::alloc::{AllocError, Global};
+
+/// The name of an item that is bytes which no field covers, up to 16 of them.
+pub(crate) const BYTES: &str = "bytes";
+
+/// The name of an item that says why the bytes after it aren't shown by the layout.
+pub(crate) const MALFORMED: &str = "malformed";
+
+/// The ends of the names of fields that tell structures of one type apart.
+const IDS: &str = "ID|Source|MPIDR|Segment Group Number|Segment Number|Proximity Domain";
+
+/// A field or a run of bytes: the structure that it is in, where it is in the table and in the structure, its name, and
+/// where its value stands in the text of all values.
+#[derive(Clone, Copy)]
+pub(crate) struct Item {
+    pub(crate) part: usize,
+    pub(crate) offset: u64,
+    pub(crate) within: u64,
+    pub(crate) length: u64,
+    pub(crate) name: &'static str,
+    /// Its number if it is one of several of its name.
+    pub(crate) number: Option<u64>,
+    start: usize,
+    /// Where the meaning stands after the value.
+    middle: usize,
+    end: usize,
+}
+
+/// A structure, of which the first is the whole table: the one that it is in, where it is, what it is called, its place
+/// among those of its name, and between which places its items stand, with those of the structures in it.
+#[derive(Clone, Copy)]
+pub(crate) struct Part {
+    pub(crate) parent: usize,
+    pub(crate) offset: u64,
+    pub(crate) length: u64,
+    pub(crate) name: &'static str,
+    /// Its type, if it has one.
+    pub(crate) kind: Option<u64>,
+    place: u64,
+    pub(crate) first: usize,
+    pub(crate) last: usize,
+    /// The name of the first field that tells it apart, and where its value stands.
+    id: Option<Item>,
+}
+
+/// The structures and items of a table in the order of its bytes, and their values as one text.
+#[derive(Drop)]
+pub(crate) struct Items {
+    parts: Vec<Part>,
+    items: Vec<Item>,
+    /// The structure that began last and hasn't ended.
+    open: usize,
+    values: Out,
+    /// Whether memory was refused.
+    is_refused: bool,
+}
+
+/// Whether a field of this name tells structures apart.
+fn is_id(name: &str) -> bool {
+    for end in IDS.split('|') {
+        if name.ends_with(end) {
+            return true;
+        }
+    }
+    false
+}
+
+impl Items {
+    /// Adds an item of so many bytes, whose value and meaning are what was printed from two places of the text on.
+    fn add(&mut self, offset: u64, length: usize, name: &'static str, places: (usize, usize)) {
+        let begin = match self.parts.get(self.open) {
+            Some(part) => part.offset,
+            None => 0,
+        };
+        let item = Item {
+            part: self.open,
+            offset,
+            within: offset.saturating_sub(begin),
+            length: length as u64,
+            name,
+            number: None,
+            start: places.0,
+            middle: places.1,
+            end: self.values.length(),
+        };
+        self.is_refused |= self.items.push(item).is_err();
+    }
+
+    /// The place of a new structure among those of its name in the one that is open.
+    fn place_of(&self, name: &str) -> u64 {
+        for part in self.parts.iter().rev() {
+            if part.parent == self.open && part.name == name {
+                return part.place.saturating_add(1);
+            }
+        }
+        0
+    }
+
+    /// These structures and items, if memory sufficed for them and their values.
+    pub(crate) fn side(&self) -> Result<Side<'_>, AllocError> {
+        match self.values.printed() {
+            Some(values) if !self.is_refused => Ok(Side {
+                parts: self.parts.as_slice(),
+                items: self.items.as_slice(),
+                values,
+            }),
+            _ => Err(AllocError),
+        }
+    }
+}
+
+impl Show for Items {
+    fn field(&mut self, shown: &Field<'_>) {
+        let start = self.values.length();
+        print_value(shown, &mut self.values);
+        let places = (start, self.values.length());
+        print_meaning(shown, &mut self.values);
+        self.add(shown.offset, shown.bytes.len(), shown.label.name, places);
+        if let Some(item) = self.items.last_mut() {
+            item.number = shown.number;
+        }
+        let item = self.items.last().copied();
+        if let Some(part) = self.parts.get_mut(self.open)
+            && part.id.is_none()
+            && is_id(shown.label.name)
+        {
+            part.id = item;
+        }
+    }
+
+    fn bytes(&mut self, offset: u64, bytes: &[u8]) {
+        let mut offset = offset;
+        for line in bytes.chunks(16) {
+            let start = self.values.length();
+            print_hex(line, &mut self.values);
+            let places = (start, self.values.length());
+            self.add(offset, line.len(), BYTES, places);
+            offset = offset.saturating_add(16);
+        }
+    }
+
+    fn begin(&mut self, group: &Group) {
+        let name = if group.name.is_empty() {
+            "unknown"
+        } else {
+            group.name
+        };
+        let part = Part {
+            parent: self.open,
+            offset: group.offset,
+            length: group.length,
+            name,
+            kind: group.kind,
+            place: self.place_of(name),
+            first: self.items.len(),
+            last: 0,
+            id: None,
+        };
+        self.open = self.parts.len();
+        self.is_refused |= self.parts.push(part).is_err();
+    }
+
+    fn end(&mut self) {
+        let last = self.items.len();
+        if let Some(part) = self.parts.get_mut(self.open) {
+            part.last = last;
+            self.open = part.parent;
+        }
+    }
+
+    fn malformed(&mut self, offset: u64, fault: Fault) {
+        let start = self.values.length();
+        fault.print(offset, &mut self.values);
+        self.add(offset, 0, MALFORMED, (start, start))
+    }
+}
+
+/// The structures and items of a table, with the text that their values stand in.
+#[derive(Clone, Copy)]
+pub struct Side<'a> {
+    pub(crate) parts: &'a [Part],
+    pub(crate) items: &'a [Item],
+    values: &'a str,
+}
+
+impl<'a> Side<'a> {
+    /// The value of an item, if there is one.
+    pub(crate) fn value(self, item: Option<Item>) -> Option<&'a str> {
+        let Item { start, end, .. } = item?;
+        self.values.get(start..end)
+    }
+
+    /// The value of an item without its meaning.
+    pub(crate) fn digits(self, item: Item) -> &'a str {
+        self.values.get(item.start..item.middle).unwrap_or("")
+    }
+
+    /// What a value means, if there is one.
+    pub(crate) fn meaning(self, item: Item) -> &'a str {
+        self.values
+            .get(item.middle..item.end)
+            .unwrap_or("")
+            .trim_ascii()
+    }
+
+    /// The first item of a structure itself from a place on, if there is one, and the place after it.
+    pub(crate) fn next_item(self, part: usize, from: usize) -> (Option<Item>, usize) {
+        let (first, last) = match self.parts.get(part) {
+            Some(part) => (part.first.max(from), part.last),
+            None => (0, 0),
+        };
+        for place in first..last {
+            if let Some(item) = self.items.get(place)
+                && item.part == part
+                && item.name != MALFORMED
+            {
+                return (Some(*item), place + 1);
+            }
+        }
+        (None, last)
+    }
+
+    /// Whether two structures of one or two tables are known by the same name and value, or place.
+    pub(crate) fn is_same(self, part: &Part, other: Side<'_>, candidate: &Part) -> bool {
+        part.name == candidate.name
+            && match (part.id, candidate.id) {
+                (None, None) => part.place == candidate.place,
+                (id, other_id) => self.value(id) == other.value(other_id),
+            }
+    }
+
+    /// How many structures there are.
+    pub(crate) fn len(self) -> usize {
+        self.parts.len()
+    }
+
+    /// How many items there are.
+    pub(crate) fn size(self) -> usize {
+        self.items.len()
+    }
+
+    /// Where a structure is in the table.
+    pub(crate) fn offset(self, part: usize) -> u64 {
+        match self.parts.get(part) {
+            Some(part) => part.offset,
+            None => 0,
+        }
+    }
+
+    /// Prints what a structure is called: its name, and the field that tells it apart or its place; and in the same way
+    /// those that it is in, but not the table.
+    pub fn print_path(self, part: usize, out: &mut Out) {
+        let mut place = part;
+        for depth in 0..DEEPEST {
+            let Some(part) = self.parts.get(place) else {
+                break;
+            };
+            if place == 0 {
+                break;
+            }
+            if depth > 0 {
+                out.text(" of ");
+            }
+            out.text(part.name);
+            match part.id {
+                Some(id) => {
+                    out.text(", ");
+                    out.text(id.name);
+                    out.text(" ");
+                    out.text(self.value(Some(id)).unwrap_or(""));
+                }
+                None => out.words(" %", &[part.place]),
+            }
+            place = part.parent;
+        }
+    }
+}
+
+/// The structures and items of a table.
+pub(crate) fn items_of(alloc: Global, entry: &Entry<'_>) -> Items {
+    let mut items = Items {
+        parts: Vec::new(alloc),
+        items: Vec::new(alloc),
+        open: 0,
+        values: Out::new(alloc),
+        is_refused: false,
+    };
+    let whole = Group {
+        offset: 0,
+        length: 0,
+        number: 0,
+        name: "",
+        kind: None,
+    };
+    items.begin(&whole);
+    if let Some(signature) = entry.signature() {
+        walk_table(signature, entry.bytes, &mut items);
+    }
+    items.end();
+    items
+}

@@ -1,0 +1,310 @@
+//! The named objects of AML, in the order of the bytes (ACPI 6.4, section 20.2.5). AML is not run.
+ghost use Rattle.std.specs.Prelude.{◌<◌, ◌≤◌, length, IfOk};
+
+use crate::out::Out;
+use crate::walk::ShowObjects;
+use acpi_sleep::AmlError;
+use acpi_sleep::block::block_at;
+use acpi_sleep::name::{Name, name_at};
+use acpi_sleep::opcode::opcode_at;
+use acpi_sleep::term::{Part, parts_end, parts_of};
+use std::alloc::{AllocError, Global};
+
+/// How many objects are entered one in another at most, and how many segments a path has at most, so that the paths of
+/// many objects stay short.
+const DEEPEST: usize = 32;
+
+/// An object: its offset in the table, its length, what it is, and the segments of its path from the root on, four
+/// letters each. A name is looked up in no other scope. An `If`, an `Else` and a `While` have no path.
+#[derive(Clone, Copy)]
+pub struct Object<'a> {
+    pub offset: u64,
+    pub length: u64,
+    pub kind: &'static str,
+    pub path: Option<&'a [u8]>,
+}
+
+/// Why the objects of a table aren't shown from a place on.
+#[derive(Clone, Copy)]
+pub enum Ends {
+    /// The AML isn't understood.
+    Aml(AmlError),
+    /// The object at this offset is too deep in others, or its path has too many segments.
+    Deep(usize),
+    /// Memory for a path was refused.
+    OutOfMemory,
+}
+
+impl From<AmlError> for Ends {
+    fn from(error: AmlError) -> Ends {
+        Ends::Aml(error)
+    }
+}
+
+impl From<AllocError> for Ends {
+    fn from(_error: AllocError) -> Ends {
+        Ends::OutOfMemory
+    }
+}
+
+impl Ends {
+    /// Prints it.
+    pub fn print(self, out: &mut Out) {
+        let (words, at) = match self {
+            Ends::Aml(AmlError::PastEnd(at)) => {
+                ("the table or the block ends in what begins at #", at)
+            }
+            Ends::Aml(AmlError::InvalidLength(at)) => (
+                "the length of a block isn't right at #",
+                at,
+            ),
+            Ends::Aml(AmlError::InvalidName(at)) => ("there is no name at #", at),
+            Ends::Aml(AmlError::UnknownTerm(at) | AmlError::NotRead(at)) => {
+                ("no object of a known length begins at #", at)
+            }
+            Ends::Deep(at) => ("too many names lead to the object at #", at),
+            Ends::OutOfMemory => ("out of memory", 0),
+        };
+        out.words(words, &[at as u64]);
+    }
+}
+
+/// What stands after an object's opcode.
+#[derive(Clone, Copy)]
+enum Rest {
+    /// Parts, of which that one after so many others is the name.
+    Parts(usize),
+    /// A block without a name.
+    Block,
+    /// A block that begins with the name.
+    Named,
+    /// A block that begins with the name and so many other bytes. Then come objects.
+    Entered(usize),
+}
+
+/// The opcodes of objects, what these are, and what stands after the opcode.
+const FORMS: [(u16, &str, Rest); 25] = [
+    (0x06, "Alias", Rest::Parts(1)),
+    (0x08, "Name", Rest::Parts(0)),
+    (0x10, "Scope", Rest::Entered(0)),
+    (0x14, "Method", Rest::Named),
+    (0x15, "External", Rest::Parts(0)),
+    (0x8A, "CreateDWordField", Rest::Parts(2)),
+    (0x8B, "CreateWordField", Rest::Parts(2)),
+    (0x8C, "CreateByteField", Rest::Parts(2)),
+    (0x8D, "CreateBitField", Rest::Parts(2)),
+    (0x8F, "CreateQWordField", Rest::Parts(2)),
+    (0xA0, "If", Rest::Block),
+    (0xA1, "Else", Rest::Block),
+    (0xA2, "While", Rest::Block),
+    (0x5B01, "Mutex", Rest::Parts(0)),
+    (0x5B02, "Event", Rest::Parts(0)),
+    (0x5B13, "CreateField", Rest::Parts(3)),
+    (0x5B80, "OperationRegion", Rest::Parts(0)),
+    (0x5B81, "Field", Rest::Named),
+    (0x5B82, "Device", Rest::Entered(0)),
+    (0x5B83, "Processor", Rest::Entered(6)),
+    (0x5B84, "PowerResource", Rest::Entered(3)),
+    (0x5B85, "ThermalZone", Rest::Entered(0)),
+    (0x5B86, "IndexField", Rest::Named),
+    (0x5B87, "BankField", Rest::Named),
+    (0x5B88, "DataRegion", Rest::Parts(0)),
+];
+
+/// What the object of an opcode is, and what stands after the opcode, unless that isn't known.
+fn form_of(code: u16) -> Option<(&'static str, Rest)> {
+    for (known, kind, rest) in &FORMS {
+        if *known == code {
+            return Some((*kind, *rest));
+        }
+    }
+    None
+}
+
+/// The parts after an opcode.
+fn parts_after(code: u16) -> Option<&'static [Part]> {
+    match code {
+        0x06 => Some(&[Part::Name, Part::Name]),
+        0x08 => Some(&[Part::Name, Part::Argument]),
+        0x10 | 0x14 => Some(&[Part::Block]),
+        _ => parts_of(code),
+    }
+}
+
+/// An object: what it is, where its name begins and what it is, where the objects in it begin, and where it ends.
+#[derive(Clone, Copy)]
+struct Found {
+    kind: &'static str,
+    name: Option<(usize, Name)>,
+    inner: Option<usize>,
+    end: usize,
+}
+
+/// The object at an offset.
+fn found_at(aml: &[u8], at: usize) -> Result<Found, AmlError>
+    requires { at ≤ length aml.now }
+    ensures { IfOk result (λ found. at < found.end) }
+{
+    let opcode = opcode_at(aml, at)?;
+    let (Some((kind, rest)), Some(parts)) = (form_of(opcode.code), parts_after(opcode.code)) else {
+        return Err(AmlError::UnknownTerm(at));
+    };
+    let end = parts_end(parts, aml, opcode.end)?;
+    let mut found = Found {
+        kind,
+        name: None,
+        inner: None,
+        end,
+    };
+    match rest {
+        Rest::Block => {}
+        Rest::Parts(before) => {
+            let start = parts_end(parts.get(..before).unwrap_or(&[]), aml, opcode.end)?;
+            found.name = Some((start, name_at(aml, start)?));
+        }
+        Rest::Named => found.name = Some(name_in(aml, opcode.end)?),
+        Rest::Entered(before) => {
+            let (start, name) = name_in(aml, opcode.end)?;
+            found.name = Some((start, name));
+            found.inner = Some(name.end.saturating_add(before));
+        }
+    }
+    Ok(found)
+}
+
+/// The name that the block begins with whose PkgLength is at an offset, and where it is.
+fn name_in(aml: &[u8], at: usize) -> Result<(usize, Name), AmlError>
+    requires { at ≤ length aml.now }
+{
+    let block = block_at(aml, at)?;
+    Ok((block.start, name_at(&aml[..block.end], block.start)?))
+}
+
+/// An object that is entered: where it ends, and where its path begins in the letters.
+#[derive(Clone, Copy)]
+struct Scope {
+    end: usize,
+    start: usize,
+}
+
+/// The objects that are entered, the innermost one last, and the segments of their paths.
+#[derive(Drop)]
+struct Scopes {
+    open: Vec<Scope>,
+    letters: Vec<u8>,
+}
+
+impl Scopes {
+    /// Leaves the objects that end up to an offset.
+    fn leave(&mut self, at: usize) {
+        for _ in 0..self.open.len() {
+            match self.open.last() {
+                Some(scope) if scope.end <= at => self.letters.truncate(scope.start),
+                _ => return,
+            }
+            self.open.pop();
+        }
+    }
+
+    /// Enters an object.
+    ///
+    /// Fails if memory runs out.
+    fn enter(&mut self, scope: Scope) -> Result<(), AllocError> {
+        Ok(self.open.push(scope)?)
+    }
+
+    /// Where the path of the innermost object begins in the letters.
+    fn start(&self) -> usize {
+        match self.open.last() {
+            Some(scope) => scope.start,
+            None => 0,
+        }
+    }
+
+    /// Adds the path of a name to the letters, and answers where it begins.
+    ///
+    /// Fails if memory runs out.
+    fn add_path(&mut self, aml: &[u8], at: usize, name: &Name) -> Result<usize, AllocError> {
+        let (outer, start) = (self.start(), self.letters.len());
+        if aml.get(at) != Some(&b'\\') {
+            let end = start.saturating_sub(name.ups.saturating_mul(4));
+            for place in outer..end {
+                let letter = self.letters.get(place).copied().unwrap_or(0);
+                self.letters.push(letter)?;
+            }
+        }
+        self.letters
+            .extend_from_slice(aml.get(name.first..name.end).unwrap_or(&[]))?;
+        Ok(start)
+    }
+}
+
+/// Shows the object at an offset of a table, and answers where the next one begins.
+///
+/// Fails if it isn't shown.
+fn show_object<S: ShowObjects>(
+    table: &[u8],
+    at: usize,
+    scopes: &mut Scopes,
+    show: &mut S,
+) -> Result<usize, Ends>
+    requires { at < length table.now }
+    ensures { IfOk result (λ next. at < next) }
+{
+    scopes.leave(at);
+    let aml = match scopes.open.last() {
+        Some(scope) if at < scope.end && scope.end <= table.len() => &table[..scope.end],
+        _ => table,
+    };
+    let found = found_at(aml, at)?;
+    let mut object = Object {
+        offset: at as u64,
+        length: (found.end - at) as u64,
+        kind: found.kind,
+        path: None,
+    };
+    let Some((start, name)) = &found.name else {
+        show.object(&object);
+        return Ok(found.end);
+    };
+    let start = scopes.add_path(aml, *start, name)?;
+    let path = scopes.letters.get(start..).unwrap_or(&[]);
+    if scopes.open.len() >= DEEPEST || path.len() > 4 * DEEPEST {
+        return Err(Ends::Deep(at));
+    }
+    object.path = Some(path);
+    show.object(&object);
+    match found.inner {
+        Some(inner) if at < inner && inner < found.end => {
+            scopes.enter(Scope {
+                end: found.end,
+                start,
+            })?;
+            Ok(inner)
+        }
+        _ => {
+            scopes.letters.truncate(start);
+            Ok(found.end)
+        }
+    }
+}
+
+/// Shows the objects of a table from an offset on, up to one that isn't understood.
+pub(crate) fn show_objects<S: ShowObjects>(
+    alloc: Global,
+    table: &[u8],
+    start: usize,
+    show: &mut S,
+) {
+    let mut scopes = Scopes {
+        open: Vec::new(alloc),
+        letters: Vec::new(alloc),
+    };
+    let mut at = start;
+    'objects: while at < table.len() {
+        match show_object(table, at, &mut scopes, show) {
+            Ok(next) => at = next,
+            Err(ends) => return show.ends(at as u64, ends),
+        }
+    }
+}
