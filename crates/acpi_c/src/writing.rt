@@ -10,9 +10,9 @@ use acpi_c_lib::answer::answer_plain;
 use acpi_c_lib::fixed_records::FixedHardware;
 use acpi_c_lib::records::{BootGraphic, HpetInfo, PciRegion, Signature};
 use acpi_c_lib::writing::{
-    Contents, dsdt_place, tables_size, write_contents, write_dsdt, write_facs, write_rsdp,
-    write_rsdt, write_slit, write_ssdt, write_table, write_tables, write_tables_without_rsdp,
-    write_xsdt, written,
+    Contents, dsdt_place, tables_size, write_contents, write_dsdt, write_facs, write_hardware,
+    write_rsdp, write_rsdt, write_slit, write_ssdt, write_table, write_tables,
+    write_tables_without_rsdp, write_xsdt, written,
 };
 use acpi_c_lib::written_records::{
     FacsContents, GicContents, GtdtContents, Machine, MadtContents, SpcrContents, SratContents,
@@ -245,7 +245,7 @@ pub extern "C" fn zacpi_1_write_fadt(
     ensures { WritesTable result out.old out.new count.old count.new
         (table_said (length out.old) ids.now (Fadt fadt.now)) }
 {
-    answer_plain(write_contents(out, ids, &Contents::Fadt(*fadt)), count)
+    answer_plain(write_hardware(out, ids, fadt), count)
 }
 
 /// A FACS (section 5.2.10).

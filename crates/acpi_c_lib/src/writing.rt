@@ -26,7 +26,8 @@ pub use acpi_writer::{
     write_ssdt, write_xsdt,
 };
 pub use machine::{
-    Contents, dsdt_place, tables_size, write_contents, write_tables, write_tables_without_rsdp,
+    Contents, dsdt_place, tables_size, write_contents, write_hardware, write_tables,
+    write_tables_without_rsdp,
 };
 
 /// The number that C gets: 0, with the length of the table, or that of the error.

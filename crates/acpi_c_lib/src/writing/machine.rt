@@ -2,6 +2,7 @@
 ghost use Rattle.std.specs.Prelude.{◌≡◌, length, take};
 ghost use Rattle.acpi_c_lib.specs.Words.{list_all, Gives, IsKeptOr};
 ghost use Rattle.acpi_c_lib.specs.WrittenMachine as whole;
+ghost use Rattle.acpi_c_lib.specs.Types.{Fadt};
 
 use crate::fixed_records::FixedHardware;
 use crate::records::{BootGraphic, HpetInfo, PciRegion};
@@ -35,6 +36,7 @@ pub enum Contents<'a> {
 /// Returns `UnknownCode` if the record has a code that is reserved, of a GIC `BadRange` if a range of redistributors
 /// has 2^32 bytes or more, and then the errors of the call of `acpi_writer` for such a table, in its order.
 #[tactic(auto, using(crate::proofs::WrittenTables::named), unfolding(acpi_writer::specs::Spcr::spcr_written, acpi_writer::specs::Spcr::fixed_list))]
+#[inline(always)] // a call of one kind links that kind's code alone
 pub fn write_contents(
     out: &mut [u8],
     ids: &TableIds,
@@ -44,10 +46,7 @@ pub fn write_contents(
     ensures keeps { IsKeptOr result out.old out.new }
 {
     let size = match contents {
-        Contents::Fadt(hardware) => {
-            require(fadt::has_codes(hardware), Refusal::UnknownCode)?;
-            write_fadt(out, ids, &fadt::contents(hardware))?
-        }
+        Contents::Fadt(hardware) => write_hardware(out, ids, hardware)?,
         Contents::Madt(lists) => {
             require(madt::has_codes(lists), Refusal::UnknownCode)?;
             write_madt(out, ids, &lists.contents())?
@@ -73,6 +72,20 @@ pub fn write_contents(
         }
     };
     Ok(size)
+}
+
+/// Writes a FADT, with the errors of `write_contents`.
+pub fn write_hardware(
+    out: &mut [u8],
+    ids: &TableIds,
+    hardware: &FixedHardware,
+) -> Result<usize, Refusal>
+    ensures exact { Gives (λ n. take n out.new) result
+        (whole.table_said (length out.old) ids.now (Fadt hardware.now)) }
+    ensures keeps { IsKeptOr result out.old out.new }
+{
+    require(fadt::has_codes(hardware), Refusal::UnknownCode)?;
+    Ok(write_fadt(out, ids, &fadt::contents(hardware))?)
 }
 
 impl ListedTable<'_> {
