@@ -15,6 +15,9 @@ pub(super) fn print_findings(findings: &Judgement, sheets: &[Sheet<'_>], out: &m
          <ol class=\"finds\">\n",
         &counts,
     );
+    if findings.list().is_empty() {
+        out.text("<li>Nothing was found.\n");
+    }
     for rank in [2usize, 1, 0] {
         for (number, finding) in findings.list().iter().enumerate() {
             if finding.rule.severity.rank() == rank
@@ -37,8 +40,9 @@ fn print_finding(
 ) {
     let (rule, offset) = (finding.rule, finding.offset as u64);
     let word = Text(rule.severity.word());
+    let gap = if finding.field.is_empty() { "" } else { " " };
     print_html(
-        "<li id=\"check-$\" class=\"$\"><span class=\"sev\">$</span> <a href=\"#$\">$ +$</a> \
+        "<li id=\"check-$\" class=\"$\"><span class=\"sev\">$</span> <a href=\"#$\">$ +$$$</a> \
          <span class=\"msg\">$</span> <small>$ · $</small>\n",
         &[
             Decimal(number as u64),
@@ -47,6 +51,8 @@ fn print_finding(
             sheet.link(offset),
             Letters(sheet.signature),
             Hex(offset),
+            Text(gap),
+            Text(finding.field),
             Text(findings.message(finding)),
             Text(rule.id),
             Text(rule.section),
