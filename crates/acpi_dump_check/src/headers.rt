@@ -7,6 +7,7 @@ use acpi::AcpiError;
 use acpi::sdt::{Signature, field};
 use acpi_dump_input::entries::{Entry, own_signature};
 use acpi_dump_input::status::Status;
+use acpi_dump_walk::fault::Fault;
 use acpi_dump_walk::fields::unnamed_in;
 use acpi_dump_walk::out::Out;
 use acpi_dump_walk::walk::{Field, Show, walk_table};
@@ -14,6 +15,9 @@ use acpi_dump_walk::walk::{Field, Show, walk_table};
 pub(crate) const RULES: &str = "
 header-sum error ACPI 6.5, section 5.2.6 | The bytes of a table don't sum to 0
 header-refused error ACPI 6.5, section 5.2.6 | A table has no valid header, or its bytes aren't all there
+header-bytes-after warning ACPI 6.5, section 5.2.6 | Bytes come after those that the Length counts \
+    | is %, and % more come
+table-malformed error ACPI 6.5, section 5.2 | A structure or a list of a table isn't as its type and its length want it
 header-length warning ACPI 6.5, section 5.2.6 | The Length isn't one that the table's revision has
 header-revision note ACPI 6.5, section 5.2.6 | No specification has the table's Revision \
     | no revision % is known
@@ -89,14 +93,15 @@ pub(crate) fn check_headers(machine: &Machine<'_>, findings: &mut Findings) {
 
 /// Judges the fields of a table's header, if it has one, and each field by itself.
 fn check_entry(machine: &Machine<'_>, entry: &Entry<'_>, index: usize, findings: &mut Findings) {
-    let signature = own_signature(entry.bytes);
+    let (signature, mut table) = (own_signature(entry.bytes), entry.bytes);
     let name = signature.as_str().unwrap_or("");
     let mut is_known = true;
     if !entry.bytes.starts_with(b"FACS") && !entry.bytes.starts_with(b"RSD PTR ") {
         if entry.bytes.len() < 36 {
             return;
         }
-        is_known = check_form(entry.bytes, index, name, findings);
+        table = entry.table();
+        is_known = check_form(table, index, name, findings);
     }
     let id = unnamed_rule(machine, index, name);
     let mut fields = Fields {
@@ -104,9 +109,10 @@ fn check_entry(machine: &Machine<'_>, entry: &Entry<'_>, index: usize, findings:
         index,
         name,
         is_known,
+        is_whole: !matches!(entry.status, Status::Cut { .. } | Status::Refused(_)),
         id,
     };
-    walk_table(signature, entry.bytes, &mut fields);
+    walk_table(signature, table, &mut fields);
 }
 
 /// The rule of what no specification names in the table of this number, if it is the first one of such a name: an SPCR
@@ -135,6 +141,10 @@ fn check_status(entry: &Entry<'_>, index: usize, findings: &mut Findings) {
         Status::WrongSum { is, should, .. } => {
             write!(text, "is 0x{is:02x}, should be 0x{should:02x}");
             return findings.add_text("header-sum", index, 9, &text);
+        }
+        Status::Longer(over) => {
+            let numbers = [field(entry.bytes, 4, 4), over as u64];
+            return findings.add("header-bytes-after", index, 4, &numbers);
         }
         Status::Cut { .. } | Status::Refused(AcpiError::SdtInvalidLength(_)) => 4,
         Status::Refused(_) => 0,
@@ -203,11 +213,22 @@ struct Fields<'f> {
     name: &'f str,
     /// Whether what it reserves is known.
     is_known: bool,
+    /// Whether all its bytes are there.
+    is_whole: bool,
     /// The rule of codes and flags that its layout doesn't name, if all others are named.
     id: &'static str,
 }
 
 impl Show for Fields<'_> {
+    fn malformed(&mut self, offset: u64, fault: Fault) {
+        if self.is_whole {
+            let mut text = Out::new(self.findings.alloc);
+            fault.print(offset, &mut text);
+            self.findings
+                .add_text("table-malformed", self.index, offset as usize, &text);
+        }
+    }
+
     fn field(&mut self, shown: &Field<'_>) {
         let offset = shown.offset as usize;
         if !self.id.is_empty()

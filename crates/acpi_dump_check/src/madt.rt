@@ -10,7 +10,6 @@ use acpi_base::bytes::skip;
 use acpi_base::entries::split_front;
 
 pub(crate) const RULES: &str = "
-madt-malformed error ACPI 6.5, section 5.2.12 | Bytes of the MADT are no entry | no entry begins here
 madt-reserved-type note ACPI 6.5, section 5.2.12 | An entry has a reserved type | # is reserved
 madt-duplicate-apic-id error ACPI 6.5, section 5.2.12 | Two enabled processors have one APIC ID \
     | APIC ID # is also at #
@@ -112,10 +111,6 @@ pub(crate) fn check_madt(machine: &Machine<'_>, findings: &mut Findings) {
         numbers.add(&KEPT, offset, entry);
         check_entry(index, offset, entry, findings);
         rest = others;
-    }
-    if !rest.is_empty() {
-        let offset = madt.len().saturating_sub(rest.len());
-        findings.add("madt-malformed", index, offset, &[]);
     }
     findings.add_repeated(&REPEATED, index, &mut numbers);
     check_controllers(index, &numbers, findings);

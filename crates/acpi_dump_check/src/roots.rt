@@ -18,6 +18,8 @@ has an XSDT
 root-second-table warning ACPI 6.5, section 5.2.6 | A table of which a machine has one is there twice \
     | a machine has one of them
 root-nothing-there note ACPI 6.5, section 5.2.8 | The input has no byte of a table that is listed
+root-no-fadt error ACPI 6.5, section 5.2.9 | No FADT is listed | lists no FADT
+root-no-madt warning ACPI 6.5, section 5.2.12 | No MADT is listed | lists no MADT
 root-overlap error ACPI 6.5, section 5.2 | Two tables share bytes | shares bytes with the table at #
 ";
 
@@ -43,10 +45,12 @@ pub(crate) fn check_roots(machine: &Machine<'_>, findings: &mut Findings) {
             &mut pointers,
             findings,
         );
+        check_listed(machine, xsdt.index, findings);
     } else if let Some(rsdt) = machine.first(Signature::RSDT) {
         add_pointers(LISTED, rsdt.bytes, 4, &mut pointers);
         check_pointers(rsdt.index, false, &mut pointers, findings);
         check_revision(machine, rsdt.index, findings);
+        check_listed(machine, rsdt.index, findings);
     }
     check_second(machine, findings);
     check_overlap(machine, findings);
@@ -102,6 +106,28 @@ fn check_revision(machine: &Machine<'_>, rsdt: usize, findings: &mut Findings) {
         return;
     };
     findings.add_words("root-rsdt-in-use", rsdt, 0, words, &[revision]);
+}
+
+/// Finds that the root table lists no FADT, or no MADT, if an RSDP leads to it and the input has all tables that it lists.
+fn check_listed(machine: &Machine<'_>, root: usize, findings: &mut Findings) {
+    if machine.rsdp.is_empty() {
+        return;
+    }
+    let (mut has_fadt, mut has_madt) = (false, false);
+    for entry in machine.entries {
+        if entry.bytes.is_empty() {
+            return;
+        }
+        let signature = own_signature(entry.bytes);
+        has_fadt |= signature == Signature::FADT;
+        has_madt |= signature == Signature::MADT;
+    }
+    if !has_fadt {
+        findings.add("root-no-fadt", root, 4, &[]);
+    }
+    if !has_madt {
+        findings.add("root-no-madt", root, 4, &[]);
+    }
 }
 
 /// Finds second tables of which a machine has one, unless the one before it is at the same place.

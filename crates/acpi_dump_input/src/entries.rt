@@ -49,7 +49,12 @@ pub struct Entry<'a> {
     pub status: Status,
 }
 
-impl Entry<'_> {
+impl<'a> Entry<'a> {
+    /// Its bytes up to its Length, or all of them if fewer are there.
+    pub fn table(&self) -> &'a [u8] {
+        cut_to_length(self.bytes)
+    }
+
     /// The signature that it begins with, if it has so many bytes.
     pub fn signature(&self) -> Option<Signature> {
         signature_of(self.bytes)
@@ -298,12 +303,18 @@ fn entry_led<'i>(
     }
 }
 
-/// Where a valid FADT says that the DSDT and the FACS lie, if one is listed.
+/// The addresses of the DSDT and of the FACS in a valid FADT, if one is listed. A machine of reduced hardware needn't have
+/// a FACS: both fields of its address are 0 then (section 5.2.9).
 fn addresses_in(
     tables: &AcpiTables<'_, MemoryImage<'_>>,
-) -> Option<(AcpiResult<u64>, AcpiResult<u64>)> {
+) -> Option<(AcpiResult<u64>, Option<AcpiResult<u64>>)> {
     let fadt = &tables.find_table::<Fadt>().ok()?;
-    Some((fadt.get().dsdt_address(), fadt.get().facs_address()))
+    let fadt = fadt.get();
+    let facs = match fadt.facs_address() {
+        Err(_) if fadt.flags.system_is_hw_reduced_acpi() => None,
+        address => Some(address),
+    };
+    Some((fadt.dsdt_address(), facs))
 }
 
 /// The tables that a memory has: the root table, its members, and, if a valid FADT is listed, the DSDT and the FACS
@@ -321,7 +332,9 @@ pub fn entries_of<'i>(
     }
     if let Some((dsdt, facs)) = addresses_in(tables) {
         entries.push(entry_led(image, dsdt, Signature::DSDT))?;
-        entries.push(entry_led(image, facs, Signature::FACS))?;
+        if let Some(facs) = facs {
+            entries.push(entry_led(image, facs, Signature::FACS))?;
+        }
     }
     Ok(entries)
 }
