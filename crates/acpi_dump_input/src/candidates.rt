@@ -64,9 +64,18 @@ pub(crate) fn check_file(bytes: &[u8]) -> AcpiResult<()> {
     rsdp.validate(padded)
 }
 
-/// Whether bytes have a valid RSDP at a multiple of 16.
+/// Where the BIOS areas end.
+const BIOS_END: u64 = 0x10_0000;
+
+/// Whether an RSDP may be at an address: in the BIOS areas at a multiple of 16 (section 5.2.5.1). A pointer of UEFI leads
+/// to any other, and EDK2 puts it at a multiple of 8.
+fn is_place(address: u64) -> bool {
+    address % 16 == 0 || (address % 8 == 0 && address >= BIOS_END)
+}
+
+/// Whether bytes have a valid RSDP at a multiple of 8.
 pub(crate) fn has_valid_rsdp(bytes: &[u8]) -> bool {
-    for offset in (0..bytes.len()).step_by(16) {
+    for offset in (0..bytes.len()).step_by(8) {
         let rest = bytes.get(offset..).unwrap_or(&[]);
         if rest.starts_with(SIGNATURE) && candidate_of(0, rest).refusal.is_none() {
             return true;
@@ -82,11 +91,12 @@ pub fn candidates(alloc: Global, image: &MemoryImage<'_>) -> Result<Vec<Candidat
     let mut found = Vec::new(alloc);
     for record in image.records() {
         let (start, bytes) = (record.start, record.bytes);
-        let first = ((16 - start % 16) % 16) as usize;
-        for offset in (first..bytes.len()).step_by(16) {
+        let first = ((8 - start % 8) % 8) as usize;
+        for offset in (first..bytes.len()).step_by(8) {
+            let address = start.saturating_add(offset as u64);
             let rest = bytes.get(offset..).unwrap_or(&[]);
-            if rest.starts_with(SIGNATURE) {
-                found.push(candidate_of(start.saturating_add(offset as u64), rest))?;
+            if rest.starts_with(SIGNATURE) && is_place(address) {
+                found.push(candidate_of(address, rest))?;
             }
         }
     }

@@ -14,7 +14,7 @@ use acpi_dump_walk::text::Text;
 use acpi_dump_walk::walk::walk_with_objects;
 
 /// Whether a choice has a table, of which some byte is there.
-pub(crate) fn chooses(choice: Choice, entry: &Entry<'_>) -> bool {
+fn chooses(choice: Choice, entry: &Entry<'_>) -> bool {
     let is_wanted = match choice.signature {
         Some(signature) => entry.has(signature),
         None => true,
@@ -22,11 +22,24 @@ pub(crate) fn chooses(choice: Choice, entry: &Entry<'_>) -> bool {
     is_wanted && !entry.bytes.is_empty()
 }
 
+/// Whether a table is shown by a choice: no choice before it shows the table in the same form.
+pub(crate) fn shows(choices: &[Choice], number: usize, entry: &Entry<'_>) -> bool {
+    let Some(choice) = choices.get(number) else {
+        return false;
+    };
+    for before in choices.get(..number).unwrap_or(&[]) {
+        if before.contents == choice.contents && chooses(*before, entry) {
+            return false;
+        }
+    }
+    chooses(*choice, entry)
+}
+
 /// Prints the tables that are chosen, choice by choice.
 pub(crate) fn print_tables(entries: &[Entry<'_>], choices: &[Choice], paint: Paint, out: &mut Out) {
-    for choice in choices {
+    for (number, choice) in choices.iter().enumerate() {
         for entry in entries {
-            if chooses(*choice, entry) {
+            if shows(choices, number, entry) {
                 print_table(entry, choice.contents, paint, out);
             }
         }

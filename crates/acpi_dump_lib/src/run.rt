@@ -34,6 +34,9 @@ pub fn dump<S: Sources, T: Storage, W: Write + Drop, E: Write + Drop>(
 {
     let (mut shown, mut log) = (Out::new(alloc), Log::new(alloc));
     let status = print_asked(alloc, arguments, sources, storage, &mut shown, &mut log);
+    if let Err(Stop::OutOfMemory) = &status {
+        log.text.text("acpi_dump: out of memory\n");
+    }
     let shown = shown.write_to(out);
     if let Err(refusal) = &shown {
         tell(&mut log, "standard output", &reason_of(refusal));

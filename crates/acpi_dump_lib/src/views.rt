@@ -25,6 +25,7 @@ use acpi_dump_input::errors::{Log, Stop, begin, fail, tell};
 use acpi_dump_input::extract::{Saving, save_tables};
 use acpi_dump_input::gather::Input;
 use acpi_dump_input::sources::Sources;
+use acpi_dump_input::status::Status;
 use acpi_dump_input::tables::TableFile;
 use acpi_dump_walk::out::Out;
 use acpi_image_reader::MemoryImage;
@@ -346,8 +347,9 @@ fn print_summary(
     add_domains(output.alloc, &entries, &mut facts)?;
     add_units(output.alloc, &entries, &mut facts);
     for entry in &entries {
-        // A table that is somewhere, and can't be read.
-        if entry.status.is_invalid() && !matches!(entry.place, Place::Nowhere) {
+        // A table that is somewhere, and can't be read: of one with bytes after its Length those before are.
+        let is_read = matches!(entry.status, Status::Longer(_));
+        if entry.status.is_invalid() && !is_read && !matches!(entry.place, Place::Nowhere) {
             facts.text("not read\t");
             print_name(entry, &mut facts);
             facts.text(": ");

@@ -1,7 +1,7 @@
 //! The tables in a document.
 
 use super::Document;
-use crate::contents::chooses;
+use crate::contents::shows;
 use crate::options::{Choice, Contents};
 use acpi::PhysicalRecord;
 use acpi::sdt::SdtHeader;
@@ -151,9 +151,9 @@ pub(crate) fn add_all(document: &mut Document, entries: &[Entry<'_>]) {
 
 /// Adds the tables that are chosen, with their contents, choice by choice.
 pub(crate) fn add_chosen(document: &mut Document, entries: &[Entry<'_>], choices: &[Choice]) {
-    for choice in choices {
+    for (number, choice) in choices.iter().enumerate() {
         for entry in entries {
-            if chooses(*choice, entry) {
+            if shows(choices, number, entry) {
                 add_table(document, entry, Part::Whole(choice.contents));
             }
         }

@@ -79,7 +79,7 @@ fn add_matrix(facts: &mut Facts, matrix: Matrix<'_>) {
     write!(facts, "{words} to\t");
     for column in 0..matrix.columns {
         let target = matrix.name(matrix.rows.saturating_add(column));
-        write!(facts, "{target:>8}");
+        write!(facts, " {target:>7}");
     }
     facts.text("\n");
     for row in 0..matrix.rows {
@@ -88,7 +88,7 @@ fn add_matrix(facts: &mut Facts, matrix: Matrix<'_>) {
         for column in 0..matrix.columns {
             match matrix.value(row, column) {
                 None => facts.text("       -"),
-                Some(value) => write!(facts, "{value:>8}"),
+                Some(value) => write!(facts, " {value:>7}"),
             }
         }
         writeln!(facts, " {unit}");
@@ -126,7 +126,7 @@ pub(crate) fn add_domains(
     for entry in entries {
         let is_wanted = entry.bytes.starts_with(b"SRAT") || entry.bytes.starts_with(b"HMAT");
         if is_wanted && entry.status.is_read() {
-            add_table(alloc, entry.bytes, facts)?;
+            add_table(alloc, entry.table(), facts)?;
         }
     }
     Ok(())

@@ -17,7 +17,7 @@ const FIRST: u64 = 0x1_0000_0000;
 /// The letters of tables that no root table lists.
 const UNLISTED: &[&[u8]] = &[b"DSDT", b"FACS", b"RSDT", b"XSDT", b"RSD "];
 
-/// The valid ones of tables that come as files, each with a place in memory.
+/// The valid ones of tables that come as files, each with a place in memory. Bytes after the Length don't count.
 fn placed_of<'e>(alloc: Global, entries: &[Entry<'e>]) -> Result<Vec<PlacedTable<'e>>, AllocError> {
     let mut placed = Vec::new(alloc);
     let mut address = FIRST;
@@ -25,7 +25,7 @@ fn placed_of<'e>(alloc: Global, entries: &[Entry<'e>]) -> Result<Vec<PlacedTable
         if entry.status.is_read() && !UNLISTED.contains(&letters_of(entry.bytes)) {
             placed.push(PlacedTable {
                 address,
-                bytes: entry.bytes,
+                bytes: entry.table(),
             })?;
             // The length of a table is below 2^32, so that 16 times it keeps the next one aligned and apart.
             address = address.saturating_add((entry.bytes.len() as u64).saturating_mul(16));
