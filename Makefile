@@ -1,32 +1,25 @@
-# Makes the library of its source form, dist/, with a C compiler or an assembler alone:
+# Makes the library of its one file, dist/zacpi.c, with a C compiler alone, of any little-endian processor:
 #
-#   make                    out/TARGET/libzacpi.a for the processor and system that $(CC) compiles for
-#   make TARGET=...-kernel  the same for a kernel
-#   make check              calls of it by programs of examples/c and tests/c; elsewhere RUN=qemu-aarch64 LDFLAGS=-static
-#   make install            the header, libzacpi.a, libzacpi-kernel.a, what leads pkg-config and CMake to them, examples
+#   make                    out/libzacpi.a, for programs
+#   make kernel             out/libzacpi-kernel.a, by $(KERNEL_CFLAGS): general registers alone, no red zone, no jump
+#                           through a register
+#   make split              out/libzacpi-split.a, an object for each function, for linkers without --gc-sections
+#   make check              calls of it by programs of examples/c and tests/c; elsewhere RUN=qemu-arm LDFLAGS=-static
+#   make install            the headers, zacpi.c, both archives, what leads pkg-config and CMake to them, examples
 #   make install-programs   the programs of $(PROGRAMS), a release's bin/, with their manual pages and completions
 #
-# TARGET is one of the folders of dist/. CC, AS, AR, CFLAGS, LDFLAGS, PREFIX, LIBDIR and DESTDIR are the usual ones.
+# CC, AR, CFLAGS, LDFLAGS, PREFIX, LIBDIR and DESTDIR are the usual ones.
 VERSION := $(shell sed -n 's/^.define ZACPI_VERSION "\(.*\)"/\1/p' include/zacpi.h)
-MACHINE := $(shell $(CC) -dumpmachine)
-PROCESSOR := $(patsubst amd64,x86_64,$(patsubst arm64,aarch64,$(firstword $(subst -, ,$(MACHINE)))))
-SYSTEM := $(if $(findstring mingw,$(MACHINE))$(findstring windows,$(MACHINE))$(findstring uefi,$(MACHINE)),-uefi,$(if \
-    $(findstring linux,$(MACHINE))$(findstring bsd,$(MACHINE)),,-kernel))
-TARGET ?= $(PROCESSOR)$(SYSTEM)
-KERNEL := $(firstword $(subst -, ,$(TARGET)))-kernel
-# What the assembler puts into the object of the ABI: of the other processors there is one.
-ABI_riscv64 = -march=rv64gc -mabi=lp64d
-ABI_riscv64-kernel = -march=rv64imac -mabi=lp64
-ASSEMBLE = $(if $(filter default undefined,$(origin AS)),$(CC) -c,$(AS))
-# Whether $(CC) is for a target, by its macros, since gcc -m32 has the machine's name of 64 bits.
-MACROS := $(shell $(CC) -dM -E -x c /dev/null)
-MACRO_x86_64 = __x86_64__
-MACRO_aarch64 = __aarch64__
-MACRO_riscv64 = __riscv_xlen 64
-has = $(findstring define $(1),$(MACROS))
-is_for = $(and $(call has,__SIZEOF_POINTER__ 8),$(call has,$(MACRO_$(firstword $(subst -, ,$(1))))),$(if \
-    $(call has,__APPLE__)$(call has,$(if $(filter %-uefi,$(1)),__ELF__,_WIN32)),,yes))
-UNSERVED = $(error zacpi: $(CC) isn't for dist/$*; TARGET names a folder of dist/, and CC a compiler for it)
+CFLAGS ?= -O2
+SECTIONS = -std=c99 -fPIC -ffunction-sections -fdata-sections
+# Those of the flags that the compiler knows. RISC-V has no -mgeneral-regs-only, but an ABI for it.
+KERNEL_FLAGS = -ffreestanding -fno-stack-protector -fno-jump-tables -fno-asynchronous-unwind-tables \
+    -mgeneral-regs-only -mno-red-zone
+MACHINE = $(shell $(CC) -dumpmachine)
+taken = $(shell $(CC) -Werror $(1) -fsyntax-only -x c /dev/null 2>/dev/null && echo $(1))
+KERNEL_CFLAGS ?= $(foreach flag,$(KERNEL_FLAGS),$(call taken,$(flag))) $(if $(filter riscv64%,$(MACHINE)),-march=rv64imac -mabi=lp64 -mcmodel=medany)
+PROCESSOR = $(shell echo $(firstword $(subst -, ,$(MACHINE))) | \
+    sed 's/^amd64$$/x86_64/; s/^arm64$$/aarch64/; s/^arm.*/arm/; s/^i.86$$/i686/')
 PREFIX ?= /usr/local
 LIBDIR ?= $(PREFIX)/lib
 SHARE = $(DESTDIR)$(PREFIX)/share
@@ -35,37 +28,42 @@ OUT ?= out
 PROGRAMS ?= bin
 INSTALL = install -m 644
 
-all: $(OUT)/$(TARGET)/libzacpi.a
-$(OUT)/%/libzacpi.a: dist/%/zacpi.s
-	$(if $(filter default undefined,$(origin AS)),$(if $(call is_for,$*),,$(UNSERVED)))
-	@mkdir -p $(@D)
-	$(ASSEMBLE) $(ABI_$*) $< -o $(@D)/zacpi.o
+all: $(OUT)/libzacpi.a
+kernel: $(OUT)/libzacpi-kernel.a
+$(OUT)/libzacpi-kernel.a: FLAGS = $(KERNEL_CFLAGS)
+$(OUT)/lib%.a: dist/zacpi.c $(wildcard include/*.h)
+	@mkdir -p $(OUT)
+	$(CC) $(SECTIONS) $(CFLAGS) $(FLAGS) -Iinclude -c $< -o $(OUT)/$*.o
 	@rm -f $@
-	$(AR) rcs $@ $(@D)/zacpi.o
-$(OUT)/%/libzacpi.a:
-	$(UNSERVED)
+	$(AR) rcs $@ $(OUT)/$*.o
 
-CHECKED = $(OUT)/$(TARGET)/libzacpi.a
-LINKED = $(CC) -std=c99 $(CFLAGS) -Iinclude $(1) $(CHECKED) $(LDFLAGS) -o $(OUT)/$(TARGET)/$(2)
-check: $(CHECKED)
+split: $(OUT)/libzacpi-split.a
+$(OUT)/libzacpi-split.a: dist/zacpi.c scripts/zacpi-split.awk
+	@rm -rf $(OUT)/split $@ && mkdir -p $(OUT)/split
+	awk -v folder=$(OUT)/split -f scripts/zacpi-split.awk $<
+	for file in $(OUT)/split/*.c; do \
+	    $(CC) $(SECTIONS) $(CFLAGS) -Iinclude -c $$file -o $${file%c}o || exit 1; done
+	$(AR) rcs $@ $(OUT)/split/*.o
+
+LINKED = $(CC) -std=c99 $(CFLAGS) -Iinclude $(1) $(OUT)/libzacpi.a $(LDFLAGS) -o $(OUT)/$(2)
+check: $(OUT)/libzacpi.a
 	$(call LINKED,examples/c/first.c,first)
 	$(call LINKED,tests/c/rows.c,rows)
 	$(call LINKED,examples/c/show.c examples/c/lines.c,show)
-	test "$$(tail -c +17 examples/c/data/ten_tables.image | $(RUN) $(OUT)/$(TARGET)/first)" = "16 processors"
-	$(RUN) $(OUT)/$(TARGET)/rows
-	$(RUN) $(OUT)/$(TARGET)/show examples/c/data/ten_tables.image rsdp 0x70000000 | cmp - examples/c/data/ten_tables.lines
+	test "$$(tail -c +17 examples/c/data/ten_tables.image | $(RUN) $(OUT)/first)" = "16 processors"
+	$(RUN) $(OUT)/rows
+	$(RUN) $(OUT)/show examples/c/data/ten_tables.image rsdp 0x70000000 | cmp - examples/c/data/ten_tables.lines
 
-# What a user includes, links and looks for. Both archives are of the processor; the folder can be moved as a whole.
-install: $(OUT)/$(TARGET)/libzacpi.a $(OUT)/$(KERNEL)/libzacpi.a
+# What a user includes, compiles, links and looks for. The folder can be moved as a whole.
+install: $(OUT)/libzacpi.a $(OUT)/libzacpi-kernel.a
 	mkdir -p $(DESTDIR)$(PREFIX)/include $(DESTDIR)$(LIBDIR)/pkgconfig $(DESTDIR)$(LIBDIR)/cmake/zacpi \
 	    $(SHARE)/doc/zacpi/examples
-	$(INSTALL) include/*.h $(DESTDIR)$(PREFIX)/include
-	$(INSTALL) $(OUT)/$(TARGET)/libzacpi.a $(DESTDIR)$(LIBDIR)/libzacpi.a
-	$(INSTALL) $(OUT)/$(KERNEL)/libzacpi.a $(DESTDIR)$(LIBDIR)/libzacpi-kernel.a
+	$(INSTALL) include/*.h dist/zacpi.c $(DESTDIR)$(PREFIX)/include
+	$(INSTALL) $(OUT)/libzacpi.a $(OUT)/libzacpi-kernel.a $(DESTDIR)$(LIBDIR)
 	for name in zacpi zacpi-kernel; do sed "s|@NAME@|$$name|; s|@VERSION@|$(VERSION)|; s|@PREFIX@|$(PREFIX)|; \
 	    s|@LIBDIR@|$(LIBDIR)|" scripts/zacpi.pc.in >$(DESTDIR)$(LIBDIR)/pkgconfig/$$name.pc || exit 1; done
 	$(INSTALL) scripts/zacpi-config.cmake $(DESTDIR)$(LIBDIR)/cmake/zacpi/zacpi-config.cmake
-	sed 's|@VERSION@|$(VERSION)|; s|@PROCESSOR@|$(firstword $(subst -, ,$(TARGET)))|' \
+	sed 's|@VERSION@|$(VERSION)|; s|@PROCESSOR@|$(PROCESSOR)|' \
 	    scripts/zacpi-config-version.cmake.in >$(DESTDIR)$(LIBDIR)/cmake/zacpi/zacpi-config-version.cmake
 	$(INSTALL) LICENSE docs/C.md $(SHARE)/doc/zacpi
 	$(INSTALL) examples/c/*.[ch] $(SHARE)/doc/zacpi/examples
@@ -78,8 +76,7 @@ install-programs:
 uninstall:
 	rm -rf $(DESTDIR)$(LIBDIR)/cmake/zacpi $(SHARE)/doc/zacpi
 	rm -f $(addprefix $(DESTDIR)$(LIBDIR)/,libzacpi.a libzacpi-kernel.a pkgconfig/zacpi.pc pkgconfig/zacpi-kernel.pc) \
-	    $(addprefix $(DESTDIR)$(PREFIX)/,$(wildcard include/*.h))
+	    $(addprefix $(DESTDIR)$(PREFIX)/,$(wildcard include/*.h) include/zacpi.c)
 clean:
 	rm -rf $(OUT)
-.PHONY: all check install install-programs uninstall clean
-.SECONDARY:
+.PHONY: all kernel split check install install-programs uninstall clean

@@ -22,9 +22,9 @@
  * beside it says, and isn't null, but for a list of no items and for `signature`; lists inside the
  * items of a list (a region's bytes) aren't null either. An input is initialised. An output shares
  * no byte with an input or another output. While a call runs nobody writes what it reads, nor
- * touches what it writes. The stack is aligned as the ABI says. The archives for kernels (C.md)
- * use general registers alone and no red zone; the others may use the red zone, and vector
- * registers, to be enabled first (on x86-64 CR0.EM clear, CR4.OSFXSR set).
+ * touches what it writes. The stack is aligned as the ABI says. The library uses the red zone and
+ * vector registers if its compiler's flags let it (C.md); vector registers are to be enabled first
+ * (on x86-64 CR0.EM clear, CR4.OSFXSR set).
  *
  * A call can be passed any numbers, over any bytes. It keeps no state, takes no memory, and calls
  * nothing but memcpy, memset and memmove: any number may run at once, each with outputs of its own.
@@ -84,15 +84,16 @@ extern "C" {
 #endif
 #endif
 
-/* What is compiled without vector registers refers in each call to a byte that only the archives
- * for kernels and UEFI have: with another archive it doesn't link. */
+/* What is compiled without vector registers refers in each call to a byte that the library has only
+ * if it is compiled without them too: with another it doesn't link. */
 #if (defined(__x86_64__) && !defined(__SSE2__)) || \
     (defined(__aarch64__) && !defined(__ARM_NEON)) || (defined(__riscv) && !defined(__riscv_flen))
 #if !defined(_WIN32)
 __attribute__((__visibility__("hidden"))) /* by no table of addresses */
 #endif
-extern const volatile uint8_t zacpi_needs_kernel_archive;
-#define ZACPI_FITS (void)zacpi_needs_kernel_archive
+extern const uint8_t zacpi_needs_kernel_archive;
+#define ZACPI_NO_VECTORS
+#define ZACPI_FITS (void)*(const volatile uint8_t *)&zacpi_needs_kernel_archive
 #else
 #define ZACPI_FITS (void)0
 #endif

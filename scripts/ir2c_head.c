@@ -27,6 +27,11 @@
 #define UNREACHABLE() for (;;) { }
 #endif
 
+/* What a caller that is compiled without vector registers refers to (zacpi.h). */
+#if defined(ZACPI_NO_VECTORS)
+const uint8_t zacpi_needs_kernel_archive = 0;
+#endif
+
 /* Whether sums of bytes are made in vectors; the library is proved for either. */
 #if defined(__GNUC__) && (defined(__SSE2__) || defined(__ARM_NEON))
 #define HAS_VECTORS 1

@@ -1,7 +1,7 @@
-//! Links the library. It is assembled from its source form, `dist/TARGET/zacpi.s` of this package or of the clone that
-//! it is in, by the C compiler that `CC_TRIPLE`, `TARGET_CC` (or `HOST_CC` and `CC`, if the host is compiled for)
-//! names, or else by the first that takes it of those that are usual for the target. If none does, one line lists what
-//! was tried.
+//! Links the library. It is compiled from its one file, `dist/zacpi.c` of this package or of the clone that it is in,
+//! by the C compiler that `CC_TRIPLE`, `TARGET_CC` (or `HOST_CC` and `CC`, if the host is compiled for) names, or else
+//! by the first that takes it of those that are usual for the target. If none does, one line lists what was tried. It
+//! is optimized in every profile, since kernels have small stacks.
 //!
 //! `ZACPI_LIB_DIR` names a folder in which `libzacpi.a` is already. If it is empty nothing is linked, which is
 //! enough for `cargo check` and `cargo doc`, and needs no C compiler for the target.
@@ -29,28 +29,29 @@ impl Wanted {
         matches!(self.os.as_str(), "uefi" | "windows")
     }
 
-    /// The folder of `dist`, if there is one.
-    fn folder(&self) -> Option<String> {
-        let is_there = matches!(self.arch.as_str(), "x86_64" | "aarch64") || self.arch == "riscv64" && !self.is_coff();
-        if !is_there || matches!(self.os.as_str(), "macos" | "ios") {
-            return None;
+    /// What is passed besides the file. Without an operating system, and for UEFI, the code uses general registers
+    /// alone and no red zone, jumps through no register, and looks for no end of the stack. rustc tells of no feature
+    /// `d` of RISC-V.
+    fn flags(&self) -> Vec<&'static str> {
+        let mut flags = vec!["-std=c99", "-O2", "-fPIC", "-ffunction-sections", "-fdata-sections"];
+        let has_system = !matches!(self.os.as_str(), "none" | "uefi");
+        if !has_system {
+            flags.extend(["-ffreestanding", "-fno-stack-protector", "-fno-jump-tables"]);
+            flags.push("-fno-asynchronous-unwind-tables");
         }
-        let kind = match self.os.as_str() {
-            "uefi" | "windows" => "-uefi",
-            "none" => "-kernel",
-            _ => "",
-        };
-        Some(format!("{}{kind}", self.arch))
-    }
-
-    /// Which ABI the object is marked with. The code is the same, as it has no floating-point register; rustc tells of
-    /// no feature `d`.
-    fn flags(&self) -> &'static [&'static str] {
-        match (self.arch.as_str(), self.triple.starts_with("riscv64gc")) {
-            ("riscv64", true) => &["-march=rv64gc", "-mabi=lp64d"],
-            ("riscv64", false) => &["-march=rv64imac", "-mabi=lp64"],
+        flags.extend::<&[&str]>(match (self.arch.as_str(), has_system) {
+            ("x86_64", false) => &["-mgeneral-regs-only", "-mno-red-zone"],
+            ("x86" | "aarch64", false) => &["-mgeneral-regs-only"],
+            ("riscv64", false) if !self.triple.starts_with("riscv64gc") => {
+                &["-march=rv64imac", "-mabi=lp64", "-mcmodel=medany"]
+            }
+            ("riscv64", _) => &["-march=rv64gc", "-mabi=lp64d", "-mcmodel=medany"],
             _ => &[],
+        });
+        if self.os == "uefi" {
+            flags.push("-mno-stack-arg-probe");
         }
+        flags
     }
 
     fn named_by(&self) -> String {
@@ -83,8 +84,8 @@ impl Wanted {
     }
 }
 
-/// Runs one compiler over the assembly; what it printed, if it failed.
-fn assemble(compiler: &str, flags: &[&str], from: &Path, to: &Path) -> Result<(), String> {
+/// Runs one compiler over the file; what it printed, if it failed.
+fn compile(compiler: &str, flags: &[String], from: &Path, to: &Path) -> Result<(), String> {
     let mut words = compiler.split_whitespace();
     let mut command = Command::new(words.next().unwrap_or("cc"));
     match command.args(words).args(flags).arg("-c").arg(from).arg("-o").arg(to).output() {
@@ -106,17 +107,19 @@ fn archive(object: &Path, to: &Path) -> std::io::Result<()> {
 
 /// The folder in which `libzacpi.a` was made, or why there is none.
 fn made(wanted: &Wanted) -> Result<PathBuf, String> {
-    let target = wanted.folder().ok_or_else(|| format!("there is no assembly for {}", wanted.triple))?;
     let package = PathBuf::from(var("CARGO_MANIFEST_DIR").unwrap_or_default());
-    let sources = ["dist", "../../dist"].map(|dist| package.join(dist).join(&target).join("zacpi.s"));
-    let source = sources.iter().find(|source| source.is_file());
-    let source = source.ok_or_else(|| format!("neither this package nor its clone has dist/{target}/zacpi.s"))?;
+    let tree = [package.clone(), package.join("../..")].into_iter().find(|tree| tree.join("dist/zacpi.c").is_file());
+    let tree = tree.ok_or("neither this package nor its clone has dist/zacpi.c")?;
+    let (source, include) = (tree.join("dist/zacpi.c"), tree.join("include"));
     println!("cargo::rerun-if-changed={}", source.display());
+    println!("cargo::rerun-if-changed={}", include.display());
+    let mut flags: Vec<String> = wanted.flags().into_iter().map(String::from).collect();
+    flags.push(format!("-I{}", include.display()));
     let out = PathBuf::from(var("OUT_DIR").unwrap_or_default());
     let object = out.join("zacpi.o");
     let mut tried = Vec::new();
     for compiler in wanted.compilers() {
-        match assemble(&compiler, wanted.flags(), source, &object) {
+        match compile(&compiler, &flags, &source, &object) {
             Ok(()) => {
                 archive(&object, &out.join("libzacpi.a")).map_err(|error| error.to_string())?;
                 return Ok(out);
@@ -125,7 +128,7 @@ fn made(wanted: &Wanted) -> Result<PathBuf, String> {
         }
     }
     let tried = tried.join("; ");
-    Err(format!("no C compiler assembles dist/{target}/zacpi.s; {} names one. Tried {tried}", wanted.named_by()))
+    Err(format!("no C compiler takes dist/zacpi.c; {} names one. Tried {tried}", wanted.named_by()))
 }
 
 fn main() {

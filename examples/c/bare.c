@@ -1,5 +1,5 @@
 /* A program without a C library, that prints the lines of the image it is built with. For Linux on x86-64:
- * cc -std=c99 -ffreestanding -nostdlib -static -DIMAGE='"FILE"' bare.c lines.c ARCHIVE. The image's tables are
+ * cc -std=c99 -ffreestanding -nostdlib -static -DIMAGE='"FILE"' bare.c lines.c zacpi.c. The image's tables are
  * found as on a BIOS system. */
 #include "image.h"
 #include "lines.h"
@@ -8,7 +8,7 @@ extern const uint8_t image[], image_end[];
 __asm__(".section .rodata\nimage: .incbin \"" IMAGE "\"\nimage_end: .byte 0\n.text\n"
         ".globl _start\n_start: xor %ebp, %ebp\n and $-16, %rsp\n call begin\n");
 
-/* The four functions that a compiler may ask for, also for the archive of LLVM's back end. The loops are through
+/* The four functions that a compiler may ask for, also for the library. The loops are through
  * volatile pointers, or the compiler could make calls of these functions out of them. */
 void *memmove(void *to, const void *from, size_t n) {
     volatile uint8_t *t = to;
