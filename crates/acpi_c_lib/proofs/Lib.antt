@@ -7,6 +7,7 @@ pub mod FaultLists
 pub mod IommuLists
 pub mod FoundRsdp
 pub mod IsaList
+pub mod RangeSearch
 pub mod StrictLists
 pub mod Unlent
 pub mod Written

@@ -57,6 +57,11 @@ AnswersClip status old new old_count new_count ranges without window =
 
 -- ---- how the ranges are found
 
+-- each range begins where the one before ends, or after it
+abbrev pub ascends_from : ℕ → List Range → Bool
+ascends_from end [] = true
+ascends_from end (r ∷ rs) = nat_le end r.address && ascends_from (r.address + r.length) rs
+
 -- the next address after this one at which a range begins or has ended, or the limit if that comes before
 abbrev pub change_of : Range → ℕ → ℕ → ℕ
 change_of r a limit =

@@ -10,7 +10,7 @@ pub use Rattle.acpi_c_lib.specs.Arm.{below_gic, cpu_interfaces_shown, distributo
 pub use Rattle.acpi_c_lib.specs.ArmTimers.{GtFrame, arm_timer_or, arm_timer_record, frame_record, frames_in, frames_of, frames_shown, gtdt_below, or_ones, timers_record, timers_shown, watchdog_in, watchdogs_of, watchdogs_shown}
 pub use Rattle.acpi_c_lib.specs.Below.{AcpiError, Refusal, Source, check_policy, ebda_in, opened_in, opened_of, pointers_in, refused_as, root_pointer_in, root_there, rsdp_in, rsdp_length, rsdp_place_in}
 unfoldable pub use Rattle.acpi_c_lib.specs.Below.{first_table, found_table}
-pub use Rattle.acpi_c_lib.specs.Clip.{AnswersClip, AreInOrder, FillsClipped, IsNext, Range, all_fit, any_holds, change_in, change_of, fits, holds, wanted}
+pub use Rattle.acpi_c_lib.specs.Clip.{AnswersClip, AreInOrder, FillsClipped, IsNext, Range, all_fit, any_holds, ascends_from, change_in, change_of, fits, holds, wanted}
 pub use Rattle.acpi_c_lib.specs.Console.{console_below, console_record}
 pub use Rattle.acpi_c_lib.specs.Copied.{copied_rsdp, copy_memory, padded, source_of_rsdp, started_by}
 pub use Rattle.acpi_c_lib.specs.Devices.{generic_record, graphic_below, graphic_record, optional_register, register_if, required_register, timer_below, timer_record, flag}

@@ -1,17 +1,27 @@
 //! Ranges of memory in order: as a firmware's memory map gives them, some of them left out, and
 //! clipped to a window.
-ghost use Rattle.std.specs.Prelude.{◌≡◌, ◌+◌, ◌^◌, ◌<◌, true, ◌-◌, ◌≤◌, ℕ};
-ghost use Rattle.acpi_c_lib.specs.Words.{all_fit, AnswersClip, any_holds, change_in, change_of, FillsClipped, fits, holds, IsNext, wanted};
+ghost use Rattle.std.specs.Prelude.{◌≡◌, ◌+◌, ◌^◌, ◌<◌, true, ◌-◌, ◌≤◌, ℕ, length, take};
+ghost use Rattle.acpi_c_lib.specs.Words.{all_fit, AnswersClip, any_holds, ascends_from, change_in, change_of, FillsClipped, fits, holds, IsNext, wanted};
 
 use crate::lists::put;
 use crate::records::Range;
 use crate::refusal::Refusal;
 
+/// Ranges, of which the first ones, as many as `ascending`, each begin where the one before ends, or after it: among
+/// those a place is searched by halves.
+#[derive(Clone, Copy)]
+struct Ranges<'k> {
+    all: &'k [Range],
+    ascending: usize,
+    ghost within: { ascending ≤ length all.now },
+    ghost ordered: { ascends_from 0 (take ascending all.now) ≡ true },
+}
+
 /// The ranges that are asked for, those to leave out, and the window.
 #[derive(Clone, Copy)]
 struct Wanted<'k> {
-    ranges: &'k [Range],
-    without: &'k [Range],
+    ranges: Ranges<'k>,
+    without: Ranges<'k>,
     window: Range,
 }
 
@@ -29,8 +39,8 @@ pub fn clip_ranges(
         return Refusal::RangeTooHigh.code();
     }
     let wanted = Wanted {
-        ranges,
-        without,
+        ranges: Ranges::new(ranges),
+        without: Ranges::new(without),
         window: *window,
     };
     *count = fill(wanted, out);
@@ -88,16 +98,62 @@ fn change_in(ranges: &[Range], address: u64, limit: u64) -> u64
         .fold(limit, |first, range| change_of(range, address, first))
 }
 
+impl<'k> Ranges<'k> {
+    /// These ranges, with the ascending ones counted.
+    fn new(all: &'k [Range]) -> Ranges<'k>
+        requires { all_fit all.now ≡ true }
+        ensures { result.all.now ≡ all.now }
+    {
+        let mut end = 0;
+        let mut ascending = 0;
+        while ascending < all.len() && end <= all[ascending].address {
+            end = all[ascending].address + all[ascending].length;
+            ascending += 1;
+        }
+        Ranges { all, ascending }
+    }
+
+    /// The ascending ones, as far as they matter at an address: the last that begins there or before, and the next.
+    fn near(self, address: u64) -> &'k [Range]
+        ensures held { any_holds address result.now ≡ any_holds address (take self.entry.ascending self.entry.all.now) }
+        ensures next { (limit : ℕ) → change_in result.now address limit
+            ≡ change_in (take self.entry.ascending self.entry.all.now) address limit }
+    {
+        let ascending = &self.all[..self.ascending];
+        let after = ascending.partition_point(|range| range.address <= address);
+        let first = after.saturating_sub(1);
+        if after < ascending.len() {
+            &ascending[first..after + 1]
+        } else {
+            &ascending[first..]
+        }
+    }
+
+    /// Whether one of them holds an address.
+    fn hold(self, address: u64) -> bool
+        ensures { result ≡ any_holds address self.entry.all.now }
+    {
+        let is_near = any_holds(self.near(address), address);
+        is_near | any_holds(&self.all[self.ascending..], address)
+    }
+
+    /// The next address after this one at which one of them begins or has ended, or the limit if that comes before.
+    fn change(self, address: u64, limit: u64) -> u64
+        ensures { result ≡ change_in self.entry.all.now address limit }
+    {
+        let limit = change_in(self.near(address), address, limit);
+        change_in(&self.all[self.ascending..], address, limit)
+    }
+}
+
 impl Wanted<'_> {
     /// Whether a byte is one that is asked for.
     #[tactic(auto, using(crate::proofs::Clipping::is_inside))]
     fn has(self, address: u64) -> bool
-        ensures value { result ≡ wanted self.entry.ranges.now self.entry.without.now self.entry.window address }
+        ensures value { result ≡ wanted self.entry.ranges.all.now self.entry.without.all.now self.entry.window address }
         ensures inside { result ≡ true → address < self.entry.window.address + self.entry.window.length }
     {
-        holds(&self.window, address)
-            && any_holds(self.ranges, address)
-            && !any_holds(self.without, address)
+        holds(&self.window, address) && self.ranges.hold(address) && !self.without.hold(address)
     }
 
     /// The next address after one at which that may change.
@@ -106,19 +162,19 @@ impl Wanted<'_> {
         requires { address < 2 ^ 64 - 1 }
         ensures later { address < result }
         ensures same { (b : ℕ) → address ≤ b → b < result
-            → wanted self.entry.ranges.now self.entry.without.now self.entry.window b
-            ≡ wanted self.entry.ranges.now self.entry.without.now self.entry.window address }
+            → wanted self.entry.ranges.all.now self.entry.without.all.now self.entry.window b
+            ≡ wanted self.entry.ranges.all.now self.entry.without.all.now self.entry.window address }
     {
         let limit = change_of(&self.window, address, u64::MAX);
-        let limit = change_in(self.without, address, limit);
-        change_in(self.ranges, address, limit)
+        let limit = self.without.change(address, limit);
+        self.ranges.change(address, limit)
     }
 
     /// The next address from one on at which a byte is asked for, or isn't, or an address after the window.
     #[tactic(auto, using(crate::proofs::Clipping::none_past))]
     fn next(self, from: u64, is_asked: bool) -> u64
         requires { self.window.address + self.window.length < 2 ^ 64 }
-        ensures { IsNext self.entry.ranges.now self.entry.without.now self.entry.window is_asked from result }
+        ensures { IsNext self.entry.ranges.all.now self.entry.without.all.now self.entry.window is_asked from result }
     {
         let end = self.window.address + self.window.length;
         let mut at = from;
@@ -132,7 +188,8 @@ impl Wanted<'_> {
 /// The memory that is asked for, in order.
 fn fill(wanted: Wanted<'_>, out: &mut [Range]) -> usize
     requires { wanted.window.address + wanted.window.length < 2 ^ 64 }
-    ensures { FillsClipped out.old out.new result wanted.entry.ranges.now wanted.entry.without.now wanted.entry.window }
+    ensures { FillsClipped out.old out.new result
+        wanted.entry.ranges.all.now wanted.entry.without.all.now wanted.entry.window }
 {
     let end = wanted.window.address + wanted.window.length;
     let mut count = 0;

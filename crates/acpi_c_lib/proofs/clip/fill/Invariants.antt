@@ -6,8 +6,8 @@ use Rattle.acpi_c_lib.proofs.clip.fill.Given as goal
 -- the next range begins here, unless all are written
 abbrev pub invariant-loop-address : goal.invariant-loop-address
 invariant-loop-address l =
-    IsWriting l.wanted.ranges.now l.wanted.without.now l.wanted.window l.initial.out l.out l.count l.address
-    × (l.address < l.end → wanted l.wanted.ranges.now l.wanted.without.now l.wanted.window l.address ≡ true)
+    IsWriting l.wanted.ranges.all.now l.wanted.without.all.now l.wanted.window l.initial.out l.out l.count l.address
+    × (l.address < l.end → wanted l.wanted.ranges.all.now l.wanted.without.all.now l.wanted.window l.address ≡ true)
     × (l.count ≤ l.address)
 
 abbrev pub decreases-loop-address : goal.decreases-loop-address

@@ -6,7 +6,7 @@ use Rattle.acpi_c_lib.proofs.clip.Wanted.next.Given as goal
 abbrev pub invariant-loop-at : goal.invariant-loop-at
 invariant-loop-at l =
     (l.from ≤ l.at) × ((b : ℕ) → l.from ≤ b → b < l.at
-    → wanted l.self.ranges.now l.self.without.now l.self.window b ≡ not l.is_asked)
+    → wanted l.self.ranges.all.now l.self.without.all.now l.self.window b ≡ not l.is_asked)
 
 abbrev pub decreases-loop-at : goal.decreases-loop-at
 decreases-loop-at l = l.end - l.at
