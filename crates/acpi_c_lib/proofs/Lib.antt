@@ -5,6 +5,7 @@ pub mod Clipping
 pub mod CopiedRsdp
 pub mod FaultLists
 pub mod IommuLists
+pub mod Found
 pub mod FoundRsdp
 pub mod IsaList
 pub mod RangeSearch

@@ -1,11 +1,11 @@
 -- What isn't lent: of what opening asks for and what leads to a table, and of the candidates of a search.
 use Rattle.std.proofs.Common.{◌≡◌, ℕ, ◌≤◌, List, [], ◌∷◌, ◌++◌, Bool, true, false, Option, Some, None, Result, Ok, Err, arith, refl, sym, ap, subst, ◌∙◌, if◌then◌else◌, ◌+◌, length, ◌^◌, ◌<◌, zero, suc, ◌-◌, ◌*◌, ◌/◌, drop, ◌==◌, ok_or, option_map, bytes_eq, nat_lt}
 use Rattle.acpi_base.specs.FromStd.{last_or, cons_option, is_some, is_ok, result_ok}
-use Rattle.acpi_base.specs.Words.{field_of, has_bit, check_names, check_table, header_at, Memory, at, IsMemory, rest_from, ◌>>=◌, holds, lent, table_at, Kind, plain_kind, letters_of}
+use Rattle.acpi_base.specs.Words.{accepted, field_of, has_bit, loosened, own_accepted, own_kind, check_names, check_table, header_at, Memory, at, IsMemory, rest_from, ◌>>=◌, holds, lent, table_at, Kind, plain_kind, letters_of}
 use Rattle.acpi.specs.Types.{MapFailed, NoValidRsdp, SdtHeader, Signature, AddressRange}
 use Rattle.acpi.specs.Words.{bios_areas, found_among, found_in_areas, count_in, ebda_area, end_of, first_in, Opened, area_ranges, or_else_ranges, search_ranges, length_ranges, rsdp_ranges, root_of_revision, signature_of, check_first, check_sum, extended_length_of, checked_length, root_of_rsdp, rsdp_at, rsdp_of, first_area, found_in, found_rsdp, or_else, room_of, second_area, word_in, area, count_of, walk, or_later}
 use Rattle.acpi.specs.Areas.{range}
-use Rattle.acpi_c_lib.specs.Words.{accepted_at, loosened_at, own_accepted_at, member_hole, table_hole, AcpiError, Refusal, Source, check_policy, ebda_in, opened_in, refused_as, root_pointer_in, root_there, rsdp_in, Acpi, UnknownStart, Areas, IsUnlent, OpeningHasHole, areas_holes, candidate_hole, candidate_holes, has_valid, hole, last_range, missing_below, missing_in, range_of, root_hole, rsdp_hole, walk_holes, Fills, Writes, items_said, put_from, result_map, memory_in}
+use Rattle.acpi_c_lib.specs.Words.{member_hole, table_hole, AcpiError, Refusal, Source, check_policy, ebda_in, opened_in, refused_as, root_pointer_in, root_there, rsdp_in, Acpi, UnknownStart, Areas, IsUnlent, OpeningHasHole, areas_holes, candidate_hole, candidate_holes, has_valid, hole, last_range, missing_below, missing_in, range_of, root_hole, rsdp_hole, walk_holes, Fills, Writes, items_said, put_from, result_map, memory_in}
 use Rattle.acpi_c_lib.specs.Missing.{Range, no_areas, pieces, stretches}
 use Rattle.acpi_c_lib.proofs.Written.{two_parts, one_part}
 use Rattle.acpi_base.proofs.FromStd.{bytes_eq-Decides, length-take, cond_some}
@@ -43,40 +43,30 @@ pub ruleset rsdp_refusals = (rsdp_not, rsdp_length, rsdp_long, sum_not)
 
 -- ---- what is accepted
 
-strict_unlent : (m : Memory) (s : Signature) (p : ℕ) → table_at m (plain_kind s) p ≡ Err MapFailed
-    → IsUnlent m (table_hole m p (Err MapFailed))
+loosened_unlent : (a b : Bool) (m : Memory) (s : Signature) (p : ℕ)
+    → table_at m (loosened a b (plain_kind s)) p ≡ Err MapFailed → IsUnlent m (table_hole m p (Err MapFailed))
 unfolding table_at
-strict_unlent m s p e = grind (arith, names_not, table_not)
-
-loosened_unlent : (a b : Bool) (m : Memory) (s : Signature) (n p : ℕ) → loosened_at a b m s n p ≡ Err MapFailed
-    → IsUnlent m (table_hole m p (Err MapFailed))
-unfolding loosened_at
-loosened_unlent a true m s n p e = grind arith
-loosened_unlent a false m s n p e = grind (arith, names_not)
-
-bits_unlent : (strict a b : Bool) (m : Memory) (s : Signature) (p : ℕ)
-    → (if strict then table_at m (plain_kind s) p else loosened_at a b m s 36 p) ≡ Err MapFailed
-    → IsUnlent m (table_hole m p (Err MapFailed))
-bits_unlent true a b m s p e = strict_unlent m s p e
-bits_unlent false a b m s p e = loosened_unlent a b m s 36 p e
+loosened_unlent true true m s p e = grind arith
+loosened_unlent true false m s p e = grind (arith, names_not)
+loosened_unlent false true m s p e = grind arith
+loosened_unlent false false m s p e = grind (arith, names_not, table_not)
 
 pub accepted_unlent : (accept : ℕ) (m : Memory) (s : Signature) (p : ℕ)
-    → accepted_at accept m (plain_kind s) p ≡ Err MapFailed → IsUnlent m (table_hole m p (Err MapFailed))
-unfolding accepted_at
-accepted_unlent accept m s p e = bits_unlent (accept == 0) (has_bit accept 0) (has_bit accept 1) m s p e
+    → table_at m (accepted accept (plain_kind s)) p ≡ Err MapFailed → IsUnlent m (table_hole m p (Err MapFailed))
+accepted_unlent accept m s p e = loosened_unlent (has_bit accept 0) (has_bit accept 1) m s p e
 
 by_header : (accept : ℕ) (m : Memory) (p : ℕ) (r : Result (List ℕ) AcpiError) → lent m p 36 ≡ r
-    → (r >>= λ head. accepted_at accept m (plain_kind (header_at head).signature) p) ≡ Err MapFailed
+    → (r >>= λ head. table_at m (own_kind accept (header_at head) 36) p) ≡ Err MapFailed
     → IsUnlent m (table_hole m p (Err MapFailed))
 by_header accept m p (Ok head) is e = accepted_unlent accept m (header_at head).signature p e
 by_header accept m p (Err d) is e = grind arith
 
-own_refused : (accept : ℕ) (m : Memory) (p : ℕ) → own_accepted_at accept m p ≡ Err MapFailed
+own_refused : (accept : ℕ) (m : Memory) (p : ℕ) → own_accepted accept m p ≡ Err MapFailed
     → IsUnlent m (table_hole m p (Err MapFailed))
-unfolding own_accepted_at
+unfolding own_accepted
 own_refused accept m p e = by_header accept m p (lent m p 36) refl e
 
-pub own_unlent : (accept : ℕ) (m : Memory) (p : ℕ) → own_accepted_at accept m p ≡ Err MapFailed
+pub own_unlent : (accept : ℕ) (m : Memory) (p : ℕ) → own_accepted accept m p ≡ Err MapFailed
     → IsUnlent m (member_hole accept m p)
 own_unlent accept m p e = rw e (own_refused accept m p e)
 
@@ -294,47 +284,6 @@ signature_is s b e = ap of_letters e
 -- a signature that compares equal is that signature
 pub same_signature : (s k : Signature) → bytes_eq s.0 k.0 ≡ true → s ≡ k
 same_signature s k h = signature_is s k.0 ((bytes_eq-Decides s.0 k.0).0 h)
-
-lent_short : (m : Memory) (a n : ℕ) (bytes : List ℕ) → lent m a n ≡ Ok bytes → length bytes ≤ n
-unfolding at
-lent_short m a n bytes e =
-    let both = cond_some _ _ _ (some_lent _ _ e) in
-    subst (λ (b : List ℕ). length b ≤ n) both.1 (omega (arith, length-take n (rest_from m a)))
-
-pub table_ends : (m : Memory) (k : Kind) (p : ℕ) (table : List ℕ) → IsMemory m → 0 < length table
-    → table_at m k p ≡ Ok table → p + length table < 2 ^ 64
-table_ends m k p table h some e =
-    let passes = passed m k p table e in
-    let n = (header_at passes.head).length in
-    lent_ends m p n table h (omega (arith, some, lent_short m p n table passes.whole)) passes.whole
-
-loosened_ends : (a b : Bool) (m : Memory) (s : Signature) (n p : ℕ) (table : List ℕ) → IsMemory m → 0 < length table
-    → loosened_at a b m s n p ≡ Ok table → p + length table < 2 ^ 64
-unfolding loosened_at
-loosened_ends a b m s n p table h some e =
-    let head = bind_ok (lent m p 36) _ table e in
-    let size = (header_at head.0).length in
-    let whole : lent m p size ≡ Ok table = grind arith in
-    lent_ends m p size table h (omega (arith, some, lent_short m p size table whole)) whole
-
-by_bits : (strict : Bool) (a b : Bool) (m : Memory) (k : Kind) (p : ℕ) (table : List ℕ) → IsMemory m → 0 < length table
-    → (if strict then table_at m k p else loosened_at a b m k.signature k.least p) ≡ Ok table
-    → p + length table < 2 ^ 64
-by_bits true a b m k p table h some e = table_ends m k p table h some e
-by_bits false a b m k p table h some e = loosened_ends a b m k.signature k.least p table h some e
-
-pub accepted_ends : (accept : ℕ) (m : Memory) (k : Kind) (p : ℕ) (table : List ℕ) → IsMemory m → 0 < length table
-    → accepted_at accept m k p ≡ Ok table → p + length table < 2 ^ 64
-unfolding accepted_at
-accepted_ends accept m k p table h some e =
-    by_bits (accept == 0) (has_bit accept 0) (has_bit accept 1) m k p table h some e
-
-pub own_ends : (accept : ℕ) (m : Memory) (p : ℕ) (table : List ℕ) → IsMemory m → 0 < length table
-    → own_accepted_at accept m p ≡ Ok table → p + length table < 2 ^ 64
-unfolding own_accepted_at
-own_ends accept m p table h some e =
-    let head = bind_ok (lent m p 36) _ table e in
-    accepted_ends accept m (plain_kind (header_at head.0).signature) p table h some head.2
 
 -- ---- one candidate
 

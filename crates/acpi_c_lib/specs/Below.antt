@@ -1,10 +1,9 @@
 -- The tables that a caller names.
 use Rattle.std.specs.Prelude.{ℕ, ◌*◌, ◌==◌, List, drop, Option, Result, Ok, Err, if◌then◌else◌, nat_lt, option_map, unwrap_or}
 use Rattle.acpi_base.specs.FromStd.{result_ok}
-use Rattle.acpi_base.specs.Words.{Memory, ◌>>=◌, Kind, bytes_of, holds, start_of}
+use Rattle.acpi_base.specs.Words.{Memory, ◌>>=◌, Kind, bytes_of, holds, start_of, accepted, table_at}
 pub use Rattle.acpi_base.specs.declared.error.AcpiError.{AcpiError}
-use Rattle.acpi.specs.Words.{bios_areas, extended_length_of, found_in_areas, found_rsdp, root_kind, root_of_revision, root_of_rsdp, rsdp_at, rsdp_of, Opened, pointers, width_of, word_in}
-use Rattle.acpi_c_lib.specs.Accepted.{accepted_at, accepted_lookup}
+use Rattle.acpi.specs.Words.{bios_areas, extended_length_of, found_in_areas, found_rsdp, root_kind, root_of_revision, root_of_rsdp, rsdp_at, rsdp_of, Opened, pointers, width_of, word_in, lookup}
 use Rattle.acpi_c_lib.specs.Answers.{result_map}
 use Rattle.acpi_c_lib.specs.Regions.{memory_in}
 pub use Rattle.acpi_c_lib.specs.declared.root_table.RootTable.{RootTable}
@@ -39,7 +38,7 @@ root_pointer_in m s =
 
 -- the root table there, if it is accepted
 abbrev pub root_there : ℕ → Memory → RootPointer → Result (List ℕ) AcpiError
-root_there accept m place = accepted_at accept m (root_kind place.kind) place.address
+root_there accept m place = table_at m (accepted accept (root_kind place.kind)) place.address
 
 -- `accept` has no bits but the two that there are
 abbrev pub check_policy : Source → Result (Unit {0}) Refusal
@@ -91,11 +90,11 @@ below_source s answer = below s (λ m ps. refused_as (answer m ps))
 
 -- the first table of a kind that is accepted: where it lies, and its bytes
 unfoldable pub found_table : Kind → Source → Result (ℕ × List ℕ) Refusal
-found_table kind s = below_source s (λ m. accepted_lookup s.accept m kind)
+found_table kind s = below_source s (λ m. lookup m (accepted s.accept kind))
 
 -- its bytes, and what is shown of them
 unfoldable pub first_table : Kind → Source → Result (List ℕ) Refusal
-first_table kind s = below_source s (λ m ps. result_map (λ found. found.1) (accepted_lookup s.accept m kind ps))
+first_table kind s = below_source s (λ m ps. result_map (λ found. found.1) (lookup m (accepted s.accept kind) ps))
 
 abbrev pub below_first : {A : Type 0} → Kind → Source → (List ℕ → A) → Result A Refusal
 below_first kind s show = result_map show (first_table kind s)

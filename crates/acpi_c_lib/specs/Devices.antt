@@ -1,9 +1,9 @@
 -- Registers, the timer and the boot graphic as C gets them.
 use Rattle.std.specs.Prelude.{ℕ, ◌*◌, Bool, true, false, List, Option, Some, None, Result, Ok, Err}
+use Rattle.acpi_base.specs.Words.{accepted}
 use Rattle.acpi.specs.Types.{Bgrt}
-use Rattle.acpi.specs.Words.{timer_of}
+use Rattle.acpi.specs.Words.{lookup, timer_of}
 use Rattle.acpi_c_lib.specs.Types.{size_code, space_code, bits_of, has_bit, Memory, ◌>>=◌, sdt_kind, GenericAddress, BGRT, bgrt_at, image_type_of, offset_of, rank_of, status_of, fadt_at, fadt_kind, PmTimer, BootGraphic, Register}
-use Rattle.acpi_c_lib.specs.Accepted.{accepted_lookup}
 use Rattle.acpi_c_lib.specs.Answers.{result_map}
 use Rattle.acpi_c_lib.specs.Below.{AcpiError, Refusal, Source, below_first, below_source}
 use Rattle.acpi_c_lib.specs.Records as records
@@ -49,7 +49,7 @@ timer_record None = record { base = no_register; present = 0; is_32_bit = 0 }
 -- the timer of the first valid FADT
 abbrev pub timer_in : ℕ → Memory → List ℕ → Result (Option PmTimer) AcpiError
 timer_in accept m ps = do
-  found ← accepted_lookup accept m fadt_kind ps
+  found ← lookup m (accepted accept fadt_kind) ps
   timer_of (fadt_at found.1)
 
 abbrev pub timer_below : Source → Result records.PmTimer Refusal

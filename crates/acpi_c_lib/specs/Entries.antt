@@ -1,9 +1,8 @@
 -- The entries of any table as C gets them, by where Type and Length stand in each.
 use Rattle.std.specs.Prelude.{ℕ, ◌+◌, ◌==◌, nat_le, nat_lt, List, [], ◌∷◌, drop, length, None, Result, Ok, Err, if◌then◌else◌}
-use Rattle.acpi_base.specs.Words.{cut, number_at, header_at, ◌>>=◌, holds}
+use Rattle.acpi_base.specs.Words.{cut, number_at, header_at, ◌>>=◌, holds, own_accepted}
 use Rattle.acpi_base.specs.declared.entries.Place.{Place}
 use Rattle.acpi.specs.Types.{EntryLayout, Grammar, Width, One, Two, Four, SdtInvalidLength}
-use Rattle.acpi_c_lib.specs.Accepted.{own_accepted_at}
 use Rattle.acpi_c_lib.specs.Answers.{result_map}
 use Rattle.acpi_c_lib.specs.Below.{Refusal, Source, check_policy, refused_as}
 use Rattle.acpi_c_lib.specs.Devices.{flag}
@@ -51,7 +50,7 @@ entries_below s address w = do
   m ← memory_in s.regions.now
   _ ← check_policy s
   l ← walk_layout w
-  table ← refused_as (own_accepted_at s.accept m address)
+  table ← refused_as (own_accepted s.accept m address)
   _ ← holds (nat_le w.first (length table)) (Acpi (SdtInvalidLength (header_at table).signature))
   Ok (entries_at l (address + w.first) (drop w.first table))
 

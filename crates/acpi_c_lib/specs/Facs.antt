@@ -1,11 +1,10 @@
 -- The Firmware ACPI Control Structure (FACS, section 5.2.10) as C gets it.
 use Rattle.std.specs.Prelude.{ℕ, List, Result, Ok, ok_or}
 use Rattle.acpi_base.specs.FromStd.{result_ok}
-use Rattle.acpi_base.specs.Words.{field_of, lent, Memory, ◌>>=◌}
+use Rattle.acpi_base.specs.Words.{field_of, lent, Memory, ◌>>=◌, accepted}
 use Rattle.acpi_fixed.specs.Words.{facs_address_of, fadt_at}
 use Rattle.acpi.specs.Types.{AddressRange, FACS, TableMissing}
-use Rattle.acpi.specs.Words.{facs_at, fadt_kind}
-use Rattle.acpi_c_lib.specs.Accepted.{accepted_lookup}
+use Rattle.acpi.specs.Words.{facs_at, fadt_kind, lookup}
 use Rattle.acpi_c_lib.specs.Below.{AcpiError, Refusal, Source, below_source}
 use Rattle.acpi_c_lib.specs.Types.{Facs}
 
@@ -30,7 +29,7 @@ facs_in m address = do
 -- where the first valid FADT says that the FACS lies, or that there is none
 abbrev pub facs_address_in : ℕ → Memory → List ℕ → Result ℕ AcpiError
 facs_address_in accept m ps = do
-  found ← accepted_lookup accept m fadt_kind ps
+  found ← lookup m (accepted accept fadt_kind) ps
   ok_or (result_ok (facs_address_of (fadt_at found.1))) (TableMissing FACS)
 
 abbrev pub facs_below : Source → Result Facs Refusal

@@ -1,8 +1,7 @@
 -- The tables that lookups pass over.
 use Rattle.std.specs.Prelude.{ℕ, List, [], ◌∷◌, if◌then◌else◌, Result, Ok, Err, bytes_eq}
-use Rattle.acpi_base.specs.Words.{Kind, Memory, sdt_kind, table_at}
+use Rattle.acpi_base.specs.Words.{Kind, Memory, sdt_kind, table_at, accepted}
 use Rattle.acpi.specs.Types.{BGRT, DMAR, FADT, GTDT, HPET, IVRS, MADT, MCFG, SLIT, SPCR, SRAT, SdtInvalidSignature}
-use Rattle.acpi_c_lib.specs.Accepted.{accepted_at}
 use Rattle.acpi_c_lib.specs.Types.{Fault}
 use Rattle.acpi_c_lib.specs.Below.{AcpiError, Refusal, Source, below_source}
 use Rattle.acpi_c_lib.specs.Codes.{acpi_code}
@@ -11,7 +10,7 @@ use Rattle.acpi_c_lib.specs.Shown.{Signature, signature_named}
 
 -- why the table at an address isn't valid, or isn't accepted
 abbrev pub fault_record : ℕ → ℕ → AcpiError → Fault
-fault_record accepted p e = record { address = p; status = acpi_code e; accepted = accepted }
+fault_record taken p e = record { address = p; status = acpi_code e; accepted = taken }
 
 -- of a table that is accepted, if it isn't valid
 abbrev pub accepted_fault : ℕ → Result (List ℕ) AcpiError → List Fault
@@ -30,7 +29,7 @@ fault_before m k p (Err e) faults = with_fault p e faults
 -- those of the members before the first that a lookup takes, and of that
 abbrev pub faults_among : ℕ → Memory → Kind → List ℕ → List Fault
 faults_among accept m k [] = []
-faults_among accept m k (p ∷ ps) = fault_before m k p (accepted_at accept m k p) (faults_among accept m k ps)
+faults_among accept m k (p ∷ ps) = fault_before m k p (table_at m (accepted accept k) p) (faults_among accept m k ps)
 
 -- the bytes that a lookup of a name asks for: up to the end of the last fixed field that this library reads, or a
 -- header's 36

@@ -1,5 +1,4 @@
 pub mod AcceptLaws
-pub mod Accepted
 pub mod Answers
 pub mod Apics
 pub mod Arm

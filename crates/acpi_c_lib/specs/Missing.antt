@@ -1,11 +1,10 @@
 -- The ranges of memory that a caller has to map before the calls can read all tables.
 use Rattle.std.specs.Prelude.{◌≡◌, ℕ, zero, suc, ◌+◌, ◌*◌, ◌^◌, ◌≤◌, ◌==◌, List, [], ◌∷◌, ◌++◌, drop, filter_map, Bool, Option, Some, None, Result, Ok, Err, if◌then◌else◌, option_map}
 use Rattle.acpi_base.specs.FromStd.{cons_option, last_or, is_some, is_ok}
-use Rattle.acpi_base.specs.Words.{Memory, at, Ranges, header_at, ◌>>=◌, lent, plain_kind}
+use Rattle.acpi_base.specs.Words.{Memory, at, Ranges, header_at, ◌>>=◌, lent, plain_kind, accepted, own_accepted, table_at}
 use Rattle.acpi.specs.Types.{DSDT, MapFailed, AddressRange, Fadt}
 use Rattle.acpi_fixed.specs.Words.{dsdt_address_of, fadt_at}
-use Rattle.acpi.specs.Words.{bios_areas, count_in, first_in, or_later, fadt_kind, Opened, rsdp_ranges, search_ranges, facs_place, facs_place_ranges, rsdp_at, count_of, first_area, room_of, second_area, walk, word_in}
-use Rattle.acpi_c_lib.specs.Accepted.{accepted_at, accepted_lookup, own_accepted_at}
+use Rattle.acpi.specs.Words.{bios_areas, count_in, first_in, or_later, fadt_kind, Opened, rsdp_ranges, search_ranges, facs_place, facs_place_ranges, rsdp_at, count_of, first_area, room_of, second_area, walk, word_in, lookup}
 use Rattle.acpi_c_lib.specs.Below.{AcpiError, Refusal, Source, check_policy, ebda_in, opened_in, pointers_in, root_pointer_in, root_there}
 use Rattle.acpi_c_lib.specs.Regions.{memory_in}
 pub use Rattle.acpi_c_lib.specs.declared.candidates.Areas.{Areas}
@@ -38,11 +37,11 @@ table_hole m p _ = None
 
 -- of a member, under its own signature
 abbrev pub member_hole : ℕ → Memory → ℕ → Option Range
-member_hole accept m p = table_hole m p (own_accepted_at accept m p)
+member_hole accept m p = table_hole m p (own_accepted accept m p)
 
 -- of the DSDT (section 5.2.11.1) and the FACS (section 5.2.10) that a FADT leads to
 abbrev pub dsdt_hole : ℕ → Memory → Result ℕ AcpiError → Option Range
-dsdt_hole accept m (Ok p) = table_hole m p (accepted_at accept m (plain_kind DSDT) p)
+dsdt_hole accept m (Ok p) = table_hole m p (table_at m (accepted accept (plain_kind DSDT)) p)
 dsdt_hole accept m (Err e) = None
 
 abbrev pub led_holes : ℕ → Memory → Result (ℕ × List ℕ) AcpiError → List Range
@@ -55,7 +54,7 @@ led_holes accept m (Err e) = []
 -- of the members, in order, and then of what the first FADT that is accepted leads to
 abbrev pub holes_below : ℕ → Memory → List ℕ → List Range
 holes_below accept m ps =
-    filter_map (member_hole accept m) ps ++ led_holes accept m (accepted_lookup accept m fadt_kind ps)
+    filter_map (member_hole accept m) ps ++ led_holes accept m (lookup m (accepted accept fadt_kind) ps)
 
 -- ---- of the RSDPs that a search comes to (section 5.2.5.1)
 
@@ -158,7 +157,7 @@ IsUnlent m None = ⊥
 
 -- each member that is refused because it isn't lent has a range
 abbrev pub MembersHaveHoles : Type 0
-MembersHaveHoles = (accept : ℕ) (m : Memory) (p : ℕ) → own_accepted_at accept m p ≡ Err MapFailed
+MembersHaveHoles = (accept : ℕ) (m : Memory) (p : ℕ) → own_accepted accept m p ≡ Err MapFailed
     → IsUnlent m (member_hole accept m p)
 
 -- so has a candidate that is lent, and refused because it isn't lent as far as its Length says
@@ -169,7 +168,7 @@ CandidatesHaveHoles = (m : Memory) (a : ℕ) (b : List ℕ) → lent m a 36 ≡ 
 -- so have the DSDT and the FACS that a FADT leads to
 abbrev pub LedHaveHoles : Type 0
 LedHaveHoles = (accept : ℕ) (m : Memory) (f : Fadt)
-    → ((p : ℕ) → dsdt_address_of f ≡ Ok p → accepted_at accept m (plain_kind DSDT) p ≡ Err MapFailed
+    → ((p : ℕ) → dsdt_address_of f ≡ Ok p → table_at m (accepted accept (plain_kind DSDT)) p ≡ Err MapFailed
     → IsUnlent m (dsdt_hole accept m (dsdt_address_of f)))
     × (facs_place m f ≡ Err MapFailed → IsUnlent m (hole (facs_place m f) (facs_place_ranges m f)))
 

@@ -1,14 +1,13 @@
 -- The interrupt model (MADT, section 5.2.12) as C gets it.
 use Rattle.std.specs.Prelude.{ℕ, List, [], ◌∷◌, length, Option, Some, None, Result, Ok}
-use Rattle.acpi_base.specs.Words.{madt_at, Memory, ◌>>=◌}
+use Rattle.acpi_base.specs.Words.{madt_at, Memory, ◌>>=◌, accepted}
 use Rattle.acpi_base.specs.Model as base
 use Rattle.acpi.specs.Types.{Apic, IoApic, Processor, ProcessorInfo}
 use Rattle.acpi_base.specs.declared.model.interrupt.InterruptModel.TheVariants as model
 pub use Rattle.acpi_base.specs.declared.model.item.MadtItem.{MadtItem}
-use Rattle.acpi.specs.Words.{fadt_kind, madt_kind, or_later, timer_of}
+use Rattle.acpi.specs.Words.{fadt_kind, madt_kind, or_later, timer_of, lookup}
 use Rattle.acpi_fixed.specs.Words.{fadt_at}
 use Rattle.acpi_c_lib.specs.Types.{PlatformInfo, InterruptModel}
-use Rattle.acpi_c_lib.specs.Accepted.{accepted_lookup}
 use Rattle.acpi_c_lib.specs.Answers.{result_map}
 use Rattle.acpi_c_lib.specs.Below.{AcpiError, Refusal, Source, below_source}
 use Rattle.acpi_c_lib.specs.Devices.{flag}
@@ -37,12 +36,12 @@ models_of info = (info.interrupt_model, info.processor_info)
 -- those of the first MADT that is accepted; nothing is known if none is
 abbrev pub accepted_model : ℕ → Memory → List ℕ → Result Platform AcpiError
 accepted_model accept m ps =
-    or_later (λ madt. base.model_of madt.1) (accepted_lookup accept m madt_kind ps) (Ok (model.Unknown, None))
+    or_later (λ madt. base.model_of madt.1) (lookup m (accepted accept madt_kind) ps) (Ok (model.Unknown, None))
 
 -- the model and the processors of the platform: by 0 what `platform_of` has of them
 abbrev pub platform_model : ℕ → Memory → List ℕ → Result Platform AcpiError
 platform_model accept m ps = do
-  found ← accepted_lookup accept m fadt_kind ps
+  found ← lookup m (accepted accept fadt_kind) ps
   said ← accepted_model accept m ps
   _ ← timer_of (fadt_at found.1)
   Ok said

@@ -1,22 +1,20 @@
 -- Sleep types, and what to write to sleep, to enable ACPI and to reset, as C gets them.
 use Rattle.std.specs.Prelude.{ℕ, ◌+◌, List, ◌∷◌, nat_le, replicate, Option, Some, None, Result, Ok, Err, if◌then◌else◌}
 use Rattle.std.specs.Option.{is_some}
-use Rattle.acpi_base.specs.Words.{Memory, plain_kind, ◌>>=◌}
+use Rattle.acpi_base.specs.Words.{Memory, plain_kind, ◌>>=◌, accepted, table_at}
 use Rattle.acpi.specs.Types.{AcpiError, DSDT, Fadt, SSDT}
-use Rattle.acpi.specs.Words.{fadt_kind}
+use Rattle.acpi.specs.Words.{fadt_kind, lookup, tables_found}
 use Rattle.acpi_fixed.specs.Words.{dsdt_address_of, fadt_at}
 use Rattle.acpi_sleep.specs.Words as sleep
 use Rattle.acpi_sleep.specs.declared.error.PlanError.TheVariants as plans
 use Rattle.acpi_sleep.specs.declared.error.SleepError.TheVariants as errors
 use Rattle.acpi_sleep.specs.declared.plan.StepKind.TheVariants as kinds
 use Rattle.acpi_sleep.specs.declared.sleep.SleepAnswer.TheVariants as answers
-use Rattle.acpi_c_lib.specs.Accepted.{accepted_at, accepted_lookup}
 use Rattle.acpi_c_lib.specs.Answers.{result_map}
 use Rattle.acpi_c_lib.specs.Below.{Refusal, Source, below, first_table}
 use Rattle.acpi_c_lib.specs.Devices.{flag, optional_register}
 use Rattle.acpi_c_lib.specs.Types.{Acpi, AmlInvalid, NoRegister, NoReset, NoSuchState, Plan, PlanError, PlanStep, SleepError, SleepStateAbsent, SleepStateNotSeen, SleepTypeTooHigh, SleepTypes, Step, StepKind}
 use Rattle.acpi_c_lib.specs.Records as records
-use Rattle.acpi_c_lib.specs.Walked.{tables_accepted}
 
 -- ---- errors
 
@@ -44,9 +42,9 @@ types_said (Err e) = Err (sleep_refusal e)
 -- the answer of the DSDT that the first FADT leads to that is accepted
 abbrev pub dsdt_answer : ℕ → ℕ → Memory → List ℕ → Result sleep.Answer AcpiError
 dsdt_answer accept state m ps = do
-  found ← accepted_lookup accept m fadt_kind ps
+  found ← lookup m (accepted accept fadt_kind) ps
   address ← dsdt_address_of (fadt_at found.1)
-  table ← accepted_at accept m (plain_kind DSDT) address
+  table ← table_at m (accepted accept (plain_kind DSDT)) address
   Ok (sleep.block_answer DSDT state table)
 
 -- the answer of that and of the SSDTs that are accepted; by 0 it is `tables_answer`
@@ -54,7 +52,7 @@ abbrev pub accepted_answer : ℕ → ℕ → Memory → List ℕ → sleep.Answe
 accepted_answer accept state m ps =
     if nat_le state 5
     then sleep.or_after (sleep.joined (dsdt_answer accept state m ps))
-    (sleep.first_answer (sleep.ssdt_answers state (tables_accepted accept m (plain_kind SSDT) ps)))
+    (sleep.first_answer (sleep.ssdt_answers state (tables_found m (accepted accept (plain_kind SSDT)) ps)))
     else Err errors.NoSuchState
 
 abbrev pub types_below : Source → ℕ → Result SleepTypes Refusal

@@ -1,13 +1,12 @@
 -- What the calls answer of the tables that a caller names.
 use Rattle.std.specs.Prelude.{ℕ, List, filter_map, length, map, Option, Result, Ok, ok_or, unwrap_or}
 use Rattle.acpi_base.specs.FromStd.{is_some, result_ok}
-use Rattle.acpi_base.specs.Words.{ecam_range, filled_part, header_at, mcfg_entries_of, Memory, ◌>>=◌, plain_kind, letters_of}
+use Rattle.acpi_base.specs.Words.{ecam_range, filled_part, header_at, mcfg_entries_of, Memory, ◌>>=◌, plain_kind, letters_of, accepted, own_accepted, table_at}
 pub use Rattle.acpi_base.specs.declared.table.signature.Signature.{Signature}
 use Rattle.acpi.specs.Types.{DSDT, McfgEntry, SSDT}
 use Rattle.acpi_fixed.specs.Words.{dsdt_address_of, fadt_at}
-use Rattle.acpi.specs.Words.{Opened, ecam_address, fadt_kind, hpet_at, hpet_kind, info_of, mcfg_kind, protection_code, stream_of, width_of}
+use Rattle.acpi.specs.Words.{Opened, ecam_address, fadt_kind, hpet_at, hpet_kind, info_of, mcfg_kind, protection_code, stream_of, width_of, lookup}
 use Rattle.acpi_c_lib.specs.Types.{HpetInfo, EcamRange, PciRegion, Root, NoSuchFunction}
-use Rattle.acpi_c_lib.specs.Accepted.{accepted_at, accepted_lookup, own_accepted_at}
 use Rattle.acpi_c_lib.specs.Answers.{result_map}
 use Rattle.acpi_c_lib.specs.Below.{AcpiError, Refusal, Source, below_first, below_source, first_table, opened_below, rsdp_place_in}
 use Rattle.acpi_c_lib.specs.Devices.{flag}
@@ -48,7 +47,7 @@ table_record found = record {
 
 -- the table of a member, if it is valid under its own signature
 abbrev pub table_in : ℕ → Memory → ℕ → Option Table
-table_in accept m p = result_ok (result_map (λ b. table_record (p, b)) (own_accepted_at accept m p))
+table_in accept m p = result_ok (result_map (λ b. table_record (p, b)) (own_accepted accept m p))
 
 -- those of all members, in order
 abbrev pub tables_in : ℕ → Memory → List ℕ → List Table
@@ -64,7 +63,7 @@ signature_named name = record { 0 = name.letters }
 -- the first valid table of a name
 abbrev pub table_below : Source → records.Signature → Result Table Refusal
 table_below s name = below_source s (λ m ps. result_map table_record
-    (accepted_lookup s.accept m (plain_kind (signature_named name)) ps))
+    (lookup m (accepted s.accept (plain_kind (signature_named name))) ps))
 
 -- the AML of a table, which is given by its address and its bytes
 abbrev pub aml_record : ℕ × List ℕ → records.AmlTable
@@ -77,12 +76,12 @@ aml_record found = record {
 
 -- that of the table at an address, if it is valid under a signature
 abbrev pub aml_at : ℕ → Memory → Signature → ℕ → Result records.AmlTable AcpiError
-aml_at accept m s p = result_map (λ b. aml_record (p, b)) (accepted_at accept m (plain_kind s) p)
+aml_at accept m s p = result_map (λ b. aml_record (p, b)) (table_at m (accepted accept (plain_kind s)) p)
 
 -- that of the DSDT to which the first valid FADT leads
 abbrev pub dsdt_in : ℕ → Memory → List ℕ → Result records.AmlTable AcpiError
 dsdt_in accept m ps = do
-  found ← accepted_lookup accept m fadt_kind ps
+  found ← lookup m (accepted accept fadt_kind) ps
   address ← dsdt_address_of (fadt_at found.1)
   aml_at accept m DSDT address
 
@@ -150,12 +149,12 @@ hpet_shown table = result_map hpet_record (info_of (hpet_at table))
 
 abbrev pub hpet_below : Source → Result records.HpetInfo Refusal
 hpet_below s = below_source s (λ m ps. do
-  found ← accepted_lookup s.accept m hpet_kind ps
+  found ← lookup m (accepted s.accept hpet_kind) ps
   hpet_shown found.1)
 
 -- that of a member, if it is a valid HPET
 abbrev pub hpet_in : ℕ → Memory → ℕ → Option records.HpetInfo
-hpet_in accept m p = result_ok (accepted_at accept m hpet_kind p >>= hpet_shown)
+hpet_in accept m p = result_ok (table_at m (accepted accept hpet_kind) p >>= hpet_shown)
 
 abbrev pub hpets_in : ℕ → Memory → List ℕ → List records.HpetInfo
 hpets_in accept m ps = filter_map (hpet_in accept m) ps

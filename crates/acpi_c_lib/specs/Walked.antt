@@ -1,11 +1,10 @@
 -- What walks along the members of the root table answer.
 use Rattle.std.specs.Prelude.{ℕ, List, [], ◌∷◌, ◌++◌, filter_map, length, Option, None, option_map, slice_get, Result, Ok, Err, ok_or}
 use Rattle.acpi_base.specs.FromStd.{cons_option, result_ok}
-use Rattle.acpi_base.specs.Words.{Kind, Memory, ◌>>=◌, plain_kind}
+use Rattle.acpi_base.specs.Words.{Kind, Memory, ◌>>=◌, plain_kind, accepted, own_accepted, table_at}
 use Rattle.acpi.specs.Types.{TableMissing, AddressRange, DSDT, Fadt}
 use Rattle.acpi_fixed.specs.Words.{dsdt_address_of, fadt_at}
-use Rattle.acpi.specs.Words.{facs_place, fadt_kind}
-use Rattle.acpi_c_lib.specs.Accepted.{accepted_at, accepted_lookup, own_accepted_at}
+use Rattle.acpi.specs.Words.{facs_place, fadt_kind, lookup, tables_found}
 use Rattle.acpi_c_lib.specs.Answers.{result_map}
 use Rattle.acpi_c_lib.specs.Below.{AcpiError, Refusal, Source, below_source, opened_below, pointers_in, rsdp_place_in}
 use Rattle.acpi_c_lib.specs.Missing.{range_of}
@@ -13,14 +12,10 @@ use Rattle.acpi_c_lib.specs.Records as records
 use Rattle.acpi_c_lib.specs.Shown.{Signature, Table, signature_named, table_record}
 use Rattle.acpi_c_lib.specs.Types.{Range}
 
--- all tables that are accepted for a kind, in order, each with its address
-abbrev pub tables_accepted : ℕ → Memory → Kind → List ℕ → List (ℕ × List ℕ)
-tables_accepted accept m k ps = filter_map (λ p. result_ok (result_map (λ b. (p, b)) (accepted_at accept m k p))) ps
-
 -- the one of a signature with so many before it, or that it is missing
 abbrev pub nth_in : ℕ → Memory → Signature → ℕ → List ℕ → Result Table AcpiError
 nth_in accept m s index ps = do
-  found ← ok_or (slice_get (tables_accepted accept m (plain_kind s) ps) index) (TableMissing s)
+  found ← ok_or (slice_get (tables_found m (accepted accept (plain_kind s)) ps) index) (TableMissing s)
   Ok (table_record found)
 
 abbrev pub nth_below : Source → records.Signature → ℕ → Result Table Refusal
@@ -31,13 +26,13 @@ range_record r = record { address = r.address; length = r.length }
 
 -- where a member lies, if it is accepted under its own signature
 abbrev pub range_in : ℕ → Memory → ℕ → Option Range
-range_in accept m p = result_ok (result_map (λ b. range_of (p, length b)) (own_accepted_at accept m p))
+range_in accept m p = result_ok (result_map (λ b. range_of (p, length b)) (own_accepted accept m p))
 
 -- where the DSDT lies that a FADT leads to, if it is accepted, and where the FACS, if it is valid
 abbrev pub dsdt_range : ℕ → Memory → Fadt → Option Range
 dsdt_range accept m f = result_ok (do
   address ← dsdt_address_of f
-  table ← accepted_at accept m (plain_kind DSDT) address
+  table ← table_at m (accepted accept (plain_kind DSDT)) address
   Ok (range_of (address, length table)))
 
 abbrev pub facs_range : Memory → Fadt → Option Range
@@ -51,7 +46,7 @@ led_ranges accept m (Err e) = (None, None)
 -- the members, and then those
 abbrev pub members_ranges : ℕ → Memory → List ℕ → List Range
 members_ranges accept m ps =
-    let led = led_ranges accept m (accepted_lookup accept m fadt_kind ps) in
+    let led = led_ranges accept m (lookup m (accepted accept fadt_kind) ps) in
     filter_map (range_in accept m) ps ++ cons_option led.0 (cons_option led.1 [])
 
 -- the RSDP if one led to the root table, the root table, and the tables

@@ -1,7 +1,5 @@
 -- This crate's words: what proofs, contracts and the crates above bring in from its specs.
-pub use Rattle.acpi_c_lib.specs.AcceptLaws.{AcceptsNothing, AcceptsValid}
-pub use Rattle.acpi_c_lib.specs.Accepted.{accepted_lookup, names_accepted}
-unfoldable pub use Rattle.acpi_c_lib.specs.Accepted.{accepted_at, loosened_at, own_accepted_at}
+pub use Rattle.acpi_c_lib.specs.AcceptLaws.{AcceptsAsReaders}
 pub use Rattle.acpi_c_lib.specs.Answers.{Answers, AnswersList, AnswersPlain, AnswersSome, Fills, GivesSome, Writes, items_beside, items_said, name_or, put_from, result_map}
 pub use Rattle.acpi_c_lib.specs.ApicLaws.{ListsAreModels, line_said, line_shown, nmi_source_record, of_all, override_record, processor_said, processor_shown, state_code}
 pub use Rattle.acpi_c_lib.specs.Apics.{MadtEntry, apic_entries, below_apics, mailbox_below, boot_first, booted, io_apic_in, is_of_apics, nmi_line, nmi_line_in, nmi_source_in, override_in, processor, processor_in, processors_below, processors_of}
@@ -19,6 +17,7 @@ pub use Rattle.acpi_c_lib.specs.EntryFaults.{entry_fault, fault_at, faults_from,
 pub use Rattle.acpi_c_lib.specs.Facs.{facs_below, facs_in}
 pub use Rattle.acpi_c_lib.specs.Faults.{accepted_fault, fault_record, faults_among, faults_below, kind_named}
 pub use Rattle.acpi_c_lib.specs.Fixed.{fixed_below, fixed_record, gpe_record, hypervisor_id_in, minor_revision_in, revision_in}
+unfoldable pub use Rattle.acpi_c_lib.specs.Faults.{least_named}
 pub use Rattle.acpi_c_lib.specs.GtdtFaults.{gtdt_faults_below, gtdt_faults_of, last_faults, timer_fault, timers_cut}
 pub use Rattle.acpi_c_lib.specs.Held.{mapped_memory}
 pub use Rattle.acpi_c_lib.specs.Iommu.{block_record, dmar_flags_below, dmar_flags_record, dmar_hpet_below, dmar_io_apic_below, dmar_reserved_below, dmar_unit_below, iommu_refusal, ivrs_memory_below, ivrs_unit_below, memory_record, reserved_record, source_record, unit_record}

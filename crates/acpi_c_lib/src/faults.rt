@@ -1,9 +1,9 @@
 //! The tables that lookups pass over, or take though they aren't valid.
-ghost use Rattle.std.specs.Prelude.{◌≡◌, ◌^◌, ◌<◌, [], length};
+ghost use Rattle.std.specs.Prelude.{◌≡◌, ◌^◌, ◌<◌, ◌≤◌, [], length};
 ghost use Rattle.acpi_base.specs.FromStd.{cons_option};
 ghost use Rattle.acpi.specs.Words.{pointers_left};
-ghost use Rattle.acpi_base.specs.Words.{table_at};
-ghost use Rattle.acpi_c_lib.specs.Words.{Fills, Writes, accepted_at, accepted_fault, result_map, fault_record, faults_among, faults_below, kind_named};
+ghost use Rattle.acpi_base.specs.Words.{accepted, table_at};
+ghost use Rattle.acpi_c_lib.specs.Words.{Fills, Writes, accepted_fault, result_map, fault_record, faults_among, faults_below, kind_named, least_named};
 
 use crate::lists::put;
 use crate::lookup::Lookup;
@@ -17,9 +17,9 @@ use acpi::fadt::Fadt;
 use acpi::hpet::HpetTable;
 use acpi::madt::Madt;
 use acpi::mcfg::Mcfg;
-use acpi::sdt::Signature;
+use acpi::sdt::{SdtHeader, Signature};
 use acpi::spcr::Spcr;
-use acpi::{AcpiError, AcpiHandler, AcpiResult, AcpiTable, Pointers};
+use acpi::{AcpiError, AcpiHandler, AcpiResult, PhysicalRecord, Pointers};
 use acpi_arm::gtdt::Gtdt;
 use acpi_iommu::{Dmar, Ivrs};
 use acpi_numa::{Slit, Srat};
@@ -68,7 +68,6 @@ fn fill_faults<H: AcpiHandler>(
 }
 
 /// Why the table at an address that is accepted isn't valid.
-#[tactic(auto, unfolding(crate::specs::Accepted::accepted_at))]
 fn accepted_fault<H: AcpiHandler>(handler: &H, address: u64, signature: Signature) -> Option<Fault>
     ensures { accepted_fault address (table_at (H.memory handler.now) (kind_named signature) address)
         ≡ cons_option result [] }
@@ -92,48 +91,47 @@ fn fault_record(accepted: u8, address: u64, error: AcpiError) -> Fault
 }
 
 /// Whether a lookup of a signature takes the table at an address, or why it passes it over.
-#[tactic(auto, using(crate::proofs::Unlent::same_signature), unfolding(crate::specs::Faults::least_named))]
 fn looked_at<H: AcpiHandler>(
     lookup: &Lookup<'_, H>,
     address: u64,
     signature: Signature,
 ) -> AcpiResult<()>
-    ensures { let l = lookup.now in result
-        ≡ result_map (λ _. tt) (accepted_at l.accept (H.memory l.handler.now) (kind_named signature) address) }
+    ensures { let l = lookup.now in result ≡ result_map (λ _. tt)
+        (table_at (H.memory l.handler.now) (accepted l.accept (kind_named signature)) address) }
 {
-    if signature == Signature::FADT {
-        taken::<H, Fadt>(lookup, address)
-    } else if signature == Signature::MADT {
-        taken::<H, Madt>(lookup, address)
-    } else if signature == Signature::MCFG {
-        taken::<H, Mcfg>(lookup, address)
-    } else if signature == Signature::HPET {
-        taken::<H, HpetTable>(lookup, address)
-    } else if signature == Signature::BGRT {
-        taken::<H, Bgrt>(lookup, address)
-    } else if signature == Signature::SPCR {
-        taken::<H, Spcr>(lookup, address)
-    } else if signature == Signature::GTDT {
-        taken::<H, Gtdt>(lookup, address)
-    } else if signature == Signature::SRAT {
-        taken::<H, Srat>(lookup, address)
-    } else if signature == Signature::SLIT {
-        taken::<H, Slit>(lookup, address)
-    } else if signature == Signature::DMAR {
-        taken::<H, Dmar>(lookup, address)
-    } else if signature == Signature::IVRS {
-        taken::<H, Ivrs>(lookup, address)
-    } else {
-        lookup.sdt_at(address, signature)?;
-        Ok(())
-    }
+    lookup.sdt_of(address, signature, least_named(signature))?;
+    Ok(())
 }
 
-/// Whether the table at an address is accepted as one of this type, or why it isn't.
-fn taken<H: AcpiHandler, T: AcpiTable>(lookup: &Lookup<'_, H>, address: u64) -> AcpiResult<()>
-    ensures { let l = lookup.now in result
-        ≡ result_map (λ _. tt) (accepted_at l.accept (H.memory l.handler.now) T.kind address) }
+/// The least length of a table that a lookup of a signature takes.
+#[tactic(auto, using(crate::proofs::Unlent::same_signature), unfolding(crate::specs::Faults::least_named))]
+fn least_named(signature: Signature) -> usize
+    ensures value { result ≡ least_named signature }
+    ensures least { 36 ≤ result }
 {
-    lookup.table_at::<T>(address)?;
-    Ok(())
+    if signature == Signature::FADT {
+        Fadt::MIN_LENGTH
+    } else if signature == Signature::MADT {
+        Madt::MIN_LENGTH
+    } else if signature == Signature::MCFG {
+        Mcfg::MIN_LENGTH
+    } else if signature == Signature::HPET {
+        HpetTable::MIN_LENGTH
+    } else if signature == Signature::BGRT {
+        Bgrt::MIN_LENGTH
+    } else if signature == Signature::SPCR {
+        Spcr::MIN_LENGTH
+    } else if signature == Signature::GTDT {
+        Gtdt::MIN_LENGTH
+    } else if signature == Signature::SRAT {
+        Srat::MIN_LENGTH
+    } else if signature == Signature::SLIT {
+        Slit::MIN_LENGTH
+    } else if signature == Signature::DMAR {
+        Dmar::MIN_LENGTH
+    } else if signature == Signature::IVRS {
+        Ivrs::MIN_LENGTH
+    } else {
+        SdtHeader::MIN_LENGTH
+    }
 }

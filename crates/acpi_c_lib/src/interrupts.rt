@@ -1,9 +1,10 @@
 //! The MADT of a machine with APICs, none of whose entries is at fault.
 ghost use Rattle.std.specs.Prelude.{◌≡◌, true, IfOk, IfSome, Ok, Some, option_map};
 ghost use Rattle.acpi_base.specs.FromStd.{list_any};
-ghost use Rattle.acpi_base.specs.Words.{counts_of, entries_of, bytes_of, start_of, items_of, Gives};
+ghost use Rattle.acpi_base.specs.Words.{accepted, counts_of, entries_of, bytes_of, start_of, items_of, Gives};
 ghost use Rattle.acpi.specs.Words.{madt_kind, pointers_left};
-ghost use Rattle.acpi_c_lib.specs.Words.{accepted_lookup, accepted_model, apic_table, is_of_apics, io_apic_record, model_by, opened_of, platform_model, mapped_memory, memory_in, known_platform, pointers_in};
+ghost use Rattle.acpi.specs.Lookup as reader;
+ghost use Rattle.acpi_c_lib.specs.Words.{accepted_model, apic_table, is_of_apics, io_apic_record, model_by, opened_of, platform_model, mapped_memory, memory_in, known_platform, pointers_in};
 
 use crate::interrupt_records as records;
 use crate::lookup::Lookup;
@@ -39,7 +40,7 @@ pub(crate) fn apic_madt<'h, H: AcpiHandler>(
         (platform_model l.accept (H.memory l.handler.now) (pointers_in (opened_of tables.now))) }
     ensures counts { IfOk result (λ o. IfSome o (λ x. x.counts ≡ counts_of (items_of (bytes_of x.madt)))) }
     ensures found { let l = lookup.now in IfOk result (λ o. IfSome o (λ x.
-        (accepted_lookup l.accept (H.memory l.handler.now) madt_kind (pointers_in (opened_of tables.now))
+        (reader.lookup (H.memory l.handler.now) (accepted l.accept madt_kind) (pointers_in (opened_of tables.now))
         ≡ Ok (start_of x.madt, bytes_of x.madt))
         × (list_any is_of_apics (entries_of (bytes_of x.madt)) ≡ true))) }
 {
@@ -86,7 +87,7 @@ fn found_madt<'h, H: AcpiHandler>(
         (accepted_model l.accept (H.memory l.handler.now) (pointers_left addresses.entry)) }
     ensures counts { IfOk result (λ o. IfSome o (λ x. x.counts ≡ counts_of (items_of (bytes_of x.madt)))) }
     ensures found { let l = lookup.now in IfOk result (λ o. IfSome o (λ x.
-        (accepted_lookup l.accept (H.memory l.handler.now) madt_kind (pointers_left addresses.entry)
+        (reader.lookup (H.memory l.handler.now) (accepted l.accept madt_kind) (pointers_left addresses.entry)
         ≡ Ok (start_of x.madt, bytes_of x.madt))
         × (list_any is_of_apics (entries_of (bytes_of x.madt)) ≡ true))) }
 {

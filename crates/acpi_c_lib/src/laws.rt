@@ -1,5 +1,6 @@
 //! Laws of the definitions, each the contract of a call that does nothing.
-ghost use Rattle.acpi_c_lib.specs.Words.{AcceptsNothing, AcceptsValid, ItemsAreAnswers, CandidatesHaveHoles, LedHaveHoles, ListsAreModels, MembersHaveHoles, OpeningHasHole};
+ghost use Rattle.acpi_base.specs.Words.{AcceptsNothing, AcceptsValid, KeepsNames, KeepsSums};
+ghost use Rattle.acpi_c_lib.specs.Words.{AcceptsAsReaders, ItemsAreAnswers, CandidatesHaveHoles, LedHaveHoles, ListsAreModels, MembersHaveHoles, OpeningHasHole};
 
 /// Each member of the root table that is refused with `MapFailed` has a range among those that
 /// `zacpi_list_missing_ranges` lists, and that range lies in no one region.
@@ -41,15 +42,23 @@ pub fn lists_are_models()
     ensures { ListsAreModels }
 {}
 
-/// By an `accept` of 0, what is accepted is what the crate `acpi` finds valid, and the model is that of its
-/// `PlatformInfo`.
-#[tactic(auto, using(crate::proofs::Accepted::accepts_nothing))]
+/// By an `accept` of 0 each call is that for valid tables, since each kind of tables is as it was, and the model is that
+/// of `PlatformInfo`.
+#[tactic(auto, using(acpi_base::proofs::Accepted::accepts_nothing, crate::proofs::Accepted::accepts_as_readers))]
 pub fn nothing_else_is_accepted()
-    ensures { AcceptsNothing }
+    ensures kinds { AcceptsNothing }
+    ensures readers { AcceptsAsReaders }
 {}
 
 /// A table that is valid is accepted by any bits.
-#[tactic(auto, using(crate::proofs::Accepted::accepts_valid))]
+#[tactic(auto, using(acpi_base::proofs::Accepted::accepts_valid))]
 pub fn valid_tables_are_accepted()
     ensures { AcceptsValid }
+{}
+
+/// `ZACPI_ACCEPT_IDS` gives up no check of a sum, and `ZACPI_ACCEPT_SUMS` none of a name.
+#[tactic(auto, using(acpi_base::proofs::Accepted::keeps_names, acpi_base::proofs::Accepted::keeps_sums))]
+pub fn each_bit_keeps_the_other_check()
+    ensures sums { KeepsSums }
+    ensures names { KeepsNames }
 {}

@@ -1,11 +1,11 @@
 //! The ranges of memory that a caller has to map before the calls can read all tables.
 ghost use Rattle.std.specs.Prelude.{◌≡◌, [], ◌+◌, ◌++◌, ◌^◌, ◌<◌, ◌≤◌, filter_map, length, Err, Some};
 ghost use Rattle.acpi_base.specs.FromStd.{IsFinite, cons_option, is_ok};
-ghost use Rattle.acpi_base.specs.Words.{lent, plain_kind};
+ghost use Rattle.acpi_base.specs.Words.{accepted, lent, plain_kind, table_at};
 ghost use Rattle.acpi_fixed.specs.Words.{dsdt_address_of};
 ghost use Rattle.acpi.specs.Types.{MapFailed};
 ghost use Rattle.acpi.specs.Words.{rsdp_at, rsdp_ranges, search_ranges, facs_place, facs_place_ranges, pointers_left, found_rsdp, room_of, second_area};
-ghost use Rattle.acpi_c_lib.specs.Words.{Fills, accepted_at, items_said, put_from, result_map, dsdt_hole, opened_in, hole, last_range, member_hole, unlent, missing_below, missing_in, opening_hole, range_of, rsdp_hole, rsdp_in, table_hole, Acpi, lists_some};
+ghost use Rattle.acpi_c_lib.specs.Words.{Fills, items_said, put_from, result_map, dsdt_hole, opened_in, hole, last_range, member_hole, unlent, missing_below, missing_in, opening_hole, range_of, rsdp_hole, rsdp_in, table_hole, Acpi, lists_some};
 
 use crate::candidates::candidate_holes;
 use crate::lists::{Listing, fill_from, put};
@@ -165,7 +165,7 @@ fn hole_at<H: AcpiHandler>(
     signature: Signature,
 ) -> Option<Range>
     ensures { let l = lookup.now in let m = H.memory l.handler.now in
-        result ≡ table_hole m address (accepted_at l.accept m (plain_kind signature) address) }
+        result ≡ table_hole m address (table_at m (accepted l.accept (plain_kind signature)) address) }
 {
     match lookup.sdt_at(address, signature) {
         Err(AcpiError::MapFailed) => Some(table_hole(lookup.handler, address)),

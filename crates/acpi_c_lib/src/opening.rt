@@ -1,6 +1,6 @@
 //! How the tables that a caller names are opened.
-ghost use Rattle.std.specs.Prelude.{◌≡◌, ◌+◌, ◌^◌, ◌<◌, length, IfOk};
-ghost use Rattle.acpi_base.specs.Words.{bytes_of, start_of, Gives};
+ghost use Rattle.std.specs.Prelude.{◌≡◌, ◌+◌, ◌^◌, ◌<◌, ◌≤◌, length, IfOk};
+ghost use Rattle.acpi_base.specs.Words.{bytes_of, claimed_at, sdt_kind, shown_by, start_of, Gives};
 ghost use Rattle.acpi.specs.Words.{placed, word_in};
 ghost use Rattle.acpi_c_lib.specs.Words.{check_policy, ebda_in, first_table, found_table, opened_in, opened_of, mapped_memory, memory_in, root_below, root_pointer_in, rsdp_in, rsdp_length, rsdp_place_in};
 
@@ -11,7 +11,9 @@ use crate::regions::Mapped;
 use crate::root_table::RootTable;
 use acpi::root::{RootKind, RootPointer};
 use acpi::rsdp::{Rsdp, bios_areas, map_rsdp};
-use acpi::{AcpiHandler, AcpiResult, AcpiTable, PhysicalMapping};
+use acpi::sdt::Signature;
+use acpi::{AcpiHandler, AcpiResult, PhysicalMapping, PhysicalRecord, SdtTable};
+use acpi_base::table::ValidTable;
 
 /// The root table that a source leads to, if it is accepted.
 ///
@@ -127,27 +129,52 @@ pub(crate) fn ebda<H: AcpiHandler>(handler: &H) -> Option<u64>
     Some(16 * segment as u64)
 }
 
-/// The first table that a source leads to and accepts as one of a type, in the memory of its regions: it ends below
-/// 2^64.
+/// The bytes of the first table that a source leads to and accepts under a signature and a least length, in the memory
+/// of its regions: it ends below 2^64.
 ///
 /// Fails as `Mapped::new` does, then as `open` does, and then with `TableMissing` if none is listed that is accepted.
-#[tactic(auto, using(crate::proofs::Unlent::accepted_ends), unfolding(crate::specs::Below::first_table, crate::specs::Below::found_table))]
-pub(crate) fn first<'h, 'k, T: AcpiTable>(
+#[inline(never)]
+#[tactic(auto, unfolding(crate::specs::Below::found_table))]
+fn first_of<'h, 'k>(
     memory: &'h Result<Mapped<'k>, Refusal>,
     source: &Source<'_>,
-) -> Result<PhysicalMapping<'h, Mapped<'k>, T>, Refusal>
-    requires { Gives (λ m. mapped_memory m) memory.now (memory_in source.now.regions.now) }
-    ensures bytes { Gives (λ t. bytes_of t) result (first_table T.kind source.now) }
-    ensures placed { Gives (λ t. (start_of t, bytes_of t)) result (found_table T.kind source.now) }
-    ensures ends { IfOk result (λ t. start_of t + length (bytes_of t) < 2 ^ 64) }
+    signature: Signature,
+    least: usize,
+) -> Result<ValidTable<'h, Mapped<'k>>, Refusal>
+    requires memory { Gives (λ m. mapped_memory m) memory.now (memory_in source.now.regions.now) }
+    requires least { 36 ≤ least }
+    ensures found { Gives (λ v. (claimed_at v.claim, shown_by v.claim)) result
+        (found_table (sdt_kind signature least) source.now) }
+    ensures least { IfOk result (λ v. least ≤ length (shown_by v.claim)) }
+    ensures ends { IfOk result (λ v. claimed_at v.claim + length (shown_by v.claim) < 2 ^ 64) }
 {
     let memory = match memory {
         Ok(memory) => memory,
         Err(refusal) => return Err(*refusal),
     };
     let tables = open(memory, source)?;
-    let table = Lookup::new(memory, source).find_table::<T>(tables.addresses())?;
-    Ok(table)
+    let found = Lookup::new(memory, source).first_of(tables.addresses(), signature, least)?;
+    Ok(found)
+}
+
+/// The first table that a source leads to and accepts as one of a type.
+///
+/// Fails as `first_of` does.
+#[tactic(auto, using(crate::proofs::Found::bytes_found, crate::proofs::Found::no_bytes))]
+pub(crate) fn first<'h, 'k, T: SdtTable>(
+    memory: &'h Result<Mapped<'k>, Refusal>,
+    source: &Source<'_>,
+) -> Result<PhysicalMapping<'h, Mapped<'k>, T>, Refusal>
+    requires { Gives (λ m. mapped_memory m) memory.now (memory_in source.now.regions.now) }
+    ensures bytes { Gives (λ t. bytes_of t) result (first_table (sdt_kind T.NAME T.MIN_LENGTH) source.now) }
+    ensures placed { Gives (λ t. (start_of t, bytes_of t)) result
+        (found_table (sdt_kind T.NAME T.MIN_LENGTH) source.now) }
+    ensures ends { IfOk result (λ t. start_of t + length (bytes_of t) < 2 ^ 64) }
+{
+    match first_of(memory, source, T::NAME, T::MIN_LENGTH) {
+        Ok(found) => Ok(found.mapping()),
+        Err(refusal) => Err(refusal),
+    }
 }
 
 /// The root table that a source leads to.

@@ -1,9 +1,11 @@
 //! Walks along the members of the root table: all tables of a signature, and the memory that the tables
 //! take.
 ghost use Rattle.std.specs.Prelude.{◌≡◌, filter_map};
+ghost use Rattle.acpi_base.specs.Words.{accepted};
 ghost use Rattle.acpi.specs.Words.{fadt_kind, pointers_left};
+ghost use Rattle.acpi.specs.Lookup as reader;
 ghost use Rattle.acpi_fixed.specs.Words.{viewed};
-ghost use Rattle.acpi_c_lib.specs.Words.{Fills, accepted_lookup, dsdt_range, facs_range, led_ranges, nth_below, nth_in, range_in, ranges_below, lists_some};
+ghost use Rattle.acpi_c_lib.specs.Words.{Fills, dsdt_range, facs_range, led_ranges, nth_below, nth_in, range_in, ranges_below, lists_some};
 
 use crate::facs::facs_at;
 use crate::lists::Listing;
@@ -30,6 +32,7 @@ pub fn nth(source: &Source<'_>, name: records::Signature, index: usize) -> Resul
 }
 
 /// The table of a signature with so many before it.
+#[tactic(auto, unfolding(acpi::specs::Members::found_at))]
 fn nth_of<H: AcpiHandler>(
     lookup: &Lookup<'_, H>,
     addresses: Pointers<'_>,
@@ -90,7 +93,7 @@ fn led_ranges<H: AcpiHandler>(
     addresses: Pointers<'_>,
 ) -> (Option<Range>, Option<Range>)
     ensures { let l = lookup.now in let m = H.memory l.handler.now in result
-        ≡ led_ranges l.accept m (accepted_lookup l.accept m fadt_kind (pointers_left addresses.entry)) }
+        ≡ led_ranges l.accept m (reader.lookup m (accepted l.accept fadt_kind) (pointers_left addresses.entry)) }
 {
     match lookup.find_fadt(addresses) {
         Ok(fadt) => (dsdt_range(lookup, &fadt), facs_range(lookup.handler, &fadt)),

@@ -1,9 +1,8 @@
 use Rattle.std.proofs.Common.{◌≡◌}
 use Rattle.acpi.specs.Types.{SSDT}
-use Rattle.acpi.specs.Words.{pointers_left}
-use Rattle.acpi_base.specs.Words.{plain_kind}
+use Rattle.acpi.specs.Words.{pointers_left, tables_found}
+use Rattle.acpi_base.specs.Words.{accepted, plain_kind}
 use Rattle.acpi_sleep.proofs.Answering.{with_left}
-use Rattle.acpi_c_lib.specs.Walked.{tables_accepted}
 use Rattle.acpi_c_lib.specs.Words.{accepted_answer, opened_of, pointers_in}
 use Rattle.acpi_c_lib.proofs.power.tables_answer.Given as goal
 
@@ -11,5 +10,6 @@ use Rattle.acpi_c_lib.proofs.power.tables_answer.Given as goal
 abbrev pub invariant-loop-address : goal.invariant-loop-address
 invariant-loop-address g l =
     let m = g.H.AcpiHandler.memory l.lookup.handler.now in
-    with_left l.state l.answer (tables_accepted l.lookup.accept m (plain_kind SSDT) (pointers_left l.address-iterator))
+    with_left l.state l.answer
+    (tables_found m (accepted l.lookup.accept (plain_kind SSDT)) (pointers_left l.address-iterator))
     ≡ accepted_answer l.lookup.accept l.state m (pointers_in (opened_of l.tables))
