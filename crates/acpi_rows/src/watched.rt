@@ -59,5 +59,5 @@ impl AcpiTable for Watched {
 
     ghost least = { lit≤ tt };
 
-    ghost agrees = { (refl, refl) };
+    ghost agrees = { (refl, refl, refl) };
 }
