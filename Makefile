@@ -17,7 +17,8 @@ KERNEL_FLAGS = -ffreestanding -fno-stack-protector -fno-jump-tables -fno-asynchr
     -mgeneral-regs-only -mno-red-zone
 MACHINE = $(shell $(CC) -dumpmachine)
 taken = $(shell $(CC) -Werror $(1) -fsyntax-only -x c /dev/null 2>/dev/null && echo $(1))
-KERNEL_CFLAGS ?= $(foreach flag,$(KERNEL_FLAGS),$(call taken,$(flag))) $(if $(filter riscv64%,$(MACHINE)),-march=rv64imac -mabi=lp64 -mcmodel=medany)
+KERNEL_CFLAGS ?= $(foreach flag,$(KERNEL_FLAGS),$(call taken,$(flag))) \
+    $(if $(filter riscv64%,$(MACHINE)),-march=rv64imac -mabi=lp64 -mcmodel=medany)
 PROCESSOR = $(shell echo $(firstword $(subst -, ,$(MACHINE))) | \
     sed 's/^amd64$$/x86_64/; s/^arm64$$/aarch64/; s/^arm.*/arm/; s/^i.86$$/i686/')
 PREFIX ?= /usr/local

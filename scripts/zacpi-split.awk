@@ -1,7 +1,7 @@
 # SPDX-License-Identifier: MIT
 # awk -v folder=FOLDER -f scripts/zacpi-split.awk dist/zacpi.c: cuts the library into FOLDER/NAME.c, one for each
-# function, so that a linker without --gc-sections takes what is called from an archive of them. What they share is at the
-# front of each. A function that isn't a call gets a name and a prototype that the others see.
+# function, so that a linker without --gc-sections takes what is called from an archive of them. What they share is at
+# the front of each. A function that isn't a call gets a name and a prototype that the others see.
 BEGIN { RS = "" }
 /zacpi_needs_kernel_archive = 0/ {
     print "#include \"zacpi.h\"\n" $0 >(folder "/zacpi_needs_kernel_archive.c")
