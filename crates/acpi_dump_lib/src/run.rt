@@ -53,7 +53,7 @@ pub fn dump<S: Sources, T: Storage, W: Write + Drop, E: Write + Drop>(
 }
 
 /// Prints what the arguments ask for.
-#[tactic(auto, using(acpi_dump_input::proofs::Within::none_in_one))]
+#[tactic(auto, using(crate::proofs::Saved::none_in_one))]
 fn print_asked<S: Sources, T: Storage>(
     alloc: Global,
     arguments: &[&str],
@@ -104,7 +104,7 @@ fn print_refusal(
 }
 
 /// Prints what is asked for of the inputs.
-#[tactic(auto, using(acpi_dump_input::proofs::Within::none_in_one))]
+#[tactic(auto, using(crate::proofs::Saved::none_in_one))]
 fn print_inputs<S: Sources, T: Storage>(
     alloc: Global,
     request: &Request<'_>,
@@ -139,7 +139,7 @@ fn print_inputs<S: Sources, T: Storage>(
 }
 
 /// Prints what differs between the two inputs that are named, or saves the page of it.
-#[tactic(auto, using(acpi_dump_input::proofs::Within::none_in_one))]
+#[tactic(auto, using(crate::proofs::Saved::none_in_one))]
 fn print_two<S: Sources, T: Storage>(
     output: Output<'_, '_>,
     sources: &mut S,

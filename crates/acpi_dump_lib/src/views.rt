@@ -228,7 +228,7 @@ fn has_no_start(output: Output<'_, '_>, loaded: &Loaded<'_>, log: &mut Log) -> b
 /// Saves the tables of an input as files of a folder.
 ///
 /// Fails, after saying why, if there are none, or if memory runs out.
-#[tactic(auto, using(acpi_dump_input::proofs::Within::none_added))]
+#[tactic(auto, using(crate::proofs::Saved::none_added))]
 pub(crate) fn save_input<S: Sources, T: Storage>(
     output: Output<'_, '_>,
     folder: &str,

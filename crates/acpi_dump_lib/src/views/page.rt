@@ -81,7 +81,7 @@ fn print_compared_page(
 /// standard output.
 ///
 /// Fails, after saying why, if one has no tables, or if memory runs out.
-#[tactic(auto, using(acpi_dump_input::proofs::Within::none_named))]
+#[tactic(auto, using(crate::proofs::Saved::none_named))]
 pub(crate) fn save_page<S: Sources, T: Storage>(
     output: Output<'_, '_>,
     file: &str,

@@ -1,4 +1,4 @@
-use Rattle.acpi_dump_input.proofs.Within.{named_in_one}
+use Rattle.acpi_dump_lib.proofs.Saved.{named_in_one}
 use Rattle.acpi_dump_lib.proofs.run.print_two.Goals as goal
 
 pub returns-in-Some : goal.returns-in-Some
