@@ -1,5 +1,5 @@
 -- What one entry of the MADT says of interrupts and processors (ACPI 6.4, section 5.2.12).
-use Rattle.std.specs.Prelude.{ℕ, ◌==◌, Option, Some, None, Result, Ok, Err, if◌then◌else◌}
+use Rattle.std.specs.Prelude.{ℕ, ◌==◌, ◌&&◌, Bool, nat_le, Option, Some, None, Result, Ok, Err, if◌then◌else◌}
 use Rattle.acpi_base.specs.FromStd.{result_err, result_unwrap_or}
 use Rattle.acpi_base.specs.Bits.{bits_of, has_bit}
 use Rattle.acpi_base.specs.Codes.{all_apics, all_x2apics, line_of, polarity_for, processor_for, trigger_for}
@@ -17,6 +17,11 @@ polarity_of flags = polarity_for (bits_of flags 0 2)
 -- Trigger Mode: bits 2 and 3 of them
 abbrev pub trigger_mode_of : ℕ → Result TriggerMode MadtError
 trigger_mode_of flags = trigger_for (bits_of flags 2 2)
+
+-- Online Capable: bit 1 of the Local APIC Flags of a MADT of this revision (sections 5.2.12.2 and 5.2.12.12). It came
+-- with ACPI 6.3, which is revision 5, and is reserved below
+abbrev pub online_capable : ℕ → ℕ → Bool
+online_capable revision flags = nat_le 5 revision && has_bit flags 1
 
 -- why these flags are refused, if they are: Polarity is tested before Trigger Mode
 abbrev pub flags_fault : ℕ → Option MadtError

@@ -16,7 +16,7 @@ pub use Rattle.acpi_base.specs.Extended.{extended_at, held_of, shown_of}
 pub use Rattle.acpi_base.specs.Guarded.{guarded_by, listed_by}
 pub use Rattle.acpi_base.specs.Header.{check_ids, check_signature}
 unfoldable pub use Rattle.acpi_base.specs.Header.{check_names, check_table, header_at}
-pub use Rattle.acpi_base.specs.Interrupts.{flags_fault, io_apic_of, nmi_line_of, nmi_source_of, override_fault, override_of, polarity_of, trigger_mode_of, unless_fault}
+pub use Rattle.acpi_base.specs.Interrupts.{flags_fault, io_apic_of, nmi_line_of, nmi_source_of, online_capable, override_fault, override_of, polarity_of, trigger_mode_of, unless_fault}
 unfoldable pub use Rattle.acpi_base.specs.Interrupts.{item_of}
 pub use Rattle.acpi_base.specs.Isa.{SharedByOverrides, goes_to, is_taken, isa_interrupt, leads_to, override_for, sci_interrupt, straight, wired}
 pub use Rattle.acpi_base.specs.IsaOverrides.{AreCounted, Gathered, IsGathered}

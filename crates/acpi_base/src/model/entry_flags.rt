@@ -1,12 +1,19 @@
 //! The flags of a MADT's entries by name, so that no caller masks bits (section 5.2.12).
 ghost use Rattle.std.specs.Prelude.{◌≡◌};
-ghost use Rattle.acpi_base.specs.Words.{has_bit, polarity_of, trigger_mode_of};
+ghost use Rattle.acpi_base.specs.Words.{has_bit, online_capable, polarity_of, trigger_mode_of};
 
 use super::interrupt::{Polarity, TriggerMode};
 use super::item::{polarity_of, trigger_mode_of};
 use crate::bytes::has_bit;
 use crate::error::MadtError;
 use crate::tables::madt::{LocalApicEntry, LocalApicNmiEntry, LocalX2ApicEntry, X2ApicNmiEntry};
+
+/// Online Capable in the Local APIC Flags of a table of a revision.
+fn online_capable(flags: u32, revision: u8) -> bool
+    ensures { result ≡ online_capable revision flags }
+{
+    revision >= 5 && has_bit(flags as u64, 1) // Online Capable, since ACPI 6.3
+}
 
 impl LocalApicEntry {
     /// Enabled (bit 0 of the flags, section 5.2.12.2): whether the processor can be used.
@@ -17,11 +24,11 @@ impl LocalApicEntry {
     }
 
     /// Online Capable (bit 1 of the flags, section 5.2.12.2): whether the processor can be enabled later, if
-    /// it isn't now. The bit has a meaning from revision 5 of the MADT on, and is reserved before.
-    pub fn is_online_capable(&self) -> bool
-        ensures { result ≡ has_bit self.now.flags 1 }
+    /// it isn't now. `revision` is the MADT's: below 5, where the bit is reserved, it is false.
+    pub fn is_online_capable(&self, revision: u8) -> bool
+        ensures { result ≡ online_capable revision self.now.flags }
     {
-        has_bit(self.flags as u64, 1) // Online Capable
+        online_capable(self.flags, revision)
     }
 }
 
@@ -34,11 +41,11 @@ impl LocalX2ApicEntry {
     }
 
     /// Online Capable (bit 1 of the flags, section 5.2.12.12): whether the processor can be enabled later, if
-    /// it isn't now. The bit has a meaning from revision 5 of the MADT on, and is reserved before.
-    pub fn is_online_capable(&self) -> bool
-        ensures { result ≡ has_bit self.now.flags 1 }
+    /// it isn't now. `revision` is the MADT's: below 5, where the bit is reserved, it is false.
+    pub fn is_online_capable(&self, revision: u8) -> bool
+        ensures { result ≡ online_capable revision self.now.flags }
     {
-        has_bit(self.flags as u64, 1) // Online Capable
+        online_capable(self.flags, revision)
     }
 }
 

@@ -1,6 +1,6 @@
 //! The entries of a MADT, its fixed fields, and the models of the interrupts that it describes.
 //!
-//! - `entries`: the first entries and what their flags say, then whether they have ended malformed before the first one
+//! - `entries`: the first entries and their flags, then whether they have ended malformed before the first one
 //!   is asked for, how many there are, and whether they have after the last one; `steps`: whether they have before each
 //!   of four steps, and whether the step gives an entry;
 //! - `trace_interrupt REVISION`: that of the trace buffer in the first entry, as a table of this revision has it;
@@ -18,6 +18,7 @@ use acpi::handler::MappedRegion;
 use acpi::platform::interrupt::{Apic, InterruptModel};
 use acpi::{PhysicalMapping, PhysicalRecord};
 use acpi_arm::gic::GicModel;
+use acpi_base::bytes::field;
 use acpi_base::madt::{Madt, MadtEntry, MadtEntryIter};
 use linked_list_allocator::LocalHeap;
 use std::alloc::Allocator;
@@ -42,25 +43,26 @@ pub(super) fn answer(out: Out<'_>, bytes: &[u8], call: &str, rest: &str) {
 }
 
 fn entries(out: Out<'_>, bytes: &[u8]) {
+    let revision = field(bytes, 8, 1) as u8; // Revision
     let mut entries = MadtEntryIter::over(bytes);
     let before = entries.ended_malformed();
     let mut count = 0u32;
     for entry in entries.by_ref() {
         if count < 16 {
             out.show(&entry);
-            flags(out, &entry);
+            flags(out, &entry, revision);
         }
         count = count.wrapping_add(1);
     }
     out.show(&(before, count, entries.ended_malformed()));
 }
 
-/// What the flags of an entry say: of a processor whether it is enabled and whether it can be enabled
-/// later, of a local NMI its polarity and its trigger mode.
-fn flags(out: Out<'_>, entry: &MadtEntry) {
+/// The flags of an entry in a table of a revision: of a processor whether it is enabled and whether it
+/// can be enabled later, of a local NMI its polarity and its trigger mode.
+fn flags(out: Out<'_>, entry: &MadtEntry, revision: u8) {
     match entry {
-        MadtEntry::LocalApic(it) => out.show(&(it.is_enabled(), it.is_online_capable())),
-        MadtEntry::LocalX2Apic(it) => out.show(&(it.is_enabled(), it.is_online_capable())),
+        MadtEntry::LocalApic(it) => out.show(&(it.is_enabled(), it.is_online_capable(revision))),
+        MadtEntry::LocalX2Apic(it) => out.show(&(it.is_enabled(), it.is_online_capable(revision))),
         MadtEntry::LocalApicNmi(it) => out.show(&(it.polarity(), it.trigger_mode())),
         MadtEntry::X2ApicNmi(it) => out.show(&(it.polarity(), it.trigger_mode())),
         _ => {}
