@@ -1,8 +1,8 @@
 -- What the entries of a MADT that describes APICs say, each by itself (ACPI 6.4, section 5.2.12): what another entry
 -- says, or why the strict model refuses it, changes nothing.
-use Rattle.std.specs.Prelude.{ℕ, ◌==◌, ◌&&◌, Bool, true, false, nat_le, List, [], ◌∷◌, Option, Some, None, Result, Ok, if◌then◌else◌, filter_map}
+use Rattle.std.specs.Prelude.{ℕ, ◌==◌, Bool, true, false, List, [], ◌∷◌, Option, Some, None, Result, Ok, if◌then◌else◌, filter_map}
 use Rattle.acpi_base.specs.FromStd.{list_any}
-use Rattle.acpi_base.specs.Words.{all_apics, all_x2apics, bits_of, field_of, has_bit, entries_of, mailbox_of, ◌>>=◌, holds}
+use Rattle.acpi_base.specs.Words.{all_apics, all_x2apics, bits_of, field_of, has_bit, entries_of, mailbox_of, online_capable, ◌>>=◌, holds}
 pub use Rattle.acpi.specs.Types.{MadtEntry}
 use Rattle.acpi_base.specs.declared.tables.madt.entry.MadtEntry.TheVariants as entry
 use Rattle.acpi.specs.Words.{madt_kind}
@@ -52,15 +52,14 @@ below_apics s show = result_map show (apic_entries s)
 
 -- ---- processors (sections 5.2.12.2 and 5.2.12.12)
 
--- a processor that waits, if it is enabled, in a table of a revision. Flags (Local APIC Flags): bit 0 Enabled, bit 1
--- Online Capable, which came with ACPI 6.3, revision 5 of the MADT, and is reserved below
+-- a processor that waits, if it is enabled, in a table of a revision. Bit 0 of Flags (Local APIC Flags) is Enabled
 abbrev pub processor : ℕ → Bool → ℕ → ℕ → ℕ → records.Processor
 processor revision is_x2apic uid id flags = record {
   uid = uid;
   local_apic_id = id;
   state = flag (has_bit flags 0);
   is_boot = 0;
-  is_online_capable = flag (nat_le 5 revision && has_bit flags 1);
+  is_online_capable = flag (online_capable revision flags);
   is_x2apic = flag is_x2apic;
 }
 

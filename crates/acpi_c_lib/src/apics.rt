@@ -2,7 +2,7 @@
 ghost use Rattle.std.specs.Prelude.{◌≡◌, Option, length, filter_map};
 ghost use Rattle.acpi_base.specs.FromStd.{list_any};
 ghost use Rattle.acpi_base.specs.Words.{entries_of, bytes_of, entries_left, Gives};
-ghost use Rattle.acpi_c_lib.specs.Words.{Fills, Writes, put_from, MadtEntry, apic_table, below_apics, boot_first, booted, io_apic_in, is_of_apics, mailbox_below, nmi_line, nmi_line_in, nmi_source_in, override_in, processor, processor_in, processors_below, processors_of, mapped_memory, lists_some, memory_in};
+ghost use Rattle.acpi_c_lib.specs.Words.{Fills, Writes, put_from, MadtEntry, apic_table, below_apics, boot_first, booted, io_apic_in, is_of_apics, mailbox_below, nmi_line, nmi_line_in, nmi_source_in, override_in, processor_in, processors_below, processors_of, mapped_memory, lists_some, memory_in};
 
 use crate::interrupt_records::{InterruptSourceOverride, IoApic, NmiLine, NmiSource, Processor};
 use crate::lists::{Listing, fill};
@@ -13,7 +13,7 @@ use crate::regions::Mapped;
 use acpi::PhysicalMapping;
 use acpi::madt::Madt;
 use acpi::platform::interrupt::NmiProcessor;
-use acpi_base::bytes::{bits, field, has_bit};
+use acpi_base::bytes::{bits, field};
 use acpi_base::madt::{MadtEntry, MadtEntryIter};
 
 /// Where the mailbox lies by which processors are woken, by the first valid MADT (section 5.2.12.19).
@@ -170,35 +170,28 @@ impl Listing<u8, Processor> for MadtEntryIter<'_> {
     }
 }
 
-/// The processor that an entry describes in a table of a revision, if it describes one.
+/// The processor that an entry describes in a table of a revision, if it describes one. It waits if it is enabled.
 pub(crate) fn processor_in(revision: u8, entry: &MadtEntry) -> Option<Processor>
     ensures { result ≡ processor_in revision entry.now }
 {
     match entry {
-        MadtEntry::LocalApic(e) => {
-            let uid = e.processor_id as u32;
-            Some(processor(revision, false, uid, e.apic_id as u32, e.flags))
-        }
-        MadtEntry::LocalX2Apic(e) => {
-            Some(processor(revision, true, e.processor_uid, e.x2apic_id, e.flags))
-        }
+        MadtEntry::LocalApic(e) => Some(Processor {
+            uid: e.processor_id as u32,
+            local_apic_id: e.apic_id as u32,
+            state: e.is_enabled() as u8,
+            is_boot: 0,
+            is_online_capable: e.is_online_capable(revision) as u8,
+            is_x2apic: 0,
+        }),
+        MadtEntry::LocalX2Apic(e) => Some(Processor {
+            uid: e.processor_uid,
+            local_apic_id: e.x2apic_id,
+            state: e.is_enabled() as u8,
+            is_boot: 0,
+            is_online_capable: e.is_online_capable(revision) as u8,
+            is_x2apic: 1,
+        }),
         _ => None,
-    }
-}
-
-/// A processor that waits, if it is enabled, in a table of a revision.
-fn processor(revision: u8, is_x2apic: bool, uid: u32, local_apic_id: u32, flags: u32) -> Processor
-    ensures { result ≡ processor revision is_x2apic uid local_apic_id flags }
-{
-    // Online Capable, since ACPI 6.3.
-    let is_online_capable = revision >= 5 && has_bit(flags as u64, 1);
-    Processor {
-        uid,
-        local_apic_id,
-        state: has_bit(flags as u64, 0) as u8, // Enabled
-        is_boot: 0,
-        is_online_capable: is_online_capable as u8,
-        is_x2apic: is_x2apic as u8,
     }
 }
 
