@@ -77,22 +77,6 @@ pub struct ValidTable<'h, H: Lender> {
 }
 
 impl<'h, H: Lender> ValidTable<'h, H> {
-    /// So many bytes at a physical address, of which the caller says that they are a table to be taken for valid.
-    ///
-    /// Fails with `MapFailed` if they don't lie whole inside one region.
-    pub fn trusted(handler: &'h H, address: u64, size: usize) -> AcpiResult<Self>
-        requires some { 0 < size }
-        requires asked { H.may handler.now address size ≡ true }
-        ensures place { IfOk result (λ v. claimed_at v.claim ≡ address) }
-        ensures handler { IfOk result (λ v. claimed_from v.claim ≡ handler.now) }
-        ensures size { IfOk result (λ v. length (shown_by v.claim) ≡ size) }
-        ensures lent { IfOk result (λ v. IsLentOf (H.memory handler.now) v.claim) }
-        ensures shown { Gives (λ v. shown_by v.claim) result (lent (H.memory handler.now) address size) }
-    {
-        let claim = Claim::request(handler, address, size)?;
-        Ok(ValidTable { claim })
-    }
-
     /// The mapping of these bytes: the table's record, and its bytes.
     #[inline(always)]
     pub fn mapping<T: PhysicalRecord>(self) -> PhysicalMapping<'h, H, T>
