@@ -89,28 +89,21 @@ impl GenericAddress {
     /// The register that the twelve bytes of a Generic Address Structure encode: Address Space ID, Register
     /// Bit Width, Register Bit Offset and Access Size in one byte each, then Address (section 5.2.3.2).
     ///
-    /// Refuses a reserved code of the space, or else of the access size, with
+    /// Fails for a reserved code of the space, or else of the access size, with
     /// `InvalidGenericAddress`.
+    #[inline(always)]
+    #[tactic(auto, unfolding(crate::specs::Address::generic_address_of))]
     pub fn from_raw(raw: RawAddress) -> AcpiResult<GenericAddress>
         ensures { result ≡ generic_address_of raw }
     {
-        GenericAddress::read_raw(&raw)
-    }
-
-    /// The register that these bytes encode, where they are: `from_raw` without a copy of them.
-    #[inline(always)]
-    #[tactic(auto, unfolding(crate::specs::Address::generic_address_of))]
-    pub fn read_raw(raw: &RawAddress) -> AcpiResult<GenericAddress>
-        ensures { result ≡ generic_address_of raw.now }
-    {
-        let address_space = AddressSpace::try_from(u8_in(raw, 0))?; // Address Space ID
-        let access_size = AccessSize::try_from(u8_in(raw, 3))?; // Access Size
+        let address_space = AddressSpace::try_from(u8_in(&raw, 0))?; // Address Space ID
+        let access_size = AccessSize::try_from(u8_in(&raw, 3))?; // Access Size
         Ok(GenericAddress {
             address_space,
-            bit_width: u8_in(raw, 1), // Register Bit Width
-            bit_offset: u8_in(raw, 2), // Register Bit Offset
+            bit_width: u8_in(&raw, 1), // Register Bit Width
+            bit_offset: u8_in(&raw, 2), // Register Bit Offset
             access_size,
-            address: field_in(raw, 4, 8), // Address
+            address: field_in(&raw, 4, 8), // Address
         })
     }
 }

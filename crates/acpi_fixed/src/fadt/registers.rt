@@ -147,7 +147,7 @@ pub(crate) fn register_from(raw: Option<&RawAddress>) -> AcpiResult<Option<Gener
     ensures { result ≡ register_of (option_map (λ raw. raw.now) raw.entry) }
 {
     match raw {
-        Some(raw) => Ok(Some(GenericAddress::read_raw(raw)?)),
+        Some(raw) => Ok(Some(GenericAddress::from_raw(*raw)?)),
         None => Ok(None),
     }
 }
@@ -279,7 +279,7 @@ impl<'t> BlockFields<'t> {
         ensures { result ≡ block_or_ports (extended_of self.entry) self.entry.port self.entry.size }
     {
         match self.extended {
-            Some(raw) => GenericAddress::read_raw(raw),
+            Some(raw) => GenericAddress::from_raw(*raw),
             None => self.ports(),
         }
     }
