@@ -1,4 +1,4 @@
--- The tables that a caller accepts: each that is valid, and each that fails only checks which the caller gives up.
+-- The tables that a caller accepts: each that is valid, and each that fails only checks which the caller skips.
 use Rattle.std.specs.Prelude.{◌≡◌, ℕ, ◌≤◌, ◌==◌, Bool, false, List, Result, Ok, if◌then◌else◌}
 use Rattle.acpi_base.specs.Types.{AcpiError, SdtHeader, SdtInvalidChecksum, Signature}
 use Rattle.acpi_base.specs.Bits.{has_bit}
@@ -21,7 +21,7 @@ loosened any_sum any_ids k = record {
   check = if any_sum then (λ _. Ok tt) else if any_ids then check_sum_alone k.signature else k.check;
 }
 
--- a kind with the checks that are left by the bits of `accept`: bit 0 gives up the sum, bit 1 the ids
+-- a kind with the checks that are left by the bits of `accept`: bit 0 skips the sum, bit 1 the ids
 abbrev pub accepted : ℕ → Kind → Kind
 accepted accept k = loosened (has_bit accept 0) (has_bit accept 1) k
 
@@ -46,12 +46,12 @@ abbrev pub AcceptsValid : Type 0
 AcceptsValid = (accept : ℕ) (m : Memory) (s : Signature) (least p : ℕ) (table : List ℕ) → 36 ≤ least
     → table_at m (sdt_kind s least) p ≡ Ok table → table_at m (accepted accept (sdt_kind s least)) p ≡ Ok table
 
--- the sum is checked unless bit 0 gives it up, whatever bit 1 is
+-- the sum is checked unless bit 0 skips it, whatever bit 1 is
 abbrev pub KeepsSums : Type 0
 KeepsSums = (accept : ℕ) (m : Memory) (s : Signature) (least p : ℕ) (table : List ℕ) → 36 ≤ least
     → has_bit accept 0 ≡ false → table_at m (accepted accept (sdt_kind s least)) p ≡ Ok table → sum_of table ≡ 0
 
--- the names are checked unless bit 1 gives the ids up, whatever bit 0 is
+-- the names are checked unless bit 1 skips the ids, whatever bit 0 is
 abbrev pub KeepsNames : Type 0
 KeepsNames = (accept : ℕ) (m : Memory) (s : Signature) (least p : ℕ) (table : List ℕ) → 36 ≤ least
     → has_bit accept 1 ≡ false → table_at m (accepted accept (sdt_kind s least)) p ≡ Ok table

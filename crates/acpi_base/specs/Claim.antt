@@ -4,23 +4,23 @@ use Rattle.acpi_base.specs.Memory.{Memory, at}
 use Rattle.acpi_base.specs.Table.{Kind}
 use Rattle.acpi_base.specs.declared.memory.claim.Claim.{Claim}
 
--- where the lent bytes start
+-- where the mapped bytes start
 abbrev pub claimed_at : {H h : _} → Claim H h → ℕ
 claimed_at c = c.start
 
--- all the bytes that were lent
+-- all the mapped bytes
 abbrev pub all_of : {H h : _} → Claim H h → List ℕ
 all_of c = c.lent.now
 
--- those of them that are shown
+-- the ones of them that are shown
 abbrev pub shown_by : {H h : _} → Claim H h → List ℕ
 shown_by c = take c.region_length c.lent.now
 
--- the handler that lent them
+-- the handler that maps them
 abbrev pub claimed_from : {H h : _} → Claim H h → H
 claimed_from c = c.handler.now
 
--- however many bytes were lent, all of them are the memory's
+-- however many bytes are mapped, all of them are the memory's
 abbrev pub IsLentOf : {H h : _} → Memory → Claim H h → Type 0
 IsLentOf m c = at m (claimed_at c) (length (all_of c)) ≡ Some (all_of c)
 
@@ -28,8 +28,8 @@ IsLentOf m c = at m (claimed_at c) (length (all_of c)) ≡ Some (all_of c)
 abbrev pub unchecked : Kind → Kind
 unchecked k = record { signature = k.signature; least = k.least; names = k.names; check = λ _. Ok tt }
 
--- it shows at least so many bytes and fewer than 2^32, at the place and from the handler of the claim of their header,
--- all that was lent is the memory's, and they end below 2^64
+-- it shows at least this number of bytes and fewer than 2^32, at the place and from the handler of the claim of their
+-- header, all mapped bytes are the memory's, and they end below 2^64
 abbrev pub IsWholeClaim : {H h : _} → Memory → Claim H h → ℕ → Claim H h → Type 0
 IsWholeClaim m head least c =
     (claimed_at c ≡ claimed_at head) × (claimed_from c ≡ claimed_from head) × IsLentOf m c

@@ -1,4 +1,4 @@
--- Codes: the number by which a table gives each value of an enumeration, and the value of a number (ACPI 6.4).
+-- Codes: the number by which a table encodes each value of an enumeration, and the value of a number (ACPI 6.4).
 use Rattle.std.specs.Prelude.{◌≡◌, ℕ, ◌==◌, ◌||◌, Bool, true, nat_le, nat_lt, List, [], ◌∷◌, find, slice_index_or, Result, Ok, Err, if◌then◌else◌, ok_or}
 use Rattle.acpi_base.specs.Types.{AcpiError, InvalidGenericAddress, MadtError, InvalidLocalNmiLine, MpsIntiInvalidPolarity, MpsIntiInvalidTriggerMode, AddressSpace, SystemMemory, SystemIo, PciConfigSpace, EmbeddedController, SMBus, SystemCmos, PciBarTarget, Ipmi, GeneralIo, GenericSerialBus, PlatformCommunicationsChannel, FunctionalFixedHardware, OemDefined, AccessSize, Undefined, ByteAccess, WordAccess, DWordAccess, QWordAccess, LocalInterruptLine, Lint0, Lint1, NmiProcessor, All, ProcessorUid, Polarity, TriggerMode, SpcrInterfaceType}
 use Rattle.acpi_base.specs.declared.model.interrupt.Polarity.TheVariants as polarity
@@ -46,14 +46,14 @@ local_lines = Lint0 ∷ Lint1 ∷ []
 abbrev pub line_of : ℕ → Result LocalInterruptLine MadtError
 line_of code = decoded line_code local_lines InvalidLocalNmiLine code
 
--- ACPI Processor UID: the one that stands for all processors in a Local APIC NMI, and in a Local x2APIC NMI
+-- ACPI Processor UID: the one that means all processors in a Local APIC NMI, and in a Local x2APIC NMI
 abbrev pub all_apics : ℕ
 all_apics = 0xff
 
 abbrev pub all_x2apics : ℕ
 all_x2apics = 0xffffffff
 
--- the UID of a processor, and the processor of a UID, if `all` stands for all of them
+-- the UID of a processor, and the processor of a UID, if `all` means all of them
 abbrev pub uid_code : ℕ → NmiProcessor → ℕ
 uid_code all All = all
 uid_code all (ProcessorUid uid) = uid
@@ -157,7 +157,7 @@ is_interface _ = true
 
 -- ---- laws
 
--- a code is decoded to the one value that has it, or refused with this error if none has; `is_value` leaves out values
+-- a code is decoded to the one value that has it, or to this error if none has; `is_value` leaves out values
 -- whose code is another's
 pub record IsInverse {A : Type 0} {E : Type 0} (is_value : A → Bool) (code_of : A → ℕ) (decode : ℕ → Result A E)
     (refusal : E) : Type 0 where

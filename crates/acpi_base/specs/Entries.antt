@@ -1,5 +1,5 @@
 -- How a table's bytes are cut into entries, each of which has its type and its length near its front.
--- What tables differ in is a value, a grammar: where the type and the length stand, the least length
+-- What tables differ in is a value, a grammar: where the type and the length are, the least length
 -- of each type, and how many entries there are at most.
 use Rattle.std.specs.Prelude.{◌≡◌, ℕ, zero, suc, ◌+◌, ◌-◌, ◌*◌, ◌≤◌, ◌&&◌, Bool, true, false, List, [], ◌∷◌, ◌++◌, length, take, drop, Option, Some, None, nat_le, if◌then◌else◌, slice_index, slice_index_or, option_map, unwrap_or}
 use Rattle.acpi_base.specs.FromStd.{concat, AllByRecursion}
@@ -79,11 +79,11 @@ is_full (Some (suc more)) = false
 unfoldable pub next_front : {n : ℕ} → Grammar n → List ℕ → Option ℕ
 next_front g bytes = if is_full g.most then None else front g.layout bytes
 
--- an entry before those that follow it
+-- an entry before the ones that follow it
 abbrev pub with_entry : List ℕ → List (List ℕ) × List ℕ → List (List ℕ) × List ℕ
 with_entry e others = (e ∷ others.0, others.1)
 
--- at most that many pieces, each as long as `size` gives for the bytes from it on, and the bytes after them
+-- at most that many pieces, each as long as `size` is of the bytes from it on, and the bytes after them
 abbrev pub cut_by : (List ℕ → Option ℕ) → ℕ → List ℕ → List (List ℕ) × List ℕ
 cut_by size zero bytes = ([], bytes)
 cut_by size (suc most) bytes = elim (size bytes) [
@@ -95,6 +95,6 @@ cut_by size (suc most) bytes = elim (size bytes) [
 unfoldable pub cut : {n : ℕ} → Grammar n → List ℕ → List (List ℕ) × List ℕ
 cut g bytes = cut_by (front g.layout) (unwrap_or g.most (length bytes)) bytes
 
--- the grammar of those that follow one entry: one less may come
+-- the grammar of the entries that follow one: one less may come
 abbrev pub after_one : {n : ℕ} → Grammar n → Grammar n
 after_one g = record { layout = g.layout; most = option_map (λ most. most - 1) g.most }

@@ -1,4 +1,4 @@
--- How a refusal is printed.
+-- How an error is printed.
 use Rattle.std.specs.Prelude.{ℕ, List, ◌++◌, codes}
 use Rattle.acpi_base.specs.Types.{AcpiError, MadtError}
 use Rattle.acpi_base.specs.declared.error.AcpiError.TheVariants as refusal
@@ -16,7 +16,7 @@ madt_error_text madt.MpsIntiInvalidTriggerMode = codes "MpsIntiInvalidTriggerMod
 madt_error_text madt.WakeupApsTimeout = codes "WakeupApsTimeout"
 madt_error_text madt.InvalidEntryLength = codes "InvalidEntryLength"
 
--- the variant's name, and after a space what it carries
+-- the variant's name, and after a space what it contains
 abbrev pub error_text : AcpiError → List ℕ
 error_text refusal.NoValidRsdp = codes "NoValidRsdp"
 error_text refusal.RsdpIncorrectSignature = codes "RsdpIncorrectSignature"

@@ -3,7 +3,7 @@ use Rattle.std.specs.Prelude.{ℕ, ◌+◌, nat_le, List, length, Option, Some, 
 use Rattle.acpi_base.specs.Bytes.{part}
 use Rattle.acpi_base.specs.Types.{ExtendedField}
 
--- the n bytes at an offset, if all of them lie in the table
+-- the n bytes at an offset, if all of them are in the table
 abbrev pub whole_part : List ℕ → ℕ → ℕ → Option (List ℕ)
 whole_part bytes offset n =
     if nat_le (offset + n) (length bytes) then Some (part bytes offset n) else None

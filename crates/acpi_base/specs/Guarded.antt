@@ -6,6 +6,6 @@ use Rattle.acpi_base.specs.Types.{Guarded}
 abbrev pub guarded_by : {H : Type 0} → Guarded H → H
 guarded_by g = g.handler.now
 
--- the ranges that it may be asked for
+-- the ranges that may be requested of it
 abbrev pub listed_by : {H : Type 0} → Guarded H → Ranges
 listed_by g = g.ranges.now

@@ -29,13 +29,13 @@ check_ids s h = do
   _ ← holds (is_utf8 h.oem_id) (SdtInvalidOemId s)
   holds (is_utf8 h.oem_table_id) (SdtInvalidTableId s)
 
--- the names are those that a table of this signature may have
+-- the names are as a table of this signature has to have them
 unfoldable pub check_names : Signature → SdtHeader → Result (Unit {0}) AcpiError
 check_names s h = do
   _ ← check_signature s h
   check_ids s h
 
--- what `SdtHeader::validate` returns: the names, then Length, which lies at 4, then the sum of that many bytes
+-- what `SdtHeader::validate` returns: the names, then Length, which is at 4, then the sum of that many bytes
 unfoldable pub check_table : Signature → List ℕ → Result (Unit {0}) AcpiError
 check_table s b = do
   _ ← check_names s (header_at b)

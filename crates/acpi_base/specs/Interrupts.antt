@@ -1,4 +1,4 @@
--- What one entry of the MADT says of interrupts and processors (ACPI 6.4, section 5.2.12).
+-- What one entry of the MADT contains of interrupts and processors (ACPI 6.4, section 5.2.12).
 use Rattle.std.specs.Prelude.{ℕ, ◌==◌, ◌&&◌, Bool, nat_le, Option, Some, None, Result, Ok, Err, if◌then◌else◌}
 use Rattle.acpi_base.specs.FromStd.{result_err, result_unwrap_or}
 use Rattle.acpi_base.specs.Bits.{bits_of, has_bit}
@@ -23,7 +23,7 @@ trigger_mode_of flags = trigger_for (bits_of flags 2 2)
 abbrev pub online_capable : ℕ → ℕ → Bool
 online_capable revision flags = nat_le 5 revision && has_bit flags 1
 
--- why these flags are refused, if they are: Polarity is tested before Trigger Mode
+-- what is wrong with these flags, if something is: Polarity is tested before Trigger Mode
 abbrev pub flags_fault : ℕ → Option MadtError
 flags_fault flags = result_err (do
   _ ← polarity_of flags
@@ -68,8 +68,9 @@ abbrev pub unless_fault : Option MadtError → MadtItem → Result MadtItem Madt
 unless_fault (Some fault) item = Err fault
 unless_fault None item = Ok item
 
--- what an entry says, or why it is refused: the types of SAPICs (Platform Interrupt Sources among them) and of the GIC
--- always are. Enabled is bit 0 of the Local APIC Flags (section 5.2.12.2), which a Processor Local x2APIC has too
+-- what an entry contains, or what is wrong with it: the types of SAPICs (Platform Interrupt Sources among them) and of
+-- the GIC are always errors. Enabled is bit 0 of the Local APIC Flags (section 5.2.12.2), which a Processor Local
+-- x2APIC has too
 unfoldable pub item_of : MadtEntry → Result MadtItem MadtError
 item_of (variants.LocalApic e) = Ok (item.Processor e.processor_id e.apic_id (has_bit e.flags 0))
 item_of (variants.LocalX2Apic e) = Ok (item.Processor e.processor_uid e.x2apic_id (has_bit e.flags 0))

@@ -35,7 +35,7 @@ trigger_mode_or bus trigger.SameAsBus = bus
 trigger_mode_or bus trigger.Edge = trigger.Edge
 trigger_mode_or bus trigger.Level = trigger.Level
 
--- the interrupt that an override gives, on a bus of this polarity and this trigger mode
+-- the interrupt that an override leads to, on a bus of this polarity and this trigger mode
 abbrev pub wired : Polarity → TriggerMode → InterruptSourceOverride → IsaInterrupt
 wired polarity trigger_mode o = record {
   global_system_interrupt = o.global_system_interrupt;

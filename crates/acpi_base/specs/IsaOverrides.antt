@@ -1,4 +1,4 @@
--- What Interrupt Source Overrides say of the ISA interrupts (ACPI 6.4, section 5.2.12.5).
+-- How Interrupt Source Overrides wire the ISA interrupts (ACPI 6.4, section 5.2.12.5).
 use Rattle.std.specs.Prelude.{◌≡◌, ℕ, ◌<◌, ◌≤◌, ◌==◌, List, Option, None, count_by, slice_index, slice_index_or}
 use Rattle.acpi_base.specs.Types.{InterruptSourceOverride}
 use Rattle.acpi_base.specs.Isa.{leads_to, override_for}

@@ -45,7 +45,7 @@ madt_layout = record {
 abbrev pub madt_grammar : Grammar 17
 madt_grammar = record { layout = madt_layout; most = None }
 
--- what an entry says; nothing if its type is after the last one
+-- what an entry contains; nothing if its type is after the last one
 abbrev pub entry_of : List ℕ → Option MadtEntry
 entry_of e = option_map (λ k. k.1 e) (slice_get entry_types (slice_index e 0))
 
@@ -70,12 +70,12 @@ madt_at b = record {
 
 -- ---- the mailbox
 
--- MailBoxAddress: the address of a mailbox, if an entry gives one
+-- MailBoxAddress: the address of a mailbox, if an entry has one
 abbrev pub mailbox_in : MadtEntry → Option ℕ
 mailbox_in (variants.MultiprocessorWakeup wakeup) = Some wakeup.mailbox_address
 mailbox_in _ = None
 
--- why the entries gave no mailbox: they ended before the table did, or there is none
+-- why the entries have no mailbox: they ended before the table did, or there is none
 abbrev pub no_mailbox : List ℕ → MadtError
 no_mailbox [] = UnexpectedEntry
 no_mailbox (b ∷ rest) = InvalidEntryLength

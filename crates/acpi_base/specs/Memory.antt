@@ -1,4 +1,4 @@
--- Memory: regions of bytes, and what is lent of it.
+-- Memory: regions of bytes, and what can be mapped of it.
 use Rattle.std.specs.Prelude.{◌≡◌, ℕ, ◌+◌, ◌-◌, ◌^◌, ◌<◌, ◌≤◌, ◌&&◌, Bool, List, [], ◌∷◌, length, take, drop, Option, Some, None, nat_lt, nat_le, if◌then◌else◌, true}
 use Rattle.acpi_base.specs.FromStd.{AllByRecursion, AllByRecursion-prop, ×_prop, Π_prop, →_prop, Unit-prop, le_prop}
 use Rattle.acpi_base.specs.Bytes.{IsBytes}
@@ -15,7 +15,7 @@ Memory = List Region
 abbrev pub end_of : Region → ℕ
 end_of r = r.start + length r.bytes
 
--- whether an address lies in a region
+-- whether an address is in a region
 abbrev pub lies_in : Region → ℕ → Bool
 lies_in r a = nat_le r.start a && nat_lt a (end_of r)
 
@@ -23,7 +23,7 @@ lies_in r a = nat_le r.start a && nat_lt a (end_of r)
 abbrev pub IsRegion : Region → Type 0
 IsRegion r = (end_of r < 2 ^ 64) × IsBytes r.bytes
 
--- no address lies in both
+-- no address is in both
 abbrev pub AreApart : Region → Region → Type 0
 AreApart r s = (a : ℕ) → lies_in r a ≡ true → lies_in s a ≡ true → ⊥
 
@@ -32,17 +32,17 @@ abbrev pub IsMemory : Memory → Type 0
 IsMemory [] = Unit {0}
 IsMemory (r ∷ m) = IsRegion r × (AllByRecursion (AreApart r) m × IsMemory m)
 
--- the bytes from an address to the end of the region that it lies in
+-- the bytes from an address to the end of the region that it is in
 unfoldable pub rest_from : Memory → ℕ → List ℕ
 rest_from [] a = []
 rest_from (r ∷ m) a = if lies_in r a then drop (a - r.start) r.bytes else rest_from m a
 
--- the n bytes from an address, if the whole range lies in one region: two regions that adjoin are still two, and a
--- range across their border is not lent. What to believe is the law `LentIsInside` (`Laws`)
+-- the n bytes from an address, if the whole range is in one region: two regions that adjoin are still two, and a
+-- range across their border is not mapped. What to believe is the law `LentIsInside` (`Laws`)
 unfoldable pub at : Memory → ℕ → ℕ → Option (List ℕ)
 at m a n = if nat_le n (length (rest_from m a)) then Some (take n (rest_from m a)) else None
 
--- the range of n bytes from an address lies whole in this region, which has these bytes there
+-- the range of n bytes from an address is all in this region, which has these bytes there
 pub record HoldsRange (r : Region) (a n : ℕ) (bytes : List ℕ) : Type 0 where
   pub starts : r.start ≤ a
   pub ends : a + n ≤ end_of r

@@ -1,4 +1,4 @@
--- The interrupt model: what the entries of the MADT say together (ACPI 6.4, section 5.2.12).
+-- The interrupt model: what the entries of the MADT contain together (ACPI 6.4, section 5.2.12).
 use Rattle.std.specs.Prelude.{◌≡◌, ℕ, Bool, true, false, List, [], ◌∷◌, Option, Some, None, Result, Ok, Err, IsTrue, if◌then◌else◌, filter_map}
 use Rattle.acpi_base.specs.FromStd.{list_any, result_err, result_ok}
 use Rattle.acpi_base.specs.Bits.{has_bit}
@@ -8,13 +8,13 @@ use Rattle.acpi_base.specs.Types.{AcpiError, InvalidMadt, MadtError, InvalidEntr
 use Rattle.acpi_base.specs.declared.model.interrupt.InterruptModel.TheVariants as model
 use Rattle.acpi_base.specs.declared.model.item.MadtItem.TheVariants as item
 
--- ---- refusals
+-- ---- errors
 
--- why an entry is refused, if it is
+-- what is wrong with an entry, if something is
 abbrev pub fault_in : MadtEntry → Option MadtError
 fault_in e = result_err (item_of e)
 
--- the first refusal: of an entry, or of the rest in which none begins
+-- the first error: of an entry, or of the rest in which none begins
 abbrev pub first_fault : List MadtError → List ℕ → Option MadtError
 first_fault (fault ∷ more) rest = Some fault
 first_fault [] (b ∷ rest) = Some InvalidEntryLength
@@ -23,9 +23,9 @@ first_fault [] [] = None
 abbrev pub fault_of : List ℕ → Option MadtError
 fault_of table = first_fault (filter_map fault_in (entries_of table)) (cut_of table).1
 
--- ---- what the entries say
+-- ---- what the entries contain
 
--- what an entry says, if it isn't refused
+-- what an entry contains, if nothing is wrong with it
 abbrev pub item_in : MadtEntry → Option MadtItem
 item_in e = result_ok (item_of e)
 
@@ -79,8 +79,8 @@ abbrev pub last_address : ℕ → List ℕ → ℕ
 last_address address [] = address
 last_address address (x ∷ more) = last_address x more
 
--- what the table and its entries say of APICs: each list has the items of one sort, in order, and the address of the
--- local APICs is the last override's, or else the table's
+-- what the table and its entries contain of APICs: each list has the items of one sort, in order, and the address of
+-- the local APICs is the last override's, or else the table's
 abbrev pub apic_of : {A : Type 0} → Madt → List MadtItem → Apic A
 apic_of madt items = record {
   local_apic_address = last_address madt.local_apic_address (filter_map local_apic_address_in items);
@@ -102,11 +102,11 @@ processors_of (x ∷ items) = elim (processor_in false x) [
   | None ↦ processors_of items
 ]
 
--- the model, and the processors; A is the allocator, of which neither says anything
+-- the model, and the processors; A is the allocator, which neither contains
 abbrev pub Model : Type 0 → Type 0
 Model A = InterruptModel A × Option (ProcessorInfo A)
 
--- what a table of a model of APICs says
+-- the model of a table that has APICs
 abbrev pub gathered : {A : Type 0} → Madt → List MadtItem → Model A
 gathered madt items = (model.Apic (apic_of madt items), processors_of items)
 
@@ -115,7 +115,7 @@ abbrev pub model_from : {A : Type 0} → Madt → List MadtItem → Model A
 model_from madt items =
     if list_any is_of_apic items then gathered madt items else (model.Unknown, None)
 
--- the model of a table whose first fields mean this, or the first refusal
+-- the model of a table whose first fields mean this, or the first error
 abbrev pub model_with : {A : Type 0} → Madt → List ℕ → Result (Model A) AcpiError
 model_with madt table = elim (fault_of table) [
   | Some fault ↦ Err (InvalidMadt fault)
@@ -128,6 +128,6 @@ model_of table = model_with (madt_at table) table
 
 -- ---- out of memory
 
--- memory is asked for only if no entry is refused, and one is of a model of APICs
+-- memory is requested only if nothing is wrong with an entry, and one is of a model of APICs
 abbrev pub AsksMemory : List ℕ → Type 0
 AsksMemory table = (fault_of table ≡ None) × IsTrue (list_any is_of_apic (items_of table))

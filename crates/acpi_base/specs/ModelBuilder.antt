@@ -4,7 +4,7 @@ use Rattle.acpi_base.specs.Model.{Model, local_apic_address_in, io_apic_in, last
 use Rattle.acpi_base.specs.Types.{Counts, ModelBuilder, MadtItem, Processor, ProcessorInfo}
 use Rattle.acpi_base.specs.declared.model.interrupt.InterruptModel.TheVariants as model
 
--- the processors, if those so far are these and more follow
+-- the processors, if these are the ones so far and more follow
 abbrev pub processors_behind : {A : Type 0} → Option Processor → List Processor → List MadtItem
     → Option (ProcessorInfo A)
 processors_behind (Some boot) others items = Some (record {
@@ -16,7 +16,7 @@ processors_behind {A = A} None others items =
       application_processors = others ++ info.application_processors;
     }) (processors_of items)
 
--- the model, if the entries after those gathered say this
+-- the model, if the entries after the gathered ones contain this
 abbrev pub model_behind : {A : Type 0} → ModelBuilder A → List MadtItem → Model A
 model_behind d items = (
   model.Apic (record {
@@ -37,7 +37,7 @@ abbrev pub others_in : Option Processor → List MadtItem → ℕ
 others_in None items = length (filter_map (processor_in true) items) - 1
 others_in (Some boot) items = length (filter_map (processor_in true) items)
 
--- there is room for what these say
+-- there is room for what these contain
 pub record HasRoom {A : Type 0} (d : ModelBuilder A) (items : List MadtItem) : Type 0 where
   pub io_apics :
       vec_len d.io_apics + length (filter_map io_apic_in items) ≤ vec_capacity d.io_apics

@@ -11,10 +11,10 @@ is_or_all uid (ProcessorUid id) = id == uid
 abbrev pub is_line_of : ℕ → NmiLine → Bool
 is_line_of uid line = is_or_all uid line.processor
 
--- those of all processors, and those of this one
+-- the lines of all processors, and of this one
 abbrev pub lines_for : List NmiLine → ℕ → List NmiLine
 lines_for lines uid = filter (is_line_of uid) lines
 
--- those still to come
+-- the lines that are still to come
 abbrev pub lines_left : LocalNmiLines → List NmiLine
 lines_left s = lines_for s.lines.now s.processor_uid

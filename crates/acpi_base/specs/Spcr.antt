@@ -37,19 +37,19 @@ spcr_at b = record {
   namespace_offset = field_of b 86 2;  -- NamespaceStringOffset
 }
 
--- ---- what calls answer
+-- ---- what calls return
 
 -- Interface Type
 abbrev pub interface_in : Spcr → SpcrInterfaceType
 interface_in t = interface_of t.interface_type
 
--- Base Address: where the registers lie, if not all of its bytes are zero
+-- Base Address: where the registers are, if not all of its bytes are zero
 abbrev pub base_of : Spcr → Option (Result GenericAddress AcpiError)
 base_of t =
     if bytes_eq t.base_address (replicate 12 0) then None
     else Some (generic_address_of t.base_address)
 
--- a number, unless it is the one that stands for none
+-- a number, unless it is the one that means none
 abbrev pub unless : ℕ → ℕ → Option ℕ
 unless none number = if number == none then None else Some number
 
@@ -66,11 +66,11 @@ configured_baud code =
 abbrev pub baud_of : Spcr → Option ℕ
 baud_of t = option_or (unless 0 t.precise_baud_rate) (configured_baud t.configured_baud_rate)
 
--- IRQ: the interrupt on the 8259 controllers, if bit 0 of Interrupt Type says that there is one
+-- IRQ: the interrupt on the 8259 controllers, if there is one by bit 0 of Interrupt Type
 abbrev pub irq_of : Spcr → Option ℕ
 irq_of t = if has_bit t.interrupt_type 0 then Some t.irq else None
 
--- Global System Interrupt, if one of bits 1 to 4 of Interrupt Type says that there is one: on an I/O APIC (bit 1), an
+-- Global System Interrupt, if there is one by bits 1 to 4 of Interrupt Type: on an I/O APIC (bit 1), an
 -- I/O SAPIC (2), the GIC of an Arm machine (3) or the PLIC of a RISC-V one (4)
 abbrev pub interrupt_of : Spcr → Option ℕ
 interrupt_of t = if bits_of t.interrupt_type 1 4 == 0 then None else Some t.global_system_interrupt
@@ -94,7 +94,7 @@ function_of t = unless 0 t.pci_function_number
 abbrev pub clock_of : Spcr → Option ℕ
 clock_of t = if nat_lt 2 t.header.revision then unless 0 t.uart_clock_frequency else None
 
--- the bytes that hold sets of flags
+-- the bytes that contain sets of flags
 
 abbrev pub interrupt_byte : Spcr → ℕ
 interrupt_byte t = t.interrupt_type

@@ -25,8 +25,8 @@ abbrev pub plain_kind : Signature → Kind
 plain_kind s = sdt_kind s 36
 
 -- the bytes of the table at an address, by the header that they begin with (System Description Table Header, section
--- 5.2.6), or the error of the first of five checks that fails: 36 bytes are lent, which are the header; its names are
--- the kind's; its Length is the kind's least or more; that many bytes are lent; the kind's own check accepts them,
+-- 5.2.6), or the error of the first of five checks that fails: 36 bytes are mapped, which are the header; its names are
+-- the kind's; its Length is the kind's least or more; that many bytes are mapped; the kind's own check accepts them,
 -- which for most tables looks at their sum
 unfoldable pub table_at : Memory → Kind → ℕ → Result (List ℕ) AcpiError
 table_at m k p = do

@@ -3,12 +3,12 @@ use Rattle.std.specs.Prelude.{◌≡◌, Result, Ok, Err, IsUtf8, MatchOption, O
 use Rattle.acpi_base.specs.FromStd.{Bor, is_utf8}
 use Rattle.acpi_base.specs.Types.{Signature}
 
--- the answer is the text that the bytes encode in UTF-8, or none if they encode none
+-- what is returned is the text that the bytes encode in UTF-8, or none if they encode none
 abbrev pub IsTextOf : Option (Bor (List ℕ)) → List ℕ → Type 0
 IsTextOf answer bytes =
     MatchOption answer (¬ (IsUtf8 bytes)) (λ text. (text.now ≡ bytes) × IsUtf8 bytes)
 
--- the answer is the text, or the refusal, that is defined
+-- what is returned is the text, or the error, that is defined
 abbrev pub Shows : {E : Type 0} → Result (Bor (List ℕ)) E → Result (List ℕ) E → Type 0
 Shows (Ok text) defined = defined ≡ Ok text.now
 Shows (Err e) defined = defined ≡ Err e

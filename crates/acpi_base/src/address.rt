@@ -42,7 +42,7 @@ pub enum AddressSpace {
 /// Access Size: how many bytes of a register are read and written at once (section 5.2.3.2).
 #[derive(Clone, Copy, Debug, PartialEq, Eq)]
 pub enum AccessSize {
-    /// Undefined: as many as the space and the register ask for.
+    /// Undefined: as many as the space and the register require.
     Undefined = 0,
     /// Byte access: one byte.
     ByteAccess = 1,
@@ -77,7 +77,7 @@ pub struct GenericAddress {
     pub address_space: AddressSpace,
     /// Register Bit Width: how many bits the register has.
     pub bit_width: u8,
-    /// Register Bit Offset: how many bits lie before the register at `address`.
+    /// Register Bit Offset: the number of bits before the register at `address`.
     pub bit_offset: u8,
     /// Access Size: how many bytes of the register are read and written at once.
     pub access_size: AccessSize,

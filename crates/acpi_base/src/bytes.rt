@@ -153,7 +153,7 @@ pub fn skip(bytes: &[u8], n: usize) -> &[u8]
     if n < bytes.len() { &bytes[n..] } else { &[] }
 }
 
-/// Whether the `n` bytes at an offset lie in the table.
+/// Whether the `n` bytes at an offset are in the table.
 #[inline(always)]
 pub(crate) fn has_part(bytes: &[u8], offset: usize, n: usize) -> bool
     ensures { result ≡ nat_le (offset + n) (length bytes.now) }

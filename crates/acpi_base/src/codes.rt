@@ -1,4 +1,4 @@
-//! Codes: the number by which a table gives each value of an enumeration, and the value of a number.
+//! Codes: the number by which a table encodes each value of an enumeration, and the value of a number.
 ghost use Rattle.std.specs.Prelude.{◌≡◌, ◌≤◌};
 ghost use Rattle.acpi_base.specs.Words.{access_size_of, interface_code, interface_of, line_code, line_of, polarity_code, polarity_for, processor_for, size_code, space_code, space_of, trigger_code, trigger_for, uid_code};
 
@@ -22,7 +22,7 @@ impl TryFrom<u8> for Polarity {
 
     ghost try_from_gives = { λ code r. r ≡ polarity_for code };
 
-    /// The polarity of a code. Refuses other codes, which are reserved, with `MpsIntiInvalidPolarity`.
+    /// The polarity of a code. Fails for other codes, which are reserved, with `MpsIntiInvalidPolarity`.
     fn try_from(code: u8) -> Result<Polarity, MadtError> {
         match code {
             0 => Ok(Polarity::SameAsBus),
@@ -48,7 +48,7 @@ impl TryFrom<u8> for TriggerMode {
 
     ghost try_from_gives = { λ code r. r ≡ trigger_for code };
 
-    /// The trigger mode of a code. Refuses other codes, which are reserved, with `MpsIntiInvalidTriggerMode`.
+    /// The trigger mode of a code. Fails for other codes, which are reserved, with `MpsIntiInvalidTriggerMode`.
     fn try_from(code: u8) -> Result<TriggerMode, MadtError> {
         match code {
             0 => Ok(TriggerMode::SameAsBus),
@@ -73,7 +73,7 @@ impl TryFrom<u8> for LocalInterruptLine {
 
     ghost try_from_gives = { λ code r. r ≡ line_of code };
 
-    /// The pin of a number. Refuses other numbers than 0 and 1 with `InvalidLocalNmiLine`.
+    /// The pin of a number. Fails for other numbers than 0 and 1 with `InvalidLocalNmiLine`.
     fn try_from(code: u8) -> Result<LocalInterruptLine, MadtError> {
         match code {
             0 => Ok(LocalInterruptLine::Lint0),
@@ -84,12 +84,12 @@ impl TryFrom<u8> for LocalInterruptLine {
 }
 
 impl NmiProcessor {
-    /// The UID that stands for all processors in a Local APIC NMI (ACPI 6.4, section 5.2.12.7).
+    /// The UID that means all processors in a Local APIC NMI (ACPI 6.4, section 5.2.12.7).
     pub const ALL_APICS: u32 = 0xff;
-    /// The UID that stands for all processors in a Local x2APIC NMI (ACPI 6.4, section 5.2.12.13).
+    /// The UID that means all processors in a Local x2APIC NMI (ACPI 6.4, section 5.2.12.13).
     pub const ALL_X2APICS: u32 = 0xffffffff;
 
-    /// Its ACPI Processor UID, if `all` stands for all processors.
+    /// Its ACPI Processor UID, if `all` means all processors.
     pub fn uid(self, all: u32) -> u32
         ensures { result ≡ uid_code all self }
     {
@@ -99,7 +99,7 @@ impl NmiProcessor {
         }
     }
 
-    /// The processor of an ACPI Processor UID, if `all` stands for all processors.
+    /// The processor of an ACPI Processor UID, if `all` means all processors.
     pub fn from_uid(uid: u32, all: u32) -> NmiProcessor
         ensures { result ≡ processor_for all uid }
     {
@@ -141,7 +141,7 @@ impl TryFrom<u8> for AddressSpace {
 
     /// The space of a code of Address Space ID (section 5.2.3.2).
     ///
-    /// Fails for a reserved code with `InvalidGenericAddress`: those from 0x0b to 0xbf, but for 0x7f.
+    /// Fails for a reserved code with `InvalidGenericAddress`: 0x0b to 0xbf, but for 0x7f.
     fn try_from(code: u8) -> AcpiResult<AddressSpace> {
         match code {
             0x00 => Ok(AddressSpace::SystemMemory),
@@ -178,7 +178,7 @@ impl TryFrom<u8> for AccessSize {
 
     /// The access size of a code of Access Size (section 5.2.3.2).
     ///
-    /// Fails for a reserved code with `InvalidGenericAddress`: those above 4.
+    /// Fails for a reserved code with `InvalidGenericAddress`: 5 and above.
     fn try_from(code: u8) -> AcpiResult<AccessSize> {
         match code {
             0 => Ok(AccessSize::Undefined),

@@ -20,7 +20,7 @@ pub enum Width {
 /// The place of a number in an entry.
 #[derive(Clone, Copy)]
 pub struct Place {
-    /// How many bytes of the entry stand before it.
+    /// How many bytes of the entry are before it.
     pub at: u8,
     /// How many bytes the number has.
     pub width: Width,
@@ -161,7 +161,7 @@ fn split_next<'a, const KINDS: usize>(
 
 /// The entry that the bytes begin with, and the bytes after it, or `None` if there may be no more
 /// entries, or the bytes begin with none: if the length is less than what holds type and length, than
-/// the least of its type, or goes past the bytes. Those that follow are entries by the same grammar
+/// the least of its type, or goes past the bytes. The bytes after it are entries by the same grammar
 /// with one less of them.
 #[inline(always)]
 #[tactic(auto, using(crate::proofs::Cuts::cut_stuck), unfolding(crate::specs::Entries::next_front))]

@@ -1,4 +1,4 @@
-//! The refusals of this library.
+//! The errors of this library.
 ghost use Rattle.std.specs.Prelude.{◌≡◌, Some};
 ghost use Rattle.acpi_base.specs.declared.error.AcpiError.TheVariants.{AllocError as NoMemory};
 ghost use Rattle.acpi_base.specs.Words.{error_text, madt_error_text};
@@ -10,10 +10,10 @@ use std::fmt;
 /// What a call that can fail returns: a value, or an `AcpiError`.
 pub type AcpiResult<T> = Result<T, AcpiError>;
 
-/// Why a call refuses. A signature that is carried is the one that was asked for.
+/// Why a call fails. A signature in an error is the one that was requested.
 #[derive(Clone, Copy, Debug, PartialEq, Eq)]
 pub enum AcpiError {
-    /// No valid RSDP lies in the areas that were searched (section 5.2.5.1).
+    /// No valid RSDP is in the areas that were searched (section 5.2.5.1).
     NoValidRsdp,
     /// An RSDP does not begin with `RSD PTR ` (section 5.2.5.3).
     RsdpIncorrectSignature,
@@ -32,23 +32,23 @@ pub enum AcpiError {
     SdtInvalidChecksum(Signature),
     /// No valid table of this signature is listed in the root table (sections 5.2.7 and 5.2.8).
     TableMissing(Signature),
-    /// The FADT gives no address of the FACS: X_FIRMWARE_CTRL and FIRMWARE_CTRL are 0 (section 5.2.9).
+    /// The FADT has no address of the FACS: X_FIRMWARE_CTRL and FIRMWARE_CTRL are 0 (section 5.2.9).
     InvalidFacsAddress,
-    /// The FADT gives no address of the DSDT: X_DSDT and DSDT are 0 (section 5.2.9).
+    /// The FADT has no address of the DSDT: X_DSDT and DSDT are 0 (section 5.2.9).
     InvalidDsdtAddress,
     /// The MADT is valid, but one of its entries isn't (section 5.2.12), or a processor isn't woken.
     InvalidMadt(MadtError),
     /// A generic address has a reserved code (section 5.2.3.2), the ports of a FADT's block are 32 bytes or
-    /// more (section 5.2.9), or the registers of an HPET don't lie in memory.
+    /// more (section 5.2.9), or the registers of an HPET aren't in memory.
     InvalidGenericAddress,
     /// Out of memory.
     AllocError,
-    /// The handler doesn't lend the range of memory that was asked for.
+    /// The handler doesn't map the range of memory that was requested.
     MapFailed,
     /// The length in a table's header is under the least of its type, or above the number of bytes at hand
     /// (section 5.2.6).
     SdtInvalidLength(Signature),
-    /// NamespaceString of an SPCR lies outside the table, or is not valid UTF-8.
+    /// NamespaceString of an SPCR is outside the table, or is not valid UTF-8.
     InvalidNamespaceString,
 }
 
@@ -61,7 +61,7 @@ impl From<AllocError> for AcpiError {
     }
 }
 
-/// Prints the variant's name and, after a space, the signature or the error that it carries.
+/// Prints the variant's name and, after a space, the signature or the error that it contains.
 impl fmt::Display for AcpiError {
     ghost output = { λ e. Some (error_text e) };
 
@@ -102,7 +102,7 @@ impl fmt::Display for AcpiError {
 /// What is wrong with an entry of a valid MADT, or why a processor isn't woken (section 5.2.12).
 #[derive(Clone, Copy, Debug, PartialEq, Eq)]
 pub enum MadtError {
-    /// There is an entry of a type that the model has no place for, or none of the type asked for.
+    /// There is an entry of a type that the model has no place for, or none of the requested type.
     UnexpectedEntry,
     /// Bus of an Interrupt Source Override isn't 0, ISA (section 5.2.12.5).
     InterruptOverrideEntryHasInvalidBus,
@@ -112,7 +112,7 @@ pub enum MadtError {
     MpsIntiInvalidPolarity,
     /// Trigger Mode of MPS INTI Flags is 2, which is reserved (section 5.2.12.5).
     MpsIntiInvalidTriggerMode,
-    /// The firmware did not take the Wakeup command within the reads that were asked for (section
+    /// The firmware did not take the Wakeup command within the reads that were requested (section
     /// 5.2.12.19).
     WakeupApsTimeout,
     /// The entries of a MADT end before its bytes do: bytes are left in which no entry begins. One byte is

@@ -6,7 +6,7 @@ use crate::bytes::has_part;
 use crate::memory::handler::PhysicalRecord;
 
 /// A field that a table or an entry has from a revision on, and only if it is long enough: from
-/// `MIN_REVISION` on, the value that its bytes encode, if all of them lie in the table or the entry that it
+/// `MIN_REVISION` on, the value that its bytes encode, if all of them are in the table or the entry that it
 /// was read from.
 #[derive(Clone, Copy, Debug)]
 pub struct ExtendedField<T: Copy, const MIN_REVISION: u8> {
@@ -14,7 +14,7 @@ pub struct ExtendedField<T: Copy, const MIN_REVISION: u8> {
 }
 
 impl<T: Copy, const MIN_REVISION: u8> ExtendedField<T, MIN_REVISION> {
-    /// A field whose bytes encode this value, or `None` if they don't all lie in the table.
+    /// A field whose bytes encode this value, or `None` if they aren't all in the table.
     #[inline(always)]
     pub fn new(value: Option<T>) -> Self
         ensures { held_of result ≡ value }
@@ -22,7 +22,7 @@ impl<T: Copy, const MIN_REVISION: u8> ExtendedField<T, MIN_REVISION> {
         ExtendedField { value }
     }
 
-    /// The value, or `None` if the revision is below `MIN_REVISION` or the field's bytes don't all lie in the
+    /// The value, or `None` if the revision is below `MIN_REVISION` or the field's bytes aren't all in the
     /// table.
     #[inline(always)]
     pub fn access(&self, revision: u8) -> Option<T>

@@ -1,10 +1,10 @@
-//! The lowest layer of a reader of static ACPI tables: memory that a handler lends, mappings of
+//! The lowest layer of a reader of static ACPI tables: memory that a handler maps, mappings of
 //! records in it, and the headers and checks that every table has.
 //!
-//! The MADT, the MCFG and the SPCR stand here too, and the interrupt model that a MADT leads to:
+//! The MADT, the MCFG and the SPCR are here too, and the interrupt model that a MADT leads to:
 //! some of their functions are methods of a table's mapping, since they read entries or a text of the
 //! mapped bytes after the record, and a mapping gets methods in its own crate alone. The records of
-//! the FADT and of the BGRT have all that their functions answer, so they stand in `acpi_fixed`.
+//! the FADT and of the BGRT have all that their functions return, so they are in `acpi_fixed`.
 //!
 //! Section numbers are those of the ACPI Specification, version 6.4.
 #![tactic(auto)]

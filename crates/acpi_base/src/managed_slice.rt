@@ -6,7 +6,7 @@ use crate::error::AcpiResult;
 use std::alloc::{AllocError, Allocator, Global};
 use std::marker::Model;
 
-/// A slice of fixed length, which owns its items and the memory that they lie in. Both are given up with
+/// A slice of fixed length, which owns its items and the memory that they are in. Both end with
 /// the slice: each item is dropped once.
 #[derive(Drop)]
 pub struct ManagedSlice<T, A: Allocator> {
@@ -59,7 +59,7 @@ impl<T, A: Allocator> ManagedSlice<T, A> {
     ghost use Rattle.acpi_base.specs.FromStd.{sem};
     ghost use Rattle.acpi_base.specs.Lends.{lends_slice};
 
-    /// The items of a vector, in the memory that they lie in already.
+    /// The items of a vector, in the memory that they are in already.
     pub fn from_vec(items: Vec<T, A>) -> ManagedSlice<T, A>
         ensures { result ≡ items.items }
     {

@@ -1,4 +1,4 @@
-//! Physical memory: handlers that lend it, claims of lent bytes until their notice, and records in it.
+//! Physical memory: handlers that map it, claims of mapped bytes until their notice, and records in it.
 
 pub(crate) mod claim;
 pub mod guarded;

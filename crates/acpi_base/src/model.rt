@@ -1,8 +1,8 @@
 //! The interrupt model: the controllers and processors that the entries of a MADT describe together (section
 //! 5.2.12).
 //!
-//! The first entry that is refused decides. Without one, what the entries say is gathered, each sort
-//! into a list of its own.
+//! The first entry that is at fault decides. If none is, what the entries contain is gathered, each sort
+//! in a list of its own.
 
 mod builder;
 mod counts;

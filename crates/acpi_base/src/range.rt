@@ -27,7 +27,7 @@ impl AddressRange {
         self.length <= u64::MAX - self.address
     }
 
-    /// Whether an address lies in the range: at its first or above, and below address + length as a whole number.
+    /// Whether an address is in the range: at its first or above, and below address + length as a whole number.
     pub fn holds(&self, address: u64) -> bool
         ensures { result ≡ range_holds self.now.address self.now.length address }
     {

@@ -16,7 +16,7 @@ use header::SdtHeader;
 pub use lookup::{ValidTable, map_own_sdt, map_sdt, map_table, own_valid_by, valid_at, valid_by};
 use signature::Signature;
 
-/// A type of table (section 5.2.6). A kernel may add types of its own. `kind` is what a lookup asks for: the
+/// A type of table (section 5.2.6). A kernel may add types of its own. `kind` is what a lookup checks: the
 /// signature, the least length, and what `validate` means, which is a function of the table's bytes alone.
 pub trait AcpiTable: PhysicalRecord {
     /// Signature: the four letters that name the table (section 5.2.6).
@@ -41,7 +41,7 @@ pub trait AcpiTable: PhysicalRecord {
         ensures { result ≡ kind.check bytes.now };
 
     /// What `validate` returns for the record that these bytes mean, if their header is known to have the
-    /// names of a table of this type, and a length that is their number. A lookup asks it of each member
+    /// names of a table of this type, and a length that is their number. A lookup calls it for each member
     /// that has such a header. A type whose kind is an `sdt_kind` need only look at the sum: `sum_refusal`
     /// does.
     #[inline(always)]
@@ -56,13 +56,13 @@ pub trait AcpiTable: PhysicalRecord {
 
     ghost least: { 36 ≤ Self.MIN_LENGTH };
 
-    // The constants are those of the kind.
+    // The constants are the kind's.
     ghost agrees: { (kind.signature ≡ SIGNATURE) × (kind.least ≡ Self.MIN_LENGTH)
         × (kind.names ≡ check_names SIGNATURE) };
 }
 
-/// A type of table of which a lookup checks the header and the sum and no more, as most are. A lookup finds such tables
-/// as those of the `AcpiTable` that they are.
+/// A type of table of which a lookup checks the header and the sum and no more, as most are. A lookup finds such a
+/// table as it does any `AcpiTable`.
 pub trait SdtTable: PhysicalRecord {
     /// Signature: the four letters that name the table (section 5.2.6).
     const NAME: Signature;

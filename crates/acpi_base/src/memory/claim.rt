@@ -1,11 +1,11 @@
-//! Claims: bytes that a handler lent, until its notice.
+//! Claims: bytes that a handler mapped, until its notice.
 ghost use Rattle.std.specs.Prelude.{◌≤◌, length};
 
 use crate::error::AcpiResult;
 use crate::memory::handler::Lender;
 
-/// Bytes that a handler lent, and how many of them are shown. A claim is no `Drop`, and only `end` takes it
-/// apart: so the compiler refuses a path that lets one go out of scope or ends one twice, and the
+/// Bytes that a handler mapped, and how many of them are shown. A claim is no `Drop`, and only `end` takes it
+/// apart: so the compiler rejects a path that lets one go out of scope or ends one twice, and the
 /// notice names the range that was granted.
 pub(crate) struct Claim<'h, H: Lender> {
     start: u64,
@@ -20,7 +20,7 @@ impl<'h, H: Lender> Claim<'h, H> {
     ghost use Rattle.acpi_base.specs.Claim.{IsLentOf, all_of, claimed_at, claimed_from, shown_by};
     ghost use Rattle.acpi_base.specs.Steps.{Gives, lent};
 
-    /// A claim of bytes that were lent already, of which the first `region_length` are shown.
+    /// A claim of bytes that are mapped already, of which the first `region_length` are shown.
     pub(crate) fn new(start: u64, lent: &'h [u8], region_length: usize, handler: &'h H) -> Self
         requires { region_length ≤ length lent.now }
         ensures start { claimed_at result ≡ start }
@@ -36,7 +36,7 @@ impl<'h, H: Lender> Claim<'h, H> {
         }
     }
 
-    /// A claim of the bytes that the handler lends at an address, of which the first `size` are shown.
+    /// A claim of the bytes that the handler maps at an address, of which the first `size` are shown.
     #[tactic(auto, using(crate::proofs::LentRanges::lent_front, crate::proofs::LentRanges::lent_none))]
     pub(crate) fn request(handler: &'h H, address: u64, size: usize) -> AcpiResult<Self>
         requires some { 0 < size }
@@ -51,8 +51,8 @@ impl<'h, H: Lender> Claim<'h, H> {
         Ok(Claim::new(address, granted, size, handler))
     }
 
-    /// A claim that shows the `size` bytes from this one's start on: of the bytes that are lent already, if
-    /// these are as many, or else asked for anew, after the notice for what was lent.
+    /// A claim that shows the `size` bytes from this one's start on: of the bytes that are mapped already, if
+    /// these are as many, or else requested anew, after the notice for what was mapped.
     #[tactic(auto, using(crate::proofs::LentRanges::lent_front))]
     pub(crate) fn widen(self, size: usize) -> AcpiResult<Self>
         requires some { 0 < size }
@@ -64,7 +64,7 @@ impl<'h, H: Lender> Claim<'h, H> {
         ensures shown { let m = H.memory (claimed_from self.entry) in
             Gives (λ c. shown_by c) result (lent m (claimed_at self.entry) size) }
         ensures all { IfOk result (λ c. IsLentOf (H.memory (claimed_from self.entry)) c) }
-        // A loan that is long enough is kept as it is.
+        // Bytes that are enough stay mapped as they are.
         ensures enough { size ≤ length (all_of self.entry) → IsOk result }
         ensures kept { size ≤ length (all_of self.entry)
             → IfOk result (λ c. all_of c ≡ all_of self.entry) }
@@ -90,14 +90,14 @@ impl<'h, H: Lender> Claim<'h, H> {
         self.start
     }
 
-    /// All the bytes that were lent.
+    /// All the mapped bytes.
     pub(crate) fn lent(&self) -> &[u8]
         ensures { result.now ≡ all_of self.now }
     {
         self.lent
     }
 
-    /// The bytes that are shown: the first `region_length` of those lent.
+    /// The bytes that are shown: the first `region_length` of the mapped ones.
     pub(crate) fn shown(&self) -> &[u8]
         ensures { result.now ≡ shown_by self.now }
     {
@@ -110,7 +110,7 @@ impl<'h, H: Lender> Claim<'h, H> {
         self.handler
     }
 
-    /// Gives the handler the notice for what was lent.
+    /// Calls the handler's notice for what was mapped.
     pub(crate) fn end(self) {
         let Claim {
             start,

@@ -1,15 +1,15 @@
-//! A lender that may be asked for some ranges alone.
+//! A lender of which only some ranges may be requested.
 ghost use Rattle.std.specs.Prelude.{◌&&◌, ◌≡◌};
 ghost use Rattle.acpi_base.specs.Words.{is_listed, guarded_by, listed_by};
 
 use crate::error::AcpiResult;
 use crate::memory::handler::Lender;
 
-/// A lender over another one, which it asks for what it is asked for, and for nothing else. It may be asked
-/// for the ranges of a list alone, each a physical address and a number of bytes, as far as the other one
-/// may be asked for them. A handler may be asked for any range.
+/// A lender over another one, of which it requests what is requested of it, and nothing else. Only the ranges
+/// of a list may be requested of it, each a physical address and a number of bytes, as far as they may be
+/// requested of the other one. Of a handler any range may be requested.
 ///
-/// Nothing is tested when it runs: a call over it is proved only if it asks for no range that isn't listed.
+/// Nothing is tested when it runs: a call over it is proved only if it requests no range that isn't listed.
 #[derive(Drop)]
 pub struct Guarded<'h, H: Lender> {
     handler: &'h H,
@@ -17,8 +17,8 @@ pub struct Guarded<'h, H: Lender> {
 }
 
 impl<'h, H: Lender> Guarded<'h, H> {
-    /// A lender over another one, or over a handler, that may be asked for these ranges alone: physical
-    /// addresses, and how many bytes from each on.
+    /// A lender over another one, or over a handler, of which these ranges alone may be requested: physical
+    /// addresses, and the number of bytes from each on.
     pub fn new(handler: &'h H, ranges: &'h [(u64, usize)]) -> Self
         ensures handler { guarded_by result ≡ handler.now }
         ensures ranges { listed_by result ≡ ranges.now }

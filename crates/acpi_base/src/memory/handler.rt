@@ -6,20 +6,20 @@ ghost use Rattle.acpi_base.specs.Types.{MapFailed};
 use crate::bytes::field;
 use crate::error::AcpiResult;
 
-/// Lends physical memory, as the kernel or the boot loader that implements this has it mapped.
+/// Maps physical memory, in the kernel or the boot loader that implements this.
 ///
 /// `memory` is what there is: regions of bytes of which no two share an address, each ending below
-/// 2^64. Two regions that adjoin are still two: a range across their border is not lent.
+/// 2^64. Two regions that adjoin are still two: a range across their border is not mapped.
 ///
-/// Bytes must not change while they are lent: a hypervisor that reads the tables of a running guest
-/// copies the guest's memory first. What is lent bounds the time of the calls too: a table's length
-/// and a candidate RSDP's length are believed as far as that many bytes are lent.
+/// Bytes must not change while they are mapped: a hypervisor that reads the tables of a running guest
+/// copies the guest's memory first. What is mapped bounds the time of the calls too: a table's length
+/// and a candidate RSDP's length are believed as far as that many bytes are mapped.
 pub trait AcpiHandler {
     ghost memory: { Self → Memory };
 
-    /// Lends the bytes from a physical address on, at least `size` of them, all from one region.
+    /// Maps the bytes from a physical address on, at least `size` of them, all from one region.
     ///
-    /// Fails with `MapFailed` exactly if the `size` bytes from that address on don't all lie inside one
+    /// Fails with `MapFailed` exactly if the `size` bytes from that address on aren't all inside one
     /// region.
     fn map_physical_region(&self, address: u64, size: usize) -> AcpiResult<&[u8]>
         requires { 0 < size }
@@ -28,7 +28,7 @@ pub trait AcpiHandler {
         ensures refused { IfErr result (λ e. at (memory self.now) address size ≡ None) }
         ensures name { IfErr result (λ e. e ≡ MapFailed) };
 
-    /// A notice: the `mapped_length` bytes that were lent from `address` on, of which a mapping showed the
+    /// A notice: the `mapped_length` bytes that were mapped from `address` on, of which a mapping showed the
     /// first `region_length`, are no longer read.
     fn unmap_physical_region(&self, address: u64, region_length: usize, mapped_length: usize)
         requires { region_length ≤ mapped_length };
@@ -36,18 +36,18 @@ pub trait AcpiHandler {
     ghost regions: { (h : Self) → IsMemory (memory h) };
 }
 
-/// Lends physical memory, as `AcpiHandler` does, if `may` says that it may be asked for the range.
-/// Each `AcpiHandler` is a lender that may be asked for any range.
+/// Maps physical memory, as `AcpiHandler` does, if by `may` the range may be requested.
+/// Each `AcpiHandler` is a lender of which any range may be requested.
 pub trait Lender {
     ghost memory: { Self → Memory };
 
-    // Whether it may be asked for so many bytes at an address.
+    // Whether this number of bytes at an address may be requested.
     ghost may: { Self → ℕ → ℕ → Bool };
 
-    /// Lends the bytes from a physical address on, at least `size` of them, all from one region, as
-    /// `AcpiHandler::map_physical_region` does. It may be asked only for ranges that `may` allows.
+    /// Maps the bytes from a physical address on, at least `size` of them, all from one region, as
+    /// `AcpiHandler::map_physical_region` does. Only ranges that `may` allows may be requested.
     ///
-    /// Fails with `MapFailed` exactly if the `size` bytes from that address on don't all lie inside one
+    /// Fails with `MapFailed` exactly if the `size` bytes from that address on aren't all inside one
     /// region.
     fn lend(&self, address: u64, size: usize) -> AcpiResult<&[u8]>
         requires some { 0 < size }
@@ -57,7 +57,7 @@ pub trait Lender {
         ensures refused { IfErr result (λ e. at (memory self.now) address size ≡ None) }
         ensures name { IfErr result (λ e. e ≡ MapFailed) };
 
-    /// A notice, as `AcpiHandler::unmap_physical_region`: the `mapped_length` bytes that were lent from
+    /// A notice, as `AcpiHandler::unmap_physical_region`: the `mapped_length` bytes that were mapped from
     /// `address` on, of which a mapping showed the first `region_length`, are no longer read.
     fn end_loan(&self, address: u64, region_length: usize, mapped_length: usize)
         requires { region_length ≤ mapped_length };

@@ -1,4 +1,4 @@
-//! Records in lent memory.
+//! Records in mapped memory.
 ghost use Rattle.std.specs.Prelude.{◌≡◌, ◌≤◌, length};
 ghost use Rattle.acpi_base.specs.FromStd.{Coded-set};
 ghost use Rattle.acpi_base.specs.Claim.{shown_by};
@@ -8,8 +8,8 @@ use crate::memory::claim::Claim;
 use crate::memory::handler::{Lender, PhysicalRecord};
 use std::ops::Deref;
 
-/// A record in lent memory: its bytes, and the value that they mean. The bytes stay lent until the mapping is
-/// dropped, which gives the handler the notice by `unmap_physical_region`.
+/// A record in mapped memory: its bytes, and the value that they mean. The bytes stay mapped until the mapping is
+/// dropped, which calls the handler's notice, `unmap_physical_region`.
 pub struct PhysicalMapping<'h, H: Lender, T: PhysicalRecord> {
     claim: Claim<'h, H>,
     value: T,
@@ -24,7 +24,7 @@ impl<'h, H: Lender, T: PhysicalRecord> PhysicalMapping<'h, H, T> {
     ghost use Rattle.acpi_base.specs.Memory.{at};
     ghost use Rattle.acpi_base.specs.Steps.{Gives, lent};
 
-    /// The mapping of the first `region_length` of these bytes, which lie from the physical address
+    /// The mapping of the first `region_length` of these bytes, which are from the physical address
     /// `physical_start` on. It reads the record from them. The bytes may come from anywhere; when the
     /// mapping is dropped, the handler gets the notice.
     pub fn new(physical_start: u64, bytes: &'h [u8], region_length: usize, handler: &'h H) -> Self
@@ -50,9 +50,9 @@ impl<'h, H: Lender, T: PhysicalRecord> PhysicalMapping<'h, H, T> {
         PhysicalMapping { claim, value }
     }
 
-    /// The mapping of the `size` bytes at a physical address, as the handler lends them.
+    /// The mapping of the `size` bytes at a physical address, as the handler maps them.
     ///
-    /// Fails with `MapFailed` if they don't lie whole inside one region.
+    /// Fails with `MapFailed` if they aren't all inside one region.
     pub fn map(handler: &'h H, address: u64, size: usize) -> AcpiResult<Self>
         requires some { 0 < size }
         requires asked { H.may handler.now address size ≡ true }
@@ -62,7 +62,7 @@ impl<'h, H: Lender, T: PhysicalRecord> PhysicalMapping<'h, H, T> {
         ensures length { IfOk result (λ m. length (bytes_of m) ≡ size) }
         ensures ends { IfOk result (λ m. start_of m + length (bytes_of m) < 2 ^ 64) }
         ensures bytes { Gives (λ m. bytes_of m) result (lent (H.memory handler.now) address size) }
-        // However many bytes were lent, all of them are the memory's.
+        // However many bytes are mapped, all of them are the memory's.
         ensures lent { IfOk result (λ m. at (H.memory handler.now) address (mapped_of m)
             ≡ Some (lent_of m)) }
     {
@@ -72,28 +72,28 @@ impl<'h, H: Lender, T: PhysicalRecord> PhysicalMapping<'h, H, T> {
         return Ok(PhysicalMapping::of_claim(claim));
     }
 
-    /// The physical address of the first mapped byte.
+    /// The physical address of the record's first byte.
     pub fn physical_start(&self) -> u64
         ensures { result ≡ start_of self.now }
     {
         self.claim.start()
     }
 
-    /// How many bytes are mapped as the record's: as many as `bytes` has.
+    /// How many bytes the record has: as many as `bytes`.
     pub fn region_length(&self) -> usize
         ensures { result ≡ length (bytes_of self.now) }
     {
         self.claim.shown().len()
     }
 
-    /// How many bytes were lent: at least `region_length`, and more as the handler chose.
+    /// How many bytes are mapped: at least `region_length`, and more as the handler chose.
     pub fn mapped_length(&self) -> usize
         ensures { result ≡ mapped_of self.now }
     {
         self.claim.lent().len()
     }
 
-    /// The mapped bytes: the first `region_length` of those lent.
+    /// The record's bytes: the first `region_length` of the mapped ones.
     pub fn bytes(&self) -> &[u8]
         ensures value { result.now ≡ bytes_of self.now }
         ensures least { T.MIN_LENGTH ≤ length result.now }
@@ -101,7 +101,7 @@ impl<'h, H: Lender, T: PhysicalRecord> PhysicalMapping<'h, H, T> {
         self.claim.shown()
     }
 
-    /// All bytes that were lent from `physical_start` on: those that are mapped as the record's, and as many
+    /// All bytes that are mapped from `physical_start` on: the record's, and as many
     /// after them as the handler chose. A search that looks at more than one record there uses them.
     pub fn lent_bytes(&self) -> &[u8]
         ensures { result.now ≡ lent_of self.now }
@@ -116,7 +116,7 @@ impl<'h, H: Lender, T: PhysicalRecord> PhysicalMapping<'h, H, T> {
         self.claim.handler()
     }
 
-    /// The record that the mapped bytes mean.
+    /// The record that its bytes mean.
     pub fn get(&self) -> &T
         ensures { result.now ≡ T.reading (bytes_of self.now) }
     {
@@ -124,7 +124,7 @@ impl<'h, H: Lender, T: PhysicalRecord> PhysicalMapping<'h, H, T> {
     }
 }
 
-/// The record that the mapped bytes mean.
+/// The record that its bytes mean.
 impl<'h, H: Lender, T: PhysicalRecord> Deref for PhysicalMapping<'h, H, T> {
     ghost use Rattle.acpi_base.specs.Mapping.{bytes_of};
 

@@ -31,7 +31,7 @@ pub(super) struct ModelBuilder<A: Allocator> {
 impl<A: Allocator + Clone> ModelBuilder<A> {
     /// A model of no entries yet, with room for exactly as many items as are counted.
     ///
-    /// Fails with `AllocError` if memory is refused, or a clone of the allocator.
+    /// Fails with `AllocError` if memory runs out, also for a clone of the allocator.
     #[tactic(auto, using(crate::proofs::EntryLists::none_first))]
     pub(super) fn with_room(madt: &Madt, counts: Counts, allocator: A) -> AcpiResult<Self>
         ensures room { IfOk result (λ d. (items : List MadtItem) → counts_of items ≡ counts
@@ -110,7 +110,7 @@ impl<A: Allocator> ModelBuilder<A> {
         }
     }
 
-    /// Adds what one more entry says after the others, if it says anything. There is room for it. Most entries
+    /// Adds the item of one more entry after the others, if it has one. There is room for it. Most entries
     /// are of processors: only for these the code is in line.
     #[inline(always)]
     #[tactic(auto, unfolding(crate::specs::Items::said_of))]
@@ -180,9 +180,9 @@ impl<A: Allocator> ModelBuilder<A> {
     }
 }
 
-/// An empty list with room for exactly so many items.
+/// An empty list with room for exactly this many items.
 ///
-/// Fails if memory is refused, or the clone of the allocator.
+/// Fails if memory runs out, also for the clone of the allocator.
 fn room<T, A: Allocator + Clone>(allocator: &A, count: usize) -> Result<Vec<T, A>, AllocError>
     ensures items { IfOk result (λ v. v.items ≡ []) }
     ensures len { IfOk result (λ v. vec_len v ≡ 0) }

@@ -110,7 +110,7 @@ pub struct Apic<A: Allocator> {
     pub also_has_legacy_pics: bool,
 }
 
-/// Clones with the fields of the original, or `AllocError` if memory is refused, or a clone of the
+/// Clones with the fields of the original, or `AllocError` if memory runs out, also for a clone of the
 /// allocator.
 impl<A: Allocator + Clone> Clone for Apic<A> {
     ghost is_clone = { λ x y. y ≡ x };

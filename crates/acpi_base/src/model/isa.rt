@@ -24,14 +24,14 @@ impl<A: Allocator> Apic<A> {
     /// 5.2.12.5).
     ///
     /// Of the overrides of a source the last one counts. If `irq` has an override, the result is what that
-    /// says, with ISA's own `ActiveHigh` and `Edge` in place of `SameAsBus`. Otherwise it is the interrupt
+    /// leads to, with ISA's own `ActiveHigh` and `Edge` in place of `SameAsBus`. Otherwise it is the interrupt
     /// of the same number, `ActiveHigh` and `Edge`.
     ///
     /// It is `None` if `irq` is above 15. It is `None` too if `irq` has no override, but that of
     /// another source leads to the interrupt of the number `irq`, since that input is taken: here
     /// too only the last override of a source counts, and sources above 15 count as well.
     ///
-    /// The interrupt that the FADT gives as `sci_interrupt` is asked for by the function of that name:
+    /// The interrupt that the FADT has as `sci_interrupt` is returned by the function of that name:
     /// it is not of the ISA bus, and is raised in another way.
     #[tactic(auto, using(crate::proofs::Isa::if_shared))]
     pub fn isa_interrupt(&self, irq: u8) -> Option<IsaInterrupt>
@@ -44,7 +44,7 @@ impl<A: Allocator> Apic<A> {
     }
 
     /// Global System Interrupt of the SCI, the interrupt that carries the machine's events, of the number
-    /// that the FADT gives as SCI_INT (`Fadt::sci_interrupt`; section 5.2.9: it may be shared, and is
+    /// that the FADT has as SCI_INT (`Fadt::sci_interrupt`; section 5.2.9: it may be shared, and is
     /// raised by the low level).
     ///
     /// Below 16 it is wired by the last Interrupt Source Override of that ISA source (section
@@ -57,7 +57,7 @@ impl<A: Allocator> Apic<A> {
     }
 }
 
-/// What the overrides say of the ISA interrupts.
+/// How the overrides wire the ISA interrupts.
 fn gathered(overrides: &[InterruptSourceOverride]) -> IsaOverrides
     ensures { IsGathered overrides.now result }
 {
@@ -68,7 +68,7 @@ fn gathered(overrides: &[InterruptSourceOverride]) -> IsaOverrides
     gathered
 }
 
-/// The interrupt that an Interrupt Source Override gives (section 5.2.12.5). If its flags conform to the bus, it has
+/// The interrupt that an Interrupt Source Override leads to (section 5.2.12.5). If its flags conform to the bus, it has
 /// this polarity and this trigger mode.
 pub(super) fn wired(
     wiring: &InterruptSourceOverride,

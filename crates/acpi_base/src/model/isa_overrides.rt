@@ -7,16 +7,16 @@ use super::interrupt::{InterruptSourceOverride, Polarity, TriggerMode};
 use super::isa::{IsaInterrupt, straight, wired};
 use std::marker::Model;
 
-/// What Interrupt Source Overrides say of the 16 ISA interrupts (section 5.2.12.5). They are added one by one, in
+/// How Interrupt Source Overrides wire the 16 ISA interrupts (section 5.2.12.5). They are added one by one, in
 /// the table's order, so one walk along them is enough, and no list of them is needed.
 #[derive(Drop)]
 pub struct IsaOverrides {
     // Of each ISA interrupt its last override.
     own: [Option<InterruptSourceOverride>; 16],
-    // Of each source the global system interrupt that its last override leads to; 16 stands for all above 15, and
-    // for none.
+    // Of each source the global system interrupt that its last override leads to; 16 means all above 15, and
+    // none.
     leads: [u8; 256],
-    // How many sources lead to each of these, so that the answer need not look for one.
+    // How many sources lead to each of these, so that no search for one is needed.
     leading: [u16; 17],
 }
 

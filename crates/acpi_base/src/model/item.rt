@@ -17,7 +17,7 @@ use crate::tables::madt::{
     LocalApicNmiEntry, LocalX2ApicEntry, NmiSourceEntry, X2ApicNmiEntry,
 };
 
-/// The item of the interrupt model that an entry gives, if it isn't refused.
+/// The item of the interrupt model that an entry encodes, if nothing is wrong with it.
 #[derive(Clone, Copy)]
 pub enum MadtItem {
     /// Processor Local APIC or Local x2APIC: there is a processor.
@@ -39,17 +39,17 @@ pub enum MadtItem {
     NmiLine(NmiLine),
     /// Local APIC Address Override: the local APICs have this address.
     LocalApicAddress(u64),
-    /// Multiprocessor Wakeup: how processors are woken, of which the model says nothing.
+    /// Multiprocessor Wakeup: how processors are woken, which the model doesn't contain.
     Wakeup,
 }
 
 impl MadtItem {
-    /// The item that an entry's bytes give, or `None` if its type isn't one of 0 to 0x10. Only the fields
+    /// The item that an entry's bytes encode, or `None` if its type isn't one of 0 to 0x10. Only the fields
     /// that the model has are read, and no `MadtEntry` is made.
     ///
-    /// Refuses the types of SAPICs and of the GIC with `UnexpectedEntry`, an override of another
-    /// bus than ISA with `InterruptOverrideEntryHasInvalidBus`, reserved flags with
-    /// `MpsIntiInvalidPolarity` or else `MpsIntiInvalidTriggerMode`, and other inputs than LINT0 and
+    /// Fails for the types of SAPICs and of the GIC with `UnexpectedEntry`, for an override of another
+    /// bus than ISA with `InterruptOverrideEntryHasInvalidBus`, for reserved flags with
+    /// `MpsIntiInvalidPolarity` or else `MpsIntiInvalidTriggerMode`, and for other inputs than LINT0 and
     /// LINT1 with `InvalidLocalNmiLine`.
     #[inline(always)]
     #[tactic(auto, unfolding(crate::specs::Interrupts::item_of, crate::specs::Items::said_of))]
@@ -99,7 +99,8 @@ impl MadtItem {
         }
     }
 
-    /// Why an entry's bytes are refused, or `None` if they aren't: the error with which the strict model fails for it.
+    /// What is wrong with an entry's bytes, or `None` if nothing is: the error with which the strict model fails for
+    /// it.
     pub fn fault(entry: &[u8]) -> Option<MadtError>
         requires { IsEntry madt_layout entry.now }
         ensures { result ≡ fault_said entry.now }
@@ -171,7 +172,7 @@ impl InterruptSourceOverrideEntry {
         }
     }
 
-    /// Why it is refused, if it is. The bus is tested before the flags.
+    /// What is wrong with it, if something is. The bus is tested before the flags.
     #[inline(always)]
     fn fault(&self) -> Option<MadtError>
         ensures { result ≡ override_fault self.now }
@@ -198,7 +199,7 @@ impl NmiSourceEntry {
     }
 }
 
-/// Why MPS INTI Flags are refused, if they are: for a reserved Polarity, or else for a reserved Trigger Mode (section
+/// What is wrong with MPS INTI Flags, if something is: a reserved Polarity, or else a reserved Trigger Mode (section
 /// 5.2.12.5).
 #[inline(always)]
 pub fn flags_fault(flags: u16) -> Option<MadtError>

@@ -7,7 +7,7 @@ use super::interrupt::{Apic, NmiLine, NmiProcessor};
 use std::alloc::Allocator;
 
 /// The LINT pins of one processor's local APIC that NMIs are connected to (ACPI 6.4, sections 5.2.12.7 and
-/// 5.2.12.13), in the order of their entries, as `Apic::local_nmi_lines_for` gives them.
+/// 5.2.12.13), in the order of their entries, as `Apic::local_nmi_lines_for` returns them.
 #[derive(Drop)]
 pub struct LocalNmiLines<'a> {
     lines: &'a [NmiLine],
@@ -16,10 +16,10 @@ pub struct LocalNmiLines<'a> {
 
 impl<A: Allocator> Apic<A> {
     /// The LINT pins that NMIs are connected to at the local APIC of the processor with this ACPI
-    /// Processor UID: those of all processors and its own, in the order of their entries (ACPI 6.4,
+    /// Processor UID: the pins of all processors and its own, in the order of their entries (ACPI 6.4,
     /// sections 5.2.12.7 and 5.2.12.13).
     ///
-    /// The ids that stand for all processors in entries, 0xff and 0xffffffff, are ids like others
+    /// The ids that mean all processors in entries, 0xff and 0xffffffff, are ids like others
     /// here.
     pub fn local_nmi_lines_for(&self, processor_uid: u32) -> LocalNmiLines<'_>
         ensures { lines_left result ≡ lines_for self.now.local_apic_nmi_lines processor_uid }

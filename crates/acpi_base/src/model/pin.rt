@@ -34,7 +34,7 @@ impl<A: Allocator> Apic<A> {
     }
 }
 
-/// What `Apic::io_apic_for` answers, out of the I/O APICs.
+/// What `Apic::io_apic_for` returns, by the I/O APICs.
 #[tactic(auto, using(crate::proofs::Pin::one_nearer))]
 fn pin_for(io_apics: &[IoApic], interrupt: u32) -> Option<IoApicPin<'_>>
     ensures { option_map pin_of result ≡ io_apic_for io_apics.now interrupt }

@@ -35,11 +35,11 @@ pub struct Processor {
 pub struct ProcessorInfo<A: Allocator> {
     /// The boot processor: that of the first entry of a processor, even if Enabled isn't set there.
     pub boot_processor: Processor,
-    /// The application processors: those of all other entries, in their order.
+    /// The application processors: one for each other entry, in their order.
     pub application_processors: ManagedSlice<Processor, A>,
 }
 
-/// Clones with the fields of the original, or `AllocError` if memory is refused, or a clone of the
+/// Clones with the fields of the original, or `AllocError` if memory runs out, also for a clone of the
 /// allocator.
 impl<A: Allocator + Clone> Clone for ProcessorInfo<A> {
     ghost is_clone = { λ x y. y ≡ x };

@@ -126,8 +126,8 @@ impl SdtHeader {
         Ok(())
     }
 
-    /// Checks the names, of which the signature is known to be this one, but for those that the bits of `accept` give
-    /// up.
+    /// Checks the names, of which the signature is known to be this one, but for the checks that the bits of `accept`
+    /// skip.
     #[tactic(auto, using(crate::proofs::Accepted::no_text, crate::proofs::Accepted::any_ids, crate::proofs::Accepted::ids_left))]
     fn validate_own(&self, signature: Signature, accept: u32) -> AcpiResult<()>
         requires { self.now.signature ≡ signature }

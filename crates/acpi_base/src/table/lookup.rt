@@ -12,7 +12,7 @@ use crate::memory::handler::{Lender, PhysicalRecord};
 use crate::memory::mapping::PhysicalMapping;
 
 /// The header's bytes at an address, if they begin with this signature. Most members that a
-/// lookup passes over have another one: so that is compared before anything else is made of them.
+/// lookup skips have another one: so that is compared before anything else is made of them.
 #[inline(always)]
 #[tactic(auto, using(crate::proofs::OwnTable::no_header, crate::proofs::OwnTable::another_signature, crate::proofs::Accepted::another_accepted))]
 fn claim_header<'h, H: Lender>(
@@ -40,9 +40,9 @@ fn claim_header<'h, H: Lender>(
     Ok(head)
 }
 
-/// The bytes of the table whose header is claimed and has this signature, as many as that header says, if it passes the
-/// checks that the bits of `accept` leave and has the least length. The sum is still to be checked. If the bytes lent
-/// for the header hold the whole table, they are shown; else the header's claim ends before the request.
+/// The bytes of the table whose header is claimed and has this signature, as many as its Length, if it passes the
+/// checks that the bits of `accept` leave and has the least length. The sum is still to be checked. If the bytes mapped
+/// for the header contain the whole table, they are shown; else the header's claim ends before the request.
 #[inline(always)]
 fn claim_whole<'h, H: Lender>(
     head: Claim<'h, H>,
@@ -70,8 +70,8 @@ fn claim_whole<'h, H: Lender>(
     }
 }
 
-/// The bytes of a table that is valid for some type, as they are lent: small, so that a walk along
-/// many addresses makes nothing as big as a record of those that it passes over.
+/// The bytes of a table that is valid for some type, as they are mapped: small, so that a walk along
+/// many addresses makes nothing as big as a record of the ones that it skips.
 pub struct ValidTable<'h, H: Lender> {
     claim: Claim<'h, H>,
 }
@@ -92,7 +92,7 @@ impl<'h, H: Lender> ValidTable<'h, H> {
 }
 
 /// The bytes of the table whose header is claimed, if it is valid for `T`. No record is made of them here:
-/// they are small to pass on, and the record is read where it is to lie.
+/// they are small to pass on, and the record is read where it is to be.
 #[inline(never)]
 fn claim_valid<'h, H: Lender, T: AcpiTable>(head: Claim<'h, H>) -> AcpiResult<ValidTable<'h, H>>
     requires header { length (shown_by head) ≡ 36 }
@@ -128,7 +128,7 @@ pub fn valid_at<'h, H: Lender, T: AcpiTable>(
     ensures place { IfOk result (λ v. claimed_at v.claim ≡ address) }
     ensures handler { IfOk result (λ v. claimed_from v.claim ≡ handler.now) }
     ensures least { IfOk result (λ v. T.MIN_LENGTH ≤ length (shown_by v.claim)) }
-    // However many bytes were lent, all of them are the memory's.
+    // However many bytes are mapped, all of them are the memory's.
     ensures lent { IfOk result (λ v. IsLentOf (H.memory handler.now) v.claim) }
     ensures table { Gives (λ v. shown_by v.claim) result
         (table_at (H.memory handler.now) T.kind address) }
@@ -139,10 +139,10 @@ pub fn valid_at<'h, H: Lender, T: AcpiTable>(
 
 /// The table at a physical address, if it is valid for `T` (sections 5.2.5 and 5.2.6).
 ///
-/// Fails, in this order, with `MapFailed` if 36 bytes aren't lent, `SdtInvalidSignature` if the signature
+/// Fails, in this order, with `MapFailed` if 36 bytes aren't mapped, `SdtInvalidSignature` if the signature
 /// is another or is not valid UTF-8, `SdtInvalidOemId` and `SdtInvalidTableId` if that id is not valid
 /// UTF-8, `SdtInvalidLength` if the length in the header is under `T::MIN_LENGTH`, `MapFailed` if that many
-/// bytes aren't lent, and with the error of `T::validate` for these bytes.
+/// bytes aren't mapped, and with the error of `T::validate` for these bytes.
 #[inline(always)]
 pub fn map_table<'h, H: Lender, T: AcpiTable>(
     handler: &'h H,
@@ -151,7 +151,7 @@ pub fn map_table<'h, H: Lender, T: AcpiTable>(
     requires { Allows (H.may handler.now) (table_ranges (H.memory handler.now) T.kind address) }
     ensures place { IfOk result (λ m. start_of m ≡ address) }
     ensures handler { IfOk result (λ m. handler_of m ≡ handler.now) }
-    // However many bytes were lent, all of them are the memory's.
+    // However many bytes are mapped, all of them are the memory's.
     ensures lent { IfOk result (λ m. IsOfMemory (H.memory handler.now) m) }
     ensures table { Gives (λ m. bytes_of m) result
         (table_at (H.memory handler.now) T.kind address) }
@@ -192,7 +192,7 @@ fn claim_by<'h, H: Lender>(
 /// one of a least length of which only the header and the sum matter (section 5.2.6). By bit 0 of `accept` its sum may
 /// be any, by bit 1 both of its ids, and by 0 it has to be valid.
 ///
-/// Fails as `map_table` does for a type with that signature and least length, but for the checks that are given up.
+/// Fails as `map_table` does for a type with that signature and least length, but for the checks that are skipped.
 #[inline(always)]
 #[tactic(auto, using(crate::proofs::AllowedRanges::asked_header, crate::proofs::AllowedRanges::asked_whole))]
 pub fn valid_by<'h, H: Lender>(
@@ -210,7 +210,7 @@ pub fn valid_by<'h, H: Lender>(
     ensures least { IfOk result (λ v. least ≤ length (shown_by v.claim)) }
     ensures short { IfOk result (λ v. length (shown_by v.claim) < 2 ^ 32) }
     ensures ends { IfOk result (λ v. claimed_at v.claim + length (shown_by v.claim) < 2 ^ 64) }
-    // However many bytes were lent, all of them are the memory's.
+    // However many bytes are mapped, all of them are the memory's.
     ensures lent { IfOk result (λ v. IsLentOf (H.memory handler.now) v.claim) }
     ensures table { Gives (λ v. shown_by v.claim) result
         (table_at (H.memory handler.now) (accepted accept (sdt_kind signature least)) address) }
@@ -219,8 +219,8 @@ pub fn valid_by<'h, H: Lender>(
     claim_by(head, signature, least, accept)
 }
 
-/// The bytes of the table at a physical address, if it is accepted so under the signature that it has itself, whatever
-/// that is, with the least length 36 (section 5.2.6).
+/// The bytes of the table at a physical address, if it is accepted in this way under the signature that it has itself,
+/// whatever that is, with the least length 36 (section 5.2.6).
 ///
 /// Fails as `valid_by` does for that signature.
 #[inline(always)]
@@ -236,7 +236,7 @@ pub fn own_valid_by<'h, H: Lender>(
     ensures least { IfOk result (λ v. 36 ≤ length (shown_by v.claim)) }
     ensures short { IfOk result (λ v. length (shown_by v.claim) < 2 ^ 32) }
     ensures ends { IfOk result (λ v. claimed_at v.claim + length (shown_by v.claim) < 2 ^ 64) }
-    // However many bytes were lent, all of them are the memory's.
+    // However many bytes are mapped, all of them are the memory's.
     ensures lent { IfOk result (λ v. IsLentOf (H.memory handler.now) v.claim) }
     ensures table { Gives (λ v. shown_by v.claim) result (own_accepted accept (H.memory handler.now) address) }
 {
@@ -259,7 +259,7 @@ pub fn map_sdt<'h, H: Lender>(
         (plain_kind signature) address) }
     ensures place { IfOk result (λ m. start_of m ≡ address) }
     ensures handler { IfOk result (λ m. handler_of m ≡ handler.now) }
-    // However many bytes were lent, all of them are the memory's.
+    // However many bytes are mapped, all of them are the memory's.
     ensures lent { IfOk result (λ m. IsOfMemory (H.memory handler.now) m) }
     ensures short { IfOk result (λ m. length (bytes_of m) < 2 ^ 32) }
     ensures ends { IfOk result (λ m. start_of m + length (bytes_of m) < 2 ^ 64) }
@@ -283,7 +283,7 @@ pub fn map_own_sdt<'h, H: Lender>(
     requires { Allows (H.may handler.now) (own_table_ranges (H.memory handler.now) address) }
     ensures place { IfOk result (λ m. start_of m ≡ address) }
     ensures handler { IfOk result (λ m. handler_of m ≡ handler.now) }
-    // However many bytes were lent, all of them are the memory's.
+    // However many bytes are mapped, all of them are the memory's.
     ensures lent { IfOk result (λ m. IsOfMemory (H.memory handler.now) m) }
     ensures short { IfOk result (λ m. length (bytes_of m) < 2 ^ 32) }
     ensures table { Gives (λ m. bytes_of m) result (own_table_at (H.memory handler.now) address) }

@@ -28,7 +28,7 @@ const EVEN: u64 = 0x00ff_00ff_00ff_00ff;
 const MOST: usize = 2048;
 
 /// Whether the processor has vectors to add lanes in. `scripts/dist` makes it false for code that may use none, and may
-/// read a word at any address. It has no contract, so its callers are proved for either answer.
+/// read a word at any address. It has no contract, so its callers are proved for either result.
 #[inline(always)]
 fn has_vectors() -> bool {
     true
@@ -83,8 +83,8 @@ fn long_sum(bytes: &[u8]) -> u8
     finished(lanes, bytes, at)
 }
 
-/// The sum of all bytes, if lanes hold that of the bytes before a place and less than a block
-/// stands after it.
+/// The sum of all bytes, if lanes contain that of the bytes before a place and less than a block
+/// is after it.
 #[inline(always)]
 fn finished(begun: u8x16, bytes: &[u8], begin: usize) -> u8
     requires long { LANES ≤ length bytes.now }
@@ -93,7 +93,7 @@ fn finished(begun: u8x16, bytes: &[u8], begin: usize) -> u8
     requires sums { AddsUp begun (take begin bytes.now) }
     ensures { result ≡ sum_of bytes.now }
 {
-    // At most three vectors stand after the blocks.
+    // At most three vectors are after the blocks.
     let (lanes, at) = one_more(begun, bytes, begin);
     let (lanes, at) = one_more(lanes, bytes, at);
     let (lanes, at) = one_more(lanes, bytes, at);
@@ -102,7 +102,7 @@ fn finished(begun: u8x16, bytes: &[u8], begin: usize) -> u8
     (lanes + last).reduce_sum()
 }
 
-/// One vector more, if a whole one stands at the place.
+/// One vector more, if a whole one is at the place.
 #[inline(always)]
 fn one_more(lanes: u8x16, bytes: &[u8], at: usize) -> (u8x16, usize)
     requires within { at ≤ length bytes.now }

@@ -35,14 +35,14 @@ pub use wakeup::{
 };
 pub use walk::MadtEntryIter;
 
-/// The Multiple APIC Description Table (MADT, section 5.2.12, table 5.19). Its entries stand after these
-/// fields; a mapping of it gives them.
+/// The Multiple APIC Description Table (MADT, section 5.2.12, table 5.19). Its entries are after these
+/// fields; a mapping of it returns them.
 #[derive(Debug, Drop)]
 pub struct Madt {
     /// The header that every table begins with.
     pub header: SdtHeader,
     /// Local Interrupt Controller Address: the physical address of each processor's local APIC, unless a
-    /// Local APIC Address Override gives another.
+    /// Local APIC Address Override has another.
     pub local_apic_address: u32,
     /// Flags: bit 0 PCAT_COMPAT, the machine has a pair of 8259 controllers too (`supports_8259()`).
     pub flags: u32,
@@ -88,7 +88,7 @@ impl Madt {
     }
 }
 
-/// What `get_mpwk_mailbox_addr` answers, out of the table's bytes.
+/// What `get_mpwk_mailbox_addr` returns, by the table's bytes.
 fn mailbox_address(table: &[u8]) -> AcpiResult<u64>
     ensures { result ≡ mailbox_of table.now }
 {
@@ -114,7 +114,7 @@ impl<'h, H: Lender> PhysicalMapping<'h, H, Madt> {
         ensures rest { rest_left result ≡ (cut_of (bytes_of self.now)).1 }
         ensures begun { has_ended result ≡ false }
         ensures few { 2 * length (entries_left result) + 44 ≤ length (bytes_of self.now) }
-        // So few are all entries, those of other types among them, that a walk steps over.
+        // All entries are as few, also with the ones of other types, which a walk skips.
         ensures all_few { 2 * length (cut_of (bytes_of self.now)).0 + 44 ≤ length (bytes_of self.now) }
     {
         MadtEntryIter::over(self.bytes())
@@ -133,7 +133,7 @@ impl<'h, H: Lender> PhysicalMapping<'h, H, Madt> {
 
     /// The interrupt model that the entries describe (section 5.2.12), and the processors, if there
     /// are any, in memory of an allocator. It is `Unknown`, without processors, if no entry is of APICs; no
-    /// memory is then asked for.
+    /// memory is then requested.
     ///
     /// Fails with `InvalidMadt` for the first entry that is at fault, with the first of these that holds:
     ///

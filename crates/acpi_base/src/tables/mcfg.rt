@@ -15,8 +15,8 @@ use crate::table::header::SdtHeader;
 use crate::table::signature::Signature;
 
 /// The MCFG: regions of memory, each with the configuration space of some PCI buses. Section 5.2.6 reserves
-/// its signature, and its layout is the PCI Firmware Specification's (section 4.1.2). Its entries stand after
-/// 44 fixed bytes; a mapping of it gives them.
+/// its signature, and its layout is the PCI Firmware Specification's (section 4.1.2). Its entries are after
+/// 44 fixed bytes; a mapping of it returns them.
 #[derive(Drop)]
 pub struct Mcfg {
     header: SdtHeader,

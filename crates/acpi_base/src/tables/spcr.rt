@@ -245,14 +245,14 @@ impl Spcr {
     }
 }
 
-/// A number, unless it is the one that stands for none.
+/// A number, unless it is the one that means none.
 fn unless<N: Copy + PartialEq>(number: N, none: N) -> Option<N>
     ensures { result ≡ (if N.PartialEq.eq number none then None else Some number) }
 {
     if number == none { None } else { Some(number) }
 }
 
-/// The name that the fields of a table and its bytes give.
+/// The name that a table's bytes contain at the place that its fields have.
 fn namespace_in<'t>(spcr: &Spcr, table: &'t [u8]) -> AcpiResult<&'t str>
     ensures { Shows result (namespace_in spcr.now table.now) }
 {

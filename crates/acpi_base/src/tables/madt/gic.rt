@@ -35,8 +35,8 @@ pub struct GiccEntry {
     pub gic_hypervisor_registers_address: u64,
     /// VGIC Maintenance interrupt: that of the virtual interface.
     pub vgic_maintenance_interrupt: u32,
-    /// GICR Base Address: that of the processor's redistributor. 0: it lies in one of the ranges that
-    /// `GicRedistributorEntry` gives.
+    /// GICR Base Address: that of the processor's redistributor. 0: it is in one of the ranges of
+    /// a `GicRedistributorEntry`.
     pub gicr_base_address: u64,
     /// MPIDR: the processor's affinity, as in its register of that name.
     pub mpidr: u64,
@@ -88,7 +88,7 @@ pub struct GicdEntry {
     pub physical_base_address: u64,
     /// System Vector Base: the first interrupt of the distributor; reserved, and 0.
     pub system_vector_base: u32,
-    /// GIC version: that of the controller, 1 to 4. 0: the hardware tells.
+    /// GIC version: that of the controller, 1 to 4. 0: the hardware has it.
     pub gic_version: u8,
 }
 
@@ -119,7 +119,7 @@ pub struct GicMsiFrameEntry {
     pub frame_id: u32,
     /// Physical Base Address: that of its registers.
     pub physical_base_address: u64,
-    /// Flags: bit 0 SPI Count/Base Select, the next two fields count and not what the registers say.
+    /// Flags: bit 0 SPI Count/Base Select, the next two fields count and not the registers.
     pub flags: u32,
     /// SPI Count: the number of interrupts (SPIs) of the frame.
     pub spi_count: u16,

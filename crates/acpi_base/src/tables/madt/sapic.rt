@@ -85,7 +85,7 @@ pub struct PlatformInterruptSourceEntry {
     pub processor_id: u8,
     /// Processor EID: the extended id of the local SAPIC of that processor.
     pub processor_eid: u8,
-    /// I/O SAPIC Vector: the vector that the I/O SAPIC is to give the interrupt.
+    /// I/O SAPIC Vector: the vector of the interrupt at the I/O SAPIC.
     pub io_sapic_vector: u8,
     /// Global System Interrupt: the interrupt.
     pub global_system_interrupt: u32,

@@ -6,7 +6,7 @@ use super::entry::EntryHeader;
 use crate::bytes::{field_in, u16_in};
 use crate::memory::handler::PhysicalRecord;
 
-/// Multiprocessor Wakeup: the mailbox by which the firmware is asked to wake a processor (section
+/// Multiprocessor Wakeup: the mailbox by which the firmware is requested to wake a processor (section
 /// 5.2.12.19).
 #[derive(Clone, Copy, Debug)]
 pub struct MultiprocessorWakeupEntry {
@@ -34,10 +34,10 @@ impl PhysicalRecord for MultiprocessorWakeupEntry {
     }
 }
 
-/// Command: what the firmware is asked to do by the Multiprocessor Wakeup Mailbox (section 5.2.12.19).
+/// Command: what the firmware is to do by the Multiprocessor Wakeup Mailbox (section 5.2.12.19).
 #[derive(Clone, Copy, Debug, PartialEq, Eq)]
 pub enum MpProtectedModeWakeupCommand {
-    /// Noop, 0: nothing is asked for, and the firmware is ready for a command.
+    /// Noop, 0: nothing is requested, and the firmware is ready for a command.
     Noop = 0,
     /// Wakeup, 1: wake the processor, which begins to run at WakeupVector.
     Wakeup = 1,
@@ -70,7 +70,7 @@ impl TryFrom<u16> for MpProtectedModeWakeupCommand {
 /// writes one.
 #[derive(Clone, Copy)]
 pub struct MultiprocessorWakeupMailbox {
-    /// Command: what the firmware is asked to do, by its number.
+    /// Command: what the firmware is to do, by its number.
     pub command: u16,
     /// ApicId: the id of the local APIC of the processor that the command is for.
     pub apic_id: u32,

@@ -30,7 +30,7 @@ impl McfgEntry {
     /// each bus before the first one, and has 2^20 bytes for each bus from the first to the last.
     ///
     /// It is `None` if the last bus is below the first, and if the range ends at 2^64 or above. Some
-    /// addresses in it may then be answered all the same by `ecam_address`.
+    /// addresses in it may then be returned all the same by `ecam_address`.
     pub fn ecam_range(&self) -> Option<AddressRange>
         ensures { result ≡ ecam_range self.now }
     {

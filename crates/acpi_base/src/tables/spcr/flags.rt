@@ -1,4 +1,4 @@
-//! Sets of flags in the SPCR. Their functions are those of the crate `bitflags`.
+//! Sets of flags in the SPCR. Their functions are as in the crate `bitflags`.
 ghost use Rattle.std.specs.Prelude.{⊤, [], ◌∷◌, codes};
 
 use bitflags::{Flag, Flags};
