@@ -4,7 +4,7 @@ use Rattle.acpi_base.specs.FromStd.{is_utf8}
 use Rattle.acpi_base.proofs.FromStd.{bytes_eq-Decides, eqb-true, leb-true, ne_eqb}
 use Rattle.acpi_base.proofs.OwnTable.{Passed, checked_last, is_whole, length_there, names_there, no_header, only_sum_left, passed, passes, refused_by_names, signature_first}
 use Rattle.acpi_base.proofs.Steps.{bind_ok}
-use Rattle.acpi_base.specs.Words.{AcceptsNothing, AcceptsValid, AcpiError, KeepsNames, KeepsSums, Kind, Memory, SdtHeader, SdtInvalidChecksum, SdtInvalidSignature, Signature, accepted, check_ids, check_names, check_signature, check_table, has_bit, header_at, holds, lent, loosened, own_accepted, part, sdt_kind, sum_of, table_at, unchecked, whole_ranges, ◌>>=◌}
+use Rattle.acpi_base.specs.Words.{AcceptsNothing, AcceptsValid, AcpiError, KeepsNames, KeepsSums, Kind, Memory, SdtHeader, SdtInvalidChecksum, SdtInvalidSignature, Signature, accepted, check_ids, check_names, check_signature, check_table, has_bit, header_at, holds, lent, loosened, part, sdt_kind, sum_of, table_at, unchecked, whole_ranges, ◌>>=◌}
 
 -- ---- the header
 
@@ -63,13 +63,6 @@ pub another_accepted : (accept : ℕ) (m : Memory) (s : Signature) (least p : �
 unfolding header_at
 another_accepted accept m s least p head front other = refused_by_names m (accepted accept (sdt_kind s least)) p head _
     front (first_if (has_bit accept 1) s (header_at head) other)
-
--- ---- under the signature that its own header has
-
-pub own_accepted_is : (accept : ℕ) (m : Memory) (s : Signature) (p : ℕ) (head : List ℕ) → lent m p 36 ≡ Ok head
-    → (header_at head).signature ≡ s → own_accepted accept m p ≡ table_at m (accepted accept (sdt_kind s 36)) p
-unfolding own_accepted
-own_accepted_is accept m s p head front own = rw front (ap (λ x. table_at m (accepted accept (sdt_kind x 36)) p) own)
 
 -- ---- the sum comes last
 

@@ -7,7 +7,7 @@ use Rattle.acpi_base.specs.FromStd.{result_ok, is_utf8}
 use Rattle.acpi_base.proofs.FromStd.{and_from, and_parts, leb-true, le-leb, ne_eqb, drop-take, length-take-le, take-take, cond_some, bytes_eq-Decides, take-length}
 use Rattle.acpi_base.proofs.LentRanges.{at-front, lent_bytes}
 use Rattle.acpi_base.proofs.Steps.{bind_ok, holds_ok, some_lent, same_ok}
-use Rattle.acpi_base.specs.Words.{IsBytes, field_of, part, sum_of, unchecked, check_names, check_table, header_at, Memory, IsMemory, at, rest_from, DependsOn, own_table_ranges, table_ranges, ◌>>=◌, holds, lent, kind, own_table_at, plain_kind, table_at, Kind, AcpiError, SdtInvalidChecksum, SdtInvalidLength, SdtInvalidSignature, SdtHeader, Signature, letters_of}
+use Rattle.acpi_base.specs.Words.{IsBytes, field_of, part, sum_of, unchecked, check_names, check_table, header_at, Memory, IsMemory, at, rest_from, DependsOn, accepted, own_accepted, own_accepted_ranges, own_kind, own_table_ranges, table_ranges, ◌>>=◌, holds, lent, kind, own_table_at, plain_kind, sdt_kind, table_at, Kind, AcpiError, SdtInvalidChecksum, SdtInvalidLength, SdtInvalidSignature, SdtHeader, Signature, letters_of}
 
 abbrev only : {A : Type 0} → Bool → Option A → Option A
 only b o = if b then o else None
@@ -116,14 +116,14 @@ is_named : (s : Signature) (h : SdtHeader) → check_names s h ≡ Ok tt → bea
 unfolding check_names
 is_named s h e = (and_parts _ _ (holds_ok (bears s h && is_utf8 h.signature.0) _ _ tt e).0).0
 
-own_is : (m : Memory) (s : Signature) (p : ℕ) (head : List ℕ) → lent m p 36 ≡ Ok head → (header_at head).signature ≡ s
-    → own_table_at m p ≡ table_at m (plain_kind s) p
-unfolding own_table_at
-own_is m s p head front own = rw front (ap (λ x. table_at m (plain_kind x) p) own)
+pub own_accepted_is : (accept : ℕ) (m : Memory) (s : Signature) (p : ℕ) (head : List ℕ) → lent m p 36 ≡ Ok head
+    → (header_at head).signature ≡ s → own_accepted accept m p ≡ table_at m (accepted accept (sdt_kind s 36)) p
+unfolding own_accepted
+own_accepted_is accept m s p head front own = rw front (ap (λ x. table_at m (accepted accept (sdt_kind x 36)) p) own)
 
 own_of : (m : Memory) (s : Signature) (least p : ℕ) → 36 ≤ least → (table : List ℕ)
     → table_at m (kind s least (check_table s)) p ≡ Ok table
-    → (own_table_at m p ≡ Ok table) × (serves s least table ≡ true)
+    → (own_accepted 0 m p ≡ Ok table) × (serves s least table ≡ true)
 unfolding table_at
 own_of m s least p enough table e =
     let h = passed m (kind s least (check_table s)) p table e in
@@ -132,20 +132,20 @@ own_of m s least p enough table e =
     let long = le-leb 36 (header_at h.head).length
     (omega (arith, enough, leb-true least (header_at h.head).length h.long)) in
     let plain : table_at m (plain_kind s) p ≡ Ok table = rw (h.front, h.names, long, h.whole, h.checked) refl in (
-      own_is m s p h.head h.front (same_signature s (header_at h.head) own) ∙ plain,
+      own_accepted_is 0 m s p h.head h.front (same_signature s (header_at h.head) own) ∙ plain,
       and_from (bears s (header_at table)) (nat_le least (length table)) (rw is.0 own) (rw (← is.1, is.0) h.long),
     )
 
-of_own : (m : Memory) (s : Signature) (least p : ℕ) (table : List ℕ) → own_table_at m p ≡ Ok table
+of_own : (m : Memory) (s : Signature) (least p : ℕ) (table : List ℕ) → own_accepted 0 m p ≡ Ok table
     → serves s least table ≡ true
     → table_at m (kind s least (check_table s)) p ≡ Ok table
-unfolding own_table_at table_at
+unfolding own_accepted table_at
 of_own m s least p table e serving =
     let both = and_parts _ _ serving in
     let first = bind_ok (lent m p 36) _ table e in
-    let own_kind = plain_kind (header_at first.0).signature in
-    let h = passed m own_kind p table first.2 in
-    let is = is_whole m own_kind p table (lit≤ tt) h in
+    let plain = plain_kind (header_at first.0).signature in
+    let h = passed m plain p table first.2 in
+    let is = is_whole m plain p table (lit≤ tt) h in
     let same : h.head ≡ first.0 = same_ok h.head first.0 (sym h.front ∙ first.1) in
     let own : (header_at first.0).signature ≡ s = ap (λ b. (header_at b).signature) (sym same)
     ∙ same_signature s (header_at h.head) (rw (← is.0) both.0) in
@@ -166,7 +166,7 @@ by_both s least (Err d) (Ok t) there back = unserved (serves s least t) t (λ q.
 by_both s least (Err d) (Err e) there back = refl
 
 pub own_table_is : (m : Memory) (s : Signature) (least p : ℕ) → 36 ≤ least
-    → result_ok (table_at m (kind s least (check_table s)) p) ≡ served s least (result_ok (own_table_at m p))
+    → result_ok (table_at m (kind s least (check_table s)) p) ≡ served s least (result_ok (own_accepted 0 m p))
 own_table_is m s least p enough = by_both s least _ _ (own_of m s least p enough) (of_own m s least p)
 
 pub own_signature : (s : Signature) (head : List ℕ) → letters_of s ≡ part head 0 4 → (header_at head).signature ≡ s
@@ -181,9 +181,9 @@ is_signature s t head letters same =
 
 pub own_table : (m : Memory) (s : Signature) (p : ℕ) (head : List ℕ) → lent m p 36 ≡ Ok head
     → letters_of s ≡ part head 0 4
-    → own_table_at m p ≡ table_at m (plain_kind s) p
+    → own_accepted 0 m p ≡ table_at m (plain_kind s) p
 unfolding header_at
-own_table m s p head front letters = own_is m s p head front (ap the_signature (sym letters))
+own_table m s p head front letters = own_accepted_is 0 m s p head front (ap the_signature (sym letters))
 
 -- ---- before the kind's own check, and then only the sum is left
 
@@ -296,11 +296,14 @@ same_table k m n p h =
     let whole = rw (front, names, long) at h.1 in
     rw (← whole.0) refl))))
 
-pub same_own_table : DependsOn own_table_ranges own_table_at
-unfolding own_table_at
-same_own_table m n p h =
+pub same_own_accepted : (accept : ℕ) → DependsOn (own_accepted_ranges accept) (own_accepted accept)
+unfolding own_accepted
+same_own_accepted accept m n p h =
     rw (← h.0) (after (lent m p 36) _ _ (λ head front.
-    same_table (plain_kind (header_at head).signature) m n p (h.0, rw front (rw front at h.1))))
+    same_table (own_kind accept (header_at head) 36) m n p (h.0, rw front (rw front at h.1))))
+
+pub same_own_table : DependsOn own_table_ranges own_table_at
+same_own_table = same_own_accepted 0
 
 -- a table's bytes are bytes
 pub table_bytes : (m : Memory) (k : Kind) (p : ℕ) (table : List ℕ) → IsMemory m → table_at m k p ≡ Ok table

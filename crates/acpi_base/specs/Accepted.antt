@@ -35,6 +35,10 @@ own_accepted accept m p = do
   head ← lent m p 36
   table_at m (own_kind accept (header_at head) 36) p
 
+-- no check is skipped: the table at an address if it is valid under the signature that its own header has
+abbrev pub own_table_at : Memory → ℕ → Result (List ℕ) AcpiError
+own_table_at = own_accepted 0
+
 -- ---- laws
 
 -- by 0 each kind is as it was, so each call that is passed an `accept` of 0 is the strict one

@@ -7,7 +7,7 @@ use Rattle.acpi_base.specs.Header.{header_at}
 use Rattle.acpi_base.specs.Memory.{Memory, at}
 use Rattle.acpi_base.specs.Steps.{holds, lent}
 use Rattle.acpi_base.specs.Accepted.{own_kind}
-use Rattle.acpi_base.specs.Table.{Kind, plain_kind}
+use Rattle.acpi_base.specs.Table.{Kind}
 
 -- each an address and a number of bytes
 abbrev pub Ranges : Type 0
@@ -71,6 +71,4 @@ own_accepted_ranges accept m p = (p, 36) ∷ do
 
 -- the ranges of `own_table_at`
 abbrev pub own_table_ranges : Memory → ℕ → Ranges
-own_table_ranges m p = (p, 36) ∷ do
-  head ← lent m p 36
-  whole_ranges (plain_kind (header_at head).signature) p head
+own_table_ranges = own_accepted_ranges 0

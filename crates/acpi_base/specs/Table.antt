@@ -37,9 +37,3 @@ table_at m k p = do
   table ← lent m p header.length
   _ ← k.check table
   Ok table
-
--- the table at an address under the signature that its own header has, or the first error
-unfoldable pub own_table_at : Memory → ℕ → Result (List ℕ) AcpiError
-own_table_at m p = do
-  head ← lent m p 36
-  table_at m (plain_kind (header_at head).signature) p

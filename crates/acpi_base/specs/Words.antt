@@ -1,5 +1,5 @@
 -- This crate's words: what proofs, contracts and the crates above bring in from its specs.
-pub use Rattle.acpi_base.specs.Accepted.{AcceptsNothing, AcceptsValid, KeepsNames, KeepsSums, accepted, check_sum_alone, loosened, own_kind}
+pub use Rattle.acpi_base.specs.Accepted.{AcceptsNothing, AcceptsValid, KeepsNames, KeepsSums, accepted, check_sum_alone, loosened, own_kind, own_table_at}
 unfoldable pub use Rattle.acpi_base.specs.Accepted.{own_accepted}
 unfoldable pub use Rattle.acpi_base.specs.Address.{generic_address_of}
 pub use Rattle.acpi_base.specs.Bits.{bits_of, has_bit}
@@ -46,7 +46,7 @@ pub use Rattle.acpi_base.specs.SpcrFlags.{FlagsAreNumbered, flow_bits, interrupt
 pub use Rattle.acpi_base.specs.Steps.{Gives, GivesOrFull, holds, lent, ◌>>=◌}
 pub use Rattle.acpi_base.specs.Sums.{AddsUp, AddsUpInWords, in_lanes}
 pub use Rattle.acpi_base.specs.Table.{Kind, kind, plain_kind, sdt_kind}
-unfoldable pub use Rattle.acpi_base.specs.Table.{own_table_at, table_at}
+unfoldable pub use Rattle.acpi_base.specs.Table.{table_at}
 pub use Rattle.acpi_base.specs.Text.{IsTextOf, Shows, bytes_text, hex_digit, hex_text, letters_of, signature_text}
 pub use Rattle.acpi_base.specs.Types.{AcpiError, Counts, EntryLayout, Four, Grammar, InterruptSourceOverride, InvalidEntryLength, InvalidMadt, IoApic, IsaInterrupt, MADT, MCFG, MadtEntry, MadtError, MadtItem, MapFailed, ModelBuilder, One, Place, Processor, ProcessorInfo, SPCR, SdtHeader, SdtInvalidChecksum, SdtInvalidLength, SdtInvalidSignature, Signature, Two, Width}
 pub use Rattle.acpi_base.specs.Wakeup.{command_of}

@@ -7,7 +7,7 @@ use Rattle.std.proofs.lemmas.List.Elements.{All-contains_itself}
 use Rattle.acpi_image_reader.specs.Words.{record_spelling}
 use Rattle.acpi_base.specs.FromStd.{from_le_bytes, to_le_bytes, AllByRecursion, is_utf8}
 use Rattle.acpi_base.proofs.FromStd.{drop_at, length-drop, length-take, recursion_from_All, take_at, le_bytes_8, length-append, length-map, length-set, append-nil, take_all, get_or_past, drop-set-add, drop-set-lt, take-set-le, cases_lt, le-leb, and_from, and_parts, eqb-true, leb-true, sum_by-set}
-use Rattle.acpi_base.specs.Words.{IsBytes, filled_part, spelling, part, sum_of, field_of, number, Memory, Region, IsMemory, at, check_names, check_table, header_at, lent, own_table_at, plain_kind, table_at}
+use Rattle.acpi_base.specs.Words.{IsBytes, filled_part, spelling, part, sum_of, field_of, number, Memory, Region, IsMemory, at, check_names, check_table, header_at, lent, own_accepted, own_table_at, plain_kind, table_at}
 use Rattle.acpi.specs.Types.{Signature}
 use Rattle.acpi_base.proofs.Words.{IsBytes-drop, IsBytes-take, length-spelling, number-spelling, number_filled, lent_is_inside, header_front}
 use Rattle.acpi.specs.Words.{signature_of, width_of, valid_tables}
@@ -308,7 +308,7 @@ module _ (m : Memory) (r : Region) (h : IsMemory m) (c : Contains m r) where
   pub own_table_there : check_names (header_at r.bytes).signature (header_at r.bytes) ≡ Ok tt → 36 ≤ length r.bytes
       → field_of r.bytes 4 4 ≡ length r.bytes → sum_of r.bytes ≡ 0
       → own_table_at m r.start ≡ Ok r.bytes
-  unfolding own_table_at
+  unfolding own_accepted
   own_table_there names long whole zero_sum =
       rw (lent_start 36 (lit≤ tt) long, header_front r.bytes)
       (table_there (header_at r.bytes).signature names long whole zero_sum)

@@ -2,7 +2,7 @@
 use Rattle.std.proofs.Common.{◌≡◌, ℕ, zero, suc, ◌<◌, ◌≤◌, Bool, true, List, [], ◌∷◌, arith, lit≤, refl, ◌&&◌, ◌^◌, nat_le, nat_lt}
 use Rattle.acpi_base.specs.FromStd.{AllByRecursion, chars, is_utf8}
 use Rattle.acpi_base.proofs.FromStd.{and_parts, leb-true, ltb-true}
-use Rattle.acpi_base.specs.Words.{IsBytes, field_of, sum_of, AreApart, IsMemory, Memory, Region, end_of, at, rest_from, cut, front, check_names, check_table, header_at, item_of, madt_at, own_table_at, table_at}
+use Rattle.acpi_base.specs.Words.{IsBytes, field_of, sum_of, AreApart, IsMemory, Memory, Region, end_of, at, rest_from, cut, front, check_names, check_table, header_at, item_of, madt_at, own_accepted, table_at}
 use Rattle.acpi_fixed.specs.Words.{fadt_at, block_at}
 use Rattle.acpi_laws.specs.Examples.{AreMemories, TheyDiffer, TheyList, damaged, dsdt, fadt, here, hpet, madt, mcfg, memory, moved, rsdp, rsdt, ssdt, there, unnamed, xsdt}
 use Rattle.acpi_laws.specs.ExampleLaws.{Instances, MovedInstances}
@@ -66,7 +66,7 @@ they_list = (refl, refl)
 -- ---- over both memories
 
 pub instances : {A : Type 0} → Instances A
-unfolding at rest_from table_at own_table_at header_at check_names check_table field_of sum_of is_utf8 chars
+unfolding at rest_from table_at own_accepted header_at check_names check_table field_of sum_of is_utf8 chars
     lib.Utf8.encode own_header_at stream_at fadt_at block_at madt_at front cut item_of hpet_at rsdp_at rsdp_of
     checked_length check_first check_sum pointers memory rsdp rsdt fadt hpet madt mcfg ssdt dsdt unnamed damaged
 instances = record {
@@ -90,7 +90,7 @@ instances = record {
 }
 
 pub moved_instances : {A : Type 0} → MovedInstances A
-unfolding at rest_from table_at own_table_at header_at check_names check_table field_of sum_of is_utf8 chars
+unfolding at rest_from table_at own_accepted header_at check_names check_table field_of sum_of is_utf8 chars
     lib.Utf8.encode own_header_at fadt_at block_at madt_at front cut item_of hpet_at memory rsdp rsdt fadt hpet madt
     mcfg ssdt dsdt unnamed damaged moved xsdt
 moved_instances = record {

@@ -4,7 +4,7 @@ use Rattle.acpi_base.specs.FromStd.{AllByRecursion, cons_option, result_ok}
 use Rattle.acpi_base.proofs.FromStd.{leb-true}
 use Rattle.acpi_base.proofs.Words.{is_whole, passed, bind_ok, same_ok}
 use Rattle.acpi.specs.Types.{AcpiError, SdtInvalidLength, Signature, DSDT, SSDT, AddressRange}
-use Rattle.acpi_base.specs.Words.{check_names, check_table, header_at, Memory, Ranges, own_table_ranges, table_ranges, unless_found, whole_ranges, ◌>>=◌, holds, lent, Kind, own_table_at, plain_kind, table_at}
+use Rattle.acpi_base.specs.Words.{check_names, check_table, header_at, Memory, Ranges, own_table_ranges, table_ranges, unless_found, whole_ranges, ◌>>=◌, holds, lent, Kind, own_accepted, own_table_at, plain_kind, table_at}
 use Rattle.acpi_base.specs.Ranges as ranges
 use Rattle.acpi_fixed.specs.Words.{dsdt_address_of, fadt_at}
 use Rattle.acpi.specs.Words.{lookup_ranges, root_ranges, fadt_kind, own_header_at, or_later, lookup, found_at, tables_found, dsdt_place, led_by, place_at, places_of, range, madt_kind, root_kind, signature_of}
@@ -51,7 +51,7 @@ plain_long m s p head table front e =
 
 own_long : (m : Memory) (p : ℕ) (head table : List ℕ) → lent m p 36 ≡ Ok head → own_table_at m p ≡ Ok table
     → (length table ≡ (header_at head).length) × (36 ≤ length table)
-unfolding own_table_at
+unfolding own_accepted
 own_long m p head table front e =
     let first = bind_ok (lent m p 36) _ table e in
     plain_long m (header_at first.0).signature p head table front first.2
@@ -62,7 +62,7 @@ plain_enough : (m : Memory) (s : Signature) (p : ℕ) (table : List ℕ) → tab
 plain_enough m s p table e = let h = passed m (plain_kind s) p table e in (plain_long m s p h.head table h.front e).1
 
 own_enough : (m : Memory) (p : ℕ) (table : List ℕ) → own_table_at m p ≡ Ok table → 36 ≤ length table
-unfolding own_table_at
+unfolding own_accepted
 own_enough m p table e = let first = bind_ok (lent m p 36) _ table e in
     plain_enough m (header_at first.0).signature p table first.2
 

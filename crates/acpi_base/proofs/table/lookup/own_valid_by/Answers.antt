@@ -1,6 +1,5 @@
-use Rattle.acpi_base.proofs.Accepted.{own_accepted_is}
 use Rattle.acpi_base.proofs.AllowedRanges.{asked_own}
-use Rattle.acpi_base.proofs.OwnTable.{own_signature}
+use Rattle.acpi_base.proofs.OwnTable.{own_accepted_is, own_signature}
 use Rattle.acpi_base.proofs.table.lookup.own_valid_by.Goals as goal
 
 pub claim_by-requires-clause-signature : goal.claim_by-requires-clause-signature
