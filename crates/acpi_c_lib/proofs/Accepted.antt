@@ -1,6 +1,6 @@
 -- What is accepted by 0 is what the crate `acpi` finds valid.
 use Rattle.std.proofs.Common.{◌≡◌, ℕ, List, Option, Result, Ok, Err, refl}
-use Rattle.acpi_base.specs.Words.{Memory, own_accepted, own_table_at, ◌>>=◌}
+use Rattle.acpi_base.specs.Words.{Memory, ◌>>=◌}
 use Rattle.acpi.specs.Types.{AcpiError, Fadt}
 use Rattle.acpi.specs.Words.{fadt_kind, lookup, model_in, platform_of, timer_of}
 use Rattle.acpi_fixed.specs.Words.{fadt_at, profile_of}
@@ -8,10 +8,6 @@ use Rattle.acpi_c_lib.specs.AcceptLaws.{AcceptsAsReaders}
 use Rattle.acpi_c_lib.specs.Types.{PlatformInfo, PmTimer}
 use Rattle.acpi_c_lib.specs.Model.{Platform, models_of, platform_model}
 use Rattle.acpi_c_lib.specs.Words.{result_map}
-
-own_strict : (m : Memory) (p : ℕ) → own_accepted 0 m p ≡ own_table_at m p
-unfolding own_accepted own_table_at
-own_strict m p = refl
 
 by_timer : (f : Fadt) (said : Platform) (r : Result (Option PmTimer) AcpiError)
     → (r >>= λ _. Ok said) ≡ result_map models_of (r >>= λ timer. Ok (record {
@@ -45,8 +41,5 @@ by_fadt : (r : Result (ℕ × List ℕ) AcpiError) (model : Result Platform Acpi
 by_fadt (Ok found) model = by_model (fadt_at found.1) model
 by_fadt (Err e) model = refl
 
-platform_strict : (m : Memory) (ps : List ℕ) → platform_model 0 m ps ≡ result_map models_of (platform_of m ps)
-platform_strict m ps = by_fadt (lookup m fadt_kind ps) (model_in m ps)
-
 pub accepts_as_readers : AcceptsAsReaders
-accepts_as_readers m = record { own_table = own_strict m; platform = platform_strict m }
+accepts_as_readers m ps = by_fadt (lookup m fadt_kind ps) (model_in m ps)
