@@ -3,7 +3,30 @@ use Rattle.std.proofs.Common.{◌≡◌, ℕ, ◌+◌, ◌*◌, ◌-◌, ◌%◌
 use Rattle.std.proofs.lemmas.Nat.{and_assoc, and_shr}
 use Rattle.acpi_base.specs.FromStd.{Each1, chunk}
 use Rattle.acpi_base.proofs.FromStd.{and_mask, chunk-fits, length-chunk, length-take-le, sum_by-append, sum_by-cons, sum_by-take-drop, take-add, take_all}
-use Rattle.acpi_base.specs.Words.{AddsUpInWords, field_of, in_lanes, number, sum_of}
+use Rattle.acpi_base.specs.Words.{field_of, number, sum_of}
+use Rattle.acpi_base.specs.declared.table.sum.WordSums.{WordSums}
+
+-- four lanes of 16 bits in a number
+abbrev in_lanes : ℕ → ℕ → ℕ → ℕ → ℕ
+in_lanes a b c d = a + 65536 * b + 4294967296 * c + 281474976710656 * d
+
+-- the bytes of words add up to these: by their place in a word, s0 to s7, and from those all words as numbers modulo
+-- 2^64, and the bytes at even places in lanes
+pub record AddsUpInWords (whole even : ℕ) (bytes : List ℕ) : Type 0 where
+  pub s0 : ℕ
+  pub s1 : ℕ
+  pub s2 : ℕ
+  pub s3 : ℕ
+  pub s4 : ℕ
+  pub s5 : ℕ
+  pub s6 : ℕ
+  pub s7 : ℕ
+  pub all : s0 + s1 + s2 + s3 + s4 + s5 + s6 + s7 ≡ sum bytes
+  pub room : (8 * s0 ≤ 255 * length bytes) × (8 * s1 ≤ 255 * length bytes) × (8 * s2 ≤ 255 * length bytes)
+      × (8 * s3 ≤ 255 * length bytes) × (8 * s4 ≤ 255 * length bytes) × (8 * s5 ≤ 255 * length bytes)
+      × (8 * s6 ≤ 255 * length bytes) × (8 * s7 ≤ 255 * length bytes)
+  pub even_lanes : even ≡ in_lanes s0 s2 s4 s6
+  pub whole_words : whole ≡ (even + 256 * in_lanes s1 s3 s5 s7) % 2 ^ 64
 
 -- a mask whose two lowest bytes are 255 and 0 keeps the lowest byte, and of what is above what the rest of it keeps
 kept_first : (a c : ℕ) → bit_and a (255 + 65536 * c) ≡ a % 256 + 65536 * bit_and (a / 65536) c
@@ -95,19 +118,21 @@ with_eight whole even before (a ∷ b ∷ c ∷ d ∷ e ∷ f ∷ g ∷ h ∷ []
           (arith, mask, sums.even_lanes, sums.whole_words, sums.room.0, sums.room.2, sums.room.4, sums.room.6);
     }
 
-pub word_next : (bytes : List ℕ) (at end whole even : ℕ) → at + 8 ≡ end → at + 8 ≤ length bytes → at + 8 ≤ 2048
-    → ((k : ℕ) → Fits w8 (get_or bytes k 0)) → AddsUpInWords whole even (take at bytes)
-    → AddsUpInWords ((whole + field_of bytes at 8) % 2 ^ 64)
-    ((even + bit_and (field_of bytes at 8) 71777214294589695) % 2 ^ 64) (take end bytes)
+pub word_next : (bytes : List ℕ) (at end : ℕ) (before after : WordSums) → at + 8 ≡ end → end ≤ length bytes
+    → end ≤ 2048 → ((k : ℕ) → Fits w8 (get_or bytes k 0)) → AddsUpInWords before.whole before.even (take at bytes)
+    → after.whole ≡ (before.whole + field_of bytes at 8) % 2 ^ 64
+    → after.even ≡ (before.even + bit_and (field_of bytes at 8) 71777214294589695) % 2 ^ 64
+    → AddsUpInWords after.whole after.even (take end bytes)
 unfolding field_of
-word_next bytes at end whole even is there room fit sums =
-    let before : length (take at bytes) ≡ at = length-take-le at bytes (omega (arith, there)) in
-    let next = with_eight whole even (take at bytes) (chunk at 8 bytes) (length-chunk at 8 bytes there)
-    (chunk-fits w8 at 8 bytes fit) (omega (arith, before, room)) sums in
+word_next bytes at end before after is there room fit sums whole even =
+    let fits : at + 8 ≤ length bytes = omega (arith, is, there) in
+    let long : length (take at bytes) ≡ at = length-take-le at bytes (omega (arith, fits)) in
+    let next = with_eight before.whole before.even (take at bytes) (chunk at 8 bytes) (length-chunk at 8 bytes fits)
+    (chunk-fits w8 at 8 bytes fit) (omega (arith, is, long, room)) sums in
     let all : take at bytes ++ chunk at 8 bytes ≡ take end bytes =
     sym (take-add at 8 bytes) ∙ ap (λ n. take n bytes) is in
-    subst (λ l. AddsUpInWords ((whole + field_of bytes at 8) % 2 ^ 64)
-    ((even + bit_and (field_of bytes at 8) 71777214294589695) % 2 ^ 64) l) all next
+    rw (whole, even) (subst (λ l. AddsUpInWords ((before.whole + field_of bytes at 8) % 2 ^ 64)
+    ((before.even + bit_and (field_of bytes at 8) 71777214294589695) % 2 ^ 64) l) all next)
 
 pub no_words : AddsUpInWords 0 0 []
 no_words = record {

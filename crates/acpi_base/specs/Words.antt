@@ -44,7 +44,7 @@ pub use Rattle.acpi_base.specs.Spcr.{baud_of, bus_of, clock_of, configured_baud,
 unfoldable pub use Rattle.acpi_base.specs.Spcr.{spcr_at}
 pub use Rattle.acpi_base.specs.SpcrFlags.{FlagsAreNumbered, flow_bits, interrupt_bits, terminal_bits}
 pub use Rattle.acpi_base.specs.Steps.{Gives, GivesOrFull, holds, lent, ◌>>=◌}
-pub use Rattle.acpi_base.specs.Sums.{AddsUp, AddsUpInWords, in_lanes}
+pub use Rattle.acpi_base.specs.Sums.{AddsUp}
 pub use Rattle.acpi_base.specs.Table.{Kind, kind, plain_kind, sdt_kind}
 unfoldable pub use Rattle.acpi_base.specs.Table.{table_at}
 pub use Rattle.acpi_base.specs.Text.{IsTextOf, Shows, bytes_text, hex_digit, hex_text, letters_of, signature_text}

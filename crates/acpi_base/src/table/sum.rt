@@ -1,8 +1,8 @@
 //! The sum of bytes modulo 256: in lanes, where sixteen bytes are added at once, each to a sum of its own, or in words
 //! of eight bytes.
-ghost use Rattle.std.specs.Prelude.{◌≡◌, ◌⊎◌, ◌-◌, ◌+◌, ◌%◌, ◌^◌, ◌<◌, ◌≤◌, length, take, ℕ, List};
+ghost use Rattle.std.specs.Prelude.{◌≡◌, ◌⊎◌, ◌-◌, ◌+◌, ◌%◌, ◌^◌, ◌<◌, ◌≤◌, length, take, bit_and, ℕ};
 ghost use Rattle.acpi_base.specs.FromStd.{chunk};
-ghost use Rattle.acpi_base.specs.Words.{sum_of, AddsUp, AddsUpInWords};
+ghost use Rattle.acpi_base.specs.Words.{field_of, sum_of, AddsUp};
 
 use crate::bytes::field_in;
 use std::simd::prelude::*;
@@ -165,14 +165,24 @@ fn sum_of_words(bytes: &[u8]) -> u8
     let mut sums = WordSums { whole: 0, even: 0 };
     let mut at = 0;
     while bytes.len() - at >= BLOCK {
-        sums = sums.with_block(bytes, at);
+        sums = sums.with_word(bytes, at);
+        sums = sums.with_word(bytes, at + WORD);
+        sums = sums.with_word(bytes, at + 2 * WORD);
+        sums = sums.with_word(bytes, at + 3 * WORD);
+        sums = sums.with_word(bytes, at + 4 * WORD);
+        sums = sums.with_word(bytes, at + 5 * WORD);
+        sums = sums.with_word(bytes, at + 6 * WORD);
+        sums = sums.with_word(bytes, at + 7 * WORD);
         at += BLOCK;
     }
     while bytes.len() - at >= WORD {
         sums = sums.with_word(bytes, at);
         at += WORD;
     }
-    sums.folded()
+    let odd = sums.whole.wrapping_sub(sums.even) >> 8;
+    let lanes = (sums.even & EVEN) + (odd & EVEN);
+    // Modulo 65535 a lane's weight, a power of 65536, is 1, so the lanes add up.
+    (lanes % 65535 % 256) as u8
 }
 
 /// What words add up to: the whole words modulo 2^64, and their bytes at even places, each in a lane of 16 bits. What
@@ -187,45 +197,14 @@ impl WordSums {
     /// These with the word at a place added.
     #[inline(always)]
     fn with_word(self, bytes: &[u8], at: usize) -> WordSums
-        requires there { at + WORD ≤ length bytes.now }
-        requires few { at + WORD ≤ MOST }
-        requires sums { AddsUpInWords self.whole self.even (take at bytes.now) }
-        ensures { (end : ℕ) → at + WORD ≡ end → AddsUpInWords result.whole result.even (take end bytes.now) }
+        requires { at + WORD ≤ length bytes.now }
+        ensures whole { result.whole ≡ (self.whole + field_of bytes.now at WORD) % 2 ^ 64 }
+        ensures even { result.even ≡ (self.even + bit_and (field_of bytes.now at WORD) EVEN) % 2 ^ 64 }
     {
         let word = field_in(bytes, at, WORD);
         WordSums {
             whole: self.whole.wrapping_add(word),
             even: self.even.wrapping_add(word & EVEN),
         }
-    }
-
-    /// These with the eight words of a block added.
-    #[inline(always)]
-    fn with_block(self, bytes: &[u8], at: usize) -> WordSums
-        requires there { at + BLOCK ≤ length bytes.now }
-        requires few { at + BLOCK ≤ MOST }
-        requires sums { AddsUpInWords self.whole self.even (take at bytes.now) }
-        ensures { (end : ℕ) → at + BLOCK ≡ end → AddsUpInWords result.whole result.even (take end bytes.now) }
-    {
-        let sums = self.with_word(bytes, at);
-        let sums = sums.with_word(bytes, at + WORD);
-        let sums = sums.with_word(bytes, at + 2 * WORD);
-        let sums = sums.with_word(bytes, at + 3 * WORD);
-        let sums = sums.with_word(bytes, at + 4 * WORD);
-        let sums = sums.with_word(bytes, at + 5 * WORD);
-        let sums = sums.with_word(bytes, at + 6 * WORD);
-        sums.with_word(bytes, at + 7 * WORD)
-    }
-
-    /// The sum of all lanes modulo 256.
-    #[inline(always)]
-    fn folded(self) -> u8
-        ensures { (bytes : List ℕ) → length bytes ≤ MOST → AddsUpInWords self.whole self.even bytes
-            → result ≡ sum_of bytes }
-    {
-        let odd = self.whole.wrapping_sub(self.even) >> 8;
-        let lanes = (self.even & EVEN) + (odd & EVEN);
-        // Modulo 65535 a lane's weight, a power of 65536, is 1, so the lanes add up.
-        (lanes % 65535 % 256) as u8
     }
 }

@@ -1,5 +1,5 @@
 use Rattle.std.proofs.Common.{◌≡◌, ◌-◌, ◌%◌, ◌≤◌, length, take}
-use Rattle.acpi_base.specs.Words.{AddsUpInWords}
+use Rattle.acpi_base.proofs.WordSums.{AddsUpInWords}
 use Rattle.acpi_base.proofs.table.sum.sum_of_words.Given as goal
 
 -- the words so far are added
