@@ -10,7 +10,7 @@ use Rattle.acpi_fixed.specs.Registers.{address_or, extended_number, registers_at
 use Rattle.acpi_base.specs.declared.error.AcpiError.TheVariants as refusal
 use Rattle.acpi_fixed.specs.declared.fadt.PowerProfile.TheVariants as profiles
 
--- what a table's bytes mean, in the order in which they lie. A plain field that reaches past the end is read as if
+-- what a table's bytes mean, in the order in which they are. A plain field that reaches past the end is read as if
 -- zeros followed; an extended one is there only if the table has it whole (`Registers`)
 unfoldable pub fadt_at : List ℕ → Fadt
 fadt_at b = record {
@@ -44,7 +44,7 @@ fadt_at b = record {
   x_dsdt_address = extended_number b 140;  -- X_DSDT
 }
 
--- ---- what calls answer
+-- ---- what calls return
 
 -- Preferred_PM_Profile: the profiles in the order of their codes, from 0 on, the profile of a code, and the code of one
 abbrev pub named_profiles : List PowerProfile

@@ -1,4 +1,4 @@
--- Blocks of registers and addresses that the FADT gives in two ways: by a field of its first
+-- Blocks of registers and addresses that the FADT has in two ways: by a field of its first
 -- versions, and by an extended one (ACPI 6.4, section 5.2.9).
 use Rattle.std.specs.Prelude.{◌≡◌, ℕ, ◌+◌, ◌*◌, ◌<◌, ◌≤◌, ◌&&◌, ◌==◌, nat_le, nat_lt, Bool, if◌then◌else◌, List, length, replicate, Option, Some, None, is_none, option_map, Result, Ok, Err}
 use Rattle.acpi_base.specs.FromStd.{option_map_or}
@@ -89,7 +89,7 @@ ports_at address size = do
 abbrev pub block_or_ports : Option (List ℕ) → ℕ → ℕ → Result GenericAddress AcpiError
 block_or_ports extended port size = option_map_or generic_address_of extended (ports_at port size)
 
--- a block that a machine need not have: none if neither field gives an address
+-- a block that a machine need not have: none if neither field has an address
 abbrev pub optional_block_or_ports : Option (List ℕ) → ℕ → ℕ → Result (Option GenericAddress) AcpiError
 optional_block_or_ports extended port size =
     if is_none extended && port == 0 then Ok None
@@ -117,7 +117,7 @@ timer_block_of r = timer_block_or_ports (usable_extended r.extended) (port_of r)
 abbrev pub extended_of : BlockFields → Option (List ℕ)
 extended_of f = option_map (λ raw. raw.now) f.extended
 
--- a register that only an extended field gives
+-- a register that is only in an extended field
 abbrev pub register_of : Option (List ℕ) → Result (Option GenericAddress) AcpiError
 register_of None = Ok None
 register_of (Some raw) = do

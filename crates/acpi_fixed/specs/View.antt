@@ -4,6 +4,6 @@ use Rattle.acpi_fixed.specs.Fadt.{fadt_at}
 use Rattle.acpi_fixed.specs.declared.fadt.Fadt.{Fadt}
 use Rattle.acpi_fixed.specs.declared.fadt.view.FadtView.{FadtView}
 
--- what its bytes mean: what each of its calls returns is said of this record
+-- what its bytes mean: what each of its calls returns is by this record
 abbrev pub viewed : {H h : _} → FadtView H h → Fadt
 viewed v = fadt_at (bytes_of v.mapping)

@@ -18,8 +18,8 @@ pub struct Bgrt {
     pub version: u16,
     status: u8,
     image_type: u8,
-    /// Image Address: the physical address of the image's first byte. The table doesn't say how many bytes
-    /// the image has.
+    /// Image Address: the physical address of the image's first byte. How many bytes the image has
+    /// is not in the table.
     pub image_address: u64,
     x: u32,
     y: u32,

@@ -24,7 +24,7 @@ pub use view::FadtView;
 /// Preferred_PM_Profile: the machine's purpose (ACPI 6.4, section 5.2.9).
 #[derive(Clone, Copy, Debug, PartialEq, Eq)]
 pub enum PowerProfile {
-    /// Unspecified, code 0: the firmware doesn't say.
+    /// Unspecified, code 0: the firmware leaves it open.
     Unspecified,
     /// Desktop, code 1: one user, on a desk, always on the mains.
     Desktop,
@@ -91,9 +91,9 @@ impl From<u8> for PowerProfile {
 /// The Fixed ACPI Description Table, FADT (ACPI 6.4, section 5.2.9). A public field that reaches
 /// past the end of a short table is read as if zeros followed.
 ///
-/// Later versions of the table give an address a second time in a wider field. The functions here take
+/// Later versions of the table contain an address a second time in a wider field. The functions here take
 /// that one if a table of revision 2 or above has it whole and it isn't 0.
-// The fields lie as in the table, but for two that fill a gap, so that most of them are read as pieces of it.
+// The fields are as in the table, but for two that fill a gap, so that most of them are read as pieces of it.
 #[derive(Clone, Copy, Debug)]
 pub struct Fadt {
     header: SdtHeader,
@@ -108,9 +108,9 @@ pub struct Fadt {
     pub smi_cmd_port: u32,
     /// ACPI_ENABLE: the command that takes the hardware registers from the firmware.
     pub acpi_enable: u8,
-    /// ACPI_DISABLE: the command that gives the hardware registers back to the firmware.
+    /// ACPI_DISABLE: the command that returns the hardware registers to the firmware.
     pub acpi_disable: u8,
-    /// S4BIOS_REQ: the command that asks the firmware for S4.
+    /// S4BIOS_REQ: the command that requests S4 of the firmware.
     pub s4bios_req: u8,
     /// PSTATE_CNT: the command that takes over the processors' performance states. 0: there is
     /// none.
@@ -118,7 +118,7 @@ pub struct Fadt {
     registers: Registers,
     /// GPE1_BASE: the number of the first event of the second block of general purpose events.
     pub gpe1_base: u8,
-    /// CST_CNT: the command that says that the system follows changes of C states.
+    /// CST_CNT: the command by which the system follows changes of C states.
     pub c_state_control: u8,
     /// P_LVL2_LAT: the longest time into C2 and back, in microseconds. Above 100: there is no C2.
     pub worst_c2_latency: u16,
@@ -267,7 +267,7 @@ impl Fadt {
     /// X_PM1a_EVT_BLK or PM1a_EVT_BLK: the status and enable registers of the fixed events (section 5.2.9):
     /// the extended block if its address isn't 0, else the ports, at address 0 too.
     ///
-    /// A machine of reduced hardware has none, whatever is answered here: ask
+    /// A machine of reduced hardware has none, whatever is returned here: see
     /// `flags.system_is_hw_reduced_acpi()` first.
     ///
     /// Fails with `InvalidGenericAddress` a reserved code in the extended block, and a length of
@@ -279,7 +279,7 @@ impl Fadt {
     }
 
     /// X_PM1b_EVT_BLK or PM1b_EVT_BLK: the second block of event registers, or `None` if neither
-    /// field gives an address (section 5.2.9).
+    /// field has an address (section 5.2.9).
     ///
     /// Fails as `pm1a_event_block` does.
     pub fn pm1b_event_block(&self) -> AcpiResult<Option<GenericAddress>>
@@ -291,7 +291,7 @@ impl Fadt {
     /// X_PM1a_CNT_BLK or PM1a_CNT_BLK: the control registers of the fixed hardware (section 5.2.9): the
     /// extended block if its address isn't 0, else the ports, at address 0 too.
     ///
-    /// A machine of reduced hardware has none, whatever is answered here: ask
+    /// A machine of reduced hardware has none, whatever is returned here: see
     /// `flags.system_is_hw_reduced_acpi()` first.
     ///
     /// Fails as `pm1a_event_block` does.
@@ -302,7 +302,7 @@ impl Fadt {
     }
 
     /// X_PM1b_CNT_BLK or PM1b_CNT_BLK: the second block of control registers, or `None` if
-    /// neither field gives an address (section 5.2.9).
+    /// neither field has an address (section 5.2.9).
     ///
     /// Fails as `pm1a_event_block` does.
     pub fn pm1b_control_block(&self) -> AcpiResult<Option<GenericAddress>>
@@ -312,7 +312,7 @@ impl Fadt {
     }
 
     /// X_PM2_CNT_BLK or PM2_CNT_BLK: the second control register, or `None` if neither field
-    /// gives an address (section 5.2.9).
+    /// has an address (section 5.2.9).
     ///
     /// Fails as `pm1a_event_block` does.
     pub fn pm2_control_block(&self) -> AcpiResult<Option<GenericAddress>>
@@ -322,9 +322,9 @@ impl Fadt {
     }
 
     /// X_PM_TMR_BLK or PM_TMR_BLK: the register of the power management timer, or `None` if PM_TMR_LEN isn't
-    /// 4 or neither field gives an address (sections 4.8.3.3 and 5.2.9).
+    /// 4 or neither field has an address (sections 4.8.3.3 and 5.2.9).
     ///
-    /// Refuses a reserved code in the extended block with `InvalidGenericAddress`.
+    /// Fails for a reserved code in the extended block with `InvalidGenericAddress`.
     pub fn pm_timer_block(&self) -> AcpiResult<Option<GenericAddress>>
         ensures { result ≡ pm_timer_of self.now }
     {
@@ -332,7 +332,7 @@ impl Fadt {
     }
 
     /// X_GPE0_BLK or GPE0_BLK: the registers of the first general purpose events, or `None` if
-    /// neither field gives an address (section 5.2.9).
+    /// neither field has an address (section 5.2.9).
     ///
     /// Fails as `pm1a_event_block` does: also a block that the 32-bit field places and that is 32
     /// bytes long or longer, as real chipsets have them, since eight bits a byte don't fit the
@@ -344,7 +344,7 @@ impl Fadt {
     }
 
     /// X_GPE1_BLK or GPE1_BLK: the registers of further general purpose events, or `None` if
-    /// neither field gives an address (section 5.2.9).
+    /// neither field has an address (section 5.2.9).
     ///
     /// Fails as `pm1a_event_block` does: also a block that the 32-bit field places and that is 32
     /// bytes long or longer, as real chipsets have them, since eight bits a byte don't fit the
@@ -355,8 +355,8 @@ impl Fadt {
         self.registers.gpe1.fields().optional_block()
     }
 
-    /// RESET_REG: the register that resets the machine, if `flags.supports_system_reset_via_fadt()` says
-    /// that there is one (section 5.2.9). The flag isn't tested here.
+    /// RESET_REG: the register that resets the machine, if there is one by
+    /// `flags.supports_system_reset_via_fadt()` (section 5.2.9). The flag isn't tested here.
     ///
     /// Fails for a reserved code with `InvalidGenericAddress`.
     pub fn reset_register(&self) -> AcpiResult<GenericAddress>
@@ -375,7 +375,7 @@ impl Fadt {
         register_from(self.registers.sleep_control.as_ref())
     }
 
-    /// SLEEP_STATUS_REG: the register that tells how a hardware-reduced machine woke, or `None`
+    /// SLEEP_STATUS_REG: the wake status of a hardware-reduced machine, or `None`
     /// if the table has no field for it (section 5.2.9).
     ///
     /// Fails for a reserved code with `InvalidGenericAddress`.

@@ -1,7 +1,7 @@
 //! Tables of one fixed layout: the Fixed ACPI Description Table (FADT, section 5.2.9), and the Boot Graphics
 //! Resource Table (BGRT, section 5.2.22).
 //!
-//! Section numbers are those of the ACPI Specification, version 6.4.
+//! Section numbers are the ACPI Specification's, version 6.4.
 #![tactic(auto)]
 
 pub mod bgrt;

@@ -109,7 +109,7 @@ impl FixedFeatureFlags {
         has_bit(self.0 as u64, 11)
     }
 
-    /// HEADLESS (bit 12, section 5.2.9): whether the machine cannot tell if a screen, keyboard or mouse is
+    /// HEADLESS (bit 12, section 5.2.9): whether the machine cannot detect if a screen, keyboard or mouse is
     /// there.
     pub fn system_is_headless(&self) -> bool
         ensures { result ≡ has_bit (feature_bits self.now) 12 }

@@ -1,4 +1,4 @@
-//! Where the fields of a FADT lie that both its record and its view read (section 5.2.9).
+//! The offsets of the fields of a FADT that both its record and its view read (section 5.2.9).
 
 use super::registers::BlockPlace;
 

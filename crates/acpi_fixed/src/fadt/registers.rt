@@ -1,8 +1,8 @@
-//! Registers and addresses that the FADT gives in two ways: by a field of its first versions, and by an
+//! Registers and addresses that the FADT has in two ways: by a field of its first versions, and by an
 //! extended one (section 5.2.9).
 //!
-//! Extended fields came with revision 2. Most tables have all the extended blocks: a reader that knows it says so
-//! (`whole`), and then nothing is tested.
+//! Extended fields came with revision 2. Most tables have all the extended blocks: for a reader that knows it
+//! (`whole`) nothing is tested.
 ghost use Rattle.std.specs.Prelude.{◌≡◌, ◌+◌, ◌*◌, ◌^◌, ◌<◌, ◌≤◌, length, true, nat_le, option_and_then, option_map, if◌then◌else◌};
 ghost use Rattle.acpi_base.specs.Words.{field_of, filled_part};
 ghost use Rattle.acpi_fixed.specs.Words.{HasBlocks, Reaches, address_or, extended_address, extended_bytes, extended_number, extended_of, reach_of, register_of, block_at, block_or_ports, port_of, usable_extended, optional_block_or_ports, ports_at, timer_block_or_ports, registers_at};
@@ -57,7 +57,7 @@ pub(super) fn number_in(table: &[u8], offset: usize, n: usize, whole: bool) -> u
     }
 }
 
-/// The twelve bytes of a generic address at an offset, all of which are there. They stand one by one, since
+/// The twelve bytes of a generic address at an offset, all of which are there. They are one by one, since
 /// the compiler then copies them with no detour by an array of zeros.
 #[inline(always)]
 fn address_in(table: &[u8], offset: usize) -> RawAddress
@@ -140,9 +140,9 @@ pub(crate) fn address_from(refusal: AcpiError, wide: u64, narrow: u32) -> AcpiRe
     Ok(address)
 }
 
-/// The register that an extended field gives, or `None` if the table has no such field.
+/// The register in an extended field, or `None` if the table has no such field.
 ///
-/// Refuses reserved codes with `InvalidGenericAddress`.
+/// Fails for reserved codes with `InvalidGenericAddress`.
 pub(crate) fn register_from(raw: Option<&RawAddress>) -> AcpiResult<Option<GenericAddress>>
     ensures { result ≡ register_of (option_map (λ raw. raw.now) raw.entry) }
 {
@@ -162,7 +162,7 @@ pub(super) struct BlockPlace {
 
 /// A block of registers: by the number of bytes and the first port that the first versions of the table
 /// have, and by its extended field, which is zeros if the table has none. It is bytes alone, so that no
-/// gaps lie between blocks.
+/// gaps are between blocks.
 #[derive(Clone, Copy, Debug)]
 pub(crate) struct RegisterBlock {
     size: u8,
@@ -253,7 +253,7 @@ impl<'t> BlockFields<'t> {
 
     /// The ports of the first versions, eight bits for each byte.
     ///
-    /// Fails with `InvalidGenericAddress` if these are 32 bytes or more, more than a width can say.
+    /// Fails with `InvalidGenericAddress` if these are 32 bytes or more, more than a width can express.
     #[inline(always)]
     fn ports(self) -> AcpiResult<GenericAddress>
         ensures { result ≡ ports_at self.entry.port self.entry.size }
@@ -285,7 +285,7 @@ impl<'t> BlockFields<'t> {
     }
 
     /// The extended block if its address is not 0, else the ports, of a block that a machine need not have:
-    /// `None` if neither field gives an address.
+    /// `None` if neither field has an address.
     ///
     /// Fails as `block` does.
     #[inline(always)]
@@ -299,7 +299,7 @@ impl<'t> BlockFields<'t> {
     }
 
     /// The block of the timer: the extended block if its address is not 0, else the ports, or `None` if the
-    /// length isn't 4 or neither field gives an address.
+    /// length isn't 4 or neither field has an address.
     ///
     /// Fails with `InvalidGenericAddress` for a reserved code in the extended block.
     #[inline(always)]
@@ -313,7 +313,7 @@ impl<'t> BlockFields<'t> {
     }
 }
 
-/// The registers of the fixed hardware, as the FADT gives them.
+/// The registers of the fixed hardware, as the FADT has them.
 #[derive(Clone, Copy, Debug)]
 pub(crate) struct Registers {
     pub(crate) pm1a_event: RegisterBlock,
@@ -330,7 +330,7 @@ pub(crate) struct Registers {
 }
 
 impl Registers {
-    /// The registers that a table gives. The blocks aren't tested for if the table is known to have all of
+    /// The registers that a table contains. The blocks aren't tested for if the table is known to have all of
     /// them.
     #[inline(always)]
     pub(super) fn read(table: &[u8], whole: bool) -> Registers

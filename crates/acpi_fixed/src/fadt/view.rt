@@ -1,4 +1,4 @@
-//! A FADT whose fields are read when they are asked for.
+//! A FADT whose fields are read when they are requested.
 #![tactic(auto, unfolding(crate::specs::Fadt::fadt_at))]
 
 ghost use Rattle.std.specs.Prelude.{◌≡◌, ◌+◌, ◌≤◌, length};
@@ -17,7 +17,7 @@ use acpi_base::bytes::{field, filled, u8_in, u16_in, u32_in};
 use acpi_base::table::ValidTable;
 use acpi_base::{AcpiError, AcpiResult, Lender, PhysicalMapping, PhysicalRecord};
 
-/// The record of a mapping that reads none: its bytes are lent, and that is all.
+/// The record of a mapping that reads none: its bytes are mapped, and that is all.
 #[derive(Clone, Copy)]
 struct Unread;
 
@@ -33,7 +33,7 @@ impl PhysicalRecord for Unread {
     }
 }
 
-/// A Fixed ACPI Description Table in its lent bytes (section 5.2.9), which stay lent until this is dropped. A
+/// A Fixed ACPI Description Table in its mapped bytes (section 5.2.9), which stay mapped until this is dropped. A
 /// call reads from them, and returns the value or the error of the call or the field of that name of
 /// `Fadt` does.
 #[derive(Drop)]
@@ -47,7 +47,7 @@ impl<'h, H: Lender> FadtView<'h, H> {
     ghost use Rattle.acpi_base.specs.Words.{generic_address_of, all_of, claimed_at, claimed_from, shown_by, handler_of, lent_of, start_of};
     ghost use Rattle.acpi_fixed.specs.Words.{dsdt_address_of, facs_address_of, pm_timer_of, profile_of, registers_of, gpe1_base_of, gpe_of, block_at, block_of, extended_of, optional_block_of, port_of, register_of, usable_extended, viewed};
 
-    /// The view of a table that is valid for `Fadt`: its bytes stay lent.
+    /// The view of a table that is valid for `Fadt`: its bytes stay mapped.
     pub fn new(table: ValidTable<'h, H>) -> Self
         requires { 116 ≤ length (shown_by table.claim) }
         ensures start { start_of result.mapping ≡ claimed_at table.entry.claim }
@@ -126,7 +126,7 @@ impl<'h, H: Lender> FadtView<'h, H> {
         u8_in(self.bytes(), places::ACPI_ENABLE)
     }
 
-    /// ACPI_DISABLE: the command that gives the hardware registers back to the firmware.
+    /// ACPI_DISABLE: the command that returns the hardware registers to the firmware.
     pub fn acpi_disable(&self) -> u8
         ensures { result ≡ (viewed self.now).acpi_disable }
     {
@@ -285,7 +285,7 @@ impl<'h, H: Lender> FadtView<'h, H> {
         register_from(raw_in(self.bytes(), self.reach, places::SLEEP_CONTROL_REG))
     }
 
-    /// SLEEP_STATUS_REG: the register that says how a machine of reduced hardware woke.
+    /// SLEEP_STATUS_REG: the wake status of a machine of reduced hardware.
     pub fn sleep_status_register(&self) -> AcpiResult<Option<GenericAddress>>
         ensures { result ≡ register_of (registers_of (viewed self.now)).sleep_status }
     {

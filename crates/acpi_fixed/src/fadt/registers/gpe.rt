@@ -20,7 +20,7 @@ pub struct GpeBlock {
     pub byte_length: u8,
 }
 
-/// The block at an extended address, of so many bytes.
+/// The block at an extended address, of a number of bytes.
 fn block_from(raw: &RawAddress, byte_length: u8) -> AcpiResult<GpeBlock>
     ensures { result ≡ block_from raw.now byte_length }
 {
@@ -43,7 +43,7 @@ pub(crate) fn base_beside(base: u8, block: AcpiResult<Option<GpeBlock>>) -> Opti
 }
 
 impl BlockFields<'_> {
-    /// The block by its length in bytes, or `None` if that is 0 or neither field gives an address.
+    /// The block by its length in bytes, or `None` if that is 0 or neither field has an address.
     ///
     /// Fails with `InvalidGenericAddress` for a reserved space of the extended field.
     pub(crate) fn gpe(self) -> AcpiResult<Option<GpeBlock>>
@@ -75,7 +75,7 @@ impl Fadt {
     /// width and the access size of the extended field don't count. On a machine of reduced hardware
     /// (`flags.system_is_hw_reduced_acpi()`) it means nothing.
     ///
-    /// Refuses a reserved address space with `InvalidGenericAddress`.
+    /// Fails for a reserved address space with `InvalidGenericAddress`.
     pub fn gpe0(&self) -> AcpiResult<Option<GpeBlock>>
         ensures { result ≡ gpe_of (registers_of self.now).gpe0 }
     {
@@ -83,9 +83,9 @@ impl Fadt {
     }
 
     /// X_GPE1_BLK or GPE1_BLK with GPE1_BLK_LEN: the registers of further general purpose events (sections
-    /// 4.8.4.1 and 5.2.9), found as those of `gpe0`. `gpe1_base()` is their first event.
+    /// 4.8.4.1 and 5.2.9), found as `gpe0`'s. `gpe1_base()` is their first event.
     ///
-    /// Refuses a reserved address space with `InvalidGenericAddress`.
+    /// Fails for a reserved address space with `InvalidGenericAddress`.
     pub fn gpe1(&self) -> AcpiResult<Option<GpeBlock>>
         ensures { result ≡ gpe_of (registers_of self.now).gpe1 }
     {
@@ -93,7 +93,7 @@ impl Fadt {
     }
 
     /// GPE1_BASE: the number of the first event of `gpe1`, or `None` if there is no such block or it is
-    /// refused (section 5.2.9).
+    /// an error (section 5.2.9).
     pub fn gpe1_base(&self) -> Option<u8>
         ensures { result ≡ gpe1_base_of self.now }
     {
