@@ -1,4 +1,4 @@
--- The search for the RSDP in areas that a caller gives (ACPI 6.4, section 5.2.5.1).
+-- The search for the RSDP in areas that a caller passes (ACPI 6.4, section 5.2.5.1).
 use Rattle.std.specs.Prelude.{◌≡◌, ℕ, ◌+◌, ◌-◌, ◌*◌, ◌/◌, ◌^◌, ◌<◌, ◌≤◌, ◌&&◌, nat_le, nat_lt, Bool, if◌then◌else◌, List, [], ◌∷◌, ◌++◌, length, drop, Option, Some, None, Result, Ok, Err, ok_or, is_err}
 use Rattle.acpi_base.specs.FromStd.{AllByRecursion, option_or}
 use Rattle.acpi_base.specs.Words.{part, Memory, Ranges, ◌>>=◌}
@@ -75,28 +75,28 @@ opened_in_areas m areas = do
   found ← found_in_areas m areas
   opened_from m (root_of_rsdp found.1)
 
--- bytes hold those of a candidate at an offset, and its own checks refuse these
+-- bytes contain a candidate's at an offset, and its own checks fail for these
 abbrev pub is_refused_in : List ℕ → ℕ → Bool
 is_refused_in b offset =
     nat_le 36 (length (drop offset b)) && is_err (checked_length (part b offset 36))
 
 -- ---- ranges
 
--- those of `found_in_areas`: each candidate's, up to and with the first valid one
+-- the ranges of `found_in_areas`: each candidate's, up to and with the first valid one
 abbrev pub areas_ranges : Memory → List AddressRange → Ranges
 areas_ranges m [] = []
 areas_ranges m (s ∷ areas) =
     walk_ranges m (count_in s) (first_in s) ++ or_else_ranges (walk_in m s) (areas_ranges m areas)
 
--- those of `opened_in_areas`
+-- the ranges of `opened_in_areas`
 abbrev pub opened_in_areas_ranges : Memory → List AddressRange → Ranges
 opened_in_areas_ranges m areas = areas_ranges m areas
     ++ ranges.◌>>=◌ (found_in_areas m areas) (λ found. opened_ranges m (root_of_rsdp found.1))
 
 -- ---- the areas of a BIOS
 
--- the first 1 KB of the Extended BIOS Data Area (EBDA), as far as it lies below 0xa0000; none of it if its address
--- isn't given, or lies elsewhere
+-- the first 1 KB of the Extended BIOS Data Area (EBDA), as far as it is below 0xa0000; none of it if its address
+-- isn't given, or is elsewhere
 abbrev pub ebda_area : Option ℕ → AddressRange
 ebda_area None = range 0 0
 ebda_area (Some a) =

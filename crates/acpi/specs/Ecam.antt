@@ -1,4 +1,4 @@
--- Where the configuration space of a PCI function lies, by the base of bus 0 (PCI Firmware
+-- Where the configuration space of a PCI function is, by the base of bus 0 (PCI Firmware
 -- Specification, section 4.1.2).
 use Rattle.std.specs.Prelude.{◌≡◌, ℕ, ◌+◌, ◌*◌, ◌^◌, List, map, Option, Some, option_and_then}
 use Rattle.acpi_base.specs.Words.{ecam_in, ecam_range}

@@ -32,7 +32,7 @@ protection_code protections.Protected4K = 1
 protection_code protections.Protected64K = 2
 protection_code protections.Other = 3
 
--- what a table says, if its registers lie in memory: Address Space ID is 0
+-- what a table contains, if its registers are in memory: Address Space ID is 0
 abbrev pub info_of : HpetTable → Result HpetInfo AcpiError
 info_of t = do
   _ ← holds (t.address_space == 0) InvalidGenericAddress
@@ -47,7 +47,7 @@ info_of t = do
 abbrev pub hpet_kind : Kind
 hpet_kind = sdt_kind HPET 56
 
--- what the first valid HPET says
+-- what the first valid HPET contains
 abbrev pub hpet_of : Memory → List ℕ → Result HpetInfo AcpiError
 hpet_of m ps = do
   found ← lookup m hpet_kind ps

@@ -11,12 +11,12 @@ abbrev pub OnePointers : Type 0
 OnePointers = (width : ℕ) (bytes ps : List ℕ) → 0 < width → IsBytes bytes
     → IsPointers width bytes ps ↔ (ps ≡ pointers width bytes)
 
--- a lookup answers a table exactly if it is the first valid one
+-- a lookup returns a table exactly if it is the first valid one
 abbrev pub LookupIsFirst : Type 0
 LookupIsFirst = (m : Memory) (k : Kind) (ps : List ℕ) (p : ℕ) (table : List ℕ)
     → (lookup m k ps ≡ Ok (p, table)) ↔ IsFirstValid m k ps p table
 
--- a member that isn't valid, put anywhere into the list, changes nothing in the lookup's answer
+-- a member that isn't valid, put anywhere into the list, changes nothing in the lookup's result
 abbrev pub SkipsInvalid : Type 0
 SkipsInvalid = (m : Memory) (k : Kind) (p : ℕ) (before after : List ℕ) → IsErr (table_at m k p)
     → lookup m k (before ++ p ∷ after) ≡ lookup m k (before ++ after)
@@ -26,7 +26,7 @@ abbrev pub ValidEndsFaults : Type 0
 ValidEndsFaults = (m : Memory) (k : Kind) (p : ℕ) (before after : List ℕ) → IsOk (table_at m k p)
     → faults_of m k (before ++ p ∷ after) ≡ faults_of m k before
 
--- where the second area of the search lies, by the word that names it
+-- where the second area of the search is, by the word that names it
 abbrev pub SecondAreas : Type 0
 SecondAreas =
     (second_area 0x9fc0 ≡ area 0x9fc00 0xa0000)

@@ -1,4 +1,4 @@
--- The memory that several mapped regions lend.
+-- The memory that several mapped regions map.
 use Rattle.acpi_base.specs.Words.{Memory}
 use Rattle.acpi.specs.Regions.{regions_of}
 use Rattle.acpi.specs.declared.handler.regions.MappedRegions.{MappedRegions}

@@ -6,7 +6,7 @@ use Rattle.acpi_base.specs.Words.{Memory, Ranges, table_ranges, ◌>>=◌, Kind,
 use Rattle.acpi.specs.Lists.{own_header_at}
 use Rattle.acpi.specs.declared.members.TableMember.{TableMember}
 
--- the member that a pointer leads to: the header there, or why the table is refused
+-- the member that a pointer leads to: the header there, or why the table is not valid
 abbrev pub member_at : Memory → ℕ → TableMember
 member_at m p = record { address = p; header = own_header_at m p }
 

@@ -1,4 +1,4 @@
--- Where the configuration space of a PCI function lies.
+-- Where the configuration space of a PCI function is.
 use Rattle.std.specs.Prelude.{◌≡◌, ℕ, ◌+◌, ◌-◌, ◌*◌, ◌^◌, ◌<◌, ◌==◌, ◌&&◌, Bool, false, List, map, find, nat_le, nat_lt, Option, Some, None, option_and_then, Result, Ok, ◌∷◌, if◌then◌else◌}
 use Rattle.acpi_base.specs.FromStd.{range_inclusive_end, range_inclusive_exhausted, range_inclusive_start}
 use Rattle.acpi_base.specs.Words.{mcfg_entries_of, Memory, ◌>>=◌, Kind, sdt_kind}
@@ -21,7 +21,7 @@ abbrev pub SomeRegion : Result (List McfgEntry) AcpiError → Type 0
 SomeRegion (Ok (r ∷ regions)) = Unit {0}
 SomeRegion _ = ⊥
 
--- memory is asked for only if an MCFG is found that has regions
+-- memory is requested only if an MCFG is found that has regions
 abbrev pub RegionsAsk : Memory → List ℕ → Type 0
 RegionsAsk m ps = SomeRegion (found_regions m ps)
 

@@ -1,4 +1,4 @@
--- What the FADT and the MADT say together.
+-- What the FADT and the MADT contain together.
 use Rattle.std.specs.Prelude.{ℕ, List, None, Result, Ok, Err, IsOk}
 use Rattle.acpi_base.specs.Words.{Memory, ◌>>=◌, Kind, sdt_kind}
 use Rattle.acpi.specs.Types.{AcpiError, Unknown, MADT, PlatformInfo}
@@ -33,7 +33,7 @@ platform_of m ps = do
 
 -- ---- out of memory
 
--- whether the model of the table found asks for memory
+-- whether the model of the table found requests memory
 abbrev pub FoundAsks : Result (ℕ × List ℕ) AcpiError → Type 0
 FoundAsks (Ok found) = model.AsksMemory found.1
 FoundAsks (Err e) = ⊥
@@ -41,6 +41,6 @@ FoundAsks (Err e) = ⊥
 abbrev pub ModelAsks : Memory → List ℕ → Type 0
 ModelAsks m ps = FoundAsks (lookup m madt_kind ps)
 
--- memory is asked for only if a FADT is found, and a MADT that describes APICs
+-- memory is requested only if a FADT is found, and a MADT that describes APICs
 abbrev pub PlatformAsks : Memory → List ℕ → Type 0
 PlatformAsks m ps = IsOk (lookup m fadt_kind ps) × ModelAsks m ps

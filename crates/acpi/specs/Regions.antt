@@ -9,7 +9,7 @@ use Rattle.acpi.specs.declared.handler.region.RegionError.TheVariants.{EndTooLar
 abbrev pub region_of : MappedRegion → Region
 region_of r = record { start = r.start; bytes = r.bytes.now }
 
--- the memory that one region lends
+-- the memory that one region maps
 abbrev pub region_memory : MappedRegion → Memory
 region_memory r = one_region r.start r.bytes.now
 

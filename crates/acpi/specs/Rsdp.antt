@@ -66,7 +66,7 @@ checked_length b = do
   _ ← check_first b
   check_length (extended_length_of (rsdp_of b))
 
--- the sum of the whole, which Extended Checksum makes 0; `bytes` has the first so many of it
+-- the sum of the whole, which Extended Checksum makes 0; `bytes` has the first n of it
 abbrev pub check_whole : (ℕ → Result (List ℕ) AcpiError) → Option ℕ → Result (Unit {0}) AcpiError
 check_whole bytes None = Ok tt
 check_whole bytes (Some n) = do
@@ -85,8 +85,8 @@ check_rsdp b = do
   n ← checked_length b
   check_whole (at_hand b) n
 
--- the RSDP's 36 bytes at an address, or the error of the first check that fails. In order: 36 bytes are lent, what
--- `checked_length` checks, as many bytes as Length says are lent, and they sum to 0
+-- the RSDP's 36 bytes at an address, or the error of the first check that fails. In order: 36 bytes are mapped, what
+-- `checked_length` checks, as many bytes as Length are mapped, and they sum to 0
 unfoldable pub rsdp_at : Memory → ℕ → Result (List ℕ) AcpiError
 rsdp_at m a = do
   b ← lent m a 36

@@ -13,7 +13,7 @@ opened_of s = s.opened
 abbrev pub writes_of : ScriptedMailbox → List MailboxWrite
 writes_of s = take s.written s.writes
 
--- the answer of the i-th read from now: 1 if the script has ended
+-- the result of the i-th read from now: 1 if the script has ended
 abbrev pub answer_of : ScriptedMailbox → ℕ → ℕ
 answer_of s i = slice_index_or s.answers.now i 1
 

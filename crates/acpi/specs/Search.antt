@@ -14,7 +14,7 @@ abbrev pub first_area : Area
 first_area = area 0xe0000 0x100000
 
 -- the first 1 KB of the Extended BIOS Data Area (EBDA), which begins at 16 times the word; if it can't be there, all of
--- the memory that it may lie in
+-- the memory that it may be in
 abbrev pub second_area : ℕ → Area
 second_area word =
     let start = 16 * word in
@@ -35,27 +35,27 @@ IsCandidate s a = (k : ℕ) × (a ≡ s.start + 16 * k) × (a + 20 ≤ s.end)
 abbrev pub IsRefused : Memory → ℕ → Type 0
 IsRefused m a = (e : AcpiError) × (rsdp_at m a ≡ Err e)
 
--- an area is asked for with 16 bytes after it
+-- an area is requested with 16 bytes after it
 abbrev pub room_of : Area → ℕ
 room_of s = s.end - s.start + 16
 
--- the area is lent so
+-- the area is mapped so
 abbrev pub IsLent : Memory → Area → Type 0
 IsLent m s = (b : List ℕ) × (at m s.start (room_of s) ≡ Some b)
 
--- the area is lent, and this is its least valid candidate
+-- the area is mapped, and this is its least valid candidate
 pub record IsLeast (m : Memory) (s : Area) (found : ℕ × List ℕ) : Type 0 where
   pub lent : IsLent m s
   pub candidate : IsCandidate s found.0
   pub valid : rsdp_at m found.0 ≡ Ok found.1
   pub least : (a : ℕ) → a < found.0 → IsCandidate s a → IsRefused m a
 
--- the area is lent, and no candidate is valid
+-- the area is mapped, and no candidate is valid
 pub record HasNone (m : Memory) (s : Area) : Type 0 where
   pub lent : IsLent m s
   pub refused : (a : ℕ) → IsCandidate s a → IsRefused m a
 
--- the word at 40:0Eh of the BIOS data area is lent, and this is the second area
+-- the word at 40:0Eh of the BIOS data area is mapped, and this is the second area
 abbrev pub IsSecond : Memory → Area → Type 0
 IsSecond m s = (b : List ℕ) × (at m 0x40e 2 ≡ Some b) × (s ≡ second_area (field_of b 0 2))
 
@@ -69,7 +69,7 @@ IsFound m found =
 abbrev pub IsMissing : Memory → Type 0
 IsMissing m = (s : Area) × IsSecond m s × HasNone m first_area × HasNone m s
 
--- the word isn't lent, or the first area, or the second if the first has no valid candidate
+-- the word isn't mapped, or the first area, or the second if the first has no valid candidate
 abbrev pub IsUnlent : Memory → Type 0
 IsUnlent m =
     (at m 0x40e 2 ≡ None)
@@ -109,7 +109,7 @@ abbrev pub or_else : {A E : Type 0} → Option A → Result A E → Result A E
 or_else (Some found) later = Ok found
 or_else None later = later
 
--- what the area that is searched last has, or the refusal
+-- what the area that is searched last has, or the error
 abbrev pub last_in : Memory → Area → Result (ℕ × List ℕ) AcpiError
 last_in m s = do
   found ← found_in m s

@@ -9,37 +9,37 @@ use Rattle.acpi.specs.declared.platform.mailbox.MailboxCall.TheVariants.{Opened,
 use Rattle.acpi.specs.declared.platform.mailbox.MailboxWrite.{MailboxWrite}
 use Rattle.acpi.specs.declared.platform.mailbox.MailboxWrite.TheVariants.{ApicId, Command, WakeupVector}
 
--- where the mailbox of the first valid MADT lies
+-- where the mailbox of the first valid MADT is
 abbrev pub mailbox_found : Memory → List ℕ → Result ℕ AcpiError
 mailbox_found m ps = do
   found ← lookup m madt_kind ps
   mailbox_of found.1
 
--- what opening the mailbox answers, if each address has this answer
+-- what opening the mailbox returns, if each address has this result
 abbrev pub opening : (ℕ → Result (Unit {0}) AcpiError) → Result ℕ AcpiError
     → Result (Unit {0}) AcpiError
 opening answers found = found >>= answers
 
 -- ---- reading the command
 
--- the answers to come after are those from the n-th on before: n reads were made
+-- the results to come after are the ones from the n-th on before: n reads were made
 abbrev pub AfterReads : (ℕ → ℕ) → ℕ → (ℕ → ℕ) → Type 0
 AfterReads before n after = (j : ℕ) → after j ≡ before (j + n)
 
--- none of the first n answers is 0
+-- none of the first n results is 0
 abbrev pub NoneBelow : (ℕ → ℕ) → ℕ → Type 0
 NoneBelow answer n = (k : ℕ) → k < n → answer k ≢ 0
 
--- the first answer 0 comes under n, and it is the last that was read
+-- the first result 0 comes under n, and it is the last that was read
 abbrev pub Wakes : (ℕ → ℕ) → ℕ → (ℕ → ℕ) → Type 0
 Wakes before n after =
     (i : ℕ) × (i < n) × (before i ≡ 0) × NoneBelow before i × AfterReads before (i + 1) after
 
--- no answer under n is 0, and n were read
+-- no result under n is 0, and n were read
 abbrev pub Waits : (ℕ → ℕ) → ℕ → (ℕ → ℕ) → Type 0
 Waits before n after = NoneBelow before n × AfterReads before n after
 
--- a call that answers with `result` reads up to the first answer 0, or else n answers, and refuses then
+-- a call that returns with `result` reads up to the first result 0, or else n of them, and fails then
 abbrev pub WakesOrWaits : (ℕ → ℕ) → ℕ → Result (Unit {0}) AcpiError → (ℕ → ℕ) → Type 0
 WakesOrWaits before n result after = MatchResult result (λ _. Wakes before n after)
     (λ e. (e ≡ InvalidMadt WakeupApsTimeout) × Waits before n after)
@@ -67,13 +67,13 @@ wakes_by address id vector =
     Opened address ∷ Wrote (Command 0) ∷ Wrote (ApicId id) ∷ Wrote (WakeupVector vector)
     ∷ Wrote (Command 1) ∷ []
 
--- after these calls the command is read up to the first answer 0, and no further
+-- after these calls the command is read up to the first result 0, and no further
 abbrev pub MakesUntilWoken : {Mailbox : Type 0} → (Mailbox → MailboxCall → Mailbox → Type 0)
     → (ℕ → ℕ) → Mailbox → List MailboxCall → Mailbox → Type 0
 MakesUntilWoken called answer before calls after =
     (i : ℕ) × (answer i ≡ 0) × NoneBelow answer i × Makes called before (calls ++ reads (i + 1)) after
 
--- after these calls a call that answers with `result` reads the command so, or else n times
+-- after these calls a call that returns with `result` reads the command so, or else n times
 abbrev pub MakesAndReads : {Mailbox : Type 0} → (Mailbox → MailboxCall → Mailbox → Type 0) → (ℕ → ℕ)
     → Mailbox → List MailboxCall → ℕ → Result (Unit {0}) AcpiError → Mailbox → Type 0
 MakesAndReads called answer before calls n result after =
@@ -82,7 +82,7 @@ MakesAndReads called answer before calls n result after =
 
 -- ---- a call that wakes a processor
 
--- what a call that answers with `result` does to a mailbox, whose address was looked for with the outcome `found`
+-- what a call that returns with `result` does to a mailbox, whose address was looked for with the outcome `found`
 pub record IsWakeup {Mailbox : Type 0} (open_answer : Mailbox → ℕ → Result (Unit {0}) AcpiError)
     (opened : Mailbox → Option ℕ) (writes : Mailbox → List MailboxWrite) (answer : Mailbox → ℕ → ℕ)
     (called : Mailbox → MailboxCall → Mailbox → Type 0) (found : Result ℕ AcpiError) (id vector most : ℕ)

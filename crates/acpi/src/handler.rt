@@ -1,4 +1,4 @@
-//! Handlers, which lend physical memory, and records mapped in it.
+//! Handlers, which map physical memory, and records mapped in it.
 
 mod region;
 mod regions;

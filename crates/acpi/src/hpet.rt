@@ -10,7 +10,7 @@ use acpi_base::sdt::SdtHeader;
 use acpi_base::{AcpiError, AcpiResult, Lender, PhysicalRecord, SdtTable, Signature};
 
 /// The IA-PC High Precision Event Timer Table (HPET). Section 5.2.6 reserves its signature, and its layout
-/// is the IA-PC HPET Specification's. `HpetInfo` shows what it says.
+/// is the IA-PC HPET Specification's. `HpetInfo` shows what it contains.
 #[derive(Clone, Copy, Debug)]
 pub struct HpetTable {
     header: SdtHeader,
@@ -126,13 +126,13 @@ impl HpetInfo {
         // It depends on what the lookup of the HPET depends on.
         ensures footprint { FootprintBelow tables.now (λ m. lookup_ranges m hpet_kind) hpet_of
             (λ said. result ≡ said) }
-        // It is the same wherever the valid tables lie.
+        // It is the same wherever the valid tables are.
         ensures relocation { Relocation tables.now hpet_of (λ said. result ≡ said) }
     {
         HpetInfo::of(tables.find_table::<HpetTable>()?.get())
     }
 
-    /// The event timer block that a table describes, or its refusal.
+    /// The event timer block that a table describes, or its error.
     fn of(table: &HpetTable) -> AcpiResult<HpetInfo>
         ensures { result ≡ info_of table.now }
     {

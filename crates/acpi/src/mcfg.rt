@@ -39,7 +39,7 @@ impl PciConfigRegions<Global> {
     /// (section 5.2.6 reserves the signature).
     ///
     /// Fails, in this order, with `TableMissing` if no valid MCFG is listed, and with `AllocError` if
-    /// memory is refused, and that only if the table has regions.
+    /// memory runs out, which it can only if the table has regions.
     pub fn new<H: Lender>(alloc: Global, tables: &AcpiTables<'_, H>) -> AcpiResult<Self>
         requires { AllowsBelow tables.now (λ m. lookup_ranges m mcfg_kind) }
         ensures exact { GivesOrFull (of_tables tables.now RegionsAsk)
@@ -47,7 +47,7 @@ impl PciConfigRegions<Global> {
         // It depends on what the lookup of the MCFG depends on.
         ensures footprint { FootprintBelow tables.now (λ m. lookup_ranges m mcfg_kind) found_regions
             (GivesOrFull (of_tables tables.now RegionsAsk) result) }
-        // It is the same wherever the valid tables lie.
+        // It is the same wherever the valid tables are.
         ensures relocation { Relocation tables.now found_regions
             (GivesOrFull (of_tables tables.now RegionsAsk) result) }
     {
@@ -60,7 +60,7 @@ impl<A: Allocator> PciConfigRegions<A> {
     /// 5.2.6 reserves the signature).
     ///
     /// Fails, in this order, with `TableMissing` if no valid MCFG is listed, and with `AllocError` if
-    /// memory is refused, and that only if the table has regions.
+    /// memory runs out, which it can only if the table has regions.
     #[tactic(auto, using(crate::proofs::Agreed::regions_from_tables))]
     pub fn new_in<H: Lender>(tables: &AcpiTables<'_, H>, allocator: A) -> AcpiResult<Self>
         requires { AllowsBelow tables.now (λ m. lookup_ranges m mcfg_kind) }
@@ -69,7 +69,7 @@ impl<A: Allocator> PciConfigRegions<A> {
         // It depends on what the lookup of the MCFG depends on.
         ensures footprint { FootprintBelow tables.now (λ m. lookup_ranges m mcfg_kind) found_regions
             (GivesOrFull (of_tables tables.now RegionsAsk) result) }
-        // It is the same wherever the valid tables lie.
+        // It is the same wherever the valid tables are.
         ensures relocation { Relocation tables.now found_regions
             (GivesOrFull (of_tables tables.now RegionsAsk) result) }
     {
@@ -92,7 +92,7 @@ impl<A: Allocator> PciConfigRegions<A> {
     ///
     /// It is `None` if no region holds the bus, if the device is above 31 or the function above 7, and
     /// if the sum is 2^64 or more; no later region is then tried. Of the 4096 bytes of configuration
-    /// space only the first is promised to lie below 2^64. A base is taken as it is, aligned or not.
+    /// space only the first is promised to be below 2^64. A base is taken as it is, aligned or not.
     #[tactic(auto, using(crate::proofs::Placing::if_apart), unfolding(crate::specs::Pci::pci_address))]
     pub fn physical_address(
         &self,
@@ -102,7 +102,7 @@ impl<A: Allocator> PciConfigRegions<A> {
         function: u8,
     ) -> Option<u64>
         ensures value { result ≡ pci_address self.now segment_group_no bus device function }
-        // Functions of one region lie at least 4096 bytes apart.
+        // Functions of one region are at least 4096 bytes apart.
         ensures apart { IfSome result (IsApart self.now segment_group_no bus device function) }
     {
         if device > 31 || function > 7 {
@@ -124,7 +124,7 @@ impl<A: Allocator> PciConfigRegions<A> {
     }
 }
 
-/// The entries of an MCFG, in memory of an allocator, which is asked for once.
+/// The entries of an MCFG, in memory of an allocator, which is requested once.
 fn collected<A: Allocator>(
     entries: McfgEntryIter<'_>,
     allocator: A,
@@ -189,7 +189,7 @@ pub struct PciConfigEntry {
     pub physical_address: u64,
 }
 
-/// The regions of PCI configuration space, in the order of the MCFG, as `PciConfigRegions::iter` gives them.
+/// The regions of PCI configuration space, in the order of the MCFG, as `PciConfigRegions::iter` returns them.
 #[derive(Clone, Debug, Drop)]
 pub struct PciConfigEntryIterator<'a> {
     regions: &'a [McfgEntry],

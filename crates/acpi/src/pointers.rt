@@ -18,7 +18,7 @@ impl<'t> Pointers<'t> {
     ghost use Rattle.acpi.specs.Pointers.{pointers_left};
     ghost use Rattle.acpi.specs.Root.{pointers};
 
-    /// The pointers that bytes encode, each in so many bytes.
+    /// The pointers that bytes encode, each in a number of bytes.
     pub fn new(width: usize, rest: &'t [u8]) -> Self
         requires some { 1 ≤ width }
         requires few { width ≤ 8 }

@@ -14,7 +14,7 @@ pub enum RootKind {
 }
 
 impl RootKind {
-    /// The kind of root table that a revision stands for if `AcpiTables::from_rsdt` is passed it: the RSDT
+    /// The kind of root table that a revision means if `AcpiTables::from_rsdt` is passed it: the RSDT
     /// (section 5.2.7) for 0, else the XSDT (section 5.2.8).
     pub fn of_revision(revision: u8) -> RootKind
         ensures { result ≡ root.kind_of_revision revision }

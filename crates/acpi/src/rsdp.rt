@@ -134,7 +134,7 @@ impl Rsdp {
     ///
     /// Fails, in this order, with `RsdpIncorrectSignature` if the signature is not `RSD PTR `,
     /// `RsdpInvalidOemId` if the OEM id is not valid UTF-8, and `RsdpInvalidChecksum` if the first
-    /// 20 bytes do not sum to 0 modulo 256. For a revision above 0 it also refuses with
+    /// 20 bytes do not sum to 0 modulo 256. For a revision above 0 it also fails with
     /// `RsdpInvalidChecksum` if the length is under 36 or above the number of bytes, or if that many
     /// bytes do not sum to 0 modulo 256.
     #[tactic(auto, using(crate::proofs::Search::valid_there, crate::proofs::Search::validated), unfolding(crate::specs::Rsdp::check_rsdp))]
@@ -154,7 +154,7 @@ impl Rsdp {
         }
     }
 
-    /// Checks the first 20 bytes, which every revision has, and tells how many bytes are to sum to 0 after
+    /// Checks the first 20 bytes, which every revision has, and returns how many bytes are to sum to 0 after
     /// that: `None` for revision 0, else the length.
     #[tactic(auto, unfolding(crate::specs::Rsdp::check_first, crate::specs::Rsdp::checked_length))]
     fn summed_length(&self, bytes: &[u8]) -> AcpiResult<Option<usize>>
@@ -206,7 +206,7 @@ fn check_sum(bytes: &[u8]) -> AcpiResult<()>
 }
 
 /// The checks of an RSDP whose 36 bytes are mapped. For the sum of the whole, as many bytes are mapped as its
-/// length says.
+/// length.
 #[tactic(auto, unfolding(crate::specs::Rsdp::rsdp_at))]
 fn check_mapped<H: Lender>(handler: &H, rsdp: &PhysicalMapping<'_, H, Rsdp>) -> AcpiResult<()>
     requires lent { lent (H.memory handler.now) (start_of rsdp.now) 36 ≡ Ok (bytes_of rsdp.now) }
@@ -224,11 +224,11 @@ fn check_mapped<H: Lender>(handler: &H, rsdp: &PhysicalMapping<'_, H, Rsdp>) -> 
 
 /// The valid RSDP at an address: a mapping of its 36 bytes.
 ///
-/// Fails, in this order, with `MapFailed` if 36 bytes aren't lent, `RsdpIncorrectSignature`
+/// Fails, in this order, with `MapFailed` if 36 bytes aren't mapped, `RsdpIncorrectSignature`
 /// if the signature is not `RSD PTR `, `RsdpInvalidOemId` if the OEM id is not valid UTF-8, and
 /// `RsdpInvalidChecksum` if the first 20 bytes do not sum to 0 modulo 256. For a revision above
 /// 0 it goes on with `RsdpInvalidChecksum` if the length is under 36, `MapFailed` if that
-/// many bytes aren't lent, and `RsdpInvalidChecksum` if they do not sum to 0 modulo 256.
+/// many bytes aren't mapped, and `RsdpInvalidChecksum` if they do not sum to 0 modulo 256.
 #[tactic(auto, unfolding(crate::specs::Rsdp::rsdp_at))]
 pub fn map_rsdp<'h, H: Lender>(
     handler: &'h H,

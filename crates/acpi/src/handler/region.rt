@@ -6,7 +6,7 @@ ghost use Rattle.acpi.specs.Types.{MapFailed};
 use acpi_base::{AcpiError, AcpiHandler, AcpiResult, AddressRange};
 use std::fmt;
 
-/// The refusals of `MappedRegion::new` and `MappedRegions::new`: why regions are no memory.
+/// The errors of `MappedRegion::new` and `MappedRegions::new`: why regions are no memory.
 #[derive(Clone, Copy, Debug, PartialEq, Eq)]
 pub enum RegionError {
     /// A region's start and its length in bytes add up to more than 2^64 - 1.
@@ -32,10 +32,10 @@ impl fmt::Display for RegionError {
     }
 }
 
-/// A handler that lends the bytes of one region of physical memory, which a kernel or a boot loader has
+/// A handler that maps the bytes of one region of physical memory, which a kernel or a boot loader has
 /// mapped.
 ///
-/// The caller keeps three things. The bytes are those of the physical memory from `start` on. They stay
+/// The caller keeps three things. The bytes are the physical memory's from `start` on. They stay
 /// mapped as long as the handler is used, which the compiler checks by `'k`. And nobody writes to them
 /// meanwhile, neither the firmware nor another processor. The first and the last can't be checked here.
 #[derive(Clone, Copy, Drop)]
@@ -48,7 +48,7 @@ pub struct MappedRegion<'k> {
 impl<'k> MappedRegion<'k> {
     ghost use Rattle.acpi.specs.Regions.{one_memory, region_memory};
 
-    /// A handler that lends these bytes, which lie from the physical address `start` on.
+    /// A handler that maps these bytes, which are from the physical address `start` on.
     ///
     /// Fails with `EndTooLarge` if `start` and the number of bytes add up to more than 2^64 - 1.
     pub fn new(start: u64, bytes: &'k [u8]) -> Result<Self, RegionError>
@@ -61,13 +61,13 @@ impl<'k> MappedRegion<'k> {
     }
 }
 
-/// Lends the region's bytes.
+/// Maps the region's bytes.
 impl AcpiHandler for MappedRegion<'_> {
     ghost use Rattle.acpi.specs.Regions.{region_memory};
 
     ghost memory = { λ r. region_memory r };
 
-    /// Lends all bytes from a physical address to the end of the region.
+    /// Maps all bytes from a physical address to the end of the region.
     ///
     /// Fails with `MapFailed` if the region doesn't have `size` bytes from that address on.
     #[tactic(auto, using(acpi_base::proofs::LentRanges::one_region_lends, crate::proofs::Placing::rest_of_region))]
@@ -75,7 +75,7 @@ impl AcpiHandler for MappedRegion<'_> {
         requires { 0 < size }
         ensures enough { IfOk result (λ s. size ≤ length s.now) }
         ensures lent { IfOk result (λ s. at (region_memory self.now) address (length s.now) ≡ Some s.now) }
-        // All the rest of the region is lent, however little is asked for.
+        // All the rest of the region is mapped, however little is requested.
         ensures whole { IfOk result (λ s. s.now ≡ rest_from (region_memory self.now) address) }
         ensures refused { IfErr result (λ e. at (region_memory self.now) address size ≡ None) }
         ensures name { IfErr result (λ e. e ≡ MapFailed) }

@@ -7,8 +7,8 @@ ghost use Rattle.acpi.specs.Regions.{IsAscending, IsAscending-prop, check_region
 use super::region::{MappedRegion, RegionError};
 use acpi_base::{AcpiError, AcpiHandler, AcpiResult};
 
-/// A handler that lends the bytes of several regions of physical memory, which a kernel or a boot loader
-/// has mapped. Two regions that adjoin are still two: a range across their border is not lent.
+/// A handler that maps the bytes of several regions of physical memory, which a kernel or a boot loader
+/// has mapped. Two regions that adjoin are still two: a range across their border is not mapped.
 ///
 /// The caller keeps for each region the three things that `MappedRegion` names.
 #[derive(Clone, Copy, Drop)]
@@ -22,7 +22,7 @@ impl<'k> MappedRegions<'k> {
     ghost use Rattle.acpi.specs.Mapped.{regions_memory};
     ghost use Rattle.acpi.specs.Regions.{several_memory};
 
-    /// A handler that lends the bytes of these regions. They stand in the order of their addresses, each
+    /// A handler that maps the bytes of these regions. They are in the order of their addresses, each
     /// at or after the end of the one before it. There is no heap to sort them in: the caller sorts its
     /// list once.
     ///
@@ -58,7 +58,7 @@ fn check(regions: &[MappedRegion<'_>]) -> Result<(), RegionError>
     Ok(())
 }
 
-/// The one region that an address can lie in: the last one that starts at it or below it, or else
+/// The one region that an address can be in: the last one that starts at it or below it, or else
 /// the first one. It halves the list, and so takes as many steps as the logarithm of its length.
 fn region_for<'k>(regions: &'k [MappedRegion<'k>], address: u64) -> Option<&'k MappedRegion<'k>>
     requires { IsAscending (regions_of regions.now) }
@@ -70,13 +70,13 @@ fn region_for<'k>(regions: &'k [MappedRegion<'k>], address: u64) -> Option<&'k M
     regions.get(after.saturating_sub(1))
 }
 
-/// Lends the regions' bytes.
+/// Maps the regions' bytes.
 impl AcpiHandler for MappedRegions<'_> {
     ghost use Rattle.acpi.specs.Mapped.{regions_memory};
 
     ghost memory = { λ r. regions_memory r };
 
-    /// Lends all bytes from a physical address to the end of the region that it lies in.
+    /// Maps all bytes from a physical address to the end of the region that it is in.
     ///
     /// Fails with `MapFailed` if no region has `size` bytes from that address on.
     #[tactic(auto, using(crate::proofs::Placing::at_same, crate::proofs::Placing::at_none))]
@@ -84,7 +84,7 @@ impl AcpiHandler for MappedRegions<'_> {
         requires { 0 < size }
         ensures enough { IfOk result (λ s. size ≤ length s.now) }
         ensures lent { IfOk result (λ s. at (regions_memory self.now) address (length s.now) ≡ Some s.now) }
-        // All the rest of the region is lent, however little is asked for.
+        // All the rest of the region is mapped, however little is requested.
         ensures whole { IfOk result (λ s. s.now ≡ rest_from (regions_memory self.now) address) }
         ensures refused { IfErr result (λ e. at (regions_memory self.now) address size ≡ None) }
         ensures name { IfErr result (λ e. e ≡ MapFailed) }

@@ -18,7 +18,7 @@ impl<A: Allocator> PciConfigRegions<A> {
     ///
     /// It is `None` if no region holds the bus, if the device is above 31 or the function above 7, and
     /// if the sum is 2^64 or more; no later region is then tried. Of the 4096 bytes of configuration
-    /// space only the first is promised to lie below 2^64. A base is taken as it is, aligned or not.
+    /// space only the first is promised to be below 2^64. A base is taken as it is, aligned or not.
     #[tactic(auto, using(crate::proofs::Placing::if_beside))]
     pub fn ecam_address(
         &self,
@@ -28,7 +28,7 @@ impl<A: Allocator> PciConfigRegions<A> {
         function: u8,
     ) -> Option<u64>
         ensures value { result ≡ ecam_address self.now segment_group_no bus device function }
-        // There `physical_address` answers too, less the buses before the region's first.
+        // There `physical_address` returns too, less the buses before the region's first.
         ensures beside { IfSome result (IsBeside self.now segment_group_no bus device function) }
     {
         match region_for(self.regions.as_slice(), segment_group_no, bus) {
@@ -42,7 +42,7 @@ impl<A: Allocator> PciConfigRegions<A> {
     /// physical memory of the buses from the first to the last, 2^20 bytes each.
     ///
     /// There is no range if the last bus is below the first, and if the range ends at 2^64 or above.
-    /// Some address in it may then be answered by `ecam_address` all the same.
+    /// Some address in it may then be returned by `ecam_address` all the same.
     pub fn ecam_ranges(&self) -> EcamRanges<'_>
         ensures { spans_left result ≡ spans_of self.now }
     {
@@ -53,7 +53,7 @@ impl<A: Allocator> PciConfigRegions<A> {
 }
 
 /// The memory that the configuration space of each region takes, in the order of the table, as
-/// `PciConfigRegions::ecam_ranges` gives it: each region's segment group, and its range, if it has one.
+/// `PciConfigRegions::ecam_ranges` returns it: each region's segment group, and its range, if it has one.
 #[derive(Clone, Drop)]
 pub struct EcamRanges<'a> {
     regions: &'a [McfgEntry],

@@ -9,7 +9,7 @@ use acpi_base::AcpiResult;
 /// One write to a field of a Multiprocessor Wakeup Mailbox (section 5.2.12.19).
 #[derive(Clone, Copy, Debug, PartialEq, Eq)]
 pub enum MailboxWrite {
-    /// Command: what the firmware is asked to do.
+    /// Command: what the firmware is to do.
     Command(u16),
     /// ApicId: the id of the local APIC of the processor that the command is for.
     ApicId(u32),
@@ -30,15 +30,15 @@ pub enum MailboxCall {
 
 /// A Multiprocessor Wakeup Mailbox (section 5.2.12.19), as a kernel or a test reaches it.
 ///
-/// It means five things: for each address the answer that `open` gives there, the address that was
-/// opened, the writes since then, for each number i the answer of the i-th read from now, and to
+/// It means five things: for each address what `open` returns there, the address that was
+/// opened, the writes since then, for each number i the result of the i-th read from now, and to
 /// which state a call leads from which one. Only `open` can fail.
 ///
 /// The values of reads are those that the mailbox is still going to return, whatever is written to it. Who
 /// implements this over a real mailbox therefore states beforehand what the firmware is going to write.
 /// No proof shows that a real mailbox does so, or reacts at all.
 pub trait Mailbox {
-    // What `open` answers at each address.
+    // What `open` returns at each address.
     ghost open_answer: { Self → ℕ → Result (Unit {0}) AcpiError };
 
     // The address that was opened.
@@ -47,7 +47,7 @@ pub trait Mailbox {
     // The writes since it was opened, in order.
     ghost writes: { Self → List MailboxWrite };
 
-    // The answer of the i-th read from now, counted from 0.
+    // The result of the i-th read from now, counted from 0.
     ghost answer: { Self → ℕ → ℕ };
 
     // This call leads from the one state to the other.

@@ -1,11 +1,11 @@
-//! A Multiprocessor Wakeup Mailbox that answers from a script, for tests and dry runs.
+//! A Multiprocessor Wakeup Mailbox whose reads come from a script, for tests and dry runs.
 ghost use Rattle.std.specs.Prelude.{◌≤◌, ◌≡◌, ◌<◌, ◌++◌, ◌∷◌, ℕ, [], None, slice_index_or, take, ◌+◌, ◌-◌, ◌^◌, Ok, Some, length, min};
 
 use super::mailbox::{Mailbox, MailboxCall, MailboxWrite};
 use acpi_base::AcpiResult;
 
-/// A `Mailbox` (section 5.2.12.19) for tests and dry runs. It can be opened at every address, answers reads
-/// with the numbers of its script, in order, and after these with 1 each time. It shows what was done to
+/// A `Mailbox` (section 5.2.12.19) for tests and dry runs. It can be opened at every address, and its reads
+/// return the numbers of its script, in order, and after these with 1 each time. It shows what was done to
 /// it: the first 32 calls, the address opened last, the writes since then, and how many reads there were.
 #[derive(Drop)]
 pub struct ScriptedMailbox<'a> {

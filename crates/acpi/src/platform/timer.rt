@@ -27,7 +27,7 @@ impl PmTimer {
         PmTimer::from_block(fadt.pm_timer_block(), fadt.flags)
     }
 
-    /// What `new` returns, for a FADT that is read where it lies.
+    /// What `new` returns, for a FADT that is read where it is.
     ///
     /// Fails as `new` does.
     pub fn of<H: Lender>(fadt: &FadtView<'_, H>) -> AcpiResult<Option<PmTimer>>

@@ -8,12 +8,12 @@ use acpi_base::madt::{Madt, MadtError, MpProtectedModeWakeupCommand};
 use acpi_base::{AcpiError, AcpiResult, Lender};
 
 /// Wakes the processor with a local APIC id by the Multiprocessor Wakeup Mailbox (section 5.2.12.19): the
-/// firmware is asked to let it run at the vector, a physical address. The mailbox is that of the first
+/// firmware is requested to let it run at the vector, a physical address. The mailbox is that of the first
 /// Multiprocessor Wakeup entry of the first valid MADT. It gets Command 0 (Noop), ApicId, WakeupVector and
 /// Command 1 (Wakeup), in this order; then Command is read until it is 0, at most `timeout_loops` times.
 ///
-/// Fails, in this order, with `TableMissing` if no valid MADT is listed, with what
-/// `get_mpwk_mailbox_addr` refuses, with what the mailbox's `open` refuses, each without a write or
+/// Fails, in this order, with `TableMissing` if no valid MADT is listed, with the error of
+/// `get_mpwk_mailbox_addr`, with that of the mailbox's `open`, each without a write or
 /// a read, and with `InvalidMadt(WakeupApsTimeout)` if no read is 0.
 #[tactic(auto, using(crate::proofs::Agreed::mailbox_from_tables))]
 pub fn wakeup_aps<H: Lender, M: Mailbox>(
@@ -26,7 +26,7 @@ pub fn wakeup_aps<H: Lender, M: Mailbox>(
     requires { AllowsBelow tables.now (λ m. lookup_ranges m madt_kind) }
     ensures woken { IsWakeup M.open_answer M.opened M.writes M.answer M.called (of_tables tables.now mailbox_found)
         apic_id wakeup_vector timeout_loops mailbox.old result mailbox.new }
-    // Where the mailbox lies, or why none is found, depends on what the lookup of the MADT depends on.
+    // Where the mailbox is, or why none is found, depends on what the lookup of the MADT depends on.
     ensures footprint { FootprintBelow tables.now (λ m. lookup_ranges m madt_kind) mailbox_found
         (λ said. of_tables tables.now mailbox_found ≡ said) }
 {
@@ -36,8 +36,8 @@ pub fn wakeup_aps<H: Lender, M: Mailbox>(
 
 /// The address of the mailbox of the first valid MADT.
 ///
-/// Fails with `TableMissing` if no valid MADT is listed, and then with what
-/// `get_mpwk_mailbox_addr` refuses.
+/// Fails with `TableMissing` if no valid MADT is listed, and then with the error of
+/// `get_mpwk_mailbox_addr`.
 fn mailbox_address<H: Lender>(tables: &AcpiTables<'_, H>) -> AcpiResult<u64>
     requires { AllowsBelow tables.now (λ m. lookup_ranges m madt_kind) }
     ensures { result ≡ of_tables tables.now mailbox_found }

@@ -1,4 +1,4 @@
-//! The search for the RSDP in areas that a caller gives, if firmware lends less than whole areas.
+//! The search for the RSDP in areas that a caller passes, if firmware maps less than whole areas.
 ghost use Rattle.std.specs.Prelude.{◌≡◌, ◌<◌, ◌≤◌, ◌^◌, ◌+◌, ◌*◌, ℕ, Ok, true, IfErr, IfOk, IfSome, option_map, IsOk};
 ghost use Rattle.acpi_base.specs.Words.{IsOfMemory, bytes_of, handler_of, start_of, Allows, Footprint, Gives, lent};
 ghost use Rattle.acpi.specs.Words.{areas_ranges, count_in, first_in, is_refused_in, walk_in, IsSearchedIn, found_in_areas, rsdp_ranges, walk_ranges, rsdp_at, IsRefused, placed, walk};
@@ -41,8 +41,8 @@ pub fn bios_areas(ebda: Option<u64>) -> [AddressRange; 2]
     [first, second]
 }
 
-/// The first candidate of an area, and how many there are, each 16 bytes after the one before. No
-/// first one is told if there is none.
+/// The first candidate of an area, and how many there are, each 16 bytes after the one before. The
+/// first is 0 if there is none.
 fn candidates(area: &AddressRange) -> (u64, u64)
     ensures first { 0 < result.1 → result.0 ≡ first_in area.now }
     ensures count { result.1 ≡ count_in area.now }
@@ -56,7 +56,7 @@ fn candidates(area: &AddressRange) -> (u64, u64)
     (area.address + skipped, (room - skipped - 4) / 16)
 }
 
-/// Whether bytes hold those of a candidate at an offset, and its own checks refuse these.
+/// Whether bytes contain a candidate's at an offset, and its own checks fail for these.
 fn is_refused_in(bytes: &[u8], offset: usize) -> bool
     ensures { result ≡ is_refused_in bytes.now offset }
 {
@@ -68,8 +68,8 @@ fn is_refused_in(bytes: &[u8], offset: usize) -> bool
     Rsdp::read(candidate).summed_length(candidate).is_err()
 }
 
-/// The RSDP at an address, if it is valid, or else how many candidates from there on are refused,
-/// as far as is known from what was lent there: each 16 bytes after the one before.
+/// The RSDP at an address, if it is valid, or else how many candidates from there on are invalid,
+/// as far as is known from what was mapped there: each 16 bytes after the one before.
 fn candidate_at<'h, H: Lender>(
     handler: &'h H,
     address: u64,
@@ -91,7 +91,7 @@ fn candidate_at<'h, H: Lender>(
         Ok(rsdp) => match check_mapped(handler, &rsdp) {
             Ok(()) => Ok(rsdp),
             Err(_) => {
-                // The bytes that were lent with its own may show that those after it are refused too.
+                // The bytes that were mapped with its own may show that the ones after it are invalid too.
                 let bytes = rsdp.lent_bytes();
                 let other = (1..left).find(|k| !is_refused_in(bytes, 16 * *k as usize));
                 Err(other.unwrap_or(left))
@@ -101,7 +101,7 @@ fn candidate_at<'h, H: Lender>(
     }
 }
 
-/// The first valid one of so many candidates from an address on.
+/// The first valid one of a number of candidates from an address on.
 fn first_valid<'h, H: Lender>(
     handler: &'h H,
     first: u64,
@@ -160,17 +160,17 @@ fn first_of_areas<'h, H: Lender>(
 }
 
 impl Rsdp {
-    /// The RSDP in areas that the caller gives (section 5.2.5.1), such as `bios_areas` or those that a
-    /// firmware's memory map names: a mapping of the 36 bytes of the first valid candidate.
+    /// The RSDP in areas that the caller passes (section 5.2.5.1), such as `bios_areas` or the ones that
+    /// a firmware's memory map names: a mapping of the 36 bytes of the first valid candidate.
     ///
     /// The areas are looked at in their order, and the candidates of one from the lowest on: they are
     /// the multiples of 16 in it with 20 bytes before its end, and an end above 2^64 counts as 2^64. A
-    /// candidate that fails any check of an RSDP at an address is passed over, also one whose bytes
-    /// aren't lent. A candidate's 36 bytes, and as many as its length says, may reach past the area's end;
-    /// no other byte there is asked for.
+    /// candidate that fails any check of an RSDP at an address is skipped, also one whose bytes
+    /// aren't mapped. A candidate's 36 bytes, and as many as its length, may reach past the area's end;
+    /// no other byte there is requested.
     ///
-    /// No area is asked for as a whole. No clause counts the requests: tests see at most two for a
-    /// candidate, and none if the bytes that were lent for one before it show that it isn't valid.
+    /// No area is requested as a whole. No clause counts the requests: tests see at most two for a
+    /// candidate, and none if the bytes that were mapped for one before it show that it isn't valid.
     ///
     /// Fails with `NoValidRsdp` if no candidate is left, also if there are no areas.
     #[tactic(auto, using(crate::proofs::Agreed::same_in_areas, crate::proofs::Among::found_valid_in, crate::proofs::Among::searched_in))]
@@ -180,7 +180,7 @@ impl Rsdp {
     ) -> AcpiResult<PhysicalMapping<'h, H, Rsdp>>
         requires { Allows (H.may handler.now) (areas_ranges (H.memory handler.now) areas.now) }
         ensures handler { IfOk result (λ m. handler_of m ≡ handler.now) }
-        // However many bytes were lent, all of them are the memory's.
+        // However many bytes were mapped, all of them are the memory's.
         ensures lent { IfOk result (λ m. IsOfMemory (H.memory handler.now) m) }
         ensures exact { Gives placed result (found_in_areas (H.memory handler.now) areas.now) }
         ensures valid { IfOk result (λ m. IsOk (rsdp_at (H.memory handler.now) (start_of m))) }

@@ -21,7 +21,7 @@ const FIRST_AREA: Area = Area {
 };
 
 /// The area that is searched second: the first KiB of the extended BIOS data area (EBDA), whose address is
-/// 16 times the word; if that area can't be there, all of the memory that it may lie in.
+/// 16 times the word; if that area can't be there, all of the memory that it may be in.
 fn second_area(word: u16) -> Area
     ensures value { result ≡ second_area word }
     ensures some { result.start + 20 ≤ result.end }
@@ -41,7 +41,7 @@ fn second_area(word: u16) -> Area
     }
 }
 
-/// Whether the signature of an RSDP stands at an offset.
+/// Whether the signature of an RSDP is at an offset.
 fn has_signature(bytes: &[u8], offset: usize) -> bool
     requires { offset + 8 ≤ length bytes.now }
     ensures { result ≡ bytes_eq (part bytes.now offset 8) rsd_ptr }
@@ -50,7 +50,7 @@ fn has_signature(bytes: &[u8], offset: usize) -> bool
     signature == *b"RSD PTR "
 }
 
-/// The least valid candidate of an area that is lent, with the 16 bytes after it, as these bytes.
+/// The least valid candidate of an area that is mapped, with the 16 bytes after it, as these bytes.
 fn first_candidate<'h, H: Lender>(
     handler: &'h H,
     area: Area,
@@ -81,7 +81,7 @@ fn first_candidate<'h, H: Lender>(
 
 /// The least valid candidate of an area, if it has one.
 ///
-/// Fails with `MapFailed` if the area isn't lent with the 16 bytes after it.
+/// Fails with `MapFailed` if the area isn't mapped with the 16 bytes after it.
 #[tactic(auto, unfolding(crate::specs::Search::found_in))]
 fn search_area<'h, H: Lender>(
     handler: &'h H,
@@ -111,7 +111,7 @@ fn area_word<H: Lender>(handler: &H) -> AcpiResult<u16>
 
 /// The least valid candidate of the area that is searched last.
 ///
-/// Fails with `MapFailed` if the area isn't lent with the 16 bytes after it, and with `NoValidRsdp` if no
+/// Fails with `MapFailed` if the area isn't mapped with the 16 bytes after it, and with `NoValidRsdp` if no
 /// candidate is left.
 fn search_last<'h, H: Lender>(
     handler: &'h H,
@@ -131,19 +131,19 @@ impl Rsdp {
     /// The RSDP of a system that boots by a BIOS (section 5.2.5.1): a mapping of the 36 bytes of
     /// the least valid candidate of the first area, or of the second if the first has none.
     ///
-    /// Candidates stand every 16 bytes from the start of an area, with 20 bytes inside it. The
+    /// Candidates are every 16 bytes from the start of an area, with 20 bytes inside it. The
     /// first area is 0xe0000..0x100000. The second is the first 1024 bytes of the extended BIOS
     /// data area, which begins at 16 times the word at 0x40e; if that address is under 0x80000, or
-    /// 0x9ffff or above, the second area is 0x80000..0xa0000. It is asked for only if the first area
-    /// has no valid RSDP, and each is asked for with 16 bytes after it. A candidate that fails any
-    /// check is skipped, also one that isn't lent as far as its length says.
+    /// 0x9ffff or above, the second area is 0x80000..0xa0000. It is requested only if the first area
+    /// has no valid RSDP, and each is requested with 16 bytes after it. A candidate that fails any
+    /// check is skipped, also one that isn't mapped to its length's end.
     ///
-    /// Each area is asked for in one piece, so a handler whose regions follow the firmware's memory
-    /// map, in which video memory cuts the second area, lends too little: give the search one that has
+    /// Each area is requested in one piece, so a handler whose regions follow the firmware's memory
+    /// map, in which video memory cuts the second area, maps too little: pass the search one that has
     /// each area in one region. It takes at most as many steps as there are candidates times the
-    /// length that one claims, as far as that is lent.
+    /// length that one claims, as far as that is mapped.
     ///
-    /// Fails with `MapFailed` if the word or an area that is asked for isn't lent, and with
+    /// Fails with `MapFailed` if the word or an area that is requested isn't mapped, and with
     /// `NoValidRsdp` if no candidate is left.
     #[tactic(auto, unfolding(crate::specs::Search::found_rsdp))]
     pub fn search_for_on_bios<'h, H: Lender>(
@@ -151,13 +151,13 @@ impl Rsdp {
     ) -> AcpiResult<PhysicalMapping<'h, H, Rsdp>>
         requires { Allows (H.may handler.now) (search_ranges (H.memory handler.now)) }
         ensures handler { IfOk result (λ m. handler_of m ≡ handler.now) }
-        // However many bytes were lent, all of them are the memory's.
+        // However many bytes were mapped, all of them are the memory's.
         ensures lent { IfOk result (λ m. IsOfMemory (H.memory handler.now) m) }
         ensures exact { Gives placed result (found_rsdp (H.memory handler.now)) }
         ensures valid { IfOk result (λ m. IsOk (rsdp_at (H.memory handler.now) (start_of m))) }
-        // In the reader's words: the least valid candidate, or the cause of the refusal.
+        // In the reader's words: the least valid candidate, or the cause of the error.
         ensures least { IsSearched (H.memory handler.now) placed result }
-        // It depends on the word, the areas that are asked for, and the candidates up to the one
+        // It depends on the word, the areas that are requested, and the candidates up to the one
         // found.
         ensures footprint { let m = H.memory handler.now in
             Footprint m (search_ranges m) found_rsdp (Gives placed result) }
