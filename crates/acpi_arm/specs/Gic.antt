@@ -1,4 +1,4 @@
--- The interrupt controller of an Arm machine: what the entries of the MADT say together of its GIC
+-- The interrupt controller of an Arm machine: what the entries of the MADT contain together of its GIC
 -- (ACPI 6.4, sections 5.2.12.14 to 5.2.12.18).
 use Rattle.std.specs.Prelude.{ℕ, ◌+◌, ◌<◌, ◌&&◌, nat_le, not, List, length, slice_get, Option, Some, None, Result, Ok, Err, if◌then◌else◌, filter_map, option_map}
 use Rattle.acpi_base.specs.Words.{has_bit, field_of, shown_of, cut_of, entries_of, is_left, Memory, ◌>>=◌, holds}
@@ -14,7 +14,7 @@ use Rattle.acpi_arm.specs.declared.gic.part.GicRedistributors.{GicRedistributors
 use Rattle.acpi_arm.specs.declared.gic.part.GicTranslationService.{GicTranslationService}
 use Rattle.acpi_arm.specs.declared.gic.part.SpiRange.{SpiRange}
 
--- ---- what one entry says, in a table of a revision; nothing if it is of another kind
+-- ---- what one entry contains, in a table of a revision; nothing if it is of another kind
 
 abbrev pub distributor_in : MadtEntry → Option GicDistributor
 distributor_in (kinds.Gicd e) = Some (record {
@@ -25,8 +25,8 @@ distributor_in (kinds.Gicd e) = Some (record {
 })
 distributor_in _ = None
 
--- GICC CPU Interface Flags (section 5.2.12.14): of bits 1 and 2 a 1 is Edge; bit 3 came with ACPI 6.5, which is revision
--- 6 of the MADT, and is reserved below
+-- GICC CPU Interface Flags (section 5.2.12.14): of bits 1 and 2 a 1 is Edge; bit 3 came with ACPI 6.5, which is
+-- revision 6 of the MADT, and is reserved below
 abbrev pub cpu_interface_of : ℕ → GiccEntry → GicCpuInterface
 cpu_interface_of revision e = record {
   number = e.cpu_interface_number;
@@ -65,7 +65,7 @@ translation_service_in revision (kinds.GicInterruptTranslationService e) =
     Some (record { id = e.id; address = e.physical_base_address })
 translation_service_in revision _ = None
 
--- the interrupts of a frame, if bit 0 of its GIC MSI Frame Flags, SPI Count/Base Select, says that the entry has them
+-- the interrupts of a frame, if the entry has them by bit 0 of its GIC MSI Frame Flags, SPI Count/Base Select
 -- (section 5.2.12.16)
 abbrev pub spis_of : GicMsiFrameEntry → Option SpiRange
 spis_of e =
@@ -76,9 +76,9 @@ msi_frame_in revision (kinds.GicMsiFrame e) =
     Some (record { id = e.frame_id; address = e.physical_base_address; spis = spis_of e })
 msi_frame_in revision _ = None
 
--- ---- what all entries say
+-- ---- what all entries contain
 
--- what each entry of some kind says, in order; Revision of the table is its byte 8
+-- what each entry of some kind contains, in order; Revision of the table is its byte 8
 abbrev pub items_of : {T : Type 0} → (ℕ → MadtEntry → Option T) → List ℕ → List T
 items_of said_in table = filter_map (said_in (field_of table 8 1)) (entries_of table)
 
@@ -88,7 +88,7 @@ distributor_of table = do
   _ ← holds (not (is_left (cut_of table).1)) (InvalidMadt InvalidEntryLength)
   Ok (slice_get (filter_map distributor_in (entries_of table)) 0)
 
--- a distributor with the lists of a model; A is the allocator, of which they say nothing
+-- a distributor with the lists of a model; A is the allocator, which they don't contain
 abbrev pub model_beside : {A : Type 0} → List ℕ → GicDistributor → GicModel A
 model_beside table distributor = record {
   distributor = distributor;
@@ -122,7 +122,7 @@ abbrev pub IsThere : Result (Option GicDistributor) AcpiError → Type 0
 IsThere (Ok (Some distributor)) = Unit {0}
 IsThere _ = ⊥
 
--- memory is asked for only if there is a distributor, and a list has an item
+-- memory is requested only if there is a distributor, and a list has an item
 abbrev pub AsksMemory : List ℕ → Type 0
 AsksMemory table = IsThere (distributor_of table) × (0 < item_count table)
 
@@ -130,6 +130,6 @@ abbrev pub FoundAsks : Result (ℕ × List ℕ) AcpiError → Type 0
 FoundAsks (Ok found) = AsksMemory found.1
 FoundAsks (Err e) = ⊥
 
--- memory is asked for only if a valid MADT is found, and the first one has a distributor and an item of a list
+-- memory is requested only if a valid MADT is found, and the first one has a distributor and an item of a list
 abbrev pub GicAsks : Memory → List ℕ → Type 0
 GicAsks m ps = FoundAsks (lookup m madt_kind ps)

@@ -8,7 +8,7 @@ use Rattle.acpi_arm.specs.declared.gtdt.Gtdt.{Gtdt}
 abbrev pub gtdt_kind : Kind
 gtdt_kind = sdt_kind GTDT 96
 
--- a bit of the flags says how an interrupt comes: Timer interrupt Mode, and Timer Interrupt polarity
+-- how an interrupt comes, by a bit of the flags: Timer interrupt Mode, and Timer Interrupt polarity
 
 abbrev pub trigger_in : ℕ → ℕ → TriggerMode
 trigger_in flags k = if has_bit flags k then Edge else Level
@@ -16,7 +16,7 @@ trigger_in flags k = if has_bit flags k then Edge else Level
 abbrev pub polarity_in : ℕ → ℕ → Polarity
 polarity_in flags k = if has_bit flags k then ActiveLow else ActiveHigh
 
--- an address, of which all ones stand for none
+-- an address, of which all ones mean none
 abbrev pub unless_ones : ℕ → Option ℕ
 unless_ones address = unless (2 ^ 64 - 1) address
 
@@ -50,11 +50,11 @@ gtdt_at b = record {
 abbrev pub control_base_of : Gtdt → Option ℕ
 control_base_of t = unless_ones t.control_base
 
--- CntReadBase: the base of those from which it is read; tables below revision 2 have another layout
+-- CntReadBase: the base of the registers from which it is read; tables below revision 2 have another layout
 abbrev pub read_base_of : Gtdt → Option ℕ
 read_base_of t = if nat_lt t.header.revision 2 then None else unless_ones t.read_base
 
--- Virtual EL2 Timer, from revision 3 on, if no platform timer lies in its eight bytes
+-- Virtual EL2 Timer, from revision 3 on, if no platform timer is in its eight bytes
 abbrev pub virtual_el2_of : Gtdt → Option ArmTimer
 virtual_el2_of t =
     if (t.platform_timer_count == 0) || nat_le 104 t.platform_timer_offset

@@ -15,8 +15,8 @@ use Rattle.acpi_arm.specs.declared.timers.SbsaWatchdog.{SbsaWatchdog}
 
 -- ---- one structure
 
--- it begins with Type, one byte at 0, and Length, two bytes at 1. The least lengths are those of a GT Block, type 0,
--- and of an Arm Generic Watchdog, type 1
+-- it begins with Type, one byte at 0, and Length, two bytes at 1. The least lengths are a GT Block's, type 0, and an
+-- Arm Generic Watchdog's, type 1
 abbrev pub timers_layout : EntryLayout 2
 timers_layout = record {
   kind_place = record { at = 0; width = One };  -- Type
@@ -66,7 +66,7 @@ frame_count e = field_of e 12 4  -- GT Block Timer Count
 abbrev pub frames_offset : List ℕ → ℕ
 frames_offset e = field_of e 16 4  -- GT Block Timer Offset
 
--- how many of them lie between the block's 20 fixed bytes and its end
+-- how many of them are between the block's 20 fixed bytes and its end
 abbrev pub frames_there : List ℕ → ℕ
 frames_there e =
     if nat_lt (frames_offset e) 20 then 0 else min (frame_count e) ((length e - frames_offset e) / 40)
@@ -82,7 +82,7 @@ first_frames n e = frames_in n (drop (frames_offset e) e)
 abbrev pub frames_of : List ℕ → List GtFrame
 frames_of e = first_frames (frame_count e) e
 
--- the frames, if there are some, lie between the block's 20 fixed bytes and its end
+-- the frames, if there are some, are between the block's 20 fixed bytes and its end
 abbrev pub frames_fit : List ℕ → Bool
 frames_fit e =
     (frame_count e == 0)
@@ -107,14 +107,14 @@ watchdog_at e = record {
 abbrev pub Timer : Type 0
 Timer = (ℕ × List GtFrame) ⊎ SbsaWatchdog
 
--- what a structure says, a block with its first n frames; nothing for a type that isn't defined
+-- what a structure contains, a block with its first n frames; nothing for a type that isn't defined
 abbrev pub timer_with : ℕ → List ℕ → Option Timer
 timer_with n e =
     if kind_of e == 0 then Some (inl (field_of e 4 8, first_frames n e))
     else if kind_of e == 1 then Some (inr (watchdog_at e))
     else None
 
--- with all of them, and with those that are there
+-- with all of them, and with the ones that are there
 abbrev pub timer_of : List ℕ → Option Timer
 timer_of e = timer_with (frame_count e) e
 
@@ -123,7 +123,7 @@ timer_there e = timer_with (frames_there e) e
 
 -- ---- all structures of a table
 
--- Platform Timer Count, at 88: how many it says there are; tables of a Revision, at 8, below 2 have none
+-- Platform Timer Count, at 88: how many there are; tables of a Revision, at 8, below 2 have none
 abbrev pub timer_count : List ℕ → ℕ
 timer_count table = if nat_lt (field_of table 8 1) 2 then 0 else field_of table 88 4
 
@@ -136,14 +136,14 @@ abbrev pub timer_bytes : List ℕ → List ℕ
 timer_bytes table =
     if nat_lt (field_of table 92 4) 96 then [] else drop (field_of table 92 4) table
 
--- what each structure by itself says, up to the first malformed front
+-- what each structure by itself contains, up to the first malformed front
 abbrev pub each_in : ℕ → List ℕ → List Timer
 each_in count bytes = filter_map timer_there (cut (timers_grammar count) bytes).0
 
 abbrev pub each_of : List ℕ → List Timer
 each_of table = each_in (timer_count table) (timer_bytes table)
 
--- those before the first one that is malformed
+-- the structures before the first one that is malformed
 abbrev pub sound_front : List (List ℕ) → List (List ℕ)
 sound_front [] = []
 sound_front (e ∷ es) = if is_sound e then e ∷ sound_front es else []
@@ -152,7 +152,7 @@ sound_front (e ∷ es) = if is_sound e then e ∷ sound_front es else []
 abbrev pub structures_in : ℕ → List ℕ → List (List ℕ)
 structures_in count bytes = sound_front (cut (timers_grammar count) bytes).0
 
--- what they say, those of defined types
+-- what the structures of defined types contain
 abbrev pub timers_in : ℕ → List ℕ → List Timer
 timers_in count bytes = filter_map timer_of (structures_in count bytes)
 
@@ -187,7 +187,7 @@ each_left s = each_in s.left s.rest.now
 abbrev pub missing_left : PlatformTimerIter → ℕ
 missing_left s = missing_in s.left s.rest.now
 
--- whether it has answered that no timer is left
+-- whether it has returned that no timer is left
 abbrev pub has_ended : PlatformTimerIter → Bool
 has_ended s = s.ended
 
@@ -195,7 +195,7 @@ has_ended s = s.ended
 abbrev pub is_malformed : PlatformTimerIter → Bool
 is_malformed s = s.ended && nat_lt 0 s.left
 
--- a step leaves what is missing as it is, and has ended exactly if it gives no timer
+-- a step leaves what is missing as it is, and has ended exactly if it returns no timer
 abbrev pub EndsWhereMissing : PlatformTimerIter → Option PlatformTimer → PlatformTimerIter → Type 0
 EndsWhereMissing s (Some timer) t =
     (missing_left t ≡ missing_left s) × (has_ended t ≡ has_ended s)

@@ -43,7 +43,7 @@ pub struct GtFrame {
     pub is_always_on: bool,
 }
 
-/// The interrupt whose number and flags stand at an offset. A byte past the end is read as zero.
+/// The interrupt whose number and flags are at an offset. A byte past the end is read as zero.
 pub(crate) fn interrupt_in(bytes: &[u8], offset: usize) -> TimerInterrupt
     requires { offset ≤ 64 }
     ensures { result ≡ interrupt_at bytes.now offset }

@@ -45,8 +45,8 @@ impl GicModel<Global> {
     /// global allocator, or `None` if it describes no distributor.
     ///
     /// Fails, in this order, with `TableMissing` if no valid MADT is listed, with
-    /// `InvalidMadt(InvalidEntryLength)` if the entries end malformed, and with `AllocError` if memory is
-    /// refused, and that only if there is a distributor and some list has an item.
+    /// `InvalidMadt(InvalidEntryLength)` if the entries end malformed, and with `AllocError` if memory runs
+    /// out, which it can only if there is a distributor and some list has an item.
     pub fn new<H: Lender>(alloc: Global, tables: &AcpiTables<'_, H>) -> AcpiResult<Option<Self>>
         requires { AllowsBelow tables.now (λ m. lookup_ranges m madt_kind) }
         ensures exact { GivesOrFull (of_tables tables.now GicAsks) result
@@ -54,7 +54,7 @@ impl GicModel<Global> {
         // It depends on what the lookup of the MADT depends on.
         ensures footprint { FootprintBelow tables.now (λ m. lookup_ranges m madt_kind) found_gic
             (GivesOrFull (of_tables tables.now GicAsks) result) }
-        // It is the same wherever the valid tables lie.
+        // It is the same wherever the valid tables are.
         ensures relocation { Relocation tables.now found_gic
             (GivesOrFull (of_tables tables.now GicAsks) result) }
     {
@@ -67,9 +67,9 @@ impl<A: Allocator + Copy> GicModel<A> {
     /// or `None` if no entry describes a distributor, as on a machine with APICs. It needs no handler.
     /// Entries of all other types are skipped, and of several distributors the first one counts.
     ///
-    /// Fails, in this order, with `InvalidMadt(InvalidEntryLength)` if the entries end malformed, that
-    /// is, if bytes are left in which no entry begins, and with `AllocError` if memory is refused, and that
-    /// only if there is a distributor and some list has an item.
+    /// Fails, in this order, with `InvalidMadt(InvalidEntryLength)` if the entries end malformed, that is, if
+    /// bytes are left in which no entry begins, and with `AllocError` if memory runs out, which it can only
+    /// if there is a distributor and some list has an item.
     pub fn of(table: &[u8], allocator: A) -> AcpiResult<Option<Self>>
         ensures { GivesOrFull (AsksMemory table.now) result (gic_of table.now) }
     {
@@ -79,7 +79,7 @@ impl<A: Allocator + Copy> GicModel<A> {
         }
     }
 
-    /// The GIC of a distributor, with the lists that a MADT's bytes say.
+    /// The GIC of a distributor, with the lists that a MADT's bytes contain.
     fn beside(table: &[u8], distributor: GicDistributor, allocator: A) -> Result<Self, AllocError>
         ensures model { IfOk result (λ m. m ≡ model_beside table.now distributor) }
         ensures refused { IfErr result (λ e. 0 < item_count table.now) }
@@ -97,8 +97,8 @@ impl<A: Allocator + Copy> GicModel<A> {
     /// allocator, or `None` if it describes no distributor.
     ///
     /// Fails, in this order, with `TableMissing` if no valid MADT is listed, with
-    /// `InvalidMadt(InvalidEntryLength)` if the entries end malformed, and with `AllocError` if memory is
-    /// refused, and that only if there is a distributor and some list has an item.
+    /// `InvalidMadt(InvalidEntryLength)` if the entries end malformed, and with `AllocError` if memory runs
+    /// out, which it can only if there is a distributor and some list has an item.
     pub fn new_in<H: Lender>(tables: &AcpiTables<'_, H>, allocator: A) -> AcpiResult<Option<Self>>
         requires { AllowsBelow tables.now (λ m. lookup_ranges m madt_kind) }
         ensures exact { GivesOrFull (of_tables tables.now GicAsks) result
@@ -106,7 +106,7 @@ impl<A: Allocator + Copy> GicModel<A> {
         // It depends on what the lookup of the MADT depends on.
         ensures footprint { FootprintBelow tables.now (λ m. lookup_ranges m madt_kind) found_gic
             (GivesOrFull (of_tables tables.now GicAsks) result) }
-        // It is the same wherever the valid tables lie.
+        // It is the same wherever the valid tables are.
         ensures relocation { Relocation tables.now found_gic
             (GivesOrFull (of_tables tables.now GicAsks) result) }
     {

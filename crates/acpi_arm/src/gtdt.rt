@@ -1,4 +1,4 @@
-//! The Generic Timer Description Table (GTDT): the timers of the processors, and those of the platform
+//! The Generic Timer Description Table (GTDT): the timers of the processors, and the platform's
 //! (section 5.2.24).
 ghost use Rattle.std.specs.Prelude.{◌≡◌, ◌+◌, ◌≤◌, length};
 ghost use Rattle.acpi_arm.specs.Gtdt.{arm_timer_at};
@@ -43,7 +43,7 @@ impl PhysicalRecord for ArmTimer {
     }
 }
 
-/// The timer whose interrupt and flags stand at an offset.
+/// The timer whose interrupt and flags are at an offset.
 fn timer_in(bytes: &[u8], offset: usize) -> ArmTimer
     requires { offset + 8 ≤ length bytes.now }
     ensures { result ≡ arm_timer_at bytes.now offset }
@@ -57,7 +57,7 @@ fn timer_in(bytes: &[u8], offset: usize) -> ArmTimer
     }
 }
 
-/// The Generic Timer Description Table (GTDT, section 5.2.24). `PlatformTimerIter` gives the timers of the
+/// The Generic Timer Description Table (GTDT, section 5.2.24). `PlatformTimerIter` returns the timers of the
 /// platform out of its bytes.
 #[derive(Clone, Copy)]
 pub struct Gtdt {
@@ -74,7 +74,7 @@ pub struct Gtdt {
     pub el2_timer: ArmTimer,
     read_base: u64,
     /// Platform Timer Count: how many structures of platform timers there are. Tables below revision 2
-    /// have none, whatever number stands here.
+    /// have none, whatever number is here.
     pub platform_timer_count: u32,
     /// Platform Timer Offset: where these structures begin, in bytes from the table's first one.
     pub platform_timer_offset: u32,
@@ -127,7 +127,7 @@ impl Gtdt {
     ghost use Rattle.acpi_arm.specs.Gtdt.{control_base_of, read_base_of, virtual_el2_of};
 
     /// CntControlBase Physical Address: that of the registers that control the counter, or `None` if all
-    /// its bits are ones: the table gives none (section 5.2.24).
+    /// its bits are ones: the table has none (section 5.2.24).
     pub fn counter_control_base(&self) -> Option<u64>
         ensures { result ≡ control_base_of self.now }
     {

@@ -6,7 +6,7 @@ ghost use Rattle.acpi_arm.specs.Gtdt.{polarity_in, trigger_in, unless_ones};
 use acpi_base::bytes::has_bit;
 use acpi_base::model::{Polarity, TriggerMode};
 
-/// The trigger mode that a bit of the flags gives: 1 is edge-triggered.
+/// The trigger mode of a bit of the flags: 1 is edge-triggered.
 pub(crate) fn trigger_in(flags: u32, bit: u32) -> TriggerMode
     requires { bit < 64 }
     ensures { result ≡ trigger_in flags bit }
@@ -18,7 +18,7 @@ pub(crate) fn trigger_in(flags: u32, bit: u32) -> TriggerMode
     }
 }
 
-/// The polarity that a bit of the flags gives: 1 is active low.
+/// The polarity of a bit of the flags: 1 is active low.
 pub(crate) fn polarity_in(flags: u32, bit: u32) -> Polarity
     requires { bit < 64 }
     ensures { result ≡ polarity_in flags bit }
@@ -30,7 +30,7 @@ pub(crate) fn polarity_in(flags: u32, bit: u32) -> Polarity
     }
 }
 
-/// An address, unless all its bits are ones, which stands for none.
+/// An address, unless all its bits are ones, which mean none.
 pub(crate) fn unless_ones(address: u64) -> Option<u64>
     ensures { result ≡ unless_ones address }
 {

@@ -1,7 +1,7 @@
 //! An Arm machine as its tables describe it: the Generic Interrupt Controller (GIC), by the MADT (section
 //! 5.2.12), and the generic timers, by the GTDT (section 5.2.24).
 //!
-//! Section numbers are those of the ACPI Specification, version 6.4.
+//! Section numbers are the ACPI Specification's, version 6.4.
 #![tactic(auto)]
 
 mod frames;

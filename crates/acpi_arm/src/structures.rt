@@ -4,8 +4,8 @@ use crate::timers::{PlatformTimer, frames_there, timer_bytes, timer_count, timer
 use acpi_base::entries::split_front;
 
 /// The timers of the platform that a GTDT lists (section 5.2.24.1), in order, each by itself: a block whose frames
-/// don't fit has those that are there, and ends nothing. Structures of undefined types are skipped. It ends when as
-/// many as Platform Timer Count says were taken, or where none begins: if the structures begin before byte 96, if less
+/// don't fit has the ones that are there, and ends nothing. Structures of undefined types are skipped. It ends when as
+/// many as Platform Timer Count were taken, or where none begins: if the structures begin before byte 96, if less
 /// than 4 bytes are left, or if a length is less than the least of its type (20 for type 0, 28 for type 1, 4 for
 /// others) or goes past the table's end.
 #[derive(Drop)]

@@ -13,7 +13,7 @@ use acpi_base::model::{Polarity, TriggerMode};
 pub struct GtBlock<'a> {
     /// GT Block Physical address: that of the block's control frame.
     pub address: u64,
-    /// The block's frames, in order: as many as GT Block Timer Count says, from GT Block Timer Offset on.
+    /// The block's frames, in order: GT Block Timer Count of them, from GT Block Timer Offset on.
     pub frames: GtFrameIter<'a>,
 }
 
@@ -45,7 +45,7 @@ pub enum PlatformTimer<'a> {
     SbsaWatchdog(SbsaWatchdog),
 }
 
-/// How so many structures of platform timers are cut.
+/// How a number of structures of platform timers is cut.
 #[inline(always)]
 pub fn timers_grammar(count: u32) -> Grammar<2>
     ensures { result ≡ timers_grammar count }
@@ -67,7 +67,7 @@ pub fn timers_grammar(count: u32) -> Grammar<2>
     }
 }
 
-/// Whether a block's frames, if it has some, lie between its 20 fixed bytes and its end.
+/// Whether a block's frames, if it has some, are between its 20 fixed bytes and its end.
 fn frames_fit(block: &[u8]) -> bool
     ensures { result ≡ frames_fit block.now }
 {
@@ -76,7 +76,7 @@ fn frames_fit(block: &[u8]) -> bool
     count == 0 || (offset >= 20 && offset + FRAME_LENGTH as u64 * count <= block.len() as u64)
 }
 
-/// How many of a block's frames lie between its 20 fixed bytes and its end.
+/// How many of a block's frames are between its 20 fixed bytes and its end.
 pub(crate) fn frames_there(block: &[u8]) -> u32
     ensures { result ≡ frames_there block.now }
 {
@@ -89,7 +89,7 @@ pub(crate) fn frames_there(block: &[u8]) -> u32
     count.min(room as u64) as u32
 }
 
-/// Where in a GT Block no further frame begins, in bytes from its first one on: after those that lie between its 20
+/// Where in a GT Block no further frame begins, in bytes from its first one on: after those that are between its 20
 /// fixed bytes and its end, or at GT Block Timer Offset if none does; at most at the block's end.
 pub fn frames_end(block: &[u8]) -> usize
     ensures { result ≡ frames_end block.now }
@@ -98,7 +98,7 @@ pub fn frames_end(block: &[u8]) -> usize
     (offset + FRAME_LENGTH * frames_there(block) as usize).min(block.len())
 }
 
-/// Whether a structure isn't malformed: only a GT Block can still be, whose frames have to lie between its 20 fixed
+/// Whether a structure isn't malformed: only a GT Block can still be, whose frames have to be between its 20 fixed
 /// bytes and its end.
 pub fn is_sound(structure: &[u8]) -> bool
     ensures { result ≡ is_sound structure.now }
@@ -107,7 +107,7 @@ pub fn is_sound(structure: &[u8]) -> bool
 }
 
 impl<'a> PlatformTimer<'a> {
-    /// The timer that a structure describes, a block with so many frames, or `None` if its type isn't defined.
+    /// The timer that a structure describes, a block with a number of frames, or `None` if its type isn't defined.
     pub(crate) fn read(structure: &'a [u8], frame_count: u32) -> Option<PlatformTimer<'a>>
         ensures { option_map shown_in result ≡ timer_with frame_count structure.now }
     {
@@ -143,7 +143,7 @@ fn watchdog_in(structure: &[u8]) -> SbsaWatchdog
 }
 
 /// The timers of the platform that a GTDT lists (section 5.2.24.1), in order: as many structures as Platform
-/// Timer Count says, one after the other. Those of undefined types count too, and are skipped. It ends when
+/// Timer Count, one after the other. Structures of undefined types count too, and are skipped. It ends when
 /// that many were taken, or at the first fault: if the structures begin before byte 96, if less than 4
 /// bytes are left, if a length is less than the least of its type (20 for type 0, 28 for type 1, 4 for
 /// others) or goes past the table's end, and at a block that has frames which begin before its byte 20 or
@@ -173,8 +173,8 @@ impl<'a> PlatformTimerIter<'a> {
         }
     }
 
-    /// Whether `next` has answered `None` at a fault, before it took as many structures as Platform Timer
-    /// Count says (section 5.2.24). Before `next` has returned `None` it is false.
+    /// Whether `next` has returned `None` at a fault, before it took as many structures as Platform Timer
+    /// Count (section 5.2.24). Before `next` has returned `None` it is false.
     pub fn ended_malformed(&self) -> bool
         ensures { result ≡ is_malformed self.now }
     {
@@ -182,7 +182,7 @@ impl<'a> PlatformTimerIter<'a> {
     }
 }
 
-/// How many structures a table says there are; below revision 2 there are none.
+/// How many structures a table has by its count; below revision 2 there are none.
 pub fn timer_count(table: &[u8]) -> u32
     ensures { result ≡ timer_count table.now }
 {

@@ -13,7 +13,7 @@ use std::alloc::{AllocError, Allocator};
 /// The first distributor of a MADT's bytes, or `None` if it lists none.
 ///
 /// Fails with `InvalidMadt(InvalidEntryLength)` if the entries end malformed, wherever the distributor
-/// stands.
+/// is.
 pub fn distributor_of(table: &[u8]) -> AcpiResult<Option<GicDistributor>>
     ensures { result ≡ distributor_of table.now }
 {
@@ -30,7 +30,7 @@ pub fn distributor_of(table: &[u8]) -> AcpiResult<Option<GicDistributor>>
     Ok(distributor)
 }
 
-/// How many items of a list the entries say.
+/// How many items of a list the entries contain.
 fn count_of<T: GicPart>(table: &[u8], revision: u8) -> usize
     requires { revision ≡ field_of table.now 8 1 }
     ensures { result ≡ length (items_of T.said_in table.now) }
@@ -45,7 +45,7 @@ fn count_of<T: GicPart>(table: &[u8], revision: u8) -> usize
     count
 }
 
-/// An empty list with room for so many items. No memory is asked for if there are none.
+/// An empty list with room for this many items. No memory is requested if there are none.
 fn room<T, A: Allocator>(count: usize, allocator: A) -> Result<Vec<T, A>, AllocError>
     ensures items { IfOk result (λ v. v.items ≡ []) }
     ensures len { IfOk result (λ v. vec_len v ≡ 0) }
@@ -58,7 +58,7 @@ fn room<T, A: Allocator>(count: usize, allocator: A) -> Result<Vec<T, A>, AllocE
     Vec::with_capacity(allocator, count)
 }
 
-/// The items of a list, in order, in memory of an allocator, which is asked for once, and only if
+/// The items of a list, in order, in memory of an allocator, which is requested once, and only if
 /// there is an item.
 pub(super) fn collected<T: GicPart, A: Allocator>(
     table: &[u8],

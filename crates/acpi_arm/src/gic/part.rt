@@ -14,7 +14,7 @@ pub struct GicDistributor {
     pub id: u32,
     /// Physical Base Address: that of the distributor's registers.
     pub address: u64,
-    /// GIC version: that of the controller, 1 to 4. 0: the hardware tells. Others are kept as they are.
+    /// GIC version: that of the controller, 1 to 4. 0: the hardware has it. Others are kept as they are.
     pub version: u8,
     /// System Vector Base: reserved, and 0 by the specification. It is kept as it is.
     pub system_vector_base: u32,
@@ -56,7 +56,7 @@ pub struct GicCpuInterface {
     /// VGIC Maintenance Interrupt Mode (bit 2 of the flags, set if it is edge-triggered): what raises the
     /// maintenance interrupt.
     pub maintenance_trigger: TriggerMode,
-    /// GICR Base Address: that of the processor's redistributor. 0: there is none, or it lies in one of
+    /// GICR Base Address: that of the processor's redistributor. 0: there is none, or it is in one of
     /// the ranges of `GicRedistributors`.
     pub redistributor_address: u64,
     /// Processor Power Efficiency Class: how much power the processor takes next to the others; less is
@@ -104,7 +104,7 @@ pub struct GicMsiFrame {
     /// Physical Base Address: that of the frame's registers.
     pub address: u64,
     /// SPI Base and SPI Count: the frame's interrupts, or `None` if SPI Count/Base Select (bit 0 of the
-    /// flags) isn't set: the registers then tell.
+    /// flags) isn't set: the registers then have them.
     pub spis: Option<SpiRange>,
 }
 
@@ -128,10 +128,10 @@ pub trait GicPart: Drop {
     ghost use Rattle.std.specs.Prelude.{ℕ, Option};
     ghost use Rattle.acpi.specs.Types.{MadtEntry};
 
-    // What an entry of a table of a revision says.
+    // What an entry of a table of a revision contains.
     ghost said_in: { ℕ → MadtEntry → Option Self };
 
-    /// What an entry of a table of a revision says, or `None` if it is of another kind.
+    /// What an entry of a table of a revision contains, or `None` if it is of another kind.
     fn said(entry: &MadtEntry, revision: u8) -> Option<Self>
         ensures { result ≡ said_in revision entry.now };
 }
@@ -198,7 +198,7 @@ impl GicPart for GicMsiFrame {
     }
 }
 
-/// What an entry says of a processor, in a table of a revision.
+/// What an entry contains of a processor, in a table of a revision.
 fn cpu_interface_of(entry: &GiccEntry, revision: u8) -> GicCpuInterface
     ensures { result ≡ cpu_interface_of revision entry.now }
 {
@@ -225,7 +225,7 @@ fn cpu_interface_of(entry: &GiccEntry, revision: u8) -> GicCpuInterface
     }
 }
 
-/// The interrupts of a frame, or `None` if its entry doesn't give them.
+/// The interrupts of a frame, or `None` if its entry doesn't have them.
 fn spis_of(entry: &GicMsiFrameEntry) -> Option<SpiRange>
     ensures { result ≡ spis_of entry.now }
 {
