@@ -15,7 +15,7 @@ use Rattle.acpi_numa.specs.declared.srat.kinds.MemoryAffinity.{MemoryAffinity}
 
 -- ---- the ranges of a table
 
--- what an entry says of a range: Hot Pluggable, that it can be plugged in while the machine runs, and NonVolatile
+-- what an entry contains of a range: Hot Pluggable, that it can be plugged in while the machine runs, and NonVolatile
 abbrev pub range_at : MemoryAffinity → MemoryRange
 range_at e = record {
   domain = e.domain;
@@ -31,7 +31,7 @@ range_in (kinds.Memory e) =
     if has_bit e.flags 0 && nat_lt 0 e.length then Some (range_at e) else None
 range_in _ = None
 
--- those of all entries, in order
+-- the ranges of all entries, in order
 abbrev pub ranges_of : List ℕ → List MemoryRange
 ranges_of table = filter_map range_in (entries_of table)
 
@@ -60,23 +60,23 @@ SomeRange _ = ⊥
 abbrev pub srat_kind : Kind
 srat_kind = sdt_kind SRAT 48
 
--- what the first valid SRAT says, inside the lookup's own answer
+-- what the first valid SRAT contains, inside the lookup's own result
 abbrev pub found_affinities : Memory → List ℕ → Result (Result (List MemoryRange) NumaError) AcpiError
 found_affinities m ps = do
   found ← lookup m srat_kind ps
   Ok (affinities_of found.1)
 
--- memory is asked for only if a SRAT is found that isn't refused and has a range
+-- memory is requested only if a SRAT is found that nothing is wrong with and that has a range
 abbrev pub AffinitiesAsk : Memory → List ℕ → Type 0
 AffinitiesAsk m ps = SomeRange (joined (found_affinities m ps))
 
 -- ---- the domain of an address
 
--- an address lies in a range
+-- an address is in a range
 abbrev pub LiesIn : MemoryRange → ℕ → Type 0
 LiesIn r address = (r.base ≤ address) × (address < r.base + r.length)
 
--- the ranges are some in which an address doesn't lie, then one in which it lies, of this domain, then
+-- the ranges are some in which an address isn't, then one in which it is, of this domain, then
 -- others
 pub record IsFirstWith (ranges : List MemoryRange) (address domain : ℕ) : Type 0 where
   pub before : List MemoryRange
@@ -87,12 +87,12 @@ pub record IsFirstWith (ranges : List MemoryRange) (address domain : ℕ) : Type
   pub lies : LiesIn range address
   pub domain_is : range.domain ≡ domain
 
--- the domain is that of the first range in which the address lies; there is none if it lies in none
+-- the domain is that of the first range in which the address is; there is none if it is in none
 abbrev pub IsDomainOf : List MemoryRange → ℕ → Option ℕ → Type 0
 IsDomainOf ranges address (Some domain) = IsFirstWith ranges address domain
 IsDomainOf ranges address None = AllByRecursion (λ r. LiesIn r address → ⊥) ranges
 
--- computed: whether an address lies in a range, and the domain of the first range in which it does
+-- computed: whether an address is in a range, and the domain of the first range in which it is
 abbrev pub lies_in : ℕ → MemoryRange → Bool
 lies_in address r = range_holds r.base r.length address
 

@@ -12,7 +12,7 @@ slit_at b = record { header = header_at b; localities = field_of b 36 8 }
 abbrev pub localities_of : List ℕ → ℕ
 localities_of table = field_of table 36 8
 
--- Entry[from][to], the distance from one of n localities to another: where it stands, row by row after the 44 fixed
+-- Entry[from][to], the distance from one of n localities to another: where it is, row by row after the 44 fixed
 -- bytes, a byte for each pair. Numbers here don't wrap: no table has a place of 2^64 or above
 abbrev pub place_of : ℕ → ℕ → ℕ → ℕ
 place_of n from to = 44 + from * n + to
@@ -22,7 +22,7 @@ abbrev pub distance_among : ℕ → List ℕ → ℕ → ℕ → Option ℕ
 distance_among n table from to =
     if nat_lt from n && nat_lt to n then slice_get table (place_of n from to) else None
 
--- the distance from one locality to another, of which 255 stands for 'unreachable'
+-- the distance from one locality to another, of which 255 means 'unreachable'
 unfoldable pub distance_of : List ℕ → ℕ → ℕ → Option ℕ
 distance_of table from to = distance_among (localities_of table) table from to
 

@@ -46,7 +46,7 @@ srat_layout = record {
 abbrev pub srat_grammar : Grammar 7
 srat_grammar = record { layout = srat_layout; most = None }
 
--- what an entry of a table of a revision says; nothing if its kind is after the last one
+-- what an entry of a table of a revision contains; nothing if its kind is after the last one
 abbrev pub entry_of : ℕ → List ℕ → Option SratEntry
 entry_of revision e = option_map (λ k. k.1 revision e) (slice_get srat_kinds (slice_index e 0))
 
@@ -75,27 +75,27 @@ is_enabled e = option_map (λ flags. has_bit flags 0) (flags_of e)
 
 -- ---- domains
 
--- the domain that an entry with these Flags gives, if it is enabled (bit 0: Enabled) and is the one that is meant
+-- the domain of an entry with these Flags, if it is enabled (bit 0: Enabled) and is the one that is meant
 abbrev pub given_by : ℕ → Bool → ℕ → Option ℕ
 given_by flags is_meant domain = if has_bit flags 0 && is_meant then Some domain else None
 
--- the domain that an entry gives the processor whose local APIC has this id
+-- the domain that an entry has for the processor whose local APIC has this id
 abbrev pub apic_domain : ℕ → SratEntry → Option ℕ
 apic_domain id (kinds.LocalApic e) = given_by e.flags (e.apic_id == id) e.domain
 apic_domain id (kinds.LocalX2Apic e) = given_by e.flags (e.x2apic_id == id) e.domain
 apic_domain id _ = None
 
--- the domain that an entry gives the processor of this uid, which has an interface to the GIC
+-- the domain that an entry has for the processor of this uid, which has an interface to the GIC
 abbrev pub processor_domain : ℕ → SratEntry → Option ℕ
 processor_domain uid (kinds.Gicc e) = given_by e.flags (e.processor_uid == uid) e.domain
 processor_domain uid _ = None
 
--- the domain that an entry gives a processor of either kind
+-- the domain that an entry has for a processor of either kind
 abbrev pub domain_in : ProcessorId → SratEntry → Option ℕ
 domain_in (processor.Apic id) = apic_domain id
 domain_in (processor.Uid uid) = processor_domain uid
 
--- that of the last entry that gives one
+-- that of the last entry that has one
 abbrev pub domain_of_apic : List ℕ → ℕ → Option ℕ
 domain_of_apic table id = last_or None (filter_map (apic_domain id) (entries_of table))
 

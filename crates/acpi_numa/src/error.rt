@@ -1,16 +1,16 @@
-//! The refusals of this crate.
+//! The errors of this crate.
 
 use acpi_base::AcpiError;
 use std::alloc::AllocError;
 use std::fmt;
 
-/// The answer of a call of this crate that can refuse: a value, or a `NumaError`.
+/// The result of a call of this crate that can fail: a value, or a `NumaError`.
 pub type NumaResult<T> = Result<T, NumaError>;
 
-/// Why a call of this crate refuses.
+/// Why a call of this crate fails.
 #[derive(Clone, Copy, Debug, PartialEq, Eq)]
 pub enum NumaError {
-    /// The lookup of the table refuses, with `TableMissing`, or memory runs out, with `AllocError`.
+    /// The lookup of the table fails, with `TableMissing`, or memory runs out, with `AllocError`.
     Acpi(AcpiError),
     /// The entries of a SRAT end before its bytes do (section 5.2.16): after the last entry that was cut,
     /// bytes are left in which no entry begins. One byte is left, or the next length is under 2, under
@@ -27,7 +27,7 @@ impl From<AcpiError> for NumaError {
 
     ghost from_gives = { λ refused e. e ≡ Acpi refused };
 
-    /// Makes `Acpi` of a refusal.
+    /// Makes `Acpi` of an error.
     fn from(refused: AcpiError) -> NumaError {
         NumaError::Acpi(refused)
     }
@@ -46,7 +46,7 @@ impl From<AllocError> for NumaError {
     }
 }
 
-/// Prints the variant's name, or of `Acpi` what the refusal in it prints.
+/// Prints the variant's name, or of `Acpi` what the error in it prints.
 impl fmt::Display for NumaError {
     ghost use Rattle.std.specs.Prelude.{Some};
     ghost use Rattle.acpi_numa.specs.Words.{numa_error_text};

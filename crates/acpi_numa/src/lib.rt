@@ -1,7 +1,7 @@
 //! Proximity domains: those that the SRAT puts processors and memory into (section 5.2.16), and how far
 //! localities are from each other by the SLIT (section 5.2.17).
 //!
-//! Section numbers are those of the ACPI Specification, version 6.4.
+//! Section numbers are the ACPI Specification's, version 6.4.
 #![tactic(auto)]
 
 pub mod error;

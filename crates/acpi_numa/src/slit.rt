@@ -69,7 +69,7 @@ impl<'a> Distances<'a> {
         Distances { table }
     }
 
-    /// Number of System Localities: how many localities the table says that there are (section 5.2.17;
+    /// Number of System Localities: how many localities there are by the table (section 5.2.17;
     /// eight bytes at offset 36). A byte past the table's end is read as zero.
     pub fn localities(&self) -> u64
         ensures { result ≡ localities_of (slit_bytes self.now) }
@@ -78,10 +78,10 @@ impl<'a> Distances<'a> {
     }
 
     /// The entry of a pair: how far it is from one locality to another (section 5.2.17), in units of which
-    /// 10 are the distance of a locality from itself. 255 stands for 'unreachable', and is given as it is.
+    /// 10 are the distance of a locality from itself. 255 means 'unreachable', and is returned as it is.
     ///
     /// It is `None` if one of the two isn't below Number of System Localities, or if the byte of the
-    /// pair, at 44 + from * localities + to, doesn't lie in the table.
+    /// pair, at 44 + from * localities + to, isn't in the table.
     #[tactic(auto, unfolding(crate::specs::Slit::distance_of))]
     pub fn distance(&self, from: u64, to: u64) -> Option<u8>
         ensures { result ≡ distance_of (slit_bytes self.now) from to }
@@ -119,7 +119,7 @@ impl<'a> Distances<'a> {
         true
     }
 
-    /// Whether the table has the distances of all pairs of so many localities.
+    /// Whether the table has the distances of all pairs of this many localities.
     fn has_all(&self, count: u64) -> bool
         ensures { result ≡ nat_le (44 + count * count) (length (slit_bytes self.now)) }
     {

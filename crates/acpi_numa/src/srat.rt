@@ -18,7 +18,7 @@ pub use kinds::{
 };
 pub use walk::SratEntryIter;
 
-/// The System Resource Affinity Table (SRAT, section 5.2.16). Its entries stand after 48 fixed bytes;
+/// The System Resource Affinity Table (SRAT, section 5.2.16). Its entries are after 48 fixed bytes;
 /// `Domains` reads them.
 #[derive(Drop)]
 pub struct Srat {

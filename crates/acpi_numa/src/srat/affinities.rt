@@ -29,7 +29,7 @@ pub struct MemoryRange {
 }
 
 impl MemoryRange {
-    /// Whether a physical address lies in the range: at its base or above, and below base + length as a
+    /// Whether a physical address is in the range: at its base or above, and below base + length as a
     /// whole number.
     pub fn holds(&self, address: u64) -> bool
         ensures { result ≡ lies_in address self.now }
@@ -64,12 +64,12 @@ impl MemoryAffinities<Global> {
     ghost use Rattle.acpi_numa.specs.Answers.{AnswersOrFull, joined};
 
     /// The ranges of the first valid SRAT, in the order of the table, in memory of the global allocator:
-    /// those of its enabled Memory Affinity Structures that have at least one byte (section 5.2.16.2).
+    /// the ranges of its enabled Memory Affinity Structures that have at least one byte (section 5.2.16.2).
     ///
     /// Fails, in this order, with `Acpi(TableMissing)` if no valid SRAT is listed; with
     /// `InvalidEntryLength` if the entries end before the table does, since half a map is no map; with
     /// `InvalidMemoryRange` if the base and the length of one add up to more than 2^64 - 1; and with
-    /// `Acpi(AllocError)` if memory is refused, and that only if there is a range.
+    /// `Acpi(AllocError)` if memory runs out, which it can only if there is a range.
     pub fn new<H: Lender>(alloc: Global, tables: &AcpiTables<'_, H>) -> NumaResult<Self>
         requires { AllowsBelow tables.now (λ m. lookup_ranges m srat_kind) }
         ensures exact { AnswersOrFull (of_tables tables.now AffinitiesAsk)
@@ -77,7 +77,7 @@ impl MemoryAffinities<Global> {
         // It depends on what the lookup of the SRAT depends on.
         ensures footprint { FootprintBelow tables.now (λ m. lookup_ranges m srat_kind) found_affinities
             (λ said. AnswersOrFull (of_tables tables.now AffinitiesAsk) result (joined said)) }
-        // It is the same wherever the valid tables lie.
+        // It is the same wherever the valid tables are.
         ensures relocation { Relocation tables.now found_affinities
             (λ said. AnswersOrFull (of_tables tables.now AffinitiesAsk) result (joined said)) }
     {
@@ -90,13 +90,13 @@ impl<A: Allocator> MemoryAffinities<A> {
     ghost use Rattle.acpi_numa.specs.Affinities.{AffinitiesAsk, IsDomainOf, SomeRange, affinities_of, found_affinities, srat_kind};
     ghost use Rattle.acpi_numa.specs.Answers.{AnswersOrFull, joined};
 
-    /// The ranges of the first valid SRAT, in the order of the table, in memory of an allocator: those of
+    /// The ranges of the first valid SRAT, in the order of the table, in memory of an allocator: the ranges of
     /// its enabled Memory Affinity Structures that have at least one byte (section 5.2.16.2).
     ///
     /// Fails, in this order, with `Acpi(TableMissing)` if no valid SRAT is listed; with
     /// `InvalidEntryLength` if the entries end before the table does, since half a map is no map; with
     /// `InvalidMemoryRange` if the base and the length of one add up to more than 2^64 - 1; and with
-    /// `Acpi(AllocError)` if memory is refused, and that only if there is a range.
+    /// `Acpi(AllocError)` if memory runs out, which it can only if there is a range.
     pub fn new_in<H: Lender>(tables: &AcpiTables<'_, H>, allocator: A) -> NumaResult<Self>
         requires { AllowsBelow tables.now (λ m. lookup_ranges m srat_kind) }
         ensures exact { AnswersOrFull (of_tables tables.now AffinitiesAsk)
@@ -104,7 +104,7 @@ impl<A: Allocator> MemoryAffinities<A> {
         // It depends on what the lookup of the SRAT depends on.
         ensures footprint { FootprintBelow tables.now (λ m. lookup_ranges m srat_kind) found_affinities
             (λ said. AnswersOrFull (of_tables tables.now AffinitiesAsk) result (joined said)) }
-        // It is the same wherever the valid tables lie.
+        // It is the same wherever the valid tables are.
         ensures relocation { Relocation tables.now found_affinities
             (λ said. AnswersOrFull (of_tables tables.now AffinitiesAsk) result (joined said)) }
     {
@@ -112,13 +112,13 @@ impl<A: Allocator> MemoryAffinities<A> {
         MemoryAffinities::over(srat.bytes(), allocator)
     }
 
-    /// The ranges in a SRAT's bytes, from the table's first byte on, in memory of an allocator: those of
+    /// The ranges in a SRAT's bytes, from the table's first byte on, in memory of an allocator: the ranges of
     /// its enabled Memory Affinity Structures that have at least one byte (section 5.2.16.2). It needs no
     /// handler.
     ///
     /// Fails, in this order, with `InvalidEntryLength` if the entries end before the table does; with
     /// `InvalidMemoryRange` if the base and the length of one add up to more than 2^64 - 1; and with
-    /// `Acpi(AllocError)` if memory is refused, and that only if there is a range.
+    /// `Acpi(AllocError)` if memory runs out, which it can only if there is a range.
     pub fn over(table: &[u8], allocator: A) -> NumaResult<Self>
         ensures { AnswersOrFull (SomeRange (affinities_of table.now)) result (affinities_of table.now) }
     {
@@ -137,18 +137,18 @@ impl<A: Allocator> MemoryAffinities<A> {
     }
 
     /// Proximity Domain of the memory at a physical address (section 5.2.16.2): that of the first range in
-    /// which the address lies, or `None` if it lies in none.
+    /// which the address is, or `None` if it is in none.
     #[tactic(auto, using(crate::proofs::Affinities::domain_first))]
     pub fn domain_of(&self, address: u64) -> Option<u32>
         ensures value { result ≡ domain_at self.now address }
-        // It is that of the first range in which the address lies.
+        // It is that of the first range in which the address is.
         ensures first { IsDomainOf self.now address result }
     {
         first_domain(self.ranges(), address)
     }
 }
 
-/// The domain of the first range in which an address lies.
+/// The domain of the first range in which an address is.
 fn first_domain(ranges: &[MemoryRange], address: u64) -> Option<u32>
     ensures { result ≡ domain_at ranges.now address }
 {
@@ -184,7 +184,7 @@ pub fn counted(table: &[u8]) -> NumaResult<usize>
     Ok(count)
 }
 
-/// The ranges in a table's bytes, of which there are so many, in memory that is asked for once.
+/// The ranges in a table's bytes, in memory that is requested once.
 fn gathered<A: Allocator>(
     table: &[u8],
     count: usize,

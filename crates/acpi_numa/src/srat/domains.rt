@@ -50,7 +50,7 @@ impl<'a> Domains<'a> {
         self.domain_of(ProcessorId::Uid(uid))
     }
 
-    /// The domain that the last entry gives that gives a processor one, or `None` if there is none.
+    /// The domain of the last entry that has one for a processor, or `None` if there is none.
     fn domain_of(&self, processor: ProcessorId) -> Option<u32>
         ensures { result ≡ last_or None (filter_map (domain_in processor) (entries_of (srat_bytes self.now))) }
     {

@@ -98,7 +98,7 @@ impl SratEntry {
         Some(has_bit(flags as u64, 0)) // Enabled
     }
 
-    /// The domain that an enabled entry gives a processor.
+    /// The domain that an enabled entry has for a processor.
     pub(super) fn domain_of(&self, processor: ProcessorId) -> Option<u32>
         ensures { result ≡ domain_in processor self.now }
     {
@@ -108,7 +108,7 @@ impl SratEntry {
         }
     }
 
-    /// The domain that an enabled entry gives the processor whose local APIC has this id.
+    /// The domain that an enabled entry has for the processor whose local APIC has this id.
     fn apic_domain(&self, apic_id: u32) -> Option<u32>
         ensures { result ≡ apic_domain apic_id self.now }
     {
@@ -142,7 +142,7 @@ impl SratEntry {
         }
     }
 
-    /// The domain that an enabled entry gives the processor of this uid, which has an interface to the
+    /// The domain that an enabled entry has for the processor of this uid, which has an interface to the
     /// GIC.
     fn processor_domain(&self, uid: u32) -> Option<u32>
         ensures { result ≡ processor_domain uid self.now }
@@ -156,7 +156,7 @@ impl SratEntry {
     }
 }
 
-/// A domain, if the flags of its entry say that it counts and the entry is the one that is meant.
+/// A domain, if it counts by the flags of its entry and the entry is the one that is meant.
 fn given_by(flags: u32, is_meant: bool, domain: u32) -> Option<u32>
     ensures { result ≡ given_by flags is_meant domain }
 {

@@ -1,8 +1,8 @@
 //! The entries of a SRAT by their types, each with its fields (section 5.2.16).
 //!
 //! The domain of types 0 and 1 has four bytes since revision 2 of the table: in tables of revision
-//! 0 and 1 it is its lowest byte alone, and the others are reserved. Bit 0 of the flags says whether an
-//! entry counts: `SratEntry::is_enabled` tells it.
+//! 0 and 1 it is its lowest byte alone, and the others are reserved. By bit 0 of the flags an entry
+//! counts: `SratEntry::is_enabled`.
 ghost use Rattle.std.specs.Prelude.{◌≡◌, ◌≤◌, length};
 ghost use Rattle.acpi_base.specs.Words.{has_bit};
 ghost use Rattle.acpi_numa.specs.SratEntries as entries;
@@ -175,7 +175,7 @@ impl GicItsAffinity {
 }
 
 /// Generic Initiator Affinity Structure: the domain of a device that reads and writes memory by itself
-/// (section 5.2.16.6). A Generic Port Affinity Structure has the same fields: it gives the domain of a port
+/// (section 5.2.16.6). A Generic Port Affinity Structure has the same fields: it has the domain of a port
 /// that devices are attached to.
 #[derive(Clone, Copy, Debug)]
 pub struct GenericAffinity {

@@ -36,8 +36,8 @@ impl<'a> SratEntryIter<'a> {
         }
     }
 
-    /// Whether `next` has answered `None` before the table's end, where no entry begins (section 5.2.16).
-    /// As long as `next` hasn't answered `None` it is false.
+    /// Whether `next` has returned `None` before the table's end, where no entry begins (section 5.2.16).
+    /// As long as `next` hasn't returned `None` it is false.
     pub fn ended_malformed(&self) -> bool
         ensures { result ≡ is_malformed self.now }
     {
