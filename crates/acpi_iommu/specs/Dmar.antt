@@ -81,7 +81,7 @@ rmrr_at e = record {
   limit = field_of e 16 8;  -- Reserved Memory Region Limit Address
 }
 
--- a range: its last byte doesn't lie before its first
+-- a range: its last byte isn't before its first
 abbrev pub is_range : Rmrr → Bool
 is_range r = nat_le r.base r.limit
 
@@ -110,7 +110,7 @@ satc_at e = record { flags = field_of e 4 1; segment = segment_of e }
 abbrev pub sidp_at : List ℕ → Sidp
 sidp_at e = record { segment = segment_of e }
 
--- what a structure's fixed bytes say, by its type; nothing of a type that isn't defined
+-- what a structure's fixed bytes contain, by its type; nothing of a type that isn't defined
 abbrev pub fields_of : List ℕ → Option DmarFields
 fields_of e =
     if kind_of e == 0 then Some (kinds.Drhd (drhd_at e))

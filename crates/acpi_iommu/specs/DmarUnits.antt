@@ -63,17 +63,17 @@ find_unit table segment bus hops =
 
 -- ---- the unit of an I/O APIC or an HPET
 
--- what a DRHD and a scope of it say: the unit, and the bus and the last hop by which it knows the device
+-- what a DRHD and a scope of it contain: the unit, and the bus and the last hop by which it knows the device
 abbrev pub source_at : List ℕ → List ℕ → UnitSource
 source_at e s = record { unit = drhd_at e; bus = start_bus s; hop = last_hop s }
 
--- if a structure is a DRHD, type 0, what its first scope of this type and Enumeration ID says
+-- if a structure is a DRHD, type 0, what its first scope of this type and Enumeration ID contains
 abbrev pub source_in : ℕ → ℕ → List ℕ → Option UnitSource
 source_in kind id e =
     if kind_of e == 0 then option_map (source_at e) (find (is_numbered kind id) (scopes_of e))
     else None
 
--- what the first DRHD that has one says
+-- what the first DRHD that has one contains
 abbrev pub source_of : ℕ → List ℕ → ℕ → Result (Option UnitSource) IommuError
 source_of kind table id = do
   _ ← holds (is_whole table) InvalidStructureLength
@@ -104,7 +104,7 @@ is_reserved_for segment bus hops e =
 abbrev pub reserved_in : ℕ → ℕ → List Hop → List (List ℕ) → List Rmrr
 reserved_in segment bus hops es = map rmrr_at (filter (is_reserved_for segment bus hops) es)
 
--- those of a table, if each is a range
+-- the ranges of a table, if each is a range
 abbrev pub reserved_for : List ℕ → ℕ → ℕ → List Hop → Result (List Rmrr) IommuError
 reserved_for table segment bus hops = do
   _ ← holds (is_whole table) InvalidStructureLength
@@ -126,6 +126,6 @@ structure_fault e =
 abbrev pub reserved_left : ReservedIter → List Rmrr
 reserved_left s = reserved_in s.segment s.bus s.hops.now (structures_left s.structures)
 
--- the table that is asked
+-- the table of a walk
 abbrev pub dmar_bytes : DmarUnits → List ℕ
 dmar_bytes u = u.table.now

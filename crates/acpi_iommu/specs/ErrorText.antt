@@ -1,4 +1,4 @@
--- How a refusal is printed.
+-- How an error is printed.
 use Rattle.std.specs.Prelude.{ℕ, List, codes}
 use Rattle.acpi_iommu.specs.declared.error.IommuError.{IommuError}
 use Rattle.acpi_iommu.specs.declared.error.IommuError.TheVariants.{InvalidMemoryRange, InvalidStructureLength}

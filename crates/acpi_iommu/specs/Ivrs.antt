@@ -74,14 +74,14 @@ ivmd_at b = record {
   length = field_of b 24 8;  -- IVMD memory block length
 }
 
--- what a block's fixed bytes say, by its type; nothing of a type that isn't defined
+-- what a block's fixed bytes contain, by its type; nothing of a type that isn't defined
 abbrev pub block_fields : List ℕ → Option IvrsFields
 block_fields b =
     if is_ivhd (block_kind b) then Some (kinds.Ivhd (ivhd_at b))
     else if is_ivmd (block_kind b) then Some (kinds.Ivmd (ivmd_at b))
     else None
 
--- the device entries of an IVHD stand after its fixed bytes; other blocks have none
+-- the device entries of an IVHD are after its fixed bytes; other blocks have none
 abbrev pub entry_bytes : List ℕ → List ℕ
 entry_bytes b = if is_ivhd (block_kind b) then drop (least_of (block_kind b)) b else []
 

@@ -14,7 +14,7 @@ use Rattle.acpi_iommu.specs.declared.pieces.PieceIter.{PieceIter}
 abbrev pub entry_kind : List ℕ → ℕ
 entry_kind e = field_of e 0 1
 
--- how many bytes an entry has by itself: of an ACPI HID device 22 and as many as its UID length says, at 21, and of
+-- how many bytes an entry has by itself: of an ACPI HID device 22 and its UID length, at 21, more, and of
 -- others by bits 6 and 7 of the type
 abbrev pub own_size : List ℕ → ℕ
 own_size e =
@@ -84,7 +84,7 @@ special_of e =
     }) else None
 
 -- of an ACPI HID device, type 0xF0: the texts Hardware ID at 4 and Compatible ID at 12, up to the first zero of 8 bytes
--- each, Unique ID format at 20, and Unique ID, of as many bytes as its length at 21 says, at 22
+-- each, Unique ID format at 20, and Unique ID, of as many bytes as its length, at 21, at 22
 
 abbrev pub hardware_id : List ℕ → List ℕ
 hardware_id e = if entry_kind e == 0xf0 then up_to_zero (part e 4 8) else []
@@ -118,7 +118,7 @@ source_for id e = unwrap_or (alias_of e) id
 
 -- ---- a walk
 
--- what an item shows: its bytes, with those of the end of a range
+-- what an item shows: its bytes, with the end's of a range
 abbrev pub bytes_of_entry : DeviceEntry → List ℕ
 bytes_of_entry e = e.bytes.now
 

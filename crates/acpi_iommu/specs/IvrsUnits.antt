@@ -34,7 +34,7 @@ best_kind table =
     else if list_any (is_of_kind 0x11) (blocks_of table) then 0x11
     else 0x10
 
--- those of this type among blocks, in order
+-- the blocks of this type among these, in order
 abbrev pub of_kind : ℕ → List (List ℕ) → List (List ℕ)
 of_kind kind bs = filter (is_of_kind kind) bs
 
@@ -45,7 +45,7 @@ blocks_of_best_type table = do
 
 -- ---- the unit of a device
 
--- what a block and an entry of it that covers the device say
+-- what a block and an entry of it that covers the device contain
 abbrev pub unit_at : ℕ → List ℕ → List ℕ → DeviceUnit
 unit_at id b e = record { unit = ivhd_at b; settings = settings_of e; source = source_for id e }
 
@@ -53,13 +53,13 @@ unit_at id b e = record { unit = ivhd_at b; settings = settings_of e; source = s
 abbrev pub is_ivhd_of : ℕ → ℕ → List ℕ → Bool
 is_ivhd_of kind segment b = is_of_kind kind b && ((ivhd_at b).segment == segment)
 
--- if a block is such a one, what its first entry that covers the device says
+-- if a block is such a one, what its first entry that covers the device contains
 abbrev pub unit_in : ℕ → ℕ → ℕ → List ℕ → Option DeviceUnit
 unit_in kind segment id b =
     if is_ivhd_of kind segment b
     then option_map (unit_at id b) (find (covers id) (entries_of b)) else None
 
--- what the first block of the best type that has one says
+-- what the first block of the best type that has one contains
 abbrev pub block_for : List ℕ → ℕ → ℕ → Result (Option DeviceUnit) IommuError
 block_for table segment id = do
   _ ← holds (is_whole table) InvalidStructureLength
@@ -88,7 +88,7 @@ ends_below m = range_fits m.start m.length
 abbrev pub memory_in : ℕ → List (List ℕ) → List Ivmd
 memory_in id bs = map ivmd_at (filter (is_memory_for id) bs)
 
--- those of a table, if the memory of each ends below 2^64
+-- the memory of a table, if that of each block ends below 2^64
 abbrev pub memory_for : List ℕ → ℕ → Result (List Ivmd) IommuError
 memory_for table id = do
   _ ← holds (is_whole table) InvalidStructureLength
@@ -114,6 +114,6 @@ best_left s = of_kind s.kind (blocks_left s.blocks)
 abbrev pub memory_left : MemoryIter → List Ivmd
 memory_left s = memory_in s.device_id (blocks_left s.blocks)
 
--- the table that is asked
+-- the table of a walk
 abbrev pub ivrs_bytes : IvrsBlocks → List ℕ
 ivrs_bytes b = b.table.now

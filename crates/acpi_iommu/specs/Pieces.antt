@@ -1,4 +1,4 @@
--- How bytes are cut into pieces, each of which says by its first bytes how long it is, and what a walk along them
+-- How bytes are cut into pieces, each of which has its length in its first bytes, and what a walk along them
 -- shows.
 use Rattle.std.specs.Prelude.{◌≡◌, ◌↔◌, ℕ, ◌≤◌, ◌&&◌, ◌++◌, Bool, nat_le, List, [], ◌∷◌, length, take, Option, Some, None, Result, Ok, Err, option_and_then, if◌then◌else◌}
 use Rattle.acpi_base.specs.Words.{IsCutOf, cut_by, is_left}
@@ -8,12 +8,12 @@ use Rattle.acpi_iommu.specs.declared.pieces.PieceIter.{PieceIter}
 
 -- ---- one piece
 
--- the length that a piece says, if it is the least at least
+-- the length that is in a piece, if it is the least at least
 abbrev pub said : ℕ → ℕ → Option ℕ
 said least size = if nat_le least size then Some size else None
 
--- how many bytes the piece has with which bytes begin, if one begins there: as many as it says, which is one at least,
--- and no more than there are
+-- how many bytes the piece has with which bytes begin, if one begins there: as many as its length, which is one at
+-- least, and no more than there are
 abbrev pub front : (List ℕ → Option ℕ) → List ℕ → Option ℕ
 front size bytes =
     option_and_then (λ n. if nat_le 1 n && nat_le n (length bytes) then Some n else None) (size bytes)
@@ -22,7 +22,7 @@ front size bytes =
 abbrev pub IsPiece : (List ℕ → Option ℕ) → List ℕ → Type 0
 IsPiece size p = front size p ≡ Some (length p)
 
--- how long it is, a piece says in its own bytes, whatever comes after them
+-- a piece has its length in its own bytes, whatever comes after them
 abbrev pub SaysItself : (List ℕ → Option ℕ) → Type 0
 SaysItself size = (bytes more : List ℕ) (n : ℕ) → size bytes ≡ Some n → n ≤ length bytes
     → size (take n bytes ++ more) ≡ Some n
@@ -44,8 +44,8 @@ OneCut size = (bytes : List ℕ) (ps : List (List ℕ)) (rest : List ℕ)
 
 -- ---- a lookup
 
--- what the first piece says that says something; a piece before it that may say more than it does, and without one a
--- rest in which no piece begins, is an error
+-- what the first piece contains that has a value; a piece before it that may have one that isn't in it, and without one
+-- a rest in which no piece begins, is an error
 abbrev pub first_sure : {A : Type 0} → (List ℕ → Option A) → (List ℕ → Bool) → List (List ℕ) → List ℕ
     → Result (Option A) IommuError
 first_sure says is_sure [] [] = Ok None
@@ -65,7 +65,7 @@ left size s = (pieces size s.rest.now).0
 abbrev pub rest_after : {K : Type 0} → (List ℕ → Option ℕ) → PieceIter K → List ℕ
 rest_after size s = (pieces size s.rest.now).1
 
--- the bytes that it hasn't given
+-- the bytes that it hasn't returned
 abbrev pub bytes_left : {K : Type 0} → PieceIter K → List ℕ
 bytes_left s = s.rest.now
 
@@ -73,11 +73,11 @@ bytes_left s = s.rest.now
 abbrev pub has_ended : {K : Type 0} → PieceIter K → Bool
 has_ended s = s.ended
 
--- whether it ended before the bytes did: what `ended_malformed` returns, which is no until the walk has given None
+-- whether it ended before the bytes did: what `ended_malformed` returns, which is no until the walk has returned None
 abbrev pub is_malformed : {K : Type 0} → PieceIter K → Bool
 is_malformed s = s.ended && is_left s.rest.now
 
--- a step leaves the rest as it is, and has ended exactly if it gives no piece
+-- a step leaves the rest as it is, and has ended exactly if it returns no piece
 abbrev pub EndsAtRest : {K P : Type 0} → (List ℕ → Option ℕ) → PieceIter K → Option P → PieceIter K → Type 0
 EndsAtRest size s (Some p) t = (rest_after size t ≡ rest_after size s) × (has_ended t ≡ has_ended s)
 EndsAtRest size s None t =

@@ -10,7 +10,7 @@ use Rattle.acpi_iommu.specs.declared.dmar.fields.Drhd.{Drhd}
 use Rattle.acpi_iommu.specs.declared.dmar.scope.Hop.{Hop}
 use Rattle.acpi_iommu.specs.declared.ivrs.block.Ivmd.{Ivmd}
 
--- one of these says y, and none before it says anything
+-- one of these has y, and none before it has anything
 pub record Says {X Y : Type 0} (said : X → Option Y) (xs : List X) (y : Y) : Type 0 where
   pub before : List X
   pub x : X
@@ -19,7 +19,7 @@ pub record Says {X Y : Type 0} (said : X → Option Y) (xs : List X) (y : Y) : T
   pub none_before : AllByRecursion (λ b. said b ≡ None) before
   pub says : said x ≡ Some y
 
--- what the first of these says that says something, or that none does
+-- what is in the first of these that has something, or that none has
 abbrev pub FirstSays : {X Y : Type 0} → (X → Option Y) → List X → Option Y → Type 0
 FirstSays said xs None = AllByRecursion (λ x. said x ≡ None) xs
 FirstSays said xs (Some y) = Says said xs y
@@ -48,12 +48,12 @@ abbrev pub BlockIsFirst : Type 0
 BlockIsFirst = (table : List ℕ) (segment id : ℕ) (answer : _) → block_for table segment id ≡ Ok answer
     → FirstSays (unit_in (best_kind table) segment id) (blocks_of table) answer
 
--- memory is meant for a device: for all, type 0x20, for this one, 0x21, or for a range that it lies in, 0x22
+-- memory is meant for a device: for all, type 0x20, for this one, 0x21, or for a range that it is in, 0x22
 abbrev pub IsMeantFor : ℕ → Ivmd → Type 0
 IsMeantFor id m = (m.kind ≡ 0x20) ⊎ (((m.kind ≡ 0x21) × (m.device_id ≡ id))
     ⊎ ((m.kind ≡ 0x22) × (m.device_id ≤ id) × (id ≤ m.auxiliary)))
 
--- all memory that is answered for a device is meant for it, and ends below 2^64
+-- all memory that is returned for a device is meant for it, and ends below 2^64
 abbrev pub MemoryIsMeant : Type 0
 MemoryIsMeant = (table : List ℕ) (id : ℕ) (answer : List Ivmd) → memory_for table id ≡ Ok answer
     → AllByRecursion (λ m. IsMeantFor id m × (m.start + m.length < 2 ^ 64)) answer

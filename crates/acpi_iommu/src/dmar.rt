@@ -1,4 +1,4 @@
-//! The DMA Remapping Reporting Structure (DMAR, chapter 8): which unit remaps what a device asks of memory, and which
+//! The DMA Remapping Reporting Structure (DMAR, chapter 8): which unit remaps a device's requests of memory, and which
 //! memory is reserved for a device.
 
 mod fields;
@@ -16,7 +16,7 @@ pub use scope::{DeviceScope, DeviceScopeIter, Hop, HopIter};
 pub use structure::{DmarStructure, DmarStructureIter};
 pub use units::{DmarUnits, UnitSource};
 
-/// The DMA Remapping Reporting Structure (DMAR, section 8.1). Its structures stand after 48 fixed bytes; `DmarUnits`
+/// The DMA Remapping Reporting Structure (DMAR, section 8.1). Its structures are after 48 fixed bytes; `DmarUnits`
 /// reads them.
 #[derive(Drop)]
 pub struct Dmar {
@@ -81,15 +81,15 @@ impl Dmar {
         has_bit(self.flags as u64, 0) // INTR_REMAP
     }
 
-    /// X2APIC_OPT_OUT (bit 1 of the flags): whether the firmware asks not to enable the x2APIC mode.
+    /// X2APIC_OPT_OUT (bit 1 of the flags): whether the firmware requests not to enable the x2APIC mode.
     pub fn opts_out_of_x2apic(&self) -> bool
         ensures { result ≡ has_bit self.now.flags 1 }
     {
         has_bit(self.flags as u64, 1) // X2APIC_OPT_OUT
     }
 
-    /// DMA_CTRL_PLATFORM_OPT_IN_FLAG (bit 2 of the flags): whether the firmware says that, when it hands the
-    /// machine over, DMA that it began reaches only the ranges of RMRRs.
+    /// DMA_CTRL_PLATFORM_OPT_IN_FLAG (bit 2 of the flags): whether, when the firmware passes the
+    /// machine on, DMA that it began reaches only the ranges of RMRRs.
     pub fn opts_into_dma_control(&self) -> bool
         ensures { result ≡ has_bit self.now.flags 2 }
     {

@@ -1,18 +1,18 @@
-//! The refusals of this crate.
+//! The errors of this crate.
 
 use std::fmt;
 
-/// The answer of a call of this crate that can refuse: a value, or an `IommuError`.
+/// The result of a call of this crate that can fail: a value, or an `IommuError`.
 pub type IommuResult<T> = Result<T, IommuError>;
 
-/// Why a call of this crate refuses.
+/// Why a call of this crate fails.
 #[derive(Clone, Copy, Debug, PartialEq, Eq)]
 pub enum IommuError {
     /// The structures of a table (of an IVRS: its blocks) end before its bytes do, or the device scopes or entries of
     /// one end before it does: bytes are left in which none begins. The length there is less than the least of its type
     /// or goes past the end, the end of a range of entries doesn't follow its start at once, or it follows none.
     InvalidStructureLength,
-    /// The last byte of an RMRR lies before its first, or start and length of an IVMD add up to more than 2^64 - 1.
+    /// The last byte of an RMRR is before its first, or start and length of an IVMD add up to more than 2^64 - 1.
     InvalidMemoryRange,
 }
 

@@ -1,4 +1,4 @@
-//! The I/O Virtualization Reporting Structure (IVRS, section 5.2): which unit remaps what a device asks of memory, and
+//! The I/O Virtualization Reporting Structure (IVRS, section 5.2): which unit remaps a device's requests of memory, and
 //! which memory has its own rules.
 
 mod block;
@@ -12,7 +12,7 @@ pub use block::{Ivhd, Ivmd, IvrsBlock, IvrsBlockIter, IvrsFields};
 pub use blocks::{BestBlockIter, DeviceUnit, IvrsBlocks, MemoryIter};
 pub use entry::{DeviceEntry, DeviceEntryIter, SpecialDevice};
 
-/// The I/O Virtualization Reporting Structure (IVRS, section 5.2). Its blocks stand after 48 fixed bytes; `IvrsBlocks`
+/// The I/O Virtualization Reporting Structure (IVRS, section 5.2). Its blocks are after 48 fixed bytes; `IvrsBlocks`
 /// reads them.
 #[derive(Drop)]
 pub struct Ivrs {

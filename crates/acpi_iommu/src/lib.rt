@@ -1,6 +1,6 @@
-//! The units that remap what devices ask of memory (IOMMUs): those of the DMAR (Intel Virtualization Technology for
-//! Directed I/O 4.0, chapter 8), and those of the IVRS (AMD I/O Virtualization Technology (IOMMU) Specification 3.08,
-//! section 5.2).
+//! The units that remap devices' requests of memory (IOMMUs): the DMAR's (Intel Virtualization Technology for
+//! Directed I/O 4.0, chapter 8), and the IVRS's (AMD I/O Virtualization Technology (IOMMU) Specification
+//! 3.08, section 5.2).
 #![tactic(auto)]
 
 pub mod dmar;

@@ -1,4 +1,4 @@
-//! Bytes that are pieces one after the other, each of which says by its first bytes how long it is: the structures and
+//! Bytes that are pieces one after the other, each of which has its length in its first bytes: the structures and
 //! blocks of a table, the device scopes and entries of one.
 ghost use Rattle.std.specs.Prelude.{◌≡◌, ◌&&◌, IfSome, IfNone, [], false, not, None, Ok, Err, if◌then◌else◌};
 ghost use Rattle.acpi_base.specs.FromStd.{list_all};
@@ -16,7 +16,7 @@ pub trait PieceKind<'a> {
     /// A piece.
     type Piece: Drop;
 
-    // How long a piece says it is with which bytes begin.
+    // The length that the piece has with which bytes begin, by these.
     ghost size: { List ℕ → Option ℕ };
 
     // What a piece shows: its bytes.
@@ -25,7 +25,7 @@ pub trait PieceKind<'a> {
     // Whether the pieces in a piece take all bytes that are theirs.
     ghost whole: { List ℕ → Bool };
 
-    /// How long a piece says it is with which bytes begin, or `None` if that is less than it can be.
+    /// The length that the piece has with which bytes begin, by these, or `None` if that is less than it can be.
     fn size_at(bytes: &[u8]) -> Option<usize>
         ensures { result ≡ size bytes.now };
 
@@ -38,7 +38,7 @@ pub trait PieceKind<'a> {
         ensures { result ≡ whole (shown piece.now) };
 }
 
-/// The length that a piece says, or `None` if it is less than the least.
+/// The length that is in a piece, or `None` if it is less than the least.
 pub(crate) fn said(least: usize, size: usize) -> Option<usize>
     ensures { result ≡ said least size }
 {
@@ -98,7 +98,7 @@ impl<'a, K: PieceKind<'a>> PieceIter<'a, K> {
         }
     }
 
-    /// The bytes that it hasn't given. Once `next` has returned `None` they are those in which no piece begins.
+    /// The bytes that it hasn't returned. Once `next` has returned `None` they are the bytes in which no piece begins.
     pub fn rest(&self) -> &'a [u8]
         ensures { result.now ≡ bytes_left self.now }
     {

@@ -3,7 +3,7 @@ ghost use Rattle.std.specs.Prelude.{◌≡◌, ◌==◌, not};
 ghost use Rattle.acpi_base.specs.FromStd.{prefix_len};
 ghost use Rattle.acpi_iommu.specs.Words.{up_to_zero};
 
-/// How many bytes stand before the first zero, or how many there are.
+/// How many bytes are before the first zero, or how many there are.
 fn before_zero(bytes: &[u8]) -> usize
     ensures { result ≡ prefix_len (λ b. not (b == 0)) bytes.now }
 {

@@ -1,4 +1,4 @@
-//! What the structures of a DMAR say in their fixed bytes, by their types (sections 8.3 to 8.9).
+//! What the structures of a DMAR contain in their fixed bytes, by their types (sections 8.3 to 8.9).
 ghost use Rattle.std.specs.Prelude.{◌≡◌};
 ghost use Rattle.acpi_iommu.specs.Words.{andd_at, atsr_at, drhd_at, fields_of, includes_pci_all, is_range, kind_of, length_of, register_bytes, rhsa_at, rmrr_at, satc_at, segment_of, sidp_at};
 ghost use Rattle.acpi_base.specs.Words.{has_bit};
@@ -72,7 +72,7 @@ pub struct Sidp {
     pub segment: u16,
 }
 
-/// What a structure of a DMAR says in its fixed bytes, by its type (section 8.2).
+/// What a structure of a DMAR contains in its fixed bytes, by its type (section 8.2).
 #[derive(Clone, Copy, Debug)]
 pub enum DmarFields {
     /// Type 0.
@@ -132,14 +132,14 @@ impl Rmrr {
         }
     }
 
-    /// Whether the last byte doesn't lie before the first.
+    /// Whether the last byte isn't before the first.
     pub(super) fn is_range(&self) -> bool
         ensures { result ≡ is_range self.now }
     {
         self.base <= self.limit
     }
 
-    /// How many bytes the range has, or `None` if its last byte lies before its first, or it has all 2^64.
+    /// How many bytes the range has, or `None` if its last byte is before its first, or it has all 2^64.
     pub fn length(&self) -> Option<u64>
         ensures { result ≡ length_of self.now }
     {
@@ -179,7 +179,7 @@ pub(super) fn segment_of(bytes: &[u8]) -> u16
     field(bytes, 6, 2) as u16 // Segment Number
 }
 
-/// What a structure's fixed bytes say, or `None` if its type isn't one of 0 to 6.
+/// What a structure's fixed bytes contain, or `None` if its type isn't one of 0 to 6.
 pub(super) fn fields_of(bytes: &[u8]) -> Option<DmarFields>
     ensures { result ≡ fields_of bytes.now }
 {

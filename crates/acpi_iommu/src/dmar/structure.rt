@@ -36,7 +36,7 @@ impl<'a> DmarStructure<'a> {
         self.bytes.len()
     }
 
-    /// What the fixed bytes say, or `None` if the type isn't one of 0 to 6.
+    /// What the fixed bytes contain, or `None` if the type isn't one of 0 to 6.
     pub fn fields(&self) -> Option<DmarFields>
         ensures { result ≡ fields_of (structure_bytes self.now) }
     {
@@ -64,7 +64,7 @@ impl<'a> DmarStructure<'a> {
         }
     }
 
-    /// Whether one of the scopes names the device that these hops reach from a bus, as `DeviceScope::names` says.
+    /// Whether one of the scopes names the device that these hops reach from a bus, as by `DeviceScope::names`.
     pub fn names(&self, bus: u8, hops: &[Hop]) -> bool
         ensures { result ≡ names_device bus hops.now (structure_bytes self.now) }
     {
@@ -99,7 +99,7 @@ impl<'a> DmarStructure<'a> {
     }
 
     /// Why the structure is at fault: `InvalidStructureLength` if its scopes end before it does, else
-    /// `InvalidMemoryRange` if the last byte of an RMRR lies before its first, or `None`.
+    /// `InvalidMemoryRange` if the last byte of an RMRR is before its first, or `None`.
     pub fn fault(&self) -> Option<IommuError>
         ensures { result ≡ structure_fault (structure_bytes self.now) }
     {
@@ -136,7 +136,7 @@ impl<'a> DmarStructure<'a> {
         }
     }
 
-    /// What the first scope of a type and an Enumeration ID says, if this is a unit that has one.
+    /// What the first scope of a type and an Enumeration ID contains, if this is a unit that has one.
     pub(super) fn source(&self, kind: u8, id: u8) -> Option<UnitSource>
         ensures { result ≡ source_in kind id (structure_bytes self.now) }
     {
@@ -225,9 +225,9 @@ impl<'a> PieceKind<'a> for Structures {
     }
 }
 
-/// The structures of a DMAR, in order (section 8.2), those of undefined types too. It ends at the table's end, or where
-/// no structure begins: if fewer than 4 bytes are left, or if the length is under the least of its type (16, 24, 8, 20,
-/// 8, 8 and 8 for types 0 to 6, 4 for others) or past the table's end.
+/// The structures of a DMAR, in order (section 8.2), structures of undefined types too. It ends at the table's end, or
+/// where no structure begins: if fewer than 4 bytes are left, or if the length is under the least of its type (16, 24,
+/// 8, 20, 8, 8 and 8 for types 0 to 6, 4 for others) or past the table's end.
 pub type DmarStructureIter<'a> = PieceIter<'a, Structures>;
 
 impl<'a> DmarStructureIter<'a> {

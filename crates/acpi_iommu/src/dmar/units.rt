@@ -121,7 +121,7 @@ impl<'a> DmarUnits<'a> {
         self.source_of(4, number)
     }
 
-    /// What the first unit says that has a scope of a type with an Enumeration ID.
+    /// What the first unit that has a scope of a type with an Enumeration ID contains.
     fn source_of(&self, kind: u8, id: u8) -> IommuResult<Option<UnitSource>>
         ensures { result ≡ source_of kind (dmar_bytes self.now) id }
     {
@@ -131,8 +131,8 @@ impl<'a> DmarUnits<'a> {
         self.find_source(kind, id)
     }
 
-    /// What the first DRHD says that has a scope of a type with an Enumeration ID (section 8.3.1): of an I/O APIC, type
-    /// 3, or an HPET, type 4. It is what `unit_of_io_apic` and `unit_of_hpet` return, also of a table that is
+    /// What the first DRHD that has a scope of a type with an Enumeration ID contains (section 8.3.1): of an I/O APIC,
+    /// type 3, or an HPET, type 4. It is what `unit_of_io_apic` and `unit_of_hpet` return, also of a table that is
     /// malformed elsewhere.
     ///
     /// Fails with `InvalidStructureLength` if a scope is malformed in a DRHD before it; if there is none, in any DRHD,
@@ -156,7 +156,7 @@ impl<'a> DmarUnits<'a> {
     /// of the segment one of whose scopes names it, in order.
     ///
     /// Fails, in this order, with `InvalidStructureLength` if a structure of the table, or a scope of one, is
-    /// malformed, and with `InvalidMemoryRange` if the last byte of one of these ranges lies before its first.
+    /// malformed, and with `InvalidMemoryRange` if the last byte of one of these ranges is before its first.
     pub fn reserved_for<'b>(
         &self,
         segment: u16,
@@ -178,7 +178,7 @@ impl<'a> DmarUnits<'a> {
         Ok(ranges)
     }
 
-    /// The same ranges as they stand, also of a table that is malformed: those before the place where no structure
+    /// The same ranges as they are, also of a table that is malformed: the ranges before the place where no structure
     /// begins, each by its scopes before the place where none begins.
     pub fn each_reserved<'b>(&self, segment: u16, bus: u8, hops: &'b [Hop]) -> ReservedIter<'a, 'b>
         ensures { reserved_left result ≡ reserved_in segment bus hops.now (structures_of (dmar_bytes self.now)) }

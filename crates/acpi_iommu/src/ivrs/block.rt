@@ -20,7 +20,7 @@ pub struct Ivhd {
     pub flags: u8,
     /// DeviceID: the unit's own bus, device and function.
     pub device_id: u16,
-    /// Capability Offset: where its capability block stands in its PCI configuration space.
+    /// Capability Offset: where its capability block is in its PCI configuration space.
     pub capability_offset: u16,
     /// IOMMU Base Address: the physical address of the unit's registers.
     pub base: u64,
@@ -51,7 +51,7 @@ pub struct Ivmd {
     pub length: u64,
 }
 
-/// What a block of an IVRS says in its fixed bytes, by its type (section 5.2).
+/// What a block of an IVRS contains in its fixed bytes, by its type (section 5.2).
 #[derive(Clone, Copy, Debug)]
 pub enum IvrsFields {
     /// Types 0x10, 0x11 and 0x40.
@@ -169,7 +169,7 @@ impl<'a> IvrsBlock<'a> {
         self.bytes.len()
     }
 
-    /// What the fixed bytes say, or `None` if the type is neither one of an IVHD nor one of an IVMD.
+    /// What the fixed bytes contain, or `None` if the type is neither one of an IVHD nor one of an IVMD.
     pub fn fields(&self) -> Option<IvrsFields>
         ensures { result ≡ block_fields (block_bytes self.now) }
     {
@@ -239,7 +239,7 @@ impl<'a> IvrsBlock<'a> {
         unit.kind == kind && unit.segment == segment
     }
 
-    /// What the first entry says that covers a device, if this is a block of a type and a segment that has one.
+    /// What the first entry that covers a device contains, if this is a block of a type and a segment that has one.
     pub(super) fn unit(&self, kind: u8, segment: u16, device_id: u16) -> Option<DeviceUnit>
         ensures { result ≡ unit_in kind segment device_id (block_bytes self.now) }
     {
@@ -307,7 +307,7 @@ impl<'a> PieceKind<'a> for Blocks {
     }
 }
 
-/// The blocks of an IVRS, in order (section 5.2), those of undefined types too. It ends at the table's end, or where
+/// The blocks of an IVRS, in order (section 5.2), blocks of undefined types too. It ends at the table's end, or where
 /// no block begins: if fewer than 4 bytes are left, or if the length is under the least of its type (24 for 0x10, 40
 /// for 0x11 and 0x40, 32 for 0x20 to 0x22, 4 for others) or past the table's end.
 pub type IvrsBlockIter<'a> = PieceIter<'a, Blocks>;

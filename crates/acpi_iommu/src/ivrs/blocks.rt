@@ -179,7 +179,7 @@ impl<'a> IvrsBlocks<'a> {
     }
 
     /// The memory that has its own rules for a device (section 5.2), by its id: each IVMD for all devices, for this
-    /// one, or for a range that it lies in, in order, whatever the device's segment.
+    /// one, or for a range that it is in, in order, whatever the device's segment.
     ///
     /// Fails, in this order, with `InvalidStructureLength` if a block of the table, or a device entry of one, is
     /// malformed, and with `InvalidMemoryRange` if start and length of one of these add up to more than 2^64 - 1.
@@ -199,7 +199,7 @@ impl<'a> IvrsBlocks<'a> {
         Ok(memory)
     }
 
-    /// The same memory as it stands, also of a table that is malformed: the IVMDs before the place where no block
+    /// The same memory as it is, also of a table that is malformed: the IVMDs before the place where no block
     /// begins.
     pub fn each_memory(&self, device_id: u16) -> MemoryIter<'a>
         ensures { memory_left result ≡ memory_in device_id (blocks_of (ivrs_bytes self.now)) }

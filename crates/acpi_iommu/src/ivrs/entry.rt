@@ -26,7 +26,7 @@ pub struct DeviceEntry<'a> {
 }
 
 impl<'a> DeviceEntry<'a> {
-    /// The bytes of the entry, with those of the end of a range.
+    /// The bytes of the entry, with the end's of a range.
     pub fn bytes(&self) -> &'a [u8]
         ensures { result.now ≡ bytes_of_entry self.now }
     {
@@ -257,7 +257,7 @@ impl<'a> PieceKind<'a> for Entries {
     }
 }
 
-/// The device entries of an IVHD, in order (section 5.2), those of undefined types and padding too. It ends at the
+/// The device entries of an IVHD, in order (section 5.2), entries of undefined types and padding too. It ends at the
 /// block's end, or where no entry begins: if an entry goes past the block's end, if the end of a range doesn't follow
 /// its start at once, or if an end follows no start.
 pub type DeviceEntryIter<'a> = PieceIter<'a, Entries>;
