@@ -79,7 +79,7 @@ is_short e = nat_lt (length e) (least_of (slice_index e 0))
 abbrev pub is_a : ℕ → List ℕ → Bool
 is_a kind e = slice_index e 0 == kind && nat_le (least_of kind) (length e)
 
--- what an entry of one of these types says
+-- what an entry of one of these types contains
 abbrev pub entry_of : List ℕ → Option RiscvEntry
 entry_of e =
     if is_a 0x18 e then Some (kinds.Rintc (rintc_at e)) else
@@ -87,7 +87,7 @@ entry_of e =
     if is_a 0x1a e then Some (kinds.Aplic (aplic_at e)) else
     if is_a 0x1b e then Some (kinds.Plic (plic_at e)) else None
 
--- those of a MADT's entries, in order
+-- the entries of a MADT of these types, in order
 abbrev pub entries_of : List ℕ → List RiscvEntry
 entries_of table = filter_map entry_of (cut_of table).0
 

@@ -138,7 +138,7 @@ impl RiscvEntry {
     }
 }
 
-/// How many bytes an entry of a type has at least, by its layout; of other types than these none are asked.
+/// How many bytes an entry of a type has at least, by its layout; of other types than these none are required.
 fn least_of(kind: u8) -> usize
     ensures { result ≡ least_of kind }
 {

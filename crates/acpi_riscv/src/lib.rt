@@ -1,6 +1,6 @@
 //! The interrupt controllers and harts of a RISC-V machine, by the entries of types 0x18 to 0x1b of its MADT.
 //!
-//! Section numbers are those of the ACPI Specification, version 6.6.
+//! Section numbers are the ACPI Specification's, version 6.6.
 #![tactic(auto)]
 
 mod entry;
