@@ -1,6 +1,6 @@
--- Why the walk doesn't go on in the middle of an object. A name that stands for an argument may be that of a method,
--- and the walk doesn't know how many arguments follow it. It then takes the object to end before its arguments do, and
--- goes on at one of them: no term that is passed begins as an argument does, so nothing behind is taken for an object.
+-- Why the walk doesn't go on in the middle of an object. A name that means an argument may be that of a method, and the
+-- walk doesn't know how many arguments follow it. It then takes the object to end before its arguments do, and goes on
+-- at one of them: no term that is passed begins as an argument does, so nothing after it is taken for an object.
 use Rattle.std.specs.Prelude.{◌≡◌, ◌≢◌, ℕ, ◌==◌, ◌&&◌, ◌||◌, ◌<◌, Bool, true, nat_le, is_some, None}
 use Rattle.acpi_sleep.specs.Arguments.{integer_width, is_operator, is_single}
 use Rattle.acpi_sleep.specs.Names.{begins_name}

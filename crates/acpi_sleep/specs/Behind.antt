@@ -1,4 +1,4 @@
--- What follows the answer's package doesn't matter, nor what follows the scope of the root that it stands in.
+-- What follows the result's package doesn't matter, nor what follows the scope of the root that it is in.
 use Rattle.std.specs.Prelude.{◌≡◌, ℕ, List, ◌++◌, Ok}
 use Rattle.acpi_sleep.specs.Steps.{sleep_types_of}
 use Rattle.acpi_sleep.specs.declared.sleep.SleepAnswer.TheVariants.{Types}

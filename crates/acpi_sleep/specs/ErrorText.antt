@@ -1,4 +1,4 @@
--- How a refusal is printed.
+-- How an error is printed.
 use Rattle.std.specs.Prelude.{ℕ, List, ◌++◌, codes, decimal}
 use Rattle.acpi_sleep.specs.declared.error.AmlError.{AmlError}
 use Rattle.acpi_sleep.specs.declared.error.AmlError.TheVariants as refusal

@@ -19,9 +19,9 @@ use Rattle.acpi_sleep.specs.declared.step.Step.{Step}
 use Rattle.acpi_sleep.specs.declared.step.Step.TheVariants.{Found, On, Unseen}
 use Rattle.acpi_sleep.specs.declared.term.Part.{Part}
 
--- ---- one object. The bytes end with the scope of the root that it stands in, if there is one
+-- ---- one object. The bytes end with the scope of the root that it is in, if there is one
 
--- whether a name that stands at the root is that of a sleep state there: one segment, which is the state's
+-- whether a name that is at the root is that of a sleep state there: one segment, which is the state's
 abbrev pub is_state : List ℕ → ℕ → Name → Bool
 is_state aml state name =
     (name.ups == 0 && name.segments == 1) && field_of aml name.first 4 == state_code state
@@ -38,7 +38,7 @@ passed may_define next = if may_define then Unseen next else On next
 abbrev pub place_after : Option ℕ → ℕ → Place
 place_after scope end = record { at = end; scope = scope; called = false }
 
--- DefName: the sought one gives its sleep types, and another is passed. A name in an argument may be a call
+-- DefName: the sought one has sleep types, and another is passed. A name in an argument may be a call
 unfoldable pub named_at : List ℕ → ℕ → Option ℕ → ℕ → Result Step AmlError
 named_at aml state scope at = do
   name ← name_at aml at
@@ -77,8 +77,8 @@ method_at aml state scope at = do
 abbrev pub is_conditional : ℕ → Bool
 is_conditional code = nat_le 0xA0 code && nat_le code 0xA2
 
--- whether a term may define the state's name: if its objects are run, or if its bytes contain the name. DefExternal
--- only tells that another block does
+-- whether a term may define the state's name: if its objects are run, or if its bytes contain the name. By
+-- DefExternal only another block does
 abbrev pub may_define : ℕ → ℕ → List ℕ → Bool
 may_define state code bytes =
     is_conditional code || (not (code == 0x15) && contains_name (state_code state) bytes)
@@ -143,12 +143,12 @@ step_at aml state place = elim place.scope [
 abbrev pub first_place : Place
 first_place = place_after None 0
 
--- what is answered at the end, if this object is the first that isn't seen
+-- what is returned at the end, if this object is the first that isn't seen
 abbrev pub answer_past : Option ℕ → SleepAnswer
 answer_past None = Absent
 answer_past (Some at) = NotSeen at
 
--- what is answered from a place on, in that many steps
+-- what is returned from a place on, in that many steps
 abbrev pub walked : ℕ → List ℕ → ℕ → Place → Option ℕ → Result SleepAnswer AmlError
 walked zero aml state place unseen = Ok (answer_past unseen)
 walked (suc more) aml state place unseen =
@@ -161,13 +161,13 @@ walked (suc more) aml state place unseen =
         | Unseen next ↦ walked more aml state next (option_or unseen (Some place.at))
       ])
 
--- the sleep types of a state: those that the first name of it at the root gives. Each step passes a byte at least
+-- the sleep types of a state: the types of the first name of it at the root. Each step passes a byte at least
 unfoldable pub sleep_types_of : List ℕ → ℕ → Result SleepAnswer AmlError
 sleep_types_of aml state = walked (length aml) aml state first_place None
 
 -- ---- what to believe of the walk
 
--- a place that the walk comes to, and where the first object on the way stands that isn't seen
+-- a place that the walk comes to, and where the first object on the way is that isn't seen
 pub data IsReached (aml : List ℕ) (state : ℕ) : Place → Option ℕ → Type 0 where
   at_start : IsReached aml state first_place None
   after_step : (here there : Place) (unseen : Option ℕ) → IsReached aml state here unseen
@@ -175,7 +175,7 @@ pub data IsReached (aml : List ℕ) (state : ℕ) : Place → Option ℕ → Typ
   after_unseen : (here there : Place) (unseen : Option ℕ) → IsReached aml state here unseen
       → step_at aml state here ≡ Ok (Unseen there) → IsReached aml state there (option_or unseen (Some here.at))
 
--- what is answered stands at a place that the walk comes to: the types or the error of the object there, and at the end
+-- what is returned is at a place that the walk comes to: the types or the error of the object there, and at the end
 -- of the bytes alone whether an object wasn't seen
 abbrev pub IsAnswer : List ℕ → ℕ → Result SleepAnswer AmlError → Type 0
 IsAnswer aml state (Ok (Types types)) = (place : Place) × (unseen : Option ℕ) × IsReached aml state place unseen ×

@@ -1,5 +1,5 @@
--- The sleep types that the tables of a machine contain: those of the first block of AML that has them, of the DSDT and
--- then the SSDTs in the root table's order (ACPI 6.4, sections 5.2.11.1, 5.2.11.2 and 7.4.2).
+-- The sleep types that the tables of a machine contain: the types of the first block of AML that has them, of the DSDT
+-- and then the SSDTs in the root table's order (ACPI 6.4, sections 5.2.11.1, 5.2.11.2 and 7.4.2).
 use Rattle.std.specs.Prelude.{ℕ, List, [], ◌∷◌, ◌++◌, drop, map, nat_le, Result, Ok, Err, if◌then◌else◌}
 use Rattle.acpi_base.specs.Words.{Memory, Ranges, ◌>>=◌, header_at, plain_kind, table_at}
 use Rattle.acpi.specs.Types.{AcpiError, DSDT, Fadt, SSDT, Signature}
@@ -19,7 +19,7 @@ ssdt_at b = record { header = header_at b }
 
 -- ---- one block
 
--- what is answered of a state
+-- what is returned of a state
 abbrev pub Answer : Type 0
 Answer = Result SleepAnswer SleepError
 
@@ -28,16 +28,16 @@ abbrev pub in_block : Signature → Result SleepAnswer AmlError → Answer
 in_block s (Ok answer) = Ok answer
 in_block s (Err e) = Err (Aml s e)
 
--- what the block of a table answers: the AML after the 36 bytes of its header
+-- what the block of a table returns: the AML after the 36 bytes of its header
 unfoldable pub block_answer : Signature → ℕ → List ℕ → Answer
 block_answer s state table = in_block s (sleep_types_of (drop 36 table) state)
 
--- what is answered of a table, or why there is none
+-- what is returned of a table, or why there is none
 abbrev pub joined : Result Answer AcpiError → Answer
 joined (Ok answer) = answer
 joined (Err e) = Err (Acpi e)
 
--- the answer of the DSDT that a FADT leads to
+-- the result of the DSDT that a FADT leads to
 abbrev pub dsdt_said : ℕ → Memory → Fadt → Result Answer AcpiError
 dsdt_said state m f = do
   address ← dsdt_address_of f
@@ -48,13 +48,13 @@ dsdt_said state m f = do
 unfoldable pub dsdt_answer : ℕ → Memory → List ℕ → Answer
 dsdt_answer state m ps = joined (led_by (dsdt_said state) m ps)
 
--- those of the valid SSDTs, in order
+-- the results of the valid SSDTs, in order
 abbrev pub ssdt_answers : ℕ → List (ℕ × List ℕ) → List Answer
 ssdt_answers state ssdts = map (λ found. block_answer SSDT state found.1) ssdts
 
 -- ---- all blocks
 
--- a block's answer before that of the blocks after it: types, its own first; else the first that isn't `Absent`
+-- a block's result before that of the blocks after it: types, its own first; else the first that isn't `Absent`
 abbrev pub or_after : Answer → Answer → Answer
 or_after (Ok (Types types)) after = Ok (Types types)
 or_after (Ok Absent) after = after
@@ -65,13 +65,13 @@ abbrev pub first_answer : List Answer → Answer
 first_answer [] = Ok Absent
 first_answer (answer ∷ answers) = or_after answer (first_answer answers)
 
--- what the tables answer of a state, of which there are S0 to S5
+-- what the tables return of a state, of which there are S0 to S5
 abbrev pub tables_answer : ℕ → Memory → List ℕ → Answer
 tables_answer state m ps =
     if nat_le state 5
     then or_after (dsdt_answer state m ps) (first_answer (ssdt_answers state (tables_found m (plain_kind SSDT) ps)))
     else Err NoSuchState
 
--- its ranges: those of the DSDT, and each member's, as an SSDT
+-- its ranges: the DSDT's, and each member's, as an SSDT
 abbrev pub answer_ranges : Memory → List ℕ → Ranges
 answer_ranges m ps = dsdt_ranges m ps ++ ssdt_ranges m ps

@@ -46,7 +46,7 @@ fn short_field(aml: &[u8], at: usize, n: usize) -> usize
     }
 }
 
-/// What the PkgLength at an offset says, of which this is the lead byte.
+/// What the PkgLength at an offset contains, of which this is the lead byte.
 fn package_size(aml: &[u8], at: usize, lead: u8) -> usize
     requires { at ≤ length aml.now }
     ensures value { result ≡ package_size aml.now at lead }
@@ -59,7 +59,7 @@ fn package_size(aml: &[u8], at: usize, lead: u8) -> usize
     }
 }
 
-/// What a PkgLength stands before.
+/// What a PkgLength is before.
 #[derive(Clone, Copy)]
 pub struct Block {
     /// The offset of the first byte after the PkgLength.

@@ -1,4 +1,4 @@
-//! The refusals of this crate.
+//! The errors of this crate.
 
 use acpi_base::{AcpiError, Signature};
 use std::fmt;
@@ -37,7 +37,7 @@ impl fmt::Display for AmlError {
     }
 }
 
-/// Why the tables of a machine give no answer about a sleep state.
+/// Why the tables of a machine have no result for a sleep state.
 #[derive(Clone, Copy, Debug, PartialEq, Eq)]
 pub enum SleepError {
     /// The state is above 5.
@@ -54,7 +54,7 @@ impl From<AcpiError> for SleepError {
 
     ghost from_gives = { λ refused e. e ≡ Acpi refused };
 
-    /// Makes `Acpi` of a refusal.
+    /// Makes `Acpi` of an error.
     fn from(refused: AcpiError) -> SleepError {
         SleepError::Acpi(refused)
     }
@@ -79,7 +79,7 @@ impl From<AcpiError> for PlanError {
 
     ghost from_gives = { λ refused e. e ≡ BadRegister refused };
 
-    /// Makes `BadRegister` of a refusal.
+    /// Makes `BadRegister` of an error.
     fn from(refused: AcpiError) -> PlanError {
         PlanError::BadRegister(refused)
     }

@@ -7,7 +7,7 @@ pub fn arguments_begin_no_term()
     ensures { ArgumentsBeginNoTerm }
 {}
 
-/// What follows the answer's package doesn't matter, nor what follows the scope of the root that it stands in.
+/// What follows the result's package doesn't matter, nor what follows the scope of the root that it is in.
 #[tactic(auto, using(crate::proofs::BehindSteps::nothing_behind_matters))]
 pub fn nothing_behind_matters()
     ensures { NothingBehindMatters }

@@ -1,10 +1,10 @@
-//! The sleep types of a machine: what its AML says to write to the power management registers, to sleep or to power
-//! off (ACPI 6.4, section 7.4.2).
+//! The sleep types of a machine: what is by its AML to be written to the power management registers, to sleep or to
+//! power off (ACPI 6.4, section 7.4.2).
 //!
 //! AML is not run. A walk goes along the objects at the root of one block of AML, a DSDT's or an SSDT's, and skips what
 //! has a length. What it would have to run hides what follows it, and bytes that are no AML end it with an error.
 //!
-//! Section numbers are those of the ACPI Specification, version 6.4.
+//! Section numbers are the ACPI Specification's, version 6.4.
 #![tactic(auto)]
 
 mod argument;

@@ -14,7 +14,7 @@ fn is_lead(character: u8) -> bool
     (b'A' <= character && character <= b'Z') || character == b'_'
 }
 
-/// Whether a character may stand in a name's segment: one that it may begin with, or a digit.
+/// Whether a character may be in a name's segment: one that it may begin with, or a digit.
 fn is_letter(character: u8) -> bool
     ensures { result ≡ is_letter character }
 {
@@ -50,7 +50,7 @@ fn segment_end(aml: &[u8], at: usize) -> Result<usize, AmlError>
     }
 }
 
-/// Where so many segments end of which the first begins at an offset.
+/// Where a number of segments end of which the first begins at an offset.
 #[tactic(auto, using(crate::proofs::Walks::one_segment))]
 fn segments_end(aml: &[u8], count: u8, at: usize) -> Result<usize, AmlError>
     requires { at ≤ length aml.now }
@@ -81,7 +81,7 @@ pub struct Name {
 impl Name {
     ghost use Rattle.acpi_sleep.specs.Words.{is_root};
 
-    /// Whether it names the root, where it stands at the root.
+    /// Whether it names the root, where it is at the root.
     pub(crate) fn is_root(&self) -> bool
         ensures { result ≡ is_root self.now }
     {
@@ -89,7 +89,7 @@ impl Name {
     }
 }
 
-/// The name of so many segments.
+/// The name of a number of segments.
 fn name_of(aml: &[u8], ups: usize, segments: u8, first: usize) -> Result<Name, AmlError>
     requires { first ≤ length aml.now }
     ensures exact { result ≡ name_of aml.now ups segments first }
@@ -113,7 +113,7 @@ fn first_carets(bytes: &[u8]) -> usize
     bytes.iter().take_while(|c| **c == b'^').count()
 }
 
-/// How many `^` stand at an offset.
+/// How many `^` are at an offset.
 fn carets(aml: &[u8], at: usize) -> usize
     requires { at ≤ length aml.now }
     ensures exact { result ≡ carets aml.now at }

@@ -1,4 +1,4 @@
-//! Opcodes, and those of what is run: statements and expressions (sections 20.2.5.3, 20.2.5.4 and 20.3).
+//! Opcodes, also of what is run: statements and expressions (sections 20.2.5.3, 20.2.5.4 and 20.3).
 ghost use Rattle.std.specs.Prelude.{◌≡◌, ◌<◌, ◌≤◌, length, IfOk};
 ghost use Rattle.acpi_sleep.specs.Words.{is_expression, is_statement, opcode_at};
 

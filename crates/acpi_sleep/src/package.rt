@@ -7,7 +7,7 @@ use crate::block::{block_at, byte_at};
 use crate::error::AmlError;
 use crate::sleep::SleepTypes;
 
-/// The sleep types of a package's elements, of which there are so many, the first at an offset.
+/// The sleep types of a package's elements, of which there is this number, the first at an offset.
 fn elements_at(aml: &[u8], at: usize, count: u8) -> Result<SleepTypes, AmlError>
     requires { at ≤ length aml.now }
     ensures exact { result ≡ elements_at aml.now at count }

@@ -14,10 +14,10 @@ use acpi::fadt::Fadt;
 /// What a step does with its register.
 #[derive(Clone, Copy, Debug, PartialEq, Eq)]
 pub enum StepKind {
-    /// It gives the bits of the mask those of the value, and keeps the others: it reads first, unless the mask has all
-    /// bits of the register.
+    /// It sets the bits of the mask as in the value, and keeps the others: it reads first, unless the mask has
+    /// all bits of the register.
     Write,
-    /// It reads until the bits of the mask are those of the value.
+    /// It reads until the bits of the mask are as in the value.
     Wait,
 }
 
@@ -147,9 +147,9 @@ fn fits(sleep_type: u8) -> bool
     sleep_type <= 7
 }
 
-/// Enters the sleep state of these sleep types (section 16.1), or with those of S5 powers the machine off: SLP_TYP and
-/// SLP_EN of PM1a_CNT, and then of PM1b_CNT if the machine has it, each with its own type; on reduced hardware
-/// those of SLEEP_CONTROL_REG, with the type of PM1a_CNT.
+/// Enters the sleep state of these sleep types (section 16.1), or with S5's powers the machine off: SLP_TYP
+/// and SLP_EN of PM1a_CNT, and then of PM1b_CNT if the machine has it, each with its own type; on reduced hardware the
+/// same of SLEEP_CONTROL_REG, with the type of PM1a_CNT.
 ///
 /// Fails with `BadRegister` for the address of PM1a_CNT, or on reduced hardware of SLEEP_CONTROL_REG, with `NoRegister`
 /// if the FADT has no such register, with `BadRegister` for the address of PM1b_CNT, and with `SleepTypeTooHigh` if a

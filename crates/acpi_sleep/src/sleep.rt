@@ -14,35 +14,35 @@ pub struct SleepTypes {
     pub b: u8,
 }
 
-/// What a block of AML says of a sleep state.
+/// What a block of AML contains of a sleep state.
 #[derive(Clone, Copy, Debug, PartialEq, Eq)]
 pub enum SleepAnswer {
     /// It can be entered with these sleep types.
     Types(SleepTypes),
     /// The block doesn't define its name at the root.
     Absent,
-    /// The block may define the name, or does, but not where AML that isn't run has it. The first object that may begins
-    /// at this offset: an `If`, `Else` or `While`; a `Method` or `Alias` of the name; a block that is passed, or another
-    /// term with the four letters of the name in its bytes; a `Name` of it that is set to something else than a package
-    /// of constants; or what isn't passed, which hides what follows it.
+    /// The block may define the name, or does, but not where AML that isn't run has it. The first object that may
+    /// begins at this offset: an `If`, `Else` or `While`; a `Method` or `Alias` of the name; a block that is passed, or
+    /// another term with the four letters of the name in its bytes; a `Name` of it that is set to something else than a
+    /// package of constants; or what isn't passed, which hides what follows it.
     NotSeen(usize),
 }
 
 /// The sleep types of a sleep state, 0 to 5, in one block of AML: the bytes of a DSDT or an SSDT after its header. They
-/// are those of the first `_S0_` to `_S5_` that a `Name` at the root, or in a `Scope (\)` there, sets to a package
+/// are the types of the first `_S0_` to `_S5_` that a `Name` at the root, or in a `Scope (\)` there, sets to a package
 /// whose first elements are integer constants: the low bytes of its first two elements, or of an only one the two low
 /// bytes.
 ///
-/// Methods, devices, other scopes, and what stands under an `If` are passed by their length. What a method's body
+/// Methods, devices, other scopes, and what is under an `If` are passed by their length. What a method's body
 /// defines ends with the call of it, so that bodies of methods at the root don't matter.
 ///
 /// Fails with an `AmlError` where the walk meets bytes that are no AML.
 #[tactic(auto, using(crate::proofs::Walks::walk_steps))]
 pub fn sleep_types(aml: &[u8], state: u8) -> Result<SleepAnswer, AmlError>
     requires { state ≤ 5 }
-    // The answer is that of the walk.
+    // The result is that of the walk.
     ensures exact { result ≡ sleep_types_of aml.now state }
-    // The types are those of a name that the walk reaches, and without one it has reached the end of the bytes.
+    // The types are a name's that the walk reaches, and without one it has reached the end of the bytes.
     ensures answer { IsAnswer aml.now state result }
 {
     let mut place = Place::after(None, 0);

@@ -17,7 +17,7 @@ use acpi_base::bytes::{field, skip};
 pub(crate) struct Place {
     /// The offset of the next object.
     pub(crate) at: usize,
-    /// The offset after the scope of the root that it stands in, if there is one: the outermost.
+    /// The offset after the scope of the root that it is in, if there is one: the outermost.
     pub(crate) scope: Option<usize>,
     /// Whether an argument of a call may begin here: the object before it has arguments, of which one may be a call.
     pub(crate) called: bool,
@@ -39,7 +39,7 @@ impl Place {
 /// What an object leads to.
 #[derive(Clone, Copy)]
 pub(crate) enum Step {
-    /// It is the state's name, and gives these sleep types.
+    /// It is the state's name, and has these sleep types.
     Found(SleepTypes),
     /// The walk goes on.
     On(Place),
@@ -66,7 +66,7 @@ fn state_code(state: u8) -> u32
     u32::from_le_bytes([b'_', b'S', b'0' + state, b'_'])
 }
 
-/// Whether a name that stands at the root is that of a sleep state there.
+/// Whether a name that is at the root is that of a sleep state there.
 fn is_state(aml: &[u8], state: u8, name: &Name) -> bool
     requires { state ≤ 5 }
     ensures { result ≡ is_state aml.now state name.now }

@@ -11,7 +11,7 @@ use acpi_base::bytes::skip;
 use acpi_base::sdt::{SdtHeader, Signature, map_sdt};
 use acpi_base::{Lender, PhysicalRecord, SdtTable};
 
-/// A Secondary System Description Table (SSDT, section 5.2.11.2), whose AML stands after the header.
+/// A Secondary System Description Table (SSDT, section 5.2.11.2), whose AML is after the header.
 #[derive(Debug, Drop)]
 pub struct Ssdt {
     /// The header that every table begins with.
@@ -53,15 +53,15 @@ impl SdtTable for Ssdt {
 
 /// The sleep types of tables.
 pub trait SleepTables {
-    // What they need may be asked for.
+    // What they need may be requested.
     ghost asked: { Self → Type 0 };
 
-    // This is what they answer of a state.
+    // This is what they return of a state.
     ghost answers: { Self → ℕ → Answer → Type 0 };
 
-    /// The sleep types of a sleep state, 0 to 5, that the DSDT and the valid SSDTs contain: those of the first of them,
-    /// in the order of the root table, that has the state's package (`sleep_types`). If none has it, the first error or
-    /// `NotSeen` of one, else `Absent`.
+    /// The sleep types of a sleep state, 0 to 5, that the DSDT and the valid SSDTs contain: the types of the first of
+    /// them, in the order of the root table, that has the state's package (`sleep_types`). If none has it, the first
+    /// error or `NotSeen` of one, else `Absent`.
     ///
     /// Fails with `NoSuchState` if the state is above 5; else with `Acpi`, carrying the error of `AcpiTables::dsdt`, if
     /// the DSDT isn't found, and with `Aml` where the AML of a table ends the walk.
@@ -82,7 +82,7 @@ impl<H: Lender> SleepTables for AcpiTables<'_, H> {
     }
 }
 
-/// The answer of all tables.
+/// The result of all tables.
 fn tables_answer<H: Lender>(
     tables: &AcpiTables<'_, H>,
     state: u8,
@@ -103,7 +103,7 @@ fn tables_answer<H: Lender>(
     answer
 }
 
-/// The answer of a block of AML before that of the blocks after it: types, its own first; else the first that isn't
+/// The result of a block of AML before that of the blocks after it: types, its own first; else the first that isn't
 /// `Absent`.
 pub fn or_after(
     answer: Result<SleepAnswer, SleepError>,
@@ -119,7 +119,7 @@ pub fn or_after(
     }
 }
 
-/// The answer of the DSDT that the first valid FADT leads to.
+/// The result of the DSDT that the first valid FADT leads to.
 #[tactic(auto, unfolding(crate::specs::Tables::dsdt_answer))]
 fn dsdt_answer<H: Lender>(tables: &AcpiTables<'_, H>, state: u8) -> Result<SleepAnswer, SleepError>
     requires asked { AllowsBelow tables.now dsdt_ranges }
@@ -131,7 +131,7 @@ fn dsdt_answer<H: Lender>(tables: &AcpiTables<'_, H>, state: u8) -> Result<Sleep
     block_answer(Signature::DSDT, state, dsdt.bytes())
 }
 
-/// The answer of the AML of a table of a signature, by the table's bytes: the AML stands after the header.
+/// The result of the AML of a table of a signature, by the table's bytes: the AML is after the header.
 ///
 /// Fails with `Aml` where the walk ends.
 #[tactic(auto, unfolding(crate::specs::Tables::block_answer))]

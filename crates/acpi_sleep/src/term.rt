@@ -16,7 +16,7 @@ pub enum Part {
     Byte,
     /// An argument.
     Argument,
-    /// A PkgLength, and all that it stands before.
+    /// A PkgLength, and all that it is before.
     Block,
     /// The name of a buffer field, after arguments.
     Field,
