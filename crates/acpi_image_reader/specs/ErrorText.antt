@@ -1,4 +1,4 @@
--- How a refusal is printed.
+-- How an error is printed.
 use Rattle.std.specs.Prelude.{ℕ, List, codes}
 use Rattle.acpi_image_reader.specs.declared.error.ImageError.{ImageError}
 use Rattle.acpi_image_reader.specs.declared.error.ImageError.TheVariants as refusal

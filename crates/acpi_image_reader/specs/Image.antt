@@ -40,7 +40,7 @@ next_at earlier bytes = do
   _ ← holds (not (shares_any earlier found.0)) refusal.Overlap
   Ok found
 
--- the earlier regions, and then those of the bytes, at most n
+-- the earlier regions, and then the bytes' regions, at most n
 abbrev pub records_from : ℕ → Memory → List ℕ → Result Memory ImageError
 records_from zero earlier bytes = Ok earlier
 records_from (suc n) earlier [] = Ok earlier
@@ -49,11 +49,11 @@ records_from (suc n) earlier (b ∷ bs) = do
   records_from n (earlier ++ (found.0 ∷ [])) found.1
 
 -- the regions of a file, which has fewer records than bytes, or the first error in the order of the records. What to
--- believe is `IsImage`: `MemoryImage::from_bytes` says that these are the one memory that the file encodes
+-- believe is `IsImage`: by `MemoryImage::from_bytes` these are the one memory that the file encodes
 unfoldable pub records_in : List ℕ → Result Memory ImageError
 records_in file = records_from (length file) [] file
 
--- memory can run out for a record that passed its checks, before any refusal: the file begins with the records of a
+-- memory can run out for a record that passed its checks, before any error: the file begins with the records of a
 -- memory, of which it is the last
 pub record RunsOut (file : List ℕ) : Type 0 where
   pub earlier : Memory
@@ -62,14 +62,14 @@ pub record RunsOut (file : List ℕ) : Type 0 where
   pub front : file ≡ flat_map record_spelling (earlier ++ (last ∷ [])) ++ rest
   pub memory : IsMemory (earlier ++ (last ∷ []))
 
--- a refusal is the one that is defined; OutOfMemory comes only if memory can run out
+-- an error is the one that is defined; OutOfMemory comes only if memory can run out
 abbrev pub Refuses : {Y : Type 0} → List ℕ → ImageError → Result Y ImageError → Type 0
 Refuses file refusal.OutOfMemory said = RunsOut file
 Refuses file refusal.Truncated said = said ≡ Err refusal.Truncated
 Refuses file refusal.EndTooLarge said = said ≡ Err refusal.EndTooLarge
 Refuses file refusal.Overlap said = said ≡ Err refusal.Overlap
 
--- what a call returned for a file, seen by view, is what the definition says, or OutOfMemory if memory can run out
+-- what a call returned for a file, seen by view, is the definition's, or OutOfMemory if memory can run out
 abbrev pub GivesOrRunsOut : {X Y : Type 0}
     → List ℕ → (X → Y) → Result X ImageError → Result Y ImageError → Type 0
 GivesOrRunsOut file view (Ok x) said = said ≡ Ok (view x)

@@ -10,6 +10,6 @@ region_of r = record { start = r.start; bytes = r.bytes.now }
 abbrev pub regions_of : List Record → Memory
 regions_of records = map region_of records
 
--- a region that lies in a range, whatever its bytes are
+-- a region that is in a range, whatever its bytes are
 abbrev pub region_in : AddressRange → Region
 region_in r = record { start = r.address; bytes = replicate r.length 0 }

@@ -1,8 +1,8 @@
-//! The refusals of a file of memory.
+//! The errors of a file of memory.
 
 use std::fmt;
 
-/// Why a file encodes no memory, by the first record that is refused.
+/// Why a file encodes no memory, by the first record that is at fault.
 #[derive(Clone, Copy, Debug, PartialEq, Eq)]
 pub enum ImageError {
     /// Fewer than 16 bytes are left for the record's start and length, or fewer bytes than that length
@@ -12,7 +12,7 @@ pub enum ImageError {
     EndTooLarge,
     /// The record shares a byte with an earlier one.
     Overlap,
-    /// The allocator refused memory for the record.
+    /// Memory for the record ran out.
     OutOfMemory,
 }
 

@@ -3,7 +3,7 @@
 //! A file is a sequence of records without a header, one after the other to its end. A record is
 //! a start (8 bytes), a length (8 bytes), both little-endian, and that many bytes: the memory from
 //! the address `start` on. A file without a record is an empty memory, and a record without bytes
-//! lends nothing.
+//! maps nothing.
 ghost use Rattle.acpi_base.specs.Words.{IsMemory, IsMemory-prop};
 ghost use Rattle.acpi_image_reader.specs.Regions.{regions_of};
 
@@ -14,7 +14,7 @@ use crate::record_list::Records;
 use acpi_base::{AcpiError, AcpiHandler, AcpiResult};
 use std::alloc::Global;
 
-/// The memory that a file encodes, lent from the file's own bytes. Each record is a region.
+/// The memory that a file encodes, mapped from the file's own bytes. Each record is a region.
 #[derive(Drop)]
 pub struct MemoryImage<'a> {
     records: Records<'a, Global>,
@@ -41,7 +41,7 @@ impl<'a> MemoryImage<'a> {
         // A file that is the records of some memory is read as that memory, unless memory runs out.
         ensures only { (m : Memory) → IsMemory m → IsImage bytes.now m
             → GivesOrRunsOut bytes.now (λ i. memory_of i) result (Ok m) }
-        // The memory, or the first refusal, is the one that is defined; memory runs out only after
+        // The memory, or the first error, is the one that is defined; memory runs out only after
         // a record that passed its checks.
         ensures exact { GivesOrRunsOut bytes.now (λ i. memory_of i) result (records_in bytes.now) }
         // What is defined is the one memory that the file encodes.
@@ -60,7 +60,7 @@ impl<'a> MemoryImage<'a> {
     }
 }
 
-/// Lends the file's bytes.
+/// Maps the file's bytes.
 impl AcpiHandler for MemoryImage<'_> {
     ghost use Rattle.std.specs.Prelude.{◌≡◌, ◌<◌, ◌≤◌, length, Some, None, IfOk, IfErr};
     ghost use Rattle.acpi_base.specs.Words.{at, rest_from};
@@ -69,7 +69,7 @@ impl AcpiHandler for MemoryImage<'_> {
 
     ghost memory = { λ i. memory_of i };
 
-    /// Lends all bytes from a physical address to the end of its record.
+    /// Maps all bytes from a physical address to the end of its record.
     ///
     /// Fails with `MapFailed` if no record has `size` bytes from that address on.
     #[tactic(auto, using(crate::proofs::Listing::at_rest, crate::proofs::Listing::at_none))]
@@ -78,7 +78,7 @@ impl AcpiHandler for MemoryImage<'_> {
         ensures enough { IfOk result (λ s. size ≤ length s.now) }
         ensures lent { IfOk result
             (λ s. at (memory_of self.now) address (length s.now) ≡ Some s.now) }
-        // All the rest of the record is lent, however little is asked for.
+        // All the rest of the record is mapped, however little is requested.
         ensures whole { IfOk result (λ s. s.now ≡ rest_from (memory_of self.now) address) }
         ensures refused { IfErr result (λ e. at (memory_of self.now) address size ≡ None) }
         ensures name { IfErr result (λ e. e ≡ MapFailed) }

@@ -1,4 +1,4 @@
-//! Physical memory from a file of bytes, as a handler that lends it.
+//! Physical memory from a file of bytes, as a handler that maps it.
 #![tactic(auto)]
 
 mod error;

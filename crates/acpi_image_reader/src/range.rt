@@ -4,7 +4,7 @@ ghost use Rattle.acpi_image_reader.specs.Words.{share, region_in};
 
 use acpi_base::AddressRange;
 
-/// Whether some byte lies in both of two ranges of addresses. One without bytes shares none.
+/// Whether some byte is in both of two ranges of addresses. One without bytes shares none.
 #[tactic(auto, unfolding(crate::specs::Image::share))]
 pub fn shares_byte(one: AddressRange, other: AddressRange) -> bool
     ensures { result ≡ share (region_in one) (region_in other) }

@@ -37,7 +37,7 @@ fn next_record<'a, A: Allocator>(
 /// Fails at the first record that fails, and of that one, in this order, with `Truncated` if fewer than 16
 /// bytes are left or fewer than the record's length after them, `EndTooLarge` if its start and its length add
 /// up to more than 2^64 - 1, `Overlap` if it shares a byte with an earlier record, and `OutOfMemory` if memory
-/// for it is refused.
+/// for it runs out.
 pub fn records_of<'a, A: Allocator + Copy>(
     alloc: A,
     bytes: &'a [u8],

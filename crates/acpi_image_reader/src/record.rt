@@ -14,7 +14,7 @@ use acpi_base::bytes::field;
 pub struct Record<'a> {
     /// The physical address of the region's first byte.
     pub start: u64,
-    /// The bytes of the region, which lie in the file.
+    /// The bytes of the region, which are in the file.
     pub bytes: &'a [u8],
 }
 
@@ -23,7 +23,7 @@ impl<'a> Record<'a> {
     ghost use Rattle.acpi_base.specs.Words.{AreApart, lies_in};
     ghost use Rattle.acpi_image_reader.specs.Words.{share};
 
-    /// The bytes from an address on, or `None` if it doesn't lie in this record.
+    /// The bytes from an address on, or `None` if it isn't in this record.
     #[tactic(auto, using(std::proofs::lemmas::Bool::Decides::nat_tests))]
     pub(crate) fn rest(&self, address: u64) -> Option<&'a [u8]>
         ensures inside { IfSome result (λ s. lies_in (region_of self.now) address ≡ true) }
@@ -50,11 +50,11 @@ impl<'a> Record<'a> {
         AddressRange::new(self.start, self.bytes.len() as u64)
     }
 
-    /// Whether some byte lies in this record and in another. One without bytes shares none.
+    /// Whether some byte is in this record and in another. One without bytes shares none.
     #[tactic(auto, using(crate::proofs::Sharing::share_law), unfolding(crate::specs::Image::share))]
     pub(crate) fn shares_byte(&self, other: &Record<'_>) -> bool
         ensures exact { result ≡ share (region_of self.now) (region_of other.now) }
-        // That is, no address lies in both exactly if the answer is no.
+        // That is, no address is in both exactly if the result is no.
         ensures law { (result ≡ false) ↔ AreApart (region_of self.now) (region_of other.now) }
     {
         shares_byte(self.range(), other.range())

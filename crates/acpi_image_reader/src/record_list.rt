@@ -13,9 +13,9 @@ use crate::start_index::{add_start, last_up_to};
 use std::alloc::Allocator;
 use std::collections::BTreeMap;
 
-/// Keeps the start of one more record, which shares no byte with those of the list, if it has bytes.
+/// Keeps the start of one more record, which shares no byte with the records of the list, if it has bytes.
 ///
-/// Fails with `OutOfMemory` if memory for it is refused.
+/// Fails with `OutOfMemory` if memory for it runs out.
 fn keep_start<'a, A: Allocator + Clone>(
     starts: &mut BTreeMap<u64, &'a [u8], A>,
     list: &[Record<'a>],
@@ -67,7 +67,7 @@ impl<'a, A: Allocator> Records<'a, A> {
 
     /// These records, with one more after them.
     ///
-    /// Fails with `OutOfMemory` if memory for it is refused.
+    /// Fails with `OutOfMemory` if memory for it runs out.
     #[tactic(auto, using(crate::proofs::Listing::record_apart))]
     pub(crate) fn with(self, added: Record<'a>) -> Result<Records<'a, A>, ImageError>
     where
@@ -120,7 +120,7 @@ impl<'a, A: Allocator> Records<'a, A> {
         }
     }
 
-    /// The bytes from a physical address to the end of the record that it lies in, or none if it lies in no
+    /// The bytes from a physical address to the end of the record that it is in, or none if it is in no
     /// record.
     #[tactic(auto, using(crate::proofs::Listing::rest_found, crate::proofs::Listing::rest_nothing, crate::proofs::Listing::rest_past))]
     pub fn rest_at(&self, address: u64) -> &'a [u8]

@@ -1,4 +1,4 @@
-//! The starts of regions, in ascending order: the region that an address can lie in is found without a
+//! The starts of regions, in ascending order: the region that an address can be in is found without a
 //! walk along the others.
 ghost use Rattle.std.specs.Prelude.{◌≡◌, ◌<◌, ◌≤◌, ℕ, List, Some, None, IsSome, IfSome, IfNone, OnOk, IfErr, [], ◌∷◌, ◌++◌, false, length};
 ghost use Rattle.acpi_base.specs.FromStd.{get, nat_cmp};
@@ -25,7 +25,7 @@ pub fn last_up_to<V, A: Allocator>(starts: &BTreeMap<u64, V, A>, address: u64) -
 
 /// Adds the start of one more region, which has bytes and shares none with those that are listed.
 ///
-/// Fails if memory for it is refused.
+/// Fails if memory for it runs out.
 pub fn add_start<V: Drop, A: Allocator + Clone>(
     starts: &mut BTreeMap<u64, V, A>,
     start: u64,
