@@ -1,11 +1,11 @@
--- Where records lie: their starts and lengths, whatever their bytes are.
+-- Where records are: their starts and lengths, whatever their bytes are.
 use Rattle.std.specs.Prelude.{ℕ, List, length, map, replicate}
 use Rattle.acpi_base.specs.FromStd.{BTreeMap}
 use Rattle.acpi_base.specs.Words.{Memory, Region}
 use Rattle.acpi_image_reader.specs.Words.{AreAllApart, ListsStarts}
 use Rattle.acpi_image.specs.declared.write.PlacedTable.{PlacedTable}
 
--- the region where a table is to lie
+-- the region where a table is to be
 abbrev pub place_of : PlacedTable → Region
 place_of t = record { start = t.address; bytes = replicate (length t.bytes.now) 0 }
 

@@ -7,7 +7,7 @@ use Rattle.acpi_image.specs.Written.{Plan, kind_of, pointers_of, records_of, roo
 use Rattle.acpi_image.specs.declared.error.WriteError.{WriteError}
 use Rattle.acpi_image.specs.declared.error.WriteError.TheVariants as refusal
 
--- bytes that are a table but for their sum: a header of 36 bytes (ACPI 6.4, section 5.2.6), whose Length, at 4, says
+-- bytes that are a table but for their sum: a header of 36 bytes (ACPI 6.4, section 5.2.6), whose Length, at 4, is
 -- how many bytes there are, and whose Signature, at 0, OEMID, at 10, and OEM Table ID, at 16, are texts
 unfoldable pub is_table : List ℕ → Bool
 is_table bytes =
@@ -46,7 +46,7 @@ check_plan p = do
   _ ← holds (pointers_fit p.revision (p.root ∷ pointers_of p)) refusal.PointerTooLarge
   check_places (records_of p)
 
--- the file that is written: the records, one after the other, or the first refusal
+-- the file that is written: the records, one after the other, or the first error
 unfoldable pub written : Plan → Result (List ℕ) WriteError
 written p = do
   _ ← check_plan p

@@ -24,7 +24,7 @@ opened_of p = record {
   root = root_to (kind_of p) (pointers_of p);
 }
 
--- what a definition over pointers says of those of the root table in the records
+-- what a definition over pointers is of the pointers of the root table in the records
 abbrev pub said_of : {A : Type 0} → Plan → (Memory → List ℕ → Result A AcpiError)
     → Result A AcpiError
 said_of p defined = below (records_of p) (kind_of p) p.root (defined (records_of p))
@@ -32,7 +32,7 @@ said_of p defined = below (records_of p) (kind_of p) p.root (defined (records_of
 -- of a file that is written by a plan: it is the records of the plan, one after the other, and
 -- nothing else; they are a memory, as which the file is read; the RSDP there is valid, and opens a
 -- valid root table with the plan's revision; this lists the addresses of the plan's tables, and the
--- valid tables are those of the plan in order, each with a sum of 0
+-- valid tables are the plan's in order, each with a sum of 0
 pub record IsWritten (p : Plan) (file : List ℕ) : Type 0 where
   pub image : IsImage file (records_of p)
   pub memory : IsMemory (records_of p)
@@ -44,12 +44,12 @@ pub record IsWritten (p : Plan) (file : List ℕ) : Type 0 where
   pub tables : valid_tables (records_of p) (pointers_of p) ≡ tables_of p
   pub sums : AllByRecursion (λ table. sum_of table ≡ 0) (tables_of p)
 
--- so it is of every file that is defined, and `write_image` says it of the file that it returns
+-- so it is of every file that is defined, and `write_image` promises it of the file that it returns
 abbrev pub WrittenIsRead : Type 0
 WrittenIsRead = (p : Plan) (file : List ℕ) → IsBytes file → written p ≡ Ok file → IsWritten p file
 
--- what a definition says of every root table, in any memory, that leads to the tables of a plan, it says of the image
--- that is written: a law of the headers, the platform, the HPET and the PCI regions (`acpi_image::laws::written`)
+-- what a definition is of every root table, in any memory, that leads to the tables of a plan, it is of the
+-- image that is written: a law of the headers, the platform, the HPET and the PCI regions (`acpi_image::laws::written`)
 abbrev pub SaysOfTables : {A : Type 0} → (Memory → List ℕ → Result A AcpiError) → Type 0
 SaysOfTables defined = (p : Plan) (file : List ℕ) → IsBytes file → written p ≡ Ok file
     → (n : Memory) (kind : RootKind) (address : ℕ)

@@ -7,8 +7,8 @@ use Rattle.acpi.specs.Words.{kind_of_revision, signature_of, width_of, rsd_ptr}
 use Rattle.acpi.specs.declared.root.RootKind.{RootKind}
 use Rattle.acpi_image.specs.declared.write.PlacedTable.{PlacedTable}
 
--- where the RSDP and the root table are to lie, the RSDP's revision, and the tables where they are
--- to lie
+-- where the RSDP and the root table are to be, the RSDP's revision, and the tables where they are
+-- to be
 pub record Plan : Type 0 where
   pub rsdp : ℕ
   pub root : ℕ
@@ -28,7 +28,7 @@ plan rsdp root revision tables =
 
 -- ---- sums
 
--- the byte that makes the sum 0 if it stands at this offset
+-- the byte that makes the sum 0 if it is at this offset
 unfoldable pub sum_byte : ℕ → List ℕ → ℕ
 sum_byte offset bytes = (256 - sum_of (slice_set bytes offset 0)) % 256
 

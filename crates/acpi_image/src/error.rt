@@ -1,4 +1,4 @@
-//! The refusals of an image that is to be written.
+//! The errors of an image that is to be written.
 
 use std::fmt;
 
@@ -19,11 +19,11 @@ pub enum WriteError {
     EndTooLarge,
     /// Two records share a byte.
     Overlap,
-    /// The allocator refused memory.
+    /// Memory ran out.
     OutOfMemory,
 }
 
-/// Prints the variant's name, and after a space the index that it carries.
+/// Prints the variant's name, and after a space the index that it contains.
 impl fmt::Display for WriteError {
     ghost use Rattle.std.specs.Prelude.{Some};
     ghost use Rattle.acpi_image.specs.Words.{write_error_text};

@@ -1,4 +1,4 @@
-//! Physical memory from a file of bytes, as a handler that lends it, and files of memory that are written
+//! Physical memory from a file of bytes, as a handler that maps it, and files of memory that are written
 //! with given tables.
 #![tactic(auto)]
 

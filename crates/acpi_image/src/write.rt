@@ -17,7 +17,7 @@ use std::alloc::{Allocator, Global};
 /// A table that is to be written, and its place.
 #[derive(Clone, Copy)]
 pub struct PlacedTable<'a> {
-    /// The physical address that the table is to lie at.
+    /// The physical address that the table is to be at.
     pub address: u64,
     /// The bytes of the table. Whatever byte 9, Checksum, is here, it is written so that all sum to 0 modulo
     /// 256.
@@ -63,8 +63,8 @@ pub fn write_image(
     revision: u8,
     tables: &[PlacedTable<'_>],
 ) -> Result<Vec<u8>, WriteError>
-    // The file, or the first refusal, is the one that is defined; memory runs out only if nothing
-    // is refused.
+    // The file, or the first error, is the one that is defined; memory runs out only if nothing
+    // is at fault.
     ensures exact { WritesOrRunsOut (λ v. v.items) result
         (written (plan rsdp_address root_address revision tables.now)) }
     // The file is the records and nothing else; it is read and opened, and its valid tables are

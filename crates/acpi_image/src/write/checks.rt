@@ -47,7 +47,7 @@ fn all_low(tables: &[PlacedTable<'_>]) -> bool
     tables.iter().all(|table| table.address < 1 << 32)
 }
 
-/// Whether a root table of this revision can name its own address and those of the tables.
+/// Whether a root table of this revision can name its own address and the tables'.
 #[tactic(auto, using(crate::proofs::Checks::all_low))]
 fn pointers_fit(revision: u8, root_address: u64, tables: &[PlacedTable<'_>]) -> bool
     ensures { result ≡ checks.pointers_fit revision
@@ -70,7 +70,7 @@ pub(super) fn width(revision: u8) -> usize
     RootKind::of_revision(revision).width()
 }
 
-/// Whether the length of a root table with so many pointers is below 2^32.
+/// Whether the length of a root table with a number of pointers is below 2^32.
 fn is_short(revision: u8, count: usize) -> bool
     ensures { result ≡ nat_lt (root_length (kind_of_revision revision) count) (2 ^ 32) }
 {

@@ -1,4 +1,4 @@
-//! The places that the records of a written image are to lie at.
+//! The places that the records of a written image are to be at.
 ghost use Rattle.std.specs.Prelude.{◌≡◌, ◌≢◌, ◌+◌, ◌^◌, ◌<◌, ◌∷◌, ◌++◌, [], true, false, nat_lt, length, IfErr, IfOk, OnOk};
 ghost use Rattle.acpi_base.specs.FromStd.{list_all, list_any};
 ghost use Rattle.acpi_base.specs.Words.{Memory, end_of, range_fits};
@@ -14,7 +14,7 @@ use acpi_image_reader::start_index::{add_start, last_up_to};
 use std::alloc::{AllocError, Allocator};
 use std::collections::BTreeMap;
 
-/// The range of physical memory that a table is to lie in.
+/// The range of physical memory that a table is to be in.
 pub fn range_of(table: &PlacedTable<'_>) -> AddressRange
     ensures address { result.address ≡ table.now.address }
     ensures length { result.length ≡ length table.now.bytes.now }
@@ -22,7 +22,7 @@ pub fn range_of(table: &PlacedTable<'_>) -> AddressRange
     AddressRange::new(table.address, table.bytes.len() as u64)
 }
 
-/// Whether some byte lies in a place and in one of the tables.
+/// Whether some byte is in a place and in one of the tables.
 fn shares_with_any(place: AddressRange, tables: &[PlacedTable<'_>]) -> bool
     ensures { result ≡ list_any (λ t. share (place_of t) (region_in place)) tables.now }
 {
@@ -31,7 +31,7 @@ fn shares_with_any(place: AddressRange, tables: &[PlacedTable<'_>]) -> bool
         .any(|table| shares_byte(range_of(table), place))
 }
 
-/// Whether some byte lies in two of the tables.
+/// Whether some byte is in two of the tables.
 #[tactic(auto, using(std::proofs::lemmas::Grind::common_steps, crate::proofs::Checks::any_shares))]
 fn some_share(tables: &[PlacedTable<'_>]) -> bool
     ensures { result ≡ checks.some_share (places_of tables.now) }
@@ -66,7 +66,7 @@ fn shares_with_listed<A: Allocator>(starts: &BTreeMap<u64, u64, A>, place: Addre
 
 /// Lists a place by its start, which shares no byte with those that are listed.
 ///
-/// Fails if memory for it is refused.
+/// Fails if memory for it runs out.
 fn add_place<A: Allocator + Clone>(
     starts: &mut BTreeMap<u64, u64, A>,
     place: AddressRange,
@@ -84,7 +84,7 @@ fn add_place<A: Allocator + Clone>(
 /// Whether a table shares a byte with one before it, or with a place that is listed. Up to the first such
 /// table it lists the tables too.
 ///
-/// Fails if memory for one is refused.
+/// Fails if memory for one runs out.
 fn tables_share<A: Allocator + Clone>(
     starts: &mut BTreeMap<u64, u64, A>,
     tables: &[PlacedTable<'_>],
@@ -103,9 +103,9 @@ fn tables_share<A: Allocator + Clone>(
     Ok(false)
 }
 
-/// Whether some byte lies in two of the places, by a list of their starts.
+/// Whether some byte is in two of the places, by a list of their starts.
 ///
-/// Fails if memory for the list is refused.
+/// Fails if memory for the list runs out.
 fn some_share_by_starts<A: Allocator + Clone>(
     alloc: A,
     rsdp: AddressRange,
@@ -126,7 +126,7 @@ fn some_share_by_starts<A: Allocator + Clone>(
     tables_share(&mut starts, tables)
 }
 
-/// Whether some byte lies in two of the places, pair by pair: it takes longer, and no memory.
+/// Whether some byte is in two of the places, pair by pair: it takes longer, and no memory.
 #[tactic(auto, using(crate::proofs::Checks::any_shares))]
 fn some_share_by_pairs(rsdp: AddressRange, root: AddressRange, tables: &[PlacedTable<'_>]) -> bool
     ensures { result ≡ checks.some_share
@@ -145,7 +145,7 @@ fn all_fit(tables: &[PlacedTable<'_>]) -> bool
     tables.iter().all(|table| range_of(table).fits())
 }
 
-/// Tests the places that the records are to lie at.
+/// Tests the places that the records are to be at.
 ///
 /// Fails, in this order, with `EndTooLarge` and `Overlap`.
 #[tactic(auto, using(crate::proofs::Checks::all_fit, crate::proofs::Checks::region_fits), unfolding(crate::specs::WriteChecks::check_places))]

@@ -74,9 +74,9 @@ pub fn rsdp_to(oem_id: [u8; 6], revision: u8, root: u64) -> [u8; 36]
     }
 }
 
-/// Puts bytes after those of a file.
+/// Puts bytes after a file's.
 ///
-/// Fails with `OutOfMemory` if memory for them is refused.
+/// Fails with `OutOfMemory` if memory for them runs out.
 fn put<A: Allocator>(file: &mut Vec<u8, A>, bytes: &[u8]) -> Result<(), WriteError>
     ensures put { OnOk result (file.new.items ≡ file.old.items ++ bytes.now) }
     ensures refused { IfErr result (λ e. e ≡ OutOfMemory) }
@@ -123,7 +123,7 @@ fn put_head<A: Allocator>(file: &mut Vec<u8, A>, start: u64, count: usize) -> Re
 /// Puts the record of an RSDP at a physical address (section 5.2.5.3), which leads to the root table at
 /// `root`: an RSDT for revision 0, otherwise an XSDT.
 ///
-/// Fails with `OutOfMemory` if memory for it is refused.
+/// Fails with `OutOfMemory` if memory for it runs out.
 #[tactic(auto, using(crate::proofs::Written::fronts))]
 pub fn put_rsdp<A: Allocator>(
     file: &mut Vec<u8, A>,
@@ -209,7 +209,7 @@ fn put_table_of_pointers<A: Allocator>(
 /// Puts the record of the root table at a physical address that lists these tables: an RSDT (section 5.2.7)
 /// for revision 0, otherwise an XSDT (section 5.2.8).
 ///
-/// Fails with `OutOfMemory` if memory for it is refused.
+/// Fails with `OutOfMemory` if memory for it runs out.
 #[tactic(auto, using(std::proofs::lemmas::Grind::common_steps, crate::proofs::Written::root_long))]
 pub fn put_root_table<A: Allocator>(
     file: &mut Vec<u8, A>,
@@ -235,7 +235,7 @@ pub fn put_root_table<A: Allocator>(
 
 /// Puts the record of bytes at a physical address, as they are.
 ///
-/// Fails with `OutOfMemory` if memory for it is refused.
+/// Fails with `OutOfMemory` if memory for it runs out.
 #[tactic(auto, using(crate::proofs::Written::fronts))]
 pub fn put_region<A: Allocator>(
     file: &mut Vec<u8, A>,
