@@ -3,11 +3,11 @@
 use Rattle.std.proofs.Common.{◌≡◌, ℕ, List, [], ◌∷◌, ◌++◌, Option, Some, Result, Ok, Err, refl, ap, ◌∙◌, zero, suc, ◌+◌, None, filter_map, flat_map}
 use Rattle.acpi_base.specs.FromStd.{result_ok, option_or}
 use Rattle.acpi_base.proofs.Words.{each_back, each_front, same_own_table, same_table}
-use Rattle.acpi.specs.Types.{AcpiError, DSDT, SSDT, Fadt, AddressRange}
-use Rattle.acpi_base.specs.Words.{mailbox_of, mcfg_entries_of, Memory, at, AgreesOn, DependsOn, Ranges, own_table_ranges, table_ranges, unless_found, ◌>>=◌, lent, Kind, plain_kind, table_at}
+use Rattle.acpi.specs.Types.{AcpiError, DSDT, Fadt, AddressRange}
+use Rattle.acpi_base.specs.Words.{accepted, mailbox_of, mcfg_entries_of, Memory, at, AgreesOn, DependsOn, Ranges, own_table_ranges, table_ranges, unless_found, ◌>>=◌, lent, Kind, plain_kind, table_at}
 use Rattle.acpi_fixed.specs.Words.{dsdt_address_of, facs_address_of, fadt_at}
 use Rattle.acpi.proofs.First.{here}
-use Rattle.acpi.specs.Words.{FootprintBelow, below, header_ranges, lookup_ranges, root_ranges, dsdt_ranges, platform_ranges, ssdt_ranges, hpet_at, hpet_kind, info_of, hpet_of, or_later, fadt_kind, faults_of, own_header_at, stream_at, unless_valid, dsdt_stream, ssdt_streams, valid_headers, lookup, found_at, kind_ranges, members_of, tables_found, mcfg_kind, found_regions, both_place_ranges, dsdt_place, dsdt_place_ranges, facs_at, facs_length_in, facs_place, facs_place_ranges, facs_ranges, led_by, led_by_ranges, led_ranges, place_at, place_ranges, places_of, madt_kind, platform_of, root_at, root_kind, root_of_revision, mailbox_found, kind_of, memory_of, pointers_of, root_address_of, root_of, AcpiTables, opened_at, opened_from, opened_by_rsdp, opened_by_search, area_ranges, length_ranges, opened_ranges, or_else_ranges, rsdp_ranges, search_ranges, walk_ranges, opened_by_rsdp_ranges, opened_by_search_ranges, check_whole, checked_length, root_of_rsdp, rsdp_at, count_of, first_area, found_in, found_rsdp, or_else, room_of, second_area, walk, word_in, Area, areas_ranges, count_in, first_in, found_among, found_in_areas, walk_in, opened_in_areas_ranges, opened_in_areas, last_in}
+use Rattle.acpi.specs.Words.{FootprintBelow, accepted_below, header_ranges, lookup_ranges, accepted_root_ranges, accepted_root_at, accept_of, accepted_by, accepted_dsdt, accepted_dsdt_ranges, accepted_led, accepted_led_ranges, platform_ranges, hpet_at, hpet_kind, info_of, hpet_of, or_later, fadt_kind, faults_of, own_header_at, stream_by, streams_by, unless_valid, valid_headers, lookup, found_at, kind_ranges, members_of, tables_found, mcfg_kind, found_regions, both_place_ranges, dsdt_place, dsdt_place_ranges, facs_at, facs_length_in, facs_place, facs_place_ranges, facs_ranges, led_by, led_ranges, place_at, place_ranges, places_of, madt_kind, platform_of, root_kind, root_of_revision, mailbox_found, kind_of, memory_of, pointers_of, root_address_of, root_of, AcpiTables, opened_at, opened_from, opened_by_rsdp, opened_by_search, area_ranges, length_ranges, opened_ranges, or_else_ranges, rsdp_ranges, search_ranges, walk_ranges, opened_by_rsdp_ranges, opened_by_search_ranges, check_whole, checked_length, root_of_rsdp, rsdp_at, count_of, first_area, found_in, found_rsdp, or_else, room_of, second_area, walk, word_in, Area, areas_ranges, count_in, first_in, found_among, found_in_areas, walk_in, opened_in_areas_ranges, opened_in_areas, last_in}
 use Rattle.acpi_base.specs.Ranges as ranges
 
 -- ---- lookups
@@ -72,13 +72,13 @@ same_header m n p h = rw (same_own_table m n p h) refl
 pub same_headers : DependsOn header_ranges valid_headers
 same_headers m n ps h = same_each m n (own_table_ranges m) _ _ (same_header m n) ps h
 
-same_stream : (m n : Memory) (p : ℕ) → AgreesOn m n (table_ranges m (plain_kind SSDT) p)
-    → result_ok (stream_at n SSDT p) ≡ result_ok (stream_at m SSDT p)
-unfolding stream_at
-same_stream m n p h = rw (same_table (plain_kind SSDT) m n p h) refl
+same_stream : (k : Kind) (m n : Memory) (p : ℕ) → AgreesOn m n (table_ranges m k p)
+    → result_ok (stream_by n k p) ≡ result_ok (stream_by m k p)
+unfolding stream_by
+same_stream k m n p h = rw (same_table k m n p h) refl
 
-pub same_ssdts : DependsOn ssdt_ranges ssdt_streams
-same_ssdts m n ps h = same_each m n (table_ranges m (plain_kind SSDT)) _ _ (same_stream m n) ps h
+pub same_streams : (k : Kind) → DependsOn (λ m. kind_ranges m k) (λ m. streams_by m k)
+same_streams k m n ps h = same_each m n (table_ranges m k) _ _ (same_stream k m n) ps h
 
 pub same_members : DependsOn header_ranges members_of
 unfolding own_header_at
@@ -98,21 +98,24 @@ same_found k m n ps h = same_each m n (table_ranges m k) _ _ (same_found_at k m 
 
 -- ---- the DSDT
 
--- what the first valid FADT leads to
-same_led : {A : Type 0} (place : Memory → Fadt → Result A AcpiError) (of : Memory → Fadt → Ranges) (m n : Memory)
-    → ((f : Fadt) → AgreesOn m n (of m f) → place n f ≡ place m f)
-    → (ps : List ℕ) → AgreesOn m n (led_by_ranges of m ps) → led_by place n ps ≡ led_by place m ps
-same_led place of m n same ps h =
-    let front = same_lookup fadt_kind m n ps (each_front _ (lookup_ranges m fadt_kind ps) _ h) in
+-- what the first FADT that is accepted leads to
+same_led : {A : Type 0} (accept : ℕ) (place : Memory → Fadt → Result A AcpiError) (of : Memory → Fadt → Ranges)
+    (m n : Memory) → ((f : Fadt) → AgreesOn m n (of m f) → place n f ≡ place m f)
+    → (ps : List ℕ) → AgreesOn m n (accepted_led_ranges accept of m ps)
+    → accepted_led accept place n ps ≡ accepted_led accept place m ps
+same_led accept place of m n same ps h =
+    let k = accepted accept fadt_kind in
+    let front = same_lookup k m n ps (each_front _ (lookup_ranges m k ps) _ h) in
     rw front (then_same m n (λ found. of m (fadt_at found.1)) _ _ (λ found. same (fadt_at found.1))
-    (lookup m fadt_kind ps) (each_back _ (lookup_ranges m fadt_kind ps) _ h))
+    (lookup m k ps) (each_back _ (lookup_ranges m k ps) _ h))
 
-pub same_dsdt : DependsOn dsdt_ranges dsdt_stream
-unfolding stream_at
-same_dsdt m n ps h =
-    same_led (λ o f. dsdt_address_of f >>= λ a. stream_at o DSDT a) dsdt_place_ranges m n
-    (λ f. then_same m n (table_ranges m (plain_kind DSDT)) _ _
-    (λ a here. rw (same_table (plain_kind DSDT) m n a here) refl) (dsdt_address_of f)) ps h
+pub same_dsdt : (accept : ℕ) → DependsOn (accepted_dsdt_ranges accept) (accepted_dsdt accept)
+unfolding stream_by
+same_dsdt accept m n ps h =
+    let k = accepted accept (plain_kind DSDT) in
+    same_led accept (λ o f. dsdt_address_of f >>= λ a. stream_by o k a)
+    (λ o f. ranges.◌>>=◌ (dsdt_address_of f) (table_ranges o k)) m n
+    (λ f. then_same m n (table_ranges m k) _ _ (λ a here. rw (same_table k m n a here) refl) (dsdt_address_of f)) ps h
 
 -- ---- places
 
@@ -136,15 +139,16 @@ module _ (m n : Memory) where
   same_facs_place : (f : Fadt) → AgreesOn m n (facs_place_ranges m f) → facs_place n f ≡ facs_place m f
   same_facs_place f = then_same m n (facs_ranges m) _ _ same_facs_at (facs_address_of f)
 
-pub same_facs : DependsOn (led_by_ranges facs_place_ranges) (led_by facs_place)
-same_facs m n ps h = same_led facs_place facs_place_ranges m n (same_facs_place m n) ps h
+pub same_facs : (accept : ℕ)
+    → DependsOn (accepted_led_ranges accept facs_place_ranges) (accepted_led accept facs_place)
+same_facs accept m n ps h = same_led accept facs_place facs_place_ranges m n (same_facs_place m n) ps h
 
 same_led_dsdt : DependsOn led_ranges (led_by dsdt_place)
-same_led_dsdt m n ps h = same_led dsdt_place both_place_ranges m n
+same_led_dsdt m n ps h = same_led 0 dsdt_place both_place_ranges m n
     (λ f both. same_dsdt_place m n f (each_front _ (dsdt_place_ranges m f) _ both)) ps h
 
 same_led_facs : DependsOn led_ranges (led_by facs_place)
-same_led_facs m n ps h = same_led facs_place both_place_ranges m n
+same_led_facs m n ps h = same_led 0 facs_place both_place_ranges m n
     (λ f both. same_facs_place m n f (each_back _ (dsdt_place_ranges m f) _ both)) ps h
 
 pub same_places : (root : AddressRange) → DependsOn place_ranges (places_of root)
@@ -184,18 +188,21 @@ is_ok_of (Ok y) x e = cc
 is_ok_of (Err d) x e = cc
 
 -- a definition over the pointers of tables, over a memory that agrees with theirs
-pub from_tables : {H A : Type 0} {h : _} (t : AcpiTables H h) (ranges_of : Memory → List ℕ → Ranges) (defined : Memory
+pub from_tables : {A : Type 0} {H P h p : _} (t : AcpiTables H P h p) (ranges_of : Memory → List ℕ → Ranges) (defined : Memory
     → List ℕ → Result A AcpiError)
-    → DependsOn ranges_of defined → result_ok (root_at (memory_of t) (kind_of t) (root_address_of t)) ≡ Some (root_of t)
-    → (n : Memory) → AgreesOn (memory_of t) n (root_ranges (memory_of t) (kind_of t) (root_address_of t)
+    → DependsOn ranges_of defined
+    → result_ok (accepted_root_at (accept_of t) (memory_of t) (kind_of t) (root_address_of t)) ≡ Some (root_of t)
+    → (n : Memory)
+    → AgreesOn (memory_of t) n (accepted_root_ranges (accept_of t) (memory_of t) (kind_of t) (root_address_of t)
     ++ ranges_of (memory_of t) (pointers_of t))
-    → below n (kind_of t) (root_address_of t) (defined n) ≡ defined (memory_of t) (pointers_of t)
+    → accepted_below (accept_of t) n (kind_of t) (root_address_of t) (defined n) ≡ defined (memory_of t) (pointers_of t)
 from_tables t ranges_of defined same valid n h =
     let m = memory_of t in
-    let front : root_at n (kind_of t) (root_address_of t) ≡ Ok (root_of t) =
-    same_table (root_kind (kind_of t)) m n (root_address_of t)
-    (each_front _ (root_ranges m (kind_of t) (root_address_of t)) _ h) ∙ is_ok_of _ _ valid in
-    rw front (same m n (pointers_of t) (each_back _ (root_ranges m (kind_of t) (root_address_of t)) _ h))
+    let own = accepted_root_ranges (accept_of t) m (kind_of t) (root_address_of t) in
+    let front : accepted_root_at (accept_of t) n (kind_of t) (root_address_of t) ≡ Ok (root_of t) =
+    same_table (accepted_by t (root_kind (kind_of t))) m n (root_address_of t) (each_front _ own _ h)
+    ∙ is_ok_of _ _ valid in
+    rw front (same m n (pointers_of t) (each_back _ own _ h))
 
 abbrev pub done : {A : Type 0} → A → Result A AcpiError
 done x = Ok x
@@ -206,14 +213,16 @@ pub in_ok : {X A : Type 0} (ranges_of : Memory → X → Ranges) (defined : Memo
 in_ok ranges_of defined same m n x h = ap done (same m n x h)
 
 -- over each memory that agrees with that of some tables the definition says the same below their root table
-abbrev pub IsSameBelow : {H A : Type 0} {h : _} → AcpiTables H h → (Memory → List ℕ → Ranges)
+abbrev pub IsSameBelow : {A : Type 0} {H P h p : _} → AcpiTables H P h p → (Memory → List ℕ → Ranges)
     → (Memory → List ℕ → Result A AcpiError) → Type 0
-IsSameBelow t ranges_of defined = result_ok (root_at (memory_of t) (kind_of t) (root_address_of t)) ≡ Some (root_of t)
+IsSameBelow t ranges_of defined =
+    result_ok (accepted_root_at (accept_of t) (memory_of t) (kind_of t) (root_address_of t)) ≡ Some (root_of t)
     → FootprintBelow t ranges_of defined (λ said. said ≡ defined (memory_of t) (pointers_of t))
 
-module _ {H : Type 0} {h : _} (t : AcpiTables H h) where
-  pub fadt_from_tables : IsSameBelow t (λ m. lookup_ranges m fadt_kind) (λ m. lookup m fadt_kind)
-  fadt_from_tables = from_tables t _ _ (same_lookup fadt_kind)
+module _ {H P h p : _} (t : AcpiTables H P h p) where
+  pub fadt_from_tables : IsSameBelow t (λ m. lookup_ranges m (accepted_by t fadt_kind))
+      (λ m. lookup m (accepted_by t fadt_kind))
+  fadt_from_tables = from_tables t _ _ (same_lookup (accepted_by t fadt_kind))
 
   pub mailbox_from_tables : IsSameBelow t (λ m. lookup_ranges m madt_kind) mailbox_found
   mailbox_from_tables = from_tables t _ _ same_mailbox
@@ -227,11 +236,12 @@ module _ {H : Type 0} {h : _} (t : AcpiTables H h) where
   pub platform_from_tables : {A : Type 0} → IsSameBelow t platform_ranges (platform_of {A = A})
   platform_from_tables {A = A} = from_tables t _ _ (same_platform {A = A})
 
-  pub dsdt_from_tables : IsSameBelow t dsdt_ranges dsdt_stream
-  dsdt_from_tables = from_tables t _ _ same_dsdt
+  pub dsdt_from_tables : IsSameBelow t (accepted_dsdt_ranges (accept_of t)) (accepted_dsdt (accept_of t))
+  dsdt_from_tables = from_tables t _ _ (same_dsdt (accept_of t))
 
-  pub facs_from_tables : IsSameBelow t (led_by_ranges facs_place_ranges) (led_by facs_place)
-  facs_from_tables = from_tables t _ _ same_facs
+  pub facs_from_tables : IsSameBelow t (accepted_led_ranges (accept_of t) facs_place_ranges)
+      (accepted_led (accept_of t) facs_place)
+  facs_from_tables = from_tables t _ _ (same_facs (accept_of t))
 
 -- ---- one RSDP
 

@@ -3,10 +3,10 @@ use Rattle.std.proofs.Common.{refl, ap, sym, drop, slice_get, ◌≡◌, ℕ, ze
 use Rattle.acpi_base.proofs.FromStd.{get_or_from_slice_get}
 use Rattle.acpi_base.proofs.Words.{all_back, all_front, all_rest}
 use Rattle.acpi.specs.Types.{AcpiError, DSDT, Fadt}
-use Rattle.acpi_base.specs.Words.{Memory, Allows, Ranges, table_ranges, unless_found, lent, Kind, plain_kind, table_at}
+use Rattle.acpi_base.specs.Words.{Memory, Allows, Ranges, accepted, table_ranges, unless_found, lent, Kind, plain_kind, table_at}
 use Rattle.acpi_base.specs.Ranges as ranges
 use Rattle.acpi_fixed.specs.Words.{dsdt_address_of, fadt_at}
-use Rattle.acpi.specs.Words.{dsdt_ranges, header_ranges, lookup_ranges, fadt_kind, faults_of, unless_valid, lookup, Opened, opened_from, pointers, width_of, TableFault, RootPointer, root_and_ranges, area_ranges, opened_by_rsdp_ranges, opened_by_search_ranges, opened_ranges, rsdp_ranges, search_ranges, walk_ranges, both_place_ranges, dsdt_place_ranges, facs_place_ranges, led_by_ranges, led_ranges, place_ranges, root_of_rsdp, rsdp_at, count_of, first_area, found_in, found_rsdp, room_of, second_area, word_in, Area}
+use Rattle.acpi.specs.Words.{accepted_dsdt_ranges, accepted_led_ranges, header_ranges, lookup_ranges, fadt_kind, faults_of, unless_valid, lookup, Opened, opened_from, pointers, width_of, TableFault, RootPointer, root_and_ranges, area_ranges, opened_by_rsdp_ranges, opened_by_search_ranges, opened_ranges, rsdp_ranges, search_ranges, walk_ranges, both_place_ranges, dsdt_place_ranges, facs_place_ranges, led_ranges, place_ranges, root_of_rsdp, rsdp_at, count_of, first_area, found_in, found_rsdp, room_of, second_area, word_in, Area}
 
 -- the pointer that is seen first, and those after it
 pub peeked : (all : List ℕ) (p : ℕ) → Some p ≡ slice_get all 0 → all ≡ p ∷ drop 1 all
@@ -86,19 +86,25 @@ module _ (may : ℕ → ℕ → Bool) where
 
   -- ---- the FADT, and what it leads to
 
-  pub asked_fadt : (place : Memory → Fadt → Ranges) (m : Memory) (ps : List ℕ) → Allows may (led_by_ranges place m ps)
-      → Allows may (lookup_ranges m fadt_kind ps)
-  asked_fadt place m ps h = all_front may (lookup_ranges m fadt_kind ps) _ h
+  pub asked_fadt : (accept : ℕ) (place : Memory → Fadt → Ranges) (m : Memory) (ps : List ℕ)
+      → Allows may (accepted_led_ranges accept place m ps)
+      → Allows may (lookup_ranges m (accepted accept fadt_kind) ps)
+  asked_fadt accept place m ps h = all_front may (lookup_ranges m (accepted accept fadt_kind) ps) _ h
 
-  pub asked_place : (place : Memory → Fadt → Ranges) (m : Memory) (ps : List ℕ) (found : ℕ × List ℕ)
-      → Allows may (led_by_ranges place m ps) → lookup m fadt_kind ps ≡ Ok found
+  pub asked_place : (accept : ℕ) (place : Memory → Fadt → Ranges) (m : Memory) (ps : List ℕ) (found : ℕ × List ℕ)
+      → Allows may (accepted_led_ranges accept place m ps) → lookup m (accepted accept fadt_kind) ps ≡ Ok found
       → Allows may (place m (fadt_at found.1))
-  asked_place place m ps found h there = rw there at (all_back may (lookup_ranges m fadt_kind ps) _ h)
+  asked_place accept place m ps found h there =
+      rw there at (all_back may (lookup_ranges m (accepted accept fadt_kind) ps) _ h)
 
-  pub asked_dsdt : (m : Memory) (ps : List ℕ) (found : ℕ × List ℕ) (a : ℕ) → Allows may (dsdt_ranges m ps)
-      → lookup m fadt_kind ps ≡ Ok found
-      → dsdt_address_of (fadt_at found.1) ≡ Ok a → Allows may (table_ranges m (plain_kind DSDT) a)
-  asked_dsdt m ps found a h there address = rw address at (asked_place dsdt_place_ranges m ps found h there)
+  pub asked_dsdt : (accept : ℕ) (m : Memory) (ps : List ℕ) (found : ℕ × List ℕ) (a : ℕ)
+      → Allows may (accepted_dsdt_ranges accept m ps) → lookup m (accepted accept fadt_kind) ps ≡ Ok found
+      → dsdt_address_of (fadt_at found.1) ≡ Ok a
+      → Allows may (table_ranges m (accepted accept (plain_kind DSDT)) a)
+  asked_dsdt accept m ps found a h there address =
+      let of : Memory → Fadt → Ranges =
+      λ o f. ranges.◌>>=◌ (dsdt_address_of f) (table_ranges o (accepted accept (plain_kind DSDT))) in
+      rw address at (asked_place accept of m ps found h there)
 
   pub asked_members : (m : Memory) (ps : List ℕ) → Allows may (place_ranges m ps) → Allows may (header_ranges m ps)
   asked_members m ps h = all_front may (header_ranges m ps) _ h
@@ -110,13 +116,13 @@ module _ (may : ℕ → ℕ → Bool) where
       → lookup m fadt_kind ps ≡ Ok found
       → Allows may (dsdt_place_ranges m (fadt_at found.1))
   asked_dsdt_place m ps found h there = all_front may (dsdt_place_ranges m (fadt_at found.1)) _
-      (asked_place both_place_ranges m ps found h there)
+      (asked_place 0 both_place_ranges m ps found h there)
 
   pub asked_facs_place : (m : Memory) (ps : List ℕ) (found : ℕ × List ℕ) → Allows may (led_ranges m ps)
       → lookup m fadt_kind ps ≡ Ok found
       → Allows may (facs_place_ranges m (fadt_at found.1))
   asked_facs_place m ps found h there = all_back may (dsdt_place_ranges m (fadt_at found.1)) _
-      (asked_place both_place_ranges m ps found h there)
+      (asked_place 0 both_place_ranges m ps found h there)
 
   -- ---- the RSDP
 

@@ -1,3 +1,4 @@
+pub mod Accepting
 pub mod Agreed
 pub mod Among
 pub mod Asked

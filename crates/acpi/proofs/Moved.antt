@@ -6,7 +6,7 @@ use Rattle.acpi_base.specs.Words.{check_table, header_at, mcfg_entries_of, Memor
 use Rattle.acpi_base.specs.Model as model
 use Rattle.acpi.specs.Types.{AcpiError, TableMissing, Unknown, SdtHeader, Signature, FADT, HPET, MADT, MCFG}
 use Rattle.acpi.proofs.First.{here}
-use Rattle.acpi.specs.Words.{below, hpet_at, info_of, hpet_of, or_later, fadt_kind, own_header_at, valid_headers, valid_tables, lookup, madt_kind, model_in, platform_of, FollowsTables, bytes_found, pointers, root_at, width_of, memory_of, pointers_of, RootKind, AcpiTables, found_regions}
+use Rattle.acpi.specs.Words.{below, hpet_at, info_of, hpet_of, or_later, fadt_kind, own_header_at, valid_headers, valid_tables, lookup, madt_kind, model_in, platform_of, FollowsTables, bytes_found, pointers, accepted_root_at, width_of, memory_of, pointers_of, RootKind, AcpiTables, found_regions}
 
 abbrev done : {A : Type 0} → A → Result A AcpiError
 done x = Ok x
@@ -112,12 +112,12 @@ moved_by n (Ok root) pointers_in ts defined said each e = each (pointers_in root
 moved_by n (Err d) pointers_in ts defined said each e = absurd cc
 
 -- a definition over the pointers of tables, over a memory that has the same valid tables
-pub moved_tables : {H A : Type 0} {h : _} (t : AcpiTables H h) (defined : Memory → List ℕ → Result A AcpiError)
+pub moved_tables : {A : Type 0} {H P h p : _} (t : AcpiTables H P h p) (defined : Memory → List ℕ → Result A AcpiError)
     → FollowsTables defined → (n : Memory) (kind : RootKind) (address : ℕ)
     → below n kind address (λ ps. done (valid_tables n ps)) ≡ Ok (valid_tables (memory_of t) (pointers_of t))
     → below n kind address (defined n) ≡ defined (memory_of t) (pointers_of t)
 moved_tables t defined follows n kind address same =
-    moved_by n (root_at n kind address) (λ root. pointers (width_of kind) (drop 36 root))
+    moved_by n (accepted_root_at 0 n kind address) (λ root. pointers (width_of kind) (drop 36 root))
     (valid_tables (memory_of t) (pointers_of t)) defined _
     (λ qs e. follows (memory_of t) n (pointers_of t) qs e) same
 

@@ -3,8 +3,8 @@ use Rattle.std.proofs.Common.{◌≡◌, ℕ, zero, suc, ◌+◌, ◌-◌, ◌*�
 use Rattle.acpi_base.specs.FromStd.{AllByRecursion}
 use Rattle.acpi_base.proofs.FromStd.{length-replicate, append-nil, take-append-drop, take_at, drop_at, take_all, drop_all, length-take-le, cases_lt, mul-le-mul_left, pow-suc}
 use Rattle.acpi_base.proofs.Words.{IsBytes-drop, IsBytes-take, length-spelling, number-spelling, table_bytes}
-use Rattle.acpi_base.specs.Words.{IsBytes, number, spelling, field_of, Memory, IsMemory}
-use Rattle.acpi.specs.Words.{OnePointers, IsPointers, pieces, pointers, root_at, root_kind, width_of, RootKind, Rsdt, Xsdt}
+use Rattle.acpi_base.specs.Words.{IsBytes, number, spelling, accepted, field_of, Memory, IsMemory}
+use Rattle.acpi.specs.Words.{OnePointers, IsPointers, accepted_root_at, pieces, pointers, root_kind, width_of, RootKind, Rsdt, Xsdt}
 
 length-spelled : (width : ℕ) (ps : List ℕ) → length (flat_map (spelling width) ps) ≡ width * length ps
 length-spelled width [] = omega arith
@@ -188,9 +188,9 @@ some_width : (kind : RootKind) → 0 < width_of kind
 some_width Rsdt = omega arith
 some_width Xsdt = omega arith
 
-pub root_pointers : (m : Memory) (kind : RootKind) (address : ℕ) (root : List ℕ) → IsMemory m
-    → root_at m kind address ≡ Ok root → (ps : List ℕ)
+pub root_pointers : (accept : ℕ) (m : Memory) (kind : RootKind) (address : ℕ) (root : List ℕ) → IsMemory m
+    → accepted_root_at accept m kind address ≡ Ok root → (ps : List ℕ)
     → IsPointers (width_of kind) (drop 36 root) ps ↔ (ps ≡ pointers (width_of kind) (drop 36 root))
-root_pointers m kind address root h e ps =
+root_pointers accept m kind address root h e ps =
     one_pointers (width_of kind) (drop 36 root) ps (some_width kind)
-    (IsBytes-drop 36 root (table_bytes m (root_kind kind) address root h e))
+    (IsBytes-drop 36 root (table_bytes m (accepted accept (root_kind kind)) address root h e))

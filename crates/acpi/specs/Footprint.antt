@@ -2,20 +2,24 @@
 -- that it comes to, in its own shape.
 use Rattle.std.specs.Prelude.{ℕ, List, [], ◌∷◌, ◌++◌, drop, flat_map, Result}
 use Rattle.acpi.specs.Types.{AcpiError, DSDT, SSDT, RootKind}
-use Rattle.acpi_base.specs.Words.{Memory, Allows, Footprint, Ranges, own_table_ranges, table_ranges, unless_found, Kind, plain_kind, table_at}
+use Rattle.acpi_base.specs.Words.{Memory, Allows, Footprint, Ranges, accepted, own_table_ranges, table_ranges, unless_found, Kind, plain_kind, table_at}
 use Rattle.acpi_base.specs.Ranges.{◌>>=◌}
 use Rattle.acpi_fixed.specs.Words.{dsdt_address_of, fadt_at}
 use Rattle.acpi.specs.Lists.{fadt_kind}
 use Rattle.acpi.specs.Lookup.{lookup}
 use Rattle.acpi.specs.Platform.{madt_kind}
-use Rattle.acpi.specs.Root.{pointers, root_at, root_kind, width_of}
-use Rattle.acpi.specs.Tables.{kind_of, may_of, memory_of, pointers_of, root_address_of}
+use Rattle.acpi.specs.Root.{accepted_root_at, pointers, root_kind, width_of}
+use Rattle.acpi.specs.Tables.{accept_of, kind_of, may_of, memory_of, pointers_of, root_address_of}
 use Rattle.acpi.specs.declared.tables.AcpiTables.{AcpiTables}
 use Rattle.acpi_base.specs.Steps as steps
 
 -- those of `root_at`
 abbrev pub root_ranges : Memory → RootKind → ℕ → Ranges
 root_ranges m kind address = table_ranges m (root_kind kind) address
+
+-- those of `accepted_root_at`
+abbrev pub accepted_root_ranges : ℕ → Memory → RootKind → ℕ → Ranges
+accepted_root_ranges accept m kind address = table_ranges m (accepted accept (root_kind kind)) address
 
 -- those of `lookup` and of `faults_of`: each member's, up to and with the first valid one. They are also those of what
 -- the HPET, the PCI regions and the mailbox say, by the lookup of their table
@@ -32,12 +36,16 @@ header_ranges m ps = flat_map (own_table_ranges m) ps
 abbrev pub ssdt_ranges : Memory → List ℕ → Ranges
 ssdt_ranges m ps = flat_map (table_ranges m (plain_kind SSDT)) ps
 
--- those of `dsdt_stream`: the FADT's, and those of the table that it leads to
-abbrev pub dsdt_ranges : Memory → List ℕ → Ranges
-dsdt_ranges m ps = lookup_ranges m fadt_kind ps ++ do
-  found ← lookup m fadt_kind ps
+-- those of `accepted_dsdt`: the FADT's, and those of the table that it leads to
+abbrev pub accepted_dsdt_ranges : ℕ → Memory → List ℕ → Ranges
+accepted_dsdt_ranges accept m ps = lookup_ranges m (accepted accept fadt_kind) ps ++ do
+  found ← lookup m (accepted accept fadt_kind) ps
   address ← dsdt_address_of (fadt_at found.1)
-  table_ranges m (plain_kind DSDT) address
+  table_ranges m (accepted accept (plain_kind DSDT)) address
+
+-- those of `dsdt_stream`
+abbrev pub dsdt_ranges : Memory → List ℕ → Ranges
+dsdt_ranges = accepted_dsdt_ranges 0
 
 -- those of `platform_of`: the FADT's, and if one is found, the MADT's
 abbrev pub platform_ranges : Memory → List ℕ → Ranges
@@ -47,22 +55,26 @@ platform_ranges m ps = lookup_ranges m fadt_kind ps ++ do
 
 -- ---- from a root table
 
--- what a definition over pointers says of those below the root table at an address
-abbrev pub below : {A : Type 0} → Memory → RootKind → ℕ → (List ℕ → Result A AcpiError)
+-- what a definition over pointers says of those below the root table at an address, if that is accepted by these bits
+abbrev pub accepted_below : {A : Type 0} → ℕ → Memory → RootKind → ℕ → (List ℕ → Result A AcpiError)
     → Result A AcpiError
-below m kind address defined =
-    steps.◌>>=◌ (root_at m kind address) (λ root. defined (pointers (width_of kind) (drop 36 root)))
+accepted_below accept m kind address defined =
+    steps.◌>>=◌ (accepted_root_at accept m kind address) (λ root. defined (pointers (width_of kind) (drop 36 root)))
+
+-- if it is valid
+abbrev pub below : {A : Type 0} → Memory → RootKind → ℕ → (List ℕ → Result A AcpiError) → Result A AcpiError
+below = accepted_below 0
 
 -- the handler of tables may be asked for these ranges of their pointers
-abbrev pub AllowsBelow : {H h : _} → AcpiTables H h → (Memory → List ℕ → Ranges) → Type 0
+abbrev pub AllowsBelow : {H P h p : _} → AcpiTables H P h p → (Memory → List ℕ → Ranges) → Type 0
 AllowsBelow t ranges = Allows (may_of t) (ranges (memory_of t) (pointers_of t))
 
 -- what a call says of tables by a definition over their pointers, it says by that definition over every memory that
 -- agrees with theirs at the root table's ranges and at these, below the root table of the same kind at the same address
-abbrev pub FootprintBelow : {H A : Type 0} {h : _} → AcpiTables H h
+abbrev pub FootprintBelow : {A : Type 0} {H P h p : _} → AcpiTables H P h p
     → (Memory → List ℕ → Ranges) → (Memory → List ℕ → Result A AcpiError)
     → (Result A AcpiError → Type 0) → Type 0
 FootprintBelow t ranges defined Says = Footprint (memory_of t)
-    (root_ranges (memory_of t) (kind_of t) (root_address_of t)
+    (accepted_root_ranges (accept_of t) (memory_of t) (kind_of t) (root_address_of t)
     ++ ranges (memory_of t) (pointers_of t))
-    (λ n. below n (kind_of t) (root_address_of t) (defined n)) Says
+    (λ n. accepted_below (accept_of t) n (kind_of t) (root_address_of t) (defined n)) Says

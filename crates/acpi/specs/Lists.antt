@@ -2,7 +2,7 @@
 use Rattle.std.specs.Prelude.{ℕ, ◌+◌, ◌-◌, List, [], ◌∷◌, length, filter_map, Result, Ok, Err}
 use Rattle.acpi_base.specs.FromStd.{result_ok}
 use Rattle.acpi.specs.Types.{AcpiError, SdtHeader, Signature, DSDT, FADT, SSDT, AmlTable, TableFault}
-use Rattle.acpi_base.specs.Words.{header_at, Memory, ◌>>=◌, Kind, sdt_kind, own_table_at, plain_kind, table_at}
+use Rattle.acpi_base.specs.Words.{header_at, Memory, ◌>>=◌, Kind, accepted, sdt_kind, own_table_at, plain_kind, table_at}
 use Rattle.acpi_fixed.specs.Words.{dsdt_address_of, fadt_at}
 use Rattle.acpi.specs.Lookup.{lookup}
 use Rattle.acpi_base.specs.declared.error.AcpiError.TheVariants as refusal
@@ -25,15 +25,23 @@ valid_headers m ps = filter_map (λ p. result_ok (own_header_at m p)) ps
 abbrev pub stream_of : ℕ → List ℕ → AmlTable
 stream_of p table = record { address = p + 36; length = length table - 36 }
 
--- the AML of the table at an address, if the table is valid under this signature
-unfoldable pub stream_at : Memory → Signature → ℕ → Result AmlTable AcpiError
-stream_at m s p = do
-  table ← table_at m (plain_kind s) p
+-- the AML of the table at an address, if the table is valid for a kind
+unfoldable pub stream_by : Memory → Kind → ℕ → Result AmlTable AcpiError
+stream_by m k p = do
+  table ← table_at m k p
   Ok (stream_of p table)
+
+-- that of a signature
+abbrev pub stream_at : Memory → Signature → ℕ → Result AmlTable AcpiError
+stream_at m s = stream_by m (plain_kind s)
+
+-- the AML of all members that are valid for a kind, in order
+abbrev pub streams_by : Memory → Kind → List ℕ → List AmlTable
+streams_by m k ps = filter_map (λ p. result_ok (stream_by m k p)) ps
 
 -- the AML of all members that are valid SSDTs, in order
 abbrev pub ssdt_streams : Memory → List ℕ → List AmlTable
-ssdt_streams m ps = filter_map (λ p. result_ok (stream_at m SSDT p)) ps
+ssdt_streams m = streams_by m (plain_kind SSDT)
 
 -- a table of another signature is not a fault, and any other refusal is one
 abbrev pub with_fault : ℕ → AcpiError → List TableFault → List TableFault
@@ -54,9 +62,13 @@ faults_of m k (p ∷ ps) = unless_valid p (table_at m k p) (faults_of m k ps)
 abbrev pub fadt_kind : Kind
 fadt_kind = sdt_kind FADT 116
 
--- the AML of the DSDT: the first valid FADT, its address of the DSDT, and the table there
-abbrev pub dsdt_stream : Memory → List ℕ → Result AmlTable AcpiError
-dsdt_stream m ps = do
-  found ← lookup m fadt_kind ps
+-- the AML of the DSDT: the first FADT that the bits of `accept` accept, its address of the DSDT, and the table there
+abbrev pub accepted_dsdt : ℕ → Memory → List ℕ → Result AmlTable AcpiError
+accepted_dsdt accept m ps = do
+  found ← lookup m (accepted accept fadt_kind) ps
   address ← dsdt_address_of (fadt_at found.1)
-  stream_at m DSDT address
+  stream_by m (accepted accept (plain_kind DSDT)) address
+
+-- that of valid tables
+abbrev pub dsdt_stream : Memory → List ℕ → Result AmlTable AcpiError
+dsdt_stream = accepted_dsdt 0

@@ -2,7 +2,7 @@
 use Rattle.std.specs.Prelude.{ℕ, List, Result, Ok}
 use Rattle.acpi.specs.Types.{AcpiError, RootKind, RootPointer}
 use Rattle.acpi_base.specs.Words.{Memory, ◌>>=◌}
-use Rattle.acpi.specs.Root.{root_at, root_of_revision}
+use Rattle.acpi.specs.Root.{accepted_root_at, root_at, root_of_revision}
 use Rattle.acpi.specs.Rsdp.{root_of_rsdp, rsdp_at}
 use Rattle.acpi.specs.Search.{found_rsdp}
 use Rattle.acpi.specs.Tables.{kind_of, revision_of, root_address_of, root_of}
@@ -16,7 +16,7 @@ pub record Opened : Type 0 where
   pub address : ℕ
   pub root : List ℕ
 
-abbrev pub opened_of : {H h : _} → AcpiTables H h → Opened
+abbrev pub opened_of : {H P h p : _} → AcpiTables H P h p → Opened
 opened_of t = record {
   revision = revision_of t;
   kind = kind_of t;
@@ -28,6 +28,12 @@ opened_of t = record {
 abbrev pub opened_from : Memory → RootPointer → Result Opened AcpiError
 opened_from m place = do
   root ← root_at m place.kind place.address
+  Ok (record { revision = place.revision; kind = place.kind; address = place.address; root = root })
+
+-- by what leads to the root table, if that is accepted by the bits of `accept`
+abbrev pub accepted_opened : ℕ → Memory → RootPointer → Result Opened AcpiError
+accepted_opened accept m place = do
+  root ← accepted_root_at accept m place.kind place.address
   Ok (record { revision = place.revision; kind = place.kind; address = place.address; root = root })
 
 -- by a revision and the address of the root table

@@ -2,7 +2,7 @@
 use Rattle.std.specs.Prelude.{ℕ, zero, suc, ◌+◌, List, [], ◌∷◌, ◌++◌, drop, Option, Some, None}
 use Rattle.acpi_base.specs.Words.{Memory, Ranges, unless_found, lent}
 use Rattle.acpi_base.specs.Ranges.{◌>>=◌}
-use Rattle.acpi.specs.Footprint.{root_ranges}
+use Rattle.acpi.specs.Footprint.{accepted_root_ranges, root_ranges}
 use Rattle.acpi.specs.Opened.{opened_from}
 use Rattle.acpi.specs.Root.{pointers, width_of}
 use Rattle.acpi.specs.Rsdp.{checked_length, root_of_rsdp, rsdp_at}
@@ -54,6 +54,10 @@ search_ranges m = (0x40e, 2) ∷ do
 -- those of `opened_from`
 abbrev pub opened_ranges : Memory → RootPointer → Ranges
 opened_ranges m place = root_ranges m place.kind place.address
+
+-- those of `accepted_opened`
+abbrev pub accepted_opened_ranges : ℕ → Memory → RootPointer → Ranges
+accepted_opened_ranges accept m place = accepted_root_ranges accept m place.kind place.address
 
 -- the ranges of a root table and, if it is opened, of a call below it
 abbrev pub root_and_ranges : Memory → RootPointer → (Memory → List ℕ → Ranges) → Ranges

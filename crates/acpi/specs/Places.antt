@@ -2,7 +2,7 @@
 use Rattle.std.specs.Prelude.{ℕ, List, [], ◌∷◌, ◌++◌, length, filter_map, nat_le, Result, Ok, bytes_eq}
 use Rattle.acpi_base.specs.FromStd.{cons_option, result_ok}
 use Rattle.acpi.specs.Types.{AcpiError, SdtInvalidLength, SdtInvalidSignature, Signature, DSDT, FACS, Fadt, AddressRange}
-use Rattle.acpi_base.specs.Words.{header_at, Memory, Ranges, table_ranges, ◌>>=◌, holds, lent, own_table_at, plain_kind, table_at}
+use Rattle.acpi_base.specs.Words.{accepted, header_at, Memory, Ranges, table_ranges, ◌>>=◌, holds, lent, own_table_at, plain_kind, table_at}
 use Rattle.acpi_fixed.specs.Words.{dsdt_address_of, facs_address_of, fadt_at}
 use Rattle.acpi.specs.Footprint.{header_ranges, lookup_ranges}
 use Rattle.acpi.specs.Lists.{fadt_kind}
@@ -53,11 +53,16 @@ facs_place m f = do
 
 -- ---- of a root table
 
+-- what the first FADT leads to that the bits of `accept` accept
+abbrev pub accepted_led : {A : Type 0} → ℕ → (Memory → Fadt → Result A AcpiError) → Memory → List ℕ
+    → Result A AcpiError
+accepted_led accept place m ps = do
+  found ← lookup m (accepted accept fadt_kind) ps
+  place m (fadt_at found.1)
+
 -- what the first valid FADT leads to
 abbrev pub led_by : {A : Type 0} → (Memory → Fadt → Result A AcpiError) → Memory → List ℕ → Result A AcpiError
-led_by place m ps = do
-  found ← lookup m fadt_kind ps
-  place m (fadt_at found.1)
+led_by = accepted_led 0
 
 -- the valid members, then the DSDT and the FACS if a valid FADT leads to them
 abbrev pub places_below : Memory → List ℕ → List AddressRange
@@ -84,10 +89,14 @@ facs_ranges m address = (address, 36) ∷ ranges.◌>>=◌ (lent m address 36) (
 abbrev pub facs_place_ranges : Memory → Fadt → Ranges
 facs_place_ranges m f = ranges.◌>>=◌ (facs_address_of f) (λ address. facs_ranges m address)
 
--- those of `led_by`: the FADT's, and those of what it leads to
+-- those of `accepted_led`: the FADT's, and those of what it leads to
+abbrev pub accepted_led_ranges : ℕ → (Memory → Fadt → Ranges) → Memory → List ℕ → Ranges
+accepted_led_ranges accept place m ps = lookup_ranges m (accepted accept fadt_kind) ps
+    ++ ranges.◌>>=◌ (lookup m (accepted accept fadt_kind) ps) (λ found. place m (fadt_at found.1))
+
+-- those of `led_by`
 abbrev pub led_by_ranges : (Memory → Fadt → Ranges) → Memory → List ℕ → Ranges
-led_by_ranges place m ps = lookup_ranges m fadt_kind ps
-    ++ ranges.◌>>=◌ (lookup m fadt_kind ps) (λ found. place m (fadt_at found.1))
+led_by_ranges = accepted_led_ranges 0
 
 -- those of `dsdt_place` and of `facs_place`
 abbrev pub both_place_ranges : Memory → Fadt → Ranges

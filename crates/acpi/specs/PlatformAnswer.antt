@@ -10,19 +10,19 @@ use Rattle.acpi.specs.Tables.{of_tables}
 use Rattle.acpi.specs.declared.tables.AcpiTables.{AcpiTables}
 
 -- the answer is the platform that is defined, or AllocError, and that only if memory is asked for
-abbrev pub GivesPlatform : {A : Type 0} {H h : _} → AcpiTables H h → Result (PlatformInfo A) AcpiError
+abbrev pub GivesPlatform : {A : Type 0} {H P h p : _} → AcpiTables H P h p → Result (PlatformInfo A) AcpiError
     → Type 0
 GivesPlatform t answer = GivesOrFull (of_tables t PlatformAsks) answer (of_tables t platform_of)
 
 -- the answer depends on what the lookup of the FADT depends on, and if one is found, on what that of the MADT depends
 -- on
-abbrev pub PlatformFootprint : {A : Type 0} {H h : _} → AcpiTables H h
+abbrev pub PlatformFootprint : {A : Type 0} {H P h p : _} → AcpiTables H P h p
     → Result (PlatformInfo A) AcpiError → Type 0
 PlatformFootprint t answer =
     FootprintBelow t platform_ranges platform_of (GivesOrFull (of_tables t PlatformAsks) answer)
 
 -- the answer is the same wherever the valid tables lie
-abbrev pub PlatformRelocation : {A : Type 0} {H h : _} → AcpiTables H h
+abbrev pub PlatformRelocation : {A : Type 0} {H P h p : _} → AcpiTables H P h p
     → Result (PlatformInfo A) AcpiError → Type 0
 PlatformRelocation t answer =
     Relocation t platform_of (GivesOrFull (of_tables t PlatformAsks) answer)

@@ -14,7 +14,7 @@ FollowsTables defined = (m n : Memory) (ps qs : List ℕ)
 
 -- what a call says of tables by a definition over their pointers, it says by that definition below
 -- every valid root table, of either kind and at any address, that leads to the same valid tables
-abbrev pub Relocation : {H A : Type 0} {h : _} → AcpiTables H h
+abbrev pub Relocation : {A : Type 0} {H P h p : _} → AcpiTables H P h p
     → (Memory → List ℕ → Result A AcpiError) → (Result A AcpiError → Type 0) → Type 0
 Relocation t defined Says = (n : Memory) (kind : RootKind) (address : ℕ)
     → below n kind address (λ ps. Ok (valid_tables n ps))

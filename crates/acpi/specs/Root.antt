@@ -3,7 +3,7 @@
 use Rattle.std.specs.Prelude.{◌≡◌, ℕ, ◌<◌, ◌^◌, ◌==◌, zero, suc, if◌then◌else◌, Result, List, [], ◌∷◌, ◌++◌, take, drop, length, flat_map, replicate}
 use Rattle.acpi_base.specs.FromStd.{AllByRecursion}
 use Rattle.acpi.specs.Types.{AcpiError, Signature, RSDT, XSDT, RootKind, Rsdt, Xsdt, RootPointer}
-use Rattle.acpi_base.specs.Words.{number, spelling, Memory, Kind, plain_kind, table_at}
+use Rattle.acpi_base.specs.Words.{number, spelling, Memory, Kind, accepted, plain_kind, table_at}
 
 -- the signature of a root table of this kind
 abbrev pub signature_of : RootKind → Signature
@@ -22,6 +22,10 @@ root_kind kind = plain_kind (signature_of kind)
 -- the root table of this kind at an address, or the first refusal
 abbrev pub root_at : Memory → RootKind → ℕ → Result (List ℕ) AcpiError
 root_at m kind address = table_at m (root_kind kind) address
+
+-- the one that is accepted by the bits of `accept`, which give up checks
+abbrev pub accepted_root_at : ℕ → Memory → RootKind → ℕ → Result (List ℕ) AcpiError
+accepted_root_at accept m kind address = table_at m (accepted accept (root_kind kind)) address
 
 -- ---- what leads to a root table
 

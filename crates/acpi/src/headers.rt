@@ -46,20 +46,20 @@ impl<H: Lender> Iterator for SdtHeaderIterator<'_, '_, H> {
     ghost remaining = { item_count (headers_left H.memory) };
 
     fn next(&mut self) -> Option<SdtHeader> {
-        next_found(self.handler, &mut self.pointers)
+        next_found(self.handler, &mut self.pointers, 0)
     }
 }
 
 impl Asked for SdtHeader {
-    ghost ranges = { own_table_ranges };
+    ghost ranges = { λ _ m. own_table_ranges m };
 }
 
 impl Found for SdtHeader {
     ghost use Rattle.acpi.specs.Lists.{own_header_at};
 
-    ghost found = { λ m p. result_ok (own_header_at m p) };
+    ghost found = { λ _ m p. result_ok (own_header_at m p) };
 
-    fn at<H: Lender>(handler: &H, address: u64) -> Option<SdtHeader> {
+    fn at<H: Lender>(handler: &H, address: u64, _accept: u32) -> Option<SdtHeader> {
         own_header(handler, address).ok()
     }
 }

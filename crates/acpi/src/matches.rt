@@ -2,13 +2,13 @@
 ghost use Rattle.std.proofs.Props.{props};
 ghost use Rattle.std.specs.Prelude.{◌≡◌};
 ghost use Rattle.acpi_base.specs.FromStd.{YieldsFirstBy, item_count};
-ghost use Rattle.acpi_base.specs.Words.{Allows, table_ranges, bytes_of, start_of};
+ghost use Rattle.acpi_base.specs.Words.{Allows, accepted, table_ranges, bytes_of, start_of};
 ghost use Rattle.acpi.specs.Members.{kind_ranges};
 ghost use Rattle.acpi.specs.Pointers.{pointers_left};
 
 use crate::pointers::Pointers;
+use crate::policy::map_accepted;
 use crate::walk::{Asked, next_asked};
-use acpi_base::sdt::map_table;
 use acpi_base::{AcpiTable, Lender, PhysicalMapping};
 use std::marker::PhantomData;
 
@@ -18,24 +18,26 @@ use std::marker::PhantomData;
 pub struct FoundTables<'t, 'h, H: Lender, T: AcpiTable> {
     handler: &'h H,
     pointers: Pointers<'t>,
+    accept: u32,
     sought: PhantomData<T>,
     ghost asked: { Allows (H.may handler.now) (kind_ranges (H.memory handler.now)
-        T.kind (pointers_left pointers)) } by { Prim.hlevel props },
+        (accepted accept T.kind) (pointers_left pointers)) } by { Prim.hlevel props },
 }
 
 impl<'t, 'h, H: Lender, T: AcpiTable> FoundTables<'t, 'h, H, T> {
     ghost use Rattle.acpi.specs.Members.{tables_found};
     ghost use Rattle.acpi.specs.Placed.{found_left};
 
-    pub(crate) fn new(handler: &'h H, pointers: Pointers<'t>) -> Self
+    pub(crate) fn new(handler: &'h H, pointers: Pointers<'t>, accept: u32) -> Self
         requires { Allows (H.may handler.now) (kind_ranges (H.memory handler.now)
-            T.kind (pointers_left pointers)) }
+            (accepted accept T.kind) (pointers_left pointers)) }
         ensures { found_left H.memory T.kind result
-            ≡ tables_found (H.memory handler.now) T.kind (pointers_left pointers.entry) }
+            ≡ tables_found (H.memory handler.now) (accepted accept T.kind) (pointers_left pointers.entry) }
     {
         FoundTables {
             handler,
             pointers,
+            accept,
             sought: PhantomData,
         }
     }
@@ -56,8 +58,9 @@ impl<'h, H: Lender, T: AcpiTable> Iterator for FoundTables<'_, 'h, H, T> {
         while let Some(address) = next_asked::<H, PhysicalMapping<'h, H, T>>(
             self.handler,
             &mut self.pointers,
+            self.accept,
         ) {
-            if let Ok(table) = map_table::<H, T>(self.handler, address) {
+            if let Ok(table) = map_accepted::<H, T>(self.handler, address, self.accept) {
                 return Some(table);
             }
         }
@@ -67,5 +70,5 @@ impl<'h, H: Lender, T: AcpiTable> Iterator for FoundTables<'_, 'h, H, T> {
 
 /// A table that is valid for `T`.
 impl<H: Lender, T: AcpiTable> Asked for PhysicalMapping<'_, H, T> {
-    ghost ranges = { λ m. table_ranges m T.kind };
+    ghost ranges = { λ a m. table_ranges m (accepted a T.kind) };
 }

@@ -23,7 +23,7 @@ pub struct TableMember {
 }
 
 impl Asked for TableMember {
-    ghost ranges = { own_table_ranges };
+    ghost ranges = { λ _ m. own_table_ranges m };
 }
 
 /// The members of the root table, one for each pointer, in order, as `AcpiTables::members` gives them. A
@@ -60,7 +60,7 @@ impl<H: Lender> Iterator for TableMembers<'_, '_, H> {
     ghost remaining = { item_count (members_left H.memory) };
 
     fn next(&mut self) -> Option<TableMember> {
-        let address = next_asked::<H, TableMember>(self.handler, &mut self.pointers)?;
+        let address = next_asked::<H, TableMember>(self.handler, &mut self.pointers, 0)?;
         let header = own_header(self.handler, address);
         Some(TableMember { address, header })
     }

@@ -67,7 +67,7 @@ impl<H: Lender> Iterator for TableRanges<'_, '_, H> {
         if let Some(root) = self.root.take() {
             return Some(root);
         }
-        if let Some(place) = next_found(self.handler, &mut self.pointers) {
+        if let Some(place) = next_found(self.handler, &mut self.pointers, 0) {
             return Some(place);
         }
         if let Some(dsdt) = self.dsdt.take() {
@@ -78,15 +78,15 @@ impl<H: Lender> Iterator for TableRanges<'_, '_, H> {
 }
 
 impl Asked for AddressRange {
-    ghost ranges = { own_table_ranges };
+    ghost ranges = { λ _ m. own_table_ranges m };
 }
 
 /// Where a table lies that is valid under the signature that it has.
 impl Found for AddressRange {
-    ghost found = { λ m p. result_ok (place_at m p) };
+    ghost found = { λ _ m p. result_ok (place_at m p) };
 
     #[tactic(auto, unfolding(crate::specs::Places::place_at))]
-    fn at<H: Lender>(handler: &H, address: u64) -> Option<AddressRange> {
+    fn at<H: Lender>(handler: &H, address: u64, _accept: u32) -> Option<AddressRange> {
         match map_own_sdt(handler, address) {
             Ok(table) => Some(AddressRange {
                 address,

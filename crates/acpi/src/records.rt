@@ -1,9 +1,10 @@
 //! Plain records that lookups and lists answer.
 ghost use Rattle.std.specs.Prelude.{◌≡◌};
-ghost use Rattle.acpi_base.specs.Words.{Allows, table_ranges, plain_kind};
-ghost use Rattle.acpi.specs.Words.{stream_at};
+ghost use Rattle.acpi_base.specs.Words.{Allows, accepted, table_ranges, plain_kind};
+ghost use Rattle.acpi.specs.Words.{stream_by};
 
-use acpi_base::sdt::{SdtHeader, Signature, map_sdt};
+use acpi_base::sdt::{SdtHeader, Signature};
+use acpi_base::table::valid_by;
 use acpi_base::{AcpiError, AcpiResult, Lender, PhysicalRecord};
 
 /// A stream of AML: the bytes after the header of a DSDT (section 5.2.11.1) or an SSDT (section 5.2.11.2).
@@ -35,18 +36,20 @@ pub struct Sdt {
     pub validated: bool,
 }
 
-/// The AML of the table at an address, the bytes after its header, if it is valid under a signature.
-#[tactic(auto, unfolding(crate::specs::Lists::stream_at))]
+/// The AML of the table at an address, the bytes after its header, if the bits of `accept` accept it under a signature.
+#[tactic(auto, unfolding(crate::specs::Lists::stream_by))]
 pub(crate) fn stream_at<H: Lender>(
     handler: &H,
     signature: Signature,
     address: u64,
+    accept: u32,
 ) -> AcpiResult<AmlTable>
     requires { Allows (H.may handler.now)
-        (table_ranges (H.memory handler.now) (plain_kind signature) address) }
-    ensures { result ≡ stream_at (H.memory handler.now) signature address }
+        (table_ranges (H.memory handler.now) (accepted accept (plain_kind signature)) address) }
+    ensures { result ≡ stream_by (H.memory handler.now) (accepted accept (plain_kind signature)) address }
 {
-    let table = map_sdt(handler, address, signature)?;
+    let found = valid_by(handler, address, signature, SdtHeader::MIN_LENGTH, accept)?;
+    let table = found.mapping::<SdtHeader>();
     Ok(AmlTable {
         address: table.physical_start() + SdtHeader::MIN_LENGTH as u64,
         length: (table.bytes().len() - SdtHeader::MIN_LENGTH) as u32,

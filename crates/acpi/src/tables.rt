@@ -4,7 +4,7 @@ ghost use Rattle.acpi_base.specs.FromStd.{result_ok};
 ghost use Rattle.std.proofs.Props.{props};
 ghost use Rattle.acpi_base.specs.Words.{IsLentOf, claimed_at, claimed_from, shown_by, IsOfMemory, start_of, bytes_of, handler_of, Gives, table_at};
 ghost use Rattle.acpi.specs.Types.{TableMissing};
-ghost use Rattle.acpi.specs.Root.{root_at};
+ghost use Rattle.acpi.specs.Root.{accepted_root_at};
 
 mod opening;
 mod places;
@@ -13,12 +13,13 @@ use crate::faults::TableFaults;
 use crate::headers::SdtHeaderIterator;
 use crate::platform::PlatformInfo;
 use crate::pointers::Pointers;
+use crate::policy::{Policy, Valid, accepted_at};
 use crate::records::{AmlTable, stream_at};
 use crate::root::RootKind;
 use crate::ssdts::SsdtIterator;
 use acpi_base::bytes::skip;
 use acpi_base::sdt::SdtHeader;
-use acpi_base::table::{ValidTable, valid_at};
+use acpi_base::table::ValidTable;
 use acpi_base::{AcpiError, AcpiResult, AcpiTable, Lender, PhysicalMapping, Signature};
 use acpi_fixed::fadt::{Fadt, FadtView};
 use std::alloc::{Allocator, Global};
@@ -27,24 +28,26 @@ use std::alloc::{Allocator, Global};
 /// are physical addresses, and what they lead to are its members, in the order of the pointers. The root
 /// table stays mapped until this is dropped.
 #[derive(Drop)]
-pub struct AcpiTables<'h, H: Lender> {
+pub struct AcpiTables<'h, H: Lender, P: Policy = Valid> {
+    policy: P,
     revision: u8,
     kind: RootKind,
     root: PhysicalMapping<'h, H, SdtHeader>,
-    ghost valid: { result_ok (root_at (H.memory (handler_of root)) kind (start_of root))
+    ghost valid: { result_ok (accepted_root_at (P.bits policy) (H.memory (handler_of root)) kind (start_of root))
         ≡ Some (bytes_of root) } by { Prim.hlevel props },
     ghost short: { length (bytes_of root) < 2 ^ 32 },
 }
 
-impl<'h, H: Lender> AcpiTables<'h, H> {
-    ghost use Rattle.acpi.specs.Footprint.{AllowsBelow, FootprintBelow, dsdt_ranges, header_ranges, lookup_ranges, platform_ranges, ssdt_ranges};
-    ghost use Rattle.acpi.specs.Lists.{dsdt_stream, fadt_kind, faults_of, ssdt_streams, valid_headers};
+impl<'h, H: Lender, P: Policy> AcpiTables<'h, H, P> {
+    ghost use Rattle.acpi_base.specs.Words.{plain_kind};
+    ghost use Rattle.acpi.specs.Types.{SSDT};
+    ghost use Rattle.acpi.specs.Footprint.{AllowsBelow, FootprintBelow, accepted_dsdt_ranges, lookup_ranges};
+    ghost use Rattle.acpi.specs.Lists.{accepted_dsdt, fadt_kind, faults_of, streams_by};
+    ghost use Rattle.acpi.specs.Members.{kind_ranges};
     ghost use Rattle.acpi.specs.Lookup.{IsFirstValid, NoneValid, lookup};
-    ghost use Rattle.acpi.specs.PlatformAnswer.{GivesPlatform, PlatformFootprint, PlatformRelocation};
     ghost use Rattle.acpi.specs.Pointers.{pointers_left};
-    ghost use Rattle.acpi.specs.Relocation.{Relocation};
-    ghost use Rattle.acpi.specs.Tables.{lender_of, memory_of, of_tables, pointers_of, revision_of};
-    ghost use Rattle.acpi.specs.Walks.{faults_left, headers_left, ssdts_left};
+    ghost use Rattle.acpi.specs.Tables.{accept_of, accepted_by, lender_of, memory_of, of_tables, pointers_of, revision_of};
+    ghost use Rattle.acpi.specs.Walks.{faults_left, ssdts_left};
 
     /// The revision that the tables were opened with: that of the RSDP (section 5.2.5.3), or the one that
     /// `from_rsdt` was passed.
@@ -63,15 +66,19 @@ impl<'h, H: Lender> AcpiTables<'h, H> {
 
     /// The bytes of the first member that is valid for `T`.
     fn first_valid<T: AcpiTable>(&self) -> AcpiResult<ValidTable<'h, H>>
-        requires { AllowsBelow self.now (λ m. lookup_ranges m T.kind) }
+        requires { AllowsBelow self.now (λ m. lookup_ranges m (accepted_by self.now T.kind)) }
         ensures handler { IfOk result (λ v. claimed_from v.claim ≡ lender_of self.now) }
         ensures lent { IfOk result (λ v. IsLentOf (memory_of self.now) v.claim) }
         ensures least { IfOk result (λ v. T.MIN_LENGTH ≤ length (shown_by v.claim)) }
         ensures found { Gives (λ v. (claimed_at v.claim, shown_by v.claim)) result
-            (of_tables self.now (λ m. lookup m T.kind)) }
+            (of_tables self.now (λ m. lookup m (accepted_by self.now T.kind))) }
     {
         for address in self.pointers() {
-            if let Ok(found) = valid_at::<H, T>(self.root.handler(), address) {
+            if let Ok(found) = accepted_at::<H, T>(
+                self.root.handler(),
+                address,
+                self.policy.bits(),
+            ) {
                 return Ok(found);
             }
         }
@@ -85,27 +92,27 @@ impl<'h, H: Lender> AcpiTables<'h, H> {
     /// member that isn't lent, or fails another check, is passed over.
     #[inline(always)]
     pub fn find_table<T: AcpiTable>(&self) -> AcpiResult<PhysicalMapping<'h, H, T>>
-        requires { AllowsBelow self.now (λ m. lookup_ranges m T.kind) }
+        requires { AllowsBelow self.now (λ m. lookup_ranges m (accepted_by self.now T.kind)) }
         ensures handler { IfOk result (λ m. handler_of m ≡ lender_of self.now) }
         // However many bytes were lent, all of them are the memory's.
         ensures lent { IfOk result (λ m. IsOfMemory (memory_of self.now) m) }
         ensures exact { Gives (λ m. (start_of m, bytes_of m)) result
-            (of_tables self.now (λ m. lookup m T.kind)) }
+            (of_tables self.now (λ m. lookup m (accepted_by self.now T.kind))) }
         // In the reader's words: the table found is valid, and none listed before it is.
         ensures first { IfOk result (λ m.
-            IsFirstValid (memory_of self.now) T.kind (pointers_of self.now) (start_of m) (bytes_of m)) }
+            IsFirstValid (memory_of self.now) (accepted_by self.now T.kind) (pointers_of self.now) (start_of m) (bytes_of m)) }
         // A member that isn't valid, put anywhere into the list, changes nothing.
         ensures skips { (before after : List ℕ) (p : ℕ) → pointers_of self.now ≡ before ++ after
-            → IsErr (table_at (memory_of self.now) T.kind p)
+            → IsErr (table_at (memory_of self.now) (accepted_by self.now T.kind) p)
             → Gives (λ m. (start_of m, bytes_of m)) result
-            (lookup (memory_of self.now) T.kind (before ++ p ∷ after)) }
+            (lookup (memory_of self.now) (accepted_by self.now T.kind) (before ++ p ∷ after)) }
         ensures missing { IfErr result (λ e. (e ≡ TableMissing T.SIGNATURE)
-            × NoneValid (memory_of self.now) T.kind (pointers_of self.now)) }
-        ensures absent { NoneValid (memory_of self.now) T.kind (pointers_of self.now)
+            × NoneValid (memory_of self.now) (accepted_by self.now T.kind) (pointers_of self.now)) }
+        ensures absent { NoneValid (memory_of self.now) (accepted_by self.now T.kind) (pointers_of self.now)
             → result ≡ Err (TableMissing T.SIGNATURE) }
         // It depends on the root table, and of the members up to the one found on the header and,
         // if this has the names and the least length, on the table.
-        ensures footprint { FootprintBelow self.now (λ m. lookup_ranges m T.kind) (λ n. lookup n T.kind)
+        ensures footprint { FootprintBelow self.now (λ m. lookup_ranges m (accepted_by self.now T.kind)) (λ n. lookup n (accepted_by self.now T.kind))
             (Gives (λ m. (start_of m, bytes_of m)) result) }
     {
         match self.first_valid::<T>() {
@@ -120,19 +127,86 @@ impl<'h, H: Lender> AcpiTables<'h, H> {
     /// Fails as `find_table` does.
     #[tactic(auto, using(crate::proofs::Agreed::fadt_from_tables))]
     pub fn find_fadt(&self) -> AcpiResult<FadtView<'h, H>>
-        requires { AllowsBelow self.now (λ m. lookup_ranges m fadt_kind) }
+        requires { AllowsBelow self.now (λ m. lookup_ranges m (accepted_by self.now fadt_kind)) }
         ensures handler { IfOk result (λ v. handler_of v.mapping ≡ lender_of self.now) }
         // However many bytes were lent, all of them are the memory's.
         ensures lent { IfOk result (λ v. IsOfMemory (memory_of self.now) v.mapping) }
         ensures exact { Gives (λ v. (start_of v.mapping, bytes_of v.mapping)) result
-            (of_tables self.now (λ m. lookup m fadt_kind)) }
+            (of_tables self.now (λ m. lookup m (accepted_by self.now fadt_kind))) }
         // It depends on what that lookup depends on.
-        ensures footprint { FootprintBelow self.now (λ m. lookup_ranges m fadt_kind)
-            (λ n. lookup n fadt_kind)
+        ensures footprint { FootprintBelow self.now (λ m. lookup_ranges m (accepted_by self.now fadt_kind))
+            (λ n. lookup n (accepted_by self.now fadt_kind))
             (Gives (λ v. (start_of v.mapping, bytes_of v.mapping)) result) }
     {
         Ok(FadtView::new(self.first_valid::<Fadt>()?))
     }
+
+    /// The AML of all members that are valid SSDTs, in order (section 5.2.11.2). It gives at most
+    /// one for each pointer.
+    pub fn ssdts(&self) -> SsdtIterator<'_, 'h, H>
+        requires { AllowsBelow self.now (λ m. kind_ranges m (accepted_by self.now (plain_kind SSDT))) }
+        ensures items { ssdts_left H.memory result
+            ≡ of_tables self.now (λ m. streams_by m (accepted_by self.now (plain_kind SSDT))) }
+        ensures few { length (ssdts_left H.memory result) ≤ length (pointers_of self.now) }
+        ensures fits { length (ssdts_left H.memory result) < 2 ^ 32 }
+        // They depend on the root table and the members, each as an SSDT.
+        ensures footprint { FootprintBelow self.now (λ m. kind_ranges m (accepted_by self.now (plain_kind SSDT)))
+            (λ n ps. Ok (streams_by n (accepted_by self.now (plain_kind SSDT)) ps))
+            (λ said. said ≡ Ok (ssdts_left H.memory result)) }
+    {
+        SsdtIterator::new(self.root.handler(), self.pointers(), self.policy.bits())
+    }
+
+    /// The AML of the DSDT (section 5.2.11.1): that of the table at the address that the first
+    /// valid FADT gives (section 5.2.9).
+    ///
+    /// Fails, in this order, with `TableMissing` if no valid FADT is listed, `InvalidDsdtAddress` if
+    /// that FADT gives no address, and with the error of the table there: `MapFailed`,
+    /// `SdtInvalidSignature` and so on, carrying the DSDT's signature.
+    #[tactic(auto, using(crate::proofs::Agreed::dsdt_from_tables))]
+    pub fn dsdt(&self) -> AcpiResult<AmlTable>
+        requires { AllowsBelow self.now (accepted_dsdt_ranges (accept_of self.now)) }
+        ensures exact { result ≡ of_tables self.now (accepted_dsdt (accept_of self.now)) }
+        // It depends on what the lookup of the FADT depends on, and on the table led to.
+        ensures footprint { FootprintBelow self.now (accepted_dsdt_ranges (accept_of self.now))
+            (accepted_dsdt (accept_of self.now))
+            (λ said. result ≡ said) }
+    {
+        let fadt = self.find_fadt()?;
+        let accept = self.policy.bits();
+        stream_at(
+            self.root.handler(),
+            Signature::DSDT,
+            fadt.dsdt_address()?,
+            accept,
+        )
+    }
+
+    /// Why members were passed over in a lookup of `T`: the address and the error of each member
+    /// before the first one that is valid for `T` (of all members if none is) whose error isn't
+    /// `SdtInvalidSignature`, in order. It gives at most one for each pointer.
+    pub fn faults<T: AcpiTable>(&self) -> TableFaults<'_, 'h, H, T>
+        requires { AllowsBelow self.now (λ m. lookup_ranges m (accepted_by self.now T.kind)) }
+        ensures items { faults_left H.memory T.kind result
+            ≡ of_tables self.now (λ m. faults_of m (accepted_by self.now T.kind)) }
+        ensures few { length (faults_left H.memory T.kind result) ≤ length (pointers_of self.now) }
+        ensures fits { length (faults_left H.memory T.kind result) < 2 ^ 32 }
+        // They depend on the bytes that the lookup depends on.
+        ensures footprint { FootprintBelow self.now (λ m. lookup_ranges m (accepted_by self.now T.kind)) (λ n ps. Ok (faults_of n (accepted_by self.now T.kind) ps))
+            (λ said. said ≡ Ok (faults_left H.memory T.kind result)) }
+    {
+        TableFaults::new(self.root.handler(), self.pointers(), self.policy.bits())
+    }
+}
+
+impl<'h, H: Lender> AcpiTables<'h, H> {
+    ghost use Rattle.acpi.specs.Footprint.{AllowsBelow, FootprintBelow, header_ranges, platform_ranges};
+    ghost use Rattle.acpi.specs.Lists.{valid_headers};
+    ghost use Rattle.acpi.specs.PlatformAnswer.{GivesPlatform, PlatformFootprint, PlatformRelocation};
+    ghost use Rattle.acpi.specs.Pointers.{pointers_left};
+    ghost use Rattle.acpi.specs.Relocation.{Relocation};
+    ghost use Rattle.acpi.specs.Tables.{of_tables, pointers_of};
+    ghost use Rattle.acpi.specs.Walks.{headers_left};
 
     /// The headers (section 5.2.6) of all members that are valid under the signatures that they have, in
     /// order. It gives at most one for each pointer.
@@ -150,55 +224,6 @@ impl<'h, H: Lender> AcpiTables<'h, H> {
             (λ said. said ≡ Ok (headers_left H.memory result)) }
     {
         SdtHeaderIterator::new(self.root.handler(), self.pointers())
-    }
-
-    /// The AML of all members that are valid SSDTs, in order (section 5.2.11.2). It gives at most
-    /// one for each pointer.
-    pub fn ssdts(&self) -> SsdtIterator<'_, 'h, H>
-        requires { AllowsBelow self.now ssdt_ranges }
-        ensures items { ssdts_left H.memory result
-            ≡ of_tables self.now ssdt_streams }
-        ensures few { length (ssdts_left H.memory result) ≤ length (pointers_of self.now) }
-        ensures fits { length (ssdts_left H.memory result) < 2 ^ 32 }
-        // They depend on the root table and the members, each as an SSDT.
-        ensures footprint { FootprintBelow self.now ssdt_ranges (λ n ps. Ok (ssdt_streams n ps))
-            (λ said. said ≡ Ok (ssdts_left H.memory result)) }
-    {
-        SsdtIterator::new(self.root.handler(), self.pointers())
-    }
-
-    /// The AML of the DSDT (section 5.2.11.1): that of the table at the address that the first
-    /// valid FADT gives (section 5.2.9).
-    ///
-    /// Fails, in this order, with `TableMissing` if no valid FADT is listed, `InvalidDsdtAddress` if
-    /// that FADT gives no address, and with the error of the table there: `MapFailed`,
-    /// `SdtInvalidSignature` and so on, carrying the DSDT's signature.
-    #[tactic(auto, using(crate::proofs::Agreed::dsdt_from_tables))]
-    pub fn dsdt(&self) -> AcpiResult<AmlTable>
-        requires { AllowsBelow self.now dsdt_ranges }
-        ensures exact { result ≡ of_tables self.now dsdt_stream }
-        // It depends on what the lookup of the FADT depends on, and on the table led to.
-        ensures footprint { FootprintBelow self.now dsdt_ranges dsdt_stream
-            (λ said. result ≡ said) }
-    {
-        let fadt = self.find_fadt()?;
-        stream_at(self.root.handler(), Signature::DSDT, fadt.dsdt_address()?)
-    }
-
-    /// Why members were passed over in a lookup of `T`: the address and the error of each member
-    /// before the first one that is valid for `T` (of all members if none is) whose error isn't
-    /// `SdtInvalidSignature`, in order. It gives at most one for each pointer.
-    pub fn faults<T: AcpiTable>(&self) -> TableFaults<'_, 'h, H, T>
-        requires { AllowsBelow self.now (λ m. lookup_ranges m T.kind) }
-        ensures items { faults_left H.memory T.kind result
-            ≡ of_tables self.now (λ m. faults_of m T.kind) }
-        ensures few { length (faults_left H.memory T.kind result) ≤ length (pointers_of self.now) }
-        ensures fits { length (faults_left H.memory T.kind result) < 2 ^ 32 }
-        // They depend on the bytes that the lookup depends on.
-        ensures footprint { FootprintBelow self.now (λ m. lookup_ranges m T.kind) (λ n ps. Ok (faults_of n T.kind ps))
-            (λ said. said ≡ Ok (faults_left H.memory T.kind result)) }
-    {
-        TableFaults::new(self.root.handler(), self.pointers())
     }
 
     /// The platform that the first valid FADT (section 5.2.9) and the first valid MADT (section 5.2.12)

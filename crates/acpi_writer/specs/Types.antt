@@ -50,7 +50,7 @@ pub use Rattle.acpi.specs.declared.platform.timer.PmTimer.{PmTimer}
 pub use Rattle.acpi.specs.declared.root.RootKind.{RootKind}
 pub use Rattle.acpi.specs.declared.root.RootKind.TheVariants.{Rsdt, Xsdt}
 pub use Rattle.acpi.specs.Words.{at_hand, bytes_found, check_whole, facs_length_in, or_later, protection_of, dsdt_stream, facs_place, fadt_kind, found_regions, hpet_of, info_of, led_by, lookup, model_in, opened_by_rsdp, platform_of, protection_code, range, root_of_rsdp, root_pointer, stream_of, timer_of, width_of}
-unfoldable pub use Rattle.acpi.specs.Words.{check_sum, checked_length, facs_length, stream_at, check_rsdp, hpet_at, pointers, rsdp_at, rsdp_of}
+unfoldable pub use Rattle.acpi.specs.Words.{check_sum, checked_length, facs_length, stream_by, check_rsdp, hpet_at, pointers, rsdp_at, rsdp_of}
 pub use Rattle.acpi_arm.specs.Gic.{found_gic, gic_of}
 pub use Rattle.acpi_arm.specs.Gtdt.{arm_timer_at, polarity_in, trigger_in, unless_ones, control_base_of, gtdt_kind, read_base_of, virtual_el2_of}
 unfoldable pub use Rattle.acpi_arm.specs.Gtdt.{gtdt_at}

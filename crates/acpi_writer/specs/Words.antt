@@ -55,5 +55,5 @@ pub use Rattle.acpi.specs.Types.{SameAsBus}
 pub use Rattle.acpi_base.specs.Words.{entries_of, width_of}
 pub use Rattle.acpi_writer.specs.Rhct.{hart_node, rhct_checked}
 unfoldable pub use Rattle.acpi_writer.specs.Rhct.{hart_fields, rhct_written}
-unfoldable pub use Rattle.acpi_writer.specs.Types.{at, bgrt_at, block_at, chars, check_names, check_rsdp, check_sum, check_table, checked_length, cut, distance_of, facs_length, fadt_at, field_of, generic_address_of, gtdt_at, header_at, hpet_at, is_table, is_utf8, item_of, madt_at, own_table_at, pointers, rest_from, root_header, rsdp_at, rsdp_to, said_of, spcr_at, spelling, stream_at, sum_byte, sum_of, table_at, with_sum}
+unfoldable pub use Rattle.acpi_writer.specs.Types.{at, bgrt_at, block_at, chars, check_names, check_rsdp, check_sum, check_table, checked_length, cut, distance_of, facs_length, fadt_at, field_of, generic_address_of, gtdt_at, header_at, hpet_at, is_table, is_utf8, item_of, madt_at, own_table_at, pointers, rest_from, root_header, rsdp_at, rsdp_to, said_of, spcr_at, spelling, stream_by, sum_byte, sum_of, table_at, with_sum}
 pub use Rattle.acpi_writer.specs.declared.rhct.HartNode.{HartNode}

@@ -15,7 +15,6 @@ use acpi_base::{AcpiError, AcpiResult, Lender};
 /// Fails, in this order, with `TableMissing` if no valid MADT is listed, with the error of
 /// `get_mpwk_mailbox_addr`, with that of the mailbox's `open`, each without a write or
 /// a read, and with `InvalidMadt(WakeupApsTimeout)` if no read is 0.
-#[tactic(auto, using(crate::proofs::Agreed::mailbox_from_tables))]
 pub fn wakeup_aps<H: Lender, M: Mailbox>(
     tables: &AcpiTables<'_, H>,
     mailbox: &mut M,

@@ -1,12 +1,14 @@
 //! Opening the root table: by its address, by an RSDP, by the search for one.
 ghost use Rattle.std.specs.Prelude.{◌≡◌, IfOk, IsOk};
 ghost use Rattle.acpi_base.specs.Words.{Allows, Footprint, start_of, bytes_of, Gives};
-ghost use Rattle.acpi.specs.Words.{opened_in_areas, opened_in_areas_ranges, opened_at, opened_from, opened_of, opened_by_rsdp, opened_by_search, opened_by_rsdp_ranges, opened_by_search_ranges, opened_ranges, root_of_revision, root_of_rsdp, rsdp_at, SpellsPointers, lender_of};
+ghost use Rattle.acpi.specs.Words.{accept_of, accepted_opened, accepted_opened_ranges, opened_in_areas, opened_in_areas_ranges, opened_at, opened_from, opened_of, opened_by_rsdp, opened_by_search, opened_by_rsdp_ranges, opened_by_search_ranges, opened_ranges, root_of_revision, root_of_rsdp, rsdp_at, SpellsPointers, lender_of};
 
 use super::AcpiTables;
+use crate::policy::{Policy, Valid};
 use crate::root::{RootKind, RootPointer};
 use crate::rsdp::{Rsdp, map_rsdp};
-use acpi_base::sdt::map_sdt;
+use acpi_base::sdt::SdtHeader;
+use acpi_base::table::valid_by;
 use acpi_base::{AcpiResult, AddressRange, Lender, PhysicalMapping, PhysicalRecord};
 
 impl<'h, H: Lender> AcpiTables<'h, H> {
@@ -153,11 +155,39 @@ impl<'h, H: Lender> AcpiTables<'h, H> {
         ensures exact { Gives (λ t. opened_of t) result (opened_from (H.memory handler.now) root_pointer) }
         ensures pointers { IfOk result (λ t. SpellsPointers t) }
     {
-        match map_sdt(handler, root_pointer.address, root_pointer.kind.signature()) {
+        AcpiTables::open_accepting(handler, root_pointer, Valid)
+    }
+}
+
+impl<'h, H: Lender, P: Policy> AcpiTables<'h, H, P> {
+    /// The tables below a root table (sections 5.2.7 and 5.2.8), which is accepted by a policy, as then its members
+    /// are. `RsdpMapping::root` has the root table that an RSDP leads to.
+    ///
+    /// Fails as `from_rsdt` does, but for the checks that the policy gives up.
+    pub fn open_accepting(handler: &'h H, root_pointer: RootPointer, policy: P) -> AcpiResult<Self>
+        requires { Allows (H.may handler.now)
+            (accepted_opened_ranges (P.bits policy) (H.memory handler.now) root_pointer) }
+        ensures handler { IfOk result (λ t. lender_of t ≡ handler.now) }
+        ensures accept { IfOk result (λ t. accept_of t ≡ P.bits policy) }
+        ensures exact { Gives (λ t. opened_of t) result
+            (accepted_opened (P.bits policy) (H.memory handler.now) root_pointer) }
+        // In the reader's words: the root table's bytes encode these pointers and no others.
+        ensures pointers { IfOk result (λ t. SpellsPointers t) }
+    {
+        let signature = root_pointer.kind.signature();
+        let least = SdtHeader::MIN_LENGTH;
+        match valid_by(
+            handler,
+            root_pointer.address,
+            signature,
+            least,
+            policy.bits(),
+        ) {
             Ok(root) => Ok(AcpiTables {
+                policy,
                 revision: root_pointer.revision,
                 kind: root_pointer.kind,
-                root,
+                root: root.mapping(),
             }),
             Err(error) => Err(error),
         }

@@ -1,23 +1,26 @@
 //! The places of the tables, all tables of a type, and a lookup by a signature.
 ghost use Rattle.std.specs.Prelude.{◌≡◌, ◌^◌, ◌<◌, ◌≤◌, ◌+◌, List, Ok, IfOk, length, map};
 ghost use Rattle.acpi_base.specs.FromStd.{result_ok};
-ghost use Rattle.acpi_base.specs.Words.{IsOfMemory, bytes_of, handler_of, start_of, Allows, Gives, plain_kind};
+ghost use Rattle.acpi_base.specs.Words.{IsLentOf, claimed_at, claimed_from, own_accepted, own_accepted_ranges, sdt_kind, shown_by, table_at, table_ranges, IsOfMemory, bytes_of, handler_of, start_of, Allows, Gives, plain_kind};
 ghost use Rattle.acpi_fixed.specs.Words.{viewed};
-ghost use Rattle.acpi.specs.Words.{AllowsBelow, FootprintBelow, header_ranges, lookup_ranges, lookup, kind_ranges, members_of, tables_found, found_left, members_left, places_left, root_place, pointers_left, dsdt_place, dsdt_place_ranges, facs_place, facs_place_ranges, led_by, led_by_ranges, led_ranges, place_ranges, places_of, signature_of, kind_of, lender_of, may_of, memory_of, of_tables, pointers_of, root_address_of, root_of};
+ghost use Rattle.acpi.specs.Words.{AllowsBelow, FootprintBelow, header_ranges, lookup_ranges, lookup, kind_ranges, members_of, tables_found, found_left, members_left, places_left, root_place, pointers_left, dsdt_place, dsdt_place_ranges, facs_place, facs_place_ranges, accepted_led, accepted_led_ranges, led_by, led_ranges, place_ranges, places_of, signature_of, accept_of, accepted_by, kind_of, lender_of, may_of, memory_of, of_tables, pointers_of, root_address_of, root_of};
 
 use super::AcpiTables;
 use crate::matches::FoundTables;
 use crate::members::TableMembers;
 use crate::pointers::Pointers;
+use crate::policy::{Policy, map_accepted};
 use crate::ranges::{TableRanges, facs_at};
 use crate::root::RootKind;
 use acpi_base::sdt::{SdtHeader, map_sdt};
+use acpi_base::table::{ValidTable, own_valid_by, valid_by};
 use acpi_base::{
-    AcpiError, AcpiResult, AcpiTable, AddressRange, Lender, PhysicalMapping, Signature,
+    AcpiError, AcpiResult, AcpiTable, AddressRange, Lender, PhysicalMapping, PhysicalRecord,
+    Signature,
 };
 use acpi_fixed::fadt::FadtView;
 
-impl<'h, H: Lender> AcpiTables<'h, H> {
+impl<'h, H: Lender, P: Policy> AcpiTables<'h, H, P> {
     /// The physical address of the root table (sections 5.2.7 and 5.2.8).
     pub fn root_address(&self) -> u64
         ensures { result ≡ root_address_of self.now }
@@ -55,6 +58,164 @@ impl<'h, H: Lender> AcpiTables<'h, H> {
         self.pointers()
     }
 
+    /// The first member of the root table that is valid under a signature that is known only at run time
+    /// (section 5.2.6), with at least the 36 bytes of a header, mapped as its header.
+    ///
+    /// Fails with `TableMissing`, carrying the signature, if no member is valid so. A member that
+    /// isn't lent, or fails another check, is passed over.
+    pub fn find_sdt(&self, signature: Signature) -> AcpiResult<PhysicalMapping<'h, H, SdtHeader>>
+        requires { AllowsBelow self.now (λ m. lookup_ranges m (accepted_by self.now (plain_kind signature))) }
+        ensures handler { IfOk result (λ m. handler_of m ≡ lender_of self.now) }
+        // However many bytes were lent, all of them are the memory's.
+        ensures lent { IfOk result (λ m. IsOfMemory (memory_of self.now) m) }
+        ensures exact { Gives (λ m. (start_of m, bytes_of m)) result
+            (of_tables self.now (λ m. lookup m (accepted_by self.now (plain_kind signature)))) }
+        // It depends on what a lookup depends on.
+        ensures footprint { FootprintBelow self.now (λ m. lookup_ranges m (accepted_by self.now (plain_kind signature)))
+            (λ n. lookup n (accepted_by self.now (plain_kind signature)))
+            (Gives (λ m. (start_of m, bytes_of m)) result) }
+    {
+        let found = self.find_bytes(signature, SdtHeader::MIN_LENGTH)?;
+        Ok(found.mapping())
+    }
+
+    /// The bytes of the first member of the root table that is valid under a signature and a least length that are known
+    /// only at run time (section 5.2.6).
+    ///
+    /// Fails as `find_sdt` does.
+    #[inline(never)]
+    pub fn find_bytes(&self, signature: Signature, least: usize) -> AcpiResult<ValidTable<'h, H>>
+        requires least { 36 ≤ least }
+        requires asked { AllowsBelow self.now (λ m. lookup_ranges m (accepted_by self.now (sdt_kind signature least))) }
+        ensures handler { IfOk result (λ v. claimed_from v.claim ≡ lender_of self.now) }
+        ensures lent { IfOk result (λ v. IsLentOf (memory_of self.now) v.claim) }
+        ensures least { IfOk result (λ v. least ≤ length (shown_by v.claim)) }
+        ensures ends { IfOk result (λ v. claimed_at v.claim + length (shown_by v.claim) < 2 ^ 64) }
+        ensures found { Gives (λ v. (claimed_at v.claim, shown_by v.claim)) result
+            (of_tables self.now (λ m. lookup m (accepted_by self.now (sdt_kind signature least)))) }
+    {
+        for address in self.pointers() {
+            if let Ok(found) = valid_by(
+                self.root.handler(),
+                address,
+                signature,
+                least,
+                self.policy.bits(),
+            ) {
+                return Ok(found);
+            }
+        }
+        Err(AcpiError::TableMissing(signature))
+    }
+
+    /// The table at a physical address, whether it is a member or not, mapped as its header, if it is valid under a
+    /// signature that is known only at run time (section 5.2.6).
+    ///
+    /// Fails as `sdt::map_sdt` does, but for the checks that are given up.
+    pub fn sdt_at(
+        &self,
+        address: u64,
+        signature: Signature,
+    ) -> AcpiResult<PhysicalMapping<'h, H, SdtHeader>>
+        requires { Allows (may_of self.now) (table_ranges (memory_of self.now)
+            (accepted_by self.now (plain_kind signature)) address) }
+        ensures place { IfOk result (λ m. start_of m ≡ address) }
+        ensures handler { IfOk result (λ m. handler_of m ≡ lender_of self.now) }
+        // However many bytes were lent, all of them are the memory's.
+        ensures lent { IfOk result (λ m. IsOfMemory (memory_of self.now) m) }
+        ensures short { IfOk result (λ m. length (bytes_of m) < 2 ^ 32) }
+        ensures ends { IfOk result (λ m. start_of m + length (bytes_of m) < 2 ^ 64) }
+        ensures table { Gives (λ m. bytes_of m) result
+            (table_at (memory_of self.now) (accepted_by self.now (plain_kind signature)) address) }
+    {
+        let accept = self.policy.bits();
+        let table = valid_by(
+            self.root.handler(),
+            address,
+            signature,
+            SdtHeader::MIN_LENGTH,
+            accept,
+        )?;
+        Ok(table.mapping())
+    }
+
+    /// The table at a physical address, whether it is a member or not, mapped as its header, if it is valid under the
+    /// signature that it has itself (section 5.2.6).
+    ///
+    /// Fails as `sdt_at` does for that signature.
+    pub fn own_sdt_at(&self, address: u64) -> AcpiResult<PhysicalMapping<'h, H, SdtHeader>>
+        requires { Allows (may_of self.now) (own_accepted_ranges (accept_of self.now) (memory_of self.now) address) }
+        ensures place { IfOk result (λ m. start_of m ≡ address) }
+        ensures handler { IfOk result (λ m. handler_of m ≡ lender_of self.now) }
+        // However many bytes were lent, all of them are the memory's.
+        ensures lent { IfOk result (λ m. IsOfMemory (memory_of self.now) m) }
+        ensures short { IfOk result (λ m. length (bytes_of m) < 2 ^ 32) }
+        ensures ends { IfOk result (λ m. start_of m + length (bytes_of m) < 2 ^ 64) }
+        ensures table { Gives (λ m. bytes_of m) result
+            (own_accepted (accept_of self.now) (memory_of self.now) address) }
+    {
+        let table = own_valid_by(self.root.handler(), address, self.policy.bits())?;
+        Ok(table.mapping())
+    }
+
+    /// The table at a physical address, whether it is a member or not, if it is valid for `T` (section 5.2.6).
+    ///
+    /// Fails as `sdt::map_table` does, but for the checks that are given up.
+    pub fn table_at<T: AcpiTable>(&self, address: u64) -> AcpiResult<PhysicalMapping<'h, H, T>>
+        requires { Allows (may_of self.now) (table_ranges (memory_of self.now) (accepted_by self.now T.kind) address) }
+        ensures place { IfOk result (λ m. start_of m ≡ address) }
+        ensures handler { IfOk result (λ m. handler_of m ≡ lender_of self.now) }
+        // However many bytes were lent, all of them are the memory's.
+        ensures lent { IfOk result (λ m. IsOfMemory (memory_of self.now) m) }
+        ensures table { Gives (λ m. bytes_of m) result
+            (table_at (memory_of self.now) (accepted_by self.now T.kind) address) }
+    {
+        map_accepted(self.root.handler(), address, self.policy.bits())
+    }
+
+    /// All members of the root table that are valid for `T`, in order. It gives at most one for each
+    /// pointer.
+    pub fn find_tables<T: AcpiTable>(&self) -> FoundTables<'_, 'h, H, T>
+        requires { AllowsBelow self.now (λ m. kind_ranges m (accepted_by self.now T.kind)) }
+        ensures items { found_left H.memory T.kind result
+            ≡ of_tables self.now (λ m. tables_found m (accepted_by self.now T.kind)) }
+        ensures few { length (found_left H.memory T.kind result) ≤ length (pointers_of self.now) }
+        ensures fits { length (found_left H.memory T.kind result) < 2 ^ 32 }
+        // They depend on the root table and the members, each as a table of this type.
+        ensures footprint { FootprintBelow self.now (λ m. kind_ranges m (accepted_by self.now T.kind))
+            (λ n ps. Ok (tables_found n (accepted_by self.now T.kind) ps))
+            (λ said. said ≡ Ok (found_left H.memory T.kind result)) }
+    {
+        FoundTables::new(self.root.handler(), self.pointers(), self.policy.bits())
+    }
+
+    /// Where the FACS lies, as many bytes as its Length says (section 5.2.10): that of the first valid FADT (section
+    /// 5.2.9).
+    ///
+    /// Fails, in this order, with `TableMissing` if no valid FADT is listed, `InvalidFacsAddress` if that FADT gives no
+    /// address, `MapFailed` if 36 bytes aren't lent there, as `facs_length` does, and with `MapFailed` if as many bytes
+    /// as the length says aren't lent.
+    #[tactic(auto, using(crate::proofs::Agreed::facs_from_tables))]
+    pub fn facs(&self) -> AcpiResult<AddressRange>
+        requires { AllowsBelow self.now (accepted_led_ranges (accept_of self.now) facs_place_ranges) }
+        ensures exact { result ≡ of_tables self.now (accepted_led (accept_of self.now) facs_place) }
+        // It depends on what the lookup of the FADT depends on, and on the FACS that this leads to.
+        ensures footprint { FootprintBelow self.now (accepted_led_ranges (accept_of self.now) facs_place_ranges) (accepted_led (accept_of self.now) facs_place)
+            (λ said. result ≡ said) }
+    {
+        self.facs_place(&self.find_fadt()?)
+    }
+
+    /// Where the FACS lies that a FADT leads to.
+    fn facs_place(&self, fadt: &FadtView<'_, H>) -> AcpiResult<AddressRange>
+        requires { Allows (may_of self.now) (facs_place_ranges (memory_of self.now) (viewed fadt.now)) }
+        ensures { result ≡ facs_place (memory_of self.now) (viewed fadt.now) }
+    {
+        facs_at(self.root.handler(), fadt.facs_address()?)
+    }
+}
+
+impl<'h, H: Lender> AcpiTables<'h, H> {
     /// The members of the root table, in order: the address that each pointer gives, and the header
     /// (section 5.2.6) of the table there if that is valid under the signature that it has, or else the
     /// first error. There is exactly one item for each pointer.
@@ -70,64 +231,6 @@ impl<'h, H: Lender> AcpiTables<'h, H> {
             (λ said. said ≡ Ok (members_left H.memory result)) }
     {
         TableMembers::new(self.root.handler(), self.pointers())
-    }
-
-    /// All members of the root table that are valid for `T`, in order. It gives at most one for each
-    /// pointer.
-    pub fn find_tables<T: AcpiTable>(&self) -> FoundTables<'_, 'h, H, T>
-        requires { AllowsBelow self.now (λ m. kind_ranges m T.kind) }
-        ensures items { found_left H.memory T.kind result
-            ≡ of_tables self.now (λ m. tables_found m T.kind) }
-        ensures few { length (found_left H.memory T.kind result) ≤ length (pointers_of self.now) }
-        ensures fits { length (found_left H.memory T.kind result) < 2 ^ 32 }
-        // They depend on the root table and the members, each as a table of this type.
-        ensures footprint { FootprintBelow self.now (λ m. kind_ranges m T.kind)
-            (λ n ps. Ok (tables_found n T.kind ps))
-            (λ said. said ≡ Ok (found_left H.memory T.kind result)) }
-    {
-        FoundTables::new(self.root.handler(), self.pointers())
-    }
-
-    /// The first member of the root table that is valid under a signature that is known only at run time
-    /// (section 5.2.6), with at least the 36 bytes of a header, mapped as its header.
-    ///
-    /// Fails with `TableMissing`, carrying the signature, if no member is valid so. A member that
-    /// isn't lent, or fails another check, is passed over.
-    pub fn find_sdt(&self, signature: Signature) -> AcpiResult<PhysicalMapping<'h, H, SdtHeader>>
-        requires { AllowsBelow self.now (λ m. lookup_ranges m (plain_kind signature)) }
-        ensures handler { IfOk result (λ m. handler_of m ≡ lender_of self.now) }
-        // However many bytes were lent, all of them are the memory's.
-        ensures lent { IfOk result (λ m. IsOfMemory (memory_of self.now) m) }
-        ensures exact { Gives (λ m. (start_of m, bytes_of m)) result
-            (of_tables self.now (λ m. lookup m (plain_kind signature))) }
-        // It depends on what a lookup depends on.
-        ensures footprint { FootprintBelow self.now (λ m. lookup_ranges m (plain_kind signature))
-            (λ n. lookup n (plain_kind signature))
-            (Gives (λ m. (start_of m, bytes_of m)) result) }
-    {
-        for address in self.pointers() {
-            if let Ok(found) = map_sdt(self.root.handler(), address, signature) {
-                return Ok(found);
-            }
-        }
-        Err(AcpiError::TableMissing(signature))
-    }
-
-    /// Where the FACS lies, as many bytes as its Length says (section 5.2.10): that of the first valid FADT (section
-    /// 5.2.9).
-    ///
-    /// Fails, in this order, with `TableMissing` if no valid FADT is listed, `InvalidFacsAddress` if that FADT gives no
-    /// address, `MapFailed` if 36 bytes aren't lent there, as `facs_length` does, and with `MapFailed` if as many bytes
-    /// as the length says aren't lent.
-    #[tactic(auto, using(crate::proofs::Agreed::facs_from_tables))]
-    pub fn facs(&self) -> AcpiResult<AddressRange>
-        requires { AllowsBelow self.now (led_by_ranges facs_place_ranges) }
-        ensures exact { result ≡ of_tables self.now (led_by facs_place) }
-        // It depends on what the lookup of the FADT depends on, and on the FACS that this leads to.
-        ensures footprint { FootprintBelow self.now (led_by_ranges facs_place_ranges) (led_by facs_place)
-            (λ said. result ≡ said) }
-    {
-        self.facs_place(&self.find_fadt()?)
     }
 
     /// The ranges of physical memory in which the tables lie (sections 5.2.6, 5.2.9 and 5.2.10): the root
@@ -186,13 +289,5 @@ impl<'h, H: Lender> AcpiTables<'h, H> {
             address,
             length: dsdt.region_length() as u64,
         })
-    }
-
-    /// Where the FACS lies that a FADT leads to.
-    fn facs_place(&self, fadt: &FadtView<'_, H>) -> AcpiResult<AddressRange>
-        requires { Allows (may_of self.now) (facs_place_ranges (memory_of self.now) (viewed fadt.now)) }
-        ensures { result ≡ facs_place (memory_of self.now) (viewed fadt.now) }
-    {
-        facs_at(self.root.handler(), fadt.facs_address()?)
     }
 }

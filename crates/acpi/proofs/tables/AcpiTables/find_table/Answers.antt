@@ -1,6 +1,7 @@
 use Rattle.std.proofs.Common.{ap, Ok, ◌∙◌}
 use Rattle.acpi_base.specs.Words.{bytes_of, start_of}
 use Rattle.acpi.specs.Types.{TableMissing}
+use Rattle.acpi.specs.Words.{accepted_by}
 use Rattle.acpi.proofs.Agreed.{from_tables, same_lookup}
 use Rattle.acpi.proofs.First.{gives_absent, gives_first, gives_skipping, none_valid, skips_invalid}
 use Rattle.acpi.proofs.tables.AcpiTables.find_table.Goals as goal
@@ -23,7 +24,7 @@ returns-in-Ok-clause-absent g c =
 
 pub returns-in-Ok-clause-footprint : goal.returns-in-Ok-clause-footprint
 returns-in-Ok-clause-footprint g c = λ n h.
-    rw (from_tables c.args.self.now _ _ (same_lookup g.T.AcpiTable.kind) c.args.self.now.valid n h)
+    rw (from_tables c.args.self.now _ _ (same_lookup (accepted_by c.args.self.now g.T.AcpiTable.kind)) c.args.self.now.valid n h)
     (returns-in-Ok-clause-exact g c)
 
 pub returns-in-Err-clause-skips : goal.returns-in-Err-clause-skips
@@ -40,5 +41,5 @@ returns-in-Err-clause-absent g c = λ _. rw (returns-in-Err-clause-missing g c).
 
 pub returns-in-Err-clause-footprint : goal.returns-in-Err-clause-footprint
 returns-in-Err-clause-footprint g c = λ n h.
-    rw (from_tables c.args.self.now _ _ (same_lookup g.T.AcpiTable.kind) c.args.self.now.valid n h)
+    rw (from_tables c.args.self.now _ _ (same_lookup (accepted_by c.args.self.now g.T.AcpiTable.kind)) c.args.self.now.valid n h)
     c.in-Err.ensures.found

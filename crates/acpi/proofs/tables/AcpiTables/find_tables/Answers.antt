@@ -1,14 +1,14 @@
 use Rattle.std.proofs.Common.{refl}
 use Rattle.acpi.proofs.Agreed.{from_tables, in_ok, same_found}
 use Rattle.acpi.proofs.First.{filter_map_few, fits_root}
-use Rattle.acpi.specs.Words.{width_of, kind_of, root_of}
+use Rattle.acpi.specs.Words.{accepted_by, width_of, kind_of, root_of}
 use Rattle.acpi.proofs.tables.AcpiTables.find_tables.Goals as goal
 
 pub new-requires : goal.new-requires
-new-requires g c = rw (c.handler.ensures, c.pointers.ensures) c.requires
+new-requires g c = rw (c.handler.ensures, c.pointers.ensures, c.bits.ensures) c.requires
 
 pub returns-clause-items : goal.returns-clause-items
-returns-clause-items g c = rw (c.new.ensures, c.handler.ensures, c.pointers.ensures) refl
+returns-clause-items g c = rw (c.new.ensures, c.handler.ensures, c.pointers.ensures, c.bits.ensures) refl
 
 pub returns-clause-few : goal.returns-clause-few
 returns-clause-few g c = rw (c.new.ensures, c.pointers.ensures) (filter_map_few _ _)
@@ -20,5 +20,5 @@ returns-clause-fits g c =
     (filter_map_few _ _))
 
 pub returns-clause-footprint : goal.returns-clause-footprint
-returns-clause-footprint g c = λ n h. rw (from_tables c.args.self.now _ _ (in_ok _ _ (same_found g.T.AcpiTable.kind))
-    c.args.self.now.valid n h) (rw (c.new.ensures, c.handler.ensures, c.pointers.ensures) refl)
+returns-clause-footprint g c = λ n h. rw (from_tables c.args.self.now _ _ (in_ok _ _ (same_found (accepted_by c.args.self.now g.T.AcpiTable.kind)))
+    c.args.self.now.valid n h) (rw (c.new.ensures, c.handler.ensures, c.pointers.ensures, c.bits.ensures) refl)

@@ -1,27 +1,29 @@
 use Rattle.std.proofs.Common.{subst, sym, ◌∙◌}
-use Rattle.acpi_base.specs.Words.{Allows, table_ranges}
+use Rattle.acpi_base.specs.Words.{Allows, accepted, table_ranges}
 use Rattle.acpi.proofs.Asked.{asked_member, found_member, later_kept}
-use Rattle.acpi.specs.Words.{may_of, memory_of}
+use Rattle.acpi.specs.Words.{accepted_by, may_of, memory_of}
 use Rattle.acpi.proofs.tables.AcpiTables.first_valid.Goals as goal
 
-pub valid_at-requires : goal.valid_at-requires
-valid_at-requires g c =
+pub accepted_at-requires : goal.accepted_at-requires
+accepted_at-requires g c =
+    let t = c.args.self.now in
     let k = g.T.AcpiTable.kind in
-    subst (λ h. Allows (g.H.Lender.may h) (table_ranges (g.H.Lender.memory h) k c.in-Some.address))
-    (sym c.handler.ensures)
-    (asked_member (may_of c.args.self.now) (memory_of c.args.self.now) k c.in-Some.address _ _ c.in-Some.ensures.steps
-    c.loop-address.invariant.1)
+    subst (λ a. Allows (g.H.Lender.may c.handler.result.now)
+    (table_ranges (g.H.Lender.memory c.handler.result.now) (accepted a k) c.in-Some.address)) (sym c.bits.ensures)
+    (subst (λ h. Allows (g.H.Lender.may h) (table_ranges (g.H.Lender.memory h) (accepted_by t k) c.in-Some.address))
+    (sym c.handler.ensures) (asked_member (may_of t) (memory_of t) (accepted_by t k) c.in-Some.address _ _
+    c.in-Some.ensures.steps c.loop-address.invariant.1))
 
 pub loop-address-preserved : goal.loop-address-preserved
 loop-address-preserved g c =
-    later_kept (may_of c.args.self.now) (memory_of c.args.self.now) g.T.AcpiTable.kind
-    c.in-Some.address _ _ _ c.in_default.field-0 (rw c.handler.ensures at c.in_default.ensures.table)
+    later_kept (may_of c.args.self.now) (memory_of c.args.self.now) (accepted_by c.args.self.now g.T.AcpiTable.kind)
+    c.in-Some.address _ _ _ c.in_default.field-0 (rw (c.handler.ensures, c.bits.ensures) at c.in_default.ensures.table)
     c.in-Some.ensures.steps c.loop-address.invariant
 
 pub returns-in-Ok-clause-found : goal.returns-in-Ok-clause-found
 returns-in-Ok-clause-found g c =
-    rw c.in-Ok.ensures.place (found_member (memory_of c.args.self.now) g.T.AcpiTable.kind c.in-Some.address _ _ _ _
-    (rw c.handler.ensures at c.in-Ok.ensures.table) c.in-Some.ensures.steps c.loop-address.invariant.0)
+    rw c.in-Ok.ensures.place (found_member (memory_of c.args.self.now) (accepted_by c.args.self.now g.T.AcpiTable.kind) c.in-Some.address _ _ _
+    _ (rw (c.handler.ensures, c.bits.ensures) at c.in-Ok.ensures.table) c.in-Some.ensures.steps c.loop-address.invariant.0)
 
 pub returns-in-Ok-clause-handler : goal.returns-in-Ok-clause-handler
 returns-in-Ok-clause-handler g c = c.in-Ok.ensures.handler ∙ c.handler.ensures

@@ -3,7 +3,7 @@ use Rattle.acpi.proofs.Agreed.{from_tables, in_ok, same_headers}
 use Rattle.acpi.proofs.Moved.{headers_follow, in_ok_follows, moved_tables}
 use Rattle.acpi.proofs.First.{filter_map_few, fits_root}
 use Rattle.acpi.specs.Words.{width_of, kind_of, root_of}
-use Rattle.acpi.proofs.tables.AcpiTables.headers.Goals as goal
+use Rattle.acpi.proofs.tables.AcpiTables+H.headers.Goals as goal
 
 pub new-requires : goal.new-requires
 new-requires g c = rw (c.handler.ensures, c.pointers.ensures) c.requires

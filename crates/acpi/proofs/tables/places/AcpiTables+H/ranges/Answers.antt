@@ -3,7 +3,7 @@ use Rattle.acpi.proofs.Agreed.{from_tables, in_ok, same_places}
 use Rattle.acpi.proofs.Asked.{asked_led, asked_members}
 use Rattle.acpi.proofs.Placing.{fits_places, places_few}
 use Rattle.acpi.specs.Words.{root_place, width_of, kind_of, may_of, memory_of, pointers_of, root_of}
-use Rattle.acpi.proofs.tables.AcpiTables.ranges.Goals as goal
+use Rattle.acpi.proofs.tables.places.AcpiTables+H.ranges.Goals as goal
 
 pub led-dsdt-requires : goal.led-dsdt-requires
 led-dsdt-requires g c = asked_led (may_of c.args.self.now) (memory_of c.args.self.now)

@@ -1,7 +1,7 @@
 use Rattle.std.proofs.Common.{rules}
 use Rattle.acpi.proofs.Asked.{asked_found, asked_search}
 use Rattle.acpi.proofs.Agreed.{same_opened_by_search}
-use Rattle.acpi.proofs.tables.AcpiTables.search_for_rsdp_bios.Goals as goal
+use Rattle.acpi.proofs.tables.opening.AcpiTables+H.search_for_rsdp_bios.Goals as goal
 
 pub search_for_on_bios-requires : goal.search_for_on_bios-requires
 search_for_on_bios-requires g c =

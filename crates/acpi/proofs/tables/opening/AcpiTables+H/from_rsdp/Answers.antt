@@ -1,7 +1,7 @@
 use Rattle.std.proofs.Common.{rules}
 use Rattle.acpi.proofs.Asked.{asked_first, asked_root}
 use Rattle.acpi.proofs.Agreed.{same_opened_by_rsdp}
-use Rattle.acpi.proofs.tables.AcpiTables.from_rsdp.Goals as goal
+use Rattle.acpi.proofs.tables.opening.AcpiTables+H.from_rsdp.Goals as goal
 
 pub map_rsdp-requires : goal.map_rsdp-requires
 map_rsdp-requires g c =

@@ -3,7 +3,7 @@ use Rattle.acpi.proofs.Agreed.{from_tables, in_ok, same_members}
 use Rattle.acpi.proofs.First.{fits_root}
 use Rattle.acpi.proofs.Placing.{addresses_are, members_few}
 use Rattle.acpi.specs.Words.{width_of, kind_of, root_of}
-use Rattle.acpi.proofs.tables.AcpiTables.members.Goals as goal
+use Rattle.acpi.proofs.tables.places.AcpiTables+H.members.Goals as goal
 
 pub new-requires : goal.new-requires
 new-requires g c = rw (c.handler.ensures, c.pointers.ensures) c.requires

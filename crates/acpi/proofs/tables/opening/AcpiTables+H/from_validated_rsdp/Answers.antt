@@ -3,7 +3,7 @@ use Rattle.acpi_base.specs.Words.{start_of}
 use Rattle.acpi.proofs.Agreed.{same_opened_by_rsdp}
 use Rattle.acpi.proofs.Asked.{asked_root}
 use Rattle.acpi.proofs.Search.{valid_lent}
-use Rattle.acpi.proofs.tables.AcpiTables.from_validated_rsdp.Goals as goal
+use Rattle.acpi.proofs.tables.opening.AcpiTables+H.from_validated_rsdp.Goals as goal
 
 pub from_root-requires : goal.from_root-requires
 from_root-requires g c =

@@ -1,7 +1,7 @@
 use Rattle.std.proofs.Common.{rules}
 use Rattle.acpi.proofs.Among.{asked_found_in, asked_search_in}
 use Rattle.acpi.proofs.Agreed.{same_opened_in_areas}
-use Rattle.acpi.proofs.tables.AcpiTables.search_in.Goals as goal
+use Rattle.acpi.proofs.tables.opening.AcpiTables+H.search_in.Goals as goal
 
 pub search_in-requires : goal.search_in-requires
 search_in-requires g c =

@@ -1,7 +1,0 @@
-use Rattle.acpi.proofs.Spelled.{root_pointers}
-use Rattle.acpi.proofs.tables.AcpiTables.open.Goals as goal
-
-pub returns-in-Ok-clause-pointers : goal.returns-in-Ok-clause-pointers
-returns-in-Ok-clause-pointers g c =
-    root_pointers _ c.args.root_pointer.kind c.args.root_pointer.address _ (g.met.H.Lender.regions c.args.handler.now)
-    (rw c.signature.ensures at c.in-Ok.ensures.table)
