@@ -63,6 +63,9 @@ static const struct row power_rows[] = {
     REFUSED(get_sleep_plan, HIGH, NULL, A(3), ZACPI_SLEEP_STATE_NOT_SEEN, NULL),
     GOOD(get_sleep_plan, HIGH_PLAIN, NULL, A(4), 1,
          ONE_STEP(STEP(1, 16, 0, 0x604, 0x3c00, 0x3c00, 16, ZACPI_STEP_WRITE))), /* SLP_TYP 7 */
+    REFUSED(get_sleep_plan, HIGH_REDUCED, NULL, A(0), ZACPI_SLEEP_TYPE_TOO_HIGH, NULL), /* of SLEEP_CONTROL_REG */
+    GOOD(get_sleep_plan, HIGH_REDUCED, NULL, A(4), 1, /* SLP_TYP 7, 0x1c; that of PM1b_CNT isn't written */
+         ONE_STEP(STEP(0, 8, 1, 0xfee00010, 0x3c, 0x3c, 8, ZACPI_STEP_WRITE))),
     REFUSED(get_power_off_plan, HIGH, NULL, NO, ZACPI_SLEEP_TYPE_TOO_HIGH, NULL),
     GOOD(get_power_off_plan, POWER, NULL, NO, 1, TWO_STEPS(PM1A, PM1B)),
     GOOD(get_power_off_plan, REDUCED, NULL, NO, 1, ONE_STEP(SLEEP_CONTROL)),

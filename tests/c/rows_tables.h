@@ -32,9 +32,9 @@ struct put {
 enum { EMPTY, ARM, PC, ODD, HOLES, SUM, DESKTOP, MOBILE, WORKSTATION, SERVER, SOHO, APPLIANCE, PERFORMANCE, TABLET,
        RESERVED, WIDE, TIMER_5, LEAST, OLD, HALF, HALF_X, UNITS, UNITS_10, UNITS_CUT,
        UNITS_END, SAPIC_BETWEEN, NMI_2, LENGTH_0, NO_FADT, BUS_1, TRIGGER_2, LINT_2, HPETS, MAILBOX, POWER,
-       REDUCED, PLAIN, BARE, BROKEN, FADTLESS, HIGH, HIGH_PLAIN, FAULTS, FRONTS, UNITS_BETWEEN, UNITS_FAULTS,
-       UNITS_LATER, RISCV, RISCV_CUT, RISCV_SHORT, EARLY, LATE, PAST, FLAWED, LED_BY_SUMS, LED_BY_IDS, ROOT_OEM_ID,
-       ROOT_LONG, /* root tables, in the order of `tables` */
+       REDUCED, PLAIN, BARE, BROKEN, FADTLESS, HIGH, HIGH_PLAIN, HIGH_REDUCED, FAULTS, FRONTS, UNITS_BETWEEN,
+       UNITS_FAULTS, UNITS_LATER, RISCV, RISCV_CUT, RISCV_SHORT, EARLY, LATE, PAST, FLAWED, LED_BY_SUMS, LED_BY_IDS,
+       ROOT_OEM_ID, ROOT_LONG, /* root tables, in the order of `tables` */
        RSDP_0, RSDP_2, RSDP_40, RSDP_MIXED, RSDP_LONG, RSDP_LOST, RSDP_CUT, RSDP_SHORT, RSDP_TO_SUM,
        RSDP_NONE, /* RSDPs, and the last one is none */
        MADT_GIC, GTDT, SRAT, SLIT, MCFG, FADT, MADT_PC, HPET_SHORT, HPET, MADT_CUT, GTDT_CUT, SRAT_CUT, SLIT_ODD,
@@ -282,7 +282,8 @@ static const struct table {
     {AT(HPETS), "RSDT", 1, 52, hpets}, {AT(MAILBOX), "RSDT", 1, 40, mailbox}, {AT(POWER), "RSDT", 1, 48, power},
     {AT(REDUCED), "RSDT", 1, 40, reduced}, {AT(PLAIN), "RSDT", 1, 40, plain}, {AT(BARE), "RSDT", 1, 40, bare},
     {AT(BROKEN), "RSDT", 1, 44, broken}, {AT(FADTLESS), "RSDT", 1, 40, fadtless},
-    {AT(HIGH), "RSDT", 1, 44, high}, {AT(HIGH_PLAIN), "RSDT", 1, 44, high_plain}, {AT(FAULTS), "RSDT", 1, 48, faults},
+    {AT(HIGH), "RSDT", 1, 44, high}, {AT(HIGH_PLAIN), "RSDT", 1, 44, high_plain},
+    {AT(HIGH_REDUCED), "RSDT", 1, 44, high_reduced}, {AT(FAULTS), "RSDT", 1, 48, faults},
     {AT(FRONTS), "RSDT", 1, 48, fronts}, {AT(RISCV), "RSDT", 1, 40, riscv}, {AT(RISCV_CUT), "RSDT", 1, 40, riscv_cut},
     {AT(RISCV_SHORT), "RSDT", 1, 40, riscv_short}, {AT(EARLY), "RSDT", 1, 40, early}, {AT(LATE), "RSDT", 1, 40, late},
     {AT(PAST), "RSDT", 1, 40, past},
@@ -342,7 +343,7 @@ static const struct table {
     {AT(FADT_REDUCED), "FACP", 5, 268, fadt_reduced}, {AT(FADT_PLAIN), "FACP", 3, 244, fadt_plain},
     {AT(FADT_BARE), "FACP", 3, 244, fadt_bare}, {AT(FADT_BROKEN), "FACP", 1, 116, fadt_broken},
     {AT(FADT_HIGH), "FACP", 1, 116, fadt_high}, {AT(DSDT_HIGH), "DSDT", 2, 76, dsdt_high},
-    {AT(SSDT_HIGH), "SSDT", 2, 59, ssdt_high},
+    {AT(SSDT_HIGH), "SSDT", 2, 70, ssdt_high},
     {AT(DSDT_POWER), "DSDT", 2, 43, dsdt_power}, {AT(DSDT_S5), "DSDT", 2, 47, dsdt_s5},
     {AT(SSDT_S5), "SSDT", 2, 50, ssdt_s5}, {AT(MADT_NO_GICD), "APIC", 6, 146, madt_no_gicd},
     {AT(MADT_FRONT), "APIC", 6, 146, madt_front}, {AT(GTDT_FAULTS), "GTDT", 2, 256, gtdt_faults},

@@ -5,7 +5,7 @@
 
 /* Root tables: the package in the second SSDT; reduced hardware; fixed hardware with neither PM1b_CNT nor SMI_CMD;
  * reduced hardware without SLEEP_CONTROL_REG; a DSDT whose AML begins with no object; an SSDT alone; and sleep types
- * above 7, on a machine that is always in ACPI mode and on one without PM1b_CNT. */
+ * above 7, on a machine that is always in ACPI mode, on one without PM1b_CNT and on reduced hardware. */
 PUTS(power, {36, 4, AT(FADT_POWER)}, {40, 4, AT(SSDT_0)}, {44, 4, AT(SSDT_S5)});
 PUTS(reduced, {36, 4, AT(FADT_REDUCED)});
 PUTS(plain, {36, 4, AT(FADT_PLAIN)});
@@ -14,6 +14,7 @@ PUTS(broken, {36, 4, AT(FADT_BROKEN)}, {40, 4, AT(SSDT_S5)});
 PUTS(fadtless, {36, 4, AT(SSDT_S5)});
 PUTS(high, {36, 4, AT(FADT_HIGH)}, {40, 4, AT(SSDT_HIGH)});
 PUTS(high_plain, {36, 4, AT(FADT_PLAIN)}, {40, 4, AT(SSDT_HIGH)});
+PUTS(high_reduced, {36, 4, AT(FADT_REDUCED)}, {40, 4, AT(SSDT_HIGH)});
 
 PUTS(fadt_power,
     {40, 4, AT(DSDT_POWER)} /* DSDT */, {48, 4, 0xb2} /* SMI_CMD */, {52, 1, 0xf1} /* ACPI_ENABLE */,
@@ -25,10 +26,10 @@ PUTS(fadt_reduced,
     {40, 4, AT(DSDT_S5)} /* DSDT */, {48, 4, 0xb2} /* SMI_CMD */, {52, 1, 0xf1} /* ACPI_ENABLE */,
     {64, 4, 0x604} /* PM1a_CNT_BLK */, {89, 1, 2} /* PM1_CNT_LEN */, {112, 4, 0x100000} /* Flags: HW_REDUCED_ACPI */,
     GENERIC(116, 1, 8, 0, 1, 0xcf9) /* RESET_REG */, GENERIC(244, 0, 8, 0, 1, 0xfee00010) /* SLEEP_CONTROL_REG */);
-/* RESET_REG is at address 0. */
+/* SMI_CMD is 0, though ACPI_ENABLE isn't, and RESET_REG is at address 0. */
 PUTS(fadt_plain,
-    {40, 4, AT(DSDT_S5)} /* DSDT */, {64, 4, 0x604} /* PM1a_CNT_BLK */, {89, 1, 2} /* PM1_CNT_LEN */,
-    {112, 4, 0x400} /* Flags: RESET_REG_SUP */);
+    {40, 4, AT(DSDT_S5)} /* DSDT */, {52, 1, 0xf1} /* ACPI_ENABLE */, {64, 4, 0x604} /* PM1a_CNT_BLK */,
+    {89, 1, 2} /* PM1_CNT_LEN */, {112, 4, 0x400} /* Flags: RESET_REG_SUP */);
 PUTS(fadt_bare, {40, 4, AT(DSDT_S5)} /* DSDT */, {112, 4, 0x100000} /* Flags: HW_REDUCED_ACPI */);
 PUTS(fadt_broken,
     {40, 4, AT(DSDT)} /* DSDT: zeros */, {48, 4, 0xb2} /* SMI_CMD */, {53, 1, 0xf0} /* ACPI_DISABLE */);
@@ -51,9 +52,10 @@ PUTS(dsdt_high,
     {49, 1, 6}, {50, 1, 4}, {51, 2, 0x050a}, {53, 2, 0x060a}, {55, 1, 0x10}, {56, 1, 19}, {57, 2, 0x5c}, {59, 1, 0x10},
     {60, 1, 15}, {61, 2, 0x5c}, {63, 1, 0x08}, {64, 4, 0x5f32535f}, {68, 1, 0x12}, {69, 1, 6}, {70, 1, 4},
     {71, 2, 0x050a}, {73, 2, 0x060a}, {75, 1, 0x70});
-/* _S5_ with 8 and 1, _S4_ with 7 and 8. */
+/* _S5_ with 8 and 1, _S4_ with 7 and 8, _S0_ with 8 and 1. */
 PUTS(ssdt_high,
     {36, 1, 0x08}, {37, 4, 0x5f35535f}, {41, 1, 0x12}, {42, 1, 5}, {43, 1, 2}, {44, 2, 0x080a}, {46, 1, 1},
-    {47, 1, 0x08}, {48, 4, 0x5f34535f}, {52, 1, 0x12}, {53, 1, 6}, {54, 1, 2}, {55, 2, 0x070a}, {57, 2, 0x080a});
+    {47, 1, 0x08}, {48, 4, 0x5f34535f}, {52, 1, 0x12}, {53, 1, 6}, {54, 1, 2}, {55, 2, 0x070a}, {57, 2, 0x080a},
+    {59, 1, 0x08}, {60, 4, 0x5f30535f}, {64, 1, 0x12}, {65, 1, 5}, {66, 1, 2}, {67, 2, 0x080a}, {69, 1, 1});
 
 #endif
