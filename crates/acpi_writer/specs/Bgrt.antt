@@ -64,6 +64,6 @@ pub record SaysImage (c : BgrtContents) (g : Bgrt) : Type 0 where
 abbrev pub BgrtIsValid : Type 0
 BgrtIsValid = (ids : TableIds) (c : BgrtContents) (table : List ℕ) → IsBgrt ids c table → IsValid BGRT table
 
--- and says exactly what was given
+-- and contains exactly what was passed
 abbrev pub BgrtIsRead : Type 0
 BgrtIsRead = (ids : TableIds) (c : BgrtContents) (table : List ℕ) → IsBgrt ids c table → SaysImage c (bgrt_at table)

@@ -1,4 +1,4 @@
--- What is asked of each thing in a list before a table is written.
+-- What is checked of each thing in a list before a table is written.
 use Rattle.std.specs.Prelude.{List, [], ◌∷◌, Result, Ok}
 use Rattle.acpi_base.specs.Words.{◌>>=◌}
 

@@ -1,4 +1,4 @@
--- The bytes of a FADT that says what is given (ACPI 6.4, section 5.2.9).
+-- The bytes of a FADT with given contents (ACPI 6.4, section 5.2.9).
 use Rattle.std.specs.Prelude.{ℕ, ◌*◌, ◌/◌, ◌^◌, ◌==◌, ◌&&◌, Bool, true, false, not, if◌then◌else◌, List, [], ◌∷◌, ◌++◌, flat_map, nat_le, nat_lt, replicate, Option, Some, None, Result, ◌≡◌, Ok, All, ok_or, option_map}
 use Rattle.acpi.specs.Types.{Fadt}
 use Rattle.acpi_writer.specs.Fields.{fields_bytes, FitsField}
@@ -162,7 +162,7 @@ registers c h =
     Some h.pm1a_event ∷ h.pm1b_event ∷ Some h.pm1a_control ∷ h.pm1b_control ∷ h.pm2_control ∷ h.pm_timer
     ∷ gpe_register h.gpe0 ∷ gpe_register h.gpe1 ∷ c.sleep_control ∷ c.sleep_status ∷ []
 
--- all of it: Hypervisor Vendor Identity stands at 268
+-- all of it: Hypervisor Vendor Identity is at 268
 abbrev pub body_with : FadtContents → FixedHardware → List ℕ
 body_with c h =
     fields_bytes (front_fields c h) ++ (register_bytes c.reset_register ++ (fields_bytes (wide_fields c)

@@ -45,7 +45,7 @@ field_value (U32 n) = n
 field_value (U64 n) = n
 field_value (Zeros n) = 0
 
--- the field at a place, and the offset at which it lies
+-- the field at a place, and its offset
 abbrev pub field_at : List Field → ℕ → Field
 field_at fs i = get_or fs i (Zeros 0)
 

@@ -77,7 +77,7 @@ its_fields x =
 abbrev pub its_entry : GicTranslationService → List ℕ
 its_entry x = fields_bytes (its_fields x)
 
--- bit 0 of the GIC MSI Frame Flags, SPI Count/Base Select, says that the entry has the interrupts; else it has none
+-- bit 0 of the GIC MSI Frame Flags, SPI Count/Base Select, is set if the entry has the interrupts; else it has none
 
 abbrev pub has_spis : Option SpiRange → Bool
 has_spis (Some range) = true

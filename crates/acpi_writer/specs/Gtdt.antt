@@ -38,7 +38,7 @@ frame_fields f =
 abbrev pub frame_bytes : GtFrame → List ℕ
 frame_bytes f = fields_bytes (frame_fields f)
 
--- GT Block (section 5.2.24.1.1) of so many frames, which stand from 20 on
+-- GT Block (section 5.2.24.1.1) of this number of frames, which are from 20 on
 unfoldable pub block_fields : ℕ → ℕ → List Field
 block_fields address n =
     U8 0 ∷ U16 ((20 + 40 * n) % 2 ^ 16) ∷ Zeros 1  -- 0: Type, 1: Length, 3: Reserved
@@ -183,7 +183,7 @@ abbrev pub timer_read : PlatformTimerContents → Timer
 timer_read (kinds.GtBlock b) = inl (b.address, b.frames.now)
 timer_read (kinds.SbsaWatchdog w) = inr w
 
--- the table says what was given, and its structures are whole
+-- the table contains what was passed, and its structures are whole
 pub record SaysTimers (c : GtdtContents) (table : List ℕ) : Type 0 where
   pub control : control_base_of (gtdt_at table) ≡ c.counter_control_base
   pub secure_el1 : (gtdt_at table).secure_el1_timer ≡ c.secure_el1_timer
@@ -195,6 +195,6 @@ pub record SaysTimers (c : GtdtContents) (table : List ℕ) : Type 0 where
   pub platform : timers_of table ≡ map timer_read c.platform_timers.now
   pub whole : missing_of table ≡ 0
 
--- and says exactly what was given, the timers of the platform in order
+-- and contains exactly what was passed, the timers of the platform in order
 abbrev pub GtdtIsRead : Type 0
 GtdtIsRead = (ids : TableIds) (c : GtdtContents) (table : List ℕ) → IsGtdt ids c table → SaysTimers c table

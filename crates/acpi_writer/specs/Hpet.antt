@@ -1,4 +1,4 @@
--- The bytes of an HPET that says what is given. The layout is that of the IA-PC HPET Specification 1.0a, section 3.2.4.
+-- The bytes of an HPET with given contents. The layout is that of the IA-PC HPET Specification 1.0a, section 3.2.4.
 use Rattle.std.specs.Prelude.{ℕ, List, [], ◌∷◌, Result, ◌≡◌, Ok, All}
 use Rattle.acpi_writer.specs.Types.{HPET, HpetInfo, WriterError, TableIds, protection_code, hpet_at, info_of, Field, U8, U16, U32, U64, Zeros}
 use Rattle.acpi_writer.specs.Fields.{fields_bytes, FitsField}
@@ -34,6 +34,6 @@ pub record IsHpet (ids : TableIds) (i : HpetInfo) (table : List ℕ) : Type 0 wh
 abbrev pub HpetIsValid : Type 0
 HpetIsValid = (ids : TableIds) (i : HpetInfo) (table : List ℕ) → IsHpet ids i table → IsValid HPET table
 
--- and says exactly what was given
+-- and contains exactly what was passed
 abbrev pub HpetIsRead : Type 0
 HpetIsRead = (ids : TableIds) (i : HpetInfo) (table : List ℕ) → IsHpet ids i table → info_of (hpet_at table) ≡ Ok i

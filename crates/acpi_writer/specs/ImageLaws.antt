@@ -33,7 +33,7 @@ pub record HasPlatform {A : Type 0} (c : MadtContents) (q : PlatformInfo A) : Ty
   pub interrupt_model : q.interrupt_model ≡ Apic (apic_read c)
   pub processor_info : q.processor_info ≡ processors_read c.processors.now
 
--- whatever its FADT says, so it is of the platform of the image, if there is one
+-- whatever its FADT has, so it is of the platform of the image, if there is one
 abbrev pub PlatformInImage : Type 0 → Type 0
 PlatformInImage A = (p : Plan) (table : List ℕ) (ids : TableIds) (c : MadtContents) (q : PlatformInfo A)
     → IsMadt ids c table → HasFirst MADT p table
@@ -45,7 +45,7 @@ McfgInImage = (p : Plan) (table : List ℕ) (ids : TableIds) (es : List McfgEntr
     → IsMcfg ids es table → HasFirst MCFG p table
     → found_regions (records_of p) (pointers_of p) ≡ Ok es
 
--- an image whose first HPET was written by `write_hpet` says exactly what was given
+-- an image whose first HPET was written by `write_hpet` contains exactly what was passed
 abbrev pub HpetInImage : Type 0
 HpetInImage = (p : Plan) (table : List ℕ) (ids : TableIds) (i : HpetInfo)
     → IsHpet ids i table → HasFirst HPET p table

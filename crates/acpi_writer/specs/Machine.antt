@@ -28,7 +28,7 @@ dsdt_written ids (Some c) = aml_written most DSDT c.revision ids c.bytes.now
 abbrev pub dsdt_of : {A : Type 0} → MachineOf A → List ℕ
 dsdt_of m = or_none (dsdt_written m.ids m.dsdt)
 
--- how many bytes there are up to the next multiple of 64, at which a FACS lies (section 5.2.10)
+-- how many bytes there are up to the next multiple of 64, at which a FACS is (section 5.2.10)
 abbrev pub facs_gap : ℕ → ℕ
 facs_gap a = (64 - a % 64) % 64
 
@@ -49,11 +49,11 @@ listed_by written m = map (bytes_by written m.ids) m.tables.now
 abbrev pub xsdt_length : {A : Type 0} → MachineOf A → ℕ
 xsdt_length m = 36 + 8 * length m.tables.now
 
--- where the DSDT and the FACS lie, or would lie, and where the listed tables begin, if the XSDT lies at a
+-- where the DSDT and the FACS are, or would be, and where the listed tables begin, if the XSDT is at a
 abbrev pub dsdt_address : {A : Type 0} → ℕ → MachineOf A → ℕ
 dsdt_address a m = a + rounded (xsdt_length m)
 
--- where `write_tables` lays the DSDT for an address, with so many listed tables, if that is an address
+-- where `write_tables` lays the DSDT for an address, with this number of listed tables, if that is an address
 abbrev pub dsdt_at : ℕ → ℕ → Option ℕ
 dsdt_at a n =
     if nat_lt (36 + 8 * n) (2 ^ 32) && nat_lt (a + (48 + rounded (36 + 8 * n))) (2 ^ 64)
@@ -84,11 +84,11 @@ facs_address a m = dsdt_end a m + facs_gap (dsdt_end a m)
 abbrev pub tables_address : {A : Type 0} → ℕ → MachineOf A → ℕ
 tables_address a m = dsdt_end a m + facs_room m.facs
 
--- where each of them lies
+-- where each of them is
 abbrev pub pointers_by : {A : Type 0} → Written A → ℕ → MachineOf A → List ℕ
 pointers_by written a m = addresses (tables_address a m) (listed_by written m)
 
--- the XSDT, if the first of them lies at this address, and if the XSDT itself lies at a
+-- the XSDT, if the first of them is at this address, and if the XSDT itself is at a
 abbrev pub xsdt_from : {A : Type 0} → Written A → ℕ → MachineOf A → List ℕ
 xsdt_from written start m = table_bytes XSDT 1 m.ids (root_body Xsdt (addresses start (listed_by written m)))
 
@@ -141,11 +141,11 @@ check_by written m = do
   _ ← dsdt_written m.ids m.dsdt
   check_each written m.ids m.tables.now
 
--- so many bytes can lie here: the address is a multiple of 16, and neither 0 nor too high
+-- this number of bytes can be here: the address is a multiple of 16, and neither 0 nor too high
 abbrev pub is_place : ℕ → ℕ → Bool
 is_place a n = not (a == 0) && ((a % 16 == 0) && nat_lt (a + n) (2 ^ 64))
 
--- so many bytes have room, and can lie at this address
+-- this number of bytes has room, and can be at this address
 abbrev pub check_place : ℕ → ℕ → ℕ → Result (Unit {0}) WriterError
 check_place room a n = do
   _ ← holds (nat_le n room) NoRoom
@@ -179,7 +179,8 @@ machine_size written m = do
   _ ← check_by written m
   Ok (48 + size_by written m)
 
--- what a call that writes so many bytes for an address into so much room gives: these bytes, or the first error
+-- what a call that writes this number of bytes for an address into so much room returns: these bytes, or the first
+-- error
 abbrev pub region_written : {A : Type 0} → Written A → MachineOf A → ℕ → ℕ → ℕ → List ℕ → Result (List ℕ) WriterError
 region_written written m n room a bytes = do
   _ ← check_by written m

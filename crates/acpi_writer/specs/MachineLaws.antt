@@ -30,7 +30,7 @@ use Rattle.acpi_writer.specs.Table.{IsValid}
 
 -- ---- any valid tables, laid one after the other
 
--- the first of them with this signature and at least so many bytes, and where it lies, if the first one lies at a
+-- the first of them with this signature and at least this number of bytes, and where it is, if the first one is at a
 abbrev pub first_at : Signature → ℕ → ℕ → List (List ℕ) → Result (ℕ × List ℕ) AcpiError
 first_at s least a [] = Err (TableMissing s)
 first_at s least a (t ∷ ts) =
@@ -50,11 +50,11 @@ LaidAreFound = (m : Memory) (a : ℕ) (ts : List (List ℕ)) → IsMemory m → 
 
 -- ---- a machine
 
--- the machine can be written for an address: what `write_tables` says of it
+-- the machine can be written for an address: what `write_tables` checks of it
 abbrev pub IsWritable : ℕ → Machine → Type 0
 IsWritable a x = CanLie contents_written FitsContents a x
 
--- the first of the listed tables with this signature, and where it lies, if the first one lies at a
+-- the first of the listed tables with this signature, and where it is, if the first one is at a
 abbrev pub first_of : Signature → List TableContents → Option TableContents
 first_of s [] = None
 first_of s (c ∷ cs) =
@@ -66,14 +66,14 @@ place_of ids s a (c ∷ cs) =
     if bytes_eq (letters_of (signature_of c)) (letters_of s) then a
     else place_of ids s (a + length (placed ids c)) cs
 
--- a FACS lies at a multiple of 64 (section 5.2.10), where a reader finds it with what was given
+-- a FACS is at a multiple of 64 (section 5.2.10), where a reader finds it with what was passed
 pub record HasFacs (m : Memory) (p : ℕ) (c : FacsContents) : Type 0 where
   pub aligned : p % 64 ≡ 0
   pub bytes : at m p 64 ≡ Some (facs_bytes c)
   pub fields : structure.IsReadAs c (facs_bytes c)
   pub found : places.facs_at m p ≡ Ok (range p 64)
 
--- what is opened by the RSDP at an address, if the XSDT lies at a
+-- what is opened by the RSDP at an address, if the XSDT is at a
 pub record IsOpened (m : Memory) (rsdp a : ℕ) (x : Machine) : Type 0 where
   pub rsdp_is : rsdp_at m rsdp ≡ Ok (rsdp_bytes x.ids.oem_id a)
   pub opened : opened_by_rsdp m rsdp
@@ -112,7 +112,7 @@ platform_read c d = record {
   pm_timer = timer_read c;
 }
 
--- what a reader says of the tables that these pointers lead to: what was passed in
+-- what a reader returns of the tables that these pointers point to: what was passed in
 pub record Says (A : Type 0) (m : Memory) (ps : List ℕ) (cs : List TableContents) : Type 0 where
   pub model : (c : _) → first_of MADT cs ≡ Some (Madt c) → model_in {A = A} m ps ≡ Ok (model_read c)
   pub platform : (c : _) (q : PlatformInfo A) → first_of MADT cs ≡ Some (Madt c)
@@ -139,7 +139,7 @@ TreeIsRead A = (m : Memory) (rsdp a : ℕ) (x : Machine) → IsMemory m → IsWr
     → at m rsdp 36 ≡ Some (rsdp_bytes x.ids.oem_id a) → at m a (tree_size x) ≡ Some (tree_bytes a x)
     → IsOpened m rsdp a x × Says A m (pointers_of a x) x.tables.now
 
--- the addresses that a caller asks for before a machine is written for an address are those in it
+-- the addresses that a caller requests before a machine is written for an address are those in it
 pub record AreKnown (a : ℕ) (x : Machine) : Type 0 where
   pub dsdt : dsdt_at a (length x.tables.now) ≡ Some (dsdt_address (a + 48) x)
   pub facs : (f : FacsContents) → x.facs ≡ Some f

@@ -1,4 +1,4 @@
--- The bytes of a MADT that says what is given (ACPI 6.4, section 5.2.12).
+-- The bytes of a MADT with given contents (ACPI 6.4, section 5.2.12).
 use Rattle.std.specs.Prelude.{ℕ, ◌+◌, ◌*◌, ◌^◌, ◌&&◌, Bool, true, false, not, if◌then◌else◌, List, [], ◌∷◌, ◌++◌, flat_map, nat_lt, Option, Some, None, Result}
 use Rattle.acpi_base.specs.FromStd.{list_all}
 use Rattle.acpi_base.specs.Words.{all_apics, line_code, polarity_code, trigger_code, ◌>>=◌, holds}
@@ -32,7 +32,7 @@ local_x2apic_fields p =
     ∷ U32 (processor_flags p) ∷ U32 p.processor_uid  -- 8: Flags, 12: ACPI Processor UID
     ∷ []
 
--- it isn't to be the second, and the ids have a place in the first, in which 255 stands for all
+-- it isn't to be the second, and the ids have a place in the first, in which 255 means all
 abbrev pub is_small : MadtProcessor → Bool
 is_small p = not p.is_x2apic && (nat_lt p.processor_uid 255 && nat_lt p.local_apic_id 255)
 
@@ -103,7 +103,7 @@ x2apic_nmi_fields uid flags line =
     ∷ U8 line ∷ Zeros 3  -- 8: Local x2APIC LINT#, 9: Reserved
     ∷ []
 
--- the first if the uid has a place there, in which 255 stands for all
+-- the first if the uid has a place there, in which 255 means all
 abbrev pub nmi_fields : NmiProcessor → ℕ → ℕ → List Field
 nmi_fields nmi.All flags line = apic_nmi_fields all_apics flags line
 nmi_fields (nmi.ProcessorUid uid) flags line =
@@ -175,7 +175,7 @@ abbrev pub is_empty : {A : Type 0} → List A → Bool
 is_empty [] = true
 is_empty (x ∷ xs) = false
 
--- neither the uid nor the id is the one that stands for all
+-- neither the uid nor the id is the one that means all
 abbrev pub is_single : MadtProcessor → Bool
 is_single p = nat_lt p.processor_uid 0xffffffff && nat_lt p.local_apic_id 0xffffffff
 

@@ -20,7 +20,7 @@ pub record AreFit (c : MadtContents) : Type 0 where
   pub wakeup : Fits mailbox_fields c.wakeup_mailbox
 
 -- the bytes are the table of contents whose numbers have a place, with a processor among them, and no NMI line of the
--- uid that stands for all
+-- uid that means all
 pub record IsMadt (ids : TableIds) (c : MadtContents) (table : List ℕ) : Type 0 where
   pub written : IsTableOf MADT 5 ids (madt_body c) table
   pub fit : AreFit c

@@ -7,7 +7,7 @@ use Rattle.acpi_writer.specs.Types.{◌>>=◌, holds, Signature, NoProcessor, Ta
 abbrev pub rhct_signature : Signature
 rhct_signature = record { 0 = codes "RHCT" }
 
--- the zeros after an ISA string of so many letters, which end it at an even length
+-- the zeros after an ISA string of this number of letters, which end it at an even length
 abbrev pub zeros_after : ℕ → ℕ
 zeros_after letters = 2 - letters % 2
 

@@ -29,6 +29,6 @@ pub record Leads (oem_id : List ℕ) (xsdt : ℕ) (rsdp : List ℕ) : Type 0 whe
   pub oem_id_is : (rsdp_of rsdp).oem_id ≡ oem_id
   pub leads : root_of_rsdp rsdp ≡ root_pointer 2 Xsdt xsdt
 
--- and so do those of such an RSDP
+-- and so do the bytes of such an RSDP
 abbrev pub RsdpIsRead : Type 0
 RsdpIsRead = (ids : TableIds) (xsdt : ℕ) (rsdp : List ℕ) → IsRsdp ids xsdt rsdp → Leads ids.oem_id xsdt rsdp

@@ -17,7 +17,7 @@ slit_written room ids n distances = do
   _ ← slit_checked n distances
   table_written room SLIT 1 ids (slit_body n distances)
 
--- the bytes are the table of a distance for each pair of so many localities
+-- the bytes are the table of a distance for each pair of this number of localities
 pub record IsSlit (ids : TableIds) (n : ℕ) (distances table : List ℕ) : Type 0 where
   pub written : IsTableOf SLIT 1 ids (slit_body n distances) table
   pub small : n < 2 ^ 64

@@ -1,4 +1,4 @@
--- The bytes of an SPCR that says what is given (ACPI 6.4, section 5.2.6). The layout is Microsoft's.
+-- The bytes of an SPCR with given contents (ACPI 6.4, section 5.2.6). The layout is Microsoft's.
 use Rattle.std.specs.Prelude.{ℕ, ◌+◌, ◌%◌, ◌^◌, ◌==◌, ◌&&◌, Bool, true, not, if◌then◌else◌, List, [], ◌∷◌, ◌++◌, length, nat_lt, Option, Some, None, Result, ◌≡◌, IsUtf8, Ok, All, option_map}
 use Rattle.acpi.specs.Types.{Spcr}
 use Rattle.acpi_writer.specs.Fields.{fields_bytes, FitsField}
@@ -133,6 +133,6 @@ pub record SaysConsole (c : SpcrContents) (table : List ℕ) : Type 0 where
 abbrev pub SpcrIsValid : Type 0
 SpcrIsValid = (ids : TableIds) (c : SpcrContents) (table : List ℕ) → IsSpcr ids c table → IsValid SPCR table
 
--- and says exactly what was given
+-- and contains exactly what was passed
 abbrev pub SpcrIsRead : Type 0
 SpcrIsRead = (ids : TableIds) (c : SpcrContents) (table : List ℕ) → IsSpcr ids c table → SaysConsole c table

@@ -1,4 +1,4 @@
--- The bytes of a SRAT that says what is given (ACPI 6.4, section 5.2.16).
+-- The bytes of a SRAT with given contents (ACPI 6.4, section 5.2.16).
 use Rattle.std.specs.Prelude.{ℕ, ◌+◌, ◌*◌, ◌/◌, ◌%◌, ◌^◌, ◌==◌, ◌&&◌, Bool, not, if◌then◌else◌, List, [], ◌∷◌, ◌++◌, flat_map, nat_lt, Result, ◌≡◌, true, Option, None, Some, Ok, All, filter_map}
 use Rattle.acpi_writer.specs.Types.{list_all, last_or, ◌>>=◌, holds, SRAT, ends_below, affinities_of, domain_of_apic, domain_of_processor, MemoryRange, WriterError, BadRange, IdOfAll, SratContents, TableIds, Field, U8, U16, U32, U64, Zeros, ApicDomain, GiccDomain}
 use Rattle.acpi_writer.specs.Fields.{fields_bytes, Fits}
@@ -30,7 +30,7 @@ local_x2apic_fields p =
     ∷ U32 1 ∷ Zeros 4 ∷ Zeros 4 ∷ Zeros 0  -- 12: Flags, 16: Clock Domain, 20: Reserved
     ∷ []
 
--- the id has a place in the first, in which 255 stands for all
+-- the id has a place in the first, in which 255 means all
 abbrev pub is_small : ApicDomain → Bool
 is_small p = nat_lt p.local_apic_id 255
 
@@ -82,7 +82,7 @@ srat_body c = srat_reserved ++ srat_entries c
 
 -- ---- errors
 
--- the id, or the uid, isn't the one that stands for all
+-- the id, or the uid, isn't the one that means all
 abbrev pub is_one_apic : ApicDomain → Bool
 is_one_apic p = not (p.local_apic_id == 0xffffffff)
 
@@ -141,6 +141,6 @@ pub record SaysDomains (c : SratContents) (table : List ℕ) : Type 0 where
 abbrev pub SratIsValid : Type 0
 SratIsValid = (ids : TableIds) (c : SratContents) (table : List ℕ) → IsSrat ids c table → IsValid SRAT table
 
--- and says exactly what was given
+-- and contains exactly what was passed
 abbrev pub SratIsRead : Type 0
 SratIsRead = (ids : TableIds) (c : SratContents) (table : List ℕ) → IsSrat ids c table → SaysDomains c table

@@ -73,7 +73,7 @@ pub record IsValid (s : Signature) (table : List ℕ) : Type 0 where
   pub checked : check_table s table ≡ Ok tt
   pub taken : is_table table ≡ true
 
--- a header has the revision, and says who made the table; Creator ID is a number there
+-- a header has the revision, and who made the table; Creator ID is a number there
 pub record HasIds (revision : ℕ) (ids : TableIds) (h : SdtHeader) : Type 0 where
   pub revision_is : h.revision ≡ revision
   pub oem_id : h.oem_id ≡ ids.oem_id

@@ -86,7 +86,7 @@ GicContents = gic.GicContents GicCpuInterface GicRedistributors GicTranslationSe
 abbrev pub SratContents : Type 0
 SratContents = srat.SratContents MemoryRange
 
--- contents whose timers and frames are things of a type that stands for these, and those of the timers themselves
+-- contents whose timers and frames are things of a type that is written as these, and contents of the timers themselves
 abbrev pub GtdtOf : Type 0 → Type 0
 GtdtOf T = gtdt.GtdtContents T
 

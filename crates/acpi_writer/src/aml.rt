@@ -26,7 +26,7 @@ pub fn write_dsdt(
     // The bytes, or the first error, are those that are defined.
     ensures exact { Gives (λ n. take n out.new) result
         (aml_written (length out.old) DSDT revision ids.now aml.now) }
-    // What stands after the table is unchanged, and after an error the whole slice is.
+    // What is after the table is unchanged, and after an error the whole slice is.
     ensures keeps { Keeps result out.old out.new }
     // The bytes are such a table, so that it is valid and its AML is what was given (`tables_are_read`).
     ensures fits { IfOk result (λ n. IsTableOf DSDT revision ids.now aml.now (take n out.new)) }
@@ -36,7 +36,8 @@ pub fn write_dsdt(
 
 /// Writes an SSDT to the front of a slice, as `write_dsdt` writes a DSDT.
 ///
-/// Returns, in this order, `HasHeader`, by an SSDT's Signature, `BadName`, `NoRoom` and `TooLong`, as `write_dsdt` does.
+/// Returns, in this order, `HasHeader`, by an SSDT's Signature, `BadName`, `NoRoom` and `TooLong`, as `write_dsdt`
+/// does.
 pub fn write_ssdt(
     out: &mut [u8],
     ids: &TableIds,
@@ -46,7 +47,7 @@ pub fn write_ssdt(
     // The bytes, or the first error, are those that are defined.
     ensures exact { Gives (λ n. take n out.new) result
         (aml_written (length out.old) SSDT revision ids.now aml.now) }
-    // What stands after the table is unchanged, and after an error the whole slice is.
+    // What is after the table is unchanged, and after an error the whole slice is.
     ensures keeps { Keeps result out.old out.new }
     // The bytes are such a table, so that it is valid and its AML is what was given (`tables_are_read`).
     ensures fits { IfOk result (λ n. IsTableOf SSDT revision ids.now aml.now (take n out.new)) }

@@ -65,7 +65,7 @@ pub(crate) fn check_modes(trigger_mode: TriggerMode, polarity: Polarity) -> Resu
     )
 }
 
-/// Returns `NoAddress` if there is an address whose bits are all ones, which stands for none.
+/// Returns `NoAddress` if there is an address whose bits are all ones, which means none.
 pub(crate) fn check_base(base: Option<u64>) -> Result<(), WriterError>
     ensures { result ≡ base_checked base }
 {

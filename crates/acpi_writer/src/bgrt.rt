@@ -1,4 +1,4 @@
-//! The Boot Graphics Resource Table (BGRT, section 5.2.22), from what it says of an image.
+//! The Boot Graphics Resource Table (BGRT, section 5.2.22), from what it contains of an image.
 ghost use Rattle.std.specs.Prelude.{◌≡◌, ◌≤◌, length, take, IfOk, Ok};
 ghost use Rattle.acpi_writer.specs.Bgrt as bgrt;
 ghost use Rattle.acpi_writer.specs.Words.{BGRT, Gives, Keeps};
@@ -101,7 +101,7 @@ impl Table for BgrtContents {
 }
 
 /// Writes a BGRT of revision 1, whose Version is 1 and whose image is a bitmap, to the front of a slice, and returns
-/// how many bytes it has, 56. Whether there is an image at its address isn't asked.
+/// how many bytes it has, 56. Whether there is an image at its address isn't checked.
 ///
 /// Returns, in this order, `BadName` if a name of the ids is not valid UTF-8, and `NoRoom` if the slice is shorter
 /// than the table.
@@ -113,7 +113,7 @@ pub fn write_bgrt(
     // The bytes, or the error, are those that are defined.
     ensures exact { Gives (λ n. take n out.new) result
         (bgrt.bgrt_written (length out.old) ids.now contents.now) }
-    // What stands after the table is unchanged, and after an error the whole slice is.
+    // What is after the table is unchanged, and after an error the whole slice is.
     ensures keeps { Keeps result out.old out.new }
     // The numbers that were given fit, so that what was given is what is read (`tables_are_read`).
     ensures fits { IfOk result (λ n. bgrt.IsBgrt ids.now contents.now (take n out.new)) }

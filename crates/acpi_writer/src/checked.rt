@@ -1,4 +1,4 @@
-//! What has to be asked of each thing in a list before a table is written.
+//! What has to be checked of each thing in a list before a table is written.
 ghost use Rattle.std.specs.Prelude.{◌≡◌, Result};
 ghost use Rattle.acpi_base.specs.Steps as steps;
 ghost use Rattle.acpi_writer.specs.Checked.{all_checked};

@@ -49,7 +49,7 @@ pub enum TableContents<'a> {
     Slit(SlitContents<'a>),
     /// `write_ssdt`.
     Ssdt(AmlContents<'a>),
-    /// `write_fadt`. `dsdt_address` is where the machine's DSDT lies.
+    /// `write_fadt`. `dsdt_address` is where the machine's DSDT is.
     Fadt(FadtContents),
     /// `write_srat`.
     Srat(SratContents<'a>),
@@ -71,7 +71,7 @@ pub(crate) fn rounded(n: usize) -> usize
     n + (15 - (n + 15) % 16)
 }
 
-/// Puts zeros after so many bytes, up to a multiple of 16, which it returns.
+/// Puts zeros after this number of bytes, up to a multiple of 16, which it returns.
 pub(crate) fn fill_up(out: &mut [u8], size: usize) -> usize
     requires { rounded size ≤ length out.old }
     ensures bytes { out.new ≡ take size out.old ++ (replicate (gap size) 0 ++ drop (rounded size) out.old) }

@@ -5,13 +5,13 @@
 pub enum WriterError {
     /// A MADT without any processor.
     NoProcessor,
-    /// A processor whose uid or id is 0xffffffff, the number that stands for all processors.
+    /// A processor whose uid or id is 0xffffffff, the number that means all processors.
     IdOfAll,
-    /// An NMI line of the processor whose uid is 0xffffffff, the number that stands for all processors.
+    /// An NMI line of the processor whose uid is 0xffffffff, the number that means all processors.
     UidOfAll,
     /// A SLIT without a distance for each pair of localities.
     BadMatrix,
-    /// An address that stands for none: of 0 in an RSDP, a FADT or of a serial port, and of all ones as a base address
+    /// An address that means none: of 0 in an RSDP, a FADT or of a serial port, and of all ones as a base address
     /// in a GTDT; or an address at which a machine's tables can't lie.
     NoAddress,
     /// A FADT with a `Reserved` profile whose code is that of one that has a name.

@@ -48,7 +48,7 @@ pub fn write_facs(out: &mut [u8], contents: &FacsContents) -> Result<usize, Writ
     // The bytes, or the error, are those that are defined.
     ensures exact { Gives (λ n. take n out.new) result
         (facs.facs_written (length out.old) contents.now) }
-    // What stands after the FACS is unchanged, and after an error the whole slice is.
+    // What is after the FACS is unchanged, and after an error the whole slice is.
     ensures keeps { Keeps result out.old out.new }
     // The numbers that were given fit, so that what was given is what is read (`tables_are_read`).
     ensures fits { IfOk result (λ n. facs.IsFacs contents.now (take n out.new)) }

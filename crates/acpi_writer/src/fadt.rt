@@ -122,7 +122,7 @@ impl Table for FadtContents {
 }
 
 /// Writes a FADT of version 6.4, 276 bytes, to the front of a slice, and returns how many bytes it has. Each address
-/// and each block stands in its X_ field, and in its field of 32 bits too if it fits there, a block if it is one of
+/// and each block is in its X_ field, and in its field of 32 bits too if it fits there, a block if it is one of
 /// ports. PM1_EVT_LEN, PM1_CNT_LEN and PM2_CNT_LEN are the whole bytes of the block's width, by its first block, and
 /// PM_TMR_LEN is 4. A block of general purpose events has a width of 255 if it is of 32 bytes or more. What isn't
 /// given, and all of fixed hardware on a machine of reduced hardware, is 0, and so are the reserved fields and
@@ -141,7 +141,7 @@ pub fn write_fadt(
     // The bytes, or the first error, are those that are defined.
     ensures exact { Gives (λ n. take n out.new) result
         (bytes.fadt_written (length out.old) ids.now contents.now) }
-    // What stands after the table is unchanged, and after an error the whole slice is.
+    // What is after the table is unchanged, and after an error the whole slice is.
     ensures keeps { Keeps result out.old out.new }
     // The numbers that were given fit, so that what was given is what is read (`tables_are_read`).
     ensures fits { IfOk result (λ n. IsFadt ids.now contents.now (take n out.new)) }

@@ -6,7 +6,7 @@ ghost use Rattle.acpi_writer.specs.declared.fields.Field.{Field};
 use crate::numbers::{dword, qword, word};
 use crate::spelled::{Each, Spelled};
 
-/// A field: a number in so many bytes, the lowest first, or so many zeros.
+/// A field: a number in a number of bytes, the lowest first, or a number of zeros.
 #[derive(Clone, Copy)]
 pub enum Field {
     /// A number in one byte.
@@ -91,7 +91,7 @@ impl<F: FieldList> FieldList for Option<F> {
 
 /// What is fields in a row.
 pub trait Record {
-    /// An array of so many fields.
+    /// An array of this number of fields.
     type Fields: FieldList;
 
     // Its fields.

@@ -14,7 +14,8 @@ use acpi_arm::gtdt::{ArmTimer, GtFrame, SbsaWatchdog};
 use acpi_base::Signature;
 use std::alloc::AllocError;
 
-/// A GT Block (section 5.2.24.1.1), in the words of `GtBlock`, as which it is read, or with what stands for its frames.
+/// A GT Block (section 5.2.24.1.1), in the words of `GtBlock`, as which it is read, or with what is written as its
+/// frames.
 #[derive(Clone, Copy)]
 pub struct GtBlockContents<'a, F = GtFrame> {
     /// GT Block Physical address: that of the block's control frame.
@@ -32,7 +33,7 @@ pub enum PlatformTimerContents<'a, F = GtFrame> {
     SbsaWatchdog(SbsaWatchdog),
 }
 
-/// What a GTDT is to say, in the words of `Gtdt`, as which it is read, or with what stands for its timers.
+/// What a GTDT is to contain, in the words of `Gtdt`, as which it is read, or with what is written as its timers.
 #[derive(Copy)]
 pub struct GtdtContents<'a, T = PlatformTimerContents<'a>> {
     /// CntControlBase Physical Address, if there is one.
@@ -112,7 +113,7 @@ pub fn write_gtdt<T: Checked + Copy + Spelled>(
     // The bytes, or the first error, are those that are defined.
     ensures exact { Gives (λ n. take n out.new) result
         (gtdt_written_by T.spelled T.checked (length out.old) ids.now contents.now) }
-    // What stands after the table is unchanged, and after an error the whole slice is.
+    // What is after the table is unchanged, and after an error the whole slice is.
     ensures keeps { Keeps result out.old out.new }
     // The numbers that were given fit, so that what was given is what is read (`tables_are_read`).
     ensures fits { IfOk result (λ n.

@@ -1,4 +1,4 @@
-//! The High Precision Event Timer table (HPET), from what it says of its event timer block.
+//! The High Precision Event Timer table (HPET), from what it contains of its event timer block.
 ghost use Rattle.std.specs.Prelude.{◌≡◌, length, take, IfOk, Ok};
 ghost use Rattle.acpi_writer.specs.Hpet as bytes;
 ghost use Rattle.acpi_writer.specs.Words.{HPET, Gives, IsHpet, Keeps};
@@ -63,7 +63,7 @@ pub fn write_hpet(out: &mut [u8], ids: &TableIds, info: &HpetInfo) -> Result<usi
     // The bytes, or the error, are those that are defined.
     ensures exact { Gives (λ n. take n out.new) result
         (bytes.hpet_written (length out.old) ids.now info.now) }
-    // What stands after the table is unchanged, and after an error the whole slice is.
+    // What is after the table is unchanged, and after an error the whole slice is.
     ensures keeps { Keeps result out.old out.new }
     // The numbers that were given fit, so that what was given is what is read (`tables_are_read`).
     ensures fits { IfOk result (λ n. IsHpet ids.now info.now (take n out.new)) }

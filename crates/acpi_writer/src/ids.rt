@@ -1,4 +1,4 @@
-//! Who made a table, as its header says (section 5.2.6).
+//! Who made a table, as its header has it (section 5.2.6).
 ghost use Rattle.std.specs.Prelude.{◌≡◌};
 ghost use Rattle.acpi_writer.specs.Words.{AreIds, are_texts};
 

@@ -29,9 +29,9 @@ pub struct Machine<'a, T = TableContents<'a>> {
     pub tables: &'a [T],
 }
 
-/// The physical address at which `write_tables` lays the DSDT of a machine that lists so many tables, if it is passed
-/// this address itself, or `None` if there can't be so many or the sum is 2^64 or above. A FADT among the tables is to
-/// have it.
+/// The physical address at which `write_tables` lays the DSDT of a machine that lists this number of tables, if it is
+/// passed this address itself, or `None` if there can't be that many or the sum is 2^64 or above. A FADT among the
+/// tables is to have it.
 pub fn dsdt_address(address: u64, tables: usize) -> Option<u64>
     ensures { result ≡ whole.dsdt_at address tables }
 {
@@ -49,9 +49,9 @@ fn facs_gap(address: u64) -> usize
     ((64 - address % 64) % 64) as usize
 }
 
-/// The physical address at which `write_tables` lays the FACS of a machine that lists so many tables after this DSDT, a
-/// multiple of 64 (section 5.2.10), if it is passed this address itself, or `None` as `dsdt_address` has it, or if the
-/// DSDT can't be so long. A FADT among the tables is to have it.
+/// The physical address at which `write_tables` lays the FACS of a machine that lists this number of tables after this
+/// DSDT, a multiple of 64 (section 5.2.10), if it is passed this address itself, or `None` as `dsdt_address` has it, or
+/// if the DSDT can't be so long. A FADT among the tables is to have it.
 pub fn facs_address(address: u64, tables: usize, dsdt: Option<AmlContents<'_>>) -> Option<u64>
     ensures { result ≡ whole.facs_at address tables dsdt.entry }
 {
@@ -143,7 +143,7 @@ pub fn tables_size<T: Listed>(machine: &Machine<'_, T>) -> Result<usize, WriterE
     Ok(48 + tree_size(machine)?)
 }
 
-/// Puts the addresses of tables, of which the first lies at this one.
+/// Puts the addresses of tables, of which the first is at this one.
 fn put_addresses<T: Listed>(out: &mut [u8], start: u64, ids: &TableIds, tables: &[T])
     requires whole { length out.old ≡ 8 * length tables.now }
     requires ends { start + length (laid (map (bytes_by T.written ids.now) tables.now)) < 2 ^ 64 }
@@ -191,7 +191,7 @@ fn put_facs(out: &mut [u8], address: u64, facs: &Option<FacsContents>)
     }
 }
 
-/// Puts the header of an XSDT, and the addresses of tables of which the first lies at this one.
+/// Puts the header of an XSDT, and the addresses of tables of which the first is at this one.
 fn put_pointers<T: Listed>(out: &mut [u8], head: &[u8], start: u64, machine: &Machine<'_, T>)
     requires whole { length out.old ≡ length head.now + 8 * length machine.now.tables.now }
     requires ends { start + length (laid (whole.listed_by T.written machine.now)) < 2 ^ 64 }
@@ -201,7 +201,7 @@ fn put_pointers<T: Listed>(out: &mut [u8], head: &[u8], start: u64, machine: &Ma
     put_addresses(&mut out[head.len()..], start, &machine.ids, machine.tables);
 }
 
-/// Fills a slice with the XSDT of tables of which the first lies at this address.
+/// Fills a slice with the XSDT of tables of which the first is at this address.
 #[tactic(auto, using(crate::proofs::Sized::root_long), unfolding(crate::specs::Table::table_bytes))]
 fn fill_xsdt<T: Listed>(out: &mut [u8], start: u64, machine: &Machine<'_, T>)
     requires whole { length out.old ≡ whole.xsdt_length machine.now }
@@ -214,7 +214,7 @@ fn fill_xsdt<T: Listed>(out: &mut [u8], start: u64, machine: &Machine<'_, T>)
     set_sum(out, 9); // Checksum
 }
 
-/// Puts the XSDT of tables of which the first lies at this address.
+/// Puts the XSDT of tables of which the first is at this address.
 fn put_xsdt<T: Listed>(out: &mut [u8], start: u64, machine: &Machine<'_, T>)
     requires whole { length out.old ≡ rounded (whole.xsdt_length machine.now) }
     requires short { whole.xsdt_length machine.now < 2 ^ 32 }
@@ -264,7 +264,7 @@ fn put_tree<T: Listed>(out: &mut [u8], address: u64, machine: &Machine<'_, T>)
     put_rest(&mut out[xsdt..], dsdt, machine);
 }
 
-/// Whether so many bytes have room, and can lie at this address.
+/// Whether this number of bytes has room, and can be at this address.
 fn check_place(room: usize, address: u64, size: usize) -> Result<(), WriterError>
     ensures { result ≡ whole.check_place room address size }
 {
@@ -284,7 +284,7 @@ fn check_place(room: usize, address: u64, size: usize) -> Result<(), WriterError
 ///
 /// Returns, in this order, `BadName` if a name of the ids is not valid UTF-8, `TooLong` if the XSDT would have 2^32
 /// bytes or more, the first error of the DSDT or of a table in order, as its own function has it, `NoRoom` if the slice
-/// is shorter than all tables, and `NoAddress` if the address is 0 or no multiple of 16, or the last byte lies at
+/// is shorter than all tables, and `NoAddress` if the address is 0 or no multiple of 16, or the last byte is at
 /// 2^64 - 1 or above.
 pub fn write_tables_without_rsdp<T: Listed>(
     out: &mut [u8],
@@ -294,7 +294,7 @@ pub fn write_tables_without_rsdp<T: Listed>(
     // The bytes, or the first error, are those that are defined.
     ensures exact { Gives (λ n. take n out.new) result
         (whole.tree_written T.written (length out.old) address machine.now) }
-    // What stands after the tables is unchanged, and after an error the whole slice is.
+    // What is after the tables is unchanged, and after an error the whole slice is.
     ensures keeps { Keeps result out.old out.new }
     // The machine can be written for this address, so that a reader finds it there (`machine_is_read`).
     ensures fits { IfOk result (λ n. whole.CanLie T.written T.fits address machine.now) }
@@ -328,8 +328,8 @@ fn put_machine<T: Listed>(out: &mut [u8], address: u64, machine: &Machine<'_, T>
 }
 
 /// Writes all tables of a machine to the front of a slice, which is to lie at this physical address: the RSDP, which so
-/// lies at this address itself, and after its 48 bytes all that `write_tables_without_rsdp` writes. Returns how many
-/// bytes these are, as many as `tables_size` says.
+/// is at this address itself, and after its 48 bytes all that `write_tables_without_rsdp` writes. Returns how many
+/// bytes these are, as many as `tables_size` returns.
 ///
 /// Returns the errors of `write_tables_without_rsdp`, in their order.
 pub fn write_tables<T: Listed>(
@@ -340,7 +340,7 @@ pub fn write_tables<T: Listed>(
     // The bytes, or the first error, are those that are defined.
     ensures exact { Gives (λ n. take n out.new) result
         (whole.machine_written T.written (length out.old) address machine.now) }
-    // What stands after the tables is unchanged, and after an error the whole slice is.
+    // What is after the tables is unchanged, and after an error the whole slice is.
     ensures keeps { Keeps result out.old out.new }
     // The machine can be written for this address, so that a reader finds it there (`machine_is_read`).
     ensures fits { IfOk result (λ n. whole.CanLie T.written T.fits (address + 48) machine.now) }

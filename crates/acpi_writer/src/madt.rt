@@ -51,8 +51,8 @@ pub struct MadtNmiLine {
     pub trigger_mode: TriggerMode,
 }
 
-/// What a MADT is to say, in the words of `InterruptModel` and `ProcessorInfo`, as which it is read; or of what stands
-/// for them.
+/// What a MADT is to contain, in the words of `InterruptModel` and `ProcessorInfo`, as which it is read; or of what is
+/// written for them.
 #[derive(Copy)]
 pub struct MadtContents<
     'a,
@@ -91,14 +91,14 @@ impl<P: Copy, I: Copy, O: Copy, S: Copy, L: Copy> Clone for MadtContents<'_, P, 
     }
 }
 
-/// Whether neither the uid nor the id is the one that stands for all processors.
+/// Whether neither the uid nor the id is the one that means all processors.
 fn is_single(processor: MadtProcessor) -> bool
     ensures { result ≡ bytes.is_single processor }
 {
     processor.processor_uid < 0xffffffff && processor.local_apic_id < 0xffffffff
 }
 
-/// Whether no processor has a number that stands for all.
+/// Whether no processor has a number that means all.
 fn processors_fit<P: StandsFor<MadtProcessor>>(processors: &[P]) -> bool
     ensures { result ≡ list_all bytes.is_single (map P.meant processors.now) }
 {
@@ -110,7 +110,7 @@ fn processors_fit<P: StandsFor<MadtProcessor>>(processors: &[P]) -> bool
     true
 }
 
-/// Whether this isn't the uid that stands for all processors.
+/// Whether this isn't the uid that means all processors.
 fn names_one(processor: NmiProcessor) -> bool
     ensures { result ≡ bytes.names_one processor }
 {
@@ -120,7 +120,7 @@ fn names_one(processor: NmiProcessor) -> bool
     }
 }
 
-/// Whether no line is of the uid that stands for all processors.
+/// Whether no line is of the uid that means all processors.
 fn lines_fit<L: StandsFor<MadtNmiLine>>(lines: &[L]) -> bool
     ensures { result ≡ list_all (λ x. bytes.names_one x.processor) (map L.meant lines.now) }
 {
@@ -230,7 +230,7 @@ where
     // The bytes, or the first error, are those that are defined.
     ensures exact { Gives (λ n. take n out.new) result (bytes.madt_written (length out.old) ids.now
         (bytes.madt_meant P.meant I.meant O.meant S.meant L.meant contents.now)) }
-    // What stands after the table is unchanged, and after an error the whole slice is.
+    // What is after the table is unchanged, and after an error the whole slice is.
     ensures keeps { Keeps result out.old out.new }
     // The numbers that were given fit, so that what was given is what is read (`tables_are_read`).
     ensures fits { IfOk result (λ n. IsMadt ids.now

@@ -70,7 +70,7 @@ pub fn write_mcfg<E: StandsFor<McfgEntry>>(
     // The bytes, or the first error, are those that are defined.
     ensures exact { Gives (λ n. take n out.new) result
         (bytes.mcfg_written (length out.old) ids.now (map E.meant regions.now)) }
-    // What stands after the table is unchanged, and after an error the whole slice is.
+    // What is after the table is unchanged, and after an error the whole slice is.
     ensures keeps { Keeps result out.old out.new }
     // The numbers that were given fit, so that what was given is what is read (`tables_are_read`).
     ensures fits { IfOk result (λ n. IsMcfg ids.now (map E.meant regions.now) (take n out.new)) }

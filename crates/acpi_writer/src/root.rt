@@ -46,7 +46,7 @@ pub fn write_rsdt(out: &mut [u8], ids: &TableIds, addresses: &[u32]) -> Result<u
     // The bytes, or the first error, are those that are defined.
     ensures exact { Gives (λ n. take n out.new) result
         (root_written Rsdt (length out.old) ids.now addresses.now) }
-    // What stands after the table is unchanged, and after an error the whole slice is.
+    // What is after the table is unchanged, and after an error the whole slice is.
     ensures keeps { Keeps result out.old out.new }
     // The numbers that were given fit, so that the addresses are the table's pointers (`tables_are_read`).
     ensures fits { IfOk result (λ n. IsRoot Rsdt ids.now addresses.now (take n out.new)) }
@@ -63,7 +63,7 @@ pub fn write_xsdt(out: &mut [u8], ids: &TableIds, addresses: &[u64]) -> Result<u
     // The bytes, or the first error, are those that are defined.
     ensures exact { Gives (λ n. take n out.new) result
         (root_written Xsdt (length out.old) ids.now addresses.now) }
-    // What stands after the table is unchanged, and after an error the whole slice is.
+    // What is after the table is unchanged, and after an error the whole slice is.
     ensures keeps { Keeps result out.old out.new }
     // The numbers that were given fit, so that the addresses are the table's pointers (`tables_are_read`).
     ensures fits { IfOk result (λ n. IsRoot Xsdt ids.now addresses.now (take n out.new)) }

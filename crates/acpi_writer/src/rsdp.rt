@@ -25,7 +25,7 @@ pub fn write_rsdp(out: &mut [u8], ids: &TableIds, xsdt: u64) -> Result<usize, Wr
     // The bytes, or the first error, are those that are defined.
     ensures exact { Gives (λ n. take n out.new) result
         (rsdp.rsdp_written (length out.old) ids.now xsdt) }
-    // What stands after the RSDP is unchanged, and after an error the whole slice is.
+    // What is after the RSDP is unchanged, and after an error the whole slice is.
     ensures keeps { Keeps result out.old out.new }
     // The address fits, so that the RSDP is valid and leads there (`tables_are_read`).
     ensures fits { IfOk result (λ n. rsdp.IsRsdp ids.now xsdt (take n out.new)) }

@@ -49,7 +49,7 @@ impl<'a> Table for SlitContents<'a> {
 
 /// Writes a SLIT of revision 1 to the front of a slice, and returns how many bytes it has: 44, and one for each
 /// distance. The distances from the first locality come first, in order. Whether there is a locality, and whether each
-/// is at 10 from itself, isn't asked.
+/// is at 10 from itself, isn't checked.
 ///
 /// Returns, in this order, `BadMatrix` if there isn't a distance for each pair of localities, `BadName` if a name of
 /// the ids is not valid UTF-8, `NoRoom` if the slice is shorter than the table, and `TooLong` if the table has 2^32
@@ -64,7 +64,7 @@ pub fn write_slit(
     // The bytes, or the first error, are those that are defined.
     ensures exact { Gives (λ n. take n out.new) result
         (slit_written (length out.old) ids.now localities distances.now) }
-    // What stands after the table is unchanged, and after an error the whole slice is.
+    // What is after the table is unchanged, and after an error the whole slice is.
     ensures keeps { Keeps result out.old out.new }
     // The numbers that were given fit, so that the distances are those that are read (`tables_are_read`).
     ensures fits { IfOk result (λ n. IsSlit ids.now localities distances.now (take n out.new)) }

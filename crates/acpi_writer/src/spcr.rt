@@ -1,5 +1,5 @@
-//! The Serial Port Console Redirection Table (SPCR, section 5.2.6), from what it says of a serial port. Its layout is
-//! Microsoft's.
+//! The Serial Port Console Redirection Table (SPCR, section 5.2.6), from what it contains of a serial port. Its layout
+//! is Microsoft's.
 ghost use Rattle.std.specs.Prelude.{◌≡◌, ◌&&◌, length, take, IfOk, IsUtf8, ◌++◌, [], ◌∷◌};
 ghost use Rattle.acpi_writer.specs.Words.{Gives, is_interface, Keeps, SPCR};
 ghost use Rattle.acpi_writer.specs.Spcr as spcr;
@@ -20,9 +20,9 @@ use acpi_base::spcr::{SpcrFlowControl, SpcrInterfaceType, SpcrInterruptType, Spc
 /// The PCI device that a serial port is, as an SPCR has it.
 #[derive(Clone, Copy)]
 pub struct SpcrPciDevice {
-    /// PCI Device ID, which 0xffff stands for none of.
+    /// PCI Device ID, for none of which 0xffff is written.
     pub device_id: u16,
-    /// PCI Vendor ID, which 0xffff stands for none of.
+    /// PCI Vendor ID, for none of which 0xffff is written.
     pub vendor_id: u16,
     /// PCI Bus Number.
     pub bus: u8,
@@ -155,8 +155,8 @@ impl Spelled for Name<'_> {
     }
 }
 
-/// Writes an SPCR of revision 4 to the front of a slice, and returns how many bytes it has: 88, and those of its name
-/// with the zero that ends it. Whether the name is a path isn't asked.
+/// Writes an SPCR of revision 4 to the front of a slice, and returns how many bytes it has: 88, and the bytes of its
+/// name with the zero that ends it. Whether the name is a path isn't checked.
 ///
 /// Returns, in this order, `BadCode` if the interface type or the base address's space has the code of another one or a
 /// reserved code, `NoAddress` if the base address is 0, `LongName` if the name has 65535 bytes or more, `BadName` if a
@@ -170,7 +170,7 @@ pub fn write_spcr(
     // The bytes, or the first error, are those that are defined.
     ensures exact { Gives (λ n. take n out.new) result
         (spcr.spcr_written (length out.old) ids.now contents.now) }
-    // What stands after the table is unchanged, and after an error the whole slice is.
+    // What is after the table is unchanged, and after an error the whole slice is.
     ensures keeps { Keeps result out.old out.new }
     // The numbers that were given fit, so that what was given is what is read (`tables_are_read`).
     ensures fits { IfOk result (λ n. spcr.IsSpcr ids.now contents.now (take n out.new)) }

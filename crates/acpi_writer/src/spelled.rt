@@ -16,13 +16,13 @@ pub trait Spelled {
     fn measure(&self, room: usize) -> Option<usize>
         ensures { Measures result room (spelled self.now) (fits self.now) };
 
-    /// Puts its bytes in place of all those of a slice that is as long.
+    /// Puts its bytes in place of all bytes of a slice that is as long.
     fn put(&self, out: &mut [u8])
         requires { length out.old ≡ length (spelled self.now) }
         ensures { out.new ≡ spelled self.now };
 }
 
-/// What stands for an item of a table: the item itself, or a record of a caller's own.
+/// What is written as an item of a table: the item itself, or a record of a caller's own.
 pub trait StandsFor<T: Copy>: Copy {
     // The item.
     ghost meant: { Self → T };

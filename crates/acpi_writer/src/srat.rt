@@ -44,7 +44,7 @@ pub struct SratContents<'a, R = MemoryRange> {
     pub apics: &'a [ApicDomain],
     /// The domains of processors with an interface to the GIC.
     pub giccs: &'a [GiccDomain],
-    /// The ranges of memory, with their domains, or what stands for them.
+    /// The ranges of memory, with their domains, or what is written in their place.
     pub ranges: &'a [R],
 }
 
@@ -137,14 +137,14 @@ impl Record for MemoryRange {
     }
 }
 
-/// Whether no processor has the id that stands for all.
+/// Whether no processor has the id that means all.
 fn apics_fit(apics: &[ApicDomain]) -> bool
     ensures { result ≡ list_all srat.is_one_apic apics.now }
 {
     apics.iter().all(|apic| apic.local_apic_id != 0xffffffff)
 }
 
-/// Whether no processor has the uid that stands for all.
+/// Whether no processor has the uid that means all.
 fn giccs_fit(giccs: &[GiccDomain]) -> bool
     ensures { result ≡ list_all srat.is_one_gicc giccs.now }
 {
@@ -202,7 +202,7 @@ impl<'a, R: StandsFor<MemoryRange>> Table for SratContents<'a, R> {
     }
 }
 
-/// Writes a SRAT of revision 3 to the front of a slice, and returns how many bytes it has: 48, and those of its
+/// Writes a SRAT of revision 3 to the front of a slice, and returns how many bytes it has: 48, and the bytes of its
 /// entries, which stand sort by sort, in the order of the fields, and are all enabled. A processor with a local APIC
 /// has 16 if its id is below 255, as a Processor Local APIC/SAPIC Affinity, otherwise 24, as a Processor Local x2APIC
 /// Affinity; one with an interface to the GIC has 18, and a range of memory 40. Each Clock Domain is 0. Of two entries
@@ -220,7 +220,7 @@ pub fn write_srat<R: StandsFor<MemoryRange>>(
     // The bytes, or the first error, are those that are defined.
     ensures exact { Gives (λ n. take n out.new) result
         (srat.srat_written (length out.old) ids.now (srat.srat_meant R.meant contents.now)) }
-    // What stands after the table is unchanged, and after an error the whole slice is.
+    // What is after the table is unchanged, and after an error the whole slice is.
     ensures keeps { Keeps result out.old out.new }
     // The numbers that were given fit, so that what was given is what is read (`tables_are_read`).
     ensures fits { IfOk result (λ n.

@@ -51,7 +51,7 @@ fn fill<B: Spelled>(table: &mut [u8], signature: Signature, revision: u8, ids: T
     set_sum(table, 9); // Checksum
 }
 
-/// How many bytes a table has, or the first error of `write_table` in a slice of so many bytes.
+/// How many bytes a table has, or the first error of `write_table` in a slice of that length.
 #[tactic(auto, using(crate::proofs::Tables::table_length), unfolding(crate::specs::Table::table_written))]
 fn table_size<B: Spelled>(
     room: usize,
@@ -129,7 +129,7 @@ pub(crate) trait Table {
 
 /// Writes the table that is to say this to the front of a slice, and returns how many bytes it has.
 ///
-/// Returns the error of the contents, if a table has no place for them, and then those of `write_table`.
+/// Returns the error of the contents, if a table has no place for them, and then `write_table`'s.
 pub(crate) fn write<T: Table>(
     out: &mut [u8],
     ids: &TableIds,

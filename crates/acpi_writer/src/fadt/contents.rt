@@ -11,13 +11,13 @@ pub struct FixedHardware {
     pub smi_cmd_port: u32,
     /// ACPI_ENABLE: the command that takes the registers from the firmware.
     pub acpi_enable: u8,
-    /// ACPI_DISABLE: the command that gives them back.
+    /// ACPI_DISABLE: the command that returns them.
     pub acpi_disable: u8,
-    /// S4BIOS_REQ: the command that asks the firmware for S4.
+    /// S4BIOS_REQ: the command that requests S4 from the firmware.
     pub s4bios_req: u8,
     /// PSTATE_CNT: the command that takes over the processors' performance states.
     pub pstate_control: u8,
-    /// CST_CNT: the command that says that the system follows changes of C states.
+    /// CST_CNT: the command that tells that the system follows changes of C states.
     pub c_state_control: u8,
     /// PM1a_EVT_BLK: the status and enable registers of the fixed events.
     pub pm1a_event: GenericAddress,
@@ -48,7 +48,7 @@ pub enum FadtHardware {
     Fixed(FixedHardware),
 }
 
-/// What a FADT says of processors and of the clock, in fields of its first versions (section 5.2.9).
+/// What a FADT contains of processors and of the clock, in fields of its first versions (section 5.2.9).
 #[derive(Clone, Copy)]
 pub struct LegacyFields {
     /// P_LVL2_LAT: the longest time into C2 and back, in microseconds. Above 100: there is no C2.

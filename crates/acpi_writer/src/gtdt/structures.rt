@@ -124,7 +124,7 @@ impl<F> Record for GtBlockContents<'_, F> {
     #[tactic(auto, unfolding(crate::specs::Gtdt::block_fields))]
     fn fields(&self) -> [Field; 6] {
         let count = self.frames.len() as u64;
-        // What stands for a frame may have no bytes, so that there may be any number of them.
+        // What is written as a frame may have no bytes, so that there may be any number of them.
         let length = 20 + 40 * (count % 0x10000);
         [
             Field::U8(0),

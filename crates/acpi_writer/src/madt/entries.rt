@@ -168,7 +168,7 @@ impl Record for NmiSource {
     }
 }
 
-/// A Local APIC NMI, of whose uids 255 stands for all processors.
+/// A Local APIC NMI, of whose uids 255 means all processors.
 #[tactic(auto, unfolding(crate::specs::MadtBytes::apic_nmi_fields))]
 fn apic_nmi(uid: u8, flags: u8, line: u8) -> [Field; 6]
     ensures { result ≡ bytes.apic_nmi_fields uid flags line }

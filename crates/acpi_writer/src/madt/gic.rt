@@ -18,8 +18,8 @@ use acpi_base::Signature;
 use std::alloc::AllocError;
 use std::marker::PhantomData;
 
-/// What the MADT of an Arm machine is to say, in the fields of `GicModel`, as which it is read; or of what stands for
-/// them.
+/// What the MADT of an Arm machine is to contain, in the fields of `GicModel`, as which it is read; or of what is
+/// written as them.
 #[derive(Copy)]
 pub struct GicContents<
     'a,
@@ -114,7 +114,7 @@ where
 
 /// Writes the MADT of an Arm machine, of revision 6, to the front of a slice, and returns how many bytes it has. Its
 /// entries stand in the order of the fields. A GICC has 80 bytes if its `trace_buffer_interrupt` is `None`, and
-/// otherwise 82, as since ACPI 6.5. Local Interrupt Controller Address and Flags, which are those of APICs, are 0. Two
+/// otherwise 82, as since ACPI 6.5. Local Interrupt Controller Address and Flags, which are for APICs, are 0. Two
 /// processors of one uid are written as they are.
 ///
 /// Returns, in this order, `NoProcessor` if there is no processor, `SameAsBus` if a trigger mode is that of a bus,
@@ -134,7 +134,7 @@ where
     // The bytes, or the first error, are those that are defined.
     ensures exact { Gives (λ n. take n out.new) result (gic_written (length out.old) ids.now
         (gic_meant C.meant R.meant T.meant F.meant contents.now)) }
-    // What stands after the table is unchanged, and after an error the whole slice is.
+    // What is after the table is unchanged, and after an error the whole slice is.
     ensures keeps { Keeps result out.old out.new }
     // The numbers that were given fit, so that what was given is what is read (`tables_are_read`).
     ensures fits { IfOk result (λ n. IsGicMadt ids.now

@@ -154,8 +154,8 @@ impl<'a> Table for RiscvContents<'a> {
 }
 
 /// Writes the MADT of a RISC-V machine, of revision 7, to the front of a slice, and returns how many bytes it has. Its
-/// entries stand in the order of the fields, a RINTC with 36 bytes; whether ids and versions are those of the
-/// specification isn't checked. Local Interrupt Controller Address and Flags, which are those of APICs, are 0.
+/// entries are in the order of the fields, a RINTC with 36 bytes; whether ids and versions are the
+/// specification's isn't checked. Local Interrupt Controller Address and Flags, which are for APICs, are 0.
 ///
 /// Returns, in this order, `NoProcessor` if there is no hart, `BadName` if a name of the ids is not valid UTF-8,
 /// `NoRoom` if the slice is shorter than the table, and `TooLong` if the table has 2^32 bytes or more.
@@ -167,7 +167,7 @@ pub fn write_riscv_madt(
 ) -> Result<usize, WriterError>
     // The bytes, or the first error, are those that are defined.
     ensures exact { Gives (λ n. take n out.new) result (riscv_written (length out.old) ids.now contents.now) }
-    // What stands after the table is unchanged, and after an error the whole slice is.
+    // What is after the table is unchanged, and after an error the whole slice is.
     ensures keeps { Keeps result out.old out.new }
     // The numbers that were passed fit, so that they are what is read (`tables_are_read`).
     ensures fits { IfOk result (λ n. IsRiscvMadt ids.now contents.now (take n out.new)) }
