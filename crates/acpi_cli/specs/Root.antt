@@ -39,7 +39,7 @@ form_root form rest =
     else if bytes_eq form (codes "bios") then bios_root rest
     else None
 
--- what rsdt REVISION ADDRESS, rsdp ADDRESS or bios says
+-- what rsdt REVISION ADDRESS, rsdp ADDRESS or bios means
 abbrev pub root_of : List (List ℕ) → Option Root
 root_of (form ∷ rest) = form_root form rest
 root_of [] = None

@@ -1,11 +1,11 @@
-//! Files as a program asks for them: each name that it asks for is listed, with the bytes that were read.
+//! Files as a program requests them: each name that it requests is listed, with the bytes that were read.
 ghost use Rattle.std.specs.Prelude.{◌≡◌, ◌++◌, ◌∷◌, ℕ, List, [], IfOk, OnErr, OnOk, Option, length, map, option_copied};
 ghost use Rattle.acpi_cli.specs.Reads.{FileRead, read_of};
 
 use std::alloc::AllocError;
 use std::fs;
 
-/// A file that was asked for: its name, and the bytes that were read of it, if it can be read.
+/// A file that was requested: its name, and the bytes that were read of it, if it can be read.
 #[derive(Drop)]
 pub struct Reading {
     name: String,
@@ -25,19 +25,19 @@ impl Reading {
 }
 
 /// Files, as a program or a test reaches them. It means one thing: the list of all files that were
-/// asked for, in order, each by its name, with what was read of it.
+/// requested, in order, each by its name, with what was read of it.
 pub trait Files {
     ghost asked: { Self → List FileRead };
 
     /// Asks for the file of a name, and keeps the bytes that are read of it.
     ///
-    /// Fails if memory for the list is refused, and then asks for no file.
+    /// Fails if memory for the list runs out, and then requests no file.
     fn read(&mut self, name: &str) -> Result<(), AllocError>
         ensures asked { OnOk result ((content : Option (List ℕ)) × (asked self.new
             ≡ asked self.old ++ record { name = name.now; content = content } ∷ [])) }
         ensures refused { OnErr result (asked self.new ≡ asked self.old) };
 
-    /// All files that were asked for, in order, each with the bytes that were read of it.
+    /// All files that were requested, in order, each with the bytes that were read of it.
     fn readings(&self) -> &[Reading]
         ensures { map read_of result.now ≡ asked self.now };
 }
@@ -52,7 +52,7 @@ pub struct HostFiles<'r> {
 impl<'r> HostFiles<'r> {
     ghost use Rattle.std.specs.Prelude.{◌≡◌, []};
 
-    /// The files of the system, of which none was asked for yet.
+    /// The files of the system, of which none was requested yet.
     pub fn new(rt: &'r HostRuntime) -> HostFiles<'r>
         ensures { ⟦<HostFiles<'r> as Files>⟧.asked result ≡ [] }
     {
@@ -89,14 +89,14 @@ impl Files for HostFiles<'_> {
     }
 }
 
-/// How many files were asked for.
+/// How many files were requested.
 pub fn count<F: Files>(files: &F) -> usize
     ensures { result ≡ length (F.asked files.now) }
 {
     files.readings().len()
 }
 
-/// The bytes that were read of the file that was asked for last, or `None` if it can't be read.
+/// The bytes that were read of the file that was requested last, or `None` if it can't be read.
 pub fn last_content<F: Files>(files: &F) -> Option<&[u8]>
     ensures { (before : List FileRead) (last : FileRead) → F.asked files.now ≡ before ++ last ∷ []
         → option_copied result ≡ last.content }

@@ -51,13 +51,13 @@ pub fn parse_address(word: &str) -> Option<u64>
     number_of(word.strip_prefix("0x")?, 16, 16)
 }
 
-/// These arguments, or no arguments if the system refused them for another reason than memory, as when one is
+/// These arguments, or no arguments if the system doesn't return them for another reason than memory, as when one is
 /// not valid UTF-8.
 ///
-/// Fails if memory for the arguments was refused.
+/// Fails if memory for the arguments runs out.
 pub fn args_or_none(alloc: Global, args: io::Result<Vec<String>>) -> io::Result<Vec<String>>
     ensures had { IfOk args (λ t. result ≡ Ok t) }
-    // Memory that is refused doesn't make the arguments wrong.
+    // Memory that runs out doesn't make the arguments wrong.
     ensures memory { IfErr args (λ e. error_kind e ≡ ErrorKind.OutOfMemory → result ≡ Err e) }
     ensures other { IfErr args (λ e. error_kind e ≢ ErrorKind.OutOfMemory →
         IsOkAnd result (λ t. t.items ≡ [])) }
@@ -81,16 +81,16 @@ fn after_name(mut args: Vec<String>) -> Vec<String>
 
 /// The process's arguments after the program's name, in order.
 ///
-/// Fails if the system refuses them.
+/// Fails if the system doesn't return them.
 fn args_after_name(rt: &HostRuntime) -> io::Result<Vec<String>> {
     let args = env::args(rt)?.collect(rt.alloc())?;
     Ok(after_name(args))
 }
 
-/// The process's arguments after the program's name, in order, or no arguments if the system refuses them for
+/// The process's arguments after the program's name, in order, or no arguments if the system doesn't return them for
 /// another reason than memory, as when one is not valid UTF-8.
 ///
-/// Fails if memory for them is refused.
+/// Fails if memory for them runs out.
 pub fn args(rt: &HostRuntime) -> io::Result<Vec<String>> {
     args_or_none(rt.alloc(), args_after_name(rt))
 }

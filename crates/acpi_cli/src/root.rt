@@ -79,7 +79,7 @@ fn parse_bios(words: &[&str]) -> Option<Root>
     }
 }
 
-/// The way that a form says, `rsdt`, `rsdp` or `bios`, with the arguments after it.
+/// The way that a form means, `rsdt`, `rsdp` or `bios`, with the arguments after it.
 fn parse_form(form: &str, words: &[&str]) -> Option<Root>
     ensures { result ≡ form_root form.now (map (λ w. w.now) words.now) }
 {

@@ -69,7 +69,7 @@ opened = record { revision = 0; kind = Rsdt; address = 0x1000; root = rsdt }
 
 -- ---- what is the same over both memories that differ
 
--- two memories agree on a definition's ranges, and this is what it says there
+-- two memories agree on a definition's ranges, and this is what it is there
 abbrev pub Instance : {X A : Type 0} → Memory → Memory → (Memory → X → Ranges) → (Memory → X → A) → X → A → Type 0
 Instance m n ranges defined x answer = AgreesOn m n (ranges m x) × (defined m x ≡ answer)
 
@@ -100,7 +100,7 @@ pub record Instances (A : Type 0) : Type 0 where
   pub rsdp_there : At rsdp_ranges rsdp_at 0x500 (Ok rsdp)
   pub root : At opened_ranges opened_from (root_pointer 0 Rsdt 0x1000) (Ok opened)
   pub by_rsdp : At opened_by_rsdp_ranges opened_by_rsdp 0x500 (Ok opened)
-  -- what may be asked for to open the RSDT and to look the HPET up: of the table whose id is refused and of the FADT
+  -- what may be requested to open the RSDT and to look the HPET up: of the table whose id is an error and of the FADT
   -- the header, and nothing after the HPET
   pub asked :
       root_and_ranges here (root_pointer 0 Rsdt 0x1000) (λ m. lookup_ranges m hpet_kind)
@@ -108,7 +108,7 @@ pub record Instances (A : Type 0) : Type 0 where
 
 -- ---- the same tables elsewhere
 
--- both memories lead to the same valid tables, and the definition says this of both
+-- both memories lead to the same valid tables, and the definition has this value for both
 abbrev pub AtMoved : {A : Type 0} → (Memory → List ℕ → A) → A → Type 0
 AtMoved defined answer =
     (valid_tables moved moved_pointers ≡ valid_tables here listed)

@@ -6,7 +6,7 @@ use Rattle.acpi.specs.declared.root.RootKind.TheVariants.{Rsdt, Xsdt}
 
 -- ---- tables
 
--- a table: its name, one byte each for its length and its checksum, and what stands after the
+-- a table: its name, one byte each for its length and its checksum, and what is after the
 -- header; the revision is 1, and all else in the header is 0
 abbrev pub table : List ℕ → ℕ → ℕ → List ℕ → List ℕ
 table name length checksum body =
@@ -139,8 +139,8 @@ DifferAt m n addresses =
     (map (λ a. at m a 1) addresses ≡ map (λ a. Some (0 ∷ [])) addresses)
     × (map (λ a. at n a 1) addresses ≡ map (λ a. Some (255 ∷ [])) addresses)
 
--- after each table, after the header of the one whose id is refused and at its end, and after the header of the damaged
--- one
+-- after each table, after the header of the one whose id is an error and at its end, and after the header of the
+-- damaged one
 abbrev pub differing : List ℕ
 differing =
     0x524 ∷ 0x103c ∷ 0x2024 ∷ 0x203b ∷ 0x203c ∷ 0x3074 ∷ 0x4038 ∷ 0x5044 ∷ 0x603c ∷ 0x7026 ∷ 0x8028 ∷ 0x9024 ∷ []

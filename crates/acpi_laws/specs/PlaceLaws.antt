@@ -11,7 +11,7 @@ use Rattle.acpi.specs.declared.root.RootKind.{RootKind}
 abbrev pub OneForEach : Type 0
 OneForEach = (m : Memory) (ps : List ℕ) → map (λ x. x.address) (members_of m ps) ≡ ps
 
--- the headers of the members that aren't refused are all valid headers
+-- the headers of the members without an error are all valid headers
 abbrev pub HeadersOfMembers : Type 0
 HeadersOfMembers = (m : Memory) (ps : List ℕ)
     → filter_map (λ x. result_ok x.header) (members_of m ps) ≡ valid_headers m ps
@@ -21,7 +21,7 @@ abbrev pub FirstIsFound : Type 0
 FirstIsFound = (m : Memory) (k : Kind) (ps : List ℕ)
     → slice_get (tables_found m k ps) 0 ≡ result_ok (lookup m k ps)
 
--- a lookup by a signature alone is that of a type that asks for no more than a header's checks
+-- a lookup by a signature alone is the lookup of a type that wants no more than a header's checks
 abbrev pub FoundBySignature : Type 0
 FoundBySignature = (m : Memory) (k : Kind) (ps : List ℕ)
     → k.least ≡ 36 → k.names ≡ check_names k.signature → k.check ≡ check_table k.signature
@@ -38,7 +38,7 @@ abbrev pub LiesInOne : ℕ × ℕ → List AddressRange → Type 0
 LiesInOne asked [] = ⊥
 LiesInOne asked (r ∷ rs) = LiesIn asked r ⊎ LiesInOne asked rs
 
--- they begin at a member that is refused under the signature that it has
+-- they begin at a member that is an error under the signature that it has
 abbrev pub BeginsRefused : Memory → List ℕ → ℕ → Type 0
 BeginsRefused m [] a = ⊥
 BeginsRefused m (p ∷ ps) a = ((a ≡ p) × IsErr (own_table_at m p)) ⊎ BeginsRefused m ps a
@@ -48,12 +48,12 @@ abbrev pub BeginsNoDsdt : Memory → List ℕ → ℕ → Type 0
 BeginsNoDsdt m ps a = (found : ℕ × List ℕ) × (lookup m fadt_kind ps ≡ Ok found)
     × (dsdt_address_of (fadt_at found.1) ≡ Ok a) × IsErr (table_at m (plain_kind DSDT) a)
 
--- each of these lies where the tables lie, or begins at a refused member, or at no valid DSDT
+-- each of these is where the tables are, or begins at a member with an error, or at no valid DSDT
 abbrev pub AreReserved : AddressRange → Memory → List ℕ → Ranges → Type 0
 AreReserved root m ps = AllByRecursion (λ asked. LiesInOne asked (places_of root m ps)
     ⊎ (BeginsRefused m ps asked.0 ⊎ BeginsNoDsdt m ps asked.0))
 
--- the ranges that these depend on and ask for: lookups and faults of any type, `find_tables`,
+-- the ranges that these depend on and request: lookups and faults of any type, `find_tables`,
 -- headers and members, SSDTs, the DSDT, the platform
 pub record TablesLieThere (root : AddressRange) (m : Memory) (ps : List ℕ) : Type 0 where
   pub lookups : (k : Kind) → AreReserved root m ps (lookup_ranges m k ps)
@@ -66,7 +66,7 @@ pub record TablesLieThere (root : AddressRange) (m : Memory) (ps : List ℕ) : T
 abbrev pub TablesLieInRanges : Type 0
 TablesLieInRanges = (root : AddressRange) (m : Memory) (ps : List ℕ) → TablesLieThere root m ps
 
--- those of the root table lie where it is
+-- the root table's are where it is
 abbrev pub RootLiesInRange : Type 0
 RootLiesInRange = (m : Memory) (kind : RootKind) (address : ℕ) (table : List ℕ)
     → root_at m kind address ≡ Ok table

@@ -11,7 +11,7 @@ use Rattle.acpi_fixed.specs.Words.{fadt_at, profile_of, registers_of, registers_
 abbrev pub RegistersAreTheTables : Type 0
 RegistersAreTheTables = (table : List ℕ) → registers_of (fadt_at table) ≡ registers_at table
 
--- ---- processors; the allocator of their list says nothing
+-- ---- processors; the allocator of their list doesn't matter
 
 abbrev pub Processors : Type 0
 Processors = Option (ProcessorInfo (Unit {0}))

@@ -10,12 +10,12 @@ ghost use Rattle.acpi_laws.specs.PlaceLaws.{FirstIsFound, FoundBySignature, Head
 pub fn definitions_hold()
     // Each constant of `Signature` has the four letters of its table (section 5.2.6).
     ensures names { NamesAreSpelled }
-    // In a memory of disjoint regions, what is lent is exactly a range that lies whole inside one region, with the
+    // In a memory of disjoint regions, what is mapped is exactly a range that is whole inside one region, with the
     // bytes that the region has there.
     ensures lent { LentIsInside }
     // A number whose bytes reach past the end of a table is read as if zeros followed (section 5.2).
     ensures past_end { FieldPastEnd }
-    // A code is decoded to the one value that has it, and refused by one error if there is none: in a generic address
+    // A code is decoded to the one value that has it, and is one error if there is none: in a generic address
     // (section 5.2.3.2), in MPS INTI Flags (section 5.2.12.5), of a LINT pin (section 5.2.12.7), of the interface in an
     // SPCR, and Preferred_PM_Profile (section 5.2.9.1).
     ensures codes { CodesDecode }
@@ -35,7 +35,7 @@ pub fn definitions_hold()
     ensures cut { CutIsCut }
     // The bytes after a root table's header encode exactly one list of pointers (sections 5.2.7 and 5.2.8).
     ensures pointers { OnePointers }
-    // A lookup answers a table exactly if that is the first one that is valid for the type.
+    // A lookup returns a table exactly if that is the first one that is valid for the type.
     ensures lookup { LookupIsFirst }
     // A member that isn't valid, put anywhere into the list of pointers, changes nothing in a lookup.
     ensures skips { SkipsInvalid }
@@ -49,19 +49,19 @@ pub fn definitions_hold()
     // The area that is searched second for the RSDP, for four words at 0x40e (section 5.2.5.1): the first KiB of an
     // EBDA in its place, 0x80000..0xa0000 for none and for one out of range, and the highest EBDA that is taken.
     ensures second_areas { SecondAreas }
-    // `members` gives exactly one item for each pointer of the root table, in order.
+    // `members` has exactly one item for each pointer of the root table, in order.
     ensures one_for_each { OneForEach }
-    // The headers that `members` gives as `Ok` are those that `headers` gives.
+    // The headers that `members` has as `Ok` are `headers`.
     ensures headers { HeadersOfMembers }
-    // The first that `find_tables` gives is what `find_table` finds, and it gives one exactly if that succeeds.
+    // The first of `find_tables` is what `find_table` finds, and it has one exactly if that succeeds.
     ensures first { FirstIsFound }
-    // `find_sdt` answers what `find_table` does for a type that asks for 36 bytes and the checks of a header.
+    // `find_sdt` returns what `find_table` does for a type that wants 36 bytes and the checks of a header.
     ensures by_signature { FoundBySignature }
     // Each range that a lookup, `faults`, `find_tables`, `headers`, `members`, `ssdts`, `dsdt` or a summary depends on
-    // or asks for lies in one of those that `ranges` gives. Excepted are those that begin at a member that `members`
-    // refuses, or at the address of the DSDT in the first valid FADT, if no valid DSDT is there.
+    // or requests lies in one of `ranges`. Excepted are those that begin at a member that `members`
+    // has as an error, or at the address of the DSDT in the first valid FADT, if no valid DSDT is there.
     ensures tables { TablesLieInRanges }
-    // Each range that opening a root table depends on or asks for at the table's address lies in the first that
-    // `ranges` gives.
+    // Each range that opening a root table depends on or requests at the table's address is in the first that
+    // `ranges`.
     ensures root { RootLiesInRange }
 {}

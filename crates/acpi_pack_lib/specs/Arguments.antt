@@ -1,4 +1,4 @@
--- What the arguments ask for.
+-- What the arguments request.
 use Rattle.std.specs.Prelude.{ℕ, true, false, List, [], ◌∷◌, map, Option, Some, None, if◌then◌else◌, codes, bytes_eq}
 use Rattle.acpi_pack_lib.specs.declared.arguments.Command.{Command}
 use Rattle.acpi_pack_lib.specs.declared.arguments.Form.{Form}
@@ -18,7 +18,7 @@ abbrev pub addresses_of : Form → Option (List ℕ)
 addresses_of (Memory addresses) = Some addresses.items
 addresses_of Tables = None
 
--- what a command asks for
+-- what a command requests
 abbrev pub request_of : Command → Request
 request_of c = record {
   options = c.options;
@@ -55,7 +55,7 @@ memory_request options out pairs = memory_with options out (names_in pairs) (add
 abbrev pub tables_request : Options → List ℕ → List (List ℕ) → Option Request
 tables_request options out names = Some (record { options = options; out = out; names = names; addresses = None })
 
--- what a form and the arguments after it ask for
+-- what a form and the arguments after it request
 abbrev pub form_request : Options → List ℕ → List ℕ → List (List ℕ) → Option Request
 form_request options out form words =
     if bytes_eq form (codes "memory") then memory_request options out words
@@ -80,6 +80,6 @@ options_from options (word ∷ words) =
     then options_from (record { fixes_sums = options.fixes_sums; is_plain = true }) words
     else (options, word ∷ words)
 
--- what the arguments after the program's name ask for
+-- what the arguments after the program's name request
 abbrev pub request_in : List (List ℕ) → Option Request
 request_in words = command_request (options_from no_options words)

@@ -1,4 +1,4 @@
--- What lies where in an image that is packed: a line for each of its records.
+-- what is where in an image that is packed: a line for each of its records.
 use Rattle.std.specs.Prelude.{◌≡◌, ℕ, ◌+◌, Bool, true, false, codes, List, [], ◌∷◌, ◌++◌, drop, map, Option, Some, None, Result, Ok, slice_get, unwrap_or}
 use Rattle.acpi_base.specs.FromStd.{digits}
 use Rattle.acpi_base.specs.Words.{filled_part, Memory, ◌>>=◌, bytes_text}

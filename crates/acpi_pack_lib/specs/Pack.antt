@@ -43,14 +43,14 @@ packed_files addresses files = do
 
 -- ---- tables
 
--- where the RSDP lies, and from where on the other tables do
+-- where the RSDP is, and from where on the other tables are
 abbrev pub rsdp_address : ℕ
 rsdp_address = 0xe0000
 
 abbrev pub first_address : ℕ
 first_address = 0x100000
 
--- as many bytes as an RSDP has, where it lies
+-- as many bytes as an RSDP has, where it is
 abbrev pub rsdp_place : Region
 rsdp_place = record { start = rsdp_address; bytes = replicate 36 0 }
 
@@ -59,12 +59,12 @@ first_fadt [] = None
 first_fadt (table ∷ tables) =
     if begins table (codes "FACP") then Some table else first_fadt tables
 
--- the DSDT's address that a FADT gives, if it is as long as a FADT is and gives one
+-- the DSDT's address in a FADT, if it is as long as a FADT is and has one
 unfoldable pub dsdt_address_in : List ℕ → Option ℕ
 dsdt_address_in fadt =
     if nat_le 116 (length fadt) then result_ok (dsdt_address_of (fadt_at fadt)) else None
 
--- the DSDT's address that a FADT gives, if there is a FADT
+-- the DSDT's address in a FADT, if there is a FADT
 abbrev pub address_by : Option (List ℕ) → Option ℕ
 address_by None = None
 address_by (Some fadt) = dsdt_address_in fadt
@@ -123,6 +123,6 @@ file_of packed = do
   regions ← packed
   Ok (flat_map record_spelling regions)
 
--- a refusal is the one that is defined, or OutOfMemory if nothing is refused
+-- a refusal is the one that is defined, or OutOfMemory if nothing fails
 abbrev pub RefusesOrRunsOut : Result Memory Refusal → Refusal → Type 0
 RefusesOrRunsOut packed e = (packed ≡ Err e) ⊎ ((e ≡ OutOfMemory) × IsOk packed)

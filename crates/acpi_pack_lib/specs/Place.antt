@@ -1,4 +1,4 @@
--- Where tables lie: one after the other, and away from a region that lies already.
+-- Where tables are: one after the other, and away from a region that is there already.
 use Rattle.std.specs.Prelude.{◌≡◌, ◌⊎◌, ℕ, ◌+◌, ◌*◌, ◌/◌, ◌%◌, ◌^◌, ◌<◌, ◌≤◌, nat_le, nat_lt, ◌||◌, if◌then◌else◌, List, [], ◌∷◌, length, Option, Some, None, Result, Ok, Err}
 use Rattle.acpi_base.specs.Words.{Memory, Region, end_of, ◌>>=◌}
 use Rattle.acpi_pack_lib.specs.declared.error.Refusal.{Refusal}

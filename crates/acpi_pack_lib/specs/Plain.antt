@@ -27,7 +27,7 @@ end_in m = end_from 0 m
 
 -- ---- their bytes
 
--- a region lies in so many bytes from an address on
+-- a region is in this number of bytes from an address on
 pub record LiesIn (first count : ℕ) (r : Region) : Type 0 where
   pub starts : first ≤ r.start
   pub ends : end_of r ≤ first + count
@@ -36,7 +36,7 @@ pub record LiesIn (first count : ℕ) (r : Region) : Type 0 where
 abbrev pub with_bytes : List ℕ → ℕ → List ℕ → List ℕ
 with_bytes bytes offset others = take offset bytes ++ others ++ drop (offset + length others) bytes
 
--- bytes that lie from an address on, with those of regions put in
+-- bytes from an address on, with the bytes of regions put in
 abbrev pub with_regions : ℕ → List ℕ → Memory → List ℕ
 with_regions first bytes [] = bytes
 with_regions first bytes (r ∷ rs) = with_regions first (with_bytes bytes (r.start - first) r.bytes) rs

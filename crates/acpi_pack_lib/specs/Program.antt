@@ -44,14 +44,14 @@ IsTold r text (Ok saved) status old new = (status ≡ 0) × (new.err ≡ old.err
 IsTold r text (Err e) status old new =
     (status ≡ 1) × (new.out ≡ old.out) × Appends old.err new.err (unsaved_line r.out (save_error_text e))
 
--- bytes were to be saved once, under the name that is asked for, and nothing else was
+-- bytes were to be saved once, under the name that is requested, and nothing else was
 pub record SavesBytes (r : Request) (bytes text : List ℕ) (status : ℕ) (old new : Effects) : Type 0 where
   pub answer : Result (Unit {0}) SaveError
   pub grown : new.saved ≡ old.saved
       ++ record { name = r.out; sources = r.names; bytes = bytes; answer = answer } ∷ []
   pub told : IsTold r text answer status old new
 
--- an image was to be saved in the form that is asked for; what lies where in it is printed
+-- an image was to be saved in the form that is requested; what is where in it is printed
 pub record Saves (r : Request) (files : List (Option (List ℕ))) (image : List ℕ) (status : ℕ) (old new : Effects)
     : Type 0 where
   pub bytes : List ℕ
@@ -60,7 +60,7 @@ pub record Saves (r : Request) (files : List (Option (List ℕ))) (image : List 
   pub lines : listing r.options.is_plain r.out (labels_of r.addresses r.names files) image ≡ Ok text
   pub saves : SavesBytes r bytes text status old new
 
--- an image of which plain memory is asked for has none: a line says why, and nothing was to be saved
+-- an image of which plain memory is requested has none: a line has the reason, and nothing was to be saved
 pub record RefusesPlain (r : Request) (image : List ℕ) (status : ℕ) (old new : Effects) : Type 0 where
   pub asked : r.options.is_plain ≡ true
   pub refusal : Refusal
@@ -73,7 +73,7 @@ pub record RefusesPlain (r : Request) (image : List ℕ) (status : ℕ) (old new
 abbrev pub SavesOrRefuses : Request → List (Option (List ℕ)) → List ℕ → ℕ → Effects → Effects → Type 0
 SavesOrRefuses r files image status old new = Saves r files image status old new ⊎ RefusesPlain r image status old new
 
--- after an error: nothing was to be saved, or one file was, under the name that is asked for, and then what is printed
+-- after an error: nothing was to be saved, or one file was, under the name that is requested, and then what is printed
 -- of it couldn't be
 pub record SavesOne (r : Request) (old new : List FileSaved) : Type 0 where
   pub bytes : List ℕ
@@ -84,7 +84,7 @@ abbrev pub SavesAtMost : Option Request → List FileSaved → List FileSaved �
 SavesAtMost None old new = new ≡ old
 SavesAtMost (Some r) old new = (new ≡ old) ⊎ SavesOne r old new
 
--- an image is saved; a refusal gives 1, and no command 2, and then nothing was to be saved, nor is more printed
+-- an image is saved; a refusal returns 1, and no command 2, and then nothing was to be saved, nor is more printed
 abbrev pub Follows : Option Request → List (Option (List ℕ)) → Outcome → ℕ → Effects → Effects → Type 0
 Follows None files said status old new = (status ≡ 2) × (new ≡ old)
 Follows (Some r) files (outcome.Image image) status old new = SavesOrRefuses r files image.items status old new
@@ -100,7 +100,7 @@ pub record PacksFiles (request : Option Request) (files : List (Option (List ℕ
   pub ends : Ends request files outcome old.err between
   pub follows : Follows request files outcome status (record { saved = old.saved; out = old.out; err = between }) new
 
--- the files that the arguments name were asked for, in order, and for no command none; the bytes that were read of them
+-- the files that the arguments name were requested, in order, and for no command none; the bytes that were read of them
 -- are packed, or the same with the sums of tables set
 pub record Packs (arguments : List (List ℕ)) (asked asked_after : List FileRead) (status : ℕ) (old new : Effects)
     : Type 0 where
@@ -122,6 +122,6 @@ abbrev pub RunsBy : Option (List ℕ) → List (List ℕ) → List FileRead → 
 RunsBy (Some text) arguments asked asked_after status old new = Tells text asked asked_after status old new
 RunsBy None arguments asked asked_after status old new = Packs arguments asked asked_after status old new
 
--- arguments that ask what the program tells of itself are told it, and all others are packed by
+-- arguments that request what the program tells of itself are told it, and all others are packed by
 abbrev pub Runs : List (List ℕ) → List FileRead → List FileRead → ℕ → Effects → Effects → Type 0
 Runs arguments asked asked_after status old new = RunsBy (told_of arguments) arguments asked asked_after status old new

@@ -20,7 +20,7 @@ packed_by None files = packed_tables files
 
 -- ---- what is left out
 
--- of tables: what no root table lists, and the DSDTs if no FADT gives an address
+-- of tables: what no root table lists, and the DSDTs if no FADT has an address
 abbrev pub left_out_by : Option (List ℕ) → List (Option (List ℕ)) → List (ℕ × List ℕ)
 left_out_by (Some addresses) files = []
 left_out_by None files =
@@ -52,7 +52,7 @@ usage_line = codes "usage: acpi_pack [--fix-checksum] [--raw] OUT "
 -- ---- what a run comes to
 
 -- what is printed is this text, and what it comes to is what is defined: an image, or its first refusal, or OutOfMemory
--- if nothing is refused
+-- if nothing fails
 abbrev pub IsReport : Option Request → List (Option (List ℕ)) → Outcome → List ℕ → Type 0
 IsReport None files outcome.NoCommand text = text ≡ usage_line
 IsReport (Some r) files (outcome.Image file) text =
@@ -63,7 +63,7 @@ IsReport (Some r) files (outcome.Refused e) text =
 IsReport request files said text = ⊥
 
 -- what a run prints and comes to: it adds the text to what was printed, and that text alone. Nothing is said if `run`
--- itself returns an error: a write to standard error, or memory for the lines, was refused
+-- itself returns an error: a write to standard error, or memory for the lines, failed
 abbrev pub Ends : Option Request → List (Option (List ℕ)) → Outcome → Option (List ℕ) → Option (List ℕ)
     → Type 0
 Ends request files said old new = (text : List ℕ) × IsReport request files said text × Appends old new text

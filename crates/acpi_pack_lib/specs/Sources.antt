@@ -1,4 +1,4 @@
--- What files hold, which of them are tables, and why one is refused by itself.
+-- What files hold, which of them are tables, and why one is an error by itself.
 use Rattle.std.specs.Prelude.{ℕ, ◌+◌, nat_eq, nat_le, Bool, not, ◌&&◌, ◌||◌, if◌then◌else◌, codes, List, [], ◌∷◌, length, map, Option, Some, None, Result, Ok, Err}
 use Rattle.acpi_base.specs.FromStd.{starts_with}
 use Rattle.acpi_base.specs.Words.{field_of, ◌>>=◌, holds}
@@ -47,7 +47,7 @@ bytes_of found = map (λ e. e.1) found
 abbrev pub listed : List (Option (List ℕ)) → List (List ℕ)
 listed files = bytes_of (entries roles.Listed 0 files)
 
--- ---- why a file is refused by itself
+-- ---- why a file is an error by itself
 
 -- it can be read, and has bytes
 abbrev pub check_content : ℕ → Option (List ℕ) → Result (Unit {0}) Refusal
@@ -61,7 +61,7 @@ check_contents n (file ∷ files) = do
   _ ← check_content n file
   check_contents (n + 1) files
 
--- a header of 36 bytes, whose Length, at 4, says how many bytes there are (ACPI 6.4, section 5.2.6)
+-- a header of 36 bytes, whose Length, at 4, is how many bytes there are (ACPI 6.4, section 5.2.6)
 unfoldable pub check_length : ℕ → List ℕ → Result (Unit {0}) Refusal
 check_length n bytes = do
   _ ← holds (nat_le 36 (length bytes)) (File n fault.Short)

@@ -12,7 +12,7 @@ is_unsummed bytes =
     begins bytes (codes "FACS") || (begins bytes (codes "FBPT")
     || (begins bytes (codes "S3PT") || begins bytes (codes "RSD PTR ")))
 
--- one whole table: a header of 36 bytes, whose Length, at 4, says how many bytes there are (section 5.2.6)
+-- one whole table: a header of 36 bytes, whose Length, at 4, is how many bytes there are (section 5.2.6)
 abbrev pub has_sum : List ℕ → Bool
 has_sum bytes =
     nat_le 36 (length bytes) && (nat_eq (field_of bytes 4 4) (length bytes) && not (is_unsummed bytes))
@@ -25,7 +25,7 @@ summed bytes = if has_sum bytes then with_sum 9 bytes else bytes
 abbrev pub all_summed : List (Option (List ℕ)) → List (Option (List ℕ))
 all_summed files = map (λ file. option_map summed file) files
 
--- whether a request asks for that
+-- whether a request has that
 abbrev pub fixes_sums : Option Request → Bool
 fixes_sums None = false
 fixes_sums (Some r) = r.options.fixes_sums

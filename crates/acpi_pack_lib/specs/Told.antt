@@ -9,14 +9,14 @@ help_text = codes "usage: acpi_pack [--fix-checksum] [--raw] OUT "
 abbrev pub version_text : List ℕ
 version_text = codes "acpi_pack 1.0.0\n"
 
--- what is told to a single argument that asks for it
+-- what is told to a single argument that requests it
 abbrev pub told_to : List ℕ → Option (List ℕ)
 told_to argument =
     if bytes_eq argument (codes "--help") then Some help_text
     else if bytes_eq argument (codes "--version") then Some version_text
     else None
 
--- what is told to arguments that ask for it
+-- what is told to arguments that request it
 abbrev pub told_of : List (List ℕ) → Option (List ℕ)
 told_of (argument ∷ []) = told_to argument
 told_of _ = None

@@ -4,7 +4,7 @@ use acpi_image::WriteError;
 use std::alloc::AllocFailed;
 use std::fmt;
 
-/// Why a file that is to be packed is refused.
+/// Why a file can't be packed.
 #[derive(Clone, Copy, Debug, PartialEq, Eq)]
 pub enum FileError {
     /// The file can't be read.
@@ -43,13 +43,13 @@ impl fmt::Display for FileError {
 /// Why nothing is packed.
 #[derive(Clone, Copy, Debug, PartialEq, Eq)]
 pub enum Refusal {
-    /// The file of this index, counted from 0, is refused.
+    /// The file of this index, counted from 0, is an error.
     File(usize, FileError),
     /// The tables are more than the XSDT can list, or one would be placed so that it ends above 2^64 - 1.
     NoRoom,
     /// There are more than 2^30 bytes from the first address of plain memory to the last.
     TooLarge,
-    /// The allocator refused memory.
+    /// The allocator had no memory.
     OutOfMemory,
 }
 

@@ -2,16 +2,16 @@
 ghost use Rattle.std.specs.Prelude.{◌≡◌, map, option_map};
 ghost use Rattle.acpi_pack_lib.specs.Words.{told_of, told_to};
 
-/// The text that says how the program is called.
+/// The text on how the program is called.
 const HELP: &str =
     "usage: acpi_pack [--fix-checksum] [--raw] OUT memory ADDRESS FILE [ADDRESS FILE]... | tables FILE...
        acpi_pack --help | --version
 ";
 
-/// The text that says the program's version.
+/// The text with the program's version.
 const VERSION: &str = "acpi_pack 1.0.0\n";
 
-/// The text that an argument asks for, or `None` if it asks for none.
+/// The text that an argument requests, or `None` if it requests none.
 fn told_to(argument: &str) -> Option<&'static str>
     ensures { option_map (λ t. t.now) result ≡ told_to argument.now }
 {
@@ -22,7 +22,7 @@ fn told_to(argument: &str) -> Option<&'static str>
     }
 }
 
-/// The text that arguments ask for, or `None` if they ask for none: how the program is called for `--help`
+/// The text that arguments request, or `None` if they request none: how the program is called for `--help`
 /// alone, and its version for `--version` alone.
 pub(crate) fn told(arguments: &[&str]) -> Option<&'static str>
     ensures { option_map (λ t. t.now) result ≡ told_of (map (λ w. w.now) arguments.now) }

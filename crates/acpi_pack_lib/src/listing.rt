@@ -148,7 +148,7 @@ fn put_lines(
     Ok(())
 }
 
-/// The line of plain memory, if a command asks for that, and those of the records.
+/// The line of plain memory, if a command requests that, and those of the records.
 ///
 /// Fails if it runs out of memory.
 fn lines_of(
@@ -172,7 +172,7 @@ fn lines_of(
 
 /// The lines of the records of an image that a command packed of these files, one for each, in order: the
 /// physical address, in hexadecimal digits, and the label. For files at addresses that is the file's name;
-/// for tables it is `RSDP`, `XSDT`, or the signature and the file's name. If plain memory is asked for, a line comes
+/// for tables it is `RSDP`, `XSDT`, or the signature and the file's name. If plain memory is requested, a line comes
 /// first with its first address, `raw` and its name.
 ///
 /// Fails as `MemoryImage::from_bytes` does.

@@ -110,7 +110,7 @@ fn put_files(file: &mut Vec<u8>, addresses: &[u64], files: &[FileBytes<'_>]) -> 
 /// Fails with the first of these that holds: of a file, in order, `Unreadable` if it can't be read or
 /// `Empty` if it has no bytes; then of a file, in order, `EndTooLarge` if its address and the number of its
 /// bytes add up to more than 2^64 - 1, or `Overlap` if it shares a byte with an earlier one; and if no file
-/// is refused, `OutOfMemory` if memory runs out.
+/// is an error, `OutOfMemory` if memory runs out.
 #[tactic(auto, unfolding(crate::specs::Pack::packed_files))]
 pub fn pack_files(
     alloc: Global,
@@ -118,7 +118,7 @@ pub fn pack_files(
     files: &[FileBytes<'_>],
 ) -> Result<Vec<u8>, Refusal>
     // The file, or the first refusal, is the one that is defined; memory runs out only if nothing
-    // is refused.
+    // else fails.
     ensures exact { IfOk result (λ v.
         file_of (packed_files addresses.now (contents files.now)) ≡ Ok v.items) }
     ensures refused { IfErr result (λ e.
@@ -136,7 +136,7 @@ pub fn pack_files(
     Ok(file)
 }
 
-/// The address that a FADT gives for the DSDT, its 64-bit field first, or `None` if it isn't as long as a
+/// The DSDT's address in a FADT, its 64-bit field first, or `None` if it isn't as long as a
 /// FADT is (section 5.2.9).
 #[tactic(auto, unfolding(crate::specs::Pack::dsdt_address_in))]
 fn dsdt_address_in(fadt: &[u8]) -> Option<u64>
@@ -148,7 +148,7 @@ fn dsdt_address_in(fadt: &[u8]) -> Option<u64>
     Fadt::read(fadt).dsdt_address().ok()
 }
 
-/// The address that the first FADT among files gives for the DSDT.
+/// The DSDT's address in the first FADT among files.
 pub(crate) fn dsdt_address(files: &[FileBytes<'_>]) -> Option<u64>
     ensures { result ≡ pack.dsdt_address (listed (contents files.now)) }
 {
@@ -240,7 +240,7 @@ fn put_all(
     Ok(())
 }
 
-/// The number of bytes of an XSDT that lists so many tables, or `None` if that is 2^32 or above.
+/// The number of bytes of an XSDT that lists this number of tables, or `None` if that is 2^32 or above.
 fn root_length(count: usize) -> Option<usize>
     ensures there { IfSome result (λ n. n ≡ root_length Xsdt count) }
     ensures low { IfSome result (λ n. n < 2 ^ 32) }
@@ -256,7 +256,7 @@ fn root_length(count: usize) -> Option<usize>
 
 /// The file of memory that lists the tables among files, and has the DSDT at its address.
 ///
-/// Fails with `NoRoom`, and if nothing is refused so, with `OutOfMemory`.
+/// Fails with `NoRoom`, and if none of this is an error, with `OutOfMemory`.
 #[tactic(auto, using(crate::proofs::Placing::listed_length), unfolding(crate::specs::Pack::laid_out))]
 fn lay_out(
     alloc: Global,
@@ -287,19 +287,19 @@ fn lay_out(
 
 /// A file of memory that has an RSDP of revision 2 at 0xe0000 (section 5.2.5.3), an XSDT (section 5.2.8) that
 /// lists these tables in order, each at a multiple of 16 from 0x100000 on and away from all others, and the
-/// DSDT at the address that the first FADT gives (section 5.2.9). The bytes of tables are kept as they are.
+/// DSDT at the address in the first FADT (section 5.2.9). The bytes of tables are kept as they are.
 /// A file that no root table lists is left out, as a FACS, a root table and an RSDP, and so is a DSDT for
-/// which no FADT gives an address.
+/// which no FADT has an address.
 ///
 /// Fails with the first of these that holds: of a file, in order, `Unreadable` if it can't be read, `Empty`
 /// if it has no bytes, and, unless it is left out as unlisted, `Short` if it has under 36 bytes or fewer than
-/// its length field says, or `Long` if it has more; of the DSDT `EndTooLarge` or `Overlap`; `NoRoom` if the
-/// tables can't all be listed and placed; and if nothing of this is refused, `OutOfMemory` if memory is
-/// refused.
+/// its length field has, or `Long` if it has more; of the DSDT `EndTooLarge` or `Overlap`; `NoRoom` if the
+/// tables can't all be listed and placed; and if none of this is an error, `OutOfMemory` if memory runs
+/// out.
 #[tactic(auto, using(crate::proofs::Packed::tables_packed), unfolding(crate::specs::Pack::packed_tables))]
 pub fn pack_tables(alloc: Global, files: &[FileBytes<'_>]) -> Result<Vec<u8>, Refusal>
     // The file, or the first refusal, is the one that is defined; memory runs out only if nothing
-    // is refused.
+    // else fails.
     ensures exact { IfOk result (λ v. file_of (packed_tables (contents files.now)) ≡ Ok v.items) }
     ensures refused { IfErr result (λ e. RefusesOrRunsOut (packed_tables (contents files.now)) e) }
     // The file is the records of a memory and nothing else; it is read and opened, and with every

@@ -58,7 +58,7 @@ fn aligned(address: u128) -> u128
     (address + 15) / 16 * 16
 }
 
-/// The address of so many bytes: the least multiple of 16 from an address on, or if they would
+/// The address of this number of bytes: the least multiple of 16 from an address on, or if they would
 /// touch the place that is taken, the least one after that; `None` if they end above 2^64 - 1.
 #[tactic(auto, unfolding(crate::specs::Place::place_at, crate::specs::Place::start_at))]
 pub(crate) fn place_one(fixed: &PlacedTable<'_>, from: u64, count: usize) -> Option<u64>
@@ -103,7 +103,7 @@ pub(crate) fn check_room(
 }
 
 /// The tables that are listed, from an address on, in order, each at the address that `place_one`
-/// gives it after the one before it.
+/// returns for it after the one before it.
 ///
 /// Fails with `NoRoom` if one has none, and with `OutOfMemory`.
 pub(crate) fn place<'a>(

@@ -28,7 +28,7 @@ fn files_named<'c, 'w>(asked: &'c Option<Command<'w>>) -> &'c [&'w str]
     }
 }
 
-/// Whether a command asks for the sums of tables to be set.
+/// Whether a command requests the sums of tables to be set.
 fn fixes_sums(asked: &Option<Command<'_>>) -> bool
     ensures { result ≡ fixes_sums (option_map request_of asked.now) }
 {
@@ -38,7 +38,7 @@ fn fixes_sums(asked: &Option<Command<'_>>) -> bool
     }
 }
 
-/// What is saved of an image: its plain memory if that is asked for, and else the image.
+/// What is saved of an image: its plain memory if that is requested, and else the image.
 ///
 /// Fails as `plain_of` does.
 fn form_of(alloc: Global, options: Options, image: Vec<u8>) -> Result<Vec<u8>, Refusal>
@@ -84,7 +84,7 @@ fn save_bytes<S: Storage, W: Write, E: Write>(
     }
 }
 
-/// Saves an image in the form that is asked for, and prints the lines of its records, or why it isn't saved. It
+/// Saves an image in the form that is requested, and prints the lines of its records, or why it isn't saved. It
 /// returns the status: 0 if it is saved, and else 1.
 ///
 /// Fails if a write fails or memory runs out.
@@ -167,7 +167,7 @@ fn pack_files<S: Storage, W: Write, E: Write>(
     finish(alloc, asked, files, outcome, storage, out, err)
 }
 
-/// Packs files for a command as they were read, or if that is asked for with the sums of tables set. It returns
+/// Packs files for a command as they were read, or if that is requested with the sums of tables set. It returns
 /// the status.
 ///
 /// Fails if a write fails or memory runs out.
@@ -196,9 +196,9 @@ fn pack_read<S: Storage, W: Write, E: Write>(
 }
 
 /// Packs the files that the arguments name. They are judged first; if they are a command, the files that they
-/// name are read, in order, and else none. If `run` answers an image, it is saved, and then the lines of its
-/// records are printed on the output. It returns the status: 0 if the image is saved, 1 if something is
-/// refused, and 2 if the arguments are not a command.
+/// name are read, in order, and else none. If `run` returns an image, it is saved, and then the lines of its
+/// records are printed on the output. It returns the status: 0 if the image is saved, 1 if something
+/// fails, and 2 if the arguments are not a command.
 ///
 /// Fails if a write fails, or memory for anything but the image itself.
 #[tactic(auto, using(crate::proofs::Saved::at_most))]
@@ -214,7 +214,7 @@ fn pack_asked<F: Files, S: Storage, W: Write, E: Write>(
         (F.asked files.old) (F.asked files.new) s
         (record { saved = S.saved storage.old; out = W.contents out.old; err = E.contents err.old })
         (record { saved = S.saved storage.new; out = W.contents out.new; err = E.contents err.new })) }
-    // No other file is asked for if it is refused.
+    // No other file is requested if it fails.
     ensures refused { OnErr result (AsksFront (files_for (request_in (map (λ w. w.now) arguments.now)))
         (F.asked files.old) (F.asked files.new)) }
     // After an error nothing was to be saved, but for the image if its lines, or why it isn't saved, can't be printed.
@@ -228,11 +228,11 @@ fn pack_asked<F: Files, S: Storage, W: Write, E: Write>(
     pack_read(alloc, &asked, &sources, storage, out, err)
 }
 
-/// Runs the program on the arguments after its name, and answers the status. `--help` and `--version` alone
+/// Runs the program on the arguments after its name, and returns the status. `--help` and `--version` alone
 /// print how the program is called and its version, on the output, and nothing else is done: the status is
 /// 0. If other arguments are a command, the files that it names are read, in order, and the image that is
 /// made of them is saved; then the lines of its records are printed on the output. The status is 0 if the
-/// image is saved, 1 if something is refused, and 2 if the arguments are not a command.
+/// image is saved, 1 if something fails, and 2 if the arguments are not a command.
 ///
 /// Fails if a write fails, or memory for anything but the image itself. The image is saved by then if its lines can't
 /// be printed; after any other error it isn't.
@@ -249,7 +249,7 @@ pub fn pack<F: Files, S: Storage, W: Write, E: Write>(
         (F.asked files.old) (F.asked files.new) s
         (record { saved = S.saved storage.old; out = W.contents out.old; err = E.contents err.old })
         (record { saved = S.saved storage.new; out = W.contents out.new; err = E.contents err.new })) }
-    // No other file is asked for if it is refused.
+    // No other file is requested if it fails.
     ensures refused { OnErr result (AsksFront (files_for (request_in (map (λ w. w.now) arguments.now)))
         (F.asked files.old) (F.asked files.new)) }
     // After an error nothing was to be saved, but for the image if its lines, or why it isn't saved, can't be printed.

@@ -7,7 +7,7 @@ use std::alloc::{AllocError, Global};
 
 /// Asks for the files of these names, each once and in order.
 ///
-/// Fails if memory for the list is refused, and then asks for no further file.
+/// Fails if memory for the list runs out, and then requests no further file.
 pub(crate) fn read_all<F: Files>(files: &mut F, names: &[&str]) -> Result<(), AllocError>
     ensures asked { OnOk result (Asks (map (λ n. n.now) names.now) (F.asked files.old) (F.asked files.new)) }
     ensures refused { OnErr result (AsksFront (map (λ n. n.now) names.now) (F.asked files.old) (F.asked files.new)) }
@@ -18,7 +18,7 @@ pub(crate) fn read_all<F: Files>(files: &mut F, names: &[&str]) -> Result<(), Al
     Ok(())
 }
 
-/// The bytes that were read of the files that were asked for after the first `start` of them, in order, each
+/// The bytes that were read of the files that were requested after the first `start` of them, in order, each
 /// `None` if the file can't be read.
 ///
 /// Fails if it runs out of memory.

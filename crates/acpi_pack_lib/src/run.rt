@@ -22,7 +22,7 @@ pub enum Outcome {
     NoCommand,
 }
 
-/// The image that a command asks for.
+/// The image that a command requests.
 ///
 /// Fails as `pack_files` and `pack_tables` do.
 fn packed(alloc: Global, form: &Form, files: &[FileBytes<'_>]) -> Result<Vec<u8>, Refusal>
@@ -88,7 +88,7 @@ fn refused_name<'w>(command: &Command<'w>, refusal: Refusal) -> &'w str
     }
 }
 
-/// The line that says why nothing is packed.
+/// The line with the reason why nothing is packed.
 ///
 /// Fails if it runs out of memory.
 fn refused_line(
@@ -118,7 +118,7 @@ fn usage_line(alloc: Global) -> Result<String, AllocError>
 
 /// The outcome of a command, and the text that is printed of it.
 ///
-/// Fails if memory for the text is refused.
+/// Fails if memory for the text runs out.
 fn report_command(
     alloc: Global,
     command: &Command<'_>,
@@ -138,9 +138,9 @@ fn report_command(
     Ok((Outcome::Image(image), text))
 }
 
-/// The outcome of the command that is asked for, if any, and the text that is printed of it.
+/// The outcome of the command that is requested, if any, and the text that is printed of it.
 ///
-/// Fails if memory for the text is refused.
+/// Fails if memory for the text runs out.
 fn report(
     alloc: Global,
     asked: &Option<Command<'_>>,
@@ -156,13 +156,13 @@ fn report(
 }
 
 /// Runs the program on a command, or on `None` if the arguments are not a command, and on the files that it
-/// names, in order, `None` for one that can't be read. It answers the outcome, and prints lines: one for each
-/// file that is left out, or one that says why nothing is packed, or the usage.
+/// names, in order, `None` for one that can't be read. It returns the outcome, and prints lines: one for each
+/// file that is left out, or one with the reason why nothing is packed, or the usage.
 ///
 /// Faults are found in this order: arguments that are not a command, then the refusals of `pack_files` or
 /// `pack_tables`.
 ///
-/// Fails if a write to standard error, or memory for the lines, is refused.
+/// Fails if a write to standard error, or memory for the lines, fails.
 pub fn run<E: Write>(
     alloc: Global,
     asked: &Option<Command<'_>>,

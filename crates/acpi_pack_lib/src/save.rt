@@ -11,7 +11,7 @@ use std::io::{self, ErrorKind, Write};
 use std::os::unix::fs::{MetadataExt, OpenOptionsExt};
 
 /// Why a file is not saved, in the order in which that is tested; but a name about which the system doesn't
-/// answer is refused, with `Unwritable`, before `PartExists` is tested.
+/// answer is an error, `Unwritable`, before `PartExists` is tested.
 #[derive(Clone, Copy, Debug, PartialEq, Eq)]
 pub enum SaveError {
     /// Something else than a regular file has the name: a folder, a device, a pipe, a socket, or a symbolic
@@ -24,7 +24,7 @@ pub enum SaveError {
     PartExists,
     /// The system doesn't answer about the name, or the file can't be made, written or renamed.
     Unwritable,
-    /// The allocator refused memory.
+    /// The allocator had no memory.
     OutOfMemory,
 }
 
@@ -169,7 +169,7 @@ fn make(rt: &HostRuntime, name: &str) -> io::Result<File> {
         .open(rt, name)
 }
 
-/// Writes all bytes into a file, down to the disk, and gives it the mode of the one that it
+/// Writes all bytes into a file, down to the disk, and sets the mode of the one that it
 /// replaces.
 fn put(mut file: File, bytes: &[u8], found: &Found) -> io::Result<()> {
     file.write_all(bytes)?;

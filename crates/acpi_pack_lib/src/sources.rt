@@ -14,7 +14,7 @@ pub type FileBytes<'a> = Option<&'a [u8]>;
 pub(crate) enum FileRole {
     /// The XSDT lists the file.
     Listed,
-    /// The file is a DSDT, which lies at the address that the FADT gives.
+    /// The file is a DSDT, which is at the address in the FADT.
     Dsdt,
     /// The file is left out.
     Unlisted,

@@ -11,9 +11,9 @@ pub trait Storage {
     ghost saved: { Self → List FileSaved };
 
     /// Saves these bytes, which were made of the files of the names in `sources`, under a name, and
-    /// answers that they are saved, or the refusal, as the function `save` does.
+    /// returns that they are saved, or the refusal, as the function `save` does.
     ///
-    /// Fails if memory for the list is refused, and then saves nothing.
+    /// Fails if memory for the list runs out, and then saves nothing.
     fn save(
         &mut self,
         name: &str,

@@ -1,4 +1,4 @@
--- What the program's arguments ask for.
+-- What the program's arguments request.
 use Rattle.std.specs.Prelude.{ℕ, List, [], ◌∷◌, Option, Some, None}
 use Rattle.acpi_cli.specs.Root.{root_of}
 use Rattle.acpi_cli.specs.declared.root.Root.{Root}

@@ -32,18 +32,18 @@ number_or_none None = codes "none"
 abbrev pub number_words : List ℕ → Option ℕ → List ℕ
 number_words name number = codes " " ++ (name ++ (codes " " ++ number_or_none number))
 
--- ---- parts that are refused
+-- ---- parts with an error
 
 -- PART: REFUSAL
 abbrev pub refused_line : List ℕ → AcpiError → List ℕ
 refused_line part e = line (part ∷ codes ": " ∷ error_text e ∷ [])
 
--- the lines of a part, or the one that says why it is refused
+-- the lines of a part, or the one that has the reason it fails
 abbrev pub lines_or_refusal : {X : Type 0} → List ℕ → (X → List ℕ) → Result X AcpiError → List ℕ
 lines_or_refusal part lines (Ok x) = lines x
 lines_or_refusal part lines (Err e) = refused_line part e
 
--- the text is what is defined for a part, or says that memory runs out, if it asks for memory
+-- the text is what is defined for a part, or that memory runs out, if it requests memory
 abbrev pub IsPartText : Type 0 → List ℕ → List ℕ → List ℕ → Type 0
 IsPartText Asks part defined text =
     (text ≡ defined) ⊎ (Asks × (text ≡ refused_line part AllocError))
@@ -148,6 +148,6 @@ abbrev pub spcr_lines : Memory → List ℕ → List ℕ
 spcr_lines m ps =
     lines_or_refusal (codes "spcr") (λ found. console_line (spcr_at found.1)) (lookup m spcr_kind ps)
 
--- a line for each table that the lookup of a kind passes over, but for those of another signature
+-- a line for each table that the lookup of a kind skips, but for those of another signature
 abbrev pub skipped_lines : Memory → Kind → List ℕ → List ℕ
 skipped_lines m k ps = flat_map (skipped_line k.signature) (faults_of m k ps)

@@ -32,8 +32,8 @@ lines_of platform pci m opened = let ps = pointers_in opened in
     ++ bgrt_lines m ps
     ++ spcr_lines m ps
 
--- the text is all lines, with those that are defined for the platform and the PCI regions, or with the one that says
--- that memory runs out, if they ask for it
+-- the text is all lines, with those that are defined for the platform and the PCI regions, or with the one for that
+-- that memory runs out, if they request it
 pub record IsLines (m : Memory) (opened : Opened) (text : List ℕ) : Type 0 where
   pub platform : List ℕ
   pub pci : List ℕ
@@ -63,7 +63,7 @@ refusal_line name = line (codes "refused: " ∷ name ∷ [])
 
 -- ---- both, of arguments and a file
 
--- the memory and the root table in it that are found, or the one line that says why there are none
+-- the memory and the root table in it that are found, or the one line with the reason why there are none
 abbrev pub Found : Type 0
 Found = Result (Memory × Opened) (List ℕ)
 
@@ -91,7 +91,7 @@ stderr_of (Ok found) = skipped_lines_of found.0 found.1
 stderr_of (Err complaint) = complaint
 
 -- the status and the texts of both outputs that a run is to end with: those of what is found, or if memory for the
--- image can run out, 1 and the line that says so
+-- image can run out, 1 and the line for that
 abbrev pub IsReport : Option Root → Option (List ℕ) → ℕ → List ℕ → List ℕ → Type 0
 IsReport asked file status lines complaints =
     ((status ≡ status_with asked file)

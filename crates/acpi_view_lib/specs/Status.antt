@@ -6,7 +6,7 @@ use Rattle.acpi_image_reader.specs.declared.error.ImageError.{ImageError}
 use Rattle.acpi_cli.specs.Root.{opened_for}
 use Rattle.acpi_cli.specs.declared.root.Root.{Root}
 
--- 0 if something was found, and 1 if it was refused
+-- 0 if something was found, and 1 if it was an error
 abbrev pub status_of : {A E : Type 0} → Result A E → ℕ
 status_of (Ok found) = 0
 status_of (Err refusal) = 1
@@ -16,7 +16,7 @@ abbrev pub status_over : Root → Result Memory ImageError → ℕ
 status_over root (Ok m) = status_of (opened_for m root)
 status_over root (Err refusal) = 1
 
--- 2 if the arguments are no command, 1 if the file, its memory or the root table is refused, else 0
+-- 2 if the arguments are no command, 1 if the file, its memory or the root table is an error, else 0
 abbrev pub status_with : Option Root → Option (List ℕ) → ℕ
 status_with None file = 2
 status_with (Some root) None = 1

@@ -1,4 +1,4 @@
-//! The ACPI tables in a file of memory as lines, and the command that asks for them.
+//! The ACPI tables in a file of memory as lines, and the command that requests them.
 #![tactic(auto)]
 
 pub mod arguments;

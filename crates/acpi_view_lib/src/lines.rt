@@ -21,9 +21,9 @@ use std::fmt::Write;
 
 /// The lines of each part of the tables, in this order: the revision, the valid tables' headers, the AML of the
 /// DSDT and of the SSDTs, the platform, the HPET, the regions of PCI configuration space, the boot graphic
-/// (BGRT) and the serial console (SPCR). A part that is refused is one line that says why.
+/// (BGRT) and the serial console (SPCR). A part with an error is one line that has the reason.
 ///
-/// Fails if memory for the text is refused.
+/// Fails if memory for the text runs out.
 pub fn print_parts<H: AcpiHandler>(
     alloc: Global,
     tables: &AcpiTables<'_, H>,
@@ -57,10 +57,10 @@ fn print_revision<H: AcpiHandler>(
     Ok(())
 }
 
-/// A line for each table that a lookup passes over as faulty, with the refusal, for FADT, MADT, MCFG, HPET,
+/// A line for each table that a lookup skips as faulty, with the refusal, for FADT, MADT, MCFG, HPET,
 /// BGRT and SPCR, in this order.
 ///
-/// Fails if memory for the text is refused.
+/// Fails if memory for the text runs out.
 pub fn print_skipped_tables<H: AcpiHandler>(
     tables: &AcpiTables<'_, H>,
     text: &mut String,
@@ -76,7 +76,7 @@ pub fn print_skipped_tables<H: AcpiHandler>(
     print_skipped::<H, Spcr>(tables, text)
 }
 
-/// `skipped SIG ADDRESS: REFUSAL` for each table that the lookup of a type passes over, but for those of another
+/// `skipped SIG ADDRESS: REFUSAL` for each table that the lookup of a type skips, but for those of another
 /// signature.
 fn print_skipped<H: AcpiHandler, T: AcpiTable>(
     tables: &AcpiTables<'_, H>,
@@ -168,7 +168,7 @@ fn print_hpet<H: AcpiHandler>(
 /// The lines of the regions of PCI configuration space, or the one line of their refusal. Memory for the regions
 /// is an allocator's.
 ///
-/// Fails if memory for the text is refused.
+/// Fails if memory for the text runs out.
 pub fn print_pci<H: AcpiHandler, A: Allocator + Clone>(
     alloc: A,
     tables: &AcpiTables<'_, H>,
@@ -284,7 +284,7 @@ fn print_stream(part: &str, stream: AmlTable, text: &mut String) -> Result<(), A
     Ok(())
 }
 
-/// `PART: REFUSAL`, if this part is refused.
+/// `PART: REFUSAL`, if this part has an error.
 fn print_refusal(part: &str, refusal: AcpiError, text: &mut String) -> Result<(), AllocError>
     ensures { OnOk result (string_bytes text.new ≡ string_bytes text.old ++ refused_line part.now refusal) }
 {

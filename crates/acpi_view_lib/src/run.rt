@@ -19,13 +19,13 @@ const MOST: usize = 32768;
 
 /// Runs the program on the arguments after its name, and on the bytes of the file that the first of
 /// them names, which are `None` if it can't be read. It returns the status: 0 if all is printed, 1 if
-/// something is refused, and 2 if the arguments are not a command.
+/// something fails, and 2 if the arguments are not a command.
 ///
 /// Faults are found in this order: arguments that are not a command, a file that can't be read, the
-/// refusals of `MemoryImage::from_bytes`, and those of opening the root table. Memory that is refused for the
-/// platform or for the regions of configuration space ends nothing: that part is refused, as
-/// `platform: AllocError` or `pci: AllocError`. Memory that is refused for the lines ends it with status 1
-/// before anything is written, and a write or a flush that is refused with status 1 where it stands. Both
+/// refusals of `MemoryImage::from_bytes`, and those of opening the root table. Memory that runs out for the
+/// platform or for the regions of configuration space ends nothing: that part is an error, as
+/// `platform: AllocError` or `pci: AllocError`. Memory that runs out for the lines ends it with status 1
+/// before anything is written, and a write or a flush that fails with status 1 at that place. Both
 /// outputs are flushed in the end.
 pub fn run<W: Write, E: Write>(
     alloc: Global,
@@ -35,7 +35,7 @@ pub fn run<W: Write, E: Write>(
     err: &mut E,
 ) -> u8
     // The status and the text of each output are those that are defined; or the status is 1, since a write or
-    // memory is refused, and each output has a front of its text.
+    // memory runs out, and each output has a front of its text.
     ensures { Runs (map (λ w. w.now) words.now) (option_copied image.entry) result
         (W.contents out.old) (W.contents out.new) (E.contents err.old) (E.contents err.new) }
 {
@@ -51,7 +51,7 @@ pub fn run<W: Write, E: Write>(
     }
 }
 
-/// Writes the texts of both outputs, and answers whether all of both was taken. What was taken is a front of each.
+/// Writes the texts of both outputs, and returns whether all of both was taken. What was taken is a front of each.
 fn write_report<W: Write, E: Write>(report: &Report, out: &mut W, err: &mut E) -> bool
     ensures lines { result ≡ true
         → Appends (W.contents out.old) (W.contents out.new) (string_bytes report.now.lines) }
@@ -66,7 +66,7 @@ fn write_report<W: Write, E: Write>(report: &Report, out: &mut W, err: &mut E) -
     write_text(err, &report.complaints)
 }
 
-/// Writes a text, and answers whether all of it was taken. What was taken is a front of it.
+/// Writes a text, and returns whether all of it was taken. What was taken is a front of it.
 fn write_text<W: Write>(out: &mut W, text: &str) -> bool
     ensures whole { result ≡ true → Appends (W.contents out.old) (W.contents out.new) text.now }
     ensures front { AppendsFront (W.contents out.old) (W.contents out.new) text.now }
@@ -84,7 +84,7 @@ fn write_text<W: Write>(out: &mut W, text: &str) -> bool
     false
 }
 
-/// How many of the first of these bytes a write takes: 0 if a signal interrupts it, and `None` if it is refused.
+/// How many of the first of these bytes a write takes: 0 if a signal interrupts it, and `None` if it fails.
 fn write_some<W: Write>(out: &mut W, bytes: &[u8]) -> Option<usize>
     ensures bound { IfSome result (λ n. n ≤ length bytes.now) }
     ensures taken { IfSome result (λ n. Appends (W.contents out.old) (W.contents out.new) (take n bytes.now)) }
@@ -111,7 +111,7 @@ pub struct Report {
 
 /// What a run on the way to the root table ends with, or on `None` if the arguments are not a command.
 ///
-/// Fails if memory for the lines is refused.
+/// Fails if memory for the lines runs out.
 fn report_for(
     alloc: Global,
     asked: Option<Root>,
@@ -137,9 +137,9 @@ fn report_for(
     }
 }
 
-/// `refused: REFUSAL` and status 1: what a run ends with that is refused.
+/// `refused: REFUSAL` and status 1: what a run ends with that fails.
 ///
-/// Fails if memory for the line is refused.
+/// Fails if memory for the line runs out.
 pub fn refused<D: Display + Drop>(alloc: Global, refusal: D) -> Result<Report, AllocError>
     ensures status { IfOk result (λ r. r.status ≡ 1) }
     ensures lines { IfOk result (λ r. string_bytes r.lines ≡ []) }
@@ -153,9 +153,9 @@ pub fn refused<D: Display + Drop>(alloc: Global, refusal: D) -> Result<Report, A
     })
 }
 
-/// The lines of the tables in a memory, and those of the tables that are passed over.
+/// The lines of the tables in a memory, and those of the tables that are skipped.
 ///
-/// Fails if memory for the lines is refused.
+/// Fails if memory for the lines runs out.
 fn report_of<H: AcpiHandler>(alloc: Global, handler: &H, root: Root) -> Result<Report, AllocError>
     ensures status { IfOk result
         (λ r. r.status ≡ status_of (opened_for (H.memory handler.now) root)) }

@@ -17,7 +17,7 @@ use std::fmt::Write;
 /// The lines of the platform, as the FADT and the MADT describe it, or the one line of its refusal. Memory for
 /// it is an allocator's.
 ///
-/// Fails if memory for the text is refused.
+/// Fails if memory for the text runs out.
 pub fn print_platform<H: AcpiHandler, A: Allocator + Clone>(
     alloc: A,
     tables: &AcpiTables<'_, H>,
