@@ -1,18 +1,60 @@
--- The types and constants of the crates below, for the files of this one.
+-- Made by scripts/words: what the files of this crate bring in from the crates below, and its types.
 pub use Rattle.acpi_base.specs.declared.address.AccessSize.{AccessSize}
-pub use Rattle.acpi_base.specs.declared.address.AccessSize.TheVariants.{ByteAccess, DWordAccess, QWordAccess, Undefined, WordAccess}
+pub use Rattle.acpi_base.specs.declared.address.AccessSize.TheVariants.{
+  ByteAccess,
+  DWordAccess,
+  QWordAccess,
+  Undefined,
+  WordAccess,
+}
 pub use Rattle.acpi_base.specs.declared.address.AddressSpace.{AddressSpace}
-pub use Rattle.acpi_base.specs.declared.address.AddressSpace.TheVariants.{EmbeddedController, FunctionalFixedHardware, GeneralIo, GenericSerialBus, Ipmi, OemDefined, PciBarTarget, PciConfigSpace, PlatformCommunicationsChannel, SMBus, SystemCmos, SystemIo, SystemMemory}
+pub use Rattle.acpi_base.specs.declared.address.AddressSpace.TheVariants.{
+  EmbeddedController,
+  FunctionalFixedHardware,
+  GeneralIo,
+  GenericSerialBus,
+  Ipmi,
+  OemDefined,
+  PciBarTarget,
+  PciConfigSpace,
+  PlatformCommunicationsChannel,
+  SMBus,
+  SystemCmos,
+  SystemIo,
+  SystemMemory,
+}
 pub use Rattle.acpi_base.specs.declared.address.GenericAddress.{GenericAddress}
 pub use Rattle.acpi_base.specs.declared.entries.EntryLayout.{EntryLayout}
 pub use Rattle.acpi_base.specs.declared.entries.Grammar.{Grammar}
 pub use Rattle.acpi_base.specs.declared.entries.Place.{Place}
 pub use Rattle.acpi_base.specs.declared.entries.Width.{Width}
-pub use Rattle.acpi_base.specs.declared.entries.Width.TheVariants.{Four, One, Two}
+pub use Rattle.acpi_base.specs.declared.entries.Width.TheVariants.{
+  Four,
+  One,
+  Two,
+}
 pub use Rattle.acpi_base.specs.declared.error.AcpiError.{AcpiError}
-pub use Rattle.acpi_base.specs.declared.error.AcpiError.TheVariants.{AllocError, InvalidGenericAddress, InvalidMadt, InvalidNamespaceString, MapFailed, SdtInvalidChecksum, SdtInvalidLength, SdtInvalidOemId, SdtInvalidSignature, SdtInvalidTableId}
+pub use Rattle.acpi_base.specs.declared.error.AcpiError.TheVariants.{
+  AllocError,
+  InvalidGenericAddress,
+  InvalidMadt,
+  InvalidNamespaceString,
+  MapFailed,
+  SdtInvalidChecksum,
+  SdtInvalidLength,
+  SdtInvalidOemId,
+  SdtInvalidSignature,
+  SdtInvalidTableId,
+}
 pub use Rattle.acpi_base.specs.declared.error.MadtError.{MadtError}
-pub use Rattle.acpi_base.specs.declared.error.MadtError.TheVariants.{InterruptOverrideEntryHasInvalidBus, InvalidEntryLength, InvalidLocalNmiLine, MpsIntiInvalidPolarity, MpsIntiInvalidTriggerMode, UnexpectedEntry}
+pub use Rattle.acpi_base.specs.declared.error.MadtError.TheVariants.{
+  InterruptOverrideEntryHasInvalidBus,
+  InvalidEntryLength,
+  InvalidLocalNmiLine,
+  MpsIntiInvalidPolarity,
+  MpsIntiInvalidTriggerMode,
+  UnexpectedEntry,
+}
 pub use Rattle.acpi_base.specs.declared.extended.ExtendedField.{ExtendedField}
 pub use Rattle.acpi_base.specs.declared.memory.guarded.Guarded.{Guarded}
 pub use Rattle.acpi_base.specs.declared.model.builder.ModelBuilder.{ModelBuilder}
@@ -22,10 +64,16 @@ pub use Rattle.acpi_base.specs.declared.model.interrupt.InterruptModel.{Interrup
 pub use Rattle.acpi_base.specs.declared.model.interrupt.InterruptSourceOverride.{InterruptSourceOverride}
 pub use Rattle.acpi_base.specs.declared.model.interrupt.IoApic.{IoApic}
 pub use Rattle.acpi_base.specs.declared.model.interrupt.LocalInterruptLine.{LocalInterruptLine}
-pub use Rattle.acpi_base.specs.declared.model.interrupt.LocalInterruptLine.TheVariants.{Lint0, Lint1}
+pub use Rattle.acpi_base.specs.declared.model.interrupt.LocalInterruptLine.TheVariants.{
+  Lint0,
+  Lint1,
+}
 pub use Rattle.acpi_base.specs.declared.model.interrupt.NmiLine.{NmiLine}
 pub use Rattle.acpi_base.specs.declared.model.interrupt.NmiProcessor.{NmiProcessor}
-pub use Rattle.acpi_base.specs.declared.model.interrupt.NmiProcessor.TheVariants.{All, ProcessorUid}
+pub use Rattle.acpi_base.specs.declared.model.interrupt.NmiProcessor.TheVariants.{
+  All,
+  ProcessorUid,
+}
 pub use Rattle.acpi_base.specs.declared.model.interrupt.NmiSource.{NmiSource}
 pub use Rattle.acpi_base.specs.declared.model.interrupt.Polarity.{Polarity}
 pub use Rattle.acpi_base.specs.declared.model.interrupt.TriggerMode.{TriggerMode}
@@ -37,11 +85,81 @@ pub use Rattle.acpi_base.specs.declared.model.pin.IoApicPin.{IoApicPin}
 pub use Rattle.acpi_base.specs.declared.model.processor.Processor.{Processor}
 pub use Rattle.acpi_base.specs.declared.model.processor.ProcessorInfo.{ProcessorInfo}
 pub use Rattle.acpi_base.specs.declared.model.processor.ProcessorState.{ProcessorState}
-pub use Rattle.acpi_base.specs.declared.model.processor.ProcessorState.TheVariants.{Disabled, Running, WaitingForSipi}
+pub use Rattle.acpi_base.specs.declared.model.processor.ProcessorState.TheVariants.{
+  Disabled,
+  Running,
+  WaitingForSipi,
+}
 pub use Rattle.acpi_base.specs.declared.range.AddressRange.{AddressRange}
 pub use Rattle.acpi_base.specs.declared.table.header.SdtHeader.{SdtHeader}
 pub use Rattle.acpi_base.specs.declared.table.signature.Signature.{Signature}
-pub use Rattle.acpi_base.specs.declared.table.signature.TheConstants.Signature.{AEST, BDAT, BERT, BGRT, CDIT, CEDT, CPEP, CRAT, CSRT, DBG2, DBGP, DMAR, DRTM, DSDT, ECDT, EINJ, ERST, ETDT, FACS, FADT, FPDT, GTDT, HEST, HPET, IBFT, IORT, IVRS, LPIT, MADT, MCFG, MCHI, MPAM, MPST, MSCT, MSDM, NFIT, PCCT, PHAT, PMTT, PRMT, PSDT, RASF, RGRT, RSDT, SBST, SDEI, SDEV, SLIC, SLIT, SPCR, SPMI, SRAT, SSDT, STAO, SVKL, TCPA, TPM2, UEFI, WAET, WDAT, WDRT, WPBT, WSMT, XENV, XSDT}
+pub use Rattle.acpi_base.specs.declared.table.signature.TheConstants.Signature.{
+  AEST,
+  BDAT,
+  BERT,
+  BGRT,
+  CDIT,
+  CEDT,
+  CPEP,
+  CRAT,
+  CSRT,
+  DBG2,
+  DBGP,
+  DMAR,
+  DRTM,
+  DSDT,
+  ECDT,
+  EINJ,
+  ERST,
+  ETDT,
+  FACS,
+  FADT,
+  FPDT,
+  GTDT,
+  HEST,
+  HPET,
+  IBFT,
+  IORT,
+  IVRS,
+  LPIT,
+  MADT,
+  MCFG,
+  MCHI,
+  MPAM,
+  MPST,
+  MSCT,
+  MSDM,
+  NFIT,
+  PCCT,
+  PHAT,
+  PMTT,
+  PRMT,
+  PSDT,
+  RASF,
+  RGRT,
+  RSDT,
+  SBST,
+  SDEI,
+  SDEV,
+  SLIC,
+  SLIT,
+  SPCR,
+  SPMI,
+  SRAT,
+  SSDT,
+  STAO,
+  SVKL,
+  TCPA,
+  TPM2,
+  UEFI,
+  WAET,
+  WDAT,
+  WDRT,
+  WPBT,
+  WSMT,
+  XENV,
+  XSDT,
+}
 pub use Rattle.acpi_base.specs.declared.tables.madt.Madt.{Madt}
 pub use Rattle.acpi_base.specs.declared.tables.madt.apic.InterruptSourceOverrideEntry.{InterruptSourceOverrideEntry}
 pub use Rattle.acpi_base.specs.declared.tables.madt.apic.IoApicEntry.{IoApicEntry}
@@ -62,7 +180,12 @@ pub use Rattle.acpi_base.specs.declared.tables.madt.sapic.IoSapicEntry.{IoSapicE
 pub use Rattle.acpi_base.specs.declared.tables.madt.sapic.LocalSapicEntry.{LocalSapicEntry}
 pub use Rattle.acpi_base.specs.declared.tables.madt.sapic.PlatformInterruptSourceEntry.{PlatformInterruptSourceEntry}
 pub use Rattle.acpi_base.specs.declared.tables.madt.wakeup.MpProtectedModeWakeupCommand.{MpProtectedModeWakeupCommand}
-pub use Rattle.acpi_base.specs.declared.tables.madt.wakeup.MpProtectedModeWakeupCommand.TheVariants.{AcceptPages, Noop, Sleep, Wakeup}
+pub use Rattle.acpi_base.specs.declared.tables.madt.wakeup.MpProtectedModeWakeupCommand.TheVariants.{
+  AcceptPages,
+  Noop,
+  Sleep,
+  Wakeup,
+}
 pub use Rattle.acpi_base.specs.declared.tables.madt.wakeup.MultiprocessorWakeupEntry.{MultiprocessorWakeupEntry}
 pub use Rattle.acpi_base.specs.declared.tables.madt.walk.MadtEntryIter.{MadtEntryIter}
 pub use Rattle.acpi_base.specs.declared.tables.mcfg.Mcfg.{Mcfg}
@@ -72,7 +195,22 @@ pub use Rattle.acpi_base.specs.declared.tables.spcr.Spcr.{Spcr}
 pub use Rattle.acpi_base.specs.declared.tables.spcr.flags.SpcrFlowControl.{SpcrFlowControl}
 pub use Rattle.acpi_base.specs.declared.tables.spcr.flags.SpcrInterruptType.{SpcrInterruptType}
 pub use Rattle.acpi_base.specs.declared.tables.spcr.flags.SpcrTerminalType.{SpcrTerminalType}
-pub use Rattle.acpi_base.specs.declared.tables.spcr.flags.TheConstants.SpcrFlowControl.{DCD, RTS_CTS, XON_XOFF}
-pub use Rattle.acpi_base.specs.declared.tables.spcr.flags.TheConstants.SpcrInterruptType.{ARMH_GIC, DUAL_8259, IO_APIC, IO_SAPIC, RISCV_PLIC}
-pub use Rattle.acpi_base.specs.declared.tables.spcr.flags.TheConstants.SpcrTerminalType.{ANSI, EXTENDED_VT1000, VT1000, VT_UTF8}
+pub use Rattle.acpi_base.specs.declared.tables.spcr.flags.TheConstants.SpcrFlowControl.{
+  DCD,
+  RTS_CTS,
+  XON_XOFF,
+}
+pub use Rattle.acpi_base.specs.declared.tables.spcr.flags.TheConstants.SpcrInterruptType.{
+  ARMH_GIC,
+  DUAL_8259,
+  IO_APIC,
+  IO_SAPIC,
+  RISCV_PLIC,
+}
+pub use Rattle.acpi_base.specs.declared.tables.spcr.flags.TheConstants.SpcrTerminalType.{
+  ANSI,
+  EXTENDED_VT1000,
+  VT1000,
+  VT_UTF8,
+}
 pub use Rattle.acpi_base.specs.declared.tables.spcr.interface.SpcrInterfaceType.{SpcrInterfaceType}
