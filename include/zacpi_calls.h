@@ -106,6 +106,8 @@ static inline struct zacpi_gtdt_contents zacpi_gtdt_contents_kept(const struct z
 
 static inline struct zacpi_machine zacpi_machine_kept(const struct zacpi_machine *given) {
     struct zacpi_machine kept = *given;
+    if (!kept.tables_length)
+        kept.tables = (const struct zacpi_listed_table *)ZACPI_NOTHING;
     if (!kept.dsdts_length)
         kept.dsdts = (const struct zacpi_aml_contents *)ZACPI_NOTHING;
     if (!kept.facs_length)
@@ -152,7 +154,7 @@ ZACPI_STATUS zacpi_start_of_rsdp(const uint8_t *rsdp, size_t rsdp_length,
                                  struct zacpi_source *source) {
     struct zacpi_source kept_source = zacpi_source_kept(source);
     const zacpi_status status = zacpi_1_start_of_rsdp(
-                                                      rsdp_length ? rsdp : (const uint8_t *)ZACPI_NOTHING,
+                                                rsdp_length ? rsdp : (const uint8_t *)ZACPI_NOTHING,
                                                       rsdp_length, &kept_source);
     ZACPI_FITS;
     source->address = kept_source.address;
@@ -640,13 +642,13 @@ ZACPI_STATUS zacpi_platform(const struct zacpi_source *source, struct zacpi_inte
     struct zacpi_signature unasked;
     ZACPI_FITS;
     return zacpi_1_platform(&kept_source, out,
-                            processors_capacity ? processors : (struct zacpi_processor *)ZACPI_NOTHING,
+                         processors_capacity ? processors : (struct zacpi_processor *)ZACPI_NOTHING,
                             processors_capacity,
                             io_apics_capacity ? io_apics : (struct zacpi_io_apic *)ZACPI_NOTHING,
                             io_apics_capacity,
-                            overrides_capacity ? overrides : (struct zacpi_interrupt_source_override *)ZACPI_NOTHING,
+           overrides_capacity ? overrides : (struct zacpi_interrupt_source_override *)ZACPI_NOTHING,
                             overrides_capacity,
-                            nmi_sources_capacity ? nmi_sources : (struct zacpi_nmi_source *)ZACPI_NOTHING,
+                      nmi_sources_capacity ? nmi_sources : (struct zacpi_nmi_source *)ZACPI_NOTHING,
                             nmi_sources_capacity,
                             nmi_lines_capacity ? nmi_lines : (struct zacpi_nmi_line *)ZACPI_NOTHING,
                             nmi_lines_capacity, signature ? signature : &unasked);
@@ -750,7 +752,7 @@ ZACPI_STATUS zacpi_list_gic_redistributors(const struct zacpi_source *source,
 }
 
 zacpi_status ZACPI_CALL zacpi_1_list_gic_translation_services(const struct zacpi_source *source,
-                                                              struct zacpi_gic_translation_service *out,
+                                                          struct zacpi_gic_translation_service *out,
                                                               zacpi_number capacity,
                                                               zacpi_number *count,
                                                               struct zacpi_signature *signature);
