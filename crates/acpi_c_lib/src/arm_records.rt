@@ -1,6 +1,7 @@
-//! What C sees of an Arm machine. What each field holds is said once, in `include/zacpi.h`.
+//! Made by scripts/records: what C sees of an Arm machine.
+//! `include/zacpi.h` has what each field is.
 
-/// The distributor of interrupts (GICD, section 5.2.12.15).
+/// `struct zacpi_gic_distributor`.
 #[repr(C)]
 #[derive(Clone, Copy)]
 pub struct GicDistributor {
@@ -10,7 +11,7 @@ pub struct GicDistributor {
     pub version: u8,
 }
 
-/// A processor, and its interface to the GIC (GICC, section 5.2.12.14).
+/// `struct zacpi_gic_cpu_interface`.
 #[repr(C)]
 #[derive(Clone, Copy)]
 pub struct GicCpuInterface {
@@ -34,7 +35,7 @@ pub struct GicCpuInterface {
     pub efficiency_class: u8,
 }
 
-/// A service that translates interrupts (GIC ITS, section 5.2.12.18).
+/// `struct zacpi_gic_translation_service`.
 #[repr(C)]
 #[derive(Clone, Copy)]
 pub struct GicTranslationService {
@@ -42,7 +43,7 @@ pub struct GicTranslationService {
     pub id: u32,
 }
 
-/// A frame that turns messages into interrupts (GIC MSI Frame, section 5.2.12.16).
+/// `struct zacpi_gic_msi_frame`.
 #[repr(C)]
 #[derive(Clone, Copy)]
 pub struct GicMsiFrame {
@@ -53,7 +54,7 @@ pub struct GicMsiFrame {
     pub has_spis: u8,
 }
 
-/// A timer of every processor (section 5.2.24).
+/// `struct zacpi_arm_timer`.
 #[repr(C)]
 #[derive(Clone, Copy, Default)]
 pub struct ArmTimer {
@@ -64,7 +65,7 @@ pub struct ArmTimer {
     pub present: u8,
 }
 
-/// The timers of every processor (GTDT, section 5.2.24).
+/// `struct zacpi_arm_timers`.
 #[repr(C)]
 #[derive(Clone, Copy)]
 pub struct ArmTimers {
@@ -78,7 +79,7 @@ pub struct ArmTimers {
     pub platform_timers_malformed: u8,
 }
 
-/// A frame of a block of timers, with a physical timer and a virtual one (GT Block Timer, section 5.2.24.1.1).
+/// `struct zacpi_gt_frame`.
 #[repr(C)]
 #[derive(Clone, Copy)]
 pub struct GtFrame {
@@ -96,7 +97,7 @@ pub struct GtFrame {
     pub is_always_on: u8,
 }
 
-/// A watchdog of the Server Base System Architecture (Arm Generic Watchdog, section 5.2.24.1.2).
+/// `struct zacpi_watchdog`.
 #[repr(C)]
 #[derive(Clone, Copy)]
 pub struct Watchdog {

@@ -1,8 +1,9 @@
-//! What C sees of the fixed hardware, the serial console and configuration space.
+//! Made by scripts/records: what C sees of the fixed hardware, the serial console and configuration space.
+//! `include/zacpi.h` has what each field is.
 
 use crate::records::Register;
 
-/// A block of registers of general purpose events (section 4.8.4.1), by its length in bytes.
+/// `struct zacpi_gpe_block`.
 #[repr(C)]
 #[derive(Clone, Copy, Default)]
 pub struct GpeBlock {
@@ -12,7 +13,7 @@ pub struct GpeBlock {
     pub present: u8,
 }
 
-/// The fixed hardware of a FADT (section 5.2.9).
+/// `struct zacpi_fixed_hardware`.
 #[repr(C)]
 #[derive(Clone, Copy)]
 pub struct FixedHardware {
@@ -58,7 +59,7 @@ pub struct FixedHardware {
     pub hypervisor_id: u64,
 }
 
-/// The serial console that the firmware used (SPCR).
+/// `struct zacpi_console`.
 #[repr(C)]
 #[derive(Clone, Copy)]
 pub struct Console {
@@ -82,7 +83,7 @@ pub struct Console {
     pub pci_function: u8,
 }
 
-/// The memory that a region of configuration space takes (PCI Firmware Specification, section 4.1.2).
+/// `struct zacpi_ecam_range`.
 #[repr(C)]
 #[derive(Clone, Copy)]
 pub struct EcamRange {

@@ -1,6 +1,7 @@
-//! What C sees of interrupts and processors of a machine with APICs (MADT, section 5.2.12).
+//! Made by scripts/records: what C sees of interrupts and processors of a machine with APICs.
+//! `include/zacpi.h` has what each field is.
 
-/// Which controllers interrupts come to.
+/// `struct zacpi_interrupt_model`.
 #[repr(C)]
 #[derive(Clone, Copy, Default)]
 pub struct InterruptModel {
@@ -14,7 +15,7 @@ pub struct InterruptModel {
     pub also_has_8259: u8,
 }
 
-/// An I/O APIC (section 5.2.12.3).
+/// `struct zacpi_io_apic`.
 #[repr(C)]
 #[derive(Clone, Copy, Default)]
 pub struct IoApic {
@@ -23,7 +24,7 @@ pub struct IoApic {
     pub id: u8,
 }
 
-/// An Interrupt Source Override (section 5.2.12.5): an ISA interrupt and its global system interrupt.
+/// `struct zacpi_interrupt_source_override`.
 #[repr(C)]
 #[derive(Clone, Copy)]
 pub struct InterruptSourceOverride {
@@ -34,7 +35,7 @@ pub struct InterruptSourceOverride {
     pub bus: u8,
 }
 
-/// A non-maskable interrupt (NMI Source, section 5.2.12.6).
+/// `struct zacpi_nmi_source`.
 #[repr(C)]
 #[derive(Clone, Copy)]
 pub struct NmiSource {
@@ -43,7 +44,7 @@ pub struct NmiSource {
     pub trigger: u8,
 }
 
-/// A Local APIC NMI or Local x2APIC NMI (sections 5.2.12.7 and 5.2.12.13): a LINT pin that gets NMIs.
+/// `struct zacpi_nmi_line`.
 #[repr(C)]
 #[derive(Clone, Copy)]
 pub struct NmiLine {
@@ -54,7 +55,7 @@ pub struct NmiLine {
     pub trigger: u8,
 }
 
-/// A processor (Processor Local APIC and Processor Local x2APIC, sections 5.2.12.2 and 5.2.12.12).
+/// `struct zacpi_processor`.
 #[repr(C)]
 #[derive(Clone, Copy)]
 pub struct Processor {
@@ -66,7 +67,7 @@ pub struct Processor {
     pub is_x2apic: u8,
 }
 
-/// How an interrupt comes to the I/O APICs (section 5.2.12.5).
+/// `struct zacpi_interrupt`.
 #[repr(C)]
 #[derive(Clone, Copy, Default)]
 pub struct Interrupt {
@@ -75,7 +76,7 @@ pub struct Interrupt {
     pub trigger: u8,
 }
 
-/// A pin of an I/O APIC (sections 5.2.12.3 and 5.2.13).
+/// `struct zacpi_io_apic_pin`.
 #[repr(C)]
 #[derive(Clone, Copy, Default)]
 pub struct IoApicPin {
@@ -83,7 +84,7 @@ pub struct IoApicPin {
     pub pin: u32,
 }
 
-/// How one of the ISA interrupts comes to the I/O APICs (sections 5.2.12.3 and 5.2.12.5).
+/// `struct zacpi_isa_route`.
 #[repr(C)]
 #[derive(Clone, Copy, Default)]
 pub struct IsaRoute {
@@ -93,7 +94,7 @@ pub struct IsaRoute {
     pub has_pin: u8,
 }
 
-/// The 16 ISA interrupts.
+/// `struct zacpi_isa_interrupts`.
 #[repr(C)]
 #[derive(Clone, Copy)]
 pub struct IsaInterrupts {

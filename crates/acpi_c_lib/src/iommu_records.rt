@@ -1,10 +1,9 @@
-//! What C sees of the units that remap what devices ask of memory (IOMMUs): those of the DMAR (Intel Virtualization
-//! Technology for Directed I/O 4.0), and those of the IVRS (AMD I/O Virtualization Technology (IOMMU) Specification
-//! 3.08).
+//! Made by scripts/records: what C sees of the units that remap what devices ask of memory.
+//! `include/zacpi.h` has what each field is.
 
 pub use acpi_iommu::Hop;
 
-/// What the DMAR says of all units (section 8.1).
+/// `struct zacpi_dmar_flags`.
 #[repr(C)]
 #[derive(Clone, Copy)]
 pub struct DmarFlags {
@@ -12,7 +11,7 @@ pub struct DmarFlags {
     pub flags: u8,
 }
 
-/// A unit of the DMAR (DMA Remapping Hardware Unit Definition, section 8.3).
+/// `struct zacpi_dmar_unit`.
 #[repr(C)]
 #[derive(Clone, Copy)]
 pub struct DmarUnit {
@@ -24,7 +23,7 @@ pub struct DmarUnit {
     pub size: u8,
 }
 
-/// A device scope of a unit of the DMAR (section 8.3.1).
+/// `struct zacpi_dmar_scope`.
 #[repr(C)]
 #[derive(Clone, Copy)]
 pub struct DmarScope {
@@ -36,7 +35,7 @@ pub struct DmarScope {
     pub path: [Hop; 16],
 }
 
-/// A unit of the DMAR, and how it knows a device that sends it interrupts (section 8.3.1).
+/// `struct zacpi_dmar_source`.
 #[repr(C)]
 #[derive(Clone, Copy)]
 pub struct DmarSource {
@@ -46,7 +45,7 @@ pub struct DmarSource {
     pub has_hop: u8,
 }
 
-/// Memory that the DMAR reserves for a device (Reserved Memory Region Reporting, section 8.4).
+/// `struct zacpi_dmar_reserved`.
 #[repr(C)]
 #[derive(Clone, Copy)]
 pub struct DmarReserved {
@@ -55,7 +54,7 @@ pub struct DmarReserved {
     pub segment: u16,
 }
 
-/// A unit of the IVRS (I/O Virtualization Hardware Definition, section 5.2).
+/// `struct zacpi_ivrs_unit`.
 #[repr(C)]
 #[derive(Clone, Copy)]
 pub struct IvrsUnit {
@@ -71,7 +70,7 @@ pub struct IvrsUnit {
     pub has_extended_features: u8,
 }
 
-/// A unit of the IVRS, and how it treats a device (section 5.2).
+/// `struct zacpi_ivrs_device`.
 #[repr(C)]
 #[derive(Clone, Copy)]
 pub struct IvrsDevice {
@@ -80,7 +79,7 @@ pub struct IvrsDevice {
     pub settings: u8,
 }
 
-/// Memory with its own rules (I/O Virtualization Memory Definition, section 5.2).
+/// `struct zacpi_ivrs_memory`.
 #[repr(C)]
 #[derive(Clone, Copy)]
 pub struct IvrsMemory {
@@ -92,7 +91,7 @@ pub struct IvrsMemory {
     pub flags: u8,
 }
 
-/// A device entry of a unit of the IVRS (section 5.2).
+/// `struct zacpi_ivrs_entry`.
 #[repr(C)]
 #[derive(Clone, Copy)]
 pub struct IvrsEntry {

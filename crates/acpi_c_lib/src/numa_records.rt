@@ -1,6 +1,7 @@
-//! What C sees of domains and of the distances between localities.
+//! Made by scripts/records: what C sees of domains and of the distances between localities.
+//! `include/zacpi.h` has what each field is.
 
-/// A range of memory, and the domain that it is in (Memory Affinity Structure, section 5.2.16.2).
+/// `struct zacpi_memory_affinity`.
 #[repr(C)]
 #[derive(Clone, Copy)]
 pub struct MemoryAffinity {
@@ -11,7 +12,7 @@ pub struct MemoryAffinity {
     pub is_non_volatile: u8,
 }
 
-/// The matrix of distances (SLIT, section 5.2.17).
+/// `struct zacpi_localities`.
 #[repr(C)]
 #[derive(Clone, Copy)]
 pub struct Localities {

@@ -1,16 +1,9 @@
-//! What C sees of sleep types, and of what to write to sleep, to enable ACPI and to reset.
+//! Made by scripts/records: what C sees of sleep types, and of what to write to sleep, to enable ACPI and to reset.
+//! `include/zacpi.h` has what each field is.
 
 use crate::records::Register;
 
-/// The sleep types of a sleep state (section 7.4.2).
-#[repr(C)]
-#[derive(Clone, Copy)]
-pub struct SleepTypes {
-    pub a: u8,
-    pub b: u8,
-}
-
-/// A step of a plan.
+/// `struct zacpi_step`.
 #[repr(C)]
 #[derive(Clone, Copy)]
 pub struct Step {
@@ -21,10 +14,18 @@ pub struct Step {
     pub kind: u8,
 }
 
-/// Steps to take in order, and how many they are.
+/// `struct zacpi_plan`.
 #[repr(C)]
 #[derive(Clone, Copy)]
 pub struct Plan {
     pub steps: [Step; 8],
     pub count: u32,
+}
+
+/// `struct zacpi_sleep_types`.
+#[repr(C)]
+#[derive(Clone, Copy)]
+pub struct SleepTypes {
+    pub a: u8,
+    pub b: u8,
 }

@@ -1,18 +1,27 @@
-//! What C sees of memory, tables, registers and devices. What each field holds is said once, in `include/zacpi.h`.
+//! Made by scripts/records: what C sees of memory, tables, registers and devices.
+//! `include/zacpi.h` has what each field is.
 
 use crate::regions::Region;
 
-/// Where tables are looked for.
+/// `struct zacpi_range`.
 #[repr(C)]
 #[derive(Clone, Copy)]
-pub struct Source<'k> {
-    pub regions: &'k [Region<'k>],
+pub struct Range {
+    pub address: u64,
+    pub length: u64,
+}
+
+/// `struct zacpi_source`.
+#[repr(C)]
+#[derive(Clone, Copy)]
+pub struct Source<'a> {
+    pub regions: &'a [Region<'a>],
     pub address: u64,
     pub start: u32,
     pub accept: u32,
 }
 
-/// Where bytes lie in a caller's regions.
+/// `struct zacpi_place`.
 #[repr(C)]
 #[derive(Clone, Copy)]
 pub struct Place {
@@ -20,14 +29,14 @@ pub struct Place {
     pub offset: usize,
 }
 
-/// Four bytes that name a table.
+/// `struct zacpi_signature`.
 #[repr(C)]
 #[derive(Clone, Copy)]
 pub struct Signature {
     pub letters: [u8; 4],
 }
 
-/// The root table: the RSDT or the XSDT (sections 5.2.7 and 5.2.8).
+/// `struct zacpi_root`.
 #[repr(C)]
 #[derive(Clone, Copy)]
 pub struct Root {
@@ -39,7 +48,7 @@ pub struct Root {
     pub rsdp_length: u32,
 }
 
-/// A table that is listed and valid (section 5.2.6).
+/// `struct zacpi_table`.
 #[repr(C)]
 #[derive(Clone, Copy)]
 pub struct Table {
@@ -54,8 +63,7 @@ pub struct Table {
     pub creator_revision: u32,
 }
 
-/// A member of the root table that a lookup passes over, for another reason than its signature, or that it accepts
-/// though it isn't valid.
+/// `struct zacpi_fault`.
 #[repr(C)]
 #[derive(Clone, Copy)]
 pub struct Fault {
@@ -64,7 +72,7 @@ pub struct Fault {
     pub accepted: u8,
 }
 
-/// Where a table's first entry begins, and where Type and Length stand in each.
+/// `struct zacpi_walk`.
 #[repr(C)]
 #[derive(Clone, Copy)]
 pub struct Walk {
@@ -75,7 +83,7 @@ pub struct Walk {
     pub length_width: u8,
 }
 
-/// An entry of a table, which has Type and Length.
+/// `struct zacpi_entry`.
 #[repr(C)]
 #[derive(Clone, Copy)]
 pub struct Entry {
@@ -84,7 +92,7 @@ pub struct Entry {
     pub length: u32,
 }
 
-/// A stream of AML (section 5.2.11).
+/// `struct zacpi_aml_table`.
 #[repr(C)]
 #[derive(Clone, Copy)]
 pub struct AmlTable {
@@ -94,7 +102,58 @@ pub struct AmlTable {
     pub table_address: u64,
 }
 
-/// The Firmware ACPI Control Structure (FACS, section 5.2.10).
+/// `struct zacpi_generic_address`.
+#[repr(C)]
+#[derive(Clone, Copy, Default)]
+pub struct GenericAddress {
+    pub address: u64,
+    pub space: u8,
+    pub bit_width: u8,
+    pub bit_offset: u8,
+    pub access_size: u8,
+}
+
+/// `struct zacpi_register`.
+#[repr(C)]
+#[derive(Clone, Copy)]
+pub struct Register {
+    pub at: GenericAddress,
+    pub present: u8,
+}
+
+/// `struct zacpi_pm_timer`.
+#[repr(C)]
+#[derive(Clone, Copy, Default)]
+pub struct PmTimer {
+    pub base: GenericAddress,
+    pub present: u8,
+    pub is_32_bit: u8,
+}
+
+/// `struct zacpi_hpet_info`.
+#[repr(C)]
+#[derive(Clone, Copy)]
+pub struct HpetInfo {
+    pub base_address: u64,
+    pub event_timer_block_id: u32,
+    pub clock_tick_unit: u16,
+    pub number: u8,
+    pub page_protection: u8,
+}
+
+/// `struct zacpi_boot_graphic`.
+#[repr(C)]
+#[derive(Clone, Copy)]
+pub struct BootGraphic {
+    pub address: u64,
+    pub x: u32,
+    pub y: u32,
+    pub orientation: u16,
+    pub displayed: u8,
+    pub image_type: u8,
+}
+
+/// `struct zacpi_facs`.
 #[repr(C)]
 #[derive(Clone, Copy)]
 pub struct Facs {
@@ -107,26 +166,7 @@ pub struct Facs {
     pub version: u8,
 }
 
-/// A range of physical addresses.
-#[repr(C)]
-#[derive(Clone, Copy)]
-pub struct Range {
-    pub address: u64,
-    pub length: u64,
-}
-
-/// A block of event timers (HPET; IA-PC HPET Specification).
-#[repr(C)]
-#[derive(Clone, Copy)]
-pub struct HpetInfo {
-    pub base_address: u64,
-    pub event_timer_block_id: u32,
-    pub clock_tick_unit: u16,
-    pub number: u8,
-    pub page_protection: u8,
-}
-
-/// A region of PCI configuration space (MCFG; PCI Firmware Specification, section 4.1.2).
+/// `struct zacpi_pci_region`.
 #[repr(C)]
 #[derive(Clone, Copy)]
 pub struct PciRegion {
@@ -134,44 +174,4 @@ pub struct PciRegion {
     pub segment_group: u16,
     pub first_bus: u8,
     pub last_bus: u8,
-}
-
-/// A register: a Generic Address Structure (section 5.2.3.2).
-#[repr(C)]
-#[derive(Clone, Copy, Default)]
-pub struct GenericAddress {
-    pub address: u64,
-    pub space: u8,
-    pub bit_width: u8,
-    pub bit_offset: u8,
-    pub access_size: u8,
-}
-
-/// A register that may not be there.
-#[repr(C)]
-#[derive(Clone, Copy)]
-pub struct Register {
-    pub at: GenericAddress,
-    pub present: u8,
-}
-
-/// The power management timer (section 4.8.3.3).
-#[repr(C)]
-#[derive(Clone, Copy, Default)]
-pub struct PmTimer {
-    pub base: GenericAddress,
-    pub present: u8,
-    pub is_32_bit: u8,
-}
-
-/// The image that the firmware showed (BGRT, section 5.2.22).
-#[repr(C)]
-#[derive(Clone, Copy)]
-pub struct BootGraphic {
-    pub address: u64,
-    pub x: u32,
-    pub y: u32,
-    pub orientation: u16,
-    pub displayed: u8,
-    pub image_type: u8,
 }

@@ -1,16 +1,17 @@
-//! What C says of the tables that are to be written. What each field holds is said once, in `include/zacpi.h`.
+//! Made by scripts/records: what C sees of the tables that are to be written.
+//! `include/zacpi.h` has what each field is.
 
 use crate::arm_records::{
     ArmTimers, GicCpuInterface, GicDistributor, GicMsiFrame, GicTranslationService, GtFrame,
     Watchdog,
 };
-use crate::fixed_records::{Console, FixedHardware};
+use crate::fixed_records::Console;
 use crate::interrupt_records::{InterruptSourceOverride, IoApic, NmiLine, NmiSource, Processor};
 use crate::numa_records::MemoryAffinity;
-use crate::records::{BootGraphic, HpetInfo, PciRegion, Range};
-pub use acpi_writer::{ApicDomain, GiccDomain, TableIds};
+use crate::records::Range;
+pub use acpi_writer::{ApicDomain, GiccDomain, RhctContents, RiscvContents, TableIds};
 
-/// What a MADT is to say (section 5.2.12).
+/// `struct zacpi_madt_contents`.
 #[repr(C)]
 #[derive(Clone, Copy)]
 pub struct MadtContents<'a> {
@@ -25,7 +26,7 @@ pub struct MadtContents<'a> {
     pub has_wakeup_mailbox: u8,
 }
 
-/// What the MADT of an Arm machine is to say (sections 5.2.12.14 to 5.2.12.18).
+/// `struct zacpi_gic_contents`.
 #[repr(C)]
 #[derive(Clone, Copy)]
 pub struct GicContents<'a> {
@@ -36,7 +37,7 @@ pub struct GicContents<'a> {
     pub msi_frames: &'a [GicMsiFrame],
 }
 
-/// What a SRAT is to say (section 5.2.16).
+/// `struct zacpi_srat_contents`.
 #[repr(C)]
 #[derive(Clone, Copy)]
 pub struct SratContents<'a> {
@@ -45,7 +46,7 @@ pub struct SratContents<'a> {
     pub ranges: &'a [MemoryAffinity],
 }
 
-/// What an SPCR is to say.
+/// `struct zacpi_spcr_contents`.
 #[repr(C)]
 #[derive(Clone, Copy)]
 pub struct SpcrContents {
@@ -55,7 +56,7 @@ pub struct SpcrContents {
     pub terminal_type: u8,
 }
 
-/// A timer of the platform that a GTDT is to say (section 5.2.24.1).
+/// `struct zacpi_platform_timer`.
 #[repr(C)]
 #[derive(Clone, Copy)]
 pub struct PlatformTimer<'a> {
@@ -65,7 +66,7 @@ pub struct PlatformTimer<'a> {
     pub watchdog: Watchdog,
 }
 
-/// What a GTDT is to say (section 5.2.24).
+/// `struct zacpi_gtdt_contents`.
 #[repr(C)]
 #[derive(Clone, Copy)]
 pub struct GtdtContents<'a> {
@@ -73,32 +74,7 @@ pub struct GtdtContents<'a> {
     pub platform_timers: &'a [PlatformTimer<'a>],
 }
 
-/// What a table of AML is to have after its header (section 5.2.11).
-#[repr(C)]
-#[derive(Clone, Copy)]
-pub struct AmlContents<'a> {
-    pub aml: &'a [u8],
-    pub revision: u8,
-}
-
-/// A table that a machine lists: its bytes, as the call that writes such a table writes them, or of any other origin.
-#[repr(C)]
-#[derive(Clone, Copy)]
-pub struct ListedTable<'a> {
-    pub bytes: &'a [u8],
-}
-
-/// A machine, as its tables describe it.
-#[repr(C)]
-#[derive(Clone, Copy)]
-pub struct Machine<'a> {
-    pub ids: TableIds,
-    pub tables: &'a [ListedTable<'a>],
-    pub dsdts: &'a [AmlContents<'a>],
-    pub facs: &'a [FacsContents],
-}
-
-/// What a FACS is to say (section 5.2.10).
+/// `struct zacpi_facs_contents`.
 #[repr(C)]
 #[derive(Clone, Copy)]
 pub struct FacsContents {
@@ -107,4 +83,29 @@ pub struct FacsContents {
     pub waking_vector: u32,
     pub supports_s4bios: u8,
     pub supports_64_bit_wake: u8,
+}
+
+/// `struct zacpi_aml_contents`.
+#[repr(C)]
+#[derive(Clone, Copy)]
+pub struct AmlContents<'a> {
+    pub aml: &'a [u8],
+    pub revision: u8,
+}
+
+/// `struct zacpi_listed_table`.
+#[repr(C)]
+#[derive(Clone, Copy)]
+pub struct ListedTable<'a> {
+    pub bytes: &'a [u8],
+}
+
+/// `struct zacpi_machine`.
+#[repr(C)]
+#[derive(Clone, Copy)]
+pub struct Machine<'a> {
+    pub ids: TableIds,
+    pub tables: &'a [ListedTable<'a>],
+    pub dsdts: &'a [AmlContents<'a>],
+    pub facs: &'a [FacsContents],
 }
