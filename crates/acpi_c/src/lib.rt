@@ -7,16 +7,5 @@
 //! or keeps a state. A list writes as many items as there is room for, and how many there are.
 #![tactic(auto)]
 
-mod arm;
-mod clip;
-mod devices;
-mod entries;
-mod interrupts;
-mod iommu;
-mod missing;
-mod numa;
-mod pci;
-mod power;
-mod riscv;
-mod tables;
-mod writing;
+mod by_hand;
+mod made;

@@ -1,25 +1,25 @@
-//! Tables that are written, from what they are to say, into a buffer of the caller's.
-ghost use Rattle.std.specs.Prelude.{length};
-ghost use Rattle.acpi.specs.declared.root.RootKind.TheVariants.{Rsdt, Xsdt};
+//! Made by scripts/exports of include/zacpi.h, which has what each call does.
 ghost use Rattle.acpi.specs.Types.{DSDT, SSDT};
-ghost use Rattle.acpi_c_lib.specs.Words.{AnswersPlain, WritesTable, writer_refused, facs_contents, dsdt_said, machine_said, signature_named, size_said, table_said, tree_said};
-ghost use Rattle.acpi_c_lib.specs.declared.writing.machine.Contents.TheVariants.{Bgrt, Fadt, Gic, Gtdt, Hpet, Madt, Mcfg, Spcr, Srat};
-ghost use Rattle.acpi_writer.specs.Words.{aml_written, facs_written, root_written, rsdp_written, slit_written, table_written};
+ghost use Rattle.acpi.specs.declared.root.RootKind.TheVariants.{Rsdt, Xsdt};
+ghost use Rattle.acpi_c_lib.specs.Words.{AnswersPlain, WritesTable, dsdt_said, machine_said, signature_named, size_said, table_said, tree_said, writer_refused};
+ghost use Rattle.acpi_c_lib.specs.declared.writing.machine.Contents.TheVariants.{Bgrt, Fadt, Gic, Gtdt, Hpet, Madt, Spcr, Srat};
+ghost use Rattle.acpi_writer.specs.Words.{aml_written, rhct_written, riscv_written, root_written, rsdp_written, slit_written, table_written};
+ghost use Rattle.std.specs.Prelude.{length};
 
 use acpi_c_lib::answer::answer_plain;
 use acpi_c_lib::fixed_records::FixedHardware;
-use acpi_c_lib::records::{BootGraphic, HpetInfo, PciRegion, Signature};
+use acpi_c_lib::records::{BootGraphic, HpetInfo, Signature};
 use acpi_c_lib::writing::{
-    Contents, dsdt_place, tables_size, write_contents, write_dsdt, write_facs, write_hardware,
-    write_rsdp, write_rsdt, write_slit, write_ssdt, write_table, write_tables,
+    Contents, dsdt_place, tables_size, write_contents, write_dsdt, write_hardware, write_rhct,
+    write_riscv_madt, write_rsdp, write_rsdt, write_slit, write_ssdt, write_table, write_tables,
     write_tables_without_rsdp, write_xsdt, written,
 };
 use acpi_c_lib::written_records::{
-    FacsContents, GicContents, GtdtContents, Machine, MadtContents, SpcrContents, SratContents,
-    TableIds,
+    GicContents, GtdtContents, Machine, MadtContents, RhctContents, RiscvContents, SpcrContents,
+    SratContents, TableIds,
 };
 
-/// An RSDP of revision 2 that leads to an XSDT (section 5.2.5.3).
+/// Writes an RSDP of revision 2 that points to an XSDT (section 5.2.5.3): 36 bytes.
 #[unsafe(no_mangle)]
 pub extern "C" fn zacpi_1_write_rsdp(
     ids: &TableIds,
@@ -33,7 +33,7 @@ pub extern "C" fn zacpi_1_write_rsdp(
     written(write_rsdp(out, ids, xsdt), count)
 }
 
-/// An RSDT (section 5.2.7).
+/// Write an RSDT, and an XSDT, of these addresses, in order, also of 0 (sections 5.2.7 and 5.2.8).
 #[unsafe(no_mangle)]
 pub extern "C" fn zacpi_1_write_rsdt(
     ids: &TableIds,
@@ -47,7 +47,7 @@ pub extern "C" fn zacpi_1_write_rsdt(
     written(write_rsdt(out, ids, addresses), count)
 }
 
-/// An XSDT (section 5.2.8).
+/// Write an RSDT, and an XSDT, of these addresses, in order, also of 0 (sections 5.2.7 and 5.2.8).
 #[unsafe(no_mangle)]
 pub extern "C" fn zacpi_1_write_xsdt(
     ids: &TableIds,
@@ -61,7 +61,8 @@ pub extern "C" fn zacpi_1_write_xsdt(
     written(write_xsdt(out, ids, addresses), count)
 }
 
-/// A DSDT of AML bytes (section 5.2.11.1).
+/// Write a DSDT, and an SSDT, of these bytes of AML, whose integers have 32 bits by a revision of 1, 64 by 2 (section
+/// 5.2.11).
 #[unsafe(no_mangle)]
 pub extern "C" fn zacpi_1_write_dsdt(
     ids: &TableIds,
@@ -76,7 +77,8 @@ pub extern "C" fn zacpi_1_write_dsdt(
     written(write_dsdt(out, ids, revision, aml), count)
 }
 
-/// An SSDT of AML bytes (section 5.2.11.2).
+/// Write a DSDT, and an SSDT, of these bytes of AML, whose integers have 32 bits by a revision of 1, 64 by 2 (section
+/// 5.2.11).
 #[unsafe(no_mangle)]
 pub extern "C" fn zacpi_1_write_ssdt(
     ids: &TableIds,
@@ -91,7 +93,7 @@ pub extern "C" fn zacpi_1_write_ssdt(
     written(write_ssdt(out, ids, revision, aml), count)
 }
 
-/// A table of any signature, of the bytes after its header (section 5.2.6).
+/// Writes a table of any signature and revision: a header (section 5.2.6) and these bytes.
 #[unsafe(no_mangle)]
 pub extern "C" fn zacpi_1_write_table(
     ids: &TableIds,
@@ -107,7 +109,66 @@ pub extern "C" fn zacpi_1_write_table(
     written(write_table(out, ids, signature, revision, body), count)
 }
 
-/// An HPET (IA-PC HPET Specification).
+/// Writes a MADT of revision 5 (section 5.2.12): its entries sort by sort in the order of the lists, the mailbox last.
+#[unsafe(no_mangle)]
+pub extern "C" fn zacpi_1_write_madt(
+    ids: &TableIds,
+    contents: &MadtContents<'_>,
+    out: &mut [u8],
+    count: &mut usize,
+) -> u32
+    ensures { WritesTable result out.old out.new count.old count.new
+        (table_said (length out.old) ids.now (Madt contents.now)) }
+{
+    answer_plain(write_contents(out, ids, &Contents::Madt(*contents)), count)
+}
+
+/// Writes a MADT of revision 6 of an Arm machine (sections 5.2.12.14 to 5.2.12.18): the distributor, and the lists in
+/// their order.
+#[unsafe(no_mangle)]
+pub extern "C" fn zacpi_1_write_gic_madt(
+    ids: &TableIds,
+    contents: &GicContents<'_>,
+    out: &mut [u8],
+    count: &mut usize,
+) -> u32
+    ensures { WritesTable result out.old out.new count.old count.new
+        (table_said (length out.old) ids.now (Gic contents.now)) }
+{
+    answer_plain(write_contents(out, ids, &Contents::Gic(*contents)), count)
+}
+
+/// Writes a MADT of revision 7 of a RISC-V machine (ACPI 6.6, section 5.2.12): the lists in their order, a RINTC with
+/// 36 bytes.
+#[unsafe(no_mangle)]
+pub extern "C" fn zacpi_1_write_riscv_madt(
+    ids: &TableIds,
+    contents: &RiscvContents<'_>,
+    out: &mut [u8],
+    count: &mut usize,
+) -> u32
+    ensures { WritesTable result out.old out.new count.old count.new
+        (writer_refused (riscv_written (length out.old) ids.now contents.now)) }
+{
+    written(write_riscv_madt(out, ids, contents), count)
+}
+
+/// Writes an RHCT of revision 1 (ACPI 6.6): an ISA String Node, whose string is filled up with one or two zeros to an
+/// even length, and for each hart a Hart Info Node of it.
+#[unsafe(no_mangle)]
+pub extern "C" fn zacpi_1_write_rhct(
+    ids: &TableIds,
+    contents: &RhctContents<'_>,
+    out: &mut [u8],
+    count: &mut usize,
+) -> u32
+    ensures { WritesTable result out.old out.new count.old count.new
+        (writer_refused (rhct_written (length out.old) ids.now contents.now)) }
+{
+    written(write_rhct(out, ids, contents), count)
+}
+
+/// Writes an HPET of revision 1 (IA-PC HPET Specification), with registers in memory of a Register Bit Width of 0.
 #[unsafe(no_mangle)]
 pub extern "C" fn zacpi_1_write_hpet(
     ids: &TableIds,
@@ -121,21 +182,7 @@ pub extern "C" fn zacpi_1_write_hpet(
     answer_plain(write_contents(out, ids, &Contents::Hpet(*info)), count)
 }
 
-/// An MCFG of regions of PCI configuration space (PCI Firmware Specification, section 4.1.2).
-#[unsafe(no_mangle)]
-pub extern "C" fn zacpi_1_write_mcfg(
-    ids: &TableIds,
-    regions: &[PciRegion],
-    out: &mut [u8],
-    count: &mut usize,
-) -> u32
-    ensures { WritesTable result out.old out.new count.old count.new
-        (table_said (length out.old) ids.now (Mcfg regions.entry)) }
-{
-    answer_plain(write_contents(out, ids, &Contents::Mcfg(regions)), count)
-}
-
-/// A SLIT of the distances between localities (section 5.2.17).
+/// Writes a SLIT (section 5.2.17) of `localities` times `localities` distances, those from locality 0 first.
 #[unsafe(no_mangle)]
 pub extern "C" fn zacpi_1_write_slit(
     ids: &TableIds,
@@ -150,35 +197,7 @@ pub extern "C" fn zacpi_1_write_slit(
     written(write_slit(out, ids, localities, distances), count)
 }
 
-/// A MADT of processors and interrupt controllers (section 5.2.12).
-#[unsafe(no_mangle)]
-pub extern "C" fn zacpi_1_write_madt(
-    ids: &TableIds,
-    contents: &MadtContents<'_>,
-    out: &mut [u8],
-    count: &mut usize,
-) -> u32
-    ensures { WritesTable result out.old out.new count.old count.new
-        (table_said (length out.old) ids.now (Madt contents.now)) }
-{
-    answer_plain(write_contents(out, ids, &Contents::Madt(*contents)), count)
-}
-
-/// A MADT of the GIC of an Arm machine (sections 5.2.12.14 to 5.2.12.18).
-#[unsafe(no_mangle)]
-pub extern "C" fn zacpi_1_write_gic_madt(
-    ids: &TableIds,
-    contents: &GicContents<'_>,
-    out: &mut [u8],
-    count: &mut usize,
-) -> u32
-    ensures { WritesTable result out.old out.new count.old count.new
-        (table_said (length out.old) ids.now (Gic contents.now)) }
-{
-    answer_plain(write_contents(out, ids, &Contents::Gic(*contents)), count)
-}
-
-/// A SRAT of processors and of ranges of memory (section 5.2.16).
+/// Writes a SRAT of revision 3 (section 5.2.16): its entries sort by sort, all enabled, of a Clock Domain of 0.
 #[unsafe(no_mangle)]
 pub extern "C" fn zacpi_1_write_srat(
     ids: &TableIds,
@@ -192,7 +211,7 @@ pub extern "C" fn zacpi_1_write_srat(
     answer_plain(write_contents(out, ids, &Contents::Srat(*contents)), count)
 }
 
-/// A BGRT (section 5.2.22).
+/// Writes a BGRT of revision 1, 56 bytes (section 5.2.22).
 #[unsafe(no_mangle)]
 pub extern "C" fn zacpi_1_write_bgrt(
     ids: &TableIds,
@@ -206,62 +225,53 @@ pub extern "C" fn zacpi_1_write_bgrt(
     answer_plain(write_contents(out, ids, &Contents::Bgrt(*graphic)), count)
 }
 
-/// An SPCR, whose layout is Microsoft's.
+/// Writes an SPCR of revision 4, 90 bytes, with a Language of 0, the NamespaceString "." of a port with no object, and
+/// in Configured Baud Rate the rate's code, or 0 if it has none.
 #[unsafe(no_mangle)]
 pub extern "C" fn zacpi_1_write_spcr(
     ids: &TableIds,
-    spcr: &SpcrContents,
+    contents: &SpcrContents,
     out: &mut [u8],
     count: &mut usize,
 ) -> u32
     ensures { WritesTable result out.old out.new count.old count.new
-        (table_said (length out.old) ids.now (Spcr spcr.now)) }
+        (table_said (length out.old) ids.now (Spcr contents.now)) }
 {
-    answer_plain(write_contents(out, ids, &Contents::Spcr(*spcr)), count)
+    answer_plain(write_contents(out, ids, &Contents::Spcr(*contents)), count)
 }
 
-/// A GTDT of the timers of every processor and of the platform (section 5.2.24).
+/// Writes a GTDT of revision 3 (section 5.2.24): 104 bytes, 28 for each watchdog, 20 for each GT Block, and 40 for each
+/// frame, in order, with a Platform Timer Offset of 104.
 #[unsafe(no_mangle)]
 pub extern "C" fn zacpi_1_write_gtdt(
     ids: &TableIds,
-    gtdt: &GtdtContents<'_>,
+    contents: &GtdtContents<'_>,
     out: &mut [u8],
     count: &mut usize,
 ) -> u32
     ensures { WritesTable result out.old out.new count.old count.new
-        (table_said (length out.old) ids.now (Gtdt gtdt.now)) }
+        (table_said (length out.old) ids.now (Gtdt contents.now)) }
 {
-    answer_plain(write_contents(out, ids, &Contents::Gtdt(*gtdt)), count)
+    answer_plain(write_contents(out, ids, &Contents::Gtdt(*contents)), count)
 }
 
-/// A FADT (section 5.2.9).
+/// Writes a FADT of version 6.4, 276 bytes (section 5.2.9).
 #[unsafe(no_mangle)]
 pub extern "C" fn zacpi_1_write_fadt(
     ids: &TableIds,
-    fadt: &FixedHardware,
+    hardware: &FixedHardware,
     out: &mut [u8],
     count: &mut usize,
 ) -> u32
     ensures { WritesTable result out.old out.new count.old count.new
-        (table_said (length out.old) ids.now (Fadt fadt.now)) }
+        (table_said (length out.old) ids.now (Fadt hardware.now)) }
 {
-    answer_plain(write_hardware(out, ids, fadt), count)
+    answer_plain(write_hardware(out, ids, hardware), count)
 }
 
-/// A FACS (section 5.2.10).
-#[unsafe(no_mangle)]
-pub extern "C" fn zacpi_1_write_facs(
-    contents: &FacsContents,
-    out: &mut [u8],
-    count: &mut usize,
-) -> u32
-    ensures { WritesTable result out.old out.new count.old count.new
-        (writer_refused (facs_written (length out.old) (facs_contents contents.now))) }
-{
-    written(write_facs(out, &contents.contents()), count)
-}
-
-/// All tables of a machine.
+/// Writes all tables of a machine, for memory from `address` on: the RSDP, after 48 bytes the XSDT, the DSDT, 128 bytes
+/// with the FACS at their first multiple of 64, and the listed tables in order, each table at a multiple of 16 and
+/// filled up with zeros to the next.
 #[unsafe(no_mangle)]
 pub extern "C" fn zacpi_1_write_tables(
     machine: &Machine<'_>,
@@ -275,7 +285,7 @@ pub extern "C" fn zacpi_1_write_tables(
     answer_plain(write_tables(out, address, machine), count)
 }
 
-/// All tables of a machine but the RSDP.
+/// Writes what zacpi_write_tables writes after the RSDP's 48 bytes, with the XSDT at `address`.
 #[unsafe(no_mangle)]
 pub extern "C" fn zacpi_1_write_tables_without_rsdp(
     machine: &Machine<'_>,
@@ -288,7 +298,7 @@ pub extern "C" fn zacpi_1_write_tables_without_rsdp(
     answer_plain(write_tables_without_rsdp(out, address, machine), count)
 }
 
-/// How many bytes all tables of a machine have.
+/// Returns how many bytes zacpi_write_tables writes.
 #[unsafe(no_mangle)]
 pub extern "C" fn zacpi_1_tables_size(machine: &Machine<'_>, count: &mut usize) -> u32
     ensures { AnswersPlain result count.old count.new (size_said machine.now) }
@@ -296,7 +306,7 @@ pub extern "C" fn zacpi_1_tables_size(machine: &Machine<'_>, count: &mut usize) 
     answer_plain(tables_size(machine), count)
 }
 
-/// Where the DSDT of a machine lies.
+/// Returns where zacpi_write_tables lays the DSDT for this address and so many listed tables.
 #[unsafe(no_mangle)]
 pub extern "C" fn zacpi_1_dsdt_address(address: u64, tables: usize, out: &mut u64) -> u32
     ensures { AnswersPlain result out.old out.new (dsdt_said address tables) }

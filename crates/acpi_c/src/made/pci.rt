@@ -1,4 +1,4 @@
-//! PCI configuration space.
+//! Made by scripts/exports of include/zacpi.h, which has what each call does.
 ghost use Rattle.acpi_c_lib.specs.Words.{Answers, AnswersList, ecam_below, ecam_ranges_below, pci_regions_below};
 
 use acpi_c_lib::answer::answer;
@@ -6,7 +6,8 @@ use acpi_c_lib::fixed_records::EcamRange;
 use acpi_c_lib::pci::{ecam_address, ecam_ranges, pci_regions};
 use acpi_c_lib::records::{PciRegion, Signature, Source};
 
-/// The regions of configuration space (PCI Firmware Specification, section 4.1.2).
+/// Lists the regions of PCI configuration space of the MCFG: 16 bytes for each from byte 44 on; fewer at the end are
+/// none.
 #[unsafe(no_mangle)]
 pub extern "C" fn zacpi_1_list_pci_regions(
     source: &Source<'_>,
@@ -20,7 +21,22 @@ pub extern "C" fn zacpi_1_list_pci_regions(
     answer(pci_regions(source, out), count, named)
 }
 
-/// Where a function lies: a region's base is that of bus 0 (PCI Firmware Specification, section 4.1.2).
+/// Lists the memory of each item of zacpi_list_pci_regions, with its base as that of bus 0.
+#[unsafe(no_mangle)]
+pub extern "C" fn zacpi_1_list_ecam_ranges(
+    source: &Source<'_>,
+    out: &mut [EcamRange],
+    count: &mut usize,
+    named: &mut Signature,
+) -> u32
+    ensures { AnswersList result out.old out.new count.old count.new named.old named.new
+        (ecam_ranges_below source.now) }
+{
+    answer(ecam_ranges(source, out), count, named)
+}
+
+/// Returns the address of a function's 4096 bytes of configuration space, by the first region of the MCFG that contains
+/// the bus, with its base as that of bus 0.
 #[unsafe(no_mangle)]
 pub extern "C" fn zacpi_1_pci_ecam_address(
     source: &Source<'_>,
@@ -38,18 +54,4 @@ pub extern "C" fn zacpi_1_pci_ecam_address(
         out,
         named,
     )
-}
-
-/// The memory that each region of configuration space takes, by the base of bus 0.
-#[unsafe(no_mangle)]
-pub extern "C" fn zacpi_1_list_ecam_ranges(
-    source: &Source<'_>,
-    out: &mut [EcamRange],
-    count: &mut usize,
-    named: &mut Signature,
-) -> u32
-    ensures { AnswersList result out.old out.new count.old count.new named.old named.new
-        (ecam_ranges_below source.now) }
-{
-    answer(ecam_ranges(source, out), count, named)
 }

@@ -1,4 +1,4 @@
-//! Sleep types, and what to write to sleep, to power off, to enable ACPI and to reset.
+//! Made by scripts/exports of include/zacpi.h, which has what each call does.
 ghost use Rattle.acpi_c_lib.specs.Words.{Answers, enable_plan_below, reset_plan_below, sleep_plan_below, sleep_types_below};
 
 use acpi_c_lib::answer::answer;
@@ -6,7 +6,8 @@ use acpi_c_lib::power::{enable_plan, reset_plan, sleep_plan, sleep_types};
 use acpi_c_lib::power_records::{Plan, SleepTypes};
 use acpi_c_lib::records::{Signature, Source};
 
-/// The sleep types of a sleep state (section 7.4.2).
+/// Returns the sleep types of S0 to S5, constants in the AML (section 7.4.2), which isn't run: of the first of the DSDT
+/// and the SSDTs that has the state's package.
 #[unsafe(no_mangle)]
 pub extern "C" fn zacpi_1_get_sleep_types(
     source: &Source<'_>,
@@ -19,7 +20,7 @@ pub extern "C" fn zacpi_1_get_sleep_types(
     answer(sleep_types(source, state), out, named)
 }
 
-/// What to write to enter a sleep state (section 16.1).
+/// Returns what to write to enter a sleep state (section 16.1).
 #[unsafe(no_mangle)]
 pub extern "C" fn zacpi_1_get_sleep_plan(
     source: &Source<'_>,
@@ -32,19 +33,7 @@ pub extern "C" fn zacpi_1_get_sleep_plan(
     answer(sleep_plan(source, state), out, named)
 }
 
-/// What to write to power the machine off: to enter S5 (section 16.1).
-#[unsafe(no_mangle)]
-pub extern "C" fn zacpi_1_get_power_off_plan(
-    source: &Source<'_>,
-    out: &mut Plan,
-    named: &mut Signature,
-) -> u32
-    ensures { Answers result out.old out.new named.old named.new (sleep_plan_below source.now 5) }
-{
-    answer(sleep_plan(source, 5), out, named)
-}
-
-/// What to write to reset the machine (section 4.8.3.6).
+/// Returns what to write to reset the machine.
 #[unsafe(no_mangle)]
 pub extern "C" fn zacpi_1_get_reset_plan(
     source: &Source<'_>,
@@ -56,7 +45,7 @@ pub extern "C" fn zacpi_1_get_reset_plan(
     answer(reset_plan(source), out, named)
 }
 
-/// What to write to enable ACPI (section 4.8.3.2.1).
+/// Returns what to write to enable ACPI.
 #[unsafe(no_mangle)]
 pub extern "C" fn zacpi_1_get_enable_plan(
     source: &Source<'_>,

@@ -1,0 +1,205 @@
+//! Made by scripts/exports of include/zacpi.h, which has what each call does.
+ghost use Rattle.acpi_c_lib.specs.Words.{Answers, AnswersList, dmar_faults_below, dmar_flags_below, dmar_hpet_below, dmar_io_apic_below, dmar_reserved_below, dmar_scopes_below, dmar_unit_below, dmar_units_below, ivrs_entries_below, ivrs_faults_below, ivrs_memory_below, ivrs_unit_below, ivrs_units_below};
+
+use acpi_c_lib::answer::answer;
+use acpi_c_lib::entry_faults::EntryFault;
+use acpi_c_lib::iommu::{
+    dmar_flags, dmar_hpet, dmar_io_apic, dmar_reserved, dmar_unit, ivrs_memory, ivrs_unit,
+};
+use acpi_c_lib::iommu_faults::{dmar_faults, ivrs_faults};
+use acpi_c_lib::iommu_lists::{dmar_scopes, dmar_units, ivrs_entries, ivrs_units};
+use acpi_c_lib::iommu_records::{
+    DmarFlags, DmarReserved, DmarScope, DmarSource, DmarUnit, Hop, IvrsDevice, IvrsEntry,
+    IvrsMemory, IvrsUnit,
+};
+use acpi_c_lib::records::{Signature, Source};
+
+/// Returns what the DMAR has for all units (section 8.1).
+#[unsafe(no_mangle)]
+pub extern "C" fn zacpi_1_get_dmar_flags(
+    source: &Source<'_>,
+    out: &mut DmarFlags,
+    named: &mut Signature,
+) -> u32
+    ensures { Answers result out.old out.new named.old named.new (dmar_flags_below source.now) }
+{
+    answer(dmar_flags(source), out, named)
+}
+
+/// Lists the DRHDs, up to the first byte at which no structure begins.
+#[unsafe(no_mangle)]
+pub extern "C" fn zacpi_1_list_dmar_units(
+    source: &Source<'_>,
+    out: &mut [DmarUnit],
+    count: &mut usize,
+    named: &mut Signature,
+) -> u32
+    ensures { AnswersList result out.old out.new count.old count.new named.old named.new (dmar_units_below source.now) }
+{
+    answer(dmar_units(source, out), count, named)
+}
+
+/// Lists the device scopes of the `index`-th of these units, from 0 on, up to the first byte at which none begins.
+#[unsafe(no_mangle)]
+pub extern "C" fn zacpi_1_list_dmar_scopes(
+    source: &Source<'_>,
+    index: usize,
+    out: &mut [DmarScope],
+    count: &mut usize,
+    named: &mut Signature,
+) -> u32
+    ensures { AnswersList result out.old out.new count.old count.new named.old named.new
+        (dmar_scopes_below source.now index) }
+{
+    answer(dmar_scopes(source, index, out), count, named)
+}
+
+/// Lists the structures with an error: device scopes that end early, else an RMRR that is no range; and last, if there
+/// is one, the first byte at which none begins.
+#[unsafe(no_mangle)]
+pub extern "C" fn zacpi_1_list_dmar_faults(
+    source: &Source<'_>,
+    out: &mut [EntryFault],
+    count: &mut usize,
+    named: &mut Signature,
+) -> u32
+    ensures { AnswersList result out.old out.new count.old count.new named.old named.new
+        (dmar_faults_below source.now) }
+{
+    answer(dmar_faults(source, out), count, named)
+}
+
+/// Returns the unit that remaps the device that the hops reach from a bus of a segment: the first DRHD of the segment
+/// with a device scope that names it, else the first with INCLUDE_PCI_ALL.
+#[unsafe(no_mangle)]
+pub extern "C" fn zacpi_1_get_dmar_unit(
+    source: &Source<'_>,
+    segment: u16,
+    bus: u8,
+    hops: &[Hop],
+    out: &mut DmarUnit,
+    named: &mut Signature,
+) -> u32
+    ensures { Answers result out.old out.new named.old named.new (dmar_unit_below source.now segment bus hops.now) }
+{
+    answer(dmar_unit(source, segment, bus, hops), out, named)
+}
+
+/// Returns the unit that remaps the interrupts of an I/O APIC: the first DRHD with a device scope of Type 3 whose
+/// Enumeration ID is `id`.
+#[unsafe(no_mangle)]
+pub extern "C" fn zacpi_1_dmar_io_apic(
+    source: &Source<'_>,
+    id: u8,
+    out: &mut DmarSource,
+    named: &mut Signature,
+) -> u32
+    ensures { Answers result out.old out.new named.old named.new (dmar_io_apic_below source.now id) }
+{
+    answer(dmar_io_apic(source, id), out, named)
+}
+
+/// Returns the unit that remaps the interrupts of an HPET: the first DRHD with a device scope of Type 4 whose
+/// Enumeration ID is `number`.
+#[unsafe(no_mangle)]
+pub extern "C" fn zacpi_1_dmar_hpet(
+    source: &Source<'_>,
+    number: u8,
+    out: &mut DmarSource,
+    named: &mut Signature,
+) -> u32
+    ensures { Answers result out.old out.new named.old named.new (dmar_hpet_below source.now number) }
+{
+    answer(dmar_hpet(source, number), out, named)
+}
+
+/// Lists the memory that is reserved for a device: each RMRR of the segment with a device scope that names it as for
+/// zacpi_get_dmar_unit, also one that is no range.
+#[unsafe(no_mangle)]
+pub extern "C" fn zacpi_1_list_dmar_reserved(
+    source: &Source<'_>,
+    segment: u16,
+    bus: u8,
+    hops: &[Hop],
+    out: &mut [DmarReserved],
+    count: &mut usize,
+    named: &mut Signature,
+) -> u32
+    ensures { AnswersList result out.old out.new count.old count.new named.old named.new
+        (dmar_reserved_below source.now segment bus hops.now) }
+{
+    answer(dmar_reserved(source, segment, bus, hops, out), count, named)
+}
+
+/// Lists the IVHDs of all Types, up to the first byte at which no block begins.
+#[unsafe(no_mangle)]
+pub extern "C" fn zacpi_1_list_ivrs_units(
+    source: &Source<'_>,
+    out: &mut [IvrsUnit],
+    count: &mut usize,
+    named: &mut Signature,
+) -> u32
+    ensures { AnswersList result out.old out.new count.old count.new named.old named.new (ivrs_units_below source.now) }
+{
+    answer(ivrs_units(source, out), count, named)
+}
+
+/// Lists the device entries of the `index`-th of these units, from 0 on, up to the first byte at which none begins.
+#[unsafe(no_mangle)]
+pub extern "C" fn zacpi_1_list_ivrs_entries(
+    source: &Source<'_>,
+    index: usize,
+    out: &mut [IvrsEntry],
+    count: &mut usize,
+    named: &mut Signature,
+) -> u32
+    ensures { AnswersList result out.old out.new count.old count.new named.old named.new
+        (ivrs_entries_below source.now index) }
+{
+    answer(ivrs_entries(source, index, out), count, named)
+}
+
+/// Lists the blocks with an error: device entries that end early, else an IVMD whose memory ends at 2^64 or above; and
+/// last, if there is one, the first byte at which none begins.
+#[unsafe(no_mangle)]
+pub extern "C" fn zacpi_1_list_ivrs_faults(
+    source: &Source<'_>,
+    out: &mut [EntryFault],
+    count: &mut usize,
+    named: &mut Signature,
+) -> u32
+    ensures { AnswersList result out.old out.new count.old count.new named.old named.new
+        (ivrs_faults_below source.now) }
+{
+    answer(ivrs_faults(source, out), count, named)
+}
+
+/// Returns the unit that remaps a device.
+#[unsafe(no_mangle)]
+pub extern "C" fn zacpi_1_get_ivrs_unit(
+    source: &Source<'_>,
+    segment: u16,
+    device_id: u16,
+    out: &mut IvrsDevice,
+    named: &mut Signature,
+) -> u32
+    ensures { Answers result out.old out.new named.old named.new (ivrs_unit_below source.now segment device_id) }
+{
+    answer(ivrs_unit(source, segment, device_id), out, named)
+}
+
+/// Lists the memory that has its own rules for a device: each IVMD for it, for all devices or for a range that it lies
+/// in, whatever its segment and length.
+#[unsafe(no_mangle)]
+pub extern "C" fn zacpi_1_list_ivrs_memory(
+    source: &Source<'_>,
+    device_id: u16,
+    out: &mut [IvrsMemory],
+    count: &mut usize,
+    named: &mut Signature,
+) -> u32
+    ensures { AnswersList result out.old out.new count.old count.new named.old named.new
+        (ivrs_memory_below source.now device_id) }
+{
+    answer(ivrs_memory(source, device_id, out), count, named)
+}

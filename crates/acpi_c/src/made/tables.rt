@@ -1,0 +1,129 @@
+//! Made by scripts/exports of include/zacpi.h, which has what each call does.
+ghost use Rattle.acpi_c_lib.specs.Words.{Answers, AnswersList, dsdt_below, faults_below, missing_below, nth_below, ranges_below, root_below, ssdts_below, table_below, tables_below};
+
+use acpi_c_lib::answer::answer;
+use acpi_c_lib::faults::faults;
+use acpi_c_lib::missing::missing;
+use acpi_c_lib::opening::root;
+use acpi_c_lib::records::{AmlTable, Fault, Range, Root, Signature, Source, Table};
+use acpi_c_lib::tables::{dsdt, find, ssdts, tables};
+use acpi_c_lib::walks::{nth, ranges};
+
+/// Returns the root table (sections 5.2.7 and 5.2.8).
+#[unsafe(no_mangle)]
+pub extern "C" fn zacpi_1_open(source: &Source<'_>, out: &mut Root, named: &mut Signature) -> u32
+    ensures { Answers result out.old out.new named.old named.new (root_below source.now) }
+{
+    answer(root(source), out, named)
+}
+
+/// Lists the memory that the tables still need and no one region contains (C.md).
+#[unsafe(no_mangle)]
+pub extern "C" fn zacpi_1_list_missing_ranges(
+    source: &Source<'_>,
+    out: &mut [Range],
+    count: &mut usize,
+    named: &mut Signature,
+) -> u32
+    ensures { AnswersList result out.old out.new count.old count.new named.old named.new (missing_below source.now) }
+{
+    answer(missing(source, out), count, named)
+}
+
+/// Lists the members of the root table that are valid under their own signatures, with repeats (sections 5.2.6 to
+/// 5.2.8).
+#[unsafe(no_mangle)]
+pub extern "C" fn zacpi_1_list_tables(
+    source: &Source<'_>,
+    out: &mut [Table],
+    count: &mut usize,
+    named: &mut Signature,
+) -> u32
+    ensures { AnswersList result out.old out.new count.old count.new named.old named.new (tables_below source.now) }
+{
+    answer(tables(source, out), count, named)
+}
+
+/// Returns the first valid table of the wanted signature (section 5.2.6), whose fields aren't checked.
+#[unsafe(no_mangle)]
+pub extern "C" fn zacpi_1_find_table(
+    source: &Source<'_>,
+    name: Signature,
+    out: &mut Table,
+    named: &mut Signature,
+) -> u32
+    ensures { Answers result out.old out.new named.old named.new (table_below source.now name) }
+{
+    answer(find(source, name), out, named)
+}
+
+/// Returns the `index`-th valid table of the wanted signature, from 0 on (section 5.2.6).
+#[unsafe(no_mangle)]
+pub extern "C" fn zacpi_1_find_nth_table(
+    source: &Source<'_>,
+    name: Signature,
+    index: usize,
+    out: &mut Table,
+    named: &mut Signature,
+) -> u32
+    ensures { Answers result out.old out.new named.old named.new (nth_below source.now name index) }
+{
+    answer(nth(source, name, index), out, named)
+}
+
+/// Lists the members of the root table that a lookup of the wanted signature, by a call that needs its fixed fields,
+/// skips for another reason than their Signature, up to the one that it finds, and last that one if it finds it by
+/// `accept` alone (section 5.2.6).
+#[unsafe(no_mangle)]
+pub extern "C" fn zacpi_1_list_faults(
+    source: &Source<'_>,
+    name: Signature,
+    out: &mut [Fault],
+    count: &mut usize,
+    named: &mut Signature,
+) -> u32
+    ensures { AnswersList result out.old out.new count.old count.new named.old named.new
+        (faults_below source.now name) }
+{
+    answer(faults(source, name, out), count, named)
+}
+
+/// Returns the AML of the DSDT that the FADT names (sections 5.2.9 and 5.2.11.1).
+#[unsafe(no_mangle)]
+pub extern "C" fn zacpi_1_dsdt(
+    source: &Source<'_>,
+    out: &mut AmlTable,
+    named: &mut Signature,
+) -> u32
+    ensures { Answers result out.old out.new named.old named.new (dsdt_below source.now) }
+{
+    answer(dsdt(source), out, named)
+}
+
+/// Lists the AML of each valid SSDT (section 5.2.11.2).
+#[unsafe(no_mangle)]
+pub extern "C" fn zacpi_1_list_ssdts(
+    source: &Source<'_>,
+    out: &mut [AmlTable],
+    count: &mut usize,
+    named: &mut Signature,
+) -> u32
+    ensures { AnswersList result out.old out.new count.old count.new named.old named.new (ssdts_below source.now) }
+{
+    answer(ssdts(source, out), count, named)
+}
+
+/// Lists the memory of the tables, which isn't to be given away: of the RSDP, the root table, each listed table that is
+/// valid under its own signature, and the DSDT and FACS that zacpi_dsdt and zacpi_get_facs return (sections 5.2.5 to
+/// 5.2.11).
+#[unsafe(no_mangle)]
+pub extern "C" fn zacpi_1_list_ranges(
+    source: &Source<'_>,
+    out: &mut [Range],
+    count: &mut usize,
+    named: &mut Signature,
+) -> u32
+    ensures { AnswersList result out.old out.new count.old count.new named.old named.new (ranges_below source.now) }
+{
+    answer(ranges(source, out), count, named)
+}
