@@ -345,6 +345,7 @@ static const struct row rows[] = {
     REFUSED(list_nmi_lines, EMPTY, NULL, NO, ZACPI_TABLE_MISSING, "APIC"),
     GOOD(mailbox_address, MAILBOX, NULL, NO, 1, 0x1827364554637000),
     REFUSED(mailbox_address, PC, NULL, NO, ZACPI_MADT_UNEXPECTED_ENTRY, NULL),
+    REFUSED(mailbox_address, ONE_LEFT, NULL, NO, ZACPI_MADT_INVALID_ENTRY_LENGTH, NULL),
     REFUSED(mailbox_address, LENGTH_0, NULL, NO, ZACPI_MADT_INVALID_ENTRY_LENGTH, NULL),
     REFUSED(mailbox_address, EMPTY, NULL, NO, ZACPI_TABLE_MISSING, "APIC"),
     /* The boot processor is the first, and here it is disabled. */
@@ -359,6 +360,7 @@ static const struct row rows[] = {
     GOOD(list_processors, SAPIC_BETWEEN, NULL, NO, 2, 1, 10, ZACPI_PROCESSOR_RUNNING, 1, 0, 0,
          2, 11, ZACPI_PROCESSOR_DISABLED, 0, 1, 0),
     GOOD(list_processors, NMI_2, NULL, NO, 1, 1, 10, ZACPI_PROCESSOR_RUNNING, 1, 0, 0),
+    GOOD(list_processors, ONE_LEFT, NULL, NO, 1, 3, 4, ZACPI_PROCESSOR_RUNNING, 1, 0, 0),
     GOOD(list_processors, LENGTH_0, NULL, NO, 2, 1, 10, ZACPI_PROCESSOR_RUNNING, 1, 0, 0,
          2, 11, ZACPI_PROCESSOR_DISABLED, 0, 0, 0),
     GOOD(list_processors, NO_FADT, NULL, NO, 1, 1, 33, ZACPI_PROCESSOR_RUNNING, 1, 0, 0),
@@ -385,6 +387,7 @@ static const struct row rows[] = {
     GOOD(list_madt_faults, SAPIC_BETWEEN, NULL, NO, 1, AT(MADT_SAPIC_BETWEEN) + 52, ZACPI_MADT_UNEXPECTED_ENTRY, 7),
     GOOD(list_madt_faults, NMI_2, NULL, NO, 1, AT(MADT_NMI_2) + 52, ZACPI_MADT_MPS_INTI_INVALID_POLARITY, 3),
     GOOD(list_madt_faults, LENGTH_0, NULL, NO, 1, AT(MADT_LENGTH_0) + 60, ZACPI_MADT_INVALID_ENTRY_LENGTH, 1),
+    GOOD(list_madt_faults, ONE_LEFT, NULL, NO, 1, LAST_MADT + 52, ZACPI_MADT_INVALID_ENTRY_LENGTH, 7),
     GOOD(list_madt_faults, BUS_1, NULL, NO, 2,
          AT(MADT_BUS_1) + 52, ZACPI_MADT_INTERRUPT_OVERRIDE_ENTRY_HAS_INVALID_BUS, 2,
          AT(MADT_BUS_1) + 72, ZACPI_MADT_INTERRUPT_OVERRIDE_ENTRY_HAS_INVALID_BUS, 2),
@@ -467,6 +470,7 @@ static const struct row rows[] = {
     GOOD(get_gic_distributor, ODD, NULL, NO, 1, 0, 0, 0, 0), /* before the byte in which no entry begins */
     REFUSED(get_gic_distributor, FAULTS, NULL, NO, ZACPI_NO_GIC, NULL),
     REFUSED(get_gic_distributor, FRONTS, NULL, NO, ZACPI_MADT_INVALID_ENTRY_LENGTH, NULL),
+    REFUSED(get_gic_distributor, ONE_LEFT, NULL, NO, ZACPI_MADT_INVALID_ENTRY_LENGTH, NULL),
     REFUSED(get_gic_distributor, LENGTH_0, NULL, NO, ZACPI_MADT_INVALID_ENTRY_LENGTH, NULL),
     REFUSED(get_gic_distributor, EMPTY, NULL, NO, ZACPI_TABLE_MISSING, "APIC"),
     GOOD(list_gic_cpu_interfaces, FAULTS, NULL, NO, 1, 0, 0, 0, 0, 0, 0, 1, 2, 0, 0, 0, 0, 0,

@@ -181,6 +181,7 @@ static const struct row unit_rows[] = {
     GOOD(get_ivrs_unit, UNITS_END, NULL, A(0, 2), 1, 0, 0, 0, 0, 2, 0, 0, 0x10, 1, 0, 2, 0xd7),
     REFUSED(get_ivrs_unit, UNITS_END, NULL, A(1, 2), ZACPI_IOMMU_INVALID_STRUCTURE_LENGTH, NULL),
     GOOD(get_ivrs_unit, UNITS_BETWEEN, NULL, A(0, 2), 1, BLOCK_10, 2, 0xd7), /* before the malformed IVMD */
+    GOOD(get_ivrs_unit, UNITS_4, NULL, A(0, 2), 1, BLOCK_10, 2, 0xd7),
     GOOD(get_ivrs_unit, UNITS_FAULTS, NULL, A(0, 0x600), 1, BLOCK_40, 0x600, 5),
     REFUSED(get_ivrs_unit, UNITS_FAULTS, NULL, A(0, 0x10), ZACPI_NO_IOMMU, NULL), /* malformed is one of Type 0x10 */
     REFUSED(get_ivrs_unit, EMPTY, NULL, A(0, 2), ZACPI_TABLE_MISSING, "IVRS"),
@@ -190,9 +191,11 @@ static const struct row unit_rows[] = {
     GOOD(list_ivrs_memory, UNITS, NULL, A(0x300), 2, MEMORY_OF_ALL, MEMORY_OF_ONE), /* it ends at 2^64 */
     GOOD(list_ivrs_memory, UNITS_FAULTS, NULL, A(0x300), 1, MEMORY_OF_ONE),
     NOTHING(list_ivrs_memory, UNITS_BETWEEN),
+    NOTHING(list_ivrs_memory, UNITS_4),
     REFUSED(list_ivrs_memory, EMPTY, NULL, A(2), ZACPI_TABLE_MISSING, "IVRS"),
     GOOD(list_ivrs_units, UNITS, NULL, NO, 3, BLOCK_10, BLOCK_11, OTHER_BLOCK_11),
     GOOD(list_ivrs_units, UNITS_BETWEEN, NULL, NO, 1, BLOCK_10),
+    GOOD(list_ivrs_units, UNITS_4, NULL, NO, 1, BLOCK_10),
     GOOD(list_ivrs_units, UNITS_FAULTS, NULL, NO, 2, 0xfeb80000, 0, 0, 0, 2, 0x40, 3, 0x10, 0xff, 0, BLOCK_40),
     NOTHING(list_ivrs_units, LEAST),
     REFUSED(list_ivrs_units, EMPTY, NULL, NO, ZACPI_TABLE_MISSING, "IVRS"),
@@ -215,6 +218,7 @@ static const struct row unit_rows[] = {
     GOOD(list_ivrs_faults, UNITS_END, NULL, NO, 1, AT(IVRS_END) + 76, ZACPI_IOMMU_INVALID_STRUCTURE_LENGTH, 0),
     GOOD(list_ivrs_faults, UNITS_BETWEEN, NULL, NO, 1, AT(IVRS_BETWEEN) + 76, ZACPI_IOMMU_INVALID_STRUCTURE_LENGTH,
          0x20),
+    GOOD(list_ivrs_faults, UNITS_4, NULL, NO, 1, LAST_IVRS + 76, ZACPI_IOMMU_INVALID_STRUCTURE_LENGTH, 0x20),
     GOOD(list_ivrs_faults, UNITS_FAULTS, NULL, NO, 2, AT(IVRS_FAULTS) + 48, ZACPI_IOMMU_INVALID_STRUCTURE_LENGTH, 0x10,
          AT(IVRS_FAULTS) + 88, ZACPI_IOMMU_INVALID_MEMORY_RANGE, 0x21),
     NOTHING(list_ivrs_faults, LEAST),

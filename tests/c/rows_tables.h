@@ -11,6 +11,10 @@
 #define TAIL (BASE + SIZE - 36u)          /* the last 36 bytes: a header whose table isn't lent as a whole */
 #define CUT(n) (0x180000u + 0x1000u * (n)) /* three regions with the first bytes of a table each */
 #define CUT_SIZE 40u
+#define LAST_MADT CUT(3) /* two regions that end with their table */
+#define LAST_MADT_SIZE 53u
+#define LAST_IVRS CUT(4)
+#define LAST_IVRS_SIZE 80u
 #define BIOS 0xe0000u /* the first area in which an RSDP is searched for, and the 16 bytes after it */
 #define BIOS_SIZE 0x20010u
 #define LONG_BIOS 0x40000000u /* where another first area is kept, which has RSDPs that are too long */
@@ -33,8 +37,8 @@ enum { EMPTY, ARM, PC, ODD, HOLES, SUM, DESKTOP, MOBILE, WORKSTATION, SERVER, SO
        RESERVED, WIDE, TIMER_5, LEAST, OLD, HALF, HALF_X, UNITS, UNITS_10, UNITS_CUT,
        UNITS_END, SAPIC_BETWEEN, NMI_2, LENGTH_0, NO_FADT, BUS_1, TRIGGER_2, LINT_2, HPETS, MAILBOX, POWER,
        REDUCED, PLAIN, BARE, BROKEN, FADTLESS, HIGH, HIGH_PLAIN, HIGH_REDUCED, FAULTS, FRONTS, UNITS_BETWEEN,
-       UNITS_FAULTS, UNITS_LATER, RISCV, RISCV_CUT, RISCV_SHORT, EARLY, LATE, PAST, FLAWED, LED_BY_SUMS, LED_BY_IDS,
-       ROOT_OEM_ID, ROOT_LONG, /* root tables, in the order of `tables` */
+       UNITS_FAULTS, UNITS_LATER, RISCV, RISCV_CUT, RISCV_SHORT, EARLY, LATE, PAST, ONE_LEFT, UNITS_4, FLAWED,
+       LED_BY_SUMS, LED_BY_IDS, ROOT_OEM_ID, ROOT_LONG, /* root tables, in the order of `tables` */
        RSDP_0, RSDP_2, RSDP_40, RSDP_MIXED, RSDP_LONG, RSDP_LOST, RSDP_CUT, RSDP_SHORT, RSDP_TO_SUM,
        RSDP_NONE, /* RSDPs, and the last one is none */
        MADT_GIC, GTDT, SRAT, SLIT, MCFG, FADT, MADT_PC, HPET_SHORT, HPET, MADT_CUT, GTDT_CUT, SRAT_CUT, SLIT_ODD,
@@ -286,7 +290,7 @@ static const struct table {
     {AT(HIGH_REDUCED), "RSDT", 1, 44, high_reduced}, {AT(FAULTS), "RSDT", 1, 48, faults},
     {AT(FRONTS), "RSDT", 1, 48, fronts}, {AT(RISCV), "RSDT", 1, 40, riscv}, {AT(RISCV_CUT), "RSDT", 1, 40, riscv_cut},
     {AT(RISCV_SHORT), "RSDT", 1, 40, riscv_short}, {AT(EARLY), "RSDT", 1, 40, early}, {AT(LATE), "RSDT", 1, 40, late},
-    {AT(PAST), "RSDT", 1, 40, past},
+    {AT(PAST), "RSDT", 1, 40, past}, {AT(ONE_LEFT), "RSDT", 1, 40, one_left}, {AT(UNITS_4), "RSDT", 1, 40, units_4},
     {AT(FLAWED), "RSDT", 1, 60, flawed}, {AT(LED_BY_SUMS), "RSDT", 1, 52, led_by_sums},
     {AT(LED_BY_IDS), "RSDT", 1, 44, led_by_ids}, {AT(ROOT_OEM_ID), "RSDT", 1, 40, root_oem_id},
     {AT(ROOT_LONG), "RSDT", 1, SIZE, root_long},
@@ -360,6 +364,7 @@ static const struct table {
     {AT(FADT_SUM), "FACP", 1, 116, fadt_sum}, {AT(FADT_OEM_ID), "FACP", 1, 116, fadt_oem_id},
     {AT(DSDT_SUM), "DSDT", 1, 47, dsdt_sum}, {AT(DSDT_TABLE_ID), "DSDT", 2, 40, dsdt_table_id},
     {AT(SSDT_SUM), "SSDT", 1, 47, ssdt_sum}, {AT(HPET_SUM), "HPET", 1, 56, hpet_sum},
+    {LAST_MADT, "APIC", 5, LAST_MADT_SIZE, last_madt}, {LAST_IVRS, "IVRS", 2, LAST_IVRS_SIZE, last_ivrs},
     {BIOS + 0x10000, "RSDT", 1, 36, no_fields}};
 
 /* RSDPs: the first byte of OEMID at 9, Revision at 15, RsdtAddress at 16, Length at 20, XsdtAddress at 24 (section

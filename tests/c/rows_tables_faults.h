@@ -6,6 +6,7 @@ PUTS(faults, {36, 4, AT(MADT_NO_GICD)}, {40, 4, AT(GTDT_FAULTS)}, {44, 4, AT(SRA
 PUTS(early, {36, 4, AT(GTDT_EARLY)});
 PUTS(late, {36, 4, AT(GTDT_LATE)});
 PUTS(past, {36, 4, AT(GTDT_PAST)});
+PUTS(one_left, {36, 4, LAST_MADT});
 PUTS(fronts, {36, 4, AT(MADT_FRONT)}, {40, 4, AT(GTDT_FRONT)}, {44, 4, AT(SRAT_FRONT)});
 
 /* No GICD, and reserved bits that are set. */
@@ -18,6 +19,10 @@ PUTS(madt_no_gicd,
 PUTS(madt_front,
     {44, 2, HEADER(0x0b, 76)}, {44 + 8, 4, 3} /* ACPI Processor UID */, {120, 2, HEADER(0x0c, 0)},
     {122, 2, HEADER(0x0c, 24)});
+/* A Local APIC, and the Type of an entry whose Length is after the table and its region. */
+PUTS(last_madt,
+    {44, 2, HEADER(0, 8)}, {44 + 2, 1, 3} /* ACPI Processor UID */, {44 + 3, 1, 4} /* APIC ID */,
+    {44 + 4, 4, 1} /* Flags: Enabled */, {52, 1, 7} /* Type */);
 
 /* Revision 2: a watchdog with reserved flags, a block of three frames with room for two, a reserved Type, another. */
 PUTS(gtdt_faults,

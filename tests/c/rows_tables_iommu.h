@@ -9,6 +9,7 @@ PUTS(units_10, {36, 4, AT(IVRS_10)});
 PUTS(units_cut, {36, 4, AT(DMAR_CUT)}, {40, 4, AT(IVRS_CUT)});
 PUTS(units_end, {36, 4, AT(DMAR_END)}, {40, 4, AT(IVRS_END)});
 PUTS(units_between, {36, 4, AT(DMAR_BETWEEN)}, {40, 4, AT(IVRS_BETWEEN)});
+PUTS(units_4, {36, 4, LAST_IVRS});
 PUTS(units_faults, {36, 4, AT(DMAR_FAULTS)}, {40, 4, AT(IVRS_FAULTS)});
 PUTS(units_later, {36, 4, AT(DMAR_LATER)});
 
@@ -101,6 +102,10 @@ PUTS(ivrs_end, BLOCK(48, 0x10, 1, 28, 2), ENTRY(72, 1, 0, 0xd7));
 PUTS(ivrs_between,
     BLOCK(48, 0x10, 1, 28, 2), IVHD(48, 0x40, 0xfeb80000, 0, 3, 0x11223344), ENTRY(72, 1, 0, 0xd7) /* all */,
     BLOCK(76, 0x20, 0, 16, 0), BLOCK(92, 0x11, 0, 40, 2), IVHD(92, 0x40, 0x1feb80000, 0, 3, 7));
+/* The same where the table and its region end right after the Length, so that no DeviceID is there. */
+PUTS(last_ivrs,
+    BLOCK(48, 0x10, 1, 28, 2), IVHD(48, 0x40, 0xfeb80000, 0, 3, 0x11223344), ENTRY(72, 1, 0, 0xd7) /* all */,
+    {76, 1, 0x20} /* Type */, {76 + 2, 2, 4} /* Length */);
 /* An end of a range without a start, after whole entries, of which one has a reserved Type; an IVMD that ends at 2^64;
  * and an ACPI HID device with Hardware ID, Unique ID format, its length 2 and Unique ID. */
 PUTS(ivrs_faults,
