@@ -6,7 +6,8 @@
 #   make split              out/libzacpi-split.a, an object for each function, for linkers without --gc-sections
 #   make check              calls of it by programs of examples/c and tests/c; elsewhere RUN=qemu-arm LDFLAGS=-static
 #   make install            the headers, zacpi.c, both archives, what leads pkg-config and CMake to them, examples
-#   make install-programs   the programs of $(PROGRAMS), a release's bin/, with their manual pages and completions
+#   make acpi_dump          out/acpi_dump, the program, for Linux on x86-64 and AArch64
+#   make install-programs   the programs in $(PROGRAMS), with their manual pages and completions
 #
 # CC, AR, CFLAGS, LDFLAGS, PREFIX, LIBDIR and DESTDIR are the usual ones.
 VERSION := $(shell sed -n 's/^.define ZACPI_VERSION "\(.*\)"/\1/p' include/zacpi.h)
@@ -26,7 +27,7 @@ LIBDIR ?= $(PREFIX)/lib
 SHARE = $(DESTDIR)$(PREFIX)/share
 RUN ?=
 OUT ?= out
-PROGRAMS ?= bin
+PROGRAMS ?= $(OUT)
 INSTALL = install -m 644
 
 all: $(OUT)/libzacpi.a
@@ -45,6 +46,12 @@ $(OUT)/libzacpi-split.a: dist/zacpi.c scripts/zacpi-split.awk
 	for file in $(OUT)/split/*.c; do \
 	    $(CC) $(SECTIONS) $(CFLAGS) -Iinclude -c $$file -o $${file%c}o || exit 1; done
 	$(AR) rcs $@ $(OUT)/split/*.o
+
+# Assembly of what is proved, and what calls the C library for it.
+acpi_dump: $(OUT)/acpi_dump
+$(OUT)/acpi_dump: dist/acpi_dump-$(PROCESSOR).s bindings/linux/host.c
+	@mkdir -p $(OUT)
+	$(CC) $(CFLAGS) $^ $(LDFLAGS) -s -o $@
 
 LINKED = $(CC) -std=c99 $(CFLAGS) -Iinclude $(1) $(OUT)/libzacpi.a $(LDFLAGS) -o $(OUT)/$(2)
 check: $(OUT)/libzacpi.a
@@ -68,10 +75,12 @@ install: $(OUT)/libzacpi.a $(OUT)/libzacpi-kernel.a
 	    scripts/zacpi-config-version.cmake.in >$(DESTDIR)$(LIBDIR)/cmake/zacpi/zacpi-config-version.cmake
 	$(INSTALL) LICENSE docs/C.md $(SHARE)/doc/zacpi
 	$(INSTALL) examples/c/*.[ch] $(SHARE)/doc/zacpi/examples
+# Those that are there.
+THERE = $(notdir $(wildcard $(addprefix $(PROGRAMS)/,acpi_dump acpi_view acpi_pack)))
 install-programs:
 	mkdir -p $(DESTDIR)$(PREFIX)/bin $(SHARE)/man/man1 $(SHARE)/bash-completion/completions $(SHARE)/zsh/site-functions
-	install -m 755 $(PROGRAMS)/acpi_view $(PROGRAMS)/acpi_dump $(PROGRAMS)/acpi_pack $(DESTDIR)$(PREFIX)/bin
-	$(INSTALL) docs/acpi_view.1 docs/acpi_dump.1 docs/acpi_pack.1 $(SHARE)/man/man1
+	install -m 755 $(addprefix $(PROGRAMS)/,$(THERE)) $(DESTDIR)$(PREFIX)/bin
+	$(INSTALL) $(THERE:%=docs/%.1) $(SHARE)/man/man1
 	$(INSTALL) docs/completions/acpi_dump.bash $(SHARE)/bash-completion/completions/acpi_dump
 	$(INSTALL) docs/completions/_acpi_dump $(SHARE)/zsh/site-functions
 uninstall:
@@ -80,4 +89,4 @@ uninstall:
 	    $(addprefix $(DESTDIR)$(PREFIX)/,$(wildcard include/*.h) include/zacpi.c)
 clean:
 	rm -rf $(OUT)
-.PHONY: all kernel split check install install-programs uninstall clean
+.PHONY: all kernel split acpi_dump check install install-programs uninstall clean
