@@ -223,11 +223,20 @@ INLINE lanes lanes_add(lanes a, lanes b) { int i; for (i = 0; i < 16; i++) a.at[
 INLINE lanes lanes_and(lanes a, lanes b) { int i; for (i = 0; i < 16; i++) a.at[i] &= b.at[i]; return a; }
 #endif
 
-/* The sum of the sixteen modulo 256: in four lanes of 16 bits, which a product adds up in its upper one. */
+/* The sum of the sixteen modulo 256: on x86 by its instruction for each half, else in four lanes of 16 bits, which a
+ * product adds up in its upper one. */
 INLINE u8 lanes_sum(lanes value) {
+#if HAS_VECTORS && defined(__SSE2__)
+    typedef char signed_lanes __attribute__((vector_size(16)));
+    typedef long long halves __attribute__((vector_size(16)));
+    const signed_lanes none = {0};
+    const halves sums = (halves)__builtin_ia32_psadbw128((signed_lanes)value, none);
+    return (u8)(sums[0] + sums[1]);
+#else
     const u64 mask = 0x00ff00ff00ff00ff;
     u64 half[2], four;
     memcpy(half, &value, 16);
     four = (half[0] & mask) + (half[0] >> 8 & mask) + (half[1] & mask) + (half[1] >> 8 & mask);
     return (u8)((four * 0x0001000100010001) >> 48);
+#endif
 }

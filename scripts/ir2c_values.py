@@ -14,6 +14,9 @@ from ir2c_text import (GLOBAL, KNOWN, TYPE, Code, bare, bits, c_type, constant, 
 
 def binary(sign, widened=False):
     def write(body, rest):
+        # A place in a block without a common bit is a sum, since compilers put that together with those around it.
+        if re.match(r'disjoint i64 .*, \d+$', rest):
+            return VALUES['add'](body, rest.removeprefix('disjoint '))
         kind, text = typed(re.sub(rf'^{KNOWN}', '', rest))
         left, right = split(text)
         if kind == '<16 x i8>' and sign in '+&':
