@@ -3,9 +3,9 @@ use Rattle.std.proofs.Common.{◌≡◌, ℕ, ◌≤◌, List, [], ◌∷◌, �
 use Rattle.acpi_base.specs.FromStd.{last_or, cons_option, is_some, is_ok, result_ok}
 use Rattle.acpi_base.specs.Words.{accepted, field_of, has_bit, loosened, own_accepted, own_kind, check_names, check_table, header_at, Memory, at, IsMemory, rest_from, ◌>>=◌, holds, lent, table_at, Kind, plain_kind, letters_of}
 use Rattle.acpi.specs.Types.{MapFailed, NoValidRsdp, SdtHeader, Signature, AddressRange}
-use Rattle.acpi.specs.Words.{bios_areas, found_among, found_in_areas, count_in, ebda_area, end_of, first_in, Opened, area_ranges, or_else_ranges, search_ranges, length_ranges, rsdp_ranges, root_of_revision, signature_of, check_first, check_sum, extended_length_of, checked_length, root_of_rsdp, rsdp_at, rsdp_of, first_area, found_in, found_rsdp, or_else, room_of, second_area, word_in, area, count_of, walk, or_later}
+use Rattle.acpi.specs.Words.{accepted_root_at, bios_areas, found_among, found_in_areas, count_in, ebda_area, end_of, first_in, Opened, area_ranges, or_else_ranges, search_ranges, length_ranges, rsdp_ranges, root_of_revision, signature_of, check_first, check_sum, extended_length_of, checked_length, root_of_rsdp, rsdp_at, rsdp_of, first_area, found_in, found_rsdp, or_else, room_of, second_area, word_in, area, count_of, walk, or_later}
 use Rattle.acpi.specs.Areas.{range}
-use Rattle.acpi_c_lib.specs.Words.{member_hole, table_hole, AcpiError, Refusal, Source, check_policy, ebda_in, opened_in, refused_as, root_pointer_in, root_there, rsdp_in, Acpi, UnknownStart, Areas, IsUnlent, OpeningHasHole, areas_holes, candidate_hole, candidate_holes, has_valid, hole, last_range, missing_below, missing_in, range_of, root_hole, rsdp_hole, walk_holes, Fills, Writes, items_said, put_from, result_map, memory_in}
+use Rattle.acpi_c_lib.specs.Words.{member_hole, table_hole, AcpiError, Refusal, Source, check_policy, ebda_in, opened_in, refused_as, root_pointer_in, rsdp_in, Acpi, UnknownStart, Areas, IsUnlent, OpeningHasHole, areas_holes, candidate_hole, candidate_holes, has_valid, hole, last_range, missing_below, missing_in, range_of, root_hole, rsdp_hole, walk_holes, Fills, Writes, items_said, put_from, result_map, memory_in}
 use Rattle.acpi_c_lib.specs.Missing.{Range, no_areas, pieces, stretches}
 use Rattle.acpi_c_lib.proofs.Written.{two_parts, one_part}
 use Rattle.acpi_base.proofs.FromStd.{bytes_eq-Decides, length-take, cond_some}
@@ -164,11 +164,11 @@ by_rsdp m s false false true e = absurd (areas_not m (bios_areas (ebda_in m)) (r
 by_rsdp m s false false false e = absurd cc
 
 abbrev root_as : RootPointer → Result (List ℕ) AcpiError → Result Opened Refusal
-root_as place r = refused_as r
-    >>= λ root. Ok (record { revision = place.revision; kind = place.kind; address = place.address; root = root })
+root_as place r = refused_as (r
+    >>= λ root. Ok (record { revision = place.revision; kind = place.kind; address = place.address; root = root }))
 
 abbrev opened_by : Memory → Source → Result RootPointer Refusal → Result Opened Refusal
-opened_by m s r = r >>= λ place. root_as place (root_there s.accept m place)
+opened_by m s r = r >>= λ place. root_as place (accepted_root_at s.accept m place.kind place.address)
 
 no_root : (place : RootPointer) (r : Result (List ℕ) AcpiError) → root_as place r ≡ Err (Acpi MapFailed)
     → r ≡ Err MapFailed
@@ -176,9 +176,10 @@ no_root place (Ok root) e = cc
 no_root place (Err d) e = cc
 
 there : (m : Memory) (s : Source) (place : RootPointer)
-    → root_as place (root_there s.accept m place) ≡ Err (Acpi MapFailed) → IsUnlent m (root_hole m s (Ok place))
+    → root_as place (accepted_root_at s.accept m place.kind place.address) ≡ Err (Acpi MapFailed) → IsUnlent m
+    (root_hole m s (Ok place))
 there m s place e =
-    let refused = no_root place (root_there s.accept m place) e in
+    let refused = no_root place (accepted_root_at s.accept m place.kind place.address) e in
     rw refused (accepted_unlent s.accept m (signature_of place.kind) place.address refused)
 
 led : (m : Memory) (s : Source) (r : Result (ℕ × List ℕ) Refusal)
@@ -219,7 +220,8 @@ root_read m s place (Err d) e is = cc
 rsdp_read : (m : Memory) (s : Source) (r : Result (ℕ × List ℕ) AcpiError) (e : Refusal)
     → missing_in m s (opened_by m s (result_map (λ found. root_of_rsdp found.1) (refused_as r))) ≡ Err e → ⊥
 rsdp_read m s (Ok found) e is =
-    root_read m s (root_of_rsdp found.1) (root_there s.accept m (root_of_rsdp found.1)) e is
+    root_read m s (root_of_rsdp found.1) (accepted_root_at s.accept m (root_of_rsdp found.1).kind (root_of_rsdp
+    found.1).address) e is
 rsdp_read m s (Err d) e is = cc
 
 none_by : (m : Memory) (s : Source) (e : Refusal) (b c d f g : Bool)
@@ -234,10 +236,10 @@ none_by : (m : Memory) (s : Source) (e : Refusal) (b c d f g : Bool)
 unfolding has_valid walk_holes
 none_by m s e true c d f g is =
     let place = root_of_revision 0 s.address in
-    absurd (root_read m s place (root_there s.accept m place) e is)
+    absurd (root_read m s place (accepted_root_at s.accept m place.kind place.address) e is)
 none_by m s e false true d f g is =
     let place = root_of_revision 2 s.address in
-    absurd (root_read m s place (root_there s.accept m place) e is)
+    absurd (root_read m s place (accepted_root_at s.accept m place.kind place.address) e is)
 none_by m s e false false true f g is =
     absurd (rsdp_read m s (result_map (λ bytes. (s.address, bytes)) (rsdp_at m s.address)) e is)
 none_by m s e false false false true g is = absurd (rsdp_read m s (found_rsdp m) e is)

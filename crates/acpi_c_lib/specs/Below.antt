@@ -1,12 +1,11 @@
 -- The tables that a caller names.
 use Rattle.std.specs.Prelude.{ℕ, ◌*◌, ◌==◌, List, drop, Option, Result, Ok, Err, if◌then◌else◌, nat_lt, option_map, unwrap_or}
 use Rattle.acpi_base.specs.FromStd.{result_ok}
-use Rattle.acpi_base.specs.Words.{Memory, ◌>>=◌, Kind, bytes_of, holds, start_of, accepted, table_at}
+use Rattle.acpi_base.specs.Words.{Memory, ◌>>=◌, Kind, holds, accepted}
 pub use Rattle.acpi_base.specs.declared.error.AcpiError.{AcpiError}
-use Rattle.acpi.specs.Words.{bios_areas, extended_length_of, found_in_areas, found_rsdp, root_kind, root_of_revision, root_of_rsdp, rsdp_at, rsdp_of, Opened, pointers, width_of, word_in, lookup}
+use Rattle.acpi.specs.Words.{bios_areas, extended_length_of, found_in_areas, found_rsdp, accepted_opened, root_of_revision, root_of_rsdp, rsdp_at, rsdp_of, Opened, pointers, width_of, word_in, lookup}
 use Rattle.acpi_c_lib.specs.Answers.{result_map}
 use Rattle.acpi_c_lib.specs.Regions.{memory_in}
-pub use Rattle.acpi_c_lib.specs.declared.root_table.RootTable.{RootTable}
 pub use Rattle.acpi_c_lib.specs.declared.records.Source.{Source}
 pub use Rattle.acpi_c_lib.specs.declared.refusal.Refusal.{Refusal}
 use Rattle.acpi_c_lib.specs.Types.{Acpi, RootPointer, UnknownPolicy, UnknownStart}
@@ -36,10 +35,6 @@ root_pointer_in m s =
     else if s.start == 2 then Ok (root_of_revision 2 s.address)
     else result_map (λ found. root_of_rsdp found.1) (rsdp_in m s)
 
--- the root table there, if it is accepted
-abbrev pub root_there : ℕ → Memory → RootPointer → Result (List ℕ) AcpiError
-root_there accept m place = table_at m (accepted accept (root_kind place.kind)) place.address
-
 -- `accept` has no bits but the two that there are
 abbrev pub check_policy : Source → Result (Unit {0}) Refusal
 check_policy s = holds (nat_lt s.accept 4) UnknownPolicy
@@ -48,21 +43,11 @@ abbrev pub opened_in : Memory → Source → Result Opened Refusal
 opened_in m s = do
   _ ← check_policy s
   place ← root_pointer_in m s
-  root ← refused_as (root_there s.accept m place)
-  Ok (record { revision = place.revision; kind = place.kind; address = place.address; root = root })
+  refused_as (accepted_opened s.accept m place)
 
 -- the addresses that it lists
 abbrev pub pointers_in : Opened → List ℕ
 pointers_in o = pointers (width_of o.kind) (drop 36 o.root)
-
--- what a root table shows that stays mapped
-abbrev pub opened_of : {H h : _} → RootTable H h → Opened
-opened_of t = record {
-  revision = t.revision;
-  kind = t.kind;
-  address = start_of t.table;
-  root = bytes_of t.table;
-}
 
 -- how many bytes an RSDP has (section 5.2.5.3): Length, which revision 0 lacks, or 20
 abbrev pub rsdp_length : List ℕ → ℕ

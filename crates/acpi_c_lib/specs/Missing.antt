@@ -4,8 +4,8 @@ use Rattle.acpi_base.specs.FromStd.{cons_option, last_or, is_some, is_ok}
 use Rattle.acpi_base.specs.Words.{Memory, at, Ranges, header_at, ◌>>=◌, lent, plain_kind, accepted, own_accepted, table_at}
 use Rattle.acpi.specs.Types.{DSDT, MapFailed, AddressRange, Fadt}
 use Rattle.acpi_fixed.specs.Words.{dsdt_address_of, fadt_at}
-use Rattle.acpi.specs.Words.{bios_areas, count_in, first_in, or_later, fadt_kind, Opened, rsdp_ranges, search_ranges, facs_place, facs_place_ranges, rsdp_at, count_of, first_area, room_of, second_area, walk, word_in, lookup}
-use Rattle.acpi_c_lib.specs.Below.{AcpiError, Refusal, Source, check_policy, ebda_in, opened_in, pointers_in, root_pointer_in, root_there}
+use Rattle.acpi.specs.Words.{accepted_root_at, bios_areas, count_in, first_in, or_later, fadt_kind, Opened, rsdp_ranges, search_ranges, facs_place, facs_place_ranges, rsdp_at, count_of, first_area, room_of, second_area, walk, word_in, lookup}
+use Rattle.acpi_c_lib.specs.Below.{AcpiError, Refusal, Source, check_policy, ebda_in, opened_in, pointers_in, root_pointer_in}
 use Rattle.acpi_c_lib.specs.Regions.{memory_in}
 pub use Rattle.acpi_c_lib.specs.declared.candidates.Areas.{Areas}
 use Rattle.acpi_c_lib.specs.Types.{Candidates, Acpi, RootPointer}
@@ -127,7 +127,7 @@ rsdp_hole m s e =
 
 -- of the root table, or of what is to lead to it
 abbrev pub root_hole : Memory → Source → Result RootPointer Refusal → Option Range
-root_hole m s (Ok place) = table_hole m place.address (root_there s.accept m place)
+root_hole m s (Ok place) = table_hole m place.address (accepted_root_at s.accept m place.kind place.address)
 root_hole m s (Err (Acpi e)) = rsdp_hole m s e
 root_hole m s (Err e) = None
 

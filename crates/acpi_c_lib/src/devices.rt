@@ -1,9 +1,9 @@
 //! Devices that tables of their own describe.
 ghost use Rattle.std.specs.Prelude.{◌≡◌, ◌≤◌, length};
+ghost use Rattle.acpi.specs.Words.{accept_of, memory_of};
 ghost use Rattle.acpi_c_lib.specs.Words.{generic_record, graphic_below, graphic_record, optional_register, register_if, required_register, timer_below, timer_record, Fills, hpet_below, hpet_in, hpet_shown, hpets_below, hpets_in, lists_some, pointers_left};
 
 use crate::lists::{Listing, fill};
-use crate::lookup::Lookup;
 use crate::opening::{first, open};
 use crate::records::{self, BootGraphic, HpetInfo, Register, Source};
 use crate::refusal::Refusal;
@@ -13,7 +13,7 @@ use acpi::bgrt::{Bgrt, ImageType};
 use acpi::fadt::Fadt;
 use acpi::hpet::{HpetTable, PageProtection};
 use acpi::platform::PmTimer;
-use acpi::{AcpiError, AcpiHandler, AcpiResult, Pointers};
+use acpi::{Accept, AcpiError, AcpiHandler, AcpiResult, AcpiTables, Pointers};
 use acpi_base::bytes::{bits, field_in, u8_in, u16_in, u32_in};
 
 /// The block of event timers that the first valid HPET describes.
@@ -22,7 +22,7 @@ pub fn hpet(source: &Source<'_>) -> Result<HpetInfo, Refusal>
 {
     let memory = Mapped::new(source.regions)?;
     let tables = open(&memory, source)?;
-    let table = Lookup::new(&memory, source).find_table::<HpetTable>(tables.addresses())?;
+    let table = tables.find_table::<HpetTable>()?;
     let block = hpet_shown(table.bytes())?;
     Ok(block)
 }
@@ -57,20 +57,20 @@ pub fn hpets(source: &Source<'_>, out: &mut [HpetInfo]) -> Result<usize, Refusal
 {
     let memory = Mapped::new(source.regions)?;
     let tables = open(&memory, source)?;
-    Ok(fill(tables.addresses(), &Lookup::new(&memory, source), out))
+    Ok(fill(tables.addresses(), &tables, out))
 }
 
-impl<H: AcpiHandler> Listing<Lookup<'_, H>, HpetInfo> for Pointers<'_> {
-    ghost record_of = { λ l p. hpet_in l.accept (H.memory l.handler.now) p };
+impl<H: AcpiHandler> Listing<AcpiTables<'_, H, Accept>, HpetInfo> for Pointers<'_> {
+    ghost record_of = { λ t p. hpet_in (accept_of t) (memory_of t) p };
 
-    ghost left = { λ l s. hpets_in l.accept (H.memory l.handler.now) (pointers_left s) };
+    ghost left = { λ t s. hpets_in (accept_of t) (memory_of t) (pointers_left s) };
 
-    ghost gives_first = { λ l. lists_some (hpet_in l.accept (H.memory l.handler.now)) (λ s. pointers_left s) };
+    ghost gives_first = { λ t. lists_some (hpet_in (accept_of t) (memory_of t)) (λ s. pointers_left s) };
 
-    fn record(lookup: &Lookup<'_, H>, address: u64) -> Option<HpetInfo>
-        ensures { result ≡ hpet_in lookup.now.accept (H.memory lookup.now.handler.now) address }
+    fn record(tables: &AcpiTables<'_, H, Accept>, address: u64) -> Option<HpetInfo>
+        ensures { result ≡ hpet_in (accept_of tables.now) (memory_of tables.now) address }
     {
-        let table = lookup.table_at::<HpetTable>(address).ok()?;
+        let table = tables.table_at::<HpetTable>(address).ok()?;
         hpet_shown(table.bytes()).ok()
     }
 }
@@ -81,7 +81,7 @@ pub fn timer(source: &Source<'_>) -> Result<records::PmTimer, Refusal>
 {
     let memory = Mapped::new(source.regions)?;
     let tables = open(&memory, source)?;
-    let fadt = Lookup::new(&memory, source).find_table::<Fadt>(tables.addresses())?;
+    let fadt = tables.find_table::<Fadt>()?;
     let timer = PmTimer::new(&fadt)?;
     Ok(timer_record(timer))
 }

@@ -3,14 +3,15 @@ ghost use Rattle.std.specs.Prelude.{◌≡◌, ◌+◌, ◌^◌, ◌<◌, length
 ghost use Rattle.acpi_c_lib.specs.Words.{result_unwrap_or, IsEntry, cut, Fills, Writes, result_map, entries_below, entries_from, entries_said, entry_record, left_said, number_place, plain_grammar, walk_layout, width_of_bytes};
 
 use crate::lists::put;
-use crate::lookup::Lookup;
 use crate::opening::check_policy;
 use crate::records::{Entry, Source, Walk};
 use crate::refusal::Refusal;
 use crate::regions::Mapped;
 use acpi::AcpiError;
+use acpi::sdt::SdtHeader;
 use acpi_base::bytes::skip;
 use acpi_base::entries::{EntryLayout, Grammar, Place, Width, number_at, split_front};
+use acpi_base::table::own_valid_by;
 
 /// Lists the entries of the table at an address, by a walk, and says whether bytes are left after them. Of a source
 /// only the regions and what it accepts count.
@@ -28,7 +29,7 @@ pub fn table_entries(
     let memory = Mapped::new(source.regions)?;
     check_policy(source)?;
     let layout = walk_layout(walk)?;
-    let table = Lookup::new(&memory, source).own_sdt_at(address)?;
+    let table = own_valid_by(&memory, address, source.accept)?.mapping::<SdtHeader>();
     let bytes = table.bytes();
     let first = walk.first as usize;
     if bytes.len() < first {

@@ -2,7 +2,6 @@
 ghost use Rattle.std.specs.Prelude.{◌≡◌};
 ghost use Rattle.acpi_c_lib.specs.Words.{facs_below, facs_in};
 
-use crate::lookup::Lookup;
 use crate::opening::open;
 use crate::records::{Facs, Source};
 use crate::refusal::Refusal;
@@ -17,7 +16,7 @@ pub fn facs(source: &Source<'_>) -> Result<Facs, Refusal>
 {
     let memory = Mapped::new(source.regions)?;
     let tables = open(&memory, source)?;
-    let fadt = Lookup::new(&memory, source).find_fadt(tables.addresses())?;
+    let fadt = tables.find_fadt()?;
     let missing = AcpiError::TableMissing(Signature::FACS);
     let address = fadt.facs_address().ok().ok_or(missing)?;
     let facs = facs_at(&memory, address)?;

@@ -6,7 +6,6 @@ ghost use Rattle.acpi_base.specs.Words.{accepted, table_at};
 ghost use Rattle.acpi_c_lib.specs.Words.{Fills, Writes, accepted_fault, result_map, fault_record, faults_among, faults_below, kind_named, least_named};
 
 use crate::lists::put;
-use crate::lookup::Lookup;
 use crate::opening::open;
 use crate::records::{self, Fault, Source};
 use crate::refusal::{Refusal, acpi_code};
@@ -21,6 +20,7 @@ use acpi::sdt::{SdtHeader, Signature};
 use acpi::spcr::Spcr;
 use acpi::{AcpiError, AcpiHandler, AcpiResult, PhysicalRecord, Pointers};
 use acpi_arm::gtdt::Gtdt;
+use acpi_base::table::valid_by;
 use acpi_iommu::{Dmar, Ivrs};
 use acpi_numa::{Slit, Srat};
 
@@ -34,25 +34,26 @@ pub fn faults(
 {
     let memory = Mapped::new(source.regions)?;
     let tables = open(&memory, source)?;
-    let lookup = Lookup::new(&memory, source);
-    Ok(fill_faults(&lookup, tables.addresses(), signature_named(name), out))
+    let signature = signature_named(name);
+    Ok(fill_faults(&memory, source.accept, tables.addresses(), signature, out))
 }
 
 /// The faults of a lookup of a signature.
 fn fill_faults<H: AcpiHandler>(
-    lookup: &Lookup<'_, H>,
+    handler: &H,
+    accept: u32,
     addresses: Pointers<'_>,
     signature: Signature,
     out: &mut [Fault],
 ) -> usize
     requires { length (pointers_left addresses) < 2 ^ 32 }
-    ensures { let l = lookup.now in Writes result out.old out.new (faults_among l.accept (H.memory l.handler.now)
-        (kind_named signature) (pointers_left addresses.entry)) }
+    ensures { Writes result out.old out.new (faults_among accept (H.memory handler.now) (kind_named signature)
+        (pointers_left addresses.entry)) }
 {
     let mut count = 0;
     for address in addresses {
-        let (fault, ends) = match looked_at(lookup, address, signature) {
-            Ok(()) => (accepted_fault(lookup.handler, address, signature), true),
+        let (fault, ends) = match looked_at(handler, accept, address, signature) {
+            Ok(()) => (accepted_fault(handler, address, signature), true),
             Err(AcpiError::SdtInvalidSignature(_)) => (None, false),
             Err(error) => (Some(fault_record(0, address, error)), false),
         };
@@ -72,8 +73,7 @@ fn accepted_fault<H: AcpiHandler>(handler: &H, address: u64, signature: Signatur
     ensures { accepted_fault address (table_at (H.memory handler.now) (kind_named signature) address)
         ≡ cons_option result [] }
 {
-    let strict = Lookup { handler, accept: 0 };
-    match looked_at(&strict, address, signature) {
+    match looked_at(handler, 0, address, signature) {
         Ok(()) => None,
         Err(error) => Some(fault_record(1, address, error)),
     }
@@ -92,14 +92,16 @@ fn fault_record(accepted: u8, address: u64, error: AcpiError) -> Fault
 
 /// Whether a lookup of a signature takes the table at an address, or why it passes it over.
 fn looked_at<H: AcpiHandler>(
-    lookup: &Lookup<'_, H>,
+    handler: &H,
+    accept: u32,
     address: u64,
     signature: Signature,
 ) -> AcpiResult<()>
-    ensures { let l = lookup.now in result ≡ result_map (λ _. tt)
-        (table_at (H.memory l.handler.now) (accepted l.accept (kind_named signature)) address) }
+    ensures { result ≡ result_map (λ _. tt)
+        (table_at (H.memory handler.now) (accepted accept (kind_named signature)) address) }
 {
-    lookup.sdt_of(address, signature, least_named(signature))?;
+    let table = valid_by(handler, address, signature, least_named(signature), accept)?;
+    table.mapping::<SdtHeader>();
     Ok(())
 }
 

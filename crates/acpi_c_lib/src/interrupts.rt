@@ -1,22 +1,20 @@
 //! The MADT of a machine with APICs, none of whose entries is at fault.
 ghost use Rattle.std.specs.Prelude.{◌≡◌, true, IfOk, IfSome, Ok, Some, option_map};
 ghost use Rattle.acpi_base.specs.FromStd.{list_any};
-ghost use Rattle.acpi_base.specs.Words.{accepted, counts_of, entries_of, bytes_of, start_of, items_of, Gives};
-ghost use Rattle.acpi.specs.Words.{madt_kind, pointers_left};
+ghost use Rattle.acpi_base.specs.Words.{counts_of, entries_of, bytes_of, start_of, items_of, Gives};
+ghost use Rattle.acpi.specs.Words.{accept_of, accepted_by, madt_kind, memory_of, pointers_of};
 ghost use Rattle.acpi.specs.Lookup as reader;
-ghost use Rattle.acpi_c_lib.specs.Words.{accepted_model, apic_table, is_of_apics, io_apic_record, model_by, opened_of, platform_model, mapped_memory, memory_in, known_platform, pointers_in};
+ghost use Rattle.acpi_c_lib.specs.Words.{accepted_model, apic_table, is_of_apics, io_apic_record, model_by, platform_model, mapped_memory, memory_in, known_platform};
 
 use crate::interrupt_records as records;
-use crate::lookup::Lookup;
 use crate::opening::open;
 use crate::records::Source;
 use crate::refusal::Refusal;
 use crate::regions::Mapped;
-use crate::root_table::RootTable;
 use acpi::madt::Madt;
 use acpi::platform::PmTimer;
 use acpi::platform::interrupt::IoApic;
-use acpi::{AcpiHandler, AcpiResult, Lender, PhysicalMapping, Pointers};
+use acpi::{Accept, AcpiHandler, AcpiResult, AcpiTables, Lender, PhysicalMapping};
 use acpi_base::model::Counts;
 
 /// A MADT that describes APICs, and how much there is of each sort in it.
@@ -33,20 +31,19 @@ pub(crate) struct ApicMadt<'h, H: Lender> {
 /// entry of the MADT at fault, and with the error of the FADT's timer: as `PlatformInfo::new` does, so what is
 /// answered is what that call answers, if nothing but valid tables is accepted.
 pub(crate) fn apic_madt<'h, H: AcpiHandler>(
-    lookup: &Lookup<'h, H>,
-    tables: &RootTable<'h, H>,
+    tables: &AcpiTables<'h, H, Accept>,
 ) -> AcpiResult<Option<ApicMadt<'h, H>>>
-    ensures model { let l = lookup.now in Gives (λ o. model_by (option_map (λ x. bytes_of x.madt) o)) result
-        (platform_model l.accept (H.memory l.handler.now) (pointers_in (opened_of tables.now))) }
+    ensures model { let t = tables.now in Gives (λ o. model_by (option_map (λ x. bytes_of x.madt) o)) result
+        (platform_model (accept_of t) (memory_of t) (pointers_of t)) }
     ensures counts { IfOk result (λ o. IfSome o (λ x. x.counts ≡ counts_of (items_of (bytes_of x.madt)))) }
-    ensures found { let l = lookup.now in IfOk result (λ o. IfSome o (λ x.
-        (reader.lookup (H.memory l.handler.now) (accepted l.accept madt_kind) (pointers_in (opened_of tables.now))
+    ensures found { let t = tables.now in IfOk result (λ o. IfSome o (λ x.
+        (reader.lookup (memory_of t) (accepted_by t madt_kind) (pointers_of t)
         ≡ Ok (start_of x.madt, bytes_of x.madt))
         × (list_any is_of_apics (entries_of (bytes_of x.madt)) ≡ true))) }
 {
-    let fadt = lookup.find_fadt(tables.addresses())?;
+    let fadt = tables.find_fadt()?;
     let timer = PmTimer::of(&fadt);
-    let found = found_madt(lookup, tables.addresses())?;
+    let found = found_madt(tables)?;
     timer?;
     Ok(found)
 }
@@ -71,7 +68,7 @@ pub(crate) fn known_madt<'h, 'k>(
         Err(refusal) => return Err(*refusal),
     };
     let tables = open(memory, source)?;
-    apic_madt(&Lookup::new(memory, source), &tables)?.ok_or(Refusal::NoApics)
+    apic_madt(&tables)?.ok_or(Refusal::NoApics)
 }
 
 /// The first valid MADT, if it describes APICs, with how much there is of each sort, or `None` if no valid one is
@@ -80,18 +77,17 @@ pub(crate) fn known_madt<'h, 'k>(
 /// Fails with `InvalidMadt` for the first entry that is at fault.
 #[tactic(auto, using(crate::proofs::ApicLists::any_said))]
 fn found_madt<'h, H: AcpiHandler>(
-    lookup: &Lookup<'h, H>,
-    addresses: Pointers<'_>,
+    tables: &AcpiTables<'h, H, Accept>,
 ) -> AcpiResult<Option<ApicMadt<'h, H>>>
-    ensures model { let l = lookup.now in Gives (λ o. model_by (option_map (λ x. bytes_of x.madt) o)) result
-        (accepted_model l.accept (H.memory l.handler.now) (pointers_left addresses.entry)) }
+    ensures model { let t = tables.now in Gives (λ o. model_by (option_map (λ x. bytes_of x.madt) o)) result
+        (accepted_model (accept_of t) (memory_of t) (pointers_of t)) }
     ensures counts { IfOk result (λ o. IfSome o (λ x. x.counts ≡ counts_of (items_of (bytes_of x.madt)))) }
-    ensures found { let l = lookup.now in IfOk result (λ o. IfSome o (λ x.
-        (reader.lookup (H.memory l.handler.now) (accepted l.accept madt_kind) (pointers_left addresses.entry)
+    ensures found { let t = tables.now in IfOk result (λ o. IfSome o (λ x.
+        (reader.lookup (memory_of t) (accepted_by t madt_kind) (pointers_of t)
         ≡ Ok (start_of x.madt, bytes_of x.madt))
         × (list_any is_of_apics (entries_of (bytes_of x.madt)) ≡ true))) }
 {
-    match lookup.find_table::<Madt>(addresses) {
+    match tables.find_table::<Madt>() {
         Ok(madt) => {
             let counts = madt.model_counts()?;
             if !counts.is_of_apic {

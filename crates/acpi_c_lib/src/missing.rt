@@ -9,7 +9,6 @@ ghost use Rattle.acpi_c_lib.specs.Words.{Fills, items_said, put_from, result_map
 
 use crate::candidates::candidate_holes;
 use crate::lists::{Listing, fill_from, put};
-use crate::lookup::Lookup;
 use crate::opening::{check_policy, open, root_pointer};
 use crate::records::{Range, Source};
 use crate::refusal::Refusal;
@@ -17,7 +16,8 @@ use crate::regions::Mapped;
 use acpi::fadt::Fadt;
 use acpi::rsdp::Rsdp;
 use acpi::sdt::{SdtHeader, Signature};
-use acpi::{AcpiError, AcpiHandler, PhysicalMapping, Pointers, facs_length};
+use acpi::{AcpiError, AcpiHandler, PhysicalMapping, PhysicalRecord, Pointers, facs_length};
+use acpi_base::table::{own_valid_by, valid_by};
 
 /// Lists the ranges of memory that a caller has to map before all tables can be read.
 pub fn missing(source: &Source<'_>, out: &mut [Range]) -> Result<usize, Refusal>
@@ -45,15 +45,24 @@ fn others<H: AcpiHandler>(
 {
     match open(handler, source) {
         Ok(tables) => {
-            let lookup = Lookup::new(handler, source);
-            let led = match lookup.find_table::<Fadt>(tables.addresses()) {
-                Ok(fadt) => (dsdt_hole(&lookup, &fadt), facs_hole(handler, &fadt)),
+            let led = match tables.find_table::<Fadt>() {
+                Ok(fadt) => (
+                    dsdt_hole(handler, source.accept, &fadt),
+                    facs_hole(handler, &fadt),
+                ),
                 Err(_) => (None, None),
             };
-            Ok(fill_with(tables.addresses(), &Unlent { lookup }, led, out, from))
+            let accept = source.accept;
+            Ok(fill_with(
+                tables.addresses(),
+                &Unlent { handler, accept },
+                led,
+                out,
+                from,
+            ))
         }
         Err(Refusal::Acpi(_)) => {
-            let refused = opening_hole(&Lookup::new(handler, source), source);
+            let refused = opening_hole(handler, source);
             Ok(put_pair((refused, None), out, from))
         }
         Err(refusal) => Err(refusal),
@@ -84,26 +93,31 @@ pub(crate) fn fill_with<C, W: Listing<C, Range>>(
 /// Where tables aren't lent that are looked up.
 #[derive(Drop)]
 struct Unlent<'h, H: AcpiHandler> {
-    lookup: Lookup<'h, H>,
+    handler: &'h H,
+    accept: u32,
 }
 
 impl<H: AcpiHandler> Listing<Unlent<'_, H>, Range> for Pointers<'_> {
     ghost use Rattle.std.specs.Prelude.{filter_map};
 
-    ghost record_of = { λ u p. member_hole u.lookup.accept (H.memory u.lookup.handler.now) p };
+    ghost record_of = { λ u p. member_hole u.accept (H.memory u.handler.now) p };
 
-    ghost left = { λ u s. filter_map (member_hole u.lookup.accept (H.memory u.lookup.handler.now)) (pointers_left s) };
+    ghost left = { λ u s. filter_map (member_hole u.accept (H.memory u.handler.now)) (pointers_left s) };
 
-    ghost gives_first = { λ u. lists_some (member_hole u.lookup.accept (H.memory u.lookup.handler.now))
+    ghost gives_first = { λ u. lists_some (member_hole u.accept (H.memory u.handler.now))
         (λ s. pointers_left s) };
 
     /// Where a member of the root table is refused, if that is because it isn't lent.
     fn record(unlent: &Unlent<'_, H>, address: u64) -> Option<Range>
-        ensures { let l = unlent.now.lookup in result ≡ member_hole l.accept (H.memory l.handler.now) address }
+        ensures { let u = unlent.now in result ≡ member_hole u.accept (H.memory u.handler.now) address }
     {
-        match unlent.lookup.own_sdt_at(address) {
-            Err(AcpiError::MapFailed) => Some(table_hole(unlent.lookup.handler, address)),
-            _ => None,
+        match own_valid_by(unlent.handler, address, unlent.accept) {
+            Err(AcpiError::MapFailed) => Some(table_hole(unlent.handler, address)),
+            Err(_) => None,
+            Ok(table) => {
+                table.mapping::<SdtHeader>();
+                None
+            }
         }
     }
 }
@@ -160,24 +174,29 @@ fn table_hole<H: AcpiHandler>(handler: &H, address: u64) -> Range
 
 /// Where the table at an address is refused under a signature because it isn't lent.
 fn hole_at<H: AcpiHandler>(
-    lookup: &Lookup<'_, H>,
+    handler: &H,
+    accept: u32,
     address: u64,
     signature: Signature,
 ) -> Option<Range>
-    ensures { let l = lookup.now in let m = H.memory l.handler.now in
-        result ≡ table_hole m address (table_at m (accepted l.accept (plain_kind signature)) address) }
+    ensures { let m = H.memory handler.now in
+        result ≡ table_hole m address (table_at m (accepted accept (plain_kind signature)) address) }
 {
-    match lookup.sdt_at(address, signature) {
-        Err(AcpiError::MapFailed) => Some(table_hole(lookup.handler, address)),
-        _ => None,
+    match valid_by(handler, address, signature, SdtHeader::MIN_LENGTH, accept) {
+        Err(AcpiError::MapFailed) => Some(table_hole(handler, address)),
+        Err(_) => None,
+        Ok(table) => {
+            table.mapping::<SdtHeader>();
+            None
+        }
     }
 }
 
 /// Where the DSDT that a FADT leads to is refused so (section 5.2.11.1).
-fn dsdt_hole<H: AcpiHandler>(lookup: &Lookup<'_, H>, fadt: &Fadt) -> Option<Range>
-    ensures { let l = lookup.now in result ≡ dsdt_hole l.accept (H.memory l.handler.now) (dsdt_address_of fadt.now) }
+fn dsdt_hole<H: AcpiHandler>(handler: &H, accept: u32, fadt: &Fadt) -> Option<Range>
+    ensures { result ≡ dsdt_hole accept (H.memory handler.now) (dsdt_address_of fadt.now) }
 {
-    hole_at(lookup, fadt.dsdt_address().ok()?, Signature::DSDT)
+    hole_at(handler, accept, fadt.dsdt_address().ok()?, Signature::DSDT)
 }
 
 /// Where the FACS that a FADT leads to is refused so: its first 36 bytes, or as many as its Length says (section
@@ -198,13 +217,12 @@ fn facs_hole<H: AcpiHandler>(handler: &H, fadt: &Fadt) -> Option<Range>
 }
 
 /// Where opening is refused because something isn't lent: the root table, or what is to lead to it.
-fn opening_hole<H: AcpiHandler>(lookup: &Lookup<'_, H>, source: &Source<'_>) -> Option<Range>
-    requires { lookup.now.accept ≡ source.now.accept }
-    ensures { result ≡ opening_hole (H.memory lookup.now.handler.now) source.now }
+fn opening_hole<H: AcpiHandler>(handler: &H, source: &Source<'_>) -> Option<Range>
+    ensures { result ≡ opening_hole (H.memory handler.now) source.now }
 {
-    match root_pointer(lookup.handler, source) {
-        Ok((root, _)) => hole_at(lookup, root.address, root.kind.signature()),
-        Err(Refusal::Acpi(AcpiError::MapFailed)) => rsdp_hole(lookup.handler, source),
+    match root_pointer(handler, source) {
+        Ok((root, _)) => { hole_at(handler, source.accept, root.address, root.kind.signature()) }
+        Err(Refusal::Acpi(AcpiError::MapFailed)) => rsdp_hole(handler, source),
         Err(_) => None,
     }
 }

@@ -1,52 +1,54 @@
 //! How the tables that a caller names are opened.
 ghost use Rattle.std.specs.Prelude.{◌≡◌, ◌+◌, ◌^◌, ◌<◌, ◌≤◌, length, IfOk};
 ghost use Rattle.acpi_base.specs.Words.{bytes_of, claimed_at, sdt_kind, shown_by, start_of, Gives};
-ghost use Rattle.acpi.specs.Words.{placed, word_in};
-ghost use Rattle.acpi_c_lib.specs.Words.{check_policy, ebda_in, first_table, found_table, opened_in, opened_of, mapped_memory, memory_in, root_below, root_pointer_in, rsdp_in, rsdp_length, rsdp_place_in};
+ghost use Rattle.acpi.specs.Words.{accept_of, lender_of, opened_of, placed, word_in};
+ghost use Rattle.acpi_c_lib.specs.Words.{check_policy, ebda_in, first_table, found_table, opened_in, mapped_memory, memory_in, root_below, root_pointer_in, rsdp_in, rsdp_length, rsdp_place_in};
 
-use crate::lookup::Lookup;
-use crate::records::{Range, Root, Source};
+use crate::records::{Root, Source};
 use crate::refusal::Refusal;
 use crate::regions::Mapped;
-use crate::root_table::RootTable;
 use acpi::root::{RootKind, RootPointer};
 use acpi::rsdp::{Rsdp, bios_areas, map_rsdp};
 use acpi::sdt::Signature;
-use acpi::{AcpiHandler, AcpiResult, PhysicalMapping, PhysicalRecord, SdtTable};
+use acpi::{
+    Accept, AcpiHandler, AcpiResult, AcpiTables, PhysicalMapping, PhysicalRecord, SdtTable,
+};
 use acpi_base::table::ValidTable;
 
-/// The root table that a source leads to, if it is accepted.
+/// The tables that a source leads to, by what it accepts.
 ///
 /// Fails as `check_policy` and `root_pointer` do, and with the error of the table there.
 pub(crate) fn open<'h, H: AcpiHandler>(
     handler: &'h H,
     source: &Source<'_>,
-) -> Result<RootTable<'h, H>, Refusal>
-    ensures { Gives opened_of result (opened_in (H.memory handler.now) source.now) }
+) -> Result<AcpiTables<'h, H, Accept>, Refusal>
+    ensures opened { Gives (λ t. opened_of t) result (opened_in (H.memory handler.now) source.now) }
+    ensures handler { IfOk result (λ t. lender_of t ≡ handler.now) }
+    ensures accept { IfOk result (λ t. accept_of t ≡ source.now.accept) }
 {
-    let (root, _) = open_placed(handler, source)?;
-    Ok(root)
+    let (tables, _) = open_placed(handler, source)?;
+    Ok(tables)
 }
 
-/// That root table, and the address and the length of the RSDP, unless the start is at a root table.
+/// Those tables, and the address and the length of the RSDP, unless the start is at a root table.
 ///
 /// Fails as `open` does.
 pub(crate) fn open_placed<'h, H: AcpiHandler>(
     handler: &'h H,
     source: &Source<'_>,
-) -> Result<(RootTable<'h, H>, Option<(u64, u32)>), Refusal>
+) -> Result<(AcpiTables<'h, H, Accept>, Option<(u64, u32)>), Refusal>
     ensures opened { Gives (λ r. opened_of r.0) result (opened_in (H.memory handler.now) source.now) }
+    ensures handler { IfOk result (λ r. lender_of r.0 ≡ handler.now) }
+    ensures accept { IfOk result (λ r. accept_of r.0 ≡ source.now.accept) }
     ensures place { IfOk result (λ r. r.1 ≡ rsdp_place_in (H.memory handler.now) source.now) }
 {
     check_policy(source)?;
     let (pointer, place) = root_pointer(handler, source)?;
-    let table = Lookup::new(handler, source).sdt_at(pointer.address, pointer.kind.signature())?;
-    let root = RootTable {
-        revision: pointer.revision,
-        kind: pointer.kind,
-        table,
+    let accept = Accept {
+        bits: source.accept,
     };
-    Ok((root, place))
+    let tables = AcpiTables::open_accepting(handler, pointer, accept)?;
+    Ok((tables, place))
 }
 
 /// What leads to the root table by a source's start: 0 the RSDP at its address (section 5.2.5.3), 1 the RSDT there
@@ -153,7 +155,7 @@ fn first_of<'h, 'k>(
         Err(refusal) => return Err(*refusal),
     };
     let tables = open(memory, source)?;
-    let found = Lookup::new(memory, source).first_of(tables.addresses(), signature, least)?;
+    let found = tables.find_bytes(signature, least)?;
     Ok(found)
 }
 
@@ -182,14 +184,13 @@ pub fn root(source: &Source<'_>) -> Result<Root, Refusal>
     ensures { result ≡ root_below source.now }
 {
     let memory = Mapped::new(source.regions)?;
-    let (root, place) = open_placed(&memory, source)?;
+    let (tables, place) = open_placed(&memory, source)?;
     let (rsdp_address, rsdp_length) = place.unwrap_or((0, 0));
-    let Range { address, length } = root.range();
     Ok(Root {
-        address,
-        length: length as u32,
-        revision: root.revision,
-        pointer_width: root.kind.width() as u8,
+        address: tables.root_address(),
+        length: tables.root_length(),
+        revision: tables.revision(),
+        pointer_width: tables.root_kind().width() as u8,
         rsdp_address,
         rsdp_length,
     })

@@ -1,20 +1,18 @@
 //! Sleep types, and what to write to sleep, to power off, to enable ACPI and to reset.
 ghost use Rattle.std.specs.Prelude.{◌≡◌, ◌≤◌};
-ghost use Rattle.acpi.specs.Words.{pointers_left};
+ghost use Rattle.acpi.specs.Words.{accept_of, memory_of, pointers_of};
 ghost use Rattle.acpi_sleep.specs.Words.{joined};
-ghost use Rattle.acpi_c_lib.specs.Words.{accepted_answer, dsdt_answer, enable_plan_below, kind_code, opened_of, plan_record, plan_said, pointers_in, reset_plan_below, sleep_plan_below, sleep_types_below, step_record, types_below};
+ghost use Rattle.acpi_c_lib.specs.Words.{accepted_answer, dsdt_answer, enable_plan_below, kind_code, plan_record, plan_said, reset_plan_below, sleep_plan_below, sleep_types_below, step_record, types_below};
 
 use crate::devices::optional_register;
-use crate::lookup::Lookup;
 use crate::opening::{first, open};
 use crate::power_records::{Plan, SleepTypes, Step};
 use crate::records::Source;
 use crate::refusal::Refusal;
 use crate::regions::Mapped;
-use crate::root_table::RootTable;
 use acpi::fadt::Fadt;
 use acpi::sdt::Signature;
-use acpi::{AcpiHandler, Pointers};
+use acpi::{Accept, AcpiHandler, AcpiTables};
 use acpi_sleep::tables::{block_answer, or_after};
 use acpi_sleep::{PlanError, PlanStep, SleepAnswer, SleepError, StepKind};
 
@@ -38,8 +36,7 @@ fn types_of(source: &Source<'_>, state: u32) -> Result<acpi_sleep::SleepTypes, R
     if state > 5 {
         return Err(Refusal::NoSuchState);
     }
-    let lookup = Lookup::new(&memory, source);
-    match tables_answer(&lookup, &tables, state as u8)? {
+    match tables_answer(&tables, state as u8)? {
         SleepAnswer::Types(types) => Ok(types),
         SleepAnswer::Absent => Err(Refusal::SleepStateAbsent),
         SleepAnswer::NotSeen(_) => Err(Refusal::SleepStateNotSeen),
@@ -49,20 +46,19 @@ fn types_of(source: &Source<'_>, state: u32) -> Result<acpi_sleep::SleepTypes, R
 /// The answer of the DSDT and the SSDTs that are accepted.
 #[tactic(auto, using(acpi_sleep::proofs::Answering::one_block, acpi_sleep::proofs::Answering::types_found, acpi_sleep::proofs::Answering::none_left))]
 fn tables_answer<H: AcpiHandler>(
-    lookup: &Lookup<'_, H>,
-    tables: &RootTable<'_, H>,
+    tables: &AcpiTables<'_, H, Accept>,
     state: u8,
 ) -> Result<SleepAnswer, SleepError>
     requires { state ≤ 5 }
-    ensures { let l = lookup.now in
-        result ≡ accepted_answer l.accept state (H.memory l.handler.now) (pointers_in (opened_of tables.now)) }
+    ensures { let t = tables.now in
+        result ≡ accepted_answer (accept_of t) state (memory_of t) (pointers_of t) }
 {
-    let mut answer = dsdt_answer(lookup, tables.addresses(), state);
+    let mut answer = dsdt_answer(tables, state);
     for address in tables.addresses() {
         if let Ok(SleepAnswer::Types(_)) = answer {
             return answer;
         }
-        if let Ok(ssdt) = lookup.sdt_at(address, Signature::SSDT) {
+        if let Ok(ssdt) = tables.sdt_at(address, Signature::SSDT) {
             answer = or_after(answer, block_answer(Signature::SSDT, state, ssdt.bytes()));
         }
     }
@@ -71,16 +67,15 @@ fn tables_answer<H: AcpiHandler>(
 
 /// The answer of the DSDT that the first FADT leads to that is accepted.
 fn dsdt_answer<H: AcpiHandler>(
-    lookup: &Lookup<'_, H>,
-    addresses: Pointers<'_>,
+    tables: &AcpiTables<'_, H, Accept>,
     state: u8,
 ) -> Result<SleepAnswer, SleepError>
     requires { state ≤ 5 }
-    ensures { let l = lookup.now in result
-        ≡ joined (dsdt_answer l.accept state (H.memory l.handler.now) (pointers_left addresses.entry)) }
+    ensures { let t = tables.now in
+        result ≡ joined (dsdt_answer (accept_of t) state (memory_of t) (pointers_of t)) }
 {
-    let fadt = lookup.find_fadt(addresses)?;
-    let dsdt = lookup.sdt_at(fadt.dsdt_address()?, Signature::DSDT)?;
+    let fadt = tables.find_fadt()?;
+    let dsdt = tables.sdt_at(fadt.dsdt_address()?, Signature::DSDT)?;
     block_answer(Signature::DSDT, state, dsdt.bytes())
 }
 

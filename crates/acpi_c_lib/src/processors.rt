@@ -6,7 +6,6 @@ ghost use Rattle.acpi_c_lib.specs.Words.{below_platform, counts_of, model_by};
 
 use crate::interrupt_records::InterruptModel;
 use crate::interrupts::{ApicMadt, apic_madt};
-use crate::lookup::Lookup;
 use crate::opening::open;
 use crate::records::Source;
 use crate::refusal::Refusal;
@@ -19,7 +18,7 @@ pub fn model(source: &Source<'_>) -> Result<InterruptModel, Refusal>
 {
     let memory = Mapped::new(source.regions)?;
     let tables = open(&memory, source)?;
-    match apic_madt(&Lookup::new(&memory, source), &tables)? {
+    match apic_madt(&tables)? {
         Some(found) => Ok(known_model(&found)),
         None => Ok(InterruptModel::default()),
     }

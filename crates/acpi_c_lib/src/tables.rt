@@ -1,17 +1,18 @@
 //! The tables that the root table lists.
 ghost use Rattle.std.specs.Prelude.{◌≡◌};
 ghost use Rattle.acpi_base.specs.Words.{bytes_of, start_of};
-ghost use Rattle.acpi.specs.Words.{pointers_left};
+ghost use Rattle.acpi.specs.Words.{accept_of, memory_of, pointers_left};
 ghost use Rattle.acpi_c_lib.specs.Words.{Fills, aml_at, dsdt_below, signature_named, ssdt_in, ssdts_below, ssdts_in, table_below, table_record, tables_below, table_in, tables_in, lists_some};
 
 use crate::lists::{Listing, fill};
-use crate::lookup::Lookup;
 use crate::opening::open;
 use crate::records::{self, AmlTable, Source, Table};
 use crate::refusal::Refusal;
 use crate::regions::Mapped;
 use acpi::sdt::{SdtHeader, Signature};
-use acpi::{AcpiHandler, AcpiResult, PhysicalMapping, PhysicalRecord, Pointers};
+use acpi::{
+    Accept, AcpiHandler, AcpiResult, AcpiTables, PhysicalMapping, PhysicalRecord, Pointers,
+};
 use acpi_base::bytes::filled;
 
 /// A table, by its mapping.
@@ -32,17 +33,17 @@ pub(crate) fn entry<H: AcpiHandler>(table: &PhysicalMapping<'_, H, SdtHeader>) -
     }
 }
 
-impl<H: AcpiHandler> Listing<Lookup<'_, H>, Table> for Pointers<'_> {
-    ghost record_of = { λ l p. table_in l.accept (H.memory l.handler.now) p };
+impl<H: AcpiHandler> Listing<AcpiTables<'_, H, Accept>, Table> for Pointers<'_> {
+    ghost record_of = { λ t p. table_in (accept_of t) (memory_of t) p };
 
-    ghost left = { λ l s. tables_in l.accept (H.memory l.handler.now) (pointers_left s) };
+    ghost left = { λ t s. tables_in (accept_of t) (memory_of t) (pointers_left s) };
 
-    ghost gives_first = { λ l. lists_some (table_in l.accept (H.memory l.handler.now)) (λ s. pointers_left s) };
+    ghost gives_first = { λ t. lists_some (table_in (accept_of t) (memory_of t)) (λ s. pointers_left s) };
 
-    fn record(lookup: &Lookup<'_, H>, address: u64) -> Option<Table>
-        ensures { result ≡ table_in lookup.now.accept (H.memory lookup.now.handler.now) address }
+    fn record(tables: &AcpiTables<'_, H, Accept>, address: u64) -> Option<Table>
+        ensures { result ≡ table_in (accept_of tables.now) (memory_of tables.now) address }
     {
-        let table = lookup.own_sdt_at(address).ok()?;
+        let table = tables.own_sdt_at(address).ok()?;
         Some(entry(&table))
     }
 }
@@ -54,7 +55,7 @@ pub fn tables(source: &Source<'_>, out: &mut [Table]) -> Result<usize, Refusal>
 {
     let memory = Mapped::new(source.regions)?;
     let tables = open(&memory, source)?;
-    Ok(fill(tables.addresses(), &Lookup::new(&memory, source), out))
+    Ok(fill(tables.addresses(), &tables, out))
 }
 
 /// The first valid table of a signature.
@@ -63,8 +64,7 @@ pub fn find(source: &Source<'_>, name: records::Signature) -> Result<Table, Refu
 {
     let memory = Mapped::new(source.regions)?;
     let tables = open(&memory, source)?;
-    let lookup = Lookup::new(&memory, source);
-    let table = lookup.find_sdt(tables.addresses(), signature_named(name))?;
+    let table = tables.find_sdt(signature_named(name))?;
     Ok(entry(&table))
 }
 
@@ -82,21 +82,20 @@ pub fn dsdt(source: &Source<'_>) -> Result<AmlTable, Refusal>
 {
     let memory = Mapped::new(source.regions)?;
     let tables = open(&memory, source)?;
-    let lookup = Lookup::new(&memory, source);
-    let fadt = lookup.find_fadt(tables.addresses())?;
-    let aml = aml_at(&lookup, Signature::DSDT, fadt.dsdt_address()?)?;
+    let fadt = tables.find_fadt()?;
+    let aml = aml_at(&tables, Signature::DSDT, fadt.dsdt_address()?)?;
     Ok(aml)
 }
 
 /// The AML of the table at an address, if it is accepted under a signature.
 fn aml_at<H: AcpiHandler>(
-    lookup: &Lookup<'_, H>,
+    tables: &AcpiTables<'_, H, Accept>,
     signature: Signature,
     address: u64,
 ) -> AcpiResult<AmlTable>
-    ensures { result ≡ aml_at lookup.now.accept (H.memory lookup.now.handler.now) signature address }
+    ensures { result ≡ aml_at (accept_of tables.now) (memory_of tables.now) signature address }
 {
-    let table = lookup.sdt_at(address, signature)?;
+    let table = tables.sdt_at(address, signature)?;
     Ok(AmlTable {
         address: address + SdtHeader::MIN_LENGTH as u64,
         length: (table.bytes().len() - SdtHeader::MIN_LENGTH) as u32,
@@ -112,19 +111,19 @@ pub fn ssdts(source: &Source<'_>, out: &mut [AmlTable]) -> Result<usize, Refusal
 {
     let memory = Mapped::new(source.regions)?;
     let tables = open(&memory, source)?;
-    Ok(fill(tables.addresses(), &Lookup::new(&memory, source), out))
+    Ok(fill(tables.addresses(), &tables, out))
 }
 
-impl<H: AcpiHandler> Listing<Lookup<'_, H>, AmlTable> for Pointers<'_> {
-    ghost record_of = { λ l p. ssdt_in l.accept (H.memory l.handler.now) p };
+impl<H: AcpiHandler> Listing<AcpiTables<'_, H, Accept>, AmlTable> for Pointers<'_> {
+    ghost record_of = { λ t p. ssdt_in (accept_of t) (memory_of t) p };
 
-    ghost left = { λ l s. ssdts_in l.accept (H.memory l.handler.now) (pointers_left s) };
+    ghost left = { λ t s. ssdts_in (accept_of t) (memory_of t) (pointers_left s) };
 
-    ghost gives_first = { λ l. lists_some (ssdt_in l.accept (H.memory l.handler.now)) (λ s. pointers_left s) };
+    ghost gives_first = { λ t. lists_some (ssdt_in (accept_of t) (memory_of t)) (λ s. pointers_left s) };
 
-    fn record(lookup: &Lookup<'_, H>, address: u64) -> Option<AmlTable>
-        ensures { result ≡ ssdt_in lookup.now.accept (H.memory lookup.now.handler.now) address }
+    fn record(tables: &AcpiTables<'_, H, Accept>, address: u64) -> Option<AmlTable>
+        ensures { result ≡ ssdt_in (accept_of tables.now) (memory_of tables.now) address }
     {
-        aml_at(lookup, Signature::SSDT, address).ok()
+        aml_at(tables, Signature::SSDT, address).ok()
     }
 }

@@ -40,7 +40,7 @@ put_none old out new n k o before rest all front is same count written counted =
 
 pub loop-address-preserved : goal.loop-address-preserved
 loop-address-preserved g c =
-    let l = c.args.lookup.now in
+    let l = c.args in
     let m = g.H.AcpiHandler.memory l.handler.now in
     let k = kind_named c.args.signature in
     let p = c.in-Some.address in

@@ -6,7 +6,7 @@ use Rattle.acpi_c_lib.proofs.faults.fill_faults.Given as goal
 -- what is written and what is left are the whole, and the count has room for what is left
 abbrev pub invariant-loop-address : goal.invariant-loop-address
 invariant-loop-address g l =
-    let found = faults_among l.lookup.accept (g.H.AcpiHandler.memory l.lookup.handler.now)
+    let found = faults_among l.accept (g.H.AcpiHandler.memory l.handler)
     (kind_named l.signature) in
     let left = found (pointers_left l.address-iterator) in
     let all = found (pointers_left l.initial.address-iterator) in

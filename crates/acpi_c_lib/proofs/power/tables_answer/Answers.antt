@@ -1,6 +1,6 @@
 use Rattle.std.proofs.Common.{◌≡◌, ◌∙◌, ℕ, List, ◌∷◌, Ok, Err, ap, refl, sym}
 use Rattle.acpi.specs.Types.{AcpiError, SSDT}
-use Rattle.acpi.specs.Words.{found_at, pointers_left, tables_found}
+use Rattle.acpi.specs.Words.{accept_of, found_at, memory_of, pointers_left, tables_found}
 use Rattle.acpi_base.specs.Words.{Kind, Memory, accepted, plain_kind, table_at}
 use Rattle.acpi_sleep.proofs.Answering.{one_block, with_left}
 use Rattle.acpi_sleep.specs.Words.{block_answer}
@@ -22,17 +22,15 @@ none_accepted accept m k p ps qs e first refused = rw (first, refused) refl
 
 pub loop-address-preserved-in-Ok : goal.loop-address-preserved-in-Ok
 loop-address-preserved-in-Ok g c =
-    let l = c.args.lookup.now in
-    let m = g.H.AcpiHandler.memory l.handler.now in
+    let t = c.args.tables.now in
     one_block c.args.state _ _ _ _ _ _ _ c.loop-address.invariant
-    (first_accepted l.accept m (plain_kind SSDT) c.in-Some.address (pointers_left c.next.new.self) _ _
+    (first_accepted (accept_of t) (memory_of t) (plain_kind SSDT) c.in-Some.address (pointers_left c.next.new.self) _ _
     c.in-Some.ensures.steps c.in-Ok.ensures.table)
     (c.block_answer.ensures ∙ ap (block_answer SSDT c.args.state) c.bytes.ensures.value) c.or_after-answer.ensures
 
 pub loop-address-preserved : goal.loop-address-preserved
 loop-address-preserved g c =
-    let l = c.args.lookup.now in
-    let m = g.H.AcpiHandler.memory l.handler.now in
-    ap (with_left c.args.state c.loop-address.answer) (sym (none_accepted l.accept m (plain_kind SSDT)
+    let t = c.args.tables.now in
+    ap (with_left c.args.state c.loop-address.answer) (sym (none_accepted (accept_of t) (memory_of t) (plain_kind SSDT)
     c.in-Some.address (pointers_left c.next.new.self) _ _ c.in-Some.ensures.steps c.in_default-sdt_at.ensures.table))
     ∙ c.loop-address.invariant
