@@ -10,6 +10,7 @@
 #define memset __builtin_memset
 #define ALIGNED(n) __attribute__((aligned(n)))
 #define APART static __attribute__((noinline))
+#define COLD __attribute__((cold))
 #define INLINE static inline __attribute__((always_inline))
 #define IS_ALIGNED(at, n) __builtin_assume_aligned(at, n)
 #define UNREACHABLE() __builtin_unreachable()
@@ -23,6 +24,7 @@
 #define INLINE static inline
 #endif
 #define APART static
+#define COLD
 #define IS_ALIGNED(at, n) (at)
 #define UNREACHABLE() for (;;) { }
 #endif
