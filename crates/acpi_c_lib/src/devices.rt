@@ -10,7 +10,6 @@ use crate::refusal::Refusal;
 use crate::regions::Mapped;
 use acpi::address::GenericAddress;
 use acpi::bgrt::{Bgrt, ImageType};
-use acpi::fadt::Fadt;
 use acpi::hpet::{HpetTable, PageProtection};
 use acpi::platform::PmTimer;
 use acpi::{Accept, AcpiError, AcpiHandler, AcpiResult, AcpiTables, Pointers};
@@ -81,8 +80,8 @@ pub fn timer(source: &Source<'_>) -> Result<records::PmTimer, Refusal>
 {
     let memory = Mapped::new(source.regions)?;
     let tables = open(&memory, source)?;
-    let fadt = tables.find_table::<Fadt>()?;
-    let timer = PmTimer::new(&fadt)?;
+    let fadt = tables.find_fadt()?;
+    let timer = PmTimer::of(&fadt)?;
     Ok(timer_record(timer))
 }
 

@@ -2,7 +2,7 @@
 ghost use Rattle.std.specs.Prelude.{◌≡◌, [], ◌+◌, ◌++◌, ◌^◌, ◌<◌, ◌≤◌, filter_map, length, Err, Some};
 ghost use Rattle.acpi_base.specs.FromStd.{IsFinite, cons_option, is_ok};
 ghost use Rattle.acpi_base.specs.Words.{accepted, lent, plain_kind, table_at};
-ghost use Rattle.acpi_fixed.specs.Words.{dsdt_address_of};
+ghost use Rattle.acpi_fixed.specs.Words.{dsdt_address_of, viewed};
 ghost use Rattle.acpi.specs.Types.{MapFailed};
 ghost use Rattle.acpi.specs.Words.{rsdp_at, rsdp_ranges, search_ranges, facs_place, facs_place_ranges, pointers_left, found_rsdp, room_of, second_area};
 ghost use Rattle.acpi_c_lib.specs.Words.{Fills, items_said, put_from, result_map, dsdt_hole, opened_in, hole, last_range, member_hole, unlent, missing_below, missing_in, opening_hole, range_of, rsdp_hole, rsdp_in, table_hole, Acpi, lists_some};
@@ -13,7 +13,7 @@ use crate::opening::{check_policy, open, root_pointer};
 use crate::records::{Range, Source};
 use crate::refusal::Refusal;
 use crate::regions::Mapped;
-use acpi::fadt::Fadt;
+use acpi::fadt::FadtView;
 use acpi::rsdp::Rsdp;
 use acpi::sdt::{SdtHeader, Signature};
 use acpi::{AcpiError, AcpiHandler, PhysicalMapping, PhysicalRecord, Pointers, facs_length};
@@ -45,7 +45,7 @@ fn others<H: AcpiHandler>(
 {
     match open(handler, source) {
         Ok(tables) => {
-            let led = match tables.find_table::<Fadt>() {
+            let led = match tables.find_fadt() {
                 Ok(fadt) => (
                     dsdt_hole(handler, source.accept, &fadt),
                     facs_hole(handler, &fadt),
@@ -193,8 +193,8 @@ fn hole_at<H: AcpiHandler>(
 }
 
 /// Where the DSDT that a FADT leads to is refused so (section 5.2.11.1).
-fn dsdt_hole<H: AcpiHandler>(handler: &H, accept: u32, fadt: &Fadt) -> Option<Range>
-    ensures { result ≡ dsdt_hole accept (H.memory handler.now) (dsdt_address_of fadt.now) }
+fn dsdt_hole<H: AcpiHandler>(handler: &H, accept: u32, fadt: &FadtView<'_, H>) -> Option<Range>
+    ensures { result ≡ dsdt_hole accept (H.memory handler.now) (dsdt_address_of (viewed fadt.now)) }
 {
     hole_at(handler, accept, fadt.dsdt_address().ok()?, Signature::DSDT)
 }
@@ -202,8 +202,8 @@ fn dsdt_hole<H: AcpiHandler>(handler: &H, accept: u32, fadt: &Fadt) -> Option<Ra
 /// Where the FACS that a FADT leads to is refused so: its first 36 bytes, or as many as its Length says (section
 /// 5.2.10).
 #[tactic(auto, using(crate::proofs::Unlent::no_hole), unfolding(acpi::specs::Places::facs_at, acpi::specs::Places::facs_length))]
-fn facs_hole<H: AcpiHandler>(handler: &H, fadt: &Fadt) -> Option<Range>
-    ensures { let m = H.memory handler.now in result ≡ hole (facs_place m fadt.now) (facs_place_ranges m fadt.now) }
+fn facs_hole<H: AcpiHandler>(handler: &H, fadt: &FadtView<'_, H>) -> Option<Range>
+    ensures { let m = H.memory handler.now in result ≡ hole (facs_place m (viewed fadt.now)) (facs_place_ranges m (viewed fadt.now)) }
 {
     let address = fadt.facs_address().ok()?;
     let Ok(head) = PhysicalMapping::<'_, H, SdtHeader>::map(handler, address, 36) else {

@@ -1,12 +1,13 @@
 //! How the tables that a caller names are opened.
 ghost use Rattle.std.specs.Prelude.{◌≡◌, ◌+◌, ◌^◌, ◌<◌, ◌≤◌, length, IfOk};
 ghost use Rattle.acpi_base.specs.Words.{bytes_of, claimed_at, sdt_kind, shown_by, start_of, Gives};
-ghost use Rattle.acpi.specs.Words.{accept_of, lender_of, opened_of, placed, word_in};
+ghost use Rattle.acpi.specs.Words.{accept_of, fadt_kind, lender_of, opened_of, placed, word_in};
 ghost use Rattle.acpi_c_lib.specs.Words.{check_policy, ebda_in, first_table, found_table, opened_in, mapped_memory, memory_in, root_below, root_pointer_in, rsdp_in, rsdp_length, rsdp_place_in};
 
 use crate::records::{Root, Source};
 use crate::refusal::Refusal;
 use crate::regions::Mapped;
+use acpi::fadt::{Fadt, FadtView};
 use acpi::root::{RootKind, RootPointer};
 use acpi::rsdp::{Rsdp, bios_areas, map_rsdp};
 use acpi::sdt::Signature;
@@ -175,6 +176,23 @@ pub(crate) fn first<'h, 'k, T: SdtTable>(
 {
     match first_of(memory, source, T::NAME, T::MIN_LENGTH) {
         Ok(found) => Ok(found.mapping()),
+        Err(refusal) => Err(refusal),
+    }
+}
+
+/// The first FADT that a source leads to and accepts, of which a field is read when it is asked for.
+///
+/// Fails as `first_of` does.
+#[tactic(auto, using(crate::proofs::Found::bytes_found, crate::proofs::Found::no_bytes))]
+pub(crate) fn first_fadt<'h, 'k>(
+    memory: &'h Result<Mapped<'k>, Refusal>,
+    source: &Source<'_>,
+) -> Result<FadtView<'h, Mapped<'k>>, Refusal>
+    requires { Gives (λ m. mapped_memory m) memory.now (memory_in source.now.regions.now) }
+    ensures { Gives (λ v. bytes_of v.mapping) result (first_table fadt_kind source.now) }
+{
+    match first_of(memory, source, Signature::FADT, Fadt::MIN_LENGTH) {
+        Ok(found) => Ok(FadtView::new(found)),
         Err(refusal) => Err(refusal),
     }
 }

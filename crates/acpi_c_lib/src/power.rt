@@ -5,12 +5,11 @@ ghost use Rattle.acpi_sleep.specs.Words.{joined};
 ghost use Rattle.acpi_c_lib.specs.Words.{accepted_answer, dsdt_answer, enable_plan_below, kind_code, plan_record, plan_said, reset_plan_below, sleep_plan_below, sleep_types_below, step_record, types_below};
 
 use crate::devices::optional_register;
-use crate::opening::{first, open};
+use crate::opening::{first_fadt, open};
 use crate::power_records::{Plan, SleepTypes, Step};
 use crate::records::Source;
 use crate::refusal::Refusal;
 use crate::regions::Mapped;
-use acpi::fadt::Fadt;
 use acpi::sdt::Signature;
 use acpi::{Accept, AcpiHandler, AcpiTables};
 use acpi_sleep::tables::{block_answer, or_after};
@@ -85,7 +84,7 @@ pub fn sleep_plan(source: &Source<'_>, state: u32) -> Result<Plan, Refusal>
 {
     let types = types_of(source, state)?;
     let memory = Mapped::new(source.regions);
-    let fadt = first::<Fadt>(&memory, source)?;
+    let fadt = first_fadt(&memory, source)?;
     plan_said(acpi_sleep::sleep_plan(&fadt, types))
 }
 
@@ -94,7 +93,7 @@ pub fn enable_plan(source: &Source<'_>) -> Result<Plan, Refusal>
     ensures { result ≡ enable_plan_below source.now }
 {
     let memory = Mapped::new(source.regions);
-    let fadt = first::<Fadt>(&memory, source)?;
+    let fadt = first_fadt(&memory, source)?;
     plan_said(acpi_sleep::enable_plan(&fadt))
 }
 
@@ -103,7 +102,7 @@ pub fn reset_plan(source: &Source<'_>) -> Result<Plan, Refusal>
     ensures { result ≡ reset_plan_below source.now }
 {
     let memory = Mapped::new(source.regions);
-    let fadt = first::<Fadt>(&memory, source)?;
+    let fadt = first_fadt(&memory, source)?;
     plan_said(acpi_sleep::reset_plan(&fadt))
 }
 

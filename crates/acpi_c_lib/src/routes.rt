@@ -6,12 +6,11 @@ ghost use Rattle.acpi_c_lib.specs.Words.{apic_in, AreWirings, is_nearer, isa_bel
 use crate::apics::apics;
 use crate::interrupt_records::{Interrupt, IoApicPin};
 use crate::interrupts::io_apic_record;
-use crate::opening::first;
+use crate::opening::first_fadt;
 use crate::records::Source;
 use crate::refusal::Refusal;
 use crate::regions::Mapped;
 use crate::wirings::Wirings;
-use acpi::fadt::Fadt;
 use acpi::platform::interrupt::IoApic;
 use acpi_base::madt::{MadtEntry, MadtEntryIter};
 
@@ -30,8 +29,8 @@ pub fn sci(source: &Source<'_>) -> Result<Interrupt, Refusal>
 {
     let memory = Mapped::new(source.regions);
     let madt = apics(&memory, source)?;
-    let fadt = first::<Fadt>(&memory, source)?;
-    Wirings::among(madt.bytes()).sci(fadt.get().sci_interrupt)
+    let fadt = first_fadt(&memory, source)?;
+    Wirings::among(madt.bytes()).sci(fadt.sci_interrupt())
 }
 
 /// The I/O APIC that a global system interrupt comes to, and the pin there.

@@ -4,12 +4,14 @@
 //! Sleep states have methods of AML besides: before the first step an interpreter runs `_TTS` and `_PTS` with the
 //! state's number, and `_GTS` where a machine still has it, and after a sleep `_WAK` (section 7.4).
 ghost use Rattle.std.specs.Prelude.{◌≡◌};
+ghost use Rattle.acpi_fixed.specs.Words.{viewed};
 ghost use Rattle.acpi_sleep.specs.Words.{byte_step, enable_plan, fits, is_always_enabled, pm1_step, pm1a_control, port, reset_plan, sci_step, sleep_control, sleep_control_step, sleep_plan, timer_bits, timer_ticks, unless_zero};
 
 use crate::error::PlanError;
 use crate::sleep::SleepTypes;
+use acpi::Lender;
 use acpi::address::{AccessSize, AddressSpace, GenericAddress};
-use acpi::fadt::Fadt;
+use acpi::fadt::FadtView;
 
 /// What a step does with its register.
 #[derive(Clone, Copy, Debug, PartialEq, Eq)]
@@ -123,16 +125,16 @@ fn unless_zero(error: PlanError, register: GenericAddress) -> Result<GenericAddr
 
 /// PM1a_CNT (section 5.2.9).
 #[tactic(auto, unfolding(crate::specs::Plans::pm1a_control))]
-fn pm1a_control(fadt: &Fadt) -> Result<GenericAddress, PlanError>
-    ensures { result ≡ pm1a_control fadt.now }
+fn pm1a_control<H: Lender>(fadt: &FadtView<'_, H>) -> Result<GenericAddress, PlanError>
+    ensures { result ≡ pm1a_control (viewed fadt.now) }
 {
     unless_zero(PlanError::NoRegister, fadt.pm1a_control_block()?)
 }
 
 /// SLEEP_CONTROL_REG (section 5.2.9).
 #[tactic(auto, unfolding(crate::specs::Plans::sleep_control))]
-fn sleep_control(fadt: &Fadt) -> Result<GenericAddress, PlanError>
-    ensures { result ≡ sleep_control fadt.now }
+fn sleep_control<H: Lender>(fadt: &FadtView<'_, H>) -> Result<GenericAddress, PlanError>
+    ensures { result ≡ sleep_control (viewed fadt.now) }
 {
     match fadt.sleep_control_register()? {
         Some(register) => unless_zero(PlanError::NoRegister, register),
@@ -155,10 +157,13 @@ fn fits(sleep_type: u8) -> bool
 /// if the FADT has no such register, with `BadRegister` for the address of PM1b_CNT, and with `SleepTypeTooHigh` if a
 /// type that the plan writes is above 7.
 #[tactic(auto, unfolding(crate::specs::Plans::sleep_plan))]
-pub fn sleep_plan(fadt: &Fadt, types: SleepTypes) -> Result<Plan, PlanError>
-    ensures exact { result ≡ sleep_plan fadt.now types }
+pub fn sleep_plan<H: Lender>(
+    fadt: &FadtView<'_, H>,
+    types: SleepTypes,
+) -> Result<Plan, PlanError>
+    ensures exact { result ≡ sleep_plan (viewed fadt.now) types }
 {
-    if fadt.flags.system_is_hw_reduced_acpi() {
+    if fadt.flags().system_is_hw_reduced_acpi() {
         let control = sleep_control(fadt)?;
         if !fits(types.a) {
             return Err(PlanError::SleepTypeTooHigh);
@@ -184,12 +189,12 @@ pub fn sleep_plan(fadt: &Fadt, types: SleepTypes) -> Result<Plan, PlanError>
 }
 
 /// Whether a machine is always in ACPI mode (section 5.2.9).
-fn is_always_enabled(fadt: &Fadt) -> bool
-    ensures { result ≡ is_always_enabled fadt.now }
+fn is_always_enabled<H: Lender>(fadt: &FadtView<'_, H>) -> bool
+    ensures { result ≡ is_always_enabled (viewed fadt.now) }
 {
-    fadt.flags.system_is_hw_reduced_acpi()
-        || fadt.smi_cmd_port == 0
-        || (fadt.acpi_enable == 0 && fadt.acpi_disable == 0)
+    fadt.flags().system_is_hw_reduced_acpi()
+        || fadt.smi_cmd_port() == 0
+        || (fadt.acpi_enable() == 0 && fadt.acpi_disable() == 0)
 }
 
 /// Enables ACPI: ACPI_ENABLE to the port SMI_CMD, and then until SCI_EN of PM1a_CNT is set (section 4.8.3.2.1). It has
@@ -199,8 +204,8 @@ fn is_always_enabled(fadt: &Fadt) -> bool
 ///
 /// Fails as `sleep_plan` does over PM1a_CNT.
 #[tactic(auto, unfolding(crate::specs::Plans::enable_plan))]
-pub fn enable_plan(fadt: &Fadt) -> Result<Plan, PlanError>
-    ensures exact { result ≡ enable_plan fadt.now }
+pub fn enable_plan<H: Lender>(fadt: &FadtView<'_, H>) -> Result<Plan, PlanError>
+    ensures exact { result ≡ enable_plan (viewed fadt.now) }
 {
     if is_always_enabled(fadt) {
         return Ok(Plan {
@@ -210,7 +215,7 @@ pub fn enable_plan(fadt: &Fadt) -> Result<Plan, PlanError>
     }
     let control = pm1a_control(fadt)?;
     Ok(Plan {
-        first: Some(byte_step(port(fadt.smi_cmd_port), fadt.acpi_enable)),
+        first: Some(byte_step(port(fadt.smi_cmd_port()), fadt.acpi_enable())),
         second: Some(sci_step(control)),
     })
 }
@@ -220,15 +225,15 @@ pub fn enable_plan(fadt: &Fadt) -> Result<Plan, PlanError>
 /// Fails with `NoReset` if RESET_REG_SUP isn't set, with `BadRegister` if the address of RESET_REG has a reserved code,
 /// and with `NoReset` if it is 0.
 #[tactic(auto, unfolding(crate::specs::Plans::reset_plan))]
-pub fn reset_plan(fadt: &Fadt) -> Result<Plan, PlanError>
-    ensures exact { result ≡ reset_plan fadt.now }
+pub fn reset_plan<H: Lender>(fadt: &FadtView<'_, H>) -> Result<Plan, PlanError>
+    ensures exact { result ≡ reset_plan (viewed fadt.now) }
 {
-    if !fadt.flags.supports_system_reset_via_fadt() {
+    if !fadt.flags().supports_system_reset_via_fadt() {
         return Err(PlanError::NoReset);
     }
     let register = unless_zero(PlanError::NoReset, fadt.reset_register()?)?;
     Ok(Plan {
-        first: Some(byte_step(register, fadt.reset_value)),
+        first: Some(byte_step(register, fadt.reset_value())),
         second: None,
     })
 }
