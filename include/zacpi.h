@@ -148,7 +148,7 @@ enum zacpi_status_code {
      * bytes left and at least 8, 12, 10, 8, 6, 12, 16, 16, 16, 16, 12, 76, 24, 24, 16, 20 and 16
      * for Types 0 to 0x10, and 2 for others, which are skipped. */
     ZACPI_NO_APICS = 40,              /* the MADT has no entry of Types 0 to 5, 9 and 0xa; for
-                                       * zacpi_platform also: there is no MADT */
+                                       * zacpi_get_platform also: there is no MADT */
     ZACPI_NO_GIC = 41,                /* the MADT has no entry of Types 0xb to 0xf, or no GICD */
     ZACPI_NO_SUCH_INTERRUPT = 42,     /* the ISA interrupt comes to no I/O APIC */
     ZACPI_NO_SUCH_IO_APIC = 43,       /* no I/O APIC has this global system interrupt */
@@ -415,9 +415,9 @@ ZACPI_STATUS zacpi_find_nth_table(const struct zacpi_source *source, struct zacp
  * error of a table, with its own signature, or ZACPI_SDT_INVALID_LENGTH if its Length is below
  * `first`. */
 ZACPI_STATUS zacpi_list_entries(const struct zacpi_source *source, uint64_t table,
-                                const struct zacpi_walk *walk,
-                                struct zacpi_entry *out, size_t capacity, size_t *count,
-                                uint8_t *malformed, struct zacpi_signature *signature);
+                                const struct zacpi_walk *walk, struct zacpi_entry *out,
+                                size_t capacity, size_t *count, uint8_t *malformed,
+                                struct zacpi_signature *signature);
 
 /* Lists the members of the root table that a lookup of the wanted signature, by a call that needs
  * its fixed fields, skips for another reason than their Signature, up to the one that it finds, and
@@ -429,15 +429,15 @@ ZACPI_STATUS zacpi_list_faults(const struct zacpi_source *source, struct zacpi_s
 /* Returns the AML of the DSDT that the FADT names (sections 5.2.9 and 5.2.11.1). Fails with an
  * opening error, ZACPI_TABLE_MISSING "FACP", ZACPI_INVALID_DSDT_ADDRESS, or an error of a table
  * with "DSDT". */
-ZACPI_STATUS zacpi_dsdt(const struct zacpi_source *source, struct zacpi_aml_table *out,
-                        struct zacpi_signature *signature);
+ZACPI_STATUS zacpi_get_dsdt(const struct zacpi_source *source, struct zacpi_aml_table *out,
+                            struct zacpi_signature *signature);
 
 /* Lists the AML of each valid SSDT (section 5.2.11.2). Fails with an opening error. */
 ZACPI_STATUS zacpi_list_ssdts(const struct zacpi_source *source, struct zacpi_aml_table *out,
                               size_t capacity, size_t *count, struct zacpi_signature *signature);
 
 /* Lists the memory of the tables, which isn't to be given away: of the RSDP, the root table, each
- * listed table that is valid under its own signature, and the DSDT and FACS that zacpi_dsdt and
+ * listed table that is valid under its own signature, and the DSDT and FACS that zacpi_get_dsdt and
  * zacpi_get_facs return (sections 5.2.5 to 5.2.11). The ranges may overlap; C.md has what isn't
  * among them. Fails with an opening error. */
 ZACPI_STATUS zacpi_list_ranges(const struct zacpi_source *source, struct zacpi_range *out,
@@ -632,8 +632,8 @@ ZACPI_STATUS zacpi_get_pm_timer(const struct zacpi_source *source, struct zacpi_
 
 /* Returns the block of event timers of the HPET (IA-PC HPET Specification). Fails with an opening
  * error, ZACPI_TABLE_MISSING "HPET", or ZACPI_INVALID_GENERIC_ADDRESS. */
-ZACPI_STATUS zacpi_hpet(const struct zacpi_source *source, struct zacpi_hpet_info *out,
-                        struct zacpi_signature *signature);
+ZACPI_STATUS zacpi_get_hpet(const struct zacpi_source *source, struct zacpi_hpet_info *out,
+                            struct zacpi_signature *signature);
 
 /* Lists the blocks of all HPETs, but those that aren't in memory. Fails with an opening error. */
 ZACPI_STATUS zacpi_list_hpets(const struct zacpi_source *source, struct zacpi_hpet_info *out,
@@ -815,7 +815,7 @@ struct zacpi_processor { /* Processor Local APIC and Processor Local x2APIC, sec
     uint8_t is_x2apic;         /* the entry is a Processor Local x2APIC */
 };
 
-/* Returns which controllers interrupts come to, and how many items the lists of zacpi_platform
+/* Returns which controllers interrupts come to, and how many items the lists of zacpi_get_platform
  * have. Fails with an opening error, ZACPI_TABLE_MISSING "FACP", the ZACPI_MADT_ error of the first
  * entry with one (of several the least), or ZACPI_INVALID_GENERIC_ADDRESS of X_PM_TMR_BLK if
  * PM_TMR_LEN is 4. */
@@ -855,8 +855,8 @@ ZACPI_STATUS zacpi_list_processors(const struct zacpi_source *source, struct zac
 /* Returns MailBoxAddress of the first Multiprocessor Wakeup: where the mailbox lies by which
  * processors are woken (section 5.2.12.19). Fails with an opening error, ZACPI_TABLE_MISSING
  * "APIC", or without one ZACPI_MADT_INVALID_ENTRY_LENGTH, else ZACPI_MADT_UNEXPECTED_ENTRY. */
-ZACPI_STATUS zacpi_mailbox_address(const struct zacpi_source *source, uint64_t *out,
-                                   struct zacpi_signature *signature);
+ZACPI_STATUS zacpi_get_mailbox_address(const struct zacpi_source *source, uint64_t *out,
+                                       struct zacpi_signature *signature);
 
 struct zacpi_entry_fault {
     zacpi_u64 address;   /* of the entry, or where none begins */
@@ -875,13 +875,14 @@ ZACPI_STATUS zacpi_list_madt_faults(const struct zacpi_source *source,
  * above. Fails with an opening error, ZACPI_TABLE_MISSING "FACP", the ZACPI_MADT_ error of the
  * first entry with one (of several the least), ZACPI_INVALID_GENERIC_ADDRESS of X_PM_TMR_BLK if
  * PM_TMR_LEN is 4, or ZACPI_NO_APICS. */
-ZACPI_STATUS zacpi_platform(const struct zacpi_source *source, struct zacpi_interrupt_model *out,
-                            struct zacpi_processor *processors, size_t processors_capacity,
-                            struct zacpi_io_apic *io_apics, size_t io_apics_capacity,
-                            struct zacpi_interrupt_source_override *overrides,
-                            size_t overrides_capacity, struct zacpi_nmi_source *nmi_sources,
-                            size_t nmi_sources_capacity, struct zacpi_nmi_line *nmi_lines,
-                            size_t nmi_lines_capacity, struct zacpi_signature *signature);
+ZACPI_STATUS zacpi_get_platform(const struct zacpi_source *source,
+                                struct zacpi_interrupt_model *out,
+                                struct zacpi_processor *processors, size_t processors_capacity,
+                                struct zacpi_io_apic *io_apics, size_t io_apics_capacity,
+                                struct zacpi_interrupt_source_override *overrides,
+                                size_t overrides_capacity, struct zacpi_nmi_source *nmi_sources,
+                                size_t nmi_sources_capacity, struct zacpi_nmi_line *nmi_lines,
+                                size_t nmi_lines_capacity, struct zacpi_signature *signature);
 
 struct zacpi_interrupt {
     uint32_t global_system_interrupt;
@@ -898,8 +899,9 @@ struct zacpi_io_apic_pin {
  * ZACPI_NO_APICS, ZACPI_MADT_MPS_INTI_INVALID_POLARITY or ZACPI_MADT_MPS_INTI_INVALID_TRIGGER_MODE
  * of the override, or ZACPI_NO_SUCH_INTERRUPT for an irq above 15, and for one without an override
  * if the last override of another source of bus 0 has its number. */
-ZACPI_STATUS zacpi_isa_interrupt(const struct zacpi_source *source, uint8_t irq,
-                                 struct zacpi_interrupt *out, struct zacpi_signature *signature);
+ZACPI_STATUS zacpi_get_isa_interrupt(const struct zacpi_source *source, uint8_t irq,
+                                     struct zacpi_interrupt *out,
+                                     struct zacpi_signature *signature);
 
 /* Returns how the System Control Interrupt (SCI), SCI_INT of the FADT, comes to the I/O APICs: by
  * its last override of bus 0 if it is below 16, or else as the interrupt of the same number; active
@@ -907,8 +909,8 @@ ZACPI_STATUS zacpi_isa_interrupt(const struct zacpi_source *source, uint8_t irq,
  * opening error, ZACPI_TABLE_MISSING "APIC", ZACPI_NO_APICS, ZACPI_TABLE_MISSING "FACP", or
  * ZACPI_MADT_MPS_INTI_INVALID_POLARITY or ZACPI_MADT_MPS_INTI_INVALID_TRIGGER_MODE of the
  * override. */
-ZACPI_STATUS zacpi_sci_interrupt(const struct zacpi_source *source, struct zacpi_interrupt *out,
-                                 struct zacpi_signature *signature);
+ZACPI_STATUS zacpi_get_sci_interrupt(const struct zacpi_source *source, struct zacpi_interrupt *out,
+                                     struct zacpi_signature *signature);
 
 /* Returns the I/O APIC that a global system interrupt comes to, and the pin there: the first one
  * with the greatest Global System Interrupt Base that is at most the interrupt (section 5.2.13).
@@ -919,9 +921,9 @@ ZACPI_STATUS zacpi_get_io_apic_pin(const struct zacpi_source *source,
                                    struct zacpi_signature *signature);
 
 struct zacpi_isa_route {
-    struct zacpi_interrupt interrupt; /* what zacpi_isa_interrupt returns, or zeros */
+    struct zacpi_interrupt interrupt; /* what zacpi_get_isa_interrupt returns, or zeros */
     struct zacpi_io_apic_pin pin;     /* what zacpi_get_io_apic_pin returns for it, or zeros */
-    uint8_t present;                  /* 0: zacpi_isa_interrupt fails */
+    uint8_t present;                  /* 0: zacpi_get_isa_interrupt fails */
     uint8_t has_pin;                  /* 0: it isn't present, or zacpi_get_io_apic_pin fails */
 };
 struct zacpi_isa_interrupts {
@@ -930,9 +932,9 @@ struct zacpi_isa_interrupts {
 
 /* Returns all 16 ISA interrupts, each with its pin. Fails with an opening error,
  * ZACPI_TABLE_MISSING "APIC", or ZACPI_NO_APICS. */
-ZACPI_STATUS zacpi_list_isa_interrupts(const struct zacpi_source *source,
-                                       struct zacpi_isa_interrupts *out,
-                                       struct zacpi_signature *signature);
+ZACPI_STATUS zacpi_get_isa_interrupts(const struct zacpi_source *source,
+                                      struct zacpi_isa_interrupts *out,
+                                      struct zacpi_signature *signature);
 
 /* Arm: the generic interrupt controller (MADT, section 5.2.12) --------------------------------- */
 
@@ -1237,14 +1239,15 @@ ZACPI_STATUS zacpi_get_dmar_unit(const struct zacpi_source *source, uint16_t seg
  * Type 3 whose Enumeration ID is `id`. Fails with an opening error, ZACPI_TABLE_MISSING "DMAR",
  * ZACPI_IOMMU_INVALID_STRUCTURE_LENGTH of a DRHD before it (without it of any, or of the table), or
  * ZACPI_NO_IOMMU. */
-ZACPI_STATUS zacpi_dmar_io_apic(const struct zacpi_source *source, uint8_t id,
-                                struct zacpi_dmar_source *out, struct zacpi_signature *signature);
+ZACPI_STATUS zacpi_get_dmar_io_apic(const struct zacpi_source *source, uint8_t id,
+                                    struct zacpi_dmar_source *out,
+                                    struct zacpi_signature *signature);
 /* Returns the unit that remaps the interrupts of an HPET: the first DRHD with a device scope of
  * Type 4 whose Enumeration ID is `number`. Fails with an opening error, ZACPI_TABLE_MISSING "DMAR",
  * ZACPI_IOMMU_INVALID_STRUCTURE_LENGTH of a DRHD before it (without it of any, or of the table), or
  * ZACPI_NO_IOMMU. */
-ZACPI_STATUS zacpi_dmar_hpet(const struct zacpi_source *source, uint8_t number,
-                             struct zacpi_dmar_source *out, struct zacpi_signature *signature);
+ZACPI_STATUS zacpi_get_dmar_hpet(const struct zacpi_source *source, uint8_t number,
+                                 struct zacpi_dmar_source *out, struct zacpi_signature *signature);
 /* Lists the memory that is reserved for a device: each RMRR of the segment with a device scope that
  * names it as for zacpi_get_dmar_unit, also one that is no range. Fails with an opening error, or
  * ZACPI_TABLE_MISSING "DMAR". */

@@ -264,15 +264,16 @@ ZACPI_STATUS zacpi_list_faults(const struct zacpi_source *source, struct zacpi_s
                    ZACPI_COUNTED(count), signature ? signature : &unasked));
 }
 
-zacpi_status ZACPI_CALL zacpi_1_dsdt(const struct zacpi_source *source, struct zacpi_aml_table *out,
-                                     struct zacpi_signature *signature);
+zacpi_status ZACPI_CALL zacpi_1_get_dsdt(const struct zacpi_source *source,
+                                         struct zacpi_aml_table *out,
+                                         struct zacpi_signature *signature);
 ZACPI_NONNULL((1, 2))
-ZACPI_STATUS zacpi_dsdt(const struct zacpi_source *source, struct zacpi_aml_table *out,
-                        struct zacpi_signature *signature) {
+ZACPI_STATUS zacpi_get_dsdt(const struct zacpi_source *source, struct zacpi_aml_table *out,
+                            struct zacpi_signature *signature) {
     const struct zacpi_source kept_source = zacpi_source_kept(source);
     struct zacpi_signature unasked;
     ZACPI_FITS;
-    return zacpi_1_dsdt(&kept_source, out, signature ? signature : &unasked);
+    return zacpi_1_get_dsdt(&kept_source, out, signature ? signature : &unasked);
 }
 
 zacpi_status ZACPI_CALL zacpi_1_list_ssdts(const struct zacpi_source *source,
@@ -351,15 +352,16 @@ ZACPI_STATUS zacpi_get_pm_timer(const struct zacpi_source *source, struct zacpi_
     return zacpi_1_get_pm_timer(&kept_source, out, signature ? signature : &unasked);
 }
 
-zacpi_status ZACPI_CALL zacpi_1_hpet(const struct zacpi_source *source, struct zacpi_hpet_info *out,
-                                     struct zacpi_signature *signature);
+zacpi_status ZACPI_CALL zacpi_1_get_hpet(const struct zacpi_source *source,
+                                         struct zacpi_hpet_info *out,
+                                         struct zacpi_signature *signature);
 ZACPI_NONNULL((1, 2))
-ZACPI_STATUS zacpi_hpet(const struct zacpi_source *source, struct zacpi_hpet_info *out,
-                        struct zacpi_signature *signature) {
+ZACPI_STATUS zacpi_get_hpet(const struct zacpi_source *source, struct zacpi_hpet_info *out,
+                            struct zacpi_signature *signature) {
     const struct zacpi_source kept_source = zacpi_source_kept(source);
     struct zacpi_signature unasked;
     ZACPI_FITS;
-    return zacpi_1_hpet(&kept_source, out, signature ? signature : &unasked);
+    return zacpi_1_get_hpet(&kept_source, out, signature ? signature : &unasked);
 }
 
 zacpi_status ZACPI_CALL zacpi_1_list_hpets(const struct zacpi_source *source,
@@ -590,15 +592,16 @@ ZACPI_STATUS zacpi_list_processors(const struct zacpi_source *source, struct zac
                    ZACPI_COUNTED(count), signature ? signature : &unasked));
 }
 
-zacpi_status ZACPI_CALL zacpi_1_mailbox_address(const struct zacpi_source *source, uint64_t *out,
-                                                struct zacpi_signature *signature);
+zacpi_status ZACPI_CALL zacpi_1_get_mailbox_address(const struct zacpi_source *source,
+                                                    uint64_t *out,
+                                                    struct zacpi_signature *signature);
 ZACPI_NONNULL((1, 2))
-ZACPI_STATUS zacpi_mailbox_address(const struct zacpi_source *source, uint64_t *out,
-                                   struct zacpi_signature *signature) {
+ZACPI_STATUS zacpi_get_mailbox_address(const struct zacpi_source *source, uint64_t *out,
+                                       struct zacpi_signature *signature) {
     const struct zacpi_source kept_source = zacpi_source_kept(source);
     struct zacpi_signature unasked;
     ZACPI_FITS;
-    return zacpi_1_mailbox_address(&kept_source, out, signature ? signature : &unasked);
+    return zacpi_1_get_mailbox_address(&kept_source, out, signature ? signature : &unasked);
 }
 
 zacpi_status ZACPI_CALL zacpi_1_list_madt_faults(const struct zacpi_source *source,
@@ -617,65 +620,67 @@ ZACPI_STATUS zacpi_list_madt_faults(const struct zacpi_source *source,
                    ZACPI_COUNTED(count), signature ? signature : &unasked));
 }
 
-zacpi_status ZACPI_CALL zacpi_1_platform(const struct zacpi_source *source,
-                                         struct zacpi_interrupt_model *out,
-                                         struct zacpi_processor *processors,
-                                         zacpi_number processors_capacity,
-                                         struct zacpi_io_apic *io_apics,
-                                         zacpi_number io_apics_capacity,
-                                         struct zacpi_interrupt_source_override *overrides,
-                                         zacpi_number overrides_capacity,
-                                         struct zacpi_nmi_source *nmi_sources,
-                                         zacpi_number nmi_sources_capacity,
-                                         struct zacpi_nmi_line *nmi_lines,
-                                         zacpi_number nmi_lines_capacity,
-                                         struct zacpi_signature *signature);
+zacpi_status ZACPI_CALL zacpi_1_get_platform(const struct zacpi_source *source,
+                                             struct zacpi_interrupt_model *out,
+                                             struct zacpi_processor *processors,
+                                             zacpi_number processors_capacity,
+                                             struct zacpi_io_apic *io_apics,
+                                             zacpi_number io_apics_capacity,
+                                             struct zacpi_interrupt_source_override *overrides,
+                                             zacpi_number overrides_capacity,
+                                             struct zacpi_nmi_source *nmi_sources,
+                                             zacpi_number nmi_sources_capacity,
+                                             struct zacpi_nmi_line *nmi_lines,
+                                             zacpi_number nmi_lines_capacity,
+                                             struct zacpi_signature *signature);
 ZACPI_NONNULL((1, 2))
-ZACPI_STATUS zacpi_platform(const struct zacpi_source *source, struct zacpi_interrupt_model *out,
-                            struct zacpi_processor *processors, size_t processors_capacity,
-                            struct zacpi_io_apic *io_apics, size_t io_apics_capacity,
-                            struct zacpi_interrupt_source_override *overrides,
-                            size_t overrides_capacity, struct zacpi_nmi_source *nmi_sources,
-                            size_t nmi_sources_capacity, struct zacpi_nmi_line *nmi_lines,
-                            size_t nmi_lines_capacity, struct zacpi_signature *signature) {
+ZACPI_STATUS zacpi_get_platform(const struct zacpi_source *source,
+                                struct zacpi_interrupt_model *out,
+                                struct zacpi_processor *processors, size_t processors_capacity,
+                                struct zacpi_io_apic *io_apics, size_t io_apics_capacity,
+                                struct zacpi_interrupt_source_override *overrides,
+                                size_t overrides_capacity, struct zacpi_nmi_source *nmi_sources,
+                                size_t nmi_sources_capacity, struct zacpi_nmi_line *nmi_lines,
+                                size_t nmi_lines_capacity, struct zacpi_signature *signature) {
     const struct zacpi_source kept_source = zacpi_source_kept(source);
     struct zacpi_signature unasked;
     ZACPI_FITS;
-    return zacpi_1_platform(&kept_source, out,
+    return zacpi_1_get_platform(&kept_source, out,
                          processors_capacity ? processors : (struct zacpi_processor *)ZACPI_NOTHING,
-                            processors_capacity,
-                            io_apics_capacity ? io_apics : (struct zacpi_io_apic *)ZACPI_NOTHING,
-                            io_apics_capacity,
+                                processors_capacity,
+                               io_apics_capacity ? io_apics : (struct zacpi_io_apic *)ZACPI_NOTHING,
+                                io_apics_capacity,
            overrides_capacity ? overrides : (struct zacpi_interrupt_source_override *)ZACPI_NOTHING,
-                            overrides_capacity,
+                                overrides_capacity,
                       nmi_sources_capacity ? nmi_sources : (struct zacpi_nmi_source *)ZACPI_NOTHING,
-                            nmi_sources_capacity,
+                                nmi_sources_capacity,
                             nmi_lines_capacity ? nmi_lines : (struct zacpi_nmi_line *)ZACPI_NOTHING,
-                            nmi_lines_capacity, signature ? signature : &unasked);
+                                nmi_lines_capacity, signature ? signature : &unasked);
 }
 
-zacpi_status ZACPI_CALL zacpi_1_isa_interrupt(const struct zacpi_source *source, uint8_t irq,
-                                              struct zacpi_interrupt *out,
-                                              struct zacpi_signature *signature);
+zacpi_status ZACPI_CALL zacpi_1_get_isa_interrupt(const struct zacpi_source *source, uint8_t irq,
+                                                  struct zacpi_interrupt *out,
+                                                  struct zacpi_signature *signature);
 ZACPI_NONNULL((1, 3))
-ZACPI_STATUS zacpi_isa_interrupt(const struct zacpi_source *source, uint8_t irq,
-                                 struct zacpi_interrupt *out, struct zacpi_signature *signature) {
+ZACPI_STATUS zacpi_get_isa_interrupt(const struct zacpi_source *source, uint8_t irq,
+                                     struct zacpi_interrupt *out,
+                                     struct zacpi_signature *signature) {
     const struct zacpi_source kept_source = zacpi_source_kept(source);
     struct zacpi_signature unasked;
     ZACPI_FITS;
-    return zacpi_1_isa_interrupt(&kept_source, irq, out, signature ? signature : &unasked);
+    return zacpi_1_get_isa_interrupt(&kept_source, irq, out, signature ? signature : &unasked);
 }
 
-zacpi_status ZACPI_CALL zacpi_1_sci_interrupt(const struct zacpi_source *source,
-                                              struct zacpi_interrupt *out,
-                                              struct zacpi_signature *signature);
+zacpi_status ZACPI_CALL zacpi_1_get_sci_interrupt(const struct zacpi_source *source,
+                                                  struct zacpi_interrupt *out,
+                                                  struct zacpi_signature *signature);
 ZACPI_NONNULL((1, 2))
-ZACPI_STATUS zacpi_sci_interrupt(const struct zacpi_source *source, struct zacpi_interrupt *out,
-                                 struct zacpi_signature *signature) {
+ZACPI_STATUS zacpi_get_sci_interrupt(const struct zacpi_source *source, struct zacpi_interrupt *out,
+                                     struct zacpi_signature *signature) {
     const struct zacpi_source kept_source = zacpi_source_kept(source);
     struct zacpi_signature unasked;
     ZACPI_FITS;
-    return zacpi_1_sci_interrupt(&kept_source, out, signature ? signature : &unasked);
+    return zacpi_1_get_sci_interrupt(&kept_source, out, signature ? signature : &unasked);
 }
 
 zacpi_status ZACPI_CALL zacpi_1_get_io_apic_pin(const struct zacpi_source *source,
@@ -693,17 +698,17 @@ ZACPI_STATUS zacpi_get_io_apic_pin(const struct zacpi_source *source,
                                    signature ? signature : &unasked);
 }
 
-zacpi_status ZACPI_CALL zacpi_1_list_isa_interrupts(const struct zacpi_source *source,
-                                                    struct zacpi_isa_interrupts *out,
-                                                    struct zacpi_signature *signature);
+zacpi_status ZACPI_CALL zacpi_1_get_isa_interrupts(const struct zacpi_source *source,
+                                                   struct zacpi_isa_interrupts *out,
+                                                   struct zacpi_signature *signature);
 ZACPI_NONNULL((1, 2))
-ZACPI_STATUS zacpi_list_isa_interrupts(const struct zacpi_source *source,
-                                       struct zacpi_isa_interrupts *out,
-                                       struct zacpi_signature *signature) {
+ZACPI_STATUS zacpi_get_isa_interrupts(const struct zacpi_source *source,
+                                      struct zacpi_isa_interrupts *out,
+                                      struct zacpi_signature *signature) {
     const struct zacpi_source kept_source = zacpi_source_kept(source);
     struct zacpi_signature unasked;
     ZACPI_FITS;
-    return zacpi_1_list_isa_interrupts(&kept_source, out, signature ? signature : &unasked);
+    return zacpi_1_get_isa_interrupts(&kept_source, out, signature ? signature : &unasked);
 }
 
 zacpi_status ZACPI_CALL zacpi_1_get_gic_distributor(const struct zacpi_source *source,
@@ -1070,28 +1075,29 @@ ZACPI_STATUS zacpi_get_dmar_unit(const struct zacpi_source *source, uint16_t seg
                                  hops_length, out, signature ? signature : &unasked);
 }
 
-zacpi_status ZACPI_CALL zacpi_1_dmar_io_apic(const struct zacpi_source *source, uint8_t id,
-                                             struct zacpi_dmar_source *out,
-                                             struct zacpi_signature *signature);
+zacpi_status ZACPI_CALL zacpi_1_get_dmar_io_apic(const struct zacpi_source *source, uint8_t id,
+                                                 struct zacpi_dmar_source *out,
+                                                 struct zacpi_signature *signature);
 ZACPI_NONNULL((1, 3))
-ZACPI_STATUS zacpi_dmar_io_apic(const struct zacpi_source *source, uint8_t id,
-                                struct zacpi_dmar_source *out, struct zacpi_signature *signature) {
+ZACPI_STATUS zacpi_get_dmar_io_apic(const struct zacpi_source *source, uint8_t id,
+                                    struct zacpi_dmar_source *out,
+                                    struct zacpi_signature *signature) {
     const struct zacpi_source kept_source = zacpi_source_kept(source);
     struct zacpi_signature unasked;
     ZACPI_FITS;
-    return zacpi_1_dmar_io_apic(&kept_source, id, out, signature ? signature : &unasked);
+    return zacpi_1_get_dmar_io_apic(&kept_source, id, out, signature ? signature : &unasked);
 }
 
-zacpi_status ZACPI_CALL zacpi_1_dmar_hpet(const struct zacpi_source *source, uint8_t number,
-                                          struct zacpi_dmar_source *out,
-                                          struct zacpi_signature *signature);
+zacpi_status ZACPI_CALL zacpi_1_get_dmar_hpet(const struct zacpi_source *source, uint8_t number,
+                                              struct zacpi_dmar_source *out,
+                                              struct zacpi_signature *signature);
 ZACPI_NONNULL((1, 3))
-ZACPI_STATUS zacpi_dmar_hpet(const struct zacpi_source *source, uint8_t number,
-                             struct zacpi_dmar_source *out, struct zacpi_signature *signature) {
+ZACPI_STATUS zacpi_get_dmar_hpet(const struct zacpi_source *source, uint8_t number,
+                                 struct zacpi_dmar_source *out, struct zacpi_signature *signature) {
     const struct zacpi_source kept_source = zacpi_source_kept(source);
     struct zacpi_signature unasked;
     ZACPI_FITS;
-    return zacpi_1_dmar_hpet(&kept_source, number, out, signature ? signature : &unasked);
+    return zacpi_1_get_dmar_hpet(&kept_source, number, out, signature ? signature : &unasked);
 }
 
 zacpi_status ZACPI_CALL zacpi_1_list_dmar_reserved(const struct zacpi_source *source,

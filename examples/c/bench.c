@@ -37,7 +37,7 @@ static zacpi_status list_ssdts(size_t *count) {
 }
 static zacpi_status dsdt(size_t *count) {
     struct zacpi_aml_table aml = {0};
-    zacpi_status refused = zacpi_dsdt(&source, &aml, &named);
+    zacpi_status refused = zacpi_get_dsdt(&source, &aml, &named);
     *count = aml.length;
     return refused;
 }
@@ -54,15 +54,15 @@ static zacpi_status platform(size_t *count) {
     static struct zacpi_nmi_source sources[MOST];
     static struct zacpi_nmi_line lines[MOST];
     struct zacpi_interrupt_model model = {0};
-    zacpi_status refused = zacpi_platform(&source, &model, processors, MOST, io_apics, MOST, overrides, MOST, sources,
-                                          MOST, lines, MOST, &named);
+    zacpi_status refused = zacpi_get_platform(&source, &model, processors, MOST, io_apics, MOST, overrides, MOST,
+                                              sources, MOST, lines, MOST, &named);
     *count = model.io_apics + model.overrides + model.nmi_sources + model.nmi_lines + model.processors;
     return refused;
 }
 static zacpi_status list_isa_interrupts(size_t *count) {
     struct zacpi_isa_interrupts all;
     *count = 16;
-    return zacpi_list_isa_interrupts(&source, &all, &named);
+    return zacpi_get_isa_interrupts(&source, &all, &named);
 }
 static zacpi_status list_processors(size_t *count) {
     static struct zacpi_processor out[MOST];
@@ -70,7 +70,7 @@ static zacpi_status list_processors(size_t *count) {
 }
 static zacpi_status hpet(size_t *count) {
     struct zacpi_hpet_info block = {0};
-    zacpi_status refused = zacpi_hpet(&source, &block, &named);
+    zacpi_status refused = zacpi_get_hpet(&source, &block, &named);
     *count = 1;
     return refused;
 }
@@ -93,12 +93,12 @@ static const struct call {
     {"zacpi_find_table SPCR", "SPCR", "bytes", find_wanted},
     {"zacpi_list_tables", "", "items", list_tables},
     {"zacpi_list_ssdts", "", "items", list_ssdts},
-    {"zacpi_dsdt", "", "bytes", dsdt},
+    {"zacpi_get_dsdt", "", "bytes", dsdt},
     {"zacpi_get_interrupt_model", "", "items", interrupt_model},
-    {"zacpi_platform", "", "items", platform},
-    {"zacpi_list_isa_interrupts", "", "items", list_isa_interrupts},
+    {"zacpi_get_platform", "", "items", platform},
+    {"zacpi_get_isa_interrupts", "", "items", list_isa_interrupts},
     {"zacpi_list_processors", "", "items", list_processors},
-    {"zacpi_hpet", "", "items", hpet},
+    {"zacpi_get_hpet", "", "items", hpet},
     {"zacpi_list_pci_regions", "", "items", list_pci_regions},
 };
 

@@ -10,7 +10,7 @@ static void load_block(const uint8_t *aml, uint32_t length, uint8_t revision) {
 static zacpi_status load_blocks(const struct zacpi_source *source) {
     struct zacpi_aml_table blocks[256];
     size_t ssdts = 0;
-    zacpi_status status = zacpi_dsdt(source, blocks, NULL);
+    zacpi_status status = zacpi_get_dsdt(source, blocks, NULL);
     if (!status) status = zacpi_list_ssdts(source, blocks + 1, 255, &ssdts, NULL);
     for (size_t i = 0; !status && i <= ssdts && i < 256; i++) {
         const struct zacpi_table block = {.address = blocks[i].address, .length = blocks[i].length};

@@ -116,7 +116,7 @@ static void tables(const struct zacpi_source *source, const struct printer *p) {
         say_number(p, list.tables[i].revision);
         newline(p);
     }
-    refused = zacpi_dsdt(source, &dsdt, &named);
+    refused = zacpi_get_dsdt(source, &dsdt, &named);
     if (refused) say_refused(p, "dsdt", refused, &named);
     else stream(p, "dsdt ", &dsdt);
     count = 0;
@@ -229,7 +229,7 @@ static void devices(const struct zacpi_source *source, const struct printer *p) 
     struct zacpi_hpet_info hpet = {0};
     struct zacpi_boot_graphic graphic = {0};
     size_t i, count = 0;
-    zacpi_status refused = zacpi_hpet(source, &hpet, &named);
+    zacpi_status refused = zacpi_get_hpet(source, &hpet, &named);
     if (refused) {
         say_refused(p, "hpet", refused, &named);
     } else {

@@ -115,7 +115,7 @@ static void places(const struct zacpi_source *source) {
 static void pins(const struct zacpi_source *source) {
     struct zacpi_signature named = {{0}};
     struct zacpi_isa_interrupts isa;
-    if (zacpi_list_isa_interrupts(source, &isa, &named)) return;
+    if (zacpi_get_isa_interrupts(source, &isa, &named)) return;
     for (size_t irq = 0; irq < 16; irq++) {
         const struct zacpi_isa_route *route = isa.routes + irq;
         if (!route->present) continue;
@@ -186,8 +186,8 @@ static void figures(const struct zacpi_source *source, struct zacpi_source known
     FIGURE(zacpi_open, source, &root, &named);
     FIGURE(zacpi_open, &known, &root, &named);
     FIGURE(zacpi_list_tables, &known, tables, 256, &count, &named);
-    FIGURE(zacpi_dsdt, &known, &dsdt, &named);
-    FIGURE(zacpi_hpet, &known, &hpet, &named);
+    FIGURE(zacpi_get_dsdt, &known, &dsdt, &named);
+    FIGURE(zacpi_get_hpet, &known, &hpet, &named);
     FIGURE(zacpi_get_interrupt_model, &known, &model, &named);
     FIGURE(zacpi_list_io_apics, &known, io_apics, 64, &count, &named);
     FIGURE(zacpi_list_processors, &known, processors, 512, &count, &named);

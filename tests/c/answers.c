@@ -86,7 +86,7 @@ static void print_tables(const struct zacpi_source *source) {
         LIST("faults", zacpi_fault, zacpi_list_faults, (source, wanted, items, MOST, &count, &named), "%llx %s\n",
              (wide)it->address, zacpi_status_name(it->status));
     }
-    ONE("aml", struct zacpi_aml_table, zacpi_dsdt, IT, "%u %llx\n", it->revision, (wide)it->table_address);
+    ONE("aml", struct zacpi_aml_table, zacpi_get_dsdt, IT, "%u %llx\n", it->revision, (wide)it->table_address);
     LIST("ssdts", zacpi_aml_table, zacpi_list_ssdts, ALL, "%u %llx\n", it->revision, (wide)it->table_address);
 }
 
@@ -180,7 +180,7 @@ static void print_devices(const struct zacpi_source *source) {
     struct zacpi_console console;
     ONE("facs", struct zacpi_facs, zacpi_get_facs, IT, "%llx %llx %u %x %x %x %u\n", (wide)it->address,
         (wide)it->waking_vector_64, it->length, it->hardware_signature, it->waking_vector, it->flags, it->version);
-    ONE("timers", struct zacpi_hpet_info, zacpi_hpet, IT, "%x %u\n", it->event_timer_block_id, it->page_protection);
+    ONE("timers", struct zacpi_hpet_info, zacpi_get_hpet, IT, "%x %u\n", it->event_timer_block_id, it->page_protection);
     LIST("hpets", zacpi_hpet_info, zacpi_list_hpets, ALL, "%llx %x %u %u %u\n", (wide)it->base_address,
          it->event_timer_block_id, it->clock_tick_unit, it->number, it->page_protection);
     ONE("image", struct zacpi_boot_graphic, zacpi_get_boot_graphic, IT, "%llx %u\n", (wide)it->address, it->image_type);
@@ -215,16 +215,16 @@ static void print_interrupts(const struct zacpi_source *source) {
          it->lint, it->polarity, it->trigger);
     LIST("madt_faults", zacpi_entry_fault, zacpi_list_madt_faults, ALL, "%llx %u %s\n", (wide)it->address,
          it->entry_type, zacpi_status_name(it->status));
-    ONE("mailbox", uint64_t, zacpi_mailbox_address, IT, "%llx\n", (wide)*it);
-    ONE("sci", struct zacpi_interrupt, zacpi_sci_interrupt, IT, "%u %u %u\n", it->global_system_interrupt, it->polarity,
-        it->trigger);
+    ONE("mailbox", uint64_t, zacpi_get_mailbox_address, IT, "%llx\n", (wide)*it);
+    ONE("sci", struct zacpi_interrupt, zacpi_get_sci_interrupt, IT, "%u %u %u\n", it->global_system_interrupt,
+        it->polarity, it->trigger);
     for (i = 0; i < 17; i++)
-        ONE("isa", struct zacpi_interrupt, zacpi_isa_interrupt, (source, (uint8_t)i, &item, &named), "%u %u %u\n",
+        ONE("isa", struct zacpi_interrupt, zacpi_get_isa_interrupt, (source, (uint8_t)i, &item, &named), "%u %u %u\n",
             it->global_system_interrupt, it->polarity, it->trigger);
     for (i = 0; i < 64; i += 9)
         ONE("pin", struct zacpi_io_apic_pin, zacpi_get_io_apic_pin, (source, i, &item, &named), "%u %u\n",
             it->io_apic.id, it->pin);
-    if (zacpi_list_isa_interrupts(source, &all, &named)) return;
+    if (zacpi_get_isa_interrupts(source, &all, &named)) return;
     for (i = 0; i < 16; i++) {
         const struct zacpi_isa_route *r = &all.routes[i];
         printf("route %u %u %u %u %u %u %u\n", r->present, r->interrupt.global_system_interrupt, r->interrupt.polarity,
@@ -349,10 +349,10 @@ static void print_dmar(const struct zacpi_source *source) {
     LIST("dmar_faults", zacpi_entry_fault, zacpi_list_dmar_faults, ALL, "%llx %u %s\n", (wide)it->address,
          it->entry_type, error_of(it->status));
     for (i = 0; i < 9; i++)
-        ONE("of_io_apic", struct zacpi_dmar_source, zacpi_dmar_io_apic, (source, (uint8_t)i, &item, &named),
+        ONE("of_io_apic", struct zacpi_dmar_source, zacpi_get_dmar_io_apic, (source, (uint8_t)i, &item, &named),
             "%llx %u %u %u %u\n", (wide)it->unit.register_base, it->bus, it->has_hop, it->hop.device, it->hop.function);
     for (i = 0; i < 2; i++)
-        ONE("of_hpet", struct zacpi_dmar_source, zacpi_dmar_hpet, (source, (uint8_t)i, &item, &named),
+        ONE("of_hpet", struct zacpi_dmar_source, zacpi_get_dmar_hpet, (source, (uint8_t)i, &item, &named),
             "%llx %u %u %u %u\n", (wide)it->unit.register_base, it->bus, it->has_hop, it->hop.device, it->hop.function);
 }
 

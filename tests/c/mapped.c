@@ -122,8 +122,8 @@ static void ask(const struct zacpi_source *source, struct said *said) {
     const struct zacpi_signature facp = {{'F', 'A', 'C', 'P'}};
     memset(said, 0, sizeof *said);
     said->status[0] = zacpi_open(source, &said->root, &said->named[0]);
-    said->status[1] = zacpi_dsdt(source, &said->dsdt, &said->named[1]);
-    said->status[2] = zacpi_hpet(source, &said->hpet, &said->named[2]);
+    said->status[1] = zacpi_get_dsdt(source, &said->dsdt, &said->named[1]);
+    said->status[2] = zacpi_get_hpet(source, &said->hpet, &said->named[2]);
     said->status[3] = zacpi_find_table(source, facp, &said->fadt, &said->named[3]);
     said->status[4] = zacpi_list_ssdts(source, said->ssdts, 16, &said->count[4], &said->named[4]);
     said->status[5] = zacpi_list_tables(source, said->tables, 64, &said->count[5], &said->named[5]);

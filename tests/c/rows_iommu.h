@@ -55,8 +55,8 @@ static const struct zacpi_hop *hops(const struct row *row) {
 }
 ONE(get_dmar_flags, dmar_flags, of_dmar_flags, )
 ONE(get_dmar_unit, dmar_unit, of_dmar_unit, DEVICE)
-ONE(dmar_io_apic, dmar_source, of_dmar_source, ARGUMENT(0, uint8_t))
-ONE(dmar_hpet, dmar_source, of_dmar_source, ARGUMENT(0, uint8_t))
+ONE(get_dmar_io_apic, dmar_source, of_dmar_source, ARGUMENT(0, uint8_t))
+ONE(get_dmar_hpet, dmar_source, of_dmar_source, ARGUMENT(0, uint8_t))
 LIST(list_dmar_reserved, dmar_reserved, of_dmar_reserved, DEVICE)
 ONE(get_ivrs_unit, ivrs_device, of_ivrs_device, ARGUMENT(0, uint16_t) ARGUMENT(1, uint16_t))
 LIST(list_ivrs_memory, ivrs_memory, of_ivrs_memory, ARGUMENT(0, uint16_t))
@@ -117,18 +117,18 @@ static const struct row unit_rows[] = {
     REFUSED(get_dmar_unit, UNITS_FAULTS, NULL, A(1, 0, 1, HOP_2_0), ZACPI_NO_IOMMU, NULL),
     GOOD(get_dmar_unit, UNITS_LATER, NULL, A(0, 0, 1, HOP_2_0), 1, BEFORE_LATER),
     REFUSED(get_dmar_unit, EMPTY, NULL, A(0, 0, 1, HOP_2_0), ZACPI_TABLE_MISSING, "DMAR"),
-    GOOD(dmar_io_apic, UNITS, NULL, A(2), 1, UNIT_OF_ALL, 0xf0, 0x1f, 0, 1),
-    GOOD(dmar_io_apic, UNITS, NULL, A(9), 1, UNIT_OF_ALL, 0xf2, 0, 0, 0),
-    REFUSED(dmar_io_apic, UNITS, NULL, A(0), ZACPI_NO_IOMMU, NULL), /* an HPET has the id 0 */
-    REFUSED(dmar_io_apic, UNITS_CUT, NULL, A(2), ZACPI_IOMMU_INVALID_STRUCTURE_LENGTH, NULL),
-    REFUSED(dmar_io_apic, UNITS_FAULTS, NULL, A(2), ZACPI_IOMMU_INVALID_STRUCTURE_LENGTH, NULL),
-    GOOD(dmar_io_apic, UNITS_LATER, NULL, A(2), 1, BEFORE_LATER, 0xf0, 0x1f, 0, 1),
-    REFUSED(dmar_io_apic, UNITS_LATER, NULL, A(3), ZACPI_IOMMU_INVALID_STRUCTURE_LENGTH, NULL),
-    REFUSED(dmar_io_apic, EMPTY, NULL, A(2), ZACPI_TABLE_MISSING, "DMAR"),
-    GOOD(dmar_hpet, UNITS, NULL, A(0), 1, UNIT_OF_ALL, 0xf1, 0x1e, 7, 1),
-    REFUSED(dmar_hpet, UNITS, NULL, A(2), ZACPI_NO_IOMMU, NULL), /* an I/O APIC has the id 2 */
-    REFUSED(dmar_hpet, UNITS_END, NULL, A(0), ZACPI_IOMMU_INVALID_STRUCTURE_LENGTH, NULL),
-    REFUSED(dmar_hpet, EMPTY, NULL, A(0), ZACPI_TABLE_MISSING, "DMAR"),
+    GOOD(get_dmar_io_apic, UNITS, NULL, A(2), 1, UNIT_OF_ALL, 0xf0, 0x1f, 0, 1),
+    GOOD(get_dmar_io_apic, UNITS, NULL, A(9), 1, UNIT_OF_ALL, 0xf2, 0, 0, 0),
+    REFUSED(get_dmar_io_apic, UNITS, NULL, A(0), ZACPI_NO_IOMMU, NULL), /* an HPET has the id 0 */
+    REFUSED(get_dmar_io_apic, UNITS_CUT, NULL, A(2), ZACPI_IOMMU_INVALID_STRUCTURE_LENGTH, NULL),
+    REFUSED(get_dmar_io_apic, UNITS_FAULTS, NULL, A(2), ZACPI_IOMMU_INVALID_STRUCTURE_LENGTH, NULL),
+    GOOD(get_dmar_io_apic, UNITS_LATER, NULL, A(2), 1, BEFORE_LATER, 0xf0, 0x1f, 0, 1),
+    REFUSED(get_dmar_io_apic, UNITS_LATER, NULL, A(3), ZACPI_IOMMU_INVALID_STRUCTURE_LENGTH, NULL),
+    REFUSED(get_dmar_io_apic, EMPTY, NULL, A(2), ZACPI_TABLE_MISSING, "DMAR"),
+    GOOD(get_dmar_hpet, UNITS, NULL, A(0), 1, UNIT_OF_ALL, 0xf1, 0x1e, 7, 1),
+    REFUSED(get_dmar_hpet, UNITS, NULL, A(2), ZACPI_NO_IOMMU, NULL), /* an I/O APIC has the id 2 */
+    REFUSED(get_dmar_hpet, UNITS_END, NULL, A(0), ZACPI_IOMMU_INVALID_STRUCTURE_LENGTH, NULL),
+    REFUSED(get_dmar_hpet, EMPTY, NULL, A(0), ZACPI_TABLE_MISSING, "DMAR"),
     GOOD(list_dmar_reserved, UNITS, NULL, A(0, 0, 1, HOP_2_0), 2, 0x7b800000, 0x7fffffff, 0,
          0x100000000, 0x100000000, 0),
     GOOD(list_dmar_reserved, UNITS, NULL, A(0, 0, 2, HOP_2_0), 1, 0x100000000, 0x100000000, 0),

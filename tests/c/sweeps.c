@@ -69,7 +69,7 @@ typedef zacpi_status lookup(const struct zacpi_source *source);
     static zacpi_status find_##name(const struct zacpi_source *s) { return zacpi_##call(s, __VA_ARGS__, &named); }
 LOOKUP(facp, get_fixed_hardware, &out.fixed_hardware)
 LOOKUP(apic, get_gic_distributor, &out.distributor)
-LOOKUP(hpet, hpet, &out.hpet)
+LOOKUP(hpet, get_hpet, &out.hpet)
 LOOKUP(mcfg, list_pci_regions, &out.pci_region, 1, &count)
 LOOKUP(bgrt, get_boot_graphic, &out.graphic)
 LOOKUP(spcr, get_console, &out.console)

@@ -240,7 +240,7 @@ impl<'k> AcpiTables<'k> {
     /// The AML of the DSDT that the first valid FADT names (section 5.2.11.1). Fails with `TableMissing` for the
     /// FADT, with `InvalidDsdtAddress`, and with the errors of the table at that address.
     pub fn dsdt(&self) -> AcpiResult<AmlTable> {
-        raw::zacpi_1_dsdt(&self.source())
+        raw::zacpi_1_get_dsdt(&self.source())
     }
 
     /// The AML of each valid SSDT, in the order of the root table (section 5.2.11.2): a list, or in a `for` loop one

@@ -55,7 +55,7 @@ impl HpetInfo {
     ///
     /// Fails with `TableMissing`, and with `InvalidGenericAddress` if its registers don't lie in memory.
     pub fn new(tables: &AcpiTables<'_>) -> AcpiResult<HpetInfo> {
-        raw::zacpi_1_hpet(&tables.source()).map(HpetInfo::from)
+        raw::zacpi_1_get_hpet(&tables.source()).map(HpetInfo::from)
     }
 
     /// Hardware Rev ID, bits 0 to 7 of Event Timer Block ID.

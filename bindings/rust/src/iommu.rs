@@ -198,14 +198,14 @@ impl<'k> Dmar<'k> {
     ///
     /// Fails as `unit_for` does, whatever the segment of a DRHD is.
     pub fn unit_of_io_apic(&self, id: u8) -> AcpiResult<Option<DmarSource>> {
-        found(raw::zacpi_1_dmar_io_apic(&self.tables.source(), id))
+        found(raw::zacpi_1_get_dmar_io_apic(&self.tables.source(), id))
     }
 
     /// The unit that remaps the interrupts of the HPET of a number (section 8.3.1).
     ///
     /// Fails as `unit_for` does, whatever the segment of a DRHD is.
     pub fn unit_of_hpet(&self, number: u8) -> AcpiResult<Option<DmarSource>> {
-        found(raw::zacpi_1_dmar_hpet(&self.tables.source(), number))
+        found(raw::zacpi_1_get_dmar_hpet(&self.tables.source(), number))
     }
 
     /// The memory that is reserved for a device, as far as it fits: each RMRR of the segment with a device scope

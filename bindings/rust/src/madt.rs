@@ -76,7 +76,7 @@ impl AcpiTables<'_> {
     /// Fails with `TableMissing` for the MADT and, if it has no such entry but bytes are left in which no entry begins,
     /// with `InvalidMadt`, whose error is `InvalidEntryLength`.
     pub fn mailbox_address(&self) -> AcpiResult<Option<u64>> {
-        match raw::zacpi_1_mailbox_address(&self.source()) {
+        match raw::zacpi_1_get_mailbox_address(&self.source()) {
             Err(AcpiError::InvalidMadt(MadtError::UnexpectedEntry)) => Ok(None),
             other => other.map(Some),
         }

@@ -223,7 +223,7 @@ pub(crate) fn platform(
     // SAFETY: the source holds live slices of initialised items; the outputs are live slices, each with its length, and
     // two live variables.
     let status = unsafe {
-        zacpi_1_platform(
+        zacpi_1_get_platform(
             source,
             &mut model,
             processors.as_mut_ptr(),

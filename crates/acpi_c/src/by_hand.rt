@@ -79,7 +79,7 @@ pub extern "C" fn zacpi_1_get_power_off_plan(
 
 /// The model and all its lists at once, each as the call for it alone returns it.
 #[unsafe(no_mangle)]
-pub extern "C" fn zacpi_1_platform(
+pub extern "C" fn zacpi_1_get_platform(
     source: &Source<'_>,
     out: &mut InterruptModel,
     processors: &mut [Processor],
@@ -117,9 +117,9 @@ pub extern "C" fn zacpi_1_platform(
     answer(said, out, named)
 }
 
-/// The 16 ISA interrupts, each as `zacpi_isa_interrupt` returns it, and its pin.
+/// The 16 ISA interrupts, each as `zacpi_get_isa_interrupt` returns it, and its pin.
 #[unsafe(no_mangle)]
-pub extern "C" fn zacpi_1_list_isa_interrupts(
+pub extern "C" fn zacpi_1_get_isa_interrupts(
     source: &Source<'_>,
     out: &mut IsaInterrupts,
     named: &mut Signature,

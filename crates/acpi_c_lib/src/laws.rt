@@ -30,7 +30,7 @@ pub fn a_refused_opening_has_a_range()
     ensures { OpeningHasHole }
 {}
 
-/// Each item of `zacpi_list_isa_interrupts` is what `zacpi_isa_interrupt` answers for its number, and
+/// Each item of `zacpi_get_isa_interrupts` is what `zacpi_get_isa_interrupt` answers for its number, and
 /// `zacpi_get_io_apic_pin` for the global system interrupt of that.
 #[tactic(auto, using(crate::proofs::IsaList::items_are_answers))]
 pub fn items_are_answers()

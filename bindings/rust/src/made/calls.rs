@@ -44,12 +44,12 @@ ones! {
     zacpi_1_open() -> Root;
     zacpi_1_find_table(wanted: Signature) -> Table;
     zacpi_1_find_nth_table(wanted: Signature, index: usize) -> Table;
-    zacpi_1_dsdt() -> AmlTable;
+    zacpi_1_get_dsdt() -> AmlTable;
     zacpi_1_get_fixed_hardware() -> FixedHardware;
     zacpi_1_get_facs() -> Facs;
     zacpi_1_get_console() -> Console;
     zacpi_1_get_pm_timer() -> PmTimer;
-    zacpi_1_hpet() -> HpetInfo;
+    zacpi_1_get_hpet() -> HpetInfo;
     zacpi_1_get_boot_graphic() -> BootGraphic;
     zacpi_1_get_sleep_types(state: u32) -> SleepTypes;
     zacpi_1_get_sleep_plan(state: u32) -> Plan;
@@ -58,11 +58,11 @@ ones! {
     zacpi_1_get_enable_plan() -> Plan;
     zacpi_1_pci_ecam_address(segment_group: u16, bus: u8, device: u8, function: u8) -> u64;
     zacpi_1_get_interrupt_model() -> InterruptModel;
-    zacpi_1_mailbox_address() -> u64;
-    zacpi_1_isa_interrupt(irq: u8) -> Interrupt;
-    zacpi_1_sci_interrupt() -> Interrupt;
+    zacpi_1_get_mailbox_address() -> u64;
+    zacpi_1_get_isa_interrupt(irq: u8) -> Interrupt;
+    zacpi_1_get_sci_interrupt() -> Interrupt;
     zacpi_1_get_io_apic_pin(global_system_interrupt: u32) -> IoApicPin;
-    zacpi_1_list_isa_interrupts() -> IsaInterrupts;
+    zacpi_1_get_isa_interrupts() -> IsaInterrupts;
     zacpi_1_get_gic_distributor() -> GicDistributor;
     zacpi_1_get_arm_timers() -> ArmTimers;
     zacpi_1_domain_of_address(address: u64) -> u32;
@@ -71,8 +71,8 @@ ones! {
     zacpi_1_get_localities() -> Localities;
     zacpi_1_distance(from: u64, to: u64) -> u8;
     zacpi_1_get_dmar_flags() -> DmarFlags;
-    zacpi_1_dmar_io_apic(id: u8) -> DmarSource;
-    zacpi_1_dmar_hpet(number: u8) -> DmarSource;
+    zacpi_1_get_dmar_io_apic(id: u8) -> DmarSource;
+    zacpi_1_get_dmar_hpet(number: u8) -> DmarSource;
     zacpi_1_get_ivrs_unit(segment: u16, device_id: u16) -> IvrsDevice;
 }
 
@@ -105,7 +105,7 @@ unsafe extern "C" {
         malformed: *mut u8,
         signature: *mut Signature,
     ) -> u32;
-    fn zacpi_1_platform(
+    fn zacpi_1_get_platform(
         source: *const Source<'_>,
         out: *mut InterruptModel,
         processors: *mut Processor,

@@ -381,7 +381,7 @@ impl<'k> AcpiTables<'k> {
     /// without an override whose number another one's override has taken. Fails with `InvalidMadt` if the flags of its
     /// override are reserved.
     pub fn isa_interrupt(&self, irq: u8) -> AcpiResult<Option<Interrupt>> {
-        match raw::zacpi_1_isa_interrupt(&self.source(), irq) {
+        match raw::zacpi_1_get_isa_interrupt(&self.source(), irq) {
             Err(AcpiError::NoSuchInterrupt) => Ok(None),
             other => other.map(|raw| Some(raw.into())),
         }
@@ -390,14 +390,14 @@ impl<'k> AcpiTables<'k> {
     /// All 16 ISA interrupts at once, each with its pin: item `n` is interrupt `n`, or `None` if it doesn't come to the
     /// I/O APICs or the flags of its override are reserved.
     pub fn isa_interrupts(&self) -> AcpiResult<[Option<IsaRoute>; 16]> {
-        raw::zacpi_1_list_isa_interrupts(&self.source()).map(|all| all.routes.map(route))
+        raw::zacpi_1_get_isa_interrupts(&self.source()).map(|all| all.routes.map(route))
     }
 
     /// How the System Control Interrupt, SCI_INT of the first valid FADT, comes to the I/O APICs: active low and by
     /// level, unless its override has others (sections 5.2.9 and 5.2.12.5). Fails with `TableMissing` for the FADT
     /// too, and with `InvalidMadt` if the flags of its override are reserved.
     pub fn sci_interrupt(&self) -> AcpiResult<Interrupt> {
-        raw::zacpi_1_sci_interrupt(&self.source()).map(Interrupt::from)
+        raw::zacpi_1_get_sci_interrupt(&self.source()).map(Interrupt::from)
     }
 
     /// The I/O APIC that a global system interrupt comes to, and the pin there (sections 5.2.12.3 and 5.2.13). Only the

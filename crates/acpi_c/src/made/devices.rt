@@ -59,7 +59,7 @@ pub extern "C" fn zacpi_1_get_pm_timer(
 
 /// Returns the block of event timers of the HPET (IA-PC HPET Specification).
 #[unsafe(no_mangle)]
-pub extern "C" fn zacpi_1_hpet(
+pub extern "C" fn zacpi_1_get_hpet(
     source: &Source<'_>,
     out: &mut HpetInfo,
     named: &mut Signature,

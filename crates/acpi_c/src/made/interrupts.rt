@@ -14,7 +14,7 @@ use acpi_c_lib::processors::model;
 use acpi_c_lib::records::{Signature, Source};
 use acpi_c_lib::routes::{isa, pin, sci};
 
-/// Returns which controllers interrupts come to, and how many items the lists of zacpi_platform have.
+/// Returns which controllers interrupts come to, and how many items the lists of zacpi_get_platform have.
 #[unsafe(no_mangle)]
 pub extern "C" fn zacpi_1_get_interrupt_model(
     source: &Source<'_>,
@@ -98,7 +98,7 @@ pub extern "C" fn zacpi_1_list_processors(
 /// Returns MailBoxAddress of the first Multiprocessor Wakeup: where the mailbox lies by which processors are woken
 /// (section 5.2.12.19).
 #[unsafe(no_mangle)]
-pub extern "C" fn zacpi_1_mailbox_address(
+pub extern "C" fn zacpi_1_get_mailbox_address(
     source: &Source<'_>,
     out: &mut u64,
     named: &mut Signature,
@@ -126,7 +126,7 @@ pub extern "C" fn zacpi_1_list_madt_faults(
 /// Returns how one of the 16 ISA interrupts comes to the I/O APICs: by its last override of bus 0, or else as the
 /// interrupt of the same number; active high and by edge unless the override has others (section 5.2.12.5).
 #[unsafe(no_mangle)]
-pub extern "C" fn zacpi_1_isa_interrupt(
+pub extern "C" fn zacpi_1_get_isa_interrupt(
     source: &Source<'_>,
     irq: u8,
     out: &mut Interrupt,
@@ -141,7 +141,7 @@ pub extern "C" fn zacpi_1_isa_interrupt(
 /// bus 0 if it is below 16, or else as the interrupt of the same number; active low and by level unless the override
 /// has others (sections 5.2.9 and 5.2.12.5).
 #[unsafe(no_mangle)]
-pub extern "C" fn zacpi_1_sci_interrupt(
+pub extern "C" fn zacpi_1_get_sci_interrupt(
     source: &Source<'_>,
     out: &mut Interrupt,
     named: &mut Signature,

@@ -88,7 +88,7 @@ pub extern "C" fn zacpi_1_get_dmar_unit(
 /// Returns the unit that remaps the interrupts of an I/O APIC: the first DRHD with a device scope of Type 3 whose
 /// Enumeration ID is `id`.
 #[unsafe(no_mangle)]
-pub extern "C" fn zacpi_1_dmar_io_apic(
+pub extern "C" fn zacpi_1_get_dmar_io_apic(
     source: &Source<'_>,
     id: u8,
     out: &mut DmarSource,
@@ -102,7 +102,7 @@ pub extern "C" fn zacpi_1_dmar_io_apic(
 /// Returns the unit that remaps the interrupts of an HPET: the first DRHD with a device scope of Type 4 whose
 /// Enumeration ID is `number`.
 #[unsafe(no_mangle)]
-pub extern "C" fn zacpi_1_dmar_hpet(
+pub extern "C" fn zacpi_1_get_dmar_hpet(
     source: &Source<'_>,
     number: u8,
     out: &mut DmarSource,

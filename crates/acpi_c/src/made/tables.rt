@@ -90,7 +90,7 @@ pub extern "C" fn zacpi_1_list_faults(
 
 /// Returns the AML of the DSDT that the FADT names (sections 5.2.9 and 5.2.11.1).
 #[unsafe(no_mangle)]
-pub extern "C" fn zacpi_1_dsdt(
+pub extern "C" fn zacpi_1_get_dsdt(
     source: &Source<'_>,
     out: &mut AmlTable,
     named: &mut Signature,
@@ -114,8 +114,8 @@ pub extern "C" fn zacpi_1_list_ssdts(
 }
 
 /// Lists the memory of the tables, which isn't to be given away: of the RSDP, the root table, each listed table that is
-/// valid under its own signature, and the DSDT and FACS that zacpi_dsdt and zacpi_get_facs return (sections 5.2.5 to
-/// 5.2.11).
+/// valid under its own signature, and the DSDT and FACS that zacpi_get_dsdt and zacpi_get_facs return (sections 5.2.5
+/// to 5.2.11).
 #[unsafe(no_mangle)]
 pub extern "C" fn zacpi_1_list_ranges(
     source: &Source<'_>,
