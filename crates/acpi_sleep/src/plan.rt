@@ -157,10 +157,7 @@ fn fits(sleep_type: u8) -> bool
 /// if the FADT has no such register, with `BadRegister` for the address of PM1b_CNT, and with `SleepTypeTooHigh` if a
 /// type that the plan writes is above 7.
 #[tactic(auto, unfolding(crate::specs::Plans::sleep_plan))]
-pub fn sleep_plan<H: Lender>(
-    fadt: &FadtView<'_, H>,
-    types: SleepTypes,
-) -> Result<Plan, PlanError>
+pub fn sleep_plan<H: Lender>(fadt: &FadtView<'_, H>, types: SleepTypes) -> Result<Plan, PlanError>
     ensures exact { result ≡ sleep_plan (viewed fadt.now) types }
 {
     if fadt.flags().system_is_hw_reduced_acpi() {
