@@ -196,16 +196,7 @@ pub(crate) fn list_entries(
     // SAFETY: the source and the walk are live variables, and the source's regions a live slice; the outputs are a live
     // slice with its length, and three live variables.
     let status = unsafe {
-        zacpi_1_list_entries(
-            source,
-            table,
-            &walk,
-            out.as_mut_ptr(),
-            out.len(),
-            &mut count,
-            &mut malformed,
-            &mut named,
-        )
+        zacpi_1_list_entries(source, table, &walk, out.as_mut_ptr(), out.len(), &mut count, &mut malformed, &mut named)
     };
     answered(status, named).map(|()| (count, malformed != 0))
 }
