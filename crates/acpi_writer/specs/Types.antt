@@ -357,11 +357,9 @@ pub use Rattle.acpi_writer.specs.declared.spcr.SpcrContents.{SpcrContents}
 pub use Rattle.acpi_writer.specs.declared.spcr.SpcrPciDevice.{SpcrPciDevice}
 pub use Rattle.acpi_writer.specs.declared.srat.ApicDomain.{ApicDomain}
 pub use Rattle.acpi_writer.specs.declared.srat.GiccDomain.{GiccDomain}
-use Rattle.acpi_writer.specs.declared.gtdt.GtdtContents as gtdt
-use Rattle.acpi_writer.specs.declared.gtdt.PlatformTimerContents as timers
-use Rattle.acpi_writer.specs.declared.madt.MadtContents as madt
-use Rattle.acpi_writer.specs.declared.madt.gic.GicContents as gic
-use Rattle.acpi_writer.specs.declared.srat.SratContents as srat
+use Rattle.acpi_base.specs.declared.model.interrupt.InterruptSourceOverride.{InterruptSourceOverride}
+use Rattle.acpi_base.specs.declared.model.interrupt.IoApic.{IoApic}
+use Rattle.acpi_base.specs.declared.model.interrupt.NmiSource.{NmiSource}
 use Rattle.acpi_writer.specs.declared.gtdt.GtdtContents as gtdt
 use Rattle.acpi_writer.specs.declared.gtdt.PlatformTimerContents as timers
 use Rattle.acpi_writer.specs.declared.madt.MadtContents as madt
