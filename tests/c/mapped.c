@@ -206,8 +206,8 @@ static int agrees(const struct zacpi_source *over) {
     if (was_lost) return wrong("memory was unmapped that isn't in a region");
     most = mapped_most;
     if (run(*over, most, MOST) != ZACPI_OK || !same() || was_lost) return wrong("as many regions as it takes");
-    for (room = 0; room < most; room++) {
-        const zacpi_status status = run(*over, room, MOST);
+    for (room = most; room > 0; room /= 2) {
+        const zacpi_status status = run(*over, room - 1, MOST);
         if (status != ZACPI_NO_ROOM && !(status == ZACPI_OK && are_among())) return wrong("few regions");
     }
     for (room = 0; room < 4; room++) {
