@@ -206,7 +206,7 @@ static int agrees(const struct zacpi_source *over) {
     if (was_lost) return wrong("memory was unmapped that isn't in a region");
     most = mapped_most;
     if (run(*over, most, MOST) != ZACPI_OK || !same() || was_lost) return wrong("as many regions as it takes");
-    for (room = most; room > 0; room /= 2) {
+    for (room = most; room > 0; room = room > 2 ? 2 : 0) {
         const zacpi_status status = run(*over, room - 1, MOST);
         if (status != ZACPI_NO_ROOM && !(status == ZACPI_OK && are_among())) return wrong("few regions");
     }
