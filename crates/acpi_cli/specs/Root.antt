@@ -1,4 +1,4 @@
--- What leads to the tables, as arguments say it, and what it opens.
+-- The way to the tables that arguments name, and what it opens.
 use Rattle.std.specs.Prelude.{ℕ, List, [], ◌∷◌, Option, Some, None, Result, if◌then◌else◌, codes, bytes_eq}
 use Rattle.acpi_base.specs.Words.{Memory}
 use Rattle.acpi.specs.Types.{AcpiError}
@@ -18,7 +18,7 @@ abbrev pub rsdp_from : Option ℕ → Option Root
 rsdp_from (Some address) = Some (Rsdp address)
 rsdp_from None = None
 
--- what the arguments after rsdt, rsdp and bios say
+-- the way that the arguments after rsdt, rsdp and bios name
 abbrev pub rsdt_root : List (List ℕ) → Option Root
 rsdt_root (revision ∷ address ∷ []) = rsdt_from (revision_of revision) (address_of address)
 rsdt_root _ = None
@@ -31,7 +31,7 @@ abbrev pub bios_root : List (List ℕ) → Option Root
 bios_root [] = Some Bios
 bios_root _ = None
 
--- what a form and the arguments after it say
+-- the way that a form and the arguments after it name
 abbrev pub form_root : List ℕ → List (List ℕ) → Option Root
 form_root form rest =
     if bytes_eq form (codes "rsdt") then rsdt_root rest

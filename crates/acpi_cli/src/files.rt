@@ -29,7 +29,7 @@ impl Reading {
 pub trait Files {
     ghost asked: { Self → List FileRead };
 
-    /// Asks for the file of a name, and keeps the bytes that are read of it.
+    /// Reads the file of a name, and keeps its bytes.
     ///
     /// Fails if memory for the list runs out, and then requests no file.
     fn read(&mut self, name: &str) -> Result<(), AllocError>

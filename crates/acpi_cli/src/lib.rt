@@ -1,4 +1,4 @@
-//! Code that the programs share: arguments, the way to the root table that they say, and files that are read.
+//! Code that the programs share: arguments, the way to the root table that they name, and files that are read.
 #![tactic(auto)]
 
 pub mod files;

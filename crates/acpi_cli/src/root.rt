@@ -1,4 +1,4 @@
-//! The way to the root table, as arguments say it, and the tables that it leads to.
+//! The way to the root table that arguments name, and the tables to which it leads.
 ghost use Rattle.std.specs.Prelude.{◌≡◌, IfOk, map};
 ghost use Rattle.acpi_cli.specs.Root.{bios_root, form_root, root_of, rsdp_root, rsdt_root};
 
@@ -45,7 +45,7 @@ impl Root {
     }
 }
 
-/// The way that the arguments after `rsdt` say: REVISION, then ADDRESS.
+/// The way that the arguments after `rsdt` name: REVISION, then ADDRESS.
 fn parse_rsdt(words: &[&str]) -> Option<Root>
     ensures { result ≡ rsdt_root (map (λ w. w.now) words.now) }
 {
@@ -57,7 +57,7 @@ fn parse_rsdt(words: &[&str]) -> Option<Root>
     Some(Root::Rsdt { revision, address })
 }
 
-/// The way that the arguments after `rsdp` say: ADDRESS.
+/// The way that the arguments after `rsdp` name: ADDRESS.
 fn parse_rsdp(words: &[&str]) -> Option<Root>
     ensures { result ≡ rsdp_root (map (λ w. w.now) words.now) }
 {
@@ -68,7 +68,7 @@ fn parse_rsdp(words: &[&str]) -> Option<Root>
     Some(Root::Rsdp { address })
 }
 
-/// The way that the arguments after `bios` say, of which there are none.
+/// The way that `bios` names, after which there are no arguments.
 fn parse_bios(words: &[&str]) -> Option<Root>
     ensures { result ≡ bios_root (map (λ w. w.now) words.now) }
 {
@@ -91,7 +91,7 @@ fn parse_form(form: &str, words: &[&str]) -> Option<Root>
     }
 }
 
-/// The way to the root table that the arguments `rsdt REVISION ADDRESS`, `rsdp ADDRESS` or `bios` say, or
+/// The way to the root table that the arguments `rsdt REVISION ADDRESS`, `rsdp ADDRESS` or `bios` name, or
 /// `None` if they are none of these.
 pub fn parse_root(words: &[&str]) -> Option<Root>
     ensures { result ≡ root_of (map (λ w. w.now) words.now) }

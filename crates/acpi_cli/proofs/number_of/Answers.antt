@@ -20,7 +20,7 @@ no_plus base (c ∷ cs) high h =
     without_leading_plus_none (c ∷ cs)
     (λ e. let value : digit_value c ≡ 36 = ap digit_value e in absurd (omega (arith, h.0)))
 
--- so many digits fit
+-- that number of digits fits
 small : (base most : ℕ) (ds : List ℕ) → 1 ≤ base → base ^ most ≤ 2 ^ 64 → length ds ≤ most
     → AllDigits base ds → digits_value base ds < 2 ^ 64
 small base most ds low fits short h =
