@@ -1,4 +1,4 @@
--- The members, and the ranges in which the tables lie.
+-- The members, and the ranges in which the tables are.
 use Rattle.std.proofs.Common.{◌≡◌, ◌⊎◌, inl, inr, ℕ, ◌≤◌, List, [], ◌∷◌, ◌++◌, length, Option, Some, None, Result, Ok, Err, refl, sym, ap, ◌∙◌, arith, lit≤, IsErr, filter_map, flat_map, nat_le, slice_get}
 use Rattle.acpi_base.specs.FromStd.{AllByRecursion, cons_option, result_ok}
 use Rattle.acpi_base.proofs.FromStd.{leb-true}
@@ -89,7 +89,7 @@ fits_from p n k (Ok head) is =
     head_fits p n (header_at head).length ((k head).names (header_at head)) long (is head refl)
 fits_from p n k (Err e) is = tt
 
--- the ranges of any kind at an address where a table lies that is as long as its header says
+-- the ranges of any kind at an address at which a table is as long as its header has it
 kind_fits : (m : Memory) (k : Kind) (p n : ℕ)
     → ((head : List ℕ) → lent m p 36 ≡ Ok head → n ≡ (header_at head).length) → 36 ≤ n
     → AllByRecursion (Fits p n) (table_ranges m k p)

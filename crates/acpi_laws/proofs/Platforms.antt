@@ -1,4 +1,4 @@
--- The registers of a FADT are those of its bytes; the processors, and the platform, are those of the tables.
+-- The registers of a FADT are its bytes'; the processors, and the platform, are the tables'.
 use Rattle.std.proofs.Common.{◌≡◌, ◌≢◌, ◌⊎◌, ℕ, Bool, true, false, List, [], ◌∷◌, Option, Some, None, Result, Ok, Err, refl, ap, All, filter_map, map, inl, inr}
 use Rattle.acpi_base.proofs.FromStd.{All-cons, All-nil}
 use Rattle.acpi_base.specs.Words.{Memory, Model, model_of, processor_in, processors_of, state_of, ◌>>=◌}

@@ -11,7 +11,7 @@ use Rattle.acpi.specs.declared.hpet.PageProtection.TheVariants as protections
 use Rattle.acpi.specs.declared.platform.PlatformInfo.{PlatformInfo}
 use Rattle.acpi.specs.declared.root.RootKind.TheVariants.{Rsdt}
 
--- ---- what the tables say
+-- ---- what the tables contain
 
 abbrev pub said_of_timers : HpetInfo
 said_of_timers = record {

@@ -101,7 +101,7 @@ tables = fadt ∷ hpet ∷ madt ∷ mcfg ∷ ssdt ∷ []
 
 -- ---- the same tables elsewhere
 
--- it lists the address 0, where nothing is, and those of the tables
+-- it lists the address 0, where nothing is, and the addresses of the tables
 unfoldable pub xsdt : List ℕ
 xsdt = table (codes "XSDT") 84 211
     (replicate 8 0

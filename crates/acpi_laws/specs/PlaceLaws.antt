@@ -1,4 +1,4 @@
--- What holds of the members of a root table, and of the ranges in which the tables lie (`definitions_hold`).
+-- What holds of the members of a root table, and of the ranges in which the tables are (`definitions_hold`).
 use Rattle.std.specs.Prelude.{◌≡◌, ◌⊎◌, ℕ, ◌+◌, ◌≤◌, List, [], ◌∷◌, IsErr, Ok, filter_map, length, map, slice_get}
 use Rattle.acpi_base.specs.FromStd.{AllByRecursion, result_ok}
 use Rattle.acpi.specs.Types.{DSDT, AddressRange}
@@ -27,13 +27,13 @@ FoundBySignature = (m : Memory) (k : Kind) (ps : List ℕ)
     → k.least ≡ 36 → k.names ≡ check_names k.signature → k.check ≡ check_table k.signature
     → lookup m (plain_kind k.signature) ps ≡ lookup m k ps
 
--- ---- the ranges in which the tables lie
+-- ---- the ranges in which the tables are
 
--- that many bytes at an address lie in a range
+-- that many bytes at an address are inside a range
 abbrev pub LiesIn : ℕ × ℕ → AddressRange → Type 0
 LiesIn asked r = (r.address ≤ asked.0) × (asked.0 + asked.1 ≤ r.address + r.length)
 
--- they lie in one of these
+-- they are inside one of these
 abbrev pub LiesInOne : ℕ × ℕ → List AddressRange → Type 0
 LiesInOne asked [] = ⊥
 LiesInOne asked (r ∷ rs) = LiesIn asked r ⊎ LiesInOne asked rs

@@ -45,7 +45,7 @@ FirstBoots = (items : List MadtItem) → HaveRoles (processors_of items)
 
 -- ---- the platform
 
--- it is that of the first valid FADT, with the model of the first valid MADT, or an unknown one if no MADT is valid
+-- it has the first valid FADT's profile and timer, and the first valid MADT's model, an unknown one if no MADT is valid
 pub record IsPlatform (m : Memory) (ps : List ℕ) (platform : PlatformInfo (Unit {0})) : Type 0 where
   pub fadt : ℕ × List ℕ
   pub found : lookup m fadt_kind ps ≡ Ok fadt

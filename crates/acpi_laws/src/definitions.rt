@@ -26,7 +26,7 @@ pub fn definitions_hold()
     // and doesn't wait to be started; the others don't run yet (section 5.2.12).
     ensures listed { ListedOnce }
     ensures boots { FirstBoots }
-    // The platform is that of the first valid FADT, with the model of the first valid MADT, or an unknown one if no
+    // The platform has the first valid FADT's profile and timer and the first valid MADT's model, an unknown one if no
     // MADT is valid.
     ensures platform { PlatformIsTheirs }
     // By a grammar, bytes are cut into entries and a remainder in one way at most.
@@ -43,7 +43,7 @@ pub fn definitions_hold()
     ensures strict { AcceptsNothing }
     // A table that is valid is accepted by any bits.
     ensures valid { AcceptsValid }
-    // Bit 0 alone gives up the sum, and bit 1 alone the ids.
+    // Bit 0 alone drops the check of the sum, and bit 1 alone the check of the ids.
     ensures sums_kept { KeepsSums }
     ensures names_kept { KeepsNames }
     // The area that is searched second for the RSDP, for four words at 0x40e (section 5.2.5.1): the first KiB of an
@@ -58,7 +58,7 @@ pub fn definitions_hold()
     // `find_sdt` returns what `find_table` does for a type that wants 36 bytes and the checks of a header.
     ensures by_signature { FoundBySignature }
     // Each range that a lookup, `faults`, `find_tables`, `headers`, `members`, `ssdts`, `dsdt` or a summary depends on
-    // or requests lies in one of `ranges`. Excepted are those that begin at a member that `members`
+    // or requests is inside one of `ranges`. Excepted are those that begin at a member that `members`
     // has as an error, or at the address of the DSDT in the first valid FADT, if no valid DSDT is there.
     ensures tables { TablesLieInRanges }
     // Each range that opening a root table depends on or requests at the table's address is in the first that
