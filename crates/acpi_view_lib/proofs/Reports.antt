@@ -40,7 +40,7 @@ front_none a text = (text, ([], refl, Appends-nil a))
 pub front_kept : (a b c : Option (List ℕ)) (text : List ℕ) → AppendsFront a b text → Keeps b c → AppendsFront a c text
 front_kept a b c text so_far kept = (so_far.0, (so_far.1.0, so_far.1.1, Appends-kept a b c so_far.1.0 so_far.1.2 kept))
 
--- so many more bytes are written, of those that are written at a time
+-- that number of further bytes is written, of the bytes that are written at a time
 pub front_more : (rest text : List ℕ) (a b c : Option (List ℕ)) (n m : ℕ) → n ≤ length (take m rest)
     → AppendsUntil rest a b text → Appends b c (take n (take m rest))
     → AppendsUntil (take (length rest - n) (drop n rest)) a c text

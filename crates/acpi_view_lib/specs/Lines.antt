@@ -34,7 +34,7 @@ number_words name number = codes " " ++ (name ++ (codes " " ++ number_or_none nu
 
 -- ---- parts with an error
 
--- PART: REFUSAL
+-- PART: ERROR
 abbrev pub refused_line : List ℕ → AcpiError → List ℕ
 refused_line part e = line (part ∷ codes ": " ∷ error_text e ∷ [])
 
@@ -82,7 +82,7 @@ region_line region = line (
     ∷ codes " " ∷ decimal region.bus_number_end
     ∷ codes " " ∷ address_text region.base_address ∷ [])
 
--- that of a region as a walk shows it, whether its buses are used up or not
+-- the line of a region as a walk shows it, whether its buses are used up or not
 abbrev pub shown_line : McfgEntry × Bool → List ℕ
 shown_line shown = region_line shown.0
 
@@ -102,7 +102,7 @@ console_line console = line (
     ∷ number_words (codes "irq") (irq_of console)
     ∷ number_words (codes "gsi") (interrupt_of console) ∷ [])
 
--- skipped SIG ADDRESS: REFUSAL
+-- skipped SIG ADDRESS: ERROR
 abbrev pub skipped_line : Signature → TableFault → List ℕ
 skipped_line signature fault = line (
     codes "skipped " ∷ signature_text signature ∷ codes " " ∷ address_text fault.address
@@ -148,6 +148,6 @@ abbrev pub spcr_lines : Memory → List ℕ → List ℕ
 spcr_lines m ps =
     lines_or_refusal (codes "spcr") (λ found. console_line (spcr_at found.1)) (lookup m spcr_kind ps)
 
--- a line for each table that the lookup of a kind skips, but for those of another signature
+-- a line for each table that the lookup of a kind skips, if its signature is the kind's
 abbrev pub skipped_lines : Memory → Kind → List ℕ → List ℕ
 skipped_lines m k ps = flat_map (skipped_line k.signature) (faults_of m k ps)

@@ -85,12 +85,12 @@ abbrev pub IsOutput : Found → List ℕ → Type 0
 IsOutput (Ok found) text = IsLines found.0 found.1 text
 IsOutput (Err complaint) text = text ≡ []
 
--- the text of standard error: the tables passed over, or why nothing is found
+-- the text of standard error: the tables that are skipped, or why nothing is found
 abbrev pub stderr_of : Found → List ℕ
 stderr_of (Ok found) = skipped_lines_of found.0 found.1
 stderr_of (Err complaint) = complaint
 
--- the status and the texts of both outputs that a run is to end with: those of what is found, or if memory for the
+-- the status and the texts of both outputs that a run is to end with, by what is found; or if memory for the
 -- image can run out, 1 and the line for that
 abbrev pub IsReport : Option Root → Option (List ℕ) → ℕ → List ℕ → List ℕ → Type 0
 IsReport asked file status lines complaints =

@@ -63,7 +63,7 @@ apic_line apic = line (
     codes "model apic " ∷ address_text apic.local_apic_address
     ∷ codes " pics " ∷ yes_or_no apic.also_has_legacy_pics ∷ [])
 
--- that line, and after it those of each list
+-- that line, and after it the lines of each list
 abbrev pub apic_lines : {A : Type 0} → Apic A → List ℕ
 apic_lines apic =
     apic_line apic

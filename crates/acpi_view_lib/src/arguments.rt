@@ -4,7 +4,7 @@ ghost use Rattle.acpi_view_lib.specs.Command.{file_for, root_for};
 
 use acpi_cli::root::{Root, parse_root};
 
-/// The way to the root table that the arguments after the program's name say, or `None` if they are not a
+/// The way to the root table that the arguments after the program's name have, or `None` if they are not a
 /// command: IMAGE, which may be any text, and the arguments of `parse_root`.
 pub fn parse_command(arguments: &[&str]) -> Option<Root>
     ensures { result ≡ root_for (map (λ w. w.now) arguments.now) }

@@ -1,4 +1,4 @@
-//! The lines that the program prints. Each function puts its lines after those of a text.
+//! The lines that the program prints. Each function appends its lines to a text.
 ghost use Rattle.std.specs.Prelude.{◌≡◌, ◌++◌, List, ℕ, OnOk, codes, flat_map, string_bytes};
 ghost use Rattle.acpi.specs.Words.{faults_of, opened_of, memory_of, of_tables, pointers_of, revision_of};
 ghost use Rattle.acpi_view_lib.specs.Lines.{IsPciText, bgrt_lines, console_line, dsdt_lines, graphic_line, header_lines, hpet_lines, lines_or_refusal, number_words, refused_line, region_lines, revision_line, skipped_line, spcr_lines, ssdt_lines, stream_line, yes_or_no};
@@ -57,7 +57,7 @@ fn print_revision<H: AcpiHandler>(
     Ok(())
 }
 
-/// A line for each table that a lookup skips as faulty, with the refusal, for FADT, MADT, MCFG, HPET,
+/// A line for each table that a lookup skips as faulty, with the error, for FADT, MADT, MCFG, HPET,
 /// BGRT and SPCR, in this order.
 ///
 /// Fails if memory for the text runs out.
@@ -76,8 +76,8 @@ pub fn print_skipped_tables<H: AcpiHandler>(
     print_skipped::<H, Spcr>(tables, text)
 }
 
-/// `skipped SIG ADDRESS: REFUSAL` for each table that the lookup of a type skips, but for those of another
-/// signature.
+/// `skipped SIG ADDRESS: ERROR` for each table that the lookup of a type skips, if its signature is the
+/// type's.
 fn print_skipped<H: AcpiHandler, T: AcpiTable>(
     tables: &AcpiTables<'_, H>,
     text: &mut String,
@@ -116,7 +116,7 @@ fn print_headers<H: AcpiHandler>(
     Ok(())
 }
 
-/// `dsdt ADDRESS length L` for the AML of the DSDT, or its refusal.
+/// `dsdt ADDRESS length L` for the AML of the DSDT, or its error.
 fn print_dsdt<H: AcpiHandler>(
     tables: &AcpiTables<'_, H>,
     text: &mut String,
@@ -144,7 +144,7 @@ fn print_ssdts<H: AcpiHandler>(
     Ok(())
 }
 
-/// `hpet ADDRESS number N tick T` for the event timer block, or its refusal.
+/// `hpet ADDRESS number N tick T` for the event timer block, or its error.
 fn print_hpet<H: AcpiHandler>(
     tables: &AcpiTables<'_, H>,
     text: &mut String,
@@ -165,7 +165,7 @@ fn print_hpet<H: AcpiHandler>(
     Ok(())
 }
 
-/// The lines of the regions of PCI configuration space, or the one line of their refusal. Memory for the regions
+/// The lines of the regions of PCI configuration space, or the one line of their error. Memory for the regions
 /// is an allocator's.
 ///
 /// Fails if memory for the text runs out.
@@ -181,7 +181,7 @@ pub fn print_pci<H: AcpiHandler, A: Allocator + Clone>(
     print_regions(PciConfigRegions::new_in(tables, alloc), text)
 }
 
-/// `pci SEGMENT FIRST LAST ADDRESS` for each region, or their refusal.
+/// `pci SEGMENT FIRST LAST ADDRESS` for each region, or their error.
 fn print_regions<A: Allocator>(
     found: AcpiResult<PciConfigRegions<A>>,
     text: &mut String,
@@ -201,7 +201,7 @@ fn print_regions<A: Allocator>(
     Ok(())
 }
 
-/// The line of the boot graphic, or its refusal.
+/// The line of the boot graphic, or its error.
 fn print_bgrt<H: AcpiHandler>(
     tables: &AcpiTables<'_, H>,
     text: &mut String,
@@ -236,7 +236,7 @@ fn yes_or_no(holds: bool) -> &'static str
     if holds { "yes" } else { "no" }
 }
 
-/// The line of the serial console, or its refusal.
+/// The line of the serial console, or its error.
 fn print_spcr<H: AcpiHandler>(
     tables: &AcpiTables<'_, H>,
     text: &mut String,

@@ -22,7 +22,7 @@ const MOST: usize = 32768;
 /// something fails, and 2 if the arguments are not a command.
 ///
 /// Faults are found in this order: arguments that are not a command, a file that can't be read, the
-/// refusals of `MemoryImage::from_bytes`, and those of opening the root table. Memory that runs out for the
+/// errors of `MemoryImage::from_bytes`, and the errors of opening the root table. Memory that runs out for the
 /// platform or for the regions of configuration space ends nothing: that part is an error, as
 /// `platform: AllocError` or `pci: AllocError`. Memory that runs out for the lines ends it with status 1
 /// before anything is written, and a write or a flush that fails with status 1 at that place. Both
@@ -153,7 +153,7 @@ pub fn refused<D: Display + Drop>(alloc: Global, refusal: D) -> Result<Report, A
     })
 }
 
-/// The lines of the tables in a memory, and those of the tables that are skipped.
+/// The lines of the tables in a memory, and of the tables that are skipped.
 ///
 /// Fails if memory for the lines runs out.
 fn report_of<H: AcpiHandler>(alloc: Global, handler: &H, root: Root) -> Result<Report, AllocError>

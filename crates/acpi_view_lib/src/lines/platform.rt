@@ -14,7 +14,7 @@ use acpi::{AcpiHandler, AcpiResult, AcpiTables, PlatformInfo};
 use std::alloc::{AllocError, Allocator};
 use std::fmt::Write;
 
-/// The lines of the platform, as the FADT and the MADT describe it, or the one line of its refusal. Memory for
+/// The lines of the platform, as the FADT and the MADT describe it, or the one line of its error. Memory for
 /// it is an allocator's.
 ///
 /// Fails if memory for the text runs out.
@@ -30,7 +30,7 @@ pub fn print_platform<H: AcpiHandler, A: Allocator + Clone>(
     print_found(tables.platform_info_in(alloc), text)
 }
 
-/// The lines of the platform that is found, or its refusal.
+/// The lines of the platform that is found, or its error.
 fn print_found<A: Allocator>(
     found: AcpiResult<PlatformInfo<A>>,
     text: &mut String,
