@@ -1,4 +1,4 @@
-//! Prints what the ACPI tables in a file of memory say.
+//! Prints what the ACPI tables in a file of memory contain.
 //!
 //! `acpi_view IMAGE rsdt REVISION ADDRESS` opens the root table at an address,
 //! `acpi_view IMAGE rsdp ADDRESS` the one that the RSDP at an address leads to, and
@@ -18,7 +18,7 @@ fn main(rt: HostRuntime) -> ExitCode {
 /// The status of the program over the process's arguments, the file that they name and its outputs. No file is
 /// read if they are not a command.
 ///
-/// Fails if memory for the arguments is refused.
+/// Fails if there is no memory for the arguments.
 fn status(rt: &HostRuntime) -> io::Result<u8> {
     let args = args(rt)?;
     let words = borrowed(rt.alloc(), &args)?;
