@@ -34,7 +34,7 @@ abbrev DsdtIs : Option Region → Type 0
 DsdtIs None = Unit {0}
 DsdtIs (Some r) = HasPlace (rsdp_place ∷ []) r
 
--- these bytes begin with those of the regions
+-- these bytes begin with the regions' bytes
 abbrev Begin : List (List ℕ) → Memory → Type 0
 Begin named m = (others : List (List ℕ)) × (named ≡ map (λ r. r.bytes) m ++ others)
 
@@ -59,7 +59,7 @@ dsdt_known (Some a) (first ∷ second ∷ others) d e =
     let refused : unless_second r (second ∷ others) ≡ Ok d = parts.2 in
     absurd cc
 
--- ---- where all lies
+-- ---- where each table is
 
 -- what was laid out
 record IsLaid (dsdt : Option Region) (listed : List (List ℕ)) (m : Memory) : Type 0 where

@@ -30,7 +30,7 @@ pub entries_few : (role : FileRole) (files : List (Option (Bor (List ℕ))))
     → length (entries role 0 (contents files)) ≤ length files
 entries_few role files = rw (length-map files content) at (few role 0 (contents files))
 
--- as many as have bytes there
+-- the number of them that have bytes there
 pub listed_length : (files : List (Option (List ℕ))) → length (listed files) ≡ length (entries Listed 0 files)
 listed_length files = length-map (entries Listed 0 files) (λ (e : ℕ × List ℕ). e.1)
 
@@ -126,7 +126,7 @@ even n = omega arith
 above : (n : ℕ) → n ≤ aligned n
 above n = omega arith
 
--- the address that is given, if the bytes end below 2^64
+-- the address that is found, if the bytes end below 2^64
 given : (fixed : Region) (from : ℕ) (table : List ℕ) → start_at fixed from (length table) + length table < 2 ^ 64
     → IsPlaced fixed from (record { start = start_at fixed from (length table); bytes = table })
 unfolding start_at
@@ -153,7 +153,7 @@ given fixed from table =
       ends = ends;
     })
 
--- what has an address lies there as it is to
+-- what has an address is there
 pub is_placed : (fixed : Region) (from : ℕ) (table : List ℕ) (a : ℕ) → place_at fixed from (length table) ≡ Some a
     → IsPlaced fixed from (record { start = a; bytes = table })
 unfolding place_at
@@ -161,7 +161,7 @@ is_placed fixed from table a e =
     let known = cond_some _ _ a e in
     rw known.1 at (given fixed from table (ltb-true _ _ known.0))
 
--- what was placed is the tables as they are, in order, each where it is to lie
+-- what was placed is the tables as they are, in order, each at its address
 record IsLaid (fixed : Region) (from : ℕ) (ts : List (List ℕ)) (m : Memory) : Type 0 where
   pub placed : ArePlaced fixed from m
   pub bytes : map (λ r. r.bytes) m ≡ ts
@@ -184,7 +184,7 @@ laid : (fixed : Region) (ts : List (List ℕ)) (from : ℕ) (m : Memory) → pla
 laid fixed [] from m e = rw (← same_ok [] m e) (record { placed = tt; bytes = refl })
 laid fixed (t ∷ ts) from m e = laid_by fixed from t ts m _ (laid fixed ts) refl e
 
--- tables that are placed lie as they are to
+-- tables that are placed are at their addresses
 pub placed_law : (fixed : Region) (ts : List (List ℕ)) (from : ℕ) (m : Memory) → placed_from fixed from ts ≡ Ok m
     → ArePlaced fixed from m
 placed_law fixed ts from m e = (laid fixed ts from m e).placed
@@ -194,7 +194,7 @@ pub placed_bytes : (fixed : Region) (ts : List (List ℕ)) (from : ℕ) (m : Mem
     → map (λ r. r.bytes) m ≡ ts
 placed_bytes fixed ts from m e = (laid fixed ts from m e).bytes
 
--- as many as were to be placed
+-- the number that was to be placed
 pub placed_count : (fixed : Region) (from : ℕ) (ts : List (List ℕ)) (tables : List PlacedTable)
     → placed_from fixed from ts ≡ Ok (placed tables) → length tables ≡ length ts
 placed_count fixed from ts tables e =

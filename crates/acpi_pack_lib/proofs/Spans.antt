@@ -1,4 +1,4 @@
--- Where the regions of plain memory lie.
+-- Where the regions of plain memory are.
 use Rattle.std.proofs.Common.{◌≤◌, ◌^◌, ℕ, ◌+◌, ◌-◌, [], ◌∷◌, arith, if◌then◌else◌, nat_lt}
 use Rattle.acpi_base.specs.FromStd.{AllByRecursion}
 use Rattle.acpi_base.specs.Words.{Memory, end_of}
@@ -24,7 +24,7 @@ end_greatest a (r ∷ m) =
     let higher = end_greatest (if nat_lt a (end_of r) then end_of r else a) m in
     omega (arith, high, higher)
 
--- each region lies between any address up to the first and any from the last on
+-- each region is between any address up to the first and any from the last on
 between : (a b first count : ℕ) (m : Memory) → first ≤ first_from a m → end_from b m ≤ first + count
     → AllByRecursion (LiesIn first count) m
 between a b first count [] low high = tt

@@ -1,4 +1,4 @@
--- What files and entries hold, wherever their bytes lie.
+-- What files and entries hold, wherever their bytes are.
 use Rattle.std.specs.Prelude.{ℕ, List, drop, map, Option, option_copied}
 use Rattle.acpi_base.specs.FromStd.{Bor}
 use Rattle.acpi_base.specs.Words.{Memory, Region}

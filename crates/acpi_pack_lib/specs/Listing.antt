@@ -14,7 +14,7 @@ use Rattle.acpi_pack_lib.specs.declared.sources.FileRole.TheVariants.{Dsdt, List
 abbrev pub name_of : List (List ℕ) → ℕ → List ℕ
 name_of names n = unwrap_or (slice_get names n) []
 
--- ---- what is said of a record
+-- ---- what is printed of a record
 
 -- of a table: its signature, and the name of its file
 abbrev pub table_label : List (List ℕ) → ℕ × List ℕ → List ℕ
@@ -49,7 +49,7 @@ AreNamed addresses files m =
 
 -- ---- the lines
 
--- an address, and what is said of the record that begins there
+-- an address, and what is printed of the record that begins there
 abbrev pub record_line : ℕ → List ℕ → List ℕ
 record_line address label =
     codes "0x" ++ digits 16 false address ++ codes " " ++ label ++ codes "\n"
@@ -60,12 +60,12 @@ record_lines labels n [] = []
 record_lines labels n (r ∷ rs) =
     record_line r.start (name_of labels n) ++ record_lines labels (n + 1) rs
 
--- of plain memory, the address at which it has to lie, and the name of its file
+-- of plain memory, the address at which it has to be, and the name of its file
 abbrev pub plain_line : Bool → List ℕ → Memory → List ℕ
 plain_line false out m = []
 plain_line true out m = record_line (first_in m) (codes "raw " ++ out)
 
--- those of an image, or why a file is none
+-- the records of an image, or why a file is none
 abbrev pub listing : Bool → List ℕ → List (List ℕ) → List ℕ → Result (List ℕ) ImageError
 listing is_plain out labels file = do
   regions ← records_in file

@@ -1,4 +1,4 @@
--- What is packed: the regions that an image is made of, or the first refusal.
+-- What is packed: the regions that an image is made of, or the first error.
 use Rattle.std.specs.Prelude.{◌≡◌, ◌⊎◌, ℕ, ◌+◌, ◌^◌, nat_le, nat_lt, not, if◌then◌else◌, codes, List, [], ◌∷◌, ◌++◌, length, flat_map, replicate, Option, Some, None, Result, Ok, Err, IsOk, ok_or}
 use Rattle.acpi_base.specs.FromStd.{result_ok}
 use Rattle.acpi.specs.declared.root.RootKind.TheVariants.{Xsdt}
@@ -34,7 +34,7 @@ regions (address ∷ addresses) [] = []
 regions (address ∷ addresses) (file ∷ files) =
     record { start = address; bytes = bytes_in file } ∷ regions addresses files
 
--- each file by itself, and then where they lie
+-- each file by itself, and then where they are placed
 unfoldable pub packed_files : List ℕ → List (Option (List ℕ)) → Result Memory Refusal
 packed_files addresses files = do
   _ ← check_contents 0 files
@@ -50,7 +50,7 @@ rsdp_address = 0xe0000
 abbrev pub first_address : ℕ
 first_address = 0x100000
 
--- as many bytes as an RSDP has, where it is
+-- the 36 bytes of an RSDP, where it is
 abbrev pub rsdp_place : Region
 rsdp_place = record { start = rsdp_address; bytes = replicate 36 0 }
 
@@ -72,12 +72,12 @@ address_by (Some fadt) = dsdt_address_in fadt
 abbrev pub dsdt_address : List (List ℕ) → Option ℕ
 dsdt_address tables = address_by (first_fadt tables)
 
--- a second DSDT would lie where the first does
+-- a second DSDT would be where the first is
 abbrev pub unless_second : Region → List (ℕ × List ℕ) → Result (Option Region) Refusal
 unless_second r [] = Ok (Some r)
 unless_second r (second ∷ others) = Err (File second.0 fault.Overlap)
 
--- the DSDT at its address; it is left out if none is given
+-- the DSDT at its address; it is left out without one
 abbrev pub dsdt_at : Option ℕ → List (ℕ × List ℕ) → Result (Option Region) Refusal
 dsdt_at address [] = Ok None
 dsdt_at None (first ∷ others) = Ok None
@@ -123,6 +123,6 @@ file_of packed = do
   regions ← packed
   Ok (flat_map record_spelling regions)
 
--- a refusal is the one that is defined, or OutOfMemory if nothing fails
+-- an error is the one that is defined, or OutOfMemory if nothing fails
 abbrev pub RefusesOrRunsOut : Result Memory Refusal → Refusal → Type 0
 RefusesOrRunsOut packed e = (packed ≡ Err e) ⊎ ((e ≡ OutOfMemory) × IsOk packed)

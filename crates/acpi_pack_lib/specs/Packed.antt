@@ -32,7 +32,7 @@ opened_with root addresses = record {
   root = root_to Xsdt addresses;
 }
 
--- the tables that the XSDT lists are the files that are listed, in order, wherever they lie
+-- the tables that the XSDT lists are the files that are listed, in order, wherever they are
 pub record IsPacked (files : List (Option (List ℕ))) (file : List ℕ) : Type 0 where
   pub root : ℕ
   pub tables : Memory

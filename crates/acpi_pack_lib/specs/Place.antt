@@ -8,7 +8,7 @@ use Rattle.acpi_pack_lib.specs.declared.error.Refusal.TheVariants.{NoRoom}
 abbrev pub aligned : ℕ → ℕ
 aligned address = (address + 15) / 16 * 16
 
--- the first such address from which that many bytes lie before or after a region: the least multiple itself, or else
+-- the first such address from which that many bytes are before or after a region: the least multiple itself, or else
 -- the least at or above the region's end
 unfoldable pub start_at : Region → ℕ → ℕ → ℕ
 start_at fixed from count =
@@ -35,13 +35,13 @@ placed_from fixed from (table ∷ tables) =
     place_or fixed (place_at fixed from (length table)) table
     (λ behind. placed_from fixed behind tables)
 
--- that tables have room, or the refusal
+-- that tables fit, or the error
 abbrev pub room : Region → ℕ → List (List ℕ) → Result (Unit {0}) Refusal
 room fixed from tables = do
   _ ← placed_from fixed from tables
   Ok tt
 
--- ---- where tables lie, in the reader's words
+-- ---- where tables are, in the reader's words
 
 -- a region from an address on, aligned to 16, before or after another, that ends below 2^64
 pub record IsPlaced (fixed : Region) (from : ℕ) (r : Region) : Type 0 where

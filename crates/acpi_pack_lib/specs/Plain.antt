@@ -1,11 +1,11 @@
--- Plain memory: the bytes of regions from the first address that one has on, as they lie, with zeros between them.
+-- Plain memory: the bytes of regions, each at its distance from the first address, with zeros between them.
 use Rattle.std.specs.Prelude.{◌≡◌, ◌⊎◌, ℕ, ◌+◌, ◌-◌, ◌^◌, ◌≤◌, nat_le, nat_lt, if◌then◌else◌, List, [], ◌∷◌, ◌++◌, length, take, drop, replicate, Result, Ok, Err}
 use Rattle.acpi_base.specs.Words.{Memory, Region, end_of, ◌>>=◌, holds}
 use Rattle.acpi_image_reader.specs.Words.{records_in}
 use Rattle.acpi_pack_lib.specs.declared.error.Refusal.{Refusal}
 use Rattle.acpi_pack_lib.specs.declared.error.Refusal.TheVariants.{OutOfMemory, TooLarge}
 
--- ---- where they lie
+-- ---- where they are
 
 -- the least of an address and the starts of regions
 abbrev pub first_from : ℕ → Memory → ℕ
@@ -32,7 +32,7 @@ pub record LiesIn (first count : ℕ) (r : Region) : Type 0 where
   pub starts : first ≤ r.start
   pub ends : end_of r ≤ first + count
 
--- bytes with others in place of as many at an offset
+-- bytes with others in place of the same number at an offset
 abbrev pub with_bytes : List ℕ → ℕ → List ℕ → List ℕ
 with_bytes bytes offset others = take offset bytes ++ others ++ drop (offset + length others) bytes
 
@@ -56,6 +56,6 @@ plain_of m = do
 abbrev pub IsPlainOf : List ℕ → List ℕ → Type 0
 IsPlainOf image bytes = (m : Memory) × (records_in image ≡ Ok m) × (plain_of m ≡ Ok bytes)
 
--- an image has no plain memory, for this refusal, or memory for it runs out
+-- an image has no plain memory, with this error, or memory for it runs out
 abbrev pub HasNoPlain : List ℕ → Refusal → Type 0
 HasNoPlain image e = (e ≡ OutOfMemory) ⊎ ((m : Memory) × (records_in image ≡ Ok m) × (plain_of m ≡ Err e))

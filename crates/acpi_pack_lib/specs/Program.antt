@@ -84,7 +84,7 @@ abbrev pub SavesAtMost : Option Request → List FileSaved → List FileSaved �
 SavesAtMost None old new = new ≡ old
 SavesAtMost (Some r) old new = (new ≡ old) ⊎ SavesOne r old new
 
--- an image is saved; a refusal returns 1, and no command 2, and then nothing was to be saved, nor is more printed
+-- an image is saved; an error returns 1, and no command 2, and then nothing was to be saved, nor is more printed
 abbrev pub Follows : Option Request → List (Option (List ℕ)) → Outcome → ℕ → Effects → Effects → Type 0
 Follows None files said status old new = (status ≡ 2) × (new ≡ old)
 Follows (Some r) files (outcome.Image image) status old new = SavesOrRefuses r files image.items status old new
@@ -92,7 +92,7 @@ Follows (Some r) files said status old new = (status ≡ 1) × (new ≡ old)
 
 -- ---- all of it
 
--- what is printed, saved and answered is what follows of the bytes of files
+-- what is printed, saved and returned is what follows of the bytes of files
 pub record PacksFiles (request : Option Request) (files : List (Option (List ℕ))) (status : ℕ) (old new : Effects)
     : Type 0 where
   pub outcome : Outcome
@@ -122,6 +122,6 @@ abbrev pub RunsBy : Option (List ℕ) → List (List ℕ) → List FileRead → 
 RunsBy (Some text) arguments asked asked_after status old new = Tells text asked asked_after status old new
 RunsBy None arguments asked asked_after status old new = Packs arguments asked asked_after status old new
 
--- arguments that request what the program tells of itself are told it, and all others are packed by
+-- arguments that request help or the version print it, and all others are packed by
 abbrev pub Runs : List (List ℕ) → List FileRead → List FileRead → ℕ → Effects → Effects → Type 0
 Runs arguments asked asked_after status old new = RunsBy (told_of arguments) arguments asked asked_after status old new

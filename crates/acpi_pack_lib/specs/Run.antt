@@ -34,7 +34,7 @@ left_out_lines names left_out =
 
 -- ---- what is printed
 
--- the name of the file that a refusal is about
+-- the name of the file that an error is about
 abbrev pub refused_name : Request → Refusal → List ℕ
 refused_name r (refusal.File n e) = name_of r.names n
 refused_name r refusal.NoRoom = r.out
@@ -51,7 +51,7 @@ usage_line = codes "usage: acpi_pack [--fix-checksum] [--raw] OUT "
 
 -- ---- what a run comes to
 
--- what is printed is this text, and what it comes to is what is defined: an image, or its first refusal, or OutOfMemory
+-- what is printed is this text, and what it comes to is what is defined: an image, or its first error, or OutOfMemory
 -- if nothing fails
 abbrev pub IsReport : Option Request → List (Option (List ℕ)) → Outcome → List ℕ → Type 0
 IsReport None files outcome.NoCommand text = text ≡ usage_line
@@ -62,7 +62,7 @@ IsReport (Some r) files (outcome.Refused e) text =
     RefusesOrRunsOut (packed_by r.addresses files) e × (text ≡ refused_line r e)
 IsReport request files said text = ⊥
 
--- what a run prints and comes to: it adds the text to what was printed, and that text alone. Nothing is said if `run`
+-- what a run prints and comes to: it adds the text to what was printed, and that text alone. Nothing holds if `run`
 -- itself returns an error: a write to standard error, or memory for the lines, failed
 abbrev pub Ends : Option Request → List (Option (List ℕ)) → Outcome → Option (List ℕ) → Option (List ℕ)
     → Type 0

@@ -21,7 +21,7 @@ are_same (Some one) None = false
 are_same None other = false
 
 -- by what has the name, and whether it is one of the files that are packed. `Other` is something that is no regular
--- file, and `Unknown` that the system doesn't say
+-- file, and `Unknown` that the system fails to report it
 abbrev pub check_found : Found → Bool → Result (Unit {0}) SaveError
 check_found found.Other is_source = Err refusal.NotAFile
 check_found found.Unknown is_source = if is_source then Err refusal.SameFile else Err refusal.Unwritable

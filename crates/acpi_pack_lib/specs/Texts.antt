@@ -14,7 +14,7 @@ file_error_text fault.Long = codes "Long"
 file_error_text fault.EndTooLarge = codes "EndTooLarge"
 file_error_text fault.Overlap = codes "Overlap"
 
--- that of a file's fault, or the variant's name
+-- the text of a file's fault, or the variant's name
 abbrev pub refusal_text : Refusal → List ℕ
 refusal_text (refusal.File n e) = file_error_text e
 refusal_text refusal.NoRoom = codes "NoRoom"

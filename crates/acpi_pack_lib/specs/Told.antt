@@ -1,4 +1,4 @@
--- What the program tells of itself.
+-- The help and the version that the program prints.
 use Rattle.std.specs.Prelude.{ℕ, List, [], ◌∷◌, ◌++◌, Option, Some, None, if◌then◌else◌, codes, bytes_eq}
 
 abbrev pub help_text : List ℕ
@@ -9,14 +9,14 @@ help_text = codes "usage: acpi_pack [--fix-checksum] [--raw] OUT "
 abbrev pub version_text : List ℕ
 version_text = codes "acpi_pack 1.0.0\n"
 
--- what is told to a single argument that requests it
+-- what is printed for a single argument that requests it
 abbrev pub told_to : List ℕ → Option (List ℕ)
 told_to argument =
     if bytes_eq argument (codes "--help") then Some help_text
     else if bytes_eq argument (codes "--version") then Some version_text
     else None
 
--- what is told to arguments that request it
+-- what is printed for arguments that request it
 abbrev pub told_of : List (List ℕ) → Option (List ℕ)
 told_of (argument ∷ []) = told_to argument
 told_of _ = None

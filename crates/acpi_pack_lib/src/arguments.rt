@@ -14,7 +14,7 @@ pub enum Form {
     Tables,
 }
 
-/// The options, which stand before OUT, in any order.
+/// The options, which come before OUT, in any order.
 #[derive(Clone, Copy)]
 pub struct Options {
     /// `--fix-checksum`: the Checksum of each file that is a table is set, so that its bytes sum to 0.

@@ -1,4 +1,4 @@
-//! The refusals of files that are packed.
+//! The errors of files that are packed.
 
 use acpi_image::WriteError;
 use std::alloc::AllocFailed;
@@ -82,7 +82,7 @@ impl<T: Drop> From<AllocFailed<T>> for Refusal {
     }
 }
 
-/// Makes `OutOfMemory`, if memory runs out for one more record: the only refusal of functions that put
+/// Makes `OutOfMemory`, if memory runs out for one more record: the only error of functions that put
 /// records into a file.
 impl From<WriteError> for Refusal {
     ghost use Rattle.std.specs.Prelude.{◌≡◌};

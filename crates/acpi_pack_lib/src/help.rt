@@ -1,4 +1,4 @@
-//! The texts that the program tells of itself.
+//! The help and the version that the program prints.
 ghost use Rattle.std.specs.Prelude.{◌≡◌, map, option_map};
 ghost use Rattle.acpi_pack_lib.specs.Words.{told_of, told_to};
 

@@ -148,7 +148,7 @@ fn put_lines(
     Ok(())
 }
 
-/// The line of plain memory, if a command requests that, and those of the records.
+/// The line of plain memory, if a command requests it, and the lines of the records.
 ///
 /// Fails if it runs out of memory.
 fn lines_of(
@@ -183,7 +183,7 @@ pub fn record_lines(
     files: &[FileBytes<'_>],
     image: &[u8],
 ) -> Result<String, ImageError>
-    // The lines are those of the records that are read in the image.
+    // There is a line for each record that is read in the image.
     ensures exact { IfOk result (λ t. listing.listing command.now.options.is_plain command.now.out.now
         (labels_of (addresses_of command.now.form) (map (λ n. n.now) command.now.names.items)
         (contents files.now)) image.now ≡ Ok (string_bytes t)) }

@@ -24,7 +24,7 @@ use std::alloc::Global;
 /// The address of the RSDP: the start of the BIOS area that is searched for it first (section 5.2.5.1).
 const RSDP: u64 = 0xe0000;
 
-/// The address from which on the other tables lie: after the BIOS areas.
+/// The address from which on the other tables are placed: after the BIOS areas.
 const FIRST: u64 = 0x100000;
 
 /// Whether two tables share a byte.
@@ -117,7 +117,7 @@ pub fn pack_files(
     addresses: &[u64],
     files: &[FileBytes<'_>],
 ) -> Result<Vec<u8>, Refusal>
-    // The file, or the first refusal, is the one that is defined; memory runs out only if nothing
+    // The file, or the first error, is the one that is defined; memory runs out only if nothing
     // else fails.
     ensures exact { IfOk result (λ v.
         file_of (packed_files addresses.now (contents files.now)) ≡ Ok v.items) }
@@ -160,7 +160,7 @@ pub(crate) fn dsdt_address(files: &[FileBytes<'_>]) -> Option<u64>
     None
 }
 
-/// The DSDT at the address at which it is to lie. It is left out if no address is given.
+/// The DSDT at the address of the FADT or the command. It is left out without one.
 ///
 /// Fails, in this order, with `EndTooLarge`, `Overlap` if it shares a byte with the RSDP, and
 /// `Overlap` for a second DSDT.
@@ -187,7 +187,7 @@ fn dsdt_at<'a>(
     }
 }
 
-/// The place that the other tables keep away from: that of the DSDT, or no bytes if there is none.
+/// The place that the other tables keep away from: the DSDT's, or no bytes if there is none.
 fn fixed_of<'a>(dsdt: Option<PlacedTable<'a>>) -> PlacedTable<'a>
     ensures { placed_region result ≡ fixed_of (option_map placed_region dsdt.entry) }
 {
@@ -298,7 +298,7 @@ fn lay_out(
 /// out.
 #[tactic(auto, using(crate::proofs::Packed::tables_packed), unfolding(crate::specs::Pack::packed_tables))]
 pub fn pack_tables(alloc: Global, files: &[FileBytes<'_>]) -> Result<Vec<u8>, Refusal>
-    // The file, or the first refusal, is the one that is defined; memory runs out only if nothing
+    // The file, or the first error, is the one that is defined; memory runs out only if nothing
     // else fails.
     ensures exact { IfOk result (λ v. file_of (packed_tables (contents files.now)) ≡ Ok v.items) }
     ensures refused { IfErr result (λ e. RefusesOrRunsOut (packed_tables (contents files.now)) e) }

@@ -118,7 +118,7 @@ pub(crate) fn place<'a>(
     ensures refused { IfErr result (λ e. e ≢ OutOfMemory
         → placed_from (placed_region fixed.now) from (listed (contents files.now)) ≡ Err e) }
     ensures count { IfOk result (λ v. length v.items ≡ length (listed (contents files.now))) }
-    // They are aligned, lie one after the other and away from the place that is taken, and fit.
+    // They are aligned, one after the other, away from the place that is taken, and fit.
     ensures law { IfOk result (λ v. ArePlaced (placed_region fixed.now) from (placed v.items)) }
 {
     let mut placed = Vec::new(alloc);

@@ -1,4 +1,4 @@
-//! Plain memory of an image: the bytes of its records from the first address on, as they lie.
+//! Plain memory of an image: the bytes of its records, each at its distance from the first address.
 ghost use Rattle.std.specs.Prelude.{◌≡◌, ◌-◌, IfErr, IfOk, length};
 ghost use Rattle.acpi_base.specs.FromStd.{AllByRecursion};
 ghost use Rattle.acpi_image_reader.specs.Words.{region_of, regions_of};
@@ -38,7 +38,7 @@ fn end_address(records: &[Record<'_>]) -> u128
     end
 }
 
-/// Puts a record's bytes into bytes that lie from an address on.
+/// Puts a record's bytes into bytes that begin at an address.
 fn put_record(bytes: &mut [u8], first: u64, placed: &Record<'_>)
     requires { LiesIn first (length bytes.old) (region_of placed.now) }
     ensures put { bytes.new ≡ with_bytes bytes.old (placed.now.start - first) placed.now.bytes.now }
@@ -48,7 +48,7 @@ fn put_record(bytes: &mut [u8], first: u64, placed: &Record<'_>)
     bytes[offset..offset + placed.bytes.len()].copy_from_slice(placed.bytes);
 }
 
-/// Puts the bytes of records, in order, into bytes that lie from an address on.
+/// Puts the bytes of records, in order, into bytes that begin at an address.
 fn put_records(bytes: &mut [u8], first: u64, records: &[Record<'_>])
     requires { AllByRecursion (LiesIn first (length bytes.old)) (regions_of records.now) }
     ensures { bytes.new ≡ with_regions first bytes.old (regions_of records.now) }
@@ -58,7 +58,7 @@ fn put_records(bytes: &mut [u8], first: u64, records: &[Record<'_>])
     }
 }
 
-/// The plain memory of an image: the bytes of its records from the first address on, as they lie, and zeros
+/// The plain memory of an image: the bytes of its records, each at its distance from the first address, and zeros
 /// between them.
 ///
 /// Fails with `TooLarge` if there are more than 2^30 bytes from the first address to the last, and with

@@ -5,7 +5,7 @@ ghost use Rattle.acpi_cli.specs.Reads.{Asks, AsksFront, contents_of, read_of};
 use acpi_cli::files::{Files, Reading};
 use std::alloc::{AllocError, Global};
 
-/// Asks for the files of these names, each once and in order.
+/// Reads the files of these names, each once and in order.
 ///
 /// Fails if memory for the list runs out, and then requests no further file.
 pub(crate) fn read_all<F: Files>(files: &mut F, names: &[&str]) -> Result<(), AllocError>

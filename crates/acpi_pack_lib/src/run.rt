@@ -16,7 +16,7 @@ use std::io::Write;
 pub enum Outcome {
     /// The bytes of the image that is to be saved.
     Image(Vec<u8>),
-    /// Nothing is packed, for this refusal.
+    /// Nothing is packed, with this error.
     Refused(Refusal),
     /// The arguments are not a command.
     NoCommand,
@@ -78,7 +78,7 @@ fn left_out(
     Ok(text)
 }
 
-/// The name of the file that a refusal is about.
+/// The name of the file that an error is about.
 fn refused_name<'w>(command: &Command<'w>, refusal: Refusal) -> &'w str
     ensures { result.now ≡ refused_name (request_of command.now) refusal }
 {
@@ -159,7 +159,7 @@ fn report(
 /// names, in order, `None` for one that can't be read. It returns the outcome, and prints lines: one for each
 /// file that is left out, or one with the reason why nothing is packed, or the usage.
 ///
-/// Faults are found in this order: arguments that are not a command, then the refusals of `pack_files` or
+/// Faults are found in this order: arguments that are not a command, then the errors of `pack_files` or
 /// `pack_tables`.
 ///
 /// Fails if a write to standard error, or memory for the lines, fails.

@@ -11,7 +11,7 @@ use std::io::{self, ErrorKind, Write};
 use std::os::unix::fs::{MetadataExt, OpenOptionsExt};
 
 /// Why a file is not saved, in the order in which that is tested; but a name about which the system doesn't
-/// answer is an error, `Unwritable`, before `PartExists` is tested.
+/// result is an error, `Unwritable`, before `PartExists` is tested.
 #[derive(Clone, Copy, Debug, PartialEq, Eq)]
 pub enum SaveError {
     /// Something else than a regular file has the name: a folder, a device, a pipe, a socket, or a symbolic
@@ -22,7 +22,7 @@ pub enum SaveError {
     /// Something has the name with `.part` after it: another run is at work, or was stopped. If none
     /// is at work, that file is to be removed.
     PartExists,
-    /// The system doesn't answer about the name, or the file can't be made, written or renamed.
+    /// The system can't look at the name, or the file can't be made, written or renamed.
     Unwritable,
     /// The allocator had no memory.
     OutOfMemory,
@@ -55,11 +55,11 @@ pub(crate) enum Found {
     File(Metadata),
     /// Something else has the name.
     Other,
-    /// The system doesn't say.
+    /// The system failed to report it.
     Unknown,
 }
 
-/// The thing that has a name, by the system's answer about it, symbolic links not followed.
+/// The thing that has a name, by what the system returns for it, symbolic links not followed.
 fn found_by(answer: io::Result<Metadata>) -> Found
     ensures file { IfOk answer (λ m. IsFile (file_type m) → result ≡ found.File m) }
     ensures other { IfOk answer (λ m. ¬ (IsFile (file_type m)) → result ≡ found.Other) }
@@ -121,7 +121,7 @@ fn is_source(rt: &HostRuntime, name: &str, found: &Found, sources: &[&str]) -> b
 
 /// Tests the thing that has the name of the file that is to be made.
 ///
-/// Fails, in this order, with `NotAFile`, `SameFile`, and `Unwritable` if the system doesn't say what has
+/// Fails, in this order, with `NotAFile`, `SameFile`, and `Unwritable` if the system fails to report what has
 /// that name.
 fn check_found(found: &Found, is_source: bool) -> Result<(), SaveError>
     ensures { result ≡ check_found found.now is_source }
@@ -134,7 +134,7 @@ fn check_found(found: &Found, is_source: bool) -> Result<(), SaveError>
     }
 }
 
-/// The refusal of a file that isn't written or renamed.
+/// The error of a file that isn't written or renamed.
 fn write_refusal(error: io::Error) -> SaveError
     ensures memory { error_kind error ≡ ErrorKind.OutOfMemory → result ≡ refusal.OutOfMemory }
     ensures other { error_kind error ≢ ErrorKind.OutOfMemory → result ≡ refusal.Unwritable }
@@ -146,7 +146,7 @@ fn write_refusal(error: io::Error) -> SaveError
     }
 }
 
-/// The refusal of a new file that isn't made.
+/// The error of a new file that isn't made.
 fn make_refusal(error: io::Error) -> SaveError
     ensures there { error_kind error ≡ ErrorKind.AlreadyExists → result ≡ refusal.PartExists }
     ensures memory { error_kind error ≡ ErrorKind.OutOfMemory → result ≡ refusal.OutOfMemory }
@@ -185,7 +185,7 @@ fn put(mut file: File, bytes: &[u8], found: &Found) -> io::Result<()> {
 /// read and write it. `sources` are the names of the files that the bytes were made from.
 ///
 /// Fails, in this order, with `NotAFile` if something else than a regular file has this name,
-/// `SameFile` if it is one of the sources, `Unwritable` if the system doesn't say what has this name,
+/// `SameFile` if it is one of the sources, `Unwritable` if the system fails to report what has this name,
 /// `PartExists` if something has the name with `.part` after it, and `Unwritable` if the file can't be made,
 /// written or renamed; and with `OutOfMemory` if memory runs out. If a file with `.part` was made, it is then
 /// removed, if the system allows that, and the file that has this name is as it was.

@@ -1,4 +1,4 @@
-//! The bytes of files, their roles as tables, and the refusals of each file by itself.
+//! The bytes of files, their roles as tables, and the errors of each file by itself.
 ghost use Rattle.std.specs.Prelude.{◌≡◌, ◌≤◌, length};
 ghost use Rattle.acpi_pack_lib.specs.Words.{content, contents, entries_left, bytes_in, is_of, is_unlisted, is_dsdt, Listed};
 ghost use Rattle.acpi_pack_lib.specs.Sources as sources;

@@ -1,4 +1,4 @@
-//! Storages, in which files are saved: each file that was to be saved is listed, with the answer.
+//! Storages, in which files are saved: each file that was to be saved is listed, with the result.
 ghost use Rattle.std.specs.Prelude.{◌≡◌, ◌++◌, ◌∷◌, List, [], IfOk, OnErr, map, string_bytes};
 ghost use Rattle.acpi_pack_lib.specs.Saves.{FileSaved};
 
@@ -6,12 +6,12 @@ use crate::save::{SaveError, save};
 use std::alloc::{AllocError, Global};
 
 /// A storage in which files are saved, as a program or a test reaches it. It means one thing: the list of all
-/// files that were to be saved, in order, each with the answer.
+/// files that were to be saved, in order, each with the result.
 pub trait Storage {
     ghost saved: { Self → List FileSaved };
 
     /// Saves these bytes, which were made of the files of the names in `sources`, under a name, and
-    /// returns that they are saved, or the refusal, as the function `save` does.
+    /// returns that they are saved, or the error, as the function `save` does.
     ///
     /// Fails if memory for the list runs out, and then saves nothing.
     fn save(
@@ -29,7 +29,7 @@ pub trait Storage {
         ensures refused { OnErr result (saved self.new ≡ saved self.old) };
 }
 
-/// A file that was to be saved, with the answer of `save`.
+/// A file that was to be saved, with the result of `save`.
 #[derive(Drop)]
 pub(crate) struct Saved {
     name: String,
@@ -72,7 +72,7 @@ fn copies_of(alloc: Global, texts: &[&str]) -> Result<Vec<String>, AllocError>
     Ok(copies)
 }
 
-/// Lists each file with its name, its sources, its bytes, and the answer of `save`.
+/// Lists each file with its name, its sources, its bytes, and the result of `save`.
 impl Storage for HostStorage<'_> {
     ghost use Rattle.std.specs.Prelude.{map};
     ghost use Rattle.acpi_pack_lib.specs.Saves.{saved_of};

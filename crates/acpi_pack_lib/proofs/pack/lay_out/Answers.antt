@@ -16,13 +16,13 @@ done m = Ok m
 abbrev checked : Result (Unit {0}) Refusal
 checked = Ok tt
 
--- an answer that hands a refusal on
+-- a result that passes an error on
 refuses : {X : Type 0} (r : Result X Refusal) (d : Refusal) (packed : Result Memory Refusal) → IsErrAnd r (λ x. x ≡ d)
     → RefusesOrRunsOut packed d → IfErr r (λ e. RefusesOrRunsOut packed e)
 refuses (Ok x) d packed h says = tt
 refuses (Err x) d packed h says = rw h says
 
--- a refusal that can't be another
+-- an error that can't be another
 only_memory : (e : Refusal) → (e ≢ refusal.OutOfMemory → ⊥) → e ≡ refusal.OutOfMemory
 only_memory refusal.OutOfMemory none = refl
 only_memory refusal.NoRoom none = absurd (none (λ x. absurd cc))

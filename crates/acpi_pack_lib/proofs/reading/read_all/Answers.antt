@@ -4,7 +4,7 @@ use Rattle.acpi_base.proofs.FromStd.{drop_of_length-le, drop_more, append_assoc,
 use Rattle.acpi_cli.specs.Reads.{Asks, AsksUntil, FileRead}
 use Rattle.acpi_pack_lib.proofs.reading.read_all.Goals as goal
 
--- at first none was asked for
+-- at first none was requested
 none_asked : (names : List (List ℕ)) (before : List FileRead) → AsksUntil names names before before
 none_asked names before = record {
   front = [];
@@ -12,7 +12,7 @@ none_asked names before = record {
   asks = record { reads = []; names_are = refl; grown = sym (append-nil before) };
 }
 
--- one more is asked for
+-- one more is requested
 next_asked : (n : List ℕ) (left names : List (List ℕ)) (before now after : List FileRead)
     → AsksUntil (n ∷ left) names before now
     → ((content : Option (List ℕ)) × (after ≡ now ++ record { name = n; content = content } ∷ []))
@@ -38,7 +38,7 @@ all_asked names before after until = record {
   grown = until.asks.grown;
 }
 
--- one more name is asked for, of names that are borrowed and come one after the other
+-- one more name is requested, of names that are borrowed and come one after the other
 next_name : (names : List (Bor (List ℕ))) (i : ℕ) (n : Bor (List ℕ)) (before now after : List FileRead)
     → i < length names
     → AsksUntil (map (λ n. n.now) (drop i names)) (map (λ n. n.now) names) before now
