@@ -1,4 +1,4 @@
--- What callers rest on: a guest finds as many tables as were placed, and a lender over a handler may be asked for the
+-- What callers rest on: a guest finds each table that was placed, and of a lender over a handler may be requested the
 -- ranges that it lists.
 use Rattle.std.proofs.Common.{◌≡◌, ℕ, suc, List, [], ◌∷◌, drop, length, Result, Ok, Err, refl, sym, ap, subst, ◌∙◌, ◌&&◌, Bool, true, false}
 use Rattle.std.specs.List.{cons_option}
@@ -61,7 +61,7 @@ same_memory m n e = cc
 
 -- ---- ranges that are listed
 
--- a handler may be asked for any range
+-- any range of a handler may be requested
 pub with_any : (listed : Bool) → listed ≡ true → (listed && true) ≡ true
 with_any true h = refl
 with_any false h = absurd cc

@@ -1,4 +1,4 @@
--- The ranges that the guarded caller asks for.
+-- The ranges that the guarded caller requests.
 use Rattle.std.specs.Prelude.{ℕ}
 use Rattle.acpi_base.specs.declared.table.signature.TheConstants.Signature.{BGRT}
 use Rattle.acpi_base.specs.Header.{check_table}
@@ -9,7 +9,7 @@ use Rattle.acpi.specs.Footprint.{lookup_ranges}
 use Rattle.acpi.specs.OpenedRanges.{root_and_ranges}
 use Rattle.acpi.specs.Root.{root_of_revision}
 
--- those of the RSDT at an address and, if it is opened, of each table that it lists, up to and with the first valid
+-- the ranges of the RSDT at an address and, if it is opened, of each table that it lists up to the first valid
 -- BGRT
 abbrev pub graphic_ranges : Memory → ℕ → Ranges
 graphic_ranges m rsdt =

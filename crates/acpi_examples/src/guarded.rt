@@ -1,4 +1,4 @@
-//! A caller over a handler that may be asked for named ranges alone.
+//! A caller over a handler of which only named ranges may be requested.
 ghost use Rattle.std.specs.Prelude.{◌≡◌};
 ghost use Rattle.acpi_base.specs.Ranges.{Allows};
 ghost use Rattle.acpi_examples.specs.Guarded.{graphic_ranges};
@@ -6,7 +6,7 @@ ghost use Rattle.acpi_examples.specs.Guarded.{graphic_ranges};
 use acpi::bgrt::Bgrt;
 use acpi::{AcpiHandler, AcpiResult, AcpiTables, Guarded, Lender};
 
-/// The physical address of the boot graphic, found from the RSDT at an address. It asks for the RSDT, and
+/// The physical address of the boot graphic, found from the RSDT at an address. It requests the RSDT, and
 /// for each table listed there up to the boot graphic's, and for nothing else.
 pub fn graphic_of<L: Lender>(lender: &L, rsdt: u64) -> AcpiResult<u64>
     requires { Allows (L.may lender.now) (graphic_ranges (L.memory lender.now) rsdt) }
@@ -16,8 +16,8 @@ pub fn graphic_of<L: Lender>(lender: &L, rsdt: u64) -> AcpiResult<u64>
     Ok(graphic.image_address)
 }
 
-/// The physical address of the boot graphic, found from the RSDT at an address, over a handler that may be
-/// asked for these ranges alone.
+/// The physical address of the boot graphic, found from the RSDT at an address, over a handler of which only
+/// these ranges may be requested.
 pub fn graphic_within<H: AcpiHandler>(
     memory: &H,
     ranges: &[(u64, usize)],

@@ -8,7 +8,7 @@ use std::io;
 use std::io::Write;
 
 /// Prints a line for each processor of the tables below the RSDP at an address, the boot processor first; or
-/// one line that says which error the image has, or the tables.
+/// one line with the error of the image or of the tables.
 ///
 /// Fails with the error of a write.
 pub fn print_processors<W: Write>(

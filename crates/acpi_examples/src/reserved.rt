@@ -8,7 +8,7 @@ pub trait MemoryMap {
     fn reserve(&mut self, address: u64, length: u64);
 }
 
-/// Reserves the memory that the tables lie in.
+/// Reserves the memory that the tables take.
 pub fn reserve_tables<H: AcpiHandler, M: MemoryMap>(tables: &AcpiTables<'_, H>, map: &mut M) {
     for range in tables.ranges() {
         map.reserve(range.address, range.length);
