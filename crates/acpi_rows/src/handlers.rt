@@ -3,7 +3,7 @@
 use crate::out::Out;
 use acpi::{AcpiHandler, AcpiResult};
 
-/// A handler that lends exactly as many bytes as are asked for, of what another one lends.
+/// A handler that maps exactly the number of bytes that is requested, of what another one maps.
 #[derive(Drop)]
 pub(crate) struct Exact<'a, H: AcpiHandler> {
     pub(crate) inner: &'a H,

@@ -5,7 +5,7 @@ use acpi::ManagedSlice;
 use linked_list_allocator::LocalHeap;
 use std::alloc::Allocator;
 
-/// Calls whose answers need memory.
+/// Calls whose results need memory.
 pub(crate) trait Gathers {
     /// Prints what is gathered in memory of an allocator, and how many bytes it holds of a heap.
     fn gather<A: Allocator + Copy>(&self, out: Out<'_>, allocator: A, heap: Option<&LocalHeap>);
@@ -14,7 +14,7 @@ pub(crate) trait Gathers {
 /// How many bytes of each heap are taken before.
 const TAKEN: usize = 16;
 
-/// Prints what is gathered in a heap that has so many bytes left. They have to be free again then.
+/// Prints what is gathered in a heap that has `size` bytes left. They have to be free again afterwards.
 pub(crate) fn over<G: Gathers>(out: Out<'_>, gathers: &G, size: u64) {
     if let Ok(heap) = LocalHeap::new(out.alloc(), (size as usize).saturating_add(TAKEN)) {
         let _filled = ManagedSlice::new_in(TAKEN, 0u8, &heap);

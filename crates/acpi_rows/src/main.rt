@@ -1,8 +1,8 @@
-//! Prints what tables' bytes and memories answer, and what `acpi_view` prints of files. `scripts/check_rows` asks it the
-//! rows in `data/`, and compares the answers with theirs.
+//! Prints what calls return over tables' bytes and memories, and what `acpi_view` prints of files. `scripts/check_rows`
+//! passes it the rows in `data/`, and compares what it prints with theirs.
 //!
 //! An argument is a file of parts, with a blank line between them. The first line of a part has a kind and the name of
-//! a file: of a memory as an image, which a handler lends whose name is the kind (`memory`), or of a table (`tables`).
+//! a file: of a memory as an image, mapped by the handler whose name is the kind (`memory`), or of a table (`tables`).
 //! Each other line is a call: its name, and its arguments. All numbers are `0x` and hexadecimal digits.
 //!
 //! What is printed begins with a mark (`out`), and ends with one for each call, and for each part.

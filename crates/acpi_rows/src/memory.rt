@@ -1,6 +1,6 @@
-//! Calls over a memory: the steps of a scene, which prints what its handler is asked for too.
+//! Calls over a memory: the steps of a scene, which also prints what is requested of its handler.
 //!
-//! A handler lends all it has from an address on (`generous`), or just what is asked for (`exact`).
+//! A handler maps all it has from an address on (`generous`), or just what is requested (`exact`).
 
 mod all;
 mod gathered;
@@ -17,7 +17,7 @@ use acpi::AcpiHandler;
 use acpi_image::MemoryImage;
 use scene::Scene;
 
-/// Plays a scene over the image of a file, and says first why it is none, if it isn't.
+/// Plays a scene over the image of a file, or prints why the file is no image.
 pub(crate) fn answer(out: Out<'_>, handler: &str, file: &[u8], lines: &str) {
     match MemoryImage::from_bytes(out.alloc(), file) {
         Err(refusal) => out.show(&refusal),

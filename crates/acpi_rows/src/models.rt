@@ -1,4 +1,4 @@
-//! What models of a machine's interrupts and memory say.
+//! What models of a machine's interrupts and memory contain.
 
 use crate::out::Out;
 use acpi::AcpiResult;

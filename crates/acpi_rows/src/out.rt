@@ -1,10 +1,10 @@
 //! What is printed: lines, each of which begins with a mark.
 //!
-//! - `?` an answer as it is debugged, and `*` a tuple of answers; `.` an answer as it is printed;
+//! - `?` a result by `Debug`, and `*` a tuple of results; `.` a result by `Display`;
 //! - `x` bytes;
-//! - `@` where a mapping lies, and how many bytes it shows and how many are lent;
-//! - `+` a request that a handler grants, `!` one that it refuses, and `-` a notice: the address, how many bytes are
-//!   asked for or shown, and how many are lent;
+//! - `@` where a mapping is, and how many bytes it shows and how many are mapped;
+//! - `+` a request that a handler grants, `!` one that fails, and `-` a notice: the address, how many bytes are
+//!   requested or shown, and how many are mapped;
 //! - `|` the end of a call or of a part.
 //!
 //! A line that can't be written is missed by who reads them.
@@ -21,30 +21,30 @@ pub(crate) struct Out<'r> {
 }
 
 impl Out<'_> {
-    /// The memory for what a call answers.
+    /// The memory for what a call returns.
     pub(crate) fn alloc(self) -> Global {
         self.rt.alloc()
     }
 
-    /// Prints an answer as it is debugged.
+    /// Prints a result by `Debug`.
     pub(crate) fn show<T: Debug>(self, value: &T) {
         let rt = self.rt;
         let _printed = println!(rt; "? {value:?}");
     }
 
-    /// Prints a tuple of answers.
+    /// Prints a tuple of results.
     pub(crate) fn spread<T: Debug>(self, values: &T) {
         let rt = self.rt;
         let _printed = println!(rt; "* {values:?}");
     }
 
-    /// Prints an answer as it is printed.
+    /// Prints a result by `Display`.
     pub(crate) fn print<T: Display>(self, value: &T) {
         let rt = self.rt;
         let _printed = println!(rt; ". {value}");
     }
 
-    /// Prints each item that an iterator gives.
+    /// Prints each item of an iterator.
     pub(crate) fn list<I: Iterator + Drop>(self, items: I)
     where
         I::Item: Debug + Drop,
@@ -62,7 +62,7 @@ impl Out<'_> {
         let _printed = println!(rt; "x {bytes:?}");
     }
 
-    /// Prints where a mapping lies.
+    /// Prints where a mapping is.
     pub(crate) fn place<H: AcpiHandler, T: PhysicalRecord>(
         self,
         mapping: &PhysicalMapping<'_, H, T>,

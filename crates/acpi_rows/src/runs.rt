@@ -4,12 +4,12 @@
 //! (`written-REVISION`); the file of the kind `unreadable` is not read.
 //!
 //! - `run OUT ERR|WORD..`: the status, the file that the words name, and what is printed to standard output and to
-//!   standard error, where these refuse the writes or the flush of these numbers; then how many writes and flushes of
+//!   standard error, where the writes or the flush of these numbers fail; then how many writes and flushes of
 //!   both came;
 //! - `command |WORD..`: the command that the words give;
-//! - `heap SIZE TAKEN`: the lines of the platform and of the PCI regions over a heap of so many bytes, some of which are
+//! - `heap SIZE TAKEN`: the lines of the platform and of the PCI regions over a heap of SIZE bytes, some of which are
 //!   taken before, where the file has an RSDT at 0x1000;
-//! - `no_memory`: the status that a run ends with where memory for the image is refused, and the line.
+//! - `no_memory`: the status that a run ends with where there is no memory for the image, and the line.
 
 use crate::out::Out;
 use crate::words::{first_word, number_of};
@@ -24,7 +24,7 @@ use std::alloc::{AllocError, Global};
 use std::io::{ErrorKind, Write};
 use std::{io, str};
 
-/// Prints what a call gives.
+/// Prints what a call returns.
 pub(crate) fn answer(out: Out<'_>, kind: &str, bytes: &[u8], call: &str, rest: &str) {
     let alloc = out.alloc();
     let file = file_of(alloc, bytes, kind);
@@ -79,7 +79,7 @@ fn file_of(alloc: Global, bytes: &[u8], kind: &str) -> Option<Vec<u8>> {
     write_image(alloc, 0x500, 0x1000, revision, &[placed]).ok()
 }
 
-/// The words, without what stands before the first `|`.
+/// The words, without what comes before the first `|`.
 fn split_words(alloc: Global, words: &str) -> Result<Vec<&str>, AllocError> {
     let mut split = Vec::new(alloc);
     for word in words.split('|').skip(1) {
@@ -98,7 +98,7 @@ fn command(out: Out<'_>, words: &[&str]) {
     }
 }
 
-/// The lines over a heap of so many bytes, of which some are taken before.
+/// The lines over a heap of `size` bytes, of which some are taken before.
 fn over_heap(out: Out<'_>, file: &[u8], size: u64, taken: u64) {
     let Ok(image) = MemoryImage::from_bytes(out.alloc(), file) else {
         return;
@@ -117,7 +117,7 @@ fn over_heap(out: Out<'_>, file: &[u8], size: u64, taken: u64) {
     }
 }
 
-/// A writer that keeps what it takes, and refuses one step: a write or a flush.
+/// A writer that keeps what it takes, and of which one step fails: a write or a flush.
 #[derive(Drop)]
 struct Refusing {
     refused: u64,
@@ -134,7 +134,7 @@ impl Refusing {
         }
     }
 
-    /// Counts a step, and fails if it is the one that is refused.
+    /// Counts a step, and fails if it is the one that has to.
     fn step(&mut self) -> io::Result<()> {
         let number = self.steps;
         self.steps = number.saturating_add(1);

@@ -18,7 +18,7 @@ use acpi_numa::Distances;
 use acpi_sleep::sleep_types;
 use std::alloc::{AllocError, Global};
 
-/// Prints what a call gives over a table's bytes.
+/// Prints what a call returns over a table's bytes.
 pub(crate) fn answer(out: Out<'_>, kind: &str, table: &[u8], (call, rest): (&str, &str)) {
     match kind {
         "address" | "command" | "bytes" | "bgrt" | "header" | "mcfg" | "rsdp" => {
@@ -54,7 +54,7 @@ fn slit(out: Out<'_>, table: &[u8], call: &str, rest: &str) {
     }
 }
 
-/// `state STATE COUNT`: the sleep types that the first bytes of a block of AML, so many, contain.
+/// `state STATE COUNT`: the sleep types that the first COUNT bytes of a block of AML contain.
 fn sleep_state(out: Out<'_>, aml: &[u8], rest: &str) {
     let (state, count) = first_word(rest);
     match sleep_types(front(aml, count), (number_of(state) % 6) as u8) {
@@ -64,7 +64,7 @@ fn sleep_state(out: Out<'_>, aml: &[u8], rest: &str) {
 }
 
 /// `write RSDP ROOT REVISION, ADDRESS LENGTH, ..`: the image of an RSDP and a root table at these addresses and of the
-/// first bytes, so many at each address, or why none is written.
+/// first LENGTH bytes at each address, or why none is written.
 fn image(out: Out<'_>, bytes: &[u8], rest: &str) {
     let (roots, places) = rest.split_once(", ").unwrap_or((rest, ""));
     let (rsdp, root) = first_word(roots);
@@ -85,7 +85,7 @@ fn image(out: Out<'_>, bytes: &[u8], rest: &str) {
     }
 }
 
-/// The first bytes, so many at each address of a list.
+/// The tables at the addresses of a list, each of the first bytes, up to its length.
 fn placed<'b>(
     alloc: Global,
     bytes: &'b [u8],

@@ -5,7 +5,7 @@ use acpi::sdt::Signature;
 use acpi_cli::parse_address;
 use std::alloc::{AllocError, Global};
 
-/// The first word of a text, and what stands after the blank that ends it.
+/// The first word of a text, and what comes after the blank that ends it.
 pub(crate) fn first_word(text: &str) -> (&str, &str) {
     text.split_once(' ').unwrap_or((text, ""))
 }

@@ -1,12 +1,12 @@
 //! Calls over tables that are open.
 //!
 //! - `root`: revision, address, length and signature of the root table;
-//! - `headers`, `whole_headers`, `members`, `ssdts` and `ranges`, each of them with the most that are asked for, and
-//!   `after_last`: how many headers and SSDTs there are, and what is given after the last;
-//! - `dsdt`, `facs`, `sdt SIGNATURE` (where the first of these lies), `fadt_view` (where the FADT lies, and then, while
-//!   its bytes are lent, where it places the DSDT) and `checks` (how often the table was checked that is given);
+//! - `headers`, `whole_headers`, `members`, `ssdts` and `ranges`, each of them with the most items to print, and
+//!   `after_last`: how many headers and SSDTs there are, and what is returned after the last;
+//! - `dsdt`, `facs`, `sdt SIGNATURE` (where the first of these is), `fadt_view` (where the FADT is, and then, while
+//!   its bytes are mapped, where it places the DSDT) and `checks` (how often the returned table was checked);
 //! - `hpet_info`, and `wake ID READS COMMAND ..`, by a mailbox that has these commands where it is read, as often at most;
-//! - those that need memory (`gathered`), and `platforms WAY`, by each of the four calls for a platform;
+//! - calls that need memory (`gathered`), and `platforms WAY`, by each of the four calls for a platform;
 //! - `KIND CALL`, about a type of table (`types`).
 
 use super::gathered::{InMemory, print_platform};
@@ -21,7 +21,7 @@ use acpi::{AcpiHandler, AcpiResult, AcpiTables, HpetInfo, TableMember};
 use acpi_cli::parse_address;
 use std::alloc::{AllocError, Global};
 
-/// Prints what a call gives over tables.
+/// Prints what a call returns over tables.
 pub(super) fn answer<H: AcpiHandler>(
     out: Out<'_>,
     tables: &AcpiTables<'_, H>,
@@ -50,7 +50,7 @@ pub(super) fn answer<H: AcpiHandler>(
     }
 }
 
-/// Prints what a call gives that sums tables up, or is about a type of table.
+/// Prints what a call returns that sums tables up, or is about a type of table.
 fn alone<H: AcpiHandler>(out: Out<'_>, tables: &AcpiTables<'_, H>, call: &str, rest: &str) {
     match call {
         "fadt_view" => view_fadt(out, tables),
@@ -83,7 +83,7 @@ fn front_of(header: SdtHeader) -> (Signature, u32, u8, u8) {
     )
 }
 
-/// Where a member lies, and the signature and the length in its header.
+/// Where a member is, and the signature and the length in its header.
 fn member_of(member: TableMember) -> (u64, AcpiResult<(Signature, u32)>) {
     let front = match member.header {
         Ok(header) => Ok((header.signature, header.length)),
@@ -108,7 +108,7 @@ fn view_fadt<H: AcpiHandler>(out: Out<'_>, tables: &AcpiTables<'_, H>) {
     }
 }
 
-/// Prints a block of timers, and what its id says.
+/// Prints a block of timers, and what its id contains.
 fn print_timers(out: Out<'_>, info: AcpiResult<HpetInfo>) {
     out.show(&info);
     if let Ok(info) = info {
@@ -149,7 +149,7 @@ fn commands_of(alloc: Global, text: &str) -> Result<Vec<u16>, AllocError> {
     Ok(commands)
 }
 
-/// Prints what a call for a platform answers, of which there are four.
+/// Prints what one of the four calls for a platform returns.
 fn platforms<H: AcpiHandler>(out: Out<'_>, tables: &AcpiTables<'_, H>, way: u64) {
     let alloc = out.alloc();
     match way {

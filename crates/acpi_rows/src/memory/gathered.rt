@@ -1,8 +1,8 @@
-//! Calls that gather what tables say in memory of an allocator.
+//! Calls that gather what tables contain in memory of an allocator.
 //!
 //! - `platform`, what a machine has, `processor INDEX`, an application processor, and the clones of the platform and
 //!   its parts: `clone`, `clone_model`, `clone_apics`, `clone_io_apics` and `clone_processors`;
-//! - `regions`, those of configuration space, by entries and by their ECAM, and the place of a function: `address NUMBER`
+//! - `regions` of configuration space, by entries and by their ECAM, and the place of a function: `address NUMBER`
 //!   by the first of them and `ecam NUMBER` by the second, where the number's bytes are its segment group, of two, its
 //!   bus, its device and its own number;
 //! - `gic`, the GIC, `memory`, the ranges of memory in domains, and `domain ADDRESS`.
@@ -68,7 +68,7 @@ fn print_regions<A: Allocator>(
     }
 }
 
-/// Prints where a function lies.
+/// Prints where a function is.
 fn print_place<A: Allocator>(
     out: Out<'_>,
     regions: AcpiResult<PciConfigRegions<A>>,
@@ -86,7 +86,7 @@ fn print_place<A: Allocator>(
     }
 }
 
-/// Prints what a platform says, or the refusal.
+/// Prints what a platform contains, or the error.
 pub(super) fn print_platform<A: Allocator, E: Debug + Drop>(
     out: Out<'_>,
     answer: Result<PlatformInfo<A>, E>,
@@ -112,7 +112,7 @@ fn let_go<A: Allocator>(platform: PlatformInfo<A>) {
     } = platform;
 }
 
-/// Prints a processor, or what a clone of the platform or of a part of it says. A platform that is refused says
+/// Prints a processor, or what a clone of the platform or of a part of it contains. A platform that fails prints
 /// nothing.
 fn print_part<A: Allocator + Clone>(
     out: Out<'_>,
@@ -133,7 +133,7 @@ fn print_part<A: Allocator + Clone>(
     }
 }
 
-/// Prints a processor, or what a clone of a list says.
+/// Prints a processor, or what a clone of a list contains.
 fn print_list<A: Allocator + Clone>(
     out: Out<'_>,
     platform: &PlatformInfo<A>,

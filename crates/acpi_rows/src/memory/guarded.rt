@@ -1,11 +1,11 @@
-//! Numbers that are read through a handler that may be asked for listed ranges alone.
+//! Numbers that are read through a handler of which only listed ranges may be requested.
 ghost use Rattle.std.specs.Prelude.{◌≡◌, true};
 ghost use Rattle.acpi_base.specs.Words.{is_listed};
 
 use crate::out::Out;
 use acpi::{AcpiHandler, AcpiResult, Guarded, Lender, PhysicalMapping};
 
-/// The number of eight bytes at an address, from a lender that may be asked for it.
+/// The number of eight bytes at an address, from a lender of which they may be requested.
 fn number_at<L: Lender>(lender: &L, address: u64) -> AcpiResult<u64>
     requires { L.may lender.now address 8 ≡ true }
 {
@@ -13,7 +13,7 @@ fn number_at<L: Lender>(lender: &L, address: u64) -> AcpiResult<u64>
     Ok(*number.get())
 }
 
-/// The number of eight bytes at an address, over a handler that may be asked only for the ranges of a list.
+/// The number of eight bytes at an address, over a handler of which only the ranges of a list may be requested.
 /// For a number that isn't listed there is no proof.
 fn number_within<H: AcpiHandler>(
     memory: &H,

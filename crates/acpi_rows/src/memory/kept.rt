@@ -14,7 +14,7 @@ pub(super) enum Kept<'h, H: Lender> {
 }
 
 impl<H: AcpiHandler> Kept<'_, H> {
-    /// Prints where it lies.
+    /// Prints where it is.
     pub(super) fn place(&self, out: Out<'_>) {
         match self {
             Kept::Graphic(mapping) => out.place(mapping),
@@ -41,8 +41,8 @@ impl<H: AcpiHandler> Kept<'_, H> {
     }
 }
 
-/// What lies at an address: a graphic (`table`), or a header, as a table of a name (`named`), as what it says (`own`),
-/// in bytes that were lent before (`given`) or by itself (`map`).
+/// What is at an address: a graphic (`table`), or a header, as a table of a name (`named`), of its own name (`own`),
+/// in bytes that were mapped before (`given`) or by itself (`map`).
 pub(super) fn mapped<'h, H: AcpiHandler>(
     handler: &'h H,
     call: &str,
@@ -62,7 +62,7 @@ pub(super) fn mapped<'h, H: AcpiHandler>(
     Ok(Kept::Header(header?))
 }
 
-/// A header at an address, in 40 bytes that are lent there.
+/// A header at an address, in 40 bytes that are mapped there.
 fn given<H: AcpiHandler>(
     handler: &H,
     address: u64,

@@ -2,13 +2,13 @@
 //!
 //! - `rsdt REVISION ADDRESS`, `rsdp ADDRESS`, `bios`, `areas ADDRESS LENGTH, ..` and `validated` open tables (`ways`).
 //!   `close` drops them.
-//! - `search` and `within ADDRESS LENGTH, ..` look an RSDP up and drop it, and `bios_areas EBDA` says where the former
-//!   looks. `lend ADDRESS LENGTH, ..` asks for bytes, and prints those that are lent to their end;
-//!   `guarded` asks for two numbers, as it may (`guarded`).
+//! - `search` and `within ADDRESS LENGTH, ..` look an RSDP up and drop it, `bios_areas EBDA` prints where the former
+//!   looks. `lend ADDRESS LENGTH, ..` requests bytes, and prints all that are mapped for each;
+//!   `guarded` requests two numbers, as it may (`guarded`).
 //! - `keep` finds the boot graphic and keeps its mapping. `table ADDRESS`, `named ADDRESS NAME`, `own ADDRESS`, `given
 //!   ADDRESS` and `map ADDRESS` keep what they map (`kept`). `show` prints what was kept last, and `release PLACE`
 //!   drops one, or else the first.
-//! - All other steps ask the tables (`all`).
+//! - All other steps are calls over the tables (`all`).
 
 use super::kept::{Kept, mapped};
 use super::ways::{found, open};
@@ -113,7 +113,7 @@ impl<'r, H: AcpiHandler> Scene<'r, H> {
     }
 }
 
-/// Asks for each of these ranges, and lets go what is lent.
+/// Requests each of these ranges, and lets go what is mapped.
 fn lend<H: AcpiHandler>(out: Out<'_>, handler: &H, areas: &[AddressRange]) {
     for area in areas {
         let (address, size) = (area.address, area.length as usize);

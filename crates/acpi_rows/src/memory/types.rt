@@ -1,5 +1,5 @@
-//! Calls about a type of table: `find` (where the first valid one lies), `faults` and `all` (where each lies, with the
-//! most that are asked for), `whole` (its bytes), `lent` (how many are lent of it), and those over
+//! Calls about a type of table: `find` (where the first valid one is), `faults` and `all` (where each is, with the
+//! most items to print), `whole` (its bytes), `lent` (how many are mapped of it), and those over
 //! its bytes (`tables`).
 
 use crate::out::Out;
@@ -17,7 +17,7 @@ use acpi_arm::gtdt::Gtdt;
 use acpi_iommu::{Dmar, Ivrs};
 use acpi_numa::{Slit, Srat};
 
-/// Prints what a call gives about a type of table.
+/// Prints what a call returns about a type of table.
 pub(super) fn answer<H: AcpiHandler>(
     out: Out<'_>,
     tables: &AcpiTables<'_, H>,

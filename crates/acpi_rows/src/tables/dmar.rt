@@ -1,9 +1,9 @@
 //! Intel's units that remap devices.
 //!
 //! - `record`: Host Address Width and the flags;
-//! - `structures`: each with its type, its fields and what they say, its object's name and its scopes, of which each
+//! - `structures`: each with its type, its fields and what they mean, its object's name and its scopes, of which each
 //!   has Type, Flags, Enumeration ID, Start Bus Number and hops, and whether these have ended malformed before the first
-//!   one is asked for and after the last one; then the same of the structures, with how many there are between;
+//!   one is read and after the last one; then the same of the structures, with how many there are between;
 //! - `unit DEVICE`, `io_apic ID`, `hpet NUMBER`, `reserved DEVICE`. A device is a segment, a bus, and the device and the
 //!   function of each hop from there to it.
 
@@ -13,7 +13,7 @@ use acpi_base::PhysicalRecord;
 use acpi_iommu::{Dmar, DmarFields, DmarStructure, DmarUnits, Hop};
 use std::alloc::{AllocError, Global};
 
-/// Prints what a DMAR says.
+/// Prints what a DMAR contains.
 pub(super) fn answer(out: Out<'_>, table: &[u8], call: &str, rest: &str) {
     let units = DmarUnits::over(table);
     let number = (number_of(rest) % 0x100) as u8;
@@ -53,7 +53,7 @@ fn structures(out: Out<'_>, units: &DmarUnits<'_>) {
     out.show(&(before, count, structures.ended_malformed()));
 }
 
-/// What the fields of a structure say.
+/// What the fields of a structure mean.
 fn fields(out: Out<'_>, fields: Option<DmarFields>) {
     match fields {
         Some(DmarFields::Drhd(unit)) => {
@@ -81,7 +81,7 @@ fn scopes(out: Out<'_>, structure: &DmarStructure<'_>) {
     out.show(&(before, scopes.ended_malformed()));
 }
 
-/// What is said of a device.
+/// What the table has of a device.
 fn of_device(out: Out<'_>, units: &DmarUnits<'_>, call: &str, rest: &str) {
     let (segment, rest) = first_word(rest);
     let (bus, rest) = first_word(rest);

@@ -1,7 +1,7 @@
 //! The fixed hardware.
 //!
 //! - `record`: whether the table is valid, its header and its fields;
-//! - `facts`: its profile, the addresses of FACS and DSDT, its timer, and what it says of general-purpose events;
+//! - `facts`: its profile, the addresses of FACS and DSDT, its timer, and its general-purpose events;
 //! - `blocks`: the blocks of registers;
 //! - `flags`: each flag, and whether it is set.
 
@@ -10,7 +10,7 @@ use acpi::fadt::Fadt;
 use acpi::platform::PmTimer;
 use acpi::{AcpiTable, PhysicalRecord};
 
-/// Prints what a FADT says.
+/// Prints what a FADT contains.
 pub(super) fn answer(out: Out<'_>, bytes: &[u8], call: &str) {
     if bytes.len() < 116 {
         return out.print(&"short");
@@ -46,7 +46,7 @@ fn blocks(out: Out<'_>, table: &Fadt) {
     ]);
 }
 
-/// Prints the flags of caches, processors, buttons, timers and docking, those of the whole machine, and those of a PC
+/// Prints the flags of caches, processors, buttons, timers and docking, of the whole machine, and of a PC
 /// and of an Arm machine.
 #[rattlefmt::skip]
 fn flags(out: Out<'_>, table: &Fadt) {

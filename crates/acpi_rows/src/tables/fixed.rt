@@ -1,4 +1,4 @@
-//! Calls over small tables and structures: each prints all that these say.
+//! Calls over small tables and structures: each prints all that these contain.
 
 use super::front;
 use crate::out::Out;
@@ -11,7 +11,7 @@ use acpi::sdt::{SdtHeader, byte_sum};
 use acpi::{AcpiTable, PhysicalRecord};
 use acpi_base::madt::MpProtectedModeWakeupCommand;
 
-/// Prints what bytes of a kind say.
+/// Prints what bytes of a kind mean.
 pub(super) fn answer(out: Out<'_>, kind: &str, bytes: &[u8], rest: &str) {
     match (kind, bytes) {
         ("address", [..]) => address(out, bytes),
@@ -46,7 +46,7 @@ fn command(out: Out<'_>, number: u16) {
     }
 }
 
-/// The sum of the bytes after an offset, so many.
+/// The sum of `length` bytes from an offset on.
 fn sum(out: Out<'_>, bytes: &[u8], range: &str) {
     let (offset, count) = first_word(range);
     let rest = bytes.get(front(bytes, offset).len()..).unwrap_or(&[]);

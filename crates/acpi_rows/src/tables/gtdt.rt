@@ -1,10 +1,10 @@
-//! The timers that a GTDT describes: `record`, those of each processor, and `platform`, those of the machine.
+//! The timers that a GTDT describes: `record`, for each processor, and `platform`, for the machine.
 
 use crate::out::Out;
 use acpi::{AcpiTable, PhysicalRecord};
 use acpi_arm::gtdt::{Gtdt, PlatformTimer, PlatformTimerIter};
 
-/// Prints what a GTDT says.
+/// Prints what a GTDT contains.
 pub(super) fn answer(out: Out<'_>, bytes: &[u8], call: &str) {
     if bytes.len() < 96 {
         return out.print(&"short");

@@ -2,7 +2,7 @@
 //!
 //! - `record`: IVinfo;
 //! - `blocks`: each with its type and its fields, and its device entries with their type, first and last device and
-//!   settings, and what else their type has, and whether these have ended malformed before the first one is asked for
+//!   settings, and what else their type has, and whether these have ended malformed before the first one is read
 //!   and after the last one; then the same of the blocks, with how many there are between;
 //! - `best`: the fields of the blocks of the best type;
 //! - `unit SEGMENT ID`, `memory ID`.
@@ -12,7 +12,7 @@ use crate::words::{first_word, number_of};
 use acpi_base::PhysicalRecord;
 use acpi_iommu::{DeviceEntry, Ivrs, IvrsBlock, IvrsBlocks};
 
-/// Prints what an IVRS says.
+/// Prints what an IVRS contains.
 pub(super) fn answer(out: Out<'_>, table: &[u8], call: &str, rest: &str) {
     let all = IvrsBlocks::over(table);
     let (segment, id) = first_word(rest);

@@ -1,14 +1,14 @@
 //! The entries of a MADT, its fixed fields, and the models of the interrupts that it describes.
 //!
 //! - `entries`: the first entries and their flags, then whether they have ended malformed before the first one
-//!   is asked for, how many there are, and whether they have after the last one; `steps`: whether they have before each
-//!   of four steps, and whether the step gives an entry;
-//! - `trace_interrupt REVISION`: that of the trace buffer in the first entry, as a table of this revision has it;
+//!   is read, how many there are, and whether they have after the last one; `steps`: whether they have before each
+//!   of four steps, and whether the step returns an entry;
+//! - `trace_interrupt REVISION`: the trace buffer's interrupt in the first entry, as a table of this revision has it;
 //! - `record`: the fixed fields, and of a mapping how many entries it has, the mailbox, and older interrupt
 //!   controllers;
 //! - `model`, the APICs and the processors, `gic`, the GIC, and `heap SIZE CALL` for both;
 //! - `isa N`, `sci N`, `pin N` and `lines N`: where the APICs have an interrupt come to. A number that is too large for
-//!   what is asked counts as its low bits.
+//!   an argument that is too large counts by its low bits.
 
 use crate::heaps::{self, Gathers};
 use crate::models::{print_gic, print_model};
@@ -23,7 +23,7 @@ use acpi_base::madt::{Madt, MadtEntry, MadtEntryIter};
 use linked_list_allocator::LocalHeap;
 use std::alloc::Allocator;
 
-/// Prints what a MADT says.
+/// Prints what a MADT contains.
 pub(super) fn answer(out: Out<'_>, bytes: &[u8], call: &str, rest: &str) {
     match call {
         "entries" => entries(out, bytes),
@@ -113,7 +113,7 @@ impl Gathers for InBytes<'_> {
     }
 }
 
-/// Prints what the interrupt model of a MADT says.
+/// Prints what the interrupt model of a MADT contains.
 fn of_model<A: Allocator + Copy>(
     out: Out<'_>,
     madt: &PhysicalMapping<'_, MappedRegion<'_>, Madt>,

@@ -1,4 +1,4 @@
-//! Signatures and refusals, and their texts.
+//! Signatures and errors, and their texts.
 
 use crate::out::Out;
 use crate::words::signature_of;
@@ -12,7 +12,7 @@ macro_rules! constants {
     };
 }
 
-/// The refusals for a table of these names.
+/// The errors for a table of these names.
 macro_rules! refusals {
     ($signature:ident: $($name:ident)*) => {
         [$(AcpiError::$name($signature)),*]
@@ -28,7 +28,7 @@ static CONSTANTS: [(&str, Signature); 65] = constants!(
     STAO SVKL TCPA TPM2 UEFI WAET WDAT WDRT WPBT WSMT XENV
 );
 
-/// The refusals that name no table.
+/// The errors that name no table.
 static OTHERS: [AcpiError; 17] = [
     AcpiError::NoValidRsdp,
     AcpiError::RsdpIncorrectSignature,
@@ -49,7 +49,7 @@ static OTHERS: [AcpiError; 17] = [
     AcpiError::InvalidMadt(MadtError::InvalidEntryLength),
 ];
 
-/// What four letters say as a signature: `signature`, how it is printed, debugged, and stored, `against SIGNATURE`,
+/// What four letters are as a signature: `signature`, how it is printed, debugged, and stored, `against SIGNATURE`,
 /// how they compare, `refusals`, those that name a table, and of all `others` and `constants`.
 pub(super) fn answer(out: Out<'_>, bytes: &[u8], call: &str, rest: &str) {
     let Some(letters) = bytes.first_chunk::<4>() else {

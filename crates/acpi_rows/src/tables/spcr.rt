@@ -1,10 +1,10 @@
 //! The serial console.
 //!
 //! - `record`: whether the table is valid, and its fields;
-//! - `console`: what it says of interface, base address, interrupts, rates and the PCI device, its sets of flags, and
+//! - `console`: its interface, base address, interrupts, rates and PCI device, its sets of flags, and
 //!   of a mapping the name in the namespace;
 //! - `interrupt_type WORD`, `terminal_type WORD` and `flow_control WORD`: the bits of the set that a flag's name or
-//!   bits stand for.
+//!   bits mean.
 ghost use Rattle.std.specs.Prelude.{◌≤◌, length};
 
 use crate::out::Out;
@@ -15,7 +15,7 @@ use acpi_cli::parse_address;
 use bitflags::Flags;
 use bitflags::parser::to_writer;
 
-/// Prints what the table of a serial console says.
+/// Prints what the table of a serial console contains.
 pub(super) fn answer(out: Out<'_>, bytes: &[u8], call: &str, rest: &str) {
     match call {
         "interrupt_type" => out.show(&bits_of::<SpcrInterruptType>(rest)),
@@ -33,7 +33,7 @@ pub(super) fn answer(out: Out<'_>, bytes: &[u8], call: &str, rest: &str) {
     }
 }
 
-/// The bits of the set that a word stands for.
+/// The bits of the set that a word names.
 fn bits_of<F: Flags<Bits = u8>>(word: &str) -> Option<u8> {
     let set = match parse_address(word) {
         None => F::from_name(word),
@@ -65,7 +65,7 @@ fn names<F: Flags<Bits = u8>>(out: Out<'_>, set: &F) {
     }
 }
 
-/// The name of its device in the namespace, which a mapping answers.
+/// The name of its device in the namespace, which a mapping returns.
 fn name(out: Out<'_>, bytes: &[u8])
     requires { 80 ≤ length bytes.now }
 {

@@ -1,16 +1,16 @@
 //! Processors and memory of nodes.
 //!
-//! - `entries`: each with whether it counts and what its other flags say, then whether they have ended malformed before
-//!   the first one is asked for, how many there are, and whether they have after the last one;
+//! - `entries`: each with whether it counts and its other flags, then whether they have ended malformed before
+//!   the first one is read, how many there are, and whether they have after the last one;
 //! - `apic ID` and `processor UID`: the domain of a processor;
-//! - `ranges`: those of memory, `domain ADDRESS`, the domain of an address.
+//! - `ranges` of memory, and `domain ADDRESS`, the domain of an address.
 
 use crate::models::print_ranges;
 use crate::out::Out;
 use crate::words::id_of;
 use acpi_numa::{Domains, MemoryAffinities, SratEntry};
 
-/// Prints what a SRAT says.
+/// Prints what an SRAT contains.
 pub(super) fn answer(out: Out<'_>, table: &[u8], call: &str, rest: &str) {
     let (alloc, domains) = (out.alloc(), Domains::over(table));
     match call {
