@@ -1,4 +1,4 @@
-//! The comparisons that all tests make. They stand here once, since each is long to prove.
+//! The comparisons that all tests make. They are here once, since each takes long to prove.
 ghost use Rattle.std.specs.Prelude.{◌≤◌, length};
 
 use std::fmt::Debug;
@@ -11,7 +11,7 @@ pub(crate) fn front(memory: &[u8], count: usize) -> &[u8]
     &memory[..count.min(memory.len())]
 }
 
-/// What stands at which offset.
+/// Bytes, and their offset before them.
 pub(crate) type Part = (usize, &'static [u8]);
 
 /// Checks what was found against what is wanted.

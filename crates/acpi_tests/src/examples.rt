@@ -17,7 +17,7 @@ use acpi_image::{MemoryImage, PlacedTable, WriteError};
 use std::alloc::Global;
 use std::test::Fail;
 
-/// How many bytes a kernel maps from 0x1000 on, the address at which it looks for the root table, and its answer.
+/// How many bytes a kernel maps from 0x1000 on, the address at which it looks for the root table, and its result.
 #[rattlefmt::skip]
 static KERNELS: [(usize, u64, AcpiResult<(u64, u32)>); 3] = [
     (416, 0x1000, Ok((0xC0_0000, 7))),
@@ -56,7 +56,7 @@ fn the_memory_of_the_tables_is_reserved(rt: HostRuntime) -> Result<(), Fail> {
     Ok(())
 }
 
-/// Addresses of RSDPs, the answers that are found from them, and what is printed of their processors.
+/// Addresses of RSDPs, the results that are found from them, and what is printed of their processors.
 #[rattlefmt::skip]
 static FOUND: [(u64, AcpiResult<u64>, &str); 2] = [
     (0x500, Ok(0xC0_0000), "processor 1 0 running\nprocessor 2 4 waiting\nprocessor 3 6 disabled\n"),
@@ -99,7 +99,7 @@ fn an_isa_interrupt_comes_to_a_pin(rt: HostRuntime) -> Result<(), Fail> {
     Ok(())
 }
 
-/// How many tables are placed, the address of the second, and how many are found. The first lies from
+/// How many tables are placed, the address of the second, and how many are found. The first is from
 /// 0x2000 to 0x2038.
 #[rattlefmt::skip]
 static GUESTS: [(usize, u64, Result<usize, GuestError>); 3] = [

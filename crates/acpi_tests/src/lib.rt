@@ -1,5 +1,5 @@
-//! Tests of what rows can't say: files of memory that are read in little memory or written, tables that are written,
-//! mapped regions, mailboxes, values that are moved or let go, memory and writes that are refused, and the examples.
+//! Tests that can't be rows: files of memory that are read in little memory or written, tables that are written,
+//! mapped regions, mailboxes, values that are moved or dropped, memory that runs out, failed writes, and the examples.
 #![tactic(auto)]
 
 #[cfg(test)]

@@ -1,4 +1,4 @@
-//! What can't be seen of a program from outside: arguments that can't be had, writes that are refused, and names of
+//! What can't be seen of a program from outside: arguments that can't be had, writes that fail, and names of
 //! files that no shell passes.
 
 use crate::checks::check;
@@ -17,7 +17,7 @@ fn one_argument(alloc: Global) -> io::Result<Vec<String>> {
     Ok(vec![in alloc; argument]?)
 }
 
-/// How many arguments there are if these were had, or none if they are refused.
+/// How many arguments there are, or none if they can't be had.
 fn count_of(alloc: Global, texts: io::Result<Vec<String>>) -> Option<usize> {
     match args_or_none(alloc, texts) {
         Ok(texts) => Some(texts.len()),
@@ -54,7 +54,7 @@ impl Write for Closed {
 
 #[test]
 fn a_line_that_cant_be_printed_fails(rt: HostRuntime) -> Result<(), Fail> {
-    // `acpi_pack` can't say which file it leaves out.
+    // `acpi_pack` can't print which file it leaves out.
     let facs = b"FACS\x24\0\0\0\0\0\0\0\0\0\0\0\0\0\0\0\0\0\0\0\0\0\0\0\0\0\0\0\0\0\0\0";
     let asked = parse_command(rt.alloc(), &["out", "tables", "facs"])?;
     let packed = run(rt.alloc(), &asked, &[Some(facs.as_slice())], &mut Closed).is_err();
@@ -62,8 +62,8 @@ fn a_line_that_cant_be_printed_fails(rt: HostRuntime) -> Result<(), Fail> {
     Ok(())
 }
 
-/// What is not saved, for what no program can be given: its name, the files that it is made of, and why.
-/// `crates/acpi_pack/runs` has all else that comes of saving.
+/// What is not saved, by arguments that no program can be passed: its name, the files that it is made of, and why.
+/// `crates/acpi_pack/runs` has all other results of saving.
 static UNSAVED: [(&str, &[&str], SaveError); 2] = [
     ("kept", &["kept"], SaveError::SameFile),
     ("a name\0b", &[], SaveError::Unwritable),

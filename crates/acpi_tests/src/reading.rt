@@ -1,4 +1,4 @@
-//! Files of memory that are read in too little memory. `acpi_rows` has what others lend, and why they are refused
+//! Files of memory that are read in too little memory. `acpi_rows` has what others map, and the errors of files
 //! (`data/lent.rows` and `data/runs.rows`).
 
 use crate::checks::{check, front};
@@ -18,7 +18,7 @@ fn fourteen() -> [u8; 238] {
     file
 }
 
-/// How many of the fifteen lowest addresses lend a 7 and nothing after it, for a file that is read
+/// At how many of the fifteen lowest addresses a 7 is mapped and nothing after it, for a file that is read
 /// in a heap, some of which is used then.
 fn sevens_in(heap: &LocalHeap, file: &[u8]) -> Result<usize, ImageError> {
     let records = records_of(heap, file)?;
@@ -31,7 +31,7 @@ fn sevens_in(heap: &LocalHeap, file: &[u8]) -> Result<usize, ImageError> {
     Ok(sevens)
 }
 
-/// What `sevens_in` answers in a heap of so many bytes, and how many of these are used afterwards. `None`
+/// What `sevens_in` returns in a heap of `room` bytes, and how many of these are used afterwards. `None`
 /// if there is no such heap.
 fn sevens_within(
     alloc: Global,
@@ -65,7 +65,7 @@ fn each_growth_refused_in_turn(rt: HostRuntime) {
     check(&rt, "both", refused > 1 && read > 1, true);
 }
 
-/// How many bytes of the file are left, and what is answered without memory.
+/// How many bytes of the file are left, and what is returned without memory.
 static FRONTS: [(usize, Result<usize, ImageError>); 3] = [
     (127, Err(ImageError::OutOfMemory)),
     (15, Err(ImageError::Truncated)),

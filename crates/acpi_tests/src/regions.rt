@@ -1,16 +1,16 @@
-//! A kernel's memory: what it lends, and which regions are refused.
+//! A kernel's memory: what it maps, and which regions are errors.
 
 use crate::checks::{check, front};
 use acpi::AcpiHandler;
 use acpi::handler::{MappedRegion, MappedRegions, RegionError};
 use std::test::Fail;
 
-/// A region of so many bytes.
+/// A region of `count` bytes.
 fn region(start: u64, count: usize) -> Result<MappedRegion<'static>, RegionError> {
     MappedRegion::new(start, front(&[1, 2, 3, 4], count))
 }
 
-/// How many bytes are lent from an address on, where so many are asked for.
+/// How many bytes are mapped from an address on, if `size` bytes are requested.
 fn lent<H: AcpiHandler>(memory: &H, address: u64, size: usize) -> Option<usize> {
     if size == 0 {
         return None;
@@ -21,14 +21,14 @@ fn lent<H: AcpiHandler>(memory: &H, address: u64, size: usize) -> Option<usize> 
     }
 }
 
-/// Requests for memory that lies from 0x1000 to 0x1004.
+/// Requests for memory from 0x1000 to 0x1004.
 #[rattlefmt::skip]
 static LENT_OF_ONE: [(u64, usize, Option<usize>); 7] = [
     (0x1000, 1, Some(4)), (0x1003, 1, Some(1)),
     (0xFFF, 1, None), (0x1000, 5, None), (0x1003, 2, None), (0x1004, 1, None), (u64::MAX, 1, None),
 ];
 
-/// Requests for memory that lies from 0x1000 to 0x1004, from there to 0x1006, and from 0x2000 to
+/// Requests for memory from 0x1000 to 0x1004, from there to 0x1006, and from 0x2000 to
 /// 0x2001.
 #[rattlefmt::skip]
 static LENT_OF_THREE: [(u64, usize, Option<usize>); 8] = [

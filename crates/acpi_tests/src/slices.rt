@@ -1,4 +1,4 @@
-//! Owned slices: their items, their clones, and what a small heap refuses.
+//! Owned slices: their items, their clones, and what doesn't fit into a small heap.
 ghost use Rattle.std.specs.Prelude.{◌≡◌};
 
 use crate::checks::{check, check_same, front};
@@ -11,7 +11,7 @@ use std::test::Fail;
 /// How many items a long slice has.
 const MANY: usize = 5000;
 
-/// As many sevens.
+/// Sevens, `MANY` of them.
 static SEVENS: [u8; MANY] = [7; MANY];
 
 /// Writes a nine at a place.
@@ -67,7 +67,7 @@ impl<'c> Clone for Counted<'c> {
     }
 }
 
-/// How many items there are now that a slice of so many is made, after it is cloned, after it is dropped, and after
+/// How many items there are after a slice of `count` items is made, after it is cloned, after it is dropped, and after
 /// the clone is.
 fn counts_of(alloc: Global, count: usize) -> AcpiResult<[u32; 4]> {
     let alive = Cell::new(0);
@@ -81,7 +81,7 @@ fn counts_of(alloc: Global, count: usize) -> AcpiResult<[u32; 4]> {
     Ok([made, cloned, left, alive.get()])
 }
 
-/// How many items a slice has, and what `counts_of` answers.
+/// How many items a slice has, and what `counts_of` returns.
 static COUNTS: [(usize, [u32; 4]); 3] = [
     (5, [5, 10, 5, 0]),
     (0, [0, 0, 0, 0]),

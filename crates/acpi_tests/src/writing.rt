@@ -25,10 +25,10 @@ fn graphic_at(address: u64) -> PlacedTable<'static> {
 }
 
 /// What is read in an image: the revision, how many tables are listed, and where the boot graphic
-/// lies and how it is turned.
+/// is and how it is turned.
 type Graphic = AcpiResult<(u8, usize, u64, u16)>;
 
-/// An image with an RSDP at 0x500, a root table at 0x1000 and so many boot graphics, which begin at
+/// An image with an RSDP at 0x500, a root table at 0x1000 and a number of boot graphics, which begin at
 /// every 0x1000 bytes from an address on: its name in a message, the revision, the address and the count, its length,
 /// what it has at which offsets, and what is read in it.
 type Row = (
@@ -60,7 +60,7 @@ static WRITTEN: [Row; 5] = [
         (104, &[0, 0x20, 0, 0, 0, 0, 0, 0])], Ok((2, 1, 0x2000, 180))),
     ("no tables", (0, 0x2000, 0), 104, &[(68, b"RSDT\x24\x00\x00\x00\x01\xDE")],
         Err(AcpiError::TableMissing(Signature::BGRT))),
-    // The bytes of the pointers 0x10000, 0x11000 and so on up to 0x4bf000 sum to 160: those of 16
+    // The bytes of the pointers 0x10000, 0x11000 and so on up to 0x4bf000 sum to 160: 16 of them
     // in a row sum to 240 times 8 and 16 times one of 1 to 75.
     ("1,200 tables in an RSDT", (0, 0x1_0000, 1200), 91304, &[
         (52, &[0, 0x10, 0, 0, 0, 0, 0, 0, 0xE4, 0x12, 0, 0]),
@@ -90,7 +90,7 @@ fn graphic_in(alloc: Global, file: &[u8]) -> Result<Graphic, ImageError> {
     Ok(found_in(&image))
 }
 
-/// What is read in an image whose RSDP lies at 0x500.
+/// What is read in an image whose RSDP is at 0x500.
 fn found_in(image: &MemoryImage<'_>) -> Graphic {
     let tables = AcpiTables::from_rsdp(image, 0x500)?;
     let graphic = tables.find_table::<Bgrt>()?;
@@ -135,7 +135,7 @@ fn what_is_written_is_opened(rt: HostRuntime) -> Result<(), Fail> {
     Ok(())
 }
 
-/// Fourteen boot graphics that touch, from 0x2000 to 0x2310, in another order than that of their
+/// Fourteen boot graphics that touch, from 0x2000 to 0x2310, in another order than by their
 /// addresses, and after them one at an address.
 fn fifteen_with(address: u64) -> [PlacedTable<'static>; 15] {
     let mut tables = [graphic_at(address); 15];

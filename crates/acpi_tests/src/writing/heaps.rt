@@ -7,21 +7,21 @@ use acpi_image::{PlacedTable, WriteError};
 use linked_list_allocator::LocalHeap;
 use std::alloc::Global;
 
-/// How many of the used bytes of a heap are more than a list of so many has, which has whole blocks
+/// How many of the used bytes of a heap are more than a list of this capacity takes, which has whole blocks
 /// of 16.
 fn beside(used: usize, capacity: usize) -> usize {
     used.wrapping_sub(capacity.wrapping_add(15) / 16 * 16)
 }
 
-/// What `length_within` answers.
+/// What `length_within` returns.
 type Within = Option<(Result<(usize, usize), WriteError>, usize)>;
 
-/// Memory is refused, and none of the heap is used afterwards.
+/// Memory runs out, and none of the heap is used afterwards.
 const REFUSED: Within = Some((Err(WriteError::OutOfMemory), 0));
 
-/// How many bytes are written in a heap of so many bytes, and how many of the heap are used besides
+/// How many bytes are written in a heap of `room` bytes, and how many of the heap are used besides
 /// those that the file has room for, or why none are written; and how many are used afterwards.
-/// `None` if there is no such heap. The RSDP is to lie at 0x500.
+/// `None` if there is no such heap. The RSDP is written for 0x500.
 fn length_within(
     alloc: Global,
     room: usize,
@@ -53,7 +53,7 @@ fn each_growth_refused_in_turn(rt: HostRuntime) {
     check(&rt, "both", refused > 1 && written > 1, true);
 }
 
-/// Where the root table is to lie, and what is answered without memory.
+/// The root table's address, and what is returned without memory.
 static ROOTS: [(u64, WriteError); 2] = [
     (0x500, WriteError::Overlap),
     (0x1000, WriteError::OutOfMemory),
@@ -67,7 +67,7 @@ fn memory_is_asked_for_after_the_checks(rt: HostRuntime) {
     }
 }
 
-/// Where the last of fifteen graphics lies, and what is answered with too little memory.
+/// The address of the last of fifteen graphics, and what is returned with too little memory.
 static LAST_OF_FIFTEEN: [(u64, WriteError); 2] = [
     (0x230F, WriteError::Overlap),
     (0x2310, WriteError::OutOfMemory),

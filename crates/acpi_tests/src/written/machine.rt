@@ -42,7 +42,7 @@ const XSDT_BYTES: [u8; 124] = [
     0x60, 0x15, 0, 0, 0, 0, 0, 0, // GTDT
 ];
 
-/// What stands before the tables: a name, an offset, and bytes.
+/// What comes before the tables: a name, an offset, and bytes.
 static FIRST: [(&str, usize, &[u8]); 4] = [
     ("RSDP", 0, &RSDP_BYTES),
     ("XSDT", 0x30, &XSDT_BYTES),
@@ -50,7 +50,7 @@ static FIRST: [(&str, usize, &[u8]); 4] = [
     ("FACS", 0x100, &FACS_BYTES),
 ];
 
-/// Checks that bytes stand at their offsets, and after them zeros up to the next multiple of 16.
+/// Checks that bytes are at their offsets, and after them zeros up to the next multiple of 16.
 fn stand(rt: &impl Abort, out: &[u8], parts: &[(&str, usize, &[u8])]) {
     for (name, place, bytes) in parts {
         let whole = bytes.len().next_multiple_of(16);
@@ -99,7 +99,7 @@ fn numa_of(tables: &Opened<'_, '_>) -> AcpiResult<[Option<u32>; 3]> {
     ])
 }
 
-/// Where AML begins and where the FACS lies, the number of the HPET, and what `numa_of` returns.
+/// Where AML begins and where the FACS is, the number of the HPET, and what `numa_of` returns.
 type Found = (u64, AddressRange, u8, [Option<u32>; 3]);
 
 /// What is found from the RSDP at 0x1000.
@@ -121,7 +121,7 @@ fn a_reader_finds_what_was_passed(rt: HostRuntime) -> Result<(), Fail> {
     Ok(())
 }
 
-/// An address of the RSDP, and that of the FACS of three tables: the first multiple of 64 that isn't below the first
+/// An RSDP's address, and the address of the FACS of three tables: the first multiple of 64 that isn't below the first
 /// one and 0xa0.
 static PLACES: [(u64, Option<u64>); 6] = [
     (0x1000, Some(0x10c0)),

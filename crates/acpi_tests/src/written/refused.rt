@@ -1,4 +1,4 @@
-//! What is refused, for what C can't pass: `tests/c/rows_written.h` has all else, and with each call a byte less of
+//! Errors of writing, for what C can't pass: `tests/c/rows_written.h` has all else, and with each call a byte less of
 //! room, and names that aren't UTF-8. `TooLong` isn't tried: it needs a slice of 4 GiB.
 
 use super::tables::{FADT, GTDT, HARDWARE, IDS, PORT, SECURE, SPCR};
@@ -69,7 +69,7 @@ static REFUSED: [(&TableIds, TableContents<'static>, WriterError); 13] = [
     }), WriterError::BadCode),
     (&BAD, TableContents::Spcr(SpcrContents { base_address: UNNAMED_NOWHERE, ..SPCR }), WriterError::BadCode),
     (&BAD, TableContents::Spcr(SpcrContents { base_address: NOWHERE, ..SPCR }), WriterError::NoAddress),
-    // the second frame has the base that stands for none, or a timer that is as its bus has it
+    // the second frame has the base that means none, or a timer that is as its bus has it
     (&BAD, frames!(&[SECURE, GtFrame { el0_base: Some(u64::MAX), ..SECURE }]), WriterError::NoAddress),
     (&BAD, frames!(&[SECURE, GtFrame {
         virtual_timer: TimerInterrupt {

@@ -1,6 +1,6 @@
-//! A table of each kind, as Rattle says what it is to say, byte by byte (ACPI 6.4, section 5.2; the SPCR's layout is
+//! A table of each kind, by its contents in Rattle and byte by byte (ACPI 6.4, section 5.2; the SPCR's layout is
 //! Microsoft's, the MCFG's the PCI Firmware Specification's, the HPET's the IA-PC HPET Specification's).
-//! `tests/c/rows_written.h` has more bytes of each, but for what C can't say: FADTs by the names of flags, timers of
+//! `tests/c/rows_written.h` has more bytes of each, but for what C can't pass: FADTs by the names of flags, timers of
 //! the platform in a GTDT, and an SPCR's name and interfaces.
 
 use acpi::HpetInfo;
@@ -69,7 +69,7 @@ pub(super) const HARDWARE: FixedHardware = FixedHardware {
     gpe1_base: 0x40,
 };
 
-/// Its DSDT and FACS lie where `machine` has them.
+/// Its DSDT and FACS are where `machine` has them.
 #[rattlefmt::skip]
 pub(super) const FADT: FadtContents = FadtContents {
     dsdt: 0x10b0, facs: Some(0x1100),
@@ -236,7 +236,7 @@ pub(super) const DSDT_BYTES: [u8; 42] = table!(b'D', b'S', b'D', b'T', 42, 0, 2,
 #[rattlefmt::skip]
 const SSDT_BYTES: [u8; 42] = table!(b'S', b'S', b'D', b'T', 42, 0, 2, 0xfd, 0x10, 5, b'_', b'S', b'B', b'_');
 
-/// Ids at the edge of what a Processor Local APIC/SAPIC Affinity holds: 255 stands for all there.
+/// Ids at the edge of what a Processor Local APIC/SAPIC Affinity holds: 255 means all there.
 #[rattlefmt::skip]
 const SRAT: SratContents<'static> = SratContents {
     apics: &[ApicDomain { local_apic_id: 254, domain: 0x01020304 }, ApicDomain { local_apic_id: 255, domain: 5 }],
@@ -364,7 +364,7 @@ pub(super) const TABLES: [TableContents<'static>; 11] = [
     TableContents::Spcr(SPCR), TableContents::Bgrt(BGRT), TableContents::Gtdt(GTDT),
 ];
 
-/// Their names in a message, where they lie in the machine, and their bytes.
+/// Their names in a message, where they are in the machine, and their bytes.
 #[rattlefmt::skip]
 pub(super) static WRITTEN: [(&str, usize, &[u8]); 11] = [
     ("FADT", 0x160, &FADT_BYTES), ("MADT", 0x280, &MADT_BYTES), ("GIC", 0x2d0, &GIC_BYTES),
