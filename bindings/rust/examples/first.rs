@@ -3,7 +3,7 @@ use std::io::Read;
 use zacpi::{Accept, AcpiResult, AcpiTables, Region, Start};
 
 fn count(bytes: &[u8]) -> AcpiResult<usize> {
-    let regions = [Region::new(0x70000000, bytes)]; // in a kernel: where it has mapped the firmware's tables
+    let regions = [Region::new(0x70000000, bytes)];
     let accept = Accept { sums: true, ids: true };
     let tables = AcpiTables::open_accepting(&regions, Start::Rsdp(0x70000000), accept)?;
     tables.processors().count()
