@@ -21,8 +21,8 @@
  * What the caller keeps. A pointer is aligned for its type, points to as many items as the length
  * beside it says, and isn't null, but for a list of no items and for `signature`; lists inside the
  * items of a list (a region's bytes) aren't null either. An input is initialised. An output shares
- * no byte with an input or another output. While a call runs nobody writes what it reads, nor
- * touches what it writes. The stack is aligned as the ABI says. The library uses the red zone and
+ * no byte with an input or another output. While a call runs nobody may write what it reads, nor
+ * touch what it writes. The stack is aligned as the ABI has it. The library uses the red zone and
  * vector registers if its compiler's flags let it (C.md); vector registers are to be enabled first
  * (on x86-64 CR0.EM clear, CR4.OSFXSR set).
  *

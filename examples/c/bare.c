@@ -8,7 +8,7 @@ extern const uint8_t image[], image_end[];
 __asm__(".section .rodata\nimage: .incbin \"" IMAGE "\"\nimage_end: .byte 0\n.text\n"
         ".globl _start\n_start: xor %ebp, %ebp\n and $-16, %rsp\n call begin\n");
 
-/* The four functions that a compiler may ask for, also for the library. The loops are through
+/* The four functions that a compiler may call, also for the library. The loops are through
  * volatile pointers, or the compiler could make calls of these functions out of them. */
 void *memmove(void *to, const void *from, size_t n) {
     volatile uint8_t *t = to;

@@ -1,8 +1,8 @@
 /* bench IMAGE rsdt REVISION ADDRESS [BATCHES] | rsdp ADDRESS [BATCHES] | bios [BATCHES]: how long calls of the library
  * take over an image.
  *
- * Each line names a call, says how many items or bytes it answers, and gives the nanoseconds that it takes: those of
- * the fastest of so many batches, 1000 if nothing is said, each of as many calls as take 20 microseconds. Other work on
+ * Each line has a call, how many items or bytes it returns, and the nanoseconds that it takes, those of
+ * the fastest of a number of batches, 1000 by default, each of the calls that take 20 microseconds. Other work on
  * the machine only adds to the time. With 0 batches no clock is read. */
 #define _POSIX_C_SOURCE 199309L
 #include "image.h"
@@ -14,7 +14,7 @@ enum { MOST = 4096 }; /* how many items of a list are written */
 static struct zacpi_source source;
 static struct zacpi_signature wanted, named;
 
-/* Each of these makes one call, and writes how many items or bytes it answers. */
+/* Each of these makes one call, and writes how many items or bytes it returns. */
 static zacpi_status open_root(size_t *count) {
     struct zacpi_root root = {0};
     zacpi_status refused = zacpi_open(&source, &root, &named);
@@ -79,7 +79,7 @@ static zacpi_status list_pci_regions(size_t *count) {
     return zacpi_list_pci_regions(&source, out, MOST, count, &named);
 }
 
-/* What is timed: a call, the signature that it looks up if it is a lookup, and what it answers. */
+/* What is timed: a call, the signature that it looks up if it is a lookup, and what it returns. */
 static const struct call {
     const char *name, *letters, *what;
     zacpi_status (*make)(size_t *count);
@@ -108,7 +108,7 @@ static double now(void) {
     return 1e9 * (double)time.tv_sec + (double)time.tv_nsec;
 }
 
-/* The nanoseconds that so many calls take. */
+/* The nanoseconds that `times` calls take. */
 static double batch(const struct call *call, long times) {
     double start = now();
     size_t count = 0;
@@ -116,7 +116,7 @@ static double batch(const struct call *call, long times) {
     return now() - start;
 }
 
-/* The nanoseconds that one call takes in the fastest of so many batches. */
+/* The nanoseconds that one call takes in the fastest of `batches`. */
 static double least(const struct call *call, unsigned long batches) {
     long times = 1;
     double best = batch(call, times), next;

@@ -1,5 +1,5 @@
-/* caches IMAGE START: the caches of each processor by the PPTT (section 5.2.30): those of its node and of the nodes
- * above it, and after each those of the next levels. A cache is its offset in the table, and its size. */
+/* caches IMAGE START: the caches of each processor by the PPTT (section 5.2.30): of its node and of the nodes
+ * above it, and after each its next levels. A cache is its offset in the table, and its size. */
 #include "table.h"
 #include "zacpi_tables.h"
 
@@ -8,7 +8,7 @@ typedef struct zacpi_raw_pptt_node_cache_type_structure cache;
 #define FLAG(name) ZACPI_RAW_PPTT_NODE_##name
 enum { DEPTH = 8 }; /* at most */
 
-/* The structure of a type at an offset, if it has so many bytes: its Type and Length come first. */
+/* The structure of a type at an offset, if it has this length: its Type and Length come first. */
 static const void *structure(uint32_t offset, uint8_t type, size_t least) {
     const uint8_t *it = at(offset, 2);
     return it && offset && it[0] == type && it[1] >= least ? at(offset, it[1]) : NULL;

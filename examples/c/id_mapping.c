@@ -9,7 +9,7 @@ static const node *node_at(uint32_t offset) {
     return it && offset && it->length >= sizeof *it ? at(offset, it->length) : NULL;
 }
 /* The node that an id goes to, and the id there, by the first of a node's mappings that has it; 0 if none has it. A
- * mapping has one id more than its field says. */
+ * mapping has one id more than its field has. */
 static uint32_t next(const node *from, uint32_t *id) {
     uint32_t i, offset = from->reference_to_id_array;
     for (i = 0; i < from->number_of_id_mappings; i++, offset += sizeof(mapping)) {

@@ -1,6 +1,6 @@
 #include "lines.h"
 
-#define MOST 1024 /* items of a list that are printed; more are counted, and said to be left out */
+#define MOST 1024 /* items of a list that are printed; more are counted, and reported as left out */
 
 /* Lists are filled one at a time, so one block of memory does for all of them. */
 static union {

@@ -17,12 +17,12 @@ void say(const struct printer *p, const char *text);
 void say_number(const struct printer *p, uint64_t number);
 void say_address(const struct printer *p, uint64_t address);
 void say_signature(const struct printer *p, const uint8_t letters[4]);
-/* `WHAT: REFUSAL` and a newline, in the names that acpi_view has for refusals. */
+/* `WHAT: ERROR` and a newline, by the names that acpi_view has for errors. */
 void say_refused(const struct printer *p, const char *what, zacpi_status status, const struct zacpi_signature *named);
 
 /* Prints what acpi_view prints of these tables on its standard output, and on `skipped` what it prints of
- * tables passed over, unless it is null. The revision is the one at `revision`, or that of zacpi_open if it is null.
- * Answers ZACPI_OK, or the refusal of opening the tables, and has then printed nothing. */
+ * skipped tables, unless it is null. The revision is the one at `revision`, or that of zacpi_open if it is null.
+ * Returns ZACPI_OK, or the error of opening the tables, and has then printed nothing. */
 zacpi_status print_lines(const struct zacpi_source *source, const uint8_t *revision, const struct printer *p,
                          const struct printer *skipped, struct zacpi_signature *named);
 

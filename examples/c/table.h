@@ -24,7 +24,7 @@ static int open_table(int argc, char **argv, const char *letters) {
     exit(1);
 }
 
-/* What lies at an offset of the table, if so many bytes do. */
+/* What is at an offset of the table, if `length` bytes are there. */
 static inline const void *at(uint32_t offset, size_t length) {
     return offset <= table.length && length <= table.length - offset ? bytes + offset : NULL;
 }

@@ -1,5 +1,5 @@
-/* tpm_log IMAGE START: where the log of a TPM is, by the TPM2 (TCG ACPI Specification), of which an older one may say
- * nothing. */
+/* tpm_log IMAGE START: where the log of a TPM is, by the TPM2 (TCG ACPI Specification), which an older one may not
+ * have. */
 #include "table.h"
 #include "zacpi_tables.h"
 

@@ -1,12 +1,12 @@
 /* guest PROCESSORS FILE: writes the ACPI tables of a guest's machine into a file, as a hypervisor writes them into the
- * guest's memory from 0x7000000 on, where the RSDP lies: so many processors and 128 MiB in two domains, an I/O APIC,
+ * guest's memory from 0x7000000 on, where the RSDP is: a number of processors and 128 MiB in two domains, an I/O APIC,
  * PCI, an HPET, and the fixed hardware of a q35. */
 #include "zacpi.h"
 #include <stdio.h>
 #include <stdlib.h>
 
 enum { TABLES = 0x7000000, ROOM = 1 << 20, MOST = 4096, HALF = 64 << 20 };
-/* What the tables say, but for the processors. */
+/* The contents of the tables, but for the processors. */
 static const struct zacpi_io_apic io_apic = {0xfec00000, 0, 0};
 static const struct zacpi_interrupt_source_override overrides[] = {
     {.isa_source = 0, .global_system_interrupt = 2}, /* the timer */
@@ -27,7 +27,7 @@ static void place(size_t count) {
         processors[i].state = ZACPI_PROCESSOR_WAITING, domains[i].domain = i >= (count + 1) / 2;
     }
 }
-/* A register of so many bits among the I/O ports. */
+/* A register of `bits` bits among the I/O ports. */
 static struct zacpi_register port(uint64_t address, uint8_t bits) {
     struct zacpi_register answer = {{address, ZACPI_SPACE_SYSTEM_IO, bits, 0, 0}, 1};
     return answer;
@@ -45,7 +45,7 @@ static struct zacpi_fixed_hardware hardware(void) {
     return answer;
 }
 
-/* Writes the tables of a machine with so many processors into `memory`, and says how many bytes they have. */
+/* Writes the tables of a machine with `count` processors into `memory`, and how many bytes they have to `length`. */
 static zacpi_status write_machine(size_t count, size_t *length) {
     const struct zacpi_table_ids ids = {"ZACPI", "GUEST", 1, {'Z', 'F', 'I', 'R'}, 1};
     const struct zacpi_madt_contents madt = {.processors = processors,

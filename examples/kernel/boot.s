@@ -1,5 +1,5 @@
 # The entries: 32-bit, protected, no paging. Each goes to long mode in the upper half, and calls kernel(magic, info).
-# The first GiB is mapped at base, where the kernel is linked, and after it lies the window through which memory is
+# The first GiB is mapped at base, where the kernel is linked, and after it is the window through which memory is
 # mapped on demand (window.c): 2 MiB at 0xffffffffc0000000, nothing in it yet. Nothing is at 0.
         .set base, 0xffffffff80000000   # as in link.ld
         .section .text

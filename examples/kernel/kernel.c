@@ -29,7 +29,7 @@ void on_fault(uint64_t number, uint64_t code, uint64_t instruction) {
     leave(LEAVE_FAULT);
 }
 /* What a search looks at, which the loader's map may leave out: the word at 0x40e, the first KiB of the extended BIOS
- * data area (EBDA), whose segment that is, as far as it lies below video memory (section 5.2.5.1), and the BIOS area
+ * data area (EBDA), whose segment that is, as far as it is below video memory (section 5.2.5.1), and the BIOS area
  * with the 16 bytes after it, in which an RSDP may end. */
 static size_t bios_areas(struct zacpi_range *out) {
     struct zacpi_range ebda = {low(at(0x40e), 2) << 4, 0x400};
@@ -71,8 +71,8 @@ static uint64_t number_after(const volatile uint8_t *p) {
         number = number << 4 | (uint64_t)(*p <= '9' ? *p - '0' : *p - 'a' + 10);
     return number;
 }
-/* Maps the tables: from the RSDP that the loader says, else from that which a search of the BIOS areas finds, else
- * (booted by UEFI) from where the command line says by `rsdp=0x...`. */
+/* Maps the tables: from the RSDP that the loader passes, else from one that a search of the BIOS areas finds, else
+ * (booted by UEFI) from the address in the command line, `rsdp=0x...`. */
 static void find_tables(struct zacpi_source *source) {
     const volatile uint8_t *p = word_after(&loaded, "rsdp=0x");
     struct zacpi_signature named;
@@ -96,7 +96,7 @@ static struct zacpi_range ranges[512];
 static struct zacpi_processor processors[512];
 static struct zacpi_io_apic io_apics[64];
 
-/* Where the listed tables lie, and the memory that the tables take. From the root table on the RSDP isn't among it,
+/* Where the listed tables are, and the memory that the tables take. From the root table on the RSDP isn't among it,
  * which isn't to be given away either. */
 static void places(const struct zacpi_source *source) {
     struct zacpi_signature named = {{0}};

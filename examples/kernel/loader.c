@@ -9,7 +9,7 @@ static void add_range(const volatile uint8_t *entry, const struct printer *p, st
     if (out->memory_length < sizeof out->memory / sizeof *out->memory) out->memory[out->memory_length++] = range;
 }
 
-/* Multiboot 1, section 3.3: flags at 0, of which bit 2 says that cmdline is there, at 16, and bit 6 that mmap_length
+/* Multiboot 1, section 3.3: flags at 0, by bit 2 of which cmdline is there, at 16, and bit 6 that mmap_length
  * is, at 44, and mmap_addr, at 48. An entry's size, at 0, doesn't count itself; its range is at 4. */
 static void read_multiboot(const volatile uint8_t *info, const struct printer *p, struct loaded *out) {
     const uint64_t flags = low(info, 4);
@@ -22,7 +22,7 @@ static void read_multiboot(const volatile uint8_t *info, const struct printer *p
 
 /* Multiboot 2, section 3.6: tags from 8 on, each with its type at 0, its size at 4, and at a multiple of 8. Type 1 has
  * the command line at 8; 6, the memory map, the size of an entry at 8 and entries from 16 on; 14 and 15, copies of the
- * RSDP of ACPI 1.0 and of later, the copy at 8. The copy lies in memory too, so it has an address of its own. */
+ * RSDP of ACPI 1.0 and of later, the copy at 8. The copy is in memory too, so it has an address of its own. */
 static void read_multiboot2(const volatile uint8_t *info, uint64_t address, const struct printer *p,
                             struct loaded *out) {
     const uint64_t length = low(info, 4);

@@ -9,7 +9,7 @@ static uint8_t in8(uint16_t port) {
     return x;
 }
 
-/* What the library asks for. */
+/* What the library calls. */
 void *memcpy(void *to, const void *from, size_t n) {
     void *answer = to;
     __asm__ volatile("rep movsb" : "+D"(to), "+S"(from), "+c"(n)::"memory");

@@ -20,7 +20,7 @@ size_t pages_of(struct zacpi_range *ranges, size_t length, struct zacpi_range ow
     return zacpi_clip_ranges(ranges, length, &own, 1, &all, out, capacity, &count) || count > capacity ? 0 : count;
 }
 
-/* The first of so many pages that are free one after the other; PAGES if there aren't. */
+/* The first of `count` pages that are free one after the other; PAGES if there are none. */
 static uint64_t free_pages(uint64_t count) {
     uint64_t first = 0, i;
     for (i = 0; i < PAGES && i - first < count; i++)

@@ -18,7 +18,7 @@ size_t pages_of(struct zacpi_range *ranges, size_t length, struct zacpi_range ow
                 size_t capacity);
 
 /* Maps by pages what the memory (`context`, a struct window_memory) has, to be read, and unmaps it (zacpi_map.h). Null
- * if the range isn't whole in one of its ranges, or the window has no room. */
+ * if the range isn't whole in one of its ranges, or the window is full. */
 const void *map_window(void *context, uint64_t address, uint64_t length);
 void unmap_window(void *context, const void *at, uint64_t address, uint64_t length);
 /* The most pages of the 512 that were mapped at once. */

@@ -3,7 +3,7 @@
 #include "plan.h"
 #include "window.h"
 
-extern uint8_t load_start[], bss_end[]; // where this kernel lies, by link.ld
+extern uint8_t load_start[], bss_end[]; // where this kernel is, by link.ld
 static const struct printer serial = {to_serial, 0};
 static struct loaded loaded;
 static struct zacpi_range kept[129], missing[256];

@@ -31,8 +31,8 @@ static uint64_t rsdp_of(const struct system_table *system) {
     return 0;
 }
 
-/* The regions: the tables lie in the two types of memory that are ACPI's (section 2.3). Those of a map touch, and a
- * table has to lie in one, so they are joined. Memory is mapped at its own addresses; answers 0 if there is no map. */
+/* The regions: the tables are in the two types of memory that are ACPI's (section 2.3). A map's ranges touch, and a
+ * table has to be in one, so they are joined. Memory is mapped at its own addresses; returns 0 if there is no map. */
 static size_t make_regions(const struct system_table *system) {
     const struct zacpi_range window = {0x1000, UINT64_MAX - 0x1000}; /* so that no pointer is null */
     uint64_t size = sizeof map, key, each;

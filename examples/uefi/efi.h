@@ -1,4 +1,4 @@
-/* What app.c asks of UEFI (version 2.10). EFI_ABI is how the firmware is called. */
+/* What app.c uses of UEFI (version 2.10). EFI_ABI is how the firmware is called. */
 #ifndef EFI_H
 #define EFI_H
 #include <stdint.h>

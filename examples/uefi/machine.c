@@ -33,7 +33,7 @@ void wait_for_byte(void) {
     while (uart[6] & 0x10) {} /* bit 4 of UARTFR */
 }
 
-/* The firmware's handler of exceptions uses vector registers, so it couldn't say what happened: this one can. */
+/* The firmware's handler of exceptions uses vector registers, so it couldn't print what happened: this one can. */
 __asm__(".text\n .balign 2048\nvectors: .rept 16\n .balign 128\n b on_fault\n .endr\n");
 extern const uint8_t vectors[] __attribute__((visibility("hidden")));
 void on_fault(void) {
@@ -54,7 +54,7 @@ void to_serial(void *to, const char *bytes, size_t length) {
     while (length--) put((uint8_t)*bytes++);
 }
 
-/* What the library asks for. The loops are through volatile pointers, or the compiler could make calls of these
+/* What the library calls. The loops are through volatile pointers, or the compiler could make calls of these
  * functions out of them. */
 void *memcpy(void *to, const void *from, size_t n) {
     volatile uint8_t *t = to;
