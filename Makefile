@@ -6,7 +6,7 @@
 #   make split              out/libzacpi-split.a, an object for each function, for linkers without --gc-sections
 #   make check              calls of it by programs of examples/c and tests/c; elsewhere RUN=qemu-arm LDFLAGS=-static
 #   make install            the headers, zacpi.c, both archives, what leads pkg-config and CMake to them, examples
-#   make acpi_dump          out/acpi_dump, the program, for Linux on x86-64 and AArch64
+#   make acpi_dump          out/acpi_dump, the program, for Linux, BSD and macOS on x86-64 and AArch64
 #   make install-programs   the programs in $(PROGRAMS), with their manual pages and completions
 #
 # CC, AR, CFLAGS, LDFLAGS, PREFIX, LIBDIR and DESTDIR are the usual ones.
@@ -47,11 +47,15 @@ $(OUT)/libzacpi-split.a: dist/zacpi.c scripts/zacpi-split.awk
 	    $(CC) $(SECTIONS) $(CFLAGS) -Iinclude -c $$file -o $${file%c}o || exit 1; done
 	$(AR) rcs $@ $(OUT)/split/*.o
 
-# Assembly of what is proved, and what calls the C library for it.
+# Assembly of what is proved, and what calls the C library for it. It is for ELF; macOS has Mach-O.
 acpi_dump: $(OUT)/acpi_dump
-$(OUT)/acpi_dump: dist/acpi_dump-$(PROCESSOR).s bindings/linux/host.c
+DUMP = dist/acpi_dump-$(PROCESSOR).s
+$(OUT)/acpi_dump: $(if $(findstring apple,$(MACHINE)),$(OUT)/acpi_dump.s,$(DUMP)) bindings/posix/host.c
 	@mkdir -p $(OUT)
 	$(CC) $(CFLAGS) $^ $(LDFLAGS) -s -o $@
+$(OUT)/acpi_dump.s: $(DUMP) scripts/mach_o.awk
+	@mkdir -p $(OUT)
+	awk -f scripts/mach_o.awk $< $< >$@
 
 LINKED = $(CC) -std=c99 $(CFLAGS) -Iinclude $(1) $(OUT)/libzacpi.a $(LDFLAGS) -o $(OUT)/$(2)
 check: $(OUT)/libzacpi.a
