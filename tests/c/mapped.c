@@ -1,6 +1,8 @@
 /* mapped IMAGE rsdt REVISION ADDRESS N | rsdp ADDRESS N | bios N: whether zacpi_map_tables leads to the answers over
  * the whole memory of an image, and of N copies of it of which some bytes are changed and a part is missing, the same
  * each time. `bios` tries both searches.
+ * mapped: whether zacpi_map_wanted_tables maps what it has to of a machine whose root table has hundreds of pointers to
+ * nothing before those to tables, by page and by byte.
  *
  * Its mapper counts what it maps. Pages without access stand before and after each range that it maps, and what it
  * unmaps becomes such pages, so reading them ends the program. */
@@ -33,9 +35,10 @@ static struct {
 static size_t mapped_count, mapped_now, mapped_most;
 /* Whether a range was unmapped that no other holds. */
 static int is_lost;
-/* The ranges that it refused. */
+/* The ranges that it refused, and whether there is room for them, so that none is requested again. */
 static struct zacpi_range refused[MOST];
 static size_t refused_count;
+static int are_kept;
 
 static int wrong(const char *what) {
     fprintf(stderr, "%s\n", what);
@@ -60,7 +63,7 @@ static const void *map(void *context, uint64_t address, uint64_t length) {
         if (mapped[i].is_mapped && holds(mapped[i].address, mapped[i].length, address, length))
             end("map: it is mapped");
     if (mapped_now > mapped_most) mapped_most = mapped_now;
-    for (i = 0; i < refused_count; i++)
+    for (i = 0; are_kept && i < refused_count; i++)
         if (holds(address, length, refused[i].address, refused[i].length)) end("map: a refused range again");
     for (i = 0; i < there_count && !holds(there[i].address, there[i].length, address, length); i++) continue;
     if (refused_count == MOST || mapped_count == MOST) end("map: too many");
@@ -177,6 +180,7 @@ static zacpi_status run(struct zacpi_source source, size_t capacity, size_t room
     if (unit != PAGE) mapper.page = unit;
     mapped_most = 0;
     is_lost = 0;
+    are_kept = room == MOST;
     source.regions_length = 0;
     regions[capacity].length = ranges[room].length = 12345;
     if (source.start == ZACPI_START_SEARCH && !map_low(&source, capacity)) {
@@ -212,9 +216,11 @@ static int agrees(const struct zacpi_source *over) {
     }
     for (room = 0; room < 4; room++) {
         const zacpi_status status = run(*over, MOST, room);
-        if (status != ZACPI_NO_ROOM && !(status == ZACPI_OK && are_among())) return wrong("few ranges");
+        if (status != ZACPI_NO_ROOM && !(status == ZACPI_OK && (room ? same() : are_among())))
+            return wrong("few ranges");
     }
-    return 1;
+    if (over->start == ZACPI_START_SEARCH || over->start == ZACPI_START_BIOS_SEARCH) return 1;
+    return run(*over, MOST, 8) == ZACPI_OK && same() ? 1 : wrong("eight ranges");
 }
 
 /* Changes one to four bytes of the records, and then as many bytes at the same places. */
@@ -277,12 +283,99 @@ static int lay_out(void) {
     return 1;
 }
 
+/* The crowded machine: pages from ROOT on, of which the RSDT has the first. Its pointers are 300 null ones, 300 to no
+ * memory, 300 to a page each that begins as a table "JUNK", and those to the FADT, the MADT and the HPET, each in a page
+ * of its own that touches no other. The FADT, of revision 1, points to the DSDT and the FACS. */
+enum { ROOT = 0x100000, JUNK = 0x110000, NOWHERE = 0x40000000, EACH = 300, FADT = 0x300000, MADT = 0x302000,
+       HPET = 0x304000, DSDT = 0x306000, FACS = 0x308000, END = 0x30a000 };
+static uint8_t crowded[END - ROOT];
+
+static void put(uint64_t address, uint64_t value, size_t length) {
+    while (length--) crowded[address++ - ROOT] = (uint8_t)value, value >>= 8;
+}
+static void table(uint64_t address, const char *letters, uint32_t length) {
+    uint8_t sum = 0;
+    size_t i;
+    memcpy(crowded + (address - ROOT), letters, 4);
+    put(address + 4, length, 4);
+    for (i = 0; i < length; i++) sum = (uint8_t)(sum + crowded[address - ROOT + i]);
+    put(address + 9, (uint64_t)(256 - sum), 1);
+}
+static void crowd(struct zacpi_source *source) {
+    uint64_t i, at = ROOT + 36 + 4 * EACH;
+    for (i = 0; i < EACH; i++, at += 4) put(at, NOWHERE + 0x1000 * i, 4);
+    for (i = 0; i < EACH; i++, at += 4) put(at, JUNK + 0x1000 * i, 4), table(JUNK + 0x1000 * i, "JUNK", 36);
+    put(at, FADT, 4), put(at + 4, MADT, 4), put(at + 8, HPET, 4);
+    table(ROOT, "RSDT", 36 + 4 * (3 * EACH + 3));
+    put(FADT + 36, FACS, 4), put(FADT + 40, DSDT, 4), put(FADT + 8, 1, 1), table(FADT, "FACP", 116);
+    table(MADT, "APIC", 44), table(HPET, "HPET", 56), table(DSDT, "DSDT", 0x1010), table(FACS, "FACS", 64);
+    there[0].address = ROOT;
+    there[0].bytes = crowded;
+    there[0].length = sizeof crowded;
+    there_count = 1;
+    source->address = ROOT;
+    source->start = ZACPI_START_RSDT;
+}
+static const void *map_crowded(void *context, uint64_t address, uint64_t length) {
+    if (!address) end("map: a null pointer");
+    return map(context, address, length);
+}
+/* Maps by these capacities what is named, and compares the regions, and the calls for a DSDT, a FACS and an HPET. */
+struct want {
+    const char *names;
+    size_t capacity, room, page;
+    uint64_t found[5][2]; /* the regions' addresses and lengths */
+    zacpi_status dsdt, facs, hpet;
+};
+static int maps(struct zacpi_source *source, const struct want *want) {
+    const struct zacpi_mapper mapper = {&mapped, map_crowded, unmap, want->page};
+    struct zacpi_signature wanted[4];
+    struct zacpi_aml_table dsdt;
+    struct zacpi_facs facs;
+    struct zacpi_hpet_info hpet;
+    const size_t length = strlen(want->names);
+    size_t i;
+    int agreed;
+    memcpy(wanted, want->names, length);
+    unit = want->page;
+    are_kept = 0;
+    agreed = !zacpi_map_wanted_tables(&mapper, source, wanted, length / 4, regions, want->capacity, ranges, want->room);
+    for (i = 0; i < source->regions_length && i < 5; i++)
+        agreed &= regions[i].address == want->found[i][0] && regions[i].length == want->found[i][1];
+    agreed &= (i == 5 || !want->found[i][1]) && zacpi_get_dsdt(source, &dsdt, NULL) == want->dsdt &&
+              zacpi_get_facs(source, &facs, NULL) == want->facs && zacpi_get_hpet(source, &hpet, NULL) == want->hpet;
+    zacpi_unmap_tables(&mapper, source);
+    forget();
+    return agreed;
+}
+static int maps_wanted(void) {
+    enum { NO = ZACPI_MAP_FAILED, NO_TABLE = ZACPI_TABLE_MISSING, LISTED = 4 * (3 * EACH + 3) + 36 };
+    static const struct want wants[] = {
+        {"APICFACPDSDT", 4, 2, 0x1000, {{ROOT, 0x1000}, {FADT, 0x1000}, {MADT, 0x1000}, {DSDT, 0x2000}}, 0, NO,
+         NO_TABLE},
+        {"FACPFACSHPET", 4, 9, 0x1000, {{ROOT, 0x1000}, {FADT, 0x1000}, {HPET, 0x1000}, {FACS, 0x1000}}, NO, 0, 0},
+        {"DSDTFACS", 4, 64, 0x1000, {{ROOT, 0x1000}}, NO_TABLE, NO_TABLE, NO_TABLE},
+        {"FACPDSDTFACS", 4, 1, 1, {{ROOT, LISTED}, {FADT, 116}, {DSDT, 0x1010}, {FACS, 64}}, 0, 0, NO_TABLE},
+        {"HPETFACPAPIC", 2, 64, 1, {{ROOT, LISTED}, {FADT, 116}}, NO, NO, NO_TABLE},
+        /* Without names the first in memory have the room. */
+        {"", 4, 64, 1, {{ROOT, LISTED}, {JUNK, 36}, {JUNK + 0x1000, 36}, {JUNK + 0x2000, 36}}, NO_TABLE, NO_TABLE,
+         NO_TABLE},
+    };
+    struct zacpi_source source = {0};
+    size_t i;
+    crowd(&source);
+    for (i = 0; i < sizeof wants / sizeof *wants; i++)
+        if (!maps(&source, &wants[i])) return fprintf(stderr, "at %s %lu\n", wants[i].names, (unsigned long)i), 0;
+    return printf("%lu rows\n", (unsigned long)i), 1;
+}
+
 int main(int argc, char **argv) {
     struct zacpi_source whole = {0};
     uint8_t revision, *image, *places[4], was[4];
     size_t length, changed, i, runs;
     const int taken = start_of(argc, argv, &whole, &revision);
     int agreed;
+    if (argc == 1) return !maps_wanted();
     if (!taken || argc != taken + 1) return wrong("IMAGE START N") + 2;
     image = contents(argv[1], &length);
     if (!image) return wrong("no such file") + 1;
