@@ -4,9 +4,8 @@
 
 use crate::acpi_tables::{AcpiTables, Root};
 use crate::error::AcpiResult;
-use crate::list::{List, Slot};
-use crate::memory::{join, missing_ranges, replace, Accept, Region, Start};
-use crate::raw;
+use crate::mapping::{Mapping, Maps};
+use crate::memory::{Accept, Region, Start};
 use crate::raw::records::{Range, Signature};
 use crate::room::Room;
 use core::fmt;
@@ -31,9 +30,11 @@ use core::ptr::NonNull;
 /// }
 /// ```
 pub trait PhysicalMapper {
-    /// Returns where the first byte of a range is mapped, or `None` if it isn't memory by the loader's map or can't be
-    /// mapped. A range begins and ends at multiples of 4096. It may overlap others that are mapped at the time, so a
-    /// byte may be mapped twice.
+    /// Ranges begin and end at multiples of it. 1 is enough where `map` makes a copy.
+    const PAGE: u64 = 4096;
+
+    /// Returns where the first byte of a range is mapped, or of a copy, or `None` if it isn't memory by the loader's
+    /// map or can't be mapped. A range may overlap others that are mapped at the time, so a byte may be mapped twice.
     ///
     /// # Safety
     ///
@@ -44,13 +45,9 @@ pub trait PhysicalMapper {
     fn unmap(&self, at: NonNull<u8>, range: Range);
 }
 
-/// The bytes of a page.
-const PAGE: u64 = 4096;
-
 /// Tables, with the memory that they lie in, which is unmapped when this is dropped. [`MappedTables::tables`] reads
-/// them. It has capacity for so many regions, for as many ranges that are missing at a time, and for as many that can't
-/// be mapped: eight of each are enough, and one more for each pointer of the root table. With the feature `alloc` the
-/// capacity grows where that isn't enough.
+/// them. It has capacity for so many regions and as many ranges. One for each table, and eight more, are enough. With
+/// the feature `alloc` the capacity grows where that isn't enough.
 pub struct MappedTables<M: PhysicalMapper, const ROOM: usize = 64> {
     mapper: M,
     /// The first `count` are mapped by `mapper`, in ascending order, and stay so until they are replaced or dropped.
@@ -61,12 +58,13 @@ pub struct MappedTables<M: PhysicalMapper, const ROOM: usize = 64> {
 }
 
 impl<M: PhysicalMapper, const ROOM: usize> MappedTables<M, ROOM> {
-    /// Maps what the tables from a start need: the RSDP, the root table, the listed tables, the DSDT and the FACS. What
-    /// `map` returned `None` for, or a range that holds it, isn't requested again: that table is skipped.
+    /// Maps what the tables from a start need: the RSDP, the root table, the listed tables, the DSDT and the FACS. A
+    /// table for which `map` returns `None` is skipped, as is one for which there is no capacity, and with the feature
+    /// `alloc` no memory. A null pointer of the root table takes nothing.
     ///
     /// Fails as [`AcpiTables::open`] does, and with [`AllocError`](crate::AcpiError::AllocError) if there is no
-    /// capacity for a region or a range, or with the feature `alloc` no memory for it. Then all is unmapped again.
-    /// [`Start::Search`] looks at what is mapped alone, which is nothing here.
+    /// capacity to open the tables. Then all is unmapped again. [`Start::Search`] looks at what is mapped alone, which
+    /// is nothing here.
     ///
     /// # Safety
     ///
@@ -74,7 +72,7 @@ impl<M: PhysicalMapper, const ROOM: usize> MappedTables<M, ROOM> {
     /// written by nobody while the tables are read (see [`Region::from_raw`]).
     pub unsafe fn open(mapper: M, start: Start) -> AcpiResult<Self> {
         // SAFETY: the caller promised the same.
-        unsafe { Self::open_accepting(mapper, start, Accept::default()) }
+        unsafe { Self::open_wanted(mapper, start, Accept::default(), &[]) }
     }
 
     /// Maps what [`MappedTables::open`] does, and what [`AcpiTables::open_accepting`] needs. Fails as that does.
@@ -83,9 +81,21 @@ impl<M: PhysicalMapper, const ROOM: usize> MappedTables<M, ROOM> {
     ///
     /// That of [`MappedTables::open`].
     pub unsafe fn open_accepting(mapper: M, start: Start, accept: Accept) -> AcpiResult<Self> {
+        // SAFETY: the caller promised the same.
+        unsafe { Self::open_wanted(mapper, start, accept, &[]) }
+    }
+
+    /// Maps what [`MappedTables::open_accepting`] does, but of the listed tables, the DSDT and the FACS those of these
+    /// signatures alone, unless there are none: no other one takes capacity, though one that lies in the same pages is
+    /// found too. The DSDT and the FACS need the FADT. Fails as that does.
+    ///
+    /// # Safety
+    ///
+    /// That of [`MappedTables::open`].
+    pub unsafe fn open_wanted(mapper: M, start: Start, accept: Accept, wanted: &[Signature]) -> AcpiResult<Self> {
         let root = Root { address: 0, length: 0, revision: 0, is_xsdt: false, rsdp: None };
         let mut tables = MappedTables { mapper, regions: Room::new(), count: 0, root, accept };
-        tables.map_missing(start)?;
+        tables.map_wanted(start, wanted)?;
         tables.root = AcpiTables::open_accepting(tables.regions(), start, accept)?.root();
         Ok(tables)
     }
@@ -100,80 +110,51 @@ impl<M: PhysicalMapper, const ROOM: usize> MappedTables<M, ROOM> {
         &self.regions.items()[..self.count]
     }
 
-    /// Maps round by round, until no new range is missing.
-    fn map_missing(&mut self, start: Start) -> AcpiResult<()> {
-        let mut missing = Room::<Slot<Range>, ROOM>::new();
-        let mut refused = Room::<Range, ROOM>::new();
-        let mut refused_count = 0;
+    /// Maps what is wanted, and again where there was no capacity for it and more of it can be had.
+    fn map_wanted(&mut self, start: Start, wanted: &[Signature]) -> AcpiResult<()> {
+        let mut ranges = Room::<Range, ROOM>::new();
         loop {
-            let count = missing_ranges(self.regions(), start, self.accept).fill(missing.items_mut())?.count();
-            if count > missing.items().len() {
-                missing.grow()?;
-                continue;
-            }
-            let list = List::written(missing.items(), count, Signature::default());
-            let mut is_new = false;
-            for range in &list {
-                // An earlier range of this round may have brought it.
-                if raw::locate(self.regions(), range.address, range.length).is_ok() {
-                    continue;
-                }
-                let Some(joined) = join(self.regions(), range, PAGE) else { continue };
-                if refused.items()[..refused_count].iter().any(|refused| holds(joined.range, *refused)) {
-                    continue;
-                }
-                is_new = true;
-                let Some(at) = self.map(joined.range) else {
-                    if refused_count == refused.items().len() {
-                        refused.grow()?;
-                    }
-                    refused.items_mut()[refused_count] = joined.range;
-                    refused_count += 1;
-                    continue;
-                };
-                if self.count - joined.count >= self.regions.items().len() {
-                    self.regions.grow().inspect_err(|_| self.mapper.unmap(at, joined.range))?;
-                }
-                self.unmap(joined.first, joined.count);
-                // SAFETY: the mapper has mapped so many bytes there, as the caller of `open` promised.
-                let region = unsafe { Region::from_raw(joined.range.address, at, joined.range.length as usize) };
-                replace(self.regions.items_mut(), &mut self.count, &joined, region)?;
-            }
-            if !is_new {
-                return Ok(());
-            }
-        }
-    }
-
-    /// Maps a range, unless it has more bytes than memory can have.
-    fn map(&self, range: Range) -> Option<NonNull<u8>> {
-        isize::try_from(range.length).ok()?;
-        // SAFETY: it is unmapped once, by `unmap`, when it is replaced or dropped, or if there is no room for it.
-        unsafe { self.mapper.map(range) }
-    }
-
-    /// Unmaps so many regions from one on.
-    fn unmap(&self, first: usize, count: usize) {
-        for region in &self.regions.items()[first..first + count] {
-            let range = Range { address: region.address(), length: region.length() as u64 };
-            if let Some(at) = NonNull::new(region.as_ptr().cast_mut()) {
-                self.mapper.unmap(at, range);
+            // If the mapper panics then nothing is unmapped, and so nothing twice.
+            let count = core::mem::take(&mut self.count);
+            let maps = Pages(&self.mapper);
+            let mut mapping = Mapping::new(maps, wanted, self.regions.items_mut(), count, ranges.items_mut());
+            let result = mapping.run(start, self.accept);
+            let (lacks_regions, lacks_ranges) = (mapping.lacks_regions, mapping.lacks_ranges);
+            self.count = mapping.count;
+            let is_grown = lacks_regions && self.regions.grow().is_ok();
+            if !(lacks_ranges && ranges.grow().is_ok() || is_grown) {
+                return result;
             }
         }
     }
 }
 
-/// Whether a range holds another one.
-fn holds(range: Range, other: Range) -> bool {
-    other
-        .address
-        .checked_sub(range.address)
-        .is_some_and(|offset| range.length.checked_sub(offset).is_some_and(|rest| other.length <= rest))
+/// By a mapper, whose memory [`MappedTables`] unmaps in the end.
+struct Pages<'m, M>(&'m M);
+
+impl<M: PhysicalMapper> Maps<'static> for Pages<'_, M> {
+    const PAGE: u64 = M::PAGE;
+
+    fn map(&mut self, range: Range) -> Option<Region<'static>> {
+        let length = isize::try_from(range.length).ok()?.unsigned_abs();
+        // SAFETY: it is unmapped once, by `unmap`, when it is replaced or dropped, or if there is no capacity for it.
+        let at = unsafe { self.0.map(range) }?;
+        // SAFETY: the mapper has mapped so many bytes there, as the caller of `MappedTables::open` promised.
+        Some(unsafe { Region::from_raw(range.address, at, length) })
+    }
+
+    fn unmap(&mut self, region: &Region<'static>) {
+        let range = Range { address: region.address(), length: region.length() as u64 };
+        if let Some(at) = NonNull::new(region.as_ptr().cast_mut()) {
+            self.0.unmap(at, range);
+        }
+    }
 }
 
 impl<M: PhysicalMapper, const ROOM: usize> Drop for MappedTables<M, ROOM> {
     fn drop(&mut self) {
-        self.unmap(0, self.count);
+        let mut pages = Pages(&self.mapper);
+        self.regions.items()[..self.count].iter().for_each(|region| pages.unmap(region));
     }
 }
 

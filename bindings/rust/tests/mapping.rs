@@ -10,6 +10,7 @@ use zacpi::{
 
 const FADT: u64 = ROOT + 0x1000;
 const DSDT: u64 = ROOT + 0x2ff0;
+const MADT: u64 = ROOT + 0x3800;
 const RSDP: u64 = ROOT + 0x8ff8;
 /// Where the root table lists a table and no memory is.
 const NOWHERE: u64 = 0x4000_0000;
@@ -42,6 +43,20 @@ impl PhysicalMapper for &Mapper<'_> {
         let mut held = self.held.borrow_mut();
         let index = held.iter().position(|item| *item == (at.as_ptr() as usize, range));
         held.remove(index.expect("it is mapped there"));
+    }
+}
+
+/// The same by bytes.
+struct Bytes<'m>(&'m Mapper<'m>);
+
+impl PhysicalMapper for Bytes<'_> {
+    const PAGE: u64 = 1;
+    unsafe fn map(&self, range: Range) -> Option<NonNull<u8>> {
+        // SAFETY: the caller promised the same.
+        unsafe { self.0.map(range) }
+    }
+    fn unmap(&self, at: NonNull<u8>, range: Range) {
+        self.0.unmap(at, range);
     }
 }
 
@@ -111,6 +126,35 @@ fn needs_room_or_makes_it() {
     } else {
         assert_eq!(opened.unwrap_err(), AcpiError::AllocError);
     }
+    assert_eq!(mapper.held.borrow().len(), 0);
+}
+
+/// Of an RSDT with 40 null pointers, 40 to no memory, and 40 to tables "JUNK" before those to a FADT and a MADT.
+#[test]
+fn maps_what_is_wanted() {
+    let junk = |n: u64| ROOT + 0x300 + 0x40 * n;
+    let mut listed: Vec<u64> = vec![0; 40];
+    listed.extend((0..40).map(|n| NOWHERE + 0x1000 * n).chain((0..40).map(junk)).chain([FADT, MADT]));
+    let mut memory = Memory::rsdt(&listed);
+    (0..40).for_each(|n| memory.table(junk(n), "JUNK", 1, 36, &[]));
+    memory.table(FADT, "FACP", 1, 116, &[(40, 4, DSDT)]);
+    memory.table(MADT, "APIC", 1, 44, &[]);
+    memory.table(DSDT, "DSDT", 2, 40, &[]);
+    let mapper = Mapper::new(&memory);
+    let wanted = [Signature::MADT, Signature::FADT, Signature::DSDT];
+    let open = |wanted: &[Signature]| {
+        // SAFETY: as above.
+        let mapped =
+            unsafe { MappedTables::<_, 4>::open_wanted(Bytes(&mapper), Start::Rsdt(ROOT), Accept::default(), wanted) };
+        mapped.unwrap().regions().iter().map(|region| (region.address(), region.length())).collect::<Vec<_>>()
+    };
+    // 122 pointers of four bytes after 36.
+    assert_eq!(open(&wanted), [(ROOT, 524), (FADT, 116), (DSDT, 40), (MADT, 44)]);
+    // Without names the first in memory have the four regions, unless there can be more.
+    let all = open(&[]);
+    assert_eq!(all[..4], [(ROOT, 524), (junk(0), 36), (junk(1), 36), (junk(2), 36)]);
+    assert_eq!(all.len(), if cfg!(feature = "alloc") { 44 } else { 4 });
+    assert!(mapper.asked.borrow().iter().all(|range| range.address != 0));
     assert_eq!(mapper.held.borrow().len(), 0);
 }
 

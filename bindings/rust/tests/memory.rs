@@ -62,7 +62,7 @@ fn maps_what_is_missing() {
     let asked = RefCell::new(Vec::new());
     let mut regions = [Region::default(); 8];
     let mut room = [Slot::default(); 8];
-    let mapped = map_missing(&mut regions, 0, Start::Rsdp(RSDP), Accept::default(), 8, &mut room, |range| {
+    let mapped = map_missing(&mut regions, 0, Start::Rsdp(RSDP), Accept::default(), &[], &mut room, |range| {
         asked.borrow_mut().push(range);
         map(&memory, range)
     })
@@ -73,42 +73,38 @@ fn maps_what_is_missing() {
         range(ROOT, 36),
         range(ROOT, 44),
         range(FADT, 36),
-        range(NOWHERE, 36),
         range(FADT, 116),
         range(NOWHERE, 36),
-        range(NOWHERE, 36),
         range(DSDT, 36),
-        range(NOWHERE, 36),
         range(DSDT, 40),
-        range(NOWHERE, 36),
     ];
     assert_eq!(*asked.borrow(), expected);
     let held: Vec<_> = mapped.regions.iter().map(|r| (r.address(), r.length())).collect();
     assert_eq!(held, [(ROOT, 44), (FADT, 116), (DSDT, 40), (RSDP, 36)]);
-    assert_eq!((mapped.missing, mapped.rounds), (1, 7));
+    assert_eq!(mapped.missing, 1);
     let tables = AcpiTables::open(mapped.regions, Start::Rsdp(RSDP)).unwrap();
     assert_eq!(tables.find(Signature::FADT).map(|table| table.address), Ok(FADT));
     assert_eq!(tables.dsdt().map(|aml| aml.address), Ok(DSDT + 36));
 }
 
+/// Where there are too few items the tables that are mapped stay, and it fails only if they can't be opened.
 #[test]
-fn ends_after_so_many_rounds() {
+fn keeps_what_is_mapped() {
     let memory = machine();
-    let mut regions = [Region::default(); 8];
-    let mut room = [Slot::default(); 8];
-    let mapped =
-        map_missing(&mut regions, 0, Start::Rsdt(ROOT), Accept::default(), 2, &mut room, |range| map(&memory, range))
-            .unwrap();
-    assert_eq!((mapped.regions.len(), mapped.missing, mapped.rounds), (1, 2, 2));
-    let mut room = [Slot::default(); 4];
-    let missing = missing_ranges(mapped.regions, Start::Rsdt(ROOT), Accept::default()).fill(&mut room).unwrap();
-    assert_eq!(missing.iter().collect::<Vec<_>>(), [range(FADT, 36), range(NOWHERE, 36)]);
-    let mut regions = [Region::default(); 1];
-    let full =
-        map_missing(&mut regions, 0, Start::Rsdp(RSDP), Accept::default(), 8, &mut room, |range| map(&memory, range));
-    assert_eq!(full.unwrap_err(), AcpiError::AllocError);
-    let none = map_missing(&mut [], 0, Start::Rsdp(RSDP), Accept::default(), 8, &mut room, |_| None).unwrap();
-    assert_eq!((none.regions.len(), none.missing, none.rounds), (0, 1, 0));
+    let map_by = |regions: usize, ranges: usize, start, wanted: &[Signature]| {
+        let (mut regions, mut ranges) = (vec![Region::default(); regions], vec![Slot::default(); ranges]);
+        map_missing(&mut regions, 0, start, Accept::default(), wanted, &mut ranges, |range| map(&memory, range))
+            .map(|mapped| (mapped.regions.iter().map(Region::address).collect::<Vec<_>>(), mapped.missing))
+    };
+    // What is missing: the DSDT and NOWHERE; these and the FADT; NOWHERE.
+    assert_eq!(map_by(2, 8, Start::Rsdt(ROOT), &[]), Ok((vec![ROOT, FADT], 2)));
+    assert_eq!(map_by(1, 8, Start::Rsdt(ROOT), &[]), Ok((vec![ROOT], 2)));
+    assert_eq!(map_by(4, 1, Start::Rsdp(RSDP), &[]), Ok((vec![ROOT, FADT, DSDT, RSDP], 1)));
+    assert_eq!(map_by(4, 8, Start::Rsdt(ROOT), &[Signature::FADT]), Ok((vec![ROOT, FADT], 2)));
+    assert_eq!(map_by(4, 8, Start::Rsdt(ROOT), &[Signature::DSDT]), Ok((vec![ROOT], 2)));
+    assert_eq!(map_by(1, 8, Start::Rsdp(RSDP), &[]), Err(AcpiError::AllocError));
+    assert_eq!(map_by(8, 0, Start::Rsdp(RSDP), &[]), Err(AcpiError::AllocError));
+    assert_eq!(map_by(0, 8, Start::Rsdt(NOWHERE), &[]), Ok((vec![], 1)));
 }
 
 /// Regions that a missing range touches are mapped again together with it, from the first of them to the last.
@@ -120,12 +116,13 @@ fn joins_regions() {
     regions[..3].copy_from_slice(&[at(ROOT, 40), at(ROOT + 44, 6), at(RSDP, 36)]);
     let asked = RefCell::new(Vec::new());
     let mut room = [Slot::default(); 4];
-    let mapped = map_missing(&mut regions, 3, Start::Rsdt(ROOT), Accept::default(), 1, &mut room, |range| {
+    let wanted = [Signature::MADT];
+    let mapped = map_missing(&mut regions, 3, Start::Rsdt(ROOT), Accept::default(), &wanted, &mut room, |range| {
         asked.borrow_mut().push(range);
         map(&memory, range)
     })
     .unwrap();
-    assert_eq!(*asked.borrow(), [range(ROOT, 50)]);
+    assert_eq!(*asked.borrow(), [range(ROOT, 50), range(FADT, 36), range(NOWHERE, 36)]);
     let held: Vec<_> = mapped.regions.iter().map(|r| (r.address(), r.length())).collect();
     assert_eq!(held, [(ROOT, 50), (RSDP, 36)]);
     let overlapping = [at(ROOT, 40), at(ROOT + 39, 6)];
