@@ -1,6 +1,6 @@
 -- The sleep types that the tables of a machine contain: the types of the first block of AML that has them, of the DSDT
 -- and then the SSDTs in the root table's order (ACPI 6.4, sections 5.2.11.1, 5.2.11.2 and 7.4.2).
-use Rattle.std.specs.Prelude.{ℕ, List, [], ◌∷◌, ◌++◌, drop, map, nat_le, Result, Ok, Err, if◌then◌else◌}
+use Rattle.std.specs.Prelude.{◌≡◌, ℕ, All, List, [], ◌∷◌, ◌++◌, drop, map, nat_le, Result, Ok, Err, if◌then◌else◌}
 use Rattle.acpi_base.specs.Words.{Memory, Ranges, ◌>>=◌, header_at, plain_kind, table_at}
 use Rattle.acpi.specs.Types.{AcpiError, DSDT, Fadt, SSDT, Signature}
 use Rattle.acpi.specs.Words.{dsdt_ranges, led_by, ssdt_ranges, tables_found}
@@ -10,7 +10,8 @@ use Rattle.acpi_sleep.specs.declared.error.AmlError.{AmlError}
 use Rattle.acpi_sleep.specs.declared.error.SleepError.{SleepError}
 use Rattle.acpi_sleep.specs.declared.error.SleepError.TheVariants.{Acpi, Aml, NoSuchState}
 use Rattle.acpi_sleep.specs.declared.sleep.SleepAnswer.{SleepAnswer}
-use Rattle.acpi_sleep.specs.declared.sleep.SleepAnswer.TheVariants.{Absent, Types}
+use Rattle.acpi_sleep.specs.declared.sleep.SleepAnswer.TheVariants.{Absent, NotSeen, Types}
+use Rattle.acpi_sleep.specs.declared.sleep.SleepTypes.{SleepTypes}
 use Rattle.acpi_sleep.specs.declared.tables.Ssdt.{Ssdt}
 
 -- what the first bytes of an SSDT mean
@@ -75,3 +76,32 @@ tables_answer state m ps =
 -- its ranges: the DSDT's, and each member's, as an SSDT
 abbrev pub answer_ranges : Memory → List ℕ → Ranges
 answer_ranges m ps = dsdt_ranges m ps ++ ssdt_ranges m ps
+
+-- ---- what the answer of blocks one after another is, in words
+
+abbrev pub HasNoTypes : Answer → Type 0
+HasNoTypes answer = (types : SleepTypes) → answer ≡ Ok (Types types) → ⊥
+
+-- it is that of the first block that has types
+pub record FirstTypes (answers : List Answer) (types : SleepTypes) : Type 0 where
+  pub front : List Answer
+  pub back : List Answer
+  pub split : answers ≡ front ++ Ok (Types types) ∷ back
+  pub before : All HasNoTypes front
+
+-- no block has types, and it is that of the first that isn't `Absent`
+pub record FirstUnknown (answers : List Answer) (answer : Answer) : Type 0 where
+  pub front : List Answer
+  pub back : List Answer
+  pub split : answers ≡ front ++ answer ∷ back
+  pub before : All (λ a. a ≡ Ok Absent) front
+  pub none : All HasNoTypes answers
+
+abbrev pub IsFirstAnswer : List Answer → Answer → Type 0
+IsFirstAnswer answers (Ok (Types types)) = FirstTypes answers types
+IsFirstAnswer answers (Ok Absent) = All (λ a. a ≡ Ok Absent) answers
+IsFirstAnswer answers (Ok (NotSeen at)) = FirstUnknown answers (Ok (NotSeen at))
+IsFirstAnswer answers (Err e) = FirstUnknown answers (Err e)
+
+abbrev pub AnswerIsFirst : Type 0
+AnswerIsFirst = (answers : List Answer) → IsFirstAnswer answers (first_answer answers)

@@ -109,6 +109,11 @@ unfoldable pub use Rattle.acpi_sleep.specs.Steps.{
 }
 pub use Rattle.acpi_sleep.specs.Tables.{
   Answer,
+  AnswerIsFirst,
+  FirstTypes,
+  FirstUnknown,
+  HasNoTypes,
+  IsFirstAnswer,
   answer_ranges,
   dsdt_said,
   first_answer,
@@ -138,6 +143,7 @@ pub use Rattle.acpi_sleep.specs.declared.error.AmlError.TheVariants.{
   UnknownTerm,
 }
 pub use Rattle.acpi_sleep.specs.declared.error.PlanError.TheVariants.{BadRegister}
+pub use Rattle.acpi_sleep.specs.declared.error.SleepError.{SleepError}
 pub use Rattle.acpi_sleep.specs.declared.error.SleepError.TheVariants.{Acpi}
 pub use Rattle.acpi_sleep.specs.declared.name.Name.{Name}
 pub use Rattle.acpi_sleep.specs.declared.sleep.SleepAnswer.{SleepAnswer}

@@ -1,5 +1,5 @@
 //! Laws of the definitions. Each is the contract of a function that does nothing.
-ghost use Rattle.acpi_sleep.specs.Words.{ArgumentsBeginNoTerm, NothingBehindMatters};
+ghost use Rattle.acpi_sleep.specs.Words.{AnswerIsFirst, ArgumentsBeginNoTerm, NothingBehindMatters};
 
 /// No term begins as an argument does.
 #[tactic(auto, using(crate::proofs::Apart::arguments_begin_no_term))]
@@ -11,4 +11,10 @@ pub fn arguments_begin_no_term()
 #[tactic(auto, using(crate::proofs::BehindSteps::nothing_behind_matters))]
 pub fn nothing_behind_matters()
     ensures { NothingBehindMatters }
+{}
+
+/// The answer of blocks one after another is that of the first that has types, or else of the first that may have.
+#[tactic(auto, using(crate::proofs::First::answer_is_first))]
+pub fn answer_is_first()
+    ensures { AnswerIsFirst }
 {}
