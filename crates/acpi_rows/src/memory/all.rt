@@ -3,8 +3,8 @@
 //! - `root`: revision, address, length and signature of the root table;
 //! - `headers`, `whole_headers`, `members`, `ssdts` and `ranges`, each of them with the most items to print, and
 //!   `after_last`: how many headers and SSDTs there are, and what is returned after the last;
-//! - `dsdt`, `facs`, `sdt SIGNATURE` (where the first of these is), `fadt_view` (where the FADT is, and then, while
-//!   its bytes are mapped, where it places the DSDT) and `checks` (how often the returned table was checked);
+//! - `dsdt`, `facs`, `sleep STATE`, `sdt SIGNATURE` (where the first of these is), `fadt_view` (where the FADT is, and
+//!   then, while its bytes are mapped, where it places the DSDT) and `checks` (how often the returned table was checked);
 //! - `hpet_info`, and `wake ID READS COMMAND ..`, by a mailbox that has these commands where it is read, as often at most;
 //! - calls that need memory (`gathered`), and `platforms WAY`, by each of the four calls for a platform;
 //! - `KIND CALL`, about a type of table (`types`).
@@ -19,6 +19,7 @@ use acpi::platform::{PlatformInfo, ScriptedMailbox, wakeup_aps};
 use acpi::sdt::{SdtHeader, Signature};
 use acpi::{AcpiHandler, AcpiResult, AcpiTables, HpetInfo, TableMember};
 use acpi_cli::parse_address;
+use acpi_sleep::SleepTables;
 use std::alloc::{AllocError, Global};
 
 /// Prints what a call returns over tables.
@@ -42,6 +43,7 @@ pub(super) fn answer<H: AcpiHandler>(
         "after_last" => after_last(out, tables),
         "dsdt" => out.show(&tables.dsdt()),
         "facs" => out.show(&tables.facs()),
+        "sleep" => out.show(&tables.sleep_types((number_of(rest) % 0x100) as u8)),
         "sdt" => match tables.find_sdt(signature_of(rest)) {
             Ok(table) => out.place(&table),
             Err(refusal) => out.show(&refusal),
