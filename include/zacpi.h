@@ -321,6 +321,13 @@ struct zacpi_root {
     uint32_t rsdp_length;  /* Length; at revision 0, which lacks it, 20, though 36 bytes have to be
                             * mapped there too */
 };
+struct zacpi_rsdp { /* Root System Description Pointer (RSDP), section 5.2.5.3 */
+    zacpi_u64 address;
+    zacpi_u64 xsdt_address; /* 0 at revision 0, which lacks it */
+    uint32_t rsdt_address;
+    uint32_t length;        /* as rsdp_length of struct zacpi_root */
+    uint8_t revision, oem_id[6];
+};
 struct zacpi_table {
     zacpi_u64 address;
     uint32_t length;
@@ -328,6 +335,12 @@ struct zacpi_table {
     uint32_t oem_revision;
     uint8_t creator_id[4];
     uint32_t creator_revision;
+};
+struct zacpi_member { /* what a pointer of a root table leads to */
+    struct zacpi_table table; /* zeros but for the address unless has_header */
+    zacpi_status status;      /* 0, or if zacpi_list_tables skips it its first error of zacpi_open's
+                               * order that `accept` doesn't take */
+    uint8_t has_header;       /* 0: the 36 bytes of a header aren't mapped there */
 };
 struct zacpi_fault {
     zacpi_u64 address;
@@ -375,6 +388,13 @@ ZACPI_STATUS zacpi_start_of_rsdp(const uint8_t *rsdp, size_t rsdp_length,
 ZACPI_STATUS zacpi_open(const struct zacpi_source *source, struct zacpi_root *out,
                         struct zacpi_signature *signature);
 
+/* Returns the RSDP that a start leads to (section 5.2.5.3), whatever is at the addresses that it has:
+ * with each of these as a start, zacpi_list_members has what either root table lists. Fails with an
+ * opening error but those of the root table; ZACPI_UNKNOWN_START is also that of a start at a root
+ * table. None writes `signature`. */
+ZACPI_STATUS zacpi_get_rsdp(const struct zacpi_source *source, struct zacpi_rsdp *out,
+                            struct zacpi_signature *signature);
+
 /* Lists the memory that the tables still need and no one region contains (C.md). A kernel maps what
  * it can, joins it with its regions' ranges (zacpi_clip_ranges), and repeats, until no new range
  * comes. Each has at least two bytes. Fails with ZACPI_REGIONS_NOT_ASCENDING,
@@ -387,6 +407,11 @@ ZACPI_STATUS zacpi_list_missing_ranges(const struct zacpi_source *source, struct
  * (sections 5.2.6 to 5.2.8). Fails with an opening error. */
 ZACPI_STATUS zacpi_list_tables(const struct zacpi_source *source, struct zacpi_table *out,
                                size_t capacity, size_t *count, struct zacpi_signature *signature);
+
+/* Lists what each pointer of the root table leads to, also if that is no valid table (sections 5.2.6
+ * to 5.2.8): the items of zacpi_list_tables are those of status 0. Fails with an opening error. */
+ZACPI_STATUS zacpi_list_members(const struct zacpi_source *source, struct zacpi_member *out,
+                                size_t capacity, size_t *count, struct zacpi_signature *signature);
 
 /* Returns the first valid table of the wanted signature (section 5.2.6), whose fields aren't
  * checked. Fails with an opening error, or ZACPI_TABLE_MISSING with that signature. */
@@ -782,6 +807,11 @@ struct zacpi_interrupt_model {
     uint8_t known;         /* 1 if a MADT has an entry of Types 0 to 5, 9 or 0xa; else all is 0 */
     uint8_t also_has_8259; /* PCAT_COMPAT, bit 0 of Flags: there is a pair of 8259s to be masked */
 };
+struct zacpi_local_apic {
+    zacpi_u64 address;     /* as for struct zacpi_interrupt_model, of the entries up to where none
+                            * begins */
+    uint8_t also_has_8259; /* PCAT_COMPAT, bit 0 of Flags */
+};
 struct zacpi_io_apic { /* I/O APIC, section 5.2.12.3 */
     uint32_t address;
     uint32_t global_system_interrupt_base; /* the interrupt of its first pin */
@@ -822,6 +852,12 @@ struct zacpi_processor { /* Processor Local APIC and Processor Local x2APIC, sec
 ZACPI_STATUS zacpi_get_interrupt_model(const struct zacpi_source *source,
                                        struct zacpi_interrupt_model *out,
                                        struct zacpi_signature *signature);
+
+/* Returns the address of each processor's local APIC by the MADT alone, whatever is wrong with other
+ * entries: the one of zacpi_get_interrupt_model, if that has one. Fails with an opening error, or
+ * ZACPI_TABLE_MISSING "APIC". */
+ZACPI_STATUS zacpi_get_local_apic(const struct zacpi_source *source, struct zacpi_local_apic *out,
+                                  struct zacpi_signature *signature);
 
 /* The five lists below have their entries as they are, up to where none begins. */
 

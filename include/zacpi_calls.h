@@ -174,6 +174,17 @@ ZACPI_STATUS zacpi_open(const struct zacpi_source *source, struct zacpi_root *ou
     return zacpi_1_open(&kept_source, out, signature ? signature : &unasked);
 }
 
+zacpi_status ZACPI_CALL zacpi_1_get_rsdp(const struct zacpi_source *source, struct zacpi_rsdp *out,
+                                         struct zacpi_signature *signature);
+ZACPI_NONNULL((1, 2))
+ZACPI_STATUS zacpi_get_rsdp(const struct zacpi_source *source, struct zacpi_rsdp *out,
+                            struct zacpi_signature *signature) {
+    const struct zacpi_source kept_source = zacpi_source_kept(source);
+    struct zacpi_signature unasked;
+    ZACPI_FITS;
+    return zacpi_1_get_rsdp(&kept_source, out, signature ? signature : &unasked);
+}
+
 zacpi_status ZACPI_CALL zacpi_1_list_missing_ranges(const struct zacpi_source *source,
                                                     struct zacpi_range *out, zacpi_number capacity,
                                                     zacpi_number *count,
@@ -201,6 +212,21 @@ ZACPI_STATUS zacpi_list_tables(const struct zacpi_source *source, struct zacpi_t
     ZACPI_FITS;
     ZACPI_COUNTING(count, zacpi_1_list_tables(&kept_source,
                    capacity ? out : (struct zacpi_table *)ZACPI_NOTHING, capacity,
+                   ZACPI_COUNTED(count), signature ? signature : &unasked));
+}
+
+zacpi_status ZACPI_CALL zacpi_1_list_members(const struct zacpi_source *source,
+                                             struct zacpi_member *out, zacpi_number capacity,
+                                             zacpi_number *count,
+                                             struct zacpi_signature *signature);
+ZACPI_NONNULL((1, 4))
+ZACPI_STATUS zacpi_list_members(const struct zacpi_source *source, struct zacpi_member *out,
+                                size_t capacity, size_t *count, struct zacpi_signature *signature) {
+    const struct zacpi_source kept_source = zacpi_source_kept(source);
+    struct zacpi_signature unasked;
+    ZACPI_FITS;
+    ZACPI_COUNTING(count, zacpi_1_list_members(&kept_source,
+                   capacity ? out : (struct zacpi_member *)ZACPI_NOTHING, capacity,
                    ZACPI_COUNTED(count), signature ? signature : &unasked));
 }
 
@@ -510,6 +536,18 @@ ZACPI_STATUS zacpi_get_interrupt_model(const struct zacpi_source *source,
     struct zacpi_signature unasked;
     ZACPI_FITS;
     return zacpi_1_get_interrupt_model(&kept_source, out, signature ? signature : &unasked);
+}
+
+zacpi_status ZACPI_CALL zacpi_1_get_local_apic(const struct zacpi_source *source,
+                                               struct zacpi_local_apic *out,
+                                               struct zacpi_signature *signature);
+ZACPI_NONNULL((1, 2))
+ZACPI_STATUS zacpi_get_local_apic(const struct zacpi_source *source, struct zacpi_local_apic *out,
+                                  struct zacpi_signature *signature) {
+    const struct zacpi_source kept_source = zacpi_source_kept(source);
+    struct zacpi_signature unasked;
+    ZACPI_FITS;
+    return zacpi_1_get_local_apic(&kept_source, out, signature ? signature : &unasked);
 }
 
 zacpi_status ZACPI_CALL zacpi_1_list_io_apics(const struct zacpi_source *source,

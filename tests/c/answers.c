@@ -53,16 +53,19 @@ static int is_missing(const char *name, zacpi_status status, const struct zacpi_
     return status != ZACPI_OK;
 }
 
-void print_missing(const struct zacpi_source *source) {
-    LIST("missing", zacpi_range, zacpi_list_missing_ranges, ALL, "%llx %llx\n", (wide)it->address, (wide)it->length);
-}
-
 /* Bytes as one number, the first the highest. */
 static wide number_of(const uint8_t *bytes, size_t length) {
     wide number = 0;
     while (length--) number = number << 8 | *bytes++;
     return number;
 }
+
+void print_missing(const struct zacpi_source *source) {
+    LIST("missing", zacpi_range, zacpi_list_missing_ranges, ALL, "%llx %llx\n", (wide)it->address, (wide)it->length);
+    ONE("rsdp", struct zacpi_rsdp, zacpi_get_rsdp, IT, "%llx %u %llx %x %u %llx\n", (wide)it->address, it->revision,
+        number_of(it->oem_id, 6), it->rsdt_address, it->length, (wide)it->xsdt_address);
+}
+
 #define IDS "%llx %llx %x %llx %x"
 #define IDS_OF(it) \
     number_of((it)->oem_id, 6), number_of((it)->oem_table_id, 8), (it)->oem_revision, number_of((it)->creator_id, 4), \
@@ -75,6 +78,8 @@ static void print_tables(const struct zacpi_source *source) {
         it->pointer_width, (wide)it->rsdp_address, it->rsdp_length);
     LIST("tables", zacpi_table, zacpi_list_tables, ALL, "%llx %u %u " IDS "\n", (wide)it->address, it->length,
          it->revision, IDS_OF(it));
+    LIST("members", zacpi_member, zacpi_list_members, ALL, "%llx %s %u %u %u " IDS "\n", (wide)it->table.address,
+         zacpi_status_name(it->status), it->has_header, it->table.length, it->table.revision, IDS_OF(&it->table));
     LIST("ranges", zacpi_range, zacpi_list_ranges, ALL, "%llx %llx\n", (wide)it->address, (wide)it->length);
     for (i = 0; i < sizeof looked_up / sizeof *looked_up; i++) {
         const struct zacpi_signature wanted = zacpi_signature_of(looked_up[i]);
@@ -215,6 +220,8 @@ static void print_interrupts(const struct zacpi_source *source) {
          it->lint, it->polarity, it->trigger);
     LIST("madt_faults", zacpi_entry_fault, zacpi_list_madt_faults, ALL, "%llx %u %s\n", (wide)it->address,
          it->entry_type, zacpi_status_name(it->status));
+    ONE("local_apic", struct zacpi_local_apic, zacpi_get_local_apic, IT, "%llx %u\n", (wide)it->address,
+        it->also_has_8259);
     ONE("mailbox", uint64_t, zacpi_get_mailbox_address, IT, "%llx\n", (wide)*it);
     ONE("sci", struct zacpi_interrupt, zacpi_get_sci_interrupt, IT, "%u %u %u\n", it->global_system_interrupt,
         it->polarity, it->trigger);

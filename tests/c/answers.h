@@ -3,7 +3,7 @@
 #define ANSWERS_H
 #include "lines.h"
 
-/* The memory that is missing, also if the tables aren't opened. */
+/* The memory that is missing and the RSDP, also if the tables aren't opened. */
 void print_missing(const struct zacpi_source *source);
 /* What every other call answers that reads tables. */
 void print_answers(const struct zacpi_source *source);

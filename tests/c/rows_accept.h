@@ -12,6 +12,14 @@
     {bits, GOOD(find_nth_table, FLAWED, "APIC", A(1), 1, AT(madt), 52, LETTERS('A', 'P', 'I', 'C'), 5, __VA_ARGS__)}
 #define MISSING(bits, call, machine, named) {bits, REFUSED(call, machine, NULL, NO, ZACPI_TABLE_MISSING, named)}
 #define SHORT AT(MADT_43), ZACPI_SDT_INVALID_LENGTH, 0
+/* The members of FLAWED: to be a table the first is long enough. */
+#define MADT_MEMBER(madt, oem_id, oem_table_id, status) \
+    AT(madt), 52, LETTERS('A', 'P', 'I', 'C'), 5, oem_id, oem_table_id, 0, 0, 0, status, 1
+#define EACH(bits, of_both, of_oem_id, of_table_id, of_sum) \
+    {bits, GOOD(list_members, FLAWED, NULL, NO, 6, AT(MADT_43), 43, LETTERS('A', 'P', 'I', 'C'), 1, NO_IDS, 0, 1, \
+                MADT_MEMBER(MADT_BOTH, 0xff, 0, of_both), MADT_MEMBER(MADT_OEM_ID, 0xff, 0, of_oem_id), \
+                MADT_MEMBER(MADT_TABLE_ID, 0, 0xff, of_table_id), MADT_MEMBER(MADT_SUM, 0, 0, of_sum), \
+                MADT_MEMBER(MADT_VALID, 0, 0, 0))}
 
 static const struct {
     uint32_t accept;
@@ -30,6 +38,9 @@ static const struct {
     {IDS, GOOD(list_faults, FLAWED, "APIC", NO, 3, SHORT, AT(MADT_BOTH), ZACPI_SDT_INVALID_CHECKSUM, 0,
                AT(MADT_OEM_ID), ZACPI_SDT_INVALID_OEM_ID, 1)},
     {BOTH, GOOD(list_faults, FLAWED, "APIC", NO, 2, SHORT, AT(MADT_BOTH), ZACPI_SDT_INVALID_OEM_ID, 1)},
+    EACH(0, ZACPI_SDT_INVALID_OEM_ID, ZACPI_SDT_INVALID_OEM_ID, ZACPI_SDT_INVALID_TABLE_ID, ZACPI_SDT_INVALID_CHECKSUM),
+    EACH(SUMS, ZACPI_SDT_INVALID_OEM_ID, ZACPI_SDT_INVALID_OEM_ID, ZACPI_SDT_INVALID_TABLE_ID, 0),
+    EACH(IDS, ZACPI_SDT_INVALID_CHECKSUM, 0, 0, ZACPI_SDT_INVALID_CHECKSUM), EACH(BOTH, 0, 0, 0, 0),
     {0, GOOD(list_ranges, FLAWED, NULL, NO, 3, AT(FLAWED), 60, AT(MADT_43), 43, AT(MADT_VALID), 52)},
     {BOTH, GOOD(list_ranges, FLAWED, NULL, NO, 7, AT(FLAWED), 60, AT(MADT_43), 43, AT(MADT_BOTH), 52,
                 AT(MADT_OEM_ID), 52, AT(MADT_TABLE_ID), 52, AT(MADT_SUM), 52, AT(MADT_VALID), 52)},

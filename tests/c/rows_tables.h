@@ -6,7 +6,7 @@
 #include "zacpi.h"
 
 #define BASE 0x100000u
-#define SIZE 0x1a000u
+#define SIZE 0x1b000u
 #define AT(n) (BASE + 0x200u * (n))       /* where table N lies */
 #define TAIL (BASE + SIZE - 36u)          /* the last 36 bytes: a header whose table isn't lent as a whole */
 #define CUT(n) (0x180000u + 0x1000u * (n)) /* three regions with the first bytes of a table each */
@@ -38,7 +38,7 @@ enum { EMPTY, ARM, PC, ODD, HOLES, SUM, DESKTOP, MOBILE, WORKSTATION, SERVER, SO
        UNITS_END, SAPIC_BETWEEN, NMI_2, LENGTH_0, NO_FADT, BUS_1, TRIGGER_2, LINT_2, HPETS, MAILBOX, POWER,
        REDUCED, PLAIN, BARE, BROKEN, FADTLESS, HIGH, HIGH_PLAIN, HIGH_REDUCED, FAULTS, FRONTS, UNITS_BETWEEN,
        UNITS_FAULTS, UNITS_LATER, RISCV, RISCV_CUT, RISCV_SHORT, EARLY, LATE, PAST, ONE_LEFT, UNITS_4, FLAWED,
-       LED_BY_SUMS, LED_BY_IDS, ROOT_OEM_ID, ROOT_LONG, /* root tables, in the order of `tables` */
+       LED_BY_SUMS, LED_BY_IDS, ROOT_OEM_ID, ROOT_LONG, OVERRIDES, MEMBERS, /* root tables, in the order of `tables` */
        RSDP_0, RSDP_2, RSDP_40, RSDP_MIXED, RSDP_LONG, RSDP_LOST, RSDP_CUT, RSDP_SHORT, RSDP_TO_SUM,
        RSDP_NONE, /* RSDPs, and the last one is none */
        MADT_GIC, GTDT, SRAT, SLIT, MCFG, FADT, MADT_PC, HPET_SHORT, HPET, MADT_CUT, GTDT_CUT, SRAT_CUT, SLIT_ODD,
@@ -55,7 +55,7 @@ enum { EMPTY, ARM, PC, ODD, HOLES, SUM, DESKTOP, MOBILE, WORKSTATION, SERVER, SO
        MADT_FRONT, GTDT_FAULTS, GTDT_FRONT, SRAT_FAULTS, SRAT_FRONT, DMAR_BETWEEN, DMAR_FAULTS, DMAR_LATER,
        IVRS_BETWEEN, IVRS_FAULTS, MADT_RISCV, MADT_RISCV_CUT, MADT_RISCV_SHORT,
        GTDT_EARLY, GTDT_LATE, GTDT_PAST, MADT_BOTH, MADT_OEM_ID, MADT_TABLE_ID, MADT_SUM,
-       MADT_VALID, MADT_LOST, FADT_SUM, FADT_OEM_ID, DSDT_SUM, DSDT_TABLE_ID, SSDT_SUM, HPET_SUM };
+       MADT_VALID, MADT_LOST, FADT_SUM, FADT_OEM_ID, DSDT_SUM, DSDT_TABLE_ID, SSDT_SUM, HPET_SUM, MADT_OVERRIDES };
 
 /* Entry[n] of an RSDT, from 36 on (section 5.2.7), and of an XSDT (section 5.2.8). */
 PUTS(no_fields, {36, 0, 0});
@@ -102,6 +102,9 @@ PUTS(lint_2, {36, 4, AT(FADT)}, {40, 4, AT(MADT_LINT_2)});
 /* Four blocks of event timers, of which the second isn't in memory, and the first is listed twice. */
 PUTS(hpets, {36, 4, AT(HPET_0)}, {40, 4, AT(HPET_PORT)}, {44, 4, AT(HPET_3)}, {48, 4, AT(HPET_0)});
 PUTS(mailbox, {36, 4, AT(MADT_MAILBOX)});
+PUTS(overrides, {36, 4, AT(MADT_OVERRIDES)});
+/* A table that is listed twice, and between a Length below 36, and a null pointer. */
+PUTS(members, {36, 4, AT(HPET)}, {40, 4, AT(OEM2_35)}, {44, 4, 0}, {48, 4, AT(HPET)});
 PUTS(riscv, {36, 4, AT(MADT_RISCV)});
 PUTS(riscv_cut, {36, 4, AT(MADT_RISCV_CUT)});
 PUTS(riscv_short, {36, 4, AT(MADT_RISCV_SHORT)});
@@ -293,7 +296,8 @@ static const struct table {
     {AT(PAST), "RSDT", 1, 40, past}, {AT(ONE_LEFT), "RSDT", 1, 40, one_left}, {AT(UNITS_4), "RSDT", 1, 40, units_4},
     {AT(FLAWED), "RSDT", 1, 60, flawed}, {AT(LED_BY_SUMS), "RSDT", 1, 52, led_by_sums},
     {AT(LED_BY_IDS), "RSDT", 1, 44, led_by_ids}, {AT(ROOT_OEM_ID), "RSDT", 1, 40, root_oem_id},
-    {AT(ROOT_LONG), "RSDT", 1, SIZE, root_long},
+    {AT(ROOT_LONG), "RSDT", 1, SIZE, root_long}, {AT(OVERRIDES), "RSDT", 1, 40, overrides},
+    {AT(MEMBERS), "RSDT", 1, 52, members},
     {AT(MADT_GIC), "APIC", 6, 346, madt_gic}, {AT(GTDT), "GTDT", 3, 260, gtdt}, {AT(SRAT), "SRAT", 3, 274, srat},
     {AT(SLIT), "SLIT", 1, 48, slit}, {AT(MCFG), "MCFG", 1, 108, mcfg}, {AT(FADT), "FACP", 6, 276, fadt},
     {AT(MADT_PC), "APIC", 4, 96, madt_pc}, {AT(HPET_SHORT), "HPET", 3, 48, no_fields}, {AT(HPET), "HPET", 1, 56, hpet},
@@ -364,18 +368,19 @@ static const struct table {
     {AT(FADT_SUM), "FACP", 1, 116, fadt_sum}, {AT(FADT_OEM_ID), "FACP", 1, 116, fadt_oem_id},
     {AT(DSDT_SUM), "DSDT", 1, 47, dsdt_sum}, {AT(DSDT_TABLE_ID), "DSDT", 2, 40, dsdt_table_id},
     {AT(SSDT_SUM), "SSDT", 1, 47, ssdt_sum}, {AT(HPET_SUM), "HPET", 1, 56, hpet_sum},
+    {AT(MADT_OVERRIDES), "APIC", 5, 113, madt_overrides},
     {LAST_MADT, "APIC", 5, LAST_MADT_SIZE, last_madt}, {LAST_IVRS, "IVRS", 2, LAST_IVRS_SIZE, last_ivrs},
     {BIOS + 0x10000, "RSDT", 1, 36, no_fields}};
 
-/* RSDPs: the first byte of OEMID at 9, Revision at 15, RsdtAddress at 16, Length at 20, XsdtAddress at 24 (section
+/* RSDPs: OEMID at 9, Revision at 15, RsdtAddress at 16, Length at 20, XsdtAddress at 24 (section
  * 5.2.5.3). */
 static const struct rsdp {
-    uint64_t address;
-    unsigned oem_id, revision, rsdt_address, length;
+    uint64_t address, oem_id;
+    unsigned revision, rsdt_address, length;
     uint64_t xsdt_address;
 } rsdps[] = {
-    {AT(RSDP_0), 0, 0, AT(ARM), 0, 0}, {AT(RSDP_2), 0, 2, AT(EMPTY), 36, AT(PC)},
-    {AT(RSDP_40), 0, 2, 0, 40, AT(PC)},
+    {AT(RSDP_0), 0, 0, AT(ARM), 77, AT(PC)} /* revision 0 has neither */, {AT(RSDP_2), 0, 2, AT(EMPTY), 36, AT(PC)},
+    {AT(RSDP_40), 0x464544434241 /* ABCDEF */, 2, 0, 40, AT(PC)},
     {AT(RSDP_MIXED), 0, 2, AT(ARM), 36, 0}, {AT(RSDP_LONG), 0, 2, 0, SIZE, AT(PC)},
     {AT(RSDP_LOST), 0, 2, 0, 36, 0x300000000}, {AT(RSDP_CUT), 0, 0, CUT(2), 0, 0},
     {AT(RSDP_SHORT), 0, 2, 0, 35, AT(PC)}, {AT(RSDP_TO_SUM), 0, 0, AT(SUM), 0, 0},

@@ -143,6 +143,13 @@ PUTS(madt_many,
     {180, 2, HEADER(0xa, 12)}, {180 + 4, 4, 0x567} /* ACPI Processor UID */, {180 + 8, 1, 1} /* Local x2APIC LINT# */,
     {192, 2, HEADER(5, 12)}, {192 + 4, 8, 0x1fee01000} /* Local APIC Address */,
     {204, 2, HEADER(5, 12)}, {204 + 4, 8, 0x1fee02000} /* Local APIC Address */, {216, 2, HEADER(0x7f, 5)});
+/* A Local SAPIC, which is at fault; an address; a reserved Type; an address in an entry of two bytes more; one in an
+ * entry of 11 bytes, where none begins; and one that nobody reaches. */
+PUTS(madt_overrides,
+    {36, 4, 0xfed40000} /* Local Interrupt Controller Address */, {40, 4, 1} /* Flags: PCAT_COMPAT */,
+    {44, 2, HEADER(7, 16)}, {60, 2, HEADER(5, 12)}, {60 + 4, 8, 0xfee00000} /* Local APIC Address */,
+    {72, 2, HEADER(0x80, 4)}, {76, 2, HEADER(5, 14)}, {76 + 4, 8, 0x2fee00000} /* Local APIC Address */,
+    {90, 2, HEADER(5, 11)}, {90 + 4, 7, 0x3fee00000}, {101, 2, HEADER(5, 12)}, {101 + 4, 8, 0x4fee00000});
 /* The first processor is enabled, and there are no 8259s, though all other bits of Flags are set. Online Capable is
  * reserved in revision 4. */
 PUTS(madt_first,

@@ -87,6 +87,27 @@ impl Sealed for Fault {
     }
 }
 
+/// What a pointer of the root table leads to.
+#[derive(Clone, Copy, Debug, PartialEq, Eq)]
+pub struct Member {
+    /// Its physical address, as the root table lists it.
+    pub address: u64,
+    /// The header there (section 5.2.6), if its 36 bytes are mapped.
+    pub header: Option<Table>,
+    /// Why it isn't one of [`AcpiTables::headers`], if it isn't.
+    pub refusal: Option<AcpiError>,
+}
+
+impl Item for Member {}
+impl Sealed for Member {
+    type Raw = records::Member;
+    fn of(raw: &Self::Raw, _: Signature) -> Self {
+        let header = Table::from(raw.table);
+        let refusal = (raw.status != 0).then(|| AcpiError::of(raw.status, header.signature));
+        Member { address: header.address, header: (raw.has_header != 0).then_some(header), refusal }
+    }
+}
+
 /// A type of one's own that is read from a table: [`AcpiTables::find_table`] finds it.
 ///
 /// ```
@@ -229,6 +250,11 @@ impl<'k> AcpiTables<'k> {
     /// All valid tables, in the order of the root table, repeats kept (section 5.2.6).
     pub fn headers(&self) -> Listing<'k, Table> {
         self.list(raw::zacpi_1_list_tables)
+    }
+
+    /// What each pointer of the root table leads to, in order, also if it is no valid table (sections 5.2.6 to 5.2.8).
+    pub fn members(&self) -> Listing<'k, Member> {
+        self.list(raw::zacpi_1_list_members)
     }
 
     /// The members of the root table that a lookup of a signature skips for another reason than another

@@ -17,6 +17,8 @@ pub enum AcpiError {
     RegionsNotAscending,
     /// The address after a region's last byte is above 2^64 - 1.
     RegionTooHigh,
+    /// A start is at a root table, where there is no RSDP.
+    UnknownStart,
     /// Bytes are needed that lie in no one region.
     MapFailed,
     /// The BIOS areas hold no valid RSDP (section 5.2.5.1).
@@ -130,6 +132,7 @@ impl AcpiError {
         match status {
             1 => RegionsNotAscending,
             2 => RegionTooHigh,
+            3 => UnknownStart,
             4 => RangeTooHigh,
             5 => UnknownWidth,
             6 => NoSuchState,

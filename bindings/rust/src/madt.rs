@@ -69,7 +69,24 @@ impl<'k> Read<'k> for Madt<'k> {
     }
 }
 
+/// The local APICs, as the first valid MADT has them.
+#[derive(Clone, Copy, Debug, PartialEq, Eq)]
+pub struct LocalApic {
+    /// The physical address of each processor's local APIC: of the last Local APIC Address Override (section 5.2.12.8),
+    /// or else Local Interrupt Controller Address.
+    pub address: u64,
+    /// PCAT_COMPAT: whether there is a pair of 8259s too, to be masked.
+    pub also_has_legacy_pics: bool,
+}
+
 impl AcpiTables<'_> {
+    /// The address of the local APICs by the first valid MADT alone, whatever is wrong with other entries: the one of
+    /// [`AcpiTables::platform_info`], if that has one. Fails with `TableMissing` for the MADT.
+    pub fn local_apic(&self) -> AcpiResult<LocalApic> {
+        let raw = raw::zacpi_1_get_local_apic(&self.source())?;
+        Ok(LocalApic { address: raw.address, also_has_legacy_pics: raw.also_has_8259 != 0 })
+    }
+
     /// MailBoxAddress of the first Multiprocessor Wakeup entry of the first valid MADT: the physical address of the
     /// mailbox by which processors are woken (section 5.2.12.19). `None` if the MADT has no such entry.
     ///

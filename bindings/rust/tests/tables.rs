@@ -3,7 +3,9 @@ mod common;
 use common::{Memory, ROOT};
 use zacpi::entries::Walk;
 use zacpi::write::TableIds;
-use zacpi::{Accept, AcpiError, AcpiTables, AmlTable, Fault, Range, Region, Root, Signature, Slot, Start, Table};
+use zacpi::{
+    Accept, AcpiError, AcpiTables, AmlTable, Fault, Member, Range, Region, Root, Rsdp, Signature, Slot, Start, Table,
+};
 
 const FADT: u64 = ROOT + 0x1000;
 const DSDT: u64 = ROOT + 0x2000;
@@ -44,6 +46,38 @@ const IDS: TableIds = TableIds {
 
 fn table(address: u64, signature: &str, length: u32, revision: u8) -> Table {
     Table { address, length, signature: Signature::new(signature), revision, ids: IDS }
+}
+
+/// An RSDP of revision 2 (section 5.2.5.3): OEMID at 9, Revision at 15, RsdtAddress at 16, Length at 20, XsdtAddress at
+/// 24, where nothing is mapped. The RSDT lists a table, one that sums to 1, and an address where nothing is mapped.
+#[test]
+fn returns_the_rsdp_and_what_each_pointer_leads_to() {
+    let (at, xsdt) = (ROOT + 0x8000, 0x1_0000_0000);
+    let mut memory = Memory::rsdt(&[DMAR, BAD_SSDT, 0x10]);
+    memory.table(DMAR, "DMAR", 1, 61, &[]);
+    memory.table(BAD_SSDT, "SSDT", 2, 36, &[]);
+    memory.put(BAD_SSDT, &[(35, 1, 1)]);
+    memory.put(at, &[(0, 8, u64::from_le_bytes(*b"RSD PTR ")), (9, 6, u64::from_le_bytes(*b"OEMID \0\0"))]);
+    memory.put(at, &[(15, 1, 2), (16, 4, ROOT), (20, 4, 36), (24, 8, xsdt)]);
+    memory.sum(at, 20, 8);
+    memory.sum(at, 36, 32);
+    let regions = memory.regions();
+    let (length, xsdt_address) = (Some(36), Some(xsdt));
+    let rsdp = Rsdp { address: at, revision: 2, oem_id: *b"OEMID ", rsdt_address: ROOT as u32, length, xsdt_address };
+    assert_eq!(Rsdp::find(&regions, Start::Rsdp(at)), Ok(rsdp));
+    assert_eq!(Rsdp::find(&regions, Start::Rsdt(ROOT)), Err(AcpiError::UnknownStart));
+    assert_eq!(AcpiTables::open(&regions, Start::Rsdp(at)).unwrap_err(), AcpiError::MapFailed);
+    let tables = AcpiTables::open(&regions, Start::Rsdt(rsdp.rsdt_address.into())).unwrap();
+    let mut room = [Slot::default(); 3];
+    let members = tables.members().fill(&mut room).unwrap();
+    let of = |address, header, refusal| Some(Member { address, header, refusal });
+    assert_eq!(members.get(0), of(DMAR, Some(table(DMAR, "DMAR", 61, 1)), None));
+    let refusal = Some(AcpiError::SdtInvalidChecksum(Signature::SSDT));
+    let unused = TableIds { creator_revision: 0x0100_0000, ..IDS }; // its last byte is the one that is off
+    let header = Table { ids: unused, ..table(BAD_SSDT, "SSDT", 36, 2) };
+    assert_eq!(members.get(1), of(BAD_SSDT, Some(header), refusal));
+    assert_eq!(members.get(2), of(0x10, None, Some(AcpiError::MapFailed)));
+    assert_eq!(members.count(), 3);
 }
 
 #[test]

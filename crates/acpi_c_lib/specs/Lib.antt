@@ -15,6 +15,7 @@ pub mod EntryFaults
 pub mod Facs
 pub mod Faults
 pub mod Fixed
+pub mod FoundRsdp
 pub mod GtdtFaults
 pub mod Held
 pub mod Iommu
@@ -22,8 +23,10 @@ pub mod IommuFaults
 pub mod IommuLists
 pub mod IsaList
 pub mod Listed
+pub mod LocalApic
 pub mod Located
 pub mod MadtFaults
+pub mod Members
 pub mod Missing
 pub mod Model
 pub mod Numa

@@ -18,4 +18,5 @@ pub use Rattle.acpi_c_lib.specs.declared.records.AmlTable.{AmlTable}
 pub use Rattle.acpi_c_lib.specs.declared.records.GenericAddress.{GenericAddress}
 pub use Rattle.acpi_c_lib.specs.declared.records.HpetInfo.{HpetInfo}
 pub use Rattle.acpi_c_lib.specs.declared.records.PmTimer.{PmTimer}
+pub use Rattle.acpi_c_lib.specs.declared.records.Rsdp.{Rsdp}
 pub use Rattle.acpi_c_lib.specs.declared.records.Signature.{Signature}

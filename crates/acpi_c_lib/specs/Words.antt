@@ -157,6 +157,10 @@ pub use Rattle.acpi_c_lib.specs.Fixed.{
   minor_revision_in,
   revision_in,
 }
+pub use Rattle.acpi_c_lib.specs.FoundRsdp.{
+  rsdp_below,
+  rsdp_record,
+}
 pub use Rattle.acpi_c_lib.specs.GtdtFaults.{
   gtdt_faults_below,
   gtdt_faults_of,
@@ -228,6 +232,7 @@ pub use Rattle.acpi_c_lib.specs.Listed.{
   lists_found,
   lists_some,
 }
+pub use Rattle.acpi_c_lib.specs.LocalApic.{local_apic_below}
 pub use Rattle.acpi_c_lib.specs.Located.{
   LiesOnlyAt,
   Place,
@@ -239,6 +244,12 @@ pub use Rattle.acpi_c_lib.specs.MadtFaults.{
   madt_faults_below,
   madt_faults_of,
   madt_refusal,
+}
+pub use Rattle.acpi_c_lib.specs.Members.{
+  member_at,
+  member_status,
+  members_below,
+  unmapped,
 }
 pub use Rattle.acpi_c_lib.specs.Missing.{
   Areas,
@@ -275,6 +286,7 @@ unfoldable pub use Rattle.acpi_c_lib.specs.Missing.{
 pub use Rattle.acpi_c_lib.specs.Model.{
   MadtItem,
   accepted_model,
+  apics_by,
   below_platform,
   counts_of,
   io_apic_record,

@@ -15,6 +15,14 @@ pub struct InterruptModel {
     pub also_has_8259: u8,
 }
 
+/// `struct zacpi_local_apic`.
+#[repr(C)]
+#[derive(Clone, Copy)]
+pub struct LocalApic {
+    pub address: u64,
+    pub also_has_8259: u8,
+}
+
 /// `struct zacpi_io_apic`.
 #[repr(C)]
 #[derive(Clone, Copy, Default)]

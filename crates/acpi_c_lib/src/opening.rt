@@ -93,7 +93,7 @@ pub(crate) fn check_policy(source: &Source<'_>) -> Result<(), Refusal>
 /// The RSDP that a source's start leads to.
 ///
 /// Fails with `UnknownStart` for a start at a root table, and an unknown one.
-fn find_rsdp<'h, H: AcpiHandler>(
+pub(crate) fn find_rsdp<'h, H: AcpiHandler>(
     handler: &'h H,
     source: &Source<'_>,
 ) -> Result<PhysicalMapping<'h, H, Rsdp>, Refusal>

@@ -48,6 +48,18 @@ pub struct Root {
     pub rsdp_length: u32,
 }
 
+/// `struct zacpi_rsdp`.
+#[repr(C)]
+#[derive(Clone, Copy)]
+pub struct Rsdp {
+    pub address: u64,
+    pub xsdt_address: u64,
+    pub rsdt_address: u32,
+    pub length: u32,
+    pub revision: u8,
+    pub oem_id: [u8; 6],
+}
+
 /// `struct zacpi_table`.
 #[repr(C)]
 #[derive(Clone, Copy)]
@@ -61,6 +73,15 @@ pub struct Table {
     pub oem_revision: u32,
     pub creator_id: [u8; 4],
     pub creator_revision: u32,
+}
+
+/// `struct zacpi_member`.
+#[repr(C)]
+#[derive(Clone, Copy)]
+pub struct Member {
+    pub table: Table,
+    pub status: u32,
+    pub has_header: u8,
 }
 
 /// `struct zacpi_fault`.

@@ -3,6 +3,7 @@
 lists! {
     zacpi_1_list_missing_ranges() -> Range;
     zacpi_1_list_tables() -> Table;
+    zacpi_1_list_members() -> Member;
     zacpi_1_list_faults(wanted: Signature) -> Fault;
     zacpi_1_list_ssdts() -> AmlTable;
     zacpi_1_list_ranges() -> Range;
@@ -42,6 +43,7 @@ lists_of! {
 
 ones! {
     zacpi_1_open() -> Root;
+    zacpi_1_get_rsdp() -> Rsdp;
     zacpi_1_find_table(wanted: Signature) -> Table;
     zacpi_1_find_nth_table(wanted: Signature, index: usize) -> Table;
     zacpi_1_get_dsdt() -> AmlTable;
@@ -58,6 +60,7 @@ ones! {
     zacpi_1_get_enable_plan() -> Plan;
     zacpi_1_pci_ecam_address(segment_group: u16, bus: u8, device: u8, function: u8) -> u64;
     zacpi_1_get_interrupt_model() -> InterruptModel;
+    zacpi_1_get_local_apic() -> LocalApic;
     zacpi_1_get_mailbox_address() -> u64;
     zacpi_1_get_isa_interrupt(irq: u8) -> Interrupt;
     zacpi_1_get_sci_interrupt() -> Interrupt;

@@ -3,8 +3,10 @@
 records! {
     Place { region: usize, offset: usize, }
     Root { address: u64, length: u32, revision: u8, pointer_width: u8, rsdp_address: u64, rsdp_length: u32, }
+    Rsdp { address: u64, xsdt_address: u64, rsdt_address: u32, length: u32, revision: u8, oem_id: [u8; 6], }
     Table { address: u64, length: u32, signature: [u8; 4], revision: u8, oem_id: [u8; 6], oem_table_id: [u8; 8],
         oem_revision: u32, creator_id: [u8; 4], creator_revision: u32, }
+    Member { table: Table, status: u32, has_header: u8, }
     Fault { address: u64, status: u32, accepted: u8, }
     Entry { address: u64, entry_type: u32, length: u32, }
     GenericAddress { address: u64, space: u8, bit_width: u8, bit_offset: u8, access_size: u8, }
@@ -32,6 +34,7 @@ records! {
     EcamRange { address: u64, length: u64, segment_group: u16, present: u8, }
     InterruptModel { local_apic_address: u64, io_apics: usize, overrides: usize, nmi_sources: usize, nmi_lines:
         usize, processors: usize, known: u8, also_has_8259: u8, }
+    LocalApic { address: u64, also_has_8259: u8, }
     InterruptSourceOverride { global_system_interrupt: u32, isa_source: u8, polarity: u8, trigger: u8, bus: u8, }
     NmiSource { global_system_interrupt: u32, polarity: u8, trigger: u8, }
     NmiLine { processor_uid: u32, of_all: u8, lint: u8, polarity: u8, trigger: u8, }

@@ -1,14 +1,15 @@
 //! Made by scripts/exports of include/zacpi.h, which has what each call does.
-ghost use Rattle.acpi_c_lib.specs.Words.{Answers, AnswersList, below_apics, below_platform, counts_of, io_apic_in, isa_below, madt_faults_below, mailbox_below, nmi_line_in, nmi_source_in, override_in, pin_below, processors_below, sci_below};
+ghost use Rattle.acpi_c_lib.specs.Words.{Answers, AnswersList, below_apics, below_platform, counts_of, io_apic_in, isa_below, local_apic_below, madt_faults_below, mailbox_below, nmi_line_in, nmi_source_in, override_in, pin_below, processors_below, sci_below};
 ghost use Rattle.std.specs.Prelude.{filter_map};
 
 use acpi_c_lib::answer::answer;
 use acpi_c_lib::apics::{entries, mailbox, processors};
 use acpi_c_lib::entry_faults::EntryFault;
 use acpi_c_lib::interrupt_records::{
-    Interrupt, InterruptModel, InterruptSourceOverride, IoApic, IoApicPin, NmiLine, NmiSource,
-    Processor,
+    Interrupt, InterruptModel, InterruptSourceOverride, IoApic, IoApicPin, LocalApic, NmiLine,
+    NmiSource, Processor,
 };
+use acpi_c_lib::local_apic::local_apic;
 use acpi_c_lib::madt_faults::madt_faults;
 use acpi_c_lib::processors::model;
 use acpi_c_lib::records::{Signature, Source};
@@ -24,6 +25,19 @@ pub extern "C" fn zacpi_1_get_interrupt_model(
     ensures { Answers result out.old out.new named.old named.new (below_platform source.now counts_of) }
 {
     answer(model(source), out, named)
+}
+
+/// Returns the address of each processor's local APIC by the MADT alone, whatever is wrong with other entries: the one
+/// of zacpi_get_interrupt_model, if that has one.
+#[unsafe(no_mangle)]
+pub extern "C" fn zacpi_1_get_local_apic(
+    source: &Source<'_>,
+    out: &mut LocalApic,
+    named: &mut Signature,
+) -> u32
+    ensures { Answers result out.old out.new named.old named.new (local_apic_below source.now) }
+{
+    answer(local_apic(source), out, named)
 }
 
 /// Lists the I/O APICs.

@@ -1,11 +1,13 @@
 //! Made by scripts/exports of include/zacpi.h, which has what each call does.
-ghost use Rattle.acpi_c_lib.specs.Words.{Answers, AnswersList, dsdt_below, faults_below, missing_below, nth_below, ranges_below, root_below, ssdts_below, table_below, tables_below};
+ghost use Rattle.acpi_c_lib.specs.Words.{Answers, AnswersList, dsdt_below, faults_below, members_below, missing_below, nth_below, ranges_below, root_below, rsdp_below, ssdts_below, table_below, tables_below};
 
 use acpi_c_lib::answer::answer;
 use acpi_c_lib::faults::faults;
+use acpi_c_lib::members::members;
 use acpi_c_lib::missing::missing;
 use acpi_c_lib::opening::root;
-use acpi_c_lib::records::{AmlTable, Fault, Range, Root, Signature, Source, Table};
+use acpi_c_lib::records::{AmlTable, Fault, Member, Range, Root, Rsdp, Signature, Source, Table};
+use acpi_c_lib::rsdp::rsdp;
 use acpi_c_lib::tables::{dsdt, find, ssdts, tables};
 use acpi_c_lib::walks::{nth, ranges};
 
@@ -15,6 +17,19 @@ pub extern "C" fn zacpi_1_open(source: &Source<'_>, out: &mut Root, named: &mut 
     ensures { Answers result out.old out.new named.old named.new (root_below source.now) }
 {
     answer(root(source), out, named)
+}
+
+/// Returns the RSDP that a start leads to (section 5.2.5.3), whatever is at the addresses that it has: with each of
+/// these as a start, zacpi_list_members has what either root table lists.
+#[unsafe(no_mangle)]
+pub extern "C" fn zacpi_1_get_rsdp(
+    source: &Source<'_>,
+    out: &mut Rsdp,
+    named: &mut Signature,
+) -> u32
+    ensures { Answers result out.old out.new named.old named.new (rsdp_below source.now) }
+{
+    answer(rsdp(source), out, named)
 }
 
 /// Lists the memory that the tables still need and no one region contains (C.md).
@@ -42,6 +57,20 @@ pub extern "C" fn zacpi_1_list_tables(
     ensures { AnswersList result out.old out.new count.old count.new named.old named.new (tables_below source.now) }
 {
     answer(tables(source, out), count, named)
+}
+
+/// Lists what each pointer of the root table leads to, also if that is no valid table (sections 5.2.6 to 5.2.8): the
+/// items of zacpi_list_tables are those of status 0.
+#[unsafe(no_mangle)]
+pub extern "C" fn zacpi_1_list_members(
+    source: &Source<'_>,
+    out: &mut [Member],
+    count: &mut usize,
+    named: &mut Signature,
+) -> u32
+    ensures { AnswersList result out.old out.new count.old count.new named.old named.new (members_below source.now) }
+{
+    answer(members(source, out), count, named)
 }
 
 /// Returns the first valid table of the wanted signature (section 5.2.6), whose fields aren't checked.
