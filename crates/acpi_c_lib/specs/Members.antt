@@ -25,16 +25,16 @@ abbrev pub member_status : Result (List ℕ) AcpiError → ℕ
 member_status (Ok table) = 0
 member_status (Err e) = acpi_code e
 
--- by the header there, if its 36 bytes are mapped, and what is said of the table under its own signature
+-- by the 36 bytes there, if they are mapped, and the table, if it is accepted under its own signature
 abbrev pub member_record : ℕ → Result (List ℕ) AcpiError → Result (List ℕ) AcpiError → Member
-member_record p (Ok head) said = record {
+member_record p (Ok head) table = record {
   table = table_record (p, head);
-  status = member_status said;
+  status = member_status table;
   has_header = 1;
 }
-member_record p (Err e) said = record {
+member_record p (Err e) table = record {
   table = unmapped p;
-  status = member_status said;
+  status = member_status table;
   has_header = 0;
 }
 
