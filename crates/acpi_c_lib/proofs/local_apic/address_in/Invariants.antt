@@ -5,6 +5,6 @@ use Rattle.acpi_c_lib.proofs.local_apic.address_in.Given as goal
 
 -- with those that are left it is what it is with all
 abbrev pub invariant-loop-item : goal.invariant-loop-item
-invariant-loop-item l =
+invariant-loop-item g l =
     last_address l.address (filter_map local_apic_address_in (items_left l.item-iterator))
     ≡ last_address l.initial.address (filter_map local_apic_address_in (items_left l.initial.item-iterator))
