@@ -907,18 +907,29 @@ ZACPI_STATUS zacpi_list_madt_faults(const struct zacpi_source *source,
                                     struct zacpi_entry_fault *out, size_t capacity, size_t *count,
                                     struct zacpi_signature *signature);
 
+/* The lists of zacpi_get_platform: of each, where it goes and how many items fit there, which the
+ * caller passes, and how many there are in all, which the call writes. */
+struct zacpi_platform_lists {
+    struct zacpi_processor *processors;
+    zacpi_size processors_capacity, processors_count;
+    struct zacpi_io_apic *io_apics;
+    zacpi_size io_apics_capacity, io_apics_count;
+    struct zacpi_interrupt_source_override *overrides;
+    zacpi_size overrides_capacity, overrides_count;
+    struct zacpi_nmi_source *nmi_sources;
+    zacpi_size nmi_sources_capacity, nmi_sources_count;
+    struct zacpi_nmi_line *nmi_lines;
+    zacpi_size nmi_lines_capacity, nmi_lines_count;
+};
+
 /* Returns what zacpi_get_interrupt_model returns, and writes the first items of the five lists
  * above. Fails with an opening error, ZACPI_TABLE_MISSING "FACP", the ZACPI_MADT_ error of the
  * first entry with one (of several the least), ZACPI_INVALID_GENERIC_ADDRESS of X_PM_TMR_BLK if
  * PM_TMR_LEN is 4, or ZACPI_NO_APICS. */
 ZACPI_STATUS zacpi_get_platform(const struct zacpi_source *source,
                                 struct zacpi_interrupt_model *out,
-                                struct zacpi_processor *processors, size_t processors_capacity,
-                                struct zacpi_io_apic *io_apics, size_t io_apics_capacity,
-                                struct zacpi_interrupt_source_override *overrides,
-                                size_t overrides_capacity, struct zacpi_nmi_source *nmi_sources,
-                                size_t nmi_sources_capacity, struct zacpi_nmi_line *nmi_lines,
-                                size_t nmi_lines_capacity, struct zacpi_signature *signature);
+                                struct zacpi_platform_lists *lists,
+                                struct zacpi_signature *signature);
 
 struct zacpi_interrupt {
     uint32_t global_system_interrupt;

@@ -36,6 +36,21 @@ static inline struct zacpi_source zacpi_source_kept(const struct zacpi_source *g
     return kept;
 }
 
+static inline struct zacpi_platform_lists zacpi_platform_lists_kept(const struct zacpi_platform_lists *given) {
+    struct zacpi_platform_lists kept = *given;
+    if (!kept.processors_capacity)
+        kept.processors = (struct zacpi_processor *)ZACPI_NOTHING;
+    if (!kept.io_apics_capacity)
+        kept.io_apics = (struct zacpi_io_apic *)ZACPI_NOTHING;
+    if (!kept.overrides_capacity)
+        kept.overrides = (struct zacpi_interrupt_source_override *)ZACPI_NOTHING;
+    if (!kept.nmi_sources_capacity)
+        kept.nmi_sources = (struct zacpi_nmi_source *)ZACPI_NOTHING;
+    if (!kept.nmi_lines_capacity)
+        kept.nmi_lines = (struct zacpi_nmi_line *)ZACPI_NOTHING;
+    return kept;
+}
+
 static inline struct zacpi_madt_contents zacpi_madt_contents_kept(const struct zacpi_madt_contents *given) {
     struct zacpi_madt_contents kept = *given;
     if (!kept.processors_length)
@@ -660,40 +675,25 @@ ZACPI_STATUS zacpi_list_madt_faults(const struct zacpi_source *source,
 
 zacpi_status ZACPI_CALL zacpi_1_get_platform(const struct zacpi_source *source,
                                              struct zacpi_interrupt_model *out,
-                                             struct zacpi_processor *processors,
-                                             zacpi_number processors_capacity,
-                                             struct zacpi_io_apic *io_apics,
-                                             zacpi_number io_apics_capacity,
-                                             struct zacpi_interrupt_source_override *overrides,
-                                             zacpi_number overrides_capacity,
-                                             struct zacpi_nmi_source *nmi_sources,
-                                             zacpi_number nmi_sources_capacity,
-                                             struct zacpi_nmi_line *nmi_lines,
-                                             zacpi_number nmi_lines_capacity,
+                                             struct zacpi_platform_lists *lists,
                                              struct zacpi_signature *signature);
-ZACPI_NONNULL((1, 2))
+ZACPI_NONNULL((1, 2, 3))
 ZACPI_STATUS zacpi_get_platform(const struct zacpi_source *source,
                                 struct zacpi_interrupt_model *out,
-                                struct zacpi_processor *processors, size_t processors_capacity,
-                                struct zacpi_io_apic *io_apics, size_t io_apics_capacity,
-                                struct zacpi_interrupt_source_override *overrides,
-                                size_t overrides_capacity, struct zacpi_nmi_source *nmi_sources,
-                                size_t nmi_sources_capacity, struct zacpi_nmi_line *nmi_lines,
-                                size_t nmi_lines_capacity, struct zacpi_signature *signature) {
+                                struct zacpi_platform_lists *lists,
+                                struct zacpi_signature *signature) {
     const struct zacpi_source kept_source = zacpi_source_kept(source);
+    struct zacpi_platform_lists kept_lists = zacpi_platform_lists_kept(lists);
     struct zacpi_signature unasked;
+    const zacpi_status status = zacpi_1_get_platform(&kept_source, out, &kept_lists,
+                                                     signature ? signature : &unasked);
     ZACPI_FITS;
-    return zacpi_1_get_platform(&kept_source, out,
-                         processors_capacity ? processors : (struct zacpi_processor *)ZACPI_NOTHING,
-                                processors_capacity,
-                               io_apics_capacity ? io_apics : (struct zacpi_io_apic *)ZACPI_NOTHING,
-                                io_apics_capacity,
-           overrides_capacity ? overrides : (struct zacpi_interrupt_source_override *)ZACPI_NOTHING,
-                                overrides_capacity,
-                      nmi_sources_capacity ? nmi_sources : (struct zacpi_nmi_source *)ZACPI_NOTHING,
-                                nmi_sources_capacity,
-                            nmi_lines_capacity ? nmi_lines : (struct zacpi_nmi_line *)ZACPI_NOTHING,
-                                nmi_lines_capacity, signature ? signature : &unasked);
+    lists->processors_count = kept_lists.processors_count;
+    lists->io_apics_count = kept_lists.io_apics_count;
+    lists->overrides_count = kept_lists.overrides_count;
+    lists->nmi_sources_count = kept_lists.nmi_sources_count;
+    lists->nmi_lines_count = kept_lists.nmi_lines_count;
+    return status;
 }
 
 zacpi_status ZACPI_CALL zacpi_1_get_isa_interrupt(const struct zacpi_source *source, uint8_t irq,

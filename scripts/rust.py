@@ -43,7 +43,7 @@ def rust_fields(fields):
     for kind, name in fields:
         array = re.match(r'(\w+)\[(\d+)\]$', name)
         if name in slices:
-            yield name, f"&'a [{lent(item_type(kind))}]"
+            yield name, f"&'a {'' if kind.startswith('const') else 'mut '}[{lent(item_type(kind))}]"
         elif array:
             yield array[1], f'[{item_type(kind)}; {array[2]}]'
         elif name not in lengths:

@@ -53,10 +53,22 @@ static zacpi_status platform(size_t *count) {
     static struct zacpi_interrupt_source_override overrides[MOST];
     static struct zacpi_nmi_source sources[MOST];
     static struct zacpi_nmi_line lines[MOST];
+    struct zacpi_platform_lists lists = {
+        .processors = processors,
+        .processors_capacity = MOST,
+        .io_apics = io_apics,
+        .io_apics_capacity = MOST,
+        .overrides = overrides,
+        .overrides_capacity = MOST,
+        .nmi_sources = sources,
+        .nmi_sources_capacity = MOST,
+        .nmi_lines = lines,
+        .nmi_lines_capacity = MOST,
+    };
     struct zacpi_interrupt_model model = {0};
-    zacpi_status refused = zacpi_get_platform(&source, &model, processors, MOST, io_apics, MOST, overrides, MOST,
-                                              sources, MOST, lines, MOST, &named);
-    *count = model.io_apics + model.overrides + model.nmi_sources + model.nmi_lines + model.processors;
+    zacpi_status refused = zacpi_get_platform(&source, &model, &lists, &named);
+    *count = lists.io_apics_count + lists.overrides_count + lists.nmi_sources_count + lists.nmi_lines_count +
+             lists.processors_count;
     return refused;
 }
 static zacpi_status list_isa_interrupts(size_t *count) {

@@ -321,8 +321,9 @@ static const struct row rows[] = {
     GOOD(get_local_apic, LEAST, NULL, NO, 1, 0, 0),
     REFUSED(get_local_apic, HOLES, NULL, NO, ZACPI_TABLE_MISSING, "APIC"),
     REFUSED(get_local_apic, EMPTY, NULL, NO, ZACPI_TABLE_MISSING, "APIC"),
-    /* All of these at once: what lies past an item is as it was. */
-    GOOD(get_platform, DESKTOP, NULL, NO, 1, 0x1fee02000, 1, 2, 3, 4, 5, 1, 1,
+    /* All of these at once: the model, how many processors, I/O APICs, overrides, sources and lines there are, and the
+     * items; what lies past an item is as it was. */
+    GOOD(get_platform, DESKTOP, NULL, NO, 1, 0x1fee02000, 1, 2, 3, 4, 5, 1, 1, 5, 1, 2, 3, 4,
          0x21, 0x42, ZACPI_PROCESSOR_DISABLED, 1, 0, 0, 0x22, 0x44, ZACPI_PROCESSOR_WAITING, 0, 0, 0,
          0x567, 0x12345, ZACPI_PROCESSOR_WAITING, 0, 0, 1, 0x568, 0x12346, ZACPI_PROCESSOR_DISABLED, 0, 1, 1,
          0x23, 0x46, ZACPI_PROCESSOR_WAITING, 0, 1, 0,
@@ -331,7 +332,7 @@ static const struct row rows[] = {
          51, ZACPI_POLARITY_LOW, ZACPI_TRIGGER_LEVEL, 52, ZACPI_POLARITY_BUS, ZACPI_TRIGGER_LEVEL,
          0, 1, 1, AS_BUS, 0x22, 0, 0, AS_BUS, 0, 1, 0, AS_BUS, 0x567, 0, 1, AS_BUS),
     /* One item less of each: the I/O APIC has room. */
-    GOOD(get_platform, DESKTOP, NULL, A(1), 1, 0x1fee02000, 1, 2, 3, 4, 5, 1, 1,
+    GOOD(get_platform, DESKTOP, NULL, A(1), 1, 0x1fee02000, 1, 2, 3, 4, 5, 1, 1, 5, 1, 2, 3, 4,
          0x21, 0x42, ZACPI_PROCESSOR_DISABLED, 1, 0, 0, 0x22, 0x44, ZACPI_PROCESSOR_WAITING, 0, 0, 0,
          0x567, 0x12345, ZACPI_PROCESSOR_WAITING, 0, 0, 1, 0x568, 0x12346, ZACPI_PROCESSOR_DISABLED, 0, 1, 1,
          PAINTED_PROCESSOR,
@@ -339,12 +340,14 @@ static const struct row rows[] = {
          50, ZACPI_POLARITY_HIGH, ZACPI_TRIGGER_EDGE, 51, ZACPI_POLARITY_LOW, ZACPI_TRIGGER_LEVEL,
          PAINTED_NMI_SOURCE, 0, 1, 1, AS_BUS, 0x22, 0, 0, AS_BUS, 0, 1, 0, AS_BUS, PAINTED_NMI_LINE),
     /* Two less: no room for I/O APICs and overrides. */
-    GOOD(get_platform, PC, NULL, A(2), 1, 0, 2, 2, 0, 0, 1, 1, 0, 1, 33, ZACPI_PROCESSOR_RUNNING, 1, 0, 0,
+    GOOD(get_platform, PC, NULL, A(2), 1, 0, 2, 2, 0, 0, 1, 1, 0, 1, 2, 2, 0, 0,
+         1, 33, ZACPI_PROCESSOR_RUNNING, 1, 0, 0,
          PAINTED_PROCESSOR, PAINTED_PROCESSOR, PAINTED_PROCESSOR, PAINTED_PROCESSOR, PAINTED_IO_APIC, PAINTED_IO_APIC,
          PAINTED_OVERRIDE, PAINTED_OVERRIDE, PAINTED_NMI_SOURCE, PAINTED_NMI_SOURCE, PAINTED_NMI_SOURCE,
          PAINTED_NMI_LINE, PAINTED_NMI_LINE, PAINTED_NMI_LINE, PAINTED_NMI_LINE),
-    GOOD(get_platform, MOBILE, NULL, NO, 1, 0xfee03000, 0, 0, 0, 0, 2, 1, 0, 8, 7, ZACPI_PROCESSOR_RUNNING, 1, 0, 1,
-         6, 5, ZACPI_PROCESSOR_DISABLED, 0, 0, 0, PAINTED_PROCESSOR, PAINTED_PROCESSOR, PAINTED_PROCESSOR,
+    GOOD(get_platform, MOBILE, NULL, NO, 1, 0xfee03000, 0, 0, 0, 0, 2, 1, 0, 2, 0, 0, 0, 0,
+         8, 7, ZACPI_PROCESSOR_RUNNING, 1, 0, 1, 6, 5, ZACPI_PROCESSOR_DISABLED, 0, 0, 0,
+         PAINTED_PROCESSOR, PAINTED_PROCESSOR, PAINTED_PROCESSOR,
          PAINTED_IO_APIC, PAINTED_IO_APIC, PAINTED_OVERRIDE, PAINTED_OVERRIDE, PAINTED_NMI_SOURCE, PAINTED_NMI_SOURCE,
          PAINTED_NMI_SOURCE, PAINTED_NMI_LINE, PAINTED_NMI_LINE, PAINTED_NMI_LINE, PAINTED_NMI_LINE),
     REFUSED(get_platform, WORKSTATION, NULL, NO, ZACPI_NO_APICS, NULL),

@@ -211,25 +211,27 @@ pub(crate) fn platform(
     nmi_lines: &mut [NmiLine],
 ) -> AcpiResult<InterruptModel> {
     let (mut model, mut named) = (InterruptModel::default(), Signature::default());
-    // SAFETY: the source holds live slices of initialised items; the outputs are live slices, each with its length, and
-    // two live variables.
-    let status = unsafe {
-        zacpi_1_get_platform(
-            source,
-            &mut model,
-            processors.as_mut_ptr(),
-            processors.len(),
-            io_apics.as_mut_ptr(),
-            io_apics.len(),
-            overrides.as_mut_ptr(),
-            overrides.len(),
-            nmi_sources.as_mut_ptr(),
-            nmi_sources.len(),
-            nmi_lines.as_mut_ptr(),
-            nmi_lines.len(),
-            &mut named,
-        )
+    let mut lists = PlatformLists {
+        processors: processors.as_mut_ptr(),
+        processors_capacity: processors.len(),
+        processors_count: 0,
+        io_apics: io_apics.as_mut_ptr(),
+        io_apics_capacity: io_apics.len(),
+        io_apics_count: 0,
+        overrides: overrides.as_mut_ptr(),
+        overrides_capacity: overrides.len(),
+        overrides_count: 0,
+        nmi_sources: nmi_sources.as_mut_ptr(),
+        nmi_sources_capacity: nmi_sources.len(),
+        nmi_sources_count: 0,
+        nmi_lines: nmi_lines.as_mut_ptr(),
+        nmi_lines_capacity: nmi_lines.len(),
+        nmi_lines_count: 0,
+        lent: PhantomData,
     };
+    // SAFETY: the source holds live slices of initialised items; the outputs are live slices, each with its length, and
+    // three live variables.
+    let status = unsafe { zacpi_1_get_platform(source, &mut model, &mut lists, &mut named) };
     answered(status, named).map(|()| model)
 }
 

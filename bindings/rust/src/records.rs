@@ -32,6 +32,28 @@ pub struct Signature {
     pub letters: [u8; 4],
 }
 
+/// The lists of the interrupt model: where each goes, how many items it has room for, and how many there are.
+#[repr(C)]
+#[derive(Debug)]
+pub struct PlatformLists<'k> {
+    pub(super) processors: *mut Processor,
+    pub(super) processors_capacity: usize,
+    pub(super) processors_count: usize,
+    pub(super) io_apics: *mut IoApic,
+    pub(super) io_apics_capacity: usize,
+    pub(super) io_apics_count: usize,
+    pub(super) overrides: *mut InterruptSourceOverride,
+    pub(super) overrides_capacity: usize,
+    pub(super) overrides_count: usize,
+    pub(super) nmi_sources: *mut NmiSource,
+    pub(super) nmi_sources_capacity: usize,
+    pub(super) nmi_sources_count: usize,
+    pub(super) nmi_lines: *mut NmiLine,
+    pub(super) nmi_lines_capacity: usize,
+    pub(super) nmi_lines_count: usize,
+    pub(super) lent: PhantomData<&'k mut [Processor]>,
+}
+
 macro_rules! records {
     ($($(#[$doc:meta])* $name:ident { $($(#[$field_doc:meta])* $field:ident: $ty:ty,)* })*) => {
         $($(#[$doc])*

@@ -1,7 +1,7 @@
 //! The exports whose function of `acpi_c_lib` isn't called in the plain manner that scripts/exports makes.
 ghost use Rattle.std.specs.Prelude.{◌≡◌, filter_map, length};
 ghost use Rattle.acpi_base.specs.FromStd.{result_unwrap_or};
-ghost use Rattle.acpi_c_lib.specs.Words.{Answers, AnswersClip, AnswersList, AnswersPlain, WritesTable, below_apics, below_known, counts_of, entries_below, entries_said, facs_contents, io_apic_in, isa_list_below, items_beside, left_said, nmi_line_in, nmi_source_in, override_in, processors_below, put_from, result_map, sleep_plan_below, source_of_rsdp, table_said, writer_refused};
+ghost use Rattle.acpi_c_lib.specs.Words.{Answers, AnswersClip, AnswersList, AnswersPlain, AtSamePlaces, CountsBeside, WritesTable, below_apics, below_known, counts_of, entries_below, entries_said, facs_contents, io_apic_in, isa_list_below, items_beside, left_said, nmi_line_in, nmi_source_in, override_in, processors_below, put_from, result_map, sleep_plan_below, source_of_rsdp, table_said, writer_refused};
 ghost use Rattle.acpi_c_lib.specs.declared.writing.machine.Contents.TheVariants.{Mcfg};
 ghost use Rattle.acpi_writer.specs.Words.{facs_written};
 
@@ -9,9 +9,7 @@ use acpi_c_lib::answer::{answer, answer_plain};
 use acpi_c_lib::clip::clip_ranges;
 use acpi_c_lib::copied::start_of_rsdp;
 use acpi_c_lib::entries::table_entries;
-use acpi_c_lib::interrupt_records::{
-    InterruptModel, InterruptSourceOverride, IoApic, IsaInterrupts, NmiLine, NmiSource, Processor,
-};
+use acpi_c_lib::interrupt_records::{InterruptModel, IsaInterrupts, PlatformLists};
 use acpi_c_lib::isa_list::isa_list;
 use acpi_c_lib::platform::platform;
 use acpi_c_lib::power::sleep_plan;
@@ -82,39 +80,29 @@ pub extern "C" fn zacpi_1_get_power_off_plan(
 pub extern "C" fn zacpi_1_get_platform(
     source: &Source<'_>,
     out: &mut InterruptModel,
-    processors: &mut [Processor],
-    io_apics: &mut [IoApic],
-    overrides: &mut [InterruptSourceOverride],
-    nmi_sources: &mut [NmiSource],
-    nmi_lines: &mut [NmiLine],
+    lists: &mut PlatformLists<'_>,
     named: &mut Signature,
 ) -> u32
     ensures model { Answers result out.old out.new named.old named.new (below_known source.now counts_of) }
-    ensures processors { processors.new
-        ≡ put_from processors.old 0 (items_beside (below_known source.now counts_of)
+    ensures processors { lists.new.processors.now
+        ≡ put_from lists.old.processors.now 0 (items_beside (below_known source.now counts_of)
         (processors_below source.now)) }
-    ensures io_apics { io_apics.new
-        ≡ put_from io_apics.old 0 (items_beside (below_known source.now counts_of)
+    ensures io_apics { lists.new.io_apics.now
+        ≡ put_from lists.old.io_apics.now 0 (items_beside (below_known source.now counts_of)
         (below_apics source.now (filter_map io_apic_in))) }
-    ensures overrides { overrides.new
-        ≡ put_from overrides.old 0 (items_beside (below_known source.now counts_of)
+    ensures overrides { lists.new.overrides.now
+        ≡ put_from lists.old.overrides.now 0 (items_beside (below_known source.now counts_of)
         (below_apics source.now (filter_map override_in))) }
-    ensures nmi_sources { nmi_sources.new
-        ≡ put_from nmi_sources.old 0 (items_beside (below_known source.now counts_of)
+    ensures nmi_sources { lists.new.nmi_sources.now
+        ≡ put_from lists.old.nmi_sources.now 0 (items_beside (below_known source.now counts_of)
         (below_apics source.now (filter_map nmi_source_in))) }
-    ensures nmi_lines { nmi_lines.new
-        ≡ put_from nmi_lines.old 0 (items_beside (below_known source.now counts_of)
+    ensures nmi_lines { lists.new.nmi_lines.now
+        ≡ put_from lists.old.nmi_lines.now 0 (items_beside (below_known source.now counts_of)
         (below_apics source.now (filter_map nmi_line_in))) }
+    ensures counts { CountsBeside lists.old lists.new (below_known source.now counts_of) }
+    ensures places { AtSamePlaces lists.old lists.new }
 {
-    let said = platform(
-        source,
-        processors,
-        io_apics,
-        overrides,
-        nmi_sources,
-        nmi_lines,
-    );
-    answer(said, out, named)
+    answer(platform(source, lists), out, named)
 }
 
 /// The 16 ISA interrupts, each as `zacpi_get_isa_interrupt` returns it, and its pin.

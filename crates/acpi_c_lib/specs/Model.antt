@@ -1,5 +1,5 @@
 -- The interrupt model (MADT, section 5.2.12) as C gets it.
-use Rattle.std.specs.Prelude.{ℕ, List, [], ◌∷◌, length, Option, Some, None, Result, Ok}
+use Rattle.std.specs.Prelude.{◌≡◌, ℕ, List, [], ◌∷◌, length, Option, Some, None, Result, Ok, Err}
 use Rattle.acpi_base.specs.Words.{madt_at, Memory, ◌>>=◌, accepted}
 use Rattle.acpi_base.specs.Model as base
 use Rattle.acpi.specs.Types.{Apic, IoApic, Processor, ProcessorInfo}
@@ -7,7 +7,7 @@ use Rattle.acpi_base.specs.declared.model.interrupt.InterruptModel.TheVariants a
 pub use Rattle.acpi_base.specs.declared.model.item.MadtItem.{MadtItem}
 use Rattle.acpi.specs.Words.{fadt_kind, madt_kind, or_later, timer_of, lookup}
 use Rattle.acpi_fixed.specs.Words.{fadt_at}
-use Rattle.acpi_c_lib.specs.Types.{PlatformInfo, InterruptModel}
+use Rattle.acpi_c_lib.specs.Types.{PlatformInfo, InterruptModel, PlatformLists}
 use Rattle.acpi_c_lib.specs.Answers.{result_map}
 use Rattle.acpi_c_lib.specs.Below.{AcpiError, Refusal, Source, below_source}
 use Rattle.acpi_c_lib.specs.Devices.{flag}
@@ -89,3 +89,22 @@ counts_of (model.Unknown, processors) = record {
   known = 0;
   also_has_8259 = 0;
 }
+
+-- how many items each list has is written as the model has it; of an error it stays
+abbrev pub CountsBeside : PlatformLists → PlatformLists → Result InterruptModel Refusal → Type 0
+CountsBeside old new (Ok said) =
+    (new.processors_count ≡ said.processors) × (new.io_apics_count ≡ said.io_apics)
+    × (new.overrides_count ≡ said.overrides) × (new.nmi_sources_count ≡ said.nmi_sources)
+    × (new.nmi_lines_count ≡ said.nmi_lines)
+CountsBeside old new (Err e) =
+    (new.processors_count ≡ old.processors_count) × (new.io_apics_count ≡ old.io_apics_count)
+    × (new.overrides_count ≡ old.overrides_count) × (new.nmi_sources_count ≡ old.nmi_sources_count)
+    × (new.nmi_lines_count ≡ old.nmi_lines_count)
+
+-- each list is where it was
+abbrev pub AtSamePlaces : PlatformLists → PlatformLists → Type 0
+AtSamePlaces old new =
+    (new.processors.ghost_name ≡ old.processors.ghost_name) × (new.io_apics.ghost_name ≡ old.io_apics.ghost_name)
+    × (new.overrides.ghost_name ≡ old.overrides.ghost_name)
+    × (new.nmi_sources.ghost_name ≡ old.nmi_sources.ghost_name)
+    × (new.nmi_lines.ghost_name ≡ old.nmi_lines.ghost_name)

@@ -185,6 +185,7 @@ pub use Rattle.acpi_c_lib.specs.declared.fixed_records.Console.{Console}
 pub use Rattle.acpi_c_lib.specs.declared.fixed_records.EcamRange.{EcamRange}
 pub use Rattle.acpi_c_lib.specs.declared.fixed_records.FixedHardware.{FixedHardware}
 pub use Rattle.acpi_c_lib.specs.declared.interrupt_records.InterruptModel.{InterruptModel}
+pub use Rattle.acpi_c_lib.specs.declared.interrupt_records.PlatformLists.{PlatformLists}
 pub use Rattle.acpi_c_lib.specs.declared.iommu_records.DmarFlags.{DmarFlags}
 pub use Rattle.acpi_c_lib.specs.declared.iommu_records.DmarReserved.{DmarReserved}
 pub use Rattle.acpi_c_lib.specs.declared.iommu_records.DmarScope.{DmarScope}

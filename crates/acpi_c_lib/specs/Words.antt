@@ -284,6 +284,8 @@ unfoldable pub use Rattle.acpi_c_lib.specs.Missing.{
   walk_holes,
 }
 pub use Rattle.acpi_c_lib.specs.Model.{
+  AtSamePlaces,
+  CountsBeside,
   MadtItem,
   accepted_model,
   apics_by,

@@ -75,6 +75,22 @@ pub struct Processor {
     pub is_x2apic: u8,
 }
 
+/// `struct zacpi_platform_lists`.
+#[repr(C)]
+#[derive(Drop)]
+pub struct PlatformLists<'a> {
+    pub processors: &'a mut [Processor],
+    pub processors_count: usize,
+    pub io_apics: &'a mut [IoApic],
+    pub io_apics_count: usize,
+    pub overrides: &'a mut [InterruptSourceOverride],
+    pub overrides_count: usize,
+    pub nmi_sources: &'a mut [NmiSource],
+    pub nmi_sources_count: usize,
+    pub nmi_lines: &'a mut [NmiLine],
+    pub nmi_lines_count: usize,
+}
+
 /// `struct zacpi_interrupt`.
 #[repr(C)]
 #[derive(Clone, Copy, Default)]

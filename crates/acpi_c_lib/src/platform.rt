@@ -3,11 +3,11 @@
 ghost use Rattle.std.specs.Prelude.{◌≡◌, ◌+◌, ◌^◌, ◌<◌, ◌≤◌, List, length, filter_map};
 ghost use Rattle.acpi_base.specs.FromStd.{cons_option};
 ghost use Rattle.acpi_base.specs.Words.{entries_of};
-ghost use Rattle.acpi_c_lib.specs.Words.{items_beside, put_from, below_apics, below_known, counts_of, io_apic_in, nmi_line_in, nmi_source_in, override_in, processors_below, processors_of};
+ghost use Rattle.acpi_c_lib.specs.Words.{AtSamePlaces, CountsBeside, items_beside, put_from, below_apics, below_known, counts_of, io_apic_in, nmi_line_in, nmi_source_in, override_in, processors_below, processors_of};
 
 use crate::apics::{MadtRecord, boot_first, processor_in};
 use crate::interrupt_records::{
-    InterruptModel, InterruptSourceOverride, IoApic, NmiLine, NmiSource, Processor,
+    InterruptModel, InterruptSourceOverride, IoApic, NmiLine, NmiSource, PlatformLists, Processor,
 };
 use crate::interrupts::known_madt;
 use crate::lists::put;
@@ -18,38 +18,45 @@ use crate::regions::Mapped;
 use acpi_base::bytes::field;
 use acpi_base::madt::{MadtEntry, MadtEntryIter};
 
-/// The model of a machine with APICs, with its lists, each as the call for it alone answers it.
+/// The model of a machine with APICs, with its lists, each as the call for it alone returns it. If it fails, nothing is
+/// written.
 pub fn platform(
     source: &Source<'_>,
-    processors: &mut [Processor],
-    io_apics: &mut [IoApic],
-    overrides: &mut [InterruptSourceOverride],
-    nmi_sources: &mut [NmiSource],
-    nmi_lines: &mut [NmiLine],
+    lists: &mut PlatformLists<'_>,
 ) -> Result<InterruptModel, Refusal>
     ensures model { result ≡ below_known source.now counts_of }
-    ensures processors { processors.new
-        ≡ put_from processors.old 0 (items_beside result (processors_below source.now)) }
-    ensures io_apics { io_apics.new
-        ≡ put_from io_apics.old 0 (items_beside result (below_apics source.now (filter_map io_apic_in))) }
-    ensures overrides { overrides.new
-        ≡ put_from overrides.old 0 (items_beside result (below_apics source.now (filter_map override_in))) }
-    ensures nmi_sources { nmi_sources.new
-        ≡ put_from nmi_sources.old 0 (items_beside result (below_apics source.now (filter_map nmi_source_in))) }
-    ensures nmi_lines { nmi_lines.new
-        ≡ put_from nmi_lines.old 0 (items_beside result (below_apics source.now (filter_map nmi_line_in))) }
+    ensures processors { lists.new.processors.now
+        ≡ put_from lists.old.processors.now 0 (items_beside result (processors_below source.now)) }
+    ensures io_apics { lists.new.io_apics.now
+        ≡ put_from lists.old.io_apics.now 0 (items_beside result (below_apics source.now (filter_map io_apic_in))) }
+    ensures overrides { lists.new.overrides.now
+        ≡ put_from lists.old.overrides.now 0
+        (items_beside result (below_apics source.now (filter_map override_in))) }
+    ensures nmi_sources { lists.new.nmi_sources.now
+        ≡ put_from lists.old.nmi_sources.now 0
+        (items_beside result (below_apics source.now (filter_map nmi_source_in))) }
+    ensures nmi_lines { lists.new.nmi_lines.now
+        ≡ put_from lists.old.nmi_lines.now 0 (items_beside result (below_apics source.now (filter_map nmi_line_in))) }
+    ensures counts { CountsBeside lists.old lists.new result }
+    ensures places { AtSamePlaces lists.old lists.new }
 {
     let memory = Mapped::new(source.regions);
     let found = known_madt(&memory, source)?;
     write_all(
         found.madt.bytes(),
-        processors,
-        io_apics,
-        overrides,
-        nmi_sources,
-        nmi_lines,
+        lists.processors,
+        lists.io_apics,
+        lists.overrides,
+        lists.nmi_sources,
+        lists.nmi_lines,
     );
-    Ok(known_model(&found))
+    let model = known_model(&found);
+    lists.processors_count = model.processors;
+    lists.io_apics_count = model.io_apics;
+    lists.overrides_count = model.overrides;
+    lists.nmi_sources_count = model.nmi_sources;
+    lists.nmi_lines_count = model.nmi_lines;
+    Ok(model)
 }
 
 /// Writes each list as far as there is room.

@@ -111,16 +111,7 @@ unsafe extern "C" {
     fn zacpi_1_get_platform(
         source: *const Source<'_>,
         out: *mut InterruptModel,
-        processors: *mut Processor,
-        processors_capacity: usize,
-        io_apics: *mut IoApic,
-        io_apics_capacity: usize,
-        overrides: *mut InterruptSourceOverride,
-        overrides_capacity: usize,
-        nmi_sources: *mut NmiSource,
-        nmi_sources_capacity: usize,
-        nmi_lines: *mut NmiLine,
-        nmi_lines_capacity: usize,
+        lists: *mut PlatformLists<'_>,
         signature: *mut Signature,
     ) -> u32;
     fn zacpi_1_get_dmar_unit(
