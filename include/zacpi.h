@@ -171,7 +171,8 @@ enum zacpi_status_code {
                                                 * device entry */
     ZACPI_IOMMU_INVALID_MEMORY_RANGE = 55, /* an RMRR's last byte is before its first, or an IVMD's
                                             * memory ends at 2^64 or above */
-    ZACPI_NO_IOMMU = 56,                   /* the table has no such unit, or none for the device */
+    ZACPI_NO_IOMMU = 56,                   /* the table has no such unit or structure, or no unit
+                                            * for the device */
     /* The GTDT (section 5.2.24.1): Platform Timer Offset is below 96, a Length is above the bytes
      * left or below 20 (GT Block), 28 (watchdog) or 4 (others), or frames of a GT Block don't lie
      * between its byte 20 and its end. */
@@ -1168,6 +1169,25 @@ struct zacpi_memory_affinity { /* Memory Affinity, section 5.2.16.2. Flags: bit 
     uint32_t domain; /* Proximity Domain; below revision 2 its lowest byte */
     uint8_t is_hot_pluggable, is_non_volatile;
 };
+struct zacpi_processor_affinity { /* Processor Local APIC, Processor Local x2APIC and GICC Affinity,
+                                   * sections 5.2.16.1, 5.2.16.3 and 5.2.16.4 */
+    uint32_t id;     /* APIC ID of Type 0, X2APIC ID of Type 2, ACPI Processor UID of Type 3 */
+    uint32_t domain; /* Proximity Domain; of Type 0 below revision 2 its lowest byte */
+    uint32_t clock_domain;
+    uint8_t entry_type; /* 0, 2 or 3 */
+};
+struct zacpi_generic_initiator { /* Generic Initiator Affinity, section 5.2.16.6: a device that
+                                  * accesses memory by itself */
+    uint32_t domain;
+    uint8_t is_architectural; /* Architectural Transactions, bit 1 of Flags */
+    uint8_t handle_type; /* Device Handle Type: what `handle` has. 0: _HID in 8 bytes, _UID in 4. 1:
+                          * PCI Segment in 2 bytes, PCI BDF Number in 2 */
+    uint8_t handle[16];  /* Device Handle */
+};
+struct zacpi_its_affinity { /* GIC Interrupt Translation Service (ITS) Affinity, section 5.2.16.5 */
+    uint32_t domain;
+    uint32_t its_id; /* `id` of an item of zacpi_list_gic_translation_services */
+};
 struct zacpi_localities {
     zacpi_u64 localities; /* Number of System Localities: rows of the matrix, from 0 on */
     uint8_t is_sane;     /* 1: there are localities, the table has all distances, 10 of each
@@ -1180,7 +1200,25 @@ struct zacpi_localities {
 ZACPI_STATUS zacpi_list_memory_affinities(const struct zacpi_source *source,
                                           struct zacpi_memory_affinity *out, size_t capacity,
                                           size_t *count, struct zacpi_signature *signature);
-/* Lists the entries of such memory that ends at 2^64 or above, and last, if bytes are left, where
+/* Lists the processors that the SRAT puts into domains, those that the MADT lacks too: its entries
+ * of Types 0, 2 and 3 that are enabled (bit 0 of Flags), up to where no entry begins; of several
+ * for one processor the last counts. Fails with an opening error, or ZACPI_TABLE_MISSING "SRAT". */
+ZACPI_STATUS zacpi_list_processor_affinities(const struct zacpi_source *source,
+                                             struct zacpi_processor_affinity *out, size_t capacity,
+                                             size_t *count, struct zacpi_signature *signature);
+/* Lists the generic initiators that the SRAT puts into domains: its entries of Type 5 that are
+ * enabled, up to where no entry begins. Fails with an opening error, or ZACPI_TABLE_MISSING
+ * "SRAT". */
+ZACPI_STATUS zacpi_list_generic_initiators(const struct zacpi_source *source,
+                                           struct zacpi_generic_initiator *out, size_t capacity,
+                                           size_t *count, struct zacpi_signature *signature);
+/* Lists the domains of Interrupt Translation Services: the SRAT's entries of Type 4, which have no
+ * Flags, up to where no entry begins. Fails with an opening error, or ZACPI_TABLE_MISSING
+ * "SRAT". */
+ZACPI_STATUS zacpi_list_its_affinities(const struct zacpi_source *source,
+                                       struct zacpi_its_affinity *out, size_t capacity,
+                                       size_t *count, struct zacpi_signature *signature);
+/* Lists the entries of memory that ends at 2^64 or above, and last, if bytes are left, where
  * none begins. Fails with an opening error, or ZACPI_TABLE_MISSING "SRAT". */
 ZACPI_STATUS zacpi_list_srat_faults(const struct zacpi_source *source,
                                     struct zacpi_entry_fault *out, size_t capacity, size_t *count,
@@ -1252,6 +1290,21 @@ struct zacpi_dmar_reserved { /* Reserved Memory Region Reporting (RMRR), section
     zacpi_u64 limit; /* the last byte */
     uint16_t segment;
 };
+struct zacpi_dmar_root_ports { /* Root Port ATS Capability Reporting (ATSR), section 8.5: ports that
+                                * support address translation services */
+    uint16_t segment;
+    uint8_t includes_all; /* ALL_PORTS, bit 0 of Flags: all root ports of the segment; else those of
+                           * its device scopes */
+    uint8_t flags;
+};
+struct zacpi_dmar_affinity { /* Remapping Hardware Static Affinity (RHSA), section 8.6 */
+    zacpi_u64 register_base; /* of the unit that is in the domain */
+    uint32_t domain;         /* Proximity Domain */
+};
+enum zacpi_dmar_type { /* Type of a structure, section 8.2 */
+    ZACPI_DMAR_DRHD = 0, ZACPI_DMAR_RMRR = 1, ZACPI_DMAR_ATSR = 2, ZACPI_DMAR_RHSA = 3,
+    ZACPI_DMAR_ANDD = 4, ZACPI_DMAR_SATC = 5, ZACPI_DMAR_SIDP = 6
+};
 
 /* Returns what the DMAR has for all units (section 8.1). Fails with an opening error, or
  * ZACPI_TABLE_MISSING "DMAR". */
@@ -1262,11 +1315,29 @@ ZACPI_STATUS zacpi_get_dmar_flags(const struct zacpi_source *source, struct zacp
 ZACPI_STATUS zacpi_list_dmar_units(const struct zacpi_source *source, struct zacpi_dmar_unit *out,
                                    size_t capacity, size_t *count,
                                    struct zacpi_signature *signature);
-/* Lists the device scopes of the `index`-th of these units, from 0 on, up to the first byte at
- * which none begins. Fails with an opening error, ZACPI_TABLE_MISSING "DMAR", or ZACPI_NO_IOMMU. */
-ZACPI_STATUS zacpi_list_dmar_scopes(const struct zacpi_source *source, size_t index,
-                                    struct zacpi_dmar_scope *out, size_t capacity, size_t *count,
-                                    struct zacpi_signature *signature);
+/* Lists the memory that is reserved for devices: the RMRRs, also those that are no range, up to the
+ * first byte at which no structure begins. Fails with an opening error, or ZACPI_TABLE_MISSING
+ * "DMAR". */
+ZACPI_STATUS zacpi_list_dmar_regions(const struct zacpi_source *source,
+                                     struct zacpi_dmar_reserved *out, size_t capacity,
+                                     size_t *count, struct zacpi_signature *signature);
+/* Lists the ATSRs, up to the first byte at which no structure begins. Fails with an opening error,
+ * or ZACPI_TABLE_MISSING "DMAR". */
+ZACPI_STATUS zacpi_list_dmar_root_ports(const struct zacpi_source *source,
+                                        struct zacpi_dmar_root_ports *out, size_t capacity,
+                                        size_t *count, struct zacpi_signature *signature);
+/* Lists the RHSAs: the domains of units, up to the first byte at which no structure begins. Fails
+ * with an opening error, or ZACPI_TABLE_MISSING "DMAR". */
+ZACPI_STATUS zacpi_list_dmar_affinities(const struct zacpi_source *source,
+                                        struct zacpi_dmar_affinity *out, size_t capacity,
+                                        size_t *count, struct zacpi_signature *signature);
+/* Lists the device scopes of a structure, up to the first byte at which none begins: of the
+ * `index`-th, from 0 on, of a Type, of enum zacpi_dmar_type, which is the `index`-th item of the
+ * list of its Type. Types other than DRHD, RMRR, ATSR, SATC and SIDP have none. Fails with an
+ * opening error, ZACPI_TABLE_MISSING "DMAR", or ZACPI_NO_IOMMU if there is no such structure. */
+ZACPI_STATUS zacpi_list_dmar_scopes(const struct zacpi_source *source, uint16_t structure_type,
+                                    size_t index, struct zacpi_dmar_scope *out, size_t capacity,
+                                    size_t *count, struct zacpi_signature *signature);
 /* Lists the structures with an error: device scopes that end early, else an RMRR that is no range;
  * and last, if there is one, the first byte at which none begins. Fails with an opening error, or
  * ZACPI_TABLE_MISSING "DMAR". */
@@ -1378,6 +1449,12 @@ ZACPI_STATUS zacpi_list_ivrs_faults(const struct zacpi_source *source,
 ZACPI_STATUS zacpi_get_ivrs_unit(const struct zacpi_source *source, uint16_t segment,
                                  uint16_t device_id, struct zacpi_ivrs_device *out,
                                  struct zacpi_signature *signature);
+/* Lists the memory that has its own rules: the IVMDs of all Types, whatever their length, up to the
+ * first byte at which no block begins. Fails with an opening error, or ZACPI_TABLE_MISSING
+ * "IVRS". */
+ZACPI_STATUS zacpi_list_ivrs_regions(const struct zacpi_source *source,
+                                     struct zacpi_ivrs_memory *out, size_t capacity, size_t *count,
+                                     struct zacpi_signature *signature);
 /* Lists the memory that has its own rules for a device: each IVMD for it, for all devices or for a
  * range that it lies in, whatever its segment and length. Fails with an opening error, or
  * ZACPI_TABLE_MISSING "IVRS". */

@@ -960,6 +960,55 @@ ZACPI_STATUS zacpi_list_memory_affinities(const struct zacpi_source *source,
                    ZACPI_COUNTED(count), signature ? signature : &unasked));
 }
 
+zacpi_status ZACPI_CALL zacpi_1_list_processor_affinities(const struct zacpi_source *source,
+                                                          struct zacpi_processor_affinity *out,
+                                                          zacpi_number capacity,
+                                                          zacpi_number *count,
+                                                          struct zacpi_signature *signature);
+ZACPI_NONNULL((1, 4))
+ZACPI_STATUS zacpi_list_processor_affinities(const struct zacpi_source *source,
+                                             struct zacpi_processor_affinity *out, size_t capacity,
+                                             size_t *count, struct zacpi_signature *signature) {
+    const struct zacpi_source kept_source = zacpi_source_kept(source);
+    struct zacpi_signature unasked;
+    ZACPI_FITS;
+    ZACPI_COUNTING(count, zacpi_1_list_processor_affinities(&kept_source,
+                   capacity ? out : (struct zacpi_processor_affinity *)ZACPI_NOTHING, capacity,
+                   ZACPI_COUNTED(count), signature ? signature : &unasked));
+}
+
+zacpi_status ZACPI_CALL zacpi_1_list_generic_initiators(const struct zacpi_source *source,
+                                                        struct zacpi_generic_initiator *out,
+                                                        zacpi_number capacity, zacpi_number *count,
+                                                        struct zacpi_signature *signature);
+ZACPI_NONNULL((1, 4))
+ZACPI_STATUS zacpi_list_generic_initiators(const struct zacpi_source *source,
+                                           struct zacpi_generic_initiator *out, size_t capacity,
+                                           size_t *count, struct zacpi_signature *signature) {
+    const struct zacpi_source kept_source = zacpi_source_kept(source);
+    struct zacpi_signature unasked;
+    ZACPI_FITS;
+    ZACPI_COUNTING(count, zacpi_1_list_generic_initiators(&kept_source,
+                   capacity ? out : (struct zacpi_generic_initiator *)ZACPI_NOTHING, capacity,
+                   ZACPI_COUNTED(count), signature ? signature : &unasked));
+}
+
+zacpi_status ZACPI_CALL zacpi_1_list_its_affinities(const struct zacpi_source *source,
+                                                    struct zacpi_its_affinity *out,
+                                                    zacpi_number capacity, zacpi_number *count,
+                                                    struct zacpi_signature *signature);
+ZACPI_NONNULL((1, 4))
+ZACPI_STATUS zacpi_list_its_affinities(const struct zacpi_source *source,
+                                       struct zacpi_its_affinity *out, size_t capacity,
+                                       size_t *count, struct zacpi_signature *signature) {
+    const struct zacpi_source kept_source = zacpi_source_kept(source);
+    struct zacpi_signature unasked;
+    ZACPI_FITS;
+    ZACPI_COUNTING(count, zacpi_1_list_its_affinities(&kept_source,
+                   capacity ? out : (struct zacpi_its_affinity *)ZACPI_NOTHING, capacity,
+                   ZACPI_COUNTED(count), signature ? signature : &unasked));
+}
+
 zacpi_status ZACPI_CALL zacpi_1_list_srat_faults(const struct zacpi_source *source,
                                                  struct zacpi_entry_fault *out,
                                                  zacpi_number capacity, zacpi_number *count,
@@ -1065,18 +1114,67 @@ ZACPI_STATUS zacpi_list_dmar_units(const struct zacpi_source *source, struct zac
                    ZACPI_COUNTED(count), signature ? signature : &unasked));
 }
 
-zacpi_status ZACPI_CALL zacpi_1_list_dmar_scopes(const struct zacpi_source *source,
-                                                 zacpi_number index, struct zacpi_dmar_scope *out,
-                                                 zacpi_number capacity, zacpi_number *count,
-                                                 struct zacpi_signature *signature);
-ZACPI_NONNULL((1, 5))
-ZACPI_STATUS zacpi_list_dmar_scopes(const struct zacpi_source *source, size_t index,
-                                    struct zacpi_dmar_scope *out, size_t capacity, size_t *count,
-                                    struct zacpi_signature *signature) {
+zacpi_status ZACPI_CALL zacpi_1_list_dmar_regions(const struct zacpi_source *source,
+                                                  struct zacpi_dmar_reserved *out,
+                                                  zacpi_number capacity, zacpi_number *count,
+                                                  struct zacpi_signature *signature);
+ZACPI_NONNULL((1, 4))
+ZACPI_STATUS zacpi_list_dmar_regions(const struct zacpi_source *source,
+                                     struct zacpi_dmar_reserved *out, size_t capacity,
+                                     size_t *count, struct zacpi_signature *signature) {
     const struct zacpi_source kept_source = zacpi_source_kept(source);
     struct zacpi_signature unasked;
     ZACPI_FITS;
-    ZACPI_COUNTING(count, zacpi_1_list_dmar_scopes(&kept_source, index,
+    ZACPI_COUNTING(count, zacpi_1_list_dmar_regions(&kept_source,
+                   capacity ? out : (struct zacpi_dmar_reserved *)ZACPI_NOTHING, capacity,
+                   ZACPI_COUNTED(count), signature ? signature : &unasked));
+}
+
+zacpi_status ZACPI_CALL zacpi_1_list_dmar_root_ports(const struct zacpi_source *source,
+                                                     struct zacpi_dmar_root_ports *out,
+                                                     zacpi_number capacity, zacpi_number *count,
+                                                     struct zacpi_signature *signature);
+ZACPI_NONNULL((1, 4))
+ZACPI_STATUS zacpi_list_dmar_root_ports(const struct zacpi_source *source,
+                                        struct zacpi_dmar_root_ports *out, size_t capacity,
+                                        size_t *count, struct zacpi_signature *signature) {
+    const struct zacpi_source kept_source = zacpi_source_kept(source);
+    struct zacpi_signature unasked;
+    ZACPI_FITS;
+    ZACPI_COUNTING(count, zacpi_1_list_dmar_root_ports(&kept_source,
+                   capacity ? out : (struct zacpi_dmar_root_ports *)ZACPI_NOTHING, capacity,
+                   ZACPI_COUNTED(count), signature ? signature : &unasked));
+}
+
+zacpi_status ZACPI_CALL zacpi_1_list_dmar_affinities(const struct zacpi_source *source,
+                                                     struct zacpi_dmar_affinity *out,
+                                                     zacpi_number capacity, zacpi_number *count,
+                                                     struct zacpi_signature *signature);
+ZACPI_NONNULL((1, 4))
+ZACPI_STATUS zacpi_list_dmar_affinities(const struct zacpi_source *source,
+                                        struct zacpi_dmar_affinity *out, size_t capacity,
+                                        size_t *count, struct zacpi_signature *signature) {
+    const struct zacpi_source kept_source = zacpi_source_kept(source);
+    struct zacpi_signature unasked;
+    ZACPI_FITS;
+    ZACPI_COUNTING(count, zacpi_1_list_dmar_affinities(&kept_source,
+                   capacity ? out : (struct zacpi_dmar_affinity *)ZACPI_NOTHING, capacity,
+                   ZACPI_COUNTED(count), signature ? signature : &unasked));
+}
+
+zacpi_status ZACPI_CALL zacpi_1_list_dmar_scopes(const struct zacpi_source *source,
+                                                 uint16_t structure_type, zacpi_number index,
+                                                 struct zacpi_dmar_scope *out,
+                                                 zacpi_number capacity, zacpi_number *count,
+                                                 struct zacpi_signature *signature);
+ZACPI_NONNULL((1, 6))
+ZACPI_STATUS zacpi_list_dmar_scopes(const struct zacpi_source *source, uint16_t structure_type,
+                                    size_t index, struct zacpi_dmar_scope *out, size_t capacity,
+                                    size_t *count, struct zacpi_signature *signature) {
+    const struct zacpi_source kept_source = zacpi_source_kept(source);
+    struct zacpi_signature unasked;
+    ZACPI_FITS;
+    ZACPI_COUNTING(count, zacpi_1_list_dmar_scopes(&kept_source, structure_type, index,
                    capacity ? out : (struct zacpi_dmar_scope *)ZACPI_NOTHING, capacity,
                    ZACPI_COUNTED(count), signature ? signature : &unasked));
 }
@@ -1219,6 +1317,22 @@ ZACPI_STATUS zacpi_get_ivrs_unit(const struct zacpi_source *source, uint16_t seg
     ZACPI_FITS;
     return zacpi_1_get_ivrs_unit(&kept_source, segment, device_id, out,
                                  signature ? signature : &unasked);
+}
+
+zacpi_status ZACPI_CALL zacpi_1_list_ivrs_regions(const struct zacpi_source *source,
+                                                  struct zacpi_ivrs_memory *out,
+                                                  zacpi_number capacity, zacpi_number *count,
+                                                  struct zacpi_signature *signature);
+ZACPI_NONNULL((1, 4))
+ZACPI_STATUS zacpi_list_ivrs_regions(const struct zacpi_source *source,
+                                     struct zacpi_ivrs_memory *out, size_t capacity, size_t *count,
+                                     struct zacpi_signature *signature) {
+    const struct zacpi_source kept_source = zacpi_source_kept(source);
+    struct zacpi_signature unasked;
+    ZACPI_FITS;
+    ZACPI_COUNTING(count, zacpi_1_list_ivrs_regions(&kept_source,
+                   capacity ? out : (struct zacpi_ivrs_memory *)ZACPI_NOTHING, capacity,
+                   ZACPI_COUNTED(count), signature ? signature : &unasked));
 }
 
 zacpi_status ZACPI_CALL zacpi_1_list_ivrs_memory(const struct zacpi_source *source,

@@ -311,6 +311,13 @@ static void print_domains(const struct zacpi_source *source) {
         LIST("memory", zacpi_memory_affinity, zacpi_list_memory_affinities, ALL, "%llx %llx %u %u %u\n",
              (wide)it->address, (wide)it->length, it->domain, it->is_hot_pluggable, it->is_non_volatile);
     if (is_there)
+        LIST("near_processors", zacpi_processor_affinity, zacpi_list_processor_affinities, ALL, "%u %u %u %u\n", it->id,
+             it->domain, it->clock_domain, it->entry_type);
+    if (is_there)
+        LIST("initiators", zacpi_generic_initiator, zacpi_list_generic_initiators, ALL, "%u %u %u %llx %llx\n",
+             it->domain, it->is_architectural, it->handle_type, number_of(it->handle, 8), number_of(it->handle + 8, 8));
+    if (is_there) LIST("its", zacpi_its_affinity, zacpi_list_its_affinities, ALL, "%u %u\n", it->domain, it->its_id);
+    if (is_there)
         LIST("srat_faults", zacpi_entry_fault, zacpi_list_srat_faults, ALL, "%llx %u %s\n", (wide)it->address,
              it->entry_type, error_name(it->status));
     for (i = 0; is_there && i < 5; i++) {
@@ -348,8 +355,14 @@ static void print_dmar(const struct zacpi_source *source) {
     }
     LIST("units", zacpi_dmar_unit, zacpi_list_dmar_units, ALL, "%llx %llx %u %u %u %u\n", (wide)it->register_base,
          (wide)it->register_bytes, it->segment, it->includes_pci_all, it->flags, it->size);
-    for (i = 0; i < 3; i++)
-        LIST("scopes", zacpi_dmar_scope, zacpi_list_dmar_scopes, (source, i, items, MOST, &count, &named),
+    LIST("regions", zacpi_dmar_reserved, zacpi_list_dmar_regions, ALL, "%llx %llx %u\n", (wide)it->base,
+         (wide)it->limit, it->segment);
+    LIST("ports", zacpi_dmar_root_ports, zacpi_list_dmar_root_ports, ALL, "%u %u %u\n", it->segment, it->includes_all,
+         it->flags);
+    LIST("near_units", zacpi_dmar_affinity, zacpi_list_dmar_affinities, ALL, "%llx %u\n", (wide)it->register_base,
+         it->domain);
+    for (i = 0; i < 6; i++)
+        LIST("scopes", zacpi_dmar_scope, zacpi_list_dmar_scopes, (source, i % 3, i / 3, items, MOST, &count, &named),
              "%u %u %u %u %lu %u %u %u %u\n", it->scope_type, it->flags, it->enumeration_id, it->bus,
              (unsigned long)it->path_length, it->path[0].device, it->path[0].function, it->path[15].device,
              it->path[15].function);
@@ -378,6 +391,8 @@ static void print_ivrs(const struct zacpi_source *source) {
              it->variety, it->unique_id_format, it->first, it->last, it->source_id, it->extended_settings,
              number_of(it->hardware_id, 8), number_of(it->compatible_id, 8), (unsigned long)it->unique_id_length,
              number_of(it->unique_id, 8), it->unique_id[31]);
+    LIST("ivrs_regions", zacpi_ivrs_memory, zacpi_list_ivrs_regions, ALL, "%llx %llx %u %u %u %u\n", (wide)it->start,
+         (wide)it->length, it->device_id, it->auxiliary, it->block_type, it->flags);
     LIST("ivrs_faults", zacpi_entry_fault, zacpi_list_ivrs_faults, ALL, "%llx %u %s\n", (wide)it->address,
          it->entry_type, error_of(it->status));
     for (i = 0; i < 0x200; i += 0x28) {

@@ -38,7 +38,8 @@ enum { EMPTY, ARM, PC, ODD, HOLES, SUM, DESKTOP, MOBILE, WORKSTATION, SERVER, SO
        UNITS_END, SAPIC_BETWEEN, NMI_2, LENGTH_0, NO_FADT, BUS_1, TRIGGER_2, LINT_2, HPETS, MAILBOX, POWER,
        REDUCED, PLAIN, BARE, BROKEN, FADTLESS, HIGH, HIGH_PLAIN, HIGH_REDUCED, FAULTS, FRONTS, UNITS_BETWEEN,
        UNITS_FAULTS, UNITS_LATER, RISCV, RISCV_CUT, RISCV_SHORT, EARLY, LATE, PAST, ONE_LEFT, UNITS_4, FLAWED,
-       LED_BY_SUMS, LED_BY_IDS, ROOT_OEM_ID, ROOT_LONG, OVERRIDES, MEMBERS, /* root tables, in the order of `tables` */
+       LED_BY_SUMS, LED_BY_IDS, ROOT_OEM_ID, ROOT_LONG, OVERRIDES, MEMBERS,
+       ALL_KINDS, /* root tables, in the order of `tables` */
        RSDP_0, RSDP_2, RSDP_40, RSDP_MIXED, RSDP_LONG, RSDP_LOST, RSDP_CUT, RSDP_SHORT, RSDP_TO_SUM,
        RSDP_NONE, /* RSDPs, and the last one is none */
        MADT_GIC, GTDT, SRAT, SLIT, MCFG, FADT, MADT_PC, HPET_SHORT, HPET, MADT_CUT, GTDT_CUT, SRAT_CUT, SLIT_ODD,
@@ -55,7 +56,8 @@ enum { EMPTY, ARM, PC, ODD, HOLES, SUM, DESKTOP, MOBILE, WORKSTATION, SERVER, SO
        MADT_FRONT, GTDT_FAULTS, GTDT_FRONT, SRAT_FAULTS, SRAT_FRONT, DMAR_BETWEEN, DMAR_FAULTS, DMAR_LATER,
        IVRS_BETWEEN, IVRS_FAULTS, MADT_RISCV, MADT_RISCV_CUT, MADT_RISCV_SHORT,
        GTDT_EARLY, GTDT_LATE, GTDT_PAST, MADT_BOTH, MADT_OEM_ID, MADT_TABLE_ID, MADT_SUM,
-       MADT_VALID, MADT_LOST, FADT_SUM, FADT_OEM_ID, DSDT_SUM, DSDT_TABLE_ID, SSDT_SUM, HPET_SUM, MADT_OVERRIDES };
+       MADT_VALID, MADT_LOST, FADT_SUM, FADT_OEM_ID, DSDT_SUM, DSDT_TABLE_ID, SSDT_SUM, HPET_SUM, MADT_OVERRIDES,
+       SRAT_ALL, DMAR_ALL };
 
 /* Entry[n] of an RSDT, from 36 on (section 5.2.7), and of an XSDT (section 5.2.8). */
 PUTS(no_fields, {36, 0, 0});
@@ -262,6 +264,7 @@ PUTS(slit_odd, {36, 8, 3}, {44, 1, 10}, {45, 1, 9}, {46, 1, 8}, {47, 1, 255}); /
 #include "rows_tables_accept.h"
 #include "rows_tables_faults.h"
 #include "rows_tables_iommu.h"
+#include "rows_tables_kinds.h"
 #include "rows_tables_pc.h"
 #include "rows_tables_power.h"
 
@@ -297,7 +300,7 @@ static const struct table {
     {AT(FLAWED), "RSDT", 1, 60, flawed}, {AT(LED_BY_SUMS), "RSDT", 1, 52, led_by_sums},
     {AT(LED_BY_IDS), "RSDT", 1, 44, led_by_ids}, {AT(ROOT_OEM_ID), "RSDT", 1, 40, root_oem_id},
     {AT(ROOT_LONG), "RSDT", 1, SIZE, root_long}, {AT(OVERRIDES), "RSDT", 1, 40, overrides},
-    {AT(MEMBERS), "RSDT", 1, 52, members},
+    {AT(MEMBERS), "RSDT", 1, 52, members}, {AT(ALL_KINDS), "RSDT", 1, 44, all_kinds},
     {AT(MADT_GIC), "APIC", 6, 346, madt_gic}, {AT(GTDT), "GTDT", 3, 260, gtdt}, {AT(SRAT), "SRAT", 3, 274, srat},
     {AT(SLIT), "SLIT", 1, 48, slit}, {AT(MCFG), "MCFG", 1, 108, mcfg}, {AT(FADT), "FACP", 6, 276, fadt},
     {AT(MADT_PC), "APIC", 4, 96, madt_pc}, {AT(HPET_SHORT), "HPET", 3, 48, no_fields}, {AT(HPET), "HPET", 1, 56, hpet},
@@ -369,6 +372,7 @@ static const struct table {
     {AT(DSDT_SUM), "DSDT", 1, 47, dsdt_sum}, {AT(DSDT_TABLE_ID), "DSDT", 2, 40, dsdt_table_id},
     {AT(SSDT_SUM), "SSDT", 1, 47, ssdt_sum}, {AT(HPET_SUM), "HPET", 1, 56, hpet_sum},
     {AT(MADT_OVERRIDES), "APIC", 5, 113, madt_overrides},
+    {AT(SRAT_ALL), "SRAT", 3, 315, srat_all}, {AT(DMAR_ALL), "DMAR", 1, 263, dmar_all},
     {LAST_MADT, "APIC", 5, LAST_MADT_SIZE, last_madt}, {LAST_IVRS, "IVRS", 2, LAST_IVRS_SIZE, last_ivrs},
     {BIOS + 0x10000, "RSDT", 1, 36, no_fields}};
 

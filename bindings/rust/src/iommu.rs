@@ -137,7 +137,57 @@ impl From<records::IvrsDevice> for IvrsDevice {
     }
 }
 
-items! { DmarUnit = DmarUnit, IvrsUnit = IvrsUnit }
+/// The root ports of a segment that support address translation services (ATSR, section 8.5).
+#[derive(Clone, Copy, Debug, PartialEq, Eq)]
+#[non_exhaustive]
+pub struct DmarRootPorts {
+    /// Segment Number: the PCI segment of the ports.
+    pub segment: u16,
+    /// ALL_PORTS, bit 0 of Flags: all root ports of the segment; else those that its device scopes name.
+    pub includes_all: bool,
+    /// Flags.
+    pub flags: u8,
+}
+
+impl From<records::DmarRootPorts> for DmarRootPorts {
+    fn from(raw: records::DmarRootPorts) -> Self {
+        DmarRootPorts { segment: raw.segment, includes_all: raw.includes_all != 0, flags: raw.flags }
+    }
+}
+
+/// The domain of a unit of the DMAR (RHSA, section 8.6).
+#[derive(Clone, Copy, Debug, PartialEq, Eq)]
+#[non_exhaustive]
+pub struct DmarAffinity {
+    /// Register Base Address: that of the unit.
+    pub register_base: u64,
+    /// Proximity Domain.
+    pub domain: u32,
+}
+
+impl From<records::DmarAffinity> for DmarAffinity {
+    fn from(raw: records::DmarAffinity) -> Self {
+        DmarAffinity { register_base: raw.register_base, domain: raw.domain }
+    }
+}
+
+/// The Types of a DMAR's structures that have device scopes (section 8.2).
+#[derive(Clone, Copy, Debug, PartialEq, Eq)]
+#[non_exhaustive]
+pub enum DmarType {
+    /// A unit: an item of [`Dmar::units`].
+    Drhd = 0,
+    /// Reserved memory: an item of [`Dmar::regions`].
+    Rmrr = 1,
+    /// Root ports: an item of [`Dmar::root_ports`].
+    Atsr = 2,
+    /// Integrated devices that cache translations (section 8.8).
+    Satc = 5,
+    /// Integrated devices with properties (section 8.9).
+    Sidp = 6,
+}
+
+items! { DmarUnit = DmarUnit, DmarRootPorts = DmarRootPorts, DmarAffinity = DmarAffinity, IvrsUnit = IvrsUnit }
 
 /// What is found, or none if there is no such unit, or none for the device.
 fn found<Raw, T: From<Raw>>(asked: AcpiResult<Raw>) -> AcpiResult<Option<T>> {
@@ -172,10 +222,32 @@ impl<'k> Dmar<'k> {
         self.tables.list(raw::zacpi_1_list_dmar_units)
     }
 
-    /// The device scopes of one of these units, by its index, as far as they fit: those up to the first byte at which
-    /// none begins, in order (section 8.3.1).
-    pub fn scopes<'b>(&self, unit: usize, room: &'b mut [Slot<DmarScope>]) -> AcpiResult<Option<List<'b, DmarScope>>> {
-        let count = found(raw::zacpi_1_list_dmar_scopes(&self.tables.source(), unit, records_of(room)))?;
+    /// The memory that is reserved for devices, in order: the RMRRs, also those whose last byte is before their first,
+    /// up to the first byte at which no structure begins (section 8.4).
+    pub fn regions(&self) -> Listing<'k, DmarReserved> {
+        self.tables.list(raw::zacpi_1_list_dmar_regions)
+    }
+
+    /// The ATSRs as they are, in order, up to the first byte at which no structure begins (section 8.5).
+    pub fn root_ports(&self) -> Listing<'k, DmarRootPorts> {
+        self.tables.list(raw::zacpi_1_list_dmar_root_ports)
+    }
+
+    /// The domains of units, in order: the RHSAs, up to the first byte at which no structure begins (section 8.6).
+    pub fn affinities(&self) -> Listing<'k, DmarAffinity> {
+        self.tables.list(raw::zacpi_1_list_dmar_affinities)
+    }
+
+    /// The device scopes of a structure, by its Type and its index among those of the Type, as far as they fit: those
+    /// up to the first byte at which none begins, in order (section 8.3.1). None if there is no such structure.
+    pub fn scopes<'b>(
+        &self,
+        structure: DmarType,
+        index: usize,
+        room: &'b mut [Slot<DmarScope>],
+    ) -> AcpiResult<Option<List<'b, DmarScope>>> {
+        let source = self.tables.source();
+        let count = found(raw::zacpi_1_list_dmar_scopes(&source, structure as u16, index, records_of(room)))?;
         Ok(count.map(|count| List::written(room, count, Signature::default())))
     }
 
@@ -262,6 +334,12 @@ impl<'k> Ivrs<'k> {
     /// unit in any of them, or if no block begins at a byte that is left.
     pub fn block_for(&self, segment: u16, device_id: u16) -> AcpiResult<Option<IvrsDevice>> {
         found(raw::zacpi_1_get_ivrs_unit(&self.tables.source(), segment, device_id))
+    }
+
+    /// The memory that has its own rules, in order: the IVMDs of all Types, also those that end above 2^64 - 1, up to
+    /// the first byte at which no block begins.
+    pub fn regions(&self) -> Listing<'k, IvrsMemory> {
+        self.tables.list(raw::zacpi_1_list_ivrs_regions)
     }
 
     /// The memory that has its own rules for a device, as far as it fits: each IVMD for it, for all devices or for

@@ -146,22 +146,22 @@ macro_rules! lists {
 
 /// Calls that fill a slice with what an argument names.
 macro_rules! lists_of {
-    ($($name:ident($argument:ident: $type:ty) -> $item:ty;)*) => {
+    ($($name:ident($($argument:ident: $type:ty),*) -> $item:ty;)*) => {
         mod list_of {
             use super::records::*;
             unsafe extern "C" {
                 $(pub(super) fn $name(
-                    source: *const Source<'_>, $argument: $type, out: *mut $item, room: usize, count: *mut usize,
+                    source: *const Source<'_>, $($argument: $type,)* out: *mut $item, room: usize, count: *mut usize,
                     named: *mut Signature,
                 ) -> u32;)*
             }
         }
-        $(pub(crate) fn $name(source: &Source<'_>, $argument: $type, out: &mut [$item]) -> AcpiResult<usize> {
+        $(pub(crate) fn $name(source: &Source<'_>, $($argument: $type,)* out: &mut [$item]) -> AcpiResult<usize> {
             let (mut count, mut named) = (0, Signature::default());
             // SAFETY: the source holds live slices of initialised items; the outputs are a live slice with its length,
             // and two live variables.
             let status =
-                unsafe { list_of::$name(source, $argument, out.as_mut_ptr(), out.len(), &mut count, &mut named) };
+                unsafe { list_of::$name(source, $($argument,)* out.as_mut_ptr(), out.len(), &mut count, &mut named) };
             answered(status, named).map(|()| count)
         })*
     };

@@ -62,7 +62,87 @@ impl From<records::MemoryAffinity> for MemoryAffinity {
     }
 }
 
-items! { MemoryAffinity = MemoryAffinity }
+/// How an entry of the SRAT names a processor.
+#[derive(Clone, Copy, Debug, PartialEq, Eq)]
+#[non_exhaustive]
+pub enum ProcessorId {
+    /// APIC ID (Processor Local APIC Affinity, section 5.2.16.1).
+    LocalApic(u32),
+    /// X2APIC ID (Processor Local x2APIC Affinity, section 5.2.16.3).
+    LocalX2Apic(u32),
+    /// ACPI Processor UID of a processor of a GIC (GICC Affinity, section 5.2.16.4).
+    Gicc(u32),
+}
+
+/// A processor that is in a domain, which the MADT may lack.
+#[derive(Clone, Copy, Debug, PartialEq, Eq)]
+#[non_exhaustive]
+pub struct ProcessorAffinity {
+    /// Its id, by the Type of the entry.
+    pub id: ProcessorId,
+    /// Proximity Domain; of a Processor Local APIC Affinity below revision 2 of the table its lowest byte.
+    pub domain: u32,
+    /// Clock Domain.
+    pub clock_domain: u32,
+}
+
+impl From<records::ProcessorAffinity> for ProcessorAffinity {
+    fn from(raw: records::ProcessorAffinity) -> Self {
+        let id = match raw.entry_type {
+            0 => ProcessorId::LocalApic(raw.id),
+            2 => ProcessorId::LocalX2Apic(raw.id),
+            _ => ProcessorId::Gicc(raw.id),
+        };
+        ProcessorAffinity { id, domain: raw.domain, clock_domain: raw.clock_domain }
+    }
+}
+
+/// A device that accesses memory by itself (Generic Initiator Affinity, section 5.2.16.6).
+#[derive(Clone, Copy, Debug, PartialEq, Eq)]
+#[non_exhaustive]
+pub struct GenericInitiator {
+    /// Proximity Domain.
+    pub domain: u32,
+    /// Architectural Transactions, bit 1 of Flags.
+    pub is_architectural: bool,
+    /// Device Handle Type: what the handle has. 0: `_HID` in 8 bytes and `_UID` in 4. 1: PCI Segment in 2 bytes and
+    /// PCI BDF Number in 2.
+    pub handle_type: u8,
+    /// Device Handle.
+    pub handle: [u8; 16],
+}
+
+impl From<records::GenericInitiator> for GenericInitiator {
+    fn from(raw: records::GenericInitiator) -> Self {
+        GenericInitiator {
+            domain: raw.domain,
+            is_architectural: raw.is_architectural != 0,
+            handle_type: raw.handle_type,
+            handle: raw.handle,
+        }
+    }
+}
+
+/// The domain of an Interrupt Translation Service of a GIC (section 5.2.16.5).
+#[derive(Clone, Copy, Debug, PartialEq, Eq)]
+#[non_exhaustive]
+pub struct ItsAffinity {
+    /// Proximity Domain.
+    pub domain: u32,
+    /// ITS ID.
+    pub its_id: u32,
+}
+
+impl From<records::ItsAffinity> for ItsAffinity {
+    fn from(raw: records::ItsAffinity) -> Self {
+        ItsAffinity { domain: raw.domain, its_id: raw.its_id }
+    }
+}
+
+items! {
+    MemoryAffinity = MemoryAffinity, ProcessorAffinity = ProcessorAffinity, GenericInitiator = GenericInitiator,
+    ItsAffinity = ItsAffinity
+}
 
 /// The domains of the first valid SRAT.
 #[derive(Clone, Copy, Debug)]
@@ -85,6 +165,24 @@ impl<'k> Srat<'k> {
     /// byte. They may overlap. They end at the first byte at which no entry begins.
     pub fn memory_affinities(&self) -> Listing<'k, MemoryAffinity> {
         self.tables.list(raw::zacpi_1_list_memory_affinities)
+    }
+
+    /// The processors that are in a domain, in order: of the enabled entries of Types 0, 2 and 3. Of several for one
+    /// processor the last counts. They end at the first byte at which no entry begins.
+    pub fn processor_affinities(&self) -> Listing<'k, ProcessorAffinity> {
+        self.tables.list(raw::zacpi_1_list_processor_affinities)
+    }
+
+    /// The generic initiators that are in a domain, in order: of the enabled entries of Type 5. They end at the first
+    /// byte at which no entry begins.
+    pub fn generic_initiators(&self) -> Listing<'k, GenericInitiator> {
+        self.tables.list(raw::zacpi_1_list_generic_initiators)
+    }
+
+    /// The Interrupt Translation Services that are in a domain, in order: of the entries of Type 4. They end at the
+    /// first byte at which no entry begins.
+    pub fn its_affinities(&self) -> Listing<'k, ItsAffinity> {
+        self.tables.list(raw::zacpi_1_list_its_affinities)
     }
 
     /// The entries of ranges that end above 2^64 - 1 and, last, the first byte at which no entry begins, if bytes are

@@ -1,7 +1,7 @@
 //! The units that remap what devices ask of memory.
 mod common;
 use common::{Memory, ROOT};
-use zacpi::iommu::{Dmar, EntryFault, Hop, Ivrs};
+use zacpi::iommu::{Dmar, DmarType, EntryFault, Hop, Ivrs};
 use zacpi::{AcpiError, Signature, Slot};
 
 const TABLE: u64 = ROOT + 0x1000;
@@ -24,12 +24,16 @@ fn reads_a_dmar() {
         // RMRR (section 8.4): Segment Number at 6, Base Address at 8, Limit Address at 16, and an endpoint's scope.
         (102, 4, 0x20_0001), (110, 8, 0x7b80_0000), (118, 8, 0x7fff_ffff), (126, 2, 0x0801), (132, 2, 0x0002),
         (134, 4, 0x20_0001), (142, 8, 2), (150, 8, 1), (158, 2, 0x0801), (164, 2, 0x0003),
+        // ATSR (section 8.5): Flags at 4, Segment Number at 6, and a sub-hierarchy's scope. RHSA (section 8.6):
+        // Register Base Address at 8, Proximity Domain at 16.
+        (166, 4, 0x10_0002), (170, 1, 1), (172, 2, 2), (174, 2, 0x0802), (180, 2, 0x001c),
+        (182, 4, 0x14_0003), (190, 8, 0x1_fed9_1000), (198, 4, 0x102),
     ];
     let mut memory = Memory::rsdt(&[TABLE]);
-    memory.table(TABLE, "DMAR", 1, 166, &fields);
+    memory.table(TABLE, "DMAR", 1, 202, &fields);
     memory.ask(|tables| {
         let dmar = tables.find_table::<Dmar>().unwrap();
-        assert_eq!((dmar.table.address, dmar.table.length), (TABLE, 166));
+        assert_eq!((dmar.table.address, dmar.table.length), (TABLE, 202));
         let flags = dmar.flags().unwrap();
         assert_eq!((flags.address_bits, flags.flags), (39, 3));
         let first = dmar.unit_for(0, 0, &[hop(2, 0)]).unwrap().unwrap();
@@ -60,13 +64,23 @@ fn reads_a_dmar() {
         assert!(units.iter().eq([first, second]));
         assert_eq!((first.flags, first.size, second.flags, second.size), (0, 0, 1, 3));
         let mut scopes = [Slot::default(); 3];
-        let scopes = dmar.scopes(1, &mut scopes).unwrap().unwrap();
+        let scopes = dmar.scopes(DmarType::Drhd, 1, &mut scopes).unwrap().unwrap();
         assert_eq!((scopes.count(), scopes.len()), (2, 2));
         let scope = scopes.get(0).unwrap();
         assert_eq!((scope.scope_type, scope.flags, scope.enumeration_id, scope.bus), (3, 0, 2, 0xf0));
         assert_eq!((scope.path_length, scope.path[0], scope.path[1]), (1, hop(0x1f, 0), hop(0, 0)));
         assert_eq!(scopes.get(1).unwrap().path_length, 0);
-        assert!(dmar.scopes(2, &mut []).unwrap().is_none());
+        assert!(dmar.scopes(DmarType::Drhd, 2, &mut []).unwrap().is_none());
+        let mut regions = [Slot::default(); 3];
+        let regions = dmar.regions().fill(&mut regions).unwrap();
+        assert!(regions.iter().eq([reserved, inverted]));
+        let ports = dmar.root_ports().fill(&mut [Slot::default(); 2]).unwrap().get(0).unwrap();
+        assert_eq!((ports.segment, ports.includes_all, ports.flags), (2, true, 1));
+        let mut scopes = [Slot::default(); 2];
+        let scopes = dmar.scopes(DmarType::Atsr, 0, &mut scopes).unwrap().unwrap();
+        assert_eq!((scopes.count(), scopes.get(0).unwrap().path[0]), (1, hop(0x1c, 0)));
+        let unit = dmar.affinities().fill(&mut [Slot::default(); 2]).unwrap().get(0).unwrap();
+        assert_eq!((unit.register_base, unit.domain), (second.register_base, 0x102));
     });
     // A byte after the fixed fields; a table that is too short.
     let mut memory = Memory::rsdt(&[TABLE]);
@@ -125,6 +139,9 @@ fn reads_an_ivrs() {
         let fault = EntryFault { address: TABLE + 132, entry_type: 0x21, refusal: AcpiError::InvalidMemoryRange };
         assert!(ivrs.faults().fill(&mut [Slot::default(); 2]).unwrap().iter().eq([fault]));
         assert!(ivrs.units().fill(&mut [Slot::default(); 2]).unwrap().iter().eq([unit]));
+        let mut regions = [Slot::default(); 2];
+        let regions = ivrs.regions().fill(&mut regions).unwrap();
+        assert_eq!((regions.count(), regions.get(0), regions.get(1).unwrap().start), (2, Some(memory), u64::MAX));
         let mut entries = [Slot::default(); 3];
         let entries = ivrs.entries(0, &mut entries).unwrap().unwrap();
         assert_eq!((entries.count(), entries.len()), (2, 2));

@@ -2,7 +2,7 @@
 mod common;
 use common::{Memory, ROOT};
 use zacpi::slit::Slit;
-use zacpi::srat::{EntryFault, MemoryAffinity, Srat};
+use zacpi::srat::{EntryFault, MemoryAffinity, ProcessorId, Srat};
 use zacpi::{AcpiError, Signature, Slot};
 
 const TABLE: u64 = ROOT + 0x1000;
@@ -20,13 +20,17 @@ fn reads_domains() {
         // x2APIC (section 5.2.16.3): Proximity Domain at 4, X2APIC ID at 8, Flags at 12.
         (184, 2, 0x1802), (188, 4, 6), (192, 4, 0x100), (196, 4, 1),
         // GICC (section 5.2.16.4): Proximity Domain at 2, ACPI Processor UID at 6, Flags at 10.
-        (208, 2, 0x1203), (210, 4, 7), (214, 4, 9), (218, 4, 1),
+        (208, 2, 0x1203), (210, 4, 7), (214, 4, 9), (218, 4, 1), (222, 4, 8),
+        // ITS (section 5.2.16.5): Proximity Domain at 2, ITS ID at 8. Generic Initiator (section 5.2.16.6): Device
+        // Handle Type at 3, Proximity Domain at 4, Device Handle at 8, Flags at 24.
+        (226, 2, 0x0c04), (228, 4, 4), (234, 4, 0x11),
+        (238, 2, 0x2005), (241, 1, 1), (242, 4, 2), (246, 4, 0x1234_0001), (262, 4, 3),
     ];
     let mut memory = Memory::rsdt(&[TABLE]);
-    memory.table(TABLE, "SRAT", 3, 226, &fields);
+    memory.table(TABLE, "SRAT", 3, 270, &fields);
     memory.ask(|tables| {
         let srat = tables.find_table::<Srat>().unwrap();
-        assert_eq!((srat.table.address, srat.table.length), (TABLE, 226));
+        assert_eq!((srat.table.address, srat.table.length), (TABLE, 270));
         let mut expected = [MemoryAffinity::new(0x1000, 0x1000, 1), MemoryAffinity::new(0x2000, 0x2000, 2)];
         (expected[1].is_hot_pluggable, expected[1].is_non_volatile) = (true, true);
         let mut room = [Slot::default(); 4];
@@ -37,6 +41,16 @@ fn reads_domains() {
         assert_eq!((srat.domain_of_apic(3), srat.domain_of_apic(0x100)), (Ok(Some(0x105)), Ok(Some(6))));
         assert_eq!(srat.domain_of_apic(4), Ok(None));
         assert_eq!((srat.domain_of_processor(9), srat.domain_of_processor(3)), (Ok(Some(7)), Ok(None)));
+        let mut room = [Slot::default(); 4];
+        let list = srat.processor_affinities().fill(&mut room).unwrap();
+        let shown = list.iter().map(|it| (it.id, it.domain, it.clock_domain));
+        let (apic, x2apic) = ((ProcessorId::LocalApic(3), 0x105, 0), (ProcessorId::LocalX2Apic(0x100), 6, 0));
+        assert!(shown.eq([apic, x2apic, (ProcessorId::Gicc(9), 7, 8)]));
+        let device = srat.generic_initiators().fill(&mut [Slot::default(); 2]).unwrap().get(0).unwrap();
+        assert_eq!((device.domain, device.is_architectural, device.handle_type), (2, true, 1));
+        assert_eq!(device.handle[..5], [1, 0, 0x34, 0x12, 0]);
+        let service = srat.its_affinities().fill(&mut [Slot::default(); 2]).unwrap().get(0).unwrap();
+        assert_eq!((service.domain, service.its_id), (4, 0x11));
     });
     // A range that ends above 2^64 - 1, and a byte after it; a table that is too short.
     let mut memory = Memory::rsdt(&[TABLE]);

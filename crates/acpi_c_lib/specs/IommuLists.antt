@@ -10,12 +10,13 @@ use Rattle.acpi_c_lib.specs.Types.{DmarScope, DmarUnit, Hop, IvrsEntry, IvrsUnit
 
 -- ---- the DMAR
 
--- whether a structure is a DRHD
-abbrev pub is_drhd : List ℕ → Bool
-is_drhd e = kind_of e == 0
+-- whether a structure is of this type
+abbrev pub is_of_type : ℕ → List ℕ → Bool
+is_of_type kind e = kind_of e == kind
 
+-- the unit that a DRHD, type 0, is
 abbrev pub drhd_shown : List ℕ → Option DmarUnit
-drhd_shown e = if is_drhd e then Some (unit_record (drhd_at e)) else None
+drhd_shown e = if is_of_type 0 e then Some (unit_record (drhd_at e)) else None
 
 abbrev pub dmar_units_in : List ℕ → List DmarUnit
 dmar_units_in table = filter_map drhd_shown (structures_of table)
@@ -23,9 +24,9 @@ dmar_units_in table = filter_map drhd_shown (structures_of table)
 abbrev pub dmar_units_below : Source → Result (List DmarUnit) Refusal
 dmar_units_below s = result_map dmar_units_in (dmar_in s)
 
--- the DRHD with so many before it
-abbrev pub drhd_in : List ℕ → ℕ → Option (List ℕ)
-drhd_in table index = slice_get (filter is_drhd (structures_of table)) index
+-- the structure of this type with so many of it before
+abbrev pub structure_in : ℕ → List ℕ → ℕ → Option (List ℕ)
+structure_in kind table index = slice_get (filter (is_of_type kind) (structures_of table)) index
 
 abbrev pub no_hop : Hop
 no_hop = record { device = 0; function = 0 }
@@ -44,11 +45,11 @@ scope_record s = record {
   path = path_shown (path_of s);
 }
 
-abbrev pub dmar_scopes_below : Source → ℕ → Result (List DmarScope) Refusal
-dmar_scopes_below s index = do
+abbrev pub dmar_scopes_below : Source → ℕ → ℕ → Result (List DmarScope) Refusal
+dmar_scopes_below s kind index = do
   table ← dmar_in s
-  unit ← ok_or (drhd_in table index) NoIommu
-  Ok (map scope_record (scopes_of unit))
+  structure ← ok_or (structure_in kind table index) NoIommu
+  Ok (map scope_record (scopes_of structure))
 
 -- ---- the IVRS
 

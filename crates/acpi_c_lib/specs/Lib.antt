@@ -1,4 +1,5 @@
 pub mod AcceptLaws
+pub mod Affinities
 pub mod Answers
 pub mod Apics
 pub mod Arm
@@ -21,6 +22,7 @@ pub mod Held
 pub mod Iommu
 pub mod IommuFaults
 pub mod IommuLists
+pub mod IommuRegions
 pub mod IsaList
 pub mod Listed
 pub mod LocalApic

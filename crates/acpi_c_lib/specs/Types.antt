@@ -186,8 +186,10 @@ pub use Rattle.acpi_c_lib.specs.declared.fixed_records.EcamRange.{EcamRange}
 pub use Rattle.acpi_c_lib.specs.declared.fixed_records.FixedHardware.{FixedHardware}
 pub use Rattle.acpi_c_lib.specs.declared.interrupt_records.InterruptModel.{InterruptModel}
 pub use Rattle.acpi_c_lib.specs.declared.interrupt_records.PlatformLists.{PlatformLists}
+pub use Rattle.acpi_c_lib.specs.declared.iommu_records.DmarAffinity.{DmarAffinity}
 pub use Rattle.acpi_c_lib.specs.declared.iommu_records.DmarFlags.{DmarFlags}
 pub use Rattle.acpi_c_lib.specs.declared.iommu_records.DmarReserved.{DmarReserved}
+pub use Rattle.acpi_c_lib.specs.declared.iommu_records.DmarRootPorts.{DmarRootPorts}
 pub use Rattle.acpi_c_lib.specs.declared.iommu_records.DmarScope.{DmarScope}
 pub use Rattle.acpi_c_lib.specs.declared.iommu_records.DmarSource.{DmarSource}
 pub use Rattle.acpi_c_lib.specs.declared.iommu_records.DmarUnit.{DmarUnit}
@@ -195,8 +197,11 @@ pub use Rattle.acpi_c_lib.specs.declared.iommu_records.IvrsDevice.{IvrsDevice}
 pub use Rattle.acpi_c_lib.specs.declared.iommu_records.IvrsEntry.{IvrsEntry}
 pub use Rattle.acpi_c_lib.specs.declared.iommu_records.IvrsMemory.{IvrsMemory}
 pub use Rattle.acpi_c_lib.specs.declared.iommu_records.IvrsUnit.{IvrsUnit}
+pub use Rattle.acpi_c_lib.specs.declared.numa_records.GenericInitiator.{GenericInitiator}
+pub use Rattle.acpi_c_lib.specs.declared.numa_records.ItsAffinity.{ItsAffinity}
 pub use Rattle.acpi_c_lib.specs.declared.numa_records.Localities.{Localities}
 pub use Rattle.acpi_c_lib.specs.declared.numa_records.MemoryAffinity.{MemoryAffinity}
+pub use Rattle.acpi_c_lib.specs.declared.numa_records.ProcessorAffinity.{ProcessorAffinity}
 pub use Rattle.acpi_c_lib.specs.declared.power_records.Step.{Step}
 pub use Rattle.acpi_c_lib.specs.declared.records.BootGraphic.{BootGraphic}
 pub use Rattle.acpi_c_lib.specs.declared.records.Entry.{Entry}

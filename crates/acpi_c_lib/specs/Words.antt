@@ -1,5 +1,14 @@
 -- Made by scripts/words: what proofs, contracts and the crates above bring in from this crate's specs.
 pub use Rattle.acpi_c_lib.specs.AcceptLaws.{AcceptsAsReaders}
+pub use Rattle.acpi_c_lib.specs.Affinities.{
+  counted_if,
+  generic_initiators_below,
+  initiator_shown,
+  its_affinities_below,
+  its_shown,
+  processor_affinities_below,
+  processor_affinity,
+}
 pub use Rattle.acpi_c_lib.specs.Answers.{
   Answers,
   AnswersList,
@@ -197,12 +206,11 @@ pub use Rattle.acpi_c_lib.specs.IommuLists.{
   dmar_scopes_below,
   dmar_units_below,
   dmar_units_in,
-  drhd_in,
   drhd_shown,
   entry_shown,
   hid_part,
-  is_drhd,
   is_ivhd_block,
+  is_of_type,
   ivhd_in,
   ivhd_shown,
   ivrs_entries_below,
@@ -211,6 +219,21 @@ pub use Rattle.acpi_c_lib.specs.IommuLists.{
   path_shown,
   scope_record,
   special_or,
+  structure_in,
+}
+pub use Rattle.acpi_c_lib.specs.IommuRegions.{
+  dmar_affinities_below,
+  dmar_affinities_in,
+  dmar_affinity_shown,
+  dmar_regions_below,
+  dmar_regions_in,
+  dmar_root_ports_below,
+  dmar_root_ports_in,
+  ivmd_shown,
+  ivrs_regions_below,
+  ivrs_regions_in,
+  rmrr_shown,
+  root_ports_shown,
 }
 pub use Rattle.acpi_c_lib.specs.IsaList.{
   IsaInterrupts,

@@ -157,11 +157,17 @@ impl Listing<(), DmarReserved> for ReservedIter<'_, '_> {
     fn record(_known: &(), range: Rmrr) -> Option<DmarReserved>
         ensures { result ≡ Some (reserved_record range) }
     {
-        Some(DmarReserved {
-            base: range.base,
-            limit: range.limit,
-            segment: range.segment,
-        })
+        Some(reserved_record(&range))
+    }
+}
+
+pub(crate) fn reserved_record(range: &Rmrr) -> DmarReserved
+    ensures { result ≡ reserved_record range.now }
+{
+    DmarReserved {
+        base: range.base,
+        limit: range.limit,
+        segment: range.segment,
     }
 }
 
@@ -231,13 +237,19 @@ impl Listing<(), IvrsMemory> for MemoryIter<'_> {
     fn record(_known: &(), range: Ivmd) -> Option<IvrsMemory>
         ensures { result ≡ Some (memory_record range) }
     {
-        Some(IvrsMemory {
-            start: range.start,
-            length: range.length,
-            device_id: range.device_id,
-            auxiliary: range.auxiliary,
-            block_type: range.kind,
-            flags: range.flags,
-        })
+        Some(memory_record(&range))
+    }
+}
+
+pub(crate) fn memory_record(range: &Ivmd) -> IvrsMemory
+    ensures { result ≡ memory_record range.now }
+{
+    IvrsMemory {
+        start: range.start,
+        length: range.length,
+        device_id: range.device_id,
+        auxiliary: range.auxiliary,
+        block_type: range.kind,
+        flags: range.flags,
     }
 }

@@ -1,7 +1,7 @@
 //! The lists of the units that remap what devices ask of memory, each as it stands, and of what each names.
 ghost use Rattle.std.specs.Prelude.{◌≡◌, Some, map, filter_map, option_map, refl};
 ghost use Rattle.acpi_iommu.specs.Words.{block_bytes, blocks_left, bytes_of_entry, bytes_of_scope, entries_left, entries_of, hops_left, path_of, scopes_left, scopes_of, structure_bytes, structures_left};
-ghost use Rattle.acpi_c_lib.specs.Words.{Fills, Writes, dmar_scopes_below, dmar_units_below, dmar_units_in, drhd_in, drhd_shown, entry_shown, hid_part, ivhd_in, ivhd_shown, ivrs_entries_below, ivrs_units_below, ivrs_units_in, lists_by, path_shown, scope_record, special_or};
+ghost use Rattle.acpi_c_lib.specs.Words.{Fills, Writes, dmar_scopes_below, dmar_units_below, dmar_units_in, drhd_shown, entry_shown, hid_part, ivhd_in, ivhd_shown, ivrs_entries_below, ivrs_units_below, ivrs_units_in, lists_by, path_shown, scope_record, special_or, structure_in};
 
 use crate::iommu::{block_record, unit_record};
 use crate::iommu_records::{DmarScope, DmarUnit, Hop, IvrsEntry, IvrsUnit};
@@ -50,28 +50,30 @@ impl Listing<(), DmarUnit> for DmarStructureIter<'_> {
     }
 }
 
-/// Lists the device scopes of a unit of the first valid DMAR, which has so many before it (section 8.3.1).
+/// Lists the device scopes of the `index`-th structure of a type of the first valid DMAR, counted from 0 (section
+/// 8.3.1).
 pub fn dmar_scopes(
     source: &Source<'_>,
+    structure_type: u16,
     index: usize,
     out: &mut [DmarScope],
 ) -> Result<usize, Refusal>
-    ensures { Fills result out.old out.new (dmar_scopes_below source.now index) }
+    ensures { Fills result out.old out.new (dmar_scopes_below source.now structure_type index) }
 {
     let memory = Mapped::new(source.regions);
     let dmar = first::<Dmar>(&memory, source)?;
-    let unit = nth_drhd(dmar.bytes(), index).ok_or(Refusal::NoIommu)?;
-    Ok(fill_scopes(&unit, out))
+    let structure = nth_structure(dmar.bytes(), structure_type, index).ok_or(Refusal::NoIommu)?;
+    Ok(fill_scopes(&structure, out))
 }
 
-/// The unit of a DMAR with so many before it.
-fn nth_drhd(table: &[u8], index: usize) -> Option<DmarStructure<'_>>
-    ensures { option_map (λ e. structure_bytes e) result ≡ drhd_in table.now index }
+/// The `index`-th structure of a type of a DMAR, counted from 0.
+fn nth_structure(table: &[u8], kind: u16, index: usize) -> Option<DmarStructure<'_>>
+    ensures { option_map (λ e. structure_bytes e) result ≡ structure_in kind table.now index }
 {
     let mut before = index;
     let mut structures = DmarUnits::over(table).structures();
     while let Some(structure) = structures.next() {
-        if structure.kind() == 0 {
+        if structure.kind() == kind {
             if before == 0 {
                 return Some(structure);
             }

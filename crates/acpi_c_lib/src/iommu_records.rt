@@ -54,6 +54,23 @@ pub struct DmarReserved {
     pub segment: u16,
 }
 
+/// `struct zacpi_dmar_root_ports`.
+#[repr(C)]
+#[derive(Clone, Copy)]
+pub struct DmarRootPorts {
+    pub segment: u16,
+    pub includes_all: u8,
+    pub flags: u8,
+}
+
+/// `struct zacpi_dmar_affinity`.
+#[repr(C)]
+#[derive(Clone, Copy)]
+pub struct DmarAffinity {
+    pub register_base: u64,
+    pub domain: u32,
+}
+
 /// `struct zacpi_ivrs_unit`.
 #[repr(C)]
 #[derive(Clone, Copy)]

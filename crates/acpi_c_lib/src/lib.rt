@@ -6,6 +6,7 @@
 //! room for, and answers how many there are.
 #![tactic(auto)]
 
+pub mod affinities;
 pub mod answer;
 pub mod apics;
 pub mod arm_records;
@@ -29,6 +30,7 @@ pub mod iommu;
 pub mod iommu_faults;
 pub mod iommu_lists;
 pub mod iommu_records;
+pub mod iommu_regions;
 pub mod isa_list;
 pub mod laws;
 mod lists;

@@ -12,6 +12,34 @@ pub struct MemoryAffinity {
     pub is_non_volatile: u8,
 }
 
+/// `struct zacpi_processor_affinity`.
+#[repr(C)]
+#[derive(Clone, Copy)]
+pub struct ProcessorAffinity {
+    pub id: u32,
+    pub domain: u32,
+    pub clock_domain: u32,
+    pub entry_type: u8,
+}
+
+/// `struct zacpi_generic_initiator`.
+#[repr(C)]
+#[derive(Clone, Copy)]
+pub struct GenericInitiator {
+    pub domain: u32,
+    pub is_architectural: u8,
+    pub handle_type: u8,
+    pub handle: [u8; 16],
+}
+
+/// `struct zacpi_its_affinity`.
+#[repr(C)]
+#[derive(Clone, Copy)]
+pub struct ItsAffinity {
+    pub domain: u32,
+    pub its_id: u32,
+}
+
 /// `struct zacpi_localities`.
 #[repr(C)]
 #[derive(Clone, Copy)]

@@ -28,15 +28,22 @@ lists! {
     zacpi_1_list_aplics() -> Aplic;
     zacpi_1_list_plics() -> Plic;
     zacpi_1_list_memory_affinities() -> MemoryAffinity;
+    zacpi_1_list_processor_affinities() -> ProcessorAffinity;
+    zacpi_1_list_generic_initiators() -> GenericInitiator;
+    zacpi_1_list_its_affinities() -> ItsAffinity;
     zacpi_1_list_srat_faults() -> EntryFault;
     zacpi_1_list_dmar_units() -> DmarUnit;
+    zacpi_1_list_dmar_regions() -> DmarReserved;
+    zacpi_1_list_dmar_root_ports() -> DmarRootPorts;
+    zacpi_1_list_dmar_affinities() -> DmarAffinity;
     zacpi_1_list_dmar_faults() -> EntryFault;
     zacpi_1_list_ivrs_units() -> IvrsUnit;
     zacpi_1_list_ivrs_faults() -> EntryFault;
+    zacpi_1_list_ivrs_regions() -> IvrsMemory;
 }
 
 lists_of! {
-    zacpi_1_list_dmar_scopes(index: usize) -> DmarScope;
+    zacpi_1_list_dmar_scopes(structure_type: u16, index: usize) -> DmarScope;
     zacpi_1_list_ivrs_entries(index: usize) -> IvrsEntry;
     zacpi_1_list_ivrs_memory(device_id: u16) -> IvrsMemory;
 }

@@ -58,9 +58,14 @@ records! {
         is_secure: u8, is_always_on: u8, }
     Watchdog { refresh_frame: u64, control_frame: u64, interrupt: u32, polarity: u8, trigger: u8, is_secure: u8, }
     MemoryAffinity { address: u64, length: u64, domain: u32, is_hot_pluggable: u8, is_non_volatile: u8, }
+    ProcessorAffinity { id: u32, domain: u32, clock_domain: u32, entry_type: u8, }
+    GenericInitiator { domain: u32, is_architectural: u8, handle_type: u8, handle: [u8; 16], }
+    ItsAffinity { domain: u32, its_id: u32, }
     Localities { localities: u64, is_sane: u8, }
     DmarUnit { register_base: u64, register_bytes: u64, segment: u16, includes_pci_all: u8, flags: u8, size: u8, }
     DmarSource { unit: DmarUnit, bus: u8, hop: Hop, has_hop: u8, }
+    DmarRootPorts { segment: u16, includes_all: u8, flags: u8, }
+    DmarAffinity { register_base: u64, domain: u32, }
     IvrsUnit { base: u64, extended_features: u64, features: u32, segment: u16, device_id: u16, capability_offset:
         u16, info: u16, block_type: u8, flags: u8, has_extended_features: u8, }
     IvrsDevice { unit: IvrsUnit, source_id: u16, settings: u8, }

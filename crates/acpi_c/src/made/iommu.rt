@@ -1,5 +1,5 @@
 //! Made by scripts/exports of include/zacpi.h, which has what each call does.
-ghost use Rattle.acpi_c_lib.specs.Words.{Answers, AnswersList, dmar_faults_below, dmar_flags_below, dmar_hpet_below, dmar_io_apic_below, dmar_reserved_below, dmar_scopes_below, dmar_unit_below, dmar_units_below, ivrs_entries_below, ivrs_faults_below, ivrs_memory_below, ivrs_unit_below, ivrs_units_below};
+ghost use Rattle.acpi_c_lib.specs.Words.{Answers, AnswersList, dmar_affinities_below, dmar_faults_below, dmar_flags_below, dmar_hpet_below, dmar_io_apic_below, dmar_regions_below, dmar_reserved_below, dmar_root_ports_below, dmar_scopes_below, dmar_unit_below, dmar_units_below, ivrs_entries_below, ivrs_faults_below, ivrs_memory_below, ivrs_regions_below, ivrs_unit_below, ivrs_units_below};
 
 use acpi_c_lib::answer::answer;
 use acpi_c_lib::entry_faults::EntryFault;
@@ -9,9 +9,10 @@ use acpi_c_lib::iommu::{
 use acpi_c_lib::iommu_faults::{dmar_faults, ivrs_faults};
 use acpi_c_lib::iommu_lists::{dmar_scopes, dmar_units, ivrs_entries, ivrs_units};
 use acpi_c_lib::iommu_records::{
-    DmarFlags, DmarReserved, DmarScope, DmarSource, DmarUnit, Hop, IvrsDevice, IvrsEntry,
-    IvrsMemory, IvrsUnit,
+    DmarAffinity, DmarFlags, DmarReserved, DmarRootPorts, DmarScope, DmarSource, DmarUnit, Hop,
+    IvrsDevice, IvrsEntry, IvrsMemory, IvrsUnit,
 };
+use acpi_c_lib::iommu_regions::{dmar_affinities, dmar_regions, dmar_root_ports, ivrs_regions};
 use acpi_c_lib::records::{Signature, Source};
 
 /// Returns what the DMAR has for all units (section 8.1).
@@ -39,19 +40,68 @@ pub extern "C" fn zacpi_1_list_dmar_units(
     answer(dmar_units(source, out), count, named)
 }
 
-/// Lists the device scopes of the `index`-th of these units, from 0 on, up to the first byte at which none begins.
+/// Lists the memory that is reserved for devices: the RMRRs, also those that are no range, up to the first byte at
+/// which no structure begins.
+#[unsafe(no_mangle)]
+pub extern "C" fn zacpi_1_list_dmar_regions(
+    source: &Source<'_>,
+    out: &mut [DmarReserved],
+    count: &mut usize,
+    named: &mut Signature,
+) -> u32
+    ensures { AnswersList result out.old out.new count.old count.new named.old named.new
+        (dmar_regions_below source.now) }
+{
+    answer(dmar_regions(source, out), count, named)
+}
+
+/// Lists the ATSRs, up to the first byte at which no structure begins.
+#[unsafe(no_mangle)]
+pub extern "C" fn zacpi_1_list_dmar_root_ports(
+    source: &Source<'_>,
+    out: &mut [DmarRootPorts],
+    count: &mut usize,
+    named: &mut Signature,
+) -> u32
+    ensures { AnswersList result out.old out.new count.old count.new named.old named.new
+        (dmar_root_ports_below source.now) }
+{
+    answer(dmar_root_ports(source, out), count, named)
+}
+
+/// Lists the RHSAs: the domains of units, up to the first byte at which no structure begins.
+#[unsafe(no_mangle)]
+pub extern "C" fn zacpi_1_list_dmar_affinities(
+    source: &Source<'_>,
+    out: &mut [DmarAffinity],
+    count: &mut usize,
+    named: &mut Signature,
+) -> u32
+    ensures { AnswersList result out.old out.new count.old count.new named.old named.new
+        (dmar_affinities_below source.now) }
+{
+    answer(dmar_affinities(source, out), count, named)
+}
+
+/// Lists the device scopes of a structure, up to the first byte at which none begins: of the `index`-th, from 0 on, of
+/// a Type, of enum zacpi_dmar_type, which is the `index`-th item of the list of its Type.
 #[unsafe(no_mangle)]
 pub extern "C" fn zacpi_1_list_dmar_scopes(
     source: &Source<'_>,
+    structure_type: u16,
     index: usize,
     out: &mut [DmarScope],
     count: &mut usize,
     named: &mut Signature,
 ) -> u32
     ensures { AnswersList result out.old out.new count.old count.new named.old named.new
-        (dmar_scopes_below source.now index) }
+        (dmar_scopes_below source.now structure_type index) }
 {
-    answer(dmar_scopes(source, index, out), count, named)
+    answer(
+        dmar_scopes(source, structure_type, index, out),
+        count,
+        named,
+    )
 }
 
 /// Lists the structures with an error: device scopes that end early, else an RMRR that is no range; and last, if there
@@ -186,6 +236,21 @@ pub extern "C" fn zacpi_1_get_ivrs_unit(
     ensures { Answers result out.old out.new named.old named.new (ivrs_unit_below source.now segment device_id) }
 {
     answer(ivrs_unit(source, segment, device_id), out, named)
+}
+
+/// Lists the memory that has its own rules: the IVMDs of all Types, whatever their length, up to the first byte at
+/// which no block begins.
+#[unsafe(no_mangle)]
+pub extern "C" fn zacpi_1_list_ivrs_regions(
+    source: &Source<'_>,
+    out: &mut [IvrsMemory],
+    count: &mut usize,
+    named: &mut Signature,
+) -> u32
+    ensures { AnswersList result out.old out.new count.old count.new named.old named.new
+        (ivrs_regions_below source.now) }
+{
+    answer(ivrs_regions(source, out), count, named)
 }
 
 /// Lists the memory that has its own rules for a device: each IVMD for it, for all devices or for a range that it lies

@@ -1,12 +1,15 @@
 //! Made by scripts/exports of include/zacpi.h, which has what each call does.
-ghost use Rattle.acpi_c_lib.specs.Words.{Answers, AnswersList, AnswersSome, IsLocalities, affinities_below, distance_below, domain_of_address_below, domain_of_apic_below, domain_of_processor_below, slit_in, srat_faults_below};
+ghost use Rattle.acpi_c_lib.specs.Words.{Answers, AnswersList, AnswersSome, IsLocalities, affinities_below, distance_below, domain_of_address_below, domain_of_apic_below, domain_of_processor_below, generic_initiators_below, its_affinities_below, processor_affinities_below, slit_in, srat_faults_below};
 
+use acpi_c_lib::affinities::{generic_initiators, its_affinities, processor_affinities};
 use acpi_c_lib::answer::answer;
 use acpi_c_lib::entry_faults::EntryFault;
 use acpi_c_lib::numa::{
     affinities, distance, domain_of_address, domain_of_apic, domain_of_processor, localities,
 };
-use acpi_c_lib::numa_records::{Localities, MemoryAffinity};
+use acpi_c_lib::numa_records::{
+    GenericInitiator, ItsAffinity, Localities, MemoryAffinity, ProcessorAffinity,
+};
 use acpi_c_lib::records::{Signature, Source};
 use acpi_c_lib::srat_faults::srat_faults;
 
@@ -24,7 +27,52 @@ pub extern "C" fn zacpi_1_list_memory_affinities(
     answer(affinities(source, out), count, named)
 }
 
-/// Lists the entries of such memory that ends at 2^64 or above, and last, if bytes are left, where none begins.
+/// Lists the processors that the SRAT puts into domains, those that the MADT lacks too: its entries of Types 0, 2 and 3
+/// that are enabled (bit 0 of Flags), up to where no entry begins; of several for one processor the last counts.
+#[unsafe(no_mangle)]
+pub extern "C" fn zacpi_1_list_processor_affinities(
+    source: &Source<'_>,
+    out: &mut [ProcessorAffinity],
+    count: &mut usize,
+    named: &mut Signature,
+) -> u32
+    ensures { AnswersList result out.old out.new count.old count.new named.old named.new
+        (processor_affinities_below source.now) }
+{
+    answer(processor_affinities(source, out), count, named)
+}
+
+/// Lists the generic initiators that the SRAT puts into domains: its entries of Type 5 that are enabled, up to where no
+/// entry begins.
+#[unsafe(no_mangle)]
+pub extern "C" fn zacpi_1_list_generic_initiators(
+    source: &Source<'_>,
+    out: &mut [GenericInitiator],
+    count: &mut usize,
+    named: &mut Signature,
+) -> u32
+    ensures { AnswersList result out.old out.new count.old count.new named.old named.new
+        (generic_initiators_below source.now) }
+{
+    answer(generic_initiators(source, out), count, named)
+}
+
+/// Lists the domains of Interrupt Translation Services: the SRAT's entries of Type 4, which have no Flags, up to where
+/// no entry begins.
+#[unsafe(no_mangle)]
+pub extern "C" fn zacpi_1_list_its_affinities(
+    source: &Source<'_>,
+    out: &mut [ItsAffinity],
+    count: &mut usize,
+    named: &mut Signature,
+) -> u32
+    ensures { AnswersList result out.old out.new count.old count.new named.old named.new
+        (its_affinities_below source.now) }
+{
+    answer(its_affinities(source, out), count, named)
+}
+
+/// Lists the entries of memory that ends at 2^64 or above, and last, if bytes are left, where none begins.
 #[unsafe(no_mangle)]
 pub extern "C" fn zacpi_1_list_srat_faults(
     source: &Source<'_>,

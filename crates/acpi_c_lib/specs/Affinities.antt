@@ -1,0 +1,51 @@
+-- What the SRAT puts into domains beside memory (section 5.2.16), as C gets it: the entries up to the first malformed
+-- front.
+use Rattle.std.specs.Prelude.{ℕ, List, filter_map, Option, Some, None, Result, if◌then◌else◌}
+use Rattle.acpi_base.specs.Words.{has_bit}
+use Rattle.acpi_numa.specs.Words.{entries_of}
+use Rattle.acpi_numa.specs.declared.srat.entry.SratEntry.{SratEntry}
+use Rattle.acpi_numa.specs.declared.srat.entry.SratEntry.TheVariants as kinds
+use Rattle.acpi_c_lib.specs.Types.{srat_kind, GenericInitiator, ItsAffinity, ProcessorAffinity}
+use Rattle.acpi_c_lib.specs.Below.{Refusal, Source, below_first}
+use Rattle.acpi_c_lib.specs.Devices.{flag}
+
+-- an item, if the Flags of its entry have bit 0, Enabled: else the entry doesn't count
+abbrev pub counted_if : {R : Type 0} → ℕ → R → Option R
+counted_if flags item = if has_bit flags 0 then Some item else None
+
+-- the processor of an entry: of its Type, with this id, in these two domains
+abbrev pub processor_affinity : ℕ → ℕ → ℕ → ℕ → ProcessorAffinity
+processor_affinity kind id domain clock_domain = record {
+  id = id;
+  domain = domain;
+  clock_domain = clock_domain;
+  entry_type = kind;
+}
+
+abbrev pub processor_shown : SratEntry → Option ProcessorAffinity
+processor_shown (kinds.LocalApic e) = counted_if e.flags (processor_affinity 0 e.apic_id e.domain e.clock_domain)
+processor_shown (kinds.LocalX2Apic e) = counted_if e.flags (processor_affinity 2 e.x2apic_id e.domain e.clock_domain)
+processor_shown (kinds.Gicc e) = counted_if e.flags (processor_affinity 3 e.processor_uid e.domain e.clock_domain)
+processor_shown _ = None
+
+abbrev pub processor_affinities_below : Source → Result (List ProcessorAffinity) Refusal
+processor_affinities_below s = below_first srat_kind s (λ table. filter_map processor_shown (entries_of table))
+
+abbrev pub initiator_shown : SratEntry → Option GenericInitiator
+initiator_shown (kinds.GenericInitiator e) = counted_if e.flags (record {
+  domain = e.domain;
+  is_architectural = flag (has_bit e.flags 1);  -- Architectural Transactions
+  handle_type = e.handle_type;
+  handle = e.device_handle;
+})
+initiator_shown _ = None
+
+abbrev pub generic_initiators_below : Source → Result (List GenericInitiator) Refusal
+generic_initiators_below s = below_first srat_kind s (λ table. filter_map initiator_shown (entries_of table))
+
+abbrev pub its_shown : SratEntry → Option ItsAffinity
+its_shown (kinds.GicIts e) = Some (record { domain = e.domain; its_id = e.its_id })
+its_shown _ = None
+
+abbrev pub its_affinities_below : Source → Result (List ItsAffinity) Refusal
+its_affinities_below s = below_first srat_kind s (λ table. filter_map its_shown (entries_of table))
