@@ -1,4 +1,4 @@
--- The list of processors, whose first is made the boot processor after all are written, and what the strict model says
+-- The list of processors, whose first is made the boot processor after all are written, and what the strict model has
 -- of the same entries.
 use Rattle.std.proofs.Common.{◌≡◌, ℕ, suc, ◌+◌, ◌<◌, ◌≤◌, List, [], ◌∷◌, length, get_or, slice_set, subst, true, refl, add-one, arith, ◌∙◌, sym, ap, filter_map, Option, Some, None}
 use Rattle.std.specs.Prelude.{unwrap_or}
@@ -22,7 +22,7 @@ pub as_many : (ps : List Processor) → length (boot_first ps) ≡ length ps
 as_many [] = refl
 as_many (p ∷ ps) = refl
 
--- what is written has as many places as there were
+-- what is written has the number of places that there were
 none_written : (before ps : List Processor) → length (put_from before 0 ps) ≤ 0 → before ≡ []
 none_written [] ps none = refl
 none_written (o ∷ before) [] none = absurd (omega (arith, none))

@@ -1,4 +1,4 @@
--- What regions in ascending order are, and where an address lies in them.
+-- What regions in ascending order are, and where an address is in them.
 use Rattle.acpi_base.specs.Memory as memory
 use Rattle.std.proofs.Common.{◌≡◌, ℕ, ◌+◌, ◌^◌, ◌<◌, ◌≤◌, List, [], ◌∷◌, ◌++◌, length, take, drop, refl, arith, true, get_or, add-one, ◌⊎◌, inl, inr, zero, suc, ◌-◌, Bool, false, leb, sym, ap, ◌∙◌, None, Some, slice_get, Option}
 use Rattle.acpi_base.proofs.FromStd.{map-append, drop_more, le-leb, lt-ltb, and_parts, leb-true, ltb-true, cases_lt, lt-leb, both_ways, take-suc, take-length, slice_get-get_or}
@@ -182,7 +182,7 @@ spot_inside rs a i r h inside at s lies e =
     let here : slice_get rs i ≡ Some r = slice_get-get_or rs i r inside ∙ ap Some (sym (at r)) in
     rw (spot_there rs a i r h here, lies, e) refl
 
--- ---- what is seen where an address lies
+-- ---- what is seen where an address is
 
 abbrev pub seen : Option (Place × List ℕ) → List ℕ
 seen (Some spot) = spot.1
@@ -196,7 +196,7 @@ seen_from k (r ∷ m) a = grind (arith, seen_from (k + 1) m a)
 pub rest_seen : (m : Memory) (a : ℕ) → rest_from m a ≡ seen (spot_from 0 m a)
 rest_seen m a = seen_from 0 m a
 
--- ---- what is lent where an address lies
+-- ---- what is mapped where an address is
 
 pub at_rest : (m : Memory) (a : ℕ) (s : List ℕ) → s ≡ rest_from m a → at m a (length s) ≡ Some s
 unfolding at

@@ -50,7 +50,7 @@ stays ranges without window a b le less =
       change_of_same window a _ b le one,
     ) refl
 
--- what is wanted lies in the window
+-- what is wanted is in the window
 pub is_inside : (ranges without : List Range) (window : Range) (a : ℕ) → wanted ranges without window a ≡ true
     → a < window.address + window.length
 is_inside ranges without window a h =

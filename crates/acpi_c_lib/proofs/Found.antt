@@ -1,4 +1,4 @@
--- The first table that a source leads to, and its bytes.
+-- The first table of a source, and its bytes.
 use Rattle.std.proofs.Common.{◌≡◌, ◌∙◌, ℕ, List, Result, Ok, Err, ap, refl}
 use Rattle.acpi_base.specs.Words.{Kind, Memory, accepted, ◌>>=◌}
 use Rattle.acpi.specs.Words.{Opened, lookup}

@@ -56,7 +56,7 @@ found_last : (found : Option IoApic) → or_nearer found None ≡ found
 found_last None = refl
 found_last (Some x) = refl
 
--- after the last one, each is what is answered for its number
+-- after the last one, each is the result for its number
 pub all_met : (isa : ℕ → Result Interrupt Refusal) (answer : ℕ → IsaRoute) (routes : List IsaRoute) (all : List IoApic)
     → length routes ≡ 16
     → ((irq : ℕ) → route_of (isa irq) (nearest (number_of (isa irq)) all) ≡ answer irq) → Routed isa routes [] all
@@ -67,7 +67,7 @@ all_met isa answer routes all long same routed =
     let end = routed irq small in
     end.1 ∙ ap (route_of (isa irq)) (sym (found_last end.0) ∙ end.2) ∙ same irq)
 
--- what is found for an interrupt is what is answered for it
+-- what is found for an interrupt is its result
 pub same_answer : (io_apics : List IoApic) (r : Result Interrupt Refusal)
     → route_of r (nearest (number_of r) io_apics) ≡ route_by (λ n. pin_or (io_apic_for io_apics n)) r
 same_answer io_apics (Ok i) = refl
@@ -75,7 +75,7 @@ same_answer io_apics (Err e) = refl
 
 -- ---- the law
 
--- of entries that are found, or of the refusal
+-- of entries that are found, or of the error
 item_of : (r : Result (List MadtEntry) Refusal) (list : IsaInterrupts) (irq : ℕ) → result_map isa_list r ≡ Ok list
     → irq < 16
     → get_or list.routes irq no_route

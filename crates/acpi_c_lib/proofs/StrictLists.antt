@@ -1,4 +1,4 @@
--- Of a MADT none of whose entries is at fault, the lists are those of the strict model.
+-- Of a MADT none of whose entries is at fault, the lists are as in the strict model.
 use Rattle.std.proofs.Common.{◌≡◌, ℕ, List, [], ◌∷◌, map, Bool, true, false, Option, Some, None, Result, Ok, Err, refl, ap, sym, ◌∙◌, filter_map, option_map}
 use Rattle.std.specs.Prelude.{◌==◌, option_and_then, if◌then◌else◌}
 use Rattle.acpi_base.proofs.FromStd.{eqb-true}
@@ -33,7 +33,7 @@ said_first : {B R : Type 0} (g : MadtItem → Option B) (r : B → R) (i : Optio
 said_first g r None items = refl
 said_first g r (Some x) items = map_first r (g x) (filter_map g items)
 
--- ---- what an entry says, whatever its fault
+-- ---- what an entry contains, whatever its fault
 
 abbrev said : MadtEntry → Option MadtItem
 said (entry.InterruptSourceOverride e) = Some (item.Override (override_of e))
@@ -60,7 +60,7 @@ all_said (entry.LocalApicNmi e) h = whole (result_err (line_of e.nmi_line)) _ h
 all_said (entry.X2ApicNmi e) h = whole (result_err (line_of e.nmi_line)) _ h
 all_said _ h = refl
 
--- the records of a sort of entries show what their items say
+-- the records of a sort of entries show what their items contain
 abbrev Agree : {A B R : Type 0} → (MadtEntry → Option A) → (A → R) → (MadtItem → Option B) → (B → R) → Type 0
 Agree f s g r =
     (e : MadtEntry) → base.fault_in e ≡ None → option_map s (f e) ≡ option_map r (option_and_then g (said e))

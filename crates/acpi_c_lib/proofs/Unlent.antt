@@ -1,4 +1,4 @@
--- What isn't lent: of what opening asks for and what leads to a table, and of the candidates of a search.
+-- What isn't mapped: of what opening requests and what points to a table, and of the candidates of a search.
 use Rattle.std.proofs.Common.{◌≡◌, ℕ, ◌≤◌, List, [], ◌∷◌, ◌++◌, Bool, true, false, Option, Some, None, Result, Ok, Err, arith, refl, sym, ap, subst, ◌∙◌, if◌then◌else◌, ◌+◌, length, ◌^◌, ◌<◌, zero, suc, ◌-◌, ◌*◌, ◌/◌, drop, ◌==◌, ok_or, option_map, bytes_eq, nat_lt}
 use Rattle.acpi_base.specs.FromStd.{last_or, cons_option, is_some, is_ok, result_ok}
 use Rattle.acpi_base.specs.Words.{accepted, field_of, has_bit, loosened, own_accepted, own_kind, check_names, check_table, header_at, Memory, at, IsMemory, rest_from, ◌>>=◌, holds, lent, table_at, Kind, plain_kind, letters_of}
@@ -13,7 +13,7 @@ use Rattle.acpi_base.proofs.Words.{lent_ends, passed, bind_ok, some_lent}
 use Rattle.acpi_base.specs.Ranges as ranges
 use Rattle.acpi_c_lib.specs.Types.{RootPointer, Rsdp, UnknownPolicy}
 
--- ---- the checks, which refuse by other errors
+-- ---- the checks, which fail with other errors
 
 pub names_not : (s : Signature) (h : SdtHeader) → check_names s h ≡ Err MapFailed → ⊥
 unfolding check_names
@@ -82,7 +82,7 @@ last_append o (x ∷ xs) ys = last_append (Some x) xs ys
 
 -- ---- the search
 
--- where it is refused: at the word, or if that is lent at the first area, or if that is lent too at the second
+-- where it fails: at the word, or if that is mapped at the first area, or if that is mapped too at the second
 abbrev pub refused_by : Bool → ℕ × ℕ → (ℕ → ℕ × ℕ) → Result (List ℕ) AcpiError → ℕ × ℕ
 refused_by true first second (Ok b) = second (field_of b 0 2)
 refused_by false first second (Ok b) = first
@@ -130,7 +130,7 @@ rsdp_unlent : (m : Memory) (a : ℕ) → rsdp_at m a ≡ Err MapFailed → IsUnl
 unfolding rsdp_at
 rsdp_unlent m a e = grind (arith, sum_not, rsdp_not)
 
--- the search in areas has one refusal, and it is another
+-- the search in areas has one error, and it is another
 
 nothing_by : (o : Option (ℕ × List ℕ)) → ok_or o NoValidRsdp ≡ Err MapFailed → ⊥
 nothing_by (Some found) e = cc
@@ -210,7 +210,7 @@ opening_unlent m s e = by_start m s (s.start == 1) (s.start == 2)
 
 -- ---- the ranges of a search's candidates, and then the others
 
--- only an unknown start is refused, and that is no search
+-- only an unknown start fails, and that is no search
 
 root_read : (m : Memory) (s : Source) (place : RootPointer) (r : Result (List ℕ) AcpiError) (e : Refusal)
     → missing_in m s (root_as place r) ≡ Err e → ⊥
@@ -275,7 +275,7 @@ joined s m old mid new n said is checked first count items =
     (missing_in m s (opened_by m s (root_pointer_in m s))) (no_candidates m s) first (rw checked at count)
     (rw checked at items))
 
--- ---- a signature is its four bytes, and a table that is lent ends below 2^64
+-- ---- a signature is its four bytes, and a table that is mapped ends below 2^64
 
 abbrev of_letters : List ℕ → Signature
 of_letters b = record { 0 = b }
@@ -314,7 +314,7 @@ pub count_is : (s : AddressRange) → s.address / 16 * 16 ≡ s.address → s.ad
     → count_in s ≡ (s.length - 4) / 16
 count_is s e h = rw (end_is s h, first_is s e) (omega arith)
 
--- ---- so many candidates
+-- ---- several candidates
 
 later_found : (r : Result (List ℕ) AcpiError) (a : ℕ) (o : Option (ℕ × List ℕ))
     → is_some (or_later (λ x. Some (a, x)) r o) ≡ (if is_ok r then true else is_some o)

@@ -33,7 +33,7 @@ pub found_few : {X Y Z : Type 0} (f : Y → Z) (g : X → Option Y) (xs : List X
     → length (map f (filter_map g xs)) ≤ length xs
 found_few f g xs = omega (arith, length-map (filter_map g xs) f, filter_map_few g xs)
 
--- as many are listed as there are entries of processors
+-- the number of those listed is that of the entries of processors
 pub as_many : (items : List MadtItem) → length (listed (processors_of items))
     ≡ length (filter_map (processor_in true) items)
 as_many [] = refl
@@ -110,7 +110,7 @@ few_bytes false table n = omega (arith, length-drop n table)
 pub bytes_few : (table : List ℕ) → length (timer_bytes table) ≤ length table
 bytes_few table = few_bytes _ table (field_of table 92 4)
 
--- the structures of platform timers lie in their table
+-- the structures of platform timers are in their table
 lie_inside : (b : Bool) (table : List ℕ) (n : ℕ)
     → min n (length table) + length (if b then [] else drop n table) ≤ length table
 lie_inside true table n = omega (arith, min-le_right n (length table))

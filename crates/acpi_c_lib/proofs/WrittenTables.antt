@@ -1,4 +1,4 @@
--- Where the name of a console lies doesn't matter to the SPCR that is written for C.
+-- The address of a console's name doesn't matter to the SPCR that is written for C.
 use Rattle.std.proofs.Common.{◌≡◌, ◌∙◌, ℕ, List, ap, refl, codes}
 use Rattle.acpi_c_lib.specs.Words.{Bor, TableIds, fixed_list, spcr_written, SpcrContents}
 use Rattle.acpi_c_lib.specs.WrittenSpcr as spcr

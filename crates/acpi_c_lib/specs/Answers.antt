@@ -1,10 +1,10 @@
--- What C gets of an answer.
+-- What C gets of a result.
 use Rattle.std.specs.Prelude.{◌≡◌, ℕ, ◌+◌, List, [], ◌∷◌, length, slice_set, Option, Some, None, Result, Ok, Err}
 use Rattle.acpi_c_lib.specs.Codes.{code_of, signature_of}
 use Rattle.acpi_c_lib.specs.Records as records
 use Rattle.acpi_c_lib.specs.Types.{letters_of, Signature, Refusal}
 
--- what is made of the value, or the refusal
+-- what is made of the value, or the error
 abbrev pub result_map : {A B E : Type 0} → (A → B) → Result A E → Result B E
 result_map f (Ok x) = Ok (f x)
 result_map f (Err e) = Err e
@@ -14,17 +14,17 @@ abbrev pub signature_or : records.Signature → Option Signature → records.Sig
 signature_or old (Some s) = record { letters = letters_of s }
 signature_or old None = old
 
--- the signature that a refusal carries, or else what was there
+-- the signature that an error carries, or else what was there
 abbrev pub name_or : records.Signature → Refusal → records.Signature
 name_or old e = signature_or old (signature_of e)
 
--- 0, and the value written; or the refusal's number, and nothing written but its signature
+-- 0, and the value written; or the error's number, and nothing written but its signature
 abbrev pub Answers : {A : Type 0} → ℕ → A → A → records.Signature → records.Signature → Result A Refusal → Type 0
 Answers status old new old_name new_name (Ok x) = (status ≡ 0) × (new ≡ x) × (new_name ≡ old_name)
 Answers status old new old_name new_name (Err e) =
     (status ≡ code_of e) × (new ≡ old) × (new_name ≡ name_or old_name e)
 
--- the same of a call whose refusals carry no signature
+-- the same of a call whose errors carry no signature
 abbrev pub AnswersPlain : {A : Type 0} → ℕ → A → A → Result A Refusal → Type 0
 AnswersPlain status old new (Ok x) = (status ≡ 0) × (new ≡ x)
 AnswersPlain status old new (Err e) = (status ≡ code_of e) × (new ≡ old)
@@ -36,25 +36,25 @@ abbrev pub put_from : {X : Type 0} → List X → ℕ → List X → List X
 put_from xs n [] = xs
 put_from xs n (y ∷ ys) = put_from (slice_set xs n y) (n + 1) ys
 
--- this is how many items there are, and they were written as far as there is room
+-- this is how many items there are, and they were written as far as the capacity reaches
 abbrev pub Writes : {X : Type 0} → ℕ → List X → List X → List X → Type 0
 Writes count old new xs = (count ≡ length xs) × (new ≡ put_from old 0 xs)
 
--- the items of an answer; a refusal has none
+-- the items of a result; an error has none
 abbrev pub items_said : {X : Type 0} → Result (List X) Refusal → List X
 items_said (Ok xs) = xs
 items_said (Err e) = []
 
--- the items of an answer where another call isn't refused
+-- the items of a result, if another call doesn't fail
 abbrev pub items_beside : {A X : Type 0} → Result A Refusal → Result (List X) Refusal → List X
 items_beside (Ok x) said = items_said said
 items_beside (Err e) said = []
 
--- how many items there are, or the refusal; and the items were written as far as there is room
+-- how many items there are, or the error; and the items were written as far as the capacity reaches
 abbrev pub Fills : {X : Type 0} → Result ℕ Refusal → List X → List X → Result (List X) Refusal → Type 0
 Fills count old new said = (count ≡ result_map length said) × (new ≡ put_from old 0 (items_said said))
 
--- how many items there are is answered as any value is, and the items were written as far as there is room
+-- how many items there are is returned as any value is, and the items were written as far as the capacity reaches
 abbrev pub AnswersList : {X : Type 0} → ℕ → List X → List X → ℕ → ℕ → records.Signature → records.Signature
     → Result (List X) Refusal → Type 0
 AnswersList status old new old_count new_count old_name new_name said =
@@ -63,7 +63,7 @@ AnswersList status old new old_count new_count old_name new_name said =
 
 -- ---- values that are described
 
--- 0, and a value written of which this holds; or the refusal's number, and nothing written but its
+-- 0, and a value written of which this holds; or the error's number, and nothing written but its
 -- signature
 abbrev pub AnswersSome : {A B : Type 0} → (B → A → Type 0) → ℕ → A → A → records.Signature → records.Signature
     → Result B Refusal
@@ -72,7 +72,7 @@ AnswersSome Is status old new old_name new_name (Ok x) = (status ≡ 0) × Is x 
 AnswersSome Is status old new old_name new_name (Err e) =
     (status ≡ code_of e) × (new ≡ old) × (new_name ≡ name_or old_name e)
 
--- a value of which this holds, or the refusal
+-- a value of which this holds, or the error
 abbrev pub GivesSome : {A B : Type 0} → (B → A → Type 0) → Result A Refusal → Result B Refusal → Type 0
 GivesSome Is (Ok y) said = (x : _) × (said ≡ Ok x) × Is x y
 GivesSome Is (Err e) said = said ≡ Err e

@@ -1,4 +1,4 @@
--- The law: of a MADT none of whose entries is at fault, the lists are those of the strict model, beside which C's
+-- The law: of a MADT none of whose entries is at fault, the lists are as in the strict model, beside which C's
 -- records have the bus of an override, the wiring of a LINT pin, and what kind of processor it is.
 use Rattle.std.specs.Prelude.{◌≡◌, ℕ, List, map, not, None, filter_map}
 use Rattle.acpi_base.specs.Words.{entries_of, fault_of, line_code, polarity_code, trigger_code, uid_code}

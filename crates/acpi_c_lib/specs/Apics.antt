@@ -1,5 +1,5 @@
--- What the entries of a MADT that describes APICs say, each by itself (ACPI 6.4, section 5.2.12): what another entry
--- says, or why the strict model refuses it, changes nothing.
+-- The entries of a MADT that describes APICs, each by itself (ACPI 6.4, section 5.2.12): what another entry contains,
+-- or why the strict model fails for it, changes nothing.
 use Rattle.std.specs.Prelude.{ℕ, ◌==◌, Bool, true, false, List, [], ◌∷◌, Option, Some, None, Result, Ok, if◌then◌else◌, filter_map}
 use Rattle.acpi_base.specs.FromStd.{list_any}
 use Rattle.acpi_base.specs.Words.{all_apics, all_x2apics, bits_of, field_of, has_bit, entries_of, mailbox_of, online_capable, ◌>>=◌, holds}
@@ -36,7 +36,7 @@ apics_among table = do
   _ ← holds (list_any is_of_apics (entries_of table)) NoApics
   Ok table
 
--- those of the first valid MADT
+-- the same bytes of the first valid MADT
 unfoldable pub apic_table : Source → Result (List ℕ) Refusal
 apic_table s = do
   table ← first_table madt_kind s
@@ -77,7 +77,7 @@ abbrev pub boot_first : List records.Processor → List records.Processor
 boot_first [] = []
 boot_first (p ∷ others) = booted p ∷ others
 
--- those of a table, whose Revision is its byte 8
+-- the processors of a table, whose Revision is its byte 8
 abbrev pub processors_of : List ℕ → List records.Processor
 processors_of table = boot_first (filter_map (processor_in (field_of table 8 1)) (entries_of table))
 
@@ -116,7 +116,7 @@ nmi_source_in (entry.NmiSource e) = Some (record {
 })
 nmi_source_in _ = None
 
--- a LINT pin of a processor, or of all of them, if the UID is the one that stands for all
+-- a LINT pin of a processor, or of all of them, if the UID is the one that means all
 abbrev pub nmi_line : ℕ → ℕ → ℕ → ℕ → records.NmiLine
 nmi_line all uid lint flags = record {
   processor_uid = if uid == all then 0 else uid;

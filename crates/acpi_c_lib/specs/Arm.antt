@@ -1,5 +1,5 @@
--- The generic interrupt controller (GIC) of an Arm machine as C gets it: what the entries of a MADT say of it, each by
--- itself.
+-- The generic interrupt controller (GIC) of an Arm machine as C gets it: what the entries of a MADT contain of it, each
+-- by itself.
 use Rattle.std.specs.Prelude.{ℕ, Bool, false, true, List, map, slice_get, Option, Result, Ok, if◌then◌else◌, filter_map, ok_or, unwrap_or}
 use Rattle.acpi_base.specs.Words.{holds}
 use Rattle.acpi_base.specs.declared.tables.madt.entry.MadtEntry.TheVariants as kinds
@@ -24,7 +24,7 @@ gic_among table = do
   _ ← holds (list_any is_of_gic (entries_of table)) NoGic
   Ok table
 
--- those of the first valid MADT
+-- the same bytes of the first valid MADT
 unfoldable pub gic_table : Source → Result (List ℕ) Refusal
 gic_table s = do
   table ← first_table madt_kind s
@@ -96,7 +96,7 @@ translation_services_shown table = map translation_service_record (items_of tran
 
 -- ---- frames of messages (section 5.2.12.16)
 
--- the first SPI of a frame, how many it has, and whether the entry says so, or zeros
+-- the first SPI of a frame and its number of SPIs, or zeros if the entry has none
 abbrev pub spis_or : Option SpiRange → SpiRange
 spis_or spis = unwrap_or spis (record { base = 0; count = 0 })
 

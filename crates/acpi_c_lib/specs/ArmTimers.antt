@@ -71,7 +71,7 @@ abbrev pub frames_in : Timer → List records.GtFrame
 frames_in (inl (block, frames)) = map (frame_record block) frames
 frames_in (inr watchdog) = []
 
--- those of all timers, in order
+-- the frames of all timers, in order
 abbrev pub frames_of : List Timer → List records.GtFrame
 frames_of [] = []
 frames_of (t ∷ timers) = frames_in t ++ frames_of timers
@@ -96,7 +96,7 @@ abbrev pub watchdog_in : Timer → Option Watchdog
 watchdog_in (inl block) = None
 watchdog_in (inr watchdog) = Some (watchdog_record watchdog)
 
--- those of all timers, in order
+-- the watchdogs of all timers, in order
 abbrev pub watchdogs_of : List Timer → List Watchdog
 watchdogs_of timers = filter_map watchdog_in timers
 

@@ -10,17 +10,17 @@ pub use Rattle.acpi_c_lib.specs.declared.records.Source.{Source}
 pub use Rattle.acpi_c_lib.specs.declared.refusal.Refusal.{Refusal}
 use Rattle.acpi_c_lib.specs.Types.{Acpi, RootPointer, UnknownPolicy, UnknownStart}
 
--- a refusal of the library's is one of the call's
+-- an error of the library's is one of the call's
 abbrev pub refused_as : {A : Type 0} → Result A AcpiError → Result A Refusal
 refused_as (Ok x) = Ok x
 refused_as (Err e) = Err (Acpi e)
 
--- the address of the extended BIOS data area (EBDA), 16 times the word at 40:0Eh, if that is lent
+-- the address of the extended BIOS data area (EBDA), 16 times the word at 40:0Eh, if that is mapped
 abbrev pub ebda_in : Memory → Option ℕ
 ebda_in m = option_map (λ word. 16 * word) (result_ok (word_in m))
 
--- the RSDP that a start's number and an address lead to, as its address and its first 36 bytes: the one there (section
--- 5.2.5.3), by the search of the BIOS areas (5.2.5.1), or by the search in these as far as they are lent
+-- the RSDP of a start's number and an address, as its address and its first 36 bytes: the one there (section 5.2.5.3),
+-- by the search of the BIOS areas (5.2.5.1), or by the search in these as far as they are mapped
 abbrev pub rsdp_in : Memory → Source → Result (ℕ × List ℕ) Refusal
 rsdp_in m s =
     if s.start == 0 then refused_as (result_map (λ bytes. (s.address, bytes)) (rsdp_at m s.address))
@@ -28,7 +28,7 @@ rsdp_in m s =
     else if s.start == 4 then refused_as (found_in_areas m (bios_areas (ebda_in m)))
     else Err UnknownStart
 
--- where they lead to a root table: at an RSDT (section 5.2.7), at an XSDT (5.2.8), or by the RSDP
+-- where the root table is by them: at an RSDT (section 5.2.7), at an XSDT (5.2.8), or by the RSDP
 abbrev pub root_pointer_in : Memory → Source → Result RootPointer Refusal
 root_pointer_in m s =
     if s.start == 1 then Ok (root_of_revision 0 s.address)
@@ -57,14 +57,14 @@ rsdp_length bytes = unwrap_or (extended_length_of (rsdp_of bytes)) 20
 abbrev pub rsdp_place_in : Memory → Source → Option (ℕ × ℕ)
 rsdp_place_in m s = result_ok (result_map (λ found. (found.0, rsdp_length found.1)) (rsdp_in m s))
 
--- what a definition over a memory and the root table in it says of the tables that a caller names
+-- a definition over a memory and the root table in it, of the tables that a caller names
 abbrev pub opened_below : {A : Type 0} → Source → (Memory → Opened → Result A Refusal) → Result A Refusal
 opened_below s answer = do
   m ← memory_in s.regions.now
   o ← opened_in m s
   answer m o
 
--- what a definition over a memory and the pointers of the root table in it says of the tables that a caller names
+-- a definition over a memory and the pointers of the root table in it, of the tables that a caller names
 abbrev pub below : {A : Type 0} → Source → (Memory → List ℕ → Result A Refusal) → Result A Refusal
 below s answer = opened_below s (λ m o. answer m (pointers_in o))
 
@@ -73,7 +73,7 @@ abbrev pub below_source : {A : Type 0} → Source → (Memory → List ℕ → R
     → Result A Refusal
 below_source s answer = below s (λ m ps. refused_as (answer m ps))
 
--- the first table of a kind that is accepted: where it lies, and its bytes
+-- the first table of a kind that is accepted: its address and its bytes
 unfoldable pub found_table : Kind → Source → Result (ℕ × List ℕ) Refusal
 found_table kind s = below_source s (λ m. lookup m (accepted s.accept kind))
 

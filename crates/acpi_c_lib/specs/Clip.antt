@@ -36,14 +36,14 @@ pub record IsClipped (ranges without : List Range) (window : Range) (xs : List R
   pub ordered : AreInOrder xs
   pub same : (a : ℕ) → any_holds a xs ≡ wanted ranges without window a
 
--- there are such ranges, written as far as there is room, and this is how many
+-- there are such ranges, written as far as the capacity reaches, and this is how many
 abbrev pub FillsClipped : List Range → List Range → ℕ → List Range → List Range → Range → Type 0
 FillsClipped old new count ranges without window =
     (xs : List Range) × IsClipped ranges without window xs × (new ≡ put_from old 0 xs)
     × (count ≡ length xs)
 
 -- what C gets, by whether all ranges end at 2^64 - 1 at most: 0, the ranges and how many there are; or
--- the refusal's number, and nothing written
+-- the error's number, and nothing written
 abbrev pub ClipsIf : Bool → ℕ → List Range → List Range → ℕ → ℕ → List Range → List Range → Range → Type 0
 ClipsIf true status old new old_count new_count ranges without window =
     (status ≡ 0) × FillsClipped old new new_count ranges without window

@@ -1,5 +1,5 @@
--- The numbers that C gets for refusals, those of `enum zacpi_status_code` in include/zacpi.h, and the signatures. 99
--- stands for the errors that no call returns.
+-- The numbers that C gets for errors, as in `enum zacpi_status_code` in include/zacpi.h, and the signatures. 99 is for
+-- the errors that no call returns.
 use Rattle.std.specs.Prelude.{ℕ, Option, Some, None}
 use Rattle.acpi_base.specs.declared.error.AcpiError.TheVariants as acpi
 use Rattle.acpi_base.specs.declared.error.MadtError.TheVariants as madt
@@ -7,7 +7,7 @@ use Rattle.acpi_c_lib.specs.Types.{AcpiError, MadtError, Signature, Refusal, Wri
 use Rattle.acpi_c_lib.specs.declared.refusal.Refusal.TheVariants as refusal
 use Rattle.acpi_writer.specs.declared.error.WriterError.TheVariants as writer
 
--- why the entries of a MADT are refused (section 5.2.12)
+-- the errors of a MADT's entries (section 5.2.12)
 abbrev pub madt_code : MadtError → ℕ
 madt_code madt.UnexpectedEntry = 44
 madt_code madt.InterruptOverrideEntryHasInvalidBus = 45
@@ -55,7 +55,7 @@ writer_code writer.BadProfile = 99
 writer_code writer.BadCode = 99
 writer_code writer.LongName = 99
 
--- each is above 0, which stands for success
+-- each is above 0, which means success
 abbrev pub code_of : Refusal → ℕ
 code_of refusal.RegionsNotAscending = 1
 code_of refusal.RegionTooHigh = 2
@@ -90,7 +90,7 @@ code_of refusal.BadTable = 73
 code_of (refusal.Writer e) = writer_code e
 code_of (refusal.Acpi e) = acpi_code e
 
--- ---- the signatures that refusals carry
+-- ---- the signatures that errors carry
 
 abbrev pub carried : AcpiError → Option Signature
 carried (acpi.SdtInvalidSignature s) = Some s

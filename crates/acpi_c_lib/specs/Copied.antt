@@ -1,4 +1,4 @@
--- A start at the root table that a copy of the RSDP leads to (ACPI 6.4, section 5.2.5.3).
+-- A start at the root table that a copy of the RSDP points to (ACPI 6.4, section 5.2.5.3).
 use Rattle.std.specs.Prelude.{ℕ, ◌==◌, ◌&&◌, nat_le, List, [], ◌∷◌, ◌++◌, length, replicate, take, Result, if◌then◌else◌}
 use Rattle.acpi_c_lib.specs.Answers.{result_map}
 use Rattle.acpi_c_lib.specs.Below.{AcpiError, Refusal, Source, refused_as}
@@ -22,7 +22,7 @@ abbrev pub start_at : RootKind → ℕ
 start_at Rsdt = 1
 start_at Xsdt = 2
 
--- the source with a start at the root table that an RSDP leads to
+-- the source with a start at the root table that an RSDP points to
 abbrev pub started_by : Source → Rsdp → Source
 started_by s rsdp = record {
   regions = s.regions;

@@ -24,17 +24,17 @@ generic_record a = record {
 abbrev pub no_register : records.GenericAddress
 no_register = record { address = 0; space = 0; bit_width = 0; bit_offset = 0; access_size = 0 }
 
--- a register; or zeros, and 0 if there is none or 2 if its address is refused
+-- a register; or zeros, and 0 if there is none or 2 if its address is an error
 abbrev pub optional_register : Result (Option GenericAddress) AcpiError → Register
 optional_register (Ok (Some a)) = record { at = generic_record a; present = 1 }
 optional_register (Ok None) = record { at = no_register; present = 0 }
 optional_register (Err e) = record { at = no_register; present = 2 }
 
--- the same of a register that is there, if it isn't refused
+-- the same of a register that is there, unless its address is an error
 abbrev pub required_register : Result GenericAddress AcpiError → Register
 required_register said = optional_register (result_map Some said)
 
--- none, or one that may be refused
+-- none, or one whose address may be an error
 abbrev pub register_if : Option (Result GenericAddress AcpiError) → Register
 register_if (Some said) = required_register said
 register_if None = optional_register (Ok None)

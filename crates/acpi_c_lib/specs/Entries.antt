@@ -1,4 +1,4 @@
--- The entries of any table as C gets them, by where Type and Length stand in each.
+-- The entries of any table as C gets them, by where Type and Length are in each.
 use Rattle.std.specs.Prelude.{ℕ, ◌+◌, ◌==◌, nat_le, nat_lt, List, [], ◌∷◌, drop, length, None, Result, Ok, Err, if◌then◌else◌}
 use Rattle.acpi_base.specs.Words.{cut, number_at, header_at, ◌>>=◌, holds, own_accepted}
 use Rattle.acpi_base.specs.declared.entries.Place.{Place}
@@ -13,11 +13,11 @@ use Rattle.acpi_c_lib.specs.Types.{Entry, Acpi, UnknownWidth, Walk}
 abbrev pub width_of_bytes : ℕ → Result Width Refusal
 width_of_bytes n = if n == 1 then Ok One else if n == 2 then Ok Two else if n == 4 then Ok Four else Err UnknownWidth
 
--- where a number stands, by its offset and how many bytes it has
+-- the place of a number, by its offset and its number of bytes
 abbrev pub number_place : ℕ → ℕ → Result Place Refusal
 number_place offset n = result_map (λ w. record { at = offset; width = w }) (width_of_bytes n)
 
--- where Type and Length stand in each entry of a walk; no type has a least length of its own
+-- where Type and Length are in each entry of a walk; no type has a least length of its own
 abbrev pub walk_layout : Walk → Result (EntryLayout 0) Refusal
 walk_layout w = do
   kind_place ← number_place w.type_offset w.type_width
@@ -43,8 +43,8 @@ entries_at l address bytes =
     let c = cut (plain_grammar l) bytes in
     (entries_from l address c.0, flag (nat_lt 0 (length c.1)))
 
--- those of the table at an address, from a walk's first on: its fixed fields end there, so a shorter one has not all of
--- them
+-- the entries of the table at an address, from a walk's first on: its fixed fields end there, so a shorter one hasn't
+-- all of them
 abbrev pub entries_below : Source → ℕ → Walk → Result (List Entry × ℕ) Refusal
 entries_below s address w = do
   m ← memory_in s.regions.now

@@ -8,7 +8,7 @@ use Rattle.acpi.specs.Words.{facs_at, fadt_kind, lookup}
 use Rattle.acpi_c_lib.specs.Below.{AcpiError, Refusal, Source, below_source}
 use Rattle.acpi_c_lib.specs.Types.{Facs}
 
--- a FACS, by where it lies and its first 36 bytes
+-- a FACS, by its range and its first 36 bytes
 abbrev pub facs_record : AddressRange → List ℕ → Facs
 facs_record place head = record {
   address = place.address;
@@ -26,7 +26,7 @@ facs_in m address = do
   head ← lent m address 36
   Ok (facs_record place head)
 
--- where the first valid FADT says that the FACS lies, or that there is none
+-- the address of the FACS in the first valid FADT, or that there is none
 abbrev pub facs_address_in : ℕ → Memory → List ℕ → Result ℕ AcpiError
 facs_address_in accept m ps = do
   found ← lookup m (accepted accept fadt_kind) ps

@@ -1,4 +1,4 @@
--- The tables that lookups pass over.
+-- The tables that lookups skip.
 use Rattle.std.specs.Prelude.{ℕ, List, [], ◌∷◌, if◌then◌else◌, Result, Ok, Err, bytes_eq}
 use Rattle.acpi_base.specs.Words.{Kind, Memory, sdt_kind, table_at, accepted}
 use Rattle.acpi.specs.Types.{BGRT, DMAR, FADT, GTDT, HPET, IVRS, MADT, MCFG, SLIT, SPCR, SRAT, SdtInvalidSignature}
@@ -26,12 +26,12 @@ abbrev pub fault_before : Memory → Kind → ℕ → Result (List ℕ) AcpiErro
 fault_before m k p (Ok table) faults = accepted_fault p (table_at m k p)
 fault_before m k p (Err e) faults = with_fault p e faults
 
--- those of the members before the first that a lookup takes, and of that
+-- the faults of the members before the first that a lookup takes, and of that
 abbrev pub faults_among : ℕ → Memory → Kind → List ℕ → List Fault
 faults_among accept m k [] = []
 faults_among accept m k (p ∷ ps) = fault_before m k p (table_at m (accepted accept k) p) (faults_among accept m k ps)
 
--- the bytes that a lookup of a name asks for: up to the end of the last fixed field that this library reads, or a
+-- the bytes that a lookup of a name requests: up to the end of the last fixed field that this library reads, or a
 -- header's 36
 unfoldable pub least_named : Signature → ℕ
 least_named s =

@@ -10,7 +10,7 @@ use Rattle.acpi_c_lib.specs.Devices.{optional_register, required_register}
 use Rattle.acpi_c_lib.specs.Records as records
 use Rattle.acpi_c_lib.specs.Types.{FixedHardware}
 
--- no block of general purpose events: zeros, and 0 if there is none or 2 if its address is refused
+-- no block of general purpose events: zeros, and 0 if there is none or 2 if its address is an error
 abbrev pub no_gpe : ℕ → records.GpeBlock
 no_gpe present = record { address = 0; space = 0; byte_length = 0; present = present }
 
@@ -34,7 +34,7 @@ hypervisor_id_in table = if nat_lt (revision_in table) 6 then 0 else field_of ta
 
 abbrev pub fixed_record : Fadt → ℕ → ℕ → ℕ → FixedHardware
 fixed_record f revision minor_revision hypervisor_id = record {
-  -- an address is refused only if it is 0
+  -- an address is an error only if it is 0
   facs_address = result_unwrap_or (facs_address_of f) 0;
   dsdt_address = result_unwrap_or (dsdt_address_of f) 0;
   pm1a_event = required_register (block_of (registers_of f).pm1a_event);

@@ -5,7 +5,7 @@ use Rattle.acpi_c_lib.specs.Below.{Refusal, Source, found_table}
 use Rattle.acpi_c_lib.specs.EntryFaults.{entry_fault, faults_from}
 use Rattle.acpi_c_lib.specs.Types.{cut, field_of, frames_end, gtdt_kind, is_sound, timer_bytes, timer_count, timers_grammar, timers_offset, InvalidTimerLength, EntryFault}
 
--- the item of a structure at an address, if it is a GT Block whose frames don't lie between its 20 fixed bytes and its
+-- the item of a structure at an address, if it is a GT Block whose frames aren't between its 20 fixed bytes and its
 -- end: where in it no further frame begins
 abbrev pub timer_fault : ℕ → List ℕ → Option EntryFault
 timer_fault address e =
@@ -24,7 +24,7 @@ timers_cut table = cut (timers_grammar (timer_count table)) (timer_bytes table)
 abbrev pub last_faults : List ℕ → ℕ → List EntryFault
 last_faults table = front_faults (timer_count table - length (timers_cut table).0) (timers_cut table).1
 
--- those of the table at an address
+-- the faults of the table at an address
 abbrev pub gtdt_faults_of : ℕ × List ℕ → List EntryFault
 gtdt_faults_of found =
     faults_from timer_fault (last_faults found.1) (found.0 + timers_offset found.1) (timers_cut found.1).0

@@ -1,4 +1,4 @@
--- The units that remap what devices ask of memory, as C gets them.
+-- The units that remap devices' accesses to memory, as C gets them.
 use Rattle.std.specs.Prelude.{ℕ, ◌+◌, List, Option, Some, None, map, Result, Ok, Err, unwrap_or}
 use Rattle.acpi_base.specs.FromStd.{is_some}
 use Rattle.acpi_base.specs.Words.{◌>>=◌, sdt_kind}
@@ -10,7 +10,7 @@ use Rattle.acpi_c_lib.specs.Answers.{result_map}
 use Rattle.acpi_c_lib.specs.Below.{Refusal, Source, first_table}
 use Rattle.acpi_c_lib.specs.Devices.{flag}
 
--- ---- answers
+-- ---- results
 
 abbrev pub iommu_refusal : IommuError → Refusal
 iommu_refusal iommu.InvalidStructureLength = InvalidIommuStructureLength

@@ -25,7 +25,7 @@ iommu_faults_from type_of fault_of address (p ∷ ps) rest =
     cons_option (option_map (iommu_fault address (type_of p)) (fault_of p))
     (iommu_faults_from type_of fault_of (address + length p) ps rest)
 
--- those of a table at an address, whose pieces begin at 48
+-- the faults of a table at an address, whose pieces begin at 48
 
 abbrev pub dmar_faults_of : ℕ × List ℕ → List EntryFault
 dmar_faults_of found =

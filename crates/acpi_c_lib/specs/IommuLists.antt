@@ -1,5 +1,5 @@
 -- The units of a DMAR (Intel Virtualization Technology for Directed I/O 4.0, chapter 8) and of an IVRS (AMD I/O
--- Virtualization Technology (IOMMU) Specification 3.08, section 5.2), each as it stands, and what each names.
+-- Virtualization Technology (IOMMU) Specification 3.08, section 5.2), each as it is there, and what each names.
 use Rattle.std.specs.Prelude.{ℕ, ◌==◌, Bool, List, length, filter, filter_map, map, replicate, slice_get, Option, Some, None, Result, Ok, if◌then◌else◌, ok_or, unwrap_or}
 use Rattle.acpi_base.specs.Words.{◌>>=◌, filled_part}
 use Rattle.acpi_iommu.specs.Words.{alias_of, block_kind, blocks_of, drhd_at, entries_of, entry_kind, enumeration_id, extended_of, first_id, is_ivhd, ivhd_at, kind_of, last_id, path_of, scope_flags, scope_kind, scopes_of, settings_of, special_of, start_bus, structures_of, unique_id, unique_id_format}
@@ -66,7 +66,7 @@ ivrs_units_in table = filter_map ivhd_shown (blocks_of table)
 abbrev pub ivrs_units_below : Source → Result (List IvrsUnit) Refusal
 ivrs_units_below s = result_map ivrs_units_in (ivrs_in s)
 
--- the IVHD with so many before it
+-- the IVHD at an index, counted from 0
 abbrev pub ivhd_in : List ℕ → ℕ → Option (List ℕ)
 ivhd_in table index = slice_get (filter is_ivhd_block (blocks_of table)) index
 

@@ -1,4 +1,4 @@
--- The 16 ISA interrupts at once, each as the calls for one answer it.
+-- The 16 ISA interrupts at once, each as the calls for one return it.
 use Rattle.std.specs.Prelude.{◌≡◌, ℕ, ◌-◌, ◌<◌, ◌&&◌, nat_le, List, map, slice_index_or, Option, Some, Result, Ok, Err, if◌then◌else◌, option_map}
 use Rattle.acpi_base.specs.FromStd.{range_with_len}
 use Rattle.acpi_base.specs.Words.{base_of}
@@ -22,17 +22,17 @@ no_pin = record {
 abbrev pub no_route : IsaRoute
 no_route = record { interrupt = no_interrupt; pin = no_pin; present = 0; has_pin = 0 }
 
--- an interrupt, and what is answered for its pin
+-- an interrupt, and the result for its pin
 abbrev pub routed : Interrupt → Result IoApicPin Refusal → IsaRoute
 routed i (Ok pin) = record { interrupt = i; pin = pin; present = 1; has_pin = 1 }
 routed i (Err e) = record { interrupt = i; pin = no_pin; present = 1; has_pin = 0 }
 
--- what is answered for an interrupt, and then for its pin
+-- the result for an interrupt, and then for its pin
 abbrev pub route_by : (ℕ → Result IoApicPin Refusal) → Result Interrupt Refusal → IsaRoute
 route_by pin (Ok i) = routed i (pin i.global_system_interrupt)
 route_by pin (Err e) = no_route
 
--- what the calls for one answer for this one
+-- what the calls for one return for this one
 abbrev pub isa_route : List MadtEntry → ℕ → IsaRoute
 isa_route entries irq = route_by (pin_in entries) (isa_in entries irq)
 
@@ -47,7 +47,7 @@ isa_list entries = record { routes = map (isa_route entries) isa_numbers }
 abbrev pub isa_list_below : Source → Result IsaInterrupts Refusal
 isa_list_below s = result_map isa_list (apic_entries s)
 
--- the law: each item is what the calls for one answer
+-- the law: each item is what the calls for one return
 abbrev pub ItemsAreAnswers : Type 0
 ItemsAreAnswers = (s : Source) (list : IsaInterrupts) → isa_list_below s ≡ Ok list
     → (irq : ℕ) → irq < 16

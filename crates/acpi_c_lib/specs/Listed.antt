@@ -1,9 +1,9 @@
--- What a walk lists for C: the records of those of its items that have one.
+-- What a walk lists for C: the records of the items that have one.
 use Rattle.std.specs.Prelude.{◌≡◌, List, [], ◌∷◌, map, Option, Some, None, refl, filter_map, option_map}
 use Rattle.acpi_base.specs.FromStd.{cons_option, YieldsFirst, YieldsFirstBy}
 use Rattle.std.proofs.Common.{◌∙◌, ap}
 
--- a call from s that gave an item and left t: with the item's record, if it has one, what t lists is what s lists
+-- a call from s that returned an item and left t: with the item's record, if it has one, what t lists is what s lists
 abbrev pub ListsFirst : {S A R : Type 0} → (A → Option R) → (S → List R) → S → Option A → S → Type 0
 ListsFirst record_of left s None t = left s ≡ []
 ListsFirst record_of left s (Some x) t = left s ≡ cons_option (record_of x) (left t)

@@ -14,6 +14,6 @@ local_apic_record apics = record {
   also_has_8259 = flag apics.also_has_legacy_pics;
 }
 
--- those of the first valid MADT, by its entries up to where none begins, whether or not the interrupt model takes them
+-- both of the first valid MADT, by its entries up to where none begins, whether or not the interrupt model takes them
 abbrev pub local_apic_below : Source → Result LocalApic Refusal
 local_apic_below s = below_first madt_kind s (λ table. local_apic_record (apics_by table))

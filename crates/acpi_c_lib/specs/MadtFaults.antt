@@ -14,7 +14,7 @@ madt_refusal error = Acpi (InvalidMadt error)
 abbrev pub madt_fault : List ℕ → Option Refusal
 madt_fault e = if is_short e then Some ShortRiscvEntry else option_map madt_refusal (fault_said e)
 
--- those of the table at an address
+-- the faults of the table at an address
 abbrev pub madt_faults_of : ℕ × List ℕ → List EntryFault
 madt_faults_of found = faults_from (fault_at madt_fault) (rest_faults (madt_refusal InvalidEntryLength) (cut_of found.1).1)
     (found.0 + 44) (cut_of found.1).0

@@ -1,4 +1,4 @@
--- What each pointer of the root table leads to (sections 5.2.6 to 5.2.8), as C gets it.
+-- What each pointer of the root table points to (sections 5.2.6 to 5.2.8), as C gets it.
 use Rattle.std.specs.Prelude.{ℕ, List, map, replicate, Result, Ok, Err}
 use Rattle.acpi_base.specs.Words.{Memory, lent, own_accepted}
 use Rattle.acpi_c_lib.specs.Below.{AcpiError, Refusal, Source, below_source}
@@ -41,6 +41,6 @@ member_record p (Err e) table = record {
 abbrev pub member_at : ℕ → Memory → ℕ → Member
 member_at accept m p = member_record p (lent m p 36) (own_accepted accept m p)
 
--- those of all pointers, in order
+-- the members of all pointers, in order
 abbrev pub members_below : Source → Result (List Member) Refusal
 members_below s = below_source s (λ m ps. Ok (map (member_at s.accept m) ps))

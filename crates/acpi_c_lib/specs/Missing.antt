@@ -14,23 +14,23 @@ pub use Rattle.acpi_c_lib.specs.declared.records.Range.{Range}
 abbrev pub range_of : ℕ × ℕ → Range
 range_of r = record { address = r.0; length = r.1 }
 
--- the last of a definition's ranges, which end at the step that refuses
+-- the last of a definition's ranges, which end at the step that fails
 abbrev pub last_range : Ranges → Option Range
 last_range ranges = option_map range_of (last_or None ranges)
 
--- the range at which a definition is refused because it isn't lent
+-- the unmapped range because of which a definition fails
 abbrev pub hole : {A : Type 0} → Result A AcpiError → Ranges → Option Range
 hole (Err MapFailed) ranges = last_range ranges
 hole _ ranges = None
 
 -- ---- below a root table
 
--- where a table isn't lent: its header, or as many bytes as that says (section 5.2.6)
+-- the unmapped range of a table: its header, or the bytes of the header's Length (section 5.2.6)
 abbrev pub unlent : ℕ → Result (List ℕ) AcpiError → Range
 unlent p (Ok head) = range_of (p, (header_at head).length)
 unlent p (Err e) = range_of (p, 36)
 
--- of a table, if that is why it is refused
+-- of a table, if that is why it fails
 abbrev pub table_hole : Memory → ℕ → Result (List ℕ) AcpiError → Option Range
 table_hole m p (Err MapFailed) = Some (unlent p (lent m p 36))
 table_hole m p _ = None
@@ -39,7 +39,7 @@ table_hole m p _ = None
 abbrev pub member_hole : ℕ → Memory → ℕ → Option Range
 member_hole accept m p = table_hole m p (own_accepted accept m p)
 
--- of the DSDT (section 5.2.11.1) and the FACS (section 5.2.10) that a FADT leads to
+-- of the DSDT (section 5.2.11.1) and the FACS (section 5.2.10) that a FADT points to
 abbrev pub dsdt_hole : ℕ → Memory → Result ℕ AcpiError → Option Range
 dsdt_hole accept m (Ok p) = table_hole m p (table_at m (accepted accept (plain_kind DSDT)) p)
 dsdt_hole accept m (Err e) = None
@@ -51,19 +51,19 @@ led_holes accept m (Ok found) =
     (cons_option (hole (facs_place m fadt) (facs_place_ranges m fadt)) [])
 led_holes accept m (Err e) = []
 
--- of the members, in order, and then of what the first FADT that is accepted leads to
+-- of the members, in order, and then of what the first FADT that is accepted points to
 abbrev pub holes_below : ℕ → Memory → List ℕ → List Range
 holes_below accept m ps =
     filter_map (member_hole accept m) ps ++ led_holes accept m (lookup m (accepted accept fadt_kind) ps)
 
 -- ---- of the RSDPs that a search comes to (section 5.2.5.1)
 
--- as many bytes of a candidate as its Length says, if its 36 bytes are lent and these aren't: the last of its ranges
--- after the first
+-- the range that a candidate's Length covers, if its first 36 bytes are mapped and that range isn't: the last of its
+-- ranges after the first
 unfoldable pub candidate_hole : Memory → ℕ → Option Range
 candidate_hole m a = hole (rsdp_at m a) (drop 1 (rsdp_ranges m a))
 
--- those of so many candidates from an address on, up to the first valid one
+-- the ranges of candidates from an address on, up to the first valid one
 unfoldable pub walk_holes : Memory → ℕ → ℕ → List Range
 walk_holes m zero a = []
 walk_holes m (suc n) a = or_later (λ b. []) (rsdp_at m a) (cons_option (candidate_hole m a) (walk_holes m n (a + 16)))
@@ -76,8 +76,8 @@ has_valid m n a = is_some (walk m n a)
 abbrev pub no_areas : Areas
 no_areas = record { first = record { first = 0; count = 0 }; second = record { first = 0; count = 0 } }
 
--- those of both areas that are asked for in one piece with 16 bytes after it, if the word that says where the second
--- lies is lent, and so is the first; the second has some if it is lent so
+-- the candidates of both areas that are mapped in one piece with 16 bytes after it, if the word that has the second's
+-- address is mapped, and so is the first; the second has some if it is mapped so
 abbrev pub pieces : Memory → Result ℕ AcpiError → Areas
 pieces m (Ok word) =
     let s = second_area word in
@@ -88,7 +88,7 @@ pieces m (Ok word) =
     else no_areas
 pieces m (Err e) = no_areas
 
--- those of an area as far as it is lent
+-- the candidates of an area as far as it is mapped
 abbrev pub stretch : AddressRange → Candidates
 stretch s = record { first = first_in s; count = count_in s }
 
@@ -96,18 +96,18 @@ abbrev pub stretches : List AddressRange → Areas
 stretches (s ∷ t ∷ more) = record { first = stretch s; second = stretch t }
 stretches _ = no_areas
 
--- those of the search that a start is, by its number
+-- the candidates of the search that a start is, by its number
 abbrev pub areas_of : Memory → Source → Areas
 areas_of m s =
     if s.start == 3 then pieces m (word_in m)
     else if s.start == 4 then stretches (bios_areas (ebda_in m))
     else no_areas
 
--- they lie in the first MiB
+-- they are in the first MiB
 abbrev pub Fits : Candidates → Type 0
 Fits c = c.first + 16 * c.count ≤ 2 ^ 20
 
--- those of the first area, and if none is valid there those of the second
+-- the ranges of the first area's candidates, and if none is valid there the second's too
 abbrev pub areas_holes : Memory → Areas → List Range
 areas_holes m a =
     walk_holes m a.first.count a.first.first
@@ -118,14 +118,14 @@ candidate_holes m s = areas_holes m (areas_of m s)
 
 -- ---- of the tables that a caller names
 
--- of the RSDP at an address, or of the search that has to be lent whole, by the number of a start
+-- of the RSDP at an address, or of the search that needs its areas mapped whole, by the number of a start
 abbrev pub rsdp_hole : Memory → Source → AcpiError → Option Range
 rsdp_hole m s e =
     if s.start == 0 then hole {A = ℕ} (Err e) (rsdp_ranges m s.address)
     else if s.start == 3 then hole {A = ℕ} (Err e) (search_ranges m)
     else None
 
--- of the root table, or of what is to lead to it
+-- of the root table, or of what is to point to it
 abbrev pub root_hole : Memory → Source → Result RootPointer Refusal → Option Range
 root_hole m s (Ok place) = table_hole m place.address (accepted_root_at s.accept m place.kind place.address)
 root_hole m s (Err (Acpi e)) = rsdp_hole m s e
@@ -134,13 +134,13 @@ root_hole m s (Err e) = None
 abbrev pub opening_hole : Memory → Source → Option Range
 opening_hole m s = root_hole m s (root_pointer_in m s)
 
--- those below the root table, or the one of opening
+-- the ranges below the root table, or the one of opening
 abbrev pub missing_in : Memory → Source → Result Opened Refusal → Result (List Range) Refusal
 missing_in m s (Ok o) = Ok (holes_below s.accept m (pointers_in o))
 missing_in m s (Err (Acpi e)) = Ok (cons_option (opening_hole m s) [])
 missing_in m s (Err e) = Err e
 
--- those of a search's candidates, and then the others
+-- the ranges of a search's candidates, and then the others
 abbrev pub missing_below : Source → Result (List Range) Refusal
 missing_below s = do
   m ← memory_in s.regions.now
@@ -148,31 +148,31 @@ missing_below s = do
   others ← missing_in m s (opened_in m s)
   Ok (candidate_holes m s ++ others)
 
--- ---- what the ranges tell
+-- ---- what the ranges mean
 
--- there is such a range, and it isn't lent
+-- there is such a range, and it isn't mapped
 abbrev pub IsUnlent : Memory → Option Range → Type 0
 IsUnlent m (Some r) = at m r.address r.length ≡ None
 IsUnlent m None = ⊥
 
--- each member that is refused because it isn't lent has a range
+-- each member that fails because it isn't mapped has a range
 abbrev pub MembersHaveHoles : Type 0
 MembersHaveHoles = (accept : ℕ) (m : Memory) (p : ℕ) → own_accepted accept m p ≡ Err MapFailed
     → IsUnlent m (member_hole accept m p)
 
--- so has a candidate that is lent, and refused because it isn't lent as far as its Length says
+-- so has a candidate whose first 36 bytes are mapped, and that fails because its Length's aren't
 abbrev pub CandidatesHaveHoles : Type 0
 CandidatesHaveHoles = (m : Memory) (a : ℕ) (b : List ℕ) → lent m a 36 ≡ Ok b → rsdp_at m a ≡ Err MapFailed
     → IsUnlent m (candidate_hole m a)
 
--- so have the DSDT and the FACS that a FADT leads to
+-- so have the DSDT and the FACS that a FADT points to
 abbrev pub LedHaveHoles : Type 0
 LedHaveHoles = (accept : ℕ) (m : Memory) (f : Fadt)
     → ((p : ℕ) → dsdt_address_of f ≡ Ok p → table_at m (accepted accept (plain_kind DSDT)) p ≡ Err MapFailed
     → IsUnlent m (dsdt_hole accept m (dsdt_address_of f)))
     × (facs_place m f ≡ Err MapFailed → IsUnlent m (hole (facs_place m f) (facs_place_ranges m f)))
 
--- opening that is refused because something isn't lent has a range
+-- opening that fails because something isn't mapped has a range
 abbrev pub OpeningHasHole : Type 0
 OpeningHasHole = (m : Memory) (s : Source) → opened_in m s ≡ Err (Acpi MapFailed)
     → IsUnlent m (opening_hole m s)

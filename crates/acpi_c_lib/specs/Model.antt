@@ -21,11 +21,11 @@ Platform = base.Model (Unit {0})
 abbrev pub Apics : Type 0
 Apics = Apic (Unit {0})
 
--- what the MADT that describes APICs says of them
+-- what the MADT that describes APICs contains about them
 abbrev pub apics_by : List ℕ → Apics
 apics_by table = base.apic_of (madt_at table) (base.items_of table)
 
--- what the MADT that describes APICs says, or nothing if there is none
+-- what the MADT that describes APICs contains, or nothing if there is none
 abbrev pub model_by : Option (List ℕ) → Platform
 model_by (Some table) = base.gathered (madt_at table) (base.items_of table)
 model_by None = (model.Unknown, None)
@@ -33,7 +33,7 @@ model_by None = (model.Unknown, None)
 abbrev pub models_of : PlatformInfo (Unit {0}) → Platform
 models_of info = (info.interrupt_model, info.processor_info)
 
--- those of the first MADT that is accepted; nothing is known if none is
+-- the model of the first MADT that is accepted; nothing is known if none is
 abbrev pub accepted_model : ℕ → Memory → List ℕ → Result Platform AcpiError
 accepted_model accept m ps =
     or_later (λ madt. base.model_of madt.1) (lookup m (accepted accept madt_kind) ps) (Ok (model.Unknown, None))
@@ -46,7 +46,7 @@ platform_model accept m ps = do
   _ ← timer_of (fadt_at found.1)
   Ok said
 
--- what a definition over the platform says of the tables that a caller names
+-- a definition over the platform, of the tables that a caller names
 abbrev pub below_platform : {A : Type 0} → Source → (Platform → A) → Result A Refusal
 below_platform s show = result_map show (below_source s (platform_model s.accept))
 

@@ -1,4 +1,4 @@
--- Domains and distances as C gets them. What an entry of a SRAT says changes no answer that isn't about it.
+-- Domains and distances as C gets them. What an entry of a SRAT contains changes no result that isn't about it.
 use Rattle.std.specs.Prelude.{◌≡◌, ◌+◌, ◌≤◌, ◌↔◌, ℕ, List, find, map, Option, Some, None, Result, Ok, Err, if◌then◌else◌, ok_or, option_and_then}
 use Rattle.acpi_numa.specs.Words.{cut_of, lies_in, range_in}
 use Rattle.acpi_c_lib.specs.Types.{◌>>=◌, Kind, is_left, sdt_kind, SLIT, ends_below, entry_of, ranges_of, revision_of, srat_kind, IsSane, distance_of, localities_of, domain_of_apic, domain_of_processor, MemoryRange, Localities, MemoryAffinity, InvalidMemoryRange, InvalidSratEntryLength, NoDistance, NoDomain, EntryFault}
@@ -32,7 +32,7 @@ range_fault r = if ends_below r then None else Some InvalidMemoryRange
 abbrev pub srat_fault : ℕ → List ℕ → Option Refusal
 srat_fault revision e = option_and_then range_fault (option_and_then range_in (entry_of revision e))
 
--- those of the table at an address
+-- the faults of the table at an address
 abbrev pub srat_faults_of : ℕ × List ℕ → List EntryFault
 srat_faults_of found = faults_from (fault_at (srat_fault (revision_of found.1)))
     (rest_faults InvalidSratEntryLength (cut_of found.1).1) (found.0 + 48) (cut_of found.1).0
@@ -50,7 +50,7 @@ no_domain table = if is_left (cut_of table).1 then InvalidSratEntryLength else N
 abbrev pub range_domain : MemoryRange → Result ℕ Refusal
 range_domain r = if ends_below r then Ok r.domain else Err InvalidMemoryRange
 
--- that of the first range in which an address lies
+-- the domain of the first range that contains an address
 abbrev pub domain_of_address_below : Source → ℕ → Result ℕ Refusal
 domain_of_address_below s address = do
   table ← first_table srat_kind s

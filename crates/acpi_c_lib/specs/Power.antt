@@ -39,7 +39,7 @@ types_said (Ok answers.Absent) = Err SleepStateAbsent
 types_said (Ok (answers.NotSeen at)) = Err SleepStateNotSeen
 types_said (Err e) = Err (sleep_refusal e)
 
--- the answer of the DSDT that the first FADT leads to that is accepted
+-- the result of the DSDT that the first accepted FADT points to
 abbrev pub dsdt_answer : ℕ → ℕ → Memory → List ℕ → Result sleep.Answer AcpiError
 dsdt_answer accept state m ps = do
   found ← lookup m (accepted accept fadt_kind) ps
@@ -47,7 +47,7 @@ dsdt_answer accept state m ps = do
   table ← table_at m (accepted accept (plain_kind DSDT)) address
   Ok (sleep.block_answer DSDT state table)
 
--- the answer of that and of the SSDTs that are accepted; by 0 it is `tables_answer`
+-- the result of that and of the SSDTs that are accepted; by 0 it is `tables_answer`
 abbrev pub accepted_answer : ℕ → ℕ → Memory → List ℕ → sleep.Answer
 accepted_answer accept state m ps =
     if nat_le state 5

@@ -1,5 +1,5 @@
 -- The records of C's that have the name of a type of the library, which they show. A definition that is about both
--- says `records.IoApic` for the record.
+-- writes `records.IoApic` for the record.
 pub use Rattle.acpi_c_lib.specs.declared.arm_records.ArmTimer.{ArmTimer}
 pub use Rattle.acpi_c_lib.specs.declared.arm_records.GicCpuInterface.{GicCpuInterface}
 pub use Rattle.acpi_c_lib.specs.declared.arm_records.GicDistributor.{GicDistributor}

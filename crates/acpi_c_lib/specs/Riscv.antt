@@ -28,12 +28,12 @@ abbrev pub riscv_among : List RiscvEntry → Result (List RiscvEntry) Refusal
 riscv_among [] = Err NoRiscv
 riscv_among (e ∷ es) = Ok (e ∷ es)
 
--- those of the first valid MADT
+-- the entries of the first valid MADT
 unfoldable pub riscv_entries : Source → Result (List RiscvEntry) Refusal
 riscv_entries s = do
   table ← first_table madt_kind s
   riscv_among (entries_of table)
 
--- those of one type
+-- the records of the entries of one type
 abbrev pub below_riscv : {A : Type 0} → Source → (RiscvEntry → Option A) → Result (List A) Refusal
 below_riscv s record_in = result_map (filter_map record_in) (riscv_entries s)

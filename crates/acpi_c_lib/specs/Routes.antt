@@ -75,7 +75,7 @@ has_codes (Some o) = do
   _ ← madt_refused (trigger_for o.trigger)
   Ok tt
 
--- all overrides of the ISA bus; a reserved code is read as that of the bus, and no answer shows it
+-- all overrides of the ISA bus; a reserved code is read as that of the bus, and no result shows it
 abbrev pub wiring_in : MadtEntry → Option InterruptSourceOverride
 wiring_in e = option_map override_of (isa_override_in e)
 

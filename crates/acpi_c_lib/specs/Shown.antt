@@ -1,4 +1,4 @@
--- What the calls answer of the tables that a caller names.
+-- What the calls return of the tables that a caller names.
 use Rattle.std.specs.Prelude.{ℕ, List, filter_map, length, map, Option, Result, Ok, ok_or, unwrap_or}
 use Rattle.acpi_base.specs.FromStd.{is_some, result_ok}
 use Rattle.acpi_base.specs.Words.{ecam_range, filled_part, header_at, mcfg_entries_of, Memory, ◌>>=◌, plain_kind, letters_of, accepted, own_accepted, table_at}
@@ -15,7 +15,7 @@ pub use Rattle.acpi_c_lib.specs.declared.records.Table.{Table}
 
 -- ---- the root table
 
--- the root table, with the RSDP's address and length, or zeros if none led to it
+-- the root table, with the RSDP's address and length, or zeros if none pointed to it
 abbrev pub root_record : Opened → ℕ × ℕ → Root
 root_record o rsdp = record {
   address = o.address;
@@ -49,7 +49,7 @@ table_record found = record {
 abbrev pub table_in : ℕ → Memory → ℕ → Option Table
 table_in accept m p = result_ok (result_map (λ b. table_record (p, b)) (own_accepted accept m p))
 
--- those of all members, in order
+-- the tables of all members, in order
 abbrev pub tables_in : ℕ → Memory → List ℕ → List Table
 tables_in accept m ps = filter_map (table_in accept m) ps
 
@@ -65,7 +65,7 @@ abbrev pub table_below : Source → records.Signature → Result Table Refusal
 table_below s name = below_source s (λ m ps. result_map table_record
     (lookup m (accepted s.accept (plain_kind (signature_named name))) ps))
 
--- the AML of a table, which is given by its address and its bytes
+-- the AML of a table, by its address and its bytes
 abbrev pub aml_record : ℕ × List ℕ → records.AmlTable
 aml_record found = record {
   address = (stream_of found.0 found.1).address;
@@ -74,11 +74,11 @@ aml_record found = record {
   table_address = found.0;
 }
 
--- that of the table at an address, if it is valid under a signature
+-- the AML of the table at an address, if it is valid under a signature
 abbrev pub aml_at : ℕ → Memory → Signature → ℕ → Result records.AmlTable AcpiError
 aml_at accept m s p = result_map (λ b. aml_record (p, b)) (table_at m (accepted accept (plain_kind s)) p)
 
--- that of the DSDT to which the first valid FADT leads
+-- the AML of the DSDT that the first valid FADT points to
 abbrev pub dsdt_in : ℕ → Memory → List ℕ → Result records.AmlTable AcpiError
 dsdt_in accept m ps = do
   found ← lookup m (accepted accept fadt_kind) ps
@@ -88,7 +88,7 @@ dsdt_in accept m ps = do
 abbrev pub dsdt_below : Source → Result records.AmlTable Refusal
 dsdt_below s = below_source s (dsdt_in s.accept)
 
--- that of the SSDT of a member, if it is a valid one
+-- the AML of the SSDT of a member, if it is a valid one
 abbrev pub ssdt_in : ℕ → Memory → ℕ → Option records.AmlTable
 ssdt_in accept m p = result_ok (aml_at accept m SSDT p)
 
@@ -143,7 +143,7 @@ hpet_record i = record {
   page_protection = protection_code i.page_protection;
 }
 
--- what the bytes of an HPET say, if its registers lie in memory
+-- an HPET by its bytes, if its registers are in memory
 abbrev pub hpet_shown : List ℕ → Result records.HpetInfo AcpiError
 hpet_shown table = result_map hpet_record (info_of (hpet_at table))
 
@@ -152,7 +152,7 @@ hpet_below s = below_source s (λ m ps. do
   found ← lookup m (accepted s.accept hpet_kind) ps
   hpet_shown found.1)
 
--- that of a member, if it is a valid HPET
+-- the HPET of a member, if it is a valid one
 abbrev pub hpet_in : ℕ → Memory → ℕ → Option records.HpetInfo
 hpet_in accept m p = result_ok (table_at m (accepted accept hpet_kind) p >>= hpet_shown)
 

@@ -1,4 +1,4 @@
--- What walks along the members of the root table answer.
+-- What walks along the members of the root table return.
 use Rattle.std.specs.Prelude.{ℕ, List, [], ◌∷◌, ◌++◌, filter_map, length, Option, None, option_map, slice_get, Result, Ok, Err, ok_or}
 use Rattle.acpi_base.specs.FromStd.{cons_option, result_ok}
 use Rattle.acpi_base.specs.Words.{Kind, Memory, ◌>>=◌, plain_kind, accepted, own_accepted, table_at}
@@ -12,7 +12,7 @@ use Rattle.acpi_c_lib.specs.Records as records
 use Rattle.acpi_c_lib.specs.Shown.{Signature, Table, signature_named, table_record}
 use Rattle.acpi_c_lib.specs.Types.{Range}
 
--- the one of a signature with so many before it, or that it is missing
+-- the table of a signature at an index, or that it is missing
 abbrev pub nth_in : ℕ → Memory → Signature → ℕ → List ℕ → Result Table AcpiError
 nth_in accept m s index ps = do
   found ← ok_or (slice_get (tables_found m (accepted accept (plain_kind s)) ps) index) (TableMissing s)
@@ -24,11 +24,11 @@ nth_below s name index = below_source s (λ m ps. nth_in s.accept m (signature_n
 abbrev pub range_record : AddressRange → Range
 range_record r = record { address = r.address; length = r.length }
 
--- where a member lies, if it is accepted under its own signature
+-- the range of a member, if it is accepted under its own signature
 abbrev pub range_in : ℕ → Memory → ℕ → Option Range
 range_in accept m p = result_ok (result_map (λ b. range_of (p, length b)) (own_accepted accept m p))
 
--- where the DSDT lies that a FADT leads to, if it is accepted, and where the FACS, if it is valid
+-- the range of the DSDT that a FADT points to, if it is accepted, and of the FACS, if it is valid
 abbrev pub dsdt_range : ℕ → Memory → Fadt → Option Range
 dsdt_range accept m f = result_ok (do
   address ← dsdt_address_of f
@@ -38,7 +38,7 @@ dsdt_range accept m f = result_ok (do
 abbrev pub facs_range : Memory → Fadt → Option Range
 facs_range m f = result_ok (result_map range_record (facs_place m f))
 
--- those of the first FADT that is accepted
+-- the ranges of the DSDT and the FACS of the first FADT that is accepted
 abbrev pub led_ranges : ℕ → Memory → Result (ℕ × List ℕ) AcpiError → Option Range × Option Range
 led_ranges accept m (Ok found) = let fadt = fadt_at found.1 in (dsdt_range accept m fadt, facs_range m fadt)
 led_ranges accept m (Err e) = (None, None)
@@ -49,7 +49,7 @@ members_ranges accept m ps =
     let led = led_ranges accept m (lookup m (accepted accept fadt_kind) ps) in
     filter_map (range_in accept m) ps ++ cons_option led.0 (cons_option led.1 [])
 
--- the RSDP if one led to the root table, the root table, and the tables
+-- the RSDP if one pointed to the root table, the root table, and the tables
 abbrev pub ranges_below : Source → Result (List Range) Refusal
 ranges_below s = opened_below s (λ m o. Ok (cons_option (option_map range_of (rsdp_place_in m s))
     (range_of (o.address, length o.root)

@@ -76,9 +76,9 @@ arm_boot n = record {
   use_hvc_as_psci_conduit = has_bit n 1;  -- PSCI_USE_HVC
 }
 
--- ---- what the FADT is to say
+-- ---- what the FADT is to contain
 
--- HW_REDUCED_ACPI says that there is no fixed hardware
+-- HW_REDUCED_ACPI means that there is no fixed hardware
 abbrev pub hardware : FixedHardware → FadtHardware
 hardware h = if has_bit h.flags 20 then Reduced else Fixed (record {
   smi_cmd_port = h.smi_command;
@@ -111,7 +111,7 @@ legacy h = record {
   century = h.century;
 }
 
--- RESET_REG_SUP says that there is a register that resets the machine
+-- RESET_REG_SUP means that there is a register that resets the machine
 abbrev pub reset : FixedHardware → Option GenericAddress
 reset h = if has_bit h.flags 10 then Some (register h.reset.at) else None
 

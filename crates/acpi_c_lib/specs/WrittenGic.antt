@@ -43,7 +43,7 @@ cpu_interface_of x = record {
 abbrev pub is_short : Range → Bool
 is_short r = nat_lt r.length (2 ^ 32)
 
--- one that is longer is refused before
+-- a longer one is an error before
 abbrev pub redistributors_of : Range → GicRedistributors
 redistributors_of r = record { address = r.address; length = if is_short r then r.length else 0 }
 

@@ -5,7 +5,7 @@ use Rattle.acpi_c_lib.specs.Records as records
 use Rattle.acpi_c_lib.specs.Writing.{TableIds, WriterError, is_wiring, polarity_of, trigger_of}
 use Rattle.acpi_writer.specs.declared.gtdt.PlatformTimerContents.TheVariants as kinds
 
--- an address, of which all ones stand for none
+-- an address, of which all ones mean none
 abbrev pub base : ℕ → Option ℕ
 base address = if address == 2 ^ 64 - 1 then None else Some address
 
@@ -89,7 +89,7 @@ has_codes c =
 
 -- ---- the table
 
--- what the GTDT is to say
+-- what the GTDT is to contain
 abbrev pub contents : GtdtContents → GtdtOf PlatformTimer
 contents c = record {
   counter_control_base = base c.timers.control_base;
@@ -102,6 +102,6 @@ contents c = record {
   platform_timers = c.platform_timers;
 }
 
--- the GTDT of records whose codes there are, in so much room, or the first error
+-- the GTDT of records whose codes there are, in a capacity, or the first error
 abbrev pub gtdt_laid : ℕ → TableIds → GtdtContents → Result (List ℕ) WriterError
 gtdt_laid room i c = gtdt_written_by platform_bytes platform_checked room i (contents c)

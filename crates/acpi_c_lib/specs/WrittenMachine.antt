@@ -24,7 +24,7 @@ of_codes has_codes table = do
   _ ← holds has_codes UnknownCode
   writer_refused table
 
--- the table that is to say this, in so much room, or the first error
+-- the table that is to contain this, in a capacity, or the first error
 abbrev pub table_said : ℕ → TableIds → Contents → Result (List ℕ) Refusal
 table_said room ids (Fadt h) = of_codes (fadt.has_codes h) (fadt_written room ids (fadt.contents h))
 table_said room ids (Madt c) = of_codes (writing.has_codes c) (madt_written room ids (writing.madt_of c))
@@ -38,7 +38,7 @@ table_said room ids (Gic c) = do
   _ ← gic.checked c
   writer_refused (gic_written room ids (gic.gic_of c))
 
--- bytes that are one table: a header of 36, whose Length, at 4, says how many they are, and a sum of 0 (section 5.2.6)
+-- bytes that are one table: a header of 36, whose Length, at 4, is the number of bytes, and a sum of 0 (section 5.2.6)
 abbrev pub is_table : ListedTable → Bool
 is_table t =
     nat_le 36 (length t.bytes.now)
@@ -71,7 +71,7 @@ of_tables m said = do
   _ ← holds (list_all is_table m.tables.now) BadTable
   writer_refused said
 
--- all tables with the RSDP, for an address, in so much room, or the first error
+-- all tables with the RSDP, for an address, in a capacity, or the first error
 abbrev pub machine_said : ℕ → ℕ → record_of.Machine → Result (List ℕ) Refusal
 machine_said room a m = of_tables m (machine_written listed_written room a (machine_of m))
 
@@ -83,6 +83,6 @@ tree_said room a m = of_tables m (tree_written listed_written room a (machine_of
 abbrev pub size_said : record_of.Machine → Result ℕ Refusal
 size_said m = of_tables m (machine_size listed_written (machine_of m))
 
--- where the DSDT of so many tables lies
+-- the address of the DSDT of a machine with n tables
 abbrev pub dsdt_said : ℕ → ℕ → Result ℕ Refusal
 dsdt_said a n = ok_or (dsdt_at a n) (Writer NoAddress)

@@ -57,10 +57,10 @@ contents name c = record {
   namespace_string = name;
 }
 
--- NamespaceString of a console with no object in the namespace, wherever it lies
+-- NamespaceString of a console with no object in the namespace, at whatever address it is
 abbrev pub no_name : Bor (List ℕ)
 no_name = record { ref_ptr = (0, 0); now = codes "." }
 
--- the SPCR of a record whose codes there are, in so much room, or the first error
+-- the SPCR of a record whose codes there are, in a capacity, or the first error
 abbrev pub spcr_laid : ℕ → TableIds → spcr_record.SpcrContents → Result (List ℕ) WriterError
 spcr_laid room ids c = spcr_written room ids (contents no_name c)

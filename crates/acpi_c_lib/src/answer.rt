@@ -1,11 +1,11 @@
-//! How an answer is written for C.
+//! How a result is written for C.
 ghost use Rattle.std.specs.Prelude.{◌≡◌};
 ghost use Rattle.acpi_c_lib.specs.Words.{Answers, AnswersPlain, name_or};
 
 use crate::records::Signature;
 use crate::refusal::Refusal;
 
-/// The number that C gets: 0, with the value written, or that of the refusal, with nothing written but the
+/// The number that C gets: 0, with the value written, or the number of the error, with nothing written but the
 /// signature that it carries.
 pub fn answer<T: Copy>(said: Result<T, Refusal>, out: &mut T, named: &mut Signature) -> u32
     ensures { Answers result out.old out.new named.old named.new said }
@@ -35,7 +35,7 @@ pub fn answer_plain<T: Copy>(said: Result<T, Refusal>, out: &mut T) -> u32
     }
 }
 
-/// Writes the signature that a refusal carries, if it carries one.
+/// Writes the signature that an error carries, if it carries one.
 fn name(refusal: Refusal, named: &mut Signature)
     ensures { named.new ≡ name_or named.old refusal }
 {

@@ -1,4 +1,4 @@
-//! The lists of what the entries of the first valid MADT say of APICs, each entry by itself.
+//! The lists of what the entries of the first valid MADT contain of APICs, each entry by itself.
 ghost use Rattle.std.specs.Prelude.{◌≡◌, Option, length, filter_map};
 ghost use Rattle.acpi_base.specs.FromStd.{list_any};
 ghost use Rattle.acpi_base.specs.Words.{entries_of, bytes_of, entries_left, Gives};
@@ -16,7 +16,7 @@ use acpi::platform::interrupt::NmiProcessor;
 use acpi_base::bytes::{bits, field};
 use acpi_base::madt::{MadtEntry, MadtEntryIter};
 
-/// Where the mailbox lies by which processors are woken, by the first valid MADT (section 5.2.12.19).
+/// The address of the mailbox by which processors are woken, by the first valid MADT (section 5.2.12.19).
 pub fn mailbox(source: &Source<'_>) -> Result<u64, Refusal>
     ensures { result ≡ mailbox_below source.now }
 {
@@ -73,7 +73,7 @@ fn is_of_apics(entry: &MadtEntry) -> bool
     }
 }
 
-/// A record of C's of what an entry of a MADT says.
+/// A record for C of an entry of a MADT.
 pub trait MadtRecord: Copy {
     // The record of an entry, if it is of this sort.
     ghost record_in: { MadtEntry → Option Self };
@@ -97,7 +97,7 @@ impl<R: MadtRecord> Listing<(), R> for MadtEntryIter<'_> {
     }
 }
 
-/// Lists what the entries of one sort say.
+/// Lists the records of the entries of one sort.
 pub fn entries<R: MadtRecord>(source: &Source<'_>, out: &mut [R]) -> Result<usize, Refusal>
     ensures { Fills result out.old out.new (below_apics source.now (filter_map R.record_in)) }
 {
@@ -106,7 +106,7 @@ pub fn entries<R: MadtRecord>(source: &Source<'_>, out: &mut [R]) -> Result<usiz
     Ok(fill_entries(madt.bytes(), out))
 }
 
-/// Writes what the entries of a MADT say, those of one sort.
+/// Writes the records of a MADT's entries that are of one sort, and counts them.
 #[tactic(auto, using(acpi::proofs::First::filter_map_few))]
 fn fill_entries<R: MadtRecord>(table: &[u8], out: &mut [R]) -> usize
     ensures { Writes result out.old out.new (filter_map R.record_in (entries_of table.now)) }
@@ -134,7 +134,7 @@ fn fill_processors(table: &[u8], out: &mut [Processor]) -> usize
     count
 }
 
-/// Makes the first of so many processors that were written the boot processor.
+/// Makes the first of the `count` processors that were written the boot processor.
 pub(crate) fn boot_first(out: &mut [Processor], count: usize)
     ensures { (before : _) (processors : _) → out.old ≡ put_from before 0 processors → count ≡ length processors
         → out.new ≡ put_from before 0 (boot_first processors) }
@@ -268,7 +268,7 @@ impl MadtRecord for NmiLine {
     }
 }
 
-/// A LINT pin of a processor, or of all of them, if the UID is the one that stands for all.
+/// A LINT pin of a processor, or of all of them, if the UID is the one that means all.
 fn nmi_line(all: u32, uid: u32, lint: u8, flags: u16) -> NmiLine
     ensures { result ≡ nmi_line all uid lint flags }
 {

@@ -1,4 +1,4 @@
-//! What isn't lent of the RSDPs that a search comes to (section 5.2.5.1): each is tried as the search tries it.
+//! What isn't mapped of the RSDPs that a search comes to (section 5.2.5.1): each is tried as the search tries it.
 ghost use Rattle.std.specs.Prelude.{◌≡◌, ◌+◌, ◌*◌, ◌/◌, ◌<◌, ◌≤◌, ◌^◌, length, Err, IfErr};
 ghost use Rattle.acpi_c_lib.specs.Words.{is_ok, MapFailed, length_ranges, rsdp_at, word_in, Writes, put_from, areas_of, candidate_hole, candidate_holes, Fits, has_valid, last_range, no_areas, pieces, stretch, walk_holes};
 
@@ -15,14 +15,14 @@ struct Candidates {
     count: u64,
 }
 
-/// Those of a search's two areas: it comes to the second's if none of the first's is valid.
+/// The candidates of a search's two areas: it comes to the second's if none of the first's is valid.
 #[derive(Clone, Copy)]
 struct Areas {
     first: Candidates,
     second: Candidates,
 }
 
-/// Writes what isn't lent of the candidates of a source's search, and says how many ranges that are.
+/// Writes what isn't mapped of the candidates of a source's search, and returns the number of these ranges.
 pub(crate) fn candidate_holes<H: AcpiHandler>(
     handler: &H,
     source: &Source<'_>,
@@ -69,7 +69,7 @@ fn no_areas() -> Areas
     }
 }
 
-/// Those of the search that asks for the word at 0x40e, and then for each area in one piece with 16 bytes after it.
+/// The candidates of the search that maps the word at 0x40e, and then each area in one piece with 16 bytes after it.
 #[tactic(auto, using(crate::proofs::Unlent::second_fits))]
 fn pieces<H: AcpiHandler>(handler: &H) -> Areas
     ensures exact { result ≡ pieces (H.memory handler.now) (word_in (H.memory handler.now)) }
@@ -100,7 +100,7 @@ fn pieces<H: AcpiHandler>(handler: &H) -> Areas
     }
 }
 
-/// Those of an area as far as it is lent.
+/// The candidates of an area as far as it is mapped.
 #[tactic(auto, using(crate::proofs::Unlent::first_is, crate::proofs::Unlent::count_is))]
 fn stretch(area: AddressRange) -> Candidates
     requires begins { area.address / 16 * 16 ≡ area.address }
@@ -114,7 +114,7 @@ fn stretch(area: AddressRange) -> Candidates
     }
 }
 
-/// Writes what isn't lent of candidates from an index on, up to the first valid one: where the next would stand, and
+/// Writes what isn't mapped of candidates from an index on, up to the first valid one. Returns the next index, and
 /// whether one is valid.
 fn walk<H: AcpiHandler>(
     handler: &H,
@@ -144,8 +144,8 @@ fn walk<H: AcpiHandler>(
     (next, false)
 }
 
-/// Tries a candidate: whether it is valid, or else as many bytes of it as its Length says, if its 36 bytes are lent and
-/// these aren't.
+/// Tries a candidate: whether it is valid, or else the range that its Length covers, if its first 36 bytes are mapped
+/// and that range isn't.
 #[tactic(auto, unfolding(crate::specs::Missing::candidate_hole))]
 fn tried<H: AcpiHandler>(handler: &H, address: u64) -> Result<(), Option<Range>>
     ensures valid { is_ok result ≡ is_ok (rsdp_at (H.memory handler.now) address) }
@@ -158,7 +158,7 @@ fn tried<H: AcpiHandler>(handler: &H, address: u64) -> Result<(), Option<Range>>
     }
 }
 
-/// Of an RSDP that isn't lent, as many bytes as its Length says, if its 36 bytes are lent.
+/// Of an RSDP that isn't mapped, the range that its Length covers, if its first 36 bytes are mapped.
 #[tactic(auto, using(crate::proofs::Unlent::length_said), unfolding(crate::specs::Missing::candidate_hole))]
 fn length_hole<H: AcpiHandler>(handler: &H, address: u64) -> Option<Range>
     requires { rsdp_at (H.memory handler.now) address ≡ Err MapFailed }
@@ -170,7 +170,7 @@ fn length_hole<H: AcpiHandler>(handler: &H, address: u64) -> Option<Range>
     whole(address, rsdp.length())
 }
 
-/// As many bytes from an address as a length says, if there is one.
+/// The range of `length` bytes from an address, if there is a length.
 fn whole(address: u64, length: Option<u32>) -> Option<Range>
     ensures { result ≡ last_range (length_ranges address length) }
 {

@@ -1,5 +1,4 @@
-//! Ranges of memory in order: as a firmware's memory map gives them, some of them left out, and
-//! clipped to a window.
+//! Ranges of memory in order: as a firmware's memory map lists them, some of them left out, and clipped to a window.
 ghost use Rattle.std.specs.Prelude.{◌≡◌, ◌+◌, ◌^◌, ◌<◌, true, ◌-◌, ◌≤◌, ℕ, length, take};
 ghost use Rattle.acpi_c_lib.specs.Words.{all_fit, AnswersClip, any_holds, ascends_from, change_in, change_of, FillsClipped, fits, holds, IsNext, wanted};
 
@@ -7,8 +6,8 @@ use crate::lists::put;
 use crate::records::Range;
 use crate::refusal::Refusal;
 
-/// Ranges, of which the first ones, as many as `ascending`, each begin where the one before ends, or after it: among
-/// those a place is searched by halves.
+/// Ranges, of which the first `ascending` ones each begin where the one before ends, or after it: among these a place is
+/// searched by halves.
 #[derive(Clone, Copy)]
 struct Ranges<'k> {
     all: &'k [Range],
@@ -17,7 +16,7 @@ struct Ranges<'k> {
     ghost ordered: { ascends_from 0 (take ascending all.now) ≡ true },
 }
 
-/// The ranges that are asked for, those to leave out, and the window.
+/// The ranges that are wanted, those to leave out, and the window.
 #[derive(Clone, Copy)]
 struct Wanted<'k> {
     ranges: Ranges<'k>,
@@ -147,7 +146,7 @@ impl<'k> Ranges<'k> {
 }
 
 impl Wanted<'_> {
-    /// Whether a byte is one that is asked for.
+    /// Whether a byte is one that is wanted.
     #[tactic(auto, using(crate::proofs::Clipping::is_inside))]
     fn has(self, address: u64) -> bool
         ensures value { result ≡ wanted self.entry.ranges.all.now self.entry.without.all.now self.entry.window address }
@@ -170,7 +169,7 @@ impl Wanted<'_> {
         self.ranges.change(address, limit)
     }
 
-    /// The next address from one on at which a byte is asked for, or isn't, or an address after the window.
+    /// The next address from one on at which a byte is wanted, or isn't, or an address after the window.
     #[tactic(auto, using(crate::proofs::Clipping::none_past))]
     fn next(self, from: u64, is_asked: bool) -> u64
         requires { self.window.address + self.window.length < 2 ^ 64 }
@@ -185,7 +184,7 @@ impl Wanted<'_> {
     }
 }
 
-/// The memory that is asked for, in order.
+/// The memory that is wanted, in order.
 fn fill(wanted: Wanted<'_>, out: &mut [Range]) -> usize
     requires { wanted.window.address + wanted.window.length < 2 ^ 64 }
     ensures { FillsClipped out.old out.new result

@@ -8,8 +8,8 @@ use crate::regions::{Mapped, Region};
 use acpi::rsdp::{Rsdp, map_rsdp};
 use acpi_base::bytes::u8_in;
 
-/// A source with a start at the root table that a copy of the RSDP leads to (section 5.2.5.3). A copy of revision 0 has
-/// at least 20 bytes, and another at least as many as its Length.
+/// A source with a start at the root table that a copy of the RSDP points to (section 5.2.5.3). A copy of revision 0
+/// has at least 20 bytes, and another all bytes of its Length.
 ///
 /// Fails as a start at an RSDP does, with `MapFailed` if the copy has too few bytes.
 #[tactic(auto, using(crate::proofs::CopiedRsdp::memory_is))]
@@ -26,7 +26,7 @@ pub fn start_of_rsdp<'k>(copy: &[u8], source: Source<'k>) -> Result<Source<'k>, 
     Ok(started_by(source, &rsdp))
 }
 
-/// The source with a start at the root table that an RSDP leads to.
+/// The source with a start at the root table that an RSDP points to.
 fn started_by<'k>(source: Source<'k>, rsdp: &Rsdp) -> Source<'k>
     ensures { result ≡ started_by source.entry rsdp.now }
 {

@@ -28,7 +28,7 @@ pub fn hpet(source: &Source<'_>) -> Result<HpetInfo, Refusal>
 
 /// The block of event timers that the bytes of an HPET describe.
 ///
-/// Fails with `InvalidGenericAddress` if its registers don't lie in memory.
+/// Fails with `InvalidGenericAddress` if its registers aren't in memory.
 #[tactic(auto, unfolding(acpi::specs::Hpet::hpet_at))]
 fn hpet_shown(table: &[u8]) -> AcpiResult<HpetInfo>
     requires { 56 ≤ length table.now }
@@ -49,7 +49,7 @@ fn hpet_shown(table: &[u8]) -> AcpiResult<HpetInfo>
     })
 }
 
-/// Lists the blocks of event timers of all valid HPETs whose registers lie in memory.
+/// Lists the blocks of event timers of all valid HPETs whose registers are in memory.
 #[tactic(auto, using(acpi::proofs::First::filter_map_few))]
 pub fn hpets(source: &Source<'_>, out: &mut [HpetInfo]) -> Result<usize, Refusal>
     ensures { Fills result out.old out.new (hpets_below source.now) }
@@ -111,7 +111,7 @@ pub(crate) fn generic_record(address: &GenericAddress) -> records::GenericAddres
     }
 }
 
-/// A register, or that there is none, or that its address is refused.
+/// A register, or that there is none, or that its address is an error.
 pub(crate) fn optional_register(said: AcpiResult<Option<GenericAddress>>) -> Register
     ensures { result ≡ optional_register said }
 {
@@ -123,14 +123,14 @@ pub(crate) fn optional_register(said: AcpiResult<Option<GenericAddress>>) -> Reg
     Register { at, present }
 }
 
-/// A register, or that its address is refused.
+/// A register, or that its address is an error.
 pub(crate) fn required_register(said: AcpiResult<GenericAddress>) -> Register
     ensures { result ≡ required_register said }
 {
     optional_register(said.map(Some))
 }
 
-/// A register, or that there is none, or that its address is refused: for a call that reads the address only if
+/// A register, or that there is none, or that its address is an error: for a call that reads the address only if
 /// there is one.
 pub(crate) fn register_if(said: Option<AcpiResult<GenericAddress>>) -> Register
     ensures { result ≡ register_if said }

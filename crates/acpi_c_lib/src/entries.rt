@@ -13,8 +13,8 @@ use acpi_base::bytes::skip;
 use acpi_base::entries::{EntryLayout, Grammar, Place, Width, number_at, split_front};
 use acpi_base::table::own_valid_by;
 
-/// Lists the entries of the table at an address, by a walk, and says whether bytes are left after them. Of a source
-/// only the regions and what it accepts count.
+/// Lists the entries of the table at an address, by a walk, and whether bytes are left after them. Of a source only
+/// the regions and what it accepts count.
 pub fn table_entries(
     source: &Source<'_>,
     address: u64,
@@ -58,7 +58,7 @@ fn number_place(offset: u8, bytes: u8) -> Result<Place, Refusal>
     Ok(Place { at: offset, width })
 }
 
-/// Where Type and Length stand in each entry of a walk.
+/// Where Type and Length are in each entry of a walk.
 ///
 /// Fails with `UnknownWidth` if one of these hasn't 1, 2 or 4 bytes.
 fn walk_layout(walk: Walk) -> Result<EntryLayout<0>, Refusal>
@@ -72,7 +72,7 @@ fn walk_layout(walk: Walk) -> Result<EntryLayout<0>, Refusal>
     })
 }
 
-/// Writes the entries of bytes at an address, and answers how many there are, and the bytes after them.
+/// Writes the entries of bytes at an address, and returns the number of entries, and the bytes after them.
 #[tactic(auto, using(crate::proofs::FaultLists::front_whole))]
 fn fill<'a>(
     layout: EntryLayout<0>,

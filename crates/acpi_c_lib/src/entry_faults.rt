@@ -1,4 +1,4 @@
-//! The entries of a table at fault, each where it lies, and the malformed front that ends them.
+//! The entries of a table at fault, each at its address, and the malformed front that ends them.
 ghost use Rattle.std.specs.Prelude.{◌≡◌};
 ghost use Rattle.acpi_c_lib.specs.Words.{entry_fault};
 

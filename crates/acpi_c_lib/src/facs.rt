@@ -10,7 +10,7 @@ use acpi::sdt::{SdtHeader, Signature};
 use acpi::{AcpiError, AcpiHandler, AcpiResult, PhysicalMapping, PhysicalRecord, facs_length};
 use acpi_base::bytes::{field_in, u8_in, u32_in};
 
-/// The FACS that the first valid FADT leads to.
+/// The FACS that the first valid FADT points to.
 pub fn facs(source: &Source<'_>) -> Result<Facs, Refusal>
     ensures { result ≡ facs_below source.now }
 {
@@ -25,8 +25,8 @@ pub fn facs(source: &Source<'_>) -> Result<Facs, Refusal>
 
 /// The FACS at an address.
 ///
-/// Fails, in this order, with `MapFailed` if 36 bytes aren't lent, as `facs_length` does, and with `MapFailed` if as
-/// many bytes as its Length says aren't lent.
+/// Fails, in this order, with `MapFailed` if 36 bytes aren't mapped, as `facs_length` does, and with `MapFailed` if
+/// not all bytes of its Length are mapped.
 #[tactic(auto, unfolding(acpi::specs::Places::facs_at))]
 pub(crate) fn facs_at<H: AcpiHandler>(handler: &H, address: u64) -> AcpiResult<Facs>
     ensures { result ≡ facs_in (H.memory handler.now) address }

@@ -1,4 +1,4 @@
-//! The tables that lookups pass over, or take though they aren't valid.
+//! The tables that lookups skip, or take though they aren't valid.
 ghost use Rattle.std.specs.Prelude.{◌≡◌, ◌^◌, ◌<◌, ◌≤◌, [], length};
 ghost use Rattle.acpi_base.specs.FromStd.{cons_option};
 ghost use Rattle.acpi.specs.Words.{pointers_left};
@@ -24,7 +24,7 @@ use acpi_base::table::valid_by;
 use acpi_iommu::{Dmar, Ivrs};
 use acpi_numa::{Slit, Srat};
 
-/// Lists the tables that a lookup of a signature passes over, and the one that it takes if that isn't valid, and why.
+/// Lists the tables that a lookup of a signature skips, and the one that it takes if that isn't valid, and why.
 pub fn faults(
     source: &Source<'_>,
     name: records::Signature,

@@ -111,7 +111,7 @@ fn fixed_record(fadt: &Fadt, raw: RawFields) -> FixedHardware
     }
 }
 
-/// A block of registers of general purpose events, or that there is none, or that its address is refused.
+/// A block of registers of general purpose events, or that there is none, or that its address is an error.
 fn gpe_record(said: AcpiResult<Option<GpeBlock>>) -> records::GpeBlock
     ensures { result ≡ gpe_record said }
 {

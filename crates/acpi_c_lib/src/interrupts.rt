@@ -28,8 +28,8 @@ pub(crate) struct ApicMadt<'h, H: Lender> {
 /// valid one is listed or it describes none.
 ///
 /// Fails, in this order, with `TableMissing` if no FADT is listed that is accepted, with `InvalidMadt` for the first
-/// entry of the MADT at fault, and with the error of the FADT's timer: as `PlatformInfo::new` does, so what is
-/// answered is what that call answers, if nothing but valid tables is accepted.
+/// entry of the MADT at fault, and with the error of the FADT's timer: as `PlatformInfo::new` does, which returns the
+/// same if nothing but valid tables is accepted.
 pub(crate) fn apic_madt<'h, H: AcpiHandler>(
     tables: &AcpiTables<'h, H, Accept>,
 ) -> AcpiResult<Option<ApicMadt<'h, H>>>
@@ -60,7 +60,7 @@ pub(crate) fn known_madt<'h, 'k>(
     requires { Gives (λ m. mapped_memory m) memory.now (memory_in source.now.regions.now) }
     ensures platform { Gives (λ x. model_by (Some (bytes_of x.madt))) result (known_platform source.now) }
     ensures counts { IfOk result (λ x. x.counts ≡ counts_of (items_of (bytes_of x.madt))) }
-    // So the lists, which look at no fault, are those of this table.
+    // So the lists, which look at no fault, are of this table.
     ensures table { IfOk result (λ x. apic_table source.now ≡ Ok (bytes_of x.madt)) }
 {
     let memory = match memory {

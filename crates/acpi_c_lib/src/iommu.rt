@@ -1,4 +1,4 @@
-//! The units that remap what devices ask of memory (IOMMUs), by the DMAR (Intel Virtualization Technology for Directed
+//! The units that remap devices' accesses to memory (IOMMUs), by the DMAR (Intel Virtualization Technology for Directed
 //! I/O 4.0, chapter 8) and by the IVRS (AMD I/O Virtualization Technology (IOMMU) Specification 3.08, section 5.2).
 ghost use Rattle.std.specs.Prelude.{◌≡◌, Some, map};
 ghost use Rattle.acpi_iommu.specs.Words.{blocks_of, memory_in, memory_left, reserved_in, reserved_left, structures_of};
@@ -71,7 +71,7 @@ pub fn dmar_hpet(source: &Source<'_>, number: u8) -> Result<DmarSource, Refusal>
     Ok(source_record(&found))
 }
 
-/// What the first valid DMAR says of all units (section 8.1).
+/// What the first valid DMAR contains about all units (section 8.1).
 pub fn dmar_flags(source: &Source<'_>) -> Result<DmarFlags, Refusal>
     ensures { result ≡ dmar_flags_below source.now }
 {

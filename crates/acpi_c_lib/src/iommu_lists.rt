@@ -1,4 +1,4 @@
-//! The lists of the units that remap what devices ask of memory, each as it stands, and of what each names.
+//! The lists of the units that remap devices' accesses to memory, each as it is in its table, and of what each names.
 ghost use Rattle.std.specs.Prelude.{◌≡◌, Some, map, filter_map, option_map, refl};
 ghost use Rattle.acpi_iommu.specs.Words.{block_bytes, blocks_left, bytes_of_entry, bytes_of_scope, entries_left, entries_of, hops_left, path_of, scopes_left, scopes_of, structure_bytes, structures_left};
 ghost use Rattle.acpi_c_lib.specs.Words.{Fills, Writes, dmar_scopes_below, dmar_units_below, dmar_units_in, drhd_shown, entry_shown, hid_part, ivhd_in, ivhd_shown, ivrs_entries_below, ivrs_units_below, ivrs_units_in, lists_by, path_shown, scope_record, special_or, structure_in};
@@ -174,7 +174,7 @@ impl Listing<(), IvrsUnit> for IvrsBlockIter<'_> {
     }
 }
 
-/// Lists the device entries of a unit of the first valid IVRS, which has so many before it (section 5.2).
+/// Lists the device entries of a unit of the first valid IVRS, by the unit's index (section 5.2).
 pub fn ivrs_entries(
     source: &Source<'_>,
     index: usize,
@@ -188,7 +188,7 @@ pub fn ivrs_entries(
     Ok(fill_entries(&unit, out))
 }
 
-/// The unit of an IVRS with so many before it.
+/// The unit of an IVRS at an index, counted from 0.
 fn nth_ivhd(table: &[u8], index: usize) -> Option<IvrsBlock<'_>>
     ensures { option_map (λ b. block_bytes b) result ≡ ivhd_in table.now index }
 {

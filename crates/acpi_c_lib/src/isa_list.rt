@@ -26,7 +26,7 @@ pub fn isa_list(source: &Source<'_>, out: &mut IsaInterrupts) -> Result<(), Refu
     Ok(())
 }
 
-/// Writes those of a MADT that describes APICs.
+/// Writes the routes of a MADT that describes APICs.
 fn write_routes(table: &[u8], routes: &mut [IsaRoute; 16])
     ensures { routes.new ≡ map (isa_route (entries_of table.now)) isa_numbers }
 {

@@ -2,42 +2,42 @@
 ghost use Rattle.acpi_base.specs.Words.{AcceptsNothing, AcceptsValid, KeepsNames, KeepsSums};
 ghost use Rattle.acpi_c_lib.specs.Words.{AcceptsAsReaders, ItemsAreAnswers, CandidatesHaveHoles, LedHaveHoles, ListsAreModels, MembersHaveHoles, OpeningHasHole};
 
-/// Each member of the root table that is refused with `MapFailed` has a range among those that
-/// `zacpi_list_missing_ranges` lists, and that range lies in no one region.
+/// Each member of the root table that fails with `MapFailed` has a range among the ranges that
+/// `zacpi_list_missing_ranges` lists, and that range is in no one region.
 #[tactic(auto, using(crate::proofs::Unlent::own_unlent))]
 pub fn members_refused_have_ranges()
     ensures { MembersHaveHoles }
 {}
 
-/// If the error of the DSDT or the FACS that a FADT leads to is `MapFailed`, there is the range that
-/// `zacpi_list_missing_ranges` lists of it, and that range lies in no one region.
+/// If the error of the DSDT or the FACS that a FADT points to is `MapFailed`, there is the range that
+/// `zacpi_list_missing_ranges` lists of it, and that range is in no one region.
 #[tactic(auto, using(crate::proofs::Unlent::accepted_unlent), unfolding(acpi::specs::Places::facs_at, acpi::specs::Places::facs_length))]
 pub fn led_tables_have_ranges()
     ensures { LedHaveHoles }
 {}
 
-/// If the error of a candidate of a search whose 36 bytes are lent is `MapFailed`, there is the range that
-/// `zacpi_list_missing_ranges` lists of it, and that range lies in no one region.
+/// If the error of a candidate of a search whose first 36 bytes are mapped is `MapFailed`, there is the range that
+/// `zacpi_list_missing_ranges` lists of it, and that range is in no one region.
 #[tactic(auto, using(crate::proofs::Unlent::rsdp_not, crate::proofs::Unlent::sum_not), unfolding(acpi::specs::Rsdp::rsdp_at, crate::specs::Missing::candidate_hole))]
 pub fn candidates_have_ranges()
     ensures { CandidatesHaveHoles }
 {}
 
-/// If opening the tables is refused with `MapFailed`, `zacpi_list_missing_ranges` lists a range, and that range
-/// lies in no one region.
+/// If opening the tables fails with `MapFailed`, `zacpi_list_missing_ranges` lists a range, and that range is in no
+/// one region.
 #[tactic(auto, using(crate::proofs::Unlent::opening_unlent))]
 pub fn a_refused_opening_has_a_range()
     ensures { OpeningHasHole }
 {}
 
-/// Each item of `zacpi_get_isa_interrupts` is what `zacpi_get_isa_interrupt` answers for its number, and
+/// Each item of `zacpi_get_isa_interrupts` is what `zacpi_get_isa_interrupt` returns for its number, and
 /// `zacpi_get_io_apic_pin` for the global system interrupt of that.
 #[tactic(auto, using(crate::proofs::IsaList::items_are_answers))]
 pub fn items_are_answers()
     ensures { ItemsAreAnswers }
 {}
 
-/// Of a MADT none of whose entries is at fault, the lists of its entries are those of `PlatformInfo`.
+/// Of a MADT none of whose entries is at fault, the lists of its entries are as in `PlatformInfo`.
 pub fn lists_are_models()
     ensures { ListsAreModels }
 {}
@@ -56,7 +56,7 @@ pub fn valid_tables_are_accepted()
     ensures { AcceptsValid }
 {}
 
-/// `ZACPI_ACCEPT_IDS` gives up no check of a sum, and `ZACPI_ACCEPT_SUMS` none of a name.
+/// `ZACPI_ACCEPT_IDS` drops no check of a sum, and `ZACPI_ACCEPT_SUMS` none of a name.
 #[tactic(auto, using(acpi_base::proofs::Accepted::keeps_names, acpi_base::proofs::Accepted::keeps_sums))]
 pub fn each_bit_keeps_the_other_check()
     ensures sums { KeepsSums }

@@ -1,9 +1,9 @@
-//! The calls of the library for C. The crate `acpi_c` exports each of them, and `include/zacpi.h` says in which order
-//! it refuses. Sections are those of ACPI 6.4 unless another document is named.
+//! The calls of the library for C. The crate `acpi_c` exports each of them, and `include/zacpi.h` has the order of
+//! their errors. Sections are of ACPI 6.4 unless another document is named.
 //!
 //! Each call can be called with any numbers. One that is passed a source checks the regions, opens the tables anew, and
-//! answers what it found, or a refusal. No call takes memory or keeps a state. A list writes as many items as there is
-//! room for, and answers how many there are.
+//! returns what it found, or an error. No call allocates memory or keeps a state. A list writes the items that fit into
+//! its capacity, and returns the number of all items.
 #![tactic(auto)]
 
 pub mod affinities;

@@ -1,10 +1,10 @@
-//! How a list is written for C: as many records as there is room for are written, and all of them are counted.
+//! How a list is written for C: the records that its capacity holds are written, and all are counted.
 ghost use Rattle.std.specs.Prelude.{◌≡◌, ◌+◌, ◌^◌, ◌<◌, length, slice_set, List, Option};
 ghost use Rattle.acpi_base.specs.FromStd.{IsFinite};
 ghost use Rattle.acpi_c_lib.specs.Answers.{Writes, put_from};
 ghost use Rattle.acpi_c_lib.specs.Listed.{ListsFirst};
 
-/// Writes an item at an index, if there is room.
+/// Writes an item at an index, if the capacity is above it.
 pub(crate) fn put<T: Copy>(out: &mut [T], index: usize, item: T)
     ensures { out.new ≡ slice_set out.old index item }
 {
@@ -25,12 +25,12 @@ pub(crate) trait Listing<C, R>: Iterator {
     fn record(known: &C, item: Self::Item) -> Option<R>
         ensures { result ≡ record_of known.now item };
 
-    // Each call gives the item of the first of them, or one that has none.
+    // Each call returns the item of the first of them, or one that has none.
     ghost gives_first: { (known : C) (s : Self) (item : Option Self.Item) (t : Self) → Self.next_gives s item t
         → ListsFirst (record_of known) (left known) s item t };
 }
 
-/// Writes the records of what a walk gives from an index on, and says where the next would stand.
+/// Writes the records of a walk's items from an index on, and returns the next index.
 pub(crate) fn fill_from<R: Copy, C, W: Listing<C, R>>(
     walk: W,
     known: &C,
@@ -52,7 +52,7 @@ pub(crate) fn fill_from<R: Copy, C, W: Listing<C, R>>(
     count
 }
 
-/// Writes the records of what a walk gives, and counts them.
+/// Writes the records of a walk's items, and counts them.
 pub(crate) fn fill<R: Copy, C, W: Listing<C, R>>(walk: W, known: &C, out: &mut [R]) -> usize
     requires goes_on { W.can_next walk × IsFinite (W.remaining walk) }
     requires few { length (W.left known.now walk) < 2 ^ 63 }

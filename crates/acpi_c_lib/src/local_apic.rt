@@ -1,4 +1,4 @@
-//! Where the local APICs lie, by the MADT alone (section 5.2.12).
+//! The address of the local APICs, by the MADT alone (section 5.2.12).
 ghost use Rattle.std.specs.Prelude.{◌≡◌};
 ghost use Rattle.acpi_base.specs.Words.{bytes_of};
 ghost use Rattle.acpi_c_lib.specs.Words.{apics_by, local_apic_below};

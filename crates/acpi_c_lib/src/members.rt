@@ -1,4 +1,4 @@
-//! What each pointer of the root table leads to.
+//! What each pointer of the root table points to.
 ghost use Rattle.std.specs.Prelude.{◌≡◌, Some, map};
 ghost use Rattle.acpi.specs.Words.{pointers_left};
 ghost use Rattle.acpi_base.specs.Words.{own_accepted};
@@ -14,7 +14,7 @@ use acpi::sdt::SdtHeader;
 use acpi::{AcpiHandler, PhysicalMapping, PhysicalRecord, Pointers};
 use acpi_base::table::own_valid_by;
 
-/// Lists what each pointer of the root table leads to.
+/// Lists what each pointer of the root table points to.
 pub fn members(source: &Source<'_>, out: &mut [Member]) -> Result<usize, Refusal>
     ensures { Fills result out.old out.new (members_below source.now) }
 {
@@ -38,7 +38,7 @@ impl<'h, H: AcpiHandler> Listing<(&'h H, u32), Member> for Pointers<'_> {
     }
 }
 
-/// What an address of the root table leads to.
+/// What an address of the root table points to.
 fn member_at<H: AcpiHandler>(handler: &H, accept: u32, address: u64) -> Member
     ensures { result ≡ member_at accept (H.memory handler.now) address }
 {

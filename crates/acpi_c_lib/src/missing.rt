@@ -29,7 +29,7 @@ pub fn missing(source: &Source<'_>, out: &mut [Range]) -> Result<usize, Refusal>
     others(&memory, source, out, from)
 }
 
-/// Those that aren't of a search's candidates, from an index on, and where the next would stand.
+/// Writes the ranges that aren't of a search's candidates, from an index on, and returns the next index.
 #[tactic(auto, using(acpi::proofs::First::filter_map_few))]
 fn others<H: AcpiHandler>(
     handler: &H,
@@ -69,8 +69,7 @@ fn others<H: AcpiHandler>(
     }
 }
 
-/// Writes the ranges of what a walk gives, and then a pair of ranges, from an index on, and says where the next would
-/// stand.
+/// Writes the ranges of a walk's items, and then a pair of ranges, from an index on, and returns the next index.
 #[tactic(auto, using(crate::proofs::Written::put_parts))]
 pub(crate) fn fill_with<C, W: Listing<C, Range>>(
     walk: W,
@@ -90,7 +89,7 @@ pub(crate) fn fill_with<C, W: Listing<C, Range>>(
     put_pair(others, out, count)
 }
 
-/// Where tables aren't lent that are looked up.
+/// The memory in which tables are looked up, and what is accepted of them, to list what isn't mapped.
 #[derive(Drop)]
 struct Unlent<'h, H: AcpiHandler> {
     handler: &'h H,
@@ -107,7 +106,7 @@ impl<H: AcpiHandler> Listing<Unlent<'_, H>, Range> for Pointers<'_> {
     ghost gives_first = { λ u. lists_some (member_hole u.accept (H.memory u.handler.now))
         (λ s. pointers_left s) };
 
-    /// Where a member of the root table is refused, if that is because it isn't lent.
+    /// The unmapped range because of which a member of the root table fails.
     fn record(unlent: &Unlent<'_, H>, address: u64) -> Option<Range>
         ensures { let u = unlent.now in result ≡ member_hole u.accept (H.memory u.handler.now) address }
     {
@@ -122,7 +121,7 @@ impl<H: AcpiHandler> Listing<Unlent<'_, H>, Range> for Pointers<'_> {
     }
 }
 
-/// Writes those of a pair that are there from an index on, and says where the next would stand.
+/// Writes the ranges of a pair that are there, from an index on, and returns the next index.
 pub(crate) fn put_pair(
     pair: (Option<Range>, Option<Range>),
     out: &mut [Range],
@@ -144,7 +143,7 @@ pub(crate) fn put_pair(
     count
 }
 
-/// So many bytes from an address.
+/// The range of `length` bytes from an address.
 pub(crate) fn range(address: u64, length: u32) -> Range
     ensures { result ≡ range_of (address, length) }
 {
@@ -154,7 +153,7 @@ pub(crate) fn range(address: u64, length: u32) -> Range
     }
 }
 
-/// Whether so many bytes are lent, of which there are at least two.
+/// Whether `length` bytes from an address are mapped, of which there are at least two.
 pub(crate) fn is_lent<H: AcpiHandler>(handler: &H, address: u64, length: u32) -> bool
     requires { 2 ≤ length }
     ensures { result ≡ is_ok (lent (H.memory handler.now) address length) }
@@ -162,7 +161,7 @@ pub(crate) fn is_lent<H: AcpiHandler>(handler: &H, address: u64, length: u32) ->
     PhysicalMapping::<'_, H, u16>::map(handler, address, length as usize).is_ok()
 }
 
-/// Where a table isn't lent, whatever its signature: its header, or as many bytes as that says (section 5.2.6).
+/// The unmapped range of a table of any signature: its header, or the bytes of the header's Length (section 5.2.6).
 fn table_hole<H: AcpiHandler>(handler: &H, address: u64) -> Range
     ensures { result ≡ unlent address (lent (H.memory handler.now) address 36) }
 {
@@ -172,7 +171,7 @@ fn table_hole<H: AcpiHandler>(handler: &H, address: u64) -> Range
     }
 }
 
-/// Where the table at an address is refused under a signature because it isn't lent.
+/// The unmapped range because of which the table at an address fails under a signature.
 fn hole_at<H: AcpiHandler>(
     handler: &H,
     accept: u32,
@@ -192,15 +191,15 @@ fn hole_at<H: AcpiHandler>(
     }
 }
 
-/// Where the DSDT that a FADT leads to is refused so (section 5.2.11.1).
+/// The unmapped range because of which the DSDT that a FADT points to fails (section 5.2.11.1).
 fn dsdt_hole<H: AcpiHandler>(handler: &H, accept: u32, fadt: &FadtView<'_, H>) -> Option<Range>
     ensures { result ≡ dsdt_hole accept (H.memory handler.now) (dsdt_address_of (viewed fadt.now)) }
 {
     hole_at(handler, accept, fadt.dsdt_address().ok()?, Signature::DSDT)
 }
 
-/// Where the FACS that a FADT leads to is refused so: its first 36 bytes, or as many as its Length says (section
-/// 5.2.10).
+/// The unmapped range because of which the FACS that a FADT points to fails: its first 36 bytes, or the bytes of its
+/// Length (section 5.2.10).
 #[tactic(auto, using(crate::proofs::Unlent::no_hole), unfolding(acpi::specs::Places::facs_at, acpi::specs::Places::facs_length))]
 fn facs_hole<H: AcpiHandler>(handler: &H, fadt: &FadtView<'_, H>) -> Option<Range>
     ensures { let m = H.memory handler.now in result ≡ hole (facs_place m (viewed fadt.now)) (facs_place_ranges m (viewed fadt.now)) }
@@ -216,7 +215,7 @@ fn facs_hole<H: AcpiHandler>(handler: &H, fadt: &FadtView<'_, H>) -> Option<Rang
     Some(range(address, length))
 }
 
-/// Where opening is refused because something isn't lent: the root table, or what is to lead to it.
+/// The unmapped range because of which opening fails: the root table, or what is to point to it.
 fn opening_hole<H: AcpiHandler>(handler: &H, source: &Source<'_>) -> Option<Range>
     ensures { result ≡ opening_hole (H.memory handler.now) source.now }
 {
@@ -227,7 +226,8 @@ fn opening_hole<H: AcpiHandler>(handler: &H, source: &Source<'_>) -> Option<Rang
     }
 }
 
-/// Where the RSDP is refused so, or the search for it that has to be lent whole (sections 5.2.5.1 and 5.2.5.3).
+/// The unmapped range because of which the RSDP fails, or the search for it that needs its areas mapped whole
+/// (sections 5.2.5.1 and 5.2.5.3).
 fn rsdp_hole<H: AcpiHandler>(handler: &H, source: &Source<'_>) -> Option<Range>
     requires { rsdp_in (H.memory handler.now) source.now ≡ Err (Acpi MapFailed) }
     ensures { result ≡ rsdp_hole (H.memory handler.now) source.now MapFailed }
@@ -239,7 +239,8 @@ fn rsdp_hole<H: AcpiHandler>(handler: &H, source: &Source<'_>) -> Option<Range>
     }
 }
 
-/// Where the RSDP at an address is refused so: its 36 bytes, or as many as its Length says (section 5.2.5.3).
+/// The unmapped range because of which the RSDP at an address fails: its first 36 bytes, or the bytes of its Length
+/// (section 5.2.5.3).
 #[tactic(auto, using(crate::proofs::Unlent::rsdp_not, crate::proofs::Unlent::rsdp_length, crate::proofs::Unlent::sum_not), unfolding(acpi::specs::Rsdp::rsdp_at))]
 fn own_hole<H: AcpiHandler>(handler: &H, address: u64) -> Range
     requires { rsdp_at (H.memory handler.now) address ≡ Err MapFailed }
@@ -252,8 +253,9 @@ fn own_hole<H: AcpiHandler>(handler: &H, address: u64) -> Range
     range(address, length.unwrap_or(36))
 }
 
-/// Where the search is refused: the word at 0x40e, which is the segment of the extended BIOS data area (EBDA), or the
-/// first area, 0xe0000..0x100000, or the second one, each with 16 bytes after it (section 5.2.5.1).
+/// The unmapped range because of which the search fails: the word at 0x40e, which is the segment of the extended BIOS
+/// data area (EBDA), or the first area, 0xe0000..0x100000, or the second one, each with 16 bytes after it (section
+/// 5.2.5.1).
 #[tactic(auto, using(crate::proofs::Unlent::search_refused))]
 fn search_hole<H: AcpiHandler>(handler: &H) -> Range
     requires { found_rsdp (H.memory handler.now) ≡ Err MapFailed }

@@ -16,7 +16,7 @@ use acpi::{
 };
 use acpi_base::table::ValidTable;
 
-/// The tables that a source leads to, by what it accepts.
+/// The tables of a source, by what it accepts.
 ///
 /// Fails as `check_policy` and `root_pointer` do, and with the error of the table there.
 pub(crate) fn open<'h, H: AcpiHandler>(
@@ -52,9 +52,9 @@ pub(crate) fn open_placed<'h, H: AcpiHandler>(
     Ok((tables, place))
 }
 
-/// What leads to the root table by a source's start: 0 the RSDP at its address (section 5.2.5.3), 1 the RSDT there
-/// (section 5.2.7), 2 the XSDT there (section 5.2.8), 3 the RSDP that the BIOS areas hold (section 5.2.5.1), and 4 that
-/// which they hold as far as they are lent; and the address and the length of the RSDP, if it is one.
+/// What points to the root table by a source's start: 0 the RSDP at its address (section 5.2.5.3), 1 the RSDT there
+/// (section 5.2.7), 2 the XSDT there (section 5.2.8), 3 the RSDP in the BIOS areas (section 5.2.5.1), and 4 the RSDP in
+/// these as far as they are mapped; and the address and the length of the RSDP, if it is one.
 ///
 /// Fails with the error of the RSDP or the search for it, and with `UnknownStart` for an unknown start.
 pub(crate) fn root_pointer<H: AcpiHandler>(
@@ -90,7 +90,7 @@ pub(crate) fn check_policy(source: &Source<'_>) -> Result<(), Refusal>
     Ok(())
 }
 
-/// The RSDP that a source's start leads to.
+/// The RSDP of a source's start.
 ///
 /// Fails with `UnknownStart` for a start at a root table, and an unknown one.
 pub(crate) fn find_rsdp<'h, H: AcpiHandler>(
@@ -124,7 +124,7 @@ pub(crate) fn ebda_segment<H: AcpiHandler>(handler: &H) -> AcpiResult<u16>
     Ok(*word.get())
 }
 
-/// The address of the EBDA, if its segment is lent.
+/// The address of the EBDA, if its segment is mapped.
 pub(crate) fn ebda<H: AcpiHandler>(handler: &H) -> Option<u64>
     ensures { result ≡ ebda_in (H.memory handler.now) }
 {
@@ -132,7 +132,7 @@ pub(crate) fn ebda<H: AcpiHandler>(handler: &H) -> Option<u64>
     Some(16 * segment as u64)
 }
 
-/// The bytes of the first table that a source leads to and accepts under a signature and a least length, in the memory
+/// The bytes of the first table of a source that it accepts under a signature and a least length, in the memory
 /// of its regions: it ends below 2^64.
 ///
 /// Fails as `Mapped::new` does, then as `open` does, and then with `TableMissing` if none is listed that is accepted.
@@ -160,7 +160,7 @@ fn first_of<'h, 'k>(
     Ok(found)
 }
 
-/// The first table that a source leads to and accepts as one of a type.
+/// The first table of a source that it accepts as one of a type.
 ///
 /// Fails as `first_of` does.
 #[tactic(auto, using(crate::proofs::Found::bytes_found, crate::proofs::Found::no_bytes))]
@@ -180,7 +180,7 @@ pub(crate) fn first<'h, 'k, T: SdtTable>(
     }
 }
 
-/// The first FADT that a source leads to and accepts, of which a field is read when it is asked for.
+/// The first FADT of a source that it accepts, of which a field is read when it is requested.
 ///
 /// Fails as `first_of` does.
 #[tactic(auto, using(crate::proofs::Found::bytes_found, crate::proofs::Found::no_bytes))]
@@ -197,7 +197,7 @@ pub(crate) fn first_fadt<'h, 'k>(
     }
 }
 
-/// The root table that a source leads to.
+/// The root table of a source.
 pub fn root(source: &Source<'_>) -> Result<Root, Refusal>
     ensures { result ≡ root_below source.now }
 {

@@ -59,7 +59,7 @@ pub fn platform(
     Ok(model)
 }
 
-/// Writes each list as far as there is room.
+/// Writes each list as far as the capacity reaches.
 fn write_all(
     table: &[u8],
     processors: &mut [Processor],

@@ -42,7 +42,7 @@ fn types_of(source: &Source<'_>, state: u32) -> Result<acpi_sleep::SleepTypes, R
     }
 }
 
-/// The answer of the DSDT and the SSDTs that are accepted.
+/// The result of the DSDT and the SSDTs that are accepted.
 #[tactic(auto, using(acpi_sleep::proofs::Answering::one_block, acpi_sleep::proofs::Answering::types_found, acpi_sleep::proofs::Answering::none_left))]
 fn tables_answer<H: AcpiHandler>(
     tables: &AcpiTables<'_, H, Accept>,
@@ -64,7 +64,7 @@ fn tables_answer<H: AcpiHandler>(
     answer
 }
 
-/// The answer of the DSDT that the first FADT leads to that is accepted.
+/// The result of the DSDT that the first accepted FADT points to.
 fn dsdt_answer<H: AcpiHandler>(
     tables: &AcpiTables<'_, H, Accept>,
     state: u8,

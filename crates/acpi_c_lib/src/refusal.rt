@@ -1,4 +1,4 @@
-//! Why a call refuses, the number that C gets for it, and the signature that it carries.
+//! Why a call fails, the number that C gets for it, and the signature that it carries.
 ghost use Rattle.std.specs.Prelude.{◌≡◌};
 ghost use Rattle.acpi_c_lib.specs.Codes as codes;
 ghost use Rattle.acpi_c_lib.specs.Words.{Acpi, Writer, plan_refusal, sleep_refusal};
@@ -8,7 +8,7 @@ use acpi::{AcpiError, MadtError};
 use acpi_sleep::{PlanError, SleepError};
 use acpi_writer::WriterError;
 
-/// Why a call refuses. What each means is said once, at `enum zacpi_status_code` of `include/zacpi.h`.
+/// Why a call fails. `enum zacpi_status_code` of `include/zacpi.h` has what each error means.
 #[derive(Clone, Copy)]
 pub enum Refusal {
     RegionsNotAscending,
@@ -44,7 +44,7 @@ pub enum Refusal {
     BadTable,
     /// The error is one of a table that is written.
     Writer(WriterError),
-    /// The refusal is one of the crate `acpi`: of memory, an RSDP, a table, a register or the MADT's entries.
+    /// The error is one of the crate `acpi`: of memory, an RSDP, a table, a register or the MADT's entries.
     Acpi(AcpiError),
 }
 
@@ -90,7 +90,7 @@ impl From<PlanError> for Refusal {
 }
 
 impl Refusal {
-    /// The number of the refusal, as `enum zacpi_status_code` of `include/zacpi.h` has it.
+    /// The number of the error, as `enum zacpi_status_code` of `include/zacpi.h` has it.
     pub(crate) fn code(self) -> u32
         ensures { result ≡ codes.code_of self }
     {
@@ -130,7 +130,7 @@ impl Refusal {
         }
     }
 
-    /// The signature that the refusal carries, if it carries one: numbers 20 to 25 and 37 do.
+    /// The signature that the error carries, if it carries one: numbers 20 to 25 and 37 do.
     pub(crate) fn signature(self) -> Option<Signature>
         ensures { result ≡ codes.signature_of self }
     {
@@ -142,7 +142,7 @@ impl Refusal {
     }
 }
 
-/// The number of a refusal of the crate `acpi`; 99 stands for those that no call returns.
+/// The number of an error of the crate `acpi`; 99 is for the errors that no call returns.
 pub(crate) fn acpi_code(error: AcpiError) -> u32
     ensures { result ≡ codes.acpi_code error }
 {
@@ -167,7 +167,7 @@ pub(crate) fn acpi_code(error: AcpiError) -> u32
     }
 }
 
-/// The number of an error of a table that is written; 99 stands for those that no call returns.
+/// The number of an error of a table that is written; 99 is for the errors that no call returns.
 fn writer_code(error: WriterError) -> u32
     ensures { result ≡ codes.writer_code error }
 {
@@ -191,7 +191,7 @@ fn writer_code(error: WriterError) -> u32
     }
 }
 
-/// The number of a refusal of the MADT's entries (section 5.2.12); 99 stands for that which no call returns.
+/// The number of an error of the MADT's entries (section 5.2.12); 99 is for the one that no call returns.
 pub(crate) fn madt_code(error: MadtError) -> u32
     ensures { result ≡ codes.madt_code error }
 {
@@ -206,7 +206,7 @@ pub(crate) fn madt_code(error: MadtError) -> u32
     }
 }
 
-/// The signature that a refusal of the crate `acpi` carries, if it carries one.
+/// The signature that an error of the crate `acpi` carries, if it carries one.
 fn carried(error: AcpiError) -> Option<Signature>
     ensures { result ≡ codes.carried error }
 {

@@ -39,7 +39,7 @@ impl<'k> Region<'k> {
         Ok(self.address + length)
     }
 
-    /// The bytes from an address on, if it lies in this region.
+    /// The bytes from an address on, if it is in this region.
     #[tactic(auto, using(std::proofs::lemmas::Bool::Decides::nat_tests))]
     fn rest(&self, address: u64) -> Option<&'k [u8]>
         ensures inside { IfSome result (λ s. lies_in (region_of self.now) address ≡ true) }
@@ -66,7 +66,7 @@ fn length_of(bytes: &[u8]) -> u64
     bytes.len() as u64
 }
 
-/// The index of the one region that an address can lie in: the last one that begins at it or below it. The list is
+/// The index of the one region that an address can be in: the last one that begins at it or below it. The list is
 /// halved, so it takes as many steps as the logarithm of its length.
 fn index_for(regions: &[Region<'_>], address: u64) -> usize
     requires { IsAscending (memory_of regions.now) }
@@ -76,7 +76,7 @@ fn index_for(regions: &[Region<'_>], address: u64) -> usize
     after.saturating_sub(1)
 }
 
-/// Where an address lies, and the bytes from there to the end of the region.
+/// The place of an address, and the bytes from there to the end of the region.
 #[tactic(auto, using(crate::proofs::Ascending::spot_past, crate::proofs::Ascending::spot_there))]
 fn spot<'k>(regions: &[Region<'k>], address: u64) -> Option<(Place, &'k [u8])>
     requires { IsAscending (memory_of regions.now) }
@@ -92,7 +92,7 @@ fn spot<'k>(regions: &[Region<'k>], address: u64) -> Option<(Place, &'k [u8])>
     Some((place, rest))
 }
 
-/// The bytes from an address to the end of the region that it lies in, or none.
+/// The bytes from an address to the end of the region that it is in, or none.
 #[tactic(auto, using(crate::proofs::Ascending::rest_seen))]
 fn rest_at<'k>(regions: &[Region<'k>], address: u64) -> &'k [u8]
     requires { IsAscending (memory_of regions.now) }
@@ -104,10 +104,10 @@ fn rest_at<'k>(regions: &[Region<'k>], address: u64) -> &'k [u8]
     }
 }
 
-/// Where so many bytes from an address lie.
+/// The place of `length` bytes from an address.
 ///
-/// Fails as `check` does, and then with `MapFailed` if the address lies in no region, or the bytes reach past the end
-/// of the one that it lies in.
+/// Fails as `check` does, and then with `MapFailed` if the address is in no region, or the bytes reach past the end of
+/// the one that it is in.
 pub fn locate(regions: &[Region<'_>], address: u64, length: u64) -> Result<Place, Refusal>
     ensures { result ≡ located regions.now address length }
 {
@@ -118,10 +118,10 @@ pub fn locate(regions: &[Region<'_>], address: u64, length: u64) -> Result<Place
     }
 }
 
-/// Checks that regions stand in ascending order, and share no address.
+/// Checks that regions are in ascending order, and share no address.
 ///
-/// Refuses the regions one after the other, with `RegionsNotAscending` if one begins below the end of the one before
-/// it, and with `RegionTooHigh` if the address after its last byte is 2^64 or above.
+/// Fails for the first region at fault, with `RegionsNotAscending` if it begins below the end of the one before it, or
+/// else with `RegionTooHigh` if the address after its last byte is 2^64 or above.
 fn check(regions: &[Region<'_>]) -> Result<(), Refusal>
     ensures exact { result ≡ check_regions (memory_of regions.now) }
     ensures ascending { IfOk result (λ _. IsAscending (memory_of regions.now)) }
@@ -159,13 +159,13 @@ impl<'k> Mapped<'k> {
     }
 }
 
-/// Lends what lies in one of the regions.
+/// Maps what is in one of the regions.
 impl AcpiHandler for Mapped<'_> {
     ghost use Rattle.acpi_c_lib.specs.Held.{mapped_memory};
 
     ghost memory = { λ m. mapped_memory m };
 
-    /// Lends all bytes from a physical address to the end of the region.
+    /// Maps all bytes from a physical address to the end of the region.
     ///
     /// Fails with `MapFailed` if no region has `size` bytes from that address on.
     #[tactic(auto, using(crate::proofs::Ascending::at_rest, crate::proofs::Ascending::at_none))]
@@ -173,7 +173,7 @@ impl AcpiHandler for Mapped<'_> {
         requires { 0 < size }
         ensures enough { IfOk result (λ s. size ≤ length s.now) }
         ensures lent { IfOk result (λ s. at (mapped_memory self.now) address (length s.now) ≡ Some s.now) }
-        // All the rest of the region is lent, however little is asked for.
+        // All the rest of the region is mapped, however little is requested.
         ensures whole { IfOk result (λ s. s.now ≡ rest_from (mapped_memory self.now) address) }
         ensures refused { IfErr result (λ e. at (mapped_memory self.now) address size ≡ None) }
         ensures name { IfErr result (λ e. e ≡ MapFailed) }

@@ -1,4 +1,4 @@
-//! The RSDP that a source leads to (section 5.2.5.3).
+//! The RSDP of a source (section 5.2.5.3).
 ghost use Rattle.std.specs.Prelude.{◌≡◌};
 ghost use Rattle.acpi_base.specs.Words.{bytes_of, start_of};
 ghost use Rattle.acpi_c_lib.specs.Words.{rsdp_below, rsdp_record};
@@ -11,7 +11,7 @@ use acpi::rsdp::Rsdp;
 use acpi::{AcpiHandler, PhysicalMapping};
 use acpi_base::bytes::filled;
 
-/// The RSDP that a source leads to. The root table isn't looked at.
+/// The RSDP of a source. The root table isn't looked at.
 pub fn rsdp(source: &Source<'_>) -> Result<records::Rsdp, Refusal>
     ensures { result ≡ rsdp_below source.now }
 {

@@ -28,7 +28,7 @@ pub fn nth(source: &Source<'_>, name: records::Signature, index: usize) -> Resul
     Ok(table)
 }
 
-/// The table of a signature with so many before it.
+/// The table of a signature at an index among all of that signature.
 #[tactic(auto, unfolding(acpi::specs::Members::found_at))]
 fn nth_of<H: AcpiHandler>(
     tables: &AcpiTables<'_, H, Accept>,
@@ -67,7 +67,7 @@ pub fn ranges(source: &Source<'_>, out: &mut [Range]) -> Result<usize, Refusal>
     Ok(fill_with(tables.addresses(), &tables, led, out, after_root))
 }
 
-/// Where a member of the root table lies, if it is accepted under its own signature.
+/// The range of a member of the root table, if it is accepted under its own signature.
 impl<H: AcpiHandler> Listing<AcpiTables<'_, H, Accept>, Range> for Pointers<'_> {
     ghost record_of = { λ t p. range_in (accept_of t) (memory_of t) p };
 
@@ -83,7 +83,7 @@ impl<H: AcpiHandler> Listing<AcpiTables<'_, H, Accept>, Range> for Pointers<'_> 
     }
 }
 
-/// Where the DSDT and the FACS lie that the first FADT that is accepted leads to.
+/// The ranges of the DSDT and the FACS that the first accepted FADT points to.
 fn led_ranges<H: AcpiHandler>(
     handler: &H,
     tables: &AcpiTables<'_, H, Accept>,
@@ -98,7 +98,7 @@ fn led_ranges<H: AcpiHandler>(
     }
 }
 
-/// Where the DSDT lies that a FADT leads to (section 5.2.11.1), if it is accepted.
+/// The range of the DSDT that a FADT points to (section 5.2.11.1), if it is accepted.
 fn dsdt_range<H: AcpiHandler>(
     tables: &AcpiTables<'_, H, Accept>,
     fadt: &FadtView<'_, H>,
@@ -110,7 +110,7 @@ fn dsdt_range<H: AcpiHandler>(
     Some(range(address, dsdt.bytes().len() as u32))
 }
 
-/// Where the FACS lies that a FADT leads to (section 5.2.10), if it is valid.
+/// The range of the FACS that a FADT points to (section 5.2.10), if it is valid.
 #[tactic(auto, unfolding(acpi::specs::Places::facs_at))]
 fn facs_range<H: AcpiHandler>(handler: &H, fadt: &FadtView<'_, H>) -> Option<Range>
     ensures { result ≡ facs_range (H.memory handler.now) (viewed fadt.now) }

@@ -13,7 +13,7 @@ use acpi_base::madt::{MadtEntry, MadtEntryIter};
 use acpi_base::model::IsaOverrides;
 use acpi_writer::spelled::StandsFor;
 
-/// What the overrides of the ISA bus among a MADT's entries say.
+/// What the overrides of the ISA bus among a MADT's entries contain.
 #[derive(Drop)]
 pub(crate) struct Wirings {
     // All of them, where a reserved code is read as that of the bus.
@@ -54,7 +54,7 @@ impl Wirings {
         Ok(interrupt_record(interrupt))
     }
 
-    /// The SCI, of the number that the FADT gives.
+    /// The SCI, of the number in the FADT.
     pub(crate) fn sci(&self, sci: u16) -> Result<Interrupt, Refusal>
         ensures { (entries : _) → AreWirings entries self.now.overrides self.now.own → result ≡ sci_in entries sci }
     {
@@ -75,7 +75,7 @@ fn isa_override(entry: &MadtEntry) -> Option<InterruptSourceOverride>
     }
 }
 
-/// Refuses an override with a reserved code: that of its polarity comes before that of its trigger mode.
+/// Fails for an override with a reserved code, first for its polarity and then for its trigger mode.
 fn has_codes(own: Option<InterruptSourceOverride>) -> Result<(), Refusal>
     ensures { result ≡ has_codes own }
 {

@@ -5,7 +5,7 @@ ghost use Rattle.acpi_c_lib.specs.WrittenBgrt as written;
 use crate::records::BootGraphic;
 use acpi_writer::bgrt::{BgrtContents, BgrtOrientation};
 
-/// The orientation of so many degrees. That of any other number isn't looked at.
+/// The orientation by its degrees; what any other number returns isn't used.
 fn orientation(degrees: u16) -> BgrtOrientation
     ensures { result ≡ written.orientation degrees }
 {
@@ -24,7 +24,7 @@ pub(crate) fn has_codes(graphic: &BootGraphic) -> bool
     matches!(graphic.orientation, 0 | 90 | 180 | 270) && graphic.image_type == 0
 }
 
-/// What the BGRT is to say, as the writer has it.
+/// What the BGRT is to contain, as the writer has it.
 pub(crate) fn contents(graphic: &BootGraphic) -> BgrtContents
     ensures { result ≡ written.contents graphic.now }
 {

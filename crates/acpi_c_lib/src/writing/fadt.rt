@@ -120,7 +120,7 @@ fn arm_boot(flags: u16) -> ArmBootFeatures
     }
 }
 
-/// The fixed hardware, unless HW_REDUCED_ACPI says that there is none.
+/// The fixed hardware, unless HW_REDUCED_ACPI is set, which means that there is none.
 fn hardware(h: &FixedHardware) -> FadtHardware
     ensures { result ≡ written.hardware h.now }
 {
@@ -146,7 +146,7 @@ fn hardware(h: &FixedHardware) -> FadtHardware
     })
 }
 
-/// What the FADT is to say, as the writer has it.
+/// What the FADT is to contain, as the writer has it.
 pub(crate) fn contents(h: &FixedHardware) -> FadtContents
     ensures { result ≡ written.contents h.now }
 {
@@ -156,7 +156,7 @@ pub(crate) fn contents(h: &FixedHardware) -> FadtContents
         power_profile: PowerProfile::from(h.power_profile),
         sci_interrupt: h.sci_interrupt,
         hardware: hardware(h),
-        // RESET_REG_SUP says that there is one.
+        // RESET_REG_SUP means that there is one.
         reset_register: has_bit(h.flags as u64, 10).then_some(register(h.reset.at)),
         reset_value: h.reset_value,
         sleep_control: optional(h.sleep_control),
@@ -224,7 +224,7 @@ pub(crate) fn has_codes(h: &FixedHardware) -> bool
 }
 
 impl FacsContents {
-    /// What the FACS is to say, as the writer has it.
+    /// What the FACS is to contain, as the writer has it.
     pub fn contents(&self) -> acpi_writer::FacsContents
         ensures { result ≡ written.facs_contents self.now }
     {

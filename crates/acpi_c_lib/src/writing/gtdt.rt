@@ -14,7 +14,7 @@ use acpi_base::model::{Polarity, TriggerMode};
 use acpi_writer::spelled::Spelled;
 use acpi_writer::{Checked, GtBlockContents, PlatformTimerContents, WriterError};
 
-/// An address, of which all ones stand for none.
+/// An address, of which all ones mean none.
 fn base(address: u64) -> Option<u64>
     ensures { result ≡ written.base address }
 {
@@ -146,7 +146,7 @@ impl Spelled for PlatformTimer<'_> {
     }
 }
 
-/// What the GTDT is to say, as the writer has it.
+/// What the GTDT is to contain, as the writer has it.
 pub(crate) fn contents<'a>(
     given: &GtdtContents<'a>,
 ) -> acpi_writer::GtdtContents<'a, PlatformTimer<'a>>
@@ -203,7 +203,7 @@ fn are_platform_wired(timers: &[PlatformTimer<'_>]) -> bool
     timers.iter().all(|timer| is_platform_wired(timer))
 }
 
-/// Whether each kind, polarity and trigger mode is one that there is, but for those of a timer that isn't written.
+/// Whether each kind, polarity and trigger mode is one that there is, but in a timer that isn't written.
 pub(crate) fn has_codes(given: &GtdtContents<'_>) -> bool
     ensures { result ≡ written.has_codes given.now }
 {

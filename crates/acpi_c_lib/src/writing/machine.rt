@@ -17,7 +17,7 @@ use acpi_writer::{
     write_gtdt, write_hpet, write_madt, write_mcfg, write_spcr, write_srat,
 };
 
-/// What a table is to say that is written from a record of C's.
+/// What a table is to contain that is written from a record of C's.
 #[derive(Clone, Copy)]
 pub enum Contents<'a> {
     Fadt(FixedHardware),
@@ -31,7 +31,7 @@ pub enum Contents<'a> {
     Gic(GicContents<'a>),
 }
 
-/// Writes the table that is to say this.
+/// Writes the table that is to contain this.
 ///
 /// Returns `UnknownCode` if the record has a code that is reserved, of a GIC `BadRange` if a range of redistributors
 /// has 2^32 bytes or more, and then the errors of the call of `acpi_writer` for such a table, in its order.
@@ -89,7 +89,7 @@ pub fn write_hardware(
 }
 
 impl ListedTable<'_> {
-    /// Whether the bytes are one table: a header, whose Length says how many they are, and a sum of 0 (section 5.2.6).
+    /// Whether the bytes are one table: a header, whose Length is the number of bytes, and a sum of 0 (section 5.2.6).
     fn is_table(&self) -> bool
         ensures { result ≡ whole.is_table self.now }
     {
@@ -143,7 +143,7 @@ fn are_tables(listed: &[ListedTable<'_>]) -> bool
     listed.iter().all(|table| table.is_table())
 }
 
-/// Writes all tables of a machine to the front of a buffer that is to lie at this physical address.
+/// Writes all tables of a machine to the front of a buffer that is to be at this physical address.
 ///
 /// Returns `BadTable` if bytes that are listed aren't a table, and then the errors of `acpi_writer::write_tables`, in
 /// its order.
@@ -155,7 +155,7 @@ pub fn write_tables(out: &mut [u8], address: u64, machine: &Machine<'_>) -> Resu
     Ok(acpi_writer::write_tables(out, address, &machine.whole())?)
 }
 
-/// Writes all tables of a machine but the RSDP to the front of a buffer that is to lie at this physical address.
+/// Writes all tables of a machine but the RSDP to the front of a buffer that is to be at this physical address.
 ///
 /// Returns `BadTable` if bytes that are listed aren't a table, and then the errors of
 /// `acpi_writer::write_tables_without_rsdp`, in its order.
@@ -171,7 +171,7 @@ pub fn write_tables_without_rsdp(
     Ok(acpi_writer::write_tables_without_rsdp(out, address, &machine.whole())?)
 }
 
-/// How many bytes `write_tables` writes, or the first error but for room and place.
+/// How many bytes `write_tables` writes, or the first error but those of capacity and address.
 pub fn tables_size(machine: &Machine<'_>) -> Result<usize, Refusal>
     ensures { result ≡ whole.size_said machine.now }
 {
@@ -179,7 +179,7 @@ pub fn tables_size(machine: &Machine<'_>) -> Result<usize, Refusal>
     Ok(acpi_writer::tables_size(&machine.whole())?)
 }
 
-/// Where `write_tables` lays the DSDT of a machine with so many tables, or `NoAddress`.
+/// The address at which `write_tables` puts the DSDT of a machine with `tables` tables, or `NoAddress`.
 pub fn dsdt_place(address: u64, tables: usize) -> Result<u64, Refusal>
     ensures { result ≡ whole.dsdt_said address tables }
 {

@@ -12,7 +12,7 @@ use acpi_base::spcr::{SpcrFlowControl, SpcrInterfaceType, SpcrInterruptType, Spc
 use acpi_writer::spcr::SpcrPciDevice;
 use bitflags::Flags;
 
-/// Where the registers lie, if there are any.
+/// The address of the registers, if there are any.
 fn base(given: Register) -> Option<GenericAddress>
     ensures { result ≡ written.base given }
 {
@@ -76,7 +76,7 @@ fn baud_rate(console: &Console) -> u32
     }
 }
 
-/// What the SPCR is to say, as the writer has it.
+/// What the SPCR is to contain, as the writer has it.
 pub(crate) fn contents<'a>(given: &SpcrContents) -> acpi_writer::SpcrContents<'a>
     ensures said { result ≡ written.contents result.namespace_string given.now }
     ensures name { result.namespace_string.now ≡ codes "." }

@@ -2,7 +2,7 @@ use Rattle.std.proofs.Common.{◌≡◌, length}
 use Rattle.acpi_arm.specs.Timers.{missing_left, timers_left}
 use Rattle.acpi_c_lib.proofs.arm_timers.end_malformed.Given as goal
 
--- as many are missing
+-- the number of missing timers is the same
 abbrev pub invariant-all : goal.invariant-all
 invariant-all l = missing_left l.timers ≡ missing_left l.initial.timers
 

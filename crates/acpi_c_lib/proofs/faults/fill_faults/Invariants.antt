@@ -3,7 +3,7 @@ use Rattle.acpi.specs.Words.{pointers_left}
 use Rattle.acpi_c_lib.specs.Words.{put_from, faults_among, kind_named}
 use Rattle.acpi_c_lib.proofs.faults.fill_faults.Given as goal
 
--- what is written and what is left are the whole, and the count has room for what is left
+-- what is written and what is left are the whole, and the count has capacity for what is left
 abbrev pub invariant-loop-address : goal.invariant-loop-address
 invariant-loop-address g l =
     let found = faults_among l.accept (g.H.AcpiHandler.memory l.handler)

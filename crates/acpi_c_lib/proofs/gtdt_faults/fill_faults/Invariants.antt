@@ -2,8 +2,8 @@ use Rattle.std.proofs.Common.{◌≡◌, ◌+◌, ◌-◌, ◌≤◌, length}
 use Rattle.acpi_c_lib.specs.Words.{cut, timer_count, timers_grammar, put_from, faults_from, gtdt_faults_of, last_faults, timer_fault, timers_cut}
 use Rattle.acpi_c_lib.proofs.gtdt_faults.fill_faults.Given as goal
 
--- what is written and what is left are the whole, as many structures are missing before the same rest, what is left
--- ends in the table, and no more are counted than there were bytes
+-- what is written and what is left are the whole, the same number of structures is missing before the same rest, what
+-- is left ends in the table, and no more are counted than there were bytes
 abbrev pub invariant-loop-structure : goal.invariant-loop-structure
 invariant-loop-structure l =
     let left = cut (timers_grammar l.left) l.rest in

@@ -3,7 +3,7 @@ use Rattle.acpi_iommu.specs.Words.{blocks_left}
 use Rattle.acpi_c_lib.specs.Words.{is_ivhd_block, ivhd_in}
 use Rattle.acpi_c_lib.proofs.iommu_lists.nth_ivhd.Given as goal
 
--- of those that are left it has so many before it
+-- the unit is at the index `before` among those that are left
 abbrev pub invariant-loop-block : goal.invariant-loop-block
 invariant-loop-block l =
     slice_get (filter is_ivhd_block (blocks_left l.blocks)) l.before ≡ ivhd_in l.table l.index

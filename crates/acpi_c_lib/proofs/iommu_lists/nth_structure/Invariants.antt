@@ -3,7 +3,7 @@ use Rattle.acpi_iommu.specs.Words.{structures_left}
 use Rattle.acpi_c_lib.specs.Words.{is_of_type, structure_in}
 use Rattle.acpi_c_lib.proofs.iommu_lists.nth_structure.Given as goal
 
--- of those that are left it has so many before it
+-- the unit is at the index `before` among those that are left
 abbrev pub invariant-loop-structure : goal.invariant-loop-structure
 invariant-loop-structure l =
     slice_get (filter (is_of_type l.kind) (structures_left l.structures)) l.before ≡ structure_in l.kind l.table l.index

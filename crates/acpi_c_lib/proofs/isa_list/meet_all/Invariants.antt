@@ -3,7 +3,7 @@ use Rattle.acpi_c_lib.specs.Words.{no_route}
 use Rattle.acpi_c_lib.proofs.IsaList.{MeetsAt}
 use Rattle.acpi_c_lib.proofs.isa_list.meet_all.Given as goal
 
--- as many as there were; those before have met it, and from this one on they are as they were
+-- there are 16; the routes before this one have met the I/O APIC, and from it on they are as they were
 abbrev pub invariant-loop-irq : goal.invariant-loop-irq
 invariant-loop-irq l =
     (length l.routes ≡ 16)

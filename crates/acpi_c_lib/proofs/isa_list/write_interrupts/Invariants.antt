@@ -3,7 +3,7 @@ use Rattle.acpi_base.specs.Words.{entries_of}
 use Rattle.acpi_c_lib.specs.Words.{isa_in, no_route, route_of}
 use Rattle.acpi_c_lib.proofs.isa_list.write_interrupts.Given as goal
 
--- as many as there were; those before this one are written
+-- there are 16; the routes before this one are written
 abbrev pub invariant-loop-irq : goal.invariant-loop-irq
 invariant-loop-irq l =
     (length l.routes ≡ 16)

@@ -3,7 +3,7 @@ use Rattle.acpi_base.specs.Words.{entries_left}
 use Rattle.acpi_c_lib.specs.Words.{put_from, io_apic_in, nmi_line_in, nmi_source_in, override_in, processor_in}
 use Rattle.acpi_c_lib.proofs.platform.write_all.Given as goal
 
--- of each list, what is written and what is left are the whole, and there is room to count what is left
+-- of each list, what is written and what is left are the whole, and what is left can be counted
 abbrev pub invariant-loop-entry : goal.invariant-loop-entry
 invariant-loop-entry l =
     let left = entries_left l.entry-iterator in

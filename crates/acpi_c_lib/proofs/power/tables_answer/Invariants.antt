@@ -6,7 +6,7 @@ use Rattle.acpi_sleep.proofs.Answering.{with_left}
 use Rattle.acpi_c_lib.specs.Words.{accepted_answer}
 use Rattle.acpi_c_lib.proofs.power.tables_answer.Given as goal
 
--- the answer so far and the SSDTs that are left come to the answer of all
+-- the result so far and the SSDTs that are left make the result of all
 abbrev pub invariant-loop-address : goal.invariant-loop-address
 invariant-loop-address g l =
     let t = l.tables in

@@ -3,7 +3,7 @@ use Rattle.acpi.specs.Words.{accept_of, memory_of, pointers_left, pointers_of}
 use Rattle.acpi_c_lib.specs.Words.{nth_in}
 use Rattle.acpi_c_lib.proofs.walks.nth_of.Given as goal
 
--- the one sought is as many further on in what is left
+-- the table is at the index `before` among what is left
 abbrev pub invariant-loop-address : goal.invariant-loop-address
 invariant-loop-address g l =
     let t = l.tables in
