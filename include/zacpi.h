@@ -1315,6 +1315,11 @@ ZACPI_STATUS zacpi_get_dmar_flags(const struct zacpi_source *source, struct zacp
 ZACPI_STATUS zacpi_list_dmar_units(const struct zacpi_source *source, struct zacpi_dmar_unit *out,
                                    size_t capacity, size_t *count,
                                    struct zacpi_signature *signature);
+/* Lists the device scopes of the `index`-th of these units, from 0 on, up to the first byte at
+ * which none begins. Fails with an opening error, ZACPI_TABLE_MISSING "DMAR", or ZACPI_NO_IOMMU. */
+ZACPI_STATUS zacpi_list_dmar_scopes(const struct zacpi_source *source, size_t index,
+                                    struct zacpi_dmar_scope *out, size_t capacity, size_t *count,
+                                    struct zacpi_signature *signature);
 /* Lists the memory that is reserved for devices: the RMRRs, also those that are no range, up to the
  * first byte at which no structure begins. Fails with an opening error, or ZACPI_TABLE_MISSING
  * "DMAR". */
@@ -1335,9 +1340,10 @@ ZACPI_STATUS zacpi_list_dmar_affinities(const struct zacpi_source *source,
  * `index`-th, from 0 on, of a Type, of enum zacpi_dmar_type, which is the `index`-th item of the
  * list of its Type. Types other than DRHD, RMRR, ATSR, SATC and SIDP have none. Fails with an
  * opening error, ZACPI_TABLE_MISSING "DMAR", or ZACPI_NO_IOMMU if there is no such structure. */
-ZACPI_STATUS zacpi_list_dmar_scopes(const struct zacpi_source *source, uint16_t structure_type,
-                                    size_t index, struct zacpi_dmar_scope *out, size_t capacity,
-                                    size_t *count, struct zacpi_signature *signature);
+ZACPI_STATUS zacpi_list_dmar_structure_scopes(const struct zacpi_source *source,
+                                              uint16_t structure_type, size_t index,
+                                              struct zacpi_dmar_scope *out, size_t capacity,
+                                              size_t *count, struct zacpi_signature *signature);
 /* Lists the structures with an error: device scopes that end early, else an RMRR that is no range;
  * and last, if there is one, the first byte at which none begins. Fails with an opening error, or
  * ZACPI_TABLE_MISSING "DMAR". */

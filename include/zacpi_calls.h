@@ -1114,6 +1114,22 @@ ZACPI_STATUS zacpi_list_dmar_units(const struct zacpi_source *source, struct zac
                    ZACPI_COUNTED(count), signature ? signature : &unasked));
 }
 
+zacpi_status ZACPI_CALL zacpi_1_list_dmar_scopes(const struct zacpi_source *source,
+                                                 zacpi_number index, struct zacpi_dmar_scope *out,
+                                                 zacpi_number capacity, zacpi_number *count,
+                                                 struct zacpi_signature *signature);
+ZACPI_NONNULL((1, 5))
+ZACPI_STATUS zacpi_list_dmar_scopes(const struct zacpi_source *source, size_t index,
+                                    struct zacpi_dmar_scope *out, size_t capacity, size_t *count,
+                                    struct zacpi_signature *signature) {
+    const struct zacpi_source kept_source = zacpi_source_kept(source);
+    struct zacpi_signature unasked;
+    ZACPI_FITS;
+    ZACPI_COUNTING(count, zacpi_1_list_dmar_scopes(&kept_source, index,
+                   capacity ? out : (struct zacpi_dmar_scope *)ZACPI_NOTHING, capacity,
+                   ZACPI_COUNTED(count), signature ? signature : &unasked));
+}
+
 zacpi_status ZACPI_CALL zacpi_1_list_dmar_regions(const struct zacpi_source *source,
                                                   struct zacpi_dmar_reserved *out,
                                                   zacpi_number capacity, zacpi_number *count,
@@ -1162,19 +1178,22 @@ ZACPI_STATUS zacpi_list_dmar_affinities(const struct zacpi_source *source,
                    ZACPI_COUNTED(count), signature ? signature : &unasked));
 }
 
-zacpi_status ZACPI_CALL zacpi_1_list_dmar_scopes(const struct zacpi_source *source,
-                                                 uint16_t structure_type, zacpi_number index,
-                                                 struct zacpi_dmar_scope *out,
-                                                 zacpi_number capacity, zacpi_number *count,
-                                                 struct zacpi_signature *signature);
+zacpi_status ZACPI_CALL zacpi_1_list_dmar_structure_scopes(const struct zacpi_source *source,
+                                                           uint16_t structure_type,
+                                                           zacpi_number index,
+                                                           struct zacpi_dmar_scope *out,
+                                                           zacpi_number capacity,
+                                                           zacpi_number *count,
+                                                           struct zacpi_signature *signature);
 ZACPI_NONNULL((1, 6))
-ZACPI_STATUS zacpi_list_dmar_scopes(const struct zacpi_source *source, uint16_t structure_type,
-                                    size_t index, struct zacpi_dmar_scope *out, size_t capacity,
-                                    size_t *count, struct zacpi_signature *signature) {
+ZACPI_STATUS zacpi_list_dmar_structure_scopes(const struct zacpi_source *source,
+                                              uint16_t structure_type, size_t index,
+                                              struct zacpi_dmar_scope *out, size_t capacity,
+                                              size_t *count, struct zacpi_signature *signature) {
     const struct zacpi_source kept_source = zacpi_source_kept(source);
     struct zacpi_signature unasked;
     ZACPI_FITS;
-    ZACPI_COUNTING(count, zacpi_1_list_dmar_scopes(&kept_source, structure_type, index,
+    ZACPI_COUNTING(count, zacpi_1_list_dmar_structure_scopes(&kept_source, structure_type, index,
                    capacity ? out : (struct zacpi_dmar_scope *)ZACPI_NOTHING, capacity,
                    ZACPI_COUNTED(count), signature ? signature : &unasked));
 }

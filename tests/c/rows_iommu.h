@@ -61,7 +61,7 @@ LIST(list_dmar_reserved, dmar_reserved, of_dmar_reserved, DEVICE)
 ONE(get_ivrs_unit, ivrs_device, of_ivrs_device, ARGUMENT(0, uint16_t) ARGUMENT(1, uint16_t))
 LIST(list_ivrs_memory, ivrs_memory, of_ivrs_memory, ARGUMENT(0, uint16_t))
 LIST(list_dmar_units, dmar_unit, of_dmar_unit, )
-LIST(list_dmar_scopes, dmar_scope, of_dmar_scope, ARGUMENT(0, uint16_t) ARGUMENT(1, size_t))
+LIST(list_dmar_scopes, dmar_scope, of_dmar_scope, ARGUMENT(0, size_t))
 LIST(list_dmar_faults, entry_fault, of_entry_fault, )
 LIST(list_ivrs_units, ivrs_unit, of_ivrs_unit, )
 LIST(list_ivrs_entries, ivrs_entry, of_ivrs_entry, ARGUMENT(0, size_t))
@@ -144,14 +144,14 @@ static const struct row unit_rows[] = {
     GOOD(list_dmar_units, UNITS_FAULTS, NULL, NO, 2, FIRST_UNIT, 0x1fed91000, 8192, 0, 1, 0x81, 0x31),
     NOTHING(list_dmar_units, LEAST),
     REFUSED(list_dmar_units, EMPTY, NULL, NO, ZACPI_TABLE_MISSING, "DMAR"),
-    GOOD(list_dmar_scopes, UNITS, NULL, A(0, 0), 2, 1, 1, 0, 0, 0, 2, 0, NO_HOPS, 1, 2, 0, 0, 0, 1, 0, NO_HOPS),
-    GOOD(list_dmar_scopes, UNITS, NULL, A(0, 2), 1, 1, 1, 0, 0, 5, 4, 1, NO_HOPS),
-    REFUSED(list_dmar_scopes, UNITS, NULL, A(0, 3), ZACPI_NO_IOMMU, NULL),
+    GOOD(list_dmar_scopes, UNITS, NULL, A(0), 2, 1, 1, 0, 0, 0, 2, 0, NO_HOPS, 1, 2, 0, 0, 0, 1, 0, NO_HOPS),
+    GOOD(list_dmar_scopes, UNITS, NULL, A(2), 1, 1, 1, 0, 0, 5, 4, 1, NO_HOPS),
+    REFUSED(list_dmar_scopes, UNITS, NULL, A(3), ZACPI_NO_IOMMU, NULL),
     NOTHING(list_dmar_scopes, UNITS_CUT),
-    GOOD(list_dmar_scopes, UNITS_FAULTS, NULL, A(0, 0), 1, 1, 1, 0, 0, 0, 2, 0, NO_HOPS),
-    GOOD(list_dmar_scopes, UNITS_FAULTS, NULL, A(0, 1), 3, 1, 3, 0, 2, 0xf0, 0x1f, 0, NO_HOPS,
+    GOOD(list_dmar_scopes, UNITS_FAULTS, NULL, A(0), 1, 1, 1, 0, 0, 0, 2, 0, NO_HOPS),
+    GOOD(list_dmar_scopes, UNITS_FAULTS, NULL, A(1), 3, 1, 3, 0, 2, 0xf0, 0x1f, 0, NO_HOPS,
          0, 0x7f, 0xff, 1, 2, 0, 0, NO_HOPS, 2, 1, 0, 0, 0, 1, 2, 3, 4, 0, 0),
-    REFUSED(list_dmar_scopes, UNITS_BETWEEN, NULL, A(0, 1), ZACPI_NO_IOMMU, NULL), /* after the malformed RMRR */
+    REFUSED(list_dmar_scopes, UNITS_BETWEEN, NULL, A(1), ZACPI_NO_IOMMU, NULL), /* after the malformed RMRR */
     REFUSED(list_dmar_scopes, EMPTY, NULL, A(0), ZACPI_TABLE_MISSING, "DMAR"),
     GOOD(list_dmar_faults, UNITS, NULL, NO, 1, AT(DMAR) + 208, ZACPI_IOMMU_INVALID_MEMORY_RANGE, 1),
     GOOD(list_dmar_faults, UNITS_CUT, NULL, NO, 1, AT(DMAR_CUT) + 48, ZACPI_IOMMU_INVALID_STRUCTURE_LENGTH, 0),

@@ -22,11 +22,12 @@ LIST(list_its_affinities, near_its, of_near_its, )
 LIST(list_dmar_regions, dmar_reserved, of_dmar_reserved, )
 LIST(list_dmar_root_ports, root_ports, of_root_ports, )
 LIST(list_dmar_affinities, near_unit, of_near_unit, )
+LIST(list_dmar_structure_scopes, dmar_scope, of_dmar_scope, ARGUMENT(0, uint16_t) ARGUMENT(1, size_t))
 LIST(list_ivrs_regions, ivrs_memory, of_ivrs_memory, )
 
 /* The structure of a Type that has no scope. */
 #define UNSCOPED(type, index) \
-    {&call_list_dmar_scopes, ALL_KINDS, NULL, A(type, index), ZACPI_OK, NULL, 0, NULL, 0}
+    {&call_list_dmar_structure_scopes, ALL_KINDS, NULL, A(type, index), ZACPI_OK, NULL, 0, NULL, 0}
 
 static const struct row kind_rows[] = {
     GOOD(list_processor_affinities, ALL_KINDS, NULL, NO, 3, 0xff, 0x3020110, 0xb, 0, 0x100, 7, 0xc, 2, 0x23, 8, 0xd, 3),
@@ -71,19 +72,20 @@ static const struct row kind_rows[] = {
     GOOD(list_dmar_faults, ALL_KINDS, NULL, NO, 1, AT(DMAR_ALL) + 212, ZACPI_IOMMU_INVALID_STRUCTURE_LENGTH, 3),
     GOOD(list_dmar_units, ALL_KINDS, NULL, NO, 1, FIRST_UNIT),
     UNSCOPED(ZACPI_DMAR_DRHD, 0),
-    GOOD(list_dmar_scopes, ALL_KINDS, NULL, A(ZACPI_DMAR_ATSR, 0), 2, 1, 2, 0, 0, 0, 0x1c, 0, NO_HOPS,
+    GOOD(list_dmar_structure_scopes, ALL_KINDS, NULL, A(ZACPI_DMAR_ATSR, 0), 2, 1, 2, 0, 0, 0, 0x1c, 0, NO_HOPS,
          2, 2, 0, 0, 0x80, 3, 2, 1, 0, 0, 0),
     UNSCOPED(ZACPI_DMAR_ATSR, 1),
-    REFUSED(list_dmar_scopes, ALL_KINDS, NULL, A(ZACPI_DMAR_ATSR, 2), ZACPI_NO_IOMMU, NULL),
-    GOOD(list_dmar_scopes, ALL_KINDS, NULL, A(ZACPI_DMAR_RMRR, 0), 1, 1, 1, 0, 0, 7, 6, 1, NO_HOPS),
-    REFUSED(list_dmar_scopes, ALL_KINDS, NULL, A(ZACPI_DMAR_RMRR, 1), ZACPI_NO_IOMMU, NULL), /* after the short RHSA */
-    GOOD(list_dmar_scopes, UNITS, NULL, A(ZACPI_DMAR_RMRR, 1), 1, 1, 2, 0, 0, 0, 2, 0, NO_HOPS),
-    GOOD(list_dmar_scopes, ALL_KINDS, NULL, A(ZACPI_DMAR_SATC, 0), 1, 1, 1, 0, 0, 0x40, 5, 0, NO_HOPS),
-    GOOD(list_dmar_scopes, ALL_KINDS, NULL, A(ZACPI_DMAR_SIDP, 0), 1, 0, 1, 0, 0, 9, 0, 0, NO_HOPS),
+    REFUSED(list_dmar_structure_scopes, ALL_KINDS, NULL, A(ZACPI_DMAR_ATSR, 2), ZACPI_NO_IOMMU, NULL),
+    GOOD(list_dmar_structure_scopes, ALL_KINDS, NULL, A(ZACPI_DMAR_RMRR, 0), 1, 1, 1, 0, 0, 7, 6, 1, NO_HOPS),
+    REFUSED(list_dmar_structure_scopes, ALL_KINDS, NULL, A(ZACPI_DMAR_RMRR, 1), ZACPI_NO_IOMMU,
+            NULL), /* after the short RHSA */
+    GOOD(list_dmar_structure_scopes, UNITS, NULL, A(ZACPI_DMAR_RMRR, 1), 1, 1, 2, 0, 0, 0, 2, 0, NO_HOPS),
+    GOOD(list_dmar_structure_scopes, ALL_KINDS, NULL, A(ZACPI_DMAR_SATC, 0), 1, 1, 1, 0, 0, 0x40, 5, 0, NO_HOPS),
+    GOOD(list_dmar_structure_scopes, ALL_KINDS, NULL, A(ZACPI_DMAR_SIDP, 0), 1, 0, 1, 0, 0, 9, 0, 0, NO_HOPS),
     UNSCOPED(ZACPI_DMAR_ANDD, 0),
     UNSCOPED(ZACPI_DMAR_RHSA, 1),
-    REFUSED(list_dmar_scopes, ALL_KINDS, NULL, A(ZACPI_DMAR_RHSA, 2), ZACPI_NO_IOMMU, NULL),
-    REFUSED(list_dmar_scopes, ALL_KINDS, NULL, A(7, 0), ZACPI_NO_IOMMU, NULL),
+    REFUSED(list_dmar_structure_scopes, ALL_KINDS, NULL, A(ZACPI_DMAR_RHSA, 2), ZACPI_NO_IOMMU, NULL),
+    REFUSED(list_dmar_structure_scopes, ALL_KINDS, NULL, A(7, 0), ZACPI_NO_IOMMU, NULL),
 
     GOOD(list_ivrs_regions, UNITS, NULL, NO, 3, MEMORY_OF_ALL, 0x100000000, 0x20000, 0x100, 0x1ff, 0x22, 8,
          MEMORY_OF_ONE),

@@ -238,16 +238,22 @@ impl<'k> Dmar<'k> {
         self.tables.list(raw::zacpi_1_list_dmar_affinities)
     }
 
+    /// The device scopes of one of these units, by its index, as far as they fit: those up to the first byte at which
+    /// none begins, in order (section 8.3.1).
+    pub fn scopes<'b>(&self, unit: usize, room: &'b mut [Slot<DmarScope>]) -> AcpiResult<Option<List<'b, DmarScope>>> {
+        self.structure_scopes(DmarType::Drhd, unit, room)
+    }
+
     /// The device scopes of a structure, by its Type and its index among those of the Type, as far as they fit: those
     /// up to the first byte at which none begins, in order (section 8.3.1). None if there is no such structure.
-    pub fn scopes<'b>(
+    pub fn structure_scopes<'b>(
         &self,
         structure: DmarType,
         index: usize,
         room: &'b mut [Slot<DmarScope>],
     ) -> AcpiResult<Option<List<'b, DmarScope>>> {
         let source = self.tables.source();
-        let count = found(raw::zacpi_1_list_dmar_scopes(&source, structure as u16, index, records_of(room)))?;
+        let count = found(raw::zacpi_1_list_dmar_structure_scopes(&source, structure as u16, index, records_of(room)))?;
         Ok(count.map(|count| List::written(room, count, Signature::default())))
     }
 

@@ -45,11 +45,15 @@ scope_record s = record {
   path = path_shown (path_of s);
 }
 
-abbrev pub dmar_scopes_below : Source → ℕ → ℕ → Result (List DmarScope) Refusal
-dmar_scopes_below s kind index = do
+abbrev pub structure_scopes_below : Source → ℕ → ℕ → Result (List DmarScope) Refusal
+structure_scopes_below s kind index = do
   table ← dmar_in s
   structure ← ok_or (structure_in kind table index) NoIommu
   Ok (map scope_record (scopes_of structure))
+
+-- of a unit, which is a DRHD
+abbrev pub dmar_scopes_below : Source → ℕ → Result (List DmarScope) Refusal
+dmar_scopes_below s index = structure_scopes_below s 0 index
 
 -- ---- the IVRS
 

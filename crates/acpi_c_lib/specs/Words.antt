@@ -220,6 +220,7 @@ pub use Rattle.acpi_c_lib.specs.IommuLists.{
   scope_record,
   special_or,
   structure_in,
+  structure_scopes_below,
 }
 pub use Rattle.acpi_c_lib.specs.IommuRegions.{
   dmar_affinities_below,

@@ -1,7 +1,7 @@
 //! The lists of the units that remap devices' accesses to memory, each as it is in its table, and of what each names.
 ghost use Rattle.std.specs.Prelude.{◌≡◌, Some, map, filter_map, option_map, refl};
 ghost use Rattle.acpi_iommu.specs.Words.{block_bytes, blocks_left, bytes_of_entry, bytes_of_scope, entries_left, entries_of, hops_left, path_of, scopes_left, scopes_of, structure_bytes, structures_left};
-ghost use Rattle.acpi_c_lib.specs.Words.{Fills, Writes, dmar_scopes_below, dmar_units_below, dmar_units_in, drhd_shown, entry_shown, hid_part, ivhd_in, ivhd_shown, ivrs_entries_below, ivrs_units_below, ivrs_units_in, lists_by, path_shown, scope_record, special_or, structure_in};
+ghost use Rattle.acpi_c_lib.specs.Words.{Fills, Writes, dmar_scopes_below, structure_scopes_below, dmar_units_below, dmar_units_in, drhd_shown, entry_shown, hid_part, ivhd_in, ivhd_shown, ivrs_entries_below, ivrs_units_below, ivrs_units_in, lists_by, path_shown, scope_record, special_or, structure_in};
 
 use crate::iommu::{block_record, unit_record};
 use crate::iommu_records::{DmarScope, DmarUnit, Hop, IvrsEntry, IvrsUnit};
@@ -50,15 +50,26 @@ impl Listing<(), DmarUnit> for DmarStructureIter<'_> {
     }
 }
 
+/// Lists the device scopes of the `index`-th unit of the first valid DMAR, counted from 0 (section 8.3.1).
+pub fn dmar_scopes(
+    source: &Source<'_>,
+    index: usize,
+    out: &mut [DmarScope],
+) -> Result<usize, Refusal>
+    ensures { Fills result out.old out.new (dmar_scopes_below source.now index) }
+{
+    dmar_structure_scopes(source, 0, index, out)
+}
+
 /// Lists the device scopes of the `index`-th structure of a type of the first valid DMAR, counted from 0 (section
 /// 8.3.1).
-pub fn dmar_scopes(
+pub fn dmar_structure_scopes(
     source: &Source<'_>,
     structure_type: u16,
     index: usize,
     out: &mut [DmarScope],
 ) -> Result<usize, Refusal>
-    ensures { Fills result out.old out.new (dmar_scopes_below source.now structure_type index) }
+    ensures { Fills result out.old out.new (structure_scopes_below source.now structure_type index) }
 {
     let memory = Mapped::new(source.regions);
     let dmar = first::<Dmar>(&memory, source)?;

@@ -43,7 +43,8 @@ lists! {
 }
 
 lists_of! {
-    zacpi_1_list_dmar_scopes(structure_type: u16, index: usize) -> DmarScope;
+    zacpi_1_list_dmar_scopes(index: usize) -> DmarScope;
+    zacpi_1_list_dmar_structure_scopes(structure_type: u16, index: usize) -> DmarScope;
     zacpi_1_list_ivrs_entries(index: usize) -> IvrsEntry;
     zacpi_1_list_ivrs_memory(device_id: u16) -> IvrsMemory;
 }

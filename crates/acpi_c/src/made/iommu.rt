@@ -1,5 +1,5 @@
 //! Made by scripts/exports of include/zacpi.h, which has what each call does.
-ghost use Rattle.acpi_c_lib.specs.Words.{Answers, AnswersList, dmar_affinities_below, dmar_faults_below, dmar_flags_below, dmar_hpet_below, dmar_io_apic_below, dmar_regions_below, dmar_reserved_below, dmar_root_ports_below, dmar_scopes_below, dmar_unit_below, dmar_units_below, ivrs_entries_below, ivrs_faults_below, ivrs_memory_below, ivrs_regions_below, ivrs_unit_below, ivrs_units_below};
+ghost use Rattle.acpi_c_lib.specs.Words.{Answers, AnswersList, dmar_affinities_below, dmar_faults_below, dmar_flags_below, dmar_hpet_below, dmar_io_apic_below, dmar_regions_below, dmar_reserved_below, dmar_root_ports_below, dmar_scopes_below, dmar_unit_below, dmar_units_below, ivrs_entries_below, ivrs_faults_below, ivrs_memory_below, ivrs_regions_below, ivrs_unit_below, ivrs_units_below, structure_scopes_below};
 
 use acpi_c_lib::answer::answer;
 use acpi_c_lib::entry_faults::EntryFault;
@@ -7,7 +7,9 @@ use acpi_c_lib::iommu::{
     dmar_flags, dmar_hpet, dmar_io_apic, dmar_reserved, dmar_unit, ivrs_memory, ivrs_unit,
 };
 use acpi_c_lib::iommu_faults::{dmar_faults, ivrs_faults};
-use acpi_c_lib::iommu_lists::{dmar_scopes, dmar_units, ivrs_entries, ivrs_units};
+use acpi_c_lib::iommu_lists::{
+    dmar_scopes, dmar_structure_scopes, dmar_units, ivrs_entries, ivrs_units,
+};
 use acpi_c_lib::iommu_records::{
     DmarAffinity, DmarFlags, DmarReserved, DmarRootPorts, DmarScope, DmarSource, DmarUnit, Hop,
     IvrsDevice, IvrsEntry, IvrsMemory, IvrsUnit,
@@ -38,6 +40,21 @@ pub extern "C" fn zacpi_1_list_dmar_units(
     ensures { AnswersList result out.old out.new count.old count.new named.old named.new (dmar_units_below source.now) }
 {
     answer(dmar_units(source, out), count, named)
+}
+
+/// Lists the device scopes of the `index`-th of these units, from 0 on, up to the first byte at which none begins.
+#[unsafe(no_mangle)]
+pub extern "C" fn zacpi_1_list_dmar_scopes(
+    source: &Source<'_>,
+    index: usize,
+    out: &mut [DmarScope],
+    count: &mut usize,
+    named: &mut Signature,
+) -> u32
+    ensures { AnswersList result out.old out.new count.old count.new named.old named.new
+        (dmar_scopes_below source.now index) }
+{
+    answer(dmar_scopes(source, index, out), count, named)
 }
 
 /// Lists the memory that is reserved for devices: the RMRRs, also those that are no range, up to the first byte at
@@ -86,7 +103,7 @@ pub extern "C" fn zacpi_1_list_dmar_affinities(
 /// Lists the device scopes of a structure, up to the first byte at which none begins: of the `index`-th, from 0 on, of
 /// a Type, of enum zacpi_dmar_type, which is the `index`-th item of the list of its Type.
 #[unsafe(no_mangle)]
-pub extern "C" fn zacpi_1_list_dmar_scopes(
+pub extern "C" fn zacpi_1_list_dmar_structure_scopes(
     source: &Source<'_>,
     structure_type: u16,
     index: usize,
@@ -95,10 +112,10 @@ pub extern "C" fn zacpi_1_list_dmar_scopes(
     named: &mut Signature,
 ) -> u32
     ensures { AnswersList result out.old out.new count.old count.new named.old named.new
-        (dmar_scopes_below source.now structure_type index) }
+        (structure_scopes_below source.now structure_type index) }
 {
     answer(
-        dmar_scopes(source, structure_type, index, out),
+        dmar_structure_scopes(source, structure_type, index, out),
         count,
         named,
     )
