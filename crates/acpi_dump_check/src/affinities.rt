@@ -29,7 +29,7 @@ slit-too-few warning ACPI 6.5, section 5.2.17 | A domain of the SRAT isn't one o
 ";
 
 // The lists of numbers that are judged together: the processors of the SRAT, by the ids of their local APICs and by
-// their UIDs, those of the MADT, and those of the MADT that are enabled.
+// their UIDs, the processors of the MADT, and the enabled ones of these.
 const PLACED_APICS: u64 = 0;
 
 const PLACED_UIDS: u64 = 1;
@@ -82,7 +82,7 @@ pub(crate) fn check_affinities(machine: &Machine<'_>, findings: &mut Findings) {
     }
 }
 
-/// Adds the processors of a MADT. It answers whether these can be compared: local SAPICs the SRAT names by two numbers.
+/// Adds the processors of a MADT. Returns whether these can be compared: local SAPICs the SRAT names by two numbers.
 fn add_processors(madt: &[u8], numbers: &mut Numbers) -> bool {
     let mut has_sapic = false;
     for (offset, entry) in Pieces::of(madt, 44, (1, 1)) {
@@ -184,7 +184,7 @@ const LACKING: [(u64, u64, &str, &str); 4] = [
     ),
 ];
 
-/// Judges the processors of a MADT and those of a SRAT beside each other.
+/// Judges the processors of a MADT beside the processors of a SRAT.
 fn check_processors(srat: usize, madt: usize, numbers: &Numbers, findings: &mut Findings) {
     for (list, number, offset) in numbers.all.iter() {
         for (of, other, id, words) in &LACKING {

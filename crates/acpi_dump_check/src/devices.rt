@@ -134,7 +134,7 @@ fn check_regions(mcfg: Table<'_>, findings: &mut Findings) {
     }
 }
 
-/// Judges where a region lies, by its base and its last bus.
+/// Judges where a region is, by its base and its last bus.
 fn check_base(mcfg: usize, offset: usize, base: u64, last: u64, findings: &mut Findings) {
     if base % (1 << 20) != 0 {
         findings.add("mcfg-unaligned", mcfg, offset, &[base]);
@@ -159,7 +159,7 @@ pub(crate) fn register_at(bytes: &[u8], offset: usize) -> Option<(u64, u64)> {
     Some((field(register, 0, 1), field(register, 4, 8)))
 }
 
-/// Whether a DBG2 gives registers of serial ports, and all are other ones.
+/// Whether a DBG2 has registers of serial ports, and all are other ones.
 fn has_other_ports(debug: &[u8], register: (u64, u64)) -> bool {
     let mut has_some = false;
     let start = field(debug, 36, 4) as usize; // OffsetDbgDeviceInfo

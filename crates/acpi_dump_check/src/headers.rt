@@ -154,7 +154,7 @@ fn check_status(entry: &Entry<'_>, index: usize, findings: &mut Findings) {
     findings.add_text("header-refused", index, offset, &text);
 }
 
-/// Judges the letters, the length and the revision in the header of a table of a name. It answers whether the revision
+/// Judges the letters, the length and the revision in the header of a table of a name. Returns whether the revision
 /// is known, or none of that name is.
 fn check_form(table: &[u8], index: usize, name: &str, findings: &mut Findings) -> bool {
     for (offset, end) in [(10usize, 16usize), (16, 24), (28, 32)].iter() {

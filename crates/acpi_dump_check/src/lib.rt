@@ -1,8 +1,8 @@
 //! The judgement of an input's tables by rules: what firmware has wrong, by the specifications that define the tables.
 //!
 //! A rule is a line of its subject's `RULES`, and code of the subject that adds a finding by the rule's id. A line is `ID
-//! SEVERITY SECTION | WHAT | MESSAGE`: what the rule finds, the section that it rests on, and what a finding says, in which
-//! `#` and `%` stand for its numbers. A rule without a message has several, or one that tells a value.
+//! SEVERITY SECTION | WHAT | MESSAGE`: what the rule finds, the section that it rests on, and the message of a finding, in
+//! which `#` and `%` stand for its numbers. A rule without a message has several, or one that tells a value.
 #![tactic(auto)]
 
 mod affinities;

@@ -11,7 +11,7 @@ pub struct Machine<'a> {
     pub entries: &'a [Entry<'a>],
     /// The RSDP that leads to the root table, or no bytes if none is known.
     pub rsdp: &'a [u8],
-    /// The RSDT that this RSDP gives beside an XSDT, or no bytes.
+    /// The RSDT that this RSDP has beside an XSDT, or no bytes.
     pub rsdt: &'a [u8],
 }
 
@@ -35,7 +35,7 @@ impl<'a> Machine<'a> {
         Some(Table { index, bytes })
     }
 
-    /// The first table of a signature, as `table` gives it.
+    /// The first table of a signature, as `table` returns it.
     pub(crate) fn first(&self, signature: Signature) -> Option<Table<'a>> {
         for index in 0..self.entries.len() {
             if let Some(table) = self.table(index, signature) {

@@ -1,9 +1,9 @@
-//! The pieces of a table, one after the other, each of which gives its length.
+//! The pieces of a table, one after the other, each of which has its length.
 
 use acpi::sdt::field;
 use acpi_base::bytes::skip;
 
-/// Where a piece has its length: at an offset, of so many bytes.
+/// Where a piece has its length: at an offset, in this many bytes.
 pub(crate) type LengthPlace = (usize, usize);
 
 /// The pieces from an offset of a table on, in order: the offset of each, and its bytes. It ends where no piece begins:

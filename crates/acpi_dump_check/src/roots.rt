@@ -28,7 +28,7 @@ const SINGLE: &str =
     "APIC BERT BGRT CPEP DBG2 DMAR DSDT ECDT EINJ ERST FACP FACS FPDT GTDT HEST HMAT IORT IVRS \
                       MCFG MSCT NFIT PCCT PPTT RHCT SBST SLIT SPCR SRAT TPM2 WAET WDAT WSMT";
 
-/// The pointers of the root table, and those of the RSDT beside it, as lists of numbers.
+/// The pointers of the root table, and of the RSDT beside it, as lists of numbers.
 const LISTED: u64 = 0;
 
 const BESIDE: u64 = 1;
@@ -56,7 +56,7 @@ pub(crate) fn check_roots(machine: &Machine<'_>, findings: &mut Findings) {
     check_overlap(machine, findings);
 }
 
-/// Adds the pointers of a root table, each of so many bytes, to a list.
+/// Adds the pointers of a root table, each of `width` bytes, to a list.
 fn add_pointers(list: u64, table: &[u8], width: usize, pointers: &mut Numbers) {
     let mut offset = 36usize;
     for pointer in table.get(36..).unwrap_or(&[]).chunks(width.max(1)) {
@@ -67,7 +67,7 @@ fn add_pointers(list: u64, table: &[u8], width: usize, pointers: &mut Numbers) {
     }
 }
 
-/// Judges the pointers of the root table, and compares those of an XSDT with those of the RSDT that is beside it.
+/// Judges the pointers of the root table, and compares an XSDT with the RSDT that is beside it.
 fn check_pointers(table: usize, has_beside: bool, pointers: &mut Numbers, findings: &mut Findings) {
     findings.add_repeated(&["root-listed-twice"], table, pointers);
     for (list, address, offset) in pointers.all.iter() {
@@ -108,7 +108,8 @@ fn check_revision(machine: &Machine<'_>, rsdt: usize, findings: &mut Findings) {
     findings.add_words("root-rsdt-in-use", rsdt, 0, words, &[revision]);
 }
 
-/// Finds that the root table lists no FADT, or no MADT, if an RSDP leads to it and the input has all tables that it lists.
+/// Finds that the root table lists no FADT, or no MADT, if an RSDP leads to it and the input has all tables that it
+/// lists.
 fn check_listed(machine: &Machine<'_>, root: usize, findings: &mut Findings) {
     if machine.rsdp.is_empty() {
         return;

@@ -5,7 +5,7 @@ use acpi_dump_input::judgement::{Rule, Severity};
 use acpi_dump_walk::language::{cut_at, next_word};
 use std::alloc::{AllocError, Global};
 
-/// What stands in place of a rule that no line describes.
+/// In place of a rule that no line describes.
 pub(crate) const UNKNOWN: Rule = Rule {
     id: "",
     severity: Severity::Error,

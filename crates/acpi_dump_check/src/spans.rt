@@ -7,7 +7,7 @@ use crate::findings::Findings;
 pub(crate) struct Span {
     pub(crate) first: u64,
     pub(crate) last: u64,
-    /// Where the table gives it.
+    /// Where the table has it.
     pub(crate) offset: usize,
     /// What it belongs to.
     pub(crate) owner: u64,

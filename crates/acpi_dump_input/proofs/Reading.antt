@@ -1,4 +1,4 @@
--- What stands at the front of what is read: a line of a text, a pair of digits, the numbers of a record.
+-- What comes at the front of what is read: a line of a text, a pair of digits, the numbers of a record.
 use Rattle.std.proofs.Common.{◌≡◌, ℕ, ◌+◌, ◌<◌, ◌≤◌, ◌==◌, Bool, true, false, List, [], ◌∷◌, length, refl, ap, arith, if◌then◌else◌, zero, suc, ◌-◌, ◌++◌, Some, None, ◌^◌, w64, take, Ok, Err}
 use Rattle.acpi_base.specs.FromStd.{after_first, before_first, to_le_bytes}
 use Rattle.acpi_dump_input.specs.DumpText.{Tables, all_of, lines_of, onto_first, or_wrong, tables_from, with_line, begins_with_gap, first_pair, with_pairs}
@@ -32,7 +32,7 @@ lines_step (c ∷ d ∷ text) h =
       | false ↦ λ is. rw (before_more c (d ∷ text) is, after_more c (d ∷ text) is, more) refl
     ]) refl
 
--- what stands after the first line is shorter
+-- what comes after the first line is shorter
 pub after_shorter : (text : List ℕ) → 0 < length text → length (after_first feed text) < length text
 after_shorter text h = grind (arith, common_steps)
 

@@ -4,7 +4,7 @@ use Rattle.std.specs.Prelude.{ℕ, ◌+◌, ◌*◌, ◌==◌, Bool, true, ◌&&
 use Rattle.acpi_base.specs.FromStd.{digit_value, is_digit, after_first, before_first, starts_with, trim, trim_start}
 use Rattle.acpi_cli.specs.Numbers.{address_of, numeral}
 
--- the lines of a text: what stands before each line feed, and after the last one if that isn't the end
+-- the lines of a text: what comes before each line feed, and after the last one if that isn't the end
 abbrev pub onto_first : ℕ → List (List ℕ) → List (List ℕ)
 onto_first c [] = (c ∷ []) ∷ []
 onto_first c (line ∷ lines) = (c ∷ line) ∷ lines
@@ -15,7 +15,7 @@ lines_of (c ∷ text) = if c == 10 then [] ∷ lines_of text else onto_first c (
 
 -- ---- a row
 
--- what ends a pair of digits, or stands in place of one: a space, or the carriage return before a line feed
+-- what ends a pair of digits, or is in place of one: a space, or the carriage return before a line feed
 abbrev pub is_gap : ℕ → Bool
 is_gap c = c == 32 || c == 13
 
@@ -28,7 +28,7 @@ unfoldable pub byte_of : ℕ → ℕ → Option ℕ
 byte_of high low =
     if is_digit high 16 && is_digit low 16 then Some (digit_value high * 16 + digit_value low) else None
 
--- the byte of the pair that a text begins with, and what stands after it and its gap
+-- the byte of the pair that a text begins with, and what comes after it and its gap
 abbrev pub first_pair : List ℕ → Option (ℕ × List ℕ)
 first_pair [] = None
 first_pair (high ∷ []) = None
@@ -43,7 +43,7 @@ with_pairs (suc n) bytes text =
     if begins_with_gap text then Some bytes
     else option_and_then (λ p. with_pairs n (bytes ++ p.0 ∷ []) p.1) (first_pair text)
 
--- a row: the offset, one to eight hexadecimal digits, and what stands after a colon and a space
+-- a row: the offset, one to eight hexadecimal digits, and what comes after a colon and a space
 abbrev pub after_space : List ℕ → Option (List ℕ)
 after_space text = if starts_with nat_eq text (codes " ") then Some (drop 1 text) else None
 
@@ -54,11 +54,11 @@ row_of line =
 
 -- ---- tables
 
--- the address that a heading gives, after an `@`
+-- the address in a heading, after an `@`
 unfoldable pub heading_of : List ℕ → Option ℕ
 heading_of line = address_of (trim (after_first (λ c. c == 64) line))
 
--- a table: the address that its heading gives, and the bytes of its rows
+-- a table: the address in its heading, and the bytes of its rows
 pub record Spelled : Type 0 where
   pub address : ℕ
   pub bytes : List ℕ

@@ -1,4 +1,4 @@
-//! The RSDPs in memory, valid or not (section 5.2.5.1): each lies at a multiple of 16.
+//! The RSDPs in memory, valid or not (section 5.2.5.1): each is at a multiple of 16.
 
 use acpi::rsdp::Rsdp;
 use acpi::{AcpiError, AcpiResult, AddressRange, PhysicalRecord};
@@ -8,14 +8,14 @@ use std::alloc::{AllocError, Global};
 
 const SIGNATURE: &[u8] = b"RSD PTR ";
 
-/// An RSDP, by its signature: where it lies, and what its fields say.
+/// An RSDP, by its signature: where it is, and its fields.
 #[derive(Clone, Copy)]
 pub struct Candidate {
     /// The physical address of its first byte.
     pub address: u64,
     /// The refusal of the first check that it fails.
     pub refusal: Option<AcpiError>,
-    /// The fields of its 36 bytes, if so many are lent.
+    /// The fields of its 36 bytes, if all of them are in memory.
     pub fields: Option<Pointers>,
 }
 
@@ -27,7 +27,7 @@ pub struct Pointers {
     pub xsdt: Option<u64>,
 }
 
-/// The candidate that bytes begin with, which go on to the end of what is lent.
+/// The candidate that bytes begin with, which go on to the end of the memory's record.
 fn candidate_of(address: u64, lent: &[u8]) -> Candidate {
     if lent.len() < Rsdp::MIN_LENGTH {
         return Candidate {
@@ -67,8 +67,8 @@ pub(crate) fn check_file(bytes: &[u8]) -> AcpiResult<()> {
 /// Where the BIOS areas end.
 const BIOS_END: u64 = 0x10_0000;
 
-/// Whether an RSDP may be at an address: in the BIOS areas at a multiple of 16 (section 5.2.5.1). A pointer of UEFI leads
-/// to any other, and EDK2 puts it at a multiple of 8.
+/// Whether an RSDP may be at an address: in the BIOS areas at a multiple of 16 (section 5.2.5.1). A pointer of UEFI
+/// leads to any other, and EDK2 puts it at a multiple of 8.
 fn is_place(address: u64) -> bool {
     address % 16 == 0 || (address % 8 == 0 && address >= BIOS_END)
 }
@@ -104,7 +104,7 @@ pub fn candidates(alloc: Global, image: &MemoryImage<'_>) -> Result<Vec<Candidat
     Ok(found)
 }
 
-/// Where the extended BIOS data area begins: 16 times the word at 0x40e, if that is lent.
+/// Where the extended BIOS data area begins: 16 times the word at 0x40e, if the memory has it.
 pub fn ebda_of(lent: &[u8]) -> Option<u64> {
     if lent.len() < 2 {
         return None;

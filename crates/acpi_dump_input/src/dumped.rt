@@ -5,7 +5,7 @@ use crate::machine::letters_of;
 use acpi_dump_walk::fields::print_text;
 use acpi_dump_walk::out::Out;
 
-/// Prints the letters by which a table is named: those of its signature, an RSDP's without its blanks. A byte that is
+/// Prints the letters by which a table is named, which are its signature, an RSDP's without its blanks. A byte that is
 /// none of a file's name, or would be read as more than one, is two hexadecimal digits.
 pub(crate) fn print_letters(table: &[u8], out: &mut Out) {
     let letters = if table.starts_with(b"RSD PTR ") {
@@ -22,7 +22,7 @@ pub(crate) fn print_letters(table: &[u8], out: &mut Out) {
     }
 }
 
-/// Prints a table: a heading with its address, or 0 if nothing gives one, rows of its bytes, and a blank line.
+/// Prints a table: a heading with its address, or 0 if that isn't known, rows of its bytes, and a blank line.
 pub fn print_dumped(entry: &Entry<'_>, out: &mut Out) {
     let address = entry.place.address().unwrap_or(0);
     print_letters(entry.bytes, out);

@@ -17,19 +17,19 @@ use acpi_dump_walk::out::Out;
 use acpi_image_reader::MemoryImage;
 use std::alloc::{AllocError, Global};
 
-/// Where a table lies.
+/// Where a table is.
 #[derive(Clone, Copy)]
 pub enum Place<'a> {
     /// At a physical address.
     Address(u64),
     /// In a file.
     File(&'a str),
-    /// Nothing says where.
+    /// That isn't known.
     Nowhere,
 }
 
 impl Place<'_> {
-    /// The physical address, if it lies at one.
+    /// The physical address, if it is at one.
     pub fn address(self) -> Option<u64> {
         match self {
             Place::Address(address) => Some(address),
@@ -42,9 +42,9 @@ impl Place<'_> {
 #[derive(Clone, Copy)]
 pub struct Entry<'a> {
     pub place: Place<'a>,
-    /// The signature that it should have, if something says so.
+    /// The signature that it should have, if that is known.
     pub sought: Option<Signature>,
-    /// Its bytes: those that there are, and no more than its length says.
+    /// Its bytes up to its length, as far as they are there.
     pub bytes: &'a [u8],
     pub status: Status,
 }
@@ -55,7 +55,7 @@ impl<'a> Entry<'a> {
         cut_to_length(self.bytes)
     }
 
-    /// The signature that it begins with, if it has so many bytes.
+    /// The signature that it begins with, if it has four bytes.
     pub fn signature(&self) -> Option<Signature> {
         signature_of(self.bytes)
     }
@@ -67,7 +67,7 @@ impl<'a> Entry<'a> {
     }
 }
 
-/// The signature that bytes begin with, if there are so many.
+/// The signature that bytes begin with, if there are four.
 fn signature_of(bytes: &[u8]) -> Option<Signature> {
     match bytes {
         [a, b, c, d, ..] => Some(Signature::from_bytes([*a, *b, *c, *d])),
@@ -90,7 +90,7 @@ pub fn header_of(entry: &Entry<'_>) -> Option<SdtHeader> {
     }
 }
 
-/// Prints what a table is called and where it lies.
+/// Prints what a table is called and where it is.
 pub fn print_name(entry: &Entry<'_>, out: &mut Out) {
     match entry.signature().or(entry.sought) {
         Some(signature) => out.escaped(&signature.to_bytes()),
@@ -118,7 +118,7 @@ fn is_same(signature: Option<Signature>, letters: &[u8; 4]) -> bool {
     }
 }
 
-/// As many of the bytes as the length field at offset 4 says, and at least a header, as far as there are any.
+/// The bytes up to the length in the field at offset 4, and at least a header, as far as they are there.
 fn cut_to_length(lent: &[u8]) -> &[u8] {
     let length = field(lent, 4, 4).max(36) as usize;
     lent.get(..length).unwrap_or(lent)
@@ -152,7 +152,7 @@ fn check_lookup(signature: Signature, bytes: &[u8]) -> AcpiResult<()> {
 }
 
 /// What the checks of section 5.2.6 say of a table that should have this signature, over the bytes that there are
-/// from its first one on. A table that is cut is refused as `cut` says.
+/// from its first one on. The error of a table that is cut is `cut`.
 fn check_header(lent: &[u8], signature: Signature, cut: AcpiError) -> Status {
     if lent.len() < SdtHeader::MIN_LENGTH {
         return Status::Refused(cut);
@@ -254,7 +254,7 @@ pub fn entries_of_files(alloc: Global, files: &[TableFile]) -> Result<Vec<Entry<
     Ok(entries)
 }
 
-/// The bytes of a memory from an address to the end of its record, or none if it lies in no record. They are the file's
+/// The bytes of a memory from an address to the end of its record, or none if it is in no record. They are the file's
 /// own: the memory isn't asked for them as a handler is, so no notice is due.
 pub fn bytes_from<'i>(image: &MemoryImage<'i>, address: u64) -> &'i [u8] {
     for record in image.records() {
@@ -303,8 +303,8 @@ fn entry_led<'i>(
     }
 }
 
-/// The addresses of the DSDT and of the FACS in a valid FADT, if one is listed. A machine of reduced hardware needn't have
-/// a FACS: both fields of its address are 0 then (section 5.2.9).
+/// The addresses of the DSDT and of the FACS in a valid FADT, if one is listed. A machine of reduced hardware needn't
+/// have a FACS: both fields of its address are 0 then (section 5.2.9).
 fn addresses_in(
     tables: &AcpiTables<'_, MemoryImage<'_>>,
 ) -> Option<(AcpiResult<u64>, Option<AcpiResult<u64>>)> {

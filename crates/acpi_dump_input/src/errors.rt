@@ -7,7 +7,7 @@ use std::fmt::Display;
 /// Why nothing more is shown.
 #[derive(Clone, Copy)]
 pub enum Stop {
-    /// A message says why.
+    /// A message was printed.
     Message,
     /// The allocator refused memory.
     OutOfMemory,

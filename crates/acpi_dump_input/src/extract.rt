@@ -58,7 +58,7 @@ fn print_numbered(names: &str, line: usize, name: &str, out: &mut Out) {
     }
 }
 
-/// Saves a file, or says why it isn't saved. It answers whether it is.
+/// Saves a file, or prints why it isn't saved. Returns whether it is.
 ///
 /// Fails if memory runs out.
 #[tactic(auto, using(crate::proofs::Within::none_named, crate::proofs::Within::one_named))]
@@ -91,7 +91,7 @@ pub fn save_file<S: Sources, T: Storage>(
     Ok(true)
 }
 
-/// Saves a table under a name in a folder, and prints it with what the checks say, or says why it isn't saved.
+/// Saves a table under a name in a folder, and prints it with the result of its checks, or prints why it isn't saved.
 ///
 /// Fails if memory runs out.
 #[tactic(auto, using(crate::proofs::Within::none_added, crate::proofs::Within::named_added))]

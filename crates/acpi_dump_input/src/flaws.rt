@@ -16,7 +16,7 @@ impl Show for Flaws {
     }
 }
 
-/// Whether a part of a table isn't as its layout says.
+/// Whether a part of a table doesn't match its layout.
 pub(crate) fn is_malformed(table: &[u8]) -> bool {
     let mut flaws = Flaws { are_some: false };
     walk_table(own_signature(table), table, &mut flaws);

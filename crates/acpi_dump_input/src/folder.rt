@@ -70,7 +70,7 @@ fn add_names<S: Sources>(
 
 /// Adds the tables of a folder.
 ///
-/// Fails, after saying why, if there are none.
+/// Fails, after printing why, if there are none.
 pub(crate) fn add_folder<S: Sources>(
     alloc: Global,
     tables: &mut Vec<TableFile>,

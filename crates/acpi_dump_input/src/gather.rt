@@ -25,7 +25,7 @@ pub enum Input {
 
 /// Memory from an address on, as an image.
 ///
-/// Fails, after saying so, if it would end too high.
+/// Fails, after printing that, if it would end too high.
 fn memory_from(
     alloc: Global,
     name: &str,
@@ -104,7 +104,7 @@ fn gather_tables<S: Sources>(
 
 /// The input that words name, or the machine's own tables if there are no words.
 ///
-/// Fails, after saying why, if something isn't there or isn't what it should be, or if memory runs out.
+/// Fails, after printing why, if something isn't there or isn't what it should be, or if memory runs out.
 pub fn gather<S: Sources>(
     alloc: Global,
     names: &[&str],

@@ -52,7 +52,7 @@ pub struct Rule {
     pub section: &'static str,
     /// What it finds.
     pub what: &'static str,
-    /// What a finding says, as `Out::words` prints it, or no letters if only its code tells.
+    /// The message of a finding, as `Out::words` prints it, or no letters if code makes the message.
     pub message: &'static str,
 }
 
@@ -85,7 +85,7 @@ impl Judgement {
         self.list.as_slice()
     }
 
-    /// What a finding says.
+    /// The message of a finding.
     pub fn message(&self, finding: &Finding) -> &str {
         let length = finding.end.saturating_sub(finding.start);
         let message = self.text.since(finding.start).get(..length);

@@ -48,7 +48,7 @@ pub(crate) fn begins_as_table(bytes: &[u8]) -> bool {
     }
 }
 
-/// Whether bytes are a table by their length field, which stands at offset 4, or an RSDP.
+/// Whether bytes are a table by their length field, which is at offset 4, or an RSDP.
 fn is_whole_table(bytes: &[u8]) -> bool {
     begins_as_table(bytes) && field(bytes, 4, 4) == bytes.len() as u64
 }

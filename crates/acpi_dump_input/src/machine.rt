@@ -24,7 +24,7 @@ fn single_of(bytes: &[u8]) -> usize {
     number
 }
 
-/// These tables, less those of which another one comes before: it says which these are.
+/// These tables, less each one whose signature another one before it has: it prints which these are.
 ///
 /// Fails if memory runs out.
 pub(crate) fn of_one_machine(
@@ -48,7 +48,7 @@ pub(crate) fn of_one_machine(
     Ok(kept)
 }
 
-/// Says that a table isn't shown, beside the first of its signature.
+/// Prints that a table isn't shown, beside the first of its signature.
 fn tell_second(table: &TableFile, first: &TableFile, log: &mut Log) {
     let (name, other) = (table.name.as_str(), first.name.as_str());
     let letters = str::from_utf8(letters_of(&table.bytes))

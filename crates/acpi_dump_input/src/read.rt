@@ -1,4 +1,4 @@
-//! Reading what a name leads to, and saying why if the system refuses it.
+//! Reading what a name leads to, with a message if the system returns an error.
 
 use crate::errors::{Log, Stop, fail};
 use crate::kind::{Kind, kind_of};
@@ -9,7 +9,7 @@ use std::alloc::Global;
 
 /// Whether a word names a folder.
 ///
-/// Fails, after saying why, if the system refuses it.
+/// Fails, after printing why, if the system returns an error.
 pub(crate) fn is_folder<S: Sources>(
     name: &str,
     files: &mut S,
@@ -26,7 +26,7 @@ pub(crate) fn is_folder<S: Sources>(
 
 /// The bytes of an input, which is standard input if its name is `-`.
 ///
-/// Fails, after saying why, if the system refuses it.
+/// Fails, after printing why, if the system returns an error.
 pub(crate) fn read_any<S: Sources>(
     alloc: Global,
     name: &str,
@@ -66,9 +66,9 @@ impl Reading {
         }
     }
 
-    /// The kind of an input, and its bytes: those of a text in UTF-16 as one in ASCII.
+    /// The kind of an input, and its bytes: a text in UTF-16 as one in ASCII.
     ///
-    /// Fails, after saying why, if the system refuses the input or it is empty.
+    /// Fails, after printing why, if the system returns an error or the input is empty.
     pub(crate) fn read<S: Sources>(
         self,
         alloc: Global,

@@ -11,7 +11,7 @@ use std::alloc::AllocError;
 pub(crate) struct Row<'t> {
     /// The number before the colon: how many bytes of the table stand before the row.
     pub(crate) offset: u64,
-    /// What stands after the colon and a space: the pairs, and then the bytes as characters.
+    /// What comes after the colon and a space: the pairs, and then the bytes as characters.
     pub(crate) pairs: &'t [u8],
 }
 
@@ -40,7 +40,7 @@ fn byte_of(high: u8, low: u8) -> Option<u8>
     Some((high * 16 + low) as u8)
 }
 
-/// Whether a byte ends a pair, or stands in place of one: a space or the carriage return of a line's end.
+/// Whether a byte ends a pair, or is in place of one: a space or the carriage return of a line's end.
 fn is_blank(byte: u8) -> bool
     ensures { result ≡ is_gap byte }
 {
@@ -57,7 +57,7 @@ fn ends(text: &[u8]) -> bool
     }
 }
 
-/// The pair that a text begins with, and what stands after it and its space, or `None` if it begins with none.
+/// The pair that a text begins with, and what comes after it and its space, or `None` if it begins with none.
 fn first_pair(text: &[u8]) -> Option<(u8, &[u8])>
     ensures { option_map (λ p. (p.0, p.1.now)) result ≡ pair_of text.now }
 {
@@ -68,7 +68,7 @@ fn first_pair(text: &[u8]) -> Option<(u8, &[u8])>
     }
 }
 
-/// Adds the bytes that up to 16 pairs spell, up to a gap in place of one or the end of the text, and answers whether
+/// Adds the bytes that up to 16 pairs spell, up to a gap in place of one or the end of the text, and returns whether
 /// all of that are pairs.
 ///
 /// Fails if memory runs out.

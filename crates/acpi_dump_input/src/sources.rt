@@ -14,7 +14,7 @@ pub enum Kind {
     Other,
 }
 
-/// What lies in a folder.
+/// What is in a folder.
 #[derive(Drop)]
 pub struct Listing {
     /// The names, in no order.
@@ -30,19 +30,20 @@ pub trait Sources {
     /// Fails if the system doesn't say what it leads to.
     fn kind_of(&mut self, name: &str) -> io::Result<Kind>;
 
-    /// The names of what lies in a folder.
+    /// The names of what is in a folder.
     ///
-    /// Fails if the system refuses the folder, or memory runs out.
+    /// Fails if the system returns an error, or memory runs out.
     fn names_in(&mut self, alloc: Global, folder: &str) -> io::Result<Listing>;
 
     /// The bytes of a file.
     ///
-    /// Fails if the system refuses the file, if it has more than so many bytes (`FileTooLarge`), or if memory runs out.
+    /// Fails if the system returns an error, if the file has more than `most` bytes (`FileTooLarge`), or if memory runs
+    /// out.
     fn read(&mut self, alloc: Global, name: &str, most: u64) -> io::Result<Vec<u8>>;
 
     /// All bytes of standard input.
     ///
-    /// Fails if the system refuses them, if they are more than so many (`FileTooLarge`), or if memory runs out.
+    /// Fails if the system returns an error, if they are more than `most` (`FileTooLarge`), or if memory runs out.
     fn read_standard_input(&mut self, alloc: Global, most: u64) -> io::Result<Vec<u8>>;
 
     /// Whether standard output is a terminal that has colors, whose user hasn't set `NO_COLOR`.
@@ -110,7 +111,7 @@ impl Sources for HostSources<'_> {
     }
 }
 
-/// All bytes of a reader, if they are at most so many.
+/// All bytes of a reader, if they are at most `most`.
 fn read_at_most<R: Read + Drop>(alloc: Global, reader: R, most: u64) -> io::Result<Vec<u8>> {
     let mut bytes = Vec::new(alloc);
     reader.take(most.saturating_add(1)).read_to_end(&mut bytes)?;
@@ -126,7 +127,7 @@ fn push_name(alloc: Global, names: &mut Vec<String>, name: &str) -> Result<(), A
     Ok(names.push(name)?)
 }
 
-/// Why the system refuses, in a few words.
+/// Why the system returns an error, in a few words.
 pub fn reason_of(error: &io::Error) -> &'static str {
     match error.kind() {
         ErrorKind::NotFound => "no such file or folder",

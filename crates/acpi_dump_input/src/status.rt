@@ -9,9 +9,9 @@ use std::fmt;
 pub enum Status {
     /// It is valid.
     Valid,
-    /// It is valid by its header and sum, but the lookup of its type refuses it.
+    /// It is valid by its header and sum, but the lookup of its type returns an error.
     NoLookup(AcpiError),
-    /// A check refuses it.
+    /// A check returns an error.
     Refused(AcpiError),
     /// Its bytes don't sum to 0: its checksum, and the one by which they would (section 5.2.6).
     WrongSum {
@@ -19,22 +19,22 @@ pub enum Status {
         is: u8,
         should: u8,
     },
-    /// Fewer bytes are there than its length says.
+    /// Fewer bytes are there than its length has.
     Cut {
         refusal: AcpiError,
         has: usize,
         length: u32,
     },
-    /// It is valid, but so many bytes come after what its length says.
+    /// It is valid, but this many bytes come after its length.
     Longer(usize),
-    /// It is valid by its header and sum, but a part of it isn't as the layout of its type says.
+    /// It is valid by its header and sum, but a part of it doesn't match the layout of its type.
     Malformed,
-    /// A FADT gives its address, at which the input has no byte.
+    /// A FADT has its address, at which the input has no byte.
     NotHere,
 }
 
 impl Status {
-    /// Whether the table is read, as far as it is as its layout says.
+    /// Whether the table is read, as far as it matches its layout.
     pub fn is_read(self) -> bool {
         matches!(
             self,

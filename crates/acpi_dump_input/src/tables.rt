@@ -10,7 +10,7 @@ use std::alloc::{AllocError, Global};
 pub struct TableFile {
     /// The name of the file.
     pub name: String,
-    /// The physical address that a text gives for it.
+    /// The physical address that a text has for it.
     pub address: Option<u64>,
     /// Its bytes.
     pub bytes: Vec<u8>,
@@ -65,7 +65,7 @@ fn add_text(
 
 /// Adds the tables that bytes of this kind are.
 ///
-/// Fails, after saying why, if they are none.
+/// Fails, after printing why, if they are none.
 pub(crate) fn add_input(
     alloc: Global,
     tables: &mut Vec<TableFile>,

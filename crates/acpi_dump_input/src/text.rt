@@ -13,7 +13,7 @@ use std::alloc::{AllocError, Global};
 /// A table that a text spells.
 #[derive(Drop)]
 pub(crate) struct SpelledTable {
-    /// The physical address that its heading gives.
+    /// The physical address in its heading.
     pub(crate) address: u64,
     /// The bytes that its rows spell.
     pub(crate) bytes: Vec<u8>,
@@ -48,7 +48,7 @@ pub struct Reading {
     current: Option<SpelledTable>,
 }
 
-/// The first line of a text without its line feed, and what stands after that.
+/// The first line of a text without its line feed, and what comes after that.
 #[tactic(auto, using(crate::proofs::Reading::after_shorter))]
 pub(crate) fn first_line(text: &str) -> (&str, &str)
     ensures line { result.0.now ≡ before_first (λ c. c == 10) text.now }
@@ -61,7 +61,7 @@ pub(crate) fn first_line(text: &str) -> (&str, &str)
     }
 }
 
-/// The address that a line gives if it is a heading: after an `@`, `0x` and one to sixteen hexadecimal digits.
+/// The address in a line if it is a heading: after an `@`, `0x` and one to sixteen hexadecimal digits.
 #[tactic(auto, unfolding(crate::specs::DumpText::heading_of))]
 pub(crate) fn heading_in(line: &str) -> Option<u64>
     ensures { result ≡ heading_of line.now }
@@ -69,7 +69,7 @@ pub(crate) fn heading_in(line: &str) -> Option<u64>
     parse_address(after_at(line).trim())
 }
 
-/// What stands after the first `@` of a line, or nothing if it has none.
+/// What comes after the first `@` of a line, or nothing if it has none.
 fn after_at(line: &str) -> &str
     ensures { result.now ≡ after_first (λ c. c == 64) line.now }
 {
@@ -181,7 +181,7 @@ impl Reading {
 ///
 /// Fails with `Line` at the first line that is wrong: a row outside a table, or in a table a row whose offset
 /// isn't the number of the bytes before it or whose pairs can't be read, or a line that is neither row, heading nor
-/// blank. It refuses with `OutOfMemory` if memory runs out.
+/// blank. The error is `OutOfMemory` if memory runs out.
 #[tactic(auto, using(crate::proofs::Reading::lines_end, crate::proofs::Reading::lines_wrong, crate::proofs::Reading::lines_more, crate::proofs::Reading::after_shorter))]
 pub(crate) fn tables_in(alloc: Global, text: &str) -> Result<Vec<SpelledTable>, TextError>
     ensures spelled { IfOk result (λ v. tables_of text.now ≡ Ok (spelled_in v.items)) }

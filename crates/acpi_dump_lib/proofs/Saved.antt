@@ -20,12 +20,12 @@ none_named path = none (λ p. p ≡ path)
 pub none_in_one : (before after : List FileSaved) → after ≡ before → AddsInOne before after
 none_in_one before after e = ([], inl (none_added [] before after e))
 
--- by those of a folder
+-- by the files of a folder
 pub some_in_one : (folder : List ℕ) (before after : List FileSaved) → AddsWithin folder before after
     → AddsInOne before after
 some_in_one folder before after adds = (folder, inl adds)
 
--- by those of a path
+-- by the file of a path
 pub named_in_one : (path : List ℕ) (before after : List FileSaved) → AddsNamed path before after
     → AddsInOne before after
 named_in_one path before after adds = (path, inr adds)

@@ -101,7 +101,7 @@ fn parse_signature(word: &str) -> Option<Option<Signature>> {
     }
 }
 
-/// The way that `rsdt:REVISION:ADDRESS`, `rsdp:ADDRESS` or `bios` says.
+/// The way that `rsdt:REVISION:ADDRESS`, `rsdp:ADDRESS` or `bios` names.
 fn parse_start(word: &str) -> Option<Root> {
     let Some((form, rest)) = word.split_once(':') else {
         return parse_root(&[word]);
@@ -162,7 +162,7 @@ fn word_of<'w>(matches: &ArgMatches<'w>, option: &str) -> &'w str {
     matches.get_str(option).unwrap_or("")
 }
 
-/// The name that an option gives, if it is there and has letters.
+/// The value of an option, if it is there and has letters.
 fn name_of<'w>(matches: &ArgMatches<'w>, option: &str) -> Option<&'w str> {
     match matches.get_str(option) {
         Some("") => None,
@@ -187,7 +187,7 @@ impl<'w> Request<'w> {
         }));
     }
 
-    /// Keeps that the word of an option is wrong, if it is there and has no value. It answers the value.
+    /// Keeps that the word of an option is wrong, if it is there and has no value. Returns the value.
     fn checked<T: Copy>(
         &mut self,
         matches: &ArgMatches<'w>,
@@ -229,7 +229,7 @@ impl<'w> Request<'w> {
             .unwrap_or(Color::Auto);
     }
 
-    /// Adds the words that name inputs and fields, and those of a way to the root table that may follow the first.
+    /// Adds the words that name inputs and fields, and the words of a way to the root table that may follow the first.
     fn add_inputs(&mut self, matches: &ArgMatches<'w>) {
         let words = matches.get_strs("input").unwrap_or(&[]);
         let ignored = matches.get_strs("ignore").unwrap_or(&[]);

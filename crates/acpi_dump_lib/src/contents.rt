@@ -46,7 +46,7 @@ pub(crate) fn print_tables(entries: &[Entry<'_>], choices: &[Choice], paint: Pai
     }
 }
 
-/// Says of each signature that is chosen and has no table that it has none.
+/// Prints of each signature that is chosen and has no table that it has none.
 pub(crate) fn tell_missing(entries: &[Entry<'_>], choices: &[Choice], name: &str, log: &mut Log) {
     for choice in choices {
         let mut is_there = false;
@@ -61,7 +61,7 @@ pub(crate) fn tell_missing(entries: &[Entry<'_>], choices: &[Choice], name: &str
     }
 }
 
-/// Prints the contents of a table, under where it lies and, unless it is valid, what the checks say.
+/// Prints the contents of a table, under where it is and, unless it is valid, what the checks say.
 fn print_table(entry: &Entry<'_>, contents: Contents, paint: Paint, out: &mut Out) {
     if let Contents::Dumped = contents {
         return print_dumped(entry, out);

@@ -1,4 +1,4 @@
-//! One JSON document of what is shown. Its form stands in docs/acpi_dump.1.
+//! One JSON document of what is shown. Its form is described in docs/acpi_dump.1.
 //!
 //! The members of an object stand in the order of their names.
 
@@ -120,7 +120,7 @@ impl Document {
         }
     }
 
-    /// Adds an object that says why no more is shown from an offset on.
+    /// Adds an object with why no more is shown from an offset on.
     fn reason(&mut self, name: &str, why: &Out, offset: u64) {
         self.token(Token::BeginObject);
         self.printed(name, why);

@@ -1,11 +1,11 @@
-//! The answers of a FADT's getters, which take several fields together.
+//! What a FADT's getters return, which take several fields together.
 
 use acpi::address::GenericAddress;
 use acpi::fadt::Fadt;
 use acpi::{AcpiResult, PhysicalRecord};
 use acpi_dump_walk::out::Out;
 
-/// Prints the answers of the getters, if the table is as long as a FADT.
+/// Prints what the getters return, if the table is as long as a FADT.
 pub(crate) fn print_getters(table: &[u8], out: &mut Out) {
     if table.len() < Fadt::MIN_LENGTH {
         return;

@@ -74,7 +74,7 @@ fn print_line(entry: &Entry<'_>, width: usize, paint: Paint, out: &mut Out) {
     out.text("\n")
 }
 
-/// Prints where a table lies.
+/// Prints where a table is.
 fn print_place(place: Place<'_>, width: usize, out: &mut Out) {
     out.text(" ");
     let start = out.length();

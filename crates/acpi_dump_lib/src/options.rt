@@ -1,4 +1,4 @@
-//! The options, and what the help says of them.
+//! The options, and their help.
 
 use acpi::sdt::Signature;
 use acpi_dump_input::errors::Log;
@@ -7,7 +7,7 @@ use clap::{Arg, ArgAction, Command};
 use std::alloc::{AllocError, Global};
 
 /// The options, a line for each: what it is called, with its letter after a comma if it has one, what it takes, and
-/// what the help says of it. It takes nothing (`-`), one value, or with `..` after the value's name a value each time
+/// its help. It takes nothing (`-`), one value, or with `..` after the value's name a value each time
 /// that it comes, or several between commas, and in brackets a value that may follow after `=`.
 const OPTIONS: &str = "as KIND What the input is: image, memory, text or table
 at ADDRESS The address of raw memory's first byte
@@ -116,7 +116,7 @@ pub(crate) struct WrongWord<'w> {
     pub(crate) usage: &'static str,
 }
 
-/// Says which word is wrong, and what would be right.
+/// Prints which word is wrong, and what would be right.
 pub(crate) fn tell_word(log: &mut Log, wrong: WrongWord<'_>) {
     let WrongWord {
         option,

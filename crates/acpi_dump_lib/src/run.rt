@@ -16,12 +16,13 @@ use std::alloc::{AllocError, Global};
 use std::io;
 use std::io::{ErrorKind, Write};
 
-/// Runs the program on the arguments after its name, and answers the status: 0 if all is shown, 1 if something that
+/// Runs the program on the arguments after its name, and returns the status: 0 if all is shown, 1 if something that
 /// is asked for isn't there or can't be read, or if two inputs differ and `--exit-code` is given, 2 if the arguments
-/// are not a command, 3 if all is shown but a table is invalid and `--strict` is given, and 4 if `--check` finds an error.
+/// are not a command, 3 if all is shown but a table is invalid and `--strict` is given, and 4 if `--check` finds an
+/// error.
 ///
-/// Fails if memory runs out, or with the error of the first write or flush of `out`, or else of `err`, that is
-/// refused.
+/// Fails if memory runs out, or with the error of the first write or flush of `out`, or else of `err`, that
+/// fails.
 pub fn dump<S: Sources, T: Storage, W: Write + Drop, E: Write + Drop>(
     alloc: Global,
     arguments: &[&str],
@@ -190,9 +191,9 @@ fn gather_named<S: Sources>(
     gather(output.alloc, names, reading, sources, log)
 }
 
-/// Says that the process's arguments can't be had, as when one is not UTF-8, and answers the status.
+/// Prints that the process's arguments can't be had, as when one is not UTF-8, and returns the status.
 ///
-/// Fails if the writer refuses that.
+/// Fails if the write fails.
 pub fn refuse_arguments<E: Write + Drop>(refusal: &io::Error, mut err: E) -> io::Result<u8> {
     let why = match refusal.kind() {
         ErrorKind::OutOfMemory => "out of memory",

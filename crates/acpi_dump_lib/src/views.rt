@@ -91,7 +91,7 @@ impl<'w> Output<'_, 'w> {
 
 /// The memory or the tables that an input is.
 ///
-/// Fails, after saying why, if it is said to be an image and isn't one.
+/// Fails, after printing why, if it is said to be an image and isn't one.
 fn load<'i>(
     output: Output<'_, '_>,
     number: usize,
@@ -107,7 +107,7 @@ fn load<'i>(
     }
 }
 
-/// Says that there are several valid RSDPs.
+/// Prints that there are several valid RSDPs.
 fn tell_several(name: &str, addresses: &[u64], log: &mut Log) {
     begin(log, name);
     log.text.text("valid RSDPs at");
@@ -118,9 +118,9 @@ fn tell_several(name: &str, addresses: &[u64], log: &mut Log) {
 }
 
 /// The way to the root table of a memory: the one that is said, or the one RSDP that a search finds. If there are
-/// several, it says so, and takes the first.
+/// several, it prints that, and takes the first.
 ///
-/// Fails, after saying so, if there is none.
+/// Fails, after printing that, if there is none.
 fn start_of(
     output: Output<'_, '_>,
     number: usize,
@@ -145,7 +145,7 @@ fn start_of(
 
 /// The tables below the root table of a memory.
 ///
-/// Fails, after saying why, if there are none.
+/// Fails, after printing why, if there are none.
 fn open<'h, 'i>(
     output: Output<'_, '_>,
     number: usize,
@@ -158,7 +158,7 @@ fn open<'h, 'i>(
 
 /// The tables below the root table that a way leads to.
 ///
-/// Fails, after saying why, if there are none.
+/// Fails, after printing why, if there are none.
 fn open_at<'h, 'i>(
     output: Output<'_, '_>,
     number: usize,
@@ -178,7 +178,7 @@ fn open_at<'h, 'i>(
 
 /// The tables of an input.
 ///
-/// Fails, after saying why, if there are none.
+/// Fails, after printing why, if there are none.
 fn entries_in<'l>(
     output: Output<'_, '_>,
     number: usize,
@@ -215,7 +215,7 @@ pub(crate) fn print_input(
     }
 }
 
-/// Whether a start is given for tables: it says so.
+/// Whether a start is given for tables: it prints that.
 fn has_no_start(output: Output<'_, '_>, loaded: &Loaded<'_>, log: &mut Log) -> bool {
     let is_wrong = matches!(loaded, Loaded::Tables(_)) && output.request.start.is_some();
     if is_wrong {
@@ -227,7 +227,7 @@ fn has_no_start(output: Output<'_, '_>, loaded: &Loaded<'_>, log: &mut Log) -> b
 
 /// Saves the tables of an input as files of a folder.
 ///
-/// Fails, after saying why, if there are none, or if memory runs out.
+/// Fails, after printing why, if there are none, or if memory runs out.
 #[tactic(auto, using(crate::proofs::Saved::none_added))]
 pub(crate) fn save_input<S: Sources, T: Storage>(
     output: Output<'_, '_>,
@@ -314,7 +314,7 @@ fn print_found(
     Ok(0)
 }
 
-/// Adds the facts of an input, those of files by the valid ones, and answers its tables.
+/// Adds the facts of an input, of files by the valid ones, and returns its tables.
 fn add_facts_in<'l>(
     output: Output<'_, '_>,
     loaded: &'l Loaded<'_>,

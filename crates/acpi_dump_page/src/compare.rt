@@ -242,7 +242,7 @@ fn print_difference(difference: &Difference<'_>, out: &mut Out) {
     out.fill("$ -> $\n", &values);
 }
 
-/// The differences between the structures and items of two tables, less those of the names that are ignored.
+/// The differences between the structures and items of two tables, less the fields whose names are ignored.
 pub(crate) fn differences<'a>(
     alloc: Global,
     old: &'a Items,
@@ -259,7 +259,7 @@ pub(crate) fn differences<'a>(
     Ok(found.differences)
 }
 
-/// Shows the differences between two tables, and answers whether there are some.
+/// Shows the differences between two tables, and returns whether there are some.
 fn compare_pair<S: ShowDifferences>(
     alloc: Global,
     old: &Entry<'_>,
@@ -275,8 +275,8 @@ fn compare_pair<S: ShowDifferences>(
     Ok(!found.is_empty())
 }
 
-/// Shows the tables that are in one input alone, and of those in both the fields that differ, less those of the names
-/// that are ignored. It answers whether it shows something.
+/// Shows the tables that are in one input alone, and of tables in both the fields that differ, less the ones whose
+/// names are ignored. Returns whether it shows something.
 ///
 /// Fails if memory runs out.
 pub fn compare<S: ShowDifferences>(

@@ -92,7 +92,7 @@ fn signature_of(entry: &Entry<'_>) -> Signature {
     }
 }
 
-/// Adds the tables of an input as a page shows them beside those of the other one; of the first input only those that
+/// Adds the tables of an input as a page shows them beside the other one's; of the first input only those that
 /// the other one hasn't got.
 ///
 /// Fails if memory runs out.
@@ -151,7 +151,7 @@ pub fn print_page(source: Source<'_>, out: &mut Out) -> Result<(), AllocError> {
     print_outlined(source, &outlines, &old_outlines, out)
 }
 
-/// Prints the page of the tables of the input, and of those of the first one that aren't in it, by their structures and
+/// Prints the page of the tables of the input, and of the first one's that aren't in it, by their structures and
 /// fields.
 ///
 /// Fails if memory runs out.

@@ -10,14 +10,14 @@ use std::alloc::{AllocError, Global};
 /// The name of an item that is bytes which no field covers, up to 16 of them.
 pub(crate) const BYTES: &str = "bytes";
 
-/// The name of an item that says why the bytes after it aren't shown by the layout.
+/// The name of an item with why the bytes after it aren't shown by the layout.
 pub(crate) const MALFORMED: &str = "malformed";
 
 /// The ends of the names of fields that tell structures of one type apart.
 const IDS: &str = "ID|Source|MPIDR|Segment Group Number|Segment Number|Proximity Domain";
 
 /// A field or a run of bytes: the structure that it is in, where it is in the table and in the structure, its name, and
-/// where its value stands in the text of all values.
+/// where its value is in the text of all values.
 #[derive(Clone, Copy)]
 pub(crate) struct Item {
     pub(crate) part: usize,
@@ -28,13 +28,13 @@ pub(crate) struct Item {
     /// Its number if it is one of several of its name.
     pub(crate) number: Option<u64>,
     start: usize,
-    /// Where the meaning stands after the value.
+    /// Where the meaning is after the value.
     middle: usize,
     end: usize,
 }
 
 /// A structure, of which the first is the whole table: the one that it is in, where it is, what it is called, its place
-/// among those of its name, and between which places its items stand, with those of the structures in it.
+/// among the ones of its name, and between which places its items are, with the items of the structures in it.
 #[derive(Clone, Copy)]
 pub(crate) struct Part {
     pub(crate) parent: usize,
@@ -46,7 +46,7 @@ pub(crate) struct Part {
     place: u64,
     pub(crate) first: usize,
     pub(crate) last: usize,
-    /// The name of the first field that tells it apart, and where its value stands.
+    /// The name of the first field that tells it apart, and where its value is.
     id: Option<Item>,
 }
 
@@ -73,7 +73,7 @@ fn is_id(name: &str) -> bool {
 }
 
 impl Items {
-    /// Adds an item of so many bytes, whose value and meaning are what was printed from two places of the text on.
+    /// Adds an item of `length` bytes, whose value and meaning are what was printed from two places of the text on.
     fn add(&mut self, offset: u64, length: usize, name: &'static str, places: (usize, usize)) {
         let begin = match self.parts.get(self.open) {
             Some(part) => part.offset,
@@ -93,7 +93,7 @@ impl Items {
         self.is_refused |= self.items.push(item).is_err();
     }
 
-    /// The place of a new structure among those of its name in the one that is open.
+    /// The place of a new structure among the ones of its name in the one that is open.
     fn place_of(&self, name: &str) -> u64 {
         for part in self.parts.iter().rev() {
             if part.parent == self.open && part.name == name {

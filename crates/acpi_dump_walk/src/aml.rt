@@ -69,20 +69,20 @@ impl Ends {
     }
 }
 
-/// What stands after an object's opcode.
+/// What comes after an object's opcode.
 #[derive(Clone, Copy)]
 enum Rest {
-    /// Parts, of which that one after so many others is the name.
+    /// Parts, of which the one after this many others is the name.
     Parts(usize),
     /// A block without a name.
     Block,
     /// A block that begins with the name.
     Named,
-    /// A block that begins with the name and so many other bytes. Then come objects.
+    /// A block that begins with the name and this many other bytes, before objects.
     Entered(usize),
 }
 
-/// The opcodes of objects, what these are, and what stands after the opcode.
+/// The opcodes of objects, what these are, and what comes after the opcode.
 const FORMS: [(u16, &str, Rest); 25] = [
     (0x06, "Alias", Rest::Parts(1)),
     (0x08, "Name", Rest::Parts(0)),
@@ -111,7 +111,7 @@ const FORMS: [(u16, &str, Rest); 25] = [
     (0x5B88, "DataRegion", Rest::Parts(0)),
 ];
 
-/// What the object of an opcode is, and what stands after the opcode, unless that isn't known.
+/// What the object of an opcode is, and what comes after the opcode, unless that isn't known.
 fn form_of(code: u16) -> Option<(&'static str, Rest)> {
     for (known, kind, rest) in &FORMS {
         if *known == code {
@@ -221,7 +221,7 @@ impl Scopes {
         }
     }
 
-    /// Adds the path of a name to the letters, and answers where it begins.
+    /// Adds the path of a name to the letters, and returns where it begins.
     ///
     /// Fails if memory runs out.
     fn add_path(&mut self, aml: &[u8], at: usize, name: &Name) -> Result<usize, AllocError> {
@@ -239,7 +239,7 @@ impl Scopes {
     }
 }
 
-/// Shows the object at an offset of a table, and answers where the next one begins.
+/// Shows the object at an offset of a table, and returns where the next one begins.
 ///
 /// Fails if it isn't shown.
 fn show_object<S: ShowObjects>(

@@ -7,7 +7,7 @@ use crate::out::Out;
 pub enum Fault {
     /// The entry that begins there has this length, which is less than its type and its length take.
     Length(u64),
-    /// The entry that begins there has this length, and so many bytes aren't left.
+    /// The entry that begins there has this length, which is more than the bytes that are left.
     Past(u64),
     /// Too few bytes are left for an entry.
     Cut,
@@ -15,7 +15,7 @@ pub enum Fault {
     Unknown(u64),
     /// That many of the entries that are counted aren't there.
     Missing(u64),
-    /// What is to begin at this offset of the structure there begins before the end of what stands
+    /// What is to begin at this offset of the structure there begins before the end of what comes
     /// before it.
     Before(u64),
     /// What is to begin at this offset of the structure there begins past its end.

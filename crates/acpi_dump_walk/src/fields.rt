@@ -175,7 +175,7 @@ fn bits_of(number: u64, first: u64, last: u64) -> u64 {
     }
 }
 
-/// The bits of a number that a word says, and the code that they have to be if it says one: `BIT`, `HIGH:LOW` or
+/// The bits of a number that a word names, and the code that they have to be if it has one: `BIT`, `HIGH:LOW` or
 /// `HIGH:LOW/NUMBER`.
 #[derive(Clone, Copy)]
 struct Flag {
@@ -185,7 +185,7 @@ struct Flag {
 }
 
 impl Flag {
-    /// The bits that a word says.
+    /// The bits that a word names.
     fn read(word: &str) -> Option<Flag> {
         let (bits, code) = cut_at(word, '/');
         let (highest, lowest) = cut_at(bits, ':');
@@ -197,7 +197,7 @@ impl Flag {
         })
     }
 
-    /// Whether it says something of a number: that the bits are its code, or aren't 0.
+    /// Whether a number has it: the bits are its code, or aren't 0 if it has no code.
     fn is_in(self, number: u64) -> bool {
         let part = bits_of(number, self.first, self.last);
         match self.code {
@@ -225,7 +225,7 @@ fn print_flags(number: u64, flags: &'static str, out: &mut Out) {
     }
 }
 
-/// The bits of a number that none of the flags names, and that aren't 0: those of a code are named by that code alone.
+/// The bits of a number that none of the flags names, and that aren't 0: a code alone names its bits.
 fn unnamed_bits(number: u64, flags: &'static str) -> u64 {
     let mut rest = number;
     for item in flags.split(['|', '\n']) {

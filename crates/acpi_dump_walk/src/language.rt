@@ -7,8 +7,8 @@
 //! structure tells its own, or `-`.
 //!
 //! - `OFFSET LENGTH MEANING NAME` is a field. With `|` there follow what its number means.
-//! - `OFFSET LENGTH[COUNT] MEANING NAME` are so many fields of one length, and `[*]` as many as fit.
-//! - `OFFSET {COUNT} HOW` are so many structures, `{*}` as many as fit, `{~LENGTH}` those in so many
+//! - `OFFSET LENGTH[COUNT] MEANING NAME` are COUNT fields of one length, and `[*]` as many as fit.
+//! - `OFFSET {COUNT} HOW` are COUNT structures, `{*}` as many as fit, `{~LENGTH}` as many as are in LENGTH
 //!   bytes. HOW is `each LENGTH BLOCK` if the structure that they are in tells their length, `own
 //!   LENGTH BLOCK` if each tells its own, `typed PLACE LENGTH BLOCK` if each has a type, and `sized PLACE
 //!   BLOCK` if its type determines its length. The block of the kind `*` is what all begin with.
@@ -16,11 +16,11 @@
 //!   BLOCK` if it is that, `if PLACE &NUMBER BLOCK` if it has one of these bits, and `if PLACE !NUMBER BLOCK`
 //!   if it has none of them.
 //! - `with BLOCK` are the lines of a block.
-//! - `then BLOCK` are the lines of a block, by offsets from the end of what stands before.
+//! - `then BLOCK` are the lines of a block, by offsets from the end of what comes before.
 //!
 //! PLACE is `OFFSET:LENGTH`, a number in the structure. OFFSET, LENGTH and COUNT are sums and
 //! differences of products of numbers and places, as `40+28*32:1`. OFFSET may also be `>`: after
-//! what stands before. LENGTH may be `*`, to the end of the structure, `z`, to the first zero and with it, or
+//! what comes before. LENGTH may be `*`, to the end of the structure, `z`, to the first zero and with it, or
 //! `<OFFSET`, to that offset.
 //!
 //! MEANING is `-` (the number itself), `dec` (also in decimal digits), `dec+1` (1 more in decimal digits),
@@ -64,7 +64,7 @@ pub enum Meaning {
     Register,
 }
 
-/// What a line says of a field: its name, its meaning, and the codes, flags or names that the meaning takes.
+/// What a line has of a field: its name, its meaning, and the codes, flags or names that the meaning takes.
 #[derive(Clone, Copy)]
 pub struct Label {
     pub name: &'static str,
@@ -85,7 +85,7 @@ pub(crate) struct Block {
 /// How many blocks a text has at most.
 const MOST: usize = 40;
 
-/// A number that a sum gives.
+/// The value of a sum.
 #[derive(Clone, Copy)]
 pub(crate) struct Sum {
     pub(crate) number: u64,
@@ -95,7 +95,7 @@ pub(crate) struct Sum {
     pub(crate) unread: Option<&'static str>,
 }
 
-/// What stands before the first separator of a text, and after it.
+/// A text up to its first separator, and the rest after that.
 pub fn cut_at(text: &str, separator: char) -> (&str, &str) {
     text.split_once(separator).unwrap_or((text, ""))
 }
@@ -118,7 +118,7 @@ pub(crate) fn is_number(word: &str) -> bool {
     word.parse::<u64>().is_ok()
 }
 
-/// The number in bytes at an offset, of so many bytes: 0 if they aren't there.
+/// The number of `length` bytes at an offset, the lowest first: 0 if they aren't there.
 pub fn number_at(bytes: &[u8], offset: usize, length: usize) -> u64 {
     if length <= 8 && offset.saturating_add(length) <= bytes.len() {
         field(bytes, offset, length)
@@ -157,7 +157,7 @@ fn product_of(term: &'static str, bytes: &[u8]) -> Sum {
     product
 }
 
-/// The number that a sum gives over the bytes of a structure.
+/// The value of a sum over the bytes of a structure.
 pub(crate) fn sum_of(word: &'static str, bytes: &[u8]) -> Sum {
     let mut sum = Sum::of(0);
     for added in word.split('+') {
@@ -172,14 +172,14 @@ pub(crate) fn sum_of(word: &'static str, bytes: &[u8]) -> Sum {
     sum
 }
 
-/// Whether a number is one that a word says, or lies between the two that it says: `None` if it isn't understood.
+/// Whether a number is the one of a word, or in the range between its two: `None` if it isn't understood.
 fn is_within(number: u64, word: &str) -> Option<bool> {
     let (first, last) = cut_at(word, '-');
     let last = if last.is_empty() { first } else { last };
     Some(number_of(first)? <= number && number <= number_of(last)?)
 }
 
-/// Whether a number is as a word of `if` says: `None` if the word isn't understood.
+/// Whether a number meets a word of `if`: `None` if the word isn't understood.
 pub(crate) fn choice_of(number: u64, word: &str) -> Option<bool> {
     match (word.strip_prefix('&'), word.strip_prefix('!')) {
         (Some(mask), _) => Some(number & number_of(mask)? != 0),
@@ -224,7 +224,7 @@ impl Sum {
 }
 
 impl Block {
-    /// What stands in place of a block that isn't there: no structure has its name.
+    /// In place of a block that isn't there: no structure has its name.
     pub(crate) const NONE: Block = Block {
         name: "",
         kinds: "",
@@ -300,7 +300,7 @@ impl Blocks {
         self.find(name, None).ok_or(Fault::Unread(name))
     }
 
-    /// What a line says of a field after its length.
+    /// The name, meaning and items of a field, from a line after the field's length.
     pub(crate) fn label(&self, rest: &'static str) -> Result<Label, Fault> {
         let (word, rest) = next_word(rest);
         let (name, items) = cut_at(rest, '|');
@@ -311,7 +311,7 @@ impl Blocks {
         })
     }
 
-    /// The codes, flags or names that a line gives, or those of the block that it names.
+    /// The codes, flags or names of a line, or of the block that it names.
     fn items(&self, items: &'static str) -> Result<&'static str, Fault> {
         match items.trim_ascii().strip_prefix('@') {
             Some(name) => Ok(self.named(name)?.lines),

@@ -46,7 +46,7 @@ const TITLES: [(&str, &str); 4] = [
     ("RSD ", "Root System Description Pointer"),
 ];
 
-/// What a table with this signature is called, or no letters if nothing says it.
+/// What a table with this signature is called, or no letters if that isn't known.
 pub fn title_of(signature: Signature) -> &'static str {
     for (name, title) in &TITLES {
         if signature.as_str() == Some(*name) {

@@ -72,7 +72,7 @@ impl Out {
         self.escaped(&text.bytes);
     }
 
-    /// Prints words, in which `#` stands for the next of the numbers in hexadecimal digits, `%` for it in decimal ones.
+    /// Prints words, with the next number in place of each `#` (in hexadecimal digits) and `%` (in decimal ones).
     pub fn words(&mut self, words: &str, numbers: &[u64]) {
         let mut rest = numbers;
         for letter in words.as_bytes() {
@@ -90,7 +90,7 @@ impl Out {
         }
     }
 
-    /// Prints words, in which `$` stands for the next of the texts.
+    /// Prints words, with the next text in place of each `$`.
     pub fn fill(&mut self, words: &str, texts: &[&str]) {
         let mut rest = texts;
         for letter in words.as_bytes() {
@@ -109,7 +109,7 @@ impl Out {
         self.is_refused = true;
     }
 
-    /// What gives it memory.
+    /// Its allocator.
     pub fn allocator(&self) -> Global {
         self.alloc
     }
@@ -119,7 +119,7 @@ impl Out {
         self.bytes.len()
     }
 
-    /// What was printed after so many bytes.
+    /// What was printed after the first `start` bytes.
     pub fn since(&self, start: usize) -> &[u8] {
         self.bytes.get(start..).unwrap_or(&[])
     }

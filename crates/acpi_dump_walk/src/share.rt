@@ -2,7 +2,7 @@
 
 use crate::language::number_at;
 
-/// What stands in the place of a processor's number for a range of memory.
+/// In place of a processor's number, for a range of memory.
 pub const MEMORY: u64 = u64::MAX;
 
 /// A processor or a range of memory of a domain.

@@ -19,7 +19,7 @@ use std::alloc::Global;
 pub const DEEPEST: u32 = 16;
 
 /// A field of a table: its offset in the table, its bytes, its number if it is one of several of its name, and what the
-/// layout says of it.
+/// layout has of it.
 #[derive(Clone, Copy)]
 pub struct Field<'a> {
     pub offset: u64,
@@ -118,7 +118,7 @@ fn walk_structure<S: Show>(
     show_gap(piece, shown, piece.bytes.len(), show)
 }
 
-/// Shows the parts of a structure that lines describe, of which so many bytes are shown. It answers how
+/// Shows the parts of a structure that lines describe, of which this many bytes are shown. Returns how
 /// many are then.
 #[cycle(walk)]
 fn walk_lines<S: Show>(
@@ -179,7 +179,7 @@ fn walk_line<S: Show>(
     Ok(shown)
 }
 
-/// Shows the entries of a list, as far as they are there. It answers up to where the structure is shown then.
+/// Shows the entries of a list, as far as they are there. Returns up to where the structure is shown then.
 #[cycle(walk)]
 fn walk_list<S: Show>(
     piece: Piece<'_>,
@@ -241,7 +241,7 @@ fn split(bytes: &[u8], place: usize) -> (&[u8], &[u8])
 }
 
 /// The lines of the block that a line names, or no lines if it begins with `if` and the number at the place that it
-/// says isn't as it says.
+/// names doesn't meet its choice.
 ///
 /// Fails if a word isn't understood.
 fn chosen_lines(piece: Piece<'_>, word: &str, rest: &'static str) -> Result<&'static str, Fault> {

@@ -12,7 +12,7 @@ use acpi_dump_walk::out::Out;
 use acpi_dump_walk::walk::walk_with_objects;
 use json::Token;
 
-/// What is shown of a table beside where it lies, its header and what the checks say.
+/// What is shown of a table beside where it is, its header and what the checks say.
 #[derive(Clone, Copy)]
 enum Part<'p> {
     Nothing,

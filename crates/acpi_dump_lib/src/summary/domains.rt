@@ -72,8 +72,8 @@ fn add_memory(facts: &mut Facts, memory: u64) {
     writeln!(facts, "{size} {unit} of memory");
 }
 
-/// Adds the values of a matrix: a line with the targets, and one for each initiator, in which `-` stands for a value
-/// that isn't given, or of a target that isn't reached.
+/// Adds the values of a matrix: a line with the targets, and one for each initiator, in which `-` is in place of a
+/// value that isn't given, or of a target that isn't reached.
 fn add_matrix(facts: &mut Facts, matrix: Matrix<'_>) {
     let (words, unit) = (matrix.words, matrix.unit);
     write!(facts, "{words} to\t");

@@ -46,7 +46,7 @@ struct Units<'a> {
     alloc: Global,
     table: &'a [u8],
     facts: &'a mut Facts,
-    /// How deep the structure lies that the walk is in.
+    /// How deep the structure is that the walk is in.
     depth: u32,
     /// The parts that are left of the line that has begun.
     left: &'static str,

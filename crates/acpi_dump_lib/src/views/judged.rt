@@ -35,7 +35,7 @@ impl Judged<'_> {
 
 /// The tables of an input to be judged.
 ///
-/// Fails, after saying why, if there are none.
+/// Fails, after printing why, if there are none.
 pub(crate) fn judged_in<'l>(
     output: Output<'_, '_>,
     number: usize,
@@ -100,9 +100,9 @@ fn judged_memory<'i>(
     Ok(judged)
 }
 
-/// Prints what rules find in the tables of an input. It answers the status: 4 if something is bad.
+/// Prints what rules find in the tables of an input. Returns the status: 4 if something is bad.
 ///
-/// Fails, after saying why, if there are no tables, or if memory runs out.
+/// Fails, after printing why, if there are no tables, or if memory runs out.
 pub(super) fn print_judged(
     output: Output<'_, '_>,
     loaded: &Loaded<'_>,

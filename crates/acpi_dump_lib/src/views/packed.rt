@@ -36,7 +36,7 @@ fn placed_of<'e>(alloc: Global, entries: &[Entry<'e>]) -> Result<Vec<PlacedTable
 
 /// Adds the facts of tables that come as files.
 ///
-/// Fails, after saying why, if they are no machine's.
+/// Fails, after printing why, if they are no machine's.
 pub(super) fn add_facts_of_files(
     output: Output<'_, '_>,
     entries: &[Entry<'_>],

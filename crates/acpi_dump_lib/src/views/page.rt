@@ -13,7 +13,7 @@ use acpi_dump_page::html::{Given, Source, print_page};
 use acpi_dump_walk::out::Out;
 use acpi_pack_lib::storage::Storage;
 
-/// Prints the page of tables, beside those of a first input if there is one. It answers the status.
+/// Prints the page of tables, beside the tables of a first input if there is one. Returns the status.
 ///
 /// Fails if memory runs out.
 fn print_judged_page(
@@ -38,9 +38,9 @@ fn print_judged_page(
     Ok(status_of(output, judged.entries.as_slice(), findings))
 }
 
-/// Prints the page of an input. It answers the status.
+/// Prints the page of an input. Returns the status.
 ///
-/// Fails, after saying why, if it has no tables, or if memory runs out.
+/// Fails, after printing why, if it has no tables, or if memory runs out.
 fn print_input_page(
     output: Output<'_, '_>,
     input: &Input,
@@ -55,9 +55,9 @@ fn print_input_page(
     print_judged_page(output, None, &output.request.inputs, judged, page)
 }
 
-/// Prints the page of what differs between two inputs. It answers the status.
+/// Prints the page of what differs between two inputs. Returns the status.
 ///
-/// Fails, after saying why, if one has no tables, or if memory runs out.
+/// Fails, after printing why, if one has no tables, or if memory runs out.
 fn print_compared_page(
     output: Output<'_, '_>,
     first: &Input,
@@ -80,7 +80,7 @@ fn print_compared_page(
 /// Saves the page of an input as a file, or that of what differs between two, the second one beside it. The file `-` is
 /// standard output.
 ///
-/// Fails, after saying why, if one has no tables, or if memory runs out.
+/// Fails, after printing why, if one has no tables, or if memory runs out.
 #[tactic(auto, using(crate::proofs::Saved::none_named))]
 pub(crate) fn save_page<S: Sources, T: Storage>(
     output: Output<'_, '_>,

@@ -63,7 +63,7 @@ impl Pairs {
         None
     }
 
-    /// Takes the structure of the second table that is the same as the next one of the first, and answers where the
+    /// Takes the structure of the second table that is the same as the next one of the first, and returns where the
     /// search for the one after that begins.
     fn take(
         &mut self,
@@ -90,7 +90,7 @@ impl Pairs {
 }
 
 /// Which structures of two tables are the same: those that lie in the same one, and are known by the same name and the
-/// same field, or the same place among those of their name. The tables themselves are the same.
+/// same field, or the same place among the ones of their name. The tables themselves are the same.
 pub(super) fn pairs_of(alloc: Global, old: Side<'_>, new: Side<'_>) -> Result<Pairs, AllocError> {
     let mut pairs = Pairs {
         others: vec![in alloc; 0usize]?,

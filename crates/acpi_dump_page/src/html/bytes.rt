@@ -49,7 +49,7 @@ fn gap_before(place: usize) -> &'static str {
     }
 }
 
-/// Prints bytes in hexadecimal digits and as characters, in runs if they are those of a table on the page.
+/// Prints bytes in hexadecimal digits and as characters, in runs if they are of a table on the page.
 pub(super) fn print_bytes(bytes: &[u8], sheet: Option<&Sheet<'_>>, out: &mut Out) {
     let mut letters = Out::new(out.allocator());
     let (mut offset, mut field) = (0u64, 0usize);

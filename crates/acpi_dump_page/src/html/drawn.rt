@@ -10,9 +10,9 @@ use acpi_dump_walk::out::Out;
 
 /// The structures that are drawn. The first line counts that begins with the letters of the table and then with the
 /// name of the structure, or the front of that. After bars there follow the number of the tile's kind, the class of the
-/// box with the offset of a processor's flags, and the text. In that a field's name in braces stands for what it means,
-/// or else for its number: after `%` for a number of bytes, after `#` for two hexadecimal digits. No name stands for
-/// that of the structure.
+/// box with the offset of a processor's flags, and the text. In that a field's name in braces is replaced by what it
+/// means, or else by its number: after `%` as a number of bytes, after `#` in two hexadecimal digits. Braces without a
+/// name are replaced by the structure's name.
 const DRAWN: &str = "SRAT Memory|0|mem|{%Length} from {Base Address}
 SRAT Processor Local APIC|0|cpu 4|{APIC ID}
 SRAT Processor Local x2APIC|0|cpu 12|{X2APIC ID}
@@ -79,7 +79,7 @@ pub(super) fn print_line(sheet: &Sheet<'_>, structure: usize, line: &'static str
     }
 }
 
-/// Prints the fields of a name that a structure has after its type and its length, as the name asks for it.
+/// Prints the fields of a name that a structure has after its type and its length, as the name has it.
 fn print_fields(sheet: &Sheet<'_>, structure: usize, name: &'static str, out: &mut Out) {
     let wanted = name.trim_start_matches(['%', '#']);
     let mut from = 0usize;

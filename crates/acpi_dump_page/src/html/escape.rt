@@ -9,7 +9,7 @@ use acpi_dump_walk::out::Out;
 /// How many digits of a value are shown.
 const DIGITS: usize = 26;
 
-/// What stands in the place of a `$` in the skeleton of a part of a page.
+/// What is put in place of a `$` in the skeleton of a part of a page.
 #[derive(Clone, Copy)]
 pub(super) enum Piece<'a> {
     /// Characters of a text or of an attribute in double quotes.
@@ -47,7 +47,7 @@ pub(super) fn print_html(skeleton: &str, pieces: &[Piece<'_>], out: &mut Out) {
     }
 }
 
-/// Prints what stands in the place of a `$`.
+/// Prints what is put in place of a `$`.
 fn print_piece(piece: Piece<'_>, out: &mut Out) {
     match piece {
         Piece::Text(text) => print_escaped(text.as_bytes(), out),

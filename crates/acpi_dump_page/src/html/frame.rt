@@ -15,7 +15,7 @@ const HEAD: &str = "<!doctype html>\n<html lang=\"en\"><head><meta charset=\"utf
     <meta name=\"viewport\" content=\"width=device-width, initial-scale=1\">\
     <meta name=\"color-scheme\" content=\"light dark\">\n<title>ACPI tables: ";
 
-/// What stands from the title to the links to the tables, with the style and the link to the drawing.
+/// What comes from the title to the links to the tables, with the style and the link to the drawing.
 const BODY: &str = "</title>\n<style>$</style></head>\n\
     <body><a class=\"skip\" href=\"#tables\">Skip to the tables</a>\n\
     <nav aria-label=\"Tables\"><a href=\"#top\" class=\"home\">ACPI</a>$<a href=\"#findings\">findings</a>";
@@ -24,7 +24,7 @@ const BODY: &str = "</title>\n<style>$</style></head>\n\
 const COMPARED: &str = " compared</h1><p class=\"cmp\">from <b>$</b> to <b>$</b></p></header>\n\
     <input type=\"checkbox\" id=\"changed\"> <label for=\"changed\">only what differs</label>\n";
 
-/// What stands after the parts of a page, with the script.
+/// What comes after the parts of a page, with the script.
 const END: &str =
     "<footer><p>Written by <code>acpi_dump --html</code>. A field has an address, such as \
     <code>#APIC-0x2c</code>. With the pointer or the focus on a field its bytes are marked, and the other way round; \

@@ -66,7 +66,7 @@ fn print_row(sheet: &Sheet<'_>, out: &mut Out) {
     }
 }
 
-/// Where a table lies.
+/// Where a table is.
 pub(super) fn place_of<'p>(sheet: &Sheet<'p>) -> Piece<'p> {
     match sheet.entry.place {
         Place::Address(address) => Hex(address),
@@ -75,7 +75,7 @@ pub(super) fn place_of<'p>(sheet: &Sheet<'p>) -> Piece<'p> {
     }
 }
 
-/// The class of what the checks of a table say, what they say, and how it stands to the other input.
+/// The class and the words of the result of a table's checks, and how it differs from the other input.
 pub(super) fn badges_of<'p>(sheet: &Sheet<'p>) -> [Piece<'p>; 3] {
     let status = sheet.entry.status;
     let class = match status {

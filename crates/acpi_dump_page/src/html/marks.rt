@@ -5,7 +5,7 @@ use crate::outline::{BYTES, Item, Side};
 use acpi_dump_input::judgement::Finding;
 use std::alloc::{AllocError, Global};
 
-/// How a field stands to the first of two inputs.
+/// How a field differs from the first of two inputs.
 #[derive(Clone, Copy)]
 pub(super) enum Change {
     Same,

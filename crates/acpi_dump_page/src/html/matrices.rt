@@ -70,7 +70,7 @@ fn print_matrix(sheet: &Sheet<'_>, offset: u64, matrix: Matrix<'_>, out: &mut Ou
     tile.print(out)
 }
 
-/// Adds the box of a value of a matrix whose least one is this. Its class says by how many halves of the least one it
+/// Adds the box of a value of a matrix whose least one is this. Its class has by how many halves of the least one it
 /// is greater than that.
 fn add_value(
     sheet: &Sheet<'_>,

@@ -20,7 +20,7 @@ const SHORT: usize = 128;
 /// The length of a header (ACPI 6.5, section 5.2.6).
 const HEADER: u64 = 36;
 
-/// What ends rows of fields that follow each other, and those of the header.
+/// What ends rows of fields that follow each other, and the rows of the header.
 const ROWS_END: &str = "</table>\n";
 
 const HEADER_END: &str = "</table>\n</details>\n";

@@ -47,7 +47,7 @@ pub(super) struct Sheet<'p> {
     pub(super) standing: Standing<'p>,
 }
 
-/// The marks of a structure, which has those of what is in it.
+/// The marks of a structure, which has the marks of what is in it.
 #[derive(Clone, Copy)]
 pub(super) struct Fold {
     pub(super) has_findings: bool,
@@ -127,13 +127,13 @@ impl<'p> Sheet<'p> {
         }
     }
 
-    /// The classes that what stands for so many bytes of the table, from an offset on, has after its own:
+    /// The classes that what is shown of `length` bytes of the table, from an offset on, has after its own:
     /// ` hit` and the worst severity if there is a finding in them, and ` chg` if they differ from the first input's.
     pub(super) fn classes(&self, offset: u64, length: u64) -> &'static str {
         classes_of(self.seen(offset, length, (0, matches!(self.standing, Standing::Only))))
     }
 
-    /// The worst severity that was seen before or is found in so many bytes, and whether a change was or is there. Of a
+    /// The worst severity that was seen before or is found in `length` bytes, and whether a change was or is there. Of a
     /// field that has more bytes than these it counts only what is in them.
     pub(super) fn seen(&self, offset: u64, length: u64, before: Seen) -> Seen {
         let end = offset.saturating_add(length);

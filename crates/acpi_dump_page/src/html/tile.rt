@@ -1,4 +1,4 @@
-//! The tiles of the drawing: boxes in rows, each of which leads to the bytes that it stands for.
+//! The tiles of the drawing: boxes in rows, each of which leads to its bytes.
 
 use super::escape::Piece::{Decimal, Printed, Text};
 use super::escape::print_html;

@@ -46,7 +46,7 @@ fn told_length(piece: Piece<'_>, rest: &[u8], word: &'static str) -> Sum {
     }
 }
 
-/// A length of an entry, if it is at least 1 and what gives it, and at most what is left.
+/// A length of an entry, if it is at least 1, covers the field with the length, and is at most what is left.
 fn checked_length(rest: &[u8], length: Sum) -> Result<usize, Fault> {
     let least = length.end.max(1);
     if rest.len() < least {
@@ -80,7 +80,7 @@ fn untyped_entry(
     })
 }
 
-/// An entry of this type, by the blocks that a line names. Its length is the number that a word gives, or if that has
+/// An entry of this type, by the blocks that a line names. Its length is the value of a word, or if that has
 /// no letters the length that entries of the type have.
 fn typed_entry(
     piece: Piece<'_>,

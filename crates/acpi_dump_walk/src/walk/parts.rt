@@ -37,7 +37,7 @@ impl Piece<'_> {
 }
 
 impl Extent {
-    /// Whether a list has more elements than so many.
+    /// Whether a list has an element of this number.
     pub(super) fn is_more(self, number: u64) -> bool {
         match self.count {
             Some(count) => number < count,
@@ -79,7 +79,7 @@ pub(super) fn list_extent(bytes: &[u8], start: usize, word: &'static str) -> Res
     })
 }
 
-/// The rest of a structure from an offset on, and how many elements a word says that it has: `*` if as many as fit.
+/// The rest of a structure from an offset on, and how many elements it has by a word: `*` for as many as fit.
 fn counted_extent(bytes: &[u8], start: usize, word: &'static str) -> Result<Extent, Fault> {
     let count = if word == "*" {
         None
@@ -93,10 +93,10 @@ fn counted_extent(bytes: &[u8], start: usize, word: &'static str) -> Result<Exte
     })
 }
 
-/// Shows the bytes up to where a part begins in a structure, of which so many bytes are shown. It answers whether the
+/// Shows the bytes up to where a part begins in a structure, of which this many bytes are shown. Returns whether the
 /// part is there.
 ///
-/// Fails if it begins before what is shown ends, or lies outside the structure.
+/// Fails if it begins before what is shown ends, or is outside the structure.
 pub(super) fn show_start<S: Show>(
     piece: Piece<'_>,
     shown: usize,
@@ -136,7 +136,7 @@ pub(super) fn show_gap<S: Show>(piece: Piece<'_>, start: usize, end: usize, show
 }
 
 /// Shows the field or the fields that begin at an offset of a structure, by the word for the length, and
-/// what follows it. It answers up to where the structure is shown then.
+/// what follows it. Returns up to where the structure is shown then.
 pub(super) fn show_fields<S: Show>(
     piece: Piece<'_>,
     shown: usize,
@@ -171,7 +171,7 @@ pub(super) fn show_fields<S: Show>(
     Ok(extent.end)
 }
 
-/// Where a field lies that begins at an offset of a structure, by the word for its length.
+/// Where a field begins and ends that is at an offset of a structure, by the word for its length.
 fn field_extent(bytes: &[u8], start: usize, word: &'static str) -> Result<Extent, Fault> {
     let end = match word {
         "*" => bytes.len(),
@@ -191,7 +191,7 @@ fn field_extent(bytes: &[u8], start: usize, word: &'static str) -> Result<Extent
     })
 }
 
-/// Shows fields of the length that a word says, as far as they are there. It answers up to where the structure is shown
+/// Shows fields whose length a word has, as far as they are there. Returns up to where the structure is shown
 /// then.
 fn show_numbers<S: Show>(
     piece: Piece<'_>,
