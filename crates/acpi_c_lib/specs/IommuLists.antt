@@ -24,7 +24,7 @@ dmar_units_in table = filter_map drhd_shown (structures_of table)
 abbrev pub dmar_units_below : Source → Result (List DmarUnit) Refusal
 dmar_units_below s = result_map dmar_units_in (dmar_in s)
 
--- the structure of this type with so many of it before
+-- the structure of this type at an index, counted from 0
 abbrev pub structure_in : ℕ → List ℕ → ℕ → Option (List ℕ)
 structure_in kind table index = slice_get (filter (is_of_type kind) (structures_of table)) index
 

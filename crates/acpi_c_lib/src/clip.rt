@@ -6,8 +6,8 @@ use crate::lists::put;
 use crate::records::Range;
 use crate::refusal::Refusal;
 
-/// Ranges, of which the first `ascending` ones each begin where the one before ends, or after it: among these a place is
-/// searched by halves.
+/// Ranges, of which the first `ascending` ones each begin where the one before ends, or after it: among these a place
+/// is searched by halves.
 #[derive(Clone, Copy)]
 struct Ranges<'k> {
     all: &'k [Range],

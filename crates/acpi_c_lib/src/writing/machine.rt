@@ -171,7 +171,7 @@ pub fn write_tables_without_rsdp(
     Ok(acpi_writer::write_tables_without_rsdp(out, address, &machine.whole())?)
 }
 
-/// How many bytes `write_tables` writes, or the first error but those of capacity and address.
+/// How many bytes `write_tables` writes, or the first error but of capacity and address.
 pub fn tables_size(machine: &Machine<'_>) -> Result<usize, Refusal>
     ensures { result ≡ whole.size_said machine.now }
 {
