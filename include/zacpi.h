@@ -18,30 +18,30 @@
  *         return printf("%zu processors\n", count), 0;
  *     }
  *
- * What the caller keeps. A pointer is aligned for its type, points to as many items as the length
- * beside it says, and isn't null, but for a list of no items and for `signature`; lists inside the
- * items of a list (a region's bytes) aren't null either. An input is initialised. An output shares
- * no byte with an input or another output. While a call runs nobody may write what it reads, nor
- * touch what it writes. The stack is aligned as the ABI has it. The library uses the red zone and
- * vector registers if its compiler's flags let it (C.md); vector registers are to be enabled first
- * (on x86-64 CR0.EM clear, CR4.OSFXSR set).
+ * What the caller keeps. A pointer is aligned for its type, points to the number of items that the
+ * length beside it is, and isn't null, but for a list of no items and for `signature`; lists inside
+ * the items of a list (a region's bytes) aren't null either. An input is initialised. An output
+ * shares no byte with an input or another output. While a call runs nobody may write what it reads,
+ * nor touch what it writes. The stack is aligned as the ABI has it. The library uses the red zone
+ * and vector registers if its compiler's flags let it (C.md); vector registers are to be enabled
+ * first (on x86-64 CR0.EM clear, CR4.OSFXSR set).
  *
  * A call can be passed any numbers, over any bytes. It keeps no state, takes no memory, and calls
  * nothing but memcpy, memset and memmove: any number may run at once, each with outputs of its own.
  * It returns ZACPI_OK, with all its outputs written, or fails with the first error of its comment,
  * with none written; only a ZACPI_SDT_ error, ZACPI_TABLE_MISSING and ZACPI_AML_INVALID write
- * `signature`. Opening errors are those of zacpi_open. A call about a table goes by the first valid
- * one that is listed.
+ * `signature`. Opening errors are zacpi_open's. A call about a table goes by the first valid one
+ * that is listed.
  *
  * A list has its items in the table's order. It writes the first `capacity` of them to `out`, and
  * how many there are in all to `count`: with a capacity of 0 it only counts.
  *
- * Sections are those of the ACPI Specification 6.4 unless another document is named, and names of
- * fields (Length, SCI_INT) those of the document that lays the table out. A field without a
- * comment is what its name means. One that tells whether something holds is 0 or 1. Addresses are
- * physical, and lengths in bytes; memory ends at the address after its last byte. Bytes past the
- * end of a table or entry are read as 0, and a field in every Revision of its table. Fields that
- * differ have a comment. */
+ * Sections are of the ACPI Specification 6.4 unless another document is named, and names of fields
+ * (Length, SCI_INT) are from the document that lays the table out. A field without a comment is
+ * what its name means. One for whether something holds is 0 or 1. Addresses are physical, and
+ * lengths in bytes; memory ends at the address after its last byte. Bytes past the end of a table
+ * or entry are read as 0, and a field in every Revision of its table. Fields that differ have a
+ * comment. */
 #ifndef ZACPI_H
 #define ZACPI_H
 #include <stddef.h>
@@ -51,7 +51,7 @@
 #define ZACPI_VERSION_NUMBER 0x010000 /* to compare: one byte for each part of the version */
 #define ZACPI_ABI 1 /* part of the library's symbols: with another library nothing links */
 
-/* With pointers of 32 bits a record is laid out as with those of 64: a pointer lies in the first half of its 8 bytes,
+/* With pointers of 32 bits a record is laid out as with 64 bits: a pointer is in the first half of its 8 bytes,
  * and what counts or measures has 64 bits. */
 #if UINTPTR_MAX > 0xffffffff
 typedef uint64_t zacpi_u64;
@@ -174,7 +174,7 @@ enum zacpi_status_code {
     ZACPI_NO_IOMMU = 56,                   /* the table has no such unit or structure, or no unit
                                             * for the device */
     /* The GTDT (section 5.2.24.1): Platform Timer Offset is below 96, a Length is above the bytes
-     * left or below 20 (GT Block), 28 (watchdog) or 4 (others), or frames of a GT Block don't lie
+     * left or below 20 (GT Block), 28 (watchdog) or 4 (others), or frames of a GT Block aren't
      * between its byte 20 and its end. */
     ZACPI_INVALID_TIMER_LENGTH = 57,
     /* A RISC-V machine's MADT (ACPI 6.6, section 5.2.12), whose entries of Types 0x18 to 0x1b have
@@ -193,7 +193,7 @@ enum zacpi_status_code {
     ZACPI_UID_OF_ALL = 63,      /* an NMI line's processor_uid is 0xffffffff */
     ZACPI_BAD_MATRIX = 64,      /* a SLIT without one distance for each pair */
     ZACPI_NO_ADDRESS = 65,      /* what an RSDP or a FADT points to, or a console, is at address 0,
-                                 * or a machine's tables can't lie at `address` */
+                                 * or a machine's tables can't be at `address` */
     ZACPI_BAD_NAME = 66,        /* OEMID, OEM Table ID or Creator ID isn't UTF-8 */
     ZACPI_NO_ROOM = 67,         /* `capacity` is less than the length */
     ZACPI_TOO_LONG = 68,        /* the table has 2^32 bytes or more */
@@ -281,8 +281,8 @@ struct zacpi_source {
 };
 
 /* Lists the ranges to make regions of, from ranges in any order: sorted, joined where they overlap
- * or touch, clipped to `window`, without what lies in `without` (the kernel's image, and whatever
- * is written while calls run), and none empty. Reads no memory. Fails with ZACPI_RANGE_TOO_HIGH. */
+ * or touch, clipped to `window`, without what is in `without` (the kernel's image, and whatever is
+ * written while calls run), and none empty. Reads no memory. Fails with ZACPI_RANGE_TOO_HIGH. */
 ZACPI_STATUS zacpi_clip_ranges(const struct zacpi_range *ranges, size_t ranges_length,
                                const struct zacpi_range *without, size_t without_length,
                                const struct zacpi_range *window, struct zacpi_range *out,
@@ -293,7 +293,7 @@ struct zacpi_place {
 };
 
 /* Returns where memory is in the regions: the byte at `address` is regions[region].bytes[offset],
- * and `length` bytes from there on lie in that region. Reads no memory. Fails with
+ * and `length` bytes from there on are in that region. Reads no memory. Fails with
  * ZACPI_REGIONS_NOT_ASCENDING, ZACPI_REGION_TOO_HIGH, or ZACPI_MAP_FAILED if no region contains the
  * bytes, or `address` itself for a length of 0. */
 ZACPI_STATUS zacpi_locate(const struct zacpi_region *regions, size_t regions_length,
@@ -337,7 +337,7 @@ struct zacpi_table {
     uint8_t creator_id[4];
     uint32_t creator_revision;
 };
-struct zacpi_member { /* what a pointer of a root table leads to */
+struct zacpi_member { /* what a pointer of a root table points to */
     struct zacpi_table table; /* zeros but for the address unless has_header */
     zacpi_status status;      /* 0, or if zacpi_list_tables skips it its first error of zacpi_open's
                                * order that `accept` doesn't take */
@@ -389,10 +389,10 @@ ZACPI_STATUS zacpi_start_of_rsdp(const uint8_t *rsdp, size_t rsdp_length,
 ZACPI_STATUS zacpi_open(const struct zacpi_source *source, struct zacpi_root *out,
                         struct zacpi_signature *signature);
 
-/* Returns the RSDP that a start leads to (section 5.2.5.3), whatever is at the addresses that it has:
- * with each of these as a start, zacpi_list_members has what either root table lists. Fails with an
- * opening error but those of the root table; ZACPI_UNKNOWN_START is also that of a start at a root
- * table. None writes `signature`. */
+/* Returns the RSDP of a start (section 5.2.5.3), whatever is at the addresses that it has: with
+ * each of these as a start, zacpi_list_members has what either root table lists. Fails with an
+ * opening error, except the errors of the root table; ZACPI_UNKNOWN_START is also the error of a
+ * start at a root table. None writes `signature`. */
 ZACPI_STATUS zacpi_get_rsdp(const struct zacpi_source *source, struct zacpi_rsdp *out,
                             struct zacpi_signature *signature);
 
@@ -409,8 +409,8 @@ ZACPI_STATUS zacpi_list_missing_ranges(const struct zacpi_source *source, struct
 ZACPI_STATUS zacpi_list_tables(const struct zacpi_source *source, struct zacpi_table *out,
                                size_t capacity, size_t *count, struct zacpi_signature *signature);
 
-/* Lists what each pointer of the root table leads to, also if that is no valid table (sections 5.2.6
- * to 5.2.8): the items of zacpi_list_tables are those of status 0. Fails with an opening error. */
+/* Lists what each pointer of the root table points to, also if that is no valid table (sections
+ * 5.2.6 to 5.2.8): zacpi_list_tables has the items of status 0. Fails with an opening error. */
 ZACPI_STATUS zacpi_list_members(const struct zacpi_source *source, struct zacpi_member *out,
                                 size_t capacity, size_t *count, struct zacpi_signature *signature);
 
@@ -435,11 +435,11 @@ ZACPI_STATUS zacpi_find_nth_table(const struct zacpi_source *source, struct zacp
                                   struct zacpi_signature *signature);
 
 /* Lists the entries of the table at address `table`, listed or not, by a walk of its kind; `start`
- * isn't looked at. Each has Length bytes: at least as many as Type and Length end after, and at most
- * those that are left; `malformed` is 1 if bytes are left in which no entry begins. Fails with
- * ZACPI_REGIONS_NOT_ASCENDING, ZACPI_REGION_TOO_HIGH, ZACPI_UNKNOWN_POLICY, ZACPI_UNKNOWN_WIDTH, an
- * error of a table, with its own signature, or ZACPI_SDT_INVALID_LENGTH if its Length is below
- * `first`. */
+ * isn't looked at. Each has Length bytes: at least the bytes up to the end of Type and of Length,
+ * and at most the bytes that are left; `malformed` is 1 if bytes are left in which no entry begins.
+ * Fails with ZACPI_REGIONS_NOT_ASCENDING, ZACPI_REGION_TOO_HIGH, ZACPI_UNKNOWN_POLICY,
+ * ZACPI_UNKNOWN_WIDTH, an error of a table, with its own signature, or ZACPI_SDT_INVALID_LENGTH if
+ * its Length is below `first`. */
 ZACPI_STATUS zacpi_list_entries(const struct zacpi_source *source, uint64_t table,
                                 const struct zacpi_walk *walk, struct zacpi_entry *out,
                                 size_t capacity, size_t *count, uint8_t *malformed,
@@ -462,8 +462,8 @@ ZACPI_STATUS zacpi_get_dsdt(const struct zacpi_source *source, struct zacpi_aml_
 ZACPI_STATUS zacpi_list_ssdts(const struct zacpi_source *source, struct zacpi_aml_table *out,
                               size_t capacity, size_t *count, struct zacpi_signature *signature);
 
-/* Lists the memory of the tables, which isn't to be given away: of the RSDP, the root table, each
- * listed table that is valid under its own signature, and the DSDT and FACS that zacpi_get_dsdt and
+/* Lists the memory of the tables, which is to be kept: of the RSDP, the root table, each listed
+ * table that is valid under its own signature, and the DSDT and FACS that zacpi_get_dsdt and
  * zacpi_get_facs return (sections 5.2.5 to 5.2.11). The ranges may overlap; C.md has what isn't
  * among them. Fails with an opening error. */
 ZACPI_STATUS zacpi_list_ranges(const struct zacpi_source *source, struct zacpi_range *out,
@@ -630,14 +630,14 @@ enum zacpi_console_type {
 };
 
 /* Returns the fixed hardware of the FADT. The registers of pm1a and reset are present at address 0
- * too, and those of sleep if the table is of revision 2 or above and has all their bytes: 0 means
- * none. Fails with an opening error, or ZACPI_TABLE_MISSING "FACP". */
+ * too, and the sleep registers if the table is of revision 2 or above and has all their bytes: 0
+ * means none. Fails with an opening error, or ZACPI_TABLE_MISSING "FACP". */
 ZACPI_STATUS zacpi_get_fixed_hardware(const struct zacpi_source *source,
                                       struct zacpi_fixed_hardware *out,
                                       struct zacpi_signature *signature);
 
 /* Returns the FACS of the FADT. Fails with an opening error, ZACPI_TABLE_MISSING "FACP",
- * ZACPI_TABLE_MISSING "FACS" if no field gives an address, ZACPI_MAP_FAILED, with "FACS"
+ * ZACPI_TABLE_MISSING "FACS" if no field has an address, ZACPI_MAP_FAILED, with "FACS"
  * ZACPI_SDT_INVALID_SIGNATURE, or ZACPI_SDT_INVALID_LENGTH below 64, or ZACPI_MAP_FAILED of the
  * bytes that Length counts. */
 ZACPI_STATUS zacpi_get_facs(const struct zacpi_source *source, struct zacpi_facs *out,
@@ -649,10 +649,10 @@ ZACPI_STATUS zacpi_get_console(const struct zacpi_source *source, struct zacpi_c
                                struct zacpi_signature *signature);
 
 /* Returns the power management timer of the FADT, which counts at 3.579545 MHz (sections 4.8.3.3
- * and 5.2.9). There is none if PM_TMR_LEN isn't 4, or no field gives an address; reduced hardware
+ * and 5.2.9). There is none if PM_TMR_LEN isn't 4, or no field has an address; reduced hardware
  * (ZACPI_FADT_HW_REDUCED_ACPI) has none, whatever this returns of its fields. Fails with an opening
- * error, ZACPI_TABLE_MISSING "FACP", or ZACPI_INVALID_GENERIC_ADDRESS if there is a timer,
- * and X_PM_TMR_BLK has a reserved code and an Address that isn't 0. */
+ * error, ZACPI_TABLE_MISSING "FACP", or ZACPI_INVALID_GENERIC_ADDRESS if there is a timer, and
+ * X_PM_TMR_BLK has a reserved code and an Address that isn't 0. */
 ZACPI_STATUS zacpi_get_pm_timer(const struct zacpi_source *source, struct zacpi_pm_timer *out,
                                 struct zacpi_signature *signature);
 
@@ -676,9 +676,9 @@ ZACPI_STATUS zacpi_get_boot_graphic(const struct zacpi_source *source,
 enum zacpi_step_kind { ZACPI_STEP_WRITE = 0, ZACPI_STEP_WAIT = 1 };
 struct zacpi_step {
     struct zacpi_register at; /* present */
-    uint32_t mask, value;     /* write: the bits of `mask` get those of `value`, and the others are
+    uint32_t mask, value;     /* write: the bits of `mask` are set as in `value`, and the others are
                                * kept; with all bits of `width` in `mask` nothing is read first.
-                               * wait: until the bits of `mask` are those of `value` */
+                               * wait: until the bits of `mask` are as in `value` */
     uint8_t width;            /* of one access, in bits: 8 or 16 */
     uint8_t kind;             /* of enum zacpi_step_kind */
 };
@@ -748,7 +748,7 @@ static inline uint32_t zacpi_pm_timer_ticks(uint32_t before, uint32_t after, uin
 
 struct zacpi_pci_region { /* an allocation of the MCFG (PCI Firmware Specification, section
                            * 4.1.2) */
-    zacpi_u64 base_address; /* where bus 0 of the segment group would lie */
+    zacpi_u64 base_address; /* where bus 0 of the segment group would be */
     uint16_t segment_group;
     uint8_t first_bus, last_bus;
 };
@@ -765,14 +765,14 @@ ZACPI_STATUS zacpi_list_pci_regions(const struct zacpi_source *source, struct za
                                     size_t capacity, size_t *count,
                                     struct zacpi_signature *signature);
 
-/* Lists the memory of each item of zacpi_list_pci_regions, with its base as that of bus 0. Fails
- * with an opening error, or ZACPI_TABLE_MISSING "MCFG". */
+/* Lists the memory of each item of zacpi_list_pci_regions, with its base as bus 0's. Fails with an
+ * opening error, or ZACPI_TABLE_MISSING "MCFG". */
 ZACPI_STATUS zacpi_list_ecam_ranges(const struct zacpi_source *source, struct zacpi_ecam_range *out,
                                     size_t capacity, size_t *count,
                                     struct zacpi_signature *signature);
 
 /* Returns the address of a function's 4096 bytes of configuration space, by the first region of the
- * MCFG that contains the bus, with its base as that of bus 0. Fails with an opening error,
+ * MCFG that contains the bus, with its base as bus 0's. Fails with an opening error,
  * ZACPI_TABLE_MISSING "MCFG", or ZACPI_NO_SUCH_FUNCTION if no region contains the bus, the device
  * is above 31, the function above 7, or the sum 2^64 or above. */
 ZACPI_STATUS zacpi_pci_ecam_address(const struct zacpi_source *source, uint16_t segment_group,
@@ -866,8 +866,8 @@ ZACPI_STATUS zacpi_get_local_apic(const struct zacpi_source *source, struct zacp
  * ZACPI_NO_APICS. */
 ZACPI_STATUS zacpi_list_io_apics(const struct zacpi_source *source, struct zacpi_io_apic *out,
                                  size_t capacity, size_t *count, struct zacpi_signature *signature);
-/* Lists the Interrupt Source Overrides, those of other buses than ISA too. Fails with an opening
- * error, ZACPI_TABLE_MISSING "APIC", or ZACPI_NO_APICS. */
+/* Lists the Interrupt Source Overrides, also of other buses than ISA. Fails with an opening error,
+ * ZACPI_TABLE_MISSING "APIC", or ZACPI_NO_APICS. */
 ZACPI_STATUS zacpi_list_overrides(const struct zacpi_source *source,
                                   struct zacpi_interrupt_source_override *out, size_t capacity,
                                   size_t *count, struct zacpi_signature *signature);
@@ -889,7 +889,7 @@ ZACPI_STATUS zacpi_list_processors(const struct zacpi_source *source, struct zac
                                    size_t capacity, size_t *count,
                                    struct zacpi_signature *signature);
 
-/* Returns MailBoxAddress of the first Multiprocessor Wakeup: where the mailbox lies by which
+/* Returns MailBoxAddress of the first Multiprocessor Wakeup: the address of the mailbox by which
  * processors are woken (section 5.2.12.19). Fails with an opening error, ZACPI_TABLE_MISSING
  * "APIC", or without one ZACPI_MADT_INVALID_ENTRY_LENGTH, else ZACPI_MADT_UNEXPECTED_ENTRY. */
 ZACPI_STATUS zacpi_get_mailbox_address(const struct zacpi_source *source, uint64_t *out,
@@ -992,7 +992,7 @@ struct zacpi_gic_distributor { /* GIC Distributor (GICD), section 5.2.12.15 */
     zacpi_u64 address;
     uint32_t id;
     uint32_t system_vector_base; /* reserved, and kept as it is */
-    uint8_t version;             /* 1 to 4; 0: the hardware tells */
+    uint8_t version;             /* 1 to 4; 0: the hardware has it */
 };
 struct zacpi_gic_cpu_interface { /* GIC CPU Interface (GICC), section 5.2.12.14. An address or
                                   * interrupt of 0 is none. Flags: bit 0 is_enabled, 1
@@ -1021,7 +1021,7 @@ struct zacpi_gic_msi_frame { /* GIC MSI Frame, section 5.2.12.16 */
     uint32_t id;
     uint16_t spi_base, spi_count; /* zeros if has_spis is 0 */
     uint8_t has_spis;             /* SPI Count/Base Select, bit 0 of Flags. 0: the frame's registers
-                                   * tell */
+                                   * have them */
 };
 
 /* Returns the distributor of the first GICD. Fails with an opening error, ZACPI_TABLE_MISSING
@@ -1092,7 +1092,7 @@ struct zacpi_watchdog { /* Arm Generic Watchdog, section 5.2.24.1.2. Watchdog Ti
  * "GTDT". */
 ZACPI_STATUS zacpi_get_arm_timers(const struct zacpi_source *source, struct zacpi_arm_timers *out,
                                   struct zacpi_signature *signature);
-/* Lists the frames that lie in their GT Blocks, up to where no structure begins; below revision 2
+/* Lists the frames that are in their GT Blocks, up to where no structure begins; below revision 2
  * none. Fails with an opening error, or ZACPI_TABLE_MISSING "GTDT". */
 ZACPI_STATUS zacpi_list_gt_frames(const struct zacpi_source *source, struct zacpi_gt_frame *out,
                                   size_t capacity, size_t *count,
@@ -1103,11 +1103,11 @@ ZACPI_STATUS zacpi_list_watchdogs(const struct zacpi_source *source, struct zacp
                                   size_t capacity, size_t *count,
                                   struct zacpi_signature *signature);
 
-/* Lists where none begins: of each GT Block with frames that don't lie in it, no frame, after those
- * that do or else at GT Block Timer Offset, at most at the block's end; and last, if structures are
- * missing, no structure, after those before or else at Platform Timer Offset, at most at the
- * table's end. entry_type is 0 if Platform Timer Offset is below 96. Below revision 2 there is no
- * item. Fails with an opening error, or ZACPI_TABLE_MISSING "GTDT". */
+/* Lists where none begins: of each GT Block with frames that aren't in it, no frame, after the
+ * frames that are or else at GT Block Timer Offset, at most at the block's end; and last, if
+ * structures are missing, no structure, after the structures before or else at Platform Timer
+ * Offset, at most at the table's end. entry_type is 0 if Platform Timer Offset is below 96. Below
+ * revision 2 there is no item. Fails with an opening error, or ZACPI_TABLE_MISSING "GTDT". */
 ZACPI_STATUS zacpi_list_gtdt_faults(const struct zacpi_source *source,
                                     struct zacpi_entry_fault *out, size_t capacity, size_t *count,
                                     struct zacpi_signature *signature);
@@ -1125,7 +1125,7 @@ struct zacpi_rintc { /* RISC-V Interrupt Controller, Type 0x18: a hart. An entry
     uint32_t imsic_size;
     uint8_t version;
 };
-struct zacpi_imsic { /* Incoming MSI Controller, Type 0x19: what those of all harts share */
+struct zacpi_imsic { /* Incoming MSI Controller, Type 0x19: what the IMSICs of all harts share */
     uint32_t flags;
     uint16_t supervisor_identities, guest_identities;
     uint8_t guest_index_bits, hart_index_bits, group_index_bits, group_index_shift;
@@ -1250,7 +1250,7 @@ ZACPI_STATUS zacpi_get_localities(const struct zacpi_source *source, struct zacp
 ZACPI_STATUS zacpi_distance(const struct zacpi_source *source, uint64_t from, uint64_t to,
                             uint8_t *out, struct zacpi_signature *signature);
 
-/* IOMMUs: units that remap what devices ask of memory ------------------------------------------ */
+/* IOMMUs: units that remap devices' accesses to memory ----------------------------------------- */
 
 /* The DMAR (Intel Virtualization Technology for Directed I/O 4.0, chapter 8). Its structures begin
  * at byte 48, each with a Length of at least 16, 24, 8, 20, 8, 8 and 8 for Types 0 to 6, and 4
@@ -1293,7 +1293,7 @@ struct zacpi_dmar_reserved { /* Reserved Memory Region Reporting (RMRR), section
 struct zacpi_dmar_root_ports { /* Root Port ATS Capability Reporting (ATSR), section 8.5: ports that
                                 * support address translation services */
     uint16_t segment;
-    uint8_t includes_all; /* ALL_PORTS, bit 0 of Flags: all root ports of the segment; else those of
+    uint8_t includes_all; /* ALL_PORTS, bit 0 of Flags: all root ports of the segment; else the ones of
                            * its device scopes */
     uint8_t flags;
 };
@@ -1381,9 +1381,9 @@ ZACPI_STATUS zacpi_list_dmar_reserved(const struct zacpi_source *source, uint16_
                                       size_t *count, struct zacpi_signature *signature);
 
 /* The IVRS (AMD I/O Virtualization Technology (IOMMU) Specification 3.08, section 5.2). Its blocks
- * begin at byte 48, each with a Length of at least 24 for Type 0x10, 40 for 0x11 and 0x40, 32
- * for 0x20 to 0x22, and 4 for others. A device entry has 4, 8, 16 or 32 bytes by bits 6 and 7 of
- * its Type, but one of Type 0xf0 22 and those of its UID. The end of a range, Type 4, is right
+ * begin at byte 48, each with a Length of at least 24 for Type 0x10, 40 for 0x11 and 0x40, 32 for
+ * 0x20 to 0x22, and 4 for others. A device entry has 4, 8, 16 or 32 bytes by bits 6 and 7 of its
+ * Type, but one of Type 0xf0 has 22 and the bytes of its UID. The end of a range, Type 4, is right
  * after its start. A device id is 256 times the bus, 8 times the device, and the function. */
 struct zacpi_ivrs_unit { /* I/O Virtualization Hardware Definition (IVHD) */
     zacpi_u64 base;
@@ -1423,8 +1423,8 @@ struct zacpi_ivrs_entry { /* a device entry; a field that its Type lacks is 0. P
                            * 0x40, has entry_type alone */
     zacpi_size unique_id_length; /* `unique_id` has the first 32 bytes of Unique ID, and zeros */
     uint32_t extended_settings;
-    uint16_t first, last;    /* DeviceID; of a range, that of its end. 0 and 0xffff for all devices,
-                              * Type 1 */
+    uint16_t first, last;    /* DeviceID; of a range, its start and end. 0 and 0xffff for all
+                              * devices, Type 1 */
     uint16_t source_id;      /* Source DeviceID of Types 0x42, 0x43 and 0x48 */
     uint8_t entry_type, settings;
     uint8_t handle, variety; /* of Type 0x48, and those below of 0xf0 */
@@ -1449,7 +1449,7 @@ ZACPI_STATUS zacpi_list_ivrs_faults(const struct zacpi_source *source,
                                     struct zacpi_signature *signature);
 /* Returns the unit that remaps a device. Of the IVHDs of the greatest Type in the table (0x10, 0x11
  * or 0x40) it is the first of the segment with an entry for all devices, for this one, for a range
- * that it lies in, or of a special device with it as Source DeviceID; the first such entry counts.
+ * that contains it, or of a special device with it as Source DeviceID; the first such entry counts.
  * Fails with an opening error, ZACPI_TABLE_MISSING "IVRS", ZACPI_IOMMU_INVALID_STRUCTURE_LENGTH of
  * such an IVHD before it (without it of any, or of the table), or ZACPI_NO_IOMMU. */
 ZACPI_STATUS zacpi_get_ivrs_unit(const struct zacpi_source *source, uint16_t segment,
@@ -1462,7 +1462,7 @@ ZACPI_STATUS zacpi_list_ivrs_regions(const struct zacpi_source *source,
                                      struct zacpi_ivrs_memory *out, size_t capacity, size_t *count,
                                      struct zacpi_signature *signature);
 /* Lists the memory that has its own rules for a device: each IVMD for it, for all devices or for a
- * range that it lies in, whatever its segment and length. Fails with an opening error, or
+ * range that contains it, whatever its segment and length. Fails with an opening error, or
  * ZACPI_TABLE_MISSING "IVRS". */
 ZACPI_STATUS zacpi_list_ivrs_memory(const struct zacpi_source *source, uint16_t device_id,
                                     struct zacpi_ivrs_memory *out, size_t capacity, size_t *count,

@@ -273,8 +273,9 @@ ZACPI_STATUS zacpi_write_tables_without_rsdp(const struct zacpi_machine *machine
 /* Returns how many bytes zacpi_write_tables writes. Fails with ZACPI_BAD_TABLE, ZACPI_BAD_NAME,
  * ZACPI_TOO_LONG of the XSDT, ZACPI_HAS_HEADER or ZACPI_TOO_LONG. */
 ZACPI_STATUS zacpi_tables_size(const struct zacpi_machine *machine, size_t *length);
-/* Returns where zacpi_write_tables lays the DSDT for this address and so many listed tables. Fails
- * with ZACPI_NO_ADDRESS if that is 2^64 or above, or an XSDT can't list so many. */
+/* Returns the address of the DSDT that zacpi_write_tables writes for this address and this number
+ * of listed tables. Fails with ZACPI_NO_ADDRESS if that is 2^64 or above, or an XSDT can't list
+ * this number. */
 ZACPI_STATUS zacpi_dsdt_address(uint64_t address, size_t tables_length, uint64_t *out);
 
 #endif

@@ -14,7 +14,7 @@ FILES = { # each file, what is in it, and the first words of the sections of the
     'interrupt_records': ('interrupts and processors of a machine with APICs', ['Interrupts']),
     'arm_records': ('an Arm machine', ['Arm']),
     'numa_records': ('domains and of the distances between localities', ['NUMA']),
-    'iommu_records': ('the units that remap what devices ask of memory', ['IOMMUs']),
+    'iommu_records': ("the units that remap devices' accesses to memory", ['IOMMUs']),
     'written_records': ('the tables that are to be written', ['Tables that are written', 'A whole machine']),
 }
 ELSEWHERE = { # those that are in another file than their section's

@@ -1,4 +1,4 @@
-//! Made by scripts/records: what C sees of the units that remap what devices ask of memory.
+//! Made by scripts/records: what C sees of the units that remap devices' accesses to memory.
 //! `include/zacpi.h` has what each field is.
 
 pub use acpi_iommu::Hop;

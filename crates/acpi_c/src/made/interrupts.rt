@@ -54,7 +54,7 @@ pub extern "C" fn zacpi_1_list_io_apics(
     answer(entries(source, out), count, named)
 }
 
-/// Lists the Interrupt Source Overrides, those of other buses than ISA too.
+/// Lists the Interrupt Source Overrides, also of other buses than ISA.
 #[unsafe(no_mangle)]
 pub extern "C" fn zacpi_1_list_overrides(
     source: &Source<'_>,
@@ -109,7 +109,7 @@ pub extern "C" fn zacpi_1_list_processors(
     answer(processors(source, out), count, named)
 }
 
-/// Returns MailBoxAddress of the first Multiprocessor Wakeup: where the mailbox lies by which processors are woken
+/// Returns MailBoxAddress of the first Multiprocessor Wakeup: the address of the mailbox by which processors are woken
 /// (section 5.2.12.19).
 #[unsafe(no_mangle)]
 pub extern "C" fn zacpi_1_get_mailbox_address(

@@ -270,8 +270,8 @@ pub extern "C" fn zacpi_1_list_ivrs_regions(
     answer(ivrs_regions(source, out), count, named)
 }
 
-/// Lists the memory that has its own rules for a device: each IVMD for it, for all devices or for a range that it lies
-/// in, whatever its segment and length.
+/// Lists the memory that has its own rules for a device: each IVMD for it, for all devices or for a range that contains
+/// it, whatever its segment and length.
 #[unsafe(no_mangle)]
 pub extern "C" fn zacpi_1_list_ivrs_memory(
     source: &Source<'_>,

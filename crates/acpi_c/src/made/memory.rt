@@ -6,7 +6,7 @@ use acpi_c_lib::records::Place;
 use acpi_c_lib::regions::{Region, locate};
 
 /// Returns where memory is in the regions: the byte at `address` is regions[region].bytes[offset], and `length` bytes
-/// from there on lie in that region.
+/// from there on are in that region.
 #[unsafe(no_mangle)]
 pub extern "C" fn zacpi_1_locate(
     regions: &[Region<'_>],

@@ -21,7 +21,7 @@ pub extern "C" fn zacpi_1_list_pci_regions(
     answer(pci_regions(source, out), count, named)
 }
 
-/// Lists the memory of each item of zacpi_list_pci_regions, with its base as that of bus 0.
+/// Lists the memory of each item of zacpi_list_pci_regions, with its base as bus 0's.
 #[unsafe(no_mangle)]
 pub extern "C" fn zacpi_1_list_ecam_ranges(
     source: &Source<'_>,
@@ -36,7 +36,7 @@ pub extern "C" fn zacpi_1_list_ecam_ranges(
 }
 
 /// Returns the address of a function's 4096 bytes of configuration space, by the first region of the MCFG that contains
-/// the bus, with its base as that of bus 0.
+/// the bus, with its base as bus 0's.
 #[unsafe(no_mangle)]
 pub extern "C" fn zacpi_1_pci_ecam_address(
     source: &Source<'_>,

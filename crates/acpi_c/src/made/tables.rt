@@ -19,8 +19,8 @@ pub extern "C" fn zacpi_1_open(source: &Source<'_>, out: &mut Root, named: &mut 
     answer(root(source), out, named)
 }
 
-/// Returns the RSDP that a start leads to (section 5.2.5.3), whatever is at the addresses that it has: with each of
-/// these as a start, zacpi_list_members has what either root table lists.
+/// Returns the RSDP of a start (section 5.2.5.3), whatever is at the addresses that it has: with each of these as a
+/// start, zacpi_list_members has what either root table lists.
 #[unsafe(no_mangle)]
 pub extern "C" fn zacpi_1_get_rsdp(
     source: &Source<'_>,
@@ -59,8 +59,8 @@ pub extern "C" fn zacpi_1_list_tables(
     answer(tables(source, out), count, named)
 }
 
-/// Lists what each pointer of the root table leads to, also if that is no valid table (sections 5.2.6 to 5.2.8): the
-/// items of zacpi_list_tables are those of status 0.
+/// Lists what each pointer of the root table points to, also if that is no valid table (sections 5.2.6 to 5.2.8):
+/// zacpi_list_tables has the items of status 0.
 #[unsafe(no_mangle)]
 pub extern "C" fn zacpi_1_list_members(
     source: &Source<'_>,
@@ -142,9 +142,9 @@ pub extern "C" fn zacpi_1_list_ssdts(
     answer(ssdts(source, out), count, named)
 }
 
-/// Lists the memory of the tables, which isn't to be given away: of the RSDP, the root table, each listed table that is
-/// valid under its own signature, and the DSDT and FACS that zacpi_get_dsdt and zacpi_get_facs return (sections 5.2.5
-/// to 5.2.11).
+/// Lists the memory of the tables, which is to be kept: of the RSDP, the root table, each listed table that is valid
+/// under its own signature, and the DSDT and FACS that zacpi_get_dsdt and zacpi_get_facs return (sections 5.2.5 to
+/// 5.2.11).
 #[unsafe(no_mangle)]
 pub extern "C" fn zacpi_1_list_ranges(
     source: &Source<'_>,

@@ -20,7 +20,7 @@ pub extern "C" fn zacpi_1_get_arm_timers(
     answer(arm_timers(source), out, named)
 }
 
-/// Lists the frames that lie in their GT Blocks, up to where no structure begins; below revision 2 none.
+/// Lists the frames that are in their GT Blocks, up to where no structure begins; below revision 2 none.
 #[unsafe(no_mangle)]
 pub extern "C" fn zacpi_1_list_gt_frames(
     source: &Source<'_>,
@@ -48,10 +48,10 @@ pub extern "C" fn zacpi_1_list_watchdogs(
     answer(watchdogs(source, out), count, named)
 }
 
-/// Lists where none begins: of each GT Block with frames that don't lie in it, no frame, after those that do or else at
-/// GT Block Timer Offset, at most at the block's end; and last, if structures are missing, no structure, after those
-/// before or else at Platform Timer Offset, at most at the table's end. entry_type is 0 if Platform Timer Offset is
-/// below 96.
+/// Lists where none begins: of each GT Block with frames that aren't in it, no frame, after the frames that are or else
+/// at GT Block Timer Offset, at most at the block's end; and last, if structures are missing, no structure, after the
+/// structures before or else at Platform Timer Offset, at most at the table's end. entry_type is 0 if Platform Timer
+/// Offset is below 96.
 #[unsafe(no_mangle)]
 pub extern "C" fn zacpi_1_list_gtdt_faults(
     source: &Source<'_>,

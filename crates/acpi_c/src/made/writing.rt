@@ -306,7 +306,7 @@ pub extern "C" fn zacpi_1_tables_size(machine: &Machine<'_>, count: &mut usize) 
     answer_plain(tables_size(machine), count)
 }
 
-/// Returns where zacpi_write_tables lays the DSDT for this address and so many listed tables.
+/// Returns the address of the DSDT that zacpi_write_tables writes for this address and this number of listed tables.
 #[unsafe(no_mangle)]
 pub extern "C" fn zacpi_1_dsdt_address(address: u64, tables: usize, out: &mut u64) -> u32
     ensures { AnswersPlain result out.old out.new (dsdt_said address tables) }
