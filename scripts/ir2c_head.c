@@ -178,12 +178,11 @@ INLINE u64 udiv64(u64 a, u64 b) { return a / b; }
 #else
 APART u64 udiv64(u64 a, u64 b) {
     u64 rest = 0;
-    int place, carry;
+    int place;
     for (place = 0; place < 64; place++) {
-        carry = (int)(rest >> 63);
-        rest = rest << 1 | a >> 63;
+        rest = rest << 1 | a >> 63; /* of a's bits so far, at most 64 */
         a <<= 1;
-        if (carry || rest >= b) {
+        if (rest >= b) {
             rest -= b;
             a |= 1;
         }
@@ -225,8 +224,8 @@ INLINE lanes lanes_add(lanes a, lanes b) { int i; for (i = 0; i < 16; i++) a.at[
 INLINE lanes lanes_and(lanes a, lanes b) { int i; for (i = 0; i < 16; i++) a.at[i] &= b.at[i]; return a; }
 #endif
 
-/* The sum of the sixteen modulo 256: on x86 by its instruction for each half, else in four lanes of 16 bits, which a
- * product adds up in its upper one. */
+/* The sum of the sixteen modulo 256: on x86 by its instruction for each half, on others with vectors by a loop that
+ * compilers have one for, else in four lanes of 16 bits, which a product adds up in its upper one. */
 INLINE u8 lanes_sum(lanes value) {
 #if HAS_VECTORS && defined(__SSE2__)
     typedef char signed_lanes __attribute__((vector_size(16)));
@@ -234,6 +233,11 @@ INLINE u8 lanes_sum(lanes value) {
     const signed_lanes none = {0};
     const halves sums = (halves)__builtin_ia32_psadbw128((signed_lanes)value, none);
     return (u8)(sums[0] + sums[1]);
+#elif HAS_VECTORS
+    u8 sum = 0;
+    int i;
+    for (i = 0; i < 16; i++) sum = (u8)(sum + value[i]);
+    return sum;
 #else
     const u64 mask = 0x00ff00ff00ff00ff;
     u64 half[2], four;

@@ -1,7 +1,7 @@
 # SPDX-License-Identifier: MIT
-# awk -f mach_o.awk FILE.s FILE.s: prints assembly for ELF, of one of scripts/dist's programs, as macOS takes it: sections
-# by their names there, and an underscore before what is the C library's or host.c's. Of a first reading are the names
-# that the file has.
+# awk -f mach_o.awk FILE.s FILE.s: prints assembly for ELF, of one of scripts/dist's programs, as macOS takes it:
+# sections by their names there, and an underscore before what is the C library's or host.c's. Of a first reading are
+# the names that the file has.
 function fail() { print "mach_o.awk: " FILENAME ":" FNR ": " $0 >"/dev/stderr"; exit 1 }
 FNR == NR && $1 == "adrp" { is_arm = 1 }
 FNR == NR { if (/^[^\t#][^"]*:/) has[substr($0, 1, index($0, ":") - 1)] = 1; next }
@@ -22,6 +22,7 @@ $1 == ".section" {
     while (match($0, /:lo12:[^]]+/))
         $0 = substr($0, 1, RSTART - 1) substr($0, RSTART + 6, RLENGTH - 6) "@PAGEOFF" substr($0, RSTART + RLENGTH)
     # Where branches reach labels of the assembler alone, as on Arm; elsewhere differences are of those that stay.
-    while (is_arm && match($0, /(^|[-+,:\t (])\.L/)) $0 = substr($0, 1, RSTART + RLENGTH - 3) substr($0, RSTART + RLENGTH - 1)
+    while (is_arm && match($0, /(^|[-+,:\t (])\.L/))
+        $0 = substr($0, 1, RSTART + RLENGTH - 3) substr($0, RSTART + RLENGTH - 1)
     print
 }

@@ -87,6 +87,7 @@ static void check_sums_and_products(void) {
     IS(umul_over64(1, ALL).b, 0);
     IS(umul_over64(2, HIGH).a, 0);
     IS(umul_over64(2, HIGH).b, 1);
+    IS(umul_over64(HIGH, 2).b, 1);
     IS(umul_over64(2, HIGH - 1).a, ALL - 1);
     IS(umul_over64(2, HIGH - 1).b, 0);
     IS(umul_over64(0x100000000, 0x100000000).b, 1);
@@ -128,10 +129,12 @@ static void check_bits(void) {
     IS(fshl16(0x1234, 0x5678, 20), 0x2345);
     IS(fshl32(0x12345678, 0x9abcdef0, 8), 0x3456789a);
     IS(fshl32(0x12345678, 0x9abcdef0, 0), 0x12345678);
+    IS(fshl32(0x12345678, 0x9abcdef0, 20), 0x6789abcd);
     IS(fshl32(0x12345678, 0x9abcdef0, 36), 0x23456789);
     IS(fshl64(1, HIGH, 1), 3);
     IS(fshl64(1, HIGH, 64), 1);
     IS(fshl64(0x0123456789abcdef, 0xfedcba9876543210, 16), 0x456789abcdeffedc);
+    IS(fshl64(0x0123456789abcdef, 0xfedcba9876543210, 40), 0xabcdeffedcba9876);
 }
 
 static void check_memory(void) {
