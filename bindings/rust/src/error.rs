@@ -123,6 +123,8 @@ pub enum MadtError {
     /// Bytes of the table are left in which no entry begins: an entry is too short for its type, or reaches past the
     /// table.
     InvalidEntryLength,
+    /// The firmware didn't take the command that wakes a processor ([`wakeup_aps`](crate::platform::wakeup_aps)).
+    WakeupApsTimeout,
 }
 
 impl AcpiError {

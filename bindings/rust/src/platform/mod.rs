@@ -22,6 +22,7 @@
 //! ```
 
 pub mod interrupt;
+mod mailbox;
 
 use crate::acpi_tables::AcpiTables;
 use crate::address::{register, GenericAddress};
@@ -31,6 +32,7 @@ use crate::list::{items, List, Listing, Slot};
 use crate::raw::{self, records, records_of};
 use crate::sdt::Signature;
 use interrupt::{Apic, InterruptModel, InterruptSourceOverride, IoApic, NmiLine, NmiSource};
+pub use mailbox::wakeup_aps;
 
 /// What a processor does.
 #[derive(Clone, Copy, Debug, PartialEq, Eq)]

@@ -1,0 +1,66 @@
+/* mailbox: whether zacpi_wake_processor writes a mailbox as it has to, byte by byte, without a firmware and with one, which
+ * is another process over the same memory. */
+#define _DEFAULT_SOURCE
+#include "zacpi_tables.h"
+#include <stdio.h>
+#include <string.h>
+#include <sys/mman.h>
+#include <sys/wait.h>
+#include <unistd.h>
+
+static int failed;
+#define EXPECT(holds) \
+    do { \
+        if (!(holds)) failed = 1, printf("FAILED: line %d: %s\n", __LINE__, #holds); \
+    } while (0)
+
+enum { SIZE = 4096, MOST_READS = 1000000000 };
+/* Command 1 and two reserved bytes, which stay; ApicId; WakeupVector, the lowest byte first. */
+static const uint8_t written[16] = {1, 0, 0xa5, 0xa5, 0x07, 0x03, 0x02, 0x01, 0x00, 0x80, 0x09, 0, 0x0b, 0, 0, 0x0d};
+static const uint32_t id = 0x01020307;
+static const uint64_t vector = 0x0d00000b00098000;
+
+static int is_left(const uint8_t *bytes, uint8_t command) {
+    size_t i;
+    for (i = 16; i < SIZE && bytes[i] == 0xa5; i++) continue;
+    return i == SIZE && bytes[0] == command && !memcmp(bytes + 1, written + 1, 15);
+}
+/* Nobody takes the command: it is read so often, and stays. */
+static void wakes_nobody(uint8_t *bytes) {
+    uint64_t most;
+    for (most = 0; most < 4; most++) {
+        memset(bytes, 0xa5, SIZE);
+        EXPECT(!zacpi_wake_processor((volatile struct zacpi_raw_mailbox *)bytes, id, vector, most));
+        EXPECT(is_left(bytes, 1));
+    }
+}
+/* The firmware looks at the mailbox when Command is 1, and takes it by 0. */
+static int takes(const volatile uint8_t *bytes) {
+    uint64_t reads = 0;
+    size_t i = 0;
+    while (bytes[0] != 1 && reads++ < MOST_READS) continue;
+    while (i < 16 && bytes[i] == written[i]) i++;
+    return i == 16;
+}
+static void wakes(uint8_t *bytes) {
+    int status = 1;
+    pid_t firmware;
+    memset(bytes, 0xa5, SIZE);
+    firmware = fork();
+    if (firmware == 0) {
+        status = !takes(bytes);
+        *(volatile uint8_t *)bytes = 0;
+        _exit(status);
+    }
+    EXPECT(firmware > 0 && zacpi_wake_processor((volatile struct zacpi_raw_mailbox *)bytes, id, vector, MOST_READS));
+    EXPECT(waitpid(firmware, &status, 0) == firmware && status == 0);
+    EXPECT(is_left(bytes, 0));
+}
+
+int main(void) {
+    uint8_t *bytes = (uint8_t *)mmap(NULL, SIZE, PROT_READ | PROT_WRITE, MAP_SHARED | MAP_ANONYMOUS, -1, 0);
+    if (bytes == MAP_FAILED) return 1;
+    wakes_nobody(bytes);
+    wakes(bytes);
+    return failed;
+}
