@@ -1,5 +1,5 @@
--- The tables that an XSDT lists, as they are written, and what a reader says of them where a lookup finds the first of
--- each signature.
+-- The tables that an XSDT lists, as they are written, and what a reader returns for them where a lookup finds the first
+-- of each signature.
 use Rattle.std.proofs.Common.{◌≡◌, ℕ, ◌+◌, ◌*◌, ◌<◌, ◌≤◌, Bool, true, false, List, [], ◌∷◌, length, map, Option, Some, Ok, refl, sym, ap, subst, if◌then◌else◌, Result, arith, ◌&&◌, slice_get, bytes_eq}
 use Rattle.acpi_base.proofs.FromStd.{and_parts, le-leb, bytes_eq-Decides}
 use Rattle.acpi_base.proofs.Words.{bind_ok}
@@ -94,7 +94,7 @@ valid_of ids (Bgrt c) t is = table.valid refl is.written refl
 valid_of ids (Gtdt c) t is = table.valid refl is.written refl
 valid_of ids (GicMadt c) t is = table.valid refl is.written refl
 
--- the bytes after a header that a reader asks for
+-- the bytes after a header that a reader requests
 abbrev asked : TableContents → ℕ
 asked (Madt c) = 8
 asked (Mcfg regions) = 8
@@ -189,7 +189,7 @@ first_is ids s c [] all is = absurd cc
 first_is ids s c (d ∷ cs) all is = first_by (bytes_eq (letters_of (signature_of d)) (letters_of s)) ids s c d cs all.0
     is (λ later. first_is ids s c cs all.1 later)
 
--- ---- what a reader says
+-- ---- what a reader returns
 
 abbrev one_distance : Option ℕ → Result (Option ℕ) AcpiError
 one_distance x = Ok x

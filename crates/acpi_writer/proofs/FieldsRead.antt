@@ -28,11 +28,11 @@ field_is (U32 n) fits = number-spelling 4 n (omega (arith, fits))
 field_is (U64 n) fits = number-spelling 8 n (omega (arith, fits))
 field_is (Zeros n) fits = zeros_are n
 
--- what stands at an offset of what is left
+-- what is at an offset of what is left
 pub part_in : (t rest : List ℕ) (o : ℕ) → drop o t ≡ rest → (k n : ℕ) → part t (o + k) n ≡ part rest k n
 part_in t rest o e k n = ap (take n) (sym (drop-drop k o t) ∙ ap (drop k) e)
 
--- the bytes of the field at a place, whatever stands after the fields
+-- the bytes of the field at a place, whatever comes after the fields
 part_front : (fs : List Field) (rest : List ℕ) (i : ℕ) → i < length fs
     → part (fields_bytes fs ++ rest) (offset_of fs i) (field_size (field_at fs i)) ≡ field_bytes (field_at fs i)
 part_front [] rest i less = absurd (omega arith)
@@ -52,7 +52,7 @@ pub part_of : (t rest : List ℕ) (o : ℕ) (fs : List Field) → drop o t ≡ f
     → part t (o + offset_of fs i) (field_size (field_at fs i)) ≡ field_bytes (field_at fs i)
 part_of t rest o fs e i less = part_in t (fields_bytes fs ++ rest) o e (offset_of fs i) _ ∙ part_front fs rest i less
 
--- of fields that fit, each is read where it lies
+-- of fields that fit, each is read where it is
 pub read_in : (t rest : List ℕ) (o : ℕ) (fs : List Field) → drop o t ≡ fields_bytes fs ++ rest → All FitsField fs
     → (i : ℕ) → i < length fs
     → field_of t (o + offset_of fs i) (field_size (field_at fs i)) ≡ field_value (field_at fs i)
@@ -60,7 +60,7 @@ unfolding field_of
 read_in t rest o fs e fits i less =
     ap number (part_of t rest o fs e i less) ∙ field_is (field_at fs i) (fits i (Zeros 0) less)
 
--- the same, where nothing stands after them
+-- the same, where nothing comes after them
 pub read_end : (t : List ℕ) (o : ℕ) (fs : List Field) → drop o t ≡ fields_bytes fs → All FitsField fs
     → (i : ℕ) → i < length fs
     → field_of t (o + offset_of fs i) (field_size (field_at fs i)) ≡ field_value (field_at fs i)

@@ -53,7 +53,7 @@ msi_entry_says : (x : GicMsiFrame) → Speaks madt_layout Tells (msi_entry x) (m
 unfolding msi_fields spelling
 msi_entry_says x = speaks_row (lit≤ tt) (lit≤ tt) refl (lit≤ tt) refl
 
--- ---- what each says
+-- ---- what each contains
 
 abbrev some : {X : Type 0} → X → Option X
 some x = Some x
@@ -141,7 +141,7 @@ speak c =
     (speaks_both (speaks_each its_entry its_kind its_entry_says c.translation_services.now)
     (speaks_each msi_entry msi_kind msi_entry_says c.msi_frames.now))))
 
--- what each sort says
+-- what each sort contains
 module _ (c : GicContents) (f : AreGicFit c) where
   distributors_are : filter_map read.distributor_in (entries_read c) ≡ c.distributor ∷ []
   distributors_are = simp sorts (ap (λ o. cons_option o []) (gicd_says c.distributor f.distributor))

@@ -32,7 +32,7 @@ module _ (c : GtdtContents) where
   body_long = omega arith
 
 module _ (ids : TableIds) (c : GtdtContents) (t : List ℕ) (is : IsGtdt ids c t) where
-  -- what each check says
+  -- what each check means
   good : (base_checked c.counter_control_base ≡ Ok tt) × (timer_checked c.secure_el1_timer ≡ Ok tt)
       × (timer_checked c.non_secure_el1_timer ≡ Ok tt) × (timer_checked c.virtual_el1_timer ≡ Ok tt)
       × (timer_checked c.el2_timer ≡ Ok tt) × (base_checked c.counter_read_base ≡ Ok tt)

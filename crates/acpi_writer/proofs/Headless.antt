@@ -78,7 +78,7 @@ laid_long a (Some c) =
       length-replicate {A = ℕ} (64 - facs_gap a) 0,
     )
 
--- where its bytes are lent, it is read
+-- where its bytes are mapped, it is read
 pub has_facs : (m : Memory) (a : ℕ) (c : FacsContents) → IsMemory m → FitsFacs c
     → at m a (length (facs_laid a (Some c))) ≡ Some (facs_laid a (Some c)) → HasFacs m (a + facs_gap a) c
 has_facs m a c h fits e =

@@ -13,7 +13,7 @@ use Rattle.acpi.proofs.Moved.{first_of, lookup_is}
 use Rattle.acpi_image.proofs.WrittenLaws.{written_is_read}
 use Rattle.acpi_writer.proofs.Tables as table
 
--- ---- the front and the rest of what is lent
+-- ---- the front and the rest of what is mapped
 
 pub front_lent : (m : Memory) (a : ℕ) (xs ys : List ℕ) → at m a (length (xs ++ ys)) ≡ Some (xs ++ ys)
     → at m a (length xs) ≡ Some xs
@@ -46,7 +46,7 @@ rest_lent m a xs (y ∷ ys) h e =
     (lent_is_inside m (a + length xs) (length (y ∷ ys)) (y ∷ ys) h (omega arith)).1
     (f.0, f.1, holds_rest f.0 a xs (y ∷ ys) f.2)
 
--- ---- a valid table that is lent
+-- ---- a valid table that is mapped
 
 summed : (s : Signature) (t : List ℕ) → field_of t 4 4 ≡ length t → check_table s t ≡ Ok tt → sum_of t ≡ 0
 unfolding check_table

@@ -13,7 +13,7 @@ use Rattle.acpi_writer.proofs.ShortTables.{dsdt_read, root_read, root_valid}
 use Rattle.acpi_writer.proofs.Tables.{table_length}
 use Rattle.acpi_writer.proofs.Sized.{wrote, padded_long, root_long, tree_size_is, xsdt_long}
 
--- ---- an RSDP that is lent
+-- ---- an RSDP that is mapped
 
 pub rsdp_there : (m : Memory) (p : ℕ) (b : List ℕ) → length b ≡ 36 → at m p 36 ≡ Some b → check_rsdp b ≡ Ok tt
     → rsdp_at m p ≡ Ok b
@@ -23,7 +23,7 @@ rsdp_there m p b long e checked =
     let all : at m p (length b) ≡ Some b = ap (at m p) long ∙ e in
     rw (e, parts.1, whole_there m p b parts.0 all parts.2) refl
 
--- ---- a table that is lent
+-- ---- a table that is mapped
 
 ok_from : (r : Result (List ℕ) AcpiError) (t : List ℕ) → result_ok r ≡ Some t → r ≡ Ok t
 ok_from (Ok x) t e = cc
@@ -88,7 +88,7 @@ module _ (m : Memory) (rsdp a : ℕ) (x : Machine) (h : IsMemory m) (is : IsWrit
   abbrev known : Facts a x
   known = facts a x is
 
-  -- ---- where its parts are lent
+  -- ---- where its parts are mapped
 
   abbrev xsdt : List ℕ
   xsdt = xsdt_bytes a x

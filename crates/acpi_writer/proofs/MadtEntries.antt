@@ -1,4 +1,4 @@
--- What each entry of a MADT that is written says, which mailbox it has, and what a reader finds in them all.
+-- What each entry of a MADT that is written contains, which mailbox it has, and what a reader finds in them all.
 use Rattle.std.proofs.Common.{◌≡◌, ℕ, List, [], ◌∷◌, map, drop, Option, Some, None, Result, Ok, Err, refl, sym, ap, ◌∙◌, ◌^◌, ◌<◌, Bool, true, false, arith, lit≤, nat_eq, option_and_then, nat_lt, if◌then◌else◌, filter_map, All, lit<}
 use Rattle.acpi_base.proofs.FromStd.{ltb-true, ne_eqb}
 use Rattle.acpi_base.proofs.Words.{said_faults, said_items, number-spelling}
@@ -26,7 +26,7 @@ abbrev pub box_in : Option ℕ → MadtItem → Option ℕ
 box_in o item.Wakeup = o
 box_in o _ = None
 
--- an entry says an item, and has its mailbox
+-- an entry contains an item, and has its mailbox
 abbrev pub Tells : Option ℕ → List ℕ → MadtItem → Type 0
 Tells o e x = (said_of e ≡ Some (fine x)) × (box_of e ≡ box_in o x)
 

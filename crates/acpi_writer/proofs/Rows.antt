@@ -7,7 +7,7 @@ use Rattle.acpi_writer.specs.Words.{AllByRecursion, concat, cons_option, end_of,
 
 -- ---- entries
 
--- an entry's bytes, and what they say
+-- an entry's bytes, and what they mean
 abbrev pub Row : Type 0 → Type 0
 Row R = List ℕ × R
 

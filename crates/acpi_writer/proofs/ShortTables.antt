@@ -133,7 +133,7 @@ unfolding is_utf8 chars lib.Utf8.encode
 root_valid Rsdt ids addresses t is = table.valid refl is.written refl
 root_valid Xsdt ids addresses t is = table.valid refl is.written refl
 
--- what stands after the header of acpi_image's root table: the same bytes
+-- what comes after the header of acpi_image's root table: the same bytes
 same_body : (kind : RootKind) (ps : List ℕ) → drop 36 (root_to kind ps) ≡ root_body kind ps
 unfolding with_sum
 same_body kind ps =

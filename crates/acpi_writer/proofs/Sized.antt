@@ -35,7 +35,7 @@ wrote room s revision ids body t e =
       bytes = sym (same_ok {E = WriterError} (table_bytes s revision ids body) t short.1);
     }
 
--- ---- a table that is as long as its size says
+-- ---- a table that is as long as its size has it
 
 -- what is written, if it has a size
 pub written_of : (w : Result (List ℕ) WriterError) (n : ℕ) → sized w ≡ Ok n
@@ -316,7 +316,7 @@ put_more f xs i at size total x out new is less put this whole before =
       put_long at (at + size - at) out new (omega (arith, within)) (omega (arith, long)) ∙ before.2,
     )
 
--- what is at a place of a list stands for what is there in the list of items
+-- what is at a place of a list means what is there in the list of items
 pub meant_at : {X Y : Type 0} (f : X → Y) (xs : List X) (i : ℕ) (x : X) (y : Y) → y ≡ f x → x ≡ get_or xs i x
     → i < length xs → (y ≡ get_or (map f xs) i y) × (i < length (map f xs))
 meant_at f xs i x y item is less = (
@@ -324,7 +324,7 @@ meant_at f xs i x y item is less = (
   omega (arith, less, length-map xs f),
 )
 
--- what stands for itself
+-- what means itself
 pub map_same : {X : Type 0} (xs : List X) → map (λ x. x) xs ≡ xs
 map_same [] = refl
 map_same (x ∷ xs) = ap (λ l. x ∷ l) (map_same xs)

@@ -15,7 +15,7 @@ use Rattle.acpi_writer.proofs.Tables as table
 abbrev Tells : List ℕ → SratEntry → Type 0
 Tells e x = entry_of 3 e ≡ Some x
 
--- ---- what each entry says
+-- ---- what each entry contains
 
 abbrev local_apic : ℕ → ℕ → SratEntry
 local_apic d id = kinds.LocalApic (record { domain = d; apic_id = id; flags = 1; sapic_eid = 0; clock_domain = 0 })

@@ -1,4 +1,4 @@
--- What every table that is written has: that it is valid, and what its header says of its makers.
+-- What every table that is written has: that it is valid, and what its header has of its makers.
 use Rattle.std.proofs.Common.{◌≡◌, ℕ, zero, suc, ◌+◌, true, List, [], ◌∷◌, ◌++◌, length, take, drop, get_or, set, Ok, refl, sym, ap, ◌∙◌, arith, eq-eqb, length-append}
 use Rattle.acpi_base.proofs.FromStd.{and_from, and_parts, bytes_eq-Decides, le-leb, take_all}
 use Rattle.acpi_base.proofs.Words.{number-spelling}

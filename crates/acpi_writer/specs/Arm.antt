@@ -20,7 +20,7 @@ abbrev pub is_low : Polarity → Bool
 is_low polarity.ActiveLow = true
 is_low _ = false
 
--- they can't say that it is that of a bus
+-- they can't mean that it is as a bus has it
 
 abbrev pub has_trigger : TriggerMode → Bool
 has_trigger trigger.SameAsBus = false
@@ -33,7 +33,7 @@ has_polarity _ = true
 abbrev pub modes_checked : TriggerMode → Polarity → Result (Unit {0}) WriterError
 modes_checked t p = holds (has_trigger t && has_polarity p) SameAsBus
 
--- all ones stand for no address
+-- all ones mean no address
 abbrev pub base_checked : Option ℕ → Result (Unit {0}) WriterError
 base_checked (Some address) = holds (nat_lt address 0xffffffffffffffff) NoAddress
 base_checked None = Ok tt

@@ -1,4 +1,4 @@
--- The bytes of a table that an XSDT can list, by what it is to say.
+-- The bytes of a table that an XSDT can list, by its contents.
 use Rattle.std.specs.Prelude.{ℕ, ◌-◌, ◌^◌, ◌<◌, List, [], length, Result, Ok, Err, All}
 use Rattle.acpi_writer.specs.Aml.{aml_written}
 use Rattle.acpi_writer.specs.Bgrt.{FitsBgrt, bgrt_written}

@@ -38,7 +38,7 @@ abbrev pub is_given : {A : Type 0} → Option A → Bool
 is_given (Some x) = true
 is_given None = false
 
--- a block of general purpose events as a register, eight bits for each byte as far as a width can say
+-- a block of general purpose events as a register, eight bits for each byte as far as a width can hold it
 abbrev pub gpe_register : Option GpeBlock → Option GenericAddress
 gpe_register (Some b) = Some (record {
   address_space = b.space;
@@ -253,7 +253,7 @@ pub record HasFlags (c : FadtContents) (f : Fadt) : Type 0 where
   pub pc : (k : ℕ) → has_bit (pc_bits f.iapc_boot_arch) k ≡ flag_at (pc_flags c.pc_boot) k
   pub arm : (k : ℕ) → has_bit (arm_bits f.arm_boot_arch) k ≡ flag_at (arm_flags c.arm_boot) k
 
--- what the first versions say of processors and of the clock
+-- what the first versions have of processors and of the clock
 pub record HasLegacy (l : LegacyFields) (f : Fadt) : Type 0 where
   pub c2 : f.worst_c2_latency ≡ l.worst_c2_latency
   pub c3 : f.worst_c3_latency ≡ l.worst_c3_latency

@@ -100,7 +100,7 @@ msi_entry x = fields_bytes (msi_fields x)
 
 -- ---- the table
 
--- the contents that those with things that stand for items stand for
+-- the contents in the reader's items, by contents with a caller's records of them
 abbrev pub gic_meant : {C R T F : Type 0} → (C → GicCpuInterface) → (R → GicRedistributors)
     → (T → GicTranslationService) → (F → GicMsiFrame) → declared.GicContents C R T F → GicContents
 gic_meant interface redistributors service frame c = record {
@@ -121,7 +121,7 @@ gic_body c =
     ++ (flat_map its_entry c.translation_services.now
     ++ flat_map msi_entry c.msi_frames.now))))
 
--- flags have to say both trigger modes
+-- flags have to express both trigger modes
 abbrev pub interface_checked : GicCpuInterface → Result (Unit {0}) WriterError
 interface_checked x = holds (has_trigger x.performance_trigger && has_trigger x.maintenance_trigger) SameAsBus
 

@@ -10,7 +10,7 @@ use Rattle.acpi_writer.specs.declared.gtdt.PlatformTimerContents.TheVariants as 
 
 -- ---- parts
 
--- an address, of which all ones stand for none
+-- an address, of which all ones mean none
 abbrev pub base_of : Option ℕ → ℕ
 base_of (Some address) = address
 base_of None = 0xffffffffffffffff

@@ -1,4 +1,4 @@
--- The bytes of an HPET with given contents. The layout is that of the IA-PC HPET Specification 1.0a, section 3.2.4.
+-- The bytes of an HPET by its contents. The layout is by the IA-PC HPET Specification 1.0a, section 3.2.4.
 use Rattle.std.specs.Prelude.{ℕ, List, [], ◌∷◌, Result, ◌≡◌, Ok, All}
 use Rattle.acpi_writer.specs.Types.{HPET, HpetInfo, WriterError, TableIds, protection_code, hpet_at, info_of, Field, U8, U16, U32, U64, Zeros}
 use Rattle.acpi_writer.specs.Fields.{fields_bytes, FitsField}

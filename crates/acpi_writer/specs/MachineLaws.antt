@@ -41,7 +41,7 @@ first_at s least a (t ∷ ts) =
 abbrev pub AreValid : List (List ℕ) → Type 0
 AreValid ts = AllByRecursion (λ t. (s : Signature) × IsValid s t) ts
 
--- where a memory lends them, a lookup by their addresses finds exactly that
+-- where a memory has them, a lookup by their addresses finds exactly that
 abbrev pub LaidAreFound : Type 0
 LaidAreFound = (m : Memory) (a : ℕ) (ts : List (List ℕ)) → IsMemory m → AreValid ts
     → at m a (length (laid ts)) ≡ Some (laid ts)

@@ -131,7 +131,7 @@ wakeup_entries o = fields_bytes (mailbox_fields o)
 
 -- ---- the table
 
--- the contents that those with things that stand for items stand for
+-- the contents in the reader's items, by contents with a caller's records of them
 abbrev pub madt_meant : {P I O S L : Type 0} → (P → MadtProcessor) → (I → IoApic) → (O → InterruptSourceOverride)
     → (S → NmiSource) → (L → MadtNmiLine) → declared.MadtContents P I O S L → MadtContents
 madt_meant processor io_apic override source line c = record {

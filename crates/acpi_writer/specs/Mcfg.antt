@@ -1,4 +1,4 @@
--- The bytes of an MCFG with given contents. The layout is that of the PCI Firmware Specification, section 4.1.2.
+-- The bytes of an MCFG by its contents. The layout is by the PCI Firmware Specification, section 4.1.2.
 use Rattle.std.specs.Prelude.{ℕ, List, [], ◌∷◌, ◌++◌, flat_map, replicate, Result, ◌≡◌, All}
 use Rattle.acpi_writer.specs.Fields.{fields_bytes, FitsField}
 use Rattle.acpi_writer.specs.Table.{table_written, IsTableOf, IsValid}

@@ -6,7 +6,7 @@ use Rattle.acpi_writer.specs.Spelled.{items_of}
 use Rattle.acpi_writer.specs.Table.{bit_of, table_written, IsTableOf, IsValid}
 use Rattle.acpi_writer.specs.declared.srat.SratContents as declared
 
--- the contents that those with things that stand for ranges stand for
+-- the contents in the reader's ranges, by contents with a caller's records of them
 abbrev pub srat_meant : {R : Type 0} → (R → MemoryRange) → declared.SratContents R → SratContents
 srat_meant range c = record { apics = c.apics; giccs = c.giccs; ranges = items_of range c.ranges }
 

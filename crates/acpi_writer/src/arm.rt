@@ -25,7 +25,7 @@ pub(crate) fn is_edge(trigger_mode: TriggerMode) -> bool
     }
 }
 
-/// Whether a flag can say the trigger mode: there is no bus whose one it could be.
+/// Whether a flag can express the trigger mode, since there is no bus of which it could be.
 pub(crate) fn has_trigger(trigger_mode: TriggerMode) -> bool
     ensures { result ≡ has_trigger trigger_mode }
 {
@@ -45,7 +45,7 @@ pub(crate) fn is_low(polarity: Polarity) -> bool
     }
 }
 
-/// Whether a flag can say the polarity.
+/// Whether a flag can express the polarity.
 fn has_polarity(polarity: Polarity) -> bool
     ensures { result ≡ has_polarity polarity }
 {
@@ -55,7 +55,7 @@ fn has_polarity(polarity: Polarity) -> bool
     }
 }
 
-/// Returns `SameAsBus` if flags can't say the trigger mode and the polarity.
+/// Returns `SameAsBus` if flags can't express the trigger mode and the polarity.
 pub(crate) fn check_modes(trigger_mode: TriggerMode, polarity: Polarity) -> Result<(), WriterError>
     ensures { result ≡ modes_checked trigger_mode polarity }
 {

@@ -23,7 +23,7 @@ pub enum BgrtOrientation {
     Degrees270,
 }
 
-/// What a BGRT is to say, in the words of `Bgrt`, as which it is read.
+/// The contents of a BGRT, by the names of `Bgrt`, as which it is read.
 #[derive(Clone, Copy)]
 pub struct BgrtContents {
     /// Displayed: whether the image is on the screen.

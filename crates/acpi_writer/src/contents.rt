@@ -1,4 +1,4 @@
-//! The tables that an XSDT can list, each from what it is to say.
+//! The tables that an XSDT can list, each from its contents.
 ghost use Rattle.std.specs.Prelude.{◌≡◌, ◌+◌, ◌^◌, ◌<◌, ◌≤◌, ◌++◌, length, take, drop, replicate};
 ghost use Rattle.acpi_writer.specs.Words.{FitsContents, contents_written, gap, rounded};
 
@@ -27,7 +27,7 @@ pub struct AmlContents<'a> {
     pub bytes: &'a [u8],
 }
 
-/// What a SLIT is to say (section 5.2.17).
+/// The contents of a SLIT (section 5.2.17).
 #[derive(Clone, Copy)]
 pub struct SlitContents<'a> {
     /// Number of System Localities.
@@ -36,7 +36,7 @@ pub struct SlitContents<'a> {
     pub distances: &'a [u8],
 }
 
-/// A table that an XSDT can list, with what it is to say. Each is written as the function of its name writes it.
+/// A table that an XSDT can list, with its contents. Each is written as the function of its name writes it.
 #[derive(Clone, Copy)]
 pub enum TableContents<'a> {
     /// `write_madt`.

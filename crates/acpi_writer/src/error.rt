@@ -12,9 +12,9 @@ pub enum WriterError {
     /// A SLIT without a distance for each pair of localities.
     BadMatrix,
     /// An address that means none: of 0 in an RSDP, a FADT or of a serial port, and of all ones as a base address
-    /// in a GTDT; or an address at which a machine's tables can't lie.
+    /// in a GTDT; or an address at which a machine's tables can't be.
     NoAddress,
-    /// A FADT with a `Reserved` profile whose code is that of one that has a name.
+    /// A FADT with a `Reserved` profile, whose code is one that has a name.
     BadProfile,
     /// A register at address 0 or in an `OemDefined` space below 0xc0, or a block of fixed hardware without bytes.
     BadRegister,
@@ -24,16 +24,16 @@ pub enum WriterError {
     HasHeader,
     /// The slice ends before the table does.
     NoRoom,
-    /// The table has 2^32 bytes or more, which its field Length can't say.
+    /// The table has 2^32 bytes or more, which its field Length can't hold.
     TooLong,
     /// A range of memory that has no byte, or ends above 2^64 - 1.
     BadRange,
     /// An interface or an address space with the code of another one, or with a reserved code.
     BadCode,
-    /// A name in the namespace of 65535 bytes or more, whose length its field can't say.
+    /// A name in the namespace of 65535 bytes or more, whose length its field can't hold.
     LongName,
-    /// A trigger mode or a polarity of an Arm machine that is that of a bus.
+    /// A trigger mode or a polarity of an Arm machine that is `SameAsBus`.
     SameAsBus,
-    /// A GT Block with more than 1637 frames, whose bytes its field Length can't say.
+    /// A GT Block with more than 1637 frames, whose bytes its field Length can't hold.
     TooManyFrames,
 }

@@ -7,7 +7,7 @@ use crate::error::WriterError;
 use crate::numbers::{bit_of, dword, qword};
 use crate::rsdp::write_front;
 
-/// What a FACS is to say (section 5.2.10).
+/// The contents of a FACS (section 5.2.10).
 #[derive(Clone, Copy)]
 pub struct FacsContents {
     /// Hardware Signature: a number that changes if the hardware does.

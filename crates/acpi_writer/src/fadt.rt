@@ -1,4 +1,4 @@
-//! The Fixed ACPI Description Table (FADT, section 5.2.9), from the hardware and the features that it is to say.
+//! The Fixed ACPI Description Table (FADT, section 5.2.9), from the hardware and the features that it describes.
 ghost use Rattle.std.specs.Prelude.{◌≡◌, length, take, IfOk};
 ghost use Rattle.acpi_writer.specs.Words.{FADT, list_all, Gives, IsFadt, Keeps, FitsFadt, is_profile};
 ghost use Rattle.acpi_writer.specs.Fadt as bytes;

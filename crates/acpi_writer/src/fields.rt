@@ -17,7 +17,7 @@ pub enum Field {
     U32(u32),
     /// A number in eight bytes.
     U64(u64),
-    /// So many zeros.
+    /// A number of zeros.
     Zeros(u8),
 }
 

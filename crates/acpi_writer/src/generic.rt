@@ -22,7 +22,7 @@ pub(crate) fn register_or_zeros(register: Option<GenericAddress>) -> GenericAddr
     }
 }
 
-/// Whether the code of a space is one of its own: that of an OEM's is 0xc0 or above.
+/// Whether the code of a space is one of its own: an OEM's is 0xc0 or above.
 pub(crate) fn is_named_space(space: AddressSpace) -> bool
     ensures { result ≡ is_named_space space }
 {

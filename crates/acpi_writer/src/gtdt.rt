@@ -100,7 +100,7 @@ impl<'a, T: Checked + Copy + Spelled> Table for GtdtContents<'a, T> {
 /// Platform Timer Offset is 104, also if there is no timer of the platform.
 ///
 /// Returns the first error in the order of the fields: `NoAddress` if a base address is `Some` of all ones, and
-/// `SameAsBus` if a trigger mode or a polarity is that of a bus. Of a GT Block it returns first `TooManyFrames` if it
+/// `SameAsBus` if a trigger mode or a polarity is a bus's. Of a GT Block it returns first `TooManyFrames` if it
 /// has more than 1637, and then the first error of a frame, of which CntEL0BaseX comes before the timers. Then it
 /// returns, in this order, `BadName` if a name of the ids is not valid UTF-8, `NoRoom` if the slice is shorter than the
 /// table, and `TooLong` if the table has 2^32 bytes or more.

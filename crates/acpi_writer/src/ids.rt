@@ -25,7 +25,7 @@ impl TableIds {
     /// Whether each name is valid UTF-8.
     pub fn are_texts(self) -> bool
         ensures texts { result ≡ are_texts self }
-        // The names and numbers are as long as their types say.
+        // The names and numbers are as long as their types have it.
         ensures fit { AreIds self }
     {
         is_text(&self.oem_id) && is_text(&self.oem_table_id) && is_text(&self.creator_id)

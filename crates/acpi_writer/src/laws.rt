@@ -28,7 +28,7 @@ pub fn tables_are_read<A: Allocator>()
     ensures rsdp { RsdpIsRead }
     // The pointers of a root table are the addresses, in order.
     ensures root { RootIsRead }
-    // A DSDT is valid, and its AML is that of the caller.
+    // A DSDT is valid, and its AML is the caller's.
     ensures dsdt { DsdtIsRead }
     // And so is an SSDT.
     ensures ssdt { SsdtIsRead }

@@ -1,6 +1,6 @@
-//! Static ACPI tables, written from what they are to say, into a slice of the caller's. No heap is needed.
+//! Static ACPI tables, written from their contents, into a slice of the caller's. No heap is needed.
 //!
-//! Section numbers are those of the ACPI Specification, version 6.4.
+//! Section numbers refer to the ACPI Specification, version 6.4.
 #![tactic(auto)]
 
 pub mod aml;

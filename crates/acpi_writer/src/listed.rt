@@ -1,4 +1,4 @@
-//! A table that a machine can list, by what it is to say: as `TableContents` has it, or in records of a caller's own.
+//! A table that a machine can list, by its contents: as `TableContents` has it, or in records of a caller's own.
 ghost use Rattle.std.specs.Prelude.{◌≡◌, ℕ, ◌^◌, ◌<◌, ◌≤◌, ◌++◌, List, Result, Ok, length, drop, IfOk};
 ghost use Rattle.acpi_writer.specs.Contents.{or_none, placed_by, sized};
 ghost use Rattle.acpi_writer.specs.Types.{WriterError, TableIds};
@@ -7,7 +7,7 @@ use crate::contents::{fill_up, rounded};
 use crate::error::WriterError;
 use crate::ids::TableIds;
 
-/// A table that a machine can list, by what it is to say.
+/// A table that a machine can list, by its contents.
 pub trait Listed {
     // The table, or the first error.
     ghost written: { TableIds → Self → Result (List ℕ) WriterError };

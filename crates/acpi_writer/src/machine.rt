@@ -277,7 +277,7 @@ fn check_place(room: usize, address: u64, size: usize) -> Result<(), WriterError
     Ok(())
 }
 
-/// Writes all tables of a machine but the RSDP to the front of a slice, which is to lie at this physical address: the
+/// Writes all tables of a machine but the RSDP to the front of a slice, which is to be at this physical address: the
 /// XSDT, the DSDT, 128 bytes that have the FACS at a multiple of 64, and the tables that the XSDT lists, in order, each
 /// table at a multiple of 16 and filled up with zeros to the next. Returns how many bytes these are. `write_rsdp` with
 /// this address writes an RSDP for them.
@@ -327,9 +327,9 @@ fn put_machine<T: Listed>(out: &mut [u8], address: u64, machine: &Machine<'_, T>
     put_tree(&mut out[rsdp..], address + 48, machine);
 }
 
-/// Writes all tables of a machine to the front of a slice, which is to lie at this physical address: the RSDP, which so
+/// Writes all tables of a machine to the front of a slice, which is to be at this physical address: the RSDP, which so
 /// is at this address itself, and after its 48 bytes all that `write_tables_without_rsdp` writes. Returns how many
-/// bytes these are, as many as `tables_size` returns.
+/// bytes these are, the number that `tables_size` returns.
 ///
 /// Returns the errors of `write_tables_without_rsdp`, in their order.
 pub fn write_tables<T: Listed>(

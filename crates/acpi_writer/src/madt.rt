@@ -205,7 +205,7 @@ where
     }
 }
 
-/// Writes a MADT of revision 5 to the front of a slice, and returns how many bytes it has. Its entries stand sort by
+/// Writes a MADT of revision 5 to the front of a slice, and returns how many bytes it has. Its entries come sort by
 /// sort, in the order of the fields: a processor is a Processor Local APIC if both its ids are below 255 and it isn't
 /// to be an x2APIC, otherwise a Processor Local x2APIC. An NMI line is a Local x2APIC NMI if its uid is 255 or above,
 /// whatever the id of that processor is (section 5.2.12.13 goes by the id); one of all processors is a Local APIC NMI

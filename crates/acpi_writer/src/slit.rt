@@ -10,7 +10,7 @@ use crate::spelled::{Bytes, Then};
 use crate::table::{Table, write};
 use acpi_base::Signature;
 
-/// Whether there are as many distances as pairs of localities.
+/// Whether there is a distance for each pair of localities.
 fn is_square(localities: u64, distances: &[u8]) -> bool
     ensures { result ≡ (localities * localities == length distances.now) }
 {

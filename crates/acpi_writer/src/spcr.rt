@@ -37,12 +37,12 @@ pub struct SpcrPciDevice {
     pub segment: u8,
 }
 
-/// What an SPCR is to say, in the words of `Spcr`, as which it is read.
+/// The contents of an SPCR, by the names of `Spcr`, as which it is read.
 #[derive(Clone, Copy)]
 pub struct SpcrContents<'a> {
     /// Interface Type: the interface of the port's registers.
     pub interface_type: SpcrInterfaceType,
-    /// Base Address: where the registers lie, or `None` if console redirection is off.
+    /// Base Address: where the registers are, or `None` if console redirection is off.
     pub base_address: Option<GenericAddress>,
     /// Interrupt Type: the controllers that the port's interrupt comes to.
     pub interrupt_type: SpcrInterruptType,
@@ -65,7 +65,7 @@ pub struct SpcrContents<'a> {
     pub language: u8,
     /// The PCI device that the port is, if it is one.
     pub pci_device: Option<SpcrPciDevice>,
-    /// UART Clock Frequency: the clock of the port in Hz, or 0 if nothing is said of it.
+    /// UART Clock Frequency: the clock of the port in Hz, or 0 if it isn't known.
     pub uart_clock_frequency: u32,
     /// NamespaceString without the zero that ends it: the path of the port's object in the namespace, or `.` if it has
     /// none.

@@ -40,7 +40,7 @@ impl<T: Copy> StandsFor<T> for T {
     }
 }
 
-/// The items that the things of a list stand for, one after the other.
+/// The items that the things of a list mean, one after the other.
 #[derive(Clone, Copy)]
 pub struct EachItem<'a, T, R>(pub &'a [R], pub PhantomData<T>);
 

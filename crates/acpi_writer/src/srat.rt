@@ -37,7 +37,7 @@ pub struct GiccDomain {
     pub domain: u32,
 }
 
-/// What a SRAT is to say, in the words of `Domains` and `MemoryAffinities`, as which it is read.
+/// The contents of an SRAT, by the names of `Domains` and `MemoryAffinities`, as which it is read.
 #[derive(Clone, Copy)]
 pub struct SratContents<'a, R = MemoryRange> {
     /// The domains of processors with a local APIC.
@@ -203,7 +203,7 @@ impl<'a, R: StandsFor<MemoryRange>> Table for SratContents<'a, R> {
 }
 
 /// Writes a SRAT of revision 3 to the front of a slice, and returns how many bytes it has: 48, and the bytes of its
-/// entries, which stand sort by sort, in the order of the fields, and are all enabled. A processor with a local APIC
+/// entries, which come sort by sort, in the order of the fields, and are all enabled. A processor with a local APIC
 /// has 16 if its id is below 255, as a Processor Local APIC/SAPIC Affinity, otherwise 24, as a Processor Local x2APIC
 /// Affinity; one with an interface to the GIC has 18, and a range of memory 40. Each Clock Domain is 0. Of two entries
 /// of one processor the later one is the one that is read; ranges may overlap.

@@ -96,7 +96,7 @@ pub fn write_table<B: Spelled>(
     Ok(size)
 }
 
-/// What a table is to say.
+/// The contents of a table.
 pub(crate) trait Table {
     /// All after the header.
     type Body: Spelled + Copy;
@@ -127,7 +127,7 @@ pub(crate) trait Table {
         ensures fits { Self.Body.fits result → fits self.now };
 }
 
-/// Writes the table that is to say this to the front of a slice, and returns how many bytes it has.
+/// Writes the table of these contents to the front of a slice, and returns how many bytes it has.
 ///
 /// Returns the error of the contents, if a table has no place for them, and then `write_table`'s.
 pub(crate) fn write<T: Table>(

@@ -1,4 +1,4 @@
-//! What a FADT is to say (section 5.2.9).
+//! The contents of a FADT (section 5.2.9).
 
 use super::features::{ArmBootFeatures, FixedFeatures, PcBootFeatures};
 use acpi_base::address::GenericAddress;
@@ -86,7 +86,7 @@ impl LegacyFields {
     };
 }
 
-/// What a FADT is to say, in the words of `Fadt`, as which it is read (section 5.2.9).
+/// The contents of a FADT, by the names of `Fadt`, as which it is read (section 5.2.9).
 #[derive(Clone, Copy)]
 pub struct FadtContents {
     /// The physical address of the DSDT.

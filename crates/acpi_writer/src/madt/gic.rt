@@ -113,11 +113,11 @@ where
 }
 
 /// Writes the MADT of an Arm machine, of revision 6, to the front of a slice, and returns how many bytes it has. Its
-/// entries stand in the order of the fields. A GICC has 80 bytes if its `trace_buffer_interrupt` is `None`, and
+/// entries are in the order of the fields. A GICC has 80 bytes if its `trace_buffer_interrupt` is `None`, and
 /// otherwise 82, as since ACPI 6.5. Local Interrupt Controller Address and Flags, which are for APICs, are 0. Two
 /// processors of one uid are written as they are.
 ///
-/// Returns, in this order, `NoProcessor` if there is no processor, `SameAsBus` if a trigger mode is that of a bus,
+/// Returns, in this order, `NoProcessor` if there is no processor, `SameAsBus` if a trigger mode is a bus's,
 /// `BadName` if a name of the ids is not valid UTF-8, `NoRoom` if the slice is shorter than the table, and `TooLong` if
 /// the table has 2^32 bytes or more.
 #[tactic(auto, unfolding(crate::specs::GicMadt::gic_written), using(crate::proofs::GicRead::gic_madt_is))]

@@ -10,7 +10,7 @@ use acpi_base::bytes::{bits, has_bit};
 use acpi_base::spcr::{SpcrFlowControl, SpcrInterruptType, SpcrTerminalType};
 use bitflags::Flags;
 
-/// The PCI device, or the numbers that say that the port is none.
+/// The PCI device, or the numbers of a port that is none.
 fn device_of(device: Option<SpcrPciDevice>) -> SpcrPciDevice
     ensures { result ≡ spcr.device_written device }
 {

@@ -3,7 +3,7 @@ use Rattle.acpi_writer.specs.Words.{listed_sized}
 use Rattle.acpi_writer.proofs.Sized.{listed_after}
 use Rattle.acpi_writer.proofs.machine.listed_size.Given as goal
 
--- what is to come, after so many bytes
+-- what is to come, after that number of bytes
 abbrev pub invariant-loop-table : goal.invariant-loop-table
 invariant-loop-table g l =
     (listed_after g.T.Listed.written l.size l.ids (drop l.table-index l.tables)
