@@ -57,9 +57,8 @@ file == 4 && match($0, /^ +[0-9]+ = [A-Za-z]+,$/) {
     found[file]++
 }
 END {
-    # The bindings don't know those of a start and of a policy, which no call returns to them, since they pass none but
-    # these.
-    unknown[3] = unknown[7] = 1
+    # The bindings don't know that of a policy, which no call returns to them, since they pass none but policies.
+    unknown[7] = 1
     for (i = 1; i <= most; i++) {
         here = name_of[1, i]
         if (here != shown_name[i]) complain(i ": the header has '" here "', and shows '" shown_name[i] "'")
