@@ -6,6 +6,7 @@ use crate::list::{items, sealed::Sealed, Item, Listing};
 use crate::memory::{Accept, Region, Start};
 use crate::raw;
 use crate::raw::records::{self, AmlTable, Facs, Range, Signature, Source};
+use crate::tables::{Header, View};
 use crate::write::TableIds;
 
 /// The root table (sections 5.2.7 and 5.2.8).
@@ -247,7 +248,8 @@ impl<'k> AcpiTables<'k> {
         Tables { tables: *self, signature, index: 0 }
     }
 
-    /// All valid tables, in the order of the root table, repeats kept (section 5.2.6).
+    /// All valid tables, in the order of the root table, repeats kept (section 5.2.6): a list, or in a `for` loop one
+    /// after the other.
     pub fn headers(&self) -> Listing<'k, Table> {
         self.list(raw::zacpi_1_list_tables)
     }
@@ -304,8 +306,7 @@ impl<'k> AcpiTables<'k> {
 
     /// So many bytes from a physical address on, if the address lies in a region and this has so many.
     pub fn bytes_at(&self, address: u64, length: u64) -> Option<&'k [u8]> {
-        let place = raw::locate(self.regions, address, length).ok()?;
-        self.regions.get(place.region)?.slice(place.offset, usize::try_from(length).ok()?)
+        bytes_in(self.regions, address, length)
     }
 
     /// The entries of a table of any type, by how they are laid out.
@@ -315,6 +316,69 @@ impl<'k> AcpiTables<'k> {
     /// `SdtInvalidChecksum`), and with `SdtInvalidLength` if it ends before the offset.
     pub fn entries(&self, table: &Table, walk: Walk) -> AcpiResult<Entries<'k>> {
         Entries::new(*self, *table, walk)
+    }
+}
+
+/// So many bytes from a physical address on, if one of the regions contains them.
+fn bytes_in<'k>(regions: &'k [Region<'k>], address: u64, length: u64) -> Option<&'k [u8]> {
+    let place = raw::locate(regions, address, length).ok()?;
+    regions.get(place.region)?.slice(place.offset, usize::try_from(length).ok()?)
+}
+
+/// All valid tables, one after the other: each step looks at one more pointer of the root table, so that no memory is
+/// needed.
+#[derive(Clone, Debug)]
+pub struct Headers<'k> {
+    source: Source<'k>,
+    pointers: &'k [u8],
+    width: usize,
+}
+
+impl Headers<'_> {
+    /// The table at an address, if it is valid: only then its entries can be listed.
+    fn table_at(&self, address: u64) -> Option<Table> {
+        raw::list_entries(&self.source, address, Walk::plain(36, 1), &mut []).ok()?;
+        let header = Header::of(bytes_in(self.source.regions(), address, 36)?)?;
+        let ids = TableIds {
+            oem_id: header.oemid(),
+            oem_table_id: header.oem_table_id(),
+            oem_revision: header.oem_revision(),
+            creator_id: header.creator_id(),
+            creator_revision: header.creator_revision(),
+        };
+        let signature = Signature { letters: header.signature() };
+        Some(Table { address, length: header.length(), signature, revision: header.revision(), ids })
+    }
+}
+
+impl Iterator for Headers<'_> {
+    type Item = Table;
+
+    fn next(&mut self) -> Option<Table> {
+        while !self.pointers.is_empty() {
+            // Fewer bytes at the end are a pointer whose other bytes are 0.
+            let (pointer, rest) = self.pointers.split_at(self.width.min(self.pointers.len()));
+            let mut address = [0; 8];
+            address[..pointer.len()].copy_from_slice(pointer);
+            self.pointers = rest;
+            if let Some(table) = self.table_at(u64::from_le_bytes(address)) {
+                return Some(table);
+            }
+        }
+        None
+    }
+}
+
+impl<'k> IntoIterator for Listing<'k, Table> {
+    type Item = Table;
+    type IntoIter = Headers<'k>;
+
+    fn into_iter(self) -> Headers<'k> {
+        let source = self.source();
+        let root = raw::zacpi_1_open(&source).map(Root::from).ok();
+        let bytes = root.and_then(|root| bytes_in(source.regions(), root.address, root.length.into())?.get(36..));
+        let width = if root.is_some_and(|root| root.is_xsdt) { 8 } else { 4 };
+        Headers { source, pointers: bytes.unwrap_or(&[]), width }
     }
 }
 

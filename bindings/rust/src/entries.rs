@@ -52,6 +52,7 @@ const AT_ONCE: usize = 16;
 pub struct Entries<'k> {
     tables: AcpiTables<'k>,
     table: Table,
+    bytes: &'k [u8],
     walk: Walk,
     asked: [records::Entry; AT_ONCE],
     at: usize,
@@ -61,9 +62,10 @@ pub struct Entries<'k> {
 
 impl<'k> Entries<'k> {
     pub(crate) fn new(tables: AcpiTables<'k>, table: Table, walk: Walk) -> AcpiResult<Self> {
-        let asked = [records::Entry::default(); AT_ONCE];
-        let mut entries = Entries { tables, table, walk, asked, at: 0, left: 0, is_malformed: false };
+        let (asked, bytes) = ([records::Entry::default(); AT_ONCE], &[]);
+        let mut entries = Entries { tables, table, bytes, walk, asked, at: 0, left: 0, is_malformed: false };
         entries.ask(walk.first)?;
+        entries.bytes = tables.bytes(&table).unwrap_or(&[]);
         Ok(entries)
     }
 
@@ -103,7 +105,8 @@ impl<'k> Iterator for Entries<'k> {
         let entry = *self.asked.get(self.at)?;
         self.at += 1;
         self.left -= 1;
-        let bytes = self.tables.bytes_at(entry.address, entry.length.into())?;
+        let begin = usize::try_from(entry.address - self.table.address).ok()?;
+        let bytes = self.bytes.get(begin..)?.get(..entry.length as usize)?;
         Some(Entry { address: entry.address, entry_type: entry.entry_type, bytes })
     }
 }

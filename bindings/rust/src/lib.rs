@@ -34,7 +34,7 @@ pub mod srat;
 pub mod tables;
 pub mod write;
 
-pub use acpi_tables::{AcpiTable, AcpiTables, Fault, Found, Member, Root, Ssdts, Table, Tables};
+pub use acpi_tables::{AcpiTable, AcpiTables, Fault, Found, Headers, Member, Root, Ssdts, Table, Tables};
 pub use error::{AcpiError, AcpiResult, MadtError};
 pub use fadt::PowerProfile;
 pub use gic::GicModel;

@@ -20,6 +20,7 @@ use crate::acpi_tables::{read::Read, AcpiTables};
 use crate::error::AcpiResult;
 use crate::list::{items, Listing};
 use crate::raw::{self, records};
+use crate::sdt::Signature;
 use core::ops::RangeInclusive;
 
 /// A region of configuration space: an allocation of the MCFG.
@@ -70,24 +71,45 @@ impl From<records::EcamRange> for EcamRange {
 
 items! { PciConfigEntry = PciRegion, EcamRange = EcamRange }
 
-/// PCI configuration space, by the first valid MCFG.
+/// How many regions are kept. Machines have one to four.
+const KEPT: usize = 8;
+
+/// PCI configuration space, by the first valid MCFG. Take it once: it keeps the regions, so that an address of a
+/// function takes a few instructions.
 #[derive(Clone, Copy, Debug)]
 pub struct PciConfigRegions<'k> {
     tables: AcpiTables<'k>,
+    /// The first regions, and how many there are in all.
+    kept: [records::PciRegion; KEPT],
+    count: usize,
 }
 
 impl<'k> PciConfigRegions<'k> {
     /// The configuration space of the first valid MCFG. Fails with `TableMissing`.
     pub fn new(tables: &AcpiTables<'k>) -> AcpiResult<Self> {
-        let regions = PciConfigRegions { tables: *tables };
-        regions.entries().count().map(|_| regions)
+        let mut kept = [records::PciRegion::default(); KEPT];
+        let count = raw::zacpi_1_list_pci_regions(&tables.source(), Signature::default(), &mut kept)?;
+        Ok(PciConfigRegions { tables: *tables, kept, count })
     }
 
     /// The physical address of a function's 4096 bytes of configuration space, counted from bus 0 of the region's base,
     /// as the specification has it. Of several regions that hold the bus the first counts. `None` if none holds it, for
     /// a device above 31 and a function above 7, and if the address is 2^64 or above.
     pub fn ecam_address(&self, segment_group: u16, bus: u8, device: u8, function: u8) -> Option<u64> {
-        raw::zacpi_1_pci_ecam_address(&self.tables.source(), segment_group, bus, device, function).ok()
+        let mut kept = self.kept[..self.count.min(KEPT)].iter();
+        let has_bus = |region: &&records::PciRegion| {
+            region.segment_group == segment_group && (region.first_bus..=region.last_bus).contains(&bus)
+        };
+        match kept.find(has_bus) {
+            Some(region) if device < 32 && function < 8 => {
+                let place = u64::from(bus) << 20 | u64::from(device) << 15 | u64::from(function) << 12;
+                region.base_address.checked_add(place)
+            }
+            None if self.count > KEPT => {
+                raw::zacpi_1_pci_ecam_address(&self.tables.source(), segment_group, bus, device, function).ok()
+            }
+            _ => None,
+        }
     }
 
     /// The regions, in the order of the table; fewer than 16 bytes at its end are none. Fails with `TableMissing`.

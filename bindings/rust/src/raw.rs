@@ -87,6 +87,12 @@ impl<'k> Source<'k> {
         }
     }
 
+    /// The regions that it was made of.
+    pub(crate) const fn regions(&self) -> &'k [Region<'k>] {
+        // SAFETY: `new` was passed this slice, which lives for `'k`.
+        unsafe { core::slice::from_raw_parts(self.regions, self.regions_length) }
+    }
+
     /// The same, with these bits of `enum zacpi_accept`.
     pub(crate) const fn accepting(self, accept: u32) -> Self {
         Source { accept, ..self }

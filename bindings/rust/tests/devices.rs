@@ -176,6 +176,23 @@ fn reads_pci_configuration_space() {
         assert_eq!((pci.ecam_address(0, 64, 0, 0), pci.ecam_address(0, 0, 32, 0)), (None, None));
         assert_eq!(tables.find_table::<PciConfigRegions>().unwrap().ecam_address(0, 0, 0, 8), None);
     });
+    // Ten regions: of segments 0 to 8, and one more of segment 3, in which bus 16 would be at 2^64.
+    let allocation = |n: usize, base: u64, segment: u64, first: u64, last: u64| {
+        let at = 44 + 16 * n;
+        [(at, 8, base), (at + 8, 2, segment), (at + 10, 1, first), (at + 11, 1, last)]
+    };
+    let mut fields: Vec<Field> = (0..9).flat_map(|n| allocation(n, 0, n as u64, 0, 9)).collect();
+    fields.extend(allocation(9, 0xffff_ffff_ff00_0000, 3, 10, 16));
+    with("MCFG", 1, 44 + 160, &fields).ask(|tables| {
+        let pci = PciConfigRegions::new(&tables).unwrap();
+        assert_eq!(pci.ecam_address(3, 15, 31, 7), Some(0xffff_ffff_ffff_f000));
+        assert_eq!((pci.ecam_address(3, 16, 0, 0), pci.ecam_address(3, 17, 0, 0)), (None, None));
+        assert_eq!((pci.ecam_address(8, 9, 0, 1), pci.ecam_address(7, 9, 0, 1)), (Some(0x90_1000), Some(0x90_1000)));
+    });
+    with("MCFG", 1, 44 + 16, &allocation(0, 0xffff_ffff_ff00_0000, 3, 10, 16)).ask(|tables| {
+        let pci = PciConfigRegions::new(&tables).unwrap();
+        assert_eq!((pci.ecam_address(3, 15, 0, 0), pci.ecam_address(3, 16, 0, 0)), (Some(0xffff_ffff_fff0_0000), None));
+    });
     Memory::rsdt(&[]).ask(|tables| {
         assert_eq!(PciConfigRegions::new(&tables).unwrap_err(), AcpiError::TableMissing(Signature::MCFG));
     });

@@ -234,6 +234,7 @@ fn finds_and_lists_tables() {
         let list = tables.headers().fill(&mut []).unwrap();
         assert_eq!((list.len(), list.count(), list.is_empty()), (0, 4, true));
         assert_eq!(tables.headers().count(), Ok(4));
+        assert_eq!(tables.headers().into_iter().collect::<Vec<_>>(), all);
         #[cfg(feature = "alloc")]
         assert_eq!(tables.headers().to_vec().unwrap(), all);
         let mut faults = [Slot::default(); 2];

@@ -66,13 +66,12 @@ fn wakes_by_a_firmware() {
     let firmware = std::thread::spawn(move || {
         let command = shared as *mut u16;
         // SAFETY: the page lives until this has ended.
-        let found = unsafe {
+        unsafe {
             while command.read_volatile() != 1 {}
             let found = (command.add(2).cast::<u32>().read_volatile(), command.add(4).cast::<u64>().read_volatile());
             command.write_volatile(0);
             found
-        };
-        found
+        }
     });
     let mapper = Mapper(at, Cell::new(0));
     // SAFETY: the page lives longer, and the firmware alone uses it too.

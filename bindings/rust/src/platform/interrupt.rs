@@ -379,7 +379,7 @@ impl<'k> AcpiTables<'k> {
     /// How one of the 16 ISA interrupts comes to the I/O APICs: by its last override of bus 0, or as the interrupt
     /// of the same number, active high and by edge (section 5.2.12.5). `None` for an interrupt above 15, and for one
     /// without an override whose number another one's override has taken. Fails with `InvalidMadt` if the flags of its
-    /// override are reserved.
+    /// override are reserved. Each call opens the tables anew: [`AcpiTables::isa_interrupts`] takes all at once.
     pub fn isa_interrupt(&self, irq: u8) -> AcpiResult<Option<Interrupt>> {
         match raw::zacpi_1_get_isa_interrupt(&self.source(), irq) {
             Err(AcpiError::NoSuchInterrupt) => Ok(None),
