@@ -5,6 +5,9 @@
 #error "zacpi.c is for processors that are little endian"
 #endif
 #if defined(__GNUC__)
+#undef memcpy /* a caller may have macros of these names */
+#undef memmove
+#undef memset
 #define memcpy __builtin_memcpy
 #define memmove __builtin_memmove
 #define memset __builtin_memset
