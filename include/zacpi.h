@@ -528,7 +528,9 @@ struct zacpi_gpe_block { /* general purpose events (sections 4.8.4.1 and 5.2.9),
 /* FADT, section 5.2.9. Where a field has an X_ field (X_DSDT), that counts unless it is 0, or the
  * Address in it; it is read as 0 below revision 2, and if the table hasn't all its bytes. Else a
  * block is I/O ports, of eight bits for each byte of its length (PM1_EVT_LEN to GPE1_BLK_LEN),
- * which may be 0; from 32 bytes on it is an error, but for gpe0_block and gpe1_block. */
+ * which may be 0; from 32 bytes on it is an error, but for gpe0_block and gpe1_block. Below
+ * `revision` 3 x86_boot_flags, power_profile, pstate_control and c_state_control are reserved, and
+ * are here what their bytes are: ACPICA takes them as 0 there. */
 struct zacpi_fixed_hardware {
     zacpi_u64 facs_address;                  /* FIRMWARE_CTRL. 0: none */
     zacpi_u64 dsdt_address;                  /* DSDT. 0: none */
