@@ -22,14 +22,14 @@ processor_affinity kind id domain clock_domain = record {
   entry_type = kind;
 }
 
-abbrev pub processor_shown : SratEntry → Option ProcessorAffinity
-processor_shown (kinds.LocalApic e) = counted_if e.flags (processor_affinity 0 e.apic_id e.domain e.clock_domain)
-processor_shown (kinds.LocalX2Apic e) = counted_if e.flags (processor_affinity 2 e.x2apic_id e.domain e.clock_domain)
-processor_shown (kinds.Gicc e) = counted_if e.flags (processor_affinity 3 e.processor_uid e.domain e.clock_domain)
-processor_shown _ = None
+abbrev pub affinity_shown : SratEntry → Option ProcessorAffinity
+affinity_shown (kinds.LocalApic e) = counted_if e.flags (processor_affinity 0 e.apic_id e.domain e.clock_domain)
+affinity_shown (kinds.LocalX2Apic e) = counted_if e.flags (processor_affinity 2 e.x2apic_id e.domain e.clock_domain)
+affinity_shown (kinds.Gicc e) = counted_if e.flags (processor_affinity 3 e.processor_uid e.domain e.clock_domain)
+affinity_shown _ = None
 
 abbrev pub processor_affinities_below : Source → Result (List ProcessorAffinity) Refusal
-processor_affinities_below s = below_first srat_kind s (λ table. filter_map processor_shown (entries_of table))
+processor_affinities_below s = below_first srat_kind s (λ table. filter_map affinity_shown (entries_of table))
 
 abbrev pub initiator_shown : SratEntry → Option GenericInitiator
 initiator_shown (kinds.GenericInitiator e) = counted_if e.flags (record {

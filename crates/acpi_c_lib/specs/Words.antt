@@ -1,6 +1,7 @@
 -- Made by scripts/words: what proofs, contracts and the crates above bring in from this crate's specs.
 pub use Rattle.acpi_c_lib.specs.AcceptLaws.{AcceptsAsReaders}
 pub use Rattle.acpi_c_lib.specs.Affinities.{
+  affinity_shown,
   counted_if,
   generic_initiators_below,
   initiator_shown,

@@ -2,7 +2,7 @@
 //! Translation Services.
 ghost use Rattle.std.specs.Prelude.{◌≡◌, filter_map};
 ghost use Rattle.acpi_numa.specs.Words.{entries_left};
-ghost use Rattle.acpi_c_lib.specs.Words.{Fills, counted_if, generic_initiators_below, initiator_shown, its_affinities_below, its_shown, lists_some, processor_affinities_below, processor_affinity, processor_shown};
+ghost use Rattle.acpi_c_lib.specs.Words.{Fills, counted_if, generic_initiators_below, initiator_shown, its_affinities_below, its_shown, lists_some, processor_affinities_below, processor_affinity, affinity_shown};
 
 use crate::lists::{Listing, fill};
 use crate::numa_records::{GenericInitiator, ItsAffinity, ProcessorAffinity};
@@ -28,15 +28,15 @@ pub fn processor_affinities(
 }
 
 impl Listing<(), ProcessorAffinity> for SratEntryIter<'_> {
-    ghost record_of = { λ known x. processor_shown x };
+    ghost record_of = { λ known x. affinity_shown x };
 
-    ghost left = { λ known s. filter_map processor_shown (entries_left s) };
+    ghost left = { λ known s. filter_map affinity_shown (entries_left s) };
 
     ghost gives_first = { λ known s item t given.
-        lists_some processor_shown (λ x. entries_left x) s item t given.0 };
+        lists_some affinity_shown (λ x. entries_left x) s item t given.0 };
 
     fn record(_known: &(), entry: SratEntry) -> Option<ProcessorAffinity>
-        ensures { result ≡ processor_shown entry }
+        ensures { result ≡ affinity_shown entry }
     {
         match entry {
             SratEntry::LocalApic(it) => {

@@ -26,7 +26,6 @@ pub fn dmar_regions(source: &Source<'_>, out: &mut [DmarReserved]) -> Result<usi
 }
 
 /// Writes the memory that a DMAR reserves.
-#[tactic(auto, using(crate::proofs::IommuLists::units_few))]
 fn fill_rmrrs(table: &[u8], out: &mut [DmarReserved]) -> usize
     ensures { Writes result out.old out.new (dmar_regions_in table.now) }
 {
@@ -61,7 +60,6 @@ pub fn dmar_root_ports(source: &Source<'_>, out: &mut [DmarRootPorts]) -> Result
 }
 
 /// Writes the ATSRs of a DMAR.
-#[tactic(auto, using(crate::proofs::IommuLists::units_few))]
 fn fill_atsrs(table: &[u8], out: &mut [DmarRootPorts]) -> usize
     ensures { Writes result out.old out.new (dmar_root_ports_in table.now) }
 {
@@ -100,7 +98,6 @@ pub fn dmar_affinities(source: &Source<'_>, out: &mut [DmarAffinity]) -> Result<
 }
 
 /// Writes the RHSAs of a DMAR.
-#[tactic(auto, using(crate::proofs::IommuLists::units_few))]
 fn fill_rhsas(table: &[u8], out: &mut [DmarAffinity]) -> usize
     ensures { Writes result out.old out.new (dmar_affinities_in table.now) }
 {
@@ -138,7 +135,6 @@ pub fn ivrs_regions(source: &Source<'_>, out: &mut [IvrsMemory]) -> Result<usize
 }
 
 /// Writes the memory that has its own rules by an IVRS.
-#[tactic(auto, using(crate::proofs::IommuLists::ivhds_few))]
 fn fill_ivmds(table: &[u8], out: &mut [IvrsMemory]) -> usize
     ensures { Writes result out.old out.new (ivrs_regions_in table.now) }
 {
