@@ -5,9 +5,6 @@ use crate::findings::Findings;
 use crate::machine::{Machine, Table};
 use crate::pieces::Pieces;
 use crate::spans::{Span, overlaps};
-use crate::values::{Wanted, check_values};
-use acpi::PhysicalRecord;
-use acpi::bgrt::Bgrt;
 use acpi::mcfg::McfgEntryIter;
 use acpi::sdt::{Signature, field};
 
@@ -27,61 +24,25 @@ hpet-space error IA-PC HPET Specification 1.0a, section 3.2.4 | The registers ar
 hpet-zero error IA-PC HPET Specification 1.0a, section 3.2.4 | The registers are at address 0 | is 0
 hpet-unaligned error IA-PC HPET Specification 1.0a, section 3.2.4 | The registers aren't at a multiple of 1 KiB \
     | # isn't a multiple of 0x400
-hpet-code note IA-PC HPET Specification 1.0a, section 3.2.4 | A reserved code | # is reserved
 bgrt-version warning ACPI 6.5, section 5.2.23 | The version isn't 1 | is %, and not 1
 bgrt-type warning ACPI 6.5, section 5.2.23 | The image is of a reserved type | is %, and a bitmap's is 0
 bgrt-zero warning ACPI 6.5, section 5.2.23 | The image is at address 0 | is %
-spcr-code note Serial Port Console Redirection Table | A reserved code or flag | # is reserved
-dbg2-code note Microsoft Debug Port Table 2 | A reserved code | # is reserved
+spcr-code note Serial Port Console Redirection Table | A reserved parity or number of stop bits | # is reserved
 dbg2-console note Microsoft Debug Port Table 2 | No serial port has the registers of the SPCR \
     | no serial port of the DBG2 has # of address space %
 ";
-
-/// What a BGRT has.
-const IMAGE: [Wanted; 3] = [
-    (0, "bgrt-version", (36, 2), (1, 1, 0)), // Version
-    (0, "bgrt-type", (39, 1), (0, 0, 0)), // Image Type
-    (0, "bgrt-zero", (40, 8), (1, u64::MAX, 0)), // Image Address
-];
-
-/// What the BASE_ADDRESS of an HPET has, and then what its Address is in memory.
-const TIMER: [Wanted; 1] = [(0, "hpet-space", (40, 1), (0, 0, 0))];
-
-const REGISTERS: [Wanted; 2] = [
-    (0, "hpet-zero", (44, 8), (1, u64::MAX, 0)),
-    (0, "hpet-unaligned", (44, 8), (0, u64::MAX, 0x3ff)),
-];
-
-/// What an SPCR with a console has.
-const CONSOLE: [Wanted; 2] = [
-    (0, "spcr-code", (59, 1), (0, 0, 0)), // Parity
-    (0, "spcr-code", (60, 1), (1, 1, 0)), // Stop Bits
-];
 
 /// Judges them.
 pub(crate) fn check_devices(machine: &Machine<'_>, findings: &mut Findings) {
     if let Some(mcfg) = machine.first(Signature::MCFG) {
         check_regions(mcfg, findings);
     }
-    if let Some(hpet) = machine.first(Signature::HPET)
-        && check_values(&TIMER, 0, hpet.index, 0, hpet.bytes, findings)
-    {
-        check_values(&REGISTERS, 0, hpet.index, 0, hpet.bytes, findings);
-    }
-    if let Some(bgrt) = machine.first(Signature::BGRT)
-        && bgrt.bytes.len() >= Bgrt::MIN_LENGTH
-    {
-        check_values(&IMAGE, 0, bgrt.index, 0, bgrt.bytes, findings);
-    }
     if let Some(console) = machine.first(Signature::SPCR)
         && let Some((space, address)) = register_at(console.bytes, 40)
+        && let Some(debug) = machine.first(Signature::DBG2)
+        && has_other_ports(debug.bytes, (space, address))
     {
-        check_values(&CONSOLE, 0, console.index, 0, console.bytes, findings);
-        if let Some(debug) = machine.first(Signature::DBG2)
-            && has_other_ports(debug.bytes, (space, address))
-        {
-            findings.add("dbg2-console", console.index, 40, &[address, space]);
-        }
+        findings.add("dbg2-console", console.index, 40, &[address, space]);
     }
 }
 

@@ -2,7 +2,6 @@
 
 use crate::findings::Findings;
 use crate::machine::{Machine, Table};
-use crate::values::{Wanted, check_values};
 use acpi::sdt::{Signature, field};
 use acpi_dump_walk::out::Out;
 
@@ -44,19 +43,6 @@ const BLOCKS: [Block; 8] = [
     ("GPE1_BLK", 84, 93, 232),
 ];
 
-/// What a FADT has.
-const ALL: [Wanted; 1] = [(0, "fadt-profile", (45, 1), (0, 8, 0))]; // Preferred_PM_Profile
-
-/// What fixed hardware needs.
-const FIXED: [Wanted; 6] = [
-    (0, "fadt-event-length", (88, 1), (4, 255, 0)), // PM1_EVT_LEN
-    (0, "fadt-control-length", (89, 1), (2, 255, 0)), // PM1_CNT_LEN
-    (0, "fadt-timer-length", (91, 1), (0, 4, 3)), // PM_TMR_LEN
-    (0, "fadt-gpe-length", (92, 1), (0, 255, 1)), // GPE0_BLK_LEN
-    (0, "fadt-gpe-length", (93, 1), (0, 255, 1)), // GPE1_BLK_LEN
-    (0, "fadt-sci-interrupt", (46, 2), (1, 0xffff, 0)), // SCI_INT
-];
-
 /// Judges the first FADT.
 pub(crate) fn check_fadt(machine: &Machine<'_>, findings: &mut Findings) {
     let Some(Table { index, bytes: fadt }) = machine.first(Signature::FADT) else {
@@ -66,12 +52,9 @@ pub(crate) fn check_fadt(machine: &Machine<'_>, findings: &mut Findings) {
     check_general(index, fadt, findings);
     // HW_REDUCED_ACPI.
     let is_reduced = field(fadt, 112, 4) & 1 << 20 != 0;
-    if !is_reduced {
-        check_values(&FIXED, 0, index, 0, fadt, findings);
-        // SMI_CMD, ACPI_ENABLE.
-        if field(fadt, 48, 4) == 0 && field(fadt, 52, 1) != 0 {
-            findings.add("fadt-smi-command", index, 48, &[]);
-        }
+    // SMI_CMD, ACPI_ENABLE.
+    if !is_reduced && field(fadt, 48, 4) == 0 && field(fadt, 52, 1) != 0 {
+        findings.add("fadt-smi-command", index, 48, &[]);
     }
     for block in &BLOCKS {
         check_block(index, fadt, *block, is_reduced, findings);
@@ -80,22 +63,10 @@ pub(crate) fn check_fadt(machine: &Machine<'_>, findings: &mut Findings) {
 
 /// Judges what a FADT of any hardware has.
 fn check_general(index: usize, fadt: &[u8], findings: &mut Findings) {
-    check_values(&ALL, 0, index, 0, fadt, findings);
     let (space, width) = (field(fadt, 116, 1), field(fadt, 117, 1)); // RESET_REG
     // RESET_REG_SUP.
     if field(fadt, 112, 4) & 1 << 10 != 0 && (space > 2 || width != 8) {
         findings.add("fadt-reset-register", index, 116, &[width, space]);
-    }
-    // IAPC_BOOT_ARCH, Flags, ARM_BOOT_ARCH, and their reserved flags.
-    for (offset, length, reserved) in [
-        (109usize, 2usize, 0xffc0),
-        (112, 4, 0xff00_0000),
-        (129, 2, 0xfffc),
-    ] {
-        let flags = field(fadt, offset, length) & reserved;
-        if flags != 0 {
-            findings.add("fadt-reserved-flags", index, offset, &[flags]);
-        }
     }
 }
 

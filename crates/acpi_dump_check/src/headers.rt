@@ -24,6 +24,7 @@ header-revision note ACPI 6.5, section 5.2.6 | No specification has the table's 
 header-letters note ACPI 6.5, section 5.2.6 | OEMID, OEM Table ID or Creator ID has letters that aren't printable \
     | letters that aren't printable
 header-reserved note ACPI 6.5, section 5.2.1 | A reserved field isn't 0 | isn't 0
+field-code note ACPI 6.5, section 5.2.1 | A code or a flag is one that no specification names | # is reserved
 ";
 
 /// A form of a table: its signature, the first and the last revision that have it, and the table's length: a least one
@@ -73,26 +74,16 @@ const FORMS: [Form; 39] = [
     ("UEFI", (1, 1), (54, 1)),
 ];
 
-/// The rules of codes and flags that no specification names, each with the table whose layout names all others.
-const UNNAMED: [(&str, &str); 6] = [
-    ("hpet-code", "HPET"),
-    ("dbg2-code", "DBG2"),
-    ("pptt-flag", "PPTT"),
-    ("gtdt-flag", "GTDT"),
-    ("pcct-flag", "PCCT"),
-    ("spcr-code", "SPCR"),
-];
-
 /// Judges the header of each table, and the fields that it reserves.
 pub(crate) fn check_headers(machine: &Machine<'_>, findings: &mut Findings) {
     for (index, entry) in machine.entries.iter().enumerate() {
         check_status(entry, index, findings);
-        check_entry(machine, entry, index, findings);
+        check_entry(entry, index, findings);
     }
 }
 
 /// Judges the fields of a table's header, if it has one, and each field by itself.
-fn check_entry(machine: &Machine<'_>, entry: &Entry<'_>, index: usize, findings: &mut Findings) {
+fn check_entry(entry: &Entry<'_>, index: usize, findings: &mut Findings) {
     let (signature, mut table) = (own_signature(entry.bytes), entry.bytes);
     let name = signature.as_str().unwrap_or("");
     let mut is_known = true;
@@ -103,31 +94,25 @@ fn check_entry(machine: &Machine<'_>, entry: &Entry<'_>, index: usize, findings:
         table = entry.table();
         is_known = check_form(table, index, name, findings);
     }
-    let id = unnamed_rule(machine, index, name);
     let mut fields = Fields {
         findings,
         index,
         name,
         is_known,
         is_whole: !matches!(entry.status, Status::Cut { .. } | Status::Refused(_)),
-        id,
+        has_codes: is_known && has_codes(table, name),
     };
     walk_table(signature, table, &mut fields);
 }
 
-/// The rule of what no specification names in the table of this number, if it is the first one of such a name: an SPCR
-/// whose base address is all zeros says that there is no console.
-fn unnamed_rule(machine: &Machine<'_>, index: usize, name: &str) -> &'static str {
-    for (id, of) in &UNNAMED {
-        if *of == name
-            && let Some(table) = machine.first(own_signature(of.as_bytes()))
-            && table.index == index
-            && (name != "SPCR" || register_at(table.bytes, 40).is_some())
-        {
-            return *id;
-        }
+/// Whether the codes and flags of a table count: a FADT's and a MADT's have rules of their own, a HEST's 0 has no name
+/// in the layout, and an SPCR whose base address is all zeros is of no console.
+fn has_codes(table: &[u8], name: &str) -> bool {
+    match name {
+        "FACP" | "APIC" | "HEST" => false,
+        "SPCR" => register_at(table, 40).is_some(),
+        _ => true,
     }
-    ""
 }
 
 /// Judges what the checks of a table say. What they say of a FACS of under 64 bytes is a rule of its own.
@@ -215,8 +200,8 @@ struct Fields<'f> {
     is_known: bool,
     /// Whether all its bytes are there.
     is_whole: bool,
-    /// The rule of codes and flags that its layout doesn't name, if all others are named.
-    id: &'static str,
+    /// Whether codes and flags count that its layout doesn't name.
+    has_codes: bool,
 }
 
 impl Show for Fields<'_> {
@@ -231,10 +216,11 @@ impl Show for Fields<'_> {
 
     fn field(&mut self, shown: &Field<'_>) {
         let offset = shown.offset as usize;
-        if !self.id.is_empty()
+        if self.has_codes
             && let Some(number) = unnamed_in(shown)
         {
-            self.findings.add(self.id, self.index, offset, &[number]);
+            self.findings
+                .add("field-code", self.index, offset, &[number]);
         }
         if !self.is_known || shown.label.name != "Reserved" {
             return;

@@ -1,14 +1,16 @@
 //! The judgement of an input's tables by rules: what firmware has wrong, by the specifications that define the tables.
 //!
-//! A rule is a line of its subject's `RULES`, and code of the subject that adds a finding by the rule's id. A line is `ID
-//! SEVERITY SECTION | WHAT | MESSAGE`: what the rule finds, the section that it rests on, and the message of a finding, in
-//! which `#` and `%` stand for its numbers. A rule without a message has several, or one that tells a value.
+//! A rule is a line of its subject's `RULES`, and code of the subject that adds a finding by the rule's id, or rows of
+//! `fields.rt` that name a field. A line is `ID SEVERITY SECTION | WHAT | MESSAGE`: the section that the rule rests on,
+//! what it finds, and the message of a finding, in which `#` and `%` are replaced by its numbers. A rule without a
+//! message has several, or one with a value.
 #![tactic(auto)]
 
 mod affinities;
 mod devices;
 mod facs;
 mod fadt;
+mod fields;
 mod findings;
 mod headers;
 mod iommu;
@@ -18,9 +20,9 @@ mod madt;
 mod numbers;
 mod pieces;
 mod roots;
+mod rows;
 pub mod rules;
 mod spans;
-mod values;
 
 use acpi_dump_input::judgement::Judgement;
 use findings::Findings;
@@ -28,7 +30,7 @@ pub use machine::Machine;
 use std::alloc::AllocError;
 
 /// The rules, subject by subject.
-const RULES: [&str; 9] = [
+const RULES: [&str; 10] = [
     roots::RULES,
     headers::RULES,
     fadt::RULES,
@@ -38,6 +40,7 @@ const RULES: [&str; 9] = [
     devices::RULES,
     iommu::RULES,
     machines::RULES,
+    fields::RULES,
 ];
 
 /// What the rules find in the tables of a machine, in the order of the tables, and in a table by offset.
@@ -54,5 +57,6 @@ pub fn findings_of(machine: &Machine<'_>) -> Result<Judgement, AllocError> {
     devices::check_devices(machine, &mut findings);
     iommu::check_iommu(machine, &mut findings);
     machines::check_machines(machine, &mut findings);
+    rows::check_rows(machine, &mut findings);
     findings.in_order(machine.entries)
 }

@@ -3,7 +3,6 @@
 use crate::findings::Findings;
 use crate::machine::{Machine, Table};
 use crate::numbers::{Kept, Numbers};
-use crate::values::{Wanted, check_values};
 use acpi::madt::MADT_GRAMMAR;
 use acpi::sdt::{Signature, field};
 use acpi_base::bytes::skip;
@@ -52,13 +51,7 @@ const SOURCES: u64 = 5;
 
 const DISTRIBUTORS: u64 = 6;
 
-const KNOWN: u64 = 7; // the UIDs of all processors
-
-const OVERRIDES: u64 = 8;
-
-const NMIS: u64 = 9;
-
-const X2_NMIS: u64 = 10;
+const OVERRIDES: u64 = 7;
 
 /// The rules that no number comes twice in a list, for the first lists.
 const REPEATED: [&str; 7] = [
@@ -72,31 +65,18 @@ const REPEATED: [&str; 7] = [
 ];
 
 /// The numbers of entries that go to the lists.
-const KEPT: [Kept; 16] = [
-    (0, KNOWN, (2, 1), 0),
+const KEPT: [Kept; 11] = [
     (0, UIDS, (2, 1), 4),
     (0, APIC_IDS, (3, 1), 4),
     (1, IO_APICS, (2, 1), 0), // I/O APIC ID
     (1, BASES, (8, 4), 0), // Global System Interrupt Base
     (2, SOURCES, (3, 1), 0), // Source
     (2, OVERRIDES, (4, 4), 0), // Global System Interrupt
-    (4, NMIS, (2, 1), 0), // ACPI Processor UID
-    (9, KNOWN, (12, 4), 0),
     (9, UIDS, (12, 4), 8),
     (9, APIC_IDS, (4, 4), 8),
-    (0xa, X2_NMIS, (4, 4), 0), // ACPI Processor UID
-    (0xb, KNOWN, (8, 4), 0),
     (0xb, UIDS, (8, 4), 12),
     (0xb, MPIDRS, (68, 8), 12),
     (0xc, DISTRIBUTORS, (0, 0), 0),
-];
-
-/// What entries have.
-const WANTED: [Wanted; 4] = [
-    (2, "madt-override-bus", (2, 1), (0, 0, 0)), // Bus
-    (2, "madt-override-source", (3, 1), (0, 15, 0)), // Source
-    (4, "madt-lint", (5, 1), (0, 1, 0)), // Local APIC LINT#
-    (0xa, "madt-lint", (8, 1), (0, 1, 0)), // Local x2APIC LINT#
 ];
 
 /// Judges the first MADT.
@@ -132,7 +112,6 @@ fn check_entry(table: usize, offset: usize, entry: &[u8], findings: &mut Finding
             &[id],
         );
     }
-    check_values(&WANTED, kind, table, offset, entry, findings);
     check_signal(table, offset, entry, findings);
 }
 
@@ -170,24 +149,16 @@ fn check_controllers(table: usize, numbers: &Numbers, findings: &mut Findings) {
     }
 }
 
-/// Judges entries by those that they refer to.
+/// Judges whether an I/O APIC has the interrupt of each override, if there are I/O APICs.
 fn check_references(table: usize, numbers: &Numbers, findings: &mut Findings) {
-    let has_bases = numbers.from(BASES, 0).is_some();
+    if numbers.from(BASES, 0).is_none() {
+        return;
+    }
     for (list, number, offset) in numbers.all.iter() {
-        let (list, number) = (*list, *number);
-        // The number for all processors.
-        let all = if list == NMIS { 0xff } else { 0xffff_ffff };
-        if list == OVERRIDES && has_bases {
-            // Each I/O APIC has at most 256 pins.
-            let base = numbers.from(BASES, number.saturating_sub(255));
-            if !matches!(base, Some((base, _)) if base <= number) {
-                findings.add("madt-override-nowhere", table, *offset, &[number]);
-            }
-        } else if (list == NMIS || list == X2_NMIS)
-            && number != all
-            && !numbers.has(KNOWN, number)
-        {
-            findings.add("madt-nmi-uid", table, *offset, &[number]);
+        // Each I/O APIC has at most 256 pins.
+        let base = numbers.from(BASES, number.saturating_sub(255));
+        if *list == OVERRIDES && !matches!(base, Some((base, _)) if base <= *number) {
+            findings.add("madt-override-nowhere", table, *offset, &[*number]);
         }
     }
 }

@@ -1,0 +1,232 @@
+//! Rules of one field each, as rows of `fields.rt` that name it: its offset and its length are the layout's.
+//!
+//! A row is below the line `= SIGNATURE` of its table, or `= SIGNATURE PLACE RANGE` if it counts only where the number
+//! at a place of the table is in a range. It is `FIELD | STRUCTURE | RULE TEST`, with the structure's title, `-` for
+//! the table itself, or `*` for every structure; after TEST there may be the PLACE of the number in the field. A place
+//! is `OFFSET:LENGTH`; a range is `FIRST-LAST`, a number, or `!NUMBER` for all numbers without these bits. TEST is
+//!
+//! - a range, if the number has to be in it,
+//! - `named`, if the field has to be a code or flags that the layout names,
+//! - `once`, if no two structures have the number in this field,
+//! - `of`, if it has to be the offset of a structure with a title that comes next (`| TITLE`), or a number that one has
+//!   in a field (`| TITLE > FIELD`). `of/NUMBER` lets that number be without one.
+//!
+//! Of a field's rows with a range or `named`, the first one that isn't met is found.
+//! `scripts/check_rules` finds a row whose rule, structure or field isn't there.
+
+use crate::fields::ROWS;
+use crate::findings::Findings;
+use crate::machine::{Machine, Table};
+use crate::numbers::Numbers;
+use acpi_dump_input::entries::own_signature;
+use acpi_dump_walk::fields::{number_of as number_in, unnamed_in};
+use acpi_dump_walk::language::{cut_at, next_word, number_at, number_of};
+use acpi_dump_walk::walk::{Field, Group, Show, walk_table};
+
+/// How many structures that are one in another have titles here, with the table, which is the outermost.
+const DEPTH: usize = 17;
+
+/// A row.
+#[derive(Clone, Copy)]
+struct Row {
+    field: &'static str,
+    structure: &'static str,
+    rule: &'static str,
+    test: &'static str,
+    /// The number that is right anyway, or no letters.
+    exempt: &'static str,
+    place: &'static str,
+    targets: &'static str,
+}
+
+impl Row {
+    /// The row that a line is.
+    fn read(line: &'static str) -> Row {
+        let (field, line) = cut_at(line, '|');
+        let (structure, line) = cut_at(line, '|');
+        let (wanted, targets) = cut_at(line, '|');
+        let (rule, wanted) = next_word(wanted);
+        let (test, place) = next_word(wanted);
+        let (test, exempt) = cut_at(test, '/');
+        Row {
+            field: field.trim_ascii(),
+            structure: structure.trim_ascii(),
+            rule,
+            test: test.trim_ascii(),
+            exempt: exempt.trim_ascii(),
+            place: place.trim_ascii(),
+            targets,
+        }
+    }
+
+    /// Where its number begins in the field.
+    fn start(&self) -> usize {
+        number_of(cut_at(self.place, ':').0).unwrap_or(0) as usize
+    }
+
+    /// Whether it is about a field of a structure with a title.
+    fn is_about(&self, title: &str, field: &str) -> bool {
+        self.field == field && (self.structure == title || self.structure == "*" && title != "-")
+    }
+
+    /// Whether its number may be that of a field of a structure with a title, or the offset of the structure if the
+    /// field's name has no letters.
+    fn is_of(&self, title: &str, field: &str) -> bool {
+        let mut is_one = false;
+        for target in self.targets.split('|') {
+            let (structure, of) = cut_at(target, '>');
+            let structure = structure.trim_ascii();
+            is_one |= of.trim_ascii() == field && (structure == title || structure == "*");
+        }
+        is_one && self.test == "of"
+    }
+}
+
+/// The number at a place of bytes, or all of them as one number if no place is named.
+fn number_from(bytes: &[u8], place: &str) -> u64 {
+    let (offset, length) = cut_at(place, ':');
+    match (number_of(offset), number_of(length)) {
+        (Some(offset), Some(length)) => number_at(bytes, offset as usize, length as usize),
+        _ => number_in(bytes),
+    }
+}
+
+/// Whether a number is in a range.
+fn is_within(number: u64, range: &str) -> bool {
+    if let Some(bits) = range.strip_prefix('!') {
+        return number & number_of(bits).unwrap_or(u64::MAX) == 0;
+    }
+    let (first, last) = cut_at(range.trim_ascii(), '-');
+    let last = if last.is_empty() { first } else { last };
+    number_of(first).unwrap_or(u64::MAX) <= number && number <= number_of(last).unwrap_or(0)
+}
+
+/// The judgement of a table by its rows, as a walk comes to its fields.
+#[derive(Drop)]
+struct Judged<'f> {
+    findings: &'f mut Findings,
+    table: usize,
+    lines: &'static str,
+    /// The titles of the structures that the walk is in, the outermost first, which is the table.
+    titles: [&'static str; DEPTH],
+    depth: usize,
+    /// For each row the numbers that aren't judged alone, at twice its number, and those that they may be, at one more.
+    numbers: Numbers,
+}
+
+impl Judged<'_> {
+    /// The title of the structure that the walk is in.
+    fn title(&self) -> &'static str {
+        match self.titles.get(self.depth) {
+            Some(title) => *title,
+            None => "",
+        }
+    }
+}
+
+impl Show for Judged<'_> {
+    fn begin(&mut self, group: &Group) {
+        let depth = self.depth.saturating_add(1);
+        if let Some(title) = self.titles.get_mut(depth) {
+            *title = group.name;
+        }
+        self.depth = depth;
+        let (lines, mut list) = (self.lines, 1u64);
+        for line in lines.split('\n') {
+            if Row::read(line).is_of(group.name, "") {
+                self.numbers.push(list, group.offset, group.offset as usize);
+            }
+            list = list.saturating_add(2);
+        }
+    }
+
+    fn end(&mut self) {
+        self.depth = self.depth.saturating_sub(1);
+    }
+
+    fn field(&mut self, shown: &Field<'_>) {
+        let (table, title, offset) = (self.table, self.title(), shown.offset as usize);
+        let (lines, mut list) = (self.lines, 0u64);
+        for line in lines.split('\n') {
+            let row = Row::read(line);
+            let number = number_from(shown.bytes, row.place);
+            if row.is_of(title, shown.label.name) {
+                self.numbers.push(list.saturating_add(1), number, offset);
+            }
+            if row.is_about(title, shown.label.name) {
+                let wrong = match row.test {
+                    "once" | "of" => {
+                        self.numbers.push(list, number, offset);
+                        None
+                    }
+                    "named" => unnamed_in(shown),
+                    _ if is_within(number, row.test) => None,
+                    _ => Some(number),
+                };
+                if let Some(number) = wrong {
+                    let at = offset.saturating_add(row.start());
+                    return self.findings.add(row.rule, table, at, &[number]);
+                }
+            }
+            list = list.saturating_add(2);
+        }
+    }
+}
+
+/// Judges the numbers of a table that aren't judged alone. The lists are sorted.
+fn judge_numbers(table: usize, lines: &'static str, numbers: &Numbers, findings: &mut Findings) {
+    let mut before = (u64::MAX, 0u64, 0usize);
+    for (list, number, offset) in numbers.all.iter() {
+        let (list, number, offset) = (*list, *number, *offset);
+        let mut row = Row::read("");
+        for (place, line) in lines.split('\n').enumerate() {
+            if place as u64 == list / 2 {
+                row = Row::read(line);
+            }
+        }
+        let is_wrong = if row.test == "once" {
+            before.0 == list && before.1 == number
+        } else {
+            list % 2 == 0 && !numbers.has(list.saturating_add(1), number)
+        };
+        if is_wrong && number_of(row.exempt) != Some(number) {
+            findings.add(row.rule, table, offset, &[number, before.2 as u64]);
+        }
+        before = (list, number, offset);
+    }
+}
+
+/// Judges a table by the rows that lines are.
+fn check_table(table: Table<'_>, lines: &'static str, findings: &mut Findings) {
+    let numbers = Numbers::new(findings.alloc);
+    let mut judged = Judged {
+        findings,
+        table: table.index,
+        lines,
+        titles: ["-"; DEPTH],
+        depth: 0,
+        numbers,
+    };
+    walk_table(own_signature(table.bytes), table.bytes, &mut judged);
+    let Judged {
+        findings,
+        mut numbers,
+        ..
+    } = judged;
+    findings.need(numbers.sort());
+    judge_numbers(table.index, lines, &numbers, findings);
+}
+
+/// Judges the first table of each signature that has rows.
+pub(crate) fn check_rows(machine: &Machine<'_>, findings: &mut Findings) {
+    for block in ROWS.split('=').skip(1) {
+        let (head, lines) = cut_at(block, '\n');
+        let (name, head) = next_word(head);
+        let (place, range) = next_word(head);
+        if let Some(table) = machine.first(own_signature(name.as_bytes()))
+            && (place.is_empty() || is_within(number_from(table.bytes, place), range))
+        {
+            check_table(table, lines, findings);
+        }
+    }
+}
