@@ -134,6 +134,17 @@ ZACPI_STATUS zacpi_write_ssdt(const struct zacpi_table_ids *ids, uint8_t revisio
 ZACPI_STATUS zacpi_write_table(const struct zacpi_table_ids *ids, struct zacpi_signature wanted,
                                uint8_t revision, const uint8_t *body, size_t body_length,
                                uint8_t *out, size_t capacity, size_t *length);
+/* Returns the sum of bytes modulo 256: a table's is 0 (section 5.2.6). */
+static inline uint8_t zacpi_byte_sum(const uint8_t *bytes, size_t length) {
+    uint8_t sum = 0;
+    while (length > 0) sum = (uint8_t)(sum + bytes[--length]);
+    return sum;
+}
+/* Makes the bytes of a table, which was changed in place, sum to 0 by its Checksum. It has at least
+ * the 36 bytes of a header (section 5.2.6), which a FACS and an RSDP lack. */
+static inline void zacpi_set_checksum(uint8_t *table, size_t length) {
+    table[9] = (uint8_t)(table[9] - zacpi_byte_sum(table, length));
+}
 /* Writes a MADT of revision 5 (section 5.2.12): its entries sort by sort in the order of the lists,
  * the mailbox last. An address of 2^32 or above is in a Local APIC Address Override after the
  * processors, with 0 in Local Interrupt Controller Address. Processors whose uid and id are below

@@ -294,12 +294,9 @@ static void put(uint64_t address, uint64_t value, size_t length) {
     while (length--) crowded[address++ - ROOT] = (uint8_t)value, value >>= 8;
 }
 static void table(uint64_t address, const char *letters, uint32_t length) {
-    uint8_t sum = 0;
-    size_t i;
     memcpy(crowded + (address - ROOT), letters, 4);
     put(address + 4, length, 4);
-    for (i = 0; i < length; i++) sum = (uint8_t)(sum + crowded[address - ROOT + i]);
-    put(address + 9, (uint64_t)(256 - sum), 1);
+    zacpi_set_checksum(crowded + (address - ROOT), length);
 }
 static void crowd(struct zacpi_source *source) {
     uint64_t i, at = ROOT + 36 + 4 * EACH;

@@ -12,7 +12,9 @@ use zacpi::platform::interrupt::{
 use zacpi::platform::Processor;
 use zacpi::spcr::{Spcr, SpcrInterfaceType};
 use zacpi::srat::{MemoryAffinity, Srat};
-use zacpi::write::{self, Aml, ApicDomain, Bytes, GiccDomain, PlatformTimer, TableIds, WriteError};
+use zacpi::write::{
+    self, byte_sum, set_checksum, Aml, ApicDomain, Bytes, GiccDomain, PlatformTimer, TableIds, WriteError,
+};
 use zacpi::{AcpiTables, GicModel, PowerProfile, Range, Region, Signature, Slot, Start};
 
 const IDS: TableIds = TableIds {
@@ -326,6 +328,22 @@ fn writes_domains() {
 }
 
 /// The errors of a MADT, a register and a name; and an error's text.
+/// A DMAR's Signature, which sums to 0x124, and its Length, 0x30: 0x154, with Checksum 0xac. Of "XMAR" they sum to 0x168,
+/// with Checksum 0x98.
+#[test]
+fn sums_bytes() {
+    let mut table = [0; 48];
+    table[..10].copy_from_slice(b"DMAR\x30\0\0\0\0\xac");
+    assert_eq!((byte_sum(&table[..5]), byte_sum(&table), byte_sum(&[])), (0x54, 0, 0));
+    table[0] = b'X';
+    assert_eq!(byte_sum(&table), 0x14);
+    set_checksum(&mut table);
+    assert_eq!((table[9], byte_sum(&table)), (0x98, 0));
+    let mut short = [1; 35];
+    set_checksum(&mut short);
+    assert_eq!(short, [1; 35]);
+}
+
 #[test]
 fn errors_have_names() {
     let processor = |id| Slot::from(Processor::boot(0, id));

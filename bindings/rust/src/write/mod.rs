@@ -41,7 +41,7 @@ pub use interrupts::{GicMadt, Madt, Rhct, RiscvMadt};
 pub use items::Written;
 pub use machine::{dsdt_address, facs_address, Machine, Room};
 pub use numa::{Slit, Srat};
-pub use plain::{Aml, Bytes, Rsdp, Rsdt, Xsdt};
+pub use plain::{byte_sum, set_checksum, Aml, Bytes, Rsdp, Rsdt, Xsdt};
 pub use raw::records::{ApicDomain, GiccDomain, TableIds};
 pub use raw::{Listed, PlatformTimer};
 

@@ -25,6 +25,19 @@ impl Rsdp {
     }
 }
 
+/// The sum of bytes modulo 256, which is 0 for a table (section 5.2.6).
+pub fn byte_sum(bytes: &[u8]) -> u8 {
+    bytes.iter().fold(0, |sum, byte| sum.wrapping_add(*byte))
+}
+
+/// Makes the bytes of a table, which was changed in place, sum to 0 by its Checksum (section 5.2.6), if it has at least
+/// the 36 bytes of a header, which a FACS and an RSDP lack.
+pub fn set_checksum(table: &mut [u8]) {
+    if table.len() >= 36 {
+        table[9] = table[9].wrapping_sub(byte_sum(table));
+    }
+}
+
 macro_rules! roots {
     ($($(#[$doc:meta])* $name:ident($width:ty, $call:ident);)*) => { $(
         $(#[$doc])*
