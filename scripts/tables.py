@@ -190,6 +190,11 @@ def wrapped(words, first, then):
     yield line
 
 
+def sizes_of(found, block):
+    """The types of a list without a Length, each with how many bytes it has."""
+    return [(it[1], it[2]) for it in layouts.texts()[found.text] if it[0] == block and it[1] != "*"]
+
+
 def everything():
     """All structs, the header of tables first."""
     return sorted(structs(), key=lambda it: it[1].text != "HEADER")

@@ -1,6 +1,8 @@
-/* mailbox: whether zacpi_wake_processor writes a mailbox as it has to, byte by byte, without a firmware and with one, which
- * is another process over the same memory. */
+/* raw: the inlines over bytes. Whether zacpi_wake_processor writes a mailbox as it has to, byte by byte, without a
+ * firmware and with one, which is another process over the same memory; the lengths of a HEST's structures; and a table
+ * that is changed in place. */
 #define _DEFAULT_SOURCE
+#include "zacpi.h"
 #include "zacpi_tables.h"
 #include <stdio.h>
 #include <string.h>
@@ -57,10 +59,46 @@ static void wakes(uint8_t *bytes) {
     EXPECT(is_left(bytes, 0));
 }
 
+/* After the count, at 36, of four structures (section 18.3.2): type 2, NMI, of 20 bytes; type 0 with two banks, at 32,
+ * of 40 and 28 bytes each; type 9 of 64; and type 3, which is reserved, with 5 bytes left. */
+static void walks_a_hest(void) {
+    static uint8_t hest[40 + 20 + 96 + 64 + 5];
+    static const size_t lengths[] = {20, 96, 64, 0};
+    size_t at = 40, i;
+    hest[40] = 2;
+    hest[60 + 32] = 2;
+    hest[156] = 9;
+    hest[220] = 3;
+    for (i = 0; i < 4; at += lengths[i++])
+        EXPECT(zacpi_raw_hest_source_length(hest + at, sizeof hest - at) == lengths[i]);
+    /* Too few bytes are left for the structure, for the number of its banks, and for its type. */
+    EXPECT(zacpi_raw_hest_source_length(hest + 40, 19) == 0 && zacpi_raw_hest_source_length(hest + 40, 20) == 20);
+    EXPECT(zacpi_raw_hest_source_length(hest + 60, 95) == 0 && zacpi_raw_hest_source_length(hest + 60, 32) == 0);
+    EXPECT(zacpi_raw_hest_source_length(hest + 40, 1) == 0 && zacpi_raw_hest_source_length(hest + 40, 0) == 0);
+    /* The type has two bytes. */
+    hest[41] = 1;
+    EXPECT(zacpi_raw_hest_source_length(hest + 40, 20) == 0);
+}
+/* A DMAR's Signature, which sums to 0x44 + 0x4d + 0x41 + 0x52 = 0x124, and its Length, 0x30: 0x154, with Checksum 0xac.
+ * Of "XMAR" they sum to 0x168, with Checksum 0x98. */
+static void sums_bytes(void) {
+    uint8_t table[48] = {'D', 'M', 'A', 'R', 48, 0, 0, 0, 0, 0xac};
+    EXPECT(zacpi_byte_sum(table, 4) == 0x24 && zacpi_byte_sum(table, 5) == 0x54 && zacpi_byte_sum(table, 0) == 0);
+    EXPECT(zacpi_byte_sum(table, sizeof table) == 0);
+    table[0] = 'X';
+    EXPECT(zacpi_byte_sum(table, sizeof table) == 0x14);
+    zacpi_set_checksum(table, sizeof table);
+    EXPECT(table[9] == 0x98 && zacpi_byte_sum(table, sizeof table) == 0);
+    zacpi_set_checksum(table, sizeof table);
+    EXPECT(table[9] == 0x98);
+}
+
 int main(void) {
     uint8_t *bytes = (uint8_t *)mmap(NULL, SIZE, PROT_READ | PROT_WRITE, MAP_SHARED | MAP_ANONYMOUS, -1, 0);
     if (bytes == MAP_FAILED) return 1;
     wakes_nobody(bytes);
     wakes(bytes);
+    walks_a_hest();
+    sums_bytes();
     return failed;
 }

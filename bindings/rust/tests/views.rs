@@ -1,6 +1,8 @@
 //! Views over the bytes of tables, from bytes worked out by hand.
 
-use zacpi::tables::{Dmar, DmarStructure, Facp, Iort, IortNode, Pptt, PpttNode, Srat, SratEntry, Tpm2, View};
+use zacpi::tables::{
+    Dmar, DmarStructure, Facp, Hest, HestSource, Iort, IortNode, Pptt, PpttNode, Srat, SratEntry, Tpm2, View,
+};
 
 /// A header with this signature and length; its other bytes are 0.
 fn header(signature: &[u8; 4], length: u32) -> Vec<u8> {
@@ -27,6 +29,25 @@ fn nodes_of_a_pptt() {
     assert_eq!((it.size(), it.number_of_sets(), it.associativity(), it.line_size()), (0x8000, 64, 8, 64));
     assert_eq!((it.attributes(), it.cache_id(), it.bytes().len()), (2, 9, 28));
     assert!(nodes.next().is_none() && nodes.rest().is_empty());
+}
+
+/// Type has two bytes, and chooses the length, since there is none: NMI, a machine check with two banks of 28 bytes,
+/// generic hardware errors, and a reserved type.
+#[test]
+fn sources_of_a_hest() {
+    let mut sources = [0; 20 + 96 + 64 + 5];
+    (sources[0], sources[20 + 32], sources[116], sources[180]) = (2, 2, 9, 3);
+    let table = with(header(b"HEST", 225), &[&[4, 0, 0, 0], &sources]);
+    let mut sources = Hest::of(&table).unwrap().sources();
+    let Some(HestSource::Ia32ArchitectureNonMaskableInterrupt(it)) = sources.next() else { panic!("no NMI") };
+    assert_eq!(it.bytes().len(), 20);
+    let Some(HestSource::Ia32ArchitectureMachineCheckException(it)) = sources.next() else {
+        panic!("no machine check")
+    };
+    assert_eq!((it.bytes().len(), it.banks().count()), (96, 2));
+    let Some(HestSource::GenericHardwareErrorSourceStructure(it)) = sources.next() else { panic!("no generic errors") };
+    assert_eq!(it.bytes().len(), 64);
+    assert!(sources.next().is_none() && sources.rest().len() == 5);
 }
 
 #[test]

@@ -225,7 +225,8 @@ view! {
         module_mmio_runtime_ranges_pointer: u64 @ 30,
     }
     lists {
-        handlers: PrmtHandler = (|b| length(number(b, 26, 4)), |b| length(number(b, 24, 2)), |b| length(number(b, 2, 2))),
+        handlers: PrmtHandler = (|b| length(number(b, 26, 4)), |b| length(number(b, 24, 2)), |b| length(number(b, 2,
+            2))),
     }
 }
 
@@ -532,6 +533,13 @@ view! {
     /// Hardware Error Source Table (HEST; ACPI 6.5, table 18.3).
     Hest 36 of 40 {
         error_source_count: u32 @ 36,
+    }
+    lists {
+        sources: HestSource = (|_| 40, |_| usize::MAX, |b| match length(number(b, 0, 2)) { 0 =>
+            40usize.saturating_add(28usize.saturating_mul(length(number(b, 32, 1)))), 1 =>
+            48usize.saturating_add(28usize.saturating_mul(length(number(b, 44, 1)))), 2 => 20usize, 6 => 48usize, 7 =>
+            44usize, 8 => 56usize, 9 => 64usize, 10 => 92usize, 11 =>
+            48usize.saturating_add(28usize.saturating_mul(length(number(b, 44, 1)))), _ => 0 }),
     }
 }
 
@@ -1000,7 +1008,8 @@ view! {
         platform_timer_offset: u32 @ 92,
     }
     lists {
-        structures: GtdtStructure = (|b| length(number(b, 92, 4)), |b| length(number(b, 88, 4)), |b| length(number(b, 1, 2))),
+        structures: GtdtStructure = (|b| length(number(b, 92, 4)), |b| length(number(b, 88, 4)), |b| length(number(b,
+            1, 2))),
     }
 }
 
@@ -1239,6 +1248,12 @@ view! {
         iommu_base_address: u64 @ 8, pci_segment_group: u16 @ 16, iommu_info: u16 @ 18,
         iommu_feature_reporting: u32 @ 20,
     }
+    lists {
+        entries: IvhdEntry = (|_| 24, |_| usize::MAX, |b| match length(number(b, 0, 1)) { 0x00 => 4usize, 0x01 =>
+            4usize, 0x02 => 4usize, 0x03 => 4usize, 0x04 => 4usize, 0x40 => 8usize, 0x42 => 8usize, 0x43 => 8usize,
+            0x46 => 8usize, 0x47 => 8usize, 0x48 => 8usize, 0xf0 => 22usize.saturating_add(length(number(b, 21, 1))),
+            0x05..=0x3f => 4usize, 0x41..=0x7f => 8usize, 0x80..=0xbf => 16usize, 0xc0..=0xef => 32usize, _ => 0 }),
+    }
     constants {
         FLAGS_HTTUNEN: u8 = 0x1, FLAGS_PASSPW: u8 = 0x2, FLAGS_RESPASSPW: u8 = 0x4, FLAGS_ISOC: u8 = 0x8,
         FLAGS_IOTLBSUP: u8 = 0x10, FLAGS_COHERENT: u8 = 0x20, FLAGS_PREFSUP: u8 = 0x40, FLAGS_PPRSUP: u8 = 0x80,
@@ -1265,6 +1280,12 @@ view! {
         iommu_base_address: u64 @ 8, pci_segment_group: u16 @ 16, iommu_info: u16 @ 18, iommu_attributes: u32 @ 20,
         efr_register_image: u64 @ 24, efr_register_image_2: u64 @ 32,
     }
+    lists {
+        entries: IvhdEntry = (|_| 40, |_| usize::MAX, |b| match length(number(b, 0, 1)) { 0x00 => 4usize, 0x01 =>
+            4usize, 0x02 => 4usize, 0x03 => 4usize, 0x04 => 4usize, 0x40 => 8usize, 0x42 => 8usize, 0x43 => 8usize,
+            0x46 => 8usize, 0x47 => 8usize, 0x48 => 8usize, 0xf0 => 22usize.saturating_add(length(number(b, 21, 1))),
+            0x05..=0x3f => 4usize, 0x41..=0x7f => 8usize, 0x80..=0xbf => 16usize, 0xc0..=0xef => 32usize, _ => 0 }),
+    }
     constants {
         FLAGS_HTTUNEN: u8 = 0x1, FLAGS_PASSPW: u8 = 0x2, FLAGS_RESPASSPW: u8 = 0x4, FLAGS_ISOC: u8 = 0x8,
         FLAGS_IOTLBSUP: u8 = 0x10, FLAGS_COHERENT: u8 = 0x20, IOMMU_INFO_MSINUM_MASK: u16 = 0x1f,
@@ -1282,6 +1303,12 @@ view! {
         type_: u8 @ 0, flags: u8 @ 1, length: u16 @ 2, deviceid: u16 @ 4, capability_offset: u16 @ 6,
         iommu_base_address: u64 @ 8, pci_segment_group: u16 @ 16, iommu_info: u16 @ 18, iommu_attributes: u32 @ 20,
         efr_register_image: u64 @ 24, efr_register_image_2: u64 @ 32,
+    }
+    lists {
+        entries: IvhdEntry = (|_| 40, |_| usize::MAX, |b| match length(number(b, 0, 1)) { 0x00 => 4usize, 0x01 =>
+            4usize, 0x02 => 4usize, 0x03 => 4usize, 0x04 => 4usize, 0x40 => 8usize, 0x42 => 8usize, 0x43 => 8usize,
+            0x46 => 8usize, 0x47 => 8usize, 0x48 => 8usize, 0xf0 => 22usize.saturating_add(length(number(b, 21, 1))),
+            0x05..=0x3f => 4usize, 0x41..=0x7f => 8usize, 0x80..=0xbf => 16usize, 0xc0..=0xef => 32usize, _ => 0 }),
     }
     constants {
         FLAGS_HTTUNEN: u8 = 0x1, FLAGS_PASSPW: u8 = 0x2, FLAGS_RESPASSPW: u8 = 0x4, FLAGS_ISOC: u8 = 0x8,
@@ -2165,7 +2192,8 @@ view! {
         virtual_bus_id: u8 @ 18, capabilities_size: u32 @ 19,
     }
     lists {
-        formats: NhltFormat = (|_| 1, |b| length(number(b, 0, 1)), |b| 44usize.saturating_add(length(number(b, 40, 4)))),
+        formats: NhltFormat = (|_| 1, |b| length(number(b, 0, 1)), |b| 44usize.saturating_add(length(number(b, 40,
+            4)))),
     }
     constants {
         DIRECTION_RENDER: u8 = 0x0, DIRECTION_CAPTURE: u8 = 0x1,
@@ -2187,7 +2215,9 @@ view! {
         memory_pcc_identifier: u8 @ 36, reserved: 3 @ 37, memory_power_node_count: u16 @ 40, reserved_2: u16 @ 42,
     }
     lists {
-        nodes: MpstNode = (|_| 44, |b| length(number(b, 40, 2)), |b| 32usize.saturating_add(2usize.saturating_mul(length(number(b, 24, 4)))).saturating_add(2usize.saturating_mul(length(number(b, 28, 4))))),
+        nodes: MpstNode = (|_| 44, |b| length(number(b, 40, 2)), |b|
+            32usize.saturating_add(2usize.saturating_mul(length(number(b, 24,
+            4)))).saturating_add(2usize.saturating_mul(length(number(b, 28, 4))))),
         characteristics: MpstCharacteristic = (|_| 4, |b| length(number(b, 0, 2)), |_| 28),
     }
 }
@@ -3000,7 +3030,8 @@ view! {
         number_of_resource_nodes: u32 @ 68,
     }
     lists {
-        resources: MpamResource = (|_| 72, |b| length(number(b, 68, 4)), |b| 24usize.saturating_add(8usize.saturating_mul(length(number(b, 20, 4))))),
+        resources: MpamResource = (|_| 72, |b| length(number(b, 68, 4)), |b|
+            24usize.saturating_add(8usize.saturating_mul(length(number(b, 20, 4))))),
     }
 }
 
