@@ -9,6 +9,99 @@ from ir2c_text import (GLOBAL, KNOWN, TYPE, Code, bare, bits, c_type, constant, 
                        signed, size, split, typed)
 
 
+# Bytes beside each other ---------------------------------------------------------------------------------------------
+
+
+def as_one(values):
+    """Of what bytes are put beside, in their order, numbers or a variable and a shift each: the expression for all of
+    them, or None."""
+    if all(isinstance(value, int) for value in values):
+        return number(sum(value << 8 * i for i, value in enumerate(values)))
+    if isinstance(values[0], tuple) and values == [(values[0][0], values[0][1] + 8 * i) for i in range(len(values))]:
+        word, shift = values[0]
+        return f'(u{8 * len(values)})' + (f'({word} >> {shift})' if shift else word)
+    return None
+
+
+def words(spots):
+    """Of bytes, each a pointer, an offset and what it is put beside: the widest words that they make, each the C that
+    reads it, its bits, and what it is put beside."""
+    rest, found = sorted(spots, key=lambda spot: spot[1]), []
+    while rest:
+        at, begin, _ = rest[0]
+        width = next(n for n in (8, 4, 2, 1) if [spot[1] for spot in rest[:n]] == [begin + i for i in range(n)]
+                     and as_one([spot[2] for spot in rest[:n]]))
+        place = f'{at} + {begin}' if begin else at
+        code = f'{at}[{begin}]' if width == 1 else f'load{width * 8}u({place})'
+        found.append((code, width * 8, as_one([spot[2] for spot in rest[:width]])))
+        rest = rest[width:]
+    return found
+
+
+class Bytes(NamedTuple):
+    """Bytes that are put together by `or`."""
+    spots: tuple
+
+    @property
+    def whole(self):
+        return len(self.spots) == 1
+
+    @property
+    def text(self):
+        return ' | '.join(f'{at}[{offset}]' for at, offset, _ in self.spots)
+
+    @property
+    def part(self):
+        return self.text if self.whole else f'({self.text})'
+
+    def signs(self, sign):
+        """Whether the highest bit of any is set, or of none."""
+        parts = words([(at, offset, 0x80) for at, offset, _ in self.spots])
+        code = ' | '.join(code for code, _, _ in parts)
+        return Comparison(f'({f"({code})" if len(parts) > 1 else code} & {parts[0][2]})', sign, '0')
+
+
+class Known(NamedTuple):
+    """Whether bytes are all equal to what they are put beside, or one isn't."""
+    spots: tuple
+    sign: str
+    whole = False
+
+    @property
+    def text(self):
+        parts = [f'{code} {self.sign} {value}' for code, _, value in words(self.spots)]
+        joined = ' & ' if self.sign == '==' else ' | '
+        return parts[0] if len(parts) == 1 else '(int)' + joined.join(f'({part})' for part in parts)
+
+    @property
+    def part(self):
+        return f'({self.text})'
+
+
+def together(body, sign, a, b):
+    """Two such expressions as one, if they are of one pointer and of different bytes."""
+    if type(a) is not type(b) or not isinstance(a, (Bytes, Known)) or a.spots[0][0] != b.spots[0][0]:
+        return None
+    if isinstance(a, Known) and (a.sign != b.sign or sign != ('&' if a.sign == '==' else '|')):
+        return None
+    spots = a.spots + b.spots
+    if len({offset for _, offset, _ in spots}) < len(spots):
+        return None
+    for _, width, _ in words(spots):
+        if width > 8:
+            body.uses(f'load{width}u')
+    return a._replace(spots=spots)
+
+
+def known(byte, how, other):
+    """A comparison of a byte with a number, or with eight bits of a variable."""
+    shifted = re.match(r'\(u8\)(?:(\w+)|\((\w+) >> (\d+)\))$', other.text)
+    if not re.match(r'\d+$', other.text) and not shifted:
+        return None
+    value = (shifted[1] or shifted[2], int(shifted[3] or 0)) if shifted else int(other.text)
+    return Known(((*byte.spots[0][:2], value),), COMPARED[how])
+
+
 # Each takes the body that it is written for and the text after its name, and returns its type and its expression.
 
 
@@ -26,6 +119,9 @@ def binary(sign, widened=False):
             mask = re.match(r'splat \(i64 (\d+)\)$', right) or fail(rest)
             return kind, Code(f'{body.value(kind, left).text}, {number(int(mask[1]))}')
         a, b = body.value(kind, left), body.value(kind, right)
+        beside = kind in ('i1', 'i8') and sign in '&|' and (kind == 'i1' or sign == '|') and together(body, sign, a, b)
+        if beside:
+            return kind, beside
         if kind == 'i1':
             if sign == '^' and right == 'true':
                 return kind, negated(a)
@@ -86,14 +182,19 @@ def compared(body, rest):
     kind, text = typed(rest)
     left, right = split(text)
     a, b = body.value(kind, left), body.value(kind, right)
+    if isinstance(a, Bytes) and len(a.spots) > 1 and (how, right) in (('slt', '0'), ('sgt', '-1')):
+        return 'i1', a.signs('!=' if how == 'slt' else '==')
+    for byte, other in ((a, b), (b, a)):
+        if how in ('eq', 'ne') and isinstance(byte, Bytes) and byte.whole and known(byte, how, other):
+            return 'i1', known(byte, how, other)
     if how[0] == 's':
         a, b = signed(kind, a), Code(right, True) if re.match(r'-?\d{1,9}$', right) else signed(kind, b)
     return 'i1', Comparison(a.part, COMPARED[how], b.part)
 
 
 def negated(code):
-    if isinstance(code, Comparison):
-        return Comparison(code.left, OPPOSITE[code.sign], code.right)
+    if isinstance(code, (Comparison, Known)):
+        return code._replace(sign=OPPOSITE[code.sign])
     return Code(code.text[1:], True) if re.match(r'!\w+$', code.text) else Code(f'!{code.part}')
 
 
@@ -150,7 +251,7 @@ def loaded(body, rest):
     if kind == '<8 x i64>':
         return kind, Code(body.memory(pointer, 64))
     if kind == 'i8':
-        return kind, Code(body.byte(pointer), True)
+        return kind, Bytes(((*body.place(pointer, 1), 0),))
     at = body.memory(pointer, size(kind))
     if kind == '<16 x i8>':
         return kind, Code(f'{body.uses("lanes_load")}({at})', True)
@@ -226,4 +327,7 @@ def memory_call(body, name, arguments):
         second = body.value(*other).text if name == 'memset' else body.memory(other[1], int(length))
         return Code(f'{plain}({body.memory(to, int(length))}, {second}, {length})', True)
     given = body.value('ptr', to).text, body.value(*other).text, body.value(kind, length).part
+    most = re.match(r'umin64\((.*), ([1-9]|1[0-6])\)$', given[2])
+    if name == 'memcpy' and most:
+        return Code(f'{body.uses("copy_most")}({given[0]}, {given[1]}, {most[1]}, {most[2]})', True)
     return Code(f'{body.uses(checked)}({given[0]}, {given[1]}, (size_t){given[2]})', True)

@@ -173,6 +173,14 @@ static void check_memory(void) {
     copy((uptr)copied, (uptr)(bytes + 16), 8);
     IS(load64u(copied), 0x1817161514131211);
     copy(16, 16, 0); /* no memory is there, and none is touched */
+    copy_most((uptr)copied, (uptr)(bytes + 32), 3, 4);
+    IS(load64u(copied), 0x1817161514232221);
+    copy_most((uptr)copied, (uptr)(bytes + 32), 9, 4);
+    IS(load64u(copied), 0x1817161524232221);
+    copy_most((uptr)copied, (uptr)(bytes + 40), 4, 4);
+    IS(load64u(copied), 0x181716152c2b2a29);
+    copy_most((uptr)copied, 16, 0, 4);
+    IS(load64u(copied), 0x181716152c2b2a29);
     move((uptr)(bytes + 17), (uptr)(bytes + 16), 4);
     IS(load64(bytes + 16), 0x1817161413121111);
     move((uptr)(bytes + 16), (uptr)(bytes + 17), 4);
