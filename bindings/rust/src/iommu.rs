@@ -241,7 +241,8 @@ impl<'k> Dmar<'k> {
     /// The device scopes of one of these units, by its index, as far as they fit: those up to the first byte at which
     /// none begins, in order (section 8.3.1).
     pub fn scopes<'b>(&self, unit: usize, room: &'b mut [Slot<DmarScope>]) -> AcpiResult<Option<List<'b, DmarScope>>> {
-        self.structure_scopes(DmarType::Drhd, unit, room)
+        let count = found(raw::zacpi_1_list_dmar_scopes(&self.tables.source(), unit, records_of(room)))?;
+        Ok(count.map(|count| List::written(room, count, Signature::default())))
     }
 
     /// The device scopes of a structure, by its Type and its index among those of the Type, as far as they fit: those
