@@ -364,9 +364,8 @@ static void print_dmar(const struct zacpi_source *source) {
     for (i = 0; i < 6; i++)
         LIST("scopes", zacpi_dmar_scope, zacpi_list_dmar_structure_scopes,
              (source, i % 3, i / 3, items, MOST, &count, &named), "%u %u %u %u %lu %u %u %u %u\n", it->scope_type,
-             it->flags, it->enumeration_id, it->bus,
-             (unsigned long)it->path_length, it->path[0].device, it->path[0].function, it->path[15].device,
-             it->path[15].function);
+             it->flags, it->enumeration_id, it->bus, (unsigned long)it->path_length, it->path[0].device,
+             it->path[0].function, it->path[15].device, it->path[15].function);
     LIST("dmar_faults", zacpi_entry_fault, zacpi_list_dmar_faults, ALL, "%llx %u %s\n", (wide)it->address,
          it->entry_type, error_of(it->status));
     for (i = 0; i < 9; i++)

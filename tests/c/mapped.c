@@ -286,8 +286,18 @@ static int lay_out(void) {
 /* The crowded machine: pages from ROOT on, of which the RSDT has the first. Its pointers are 300 null ones, 300 to no
  * memory, 300 to a page each that begins as a table "JUNK", and those to the FADT, the MADT and the HPET, each in a page
  * of its own that touches no other. The FADT, of revision 1, points to the DSDT and the FACS. */
-enum { ROOT = 0x100000, JUNK = 0x110000, NOWHERE = 0x40000000, EACH = 300, FADT = 0x300000, MADT = 0x302000,
-       HPET = 0x304000, DSDT = 0x306000, FACS = 0x308000, END = 0x30a000 };
+enum {
+    ROOT = 0x100000,
+    JUNK = 0x110000,
+    NOWHERE = 0x40000000,
+    EACH = 300,
+    FADT = 0x300000,
+    MADT = 0x302000,
+    HPET = 0x304000,
+    DSDT = 0x306000,
+    FACS = 0x308000,
+    END = 0x30a000
+};
 static uint8_t crowded[END - ROOT];
 
 static void put(uint64_t address, uint64_t value, size_t length) {
@@ -348,14 +358,26 @@ static int maps(struct zacpi_source *source, const struct want *want) {
 static int maps_wanted(void) {
     enum { NO = ZACPI_MAP_FAILED, NO_TABLE = ZACPI_TABLE_MISSING, LISTED = 4 * (3 * EACH + 3) + 36 };
     static const struct want wants[] = {
-        {"APICFACPDSDT", 4, 2, 0x1000, {{ROOT, 0x1000}, {FADT, 0x1000}, {MADT, 0x1000}, {DSDT, 0x2000}}, 0, NO,
+        {"APICFACPDSDT",
+         4,
+         2,
+         0x1000,
+         {{ROOT, 0x1000}, {FADT, 0x1000}, {MADT, 0x1000}, {DSDT, 0x2000}},
+         0,
+         NO,
          NO_TABLE},
         {"FACPFACSHPET", 4, 9, 0x1000, {{ROOT, 0x1000}, {FADT, 0x1000}, {HPET, 0x1000}, {FACS, 0x1000}}, NO, 0, 0},
         {"DSDTFACS", 4, 64, 0x1000, {{ROOT, 0x1000}}, NO_TABLE, NO_TABLE, NO_TABLE},
         {"FACPDSDTFACS", 4, 1, 1, {{ROOT, LISTED}, {FADT, 116}, {DSDT, 0x1010}, {FACS, 64}}, 0, 0, NO_TABLE},
         {"HPETFACPAPIC", 2, 64, 1, {{ROOT, LISTED}, {FADT, 116}}, NO, NO, NO_TABLE},
         /* Without names the first in memory have the room. */
-        {"", 4, 64, 1, {{ROOT, LISTED}, {JUNK, 36}, {JUNK + 0x1000, 36}, {JUNK + 0x2000, 36}}, NO_TABLE, NO_TABLE,
+        {"",
+         4,
+         64,
+         1,
+         {{ROOT, LISTED}, {JUNK, 36}, {JUNK + 0x1000, 36}, {JUNK + 0x2000, 36}},
+         NO_TABLE,
+         NO_TABLE,
          NO_TABLE},
     };
     struct zacpi_source source = {0};
