@@ -1,6 +1,6 @@
 /* raw: the inlines over bytes. Whether zacpi_wake_processor writes a mailbox as it has to, byte by byte, without a
- * firmware and with one, which is another process over the same memory; the lengths of a HEST's structures; and a table
- * that is changed in place. */
+ * firmware and with one, which is another process over the same memory; the lengths of a HEST's structures; what the
+ * structs of an RHCT have of one that was written; and a table that is changed in place. */
 #define _DEFAULT_SOURCE
 #include "zacpi.h"
 #include "zacpi_tables.h"
@@ -79,6 +79,34 @@ static void walks_a_hest(void) {
     hest[41] = 1;
     EXPECT(zacpi_raw_hest_source_length(hest + 40, 20) == 0);
 }
+/* A field of a table is read by the struct that has it: bytes have no alignment. */
+#define RAW(type, from) (memcpy(&(type), table + (from), sizeof(type)), (type))
+/* An RHCT that was written (RISC-V Hart Capabilities Table, ACPI 6.6), as no call reads it: an ISA String Node of 14
+ * bytes, whose string ends with a zero and has an even length with it, and two Hart Info Nodes of 16, whose one offset
+ * is that node's. */
+static void reads_an_rhct(void) {
+    static const struct zacpi_table_ids ids = {{'G'}, {'M'}, 1, {'Z'}, 1};
+    static const uint32_t harts[] = {7, 0x01020304};
+    const struct zacpi_rhct_contents contents = {(const uint8_t *)"rv64i", 5, harts, 2, 10000000, 1};
+    uint8_t table[128];
+    size_t length = 0, at = 56, i;
+    struct zacpi_raw_rhct rhct;
+    struct zacpi_raw_rhct_node_isa_string_node isa;
+    struct zacpi_raw_rhct_node_hart_info_node hart;
+    uint32_t offset;
+    EXPECT(!zacpi_write_rhct(&ids, &contents, table, sizeof table, &length) && length == 56 + 14 + 2 * 16);
+    EXPECT(RAW(rhct, 0).flags == ZACPI_RAW_RHCT_FLAGS_TIMER_CANNOT_WAKE_THE_PROCESSOR);
+    EXPECT(rhct.time_base_frequency == 10000000 && rhct.number_of_rhct_nodes == 3);
+    EXPECT(rhct.offset_to_the_rhct_node_array == at && rhct.header.length == length);
+    EXPECT(RAW(isa, at).type == ZACPI_RAW_RHCT_NODE_TYPE_ISA_STRING_NODE && isa.revision == 1 && isa.length == 14);
+    EXPECT(isa.isa_length == 6 && !memcmp(table + at + sizeof isa, "rv64i", 6));
+    for (at += isa.length, i = 0; i < 2; at += hart.length, i++) {
+        EXPECT(RAW(hart, at).type == ZACPI_RAW_RHCT_NODE_TYPE_HART_INFO_NODE && hart.revision == 1);
+        EXPECT(hart.length == 16 && hart.number_of_offsets == 1 && hart.acpi_processor_uid == harts[i]);
+        EXPECT(RAW(offset, at + sizeof hart) == 56);
+    }
+    EXPECT(at == length);
+}
 /* A DMAR's Signature, which sums to 0x44 + 0x4d + 0x41 + 0x52 = 0x124, and its Length, 0x30: 0x154, with Checksum 0xac.
  * Of "XMAR" they sum to 0x168, with Checksum 0x98. */
 static void sums_bytes(void) {
@@ -99,6 +127,7 @@ int main(void) {
     wakes_nobody(bytes);
     wakes(bytes);
     walks_a_hest();
+    reads_an_rhct();
     sums_bytes();
     return failed;
 }

@@ -338,6 +338,8 @@ static zacpi_status a_facs(uint8_t *to, size_t room, size_t *length) {
     return zacpi_write_facs(&facs, to, room, length);
 }
 
+#include "rows_read.h"
+
 /* What is written, or the error, whatever room there is; and the status if a name isn't UTF-8: that error comes after
  * those of what one table is to say, and of a machine after that of bytes that aren't a table. A FACS has no names. */
 static const struct written_row {
@@ -439,5 +441,6 @@ static void check_all_written(void) {
     check_arm_codes();
     check_gic_codes();
     check_places();
+    check_all_read();
 }
 #endif
