@@ -4,7 +4,8 @@ use Rattle.acpi_base.specs.FromStd.{Appends}
 use Rattle.acpi_cli.specs.Reads.{Asks, FileRead, contents_of}
 use Rattle.acpi_pack_lib.specs.Listing.{labels_of, listing}
 use Rattle.acpi_pack_lib.specs.Plain.{HasNoPlain, IsPlainOf}
-use Rattle.acpi_pack_lib.specs.Run.{Ends}
+use Rattle.acpi_pack_lib.specs.Pack.{file_of}
+use Rattle.acpi_pack_lib.specs.Run.{Ends, packed_by}
 use Rattle.acpi_pack_lib.specs.Save.{save_error_text}
 use Rattle.acpi_pack_lib.specs.Saves.{FileSaved}
 use Rattle.acpi_pack_lib.specs.Sums.{sources_for}
@@ -73,17 +74,6 @@ pub record RefusesPlain (r : Request) (image : List ℕ) (status : ℕ) (old new
 abbrev pub SavesOrRefuses : Request → List (Option (List ℕ)) → List ℕ → ℕ → Effects → Effects → Type 0
 SavesOrRefuses r files image status old new = Saves r files image status old new ⊎ RefusesPlain r image status old new
 
--- after an error: nothing was to be saved, or one file was, under the name that is requested, and then what is printed
--- of it couldn't be
-pub record SavesOne (r : Request) (old new : List FileSaved) : Type 0 where
-  pub bytes : List ℕ
-  pub answer : Result (Unit {0}) SaveError
-  pub grown : new ≡ old ++ record { name = r.out; sources = r.names; bytes = bytes; answer = answer } ∷ []
-
-abbrev pub SavesAtMost : Option Request → List FileSaved → List FileSaved → Type 0
-SavesAtMost None old new = new ≡ old
-SavesAtMost (Some r) old new = (new ≡ old) ⊎ SavesOne r old new
-
 -- an image is saved; an error returns 1, and no command 2, and then nothing was to be saved, nor is more printed
 abbrev pub Follows : Option Request → List (Option (List ℕ)) → Outcome → ℕ → Effects → Effects → Type 0
 Follows None files said status old new = (status ≡ 2) × (new ≡ old)
@@ -107,6 +97,43 @@ pub record Packs (arguments : List (List ℕ)) (asked asked_after : List FileRea
   pub asks : Asks (files_for (request_in arguments)) asked asked_after
   pub packs : PacksFiles (request_in arguments) (sources_for (request_in arguments) (contents_of asks.reads)) status
       old new
+
+-- ---- after an error
+
+-- nothing was to be saved, or it was as this has it, and then what is printed of it couldn't be
+abbrev pub SavesAtMost : (List FileSaved → List FileSaved → Type 0) → List FileSaved → List FileSaved → Type 0
+SavesAtMost saves old new = (new ≡ old) ⊎ saves old new
+
+-- these bytes were to be saved once, under the name that is requested
+pub record SavesOnce (r : Request) (bytes : List ℕ) (old new : List FileSaved) : Type 0 where
+  pub answer : Result (Unit {0}) SaveError
+  pub grown : new ≡ old ++ record { name = r.out; sources = r.names; bytes = bytes; answer = answer } ∷ []
+
+-- an image was, in the form that is requested
+pub record SavesImage (r : Request) (image : List ℕ) (old new : List FileSaved) : Type 0 where
+  pub bytes : List ℕ
+  pub form : IsFormOf r.options.is_plain image bytes
+  pub saves : SavesOnce r bytes old new
+
+-- the image of an outcome was; of another outcome nothing is saved
+abbrev pub SavesOutcome : Option Request → Outcome → List FileSaved → List FileSaved → Type 0
+SavesOutcome (Some r) (outcome.Image image) old new = SavesImage r image.items old new
+SavesOutcome request said old new = ⊥
+
+-- the image of these files was
+pub record SavesPacked (request : Option Request) (files : List (Option (List ℕ))) (old new : List FileSaved)
+    : Type 0 where
+  pub r : Request
+  pub requested : request ≡ Some r
+  pub image : List ℕ
+  pub packed : file_of (packed_by r.addresses files) ≡ Ok image
+  pub saves : SavesImage r image old new
+
+-- all files that are named were read, and the image of what was read, or of the same with the sums of tables set, was
+pub record SavesRead (request : Option Request) (asked asked_after : List FileRead) (old new : List FileSaved)
+    : Type 0 where
+  pub asks : Asks (files_for request) asked asked_after
+  pub saves : SavesPacked request (sources_for request (contents_of asks.reads)) old new
 
 -- ---- the program
 

@@ -87,7 +87,12 @@ pub use Rattle.acpi_pack_lib.specs.Program.{
   Runs,
   SavesAtMost,
   SavesBytes,
+  SavesImage,
+  SavesOnce,
   SavesOrRefuses,
+  SavesOutcome,
+  SavesPacked,
+  SavesRead,
   files_for,
 }
 pub use Rattle.acpi_pack_lib.specs.Run.{

@@ -1,7 +1,7 @@
 //! The program over any files, any storage and any writers.
-ghost use Rattle.std.specs.Prelude.{◌≡◌, true, IfErr, IfOk, OnErr, Some, map, option_map};
+ghost use Rattle.std.specs.Prelude.{◌≡◌, true, IfErr, IfOk, OnErr, map, option_map};
 ghost use Rattle.acpi_cli.specs.Reads.{AsksFront};
-ghost use Rattle.acpi_pack_lib.specs.Words.{contents, Follows, HasNoPlain, IsFormOf, Packs, PacksFiles, Runs, SavesAtMost, SavesBytes, SavesOrRefuses, files_for, fixes_sums, request_in, request_of, sources_for};
+ghost use Rattle.acpi_pack_lib.specs.Words.{contents, Follows, HasNoPlain, IsFormOf, Packs, PacksFiles, Runs, SavesAtMost, SavesBytes, SavesImage, SavesOnce, SavesOrRefuses, SavesOutcome, SavesPacked, SavesRead, files_for, fixes_sums, request_in, request_of, sources_for};
 
 use crate::arguments::{Command, Options, parse_command};
 use crate::error::Refusal;
@@ -68,8 +68,8 @@ fn save_bytes<S: Storage, W: Write, E: Write>(
     ensures exact { IfOk result (λ s. SavesBytes (request_of command.now) bytes.items lines.now s
         (record { saved = S.saved storage.old; out = W.contents out.old; err = E.contents err.old })
         (record { saved = S.saved storage.new; out = W.contents out.new; err = E.contents err.new })) }
-    ensures failed { OnErr result
-        (SavesAtMost (Some (request_of command.now)) (S.saved storage.old) (S.saved storage.new)) }
+    ensures failed { OnErr result (SavesAtMost (SavesOnce (request_of command.now) bytes.items)
+        (S.saved storage.old) (S.saved storage.new)) }
 {
     let name = command.out;
     match storage.save(name, &command.names, bytes)? {
@@ -101,8 +101,8 @@ fn save_image<S: Storage, W: Write, E: Write>(
     ensures exact { IfOk result (λ s. SavesOrRefuses (request_of command.now) (contents files.now) image.items s
         (record { saved = S.saved storage.old; out = W.contents out.old; err = E.contents err.old })
         (record { saved = S.saved storage.new; out = W.contents out.new; err = E.contents err.new })) }
-    ensures failed { OnErr result
-        (SavesAtMost (Some (request_of command.now)) (S.saved storage.old) (S.saved storage.new)) }
+    ensures failed { OnErr result (SavesAtMost (SavesImage (request_of command.now) image.items)
+        (S.saved storage.old) (S.saved storage.new)) }
 {
     let Ok(lines) = record_lines(alloc, command, files, &image) else {
         return Err(io::Error::from(AllocError));
@@ -133,8 +133,8 @@ fn finish<S: Storage, W: Write, E: Write>(
     ensures exact { IfOk result (λ s. Follows (option_map request_of asked.now) (contents files.now) outcome s
         (record { saved = S.saved storage.old; out = W.contents out.old; err = E.contents err.old })
         (record { saved = S.saved storage.new; out = W.contents out.new; err = E.contents err.new })) }
-    ensures failed { OnErr result
-        (SavesAtMost (option_map request_of asked.now) (S.saved storage.old) (S.saved storage.new)) }
+    ensures failed { OnErr result (SavesAtMost (SavesOutcome (option_map request_of asked.now) outcome)
+        (S.saved storage.old) (S.saved storage.new)) }
 {
     match (asked, outcome) {
         (None, _) => Ok(2),
@@ -160,8 +160,9 @@ fn pack_files<S: Storage, W: Write, E: Write>(
     ensures exact { IfOk result (λ s. PacksFiles (option_map request_of asked.now) (contents files.now) s
         (record { saved = S.saved storage.old; out = W.contents out.old; err = E.contents err.old })
         (record { saved = S.saved storage.new; out = W.contents out.new; err = E.contents err.new })) }
-    ensures failed { OnErr result
-        (SavesAtMost (option_map request_of asked.now) (S.saved storage.old) (S.saved storage.new)) }
+    ensures failed { OnErr result (SavesAtMost
+        (SavesPacked (option_map request_of asked.now) (contents files.now))
+        (S.saved storage.old) (S.saved storage.new)) }
 {
     let outcome = run(alloc, asked, files, err)?;
     finish(alloc, asked, files, outcome, storage, out, err)
@@ -184,8 +185,10 @@ fn pack_read<S: Storage, W: Write, E: Write>(
         (sources_for (option_map request_of asked.now) (contents files.now)) s
         (record { saved = S.saved storage.old; out = W.contents out.old; err = E.contents err.old })
         (record { saved = S.saved storage.new; out = W.contents out.new; err = E.contents err.new })) }
-    ensures failed { OnErr result
-        (SavesAtMost (option_map request_of asked.now) (S.saved storage.old) (S.saved storage.new)) }
+    ensures failed { OnErr result (SavesAtMost
+        (SavesPacked (option_map request_of asked.now)
+        (sources_for (option_map request_of asked.now) (contents files.now)))
+        (S.saved storage.old) (S.saved storage.new)) }
 {
     if !fixes_sums(asked) {
         return pack_files(alloc, asked, files, storage, out, err);
@@ -218,7 +221,8 @@ fn pack_asked<F: Files, S: Storage, W: Write, E: Write>(
     ensures refused { OnErr result (AsksFront (files_for (request_in (map (λ w. w.now) arguments.now)))
         (F.asked files.old) (F.asked files.new)) }
     // After an error nothing was to be saved, but for the image if its lines, or why it isn't saved, can't be printed.
-    ensures failed { OnErr result (SavesAtMost (request_in (map (λ w. w.now) arguments.now))
+    ensures failed { OnErr result (SavesAtMost
+        (SavesRead (request_in (map (λ w. w.now) arguments.now)) (F.asked files.old) (F.asked files.new))
         (S.saved storage.old) (S.saved storage.new)) }
 {
     let asked = parse_command(alloc, arguments)?;
@@ -253,7 +257,8 @@ pub fn pack<F: Files, S: Storage, W: Write, E: Write>(
     ensures refused { OnErr result (AsksFront (files_for (request_in (map (λ w. w.now) arguments.now)))
         (F.asked files.old) (F.asked files.new)) }
     // After an error nothing was to be saved, but for the image if its lines, or why it isn't saved, can't be printed.
-    ensures failed { OnErr result (SavesAtMost (request_in (map (λ w. w.now) arguments.now))
+    ensures failed { OnErr result (SavesAtMost
+        (SavesRead (request_in (map (λ w. w.now) arguments.now)) (F.asked files.old) (F.asked files.new))
         (S.saved storage.old) (S.saved storage.new)) }
 {
     match told(arguments) {
