@@ -9,6 +9,7 @@ pub mod Found
 pub mod FoundRsdp
 pub mod IsaList
 pub mod RangeSearch
+pub mod Skipped
 pub mod StrictLists
 pub mod Unlent
 pub mod Written

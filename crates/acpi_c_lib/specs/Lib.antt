@@ -38,6 +38,7 @@ pub mod Regions
 pub mod Riscv
 pub mod Routes
 pub mod Shown
+pub mod SkippedLaws
 pub mod Types
 pub mod Walked
 pub mod Words

@@ -409,6 +409,17 @@ pub use Rattle.acpi_c_lib.specs.Shown.{
   tables_below,
   tables_in,
 }
+pub use Rattle.acpi_c_lib.specs.SkippedLaws.{
+  FaultsAreTheirs,
+  IsNoRsdp,
+  IsSkipped,
+  RangesAreTheirs,
+  RsdpEndsRanges,
+  TakenEndsFaults,
+  candidates_from,
+  skipped,
+  skipped_by,
+}
 pub use Rattle.acpi_c_lib.specs.Types.{
   Acpi,
   AddressRange,

@@ -1,6 +1,6 @@
 //! Laws of the definitions, each the contract of a call that does nothing.
 ghost use Rattle.acpi_base.specs.Words.{AcceptsNothing, AcceptsValid, KeepsNames, KeepsSums};
-ghost use Rattle.acpi_c_lib.specs.Words.{AcceptsAsReaders, ItemsAreAnswers, CandidatesHaveHoles, LedHaveHoles, ListsAreModels, MembersHaveHoles, OpeningHasHole};
+ghost use Rattle.acpi_c_lib.specs.Words.{AcceptsAsReaders, ItemsAreAnswers, CandidatesHaveHoles, FaultsAreTheirs, LedHaveHoles, ListsAreModels, MembersHaveHoles, OpeningHasHole, RangesAreTheirs, RsdpEndsRanges, TakenEndsFaults};
 
 /// Each member of the root table that fails with `MapFailed` has a range among the ranges that
 /// `zacpi_list_missing_ranges` lists, and that range is in no one region.
@@ -61,4 +61,20 @@ pub fn valid_tables_are_accepted()
 pub fn each_bit_keeps_the_other_check()
     ensures sums { KeepsSums }
     ensures names { KeepsNames }
+{}
+
+/// `zacpi_list_faults` lists the fault of each table that the lookup skips, in order, but of no other signature; and last
+/// that of the table that it takes, if that isn't valid.
+#[tactic(auto, using(crate::proofs::Skipped::faults_are_theirs, crate::proofs::Skipped::taken_ends))]
+pub fn faults_are_of_tables()
+    ensures skipped { FaultsAreTheirs }
+    ensures taken { TakenEndsFaults }
+{}
+
+/// Of the candidates of a search, `zacpi_list_missing_ranges` lists the range of each that has one, in order, up to the
+/// first that is valid.
+#[tactic(auto, using(crate::proofs::Skipped::ranges_are_theirs, crate::proofs::Skipped::rsdp_ends_ranges))]
+pub fn ranges_are_of_candidates()
+    ensures none { RangesAreTheirs }
+    ensures valid { RsdpEndsRanges }
 {}
