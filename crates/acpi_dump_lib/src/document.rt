@@ -7,7 +7,7 @@ mod tables;
 ghost use Rattle.json.specs.Reads.{token_of};
 ghost use Rattle.json.specs.Print.{IsPrintable};
 
-use acpi_dump_walk::aml::{Ends, Object};
+use acpi_dump_walk::aml::{Ends, Object, Value};
 use acpi_dump_walk::fault::Fault;
 use acpi_dump_walk::fields::{
     number_of, print_hex, print_meaning, print_path, print_text, print_value,
@@ -247,6 +247,12 @@ impl ShowObjects for Document {
             let mut text = Out::new(self.alloc);
             print_path(path, &mut text);
             self.printed("path", &text);
+        }
+        if !matches!(object.value, Value::Hidden) {
+            let mut text = Out::new(self.alloc);
+            let path = object.path.unwrap_or(&[]);
+            object.value.print(path, "; ", &mut text);
+            self.printed("value", &text);
         }
         self.token(Token::EndObject);
     }

@@ -1,6 +1,10 @@
 //! The named objects of AML, in the order of the bytes (ACPI 6.4, section 20.2.5). AML is not run.
 ghost use Rattle.std.specs.Prelude.{◌<◌, ◌≤◌, length, IfOk};
 
+mod resources;
+mod units;
+mod value;
+
 use crate::out::Out;
 use crate::walk::ShowObjects;
 use acpi_sleep::AmlError;
@@ -9,19 +13,23 @@ use acpi_sleep::name::{Name, name_at};
 use acpi_sleep::opcode::opcode_at;
 use acpi_sleep::term::{Part, parts_end, parts_of};
 use std::alloc::{AllocError, Global};
+use units::unit_at;
+pub use value::Value;
 
 /// How many objects are entered one in another at most, and how many segments a path has at most, so that the paths of
 /// many objects stay short.
 const DEEPEST: usize = 32;
 
-/// An object: its offset in the table, its length, what it is, and the segments of its path from the root on, four
-/// letters each. A name is looked up in no other scope. An `If`, an `Else` and a `While` have no path.
+/// An object: its offset in the table, its length, what it is, the segments of its path from the root on, four letters
+/// each, and what is shown of its value. A name is looked up in no other scope. An `If`, an `Else` and a `While` have no
+/// path.
 #[derive(Clone, Copy)]
 pub struct Object<'a> {
     pub offset: u64,
     pub length: u64,
     pub kind: &'static str,
     pub path: Option<&'a [u8]>,
+    pub value: Value<'a>,
 }
 
 /// Why the objects of a table aren't shown from a place on.
@@ -76,8 +84,10 @@ enum Rest {
     Parts(usize),
     /// A block without a name.
     Block,
-    /// A block that begins with the name.
-    Named,
+    /// A block that begins with the name and a method's flags.
+    Method,
+    /// A block that begins with the name and these parts, before a field's units.
+    Units(&'static [Part]),
     /// A block that begins with the name and this many other bytes, before objects.
     Entered(usize),
 }
@@ -87,7 +97,7 @@ const FORMS: [(u16, &str, Rest); 25] = [
     (0x06, "Alias", Rest::Parts(1)),
     (0x08, "Name", Rest::Parts(0)),
     (0x10, "Scope", Rest::Entered(0)),
-    (0x14, "Method", Rest::Named),
+    (0x14, "Method", Rest::Method),
     (0x15, "External", Rest::Parts(0)),
     (0x8A, "CreateDWordField", Rest::Parts(2)),
     (0x8B, "CreateWordField", Rest::Parts(2)),
@@ -101,13 +111,17 @@ const FORMS: [(u16, &str, Rest); 25] = [
     (0x5B02, "Event", Rest::Parts(0)),
     (0x5B13, "CreateField", Rest::Parts(3)),
     (0x5B80, "OperationRegion", Rest::Parts(0)),
-    (0x5B81, "Field", Rest::Named),
+    (0x5B81, "Field", Rest::Units(&[Part::Byte])),
     (0x5B82, "Device", Rest::Entered(0)),
     (0x5B83, "Processor", Rest::Entered(6)),
     (0x5B84, "PowerResource", Rest::Entered(3)),
     (0x5B85, "ThermalZone", Rest::Entered(0)),
-    (0x5B86, "IndexField", Rest::Named),
-    (0x5B87, "BankField", Rest::Named),
+    (0x5B86, "IndexField", Rest::Units(&[Part::Name, Part::Byte])),
+    (
+        0x5B87,
+        "BankField",
+        Rest::Units(&[Part::Name, Part::Argument, Part::Byte]),
+    ),
     (0x5B88, "DataRegion", Rest::Parts(0)),
 ];
 
@@ -131,17 +145,20 @@ fn parts_after(code: u16) -> Option<&'static [Part]> {
     }
 }
 
-/// An object: what it is, where its name begins and what it is, where the objects in it begin, and where it ends.
+/// An object: what it is, where its name begins and what it is, its value, where the objects in it begin, where a
+/// field's units begin, and where it ends.
 #[derive(Clone, Copy)]
-struct Found {
+struct Found<'a> {
     kind: &'static str,
     name: Option<(usize, Name)>,
+    value: Value<'a>,
     inner: Option<usize>,
+    units: Option<usize>,
     end: usize,
 }
 
 /// The object at an offset.
-fn found_at(aml: &[u8], at: usize) -> Result<Found, AmlError>
+fn found_at(aml: &[u8], at: usize) -> Result<Found<'_>, AmlError>
     requires { at ≤ length aml.now }
     ensures { IfOk result (λ found. at < found.end) }
 {
@@ -153,16 +170,29 @@ fn found_at(aml: &[u8], at: usize) -> Result<Found, AmlError>
     let mut found = Found {
         kind,
         name: None,
+        value: Value::Hidden,
         inner: None,
+        units: None,
         end,
     };
     match rest {
         Rest::Block => {}
         Rest::Parts(before) => {
             let start = parts_end(parts.get(..before).unwrap_or(&[]), aml, opcode.end)?;
-            found.name = Some((start, name_at(aml, start)?));
+            let name = name_at(aml, start)?;
+            found.name = Some((start, name));
+            found.value = Value::after_name(opcode.code, aml.get(name.end..end).unwrap_or(&[]));
         }
-        Rest::Named => found.name = Some(name_in(aml, opcode.end)?),
+        Rest::Method => {
+            let (start, name) = name_in(aml, opcode.end)?;
+            found.name = Some((start, name));
+            found.value = Value::after_name(opcode.code, aml.get(name.end..end).unwrap_or(&[]));
+        }
+        Rest::Units(before) => {
+            let (start, name) = name_in(aml, opcode.end)?;
+            found.name = Some((start, name));
+            found.units = parts_end(before, aml, name.end).ok();
+        }
         Rest::Entered(before) => {
             let (start, name) = name_in(aml, opcode.end)?;
             found.name = Some((start, name));
@@ -175,6 +205,7 @@ fn found_at(aml: &[u8], at: usize) -> Result<Found, AmlError>
 /// The name that the block begins with whose PkgLength is at an offset, and where it is.
 fn name_in(aml: &[u8], at: usize) -> Result<(usize, Name), AmlError>
     requires { at ≤ length aml.now }
+    ensures { IfOk result (λ found. found.1.end ≤ length aml.now) }
 {
     let block = block_at(aml, at)?;
     Ok((block.start, name_at(&aml[..block.end], block.start)?))
@@ -257,14 +288,15 @@ fn show_object<S: ShowObjects>(
         _ => table,
     };
     let found = found_at(aml, at)?;
-    let mut object = Object {
-        offset: at as u64,
-        length: (found.end - at) as u64,
-        kind: found.kind,
-        path: None,
-    };
+    let (offset, length) = (at as u64, (found.end - at) as u64);
     let Some((start, name)) = &found.name else {
-        show.object(&object);
+        show.object(&Object {
+            offset,
+            length,
+            kind: found.kind,
+            path: None,
+            value: Value::Hidden,
+        });
         return Ok(found.end);
     };
     let start = scopes.add_path(aml, *start, name)?;
@@ -272,8 +304,13 @@ fn show_object<S: ShowObjects>(
     if scopes.open.len() >= DEEPEST || path.len() > 4 * DEEPEST {
         return Err(Ends::Deep(at));
     }
-    object.path = Some(path);
-    show.object(&object);
+    show.object(&Object {
+        offset,
+        length,
+        kind: found.kind,
+        path: Some(path),
+        value: found.value,
+    });
     match found.inner {
         Some(inner) if at < inner && inner < found.end => {
             scopes.enter(Scope {
@@ -284,9 +321,43 @@ fn show_object<S: ShowObjects>(
         }
         _ => {
             scopes.letters.truncate(start);
+            if let Some(units) = found.units {
+                show_units(aml.get(..found.end).unwrap_or(aml), units, scopes, show)?;
+            }
             Ok(found.end)
         }
     }
+}
+
+/// Shows the units of a field that have names, from an offset up to the end of the AML, or to one that isn't understood.
+///
+/// Fails if memory runs out.
+fn show_units<S: ShowObjects>(
+    aml: &[u8],
+    start: usize,
+    scopes: &mut Scopes,
+    show: &mut S,
+) -> Result<(), AllocError> {
+    let (mut at, mut bit): (usize, u64) = (start, 0);
+    'units: while at < aml.len() {
+        let Ok(unit) = unit_at(aml, at) else {
+            return Ok(());
+        };
+        if let Some(name) = &unit.name {
+            let first = scopes.add_path(aml, at, name)?;
+            show.object(&Object {
+                offset: at as u64,
+                length: (unit.end - at) as u64,
+                kind: "FieldUnit",
+                path: scopes.letters.get(first..),
+                value: Value::Bits(bit, unit.bits),
+            });
+            scopes.letters.truncate(first);
+        }
+        bit = bit.saturating_add(unit.bits);
+        at = unit.end;
+    }
+    Ok(())
 }
 
 /// Shows the objects of a table from an offset on, up to one that isn't understood.

@@ -59,6 +59,11 @@ pub(crate) fn print_spaces(column: usize, out: &mut Out) {
 /// Prints the path of an object of AML, whose segments have four letters each.
 pub fn print_path(segments: &[u8], out: &mut Out) {
     out.text("\\");
+    print_segments(segments, out)
+}
+
+/// Prints segments of four letters each.
+pub(crate) fn print_segments(segments: &[u8], out: &mut Out) {
     let mut is_first = true;
     for segment in segments.chunks(4) {
         if !is_first {
@@ -280,14 +285,23 @@ fn print_guid(value: &[u8], names: &'static str, out: &mut Out) {
         return;
     }
     let start = out.length().saturating_add(2);
+    out.text("  ");
+    print_guid_digits(value, out);
+    print_name(name_in(names, out.since(start)), out)
+}
+
+/// Prints the 16 bytes of a GUID.
+pub(crate) fn print_guid_digits(value: &[u8], out: &mut Out) {
+    if value.len() != 16 {
+        return;
+    }
     let first = field(value, 0, 4);
     let second = field(value, 4, 2);
     let third = field(value, 6, 2);
-    write!(out, "  {first:08x}-{second:04x}-{third:04x}-");
+    write!(out, "{first:08x}-{second:04x}-{third:04x}-");
     print_hex(&value[8..10], out);
     out.text("-");
-    print_hex(&value[10..], out);
-    print_name(name_in(names, out.since(start)), out)
+    print_hex(&value[10..], out)
 }
 
 /// The name of the item that begins with a word, or no letters if none does.

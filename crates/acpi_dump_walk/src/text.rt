@@ -1,6 +1,6 @@
 //! A table as lines of text.
 
-use crate::aml::{Ends, Object};
+use crate::aml::{Ends, Object, Value};
 use crate::fault::Fault;
 use crate::fields::{print_bytes, print_field, print_path, print_spaces};
 use crate::out::Out;
@@ -50,7 +50,14 @@ impl ShowObjects for Text<'_> {
             print_path(path, out);
         }
         print_spaces(out.since(start).len(), out);
-        out.words("  % bytes\n", &[object.length])
+        out.words("  % bytes", &[object.length]);
+        if !matches!(object.value, Value::Hidden) {
+            out.text("  ");
+            object
+                .value
+                .print(object.path.unwrap_or(&[]), "\n            ", out);
+        }
+        out.text("\n")
     }
 
     fn ends(&mut self, _offset: u64, why: Ends) {
