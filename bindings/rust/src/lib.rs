@@ -16,6 +16,7 @@ pub mod gtdt;
 pub mod hpet;
 pub mod iommu;
 pub mod list;
+mod listed;
 pub mod madt;
 mod mapper;
 mod mapping;

@@ -35,6 +35,11 @@ impl<'k> Region<'k> {
         Region { address, bytes: bytes.as_ptr(), length, lent: PhantomData }
     }
 
+    /// The same bytes, at another physical address.
+    pub(crate) const fn at(self, address: u64) -> Self {
+        Region { address, ..self }
+    }
+
     /// The physical address of its first byte.
     pub const fn address(&self) -> u64 {
         self.address
