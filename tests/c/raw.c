@@ -1,7 +1,8 @@
 /* raw: the inlines over bytes. Whether zacpi_wake_processor writes a mailbox as it has to, byte by byte, without a
- * firmware and with one, which is another process over the same memory; the lengths of a HEST's structures; what the
- * structs of an RHCT have of one that was written; and a table that is changed in place. */
-#define _DEFAULT_SOURCE
+ * firmware and with one, which is another process over the same memory; which accesses it makes, in which order; the
+ * lengths of a HEST's structures; what the structs of an RHCT have of one that was written; and a table that is changed
+ * in place. */
+#define _GNU_SOURCE
 #include "zacpi.h"
 #include "zacpi_tables.h"
 #include <stdio.h>
@@ -58,6 +59,85 @@ static void wakes(uint8_t *bytes) {
     EXPECT(waitpid(firmware, &status, 0) == firmware && status == 0);
     EXPECT(is_left(bytes, 0));
 }
+
+/* A mailbox without access, on Linux for x86-64: each access faults, and the instruction is run alone then, between two
+ * changes of the page's protection. The firmware takes the command right before one of the reads. */
+#if defined(__linux__) && defined(__x86_64__)
+#include <signal.h>
+#include <ucontext.h>
+enum { IS_WRITE = 2, STEP = 0x100, MOST_ACCESSES = 16 };
+struct access {
+    int is_write;
+    size_t offset;
+    uint8_t after[16];
+};
+/* What the handlers write is read anew each time. */
+static struct access kept[MOST_ACCESSES], *volatile accesses = kept;
+static uint8_t *watched;
+static volatile size_t accesses_made, reads_made, read_taken;
+
+static void before_access(int number, siginfo_t *info, void *context) {
+    greg_t *const registers = ((ucontext_t *)context)->uc_mcontext.gregs;
+    struct access *const access = &accesses[accesses_made];
+    (void)number;
+    access->offset = (size_t)((uint8_t *)info->si_addr - watched);
+    access->is_write = (registers[REG_ERR] & IS_WRITE) != 0;
+    if (access->offset >= SIZE || accesses_made == MOST_ACCESSES - 1) _exit(2);
+    mprotect(watched, SIZE, PROT_READ | PROT_WRITE);
+    if (!access->is_write && ++reads_made == read_taken) watched[0] = 0;
+    registers[REG_EFL] |= STEP;
+}
+static void after_access(int number, siginfo_t *info, void *context) {
+    (void)number;
+    (void)info;
+    memcpy(accesses[accesses_made++].after, watched, 16);
+    mprotect(watched, SIZE, PROT_NONE);
+    ((ucontext_t *)context)->uc_mcontext.gregs[REG_EFL] &= ~STEP;
+}
+/* What is returned if the firmware takes the command at this read, of `most`, after so many accesses. */
+static void wakes_in_order(uint64_t most, size_t taken, int is_woken, size_t reads) {
+    static const size_t offsets[] = {0, 4, 8, 0}; /* Command, ApicId, WakeupVector, Command */
+    size_t i;
+    int woken;
+    accesses_made = 0, reads_made = 0, read_taken = taken;
+    mprotect(watched, SIZE, PROT_NONE);
+    woken = zacpi_wake_processor((volatile struct zacpi_raw_mailbox *)watched, id, vector, most);
+    mprotect(watched, SIZE, PROT_READ | PROT_WRITE);
+    EXPECT(woken == is_woken && accesses_made == 4 + reads);
+    for (i = 0; i < accesses_made; i++)
+        EXPECT(accesses[i].is_write == (i < 4) && accesses[i].offset == (i < 4 ? offsets[i] : 0));
+    EXPECT(accesses[0].after[0] == 0 && accesses[0].after[1] == 0 && accesses[0].after[4] == 0xa5);
+    EXPECT(!memcmp(accesses[1].after + 4, written + 4, 4) && accesses[1].after[0] == 0 && accesses[1].after[8] == 0xa5);
+    EXPECT(!memcmp(accesses[2].after + 4, written + 4, 12) && accesses[2].after[0] == 0);
+    EXPECT(!memcmp(accesses[3].after, written, 16));
+}
+static void wakes_by_a_script(uint8_t *bytes) {
+    static const struct {
+        uint64_t most;
+        size_t taken, reads;
+        int is_woken;
+    } rows[] = {{5, 1, 1, 1}, {5, 5, 5, 1}, {5, 6, 5, 0}, {1, 0, 1, 0}, {0, 1, 0, 0}};
+    struct sigaction before = {0}, after = {0};
+    uint8_t command;
+    size_t i;
+    before.sa_sigaction = before_access, after.sa_sigaction = after_access;
+    before.sa_flags = after.sa_flags = SA_SIGINFO;
+    sigaction(SIGSEGV, &before, NULL);
+    sigaction(SIGTRAP, &after, NULL);
+    watched = bytes;
+    /* A mailbox that is free, and one in which another processor's command is left. */
+    for (command = 0; command < 2; command++)
+        for (i = 0; i < sizeof rows / sizeof *rows; i++) {
+            memset(bytes, 0xa5, SIZE);
+            bytes[0] = command, bytes[1] = 0;
+            wakes_in_order(rows[i].most, rows[i].taken, rows[i].is_woken, rows[i].reads);
+        }
+    signal(SIGSEGV, SIG_DFL);
+    signal(SIGTRAP, SIG_DFL);
+}
+#else
+static void wakes_by_a_script(uint8_t *bytes) { (void)bytes; }
+#endif
 
 /* After the count, at 36, of four structures (section 18.3.2): type 2, NMI, of 20 bytes; type 0 with two banks, at 32,
  * of 40 and 28 bytes each; type 9 of 64; and type 3, which is reserved, with 5 bytes left. */
@@ -126,6 +206,7 @@ int main(void) {
     if (bytes == MAP_FAILED) return 1;
     wakes_nobody(bytes);
     wakes(bytes);
+    wakes_by_a_script(bytes);
     walks_a_hest();
     reads_an_rhct();
     sums_bytes();
