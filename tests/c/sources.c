@@ -146,9 +146,9 @@ static void ends_below_the_top(void) {
  * share bytes with the table at 0x2035. The file would touch the table at 0x1034, then one that ends at 0x1000 and one
  * at 0x2034. An empty file has a page of its own, and no header. */
 static void places_files(void) {
-    static const uint8_t letters[3] = {'D', 'S', 'D'};
+    static const uint8_t letters[3] = {'D', 'S', 'D'}, name[4] = {'F', 'A', 'C', 'P'};
     static uint8_t low[52], high[52], file[52], ssdt[36], large[0x1800];
-    struct zacpi_member members[3];
+    struct zacpi_member members[4];
     size_t count;
     madt(low, 1), madt(high, 2), madt(file, 3), head(ssdt, "SSDT", 36, 2);
     put(0, 0, file, 52), put(1, 0x2000 - 53, low, 52), put(2, 0x2035, high, 52);
@@ -162,8 +162,8 @@ static void places_files(void) {
     EXPECT(!make(3) && is_region(1, 0x2000, file, 52) && is_region(2, 0x3000, large, 0x1800));
     put(0, 0x4000, low, 52), put(1, 0, file, 52), put(2, 0, large, 0x1800);
     EXPECT(!make(3) && is_region(0, 0x1000, file, 52) && is_region(1, 0x2000, large, 0x1800));
-    put(0, 0, file, 0), put(1, 0, ssdt, 36), put(2, 0, letters, 3);
-    EXPECT(!make(3) && !zacpi_list_members(&source, members, 3, &count, NULL) && count == 3);
+    put(0, 0, file, 0), put(1, 0, ssdt, 36), put(2, 0, letters, 3), put(3, 0, name, 4);
+    EXPECT(!make(4) && !zacpi_list_members(&source, members, 4, &count, NULL) && count == 4);
     EXPECT(members[0].status == ZACPI_MAP_FAILED && members[1].table.address == 0x2000 && !members[1].status &&
            members[2].status == ZACPI_MAP_FAILED && members[2].table.address == 0x3000);
 }
@@ -213,14 +213,16 @@ static void finds_by_the_fadt(void) {
     fadt_of(116, 1, 0x70, 0x60), put_machine(0), regions[2].address = 0x8000;
     EXPECT(!make(4) && is_region(4, 0x8000, dsdt, 37) && tables() == 2);
 }
-/* A FADT that is too short, or shorter than its Length, points to nothing; after the former comes the next. */
+/* FADTs of 115 bytes, of a Length of 115 and of a byte less than their Length point to nothing: the next one does. */
 static void takes_a_whole_fadt(void) {
     static uint8_t whole[116];
     fadt_of(116, 1, 0x70, 0x60), memcpy(whole, fadt, 116);
-    fadt_of(115, 1, 0x90, 0x80), put_machine(0), put(1, 0, fadt, 115), put(3, 0, whole, 116);
+    fadt_of(116, 1, 0x90, 0x80), put_machine(0), put(1, 0, fadt, 115), put(3, 0, whole, 116);
     EXPECT(!make(4) && dsdt_at() == 0x6000);
-    fadt_of(244, 3, 0x90, 0x80), put_machine(0), regions[3].length = 243;
-    EXPECT(!make(4) && is_region(2, 0x3000, dsdt, 37));
+    fadt_of(115, 1, 0x90, 0x80), put_machine(0), put(1, 0, fadt, 116), put(3, 0, whole, 116);
+    EXPECT(!make(4) && dsdt_at() == 0x6000);
+    fadt_of(244, 3, 0x90, 0x80), put_machine(0), put(1, 0, fadt, 243), put(3, 0, whole, 116);
+    EXPECT(!make(4) && dsdt_at() == 0x6000);
 }
 
 int main(void) {

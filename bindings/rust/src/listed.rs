@@ -114,11 +114,15 @@ fn free_address(tables: &[Region<'_>], from: u64, length: usize) -> AcpiResult<u
     Err(AcpiError::RegionTooHigh)
 }
 
-/// Puts a DSDT and a FACS that have no address where the first FADT points to, if no other table is there.
+/// The bytes that Length of a FADT counts, if they are there and at least 116.
+fn whole_fadt<'k>(table: &Region<'k>) -> Option<&'k [u8]> {
+    let bytes = table.slice(0, table.length()).filter(|_| begins_with(table, b"FACP"))?;
+    bytes.get(..number(bytes, 4, 4) as usize).filter(|fadt| fadt.len() >= 116)
+}
+
+/// Puts a DSDT and a FACS that have no address where the first whole FADT points to, if no other table is there.
 fn place_by_fadt(tables: &mut [Region<'_>]) {
-    let is_fadt = |table: &&Region<'_>| begins_with(table, b"FACP") && table.length() >= 116;
-    let Some(bytes) = tables.iter().find(is_fadt).and_then(|fadt| fadt.slice(0, fadt.length())) else { return };
-    let Some(fadt) = bytes.get(..number(bytes, 4, 4) as usize) else { return };
+    let Some(fadt) = tables.iter().find_map(whole_fadt) else { return };
     for index in 0..tables.len() {
         let table = tables[index];
         let address = match table.slice(0, 4) {

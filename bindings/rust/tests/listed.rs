@@ -168,11 +168,16 @@ fn finds_by_the_fadt() {
     let top: Vec<_> = (140..148).map(|at| (at, 0xff)).collect();
     assert_eq!(run(&table("FACP", 3, 244, &top), 0, 0), (52, None, None, 0x3000));
     assert_eq!(run(&table("FACP", 1, 116, &[]), 0, 0).3, 0x3000);
-    // The caller's own addresses stay, and a FADT that is shorter than its Length points to nothing.
+    // The caller's own addresses stay.
     assert_eq!(run(&first, 0x8000, 0).3, 0x8000);
-    assert_eq!(run(&table("FACP", 3, 244, &wide)[..243], 0, 0).3, 0x3000);
-    // After a FADT that is too short comes the next.
-    let short = table("FACP", 1, 115, &[(37, 0x90), (41, 0x80)]);
-    let given = [(0, &short[..]), (0, &dsdt[..]), (0, &first[..])];
-    assert_eq!(of(&given, |tables| tables.dsdt().map(|aml| aml.table_address)), Ok(Ok(0x6000)));
+    // FADTs of 115 bytes, of a Length of 115 and of a byte less than their Length point to nothing: the next one does.
+    let mut short = table("FACP", 1, 116, &[(37, 0x90), (41, 0x80)]);
+    let next = |short: &[u8]| {
+        let given = [(0, short), (0, &dsdt[..]), (0, &first[..])];
+        of(&given, |tables| tables.dsdt().map(|aml| aml.table_address))
+    };
+    assert_eq!(next(&short[..115]), Ok(Ok(0x6000)));
+    short[4] = 115;
+    assert_eq!(next(&short), Ok(Ok(0x6000)));
+    assert_eq!(next(&table("FACP", 3, 244, &wide)[..243]), Ok(Ok(0x6000)));
 }
