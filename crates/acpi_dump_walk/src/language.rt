@@ -189,7 +189,7 @@ pub(crate) fn choice_of(number: u64, word: &str) -> Option<bool> {
 }
 
 /// Whether a number is as a word of `if` says.
-pub(crate) fn is_chosen(number: u64, word: &str) -> bool {
+pub fn is_chosen(number: u64, word: &str) -> bool {
     choice_of(number, word) == Some(true)
 }
 

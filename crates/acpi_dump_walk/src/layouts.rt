@@ -17,26 +17,28 @@ use crate::language::{Block, Blocks};
 use acpi::sdt::Signature;
 pub(crate) use roots::HEADER;
 
-/// The texts of layouts.
-const TEXTS: [&str; 17] = [
-    roots::ROOTS,
-    interrupts::MADT,
-    interrupts::GTDT,
-    localities::LOCALITIES,
-    devices::PORTS,
-    devices::TIMERS,
-    boot::BOOT,
-    errors::ERRORS,
-    iommu::DMAR,
-    iommu::IVRS,
-    iommu::IORT,
-    memory::MEMORY,
-    memory::NFIT,
-    trust::TRUST,
-    processors::PROCESSORS,
-    processors::MACHINES,
-    management::MANAGEMENT,
-];
+/// The texts of layouts. A function returns them, so that a proof that goes over them doesn't go over their letters.
+fn texts() -> [&'static str; 17] {
+    [
+        roots::ROOTS,
+        interrupts::MADT,
+        interrupts::GTDT,
+        localities::LOCALITIES,
+        devices::PORTS,
+        devices::TIMERS,
+        boot::BOOT,
+        errors::ERRORS,
+        iommu::DMAR,
+        iommu::IVRS,
+        iommu::IORT,
+        memory::MEMORY,
+        memory::NFIT,
+        trust::TRUST,
+        processors::PROCESSORS,
+        processors::MACHINES,
+        management::MANAGEMENT,
+    ]
+}
 
 /// What tables without a layout are called.
 const TITLES: [(&str, &str); 4] = [
@@ -60,7 +62,7 @@ pub fn title_of(signature: Signature) -> &'static str {
 /// the header: none if no text has it. A FACS has no header: these are then all of its lines.
 pub(crate) fn layout_of(signature: Signature) -> (Blocks, Block) {
     let name = signature.as_str().unwrap_or("");
-    for text in &TEXTS {
+    for text in &texts() {
         let blocks = Blocks::read(*text);
         if let Some(block) = blocks.find(name, None) {
             return (blocks, block);

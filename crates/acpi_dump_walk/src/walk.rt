@@ -245,16 +245,22 @@ fn split(bytes: &[u8], place: usize) -> (&[u8], &[u8])
 ///
 /// Fails if a word isn't understood.
 fn chosen_lines(piece: Piece<'_>, word: &str, rest: &'static str) -> Result<&'static str, Fault> {
-    let mut name = rest;
-    if word == "if" {
-        let (place, rest) = next_word(rest);
-        let (range, rest) = next_word(rest);
-        let sum = sum_of(place, piece.bytes);
-        sum.size()?;
-        if !choice_of(sum.number, range).ok_or(Fault::Unread(range))? {
-            return Ok("");
-        }
-        name = rest;
+    if word != "if" {
+        return Ok(piece.blocks.named(rest)?.lines);
     }
-    Ok(piece.blocks.named(name)?.lines)
+    let (place, rest) = next_word(rest);
+    let (choice, name) = next_word(rest);
+    if is_met(piece, place, choice)? {
+        Ok(piece.blocks.named(name)?.lines)
+    } else {
+        Ok("")
+    }
+}
+
+/// Whether the number at a place of a structure meets a choice.
+///
+/// Fails if a word isn't understood.
+fn is_met(piece: Piece<'_>, place: &'static str, choice: &'static str) -> Result<bool, Fault> {
+    let number = sum_of(place, piece.bytes).size()?;
+    choice_of(number as u64, choice).ok_or(Fault::Unread(choice))
 }

@@ -22,11 +22,11 @@ pub(crate) const BOOT: &str = "
 2 1 dec Record Length
 3 1 - Revision
 
-= FPDT-record 0 - Firmware Basic Boot Performance Pointer Record
+= FPDT-record 0 16 Firmware Basic Boot Performance Pointer Record
 4 4 - Reserved
 8 8 - FBPT Pointer
 
-= FPDT-record 1 - S3 Performance Table Pointer Record
+= FPDT-record 1 16 S3 Performance Table Pointer Record
 4 4 - Reserved
 8 8 - S3PT Pointer
 
@@ -40,12 +40,12 @@ pub(crate) const BOOT: &str = "
 2 1 dec Record Length
 3 1 - Revision
 
-= S3PT-record 0 - Basic S3 Resume Performance Record
+= S3PT-record 0 24 Basic S3 Resume Performance Record
 4 4 dec Resume Count
 8 8 dec FullResume
 16 8 dec AverageResume
 
-= S3PT-record 1 - Basic S3 Suspend Performance Record
+= S3PT-record 1 20 Basic S3 Suspend Performance Record
 4 8 dec SuspendStart
 12 8 dec SuspendEnd
 
@@ -59,7 +59,7 @@ pub(crate) const BOOT: &str = "
 2 1 dec Record Length
 3 1 - Revision
 
-= FBPT-record 2 - Firmware Basic Boot Performance Data Record
+= FBPT-record 2 48 Firmware Basic Boot Performance Data Record
 4 4 - Reserved
 8 8 dec Reset End
 16 8 dec OS Loader LoadImage Start
@@ -119,7 +119,7 @@ pub(crate) const BOOT: &str = "
 2 2 dec Record Length
 4 1 - Revision
 
-= PHAT-record 0 - Firmware Version Data Record
+= PHAT-record 0 12 Firmware Version Data Record
 5 3 - Reserved
 8 4 dec Record Count
 12 {8:4} each 28 PHAT-version
@@ -129,7 +129,7 @@ pub(crate) const BOOT: &str = "
 16 8 - Version Value
 24 4 text Producer ID
 
-= PHAT-record 1 - Firmware Health Data Record
+= PHAT-record 1 28 Firmware Health Data Record
 5 2 - Reserved
 7 1 codes AmHealthy | 0 Errors found | 1 No errors found | 2 Unknown | 3 Advisory
 8 16 guid Device Signature
@@ -150,7 +150,7 @@ if 24:4 1-0xffffffff PHAT-data
 56 4 dec PRM Module Info Count
 52:4 {56:4} own 2:2 PRMT-module
 
-= PRMT-module * - PRM Module Information Structure
+= PRMT-module * 38 PRM Module Information Structure
 0 2 - Structure Revision
 2 2 dec Structure Length
 4 16 guid Identifier
@@ -161,7 +161,7 @@ if 24:4 1-0xffffffff PHAT-data
 30 8 - Module MMIO Runtime Ranges Pointer
 26:4 {24:2} own 2:2 PRMT-handler
 
-= PRMT-handler * - PRM Handler Information Structure
+= PRMT-handler * 44 PRM Handler Information Structure
 0 2 - Structure Revision
 2 2 dec Structure Length
 4 16 guid Identifier

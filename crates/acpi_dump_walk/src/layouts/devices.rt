@@ -69,7 +69,7 @@ pub(crate) const PORTS: &str = "
 40 4 dec NumberDbgDeviceInfo
 36:4 {40:4} own 1:2 DBG2-device
 
-= DBG2-device * - Debug Device Information
+= DBG2-device * 22 Debug Device Information
 0 1 - Revision
 1 2 dec Length
 3 1 dec NumberofGenericAddressRegisters

@@ -14,7 +14,7 @@ pub(crate) const ERRORS: &str = "
 0 1 - Type
 1 1 dec Length
 
-= CPEP-entry 0 - Corrected Platform Error Polling Processor Structure
+= CPEP-entry 0 8 Corrected Platform Error Polling Processor Structure
 2 1 dec Processor ID
 3 1 dec Processor EID
 4 4 dec Polling Interval

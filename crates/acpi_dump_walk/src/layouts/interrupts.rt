@@ -279,7 +279,7 @@ if 92:4 104-0xffffffff virtual-el2
 1 2 dec Length
 3 1 - Reserved
 
-= GTDT-structure 0 - GT Block
+= GTDT-structure 0 20 GT Block
 4 8 - GT Block Physical address
 12 4 dec GT Block Timer Count
 16 4 dec GT Block Timer Offset
@@ -302,7 +302,7 @@ if 92:4 104-0xffffffff virtual-el2
 2 active low, level-triggered
 3 active low, edge-triggered
 
-= GTDT-structure 1 - Arm Generic Watchdog
+= GTDT-structure 1 28 Arm Generic Watchdog
 4 8 - RefreshFrame Physical Address
 12 8 - WatchdogControlFrame Physical Address
 20 4 dec Watchdog Timer GSIV

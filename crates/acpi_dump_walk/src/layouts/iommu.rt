@@ -12,43 +12,43 @@ pub(crate) const DMAR: &str = "
 0 2 - Type
 2 2 dec Length
 
-= DMAR-structure 0 - DMA Remapping Hardware Unit Definition (DRHD)
+= DMAR-structure 0 16 DMA Remapping Hardware Unit Definition (DRHD)
 4 1 flags Flags | 0 INCLUDE_PCI_ALL
 5 1 - Size
 6 2 dec Segment Number
 8 8 - Register Base Address
 16 {*} typed 0:1 1:1 DMAR-scope
 
-= DMAR-structure 1 - Reserved Memory Region Reporting (RMRR)
+= DMAR-structure 1 24 Reserved Memory Region Reporting (RMRR)
 4 2 - Reserved
 6 2 dec Segment Number
 8 8 - Reserved Memory Region Base Address
 16 8 - Reserved Memory Region Limit Address
 24 {*} typed 0:1 1:1 DMAR-scope
 
-= DMAR-structure 2 - Root Port ATS Capability Reporting (ATSR)
+= DMAR-structure 2 8 Root Port ATS Capability Reporting (ATSR)
 4 1 flags Flags | 0 ALL_PORTS
 5 1 - Reserved
 6 2 dec Segment Number
 8 {*} typed 0:1 1:1 DMAR-scope
 
-= DMAR-structure 3 - Remapping Hardware Static Affinity (RHSA)
+= DMAR-structure 3 20 Remapping Hardware Static Affinity (RHSA)
 4 4 - Reserved
 8 8 - Register Base Address
 16 4 dec Proximity Domain
 
-= DMAR-structure 4 - ACPI Name-space Device Declaration (ANDD)
+= DMAR-structure 4 8 ACPI Name-space Device Declaration (ANDD)
 4 3 - Reserved
 7 1 dec ACPI Device Number
 8 * text ACPI Object Name
 
-= DMAR-structure 5 - SoC Integrated Address Translation Cache (SATC)
+= DMAR-structure 5 8 SoC Integrated Address Translation Cache (SATC)
 4 1 flags Flags | 0 ATC_REQUIRED
 5 1 - Reserved
 6 2 dec Segment Number
 8 {*} typed 0:1 1:1 DMAR-scope
 
-= DMAR-structure 6 - SoC Integrated Device Property (SIDP)
+= DMAR-structure 6 8 SoC Integrated Device Property (SIDP)
 4 2 - Reserved
 6 2 dec Segment Number
 8 {*} typed 0:1 1:1 DMAR-scope
@@ -61,15 +61,15 @@ pub(crate) const DMAR: &str = "
 5 1 dec Start Bus Number
 6 2[*] path Path
 
-= DMAR-scope 1 - PCI Endpoint Device
+= DMAR-scope 1 6 PCI Endpoint Device
 
-= DMAR-scope 2 - PCI Sub-hierarchy
+= DMAR-scope 2 6 PCI Sub-hierarchy
 
-= DMAR-scope 3 - IOAPIC
+= DMAR-scope 3 6 IOAPIC
 
-= DMAR-scope 4 - MSI_CAPABLE_HPET
+= DMAR-scope 4 6 MSI_CAPABLE_HPET
 
-= DMAR-scope 5 - ACPI_NAMESPACE_DEVICE
+= DMAR-scope 5 6 ACPI_NAMESPACE_DEVICE
 ";
 
 /// The IVRS (AMD I/O Virtualization Technology (IOMMU) Specification 3.08, section 5.2).
@@ -82,20 +82,20 @@ pub(crate) const IVRS: &str = "
 = IVRS-block * - what each block begins with
 0 1 - Type
 
-= IVRS-block 0x10 - I/O Virtualization Hardware Definition (IVHD)
+= IVRS-block 0x10 24 I/O Virtualization Hardware Definition (IVHD)
 1 1 flags Flags | 0 HtTunEn | 1 PassPW | 2 ResPassPW | 3 Isoc | 4 IotlbSup | 5 Coherent | 6 PreFSup | 7 PPRSup
 with IVHD
 20 4 flags IOMMU Feature Reporting | 0 XTSup | 1 NXSup | 2 GTSup | 4:3 GLXSup | 5 IASup | 6 GASup | 7 HESup \
     | 12:8 PASmax | 16:13 PNCounters | 22:17 PNBanks | 27:23 MsiNumPPR | 29:28 GATS | 31:30 HATS
 24 {*} sized 0:1 IVHD-entry
 
-= IVRS-block 0x11 - I/O Virtualization Hardware Definition (IVHD)
+= IVRS-block 0x11 40 I/O Virtualization Hardware Definition (IVHD)
 1 1 flags Flags | 0 HtTunEn | 1 PassPW | 2 ResPassPW | 3 Isoc | 4 IotlbSup | 5 Coherent
 with IVHD
 with IVHD-register
 40 {*} sized 0:1 IVHD-entry
 
-= IVRS-block 0x40 - I/O Virtualization Hardware Definition (IVHD)
+= IVRS-block 0x40 40 I/O Virtualization Hardware Definition (IVHD)
 1 1 flags Flags | 0 HtTunEn | 1 PassPW | 2 ResPassPW | 3 Isoc | 4 IotlbSup | 5 Coherent
 with IVHD
 with IVHD-register
@@ -192,13 +192,13 @@ with IVHD-device
 
 = IVHD-entry 0xc0-0xef 32 reserved, of 32 bytes
 
-= IVRS-block 0x20 - I/O Virtualization Memory Definition (IVMD), all peripherals
+= IVRS-block 0x20 32 I/O Virtualization Memory Definition (IVMD), all peripherals
 with IVMD
 
-= IVRS-block 0x21 - I/O Virtualization Memory Definition (IVMD), specified peripheral
+= IVRS-block 0x21 32 I/O Virtualization Memory Definition (IVMD), specified peripheral
 with IVMD
 
-= IVRS-block 0x22 - I/O Virtualization Memory Definition (IVMD), peripheral range
+= IVRS-block 0x22 32 I/O Virtualization Memory Definition (IVMD), peripheral range
 with IVMD
 
 = IVMD * - what each IVMD has
@@ -246,12 +246,12 @@ pub(crate) const IORT: &str = "
 7 1 flags MAF: Memory Access Flags | 0 CPM: coherent path to memory \
     | 1 DACS: device attributes are cacheable and inner shareable | 2 CANWBS
 
-= IORT-node 0 - ITS Group
+= IORT-node 0 20 ITS Group
 16 4 dec Number of ITSs
 20 4[16:4] dec GIC ITS Identifier
 with IORT-mappings
 
-= IORT-node 1 - Named component
+= IORT-node 1 29 Named component
 16 4 flags Node Flags | 0 Stall Supported | 5:1 SubstreamID width
 then IORT-memory-access
 28 1 dec Device memory address size limit
@@ -259,7 +259,7 @@ then IORT-memory-access
 > <12:4 - Padding
 with IORT-mappings
 
-= IORT-node 2 - Root complex
+= IORT-node 2 32 Root complex
 if 0:1 2 IORT-memory-access-16
 24 4 flags ATS attribute | 0 ATS Supported | 1 PRI Supported | 2 PASID forwarding supported
 28 4 dec PCI Segment number
@@ -282,7 +282,7 @@ then IORT-memory-access
 = IORT-root-complex-4 * - since revision 4
 36 4 - Flags
 
-= IORT-node 3 - SMMUv1 or SMMUv2
+= IORT-node 3 60 SMMUv1 or SMMUv2
 16 8 - Base address
 24 8 - Span
 32 4 codes Model | 0 Generic SMMUv1 | 1 Generic SMMUv2 | 2 Arm Corelink MMU-400 | 3 Arm Corelink MMU-500 \
@@ -304,7 +304,7 @@ with IORT-mappings
 8 4 dec SMMU_NSgCfgIrpt
 12 4 codes SMMU_NSgCfgIrpt interrupt flags | 0 level-triggered | 1 edge-triggered
 
-= IORT-node 4 - SMMUv3
+= IORT-node 4 60 SMMUv3
 16 8 - Base Address
 24 4 flags Flags | 0 COHACC Override | 2:1 HTTU Override | 3 Proximity Domain Valid | 4 DeviceID mapping index valid
 28 4 - Reserved
@@ -318,14 +318,14 @@ with IORT-mappings
 64 4 dec DeviceID mapping index
 with IORT-mappings
 
-= IORT-node 5 - PMCG
+= IORT-node 5 32 PMCG
 16 8 - Page 0 Base Address
 24 4 dec Overflow Interrupt GSIV
 28 4 - Node reference
 32 8 - Page 1 Base Address
 with IORT-mappings
 
-= IORT-node 6 - Reserved Memory Range (RMR)
+= IORT-node 6 28 Reserved Memory Range (RMR)
 16 4 flags Flags | 0 Remapping permitted | 1 Access privileged | 9:2 Access attributes
 20 4 dec Number of Memory Range Descriptors
 24 4 - Reference to Memory Range Descriptor Array
@@ -348,7 +348,7 @@ with IORT-mappings
 1 1 - Reserved
 2 2 dec Length
 
-= VIOT-node 1 - PCI Range
+= VIOT-node 1 24 PCI Range
 4 4 - Endpoint start
 8 2 dec PCI Segment start
 10 2 dec PCI Segment end
@@ -357,18 +357,18 @@ with IORT-mappings
 16 2 dec Output node
 18 6 - Reserved
 
-= VIOT-node 2 - Single MMIO endpoint
+= VIOT-node 2 24 Single MMIO endpoint
 4 4 - Endpoint ID
 8 8 - Base address
 16 2 dec Output node
 18 6 - Reserved
 
-= VIOT-node 3 - virtio-iommu based on virtio-pci
+= VIOT-node 3 16 virtio-iommu based on virtio-pci
 4 2 dec PCI Segment
 6 2 fn PCI BDF number
 8 8 - Reserved
 
-= VIOT-node 4 - virtio-iommu based on virtio-mmio
+= VIOT-node 4 16 virtio-iommu based on virtio-mmio
 4 4 - Reserved
 8 8 - Base address
 ";

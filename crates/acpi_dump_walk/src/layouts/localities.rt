@@ -80,7 +80,7 @@ then SRAT-device
 48 8 - Maximum Physical Address
 36:4 {*} own 1:1 MSCT-domain
 
-= MSCT-domain * - Maximum Proximity Domain Information Structure
+= MSCT-domain * 22 Maximum Proximity Domain Information Structure
 0 1 - Revision
 1 1 dec Length
 2 4 dec Proximity Domain Range (low)
@@ -109,7 +109,7 @@ if 8:1 2-255 HMAT-2
 2 2 - Reserved
 4 4 dec Length
 
-= HMAT-entry-1 0 - Memory Subsystem Address Range Structure
+= HMAT-entry-1 0 40 Memory Subsystem Address Range Structure
 8 2 flags Flags | 0 Processor Proximity Domain field is valid | 1 Memory Proximity Domain field is valid \
     | 2 Reservation hint
 10 2 - Reserved
@@ -119,7 +119,7 @@ if 8:1 2-255 HMAT-2
 24 8 - System Physical Address Range Base
 32 8 - System Physical Address Range Length
 
-= HMAT-entry-1 1 - System Locality Latency and Bandwidth Information Structure
+= HMAT-entry-1 1 32 System Locality Latency and Bandwidth Information Structure
 8 1 flags Flags | @HMAT-hierarchy
 9 1 codes Data Type | @HMAT-data-types
 10 2 - Reserved
@@ -131,7 +131,7 @@ if 8:1 2-255 HMAT-2
 > 4[16:4] dec Target Proximity Domain List
 > 2[12:4*16:4] dec Entry
 
-= HMAT-entry-1 2 - Memory Side Cache Information Structure
+= HMAT-entry-1 2 32 Memory Side Cache Information Structure
 8 4 dec Memory Proximity Domain
 12 4 - Reserved
 16 8 dec Memory Side Cache Size
@@ -167,7 +167,7 @@ if 8:1 2-255 HMAT-2
 15:12/2 Write Through
 31:16 Cache Line size
 
-= HMAT-entry 0 - Memory Proximity Domain Attributes Structure
+= HMAT-entry 0 40 Memory Proximity Domain Attributes Structure
 8 2 flags Flags | 0 Proximity Domain for the Attached Initiator is valid
 10 2 - Reserved
 12 4 dec Proximity Domain for the Attached Initiator
@@ -176,7 +176,7 @@ if 8:1 2-255 HMAT-2
 24 8 - Reserved
 32 8 - Reserved
 
-= HMAT-entry 1 - System Locality Latency and Bandwidth Information Structure
+= HMAT-entry 1 32 System Locality Latency and Bandwidth Information Structure
 8 1 flags Flags | @HMAT-hierarchy
 9 1 codes Data Type | @HMAT-data-types
 10 1 dec MinTransferSize
@@ -189,7 +189,7 @@ if 8:1 2-255 HMAT-2
 > 4[16:4] dec Target Proximity Domain List
 > 2[12:4*16:4] dec Entry
 
-= HMAT-entry 2 - Memory Side Cache Information Structure
+= HMAT-entry 2 32 Memory Side Cache Information Structure
 8 4 dec Memory Proximity Domain
 12 4 - Reserved
 16 8 dec Memory Side Cache Size

@@ -12,10 +12,10 @@ pub(crate) const MANAGEMENT: &str = "
 1 1 - Reserved
 2 2 dec Record Length
 
-= ASF-record 0x00 - ASF_INFO
+= ASF-record 0x00 16 ASF_INFO
 with ASF_INFO
 
-= ASF-record 0x80 - ASF_INFO
+= ASF-record 0x80 16 ASF_INFO
 with ASF_INFO
 
 = ASF_INFO * - ASF_INFO
@@ -26,10 +26,10 @@ with ASF_INFO
 12 1 - Feature Flags
 13 3 - Reserved
 
-= ASF-record 0x01 - ASF_ALRT
+= ASF-record 0x01 8 ASF_ALRT
 with ASF_ALRT
 
-= ASF-record 0x81 - ASF_ALRT
+= ASF-record 0x81 8 ASF_ALRT
 with ASF_ALRT
 
 = ASF_ALRT * - ASF_ALRT
@@ -53,10 +53,10 @@ with ASF_ALRT
 10 1 - Entity
 11 1 - Entity Instance
 
-= ASF-record 0x02 - ASF_RCTL
+= ASF-record 0x02 8 ASF_RCTL
 with ASF_RCTL
 
-= ASF-record 0x82 - ASF_RCTL
+= ASF-record 0x82 8 ASF_RCTL
 with ASF_RCTL
 
 = ASF_RCTL * - ASF_RCTL
@@ -71,10 +71,10 @@ with ASF_RCTL
 2 1 - Control Command
 3 1 - Control Value
 
-= ASF-record 0x03 - ASF_RMCP
+= ASF-record 0x03 23 ASF_RMCP
 with ASF_RMCP
 
-= ASF-record 0x83 - ASF_RMCP
+= ASF-record 0x83 23 ASF_RMCP
 with ASF_RMCP
 
 = ASF_RMCP * - ASF_RMCP
@@ -86,10 +86,10 @@ with ASF_RMCP
 19 2 - RMCP Boot Options
 21 2 - RMCP OEM Parameters
 
-= ASF-record 0x04 - ASF_ADDR
+= ASF-record 0x04 6 ASF_ADDR
 with ASF_ADDR
 
-= ASF-record 0x84 - ASF_ADDR
+= ASF-record 0x84 6 ASF_ADDR
 with ASF_ADDR
 
 = ASF_ADDR * - ASF_ADDR
@@ -151,7 +151,7 @@ if 43:1 &1 SPMI-pci
 37 {36:1} own 0:4 NHLT-endpoint
 > * - OED Config
 
-= NHLT-endpoint * - Endpoint Descriptor
+= NHLT-endpoint * 19 Endpoint Descriptor
 0 4 dec Endpoint Descriptor Length
 4 1 codes Link Type | 0 HD Audio | 1 DSP | 2 PDM | 3 SSP | 4 SlimBus | 5 SoundWire
 5 1 dec Instance ID
@@ -173,7 +173,7 @@ then NHLT-formats
 0 1 dec Formats Count
 1 {0:1} own 44+40:4 NHLT-format
 
-= NHLT-format * - Format Config
+= NHLT-format * 44 Format Config
 0 2 - wFormatTag
 2 2 dec nChannels
 4 4 dec nSamplesPerSec

@@ -11,7 +11,7 @@ pub(crate) const MEMORY: &str = "
 44 {40:2} own 32+2*24:4+2*28:4 MPST-node
 then MPST-characteristics
 
-= MPST-node * - Memory Power Node
+= MPST-node * 32 Memory Power Node
 0 1 flags Flag | 0 Enabled | 1 Power Managed | 2 Hot Pluggable
 1 1 - Reserved
 2 2 dec Memory Power Node Id
@@ -63,12 +63,12 @@ if 8:1 2-255 PMTT-2
 4 2 flags Flags | @PMTT-flags
 6 2 - Reserved
 
-= PMTT-device-1 0 - Socket
+= PMTT-device-1 0 12 Socket
 8 2 dec Socket Identifier
 10 2 - Reserved
 12 {*} typed 0:1 2:2 PMTT-device-1
 
-= PMTT-device-1 1 - Memory Controller
+= PMTT-device-1 1 32 Memory Controller
 8 4 dec Read Latency
 12 4 dec Write latency
 16 4 dec Read Bandwidth
@@ -80,7 +80,7 @@ if 8:1 2-255 PMTT-2
 32 4[30:2] dec Proximity Domain
 > {*} typed 0:1 2:2 PMTT-device-1
 
-= PMTT-device-1 2 - DIMM
+= PMTT-device-1 2 20 DIMM
 8 2 dec Physical Component Identifier
 10 2 - Reserved
 12 4 dec Size of DIMM
@@ -98,20 +98,20 @@ if 8:1 2-255 PMTT-2
 6 2 - Reserved
 8 4 dec Number of Memory Devices
 
-= PMTT-device 0 - Socket
+= PMTT-device 0 16 Socket
 12 2 dec Socket Identifier
 14 2 - Reserved
 16 {*} typed 0:1 2:2 PMTT-device
 
-= PMTT-device 1 - Memory Controller
+= PMTT-device 1 16 Memory Controller
 12 2 dec Memory Controller Identifier
 14 2 - Reserved
 16 {*} typed 0:1 2:2 PMTT-device
 
-= PMTT-device 2 - DIMM
+= PMTT-device 2 16 DIMM
 12 4 - SMBIOS Handle
 
-= PMTT-device 0xff - Vendor Specific
+= PMTT-device 0xff 28 Vendor Specific
 12 16 guid Type UUID
 
 = RASF * - ACPI RAS Feature Table
@@ -134,7 +134,7 @@ if 8:1 2-255 PMTT-2
 = MISC * - Miscellaneous GUIDed Table Entries
 36 {*} own 16:4 MISC-entry
 
-= MISC-entry * - GUIDed entry
+= MISC-entry * 20 GUIDed entry
 0 16 guid Entry GUID ID
 16 4 dec Entry Length
 ";
@@ -159,7 +159,7 @@ pub(crate) const NFIT: &str = "
 5cea02c9-4d07-69d3-269f-4496fbe096f9 persistent virtual disk
 08018188-42cd-bb48-100f-5387d53ded3d persistent virtual CD
 
-= NFIT-structure 0 - System Physical Address (SPA) Range Structure
+= NFIT-structure 0 56 System Physical Address (SPA) Range Structure
 4 2 dec SPA Range Structure Index
 6 2 flags Flags | 0 Control region only for management during hot add or online operation \
     | 1 Proximity Domain is valid | 2 SpaLocationCookie is valid
@@ -171,7 +171,7 @@ pub(crate) const NFIT: &str = "
 48 8 - Address Range Memory Mapping Attribute
 56 8 - SpaLocationCookie
 
-= NFIT-structure 1 - NVDIMM Region Mapping Structure
+= NFIT-structure 1 48 NVDIMM Region Mapping Structure
 4 4 - NFIT Device Handle
 8 2 - NVDIMM Physical ID
 10 2 dec NVDIMM Region ID
@@ -186,18 +186,18 @@ pub(crate) const NFIT: &str = "
     | 3 not armed | 4 SMART health events observed | 5 health events enabled | 6 not mapped
 46 2 - Reserved
 
-= NFIT-structure 2 - Interleave Structure
+= NFIT-structure 2 16 Interleave Structure
 4 2 dec Interleave Structure Index
 6 2 - Reserved
 8 4 dec Number of Lines Described
 12 4 dec Line Size
 16 4[8:4] dec Line Offset
 
-= NFIT-structure 3 - SMBIOS Management Information Structure
+= NFIT-structure 3 8 SMBIOS Management Information Structure
 4 4 - Reserved
 8 * - Data
 
-= NFIT-structure 4 - NVDIMM Control Region Structure
+= NFIT-structure 4 32 NVDIMM Control Region Structure
 4 2 dec NVDIMM Control Region Structure Index
 6 2 - Vendor ID
 8 2 - Device ID
@@ -220,7 +220,7 @@ pub(crate) const NFIT: &str = "
 72 2 flags NVDIMM Control Region Flag | 0 Block Data Windows implementation is buffered
 74 6 - Reserved
 
-= NFIT-structure 5 - NVDIMM Block Data Window Region Structure
+= NFIT-structure 5 40 NVDIMM Block Data Window Region Structure
 4 2 dec NVDIMM Control Region Structure Index
 6 2 dec Number of Block Data Windows
 8 8 - Block Data Window Start Offset
@@ -228,13 +228,13 @@ pub(crate) const NFIT: &str = "
 24 8 - Block Accessible Memory Capacity
 32 8 - Beginning Address of First Block in Block Accessible Memory
 
-= NFIT-structure 6 - Flush Hint Address Structure
+= NFIT-structure 6 16 Flush Hint Address Structure
 4 4 - NFIT Device Handle
 8 2 dec Number of Flush Hint Addresses
 10 6 - Reserved
 16 8[8:2] - Flush Hint Address
 
-= NFIT-structure 7 - Platform Capabilities Structure
+= NFIT-structure 7 16 Platform Capabilities Structure
 4 1 dec Highest Valid Capability
 5 3 - Reserved
 8 4 flags Capabilities | 0 CPU Cache Flush to NVDIMM Durability on Power Loss Capable \
@@ -250,14 +250,14 @@ pub(crate) const NFIT: &str = "
 1 1 - Reserved
 2 2 dec Record Length
 
-= CEDT-structure 0 - CXL Host Bridge Structure (CHBS)
+= CEDT-structure 0 32 CXL Host Bridge Structure (CHBS)
 4 4 - UID
 8 4 codes CXL Version | 0 RCH according to CXL 1.1 | 1 host bridge associated with one or more CXL root ports
 12 4 - Reserved
 16 8 - Base
 24 8 - Length
 
-= CEDT-structure 1 - CXL Fixed Memory Window Structure (CFMWS)
+= CEDT-structure 1 36 CXL Fixed Memory Window Structure (CFMWS)
 4 4 - Reserved
 8 8 - Base HPA
 16 8 - Window Size
@@ -280,13 +280,13 @@ pub(crate) const NFIT: &str = "
 5 8192 bytes
 6 16384 bytes
 
-= CEDT-structure 2 - CXL XOR Interleave Math Structure (CXIMS)
+= CEDT-structure 2 8 CXL XOR Interleave Math Structure (CXIMS)
 4 2 - Reserved
 6 1 codes Host Bridge Interleave Granularity (HBIG) | @CEDT-granularity
 7 1 dec Number of Bitmap Entries (NIB)
 8 8[7:1] - XORMAP
 
-= CEDT-structure 3 - RCEC Downstream Port Association Structure (RDPAS)
+= CEDT-structure 3 17 RCEC Downstream Port Association Structure (RDPAS)
 4 2 dec RCEC Segment Number
 6 2 fn RCEC BDF
 8 1 codes Protocol Type | 0 CXL.io | 1 CXL.cachemem

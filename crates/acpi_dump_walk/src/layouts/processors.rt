@@ -12,7 +12,7 @@ pub(crate) const PROCESSORS: &str = "
 1 1 dec Length
 2 2 - Reserved
 
-= PPTT-node 0 - Processor hierarchy node structure
+= PPTT-node 0 20 Processor hierarchy node structure
 4 4 flags Flags | 0 Physical package | 1 ACPI Processor ID valid | 2 Processor is a Thread | 3 Node is a Leaf \
     | 4 Identical Implementation
 8 4 - Parent
@@ -20,7 +20,7 @@ pub(crate) const PROCESSORS: &str = "
 16 4 dec Number of private resources
 20 4[16:4] - Private resource
 
-= PPTT-node 1 - Cache Type Structure
+= PPTT-node 1 24 Cache Type Structure
 4 4 flags Flags | 0 Size property valid | 1 Number of sets valid | 2 Associativity valid | 3 Allocation type valid \
     | 4 Cache type valid | 5 Write policy valid | 6 Line size valid | 7 Cache ID valid
 8 4 - Next Level of Cache
@@ -33,7 +33,7 @@ pub(crate) const PROCESSORS: &str = "
 22 2 dec Line size
 24 4 - Cache ID
 
-= PPTT-node 2 - ID structure
+= PPTT-node 2 30 ID structure
 4 4 text VENDOR_ID
 8 8 - LEVEL_1_ID
 16 8 - LEVEL_2_ID
@@ -48,7 +48,7 @@ pub(crate) const PROCESSORS: &str = "
 0 4 - Type
 4 4 dec Length
 
-= LPIT-state 0 - Native C-state Instruction based LPI structure
+= LPIT-state 0 56 Native C-state Instruction based LPI structure
 8 2 dec Unique ID
 10 2 - Reserved
 12 4 flags Flags | 0 Disabled | 1 Counter Not Available
@@ -67,7 +67,7 @@ pub(crate) const PROCESSORS: &str = "
 0 1 - Type
 1 1 dec Length
 
-= PCCT-subspace 0 - Generic Communications Subspace
+= PCCT-subspace 0 62 Generic Communications Subspace
 2 6 - Reserved
 with PCCT-memory
 
@@ -86,21 +86,21 @@ with PCCT-memory
 6 1 flags Platform Interrupt Flags | 0 active low | 1 edge-triggered
 7 1 - Reserved
 
-= PCCT-subspace 1 - HW-Reduced Communications Subspace
+= PCCT-subspace 1 62 HW-Reduced Communications Subspace
 with PCCT-interrupt
 with PCCT-memory
 
-= PCCT-subspace 2 - HW-Reduced Communications Subspace Type 2
+= PCCT-subspace 2 90 HW-Reduced Communications Subspace Type 2
 with PCCT-interrupt
 with PCCT-memory
 62 12 gas Platform Interrupt Ack Register
 74 8 - Platform Interrupt Ack Preserve
 82 8 - Platform Interrupt Ack Write
 
-= PCCT-subspace 3 - Extended PCC Subspace, initiator
+= PCCT-subspace 3 164 Extended PCC Subspace, initiator
 with PCCT-extended
 
-= PCCT-subspace 4 - Extended PCC Subspace, responder
+= PCCT-subspace 4 164 Extended PCC Subspace, responder
 with PCCT-extended
 
 = PCCT-extended * - types 3 and 4
@@ -125,7 +125,7 @@ with PCCT-interrupt
 144 12 gas Error Status Register
 156 8 - Error Status Mask
 
-= PCCT-subspace 5 - HW Registers based Communications Subspace
+= PCCT-subspace 5 96 HW Registers based Communications Subspace
 2 2 - Version
 4 8 - Base Address
 12 8 - Shared Memory Range Length
@@ -152,7 +152,7 @@ with PCCT-interrupt
 = CSRT * - Core System Resources Table
 36 {*} own 0:4 CSRT-group
 
-= CSRT-group * - Resource Group
+= CSRT-group * 24 Resource Group
 0 4 dec Length
 4 4 text Vendor ID
 8 4 - Subvendor ID
@@ -183,7 +183,7 @@ if 20:4 29-0xffffffff CSRT-shared
 = CSRT-shared * - other shared information
 24 20:4 - Shared Info
 
-= CSRT-descriptor * - Resource Descriptor
+= CSRT-descriptor * 12 Resource Descriptor
 0 4 dec Length
 4 2 codes Type | 1 interrupt | 2 timer | 3 DMA
 6 2 - Subtype
@@ -211,7 +211,7 @@ pub(crate) const MACHINES: &str = "
 28 8 - Reserved
 36 8 dec Error injection countdown rate
 
-= AEST-node 0 - Processor error node
+= AEST-node 0 44 Processor error node
 4:4 {1} each 16 AEST-processor
 with AEST-rest
 
@@ -223,14 +223,14 @@ with AEST-rest
 7 1 - Revision
 8 8 - Processor affinity
 
-= AEST-node 1 - Memory error node
+= AEST-node 1 44 Memory error node
 4:4 {1} each 4 AEST-memory
 with AEST-rest
 
 = AEST-memory * - Memory controller node data
 0 4 dec Proximity Domain
 
-= AEST-node 2 - SMMU error node
+= AEST-node 2 44 SMMU error node
 4:4 {1} each 8 AEST-smmu
 with AEST-rest
 
@@ -238,7 +238,7 @@ with AEST-rest
 0 4 - IORT node reference
 4 4 - Subcomponent reference
 
-= AEST-node 3 - Vendor-defined error node
+= AEST-node 3 44 Vendor-defined error node
 4:4 {1} each 24 AEST-vendor
 with AEST-rest
 
@@ -247,7 +247,7 @@ with AEST-rest
 4 4 - Unique ID
 8 16 - Vendor-specific data
 
-= AEST-node 4 - GIC error node
+= AEST-node 4 44 GIC error node
 4:4 {1} each 8 AEST-gic
 with AEST-rest
 
@@ -287,7 +287,7 @@ with AEST-rest
 = APMT * - Arm Performance Monitoring Unit Table
 36 {*} own 0:2 APMT-node
 
-= APMT-node * - Performance Monitoring Unit node
+= APMT-node * 56 Performance Monitoring Unit node
 0 2 dec Node length
 2 1 flags Node flags | 0 Dual-page extension | 1 Processor affinity is of a container | 2 64-bit single-copy atomic
 3 1 codes Node type | 0 Memory controller | 1 SMMU | 2 PCIe root complex | 3 ACPI device | 4 CPU cache
@@ -305,7 +305,7 @@ with AEST-rest
 = MPAM * - Memory System Resource Partitioning and Monitoring Table
 36 {*} own 0:2 MPAM-node
 
-= MPAM-node * - Memory System Component (MSC) node
+= MPAM-node * 72 Memory System Component (MSC) node
 0 2 dec Length
 2 1 codes Interface type | 0 memory-mapped | 10 PCC
 3 1 - Reserved
@@ -326,7 +326,7 @@ with AEST-rest
 68 4 dec Number of resource nodes
 72 {68:4} own 24+8*20:4 MPAM-resource
 
-= MPAM-resource * - Resource node
+= MPAM-resource * 24 Resource node
 0 4 - Identifier
 4 1 dec RIS Index
 5 2 - Reserved
@@ -352,21 +352,21 @@ with AEST-rest
 2 2 dec Length
 4 2 - Revision
 
-= RHCT-node 0 - ISA String Node
+= RHCT-node 0 8 ISA String Node
 6 2 dec ISA Length
 8 6:2 text ISA string
 
-= RHCT-node 1 - Cache Management Operation (CMO) Extension Node
+= RHCT-node 1 10 Cache Management Operation (CMO) Extension Node
 6 1 - Reserved
 7 1 dec CBOM Block size
 8 1 dec CBOP Block size
 9 1 dec CBOZ Block size
 
-= RHCT-node 2 - MMU Node
+= RHCT-node 2 8 MMU Node
 6 1 - Reserved
 7 1 codes MMU Type | 0 Sv39 | 1 Sv48 | 2 Sv57
 
-= RHCT-node 0xffff - Hart Info Node
+= RHCT-node 0xffff 12 Hart Info Node
 6 2 dec Number of Offsets
 8 4 dec ACPI Processor UID
 12 4[6:2] - Offset

@@ -102,7 +102,7 @@ then DRTM-id
 1 1 flags Flags | 0 Allow handing off to non-secure OS | 1 Secure access components are present
 2 2 dec Length
 
-= SDEV-structure 0 - ACPI_NAMESPACE_DEVICE based Secure Device Structure
+= SDEV-structure 0 12 ACPI_NAMESPACE_DEVICE based Secure Device Structure
 4 2 dec Device Id Offset
 6 2 dec Device Id Length
 8 2 dec Vendor Specific Data Offset
@@ -135,7 +135,7 @@ if 8:2-12:2 0 SDEV-component-list
 0 1 - Type
 2 2 dec Length
 
-= SDEV-component 0 - Identification Based Secure Access Component
+= SDEV-component 0 19 Identification Based Secure Access Component
 4 2 dec Hardware Identifier Offset
 6 2 dec Hardware Identifier Length
 8 2 dec Subsystem Identifier Offset
@@ -147,12 +147,12 @@ if 8:2-12:2 0 SDEV-component-list
 17 1 - PCI-Compatible Sub-Class
 18 1 - PCI-Compatible Programming Interface
 
-= SDEV-component 1 - Memory-based Secure Access Component
+= SDEV-component 1 24 Memory-based Secure Access Component
 4 4 - Reserved
 8 8 - Memory Address Base
 16 8 - Memory Length
 
-= SDEV-structure 1 - PCIe Endpoint Device based Device Structure
+= SDEV-structure 1 16 PCIe Endpoint Device based Device Structure
 4 2 dec PCI Segment Number
 6 2 - Start Bus Number
 8 2 dec PCI Path Offset

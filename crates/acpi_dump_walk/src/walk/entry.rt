@@ -72,7 +72,7 @@ fn untyped_entry(
     let block = piece.blocks.named(how)?;
     Ok(Entry {
         length: checked_length(rest, length)?,
-        least: 0,
+        least: sum_of(block.size, rest).number,
         name: block.title,
         kind: None,
         head: "",

@@ -176,19 +176,21 @@ fn field_extent(bytes: &[u8], start: usize, word: &'static str) -> Result<Extent
     let end = match word {
         "*" => bytes.len(),
         "z" => after_zero(bytes, start),
-        _ => {
-            let (from, length) = match word.strip_prefix('<') {
-                Some(end) => (0, end),
-                None => (start, word),
-            };
-            from.saturating_add(sum_of(length, bytes).size()?)
-        }
+        _ => field_end(bytes, start, word)?,
     };
     Ok(Extent {
         start,
         end,
         count: None,
     })
+}
+
+/// Where a field ends that is at an offset of a structure, by a sum that is its length, or after `<` its end.
+fn field_end(bytes: &[u8], start: usize, word: &'static str) -> Result<usize, Fault> {
+    match word.strip_prefix('<') {
+        Some(end) => sum_of(end, bytes).size(),
+        None => Ok(start.saturating_add(sum_of(word, bytes).size()?)),
+    }
 }
 
 /// Shows fields whose length a word has, as far as they are there. Returns up to where the structure is shown
