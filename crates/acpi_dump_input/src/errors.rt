@@ -50,10 +50,41 @@ pub fn begin(log: &mut Log, name: &str) {
     log.text.text(": ");
 }
 
+/// What errors mean that are printed as their names.
+const MEANINGS: [(&str, &str); 8] = [
+    (
+        "MapFailed",
+        ": the input hasn't all bytes that are read there",
+    ),
+    ("Truncated", ": the file ends within a record"),
+    ("Overlap", ": two records of the file share a byte"),
+    (
+        "EndTooLarge",
+        ": a record of the file would end above 2^64 - 1",
+    ),
+    ("NotAFile", ": what is there is no file"),
+    ("SameFile", ": it is one of the inputs"),
+    ("PartExists", ": a file of this name and .part is there"),
+    ("Unwritable", ": no file can be made or replaced there"),
+];
+
+/// What the error means whose name a message ends with, or no letters if it ends with none of them.
+fn meaning_of(message: &[u8]) -> &'static str {
+    for (name, meaning) in &MEANINGS {
+        if message.ends_with(name.as_bytes()) {
+            return *meaning;
+        }
+    }
+    ""
+}
+
 /// Says something of a file.
 pub fn tell(log: &mut Log, name: &str, what: &impl Display) {
     begin(log, name);
+    let start = log.text.length();
     log.text.value(what);
+    let meaning = meaning_of(log.text.since(start));
+    log.text.text(meaning);
     log.text.text("\n");
 }
 

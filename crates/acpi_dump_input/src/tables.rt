@@ -2,7 +2,7 @@
 
 use crate::errors::{Log, Stop, fail};
 use crate::kind::{Kind, text_in};
-use crate::text::{TextError, tables_in};
+use crate::text::{TextError, tables_in, why_wrong};
 use std::alloc::{AllocError, Global};
 
 /// A table that comes as a file, or as a part of a text.
@@ -58,7 +58,8 @@ fn add_text(
         }
         Err(TextError::OutOfMemory) => Err(Stop::OutOfMemory),
         Err(TextError::Line(number)) => {
-            Err(fail(log, name, &format_args!("line {number} is wrong")))
+            let why = why_wrong(alloc, text, number)?;
+            Err(fail(log, name, &format_args!("line {number} is wrong: {why}")))
         }
     }
 }

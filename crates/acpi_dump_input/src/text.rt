@@ -201,3 +201,36 @@ pub(crate) fn tables_in(alloc: Global, text: &str) -> Result<Vec<SpelledTable>, 
     }
     Ok(reading.all()?)
 }
+
+/// What is wrong with the line of a number, counted from 1, which is the first wrong one of a text.
+///
+/// Fails if memory runs out.
+pub(crate) fn why_wrong(
+    alloc: Global,
+    text: &str,
+    number: usize,
+) -> Result<&'static str, AllocError> {
+    let mut is_inside = false; // whether a heading was before it, and no blank line after that
+    for (before, line) in text.split('\n').enumerate() {
+        if before + 1 == number {
+            return reason_of(alloc, line, is_inside);
+        }
+        is_inside = heading_in(line).is_some() || is_inside && !line.trim().is_empty();
+    }
+    Ok("it isn't there")
+}
+
+/// What is wrong with a line inside a table or outside of one.
+fn reason_of(alloc: Global, line: &str, is_inside: bool) -> Result<&'static str, AllocError> {
+    let Some(row) = row_in(line) else {
+        return Ok("neither a heading, nor a row of bytes, nor blank");
+    };
+    if !is_inside {
+        return Ok("a row of bytes without a heading");
+    }
+    if push_pairs(&mut Vec::new(alloc), row.pairs)? {
+        Ok("its offset isn't the number of the bytes before it")
+    } else {
+        Ok("its bytes aren't pairs of hexadecimal digits")
+    }
+}
