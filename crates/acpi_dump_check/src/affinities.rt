@@ -17,6 +17,8 @@ srat-no-domain warning ACPI 6.5, section 5.2.16 | An enabled processor of the MA
 srat-unknown-processor warning ACPI 6.5, section 5.2.16 | An enabled entry is of a processor that the MADT lacks
 srat-overlap error ACPI 6.5, section 5.2.16.2 | Ranges of memory of two domains overlap \
     | # is in domain %, and in domain % by the range at #
+srat-empty warning ACPI 6.5, section 5.2.16.2 | A range of memory has no bytes | is %
+srat-past-end error ACPI 6.5, section 5.2.16.2 | A range of memory ends above 2^64 | # bytes from # on end above 2^64
 srat-repeated warning ACPI 6.5, section 5.2.16.2 | Ranges of memory of one domain overlap | # is in the range at # too
 slit-diagonal error ACPI 6.5, section 5.2.17 | The distance of a locality from itself isn't 10 \
     | locality % is at % from itself
@@ -55,17 +57,13 @@ const PROCESSORS: [Kept; 6] = [
     (0xb, ENABLED_UIDS, (8, 4), 12),
 ];
 
-/// Judges them.
+/// Judges the first SRAT beside the first MADT and the first SLIT.
 pub(crate) fn check_affinities(machine: &Machine<'_>, findings: &mut Findings) {
-    let slit = machine.first(Signature::SLIT);
-    if let Some(slit) = slit {
-        check_distances(slit, findings);
-    }
     let Some(srat) = machine.first(Signature::SRAT) else {
         return;
     };
     let mut numbers = Numbers::new(machine.alloc);
-    check_ranges(srat, &mut numbers, findings);
+    add_entries(srat.bytes, &mut numbers);
     let madt = machine.first(Signature::MADT);
     let has_processors = match madt {
         Some(madt) => add_processors(madt.bytes, &mut numbers),
@@ -77,7 +75,7 @@ pub(crate) fn check_affinities(machine: &Machine<'_>, findings: &mut Findings) {
     {
         check_processors(srat.index, madt.index, &numbers, findings);
     }
-    if let Some(slit) = slit {
+    if let Some(slit) = machine.first(Signature::SLIT) {
         check_localities(srat.index, slit, &numbers, findings);
     }
 }
@@ -96,28 +94,18 @@ fn add_processors(madt: &[u8], numbers: &mut Numbers) -> bool {
     !has_sapic
 }
 
-/// Adds what the enabled entries of a SRAT name, and judges their ranges of memory.
-fn check_ranges(srat: Table<'_>, numbers: &mut Numbers, findings: &mut Findings) {
+/// Judges the enabled ranges of memory of a SRAT.
+pub(crate) fn check_ranges(srat: Table<'_>, findings: &mut Findings) {
     let mut ranges = Vec::new(findings.alloc);
-    let revision = field(srat.bytes, 8, 1) as u8; // Revision
-    let mut rest = skip(srat.bytes, 48);
-    while let Some((entry, others)) = split_front(&SRAT_GRAMMAR, rest) {
-        let offset = srat.bytes.len().saturating_sub(rest.len());
-        if let Some(entry) = SratEntry::read(revision, entry)
-            && entry.is_enabled() != Some(false)
-        {
-            add_entry(offset, &entry, numbers);
-            if let Some(range) = entry.memory_range() {
-                let span = Span {
-                    first: range.base,
-                    last: range.base.saturating_add(range.length.saturating_sub(1)),
-                    offset: offset.saturating_add(8),
-                    owner: range.domain as u64,
-                };
-                findings.need(ranges.push(span).is_ok());
+    let is_byte = field(srat.bytes, 8, 1) < 2; // a domain is, up to Revision 1
+    for (offset, entry) in Pieces::of(srat.bytes, 48, (1, 1)) {
+        // Type, Flags.
+        if field(entry, 0, 1) == 1 && entry.len() >= 40 && field(entry, 28, 4) & 1 != 0 {
+            let domain = field(entry, 2, if is_byte { 1 } else { 4 });
+            if let Some(range) = range_of(srat.index, offset, entry, domain, findings) {
+                findings.need(ranges.push(range).is_ok());
             }
         }
-        rest = others;
     }
     for (before, range) in overlaps(&mut ranges, findings) {
         let (first, place) = (range.first, before.offset as u64);
@@ -127,6 +115,48 @@ fn check_ranges(srat: Table<'_>, numbers: &mut Numbers, findings: &mut Findings)
             let numbers = &[first, range.owner, before.owner, place];
             findings.add("srat-overlap", srat.index, range.offset, numbers);
         }
+    }
+}
+
+/// The range of memory of a domain that the entry at an offset has, if it has bytes. It finds one that has none, or
+/// ends above 2^64.
+fn range_of(
+    srat: usize,
+    offset: usize,
+    entry: &[u8],
+    domain: u64,
+    findings: &mut Findings,
+) -> Option<Span> {
+    let (base, length) = (field(entry, 8, 8), field(entry, 16, 8)); // Base Address, Length
+    let at = offset.saturating_add(16);
+    let Some(more) = length.checked_sub(1) else {
+        findings.add("srat-empty", srat, at, &[length]);
+        return None;
+    };
+    let last = base.checked_add(more);
+    if last.is_none() {
+        findings.add("srat-past-end", srat, at, &[length, base]);
+    }
+    Some(Span {
+        first: base,
+        last: last.unwrap_or(u64::MAX),
+        offset: offset.saturating_add(8),
+        owner: domain,
+    })
+}
+
+/// Adds what the enabled entries of a SRAT name.
+fn add_entries(srat: &[u8], numbers: &mut Numbers) {
+    let revision = field(srat, 8, 1) as u8; // Revision
+    let mut rest = skip(srat, 48);
+    while let Some((entry, others)) = split_front(&SRAT_GRAMMAR, rest) {
+        let offset = srat.len().saturating_sub(rest.len());
+        if let Some(entry) = SratEntry::read(revision, entry)
+            && entry.is_enabled() != Some(false)
+        {
+            add_entry(offset, &entry, numbers);
+        }
+        rest = others;
     }
 }
 
@@ -209,7 +239,7 @@ fn check_localities(srat: usize, slit: Table<'_>, numbers: &Numbers, findings: &
 }
 
 /// Judges the distances of a SLIT: of each rule, the first from a locality to others.
-fn check_distances(slit: Table<'_>, findings: &mut Findings) {
+pub(crate) fn check_distances(slit: Table<'_>, findings: &mut Findings) {
     let distances = Distances::over(slit.bytes);
     let count = distances.localities();
     for from in 0..count {

@@ -32,11 +32,8 @@ dbg2-console note Microsoft Debug Port Table 2 | No serial port has the register
     | no serial port of the DBG2 has # of address space %
 ";
 
-/// Judges them.
-pub(crate) fn check_devices(machine: &Machine<'_>, findings: &mut Findings) {
-    if let Some(mcfg) = machine.first(Signature::MCFG) {
-        check_regions(mcfg, findings);
-    }
+/// Judges the first SPCR beside the first DBG2.
+pub(crate) fn check_console(machine: &Machine<'_>, findings: &mut Findings) {
     if let Some(console) = machine.first(Signature::SPCR)
         && let Some((space, address)) = register_at(console.bytes, 40)
         && let Some(debug) = machine.first(Signature::DBG2)
@@ -47,7 +44,7 @@ pub(crate) fn check_devices(machine: &Machine<'_>, findings: &mut Findings) {
 }
 
 /// Judges the regions of an MCFG.
-fn check_regions(mcfg: Table<'_>, findings: &mut Findings) {
+pub(crate) fn check_regions(mcfg: Table<'_>, findings: &mut Findings) {
     let mut buses = Vec::new(findings.alloc);
     let mut memory = Vec::new(findings.alloc);
     let mut offset = 44usize;
@@ -97,10 +94,10 @@ fn check_regions(mcfg: Table<'_>, findings: &mut Findings) {
 
 /// Judges where a region is, by its base and its last bus.
 fn check_base(mcfg: usize, offset: usize, base: u64, last: u64, findings: &mut Findings) {
-    if base % (1 << 20) != 0 {
+    if base & 0xfffff != 0 {
         findings.add("mcfg-unaligned", mcfg, offset, &[base]);
     }
-    if last << 20 | 0xfffff > u64::MAX - base {
+    if base.checked_add(last << 20 | 0xfffff).is_none() {
         findings.add("mcfg-past-end", mcfg, offset, &[last, base]);
     }
 }

@@ -1,8 +1,8 @@
 //! The FADT (ACPI 6.5, section 5.2.9).
 
 use crate::findings::Findings;
-use crate::machine::{Machine, Table};
-use acpi::sdt::{Signature, field};
+use crate::machine::Table;
+use acpi::sdt::field;
 use acpi_dump_walk::out::Out;
 
 pub(crate) const RULES: &str = "
@@ -43,11 +43,9 @@ const BLOCKS: [Block; 8] = [
     ("GPE1_BLK", 84, 93, 232),
 ];
 
-/// Judges the first FADT.
-pub(crate) fn check_fadt(machine: &Machine<'_>, findings: &mut Findings) {
-    let Some(Table { index, bytes: fadt }) = machine.first(Signature::FADT) else {
-        return;
-    };
+/// Judges a FADT.
+pub(crate) fn check_fadt(table: Table<'_>, findings: &mut Findings) {
+    let Table { index, bytes: fadt } = table;
     check_addresses(index, fadt, findings);
     check_general(index, fadt, findings);
     // HW_REDUCED_ACPI.

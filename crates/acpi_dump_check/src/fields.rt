@@ -26,6 +26,8 @@ einj-space error ACPI 6.5, section 18.6 | A register is neither in memory nor a 
 erst-action error ACPI 6.5, section 18.5 | An action is a reserved one | # is reserved
 erst-instruction error ACPI 6.5, section 18.5 | An instruction is a reserved one | # is reserved
 erst-space error ACPI 6.5, section 18.5 | A register is neither in memory nor a port | has address space %
+gtdt-interrupt warning ACPI 6.5, section 5.2.25 | A processor's timer has an interrupt that all processors share \
+    | % is no private peripheral interrupt
 hest-enabled error ACPI 6.5, section 18.3.2 | Enabled is neither 0 nor 1 | is %
 hest-notification error ACPI 6.5, section 18.3.2 | A way of notification is a reserved one | % is reserved
 hest-notification-length error ACPI 6.5, section 18.3.2 | A notification structure hasn't 28 bytes | is %, and not 28
@@ -145,6 +147,13 @@ PM_TMR_LEN | - | fadt-timer-length 0-4
 PM_TMR_LEN | - | fadt-timer-length !3
 GPE0_BLK_LEN | - | fadt-gpe-length !1
 GPE1_BLK_LEN | - | fadt-gpe-length !1
+
+= GTDT
+Secure EL1 Timer GSIV | - | gtdt-interrupt 0,16-31,1056-1119
+Non-Secure EL1 Timer GSIV | - | gtdt-interrupt 0,16-31,1056-1119
+Virtual EL1 Timer GSIV | - | gtdt-interrupt 0,16-31,1056-1119
+EL2 Timer GSIV | - | gtdt-interrupt 0,16-31,1056-1119
+Virtual EL2 Timer GSIV | - | gtdt-interrupt 0,16-31,1056-1119
 
 = HEST
 Source Id | * | hest-source-twice once

@@ -139,6 +139,21 @@ fn check_status(entry: &Entry<'_>, index: usize, findings: &mut Findings) {
     findings.add_text("header-refused", index, offset, &text);
 }
 
+/// The least length and the step of the form that tables of a name have in a revision, if there is one, and whether
+/// forms of the name are known.
+fn form_of(name: &str, revision: u64) -> (Option<(u64, u64)>, bool) {
+    let mut has_form = false;
+    for (of, (first, last), lengths) in &FORMS {
+        if *of == name {
+            has_form = true;
+            if *first <= revision && revision <= *last {
+                return (Some(*lengths), true);
+            }
+        }
+    }
+    (None, has_form)
+}
+
 /// Judges the letters, the length and the revision in the header of a table of a name. Returns whether the revision
 /// is known, or none of that name is.
 fn check_form(table: &[u8], index: usize, name: &str, findings: &mut Findings) -> bool {
@@ -147,34 +162,34 @@ fn check_form(table: &[u8], index: usize, name: &str, findings: &mut Findings) -
             findings.add("header-letters", index, *offset, &[]);
         }
     }
+    let revision = field(table, 8, 1);
+    match form_of(name, revision) {
+        (Some((least, step)), _) => check_length(table, index, least, step, findings),
+        (None, true) => {
+            findings.add("header-revision", index, 8, &[revision]);
+            return false;
+        }
+        _ => {}
+    }
+    true
+}
+
+/// Judges the length of a table, which is a least one and steps from that on, or that one alone if the step is 0.
+fn check_length(table: &[u8], index: usize, least: u64, step: u64, findings: &mut Findings) {
     let (length, revision) = (field(table, 4, 4), field(table, 8, 1));
-    let mut has_form = false;
-    for (of, (first, last), (least, step)) in &FORMS {
-        if *of != name {
-            continue;
-        }
-        has_form = true;
-        if *first <= revision && revision <= *last {
-            let is_right = match length.checked_sub(*least) {
-                Some(over) if *step > 0 => over % *step == 0,
-                over => over == Some(0),
-            };
-            if length >= 36 && !is_right {
-                let words = if *step > 0 {
-                    "is %, and for revision % %+%"
-                } else {
-                    "is %, and for revision % %"
-                };
-                let numbers = &[length, revision, *least, *step];
-                findings.add_words("header-length", index, 4, words, numbers);
-            }
-            return true;
-        }
+    let is_right = match length.checked_sub(least) {
+        Some(over) if step > 0 => over % step == 0,
+        over => over == Some(0),
+    };
+    if length >= 36 && !is_right {
+        let words = if step > 0 {
+            "is %, and for revision % %+%"
+        } else {
+            "is %, and for revision % %"
+        };
+        let numbers = &[length, revision, least, step];
+        findings.add_words("header-length", index, 4, words, numbers);
     }
-    if has_form {
-        findings.add("header-revision", index, 8, &[revision]);
-    }
-    !has_form
 }
 
 /// Whether letters are printable ASCII, but for zeros at the end.

@@ -1,9 +1,12 @@
-//! The DMAR (Intel Virtualization Technology for Directed I/O 4.0, chapter 8) and the IVRS (AMD I/O Virtualization
-//! Technology (IOMMU) Specification 3.08, section 5.2).
+//! The DMAR (Intel Virtualization Technology for Directed I/O 4.0, chapter 8), the IVRS (AMD I/O Virtualization
+//! Technology (IOMMU) Specification 3.08, section 5.2) and the IORT (Arm DEN0049).
 
 use crate::findings::Findings;
-use crate::machine::{Machine, Table};
-use acpi::sdt::{Signature, field};
+use crate::machine::Table;
+use crate::pieces::Pieces;
+use crate::spans::{Span, overlaps};
+use acpi::sdt::field;
+use acpi_base::bytes::skip;
 use acpi_iommu::dmar::{DmarFields, DmarStructure, DmarStructureIter, Rmrr};
 use acpi_iommu::ivrs::IvrsBlockIter;
 
@@ -21,20 +24,12 @@ ivhd-range error AMD IOMMU 3.08, section 5.2 | The start of a range of devices i
     | no end follows the start: device #
 ivhd-end error AMD IOMMU 3.08, section 5.2 | The end of a range of devices follows no start \
     | it ends no range: device #
+iort-mapping-end error Arm DEN0049, IORT | IDs are mapped from or to some above 32 bits | # IDs from # on go past 2^32
+iort-mapping-overlap warning Arm DEN0049, IORT | Two ID mappings of a node have one ID | ID # is also mapped at #
 ";
 
-/// Judges them.
-pub(crate) fn check_iommu(machine: &Machine<'_>, findings: &mut Findings) {
-    if let Some(dmar) = machine.first(Signature::DMAR) {
-        check_structures(dmar, findings);
-    }
-    if let Some(ivrs) = machine.first(Signature::IVRS) {
-        check_blocks(ivrs, findings);
-    }
-}
-
 /// Judges the structures of a DMAR.
-fn check_structures(dmar: Table<'_>, findings: &mut Findings) {
+pub(crate) fn check_dmar(dmar: Table<'_>, findings: &mut Findings) {
     // A bit for each segment whose unit with INCLUDE_PCI_ALL has come.
     let mut segments = [0u64; 1024];
     let mut structures = DmarStructureIter::over(dmar.bytes);
@@ -99,7 +94,7 @@ const ENDS: [(u64, usize, &str); 4] = [
 ];
 
 /// Judges the blocks of an IVRS: its entries end where a range has no end, or an end no start.
-fn check_blocks(ivrs: Table<'_>, findings: &mut Findings) {
+pub(crate) fn check_ivrs(ivrs: Table<'_>, findings: &mut Findings) {
     let mut blocks = IvrsBlockIter::over(ivrs.bytes);
     while let Some(block) = blocks.next() {
         let mut entries = block.entries();
@@ -112,5 +107,62 @@ fn check_blocks(ivrs: Table<'_>, findings: &mut Findings) {
                 findings.add(*id, ivrs.index, offset, &[field(rest, 1, 2)]); // DeviceID
             }
         }
+    }
+}
+
+/// Judges the ID mappings of the nodes of an IORT.
+pub(crate) fn check_iort(iort: Table<'_>, findings: &mut Findings) {
+    let start = field(iort.bytes, 40, 4) as usize; // Offset to Array of IORT Nodes
+    for (offset, node) in Pieces::of(iort.bytes, start, (1, 2)) {
+        let mut mapped = Vec::new(findings.alloc);
+        let (count, first) = (field(node, 8, 4) as usize, field(node, 12, 4) as usize); // ID mappings
+        let mut at = offset.saturating_add(first);
+        for mapping in skip(node, first).chunks(20).take(count) {
+            if mapping.len() == 20
+                && let Some(span) = ids_of(iort.index, at, node, mapping, findings)
+            {
+                findings.need(mapped.push(span).is_ok());
+            }
+            at = at.saturating_add(20);
+        }
+        for (before, span) in overlaps(&mut mapped, findings) {
+            let numbers = &[span.first, before.offset as u64];
+            findings.add("iort-mapping-overlap", iort.index, span.offset, numbers);
+        }
+    }
+}
+
+/// The IDs that the mapping at an offset has. A single mapping has none, and neither has one of a Reserved Memory
+/// Range, whose input base doesn't count. It finds IDs above 32 bits.
+fn ids_of(
+    iort: usize,
+    offset: usize,
+    node: &[u8],
+    mapping: &[u8],
+    findings: &mut Findings,
+) -> Option<Span> {
+    let (first, more) = (field(mapping, 0, 4), field(mapping, 4, 4)); // Input base, Number of IDs less 1
+    if field(mapping, 16, 4) & 1 != 0 {
+        return None;
+    }
+    let output = offset.saturating_add(8);
+    check_ids(iort, output, field(mapping, 8, 4), more, findings); // Output base
+    if field(node, 0, 1) == 6 {
+        return None;
+    }
+    check_ids(iort, offset, first, more, findings);
+    Some(Span {
+        first,
+        last: first.saturating_add(more),
+        offset,
+        owner: 0,
+    })
+}
+
+/// Judges whether IDs have 32 bits, whose first one is at an offset, and of which this many follow.
+fn check_ids(iort: usize, offset: usize, first: u64, more: u64, findings: &mut Findings) {
+    if first.saturating_add(more) >> 32 != 0 {
+        let count = more.saturating_add(1);
+        findings.add("iort-mapping-end", iort, offset, &[count, first]);
     }
 }

@@ -27,21 +27,24 @@ mod spans;
 use acpi_dump_input::judgement::Judgement;
 use findings::Findings;
 pub use machine::Machine;
+use machine::Table;
 use std::alloc::AllocError;
 
-/// The rules, subject by subject.
-const RULES: [&str; 10] = [
-    roots::RULES,
-    headers::RULES,
-    fadt::RULES,
-    facs::RULES,
-    madt::RULES,
-    affinities::RULES,
-    devices::RULES,
-    iommu::RULES,
-    machines::RULES,
-    fields::RULES,
-];
+/// The texts of the rules, subject by subject.
+fn subjects() -> [&'static str; 10] {
+    [
+        roots::RULES,
+        headers::RULES,
+        fadt::RULES,
+        facs::RULES,
+        madt::RULES,
+        affinities::RULES,
+        devices::RULES,
+        iommu::RULES,
+        machines::RULES,
+        fields::RULES,
+    ]
+}
 
 /// What the rules find in the tables of a machine, in the order of the tables, and in a table by offset.
 ///
@@ -50,13 +53,30 @@ pub fn findings_of(machine: &Machine<'_>) -> Result<Judgement, AllocError> {
     let mut findings = Findings::new(machine.alloc)?;
     roots::check_roots(machine, &mut findings);
     headers::check_headers(machine, &mut findings);
-    fadt::check_fadt(machine, &mut findings);
     facs::check_facs(machine, &mut findings);
-    madt::check_madt(machine, &mut findings);
+    for index in 0..machine.entries.len() {
+        if let Some(table) = machine.table(index) {
+            check_table(table, &mut findings);
+        }
+    }
     affinities::check_affinities(machine, &mut findings);
-    devices::check_devices(machine, &mut findings);
-    iommu::check_iommu(machine, &mut findings);
-    machines::check_machines(machine, &mut findings);
-    rows::check_rows(machine, &mut findings);
+    devices::check_console(machine, &mut findings);
     findings.in_order(machine.entries)
+}
+
+/// Judges a table by itself.
+fn check_table(table: Table<'_>, findings: &mut Findings) {
+    match table.signature().as_str().unwrap_or("") {
+        "APIC" => madt::check_madt(table, findings),
+        "DMAR" => iommu::check_dmar(table, findings),
+        "FACP" => fadt::check_fadt(table, findings),
+        "IORT" => iommu::check_iort(table, findings),
+        "IVRS" => iommu::check_ivrs(table, findings),
+        "MCFG" => devices::check_regions(table, findings),
+        "PPTT" => machines::check_cycles(table, findings),
+        "SLIT" => affinities::check_distances(table, findings),
+        "SRAT" => affinities::check_ranges(table, findings),
+        _ => {}
+    }
+    rows::check_rows(table, findings);
 }

@@ -22,13 +22,19 @@ pub(crate) struct Table<'a> {
     pub(crate) bytes: &'a [u8],
 }
 
+impl Table<'_> {
+    /// The signature that it has.
+    pub(crate) fn signature(&self) -> Signature {
+        own_signature(self.bytes)
+    }
+}
+
 impl<'a> Machine<'a> {
-    /// The table of this number, if it has a signature, and a length of at least 36 of which all bytes are there. They
-    /// needn't sum to 0.
-    pub(crate) fn table(&self, index: usize, signature: Signature) -> Option<Table<'a>> {
+    /// The table of this number, if it has a length of at least 36 of which all bytes are there. They needn't sum to 0.
+    pub(crate) fn table(&self, index: usize) -> Option<Table<'a>> {
         let bytes = self.entries.get(index)?.bytes;
         let length = field(bytes, 4, 4) as usize;
-        if own_signature(bytes) != signature || length < 36 {
+        if length < 36 {
             return None;
         }
         let bytes = bytes.get(..length)?;
@@ -38,7 +44,9 @@ impl<'a> Machine<'a> {
     /// The first table of a signature, as `table` returns it.
     pub(crate) fn first(&self, signature: Signature) -> Option<Table<'a>> {
         for index in 0..self.entries.len() {
-            if let Some(table) = self.table(index, signature) {
+            if let Some(table) = self.table(index)
+                && table.signature() == signature
+            {
                 return Some(table);
             }
         }

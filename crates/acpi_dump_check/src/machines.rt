@@ -2,10 +2,10 @@
 //! Specification 1.2).
 
 use crate::findings::Findings;
-use crate::machine::{Machine, Table};
+use crate::machine::Table;
 use crate::numbers::Numbers;
 use crate::pieces::Pieces;
-use acpi::sdt::{Signature, field};
+use acpi::sdt::field;
 
 pub(crate) const RULES: &str = "
 pptt-offset error ACPI 6.5, section 5.2.30 | An offset isn't that of a structure of its type \
@@ -16,18 +16,11 @@ pcct-length error ACPI 6.5, chapter 14 | A channel's shared memory has no bytes 
 tpm2-log error TCG ACPI Specification 1.2 | The log has a length, and is at address 0 | is #, and the log has bytes
 ";
 
-/// Judges them.
-pub(crate) fn check_machines(machine: &Machine<'_>, findings: &mut Findings) {
-    if let Some(pptt) = machine.first(Signature::from_bytes(*b"PPTT")) {
-        check_cycles(pptt, findings);
-    }
-}
-
 /// The nodes of a PPTT by their types, as lists of offsets: those from this type on lead nowhere.
 const OTHERS: u64 = 2;
 
 /// Judges whether the nodes of a PPTT lead in a circle.
-fn check_cycles(pptt: Table<'_>, findings: &mut Findings) {
+pub(crate) fn check_cycles(pptt: Table<'_>, findings: &mut Findings) {
     let mut nodes = Numbers::new(findings.alloc);
     for (offset, node) in Pieces::of(pptt.bytes, 36, (1, 1)) {
         nodes.push(field(node, 0, 1).min(OTHERS), offset as u64, offset); // Type
@@ -42,10 +35,9 @@ fn check_cycles(pptt: Table<'_>, findings: &mut Findings) {
         let mut at = start;
         for _ in 0..=count {
             let Some(walk) = walks.get_mut(at) else { break };
-            let Some((kind, place, offset)) = nodes.all.get(at) else {
-                break;
-            };
-            if *walk == start + 1 {
+            if *walk == start + 1
+                && let Some((_, place, offset)) = nodes.all.get(at)
+            {
                 let at = offset.saturating_add(8);
                 findings.add("pptt-cycle", pptt.index, at, &[*place]);
             }
@@ -53,14 +45,21 @@ fn check_cycles(pptt: Table<'_>, findings: &mut Findings) {
                 break;
             }
             *walk = start + 1;
-            let Some((_, node)) = Pieces::of(pptt.bytes, *offset, (1, 1)).next() else {
-                break;
-            };
-            let next = field(node, 8, 4); // Parent, Next Level of Cache
-            if *kind == OTHERS || next == 0 || !nodes.has(*kind, next) {
-                break;
+            match next_of(pptt.bytes, &nodes, at) {
+                Some(next) => at = next,
+                None => break,
             }
-            at = nodes.place(*kind, next);
         }
     }
+}
+
+/// The place among the nodes of the one that another leads to, if it leads to one.
+fn next_of(pptt: &[u8], nodes: &Numbers, at: usize) -> Option<usize> {
+    let (kind, _, offset) = nodes.all.get(at)?;
+    let (_, node) = Pieces::of(pptt, *offset, (1, 1)).next()?;
+    let next = field(node, 8, 4); // Parent, Next Level of Cache
+    if *kind == OTHERS || next == 0 || !nodes.has(*kind, next) {
+        return None;
+    }
+    Some(nodes.place(*kind, next))
 }

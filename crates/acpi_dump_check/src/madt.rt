@@ -1,10 +1,10 @@
 //! The MADT (ACPI 6.5, section 5.2.12).
 
 use crate::findings::Findings;
-use crate::machine::{Machine, Table};
+use crate::machine::Table;
 use crate::numbers::{Kept, Numbers};
 use acpi::madt::MADT_GRAMMAR;
-use acpi::sdt::{Signature, field};
+use acpi::sdt::field;
 use acpi_base::bytes::skip;
 use acpi_base::entries::split_front;
 
@@ -79,12 +79,10 @@ const KEPT: [Kept; 11] = [
     (0xc, DISTRIBUTORS, (0, 0), 0),
 ];
 
-/// Judges the first MADT.
-pub(crate) fn check_madt(machine: &Machine<'_>, findings: &mut Findings) {
-    let Some(Table { index, bytes: madt }) = machine.first(Signature::MADT) else {
-        return;
-    };
-    let mut numbers = Numbers::new(machine.alloc);
+/// Judges a MADT.
+pub(crate) fn check_madt(table: Table<'_>, findings: &mut Findings) {
+    let Table { index, bytes: madt } = table;
+    let mut numbers = Numbers::new(findings.alloc);
     let mut rest = skip(madt, 44);
     while let Some((entry, others)) = split_front(&MADT_GRAMMAR, rest) {
         let offset = madt.len().saturating_sub(rest.len());
@@ -124,12 +122,10 @@ fn check_signal(table: usize, offset: usize, entry: &[u8], findings: &mut Findin
         _ => return,
     };
     let flags = field(entry, place, 2);
-    let words = if flags & 3 == 2 {
-        "polarity 2 is reserved"
-    } else if flags >> 2 & 3 == 2 {
-        "trigger mode 2 is reserved"
-    } else {
-        return;
+    let words = match (flags & 3, flags >> 2 & 3) {
+        (2, _) => "polarity 2 is reserved",
+        (_, 2) => "trigger mode 2 is reserved",
+        _ => return,
     };
     let at = offset.saturating_add(place);
     findings.add_words("madt-inti-flags", table, at, words, &[]);

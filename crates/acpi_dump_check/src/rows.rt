@@ -5,7 +5,7 @@
 //! the table itself, or `*` for every structure; after TEST there may be the PLACE of the number in the field. A place
 //! is `OFFSET:LENGTH`; a range is `FIRST-LAST`, a number, or `!NUMBER` for all numbers without these bits. TEST is
 //!
-//! - a range, if the number has to be in it,
+//! - a range, or several with commas between them, if the number has to be in one,
 //! - `named`, if the field has to be a code or flags that the layout names,
 //! - `once`, if no two structures have the number in this field,
 //! - `of`, if it has to be the offset of a structure with a title that comes next (`| TITLE`), or a number that one has
@@ -16,11 +16,11 @@
 
 use crate::fields::ROWS;
 use crate::findings::Findings;
-use crate::machine::{Machine, Table};
+use crate::machine::Table;
 use crate::numbers::Numbers;
 use acpi_dump_input::entries::own_signature;
 use acpi_dump_walk::fields::{number_of as number_in, unnamed_in};
-use acpi_dump_walk::language::{cut_at, next_word, number_at, number_of};
+use acpi_dump_walk::language::{cut_at, is_chosen, next_word, number_at, number_of};
 use acpi_dump_walk::walk::{Field, Group, Show, walk_table};
 
 /// How many structures that are one in another have titles here, with the table, which is the outermost.
@@ -91,14 +91,14 @@ fn number_from(bytes: &[u8], place: &str) -> u64 {
     }
 }
 
-/// Whether a number is in a range.
-fn is_within(number: u64, range: &str) -> bool {
-    if let Some(bits) = range.strip_prefix('!') {
-        return number & number_of(bits).unwrap_or(u64::MAX) == 0;
+/// Whether a number is in one of the ranges of a test.
+fn meets(number: u64, test: &str) -> bool {
+    for range in test.split(',') {
+        if is_chosen(number, range) {
+            return true;
+        }
     }
-    let (first, last) = cut_at(range.trim_ascii(), '-');
-    let last = if last.is_empty() { first } else { last };
-    number_of(first).unwrap_or(u64::MAX) <= number && number <= number_of(last).unwrap_or(0)
+    false
 }
 
 /// The judgement of a table by its rows, as a walk comes to its fields.
@@ -160,7 +160,7 @@ impl Show for Judged<'_> {
                         None
                     }
                     "named" => unnamed_in(shown),
-                    _ if is_within(number, row.test) => None,
+                    _ if meets(number, row.test) => None,
                     _ => Some(number),
                 };
                 if let Some(number) = wrong {
@@ -197,7 +197,7 @@ fn judge_numbers(table: usize, lines: &'static str, numbers: &Numbers, findings:
 }
 
 /// Judges a table by the rows that lines are.
-fn check_table(table: Table<'_>, lines: &'static str, findings: &mut Findings) {
+fn check_lines(table: Table<'_>, lines: &'static str, findings: &mut Findings) {
     let numbers = Numbers::new(findings.alloc);
     let mut judged = Judged {
         findings,
@@ -207,7 +207,7 @@ fn check_table(table: Table<'_>, lines: &'static str, findings: &mut Findings) {
         depth: 0,
         numbers,
     };
-    walk_table(own_signature(table.bytes), table.bytes, &mut judged);
+    walk_table(table.signature(), table.bytes, &mut judged);
     let Judged {
         findings,
         mut numbers,
@@ -217,16 +217,17 @@ fn check_table(table: Table<'_>, lines: &'static str, findings: &mut Findings) {
     judge_numbers(table.index, lines, &numbers, findings);
 }
 
-/// Judges the first table of each signature that has rows.
-pub(crate) fn check_rows(machine: &Machine<'_>, findings: &mut Findings) {
+/// Judges a table by the rows of its signature.
+pub(crate) fn check_rows(table: Table<'_>, findings: &mut Findings) {
     for block in ROWS.split('=').skip(1) {
         let (head, lines) = cut_at(block, '\n');
         let (name, head) = next_word(head);
         let (place, range) = next_word(head);
-        if let Some(table) = machine.first(own_signature(name.as_bytes()))
-            && (place.is_empty() || is_within(number_from(table.bytes, place), range))
+        if own_signature(name.as_bytes()) == table.signature()
+            && (place.is_empty()
+                || is_chosen(number_from(table.bytes, place), range.trim_ascii()))
         {
-            check_table(table, lines, findings);
+            check_lines(table, lines, findings);
         }
     }
 }

@@ -1,6 +1,6 @@
 //! The rules that the lines of the subjects describe.
 
-use crate::RULES;
+use crate::subjects;
 use acpi_dump_input::judgement::{Rule, Severity};
 use acpi_dump_walk::language::{cut_at, next_word};
 use std::alloc::{AllocError, Global};
@@ -19,7 +19,7 @@ pub(crate) const UNKNOWN: Rule = Rule {
 /// Fails if memory runs out.
 pub fn rules(alloc: Global) -> Result<Vec<Rule>, AllocError> {
     let mut all = Vec::new(alloc);
-    for subject in &RULES {
+    for subject in &subjects() {
         for line in subject.split('\n') {
             let (id, line) = next_word(line);
             let (severity, line) = next_word(line);

@@ -1,5 +1,5 @@
 use Rattle.std.proofs.Common.{length}
-use Rattle.acpi_dump_check.proofs.affinities.check_ranges.Given as goal
+use Rattle.acpi_dump_check.proofs.affinities.add_entries.Given as goal
 
 -- each entry leaves fewer bytes
 abbrev pub decreases-loop-entry : goal.decreases-loop-entry
