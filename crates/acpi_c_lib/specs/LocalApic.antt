@@ -6,8 +6,8 @@ use Rattle.acpi_c_lib.specs.Devices.{flag}
 use Rattle.acpi_c_lib.specs.Model.{Apics, apics_by}
 pub use Rattle.acpi_c_lib.specs.declared.interrupt_records.LocalApic.{LocalApic}
 
--- the two fields that a model of APICs has of these: the address is that of the last Local APIC Address Override (section
--- 5.2.12.8), or else the table's
+-- the two fields that a model of APICs has of these: the address is in the last Local APIC Address Override (section
+-- 5.2.12.8), or else in the table's own field
 abbrev pub local_apic_record : Apics → LocalApic
 local_apic_record apics = record {
   address = apics.local_apic_address;

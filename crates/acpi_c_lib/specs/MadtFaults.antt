@@ -16,8 +16,8 @@ madt_fault e = if is_short e then Some ShortRiscvEntry else option_map madt_refu
 
 -- the faults of the table at an address
 abbrev pub madt_faults_of : ℕ × List ℕ → List EntryFault
-madt_faults_of found = faults_from (fault_at madt_fault) (rest_faults (madt_refusal InvalidEntryLength) (cut_of found.1).1)
-    (found.0 + 44) (cut_of found.1).0
+madt_faults_of found = faults_from (fault_at madt_fault)
+    (rest_faults (madt_refusal InvalidEntryLength) (cut_of found.1).1) (found.0 + 44) (cut_of found.1).0
 
 abbrev pub madt_faults_below : Source → Result (List EntryFault) Refusal
 madt_faults_below s = result_map madt_faults_of (found_table madt_kind s)

@@ -58,7 +58,7 @@ pub fn dmar_scopes(
 ) -> Result<usize, Refusal>
     ensures { Fills result out.old out.new (dmar_scopes_below source.now index) }
 {
-    dmar_structure_scopes(source, 0, index, out)
+    dmar_structure_scopes(source, 0, index, out) // Type 0, a DRHD
 }
 
 /// Lists the device scopes of the `index`-th structure of a type of the first valid DMAR, counted from 0 (section

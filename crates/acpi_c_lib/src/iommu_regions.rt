@@ -1,5 +1,5 @@
-//! The lists of what a DMAR and an IVRS have beside units: memory that is reserved or has its own rules, root ports, and
-//! the domains of units, each as it is.
+//! The lists of what a DMAR and an IVRS have beside units: memory that is reserved or has its own rules, root ports,
+//! and the domains of units, each as it is.
 ghost use Rattle.std.specs.Prelude.{◌≡◌, filter_map, refl};
 ghost use Rattle.acpi_iommu.specs.Words.{block_bytes, blocks_left, structure_bytes, structures_left};
 ghost use Rattle.acpi_c_lib.specs.Words.{Fills, Writes, dmar_affinities_below, dmar_affinities_in, dmar_affinity_shown, dmar_regions_below, dmar_regions_in, dmar_root_ports_below, dmar_root_ports_in, ivmd_shown, ivrs_regions_below, ivrs_regions_in, lists_by, rmrr_shown, root_ports_shown};

@@ -12,8 +12,8 @@ use acpi::madt::Madt;
 use acpi::{Lender, PhysicalMapping};
 use acpi_base::model::MadtItem;
 
-/// The address of the local APICs, and whether the machine has 8259s too, by the first valid MADT. What is wrong with its
-/// other entries changes nothing, and neither does the FADT.
+/// The address of the local APICs, and whether the machine has 8259s too, by the first valid MADT. What is wrong with
+/// its other entries changes nothing, and neither does the FADT.
 pub fn local_apic(source: &Source<'_>) -> Result<LocalApic, Refusal>
     ensures { result ≡ local_apic_below source.now }
 {

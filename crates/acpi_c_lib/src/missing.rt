@@ -202,7 +202,8 @@ fn dsdt_hole<H: AcpiHandler>(handler: &H, accept: u32, fadt: &FadtView<'_, H>) -
 /// Length (section 5.2.10).
 #[tactic(auto, using(crate::proofs::Unlent::no_hole), unfolding(acpi::specs::Places::facs_at, acpi::specs::Places::facs_length))]
 fn facs_hole<H: AcpiHandler>(handler: &H, fadt: &FadtView<'_, H>) -> Option<Range>
-    ensures { let m = H.memory handler.now in result ≡ hole (facs_place m (viewed fadt.now)) (facs_place_ranges m (viewed fadt.now)) }
+    ensures { let m = H.memory handler.now in
+        result ≡ hole (facs_place m (viewed fadt.now)) (facs_place_ranges m (viewed fadt.now)) }
 {
     let address = fadt.facs_address().ok()?;
     let Ok(head) = PhysicalMapping::<'_, H, SdtHeader>::map(handler, address, 36) else {

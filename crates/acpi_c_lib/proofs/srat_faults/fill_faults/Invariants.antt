@@ -7,7 +7,8 @@ use Rattle.acpi_c_lib.proofs.srat_faults.fill_faults.Given as goal
 abbrev pub invariant-loop-entry : goal.invariant-loop-entry
 invariant-loop-entry l =
     let left = cut srat_grammar l.rest in
-    let faults = faults_from (fault_at (srat_fault l.revision)) (rest_faults InvalidSratEntryLength left.1) l.at left.0 in
+    let rest = rest_faults InvalidSratEntryLength left.1 in
+    let faults = faults_from (fault_at (srat_fault l.revision)) rest l.at left.0 in
     let all = srat_faults_of (l.address, l.table) in
     (put_from l.out l.count faults ≡ put_from l.initial.out 0 all)
     × (l.count + length faults ≡ length all)
