@@ -93,7 +93,7 @@ def imported(module, names, word):
         return line
     lines = ['']
     for name in names:
-        if len(lines[-1]) + len(name) + 2 > 96:
+        if len(lines[-1]) + len(name) + 2 > 95:
             lines.append('')
         lines[-1] += (' ' if lines[-1] else '') + name + ','
     return '\n'.join([f'{word} {module}::{{', *(f'    {line}' for line in lines), '};'])

@@ -7,5 +7,4 @@
 //! or keeps a state. A list writes its first items up to the capacity, and how many there are.
 #![tactic(auto)]
 
-mod by_hand;
 mod made;

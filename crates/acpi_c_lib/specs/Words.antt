@@ -556,3 +556,4 @@ pub use Rattle.acpi_c_lib.specs.WrittenMachine.{
   tree_said,
 }
 pub use Rattle.acpi_c_lib.specs.declared.interrupt_records.Processor.{Processor}
+unfoldable pub use Rattle.acpi_writer.specs.Words.{facs_written}

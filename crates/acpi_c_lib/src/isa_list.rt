@@ -2,12 +2,13 @@
 ghost use Rattle.std.specs.Prelude.{◌≡◌, ◌<◌, ℕ, None, map, slice_index_or};
 ghost use Rattle.acpi_base.specs.FromStd.{result_unwrap_or};
 ghost use Rattle.acpi_base.specs.Words.{entries_of};
-ghost use Rattle.acpi_c_lib.specs.Words.{result_map, isa_in, isa_list_below, isa_numbers, isa_route, nearer_of, no_route, number_of, route_of};
+ghost use Rattle.acpi_c_lib.specs.Words.{Answers, result_map, isa_in, isa_list_below, isa_numbers, isa_route, nearer_of, no_route, number_of, route_of};
 
+use crate::answer::answer;
 use crate::apics::apics;
 use crate::interrupt_records::{Interrupt, IoApicPin, IsaInterrupts, IsaRoute};
 use crate::interrupts::io_apic_record;
-use crate::records::Source;
+use crate::records::{Signature, Source};
 use crate::refusal::Refusal;
 use crate::regions::Mapped;
 use crate::routes::io_apic;
@@ -15,8 +16,15 @@ use crate::wirings::Wirings;
 use acpi::platform::interrupt::IoApic;
 use acpi_base::madt::MadtEntryIter;
 
+/// The number that C gets of the 16 ISA interrupts, each with its pin.
+pub fn isa_interrupts(source: &Source<'_>, out: &mut IsaInterrupts, named: &mut Signature) -> u32
+    ensures { Answers result out.old out.new named.old named.new (isa_list_below source.now) }
+{
+    answer(isa_list(source, out), &mut (), named)
+}
+
 /// Writes the 16 ISA interrupts, each with its pin. They are written in place, since a copy takes much of the stack.
-pub fn isa_list(source: &Source<'_>, out: &mut IsaInterrupts) -> Result<(), Refusal>
+fn isa_list(source: &Source<'_>, out: &mut IsaInterrupts) -> Result<(), Refusal>
     ensures said { result ≡ result_map (λ list. tt) (isa_list_below source.now) }
     ensures written { out.new ≡ result_unwrap_or (isa_list_below source.now) out.old }
 {

@@ -78,7 +78,7 @@ fn dsdt_answer<H: AcpiHandler>(
     block_answer(Signature::DSDT, state, dsdt.bytes())
 }
 
-/// What to write to enter a sleep state, or with S5 to power the machine off, by the first valid FADT.
+/// What to write to enter a sleep state, by the first valid FADT.
 pub fn sleep_plan(source: &Source<'_>, state: u32) -> Result<Plan, Refusal>
     ensures { result ≡ sleep_plan_below source.now state }
 {
@@ -86,6 +86,13 @@ pub fn sleep_plan(source: &Source<'_>, state: u32) -> Result<Plan, Refusal>
     let memory = Mapped::new(source.regions);
     let fadt = first_fadt(&memory, source)?;
     plan_said(acpi_sleep::sleep_plan(&fadt, types))
+}
+
+/// What to write to power the machine off: to enter S5 (section 16.1).
+pub fn power_off_plan(source: &Source<'_>) -> Result<Plan, Refusal>
+    ensures { result ≡ sleep_plan_below source.now 5 }
+{
+    sleep_plan(source, 5)
 }
 
 /// What to write to enable ACPI, by the first valid FADT.

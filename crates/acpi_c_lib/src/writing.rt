@@ -1,6 +1,6 @@
 //! Tables that are written for C, from its records, as `acpi_writer` writes them.
 ghost use Rattle.std.specs.Prelude.{◌≡◌, length, take};
-ghost use Rattle.acpi_c_lib.specs.Words.{Gives, AnswersPlain, signature_named, Keeps, table_written};
+ghost use Rattle.acpi_c_lib.specs.Words.{Gives, AnswersPlain, signature_named, Keeps, facs_contents, facs_written, table_written};
 ghost use Rattle.acpi_c_lib.specs.Writing as writing;
 
 mod bgrt;
@@ -16,14 +16,15 @@ use crate::answer::answer_plain;
 use crate::records::{self, PciRegion};
 use crate::refusal::Refusal;
 use crate::tables::signature_named;
+use crate::written_records::FacsContents;
 use acpi::HpetInfo;
 use acpi::hpet::PageProtection;
 use acpi_base::mcfg::McfgEntry;
 use acpi_writer::spelled::{Bytes, StandsFor};
 use acpi_writer::{TableIds, WriterError};
 pub use acpi_writer::{
-    write_dsdt, write_facs, write_rhct, write_riscv_madt, write_rsdp, write_rsdt, write_slit,
-    write_ssdt, write_xsdt,
+    write_dsdt, write_rhct, write_riscv_madt, write_rsdp, write_rsdt, write_slit, write_ssdt,
+    write_xsdt,
 };
 pub use machine::{
     Contents, dsdt_place, tables_size, write_contents, write_hardware, write_tables,
@@ -51,6 +52,15 @@ pub fn write_table(
     ensures keeps { Keeps result out.old out.new }
 {
     acpi_writer::write_table(out, signature_named(signature), revision, ids, &Bytes(body))
+}
+
+/// Writes a FACS, as `acpi_writer::write_facs` does.
+pub fn write_facs(out: &mut [u8], contents: &FacsContents) -> Result<usize, WriterError>
+    ensures exact { Gives (λ n. take n out.new) result
+        (facs_written (length out.old) (facs_contents contents.now)) }
+    ensures keeps { Keeps result out.old out.new }
+{
+    acpi_writer::write_facs(out, &contents.contents())
 }
 
 impl records::HpetInfo {

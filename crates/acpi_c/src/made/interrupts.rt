@@ -1,16 +1,18 @@
 //! Made by scripts/exports of include/zacpi.h, which has what each call does.
-ghost use Rattle.acpi_c_lib.specs.Words.{Answers, AnswersList, below_apics, below_platform, counts_of, io_apic_in, isa_below, local_apic_below, madt_faults_below, mailbox_below, nmi_line_in, nmi_source_in, override_in, pin_below, processors_below, sci_below};
-ghost use Rattle.std.specs.Prelude.{filter_map};
+ghost use Rattle.acpi_c_lib.specs.Words.{Answers, AnswersList, AtSamePlaces, CountsBeside, below_apics, below_known, below_platform, counts_of, io_apic_in, isa_below, isa_list_below, items_beside, local_apic_below, madt_faults_below, mailbox_below, nmi_line_in, nmi_source_in, override_in, pin_below, processors_below, put_from, sci_below};
+ghost use Rattle.std.specs.Prelude.{filter_map, ◌≡◌};
 
 use acpi_c_lib::answer::answer;
 use acpi_c_lib::apics::{entries, mailbox, processors};
 use acpi_c_lib::entry_faults::EntryFault;
 use acpi_c_lib::interrupt_records::{
-    Interrupt, InterruptModel, InterruptSourceOverride, IoApic, IoApicPin, LocalApic, NmiLine,
-    NmiSource, Processor,
+    Interrupt, InterruptModel, InterruptSourceOverride, IoApic, IoApicPin, IsaInterrupts,
+    LocalApic, NmiLine, NmiSource, PlatformLists, Processor,
 };
+use acpi_c_lib::isa_list::isa_interrupts;
 use acpi_c_lib::local_apic::local_apic;
 use acpi_c_lib::madt_faults::madt_faults;
+use acpi_c_lib::platform::platform;
 use acpi_c_lib::processors::model;
 use acpi_c_lib::records::{Signature, Source};
 use acpi_c_lib::routes::{isa, pin, sci};
@@ -137,6 +139,36 @@ pub extern "C" fn zacpi_1_list_madt_faults(
     answer(madt_faults(source, out), count, named)
 }
 
+/// Returns what zacpi_get_interrupt_model returns, and writes the first items of the five lists above.
+#[unsafe(no_mangle)]
+pub extern "C" fn zacpi_1_get_platform(
+    source: &Source<'_>,
+    out: &mut InterruptModel,
+    lists: &mut PlatformLists<'_>,
+    named: &mut Signature,
+) -> u32
+    ensures model { Answers result out.old out.new named.old named.new (below_known source.now counts_of) }
+    ensures processors { lists.new.processors.now
+        ≡ put_from lists.old.processors.now 0 (items_beside (below_known source.now counts_of) (processors_below
+        source.now)) }
+    ensures io_apics { lists.new.io_apics.now
+        ≡ put_from lists.old.io_apics.now 0 (items_beside (below_known source.now counts_of) (below_apics source.now
+        (filter_map io_apic_in))) }
+    ensures overrides { lists.new.overrides.now
+        ≡ put_from lists.old.overrides.now 0 (items_beside (below_known source.now counts_of) (below_apics source.now
+        (filter_map override_in))) }
+    ensures nmi_sources { lists.new.nmi_sources.now
+        ≡ put_from lists.old.nmi_sources.now 0 (items_beside (below_known source.now counts_of) (below_apics source.now
+        (filter_map nmi_source_in))) }
+    ensures nmi_lines { lists.new.nmi_lines.now
+        ≡ put_from lists.old.nmi_lines.now 0 (items_beside (below_known source.now counts_of) (below_apics source.now
+        (filter_map nmi_line_in))) }
+    ensures counts { CountsBeside lists.old lists.new (below_known source.now counts_of) }
+    ensures places { AtSamePlaces lists.old lists.new }
+{
+    answer(platform(source, lists), out, named)
+}
+
 /// Returns how one of the 16 ISA interrupts comes to the I/O APICs: by its last override of bus 0, or else as the
 /// interrupt of the same number; active high and by edge unless the override has others (section 5.2.12.5).
 #[unsafe(no_mangle)]
@@ -177,4 +209,16 @@ pub extern "C" fn zacpi_1_get_io_apic_pin(
     ensures { Answers result out.old out.new named.old named.new (pin_below source.now interrupt) }
 {
     answer(pin(source, interrupt), out, named)
+}
+
+/// Returns all 16 ISA interrupts, each with its pin.
+#[unsafe(no_mangle)]
+pub extern "C" fn zacpi_1_get_isa_interrupts(
+    source: &Source<'_>,
+    out: &mut IsaInterrupts,
+    named: &mut Signature,
+) -> u32
+    ensures { Answers result out.old out.new named.old named.new (isa_list_below source.now) }
+{
+    isa_interrupts(source, out, named)
 }

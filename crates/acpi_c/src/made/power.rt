@@ -2,7 +2,7 @@
 ghost use Rattle.acpi_c_lib.specs.Words.{Answers, enable_plan_below, reset_plan_below, sleep_plan_below, sleep_types_below};
 
 use acpi_c_lib::answer::answer;
-use acpi_c_lib::power::{enable_plan, reset_plan, sleep_plan, sleep_types};
+use acpi_c_lib::power::{enable_plan, power_off_plan, reset_plan, sleep_plan, sleep_types};
 use acpi_c_lib::power_records::{Plan, SleepTypes};
 use acpi_c_lib::records::{Signature, Source};
 
@@ -31,6 +31,18 @@ pub extern "C" fn zacpi_1_get_sleep_plan(
     ensures { Answers result out.old out.new named.old named.new (sleep_plan_below source.now state) }
 {
     answer(sleep_plan(source, state), out, named)
+}
+
+/// Returns what to write to power the machine off, what zacpi_get_sleep_plan returns for S5.
+#[unsafe(no_mangle)]
+pub extern "C" fn zacpi_1_get_power_off_plan(
+    source: &Source<'_>,
+    out: &mut Plan,
+    named: &mut Signature,
+) -> u32
+    ensures { Answers result out.old out.new named.old named.new (sleep_plan_below source.now 5) }
+{
+    answer(power_off_plan(source), out, named)
 }
 
 /// Returns what to write to reset the machine.

@@ -1,15 +1,30 @@
 //! Made by scripts/exports of include/zacpi.h, which has what each call does.
-ghost use Rattle.acpi_c_lib.specs.Words.{Answers, AnswersList, dsdt_below, faults_below, members_below, missing_below, nth_below, ranges_below, root_below, rsdp_below, ssdts_below, table_below, tables_below};
+ghost use Rattle.acpi_base.specs.FromStd.{result_unwrap_or};
+ghost use Rattle.acpi_c_lib.specs.Words.{Answers, AnswersList, AnswersPlain, dsdt_below, entries_below, entries_said, faults_below, left_said, members_below, missing_below, nth_below, ranges_below, result_map, root_below, rsdp_below, source_of_rsdp, ssdts_below, table_below, tables_below};
+ghost use Rattle.std.specs.Prelude.{◌≡◌};
 
-use acpi_c_lib::answer::answer;
+use acpi_c_lib::answer::{answer, answer_plain};
+use acpi_c_lib::copied::start_of_rsdp;
+use acpi_c_lib::entries::table_entries;
 use acpi_c_lib::faults::faults;
 use acpi_c_lib::members::members;
 use acpi_c_lib::missing::missing;
 use acpi_c_lib::opening::root;
-use acpi_c_lib::records::{AmlTable, Fault, Member, Range, Root, Rsdp, Signature, Source, Table};
+use acpi_c_lib::records::{
+    AmlTable, Entry, Fault, Member, Range, Root, Rsdp, Signature, Source, Table, Walk,
+};
 use acpi_c_lib::rsdp::rsdp;
 use acpi_c_lib::tables::{dsdt, find, ssdts, tables};
 use acpi_c_lib::walks::{nth, ranges};
+
+/// Makes the root table that a copy of the RSDP points to (multiboot2's tags 14 and 15) the start of `source`, whose
+/// regions and `accept` stay.
+#[unsafe(no_mangle)]
+pub extern "C" fn zacpi_1_start_of_rsdp(copy: &[u8], source: &mut Source<'_>) -> u32
+    ensures { AnswersPlain result source.old source.new (source_of_rsdp copy.now source.old) }
+{
+    answer_plain(start_of_rsdp(copy, *source), source)
+}
 
 /// Returns the root table (sections 5.2.7 and 5.2.8).
 #[unsafe(no_mangle)]
@@ -98,6 +113,29 @@ pub extern "C" fn zacpi_1_find_nth_table(
     ensures { Answers result out.old out.new named.old named.new (nth_below source.now name index) }
 {
     answer(nth(source, name, index), out, named)
+}
+
+/// Lists the entries of the table at address `table`, listed or not, by a walk of its kind; `start` isn't looked at.
+#[unsafe(no_mangle)]
+pub extern "C" fn zacpi_1_list_entries(
+    source: &Source<'_>,
+    address: u64,
+    walk: &Walk,
+    out: &mut [Entry],
+    count: &mut usize,
+    malformed: &mut u8,
+    named: &mut Signature,
+) -> u32
+    ensures items { AnswersList result out.old out.new count.old count.new named.old named.new
+        (result_map entries_said (entries_below source.now address walk.now)) }
+    ensures malformed { malformed.new
+        ≡ result_unwrap_or (result_map left_said (entries_below source.now address walk.now)) malformed.old }
+{
+    answer(
+        table_entries(source, address, *walk, out, malformed),
+        count,
+        named,
+    )
 }
 
 /// Lists the members of the root table that a lookup of the wanted signature, by a call that needs its fixed fields,

@@ -1,22 +1,22 @@
 //! Made by scripts/exports of include/zacpi.h, which has what each call does.
 ghost use Rattle.acpi.specs.Types.{DSDT, SSDT};
 ghost use Rattle.acpi.specs.declared.root.RootKind.TheVariants.{Rsdt, Xsdt};
-ghost use Rattle.acpi_c_lib.specs.Words.{AnswersPlain, WritesTable, dsdt_said, machine_said, signature_named, size_said, table_said, tree_said, writer_refused};
-ghost use Rattle.acpi_c_lib.specs.declared.writing.machine.Contents.TheVariants.{Bgrt, Fadt, Gic, Gtdt, Hpet, Madt, Spcr, Srat};
-ghost use Rattle.acpi_writer.specs.Words.{aml_written, rhct_written, riscv_written, root_written, rsdp_written, slit_written, table_written};
+ghost use Rattle.acpi_c_lib.specs.Words.{AnswersPlain, WritesTable, dsdt_said, facs_contents, machine_said, signature_named, size_said, table_said, tree_said, writer_refused};
+ghost use Rattle.acpi_c_lib.specs.declared.writing.machine.Contents.TheVariants.{Bgrt, Fadt, Gic, Gtdt, Hpet, Madt, Mcfg, Spcr, Srat};
+ghost use Rattle.acpi_writer.specs.Words.{aml_written, facs_written, rhct_written, riscv_written, root_written, rsdp_written, slit_written, table_written};
 ghost use Rattle.std.specs.Prelude.{length};
 
 use acpi_c_lib::answer::answer_plain;
 use acpi_c_lib::fixed_records::FixedHardware;
-use acpi_c_lib::records::{BootGraphic, HpetInfo, Signature};
+use acpi_c_lib::records::{BootGraphic, HpetInfo, PciRegion, Signature};
 use acpi_c_lib::writing::{
-    Contents, dsdt_place, tables_size, write_contents, write_dsdt, write_hardware, write_rhct,
-    write_riscv_madt, write_rsdp, write_rsdt, write_slit, write_ssdt, write_table, write_tables,
-    write_tables_without_rsdp, write_xsdt, written,
+    Contents, dsdt_place, tables_size, write_contents, write_dsdt, write_facs, write_hardware,
+    write_rhct, write_riscv_madt, write_rsdp, write_rsdt, write_slit, write_ssdt, write_table,
+    write_tables, write_tables_without_rsdp, write_xsdt, written,
 };
 use acpi_c_lib::written_records::{
-    GicContents, GtdtContents, Machine, MadtContents, RhctContents, RiscvContents, SpcrContents,
-    SratContents, TableIds,
+    FacsContents, GicContents, GtdtContents, Machine, MadtContents, RhctContents, RiscvContents,
+    SpcrContents, SratContents, TableIds,
 };
 
 /// Writes an RSDP of revision 2 that points to an XSDT (section 5.2.5.3): 36 bytes.
@@ -168,6 +168,20 @@ pub extern "C" fn zacpi_1_write_rhct(
     written(write_rhct(out, ids, contents), count)
 }
 
+/// Writes an MCFG of these regions, in order (PCI Firmware Specification, section 4.1.2).
+#[unsafe(no_mangle)]
+pub extern "C" fn zacpi_1_write_mcfg(
+    ids: &TableIds,
+    regions: &[PciRegion],
+    out: &mut [u8],
+    count: &mut usize,
+) -> u32
+    ensures { WritesTable result out.old out.new count.old count.new
+        (table_said (length out.old) ids.now (Mcfg regions.entry)) }
+{
+    answer_plain(write_contents(out, ids, &Contents::Mcfg(regions)), count)
+}
+
 /// Writes an HPET of revision 1 (IA-PC HPET Specification), with registers in memory of a Register Bit Width of 0.
 #[unsafe(no_mangle)]
 pub extern "C" fn zacpi_1_write_hpet(
@@ -267,6 +281,19 @@ pub extern "C" fn zacpi_1_write_fadt(
         (table_said (length out.old) ids.now (Fadt hardware.now)) }
 {
     answer_plain(write_hardware(out, ids, hardware), count)
+}
+
+/// Writes a FACS of version 2, 64 bytes, with a Global Lock of 0 (section 5.2.10).
+#[unsafe(no_mangle)]
+pub extern "C" fn zacpi_1_write_facs(
+    contents: &FacsContents,
+    out: &mut [u8],
+    count: &mut usize,
+) -> u32
+    ensures { WritesTable result out.old out.new count.old count.new
+        (writer_refused (facs_written (length out.old) (facs_contents contents.now))) }
+{
+    written(write_facs(out, contents), count)
 }
 
 /// Writes all tables of a machine, for memory from `address` on: the RSDP, after 48 bytes the XSDT, the DSDT, 128 bytes

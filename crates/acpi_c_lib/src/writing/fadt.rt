@@ -225,7 +225,7 @@ pub(crate) fn has_codes(h: &FixedHardware) -> bool
 
 impl FacsContents {
     /// What the FACS is to contain, as the writer has it.
-    pub fn contents(&self) -> acpi_writer::FacsContents
+    pub(crate) fn contents(&self) -> acpi_writer::FacsContents
         ensures { result ≡ written.facs_contents self.now }
     {
         acpi_writer::FacsContents {

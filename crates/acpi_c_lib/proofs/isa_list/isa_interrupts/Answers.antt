@@ -3,7 +3,7 @@ use Rattle.acpi_base.specs.FromStd.{result_unwrap_or}
 use Rattle.acpi_c_lib.specs.Words.{Answers, result_map}
 use Rattle.acpi_c_lib.specs.declared.records.Signature.{Signature}
 use Rattle.acpi_c_lib.specs.declared.refusal.Refusal.{Refusal}
-use Rattle.acpi_c.proofs.by_hand.zacpi_1_get_isa_interrupts.Goals as goal
+use Rattle.acpi_c_lib.proofs.isa_list.isa_interrupts.Goals as goal
 
 -- a value that was written is answered
 written : {A : Type 0} (said : Result A Refusal) (old new : A) (status : ℕ) (old_unit new_unit : Unit {0})
