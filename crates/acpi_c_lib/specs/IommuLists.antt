@@ -1,9 +1,9 @@
 -- The units of a DMAR (Intel Virtualization Technology for Directed I/O 4.0, chapter 8) and of an IVRS (AMD I/O
 -- Virtualization Technology (IOMMU) Specification 3.08, section 5.2), each as it is there, and what each names.
-use Rattle.std.specs.Prelude.{ℕ, ◌==◌, Bool, List, length, filter, filter_map, map, replicate, slice_get, Option, Some, None, Result, Ok, if◌then◌else◌, ok_or, unwrap_or}
+use Rattle.std.specs.Prelude.{ℕ, ◌==◌, Bool, List, length, filter, map, replicate, slice_get, Option, Some, None, Result, Ok, if◌then◌else◌, ok_or, unwrap_or}
 use Rattle.acpi_base.specs.Words.{◌>>=◌, filled_part}
 use Rattle.acpi_iommu.specs.Words.{alias_of, block_kind, blocks_of, drhd_at, entries_of, entry_kind, enumeration_id, extended_of, first_id, is_ivhd, ivhd_at, kind_of, last_id, path_of, scope_flags, scope_kind, scopes_of, settings_of, special_of, start_bus, structures_of, unique_id, unique_id_format}
-use Rattle.acpi_c_lib.specs.Answers.{put_from, result_map}
+use Rattle.acpi_c_lib.specs.Answers.{put_from}
 use Rattle.acpi_c_lib.specs.Below.{Refusal, Source}
 use Rattle.acpi_c_lib.specs.Iommu.{block_record, dmar_in, ivrs_in, unit_record}
 use Rattle.acpi_c_lib.specs.Types.{DmarScope, DmarUnit, Hop, IvrsEntry, IvrsUnit, NoIommu, SpecialDevice}
@@ -17,12 +17,6 @@ is_of_type kind e = kind_of e == kind
 -- the unit that a DRHD, type 0, is
 abbrev pub drhd_shown : List ℕ → Option DmarUnit
 drhd_shown e = if is_of_type 0 e then Some (unit_record (drhd_at e)) else None
-
-abbrev pub dmar_units_in : List ℕ → List DmarUnit
-dmar_units_in table = filter_map drhd_shown (structures_of table)
-
-abbrev pub dmar_units_below : Source → Result (List DmarUnit) Refusal
-dmar_units_below s = result_map dmar_units_in (dmar_in s)
 
 -- the structure of this type at an index, counted from 0
 abbrev pub structure_in : ℕ → List ℕ → ℕ → Option (List ℕ)
@@ -63,12 +57,6 @@ is_ivhd_block b = is_ivhd (block_kind b)
 
 abbrev pub ivhd_shown : List ℕ → Option IvrsUnit
 ivhd_shown b = if is_ivhd_block b then Some (block_record (ivhd_at b)) else None
-
-abbrev pub ivrs_units_in : List ℕ → List IvrsUnit
-ivrs_units_in table = filter_map ivhd_shown (blocks_of table)
-
-abbrev pub ivrs_units_below : Source → Result (List IvrsUnit) Refusal
-ivrs_units_below s = result_map ivrs_units_in (ivrs_in s)
 
 -- the IVHD at an index, counted from 0
 abbrev pub ivhd_in : List ℕ → ℕ → Option (List ℕ)

@@ -15,6 +15,10 @@ use Rattle.acpi_c_lib.specs.Types.{DmarAffinity, DmarReserved, DmarRootPorts, Iv
 
 -- ---- the DMAR
 
+-- what the structures of one type of the first valid DMAR show
+abbrev pub below_dmar : {A : Type 0} → Source → (List ℕ → Option A) → Result (List A) Refusal
+below_dmar s shown = result_map (λ table. filter_map shown (structures_of table)) (dmar_in s)
+
 -- the memory of an RMRR (section 8.4)
 abbrev pub region_in : DmarFields → Option DmarReserved
 region_in (dmar.Rmrr r) = Some (reserved_record r)
@@ -22,12 +26,6 @@ region_in _ = None
 
 abbrev pub rmrr_shown : List ℕ → Option DmarReserved
 rmrr_shown e = option_and_then region_in (fields_of e)
-
-abbrev pub dmar_regions_in : List ℕ → List DmarReserved
-dmar_regions_in table = filter_map rmrr_shown (structures_of table)
-
-abbrev pub dmar_regions_below : Source → Result (List DmarReserved) Refusal
-dmar_regions_below s = result_map dmar_regions_in (dmar_in s)
 
 -- the ports of an ATSR (section 8.5)
 abbrev pub ports_in : DmarFields → Option DmarRootPorts
@@ -41,12 +39,6 @@ ports_in _ = None
 abbrev pub root_ports_shown : List ℕ → Option DmarRootPorts
 root_ports_shown e = option_and_then ports_in (fields_of e)
 
-abbrev pub dmar_root_ports_in : List ℕ → List DmarRootPorts
-dmar_root_ports_in table = filter_map root_ports_shown (structures_of table)
-
-abbrev pub dmar_root_ports_below : Source → Result (List DmarRootPorts) Refusal
-dmar_root_ports_below s = result_map dmar_root_ports_in (dmar_in s)
-
 -- the unit and the domain of an RHSA (section 8.6)
 abbrev pub affinity_in : DmarFields → Option DmarAffinity
 affinity_in (dmar.Rhsa r) = Some (record { register_base = r.register_base; domain = r.domain })
@@ -55,13 +47,11 @@ affinity_in _ = None
 abbrev pub dmar_affinity_shown : List ℕ → Option DmarAffinity
 dmar_affinity_shown e = option_and_then affinity_in (fields_of e)
 
-abbrev pub dmar_affinities_in : List ℕ → List DmarAffinity
-dmar_affinities_in table = filter_map dmar_affinity_shown (structures_of table)
-
-abbrev pub dmar_affinities_below : Source → Result (List DmarAffinity) Refusal
-dmar_affinities_below s = result_map dmar_affinities_in (dmar_in s)
-
 -- ---- the IVRS
+
+-- what the blocks of one type of the first valid IVRS show
+abbrev pub below_ivrs : {A : Type 0} → Source → (List ℕ → Option A) → Result (List A) Refusal
+below_ivrs s shown = result_map (λ table. filter_map shown (blocks_of table)) (ivrs_in s)
 
 -- the memory of an IVMD
 abbrev pub memory_of_block : IvrsFields → Option IvrsMemory
@@ -70,9 +60,3 @@ memory_of_block (ivrs.Ivhd b) = None
 
 abbrev pub ivmd_shown : List ℕ → Option IvrsMemory
 ivmd_shown b = option_and_then memory_of_block (block_fields b)
-
-abbrev pub ivrs_regions_in : List ℕ → List IvrsMemory
-ivrs_regions_in table = filter_map ivmd_shown (blocks_of table)
-
-abbrev pub ivrs_regions_below : Source → Result (List IvrsMemory) Refusal
-ivrs_regions_below s = result_map ivrs_regions_in (ivrs_in s)

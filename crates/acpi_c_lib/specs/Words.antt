@@ -205,8 +205,6 @@ pub use Rattle.acpi_c_lib.specs.IommuFaults.{
 }
 pub use Rattle.acpi_c_lib.specs.IommuLists.{
   dmar_scopes_below,
-  dmar_units_below,
-  dmar_units_in,
   drhd_shown,
   entry_shown,
   hid_part,
@@ -215,8 +213,6 @@ pub use Rattle.acpi_c_lib.specs.IommuLists.{
   ivhd_in,
   ivhd_shown,
   ivrs_entries_below,
-  ivrs_units_below,
-  ivrs_units_in,
   path_shown,
   scope_record,
   special_or,
@@ -224,16 +220,10 @@ pub use Rattle.acpi_c_lib.specs.IommuLists.{
   structure_scopes_below,
 }
 pub use Rattle.acpi_c_lib.specs.IommuRegions.{
-  dmar_affinities_below,
-  dmar_affinities_in,
+  below_dmar,
+  below_ivrs,
   dmar_affinity_shown,
-  dmar_regions_below,
-  dmar_regions_in,
-  dmar_root_ports_below,
-  dmar_root_ports_in,
   ivmd_shown,
-  ivrs_regions_below,
-  ivrs_regions_in,
   rmrr_shown,
   root_ports_shown,
 }

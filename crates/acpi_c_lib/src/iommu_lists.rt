@@ -1,10 +1,9 @@
-//! The lists of the units that remap devices' accesses to memory, each as it is in its table, and of what each names.
-ghost use Rattle.std.specs.Prelude.{◌≡◌, Some, map, filter_map, option_map, refl};
-ghost use Rattle.acpi_iommu.specs.Words.{block_bytes, blocks_left, bytes_of_entry, bytes_of_scope, entries_left, entries_of, hops_left, path_of, scopes_left, scopes_of, structure_bytes, structures_left};
-ghost use Rattle.acpi_c_lib.specs.Words.{Fills, Writes, dmar_scopes_below, structure_scopes_below, dmar_units_below, dmar_units_in, drhd_shown, entry_shown, hid_part, ivhd_in, ivhd_shown, ivrs_entries_below, ivrs_units_below, ivrs_units_in, lists_by, path_shown, scope_record, special_or, structure_in};
+//! The lists of what the units that remap devices' accesses to memory name.
+ghost use Rattle.std.specs.Prelude.{◌≡◌, Some, map, option_map, refl};
+ghost use Rattle.acpi_iommu.specs.Words.{block_bytes, bytes_of_entry, bytes_of_scope, entries_left, entries_of, hops_left, path_of, scopes_left, scopes_of, structure_bytes};
+ghost use Rattle.acpi_c_lib.specs.Words.{Fills, Writes, dmar_scopes_below, structure_scopes_below, entry_shown, hid_part, ivhd_in, ivrs_entries_below, lists_by, path_shown, scope_record, special_or, structure_in};
 
-use crate::iommu::{block_record, unit_record};
-use crate::iommu_records::{DmarScope, DmarUnit, Hop, IvrsEntry, IvrsUnit};
+use crate::iommu_records::{DmarScope, Hop, IvrsEntry};
 use crate::lists::{Listing, fill};
 use crate::opening::first;
 use crate::records::Source;
@@ -12,43 +11,11 @@ use crate::refusal::Refusal;
 use crate::regions::Mapped;
 use acpi_base::bytes::filled;
 use acpi_iommu::{
-    DeviceEntry, DeviceEntryIter, DeviceScope, DeviceScopeIter, Dmar, DmarStructure,
-    DmarStructureIter, DmarUnits, HopIter, Ivrs, IvrsBlock, IvrsBlockIter, IvrsBlocks,
-    SpecialDevice,
+    DeviceEntry, DeviceEntryIter, DeviceScope, DeviceScopeIter, Dmar, DmarStructure, DmarUnits,
+    HopIter, Ivrs, IvrsBlock, IvrsBlocks, SpecialDevice,
 };
 
 // ---- the DMAR
-
-/// Lists the units of the first valid DMAR (section 8.3).
-pub fn dmar_units(source: &Source<'_>, out: &mut [DmarUnit]) -> Result<usize, Refusal>
-    ensures { Fills result out.old out.new (dmar_units_below source.now) }
-{
-    let memory = Mapped::new(source.regions);
-    let dmar = first::<Dmar>(&memory, source)?;
-    Ok(fill_drhds(dmar.bytes(), out))
-}
-
-/// Writes the units of a DMAR.
-fn fill_drhds(table: &[u8], out: &mut [DmarUnit]) -> usize
-    ensures { Writes result out.old out.new (dmar_units_in table.now) }
-{
-    fill(DmarUnits::over(table).structures(), &(), out)
-}
-
-impl Listing<(), DmarUnit> for DmarStructureIter<'_> {
-    ghost record_of = { λ known x. drhd_shown (structure_bytes x) };
-
-    ghost left = { λ known s. filter_map drhd_shown (structures_left s) };
-
-    ghost gives_first = { λ known s item t given. lists_by structure_bytes drhd_shown (filter_map drhd_shown)
-        (λ u. structures_left u) refl (λ x xs. refl) s item t given.0 };
-
-    fn record(_known: &(), structure: DmarStructure<'_>) -> Option<DmarUnit>
-        ensures { result ≡ drhd_shown (structure_bytes structure.entry) }
-    {
-        Some(unit_record(&structure.drhd()?))
-    }
-}
 
 /// Lists the device scopes of the `index`-th unit of the first valid DMAR, counted from 0 (section 8.3.1).
 pub fn dmar_scopes(
@@ -153,37 +120,6 @@ impl Listing<(), Hop> for HopIter<'_> {
 }
 
 // ---- the IVRS
-
-/// Lists the units of the first valid IVRS, of all types (section 5.2).
-pub fn ivrs_units(source: &Source<'_>, out: &mut [IvrsUnit]) -> Result<usize, Refusal>
-    ensures { Fills result out.old out.new (ivrs_units_below source.now) }
-{
-    let memory = Mapped::new(source.regions);
-    let ivrs = first::<Ivrs>(&memory, source)?;
-    Ok(fill_ivhds(ivrs.bytes(), out))
-}
-
-/// Writes the units of an IVRS.
-fn fill_ivhds(table: &[u8], out: &mut [IvrsUnit]) -> usize
-    ensures { Writes result out.old out.new (ivrs_units_in table.now) }
-{
-    fill(IvrsBlocks::over(table).blocks(), &(), out)
-}
-
-impl Listing<(), IvrsUnit> for IvrsBlockIter<'_> {
-    ghost record_of = { λ known x. ivhd_shown (block_bytes x) };
-
-    ghost left = { λ known s. filter_map ivhd_shown (blocks_left s) };
-
-    ghost gives_first = { λ known s item t given. lists_by block_bytes ivhd_shown (filter_map ivhd_shown)
-        (λ u. blocks_left u) refl (λ x xs. refl) s item t given.0 };
-
-    fn record(_known: &(), block: IvrsBlock<'_>) -> Option<IvrsUnit>
-        ensures { result ≡ ivhd_shown (block_bytes block.entry) }
-    {
-        Some(block_record(&block.ivhd()?))
-    }
-}
 
 /// Lists the device entries of a unit of the first valid IVRS, by the unit's index (section 5.2).
 pub fn ivrs_entries(

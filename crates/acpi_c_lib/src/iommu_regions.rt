@@ -1,11 +1,13 @@
-//! The lists of what a DMAR and an IVRS have beside units: memory that is reserved or has its own rules, root ports,
-//! and the domains of units, each as it is.
-ghost use Rattle.std.specs.Prelude.{◌≡◌, filter_map, refl};
-ghost use Rattle.acpi_iommu.specs.Words.{block_bytes, blocks_left, structure_bytes, structures_left};
-ghost use Rattle.acpi_c_lib.specs.Words.{Fills, Writes, dmar_affinities_below, dmar_affinities_in, dmar_affinity_shown, dmar_regions_below, dmar_regions_in, dmar_root_ports_below, dmar_root_ports_in, ivmd_shown, ivrs_regions_below, ivrs_regions_in, lists_by, rmrr_shown, root_ports_shown};
+//! The lists of a DMAR's structures and of an IVRS' blocks of one type: units, memory that is reserved or has its own
+//! rules, root ports, and the domains of units, each as it is.
+ghost use Rattle.std.specs.Prelude.{◌≡◌, ℕ, List, Option, filter_map, refl};
+ghost use Rattle.acpi_iommu.specs.Words.{block_bytes, blocks_left, blocks_of, structure_bytes, structures_left, structures_of};
+ghost use Rattle.acpi_c_lib.specs.Words.{Fills, Writes, below_dmar, below_ivrs, dmar_affinity_shown, drhd_shown, ivhd_shown, ivmd_shown, lists_by, rmrr_shown, root_ports_shown};
 
-use crate::iommu::{memory_record, reserved_record};
-use crate::iommu_records::{DmarAffinity, DmarReserved, DmarRootPorts, IvrsMemory};
+use crate::iommu::{block_record, memory_record, reserved_record, unit_record};
+use crate::iommu_records::{
+    DmarAffinity, DmarReserved, DmarRootPorts, DmarUnit, IvrsMemory, IvrsUnit,
+};
 use crate::lists::{Listing, fill};
 use crate::opening::first;
 use crate::records::Source;
@@ -16,33 +18,62 @@ use acpi_iommu::{
     IvrsBlocks, IvrsFields,
 };
 
-/// Lists the memory that the first valid DMAR reserves (section 8.4).
-pub fn dmar_regions(source: &Source<'_>, out: &mut [DmarReserved]) -> Result<usize, Refusal>
-    ensures { Fills result out.old out.new (dmar_regions_below source.now) }
+// ---- the DMAR
+
+/// What a structure of one type contains.
+pub trait DmarRecord: Copy {
+    // The record of a structure of these bytes, if it is of this type.
+    ghost shown: { List ℕ → Option Self };
+
+    /// The record of a structure, if it is of this type.
+    fn of(structure: &DmarStructure<'_>) -> Option<Self>
+        ensures { result ≡ shown (structure_bytes structure.now) };
+}
+
+impl<R: DmarRecord> Listing<(), R> for DmarStructureIter<'_> {
+    ghost record_of = { λ known x. R.shown (structure_bytes x) };
+
+    ghost left = { λ known s. filter_map R.shown (structures_left s) };
+
+    ghost gives_first = { λ known s item t given. lists_by structure_bytes R.shown (filter_map R.shown)
+        (λ u. structures_left u) refl (λ x xs. refl) s item t given.0 };
+
+    fn record(_known: &(), structure: DmarStructure<'_>) -> Option<R>
+        ensures { result ≡ R.shown (structure_bytes structure.entry) }
+    {
+        R::of(&structure)
+    }
+}
+
+/// Lists the structures of one type of the first valid DMAR.
+pub fn dmar_structures<R: DmarRecord>(source: &Source<'_>, out: &mut [R]) -> Result<usize, Refusal>
+    ensures { Fills result out.old out.new (below_dmar source.now R.shown) }
 {
     let memory = Mapped::new(source.regions);
     let dmar = first::<Dmar>(&memory, source)?;
-    Ok(fill_rmrrs(dmar.bytes(), out))
+    Ok(fill_structures(dmar.bytes(), out))
 }
 
-/// Writes the memory that a DMAR reserves.
-fn fill_rmrrs(table: &[u8], out: &mut [DmarReserved]) -> usize
-    ensures { Writes result out.old out.new (dmar_regions_in table.now) }
+fn fill_structures<R: DmarRecord>(table: &[u8], out: &mut [R]) -> usize
+    ensures { Writes result out.old out.new (filter_map R.shown (structures_of table.now)) }
 {
     fill(DmarUnits::over(table).structures(), &(), out)
 }
 
-impl Listing<(), DmarReserved> for DmarStructureIter<'_> {
-    ghost record_of = { λ known x. rmrr_shown (structure_bytes x) };
+// A DRHD is a unit (section 8.3).
+impl DmarRecord for DmarUnit {
+    ghost shown = { drhd_shown };
 
-    ghost left = { λ known s. filter_map rmrr_shown (structures_left s) };
+    fn of(structure: &DmarStructure<'_>) -> Option<DmarUnit> {
+        Some(unit_record(&structure.drhd()?))
+    }
+}
 
-    ghost gives_first = { λ known s item t given. lists_by structure_bytes rmrr_shown (filter_map rmrr_shown)
-        (λ u. structures_left u) refl (λ x xs. refl) s item t given.0 };
+// An RMRR reserves memory (section 8.4).
+impl DmarRecord for DmarReserved {
+    ghost shown = { rmrr_shown };
 
-    fn record(_known: &(), structure: DmarStructure<'_>) -> Option<DmarReserved>
-        ensures { result ≡ rmrr_shown (structure_bytes structure.entry) }
-    {
+    fn of(structure: &DmarStructure<'_>) -> Option<DmarReserved> {
         match structure.fields()? {
             DmarFields::Rmrr(range) => Some(reserved_record(&range)),
             _ => None,
@@ -50,33 +81,11 @@ impl Listing<(), DmarReserved> for DmarStructureIter<'_> {
     }
 }
 
-/// Lists the ATSRs of the first valid DMAR (section 8.5).
-pub fn dmar_root_ports(source: &Source<'_>, out: &mut [DmarRootPorts]) -> Result<usize, Refusal>
-    ensures { Fills result out.old out.new (dmar_root_ports_below source.now) }
-{
-    let memory = Mapped::new(source.regions);
-    let dmar = first::<Dmar>(&memory, source)?;
-    Ok(fill_atsrs(dmar.bytes(), out))
-}
+// An ATSR has root ports (section 8.5).
+impl DmarRecord for DmarRootPorts {
+    ghost shown = { root_ports_shown };
 
-/// Writes the ATSRs of a DMAR.
-fn fill_atsrs(table: &[u8], out: &mut [DmarRootPorts]) -> usize
-    ensures { Writes result out.old out.new (dmar_root_ports_in table.now) }
-{
-    fill(DmarUnits::over(table).structures(), &(), out)
-}
-
-impl Listing<(), DmarRootPorts> for DmarStructureIter<'_> {
-    ghost record_of = { λ known x. root_ports_shown (structure_bytes x) };
-
-    ghost left = { λ known s. filter_map root_ports_shown (structures_left s) };
-
-    ghost gives_first = { λ known s item t given. lists_by structure_bytes root_ports_shown
-        (filter_map root_ports_shown) (λ u. structures_left u) refl (λ x xs. refl) s item t given.0 };
-
-    fn record(_known: &(), structure: DmarStructure<'_>) -> Option<DmarRootPorts>
-        ensures { result ≡ root_ports_shown (structure_bytes structure.entry) }
-    {
+    fn of(structure: &DmarStructure<'_>) -> Option<DmarRootPorts> {
         match structure.fields()? {
             DmarFields::Atsr(ports) => Some(DmarRootPorts {
                 segment: ports.segment,
@@ -88,33 +97,11 @@ impl Listing<(), DmarRootPorts> for DmarStructureIter<'_> {
     }
 }
 
-/// Lists the RHSAs of the first valid DMAR (section 8.6).
-pub fn dmar_affinities(source: &Source<'_>, out: &mut [DmarAffinity]) -> Result<usize, Refusal>
-    ensures { Fills result out.old out.new (dmar_affinities_below source.now) }
-{
-    let memory = Mapped::new(source.regions);
-    let dmar = first::<Dmar>(&memory, source)?;
-    Ok(fill_rhsas(dmar.bytes(), out))
-}
+// An RHSA puts a unit into a domain (section 8.6).
+impl DmarRecord for DmarAffinity {
+    ghost shown = { dmar_affinity_shown };
 
-/// Writes the RHSAs of a DMAR.
-fn fill_rhsas(table: &[u8], out: &mut [DmarAffinity]) -> usize
-    ensures { Writes result out.old out.new (dmar_affinities_in table.now) }
-{
-    fill(DmarUnits::over(table).structures(), &(), out)
-}
-
-impl Listing<(), DmarAffinity> for DmarStructureIter<'_> {
-    ghost record_of = { λ known x. dmar_affinity_shown (structure_bytes x) };
-
-    ghost left = { λ known s. filter_map dmar_affinity_shown (structures_left s) };
-
-    ghost gives_first = { λ known s item t given. lists_by structure_bytes dmar_affinity_shown
-        (filter_map dmar_affinity_shown) (λ u. structures_left u) refl (λ x xs. refl) s item t given.0 };
-
-    fn record(_known: &(), structure: DmarStructure<'_>) -> Option<DmarAffinity>
-        ensures { result ≡ dmar_affinity_shown (structure_bytes structure.entry) }
-    {
+    fn of(structure: &DmarStructure<'_>) -> Option<DmarAffinity> {
         match structure.fields()? {
             DmarFields::Rhsa(unit) => Some(DmarAffinity {
                 register_base: unit.register_base,
@@ -125,33 +112,62 @@ impl Listing<(), DmarAffinity> for DmarStructureIter<'_> {
     }
 }
 
-/// Lists the memory that has its own rules by the first valid IVRS (section 5.2).
-pub fn ivrs_regions(source: &Source<'_>, out: &mut [IvrsMemory]) -> Result<usize, Refusal>
-    ensures { Fills result out.old out.new (ivrs_regions_below source.now) }
+// ---- the IVRS
+
+/// What a block of one type contains.
+pub trait IvrsRecord: Copy {
+    // The record of a block of these bytes, if it is of this type.
+    ghost shown: { List ℕ → Option Self };
+
+    /// The record of a block, if it is of this type.
+    fn of(block: &IvrsBlock<'_>) -> Option<Self>
+        ensures { result ≡ shown (block_bytes block.now) };
+}
+
+impl<R: IvrsRecord> Listing<(), R> for IvrsBlockIter<'_> {
+    ghost record_of = { λ known x. R.shown (block_bytes x) };
+
+    ghost left = { λ known s. filter_map R.shown (blocks_left s) };
+
+    ghost gives_first = { λ known s item t given. lists_by block_bytes R.shown (filter_map R.shown)
+        (λ u. blocks_left u) refl (λ x xs. refl) s item t given.0 };
+
+    fn record(_known: &(), block: IvrsBlock<'_>) -> Option<R>
+        ensures { result ≡ R.shown (block_bytes block.entry) }
+    {
+        R::of(&block)
+    }
+}
+
+/// Lists the blocks of one type of the first valid IVRS.
+pub fn ivrs_blocks<R: IvrsRecord>(source: &Source<'_>, out: &mut [R]) -> Result<usize, Refusal>
+    ensures { Fills result out.old out.new (below_ivrs source.now R.shown) }
 {
     let memory = Mapped::new(source.regions);
     let ivrs = first::<Ivrs>(&memory, source)?;
-    Ok(fill_ivmds(ivrs.bytes(), out))
+    Ok(fill_blocks(ivrs.bytes(), out))
 }
 
-/// Writes the memory that has its own rules by an IVRS.
-fn fill_ivmds(table: &[u8], out: &mut [IvrsMemory]) -> usize
-    ensures { Writes result out.old out.new (ivrs_regions_in table.now) }
+fn fill_blocks<R: IvrsRecord>(table: &[u8], out: &mut [R]) -> usize
+    ensures { Writes result out.old out.new (filter_map R.shown (blocks_of table.now)) }
 {
     fill(IvrsBlocks::over(table).blocks(), &(), out)
 }
 
-impl Listing<(), IvrsMemory> for IvrsBlockIter<'_> {
-    ghost record_of = { λ known x. ivmd_shown (block_bytes x) };
+// An IVHD, of each of its types, is a unit (section 5.2).
+impl IvrsRecord for IvrsUnit {
+    ghost shown = { ivhd_shown };
 
-    ghost left = { λ known s. filter_map ivmd_shown (blocks_left s) };
+    fn of(block: &IvrsBlock<'_>) -> Option<IvrsUnit> {
+        Some(block_record(&block.ivhd()?))
+    }
+}
 
-    ghost gives_first = { λ known s item t given. lists_by block_bytes ivmd_shown (filter_map ivmd_shown)
-        (λ u. blocks_left u) refl (λ x xs. refl) s item t given.0 };
+// An IVMD is memory that has its own rules (section 5.2).
+impl IvrsRecord for IvrsMemory {
+    ghost shown = { ivmd_shown };
 
-    fn record(_known: &(), block: IvrsBlock<'_>) -> Option<IvrsMemory>
-        ensures { result ≡ ivmd_shown (block_bytes block.entry) }
-    {
+    fn of(block: &IvrsBlock<'_>) -> Option<IvrsMemory> {
         match block.fields()? {
             IvrsFields::Ivmd(range) => Some(memory_record(&range)),
             IvrsFields::Ivhd(_) => None,

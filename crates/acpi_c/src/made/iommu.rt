@@ -1,5 +1,5 @@
 //! Made by scripts/exports of include/zacpi.h, which has what each call does.
-ghost use Rattle.acpi_c_lib.specs.Words.{Answers, AnswersList, dmar_affinities_below, dmar_faults_below, dmar_flags_below, dmar_hpet_below, dmar_io_apic_below, dmar_regions_below, dmar_reserved_below, dmar_root_ports_below, dmar_scopes_below, dmar_unit_below, dmar_units_below, ivrs_entries_below, ivrs_faults_below, ivrs_memory_below, ivrs_regions_below, ivrs_unit_below, ivrs_units_below, structure_scopes_below};
+ghost use Rattle.acpi_c_lib.specs.Words.{Answers, AnswersList, below_dmar, below_ivrs, dmar_affinity_shown, dmar_faults_below, dmar_flags_below, dmar_hpet_below, dmar_io_apic_below, dmar_reserved_below, dmar_scopes_below, dmar_unit_below, drhd_shown, ivhd_shown, ivmd_shown, ivrs_entries_below, ivrs_faults_below, ivrs_memory_below, ivrs_unit_below, rmrr_shown, root_ports_shown, structure_scopes_below};
 
 use acpi_c_lib::answer::answer;
 use acpi_c_lib::entry_faults::EntryFault;
@@ -7,14 +7,12 @@ use acpi_c_lib::iommu::{
     dmar_flags, dmar_hpet, dmar_io_apic, dmar_reserved, dmar_unit, ivrs_memory, ivrs_unit,
 };
 use acpi_c_lib::iommu_faults::{dmar_faults, ivrs_faults};
-use acpi_c_lib::iommu_lists::{
-    dmar_scopes, dmar_structure_scopes, dmar_units, ivrs_entries, ivrs_units,
-};
+use acpi_c_lib::iommu_lists::{dmar_scopes, dmar_structure_scopes, ivrs_entries};
 use acpi_c_lib::iommu_records::{
     DmarAffinity, DmarFlags, DmarReserved, DmarRootPorts, DmarScope, DmarSource, DmarUnit, Hop,
     IvrsDevice, IvrsEntry, IvrsMemory, IvrsUnit,
 };
-use acpi_c_lib::iommu_regions::{dmar_affinities, dmar_regions, dmar_root_ports, ivrs_regions};
+use acpi_c_lib::iommu_regions::{dmar_structures, ivrs_blocks};
 use acpi_c_lib::records::{Signature, Source};
 
 /// Returns what the DMAR has for all units (section 8.1).
@@ -37,9 +35,10 @@ pub extern "C" fn zacpi_1_list_dmar_units(
     count: &mut usize,
     named: &mut Signature,
 ) -> u32
-    ensures { AnswersList result out.old out.new count.old count.new named.old named.new (dmar_units_below source.now) }
+    ensures { AnswersList result out.old out.new count.old count.new named.old named.new
+        (below_dmar source.now drhd_shown) }
 {
-    answer(dmar_units(source, out), count, named)
+    answer(dmar_structures(source, out), count, named)
 }
 
 /// Lists the device scopes of the `index`-th of these units, from 0 on, up to the first byte at which none begins.
@@ -67,9 +66,9 @@ pub extern "C" fn zacpi_1_list_dmar_regions(
     named: &mut Signature,
 ) -> u32
     ensures { AnswersList result out.old out.new count.old count.new named.old named.new
-        (dmar_regions_below source.now) }
+        (below_dmar source.now rmrr_shown) }
 {
-    answer(dmar_regions(source, out), count, named)
+    answer(dmar_structures(source, out), count, named)
 }
 
 /// Lists the ATSRs, up to the first byte at which no structure begins.
@@ -81,9 +80,9 @@ pub extern "C" fn zacpi_1_list_dmar_root_ports(
     named: &mut Signature,
 ) -> u32
     ensures { AnswersList result out.old out.new count.old count.new named.old named.new
-        (dmar_root_ports_below source.now) }
+        (below_dmar source.now root_ports_shown) }
 {
-    answer(dmar_root_ports(source, out), count, named)
+    answer(dmar_structures(source, out), count, named)
 }
 
 /// Lists the RHSAs: the domains of units, up to the first byte at which no structure begins.
@@ -95,9 +94,9 @@ pub extern "C" fn zacpi_1_list_dmar_affinities(
     named: &mut Signature,
 ) -> u32
     ensures { AnswersList result out.old out.new count.old count.new named.old named.new
-        (dmar_affinities_below source.now) }
+        (below_dmar source.now dmar_affinity_shown) }
 {
-    answer(dmar_affinities(source, out), count, named)
+    answer(dmar_structures(source, out), count, named)
 }
 
 /// Lists the device scopes of a structure, up to the first byte at which none begins: of the `index`-th, from 0 on, of
@@ -206,9 +205,10 @@ pub extern "C" fn zacpi_1_list_ivrs_units(
     count: &mut usize,
     named: &mut Signature,
 ) -> u32
-    ensures { AnswersList result out.old out.new count.old count.new named.old named.new (ivrs_units_below source.now) }
+    ensures { AnswersList result out.old out.new count.old count.new named.old named.new
+        (below_ivrs source.now ivhd_shown) }
 {
-    answer(ivrs_units(source, out), count, named)
+    answer(ivrs_blocks(source, out), count, named)
 }
 
 /// Lists the device entries of the `index`-th of these units, from 0 on, up to the first byte at which none begins.
@@ -265,9 +265,9 @@ pub extern "C" fn zacpi_1_list_ivrs_regions(
     named: &mut Signature,
 ) -> u32
     ensures { AnswersList result out.old out.new count.old count.new named.old named.new
-        (ivrs_regions_below source.now) }
+        (below_ivrs source.now ivmd_shown) }
 {
-    answer(ivrs_regions(source, out), count, named)
+    answer(ivrs_blocks(source, out), count, named)
 }
 
 /// Lists the memory that has its own rules for a device: each IVMD for it, for all devices or for a range that contains
