@@ -28,9 +28,6 @@ affinity_shown (kinds.LocalX2Apic e) = counted_if e.flags (processor_affinity 2 
 affinity_shown (kinds.Gicc e) = counted_if e.flags (processor_affinity 3 e.processor_uid e.domain e.clock_domain)
 affinity_shown _ = None
 
-abbrev pub processor_affinities_below : Source → Result (List ProcessorAffinity) Refusal
-processor_affinities_below s = below_first srat_kind s (λ table. filter_map affinity_shown (entries_of table))
-
 abbrev pub initiator_shown : SratEntry → Option GenericInitiator
 initiator_shown (kinds.GenericInitiator e) = counted_if e.flags (record {
   domain = e.domain;
@@ -40,12 +37,10 @@ initiator_shown (kinds.GenericInitiator e) = counted_if e.flags (record {
 })
 initiator_shown _ = None
 
-abbrev pub generic_initiators_below : Source → Result (List GenericInitiator) Refusal
-generic_initiators_below s = below_first srat_kind s (λ table. filter_map initiator_shown (entries_of table))
-
 abbrev pub its_shown : SratEntry → Option ItsAffinity
 its_shown (kinds.GicIts e) = Some (record { domain = e.domain; its_id = e.its_id })
 its_shown _ = None
 
-abbrev pub its_affinities_below : Source → Result (List ItsAffinity) Refusal
-its_affinities_below s = below_first srat_kind s (λ table. filter_map its_shown (entries_of table))
+-- what the entries of one type of the first valid SRAT put into domains
+abbrev pub below_srat : {A : Type 0} → Source → (SratEntry → Option A) → Result (List A) Refusal
+below_srat s record_in = below_first srat_kind s (λ table. filter_map record_in (entries_of table))

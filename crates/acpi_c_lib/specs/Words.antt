@@ -2,12 +2,10 @@
 pub use Rattle.acpi_c_lib.specs.AcceptLaws.{AcceptsAsReaders}
 pub use Rattle.acpi_c_lib.specs.Affinities.{
   affinity_shown,
+  below_srat,
   counted_if,
-  generic_initiators_below,
   initiator_shown,
-  its_affinities_below,
   its_shown,
-  processor_affinities_below,
   processor_affinity,
 }
 pub use Rattle.acpi_c_lib.specs.Answers.{
@@ -546,4 +544,5 @@ pub use Rattle.acpi_c_lib.specs.WrittenMachine.{
   tree_said,
 }
 pub use Rattle.acpi_c_lib.specs.declared.interrupt_records.Processor.{Processor}
+pub use Rattle.acpi_numa.specs.declared.srat.entry.SratEntry.{SratEntry}
 unfoldable pub use Rattle.acpi_writer.specs.Words.{facs_written}

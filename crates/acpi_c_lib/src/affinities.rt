@@ -1,8 +1,8 @@
 //! What the SRAT puts into domains beside memory (section 5.2.16): processors, generic initiators and Interrupt
 //! Translation Services.
-ghost use Rattle.std.specs.Prelude.{◌≡◌, filter_map};
+ghost use Rattle.std.specs.Prelude.{◌≡◌, Option, filter_map};
 ghost use Rattle.acpi_numa.specs.Words.{entries_left};
-ghost use Rattle.acpi_c_lib.specs.Words.{Fills, counted_if, generic_initiators_below, initiator_shown, its_affinities_below, its_shown, lists_some, processor_affinities_below, processor_affinity, affinity_shown};
+ghost use Rattle.acpi_c_lib.specs.Words.{Fills, SratEntry, affinity_shown, below_srat, counted_if, initiator_shown, its_shown, lists_some, processor_affinity};
 
 use crate::lists::{Listing, fill};
 use crate::numa_records::{GenericInitiator, ItsAffinity, ProcessorAffinity};
@@ -14,30 +14,45 @@ use acpi_base::bytes::has_bit;
 use acpi_numa::srat::{SratEntry, SratEntryIter};
 use acpi_numa::{Domains, Srat};
 
-/// Lists the processors that the first valid SRAT puts into domains (sections 5.2.16.1, 5.2.16.3 and 5.2.16.4).
+/// What an entry of one type puts into a domain.
+pub trait SratRecord: Copy {
+    // The record of an entry, if it is of this type.
+    ghost record_in: { SratEntry → Option Self };
+
+    /// The record of an entry, if it is of this type.
+    fn of(entry: &SratEntry) -> Option<Self>
+        ensures { result ≡ record_in entry.now };
+}
+
+impl<R: SratRecord> Listing<(), R> for SratEntryIter<'_> {
+    ghost record_of = { λ known. R.record_in };
+
+    ghost left = { λ known s. filter_map R.record_in (entries_left s) };
+
+    ghost gives_first = { λ known s item t given. lists_some R.record_in (λ x. entries_left x) s item t given.0 };
+
+    fn record(_known: &(), entry: SratEntry) -> Option<R>
+        ensures { result ≡ R.record_in entry }
+    {
+        R::of(&entry)
+    }
+}
+
+/// Lists what the entries of one type of the first valid SRAT put into domains.
 #[tactic(auto, using(acpi::proofs::First::filter_map_few))]
-pub fn processor_affinities(
-    source: &Source<'_>,
-    out: &mut [ProcessorAffinity],
-) -> Result<usize, Refusal>
-    ensures { Fills result out.old out.new (processor_affinities_below source.now) }
+pub fn srat_entries<R: SratRecord>(source: &Source<'_>, out: &mut [R]) -> Result<usize, Refusal>
+    ensures { Fills result out.old out.new (below_srat source.now R.record_in) }
 {
     let memory = Mapped::new(source.regions);
     let srat = first::<Srat>(&memory, source)?;
     Ok(fill(Domains::over(srat.bytes()).entries(), &(), out))
 }
 
-impl Listing<(), ProcessorAffinity> for SratEntryIter<'_> {
-    ghost record_of = { λ known x. affinity_shown x };
+// Processors, of three types (sections 5.2.16.1, 5.2.16.3 and 5.2.16.4).
+impl SratRecord for ProcessorAffinity {
+    ghost record_in = { affinity_shown };
 
-    ghost left = { λ known s. filter_map affinity_shown (entries_left s) };
-
-    ghost gives_first = { λ known s item t given.
-        lists_some affinity_shown (λ x. entries_left x) s item t given.0 };
-
-    fn record(_known: &(), entry: SratEntry) -> Option<ProcessorAffinity>
-        ensures { result ≡ affinity_shown entry }
-    {
+    fn of(entry: &SratEntry) -> Option<ProcessorAffinity> {
         match entry {
             SratEntry::LocalApic(it) => {
                 let id = it.apic_id as u32;
@@ -75,30 +90,11 @@ fn processor_affinity(entry_type: u8, id: u32, domain: u32, clock_domain: u32) -
     }
 }
 
-/// Lists the generic initiators that the first valid SRAT puts into domains (section 5.2.16.6).
-#[tactic(auto, using(acpi::proofs::First::filter_map_few))]
-pub fn generic_initiators(
-    source: &Source<'_>,
-    out: &mut [GenericInitiator],
-) -> Result<usize, Refusal>
-    ensures { Fills result out.old out.new (generic_initiators_below source.now) }
-{
-    let memory = Mapped::new(source.regions);
-    let srat = first::<Srat>(&memory, source)?;
-    Ok(fill(Domains::over(srat.bytes()).entries(), &(), out))
-}
+// Generic initiators (section 5.2.16.6).
+impl SratRecord for GenericInitiator {
+    ghost record_in = { initiator_shown };
 
-impl Listing<(), GenericInitiator> for SratEntryIter<'_> {
-    ghost record_of = { λ known x. initiator_shown x };
-
-    ghost left = { λ known s. filter_map initiator_shown (entries_left s) };
-
-    ghost gives_first = { λ known s item t given.
-        lists_some initiator_shown (λ x. entries_left x) s item t given.0 };
-
-    fn record(_known: &(), entry: SratEntry) -> Option<GenericInitiator>
-        ensures { result ≡ initiator_shown entry }
-    {
+    fn of(entry: &SratEntry) -> Option<GenericInitiator> {
         match entry {
             SratEntry::GenericInitiator(it) => {
                 let device = GenericInitiator {
@@ -125,26 +121,11 @@ fn counted_if<R: Copy>(flags: u32, item: R) -> Option<R>
     }
 }
 
-/// Lists the Interrupt Translation Services that the first valid SRAT puts into domains (section 5.2.16.5).
-#[tactic(auto, using(acpi::proofs::First::filter_map_few))]
-pub fn its_affinities(source: &Source<'_>, out: &mut [ItsAffinity]) -> Result<usize, Refusal>
-    ensures { Fills result out.old out.new (its_affinities_below source.now) }
-{
-    let memory = Mapped::new(source.regions);
-    let srat = first::<Srat>(&memory, source)?;
-    Ok(fill(Domains::over(srat.bytes()).entries(), &(), out))
-}
+// Interrupt Translation Services (section 5.2.16.5).
+impl SratRecord for ItsAffinity {
+    ghost record_in = { its_shown };
 
-impl Listing<(), ItsAffinity> for SratEntryIter<'_> {
-    ghost record_of = { λ known x. its_shown x };
-
-    ghost left = { λ known s. filter_map its_shown (entries_left s) };
-
-    ghost gives_first = { λ known s item t given. lists_some its_shown (λ x. entries_left x) s item t given.0 };
-
-    fn record(_known: &(), entry: SratEntry) -> Option<ItsAffinity>
-        ensures { result ≡ its_shown entry }
-    {
+    fn of(entry: &SratEntry) -> Option<ItsAffinity> {
         match entry {
             SratEntry::GicIts(it) => Some(ItsAffinity {
                 domain: it.domain,

@@ -1,7 +1,7 @@
 //! Made by scripts/exports of include/zacpi.h, which has what each call does.
-ghost use Rattle.acpi_c_lib.specs.Words.{Answers, AnswersList, AnswersSome, IsLocalities, affinities_below, distance_below, domain_of_address_below, domain_of_apic_below, domain_of_processor_below, generic_initiators_below, its_affinities_below, processor_affinities_below, slit_in, srat_faults_below};
+ghost use Rattle.acpi_c_lib.specs.Words.{Answers, AnswersList, AnswersSome, IsLocalities, affinities_below, affinity_shown, below_srat, distance_below, domain_of_address_below, domain_of_apic_below, domain_of_processor_below, initiator_shown, its_shown, slit_in, srat_faults_below};
 
-use acpi_c_lib::affinities::{generic_initiators, its_affinities, processor_affinities};
+use acpi_c_lib::affinities::srat_entries;
 use acpi_c_lib::answer::answer;
 use acpi_c_lib::entry_faults::EntryFault;
 use acpi_c_lib::numa::{
@@ -37,9 +37,9 @@ pub extern "C" fn zacpi_1_list_processor_affinities(
     named: &mut Signature,
 ) -> u32
     ensures { AnswersList result out.old out.new count.old count.new named.old named.new
-        (processor_affinities_below source.now) }
+        (below_srat source.now affinity_shown) }
 {
-    answer(processor_affinities(source, out), count, named)
+    answer(srat_entries(source, out), count, named)
 }
 
 /// Lists the generic initiators that the SRAT puts into domains: its entries of Type 5 that are enabled, up to where no
@@ -52,9 +52,9 @@ pub extern "C" fn zacpi_1_list_generic_initiators(
     named: &mut Signature,
 ) -> u32
     ensures { AnswersList result out.old out.new count.old count.new named.old named.new
-        (generic_initiators_below source.now) }
+        (below_srat source.now initiator_shown) }
 {
-    answer(generic_initiators(source, out), count, named)
+    answer(srat_entries(source, out), count, named)
 }
 
 /// Lists the domains of Interrupt Translation Services: the SRAT's entries of Type 4, which have no Flags, up to where
@@ -67,9 +67,9 @@ pub extern "C" fn zacpi_1_list_its_affinities(
     named: &mut Signature,
 ) -> u32
     ensures { AnswersList result out.old out.new count.old count.new named.old named.new
-        (its_affinities_below source.now) }
+        (below_srat source.now its_shown) }
 {
-    answer(its_affinities(source, out), count, named)
+    answer(srat_entries(source, out), count, named)
 }
 
 /// Lists the entries of memory that ends at 2^64 or above, and last, if bytes are left, where none begins.
