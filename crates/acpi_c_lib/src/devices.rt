@@ -4,7 +4,7 @@ ghost use Rattle.acpi.specs.Words.{accept_of, memory_of};
 ghost use Rattle.acpi_c_lib.specs.Words.{generic_record, graphic_below, graphic_record, optional_register, register_if, required_register, timer_below, timer_record, Fills, hpet_below, hpet_in, hpet_shown, hpets_below, hpets_in, lists_some, pointers_left};
 
 use crate::lists::{Listing, fill};
-use crate::opening::{first, open};
+use crate::opening::{find_fadt, first, open};
 use crate::records::{self, BootGraphic, HpetInfo, Register, Source};
 use crate::refusal::Refusal;
 use crate::regions::Mapped;
@@ -80,7 +80,7 @@ pub fn timer(source: &Source<'_>) -> Result<records::PmTimer, Refusal>
 {
     let memory = Mapped::new(source.regions)?;
     let tables = open(&memory, source)?;
-    let fadt = tables.find_fadt()?;
+    let fadt = find_fadt(&tables)?;
     let timer = PmTimer::of(&fadt)?;
     Ok(timer_record(timer))
 }

@@ -2,7 +2,7 @@
 ghost use Rattle.std.specs.Prelude.{◌≡◌};
 ghost use Rattle.acpi_c_lib.specs.Words.{facs_below, facs_in};
 
-use crate::opening::open;
+use crate::opening::{find_fadt, open};
 use crate::records::{Facs, Source};
 use crate::refusal::Refusal;
 use crate::regions::Mapped;
@@ -16,7 +16,7 @@ pub fn facs(source: &Source<'_>) -> Result<Facs, Refusal>
 {
     let memory = Mapped::new(source.regions)?;
     let tables = open(&memory, source)?;
-    let fadt = tables.find_fadt()?;
+    let fadt = find_fadt(&tables)?;
     let missing = AcpiError::TableMissing(Signature::FACS);
     let address = fadt.facs_address().ok().ok_or(missing)?;
     let facs = facs_at(&memory, address)?;

@@ -7,7 +7,7 @@ ghost use Rattle.acpi.specs.Lookup as reader;
 ghost use Rattle.acpi_c_lib.specs.Words.{accepted_model, apic_table, is_of_apics, io_apic_record, model_by, platform_model, mapped_memory, memory_in, known_platform};
 
 use crate::interrupt_records as records;
-use crate::opening::open;
+use crate::opening::{find_fadt, open};
 use crate::records::Source;
 use crate::refusal::Refusal;
 use crate::regions::Mapped;
@@ -41,7 +41,7 @@ pub(crate) fn apic_madt<'h, H: AcpiHandler>(
         ≡ Ok (start_of x.madt, bytes_of x.madt))
         × (list_any is_of_apics (entries_of (bytes_of x.madt)) ≡ true))) }
 {
-    let fadt = tables.find_fadt()?;
+    let fadt = find_fadt(tables)?;
     let timer = PmTimer::of(&fadt);
     let found = found_madt(tables)?;
     timer?;

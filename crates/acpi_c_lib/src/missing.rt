@@ -9,7 +9,7 @@ ghost use Rattle.acpi_c_lib.specs.Words.{Fills, items_said, put_from, result_map
 
 use crate::candidates::candidate_holes;
 use crate::lists::{Listing, fill_from, put};
-use crate::opening::{check_policy, open, root_pointer};
+use crate::opening::{check_policy, find_fadt, open, root_pointer};
 use crate::records::{Range, Source};
 use crate::refusal::Refusal;
 use crate::regions::Mapped;
@@ -45,7 +45,7 @@ fn others<H: AcpiHandler>(
 {
     match open(handler, source) {
         Ok(tables) => {
-            let led = match tables.find_fadt() {
+            let led = match find_fadt(&tables) {
                 Ok(fadt) => (
                     dsdt_hole(handler, source.accept, &fadt),
                     facs_hole(handler, &fadt),

@@ -1,7 +1,7 @@
 //! How the tables that a caller names are opened.
 ghost use Rattle.std.specs.Prelude.{◌≡◌, ◌+◌, ◌^◌, ◌<◌, ◌≤◌, length, IfOk};
-ghost use Rattle.acpi_base.specs.Words.{bytes_of, claimed_at, sdt_kind, shown_by, start_of, Gives};
-ghost use Rattle.acpi.specs.Words.{accept_of, fadt_kind, lender_of, opened_of, placed, word_in};
+ghost use Rattle.acpi_base.specs.Words.{bytes_of, claimed_at, handler_of, sdt_kind, shown_by, start_of, Gives};
+ghost use Rattle.acpi.specs.Words.{accept_of, accepted_by, fadt_kind, lender_of, lookup, of_tables, opened_of, placed, word_in};
 ghost use Rattle.acpi_c_lib.specs.Words.{check_policy, ebda_in, first_table, found_table, opened_in, mapped_memory, memory_in, root_below, root_pointer_in, rsdp_in, rsdp_length, rsdp_place_in};
 
 use crate::records::{Root, Source};
@@ -195,6 +195,20 @@ pub(crate) fn first_fadt<'h, 'k>(
         Ok(found) => Ok(FadtView::new(found)),
         Err(refusal) => Err(refusal),
     }
+}
+
+/// The first FADT that tables have. It takes the lookup that all types share, so a program that only reads the FADT links
+/// no other.
+///
+/// Fails as `AcpiTables::find_bytes` does.
+pub(crate) fn find_fadt<'h, H: AcpiHandler>(
+    tables: &AcpiTables<'h, H, Accept>,
+) -> AcpiResult<FadtView<'h, H>>
+    ensures handler { IfOk result (λ v. handler_of v.mapping ≡ lender_of tables.now) }
+    ensures exact { Gives (λ v. (start_of v.mapping, bytes_of v.mapping)) result
+        (of_tables tables.now (λ m. lookup m (accepted_by tables.now fadt_kind))) }
+{
+    Ok(FadtView::new(tables.find_bytes(Signature::FADT, Fadt::MIN_LENGTH)?))
 }
 
 /// The root table of a source.

@@ -5,7 +5,7 @@ ghost use Rattle.acpi_sleep.specs.Words.{joined};
 ghost use Rattle.acpi_c_lib.specs.Words.{accepted_answer, dsdt_answer, enable_plan_below, kind_code, plan_record, plan_said, reset_plan_below, sleep_plan_below, sleep_types_below, step_record, types_below};
 
 use crate::devices::optional_register;
-use crate::opening::{first_fadt, open};
+use crate::opening::{find_fadt, first_fadt, open};
 use crate::power_records::{Plan, SleepTypes, Step};
 use crate::records::Source;
 use crate::refusal::Refusal;
@@ -73,7 +73,7 @@ fn dsdt_answer<H: AcpiHandler>(
     ensures { let t = tables.now in
         result ≡ joined (dsdt_answer (accept_of t) state (memory_of t) (pointers_of t)) }
 {
-    let fadt = tables.find_fadt()?;
+    let fadt = find_fadt(tables)?;
     let dsdt = tables.sdt_at(fadt.dsdt_address()?, Signature::DSDT)?;
     block_answer(Signature::DSDT, state, dsdt.bytes())
 }

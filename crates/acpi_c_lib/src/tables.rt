@@ -5,7 +5,7 @@ ghost use Rattle.acpi.specs.Words.{accept_of, memory_of, pointers_left};
 ghost use Rattle.acpi_c_lib.specs.Words.{Fills, aml_at, dsdt_below, signature_named, ssdt_in, ssdts_below, ssdts_in, table_below, table_record, tables_below, table_in, tables_in, lists_some};
 
 use crate::lists::{Listing, fill};
-use crate::opening::open;
+use crate::opening::{find_fadt, open};
 use crate::records::{self, AmlTable, Source, Table};
 use crate::refusal::Refusal;
 use crate::regions::Mapped;
@@ -82,7 +82,7 @@ pub fn dsdt(source: &Source<'_>) -> Result<AmlTable, Refusal>
 {
     let memory = Mapped::new(source.regions)?;
     let tables = open(&memory, source)?;
-    let fadt = tables.find_fadt()?;
+    let fadt = find_fadt(&tables)?;
     let aml = aml_at(&tables, Signature::DSDT, fadt.dsdt_address()?)?;
     Ok(aml)
 }

@@ -9,7 +9,7 @@ ghost use Rattle.acpi_c_lib.specs.Words.{Fills, dsdt_range, facs_range, led_rang
 use crate::facs::facs_at;
 use crate::lists::Listing;
 use crate::missing::{fill_with, put_pair, range};
-use crate::opening::{open, open_placed};
+use crate::opening::{find_fadt, open, open_placed};
 use crate::records::{self, Range, Source, Table};
 use crate::refusal::Refusal;
 use crate::regions::Mapped;
@@ -92,7 +92,7 @@ fn led_ranges<H: AcpiHandler>(
     ensures { let t = tables.now in result ≡ led_ranges (accept_of t) (memory_of t)
         (reader.lookup (memory_of t) (accepted_by t fadt_kind) (pointers_of t)) }
 {
-    match tables.find_fadt() {
+    match find_fadt(tables) {
         Ok(fadt) => (dsdt_range(tables, &fadt), facs_range(handler, &fadt)),
         Err(_) => (None, None),
     }
