@@ -1,12 +1,12 @@
 -- What is accepted by 0 is what the crate `acpi` finds valid.
 use Rattle.std.proofs.Common.{◌≡◌, ℕ, List, Option, Result, Ok, Err, refl}
-use Rattle.acpi_base.specs.Words.{Memory, ◌>>=◌}
+use Rattle.acpi_base.specs.Words.{◌>>=◌}
 use Rattle.acpi.specs.Types.{AcpiError, Fadt}
-use Rattle.acpi.specs.Words.{fadt_kind, lookup, model_in, platform_of, timer_of}
+use Rattle.acpi.specs.Words.{fadt_kind, lookup, model_in, timer_of}
 use Rattle.acpi_fixed.specs.Words.{fadt_at, profile_of}
 use Rattle.acpi_c_lib.specs.AcceptLaws.{AcceptsAsReaders}
 use Rattle.acpi_c_lib.specs.Types.{PlatformInfo, PmTimer}
-use Rattle.acpi_c_lib.specs.Model.{Platform, models_of, platform_model}
+use Rattle.acpi_c_lib.specs.Model.{Platform, models_of}
 use Rattle.acpi_c_lib.specs.Words.{result_map}
 
 by_timer : (f : Fadt) (said : Platform) (r : Result (Option PmTimer) AcpiError)

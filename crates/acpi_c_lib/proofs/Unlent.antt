@@ -1,15 +1,14 @@
 -- What isn't mapped: of what opening requests and what points to a table, and of the candidates of a search.
 use Rattle.std.proofs.Common.{◌≡◌, ℕ, ◌≤◌, List, [], ◌∷◌, ◌++◌, Bool, true, false, Option, Some, None, Result, Ok, Err, arith, refl, sym, ap, subst, ◌∙◌, if◌then◌else◌, ◌+◌, length, ◌^◌, ◌<◌, zero, suc, ◌-◌, ◌*◌, ◌/◌, drop, ◌==◌, ok_or, option_map, bytes_eq, nat_lt}
 use Rattle.acpi_base.specs.FromStd.{last_or, cons_option, is_some, is_ok, result_ok}
-use Rattle.acpi_base.specs.Words.{accepted, field_of, has_bit, loosened, own_accepted, own_kind, check_names, check_table, header_at, Memory, at, IsMemory, rest_from, ◌>>=◌, holds, lent, table_at, Kind, plain_kind, letters_of}
+use Rattle.acpi_base.specs.Words.{accepted, field_of, has_bit, loosened, own_accepted, own_kind, check_names, check_table, header_at, Memory, at, ◌>>=◌, holds, lent, table_at, plain_kind, letters_of}
 use Rattle.acpi.specs.Types.{MapFailed, NoValidRsdp, SdtHeader, Signature, AddressRange}
 use Rattle.acpi.specs.Words.{accepted_root_at, bios_areas, found_among, found_in_areas, count_in, ebda_area, end_of, first_in, Opened, area_ranges, or_else_ranges, search_ranges, length_ranges, rsdp_ranges, root_of_revision, signature_of, check_first, check_sum, extended_length_of, checked_length, root_of_rsdp, rsdp_at, rsdp_of, first_area, found_in, found_rsdp, or_else, room_of, second_area, word_in, area, count_of, walk, or_later}
 use Rattle.acpi.specs.Areas.{range}
 use Rattle.acpi_c_lib.specs.Words.{member_hole, table_hole, AcpiError, Refusal, Source, check_policy, ebda_in, opened_in, refused_as, root_pointer_in, rsdp_in, Acpi, UnknownStart, Areas, IsUnlent, OpeningHasHole, areas_holes, candidate_hole, candidate_holes, has_valid, hole, last_range, missing_below, missing_in, range_of, root_hole, rsdp_hole, walk_holes, Fills, Writes, items_said, put_from, result_map, memory_in}
 use Rattle.acpi_c_lib.specs.Missing.{Range, no_areas, pieces, stretches}
 use Rattle.acpi_c_lib.proofs.Written.{two_parts, one_part}
-use Rattle.acpi_base.proofs.FromStd.{bytes_eq-Decides, length-take, cond_some}
-use Rattle.acpi_base.proofs.Words.{lent_ends, passed, bind_ok, some_lent}
+use Rattle.acpi_base.proofs.FromStd.{bytes_eq-Decides}
 use Rattle.acpi_base.specs.Ranges as ranges
 use Rattle.acpi_c_lib.specs.Types.{RootPointer, Rsdp, UnknownPolicy}
 

@@ -1,5 +1,5 @@
 -- The local APICs' address and the 8259s (MADT, section 5.2.12) as C gets them.
-use Rattle.std.specs.Prelude.{List, Result}
+use Rattle.std.specs.Prelude.{Result}
 use Rattle.acpi.specs.Words.{madt_kind}
 use Rattle.acpi_c_lib.specs.Below.{Refusal, Source, below_first}
 use Rattle.acpi_c_lib.specs.Devices.{flag}

@@ -1,7 +1,7 @@
 -- What walks along the members of the root table return.
 use Rattle.std.specs.Prelude.{ℕ, List, [], ◌∷◌, ◌++◌, filter_map, length, Option, None, option_map, slice_get, Result, Ok, Err, ok_or}
 use Rattle.acpi_base.specs.FromStd.{cons_option, result_ok}
-use Rattle.acpi_base.specs.Words.{Kind, Memory, ◌>>=◌, plain_kind, accepted, own_accepted, table_at}
+use Rattle.acpi_base.specs.Words.{Memory, ◌>>=◌, plain_kind, accepted, own_accepted, table_at}
 use Rattle.acpi.specs.Types.{TableMissing, AddressRange, DSDT, Fadt}
 use Rattle.acpi_fixed.specs.Words.{dsdt_address_of, fadt_at}
 use Rattle.acpi.specs.Words.{facs_place, fadt_kind, lookup, tables_found}
