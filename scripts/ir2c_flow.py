@@ -125,7 +125,7 @@ class Slots:
     WORTH = 32
 
     def __init__(self, function):
-        self.length, self.alignment, self.array, self.lines = {}, {}, {}, []
+        self.length, self.alignment, self.array, self.lines = {}, {}, {}, {}
         for lines in function.blocks.values():
             for line in lines:
                 found = re.match(rf'({REGISTER}) = alloca (?:\[(\d+) x i8\]|({TYPE})), align (\d+)$', line)
@@ -148,10 +148,8 @@ class Slots:
             alignment = max(self.alignment[name] for name in group)
             self.array.update({name: (array, length) for name in group})
             aligned = {1: '', 8: 'ALIGNED(EIGHT) '}.get(alignment, f'ALIGNED({alignment}) ')
-            if length:
-                self.lines.append(f'{aligned}u8 {array}[{length}];')
-            else:  # a place of no bytes, whose address alone counts
-                self.lines.append(f'{aligned}u8 {array}[1];')
+            # Of a place of no bytes the address alone counts.
+            self.lines[array] = f'{aligned}u8 {array}[{length or 1}];'
 
     def lifetimes(self, function):
         """Which allocas begin to live somewhere else than at the function's begin, and which live with which."""
