@@ -18,20 +18,31 @@ pub struct Difference<'a> {
     pub name: &'static str,
     pub old: Option<&'a str>,
     pub new: Option<&'a str>,
-    /// The field of the first table, if it has it.
-    pub(crate) was: Option<Item>,
+    /// The number of the field in the first table, if it has it.
+    pub(crate) was: Option<usize>,
     /// The number of the field or of the structure in the second table, if it has it.
     pub place: Option<usize>,
 }
 
-/// The item that comes first of those that are left on two sides, with the one beside it if that is the same field.
-fn next_pair(old: Option<Item>, new: Option<Item>) -> (Option<Item>, Option<Item>) {
-    match (old, new) {
-        (Some(a), Some(b)) if a.within == b.within && a.name == b.name => (old, new),
-        (Some(a), Some(b)) if b.within < a.within => (None, new),
-        (Some(_), _) => (old, None),
-        (None, _) => (None, new),
+/// Of the items that are left on two sides the numbers of those that come now: of the first one, or of both if they are
+/// the same field.
+fn next_pair(
+    old: Side<'_>,
+    a: Option<usize>,
+    new: Side<'_>,
+    b: Option<usize>,
+) -> (Option<usize>, Option<usize>) {
+    match (old.item(a), new.item(b)) {
+        (Some(one), Some(other)) if is_same_field(one, other) => (a, b),
+        (Some(one), Some(other)) if one.within <= other.within => (a, None),
+        (Some(_), None) => (a, None),
+        _ => (None, b),
     }
+}
+
+/// Whether items of two tables are the same field of a structure.
+fn is_same_field(one: &Item, other: &Item) -> bool {
+    one.within == other.within && one.name == other.name
 }
 
 /// The differences between two tables, as they are found.
@@ -45,17 +56,15 @@ struct Found<'a, 'i, 's> {
 }
 
 impl<'a> Found<'a, '_, '_> {
-    /// Adds a difference between two items, the second one of this number, of a structure of the first table, if they
-    /// differ.
+    /// Adds a difference between two items, given by their numbers, of a structure of the first table, if they differ.
     fn add(
         &mut self,
         part: usize,
-        a: Option<Item>,
-        b: Option<Item>,
-        place: usize,
+        was: Option<usize>,
+        place: Option<usize>,
     ) -> Result<(), AllocError> {
-        let (old, new) = (self.old.value(a), self.new.value(b));
-        if let Some(item) = a.or(b)
+        let (old, new) = (self.old.value(was), self.new.value(place));
+        if let Some(item) = self.old.item(was).or(self.new.item(place))
             && old != new
             && !self.ignored.contains(&item.name)
         {
@@ -66,8 +75,8 @@ impl<'a> Found<'a, '_, '_> {
                 name: item.name,
                 old,
                 new,
-                was: a,
-                place: b.and(Some(place)),
+                was,
+                place,
             })?;
         }
         Ok(())
@@ -75,43 +84,52 @@ impl<'a> Found<'a, '_, '_> {
 
     /// Adds the fields that differ between two structures, in the order of their offsets.
     fn add_fields(&mut self, part: usize, other: usize) -> Result<(), AllocError> {
-        let (mut old, mut i) = self.old.next_item(part, 0);
-        let (mut new, mut j) = self.new.next_item(other, 0);
+        let mut old = self.old.next_item(part, 0);
+        let mut new = self.new.next_item(other, 0);
         for _ in 0..self.old.size().saturating_add(self.new.size()) {
-            let (a, b) = next_pair(old, new);
+            let (a, b) = next_pair(self.old, old, self.new, new);
             if a.or(b).is_none() {
                 break;
             }
-            self.add(part, a, b, j.saturating_sub(1))?;
-            if a.is_some() {
-                (old, i) = self.old.next_item(part, i);
+            self.add(part, a, b)?;
+            if let Some(place) = a {
+                old = self.old.next_item(part, place.saturating_add(1));
             }
-            if b.is_some() {
-                (new, j) = self.new.next_item(other, j);
+            if let Some(place) = b {
+                new = self.new.next_item(other, place.saturating_add(1));
             }
         }
         Ok(())
     }
 
-    /// Adds that one input alone has a structure.
-    fn add_alone(&mut self, side: Side<'a>, part: usize, is_first: bool) -> Result<(), AllocError> {
-        let (old, new) = if is_first {
-            (Some(""), None)
-        } else {
-            (None, Some(""))
-        };
-        Ok(
-            self.differences.push(Difference {
-                side,
-                part,
-                offset: side.offset(part),
-                name: "",
-                old,
-                new,
-                was: None,
-                place: if is_first { None } else { Some(part) },
-            })?,
-        )
+    /// Adds that the first table alone has a structure.
+    fn add_gone(&mut self, part: usize) -> Result<(), AllocError> {
+        self.differences.push(Difference {
+            side: self.old,
+            part,
+            offset: self.old.offset(part),
+            name: "",
+            old: Some(""),
+            new: None,
+            was: None,
+            place: None,
+        })?;
+        Ok(())
+    }
+
+    /// Adds that the second table alone has a structure.
+    fn add_added(&mut self, part: usize) -> Result<(), AllocError> {
+        self.differences.push(Difference {
+            side: self.new,
+            part,
+            offset: self.new.offset(part),
+            name: "",
+            old: None,
+            new: Some(""),
+            was: None,
+            place: Some(part),
+        })?;
+        Ok(())
     }
 
     /// Adds all differences: of the structures of the first table in their order, and then those that the second one
@@ -123,12 +141,12 @@ impl<'a> Found<'a, '_, '_> {
             if let Some(other) = pairs.other(part) {
                 self.add_fields(part, other)?;
             } else if pairs.is_gone(old, part) {
-                self.add_alone(old, part, true)?;
+                self.add_gone(part)?;
             }
         }
         for part in 0..new.len() {
             if pairs.is_added(new, part) {
-                self.add_alone(new, part, false)?;
+                self.add_added(part)?;
             }
         }
         Ok(())

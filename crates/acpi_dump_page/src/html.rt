@@ -20,7 +20,7 @@ mod table;
 mod tile;
 
 use crate::compare::{differences, same_in};
-use crate::outline::{Items, items_of};
+use crate::outline::{Items, Side, items_of};
 use acpi::sdt::Signature;
 use acpi_dump_input::entries::{Entry, own_signature};
 use acpi_dump_input::judgement::Judgement;
@@ -92,53 +92,95 @@ fn signature_of(entry: &Entry<'_>) -> Signature {
     }
 }
 
-/// Adds the tables of an input as a page shows them beside the other one's; of the first input only those that
-/// the other one hasn't got.
+/// Adds the tables of the input as a page shows them, beside those of the first one.
 ///
 /// Fails if memory runs out.
 fn add_sheets<'p>(
     source: Source<'p>,
-    it: Outlined<'p>,
-    other: Outlined<'p>,
-    is_first: bool,
+    new: Outlined<'p>,
+    old: Outlined<'p>,
     sheets: &mut Vec<Sheet<'p>>,
 ) -> Result<(), AllocError> {
-    for (number, (entry, items)) in it.entries.iter().zip(it.outlines).enumerate() {
-        let beside = match same_in(it.entries, number, other.entries) {
-            Some(_) if is_first => continue,
-            Some(place) => other.entries.get(place).zip(other.outlines.get(place)),
-            None => None,
-        };
-        let side = items.side()?;
-        let findings = if is_first {
-            &[]
-        } else {
-            source.findings.list()
-        };
-        let mut marks = marks_of(source.alloc, side, number, findings)?;
-        let mut standing = match source.first {
-            Some(_) => Standing::Only,
-            None => Standing::Alone,
-        };
-        if let Some((old, old_items)) = beside {
-            let found = differences(source.alloc, old_items, items, source.ignored)?;
-            marks.add(side, &found)?;
-            standing = if old.bytes == entry.bytes {
-                Standing::Same
-            } else {
-                Standing::Beside(*old, old_items.side()?)
-            };
+    for (number, (entry, items)) in new.entries.iter().zip(new.outlines).enumerate() {
+        let id = Id::of(entry, new.entries.get(..number).unwrap_or(&[]), false);
+        let mut sheet = sheet_of(source, entry, items.side()?, id, number)?;
+        if let Some(place) = same_in(new.entries, number, old.entries)
+            && let Some(other) = old.entries.get(place)
+            && let Some(old_items) = old.outlines.get(place)
+        {
+            compare_with(source, other, old_items, items, &mut sheet)?;
         }
-        sheets.push(Sheet {
-            entry: *entry,
-            id: Id::of(entry, it.entries.get(..number).unwrap_or(&[]), is_first),
-            signature: signature_of(entry),
-            side,
-            marks,
-            findings: source.findings,
-            standing,
-        })?;
+        sheets.push(sheet)?;
     }
+    Ok(())
+}
+
+/// Adds the tables of the first input that the other one hasn't got.
+///
+/// Fails if memory runs out.
+fn add_gone<'p>(
+    source: Source<'p>,
+    old: Outlined<'p>,
+    new: Outlined<'p>,
+    sheets: &mut Vec<Sheet<'p>>,
+) -> Result<(), AllocError> {
+    for (number, (entry, items)) in old.entries.iter().zip(old.outlines).enumerate() {
+        if same_in(old.entries, number, new.entries).is_none() {
+            let id = Id::of(entry, old.entries.get(..number).unwrap_or(&[]), true);
+            sheets.push(sheet_of(source, entry, items.side()?, id, number)?)?;
+        }
+    }
+    Ok(())
+}
+
+/// The table of this number of an input, as a page shows it if the other one hasn't got it.
+///
+/// Fails if memory runs out.
+fn sheet_of<'p>(
+    source: Source<'p>,
+    entry: &'p Entry<'p>,
+    side: Side<'p>,
+    id: Id,
+    number: usize,
+) -> Result<Sheet<'p>, AllocError> {
+    let findings = if id.is_first {
+        &[]
+    } else {
+        source.findings.list()
+    };
+    let standing = if source.first.is_some() {
+        Standing::Only
+    } else {
+        Standing::Alone
+    };
+    Ok(Sheet {
+        entry,
+        id,
+        signature: signature_of(entry),
+        side,
+        marks: marks_of(source.alloc, side, number, findings)?,
+        findings: source.findings,
+        standing,
+    })
+}
+
+/// Marks what differs in a table from the first input's.
+///
+/// Fails if memory runs out.
+fn compare_with<'p>(
+    source: Source<'p>,
+    old: &'p Entry<'p>,
+    old_items: &'p Items,
+    items: &'p Items,
+    sheet: &mut Sheet<'p>,
+) -> Result<(), AllocError> {
+    let found = differences(source.alloc, old_items, items, source.ignored)?;
+    sheet.marks.add(sheet.side, &found)?;
+    sheet.standing = if old.bytes == sheet.entry.bytes {
+        Standing::Same
+    } else {
+        Standing::Beside(old.bytes, old_items.side()?)
+    };
     Ok(())
 }
 
@@ -170,8 +212,8 @@ fn print_outlined<'p>(
         outlines: old_outlines,
     };
     let mut sheets = Vec::new(source.alloc);
-    add_sheets(source, new, old, false, &mut sheets)?;
-    add_sheets(source, old, new, true, &mut sheets)?;
+    add_sheets(source, new, old, &mut sheets)?;
+    add_gone(source, old, new, &mut sheets)?;
     let mut machine = Out::new(source.alloc);
     print_machine(&sheets, &mut machine)?;
     print_front(source, &sheets, machine.length() > 0, out);
@@ -183,7 +225,7 @@ fn print_outlined<'p>(
     print_findings(source.findings, &sheets, out);
     print_list(&sheets, out);
     for sheet in sheets.iter() {
-        print_table(sheet, out);
+        print_table(sheet, &sheets, out);
     }
     print_end(out);
     Ok(())

@@ -46,8 +46,8 @@ pub(crate) struct Part {
     place: u64,
     pub(crate) first: usize,
     pub(crate) last: usize,
-    /// The name of the first field that tells it apart, and where its value is.
-    id: Option<Item>,
+    /// The number of the first field that tells it apart.
+    id: Option<usize>,
 }
 
 /// The structures and items of a table in the order of its bytes, and their values as one text.
@@ -75,6 +75,18 @@ fn is_id(name: &str) -> bool {
 impl Items {
     /// Adds an item of `length` bytes, whose value and meaning are what was printed from two places of the text on.
     fn add(&mut self, offset: u64, length: usize, name: &'static str, places: (usize, usize)) {
+        self.add_numbered(offset, length, name, None, places)
+    }
+
+    /// Adds an item in the same way, with its number if it is one of several of its name.
+    fn add_numbered(
+        &mut self,
+        offset: u64,
+        length: usize,
+        name: &'static str,
+        number: Option<u64>,
+        places: (usize, usize),
+    ) {
         let begin = match self.parts.get(self.open) {
             Some(part) => part.offset,
             None => 0,
@@ -85,12 +97,21 @@ impl Items {
             within: offset.saturating_sub(begin),
             length: length as u64,
             name,
-            number: None,
+            number,
             start: places.0,
             middle: places.1,
             end: self.values.length(),
         };
         self.is_refused |= self.items.push(item).is_err();
+    }
+
+    /// Keeps that a field, the one of this number, tells the open structure apart, unless one before it does.
+    fn keep_id(&mut self, item: usize) {
+        if let Some(part) = self.parts.get_mut(self.open)
+            && part.id.is_none()
+        {
+            part.id = Some(item);
+        }
     }
 
     /// The place of a new structure among the ones of its name in the one that is open.
@@ -122,17 +143,12 @@ impl Show for Items {
         print_value(shown, &mut self.values);
         let places = (start, self.values.length());
         print_meaning(shown, &mut self.values);
-        self.add(shown.offset, shown.bytes.len(), shown.label.name, places);
-        if let Some(item) = self.items.last_mut() {
-            item.number = shown.number;
+        let item = self.items.len();
+        if is_id(shown.label.name) {
+            self.keep_id(item);
         }
-        let item = self.items.last().copied();
-        if let Some(part) = self.parts.get_mut(self.open)
-            && part.id.is_none()
-            && is_id(shown.label.name)
-        {
-            part.id = item;
-        }
+        let (length, name) = (shown.bytes.len(), shown.label.name);
+        self.add_numbered(shown.offset, length, name, shown.number, places);
     }
 
     fn bytes(&mut self, offset: u64, bytes: &[u8]) {
@@ -191,40 +207,40 @@ pub struct Side<'a> {
 }
 
 impl<'a> Side<'a> {
-    /// The value of an item, if there is one.
-    pub(crate) fn value(self, item: Option<Item>) -> Option<&'a str> {
-        let Item { start, end, .. } = item?;
-        self.values.get(start..end)
+    /// The item of this number, if there is one.
+    pub(crate) fn item(self, item: Option<usize>) -> Option<&'a Item> {
+        self.items.get(item?)
+    }
+
+    /// The value of the item of this number, if there is one.
+    pub(crate) fn value(self, item: Option<usize>) -> Option<&'a str> {
+        let item = self.item(item)?;
+        self.values.get(item.start..item.end)
     }
 
     /// The value of an item without its meaning.
-    pub(crate) fn digits(self, item: Item) -> &'a str {
+    pub(crate) fn digits(self, item: &Item) -> &'a str {
         self.values.get(item.start..item.middle).unwrap_or("")
     }
 
     /// What a value means, if there is one.
-    pub(crate) fn meaning(self, item: Item) -> &'a str {
+    pub(crate) fn meaning(self, item: &Item) -> &'a str {
         self.values
             .get(item.middle..item.end)
             .unwrap_or("")
             .trim_ascii()
     }
 
-    /// The first item of a structure itself from a place on, if there is one, and the place after it.
-    pub(crate) fn next_item(self, part: usize, from: usize) -> (Option<Item>, usize) {
-        let (first, last) = match self.parts.get(part) {
-            Some(part) => (part.first.max(from), part.last),
-            None => (0, 0),
-        };
-        for place in first..last {
-            if let Some(item) = self.items.get(place)
-                && item.part == part
-                && item.name != MALFORMED
-            {
-                return (Some(*item), place + 1);
+    /// The number of the first item of a structure itself from a number on, if there is one.
+    pub(crate) fn next_item(self, part: usize, from: usize) -> Option<usize> {
+        let structure = self.parts.get(part)?;
+        for place in structure.first.max(from)..structure.last {
+            let item = self.items.get(place)?;
+            if item.part == part && item.name != MALFORMED {
+                return Some(place);
             }
         }
-        (None, last)
+        None
     }
 
     /// Whether two structures of one or two tables are known by the same name and value, or place.
@@ -269,16 +285,21 @@ impl<'a> Side<'a> {
                 out.text(" of ");
             }
             out.text(part.name);
-            match part.id {
-                Some(id) => {
-                    out.text(", ");
-                    out.text(id.name);
-                    out.text(" ");
-                    out.text(self.value(Some(id)).unwrap_or(""));
-                }
-                None => out.words(" %", &[part.place]),
-            }
+            self.print_id(part, out);
             place = part.parent;
+        }
+    }
+
+    /// Prints the field that tells a structure apart, or its place.
+    fn print_id(self, part: &Part, out: &mut Out) {
+        match self.item(part.id) {
+            Some(id) => {
+                out.text(", ");
+                out.text(id.name);
+                out.text(" ");
+                out.text(self.value(part.id).unwrap_or(""))
+            }
+            None => out.words(" %", &[part.place]),
         }
     }
 }

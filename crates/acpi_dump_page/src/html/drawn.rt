@@ -1,9 +1,9 @@
 //! Which structures the drawing has, and the texts of their boxes.
 
-use super::escape::Piece::{Decimal, Text};
+use super::escape::Piece::{Decimal, Text, Words};
 use super::escape::{print_escaped, print_html};
 use super::sheet::Sheet;
-use crate::outline::Part;
+use crate::outline::{Item, Part};
 use acpi_dump_walk::fields::{number_of, size_of};
 use acpi_dump_walk::language::cut_at;
 use acpi_dump_walk::out::Out;
@@ -56,14 +56,19 @@ pub(super) fn line_of(
 ) -> Option<(&'static str, &'static str, &'static str)> {
     for line in DRAWN.split('\n') {
         let (head, rest) = cut_at(line, '|');
-        let (letters, name) = cut_at(head, ' ');
-        if sheet.entry.bytes.starts_with(letters.as_bytes()) && structure.name.starts_with(name) {
+        if is_named(sheet, structure, head) {
             let (kind, rest) = cut_at(rest, '|');
             let (class, text) = cut_at(rest, '|');
             return Some((kind, class, text));
         }
     }
     None
+}
+
+/// Whether a structure of a table is the one that the head of a line names.
+fn is_named(sheet: &Sheet<'_>, structure: &Part, head: &str) -> bool {
+    let (letters, name) = cut_at(head, ' ');
+    sheet.entry.bytes.starts_with(letters.as_bytes()) && structure.name.starts_with(name)
 }
 
 /// Prints a text, in it what a structure and its fields have in the place of names in braces.
@@ -82,29 +87,33 @@ pub(super) fn print_line(sheet: &Sheet<'_>, structure: usize, line: &'static str
 /// Prints the fields of a name that a structure has after its type and its length, as the name has it.
 fn print_fields(sheet: &Sheet<'_>, structure: usize, name: &'static str, out: &mut Out) {
     let wanted = name.trim_start_matches(['%', '#']);
-    let mut from = 0usize;
-    let mut gap = "";
-    for _ in 0..sheet.side.size() {
-        let (Some(item), next) = sheet.side.next_item(structure, from) else {
-            break;
-        };
-        from = next;
-        if item.name != wanted || item.within < 5 && wanted == "Length" {
-            continue;
+    let mut count = 0usize;
+    let (first, last) = match sheet.side.parts.get(structure) {
+        Some(part) => (part.first, part.last),
+        None => (0, 0),
+    };
+    for item in sheet.side.items.get(first..last).unwrap_or(&[]) {
+        let is_header = item.within < 5 && wanted == "Length";
+        if item.part == structure && item.name == wanted && !is_header {
+            out.text(if count > 0 { "/" } else { "" });
+            print_field(sheet, item, name, out);
+            count = count.saturating_add(1);
         }
-        let number = number_of(sheet.bytes(item.offset, item.length));
-        let meaning = sheet.side.meaning(item).as_bytes();
-        out.text(gap);
-        gap = "/";
-        if name.starts_with('%') {
-            let (size, unit) = size_of(number);
-            print_html("$ $", &[Decimal(size), Text(unit)], out);
-        } else if name.starts_with('#') {
-            write!(out, "{number:02x}");
-        } else if !meaning.is_empty() {
-            print_escaped(meaning.get(..26).unwrap_or(meaning), out);
-        } else if name != "Flags" {
-            out.words("#", &[number]);
-        }
+    }
+}
+
+/// Prints a field as its name in a line has it.
+fn print_field(sheet: &Sheet<'_>, item: &Item, name: &'static str, out: &mut Out) {
+    let number = number_of(sheet.bytes(item.offset, item.length));
+    let meaning = sheet.side.meaning(item);
+    if name.starts_with('%') {
+        let (size, unit) = size_of(number);
+        print_html("$ $", &[Decimal(size), Text(unit)], out)
+    } else if name.starts_with('#') {
+        write!(out, "{number:02x}")
+    } else if !meaning.is_empty() {
+        print_html("$", &[Words(meaning, 26)], out)
+    } else if name != "Flags" {
+        out.words("#", &[number])
     }
 }

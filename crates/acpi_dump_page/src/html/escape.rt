@@ -17,8 +17,10 @@ pub(super) enum Piece<'a> {
     Bytes(&'a [u8]),
     /// The first digits of a value.
     Value(&'a str),
+    /// The first words of a text, of at most this many letters together.
+    Words(&'a str, usize),
     /// The name of a field, with its number if it has one.
-    Name(Item),
+    Name(&'a Item),
     /// The names of what an input was read from.
     Names(&'a [&'a str]),
     Letters(Signature),
@@ -57,6 +59,11 @@ fn print_piece(piece: Piece<'_>, out: &mut Out) {
             print_escaped(bytes.get(..DIGITS).unwrap_or(bytes), out);
             out.text(if digits.len() > DIGITS { ".." } else { "" })
         }
+        Piece::Words(text, most) => {
+            let front = first_words(text, most);
+            print_escaped(front.as_bytes(), out);
+            out.text(if front.len() < text.len() { " .." } else { "" })
+        }
         Piece::Name(item) => {
             print_escaped(item.name.as_bytes(), out);
             if let Some(number) = item.number {
@@ -82,6 +89,23 @@ fn print_piece(piece: Piece<'_>, out: &mut Out) {
         Piece::Offset(offset) => write!(out, "{offset:04x}"),
         Piece::Markup(text) => out.text(text),
         Piece::Printed(text) => out.append(text),
+    }
+}
+
+/// A text if something holds, or no letters.
+pub(super) fn word_if(holds: bool, text: &'static str) -> Piece<'static> {
+    Piece::Text(if holds { text } else { "" })
+}
+
+/// The first words of a text, of at most so many letters together.
+fn first_words(text: &str, most: usize) -> &str {
+    if text.len() <= most {
+        return text;
+    }
+    let front = text.get(..most).unwrap_or(text);
+    match front.rsplit_once(' ') {
+        Some((words, _)) => words.trim_end_matches([',', ' ']),
+        None => front,
     }
 }
 

@@ -49,7 +49,7 @@ fn print_row(sheet: &Sheet<'_>, out: &mut Out) {
         ],
         out,
     );
-    match header_of(&sheet.entry) {
+    match header_of(sheet.entry) {
         Some(header) => print_html(
             "$<td class=\"w\"><code>$</code><td class=\"w\"><code>$</code><td class=\"w num\">$\
              <td class=\"w\"><code>$</code>\n",

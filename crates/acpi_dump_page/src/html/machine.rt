@@ -2,11 +2,12 @@
 
 use super::drawn::{line_of, print_line};
 use super::escape::Piece::Text;
-use super::escape::print_html;
+use super::escape::{print_html, word_if};
 use super::matrices::print_matrices;
 use super::rows::print_digest;
 use super::sheet::{Sheet, classes_of};
 use super::tile::Tile;
+use crate::outline::Part;
 use acpi::platform::interrupt::{InterruptSourceOverride, Polarity, TriggerMode};
 use acpi::sdt::field;
 use acpi_base::model::IsaOverrides;
@@ -56,27 +57,39 @@ struct Shape {
 /// Where a structure is drawn, if it is, within the one of this number that the table itself has.
 fn shape_of(sheet: &Sheet<'_>, table: usize, part: usize, unit: usize) -> Option<Shape> {
     let structure = sheet.side.parts.get(part)?;
-    let entry = sheet.bytes(structure.offset, structure.length);
     let (kind, class, text) = line_of(sheet, structure)?;
     let (class, flags) = next_word(class);
-    let is_off = match number_of(flags) {
-        Some(flags) => number_at(entry, flags as usize, 4) & 1 == 0,
-        None => false,
-    };
     let kind = number_of(kind)?;
-    let tile = match kind {
-        DOMAINS => share_of(structure.kind?, entry)?.domain,
-        IO_APICS | UNITS => unit as u64,
-        _ => 0,
-    };
+    let entry = sheet.bytes(structure.offset, structure.length);
     Some(Shape {
-        tile: (kind, table, tile),
+        tile: (kind, table, tile_of(kind, structure, entry, unit)?),
         part,
         is_wide: flags.is_empty(),
-        class: if is_off { "cpu off" } else { class },
+        class: if is_off(entry, flags) {
+            "cpu off"
+        } else {
+            class
+        },
         text,
         isa: None,
     })
+}
+
+/// The number of the tile of a kind that a structure is in, if it is in one: of a domain, or of a unit.
+fn tile_of(kind: u64, structure: &Part, entry: &[u8], unit: usize) -> Option<u64> {
+    match kind {
+        DOMAINS => Some(share_of(structure.kind?, entry)?.domain),
+        IO_APICS | UNITS => Some(unit as u64),
+        _ => Some(0),
+    }
+}
+
+/// Whether a processor whose flags are at an offset isn't enabled.
+fn is_off(entry: &[u8], offset: &str) -> bool {
+    match number_of(offset) {
+        Some(flags) => number_at(entry, flags as usize, 4) & 1 == 0,
+        None => false,
+    }
 }
 
 /// Adds the structures of a table that are drawn.
@@ -98,8 +111,9 @@ fn add_shapes(sheet: &Sheet<'_>, table: usize, shapes: &mut Vec<Shape>) -> Resul
     Ok(())
 }
 
-/// Adds the ISA interrupts of a MADT to the tiles of the I/O APICs that they come to (sections 5.2.12.3 and 5.2.12.5).
-/// Each leads to its override, or to the I/O APIC if it has none.
+/// Adds the ISA interrupts of a MADT to the tiles of the I/O APICs that they come to (sections 5.2.12.3 and 5.2.12.5): all
+/// if there are 8259s, by the flag PCAT_COMPAT, and else those that have an override. Each leads to its override, or to the
+/// I/O APIC if it has none.
 ///
 /// Fails if memory runs out.
 fn add_interrupts(
@@ -107,17 +121,42 @@ fn add_interrupts(
     table: usize,
     shapes: &mut Vec<Shape>,
 ) -> Result<(), AllocError> {
-    let (mut overrides, mut parts) = (IsaOverrides::new(), [0usize; 256]);
-    for part in 0..sheet.side.len() {
-        if let Some(structure) = sheet.side.parts.get(part)
-            && structure.kind == Some(2)
+    let overrides = overrides_of(sheet);
+    let has_pics = number_at(sheet.entry.bytes, 40, 4) & 1 != 0; // Flags
+    for irq in 0..16u8 {
+        let part = override_of(sheet, irq);
+        if (has_pics || part.is_some())
+            && let Some(isa) = overrides.isa_interrupt(irq)
+            && let Some((controller, pin)) = pin_of(sheet, isa.global_system_interrupt as u64)
         {
-            let entry = sheet.bytes(structure.offset, structure.length);
-            if field(entry, 2, 1) != 0 {
-                continue; // Bus
-            }
-            let isa_source = field(entry, 3, 1) as u8; // Source
-            parts[isa_source as usize] = part;
+            shapes.push(Shape {
+                tile: (IO_APICS, table, controller as u64),
+                part: part.unwrap_or(controller),
+                is_wide: false,
+                class: if part.is_some() { "pin hot" } else { "pin" },
+                text: "",
+                isa: Some((irq, pin)),
+            })?;
+        }
+    }
+    Ok(())
+}
+
+/// The source of an Interrupt Source Override of a MADT, if a structure is one.
+fn source_of(structure: &Part, entry: &[u8]) -> Option<u8> {
+    if structure.kind == Some(2) && field(entry, 2, 1) == 0 {
+        Some(field(entry, 3, 1) as u8) // Source, of the Bus 0
+    } else {
+        None
+    }
+}
+
+/// The Interrupt Source Overrides of a MADT.
+fn overrides_of(sheet: &Sheet<'_>) -> IsaOverrides {
+    let mut overrides = IsaOverrides::new();
+    for structure in sheet.side.parts {
+        let entry = sheet.bytes(structure.offset, structure.length);
+        if let Some(isa_source) = source_of(structure, entry) {
             overrides.add(&InterruptSourceOverride {
                 isa_source,
                 global_system_interrupt: field(entry, 4, 4) as u32,
@@ -126,22 +165,19 @@ fn add_interrupts(
             });
         }
     }
-    for irq in 0..16u8 {
-        if let Some(isa) = overrides.isa_interrupt(irq)
-            && let Some((controller, pin)) = pin_of(sheet, isa.global_system_interrupt as u64)
-        {
-            let part = parts[irq as usize];
-            shapes.push(Shape {
-                tile: (IO_APICS, table, controller as u64),
-                part: if part == 0 { controller } else { part },
-                is_wide: false,
-                class: if part == 0 { "pin" } else { "pin hot" },
-                text: "",
-                isa: Some((irq, pin)),
-            })?;
+    overrides
+}
+
+/// The number of the structure that is the last override of an ISA interrupt, if it has one.
+fn override_of(sheet: &Sheet<'_>, irq: u8) -> Option<usize> {
+    let mut last = None;
+    for (part, structure) in sheet.side.parts.iter().enumerate() {
+        let entry = sheet.bytes(structure.offset, structure.length);
+        if source_of(structure, entry) == Some(irq) {
+            last = Some(part);
         }
     }
-    Ok(())
+    last
 }
 
 /// The I/O APIC of a MADT that an interrupt comes to, by the number of its structure, and the pin: the first one with
@@ -205,78 +241,84 @@ fn print_title(sheet: &Sheet<'_>, kind: u64, number: u64, out: &mut Out) {
     out.text("</h3>")
 }
 
+/// How many boxes are beside each other in a tile of a kind, for this many structures.
+fn columns_of(kind: u64, count: usize) -> u64 {
+    match count {
+        _ if kind == IO_APICS => 3,
+        65..=SINGLE => 12,
+        _ => 8,
+    }
+}
+
 /// Prints a tile of structures.
 fn print_tile(sheets: &[Sheet<'_>], shapes: &[Shape], out: &mut Out) {
-    let [first, ..] = shapes else {
-        return;
-    };
-    let (kind, table, number) = first.tile;
-    let Some(sheet) = sheets.get(table) else {
-        return;
-    };
-    let (boxes, rows) = shapes.split_at(shapes.partition_point(|shape| !shape.is_wide));
-    let (each, columns) = match boxes.len() {
-        _ if kind == IO_APICS => (1, 3),
-        0..=64 => (1, 8),
-        65..=SINGLE => (1, 12),
-        count => (count.div_ceil(BOXES), 8),
-    };
-    print_title(sheet, kind, number, out);
-    if each > 1 {
-        let counts = [boxes.len() as u64, each as u64];
-        out.words("<p>% processors, % in a box</p>", &counts);
+    if let [first, ..] = shapes
+        && let Some(sheet) = sheets.get(first.tile.1)
+    {
+        let (boxes, rows) = shapes.split_at(shapes.partition_point(|shape| !shape.is_wide));
+        let each = if boxes.len() > SINGLE {
+            boxes.len().div_ceil(BOXES)
+        } else {
+            1
+        };
+        print_title(sheet, first.tile.0, first.tile.2, out);
+        if each > 1 {
+            let counts = [boxes.len() as u64, each as u64];
+            out.words("<p>% processors, % in a box</p>", &counts);
+        }
+        let columns = columns_of(first.tile.0, boxes.len());
+        let mut tile = Tile::new(out.allocator(), columns);
+        for some in boxes.chunks(each) {
+            add_box(sheet, some, &mut tile);
+        }
+        add_rows(sheet, rows, &mut tile);
+        tile.print(out)
     }
-    let mut tile = Tile::new(out.allocator(), columns);
-    for some in boxes.chunks(each) {
-        add_box(sheet, some, &mut tile);
-    }
+}
+
+/// Adds the boxes that are as wide as the tile, up to as many as it has at most.
+fn add_rows(sheet: &Sheet<'_>, rows: &[Shape], tile: &mut Tile) {
     tile.columns = 1;
     for some in rows.chunks(1).take(ROWS) {
-        add_box(sheet, some, &mut tile);
+        add_box(sheet, some, tile);
     }
-    if rows.len() > ROWS {
-        let others = (rows.len() - ROWS) as u64;
+    let others = rows.len().saturating_sub(ROWS) as u64;
+    if others > 0 {
         tile.text.words("and % more", &[others]);
-        tile.add(None, "", "");
+        tile.add(None, "", "")
     }
-    tile.print(out)
 }
 
 /// Adds a box for structures, of which there are several only if they are processors.
 fn add_box(sheet: &Sheet<'_>, some: &[Shape], tile: &mut Tile) {
-    let [first, ..] = some else {
-        return;
-    };
-    let Some(structure) = sheet.side.parts.get(first.part) else {
-        return;
-    };
+    if let [first, ..] = some
+        && let Some(structure) = sheet.side.parts.get(first.part)
+    {
+        print_line(sheet, first.part, first.text, &mut tile.text);
+        if let Some((irq, pin)) = first.isa {
+            let numbers = [irq as u64, pin];
+            tile.text.words("ISA %→%", &numbers);
+            tile.title.words("ISA interrupt %, pin %: ", &numbers);
+        }
+        if some.len() > 1 {
+            let words = "% processors from this one on: ";
+            tile.title.words(words, &[some.len() as u64]);
+        }
+        let state = word_if(first.class == "cpu off", "disabled: ");
+        print_html("$$: ", &[state, Text(structure.name)], &mut tile.title);
+        print_digest(sheet.side, first.part, structure, &mut tile.title);
+        let target = Some((sheet, structure.offset));
+        tile.add(target, first.class, marks_of(sheet, some))
+    }
+}
+
+/// The classes of the marks of structures.
+fn marks_of(sheet: &Sheet<'_>, some: &[Shape]) -> &'static str {
     let mut seen = (0, false);
     for shape in some {
-        if let Some(other) = sheet.side.parts.get(shape.part) {
-            seen = sheet.seen(other.offset, other.length, seen);
+        if let Some(structure) = sheet.side.parts.get(shape.part) {
+            seen = sheet.seen(structure.offset, structure.length, seen);
         }
     }
-    print_line(sheet, first.part, first.text, &mut tile.text);
-    if let Some((irq, pin)) = first.isa {
-        let numbers = [irq as u64, pin];
-        tile.text.words("ISA %→%", &numbers);
-        tile.title.words("ISA interrupt %, pin %: ", &numbers);
-    }
-    if some.len() > 1 {
-        let words = "% processors from this one on: ";
-        tile.title.words(words, &[some.len() as u64]);
-    }
-    let state = if first.class == "cpu off" {
-        "disabled: "
-    } else {
-        ""
-    };
-    let name = [Text(state), Text(structure.name)];
-    print_html("$$: ", &name, &mut tile.title);
-    print_digest(sheet.side, first.part, structure, &mut tile.title);
-    tile.add(
-        Some((sheet, structure.offset)),
-        first.class,
-        classes_of(seen),
-    )
+    classes_of(seen)
 }

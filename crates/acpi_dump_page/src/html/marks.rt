@@ -11,8 +11,8 @@ pub(super) enum Change {
     Same,
     /// The first one hasn't got it, or the structure of this number that it is in, if that isn't 0.
     Added(usize),
-    /// The first one has this in its place.
-    From(Item),
+    /// The first one has the field of this number in its place.
+    From(usize),
 }
 
 /// The marks of a field.
@@ -29,8 +29,15 @@ pub(super) struct Mark {
 #[derive(Drop)]
 pub(super) struct Marks {
     pub(super) fields: Vec<Mark>,
-    /// What the first of two inputs alone has: structures, and fields of them.
-    pub(super) gone: Vec<(usize, Option<Item>)>,
+    /// What the first of two inputs alone has: structures, and fields of them, by their numbers.
+    pub(super) gone: Vec<(usize, Option<usize>)>,
+}
+
+/// How many findings are of tables before this one, or of it and of bytes before an offset.
+fn reach(findings: &[Finding], table: usize, end: u64) -> usize {
+    findings.partition_point(|finding| {
+        finding.table < table || finding.table == table && (finding.offset as u64) < end
+    })
 }
 
 /// The marks of the table of this number by findings, which are in the order of the tables and of their offsets: each
@@ -44,17 +51,12 @@ pub(super) fn marks_of(
     findings: &[Finding],
 ) -> Result<Marks, AllocError> {
     let mut fields: Vec<Mark> = Vec::new(alloc);
-    let mut next = findings.partition_point(|finding| finding.table < table);
+    let mut next = reach(findings, table, 0);
     let mut row = 0usize;
     for (place, item) in side.items.iter().enumerate() {
         let first = next;
         let end = item.offset.saturating_add(item.length);
-        for number in first..findings.len() {
-            if findings[number].table != table || findings[number].offset as u64 >= end {
-                break;
-            }
-            next = number + 1;
-        }
+        next = reach(findings, table, end).max(first);
         match fields.get_mut(row) {
             Some(mark) if item.name == BYTES && is_run(side, row, item) => mark.findings.1 = next,
             _ => row = place,
@@ -89,23 +91,28 @@ impl Marks {
         differences: &[Difference<'_>],
     ) -> Result<(), AllocError> {
         for found in differences {
-            let Some(place) = found.place else {
-                self.gone.push((found.part, found.was))?;
-                continue;
-            };
-            let (places, change) = match (side.parts.get(place), found.was) {
-                (Some(part), None) if found.name.is_empty() => {
-                    (part.first..part.last, Change::Added(place))
-                }
-                (_, Some(was)) => (place..place.saturating_add(1), Change::From(was)),
-                _ => (place..place.saturating_add(1), Change::Added(0)),
-            };
-            for place in places {
-                if let Some(mark) = self.fields.get_mut(place) {
-                    mark.change = change;
-                }
+            match found.place {
+                None => self.gone.push((found.part, found.was))?,
+                Some(place) if found.name.is_empty() => self.add_structure(side, place),
+                Some(place) => self.change(place, found.was.map(Change::From)),
             }
         }
         Ok(())
+    }
+
+    /// Marks the fields of a structure that the first table hasn't got.
+    fn add_structure(&mut self, side: Side<'_>, part: usize) {
+        if let Some(structure) = side.parts.get(part) {
+            for place in structure.first..structure.last {
+                self.change(place, Some(Change::Added(part)));
+            }
+        }
+    }
+
+    /// Marks a field as one that differs so, or else as one that the first table hasn't got.
+    fn change(&mut self, place: usize, change: Option<Change>) {
+        if let Some(mark) = self.fields.get_mut(place) {
+            mark.change = change.unwrap_or(Change::Added(0));
+        }
     }
 }

@@ -41,33 +41,41 @@ fn print_matrix(sheet: &Sheet<'_>, offset: u64, matrix: Matrix<'_>, out: &mut Ou
         ""
     };
     let title = [Text(matrix.words), Text(matrix.unit)];
-    print_html(
-        "<figure class=\"tile\"><div><figcaption><h3>$</h3><p>$",
-        &title,
-        out,
-    );
+    let front = "<figure class=\"tile\"><div><figcaption><h3>$</h3><p>$";
+    print_html(front, &title, out);
     let counts = [Decimal(all as u64), Decimal(others as u64)];
     print_html(first, &counts, out);
     out.text(" from the left to the top</p>");
-    let mut least = u64::MAX;
     let mut tile = Tile::new(out.allocator(), columns as u64 + 1);
     tile.add(None, "", "");
     for column in 0..columns {
-        let name = matrix.name(matrix.rows.saturating_add(column));
-        tile.text.words("%", &[name]);
-        tile.add(None, "", "");
-        for row in 0..rows {
-            least = least.min(matrix.value(row, column).unwrap_or(u64::MAX));
-        }
+        add_name(matrix, matrix.rows.saturating_add(column), &mut tile);
     }
+    let least = least_of(matrix, rows, columns);
     for row in 0..rows {
-        tile.text.words("%", &[matrix.name(row)]);
-        tile.add(None, "", "");
+        add_name(matrix, row, &mut tile);
         for column in 0..columns {
             add_value(sheet, offset, matrix, (row, column), least, &mut tile);
         }
     }
     tile.print(out)
+}
+
+/// Adds the domain of a row or of a column.
+fn add_name(matrix: Matrix<'_>, place: usize, tile: &mut Tile) {
+    tile.text.words("%", &[matrix.name(place)]);
+    tile.add(None, "", "")
+}
+
+/// The least value in the first rows and columns of a matrix.
+fn least_of(matrix: Matrix<'_>, rows: usize, columns: usize) -> u64 {
+    let mut least = u64::MAX;
+    for row in 0..rows {
+        for column in 0..columns {
+            least = least.min(matrix.value(row, column).unwrap_or(u64::MAX));
+        }
+    }
+    least
 }
 
 /// Adds the box of a value of a matrix whose least one is this. Its class has by how many halves of the least one it

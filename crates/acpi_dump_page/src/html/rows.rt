@@ -1,13 +1,15 @@
 //! The fields of a table: a row for each, in folds by the structures that they are in.
 
-use super::escape::Piece::{Bytes, Decimal, Digits, Hex, Id, Name, Offset, Text, Value};
-use super::escape::print_html;
+use super::escape::Piece::{Bytes, Decimal, Digits, Hex, Id, Name, Offset, Text, Value, Words};
+use super::escape::{print_html, word_if};
 use super::findings::print_findings_of;
-use super::marks::Change;
+use super::ids;
+use super::marks::{Change, Mark};
 use super::sheet::{Sheet, Standing};
 use crate::outline::{BYTES, Item, MALFORMED, Part, Side};
 use acpi::sdt::SdtHeader;
 use acpi_dump_input::entries::header_of;
+use acpi_dump_walk::language::number_at;
 use acpi_dump_walk::out::Out;
 use acpi_dump_walk::walk::DEEPEST;
 
@@ -29,7 +31,11 @@ const HEADER_END: &str = "</table>\n</details>\n";
 #[derive(Drop)]
 struct Rows<'s, 'p, 'o> {
     sheet: &'s Sheet<'p>,
+    /// All tables on the page.
+    sheets: &'s [Sheet<'p>],
     out: &'o mut Out,
+    /// The structure that begins next.
+    next: usize,
     /// The structure whose fields come.
     open: usize,
     /// The last structure of the row of structures that is in a fold, or 0.
@@ -39,31 +45,23 @@ struct Rows<'s, 'p, 'o> {
 }
 
 /// Prints the fields of a table, and what only that of the first input has.
-pub(super) fn print_rows(sheet: &Sheet<'_>, out: &mut Out) {
+pub(super) fn print_rows<'p>(sheet: &Sheet<'p>, sheets: &[Sheet<'p>], out: &mut Out) {
     let mut rows = Rows {
         sheet,
+        sheets,
         out,
+        next: 1,
         open: 0,
         group: 0,
         end: "",
     };
-    if let Some(header) = &header_of(&sheet.entry) {
+    if let Some(header) = &header_of(sheet.entry) {
         rows.begin_header(header);
     }
-    let mut next = 1usize;
     for (place, item) in sheet.side.items.iter().enumerate() {
-        for number in next..sheet.side.len() {
-            match sheet.side.parts.get(number) {
-                Some(part) if part.first <= place => {
-                    rows.close_to(part.parent);
-                    rows.begin(number, part);
-                }
-                _ => break,
-            }
-            next = number + 1;
-        }
+        rows.begin_parts(place);
         rows.close_to(item.part);
-        rows.item(place, *item);
+        rows.item(place, item);
     }
     rows.close_to(0);
     rows.end();
@@ -96,13 +94,29 @@ impl Rows<'_, '_, '_> {
              <th scope=\"col\">Value<th scope=\"col\">Meaning<tbody>\n",
             &[
                 Text(marks),
-                Text(if is_open { " open" } else { "" }),
+                word_if(is_open, " open"),
                 Bytes(&header.oem_id),
                 Bytes(&header.oem_table_id),
             ],
             self.out,
         );
         self.end = HEADER_END;
+    }
+
+    /// Begins the folds of the structures that begin with the item of this number.
+    fn begin_parts(&mut self, item: usize) {
+        let sheet = self.sheet;
+        let parts = sheet.side.parts;
+        for number in self.next..parts.len() {
+            match parts.get(number) {
+                Some(part) if part.first <= item => {
+                    self.close_to(part.parent);
+                    self.begin(number, part);
+                }
+                _ => break,
+            }
+            self.next = number + 1;
+        }
     }
 
     /// Begins the fold of a structure, and before it that of a row of structures if it is the first of many.
@@ -121,15 +135,15 @@ impl Rows<'_, '_, '_> {
         print_html(
             "<details class=\"s$$$\"$><summary data-o=\"$\" data-n=\"$\"><span>$</span> $ <small>$",
             &[
-                Text(if fold.is_added { " new" } else { "" }),
-                Text(if is_changed { " chg" } else { "" }),
-                Text(if fold.has_findings { " hit" } else { "" }),
-                Text(if is_open { " open" } else { "" }),
+                word_if(fold.is_added, " new"),
+                word_if(is_changed, " chg"),
+                word_if(fold.has_findings, " hit"),
+                word_if(is_open, " open"),
                 Digits(part.offset),
                 Digits(part.length),
                 Offset(part.offset),
                 Text(part.name),
-                Text(if fold.is_added { "added: " } else { "" }),
+                word_if(fold.is_added, "added: "),
             ],
             self.out,
         );
@@ -161,7 +175,7 @@ impl Rows<'_, '_, '_> {
         print_html(
             "<details class=\"g$\"><summary>$ <b>×$</b> <small>$ to $</small></summary>\n",
             &[
-                Text(if has_changes { " chg" } else { "" }),
+                word_if(has_changes, " chg"),
                 Text(part.name),
                 Decimal(count as u64),
                 Hex(part.offset),
@@ -192,46 +206,43 @@ impl Rows<'_, '_, '_> {
     }
 
     /// Prints a field's row, with its findings.
-    fn item(&mut self, place: usize, item: Item) {
+    fn item(&mut self, place: usize, item: &Item) {
         let sheet = self.sheet;
         if item.part == 0 && item.offset >= HEADER && self.end == HEADER_END {
             self.end();
         }
-        let (mark, side) = (sheet.mark(place), sheet.side);
+        let mark = sheet.mark(place);
         if mark.row != place {
             return;
         }
         self.start();
-        self.begin_row(place, item);
-        let meaning = side.meaning(item);
-        match (mark.change, sheet.standing) {
-            _ if item.name == BYTES => {
-                let length = self.length(place);
-                let words = "<th scope=\"row\">not decoded<td><td>% bytes\n";
-                self.out.words(words, &[length])
-            }
-            (Change::From(was), Standing::Beside(_, old)) => print_html(
-                if old.meaning(was) == meaning {
-                    "<th scope=\"row\">$<td><del>$</del> <ins>$</ins><td>$\n"
-                } else {
-                    "<th scope=\"row\">$<td><del>$</del> <ins>$</ins><td><del>$</del> $\n"
-                },
-                &[
-                    Name(item),
-                    Value(old.digits(was)),
-                    Value(side.digits(item)),
-                    Text(old.meaning(was)),
-                    Text(meaning),
-                ],
-                self.out,
-            ),
-            _ => print_html(
-                "<th scope=\"row\">$<td>$<td>$\n",
-                &[Name(item), Value(side.digits(item)), Text(meaning)],
-                self.out,
-            ),
+        self.begin_row(item, mark);
+        if item.name == BYTES {
+            let words = "<th scope=\"row\">not decoded<td><td>% bytes\n";
+            let length = self.length(place);
+            self.out.words(words, &[length])
+        } else if let Some((old, was)) = sheet.before(mark) {
+            print_change(old, was, sheet.side, item, self.out)
+        } else {
+            let target = self.target_of(item);
+            print_value(sheet.side, item, target, self.out)
         }
         print_findings_of(sheet.findings, mark.findings, self.out)
+    }
+
+    /// The table that a field has the address of, if it is on the page.
+    fn target_of(&self, item: &Item) -> Option<ids::Id> {
+        let table = self.sheet.entry.bytes;
+        let address = number_at(table, item.offset as usize, item.length as usize);
+        if item.length < 4 || address == 0 {
+            return None;
+        }
+        for sheet in self.sheets {
+            if !sheet.id.is_first && sheet.entry.place.address() == Some(address) {
+                return Some(sheet.id);
+            }
+        }
+        None
     }
 
     /// How many bytes that no field covers are in a row.
@@ -250,9 +261,9 @@ impl Rows<'_, '_, '_> {
     }
 
     /// Prints what a row begins with: its id, its marks and its offset.
-    fn begin_row(&mut self, place: usize, item: Item) {
+    fn begin_row(&mut self, item: &Item, mark: Mark) {
         let sheet = self.sheet;
-        let (offset, mark) = (item.offset, sheet.mark(place));
+        let offset = item.offset;
         let id = Id(sheet.id, Some(offset));
         let start = if item.length > 0 {
             "<tr id=\"$\""
@@ -294,56 +305,85 @@ impl Rows<'_, '_, '_> {
         };
         for (part, field) in sheet.marks.gone.iter() {
             self.start();
-            match field {
-                Some(item) => print_html(
-                    "<tr class=\"del\"><td>$<th scope=\"row\">$<td><del>$</del><td><del>$</del>\n",
-                    &[
-                        Offset(item.offset),
-                        Name(*item),
-                        Value(old.digits(*item)),
-                        Text(old.meaning(*item)),
-                    ],
-                    self.out,
-                ),
-                None => {
-                    let mut path = Out::new(self.out.allocator());
-                    old.print_path(*part, &mut path);
-                    print_html(
-                        "<tr class=\"del\"><td>$<th scope=\"row\"><del>$</del><td><td>only in the first\n",
-                        &[Offset(old.offset(*part)), Bytes(path.since(0))],
-                        self.out,
-                    )
-                }
+            match old.item(*field) {
+                Some(item) => print_gone(old, item, self.out),
+                None => print_gone_part(old, *part, self.out),
             }
         }
         self.end();
     }
 }
 
+/// Prints the name, the value and the meaning of a field. The value leads to a table if it is the address of one.
+fn print_value(side: Side<'_>, item: &Item, target: Option<ids::Id>, out: &mut Out) {
+    print_html("<th scope=\"row\">$<td>", &[Name(item)], out);
+    let value = Value(side.digits(item));
+    match target {
+        Some(table) => print_html("<a href=\"#$\">$</a>", &[Id(table, None), value], out),
+        None => print_html("$", &[value], out),
+    }
+    print_html("<td>$\n", &[Text(side.meaning(item))], out)
+}
+
+/// Prints the name, the value and the meaning of a field, each with what the first input has, if that differs.
+fn print_change(old: Side<'_>, was: &Item, side: Side<'_>, item: &Item, out: &mut Out) {
+    let (meant, meaning) = (old.meaning(was), side.meaning(item));
+    let row = if meant == meaning {
+        "<th scope=\"row\">$<td><del>$</del> <ins>$</ins><td>$\n"
+    } else {
+        "<th scope=\"row\">$<td><del>$</del> <ins>$</ins><td><del>$</del> $\n"
+    };
+    let pieces = [
+        Name(item),
+        Value(old.digits(was)),
+        Value(side.digits(item)),
+        Text(meant),
+        Text(meaning),
+    ];
+    print_html(row, &pieces, out)
+}
+
+/// Prints a field that only the table of the first input has.
+fn print_gone<'x>(old: Side<'x>, item: &'x Item, out: &mut Out) {
+    let row = "<tr class=\"del\"><td>$<th scope=\"row\">$<td><del>$</del><td><del>$</del>\n";
+    let pieces = [
+        Offset(item.offset),
+        Name(item),
+        Value(old.digits(item)),
+        Text(old.meaning(item)),
+    ];
+    print_html(row, &pieces, out)
+}
+
+/// Prints a structure that only the table of the first input has.
+fn print_gone_part(old: Side<'_>, part: usize, out: &mut Out) {
+    let mut path = Out::new(out.allocator());
+    old.print_path(part, &mut path);
+    let row = "<tr class=\"del\"><td>$<th scope=\"row\"><del>$</del><td><td>only in the first\n";
+    print_html(row, &[Offset(old.offset(part)), Bytes(path.since(0))], out)
+}
+
 /// Prints the first fields that tell of a folded structure what it is.
 pub(super) fn print_digest(side: Side<'_>, number: usize, part: &Part, out: &mut Out) {
     let mut count = 0usize;
-    let mut from = 0usize;
-    for _ in part.first..part.last {
-        let (Some(item), next) = side.next_item(number, from) else {
-            break;
-        };
-        from = next;
-        let is_front = item.within < 5 && matches!(item.name, "Type" | "Length" | "Revision");
-        if is_front || item.name == BYTES || item.name.starts_with("Reserved") {
-            continue;
-        }
-        let meaning = side.meaning(item).as_bytes();
-        let value = if meaning.is_empty() {
-            Value(side.digits(item))
-        } else {
-            Bytes(meaning.get(..48).unwrap_or(meaning))
-        };
-        let gap = Text(if count > 0 { ", " } else { "" });
-        print_html("$$ $", &[gap, Text(item.name), value], out);
-        count = count.saturating_add(1);
-        if count == 4 {
-            break;
+    for item in side.items.get(part.first..part.last).unwrap_or(&[]) {
+        if item.part == number && tells(item) && count < 4 {
+            let meaning = side.meaning(item);
+            let value = if meaning.is_empty() {
+                Value(side.digits(item))
+            } else {
+                Words(meaning, 48)
+            };
+            let pieces = [word_if(count > 0, ", "), Text(item.name), value];
+            print_html("$$ $", &pieces, out);
+            count = count.saturating_add(1);
         }
     }
+}
+
+/// Whether a field tells of a structure what it is.
+fn tells(item: &Item) -> bool {
+    let is_front = item.within < 5 && matches!(item.name, "Type" | "Length" | "Revision");
+    let is_left_out = item.name == BYTES || item.name == MALFORMED;
+    !is_front && !is_left_out && !item.name.starts_with("Reserved")
 }

@@ -1,7 +1,7 @@
 //! The script of a page. Without it the links, the folds and the bytes are there too.
 
 /// The SHA-256 of the script, in base64, which scripts/check_html compares with it.
-pub(super) const SCRIPT_HASH: &str = "cJY3RvAzUi2Phvhx44Wc6y6Seyqr9pkwHlvdr7tziS0=";
+pub(super) const SCRIPT_HASH: &str = "6WPgAlkoc8HfoIzRRs284r2nA6ri8+KaitJWhmTo7DY=";
 
 /// The script: what is under the pointer or has the focus is marked with its bytes, and the other way round.
 pub(super) const SCRIPT: &str = r#"
@@ -111,7 +111,7 @@ document.addEventListener("click", e => {
 document.addEventListener("keydown", e => {
   const step = {ArrowDown: 1, ArrowUp: -1}[e.key], t = e.target.closest && e.target.closest(".fs");
   if (!step || !t || e.altKey || e.ctrlKey || e.metaKey) return;
-  const all = [...t.querySelectorAll("summary,tr[id] a[href]")]
+  const all = [...t.querySelectorAll("summary,tr[id]>td:first-child a")]
     .filter(x => x.checkVisibility ? x.checkVisibility() : x.offsetParent);
   const n = all[all.indexOf(e.target) + step];
   if (n) { e.preventDefault(); n.focus(); }

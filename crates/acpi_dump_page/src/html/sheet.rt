@@ -3,7 +3,7 @@
 use super::escape::Piece;
 use super::ids::Id;
 use super::marks::{Change, Mark, Marks};
-use crate::outline::Side;
+use crate::outline::{Item, Side};
 use acpi::sdt::Signature;
 use acpi_dump_input::entries::Entry;
 use acpi_dump_input::judgement::Judgement;
@@ -18,7 +18,7 @@ pub(super) enum Standing<'p> {
     /// It is, with the same bytes.
     Same,
     /// It is, with these bytes and fields.
-    Beside(Entry<'p>, Side<'p>),
+    Beside(&'p [u8], Side<'p>),
 }
 
 /// The worst severity of findings, by its rank from 1 on, or 0 if there are none, and whether there are changes.
@@ -35,7 +35,7 @@ const CLASSES: [[&str; 2]; 4] = [
 /// A table on a page.
 #[derive(Drop)]
 pub(super) struct Sheet<'p> {
-    pub(super) entry: Entry<'p>,
+    pub(super) entry: &'p Entry<'p>,
     pub(super) id: Id,
     /// The signature that it begins with, or should.
     pub(super) signature: Signature,
@@ -69,8 +69,7 @@ impl<'p> Sheet<'p> {
 
     /// The bytes at an offset, of this length.
     pub(super) fn bytes(&self, offset: u64, length: u64) -> &'p [u8] {
-        let end = offset.saturating_add(length) as usize;
-        self.entry.bytes.get(offset as usize..end).unwrap_or(&[])
+        bytes_of(self.entry.bytes, offset, length)
     }
 
     /// The marks of the field that has this number.
@@ -80,6 +79,14 @@ impl<'p> Sheet<'p> {
             findings: (0, 0),
             change: Change::Same,
         })
+    }
+
+    /// What the first input has in place of a field with these marks, if that differs: its table, and the field there.
+    pub(super) fn before(&self, mark: Mark) -> Option<(Side<'p>, &'p Item)> {
+        match (mark.change, self.standing) {
+            (Change::From(was), Standing::Beside(_, old)) => Some((old, old.items.get(was)?)),
+            _ => None,
+        }
     }
 
     /// The marks of the structure that has this number.
@@ -127,8 +134,8 @@ impl<'p> Sheet<'p> {
         }
     }
 
-    /// The classes that what is shown of `length` bytes of the table, from an offset on, has after its own:
-    /// ` hit` and the worst severity if there is a finding in them, and ` chg` if they differ from the first input's.
+    /// The classes that what is shown of `length` bytes of the table, from an offset on, has after its own: ` hit` and
+    /// the worst severity if there is a finding in them, and ` chg` if they differ from the first input's.
     pub(super) fn classes(&self, offset: u64, length: u64) -> &'static str {
         classes_of(self.seen(offset, length, (0, matches!(self.standing, Standing::Only))))
     }
@@ -138,32 +145,47 @@ impl<'p> Sheet<'p> {
     pub(super) fn seen(&self, offset: u64, length: u64, before: Seen) -> Seen {
         let end = offset.saturating_add(length);
         let (mut worst, mut has_changes) = before;
-        let was = match self.standing {
-            Standing::Beside(old, _) => old.bytes.get(offset as usize..end as usize),
-            _ => None,
-        };
-        let is_other = was != Some(self.bytes(offset, length));
+        let is_other = self.is_other(offset, length);
         for place in self.field_at(offset)..self.side.size() {
-            let mark = self.mark(place);
             let item = match self.side.items.get(place) {
                 Some(item) if item.offset < end => item,
                 _ => break,
             };
+            let mark = self.mark(place);
             let is_whole = item.offset >= offset && item.offset.saturating_add(item.length) <= end;
-            has_changes |= !matches!(mark.change, Change::Same) && (is_whole || is_other);
-            for finding in self
-                .findings
-                .list()
-                .get(mark.findings.0..mark.findings.1)
-                .unwrap_or(&[])
-            {
-                if is_whole || (offset..end).contains(&(finding.offset as u64)) {
-                    worst = worst.max(finding.rule.severity.rank().saturating_add(1));
-                }
-            }
+            let is_changed = !matches!(mark.change, Change::Same);
+            has_changes |= is_changed && (is_whole || is_other);
+            worst = worst.max(self.worst_of(mark, is_whole, offset, end));
         }
         (worst, has_changes)
     }
+
+    /// Whether `length` bytes from an offset on aren't the ones that the first input has there.
+    fn is_other(&self, offset: u64, length: u64) -> bool {
+        match self.standing {
+            Standing::Beside(old, _) => bytes_of(old, offset, length) != self.bytes(offset, length),
+            _ => true,
+        }
+    }
+
+    /// The worst severity of the findings of a field, or of the ones between two offsets if the field isn't all there.
+    fn worst_of(&self, mark: Mark, is_whole: bool, offset: u64, end: u64) -> usize {
+        let (first, last) = mark.findings;
+        let mut worst = 0usize;
+        for finding in self.findings.list().get(first..last).unwrap_or(&[]) {
+            let at = finding.offset as u64;
+            if is_whole || offset <= at && at < end {
+                worst = worst.max(finding.rule.severity.rank().saturating_add(1));
+            }
+        }
+        worst
+    }
+}
+
+/// The bytes at an offset of a table, of this length, or none if they aren't all there.
+fn bytes_of(table: &[u8], offset: u64, length: u64) -> &[u8] {
+    let end = offset.saturating_add(length) as usize;
+    table.get(offset as usize..end).unwrap_or(&[])
 }
 
 /// The classes of what was seen.

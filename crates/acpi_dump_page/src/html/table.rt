@@ -14,9 +14,9 @@ use acpi_dump_walk::out::Out;
 const LONG: usize = 4096;
 
 /// Prints the section of a table.
-pub(super) fn print_table(sheet: &Sheet<'_>, out: &mut Out) {
+pub(super) fn print_table<'p>(sheet: &Sheet<'p>, sheets: &[Sheet<'p>], out: &mut Out) {
     print_beginning(sheet, out);
-    print_rows(sheet, out);
+    print_rows(sheet, sheets, out);
     print_html(
         "</div><div class=\"bs\"><p class=\"o\"><output></output></p>\
          <pre tabindex=\"0\" role=\"region\" aria-label=\"Bytes of $\">",
@@ -27,7 +27,7 @@ pub(super) fn print_table(sheet: &Sheet<'_>, out: &mut Out) {
     out.text("</pre>");
     if let Standing::Beside(old, _) = sheet.standing {
         out.text("<details class=\"old\"><summary>bytes in the first input</summary><pre>");
-        print_bytes(old.bytes, None, out);
+        print_bytes(old, None, out);
         out.text("</pre></details>");
     }
     out.text("</div></div></details></section>\n");
@@ -69,7 +69,7 @@ fn print_beginning(sheet: &Sheet<'_>, out: &mut Out) {
     }
     let length = Decimal(sheet.entry.bytes.len() as u64);
     print_html("<small>$ · $ bytes", &[place_of(sheet), length], out);
-    if let Some(header) = &header_of(&sheet.entry) {
+    if let Some(header) = &header_of(sheet.entry) {
         out.words(" · revision %", &[header.revision as u64]);
     }
     out.text("</small></summary>\n<div class=\"two\"><div class=\"fs\">");

@@ -1,7 +1,7 @@
 //! The tiles of the drawing: boxes in rows, each of which leads to its bytes.
 
 use super::escape::Piece::{Decimal, Printed, Text};
-use super::escape::print_html;
+use super::escape::{Piece, print_html};
 use super::sheet::Sheet;
 use acpi_dump_walk::out::Out;
 use std::alloc::Global;
@@ -52,46 +52,65 @@ impl Tile {
             self.x = 0;
             self.y = self.y.saturating_add(HEIGHT);
         }
-        let (x, y, inner) = (self.x, self.y, width.saturating_sub(GAP));
-        self.x = x.saturating_add(width);
-        if let Some((sheet, offset)) = target {
-            print_html(
-                "<a class=\"$\" href=\"#$\"><title>$</title>\
-                 <rect class=\"$\" x=\"$\" y=\"$\" width=\"$\" height=\"$\"/>",
-                &[
-                    Text(marks),
-                    sheet.link(offset),
-                    Printed(&self.title),
-                    Text(class),
-                    Decimal(x),
-                    Decimal(y),
-                    Decimal(inner),
-                    Decimal(HEIGHT - GAP),
-                ],
-                &mut self.boxes,
-            );
+        match target {
+            Some((sheet, offset)) => {
+                self.add_rect(sheet.link(offset), class, marks, width);
+                self.add_text(width);
+                self.boxes.text("</a>\n")
+            }
+            None => {
+                self.add_text(width);
+                self.boxes.text("\n")
+            }
         }
-        let (class, letter, start) = match self.columns {
-            1 => ("", 0, 6),
-            2..=8 => ("c", 8, inner / 2),
-            _ => ("s c", 7, inner / 2),
-        };
-        if (self.text.length() as u64).saturating_mul(letter) <= width {
-            print_html(
-                "<text class=\"$\" x=\"$\" y=\"$\">$</text>",
-                &[
-                    Text(class),
-                    Decimal(x.saturating_add(start)),
-                    Decimal(y.saturating_add(14)),
-                    Printed(&self.text),
-                ],
-                &mut self.boxes,
-            );
-        }
-        self.boxes
-            .text(if target.is_some() { "</a>\n" } else { "\n" });
+        self.x = self.x.saturating_add(width);
         self.text.clear();
         self.title.clear()
+    }
+
+    /// Draws the box itself, of a width with its gap, as a link that ends after the text.
+    fn add_rect(
+        &mut self,
+        link: Piece<'static>,
+        class: &'static str,
+        marks: &'static str,
+        width: u64,
+    ) {
+        print_html(
+            "<a class=\"$\" href=\"#$\"><title>$</title>\
+             <rect class=\"$\" x=\"$\" y=\"$\" width=\"$\" height=\"$\"/>",
+            &[
+                Text(marks),
+                link,
+                Printed(&self.title),
+                Text(class),
+                Decimal(self.x),
+                Decimal(self.y),
+                Decimal(width.saturating_sub(GAP)),
+                Decimal(HEIGHT - GAP),
+            ],
+            &mut self.boxes,
+        )
+    }
+
+    /// Draws the text of a box of a width with its gap, if it fits.
+    fn add_text(&mut self, width: u64) {
+        let middle = width.saturating_sub(GAP) / 2;
+        let (class, letter, start) = match self.columns {
+            1 => ("", 0, 6),
+            2..=8 => ("c", 8, middle),
+            _ => ("s c", 7, middle),
+        };
+        if (self.text.length() as u64).saturating_mul(letter) <= width {
+            let place = [
+                Text(class),
+                Decimal(self.x.saturating_add(start)),
+                Decimal(self.y.saturating_add(14)),
+                Printed(&self.text),
+            ];
+            let text = "<text class=\"$\" x=\"$\" y=\"$\">$</text>";
+            print_html(text, &place, &mut self.boxes)
+        }
     }
 
     /// Prints the tile after its title.
