@@ -111,9 +111,9 @@ fn add_shapes(sheet: &Sheet<'_>, table: usize, shapes: &mut Vec<Shape>) -> Resul
     Ok(())
 }
 
-/// Adds the ISA interrupts of a MADT to the tiles of the I/O APICs that they come to (sections 5.2.12.3 and 5.2.12.5): all
-/// if there are 8259s, by the flag PCAT_COMPAT, and else those that have an override. Each leads to its override, or to the
-/// I/O APIC if it has none.
+/// Adds the ISA interrupts of a MADT to the tiles of the I/O APICs that they come to (sections 5.2.12.3 and 5.2.12.5):
+/// all if there are 8259s, by the flag PCAT_COMPAT, and else those that have an override. Each leads to its override,
+/// or to the I/O APIC if it has none.
 ///
 /// Fails if memory runs out.
 fn add_interrupts(

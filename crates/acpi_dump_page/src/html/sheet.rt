@@ -140,8 +140,8 @@ impl<'p> Sheet<'p> {
         classes_of(self.seen(offset, length, (0, matches!(self.standing, Standing::Only))))
     }
 
-    /// The worst severity that was seen before or is found in `length` bytes, and whether a change was or is there. Of a
-    /// field that has more bytes than these it counts only what is in them.
+    /// The worst severity that was seen before or is found in `length` bytes, and whether a change was or is there. Of
+    /// a field that has more bytes than these it counts only what is in them.
     pub(super) fn seen(&self, offset: u64, length: u64, before: Seen) -> Seen {
         let end = offset.saturating_add(length);
         let (mut worst, mut has_changes) = before;
