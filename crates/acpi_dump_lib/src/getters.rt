@@ -14,26 +14,28 @@ pub(crate) fn print_getters(table: &[u8], out: &mut Out) {
     writeln!(out, "  power profile: {:?}", fadt.power_profile());
     print_address("FACS", fadt.facs_address(), out);
     print_address("DSDT", fadt.dsdt_address(), out);
-    for (name, block) in &blocks_of(&fadt) {
-        print_block(*name, *block, out);
+    if !fadt.flags.system_is_hw_reduced_acpi() {
+        print_fixed(&fadt, out);
     }
+    print_block("reset register", fadt.reset_register().map(Some), out);
+    print_block("sleep control register", fadt.sleep_control_register(), out);
+    print_block("sleep status register", fadt.sleep_status_register(), out);
 }
 
-/// The blocks of registers, by their names.
-fn blocks_of(fadt: &Fadt) -> [(&'static str, AcpiResult<Option<GenericAddress>>); 11] {
-    [
-        ("PM1a event block", fadt.pm1a_event_block().map(Some)),
-        ("PM1b event block", fadt.pm1b_event_block()),
-        ("PM1a control block", fadt.pm1a_control_block().map(Some)),
-        ("PM1b control block", fadt.pm1b_control_block()),
-        ("PM2 control block", fadt.pm2_control_block()),
-        ("PM timer block", fadt.pm_timer_block()),
-        ("GPE0 block", fadt.gpe0_block()),
-        ("GPE1 block", fadt.gpe1_block()),
-        ("reset register", fadt.reset_register().map(Some)),
-        ("sleep control register", fadt.sleep_control_register()),
-        ("sleep status register", fadt.sleep_status_register()),
-    ]
+/// Prints the blocks of fixed hardware, which a machine of reduced hardware hasn't got (section 4.1).
+fn print_fixed(fadt: &Fadt, out: &mut Out) {
+    print_block("PM1a event block", fadt.pm1a_event_block().map(Some), out);
+    print_block("PM1b event block", fadt.pm1b_event_block(), out);
+    print_block(
+        "PM1a control block",
+        fadt.pm1a_control_block().map(Some),
+        out,
+    );
+    print_block("PM1b control block", fadt.pm1b_control_block(), out);
+    print_block("PM2 control block", fadt.pm2_control_block(), out);
+    print_block("PM timer block", fadt.pm_timer_block(), out);
+    print_block("GPE0 block", fadt.gpe0_block(), out);
+    print_block("GPE1 block", fadt.gpe1_block(), out);
 }
 
 /// Prints an address, or its refusal.

@@ -4,22 +4,25 @@
 mod distances;
 mod domains;
 mod gic;
+mod processors;
 mod units;
 
 use acpi::madt::Madt;
 use acpi::platform::interrupt::{
     Apic, InterruptModel, NmiLine, NmiProcessor, Polarity, TriggerMode,
 };
-use acpi::platform::{Processor, ProcessorState};
+use acpi::platform::{Processor, ProcessorInfo, ProcessorState};
+use acpi::sdt::Signature;
 use acpi::spcr::Spcr;
 use acpi::{AcpiError, AcpiHandler, AcpiTables, HpetInfo, PciConfigRegions, PlatformInfo};
 use acpi_arm::gic::GicModel;
 use acpi_dump_walk::fields::size_of;
 use acpi_dump_walk::out::Out;
-use acpi_numa::{Domains, MemoryAffinities, MemoryRange, Slit, Srat};
+use acpi_numa::{MemoryAffinities, MemoryRange, Slit, Srat};
 use distances::add_distances;
 pub(crate) use domains::add_domains;
 use gic::add_gic;
+use processors::add_rows;
 use std::alloc::Global;
 pub(crate) use units::add_units;
 
@@ -62,41 +65,59 @@ pub(crate) fn add_facts<H: AcpiHandler>(
 /// Adds the facts of the platform.
 fn add_platform<H: AcpiHandler>(alloc: Global, tables: &AcpiTables<'_, H>, facts: &mut Facts) {
     match &tables.platform_info(alloc) {
-        Ok(platform) => add_parts(facts, platform, tables),
+        Ok(platform) => add_parts(alloc, facts, platform, tables),
         Err(refusal) => add_other(alloc, tables, *refusal, facts),
     }
 }
 
-/// Adds the parts of a GIC, or else why the platform isn't known.
+/// Adds the parts of a GIC, or without a FADT what the MADT has of local APICs, or else why the platform isn't known.
 fn add_other<H: AcpiHandler>(
     alloc: Global,
     tables: &AcpiTables<'_, H>,
     refusal: AcpiError,
     facts: &mut Facts,
 ) {
-    if let Ok(madt) = &tables.find_table::<Madt>()
-        && let Ok(Some(gic)) = &GicModel::of(madt.bytes(), alloc)
-    {
-        return add_gic(facts, gic);
+    if let Ok(madt) = &tables.find_table::<Madt>() {
+        if let Ok(Some(gic)) = &GicModel::of(madt.bytes(), alloc) {
+            return add_gic(facts, gic);
+        }
+        if refusal == AcpiError::TableMissing(Signature::FADT)
+            && let Ok((model, processors)) = &madt.parse_interrupt_model_in(alloc)
+        {
+            return add_model(alloc, facts, model, processors, tables);
+        }
     }
     add_refused(facts, "platform", refusal);
 }
 
+/// Adds the processors and the interrupts.
+fn add_model<H: AcpiHandler>(
+    alloc: Global,
+    facts: &mut Facts,
+    model: &InterruptModel<Global>,
+    processors: &Option<ProcessorInfo<Global>>,
+    tables: &AcpiTables<'_, H>,
+) {
+    if let Some(info) = processors {
+        let others = info.application_processors.as_slice();
+        add_processors(alloc, facts, &info.boot_processor, others, tables);
+    }
+    match model {
+        InterruptModel::Unknown => facts.text("interrupts\tnot described by local APICs\n"),
+        InterruptModel::Apic(apic) => add_apic(facts, apic),
+    }
+}
+
 /// Adds the parts of the platform.
 fn add_parts<H: AcpiHandler>(
+    alloc: Global,
     facts: &mut Facts,
     platform: &PlatformInfo<Global>,
     tables: &AcpiTables<'_, H>,
 ) {
     writeln!(facts, "profile\t{:?}", platform.power_profile);
-    if let Some(info) = &platform.processor_info {
-        let others = info.application_processors.as_slice();
-        add_processors(facts, &info.boot_processor, others, tables);
-    }
-    match &platform.interrupt_model {
-        InterruptModel::Unknown => facts.text("interrupts\tnot described by local APICs\n"),
-        InterruptModel::Apic(apic) => add_apic(facts, apic),
-    }
+    let (model, processors) = (&platform.interrupt_model, &platform.processor_info);
+    add_model(alloc, facts, model, processors, tables);
     if let Some(timer) = platform.pm_timer {
         let bits = if timer.supports_32bit { 32 } else { 24 };
         let (space, address) = (timer.base.address_space, timer.base.address);
@@ -133,6 +154,7 @@ fn add_ranges<H: AcpiHandler>(alloc: Global, tables: &AcpiTables<'_, H>, facts: 
 
 /// Adds how many processors there are, and each of them, the boot processor first.
 fn add_processors<H: AcpiHandler>(
+    alloc: Global,
     facts: &mut Facts,
     boot: &Processor,
     others: &[Processor],
@@ -146,34 +168,13 @@ fn add_processors<H: AcpiHandler>(
     }
     let numbers = [others.len().saturating_add(1) as u64, disabled];
     facts.words("processors\t%, % of them disabled\n", &numbers);
-    match &tables.find_table::<Srat>() {
-        Ok(srat) => add_each(facts, boot, others, srat.bytes()),
-        Err(_) => add_each(facts, boot, others, &[]),
-    }
-}
-
-/// Adds each processor, the boot processor first, with its domain by an SRAT's bytes.
-fn add_each(facts: &mut Facts, boot: &Processor, others: &[Processor], srat: &[u8]) {
-    add_processor(facts, boot, srat);
-    for processor in others {
-        add_processor(facts, processor, srat);
-    }
-}
-
-/// Adds a processor, with its domain by an SRAT's bytes.
-fn add_processor(facts: &mut Facts, processor: &Processor, srat: &[u8]) {
-    let (uid, id) = (processor.processor_uid, processor.local_apic_id);
-    let state = match processor.state {
-        ProcessorState::Disabled => "disabled",
-        ProcessorState::WaitingForSipi => "waiting",
-        ProcessorState::Running => "running",
+    let added = match &tables.find_table::<Srat>() {
+        Ok(srat) => add_rows(alloc, facts, boot, others, srat.bytes()),
+        Err(_) => add_rows(alloc, facts, boot, others, &[]),
     };
-    facts.words("processor %\tlocal APIC %, ", &[uid as u64, id as u64]);
-    facts.text(state);
-    if let Some(domain) = Domains::over(srat).domain_of_apic(id) {
-        facts.words(", domain %", &[domain as u64]);
+    if added.is_err() {
+        facts.refuse();
     }
-    facts.text("\n");
 }
 
 /// Adds the controllers, where each ISA interrupt comes, and the interrupts that can't be masked.
@@ -193,7 +194,9 @@ fn add_apic(facts: &mut Facts, apic: &Apic<Global>) {
         facts.words("I/O APIC %\tat #, interrupts from % on\n", &numbers);
     }
     for irq in 0..16u8 {
-        add_isa(facts, apic, irq);
+        if apic.also_has_legacy_pics || is_overridden(apic, irq) {
+            add_isa(facts, apic, irq);
+        }
     }
     for source in apic.nmi_sources.as_slice() {
         facts.words("NMI\tinterrupt %", &[source.global_system_interrupt as u64]);
@@ -202,6 +205,16 @@ fn add_apic(facts: &mut Facts, apic: &Apic<Global>) {
     for line in apic.local_apic_nmi_lines.as_slice() {
         add_nmi_line(facts, line);
     }
+}
+
+/// Whether an ISA interrupt has an override. Without one, and without 8259s, no device need have it.
+fn is_overridden(apic: &Apic<Global>, irq: u8) -> bool {
+    for source in apic.interrupt_source_overrides.as_slice() {
+        if source.isa_source == irq {
+            return true;
+        }
+    }
+    false
 }
 
 /// Adds what signals an interrupt, at the end of its line.

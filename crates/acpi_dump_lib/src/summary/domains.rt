@@ -44,32 +44,50 @@ impl Show for Domains<'_> {
     }
 }
 
-/// Adds a line for each domain: its processors, and how much memory it has.
+/// Adds a line for each domain of shares that are in the order of the domains and the processors.
 fn add_shares(facts: &mut Facts, shares: &[Share]) {
-    let (mut before, mut memory) = (None, 0u64);
-    for share in shares {
-        if before != Some(share.domain) {
-            if before.is_some() {
-                add_memory(facts, memory);
-            }
-            write!(facts, "domain {}\t", share.domain);
-            before = Some(share.domain);
-            memory = 0;
-        }
-        memory = memory.saturating_add(share.size);
-        if share.number != MEMORY {
-            write!(facts, "processor {}, ", share.number);
-        }
-    }
-    if before.is_some() {
-        add_memory(facts, memory);
+    let mut rest = shares;
+    for _ in 0..shares.len() {
+        let [first, ..] = rest else {
+            return;
+        };
+        let domain = first.domain;
+        let (own, others) = rest.split_at(rest.partition_point(|share| share.domain <= domain));
+        add_domain(facts, domain, own);
+        rest = others;
     }
 }
 
-/// Adds how much memory a domain has, at the end of its line.
-fn add_memory(facts: &mut Facts, memory: u64) {
+/// Adds the line of a domain: its processors, and how much memory it has.
+fn add_domain(facts: &mut Facts, domain: u64, shares: &[Share]) {
+    facts.words("domain %\t", &[domain]);
+    let (processors, ranges) = shares.split_at(shares.partition_point(|share| share.number
+        != MEMORY));
+    let mut start = 0usize;
+    for (place, share) in processors.iter().enumerate() {
+        match processors.get(place.saturating_add(1)) {
+            Some(next) if next.number.saturating_sub(share.number) < 2 => continue,
+            _ => add_numbers(facts, processors.get(start), share),
+        }
+        start = place.saturating_add(1);
+    }
+    let mut memory = 0u64;
+    for range in ranges {
+        memory = memory.saturating_add(range.size);
+    }
     let (size, unit) = size_of(memory);
-    writeln!(facts, "{size} {unit} of memory");
+    facts.words("% ", &[size]);
+    facts.fill("$ of memory\n", &[unit]);
+}
+
+/// Adds processors whose numbers follow each other.
+fn add_numbers(facts: &mut Facts, first: Option<&Share>, last: &Share) {
+    match first {
+        Some(first) if first.number < last.number => {
+            facts.words("processors % to %, ", &[first.number, last.number])
+        }
+        _ => facts.words("processor %, ", &[last.number]),
+    }
 }
 
 /// Adds the values of a matrix: a line with the targets, and one for each initiator, in which `-` is in place of a
