@@ -131,8 +131,8 @@ const VIEWS: [(&str, View); 4] = [
 ];
 
 const ONE_VIEW: &str =
-    "[--table SIG].. [--hex SIG].. | --text [--table SIG].. | --extract DIR | [--check] --html FILE | \
-     --summary | --find | --compare [--html FILE] | --check | --rules";
+    "[--table SIG].. [--hex SIG].. | --text [--table SIG].. | --extract DIR [--table SIG].. | \
+     [--check] --html FILE | --summary | --find | --compare [--html FILE] | --check | --rules";
 
 const DOCUMENTS: &str =
     "[--table SIG].. [--hex SIG].. | --summary | --find | --compare | --check | --rules";
@@ -270,7 +270,8 @@ impl<'w> Request<'w> {
 
     /// Adds the view that the options ask for, of which at most one kind may be there.
     fn add_view(&mut self, matches: &ArgMatches<'w>) {
-        if !self.choices.is_empty() {
+        let are_files = self.folder.is_some() && matches.get_strs("hex").is_none();
+        if !self.choices.is_empty() && (!are_files || matches.get_flag("text")) {
             self.view = View::Tables;
         }
         for (option, view) in &VIEWS {

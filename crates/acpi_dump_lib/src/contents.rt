@@ -12,6 +12,7 @@ use acpi_dump_walk::hex::print_dump;
 use acpi_dump_walk::out::Out;
 use acpi_dump_walk::text::Text;
 use acpi_dump_walk::walk::walk_with_objects;
+use std::alloc::{AllocError, Global};
 
 /// Whether a choice has a table, of which some byte is there.
 fn chooses(choice: Choice, entry: &Entry<'_>) -> bool {
@@ -33,6 +34,33 @@ pub(crate) fn shows(choices: &[Choice], number: usize, entry: &Entry<'_>) -> boo
         }
     }
     chooses(*choice, entry)
+}
+
+/// Whether some choice has a table.
+fn is_chosen(choices: &[Choice], entry: &Entry<'_>) -> bool {
+    for choice in choices {
+        if chooses(*choice, entry) {
+            return true;
+        }
+    }
+    false
+}
+
+/// The tables that some choice has.
+///
+/// Fails if memory runs out.
+pub(crate) fn chosen_of<'l>(
+    alloc: Global,
+    entries: &[Entry<'l>],
+    choices: &[Choice],
+) -> Result<Vec<Entry<'l>>, AllocError> {
+    let mut chosen = Vec::new(alloc);
+    for entry in entries {
+        if is_chosen(choices, entry) {
+            chosen.push(*entry)?;
+        }
+    }
+    Ok(chosen)
 }
 
 /// Prints the tables that are chosen, choice by choice.

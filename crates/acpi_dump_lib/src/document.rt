@@ -28,6 +28,17 @@ fn comes_first(part: &str) -> bool {
     matches!(part, "facts" | "findings")
 }
 
+/// Prints a document. The bytes 0x7f, which its texts may have as they are, are escaped: a terminal would obey them.
+fn print_json(document: &[u8], out: &mut Out) {
+    let text = str::from_utf8(document).unwrap_or("");
+    for (number, part) in text.split('\x7f').enumerate() {
+        if number > 0 {
+            out.text("\\u007f");
+        }
+        out.text(part);
+    }
+}
+
 /// A document that is written piece by piece.
 #[derive(Drop)]
 pub(crate) struct Document {
@@ -78,7 +89,7 @@ impl Document {
             return Err(AllocError);
         }
         let Document { pieces, .. } = self;
-        out.bytes(&pieces.into_inner());
+        print_json(&pieces.into_inner(), out);
         out.text("\n");
         Ok(())
     }

@@ -15,7 +15,7 @@ start START The way to the root table: rsdt:REVISION:ADDRESS, rsdp:ADDRESS or bi
 table,t SIG.. The fields of the tables of a signature, or of all
 hex SIG.. The bytes of the tables of a signature, or of all
 text - The text of acpidump, of all tables or of those of --table
-extract,o DIR Each table as a file in this folder: SIG.dat, or SIG1.dat and so on
+extract,o DIR Each table, or those of --table, as a file in this folder: SIG.dat, or SIG1.dat and so on
 html FILE A page of all of it: the machine drawn, what rules find, and each table's fields beside its bytes; - prints it
 force - Files of --extract and --html replace those that are there
 summary - The machine in short

@@ -9,7 +9,7 @@ mod report;
 ghost use Rattle.acpi_dump_input.specs.Extract.{AddsWithin};
 
 use crate::arguments::{Request, View};
-use crate::contents::{print_tables, tell_missing};
+use crate::contents::{chosen_of, print_tables, tell_missing};
 use crate::document::{Document, add_all, add_chosen};
 use crate::find::{add_candidates, add_fact_lines, print_candidates, print_facts};
 use crate::listing::print_lines;
@@ -244,9 +244,25 @@ pub(crate) fn save_input<S: Sources, T: Storage>(
     if has_no_start(output, loaded, log) {
         return Ok(2);
     }
-    let entries = &entries_in(output, 0, loaded, log)?;
+    let entries = &picked(output, entries_in(output, 0, loaded, log)?, log)?;
     save_tables(output.saving(), folder, entries, sources, storage, out, log)?;
     Ok(strict_status(output, entries))
+}
+
+/// The tables of an input that are chosen, or all of them if none are. It prints of which signatures there is none.
+///
+/// Fails if memory runs out.
+fn picked<'l>(
+    output: Output<'_, '_>,
+    entries: Vec<Entry<'l>>,
+    log: &mut Log,
+) -> Result<Vec<Entry<'l>>, Stop> {
+    let choices = output.request.choices.as_slice();
+    if choices.is_empty() {
+        return Ok(entries);
+    }
+    tell_missing(&entries, choices, output.name(0), log);
+    Ok(chosen_of(output.alloc, &entries, choices)?)
 }
 
 /// Prints what is asked for of tables.

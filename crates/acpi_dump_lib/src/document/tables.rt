@@ -116,6 +116,18 @@ fn add_fields(document: &mut Document, entry: &Entry<'_>, part: Part<'_>) {
     }
 }
 
+/// Adds a field of one of two tables, if it has it: its line's end, and what comes after two spaces there, its meaning.
+fn add_side(document: &mut Document, name: &str, name_of_meaning: &str, value: Option<&str>) {
+    let Some(value) = value else {
+        return;
+    };
+    document.text(name, value);
+    let (_, meaning) = value.split_once("  ").unwrap_or((value, ""));
+    if !meaning.trim().is_empty() {
+        document.text(name_of_meaning, meaning.trim());
+    }
+}
+
 /// Adds a field that differs between two tables, or a structure that one alone has, with what the structure is called,
 /// unless that is all of the table.
 fn add_difference(document: &mut Document, difference: Difference<'_>) {
@@ -123,16 +135,14 @@ fn add_difference(document: &mut Document, difference: Difference<'_>) {
     document.token(Token::BeginObject);
     if is_field {
         document.text("name", difference.name);
-    }
-    if is_field && let Some(value) = difference.new {
-        document.text("new", value);
+        add_side(document, "new", "new_meaning", difference.new);
     }
     document.number("offset", difference.offset);
-    match difference.old {
-        Some(value) if is_field => document.text("old", value),
-        Some(_) => document.text("only", "first"),
-        None if is_field => {}
-        None => document.text("only", "second"),
+    if is_field {
+        add_side(document, "old", "old_meaning", difference.old);
+    } else {
+        let is_first = difference.old.is_some();
+        document.text("only", if is_first { "first" } else { "second" });
     }
     if difference.part > 0 {
         let mut path = Out::new(document.alloc);
