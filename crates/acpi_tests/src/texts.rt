@@ -1,4 +1,4 @@
-//! Errors as they are printed. `crates/acpi_pack/runs` has the errors of files, and `acpi_rows` those of images.
+//! Errors as they are printed. `crates/acpi_pack/runs` has the errors of files, and `acpi_rows` the errors of images.
 
 use crate::checks::check;
 use acpi_image::WriteError;
