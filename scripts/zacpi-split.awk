@@ -19,8 +19,8 @@ BEGIN { RS = "" }
     names[++count] = name
     bodies[count] = $0
     if (head ~ /^zacpi_status /) next
-    sub(/^(static|APART) /, "", head)
-    sub(/^(static|APART) /, "", bodies[count])
+    sub(/^(static|APART|INLINE) /, "", head)
+    sub(/^(static|APART|INLINE) /, "", bodies[count])
     renamed = renamed "#define " name " zacpi_split_" name "\n"
     prototypes = prototypes "HIDDEN " head ";\n"
 }
