@@ -13,5 +13,6 @@ pub mod OwnTable
 pub mod Spelling
 pub mod Steps
 pub mod Sums
+pub mod Texts
 pub mod Words
 pub mod WordSums

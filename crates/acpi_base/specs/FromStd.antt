@@ -95,6 +95,8 @@ unfoldable pub use Rattle.std.specs.Str.{
   is_utf8,
   trim_start,
 }
+pub use Rattle.std.specs.Str.Lossy.{valid_len_up_to}
+unfoldable pub use Rattle.std.specs.Str.Lossy.{utf8_valid_len}
 pub use Rattle.std.specs.Str.Parse.{
   AllDigits,
   ParsesUnsigned,

@@ -1,6 +1,6 @@
 //! Numbers, sums and texts of bytes.
-ghost use Rattle.std.specs.Prelude.{◌≡◌, ◌+◌, ◌*◌, ◌^◌, ◌<◌, ◌≤◌, nat_le, drop, length, true, IsAscii};
-ghost use Rattle.acpi_base.specs.FromStd.{is_utf8};
+ghost use Rattle.std.specs.Prelude.{◌≡◌, ◌+◌, ◌*◌, ◌^◌, ◌<◌, ◌≤◌, nat_le, drop, length, take, true, IsAscii};
+ghost use Rattle.acpi_base.specs.FromStd.{is_utf8, utf8_valid_len};
 ghost use Rattle.acpi_base.specs.Words.{bits_of, has_bit, field_of, filled_part, number, IsTextOf};
 
 pub use crate::table::sum::byte_sum;
@@ -206,14 +206,34 @@ pub fn is_text(bytes: &[u8]) -> bool
     is_other_text(bytes)
 }
 
-/// Whether the bytes are valid UTF-8, out of line: few names have bytes of 128 and above.
+/// Whether the bytes are valid UTF-8, out of line: few names have bytes of 128 and above. A few bytes are tested at a
+/// time, so that std's loops over words, which long texts are for, aren't part of each program that looks a table up.
 #[inline(never)]
-#[tactic(auto, using(crate::proofs::Spelling::is_text, crate::proofs::Spelling::no_text))]
+#[tactic(auto, using(crate::proofs::Texts::no_bytes, crate::proofs::Texts::no_text_of))]
 fn is_other_text(bytes: &[u8]) -> bool
     ensures { result ≡ is_utf8 bytes.now }
 {
-    match text_of(bytes) {
-        Some(_) => true,
-        None => false,
+    let mut rest = bytes;
+    while !rest.is_empty() {
+        let count = leading_text(rest);
+        if count == 0 {
+            return false;
+        }
+        rest = &rest[count..];
+    }
+    true
+}
+
+/// How many of the first four bytes the whole characters at their front have: a character has at most four.
+#[inline(always)]
+#[tactic(auto, using(crate::proofs::Texts::whole_front, crate::proofs::Texts::within_four))]
+fn leading_text(bytes: &[u8]) -> usize
+    ensures value { result ≡ utf8_valid_len (take 4 bytes.now) }
+    ensures within { result ≤ length bytes.now }
+{
+    let few = if bytes.len() < 4 { bytes } else { &bytes[..4] };
+    match std::str::from_utf8(few) {
+        Ok(_) => few.len(),
+        Err(error) => error.valid_up_to(),
     }
 }
