@@ -33,7 +33,7 @@ get_stays (x ∷ xs) ys (suc i) b e = get_stays xs ys i b e
 pub byte_stays : (xs ys : List ℕ) (i b : ℕ) → byte_at xs i ≡ Ok b → byte_at (xs ++ ys) i ≡ Ok b
 byte_stays xs ys i b e = ap (λ o. ok_or o (PastEnd i)) (get_stays xs ys i b (some_of (slice_get xs i) (PastEnd i) b e))
 
-byte_within : (xs : List ℕ) (i b : ℕ) → byte_at xs i ≡ Ok b → i < length xs
+pub byte_within : (xs : List ℕ) (i b : ℕ) → byte_at xs i ≡ Ok b → i < length xs
 byte_within xs i b e = slice_get_within xs i b (some_of (slice_get xs i) (PastEnd i) b e)
 
 le_stays : (xs ys : List ℕ) (n : ℕ) → nat_le n (length xs) ≡ true → nat_le n (length (xs ++ ys)) ≡ true
@@ -55,14 +55,14 @@ size_stays : (xs ys : List ℕ) (at lead : ℕ) → at + 1 + lead / 64 ≤ lengt
 size_stays xs ys at lead fits =
     ap (λ n. cond (nat_lt lead 64) lead (lead % 16 + 16 * n)) (field_stays xs ys (at + 1) (lead / 64) fits)
 
-record BlockOf (xs : List ℕ) (at : ℕ) (b : Block) : Type 0 where
+pub record BlockOf (xs : List ℕ) (at : ℕ) (b : Block) : Type 0 where
   pub lead : ℕ
   pub read : byte_at xs at ≡ Ok lead
   pub ordered : nat_le (at + 1 + lead / 64) (at + package_size xs at lead) ≡ true
   pub fits : nat_le (at + package_size xs at lead) (length xs) ≡ true
   pub same : b ≡ record { start = at + 1 + lead / 64; end = at + package_size xs at lead }
 
-block_of : (xs : List ℕ) (at : ℕ) (b : Block) → block_at xs at ≡ Ok b → BlockOf xs at b
+pub block_of : (xs : List ℕ) (at : ℕ) (b : Block) → block_at xs at ≡ Ok b → BlockOf xs at b
 unfolding block_at
 block_of xs at b e =
     let lead = bind_ok (byte_at xs at) _ b e in
@@ -100,7 +100,7 @@ segment_stays xs ys at end e =
           (at + 3) (omega (arith, fits)),
     ) long.1
 
-segment_within : (xs : List ℕ) (at end : ℕ) → segment_end xs at ≡ Ok end → (end ≡ at + 4) × (at + 4 ≤ length xs)
+pub segment_within : (xs : List ℕ) (at end : ℕ) → segment_end xs at ≡ Ok end → (end ≡ at + 4) × (at + 4 ≤ length xs)
 unfolding segment_end
 segment_within xs at end e =
     let long = holds_ok (nat_le (at + 4) (length xs)) _ _ end e in

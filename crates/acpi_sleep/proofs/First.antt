@@ -1,5 +1,5 @@
 -- The answer of blocks one after another is that of the first with types, or else the first that isn't `Absent`.
-use Rattle.std.proofs.Common.{◌≡◌, ℕ, List, [], ◌∷◌, Result, Ok, Err, refl, ap}
+use Rattle.std.proofs.Common.{◌≡◌, ℕ, List, [], ◌∷◌, Ok, Err, refl, ap}
 use Rattle.std.specs.Prelude.{All}
 use Rattle.acpi_base.proofs.FromStd.{All-cons, All-head, All-nil, All-tail}
 use Rattle.acpi_sleep.specs.Words.{Absent, Answer, AnswerIsFirst, FirstTypes, FirstUnknown, HasNoTypes, IsFirstAnswer, NotSeen, SleepError, SleepTypes, Types, first_answer, or_after}

@@ -55,12 +55,12 @@ pub record Argues (aml : List ℕ) (at left end : ℕ) : Type 0 where
   pub same : arguments_end steps left aml end ≡ argument_end aml at
 
 -- what follows the first byte of one, if others are left after it
-abbrev after_lead : ℕ → ℕ → List ℕ → ℕ → ℕ → Result ℕ AmlError
+abbrev pub after_lead : ℕ → ℕ → List ℕ → ℕ → ℕ → Result ℕ AmlError
 after_lead more left aml end lead =
     cond (is_operator lead) (arguments_end more (left + 2) aml (end + 1))
     (operand_end aml end >>= (λ next. arguments_end more (left - 1) aml next))
 
-one_argument : (more left : ℕ) (aml : List ℕ) (end : ℕ) → 0 < left
+pub one_argument : (more left : ℕ) (aml : List ℕ) (end : ℕ) → 0 < left
     → arguments_end (suc more) left aml end ≡ (byte_at aml end >>= after_lead more left aml end)
 one_argument more left aml end some =
     let fails : eqb left 0 ≡ false = ne_eqb left 0 (λ e. omega arith) in

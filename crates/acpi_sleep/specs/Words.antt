@@ -4,6 +4,8 @@ pub use Rattle.acpi_sleep.specs.Apart.{
   begins_argument,
 }
 pub use Rattle.acpi_sleep.specs.Arguments.{
+  EachArgumentEnds,
+  IsArgument,
   arguments_end,
   block_end,
   integer_width,
@@ -11,6 +13,8 @@ pub use Rattle.acpi_sleep.specs.Arguments.{
   is_single,
   name_end,
   no_operand,
+  operand,
+  operation,
   other_end,
   text_end,
 }

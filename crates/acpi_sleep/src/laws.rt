@@ -1,5 +1,11 @@
 //! Laws of the definitions. Each is the contract of a function that does nothing.
-ghost use Rattle.acpi_sleep.specs.Words.{AnswerIsFirst, ArgumentsBeginNoTerm, NothingBehindMatters};
+ghost use Rattle.acpi_sleep.specs.Words.{AnswerIsFirst, ArgumentsBeginNoTerm, EachArgumentEnds, NothingBehindMatters};
+
+/// An argument is an operand, or an operator with its operands and its target, each an argument.
+#[tactic(auto, using(crate::proofs::Arguments::each_argument_ends))]
+pub fn each_argument_ends()
+    ensures { EachArgumentEnds }
+{}
 
 /// No term begins as an argument does.
 #[tactic(auto, using(crate::proofs::Apart::arguments_begin_no_term))]
