@@ -282,9 +282,12 @@ struct zacpi_source {
 
 /* Lists the ranges to make regions of, from ranges in any order: sorted, joined where they overlap
  * or touch, clipped to `window`, without what is in `without` (the kernel's image, and whatever is
- * written while calls run), and none empty. Reads no memory. Fails with ZACPI_RANGE_TOO_HIGH. */
-ZACPI_STATUS zacpi_clip_ranges(const struct zacpi_range *ranges, size_t ranges_length,
-                               const struct zacpi_range *without, size_t without_length,
+ * written while calls run), and none empty. Reads no memory but the lists. These are put in order
+ * in place: sorted by address, and each range cut to what none before it contains. One that is in
+ * order isn't written. No two of `ranges`, `without`, `window`, `out` and `count` may overlap.
+ * Fails with ZACPI_RANGE_TOO_HIGH. */
+ZACPI_STATUS zacpi_clip_ranges(struct zacpi_range *ranges, size_t ranges_length,
+                               struct zacpi_range *without, size_t without_length,
                                const struct zacpi_range *window, struct zacpi_range *out,
                                size_t capacity, size_t *count);
 

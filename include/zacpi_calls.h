@@ -130,25 +130,23 @@ static inline struct zacpi_machine zacpi_machine_kept(const struct zacpi_machine
     return kept;
 }
 
-zacpi_status ZACPI_CALL zacpi_1_clip_ranges(const struct zacpi_range *ranges,
-                                            zacpi_number ranges_length,
-                                            const struct zacpi_range *without,
+zacpi_status ZACPI_CALL zacpi_1_clip_ranges(struct zacpi_range *ranges, zacpi_number ranges_length,
+                                            struct zacpi_range *without,
                                             zacpi_number without_length,
                                             const struct zacpi_range *window,
                                             struct zacpi_range *out, zacpi_number capacity,
                                             zacpi_number *count);
 ZACPI_NONNULL((5, 8))
-ZACPI_STATUS zacpi_clip_ranges(const struct zacpi_range *ranges, size_t ranges_length,
-                               const struct zacpi_range *without, size_t without_length,
+ZACPI_STATUS zacpi_clip_ranges(struct zacpi_range *ranges, size_t ranges_length,
+                               struct zacpi_range *without, size_t without_length,
                                const struct zacpi_range *window, struct zacpi_range *out,
                                size_t capacity, size_t *count) {
     ZACPI_FITS;
     ZACPI_COUNTING(count, zacpi_1_clip_ranges(
-                   ranges_length ? ranges : (const struct zacpi_range *)ZACPI_NOTHING,
-                   ranges_length,
-                   without_length ? without : (const struct zacpi_range *)ZACPI_NOTHING,
-                   without_length, window, capacity ? out : (struct zacpi_range *)ZACPI_NOTHING,
-                   capacity, ZACPI_COUNTED(count)));
+                   ranges_length ? ranges : (struct zacpi_range *)ZACPI_NOTHING, ranges_length,
+                   without_length ? without : (struct zacpi_range *)ZACPI_NOTHING, without_length,
+                   window, capacity ? out : (struct zacpi_range *)ZACPI_NOTHING, capacity,
+                   ZACPI_COUNTED(count)));
 }
 
 zacpi_status ZACPI_CALL zacpi_1_locate(const struct zacpi_region *regions,

@@ -45,7 +45,7 @@ static size_t make_regions(const struct system_table *system) {
         if (n < MOST && (m->type == ACPI_RECLAIM_MEMORY || m->type == ACPI_MEMORY_NVS))
             ranges[n].address = m->start, ranges[n++].length = m->pages << 12;
     }
-    if (zacpi_clip_ranges(ranges, n, ranges, 0, &window, kept, MOST, &count) || count > MOST) return 0;
+    if (zacpi_clip_ranges(ranges, n, 0, 0, &window, kept, MOST, &count) || count > MOST) return 0;
     for (size_t i = 0; i < count; i++) {
         regions[i] = (struct zacpi_region){kept[i].address, (const uint8_t *)kept[i].address, kept[i].length};
         named_range("region ", kept[i].address, kept[i].length), line();

@@ -61,13 +61,14 @@ impl Start {
 
 /// The memory to make regions from: of the bytes in a window those that one of `ranges` holds and none of `without`,
 /// in order, with what touches or overlaps joined. `ranges` come in any order, as a firmware's memory map has them;
-/// `without` has the kernel's own image, and whatever else is written while calls run.
+/// `without` has the kernel's own image, and whatever else is written while calls run. Both lists are put in order in
+/// place: sorted by address, and each range cut to what none before it holds. One that is in order isn't written.
 ///
 /// Fails with [`RangeTooHigh`](crate::AcpiError::RangeTooHigh) if the address after the last byte of one of these ranges, or of the
 /// window, is above 2^64 - 1.
 pub fn clip_ranges<'b>(
-    ranges: &[Range],
-    without: &[Range],
+    ranges: &mut [Range],
+    without: &mut [Range],
     window: Range,
     room: &'b mut [Slot<Range>],
 ) -> AcpiResult<List<'b, Range>> {

@@ -283,14 +283,14 @@ pub(crate) fn list_dmar_reserved(
 }
 
 /// The memory to make regions from, and how many ranges it has.
-pub(crate) fn clip(ranges: &[Range], without: &[Range], window: Range, out: &mut [Range]) -> AcpiResult<usize> {
+pub(crate) fn clip(ranges: &mut [Range], without: &mut [Range], window: Range, out: &mut [Range]) -> AcpiResult<usize> {
     let mut count = 0;
-    // SAFETY: all are live slices, each with its length, and live variables; `out` is borrowed alone.
+    // SAFETY: all are live slices, each with its length, and live variables; the mutable ones are borrowed alone.
     let status = unsafe {
         zacpi_1_clip_ranges(
-            ranges.as_ptr(),
+            ranges.as_mut_ptr(),
             ranges.len(),
-            without.as_ptr(),
+            without.as_mut_ptr(),
             without.len(),
             &window,
             out.as_mut_ptr(),

@@ -22,15 +22,17 @@ fn holds_bytes() {
 
 #[test]
 fn clips_ranges() {
-    let ranges = [range(0x3000, 0x1000), range(0x1000, 0x1000), range(0x2000, 0x800), range(0x9000, 0x1000)];
+    let mut ranges = [range(0x3000, 0x1000), range(0x1000, 0x1000), range(0x1800, 0x1000), range(0x9000, 0x1000)];
     let mut room = [Slot::default(); 4];
-    let list = clip_ranges(&ranges, &[range(0x1400, 0x100)], range(0x1000, 0x8800), &mut room).unwrap();
+    let list = clip_ranges(&mut ranges, &mut [range(0x1400, 0x100)], range(0x1000, 0x8800), &mut room).unwrap();
     let expected = [range(0x1000, 0x400), range(0x1500, 0x1300), range(0x3000, 0x1000), range(0x9000, 0x800)];
     assert_eq!(list.iter().collect::<Vec<_>>(), expected);
+    let in_order = [range(0x1000, 0x1000), range(0x2000, 0x800), range(0x3000, 0x1000), range(0x9000, 0x1000)];
+    assert_eq!(ranges, in_order);
     let mut room = [Slot::default(); 1];
-    let list = clip_ranges(&ranges, &[], range(0, u64::MAX), &mut room).unwrap();
+    let list = clip_ranges(&mut ranges, &mut [], range(0, u64::MAX), &mut room).unwrap();
     assert_eq!((list.get(0), list.count()), (Some(range(0x1000, 0x1800)), 3));
-    let refusal = clip_ranges(&[range(u64::MAX, 1)], &[], range(0, 0), &mut room).unwrap_err();
+    let refusal = clip_ranges(&mut [range(u64::MAX, 1)], &mut [], range(0, 0), &mut room).unwrap_err();
     assert_eq!(refusal, AcpiError::RangeTooHigh);
 }
 

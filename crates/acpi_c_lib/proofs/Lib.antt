@@ -8,6 +8,8 @@ pub mod IommuLists
 pub mod Found
 pub mod FoundRsdp
 pub mod IsaList
+pub mod RangeCut
+pub mod RangeHeap
 pub mod RangeSearch
 pub mod Skipped
 pub mod StrictLists

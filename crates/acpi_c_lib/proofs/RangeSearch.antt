@@ -2,7 +2,7 @@
 use Rattle.std.proofs.Common.{leb, length-drop, subst, ◌≡◌, ℕ, zero, suc, ◌+◌, ◌-◌, ◌<◌, ◌≤◌, List, [], ◌∷◌, ◌++◌, ◌||◌, true, false, refl, arith, length, take, drop, get_or, nat_le, nat_lt, sym, ap, ◌∙◌}
 use Rattle.std.proofs.lemmas.List.Folds.{list_any-append}
 use Rattle.std.proofs.lemmas.List.Sums.{fold-append}
-use Rattle.acpi_base.proofs.FromStd.{and_from, and_left, and_parts, and_right, drop-drop, drop_more, leb-false, leb-true, le-leb, le-ltb, lt-leb, nat_tests, or_from, take-add, take-append-drop, take_all}
+use Rattle.acpi_base.proofs.FromStd.{and_left, and_parts, and_right, drop-drop, drop_more, leb-false, leb-true, le-leb, le-ltb, lt-leb, nat_tests, or_from, take-add, take-append-drop, take_all}
 use Rattle.acpi_c_lib.specs.Words.{AllByRecursion, IsPartitionPoint, Range, any_holds, ascends_from, change_in, change_of, holds}
 
 -- ranges that end here or before
@@ -198,54 +198,3 @@ pub passes_before : (rs : List Range) (a i j : ℕ) (d : Range) → ascends_from
     → leb (get_or rs j d).address a ≡ true → leb (get_or rs i d).address a ≡ true
 passes_before rs a i j d up le inside passes =
     le-leb _ _ (omega (arith, leb-true _ _ passes, address_up rs 0 i j d up le inside))
-
--- ---- the ascending ones are counted
-
--- where the last of them ends
-abbrev pub end_after : ℕ → List Range → ℕ
-end_after end [] = end
-end_after end (r ∷ rs) = end_after (r.address + r.length) rs
-
-ascends_more : (rs : List Range) (e n : ℕ) (d : Range) → n < length rs → ascends_from e (take n rs) ≡ true
-    → end_after e (take n rs) ≤ (get_or rs n d).address → ascends_from e (take (suc n) rs) ≡ true
-ascends_more [] e n d less up later = absurd (omega (arith, less))
-ascends_more (x ∷ xs) e zero d less up later =
-    and_from (nat_le e x.address) true (le-leb e x.address later) refl
-ascends_more (x ∷ xs) e (suc n) d less up later =
-    let parts = and_parts (nat_le e x.address) (ascends_from (x.address + x.length) (take n xs)) up in
-    and_from (nat_le e x.address) (ascends_from (x.address + x.length) (take (suc n) xs)) parts.0
-    (ascends_more xs (x.address + x.length) n d (omega (arith, less)) parts.1 later)
-
-end_more : (rs : List Range) (e n : ℕ) (d : Range) → n < length rs
-    → end_after e (take (suc n) rs) ≡ (get_or rs n d).address + (get_or rs n d).length
-end_more [] e n d less = absurd (omega (arith, less))
-end_more (x ∷ xs) e zero d less = refl
-end_more (x ∷ xs) e (suc n) d less = end_more xs (x.address + x.length) n d (omega (arith, less))
-
--- the first n ascend, and the last of these ends here
-abbrev pub AscendTo : List Range → ℕ → ℕ → Type 0
-AscendTo rs n end = (ascends_from 0 (take n rs) ≡ true) × (end ≡ end_after 0 (take n rs))
-
-pub one_more : (rs : List Range) (n end : ℕ) (d : Range) → n < length rs → AscendTo rs n end
-    → end ≤ (get_or rs n d).address → AscendTo rs (n + 1) ((get_or rs n d).address + (get_or rs n d).length)
-one_more rs n end d less is later =
-    let one : suc n ≡ n + 1 = omega arith in
-    subst (λ k. AscendTo rs k ((get_or rs n d).address + (get_or rs n d).length)) one (
-      ascends_more rs 0 n d less is.0 (omega (arith, is.1, later)),
-      sym (end_more rs 0 n d less),
-    )
-
--- ---- the ascending ones and the others are all
-
-pub held_by_both : (a n : ℕ) (rs : List Range)
-    → (any_holds a (take n rs) || any_holds a (take (length rs - n) (drop n rs))) ≡ any_holds a rs
-held_by_both a n rs =
-    ap (λ l. any_holds a (take n rs) || any_holds a l) (rest_is n rs)
-    ∙ sym (list_any-append (holds a) (take n rs) (drop n rs)) ∙ ap (any_holds a) (take-append-drop n rs)
-
-pub change_in_both : (a n limit : ℕ) (rs : List Range)
-    → change_in (take (length rs - n) (drop n rs)) a (change_in (take n rs) a limit) ≡ change_in rs a limit
-change_in_both a n limit rs =
-    ap (λ l. change_in l a (change_in (take n rs) a limit)) (rest_is n rs)
-    ∙ sym (fold-append (λ first r. change_of r a first) limit (take n rs) (drop n rs))
-    ∙ ap (λ l. change_in l a limit) (take-append-drop n rs)

@@ -42,25 +42,36 @@ FillsClipped old new count ranges without window =
     (xs : List Range) × IsClipped ranges without window xs × (new ≡ put_from old 0 xs)
     × (count ≡ length xs)
 
--- what C gets, by whether all ranges end at 2^64 - 1 at most: 0, the ranges and how many there are; or
--- the error's number, and nothing written
-abbrev pub ClipsIf : Bool → ℕ → List Range → List Range → ℕ → ℕ → List Range → List Range → Range → Type 0
-ClipsIf true status old new old_count new_count ranges without window =
-    (status ≡ 0) × FillsClipped old new new_count ranges without window
-ClipsIf false status old new old_count new_count ranges without window =
-    (status ≡ code_of RangeTooHigh) × (new ≡ old) × (new_count ≡ old_count)
-
-abbrev pub AnswersClip : ℕ → List Range → List Range → ℕ → ℕ → List Range → List Range → Range → Type 0
-AnswersClip status old new old_count new_count ranges without window =
-    ClipsIf (all_fit ranges && (all_fit without && fits window)) status old new old_count new_count
-    ranges without window
-
--- ---- how the ranges are found
-
 -- each range begins where the one before ends, or after it
 abbrev pub ascends_from : ℕ → List Range → Bool
 ascends_from end [] = true
 ascends_from end (r ∷ rs) = nat_le end r.address && ascends_from (r.address + r.length) rs
+
+-- a list of ranges as it is afterwards: it ascends and holds the same memory, and one that ascends already is unchanged
+pub record IsOrdered (old new : List Range) : Type 0 where
+  pub ascends : ascends_from 0 new ≡ true
+  pub same : (a : ℕ) → any_holds a new ≡ any_holds a old
+  pub fit : all_fit new ≡ true
+  pub kept : ascends_from 0 old ≡ true → new ≡ old
+
+-- what C gets, by whether all ranges end at 2^64 - 1 at most: 0, the ranges, how many there are, and both lists put in
+-- order; or the error's number, and nothing written
+abbrev pub ClipsIf : Bool → ℕ → List Range → List Range → ℕ → ℕ → List Range → List Range → List Range → List Range
+    → Range → Type 0
+ClipsIf true status old new old_count new_count ranges new_ranges without new_without window =
+    (status ≡ 0) × FillsClipped old new new_count ranges without window
+    × IsOrdered ranges new_ranges × IsOrdered without new_without
+ClipsIf false status old new old_count new_count ranges new_ranges without new_without window =
+    (status ≡ code_of RangeTooHigh) × (new ≡ old) × (new_count ≡ old_count)
+    × (new_ranges ≡ ranges) × (new_without ≡ without)
+
+abbrev pub AnswersClip : ℕ → List Range → List Range → ℕ → ℕ → List Range → List Range → List Range → List Range
+    → Range → Type 0
+AnswersClip status old new old_count new_count ranges new_ranges without new_without window =
+    ClipsIf (all_fit ranges && (all_fit without && fits window)) status old new old_count new_count
+    ranges new_ranges without new_without window
+
+-- ---- how the ranges are found
 
 -- the next address after this one at which a range begins or has ended, or the limit if that comes before
 abbrev pub change_of : Range → ℕ → ℕ → ℕ

@@ -33,6 +33,7 @@ pub mod Missing
 pub mod Model
 pub mod Numa
 pub mod Power
+pub mod RangeOrder
 pub mod Records
 pub mod Regions
 pub mod Riscv

@@ -98,6 +98,7 @@ pub use Rattle.acpi_c_lib.specs.Clip.{
   AreInOrder,
   FillsClipped,
   IsNext,
+  IsOrdered,
   Range,
   all_fit,
   any_holds,
@@ -337,6 +338,16 @@ pub use Rattle.acpi_c_lib.specs.Power.{
   sleep_types_below,
   step_record,
   types_below,
+}
+pub use Rattle.acpi_c_lib.specs.RangeOrder.{
+  AreSorted,
+  IsGreatestBelow,
+  IsHeap,
+  KeepsFrom,
+  begins,
+  cut_from,
+  end_after,
+  rest_of,
 }
 pub use Rattle.acpi_c_lib.specs.Regions.{
   Region,

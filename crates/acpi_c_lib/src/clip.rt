@@ -1,19 +1,17 @@
 //! Ranges of memory in order: as a firmware's memory map lists them, some of them left out, and clipped to a window.
-ghost use Rattle.std.specs.Prelude.{◌≡◌, ◌+◌, ◌^◌, ◌<◌, true, ◌-◌, ◌≤◌, ℕ, length, take};
+ghost use Rattle.std.specs.Prelude.{◌≡◌, ◌+◌, ◌^◌, ◌<◌, true, ◌-◌, ◌≤◌, ℕ};
 ghost use Rattle.acpi_c_lib.specs.Words.{all_fit, AnswersClip, any_holds, ascends_from, change_in, change_of, FillsClipped, fits, holds, IsNext, wanted};
 
 use crate::lists::put;
+use crate::order::put_in_order;
 use crate::records::Range;
 use crate::refusal::Refusal;
 
-/// Ranges, of which the first `ascending` ones each begin where the one before ends, or after it: among these a place
-/// is searched by halves.
+/// Ranges that each begin where the one before ends, or after it: a place is searched by halves.
 #[derive(Clone, Copy)]
 struct Ranges<'k> {
     all: &'k [Range],
-    ascending: usize,
-    ghost within: { ascending ≤ length all.now },
-    ghost ordered: { ascends_from 0 (take ascending all.now) ≡ true },
+    ghost ascending: { ascends_from 0 all.now ≡ true },
 }
 
 /// The ranges that are wanted, those to leave out, and the window.
@@ -24,19 +22,23 @@ struct Wanted<'k> {
     window: Range,
 }
 
-/// Lists the memory that ranges hold in a window, without some that are left out, in order.
+/// Lists the memory that ranges hold in a window, without some that are left out, in order. Both lists are put in order
+/// first, in place.
 pub fn clip_ranges(
-    ranges: &[Range],
-    without: &[Range],
+    ranges: &mut [Range],
+    without: &mut [Range],
     window: &Range,
     out: &mut [Range],
     count: &mut usize,
 ) -> u32
-    ensures { AnswersClip result out.old out.new count.old count.new ranges.now without.now window.now }
+    ensures { AnswersClip result out.old out.new count.old count.new
+        ranges.old ranges.new without.old without.new window.now }
 {
     if !(all_fit(ranges) && all_fit(without) && fits(window)) {
         return Refusal::RangeTooHigh.code();
     }
+    put_in_order(ranges);
+    put_in_order(without);
     let wanted = Wanted {
         ranges: Ranges::new(ranges),
         without: Ranges::new(without),
@@ -98,33 +100,26 @@ fn change_in(ranges: &[Range], address: u64, limit: u64) -> u64
 }
 
 impl<'k> Ranges<'k> {
-    /// These ranges, with the ascending ones counted.
+    /// Ranges that are in order.
     fn new(all: &'k [Range]) -> Ranges<'k>
-        requires { all_fit all.now ≡ true }
+        requires { ascends_from 0 all.now ≡ true }
         ensures { result.all.now ≡ all.now }
     {
-        let mut end = 0;
-        let mut ascending = 0;
-        while ascending < all.len() && end <= all[ascending].address {
-            end = all[ascending].address + all[ascending].length;
-            ascending += 1;
-        }
-        Ranges { all, ascending }
+        Ranges { all }
     }
 
-    /// The ascending ones, as far as they matter at an address: the last that begins there or before, and the next.
+    /// Those that matter at an address: the last that begins there or before, and the next.
     fn near(self, address: u64) -> &'k [Range]
-        ensures held { any_holds address result.now ≡ any_holds address (take self.entry.ascending self.entry.all.now) }
+        ensures held { any_holds address result.now ≡ any_holds address self.entry.all.now }
         ensures next { (limit : ℕ) → change_in result.now address limit
-            ≡ change_in (take self.entry.ascending self.entry.all.now) address limit }
+            ≡ change_in self.entry.all.now address limit }
     {
-        let ascending = &self.all[..self.ascending];
-        let after = ascending.partition_point(|range| range.address <= address);
+        let after = self.all.partition_point(|range| range.address <= address);
         let first = after.saturating_sub(1);
-        if after < ascending.len() {
-            &ascending[first..after + 1]
+        if after < self.all.len() {
+            &self.all[first..after + 1]
         } else {
-            &ascending[first..]
+            &self.all[first..]
         }
     }
 
@@ -132,16 +127,14 @@ impl<'k> Ranges<'k> {
     fn hold(self, address: u64) -> bool
         ensures { result ≡ any_holds address self.entry.all.now }
     {
-        let is_near = any_holds(self.near(address), address);
-        is_near | any_holds(&self.all[self.ascending..], address)
+        any_holds(self.near(address), address)
     }
 
     /// The next address after this one at which one of them begins or has ended, or the limit if that comes before.
     fn change(self, address: u64, limit: u64) -> u64
         ensures { result ≡ change_in self.entry.all.now address limit }
     {
-        let limit = change_in(self.near(address), address, limit);
-        change_in(&self.all[self.ascending..], address, limit)
+        change_in(self.near(address), address, limit)
     }
 }
 

@@ -41,6 +41,7 @@ pub mod missing;
 pub mod numa;
 pub mod numa_records;
 pub mod opening;
+mod order;
 pub mod pci;
 pub mod platform;
 pub mod power;

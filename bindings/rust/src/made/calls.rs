@@ -89,9 +89,9 @@ ones! {
 
 unsafe extern "C" {
     fn zacpi_1_clip_ranges(
-        ranges: *const Range,
+        ranges: *mut Range,
         ranges_length: usize,
-        without: *const Range,
+        without: *mut Range,
         without_length: usize,
         window: *const Range,
         out: *mut Range,

@@ -11,13 +11,14 @@ use acpi_c_lib::regions::{Region, locate};
 /// empty.
 #[unsafe(no_mangle)]
 pub extern "C" fn zacpi_1_clip_ranges(
-    ranges: &[Range],
-    without: &[Range],
+    ranges: &mut [Range],
+    without: &mut [Range],
     window: &Range,
     out: &mut [Range],
     count: &mut usize,
 ) -> u32
-    ensures { AnswersClip result out.old out.new count.old count.new ranges.now without.now window.now }
+    ensures { AnswersClip result out.old out.new count.old count.new ranges.old ranges.new without.old without.new
+        window.now }
 {
     clip_ranges(ranges, without, window, out, count)
 }
