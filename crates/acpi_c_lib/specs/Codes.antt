@@ -36,6 +36,11 @@ acpi_code acpi.InvalidNamespaceString = 99
 acpi_code acpi.AllocError = 99
 acpi_code (acpi.InvalidMadt e) = madt_code e
 
+-- the number of one that carries no other, else 0
+abbrev pub own_acpi_code : AcpiError → ℕ
+own_acpi_code (acpi.InvalidMadt e) = 0
+own_acpi_code e = acpi_code e
+
 -- why a table is not written
 abbrev pub writer_code : WriterError → ℕ
 writer_code writer.NoProcessor = 61
@@ -89,6 +94,12 @@ code_of refusal.UnknownCode = 60
 code_of refusal.BadTable = 73
 code_of (refusal.Writer e) = writer_code e
 code_of (refusal.Acpi e) = acpi_code e
+
+-- the number of one that carries no other, else 0
+abbrev pub own_code : Refusal → ℕ
+own_code (refusal.Writer e) = 0
+own_code (refusal.Acpi e) = 0
+own_code r = code_of r
 
 -- ---- the signatures that errors carry
 

@@ -95,6 +95,19 @@ impl Refusal {
         ensures { result ≡ codes.code_of self }
     {
         match self {
+            Refusal::Writer(error) => writer_code(error),
+            Refusal::Acpi(error) => acpi_code(error),
+            own => own.own_code() as u32,
+        }
+    }
+
+    /// The number of an error that carries no other, else 0. Apart, since a compiler makes a table of a match with
+    /// nothing but numbers, and jumps of any other.
+    #[inline(never)]
+    fn own_code(self) -> u8
+        ensures { result ≡ codes.own_code self }
+    {
+        match self {
             Refusal::RegionsNotAscending => 1,
             Refusal::RegionTooHigh => 2,
             Refusal::UnknownStart => 3,
@@ -125,8 +138,7 @@ impl Refusal {
             Refusal::ShortRiscvEntry => 59,
             Refusal::UnknownCode => 60,
             Refusal::BadTable => 73,
-            Refusal::Writer(error) => writer_code(error),
-            Refusal::Acpi(error) => acpi_code(error),
+            Refusal::Writer(_) | Refusal::Acpi(_) => 0,
         }
     }
 
@@ -147,6 +159,17 @@ pub(crate) fn acpi_code(error: AcpiError) -> u32
     ensures { result ≡ codes.acpi_code error }
 {
     match error {
+        AcpiError::InvalidMadt(error) => madt_code(error),
+        own => own_acpi_code(own) as u32,
+    }
+}
+
+/// The number of an error of the crate `acpi` that carries no other, else 0.
+#[inline(never)]
+fn own_acpi_code(error: AcpiError) -> u8
+    ensures { result ≡ codes.own_acpi_code error }
+{
+    match error {
         AcpiError::MapFailed => 10,
         AcpiError::NoValidRsdp => 11,
         AcpiError::RsdpIncorrectSignature => 12,
@@ -163,7 +186,7 @@ pub(crate) fn acpi_code(error: AcpiError) -> u32
         AcpiError::InvalidFacsAddress => 99,
         AcpiError::InvalidNamespaceString => 99,
         AcpiError::AllocError => 99,
-        AcpiError::InvalidMadt(error) => madt_code(error),
+        AcpiError::InvalidMadt(_) => 0,
     }
 }
 
