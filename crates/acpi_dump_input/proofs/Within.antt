@@ -1,61 +1,73 @@
--- What was to be saved grows by files of one folder, or of one path.
-use Rattle.std.proofs.Common.{◌≡◌, ◌∙◌, ℕ, List, [], ◌∷◌, ◌++◌, ap, inl, inr, sym}
-use Rattle.std.proofs.lemmas.List.Elements.{All-append, All-cons, All-nil}
+-- What was to be saved grows by tables of one folder.
+use Rattle.std.proofs.Common.{◌≡◌, ◌∙◌, ℕ, zero, suc, ◌<◌, length, Bool, true, false, List, [], ◌∷◌, ◌++◌, Result, Ok, Err, ap, inl, inr, refl, sym, arith}
+use Rattle.std.specs.Prelude.{Contains, map, slice_index_or}
+use Rattle.std.proofs.lemmas.List.Elements.{All-append, All-contains, All-cons, All-nil}
 use Rattle.acpi_base.proofs.FromStd.{append_assoc, append-nil}
-use Rattle.acpi_dump_input.specs.Extract.{Adds, AddsInOne, AddsNamed, AddsWithin, IsNamed, IsWithin}
+use Rattle.acpi_dump_input.specs.Extract.{IsNamed, IsTable, SavesFile, SavesTables, file_of}
+use Rattle.acpi_dump_input.specs.declared.entries.Entry.{Entry}
 use Rattle.acpi_pack_lib.specs.Saves.{FileSaved}
+use Rattle.acpi_pack_lib.specs.declared.save.SaveError.{SaveError}
 
 -- by none
-none : (Fits : List ℕ → Type 0) (before after : List FileSaved) → after ≡ before → Adds Fits before after
-none Fits before after e =
-    record { added = []; grown = e ∙ sym (append-nil before); fit = All-nil (λ f. Fits f.name) }
+pub no_table : (inputs : List (List ℕ)) (folder : List ℕ) (tables : List (List ℕ)) (before after : List FileSaved)
+    → after ≡ before → SavesTables inputs folder tables before after
+no_table inputs folder tables before after e =
+    record { added = []; grown = e ∙ sym (append-nil before); fit = All-nil (IsTable inputs folder tables) }
 
-pub none_added : (folder : List ℕ) (before after : List FileSaved) → after ≡ before → AddsWithin folder before after
-none_added folder = none (IsWithin folder)
+-- by one, whether it is saved or not
+grown_table : (inputs : List (List ℕ)) (folder name path bytes : List ℕ) (before after : List FileSaved)
+    (answer : Result (Unit {0}) SaveError) → IsNamed folder name path
+    → after ≡ before ++ file_of inputs path bytes answer ∷ [] → SavesTables inputs folder (bytes ∷ []) before after
+grown_table inputs folder name path bytes before after answer named grown =
+    let fits : IsTable inputs folder (bytes ∷ []) (file_of inputs path bytes answer) =
+    record { name = name; named = named; sources = refl; bytes = (0, omega arith, refl) } in
+    record {
+      added = file_of inputs path bytes answer ∷ [];
+      grown = grown;
+      fit = All-cons (IsTable inputs folder (bytes ∷ [])) _ [] fits (All-nil (IsTable inputs folder (bytes ∷ [])));
+    }
 
-pub none_named : (path : List ℕ) (before after : List FileSaved) → after ≡ before → AddsNamed path before after
-none_named path = none (λ p. p ≡ path)
+pub one_table : (inputs : List (List ℕ)) (folder name path bytes : List ℕ) (before after : List FileSaved)
+    (is_incomplete is_saved : Bool) → IsNamed folder name path
+    → SavesFile inputs path bytes is_incomplete before after is_saved
+    → SavesTables inputs folder (bytes ∷ []) before after
+one_table inputs folder name path bytes before after is_incomplete true named saves =
+    grown_table inputs folder name path bytes before after (Ok tt) named saves
+one_table inputs folder name path bytes before after is_incomplete false named (told, inl none) =
+    no_table inputs folder (bytes ∷ []) before after none
+one_table inputs folder name path bytes before after is_incomplete false named (told, inr failed) =
+    grown_table inputs folder name path bytes before after (Err failed.0) named failed.1
 
--- by one
-pub one_named : (path : List ℕ) (before after : List FileSaved) (f : FileSaved) → f.name ≡ path
-    → after ≡ before ++ f ∷ [] → AddsNamed path before after
-one_named path before after f named grown = record {
-  added = f ∷ [];
-  grown = grown;
-  fit = All-cons (λ f. f.name ≡ path) f [] named (All-nil (λ f. f.name ≡ path));
+-- by some, and then by one more
+has_mapped : {A B : Type 0} (f : A → B) (xs : List A) (x : A) (i : ℕ) → i < length xs → x ≡ slice_index_or xs i x
+    → Contains (map f xs) (f x)
+has_mapped f [] x i less e = absurd (omega (arith, less))
+has_mapped f (y ∷ xs) x zero less e = (0, omega arith, ap f (sym e))
+has_mapped f (y ∷ xs) x (suc i) less e =
+    let later = has_mapped f xs x i (omega (arith, less)) e in
+    (suc later.0, omega (arith, later.1), later.2)
+
+one_of : (inputs : List (List ℕ)) (folder bytes : List ℕ) (tables : List (List ℕ)) → Contains tables bytes
+    → (f : FileSaved) → IsTable inputs folder (bytes ∷ []) f → IsTable inputs folder tables f
+one_of inputs folder bytes tables has f is = record {
+  name = is.name;
+  named = is.named;
+  sources = is.sources;
+  bytes = All-contains (Contains tables) (bytes ∷ []) f.bytes (All-cons (Contains tables) bytes [] has
+      (All-nil (Contains tables))) is.bytes;
 }
 
--- by files of a path that is in a folder
-in_folder : (folder name path other : List ℕ) → IsNamed folder name path → other ≡ path → IsWithin folder other
-in_folder folder name path other named same = (name, rw same named)
-
-pub named_added : (folder name path : List ℕ) (before after : List FileSaved) → IsNamed folder name path
-    → AddsNamed path before after → AddsWithin folder before after
-named_added folder name path before after within adds = record {
-  added = adds.added;
-  grown = adds.grown;
-  fit = λ k d below. in_folder folder name path _ within (adds.fit k d below);
-}
-
--- by some, and then by some more
-pub more_added : (folder : List ℕ) (before between after : List FileSaved) → AddsWithin folder before between
-    → AddsWithin folder between after → AddsWithin folder before after
-more_added folder before between after some more = record {
-  added = some.added ++ more.added;
-  grown = more.grown ∙ ap (λ fs. fs ++ more.added) some.grown ∙ append_assoc before some.added more.added;
-  fit = All-append (λ f. IsWithin folder f.name) some.added more.added some.fit more.fit;
-}
-
--- by none, of any folder
-pub none_in_one : (before after : List FileSaved) → after ≡ before → AddsInOne before after
-none_in_one before after e = ([], inl (none_added [] before after e))
-
--- by the files of a folder
-pub some_in_one : (folder : List ℕ) (before after : List FileSaved) → AddsWithin folder before after
-    → AddsInOne before after
-some_in_one folder before after adds = (folder, inl adds)
-
--- by the file of a path
-pub named_in_one : (path : List ℕ) (before after : List FileSaved) → AddsNamed path before after
-    → AddsInOne before after
-named_in_one path before after adds = (path, inr adds)
+pub more_tables : (inputs : List (List ℕ)) (folder : List ℕ) (entries : List Entry) (i : ℕ) (entry : Entry)
+    (before between after : List FileSaved) → i < length entries → entry ≡ slice_index_or entries i entry
+    → SavesTables inputs folder (map (λ (e : Entry). e.bytes.now) entries) before between
+    → SavesTables inputs folder (entry.bytes.now ∷ []) between after
+    → SavesTables inputs folder (map (λ (e : Entry). e.bytes.now) entries) before after
+more_tables inputs folder entries i entry before between after less is some more =
+    let tables = map (λ (e : Entry). e.bytes.now) entries in
+    let has = has_mapped (λ (e : Entry). e.bytes.now) entries entry i less is in
+    record {
+      added = some.added ++ more.added;
+      grown = more.grown ∙ ap (λ fs. fs ++ more.added) some.grown ∙ append_assoc before some.added more.added;
+      fit = All-append (IsTable inputs folder tables) some.added more.added some.fit
+          (λ k d below. one_of inputs folder entry.bytes.now tables has _ (more.fit k d below));
+    }

@@ -1,7 +1,32 @@
--- What is saved: --extract files of one folder, --html a file of one name.
-use Rattle.std.specs.Prelude.{◌≡◌, ◌⊎◌, ℕ, false, ◌==◌, List, ◌++◌, All, codes}
+-- What is saved: --extract tables, each as a file of one folder, --html a page as one file.
+use Rattle.std.specs.Prelude.{◌≡◌, ◌⊎◌, ◌≢◌, ℕ, Bool, true, false, ◌==◌, List, [], ◌∷◌, ◌++◌, All, Contains, codes, Result, Ok, Err}
 use Rattle.std.specs.List.{list_any}
 use Rattle.acpi_pack_lib.specs.Saves.{FileSaved}
+use Rattle.acpi_pack_lib.specs.declared.save.SaveError.{SaveError}
+
+-- ---- one file
+
+-- a file of this path that was to be saved, with these bytes, which were made of these inputs
+abbrev pub file_of : List (List ℕ) → List ℕ → List ℕ → Result (Unit {0}) SaveError → FileSaved
+file_of inputs path bytes answer = record { name = path; sources = inputs; bytes = bytes; answer = answer }
+
+-- whether it is saved: if so, it was to be saved once. If not, the run is known to be incomplete, and it was to be saved
+-- and the storage failed, or nothing was
+abbrev pub SavesFile : List (List ℕ) → List ℕ → List ℕ → Bool → List FileSaved → List FileSaved → Bool → Type 0
+SavesFile inputs path bytes is_incomplete before after true = after ≡ before ++ file_of inputs path bytes (Ok tt) ∷ []
+SavesFile inputs path bytes is_incomplete before after false = (is_incomplete ≡ true)
+    × ((after ≡ before) ⊎ ((why : SaveError) × (after ≡ before ++ file_of inputs path bytes (Err why) ∷ [])))
+
+-- ---- a page
+
+-- the page of this text as the file of this path: none, if the path is `-` or there is no text
+abbrev pub SavesPage : List (List ℕ) → List ℕ → List ℕ → Bool → List FileSaved → List FileSaved → Type 0
+SavesPage inputs path [] is_incomplete before after = after ≡ before
+SavesPage inputs path (c ∷ text) is_incomplete before after = ((path ≡ codes "-") × (after ≡ before))
+    ⊎ ((path ≢ codes "-") × (is_saved : Bool)
+    × SavesFile inputs path (c ∷ text) is_incomplete before after is_saved)
+
+-- ---- tables
 
 -- the path of a file of this name in a folder: no slash leads elsewhere, and no zero ends it
 abbrev pub IsNamed : List ℕ → List ℕ → List ℕ → Type 0
@@ -9,24 +34,24 @@ IsNamed folder name path =
     (list_any (λ c. c == 47) name ≡ false) × (list_any (λ c. c == 0) name ≡ false)
     × (path ≡ folder ++ codes "/" ++ name ++ codes ".dat")
 
--- the path of a file in the folder itself
-abbrev pub IsWithin : List ℕ → List ℕ → Type 0
-IsWithin folder path = (name : List ℕ) × IsNamed folder name path
+-- a file in the folder itself, with the bytes of one of these tables
+pub record IsTable (inputs : List (List ℕ)) (folder : List ℕ) (tables : List (List ℕ)) (f : FileSaved) : Type 0 where
+  pub name : List ℕ
+  pub named : IsNamed folder name f.name
+  pub sources : f.sources ≡ inputs
+  pub bytes : Contains tables f.bytes
 
--- what was to be saved grew by files of such paths alone
-pub record Adds (Fits : List ℕ → Type 0) (before after : List FileSaved) : Type 0 where
+-- what was to be saved grew by such files alone
+pub record SavesTables (inputs : List (List ℕ)) (folder : List ℕ) (tables : List (List ℕ))
+    (before after : List FileSaved) : Type 0 where
   pub added : List FileSaved
   pub grown : after ≡ before ++ added
-  pub fit : All (λ f. Fits f.name) added
+  pub fit : All (IsTable inputs folder tables) added
 
--- by files of the folder alone
-abbrev pub AddsWithin : List ℕ → List FileSaved → List FileSaved → Type 0
-AddsWithin folder = Adds (IsWithin folder)
+-- ---- a run
 
--- by files of this path alone
-abbrev pub AddsNamed : List ℕ → List FileSaved → List FileSaved → Type 0
-AddsNamed path = Adds (λ p. p ≡ path)
-
--- by files of one folder, or of one path, alone
-abbrev pub AddsInOne : List FileSaved → List FileSaved → Type 0
-AddsInOne before after = (place : List ℕ) × (AddsWithin place before after ⊎ AddsNamed place before after)
+-- tables as files of one folder, or one page
+abbrev pub SavesOneView : List FileSaved → List FileSaved → Type 0
+SavesOneView before after = (inputs : List (List ℕ)) × (place : List ℕ)
+    × (((tables : List (List ℕ)) × SavesTables inputs place tables before after)
+    ⊎ ((text : List ℕ) × (is_incomplete : Bool) × SavesPage inputs place text is_incomplete before after))

@@ -1,5 +1,7 @@
 //! What is said on standard error: the program, the file or the word, and why.
 
+ghost use Rattle.std.specs.Prelude.{◌≡◌, true};
+
 use acpi_dump_walk::out::Out;
 use std::alloc::{AllocError, Global};
 use std::fmt::Display;
@@ -89,8 +91,10 @@ pub fn tell(log: &mut Log, name: &str, what: &impl Display) {
 }
 
 /// Says why a file isn't shown.
-pub fn fail(log: &mut Log, name: &str, why: &impl Display) -> Stop {
-    log.is_incomplete = true;
+pub fn fail(log: &mut Log, name: &str, why: &impl Display) -> Stop
+    ensures { log.new.is_incomplete ≡ true }
+{
     tell(log, name, why);
+    log.is_incomplete = true;
     Stop::Message
 }

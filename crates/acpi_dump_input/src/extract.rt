@@ -1,6 +1,6 @@
 //! Files that are saved: tables in one folder, and a page.
-ghost use Rattle.std.specs.Prelude.{IfOk, IfSome, string_bytes};
-ghost use Rattle.acpi_dump_input.specs.Extract.{AddsNamed, AddsWithin, IsNamed};
+ghost use Rattle.std.specs.Prelude.{◌≡◌, ◌∷◌, [], IfOk, IfSome, OnErr, map, string_bytes};
+ghost use Rattle.acpi_dump_input.specs.Extract.{IsNamed, SavesFile, SavesTables};
 
 use crate::dumped::print_letters;
 use crate::entries::Entry;
@@ -61,7 +61,6 @@ fn print_numbered(names: &str, line: usize, name: &str, out: &mut Out) {
 /// Saves a file, or prints why it isn't saved. Returns whether it is.
 ///
 /// Fails if memory runs out.
-#[tactic(auto, using(crate::proofs::Within::none_named, crate::proofs::Within::one_named))]
 pub fn save_file<S: Sources, T: Storage>(
     saving: Saving<'_>,
     path: &str,
@@ -70,7 +69,9 @@ pub fn save_file<S: Sources, T: Storage>(
     storage: &mut T,
     log: &mut Log,
 ) -> Result<bool, AllocError>
-    ensures { AddsNamed path.now (T.saved storage.old) (T.saved storage.new) }
+    ensures exact { IfOk result (SavesFile (map (λ i. i.now) saving.entry.inputs.now) path.now bytes.now
+        log.new.is_incomplete (T.saved storage.old) (T.saved storage.new)) }
+    ensures failed { OnErr result (T.saved storage.new ≡ T.saved storage.old) }
 {
     match sources.kind_of(path) {
         Ok(_) if !saving.is_forced => {
@@ -94,7 +95,7 @@ pub fn save_file<S: Sources, T: Storage>(
 /// Saves a table under a name in a folder, and prints it with the result of its checks, or prints why it isn't saved.
 ///
 /// Fails if memory runs out.
-#[tactic(auto, using(crate::proofs::Within::none_added, crate::proofs::Within::named_added))]
+#[tactic(auto, using(crate::proofs::Within::no_table, crate::proofs::Within::one_table))]
 fn save_table<S: Sources, T: Storage>(
     saving: Saving<'_>,
     folder: &str,
@@ -105,7 +106,8 @@ fn save_table<S: Sources, T: Storage>(
     out: &mut Out,
     log: &mut Log,
 ) -> Result<(), AllocError>
-    ensures { AddsWithin folder.now (T.saved storage.old) (T.saved storage.new) }
+    ensures { SavesTables (map (λ i. i.now) saving.entry.inputs.now) folder.now (entry.now.bytes.now ∷ [])
+        (T.saved storage.old) (T.saved storage.new) }
 {
     let Some(path) = path_within(saving.alloc, folder, name)? else {
         fail(log, name, &"not a name of a file");
@@ -122,7 +124,7 @@ fn save_table<S: Sources, T: Storage>(
 /// Saves each table of which some byte is there as a file of a folder.
 ///
 /// Fails if memory runs out.
-#[tactic(auto, using(crate::proofs::Within::none_added, crate::proofs::Within::more_added))]
+#[tactic(auto, using(crate::proofs::Within::no_table, crate::proofs::Within::more_tables))]
 pub fn save_tables<S: Sources, T: Storage>(
     saving: Saving<'_>,
     folder: &str,
@@ -132,7 +134,8 @@ pub fn save_tables<S: Sources, T: Storage>(
     out: &mut Out,
     log: &mut Log,
 ) -> Result<(), Stop>
-    ensures { AddsWithin folder.now (T.saved storage.old) (T.saved storage.new) }
+    ensures { SavesTables (map (λ i. i.now) saving.entry.inputs.now) folder.now (map (λ e. e.bytes.now) entries.now)
+        (T.saved storage.old) (T.saved storage.new) }
 {
     let names = names_of(saving.alloc, entries);
     let Some(names) = names.printed() else {

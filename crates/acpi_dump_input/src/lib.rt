@@ -2,7 +2,7 @@
 //! how these are saved as files.
 //!
 //! Every function returns for every input, without fault. The tables of acpidump's text are exact by a definition, and
-//! files are saved in the folder, or under the name, that is given; which bytes are saved is tested, and not proved.
+//! what is saved is the bytes that are given, in the folder or under the name that is given.
 #![tactic(auto)]
 
 pub mod candidates;

@@ -1,31 +1,31 @@
--- What was to be saved grows by nothing, or by what one part of a run saves.
-use Rattle.std.proofs.Common.{◌≡◌, ◌∙◌, ℕ, List, [], inl, inr, sym}
+-- What one part of a run saves is what the run saves.
+use Rattle.std.proofs.Common.{◌≡◌, ◌∙◌, ℕ, Bool, List, [], Result, Ok, Err, inl, inr, sym}
 use Rattle.std.proofs.lemmas.List.Elements.{All-nil}
+use Rattle.std.specs.Prelude.{IfOk, OnErr}
 use Rattle.acpi_base.proofs.FromStd.{append-nil}
-use Rattle.acpi_dump_input.specs.Extract.{Adds, AddsInOne, AddsNamed, AddsWithin, IsWithin}
+use Rattle.acpi_dump_input.specs.Extract.{IsTable, SavesOneView, SavesPage, SavesTables}
 use Rattle.acpi_pack_lib.specs.Saves.{FileSaved}
 
--- by nothing
-none : (Fits : List ℕ → Type 0) (before after : List FileSaved) → after ≡ before → Adds Fits before after
-none Fits before after e =
-    record { added = []; grown = e ∙ sym (append-nil before); fit = All-nil (λ f. Fits f.name) }
+-- no table
+pub no_tables : (inputs : List (List ℕ)) (folder : List ℕ) (before after : List FileSaved) → after ≡ before
+    → (tables : List (List ℕ)) × SavesTables inputs folder tables before after
+no_tables inputs folder before after e =
+    ([], record { added = []; grown = e ∙ sym (append-nil before); fit = All-nil (IsTable inputs folder []) })
 
-pub none_added : (folder : List ℕ) (before after : List FileSaved) → after ≡ before → AddsWithin folder before after
-none_added folder = none (IsWithin folder)
+-- nothing
+pub none_in_view : (before after : List FileSaved) → after ≡ before → SavesOneView before after
+none_in_view before after e = ([], [], inl (no_tables [] [] before after e))
 
-pub none_named : (path : List ℕ) (before after : List FileSaved) → after ≡ before → AddsNamed path before after
-none_named path = none (λ p. p ≡ path)
+-- tables
+pub tables_in_view : (inputs : List (List ℕ)) (folder : List ℕ) (before after : List FileSaved)
+    → ((tables : List (List ℕ)) × SavesTables inputs folder tables before after) → SavesOneView before after
+tables_in_view inputs folder before after saves = (inputs, folder, inl saves)
 
--- by nothing, of any folder
-pub none_in_one : (before after : List FileSaved) → after ≡ before → AddsInOne before after
-none_in_one before after e = ([], inl (none_added [] before after e))
-
--- by the files of a folder
-pub some_in_one : (folder : List ℕ) (before after : List FileSaved) → AddsWithin folder before after
-    → AddsInOne before after
-some_in_one folder before after adds = (folder, inl adds)
-
--- by the file of a path
-pub named_in_one : (path : List ℕ) (before after : List FileSaved) → AddsNamed path before after
-    → AddsInOne before after
-named_in_one path before after adds = (path, inr adds)
+-- a page, or nothing after an error
+pub page_in_view : {A E : Type 0} (inputs : List (List ℕ)) (file : List ℕ) (is_incomplete : Bool)
+    (before after : List FileSaved) (answer : Result A E)
+    → IfOk answer (λ _. (text : List ℕ) × SavesPage inputs file text is_incomplete before after)
+    → OnErr answer (after ≡ before) → SavesOneView before after
+page_in_view inputs file is_incomplete before after (Ok x) saved failed =
+    (inputs, file, inr (saved.0, is_incomplete, saved.1))
+page_in_view inputs file is_incomplete before after (Err e) saved failed = none_in_view before after failed

@@ -1,5 +1,5 @@
 //! The program over any files, any storage and any writers.
-ghost use Rattle.acpi_dump_input.specs.Extract.{AddsInOne};
+ghost use Rattle.acpi_dump_input.specs.Extract.{SavesOneView};
 
 use crate::arguments::{Color, Mistake, Request, View, request_of};
 use crate::options::{WrongWord, command, tell_word};
@@ -31,7 +31,7 @@ pub fn dump<S: Sources, T: Storage, W: Write + Drop, E: Write + Drop>(
     out: W,
     err: E,
 ) -> io::Result<u8>
-    ensures { AddsInOne (T.saved storage.old) (T.saved storage.new) }
+    ensures { SavesOneView (T.saved storage.old) (T.saved storage.new) }
 {
     let (mut shown, mut log) = (Out::new(alloc), Log::new(alloc));
     let status = print_asked(alloc, arguments, sources, storage, &mut shown, &mut log);
@@ -54,7 +54,7 @@ pub fn dump<S: Sources, T: Storage, W: Write + Drop, E: Write + Drop>(
 }
 
 /// Prints what the arguments ask for.
-#[tactic(auto, using(crate::proofs::Saved::none_in_one))]
+#[tactic(auto, using(crate::proofs::Saved::none_in_view))]
 fn print_asked<S: Sources, T: Storage>(
     alloc: Global,
     arguments: &[&str],
@@ -63,7 +63,7 @@ fn print_asked<S: Sources, T: Storage>(
     out: &mut Out,
     log: &mut Log,
 ) -> Result<u8, Stop>
-    ensures { AddsInOne (T.saved storage.old) (T.saved storage.new) }
+    ensures { SavesOneView (T.saved storage.old) (T.saved storage.new) }
 {
     let parsed = command(alloc)?.try_get_matches_from(arguments);
     let request = match &parsed {
@@ -105,7 +105,7 @@ fn print_refusal(
 }
 
 /// Prints what is asked for of the inputs.
-#[tactic(auto, using(crate::proofs::Saved::none_in_one))]
+#[tactic(auto, using(crate::proofs::Saved::none_in_view))]
 fn print_inputs<S: Sources, T: Storage>(
     alloc: Global,
     request: &Request<'_>,
@@ -114,7 +114,7 @@ fn print_inputs<S: Sources, T: Storage>(
     out: &mut Out,
     log: &mut Log,
 ) -> Result<u8, Stop>
-    ensures { AddsInOne (T.saved storage.old) (T.saved storage.new) }
+    ensures { SavesOneView (T.saved storage.old) (T.saved storage.new) }
 {
     let is_on = match request.color {
         Color::Auto => sources.takes_color(),
@@ -140,7 +140,7 @@ fn print_inputs<S: Sources, T: Storage>(
 }
 
 /// Prints what differs between the two inputs that are named, or saves the page of it.
-#[tactic(auto, using(crate::proofs::Saved::none_in_one))]
+#[tactic(auto, using(crate::proofs::Saved::none_in_view))]
 fn print_two<S: Sources, T: Storage>(
     output: Output<'_, '_>,
     sources: &mut S,
@@ -148,7 +148,7 @@ fn print_two<S: Sources, T: Storage>(
     out: &mut Out,
     log: &mut Log,
 ) -> Result<u8, Stop>
-    ensures { AddsInOne (T.saved storage.old) (T.saved storage.new) }
+    ensures { SavesOneView (T.saved storage.old) (T.saved storage.new) }
 {
     let [old, new] = output.request.inputs.as_slice() else {
         let wrong = WrongWord {

@@ -6,7 +6,8 @@ mod packed;
 mod page;
 mod report;
 
-ghost use Rattle.acpi_dump_input.specs.Extract.{AddsWithin};
+ghost use Rattle.std.specs.Prelude.{◌≡◌, List, ℕ, map};
+ghost use Rattle.acpi_dump_input.specs.Extract.{SavesTables};
 
 use crate::arguments::{Request, View};
 use crate::contents::{chosen_of, print_tables, tell_missing};
@@ -64,7 +65,9 @@ impl<'w> Output<'_, 'w> {
     }
 
     /// How files are saved.
-    fn saving(&self) -> Saving<'_> {
+    fn saving(&self) -> Saving<'_>
+        ensures { result.inputs.now ≡ self.now.request.now.inputs.items }
+    {
         Saving {
             alloc: self.alloc,
             is_forced: self.request.is_forced,
@@ -228,7 +231,7 @@ fn has_no_start(output: Output<'_, '_>, loaded: &Loaded<'_>, log: &mut Log) -> b
 /// Saves the tables of an input as files of a folder.
 ///
 /// Fails, after printing why, if there are none, or if memory runs out.
-#[tactic(auto, using(crate::proofs::Saved::none_added))]
+#[tactic(auto, using(crate::proofs::Saved::no_tables))]
 pub(crate) fn save_input<S: Sources, T: Storage>(
     output: Output<'_, '_>,
     folder: &str,
@@ -238,7 +241,8 @@ pub(crate) fn save_input<S: Sources, T: Storage>(
     out: &mut Out,
     log: &mut Log,
 ) -> Result<u8, Stop>
-    ensures { AddsWithin folder.now (T.saved storage.old) (T.saved storage.new) }
+    ensures { (tables : List (List ℕ)) × SavesTables (map (λ i. i.now) output.entry.request.now.inputs.items) folder.now
+        tables (T.saved storage.old) (T.saved storage.new) }
 {
     let loaded = &load(output, 0, input, log)?;
     if has_no_start(output, loaded, log) {

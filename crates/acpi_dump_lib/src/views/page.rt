@@ -1,6 +1,7 @@
 //! A page of an input, or of what differs between two.
 
-ghost use Rattle.acpi_dump_input.specs.Extract.{AddsNamed};
+ghost use Rattle.std.specs.Prelude.{◌≡◌, List, ℕ, IfOk, OnErr, map};
+ghost use Rattle.acpi_dump_input.specs.Extract.{SavesPage};
 
 use super::judged::{Judged, judged_in, status_of};
 use super::{Output, entries_in, has_no_start, load, strict_status};
@@ -12,6 +13,7 @@ use acpi_dump_input::sources::Sources;
 use acpi_dump_page::html::{Given, Source, print_page};
 use acpi_dump_walk::out::Out;
 use acpi_pack_lib::storage::Storage;
+use std::alloc::AllocError;
 
 /// Prints the page of tables, beside the tables of a first input if there is one. Returns the status.
 ///
@@ -77,33 +79,24 @@ fn print_compared_page(
     Ok(status.max(strict_status(output, old)))
 }
 
-/// Saves the page of an input as a file, or that of what differs between two, the second one beside it. The file `-` is
-/// standard output.
+/// Saves the text of a page as a file, if there is some. The file `-` is standard output.
 ///
-/// Fails, after printing why, if one has no tables, or if memory runs out.
-#[tactic(auto, using(crate::proofs::Saved::none_named))]
-pub(crate) fn save_page<S: Sources, T: Storage>(
+/// Fails if memory runs out.
+fn save_text<S: Sources, T: Storage>(
     output: Output<'_, '_>,
     file: &str,
-    input: &Input,
-    second: Option<&Input>,
+    text: &str,
     sources: &mut S,
     storage: &mut T,
     out: &mut Out,
     log: &mut Log,
-) -> Result<u8, Stop>
-    ensures { AddsNamed file.now (T.saved storage.old) (T.saved storage.new) }
+) -> Result<(), AllocError>
+    ensures exact { IfOk result (λ _. SavesPage (map (λ i. i.now) output.entry.request.now.inputs.items) file.now
+        text.now log.new.is_incomplete (T.saved storage.old) (T.saved storage.new)) }
+    ensures failed { OnErr result (T.saved storage.new ≡ T.saved storage.old) }
 {
-    let mut page = Out::new(output.alloc);
-    let status = match second {
-        None => print_input_page(output, input, &mut page, log)?,
-        Some(second) => print_compared_page(output, input, second, &mut page, log)?,
-    };
-    let Some(text) = page.printed() else {
-        return Err(Stop::OutOfMemory);
-    };
     if file == "-" {
-        out.append(&page);
+        out.text(text);
     } else if !text.is_empty() {
         save_file(
             output.saving(),
@@ -114,5 +107,37 @@ pub(crate) fn save_page<S: Sources, T: Storage>(
             log,
         )?;
     }
+    Ok(())
+}
+
+/// Saves the page of an input as a file, or that of what differs between two, the second one beside it. The file `-` is
+/// standard output.
+///
+/// Fails, after printing why, if one has no tables, or if memory runs out.
+pub(crate) fn save_page<S: Sources, T: Storage>(
+    output: Output<'_, '_>,
+    file: &str,
+    input: &Input,
+    second: Option<&Input>,
+    sources: &mut S,
+    storage: &mut T,
+    out: &mut Out,
+    log: &mut Log,
+) -> Result<u8, Stop>
+    // The text of a page was to be saved, once, or nothing.
+    ensures saved { IfOk result (λ _. (text : List ℕ)
+        × SavesPage (map (λ i. i.now) output.entry.request.now.inputs.items) file.now text log.new.is_incomplete
+        (T.saved storage.old) (T.saved storage.new)) }
+    ensures failed { OnErr result (T.saved storage.new ≡ T.saved storage.old) }
+{
+    let mut page = Out::new(output.alloc);
+    let status = match second {
+        None => print_input_page(output, input, &mut page, log)?,
+        Some(second) => print_compared_page(output, input, second, &mut page, log)?,
+    };
+    let Some(text) = page.printed() else {
+        return Err(Stop::OutOfMemory);
+    };
+    save_text(output, file, text, sources, storage, out, log)?;
     Ok(status)
 }
