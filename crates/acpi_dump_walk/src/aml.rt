@@ -21,8 +21,8 @@ pub use value::Value;
 const DEEPEST: usize = 32;
 
 /// An object: its offset in the table, its length, what it is, the segments of its path from the root on, four letters
-/// each, and what is shown of its value. A name is looked up in no other scope. An `If`, an `Else` and a `While` have no
-/// path.
+/// each, and what is shown of its value. A name is looked up in no other scope. An `If`, an `Else` and a `While` have
+/// no path.
 #[derive(Clone, Copy)]
 pub struct Object<'a> {
     pub offset: u64,
@@ -175,29 +175,20 @@ fn found_at(aml: &[u8], at: usize) -> Result<Found<'_>, AmlError>
         units: None,
         end,
     };
-    match rest {
-        Rest::Block => {}
+    let (start, name) = match rest {
+        Rest::Block => return Ok(found),
         Rest::Parts(before) => {
             let start = parts_end(parts.get(..before).unwrap_or(&[]), aml, opcode.end)?;
-            let name = name_at(aml, start)?;
-            found.name = Some((start, name));
-            found.value = Value::after_name(opcode.code, aml.get(name.end..end).unwrap_or(&[]));
+            (start, name_at(aml, start)?)
         }
-        Rest::Method => {
-            let (start, name) = name_in(aml, opcode.end)?;
-            found.name = Some((start, name));
-            found.value = Value::after_name(opcode.code, aml.get(name.end..end).unwrap_or(&[]));
-        }
-        Rest::Units(before) => {
-            let (start, name) = name_in(aml, opcode.end)?;
-            found.name = Some((start, name));
-            found.units = parts_end(before, aml, name.end).ok();
-        }
-        Rest::Entered(before) => {
-            let (start, name) = name_in(aml, opcode.end)?;
-            found.name = Some((start, name));
-            found.inner = Some(name.end.saturating_add(before));
-        }
+        _ => name_in(aml, opcode.end)?,
+    };
+    found.name = Some((start, name));
+    found.value = Value::after_name(opcode.code, aml.get(name.end..end).unwrap_or(&[]));
+    match rest {
+        Rest::Units(before) => found.units = parts_end(before, aml, name.end).ok(),
+        Rest::Entered(before) => found.inner = Some(name.end.saturating_add(before)),
+        _ => {}
     }
     Ok(found)
 }
@@ -329,7 +320,8 @@ fn show_object<S: ShowObjects>(
     }
 }
 
-/// Shows the units of a field that have names, from an offset up to the end of the AML, or to one that isn't understood.
+/// Shows the units of a field that have names, from an offset up to the end of the AML, or to one that isn't
+/// understood.
 ///
 /// Fails if memory runs out.
 fn show_units<S: ShowObjects>(

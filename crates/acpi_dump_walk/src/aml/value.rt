@@ -8,7 +8,7 @@ use acpi_sleep::name::name_at;
 use acpi_sleep::term::{Part, parts_end};
 
 /// How deep packages are shown in packages at most.
-const DEEPEST: u32 = 16;
+const DEEPEST: u32 = 8;
 
 /// How many bytes of a buffer are shown at most.
 const MOST: usize = 32;
@@ -85,7 +85,7 @@ fn print_named(path: &[u8], data: &[u8], between: &str, out: &mut Out) {
         }
     }
     if let Some((_, [0x12 | 0x13, ..])) = elements_of(data) {
-        return print_elements(data, false, DEEPEST, between, out);
+        return print_elements(data, false, DEEPEST - 1, between, out);
     }
     print_data(data, matches!(name, b"_HID" | b"_CID"), DEEPEST, out)
 }
@@ -190,7 +190,8 @@ fn is_uuid(size: Option<u64>, bytes: &[u8]) -> bool {
         && (0x80..0xC0).contains(variant)
 }
 
-/// Prints the elements of a package, each but the first after `between`: as many as it has, or fewer if no more are set.
+/// Prints the elements of a package, each but the first after `between`: as many as it has, or fewer if no more are
+/// set.
 #[cycle(data)]
 fn print_elements(data: &[u8], are_ids: bool, depth: u32, between: &str, out: &mut Out) {
     let Some((count, elements)) = elements_of(data) else {
@@ -198,7 +199,7 @@ fn print_elements(data: &[u8], are_ids: bool, depth: u32, between: &str, out: &m
     };
     let mut at = 0;
     for index in 0..count {
-        if at >= elements.len() || depth == 0 {
+        if at >= elements.len() {
             return;
         }
         if index > 0 {
@@ -207,7 +208,7 @@ fn print_elements(data: &[u8], are_ids: bool, depth: u32, between: &str, out: &m
         let Ok(end) = parts_end(&[Part::Argument], elements, at) else {
             return out.text("..");
         };
-        print_data(&elements[at..end], are_ids, depth - 1, out);
+        print_data(&elements[at..end], are_ids, depth, out);
         at = end;
     }
 }
