@@ -1,18 +1,40 @@
 //! What differs between the tables of two inputs.
 
+mod objects;
 mod pairs;
 
 use crate::outline::{Item, Items, Side, items_of};
+use acpi::PhysicalRecord;
+use acpi::sdt::SdtHeader;
 use acpi_dump_input::entries::{Entry, print_name};
 use acpi_dump_walk::out::Out;
+use objects::{changes_of, objects_of};
 use pairs::pairs_of;
 use std::alloc::{AllocError, Global};
 
-/// A difference: the structure that it is in, where it is, the name of the field, which is empty if one input alone has
-/// the structure, and the values in the two inputs, if they have it.
+/// What a structure or an object is called.
+#[derive(Clone, Copy)]
+pub enum Title<'a> {
+    /// As the table has the structure of a number.
+    Structure(Side<'a>),
+    Object(&'a str),
+}
+
+impl Title<'_> {
+    /// Prints it, of the structure of this number.
+    pub fn print_path(self, part: usize, out: &mut Out) {
+        match self {
+            Title::Structure(side) => side.print_path(part, out),
+            Title::Object(title) => out.text(title),
+        }
+    }
+}
+
+/// A difference: the structure or object that it is in, where it is, the name of the field or what the object is, which
+/// is empty if one input alone has the structure or object, and the values in the two inputs, if they have it.
 #[derive(Clone, Copy)]
 pub struct Difference<'a> {
-    pub side: Side<'a>,
+    pub side: Title<'a>,
     pub part: usize,
     pub offset: u64,
     pub name: &'static str,
@@ -69,7 +91,7 @@ impl<'a> Found<'a, '_, '_> {
             && !self.ignored.contains(&item.name)
         {
             self.differences.push(Difference {
-                side: self.old,
+                side: Title::Structure(self.old),
                 part,
                 offset: item.offset,
                 name: item.name,
@@ -105,7 +127,7 @@ impl<'a> Found<'a, '_, '_> {
     /// Adds that the first table alone has a structure.
     fn add_gone(&mut self, part: usize) -> Result<(), AllocError> {
         self.differences.push(Difference {
-            side: self.old,
+            side: Title::Structure(self.old),
             part,
             offset: self.old.offset(part),
             name: "",
@@ -120,7 +142,7 @@ impl<'a> Found<'a, '_, '_> {
     /// Adds that the second table alone has a structure.
     fn add_added(&mut self, part: usize) -> Result<(), AllocError> {
         self.differences.push(Difference {
-            side: self.new,
+            side: Title::Structure(self.new),
             part,
             offset: self.new.offset(part),
             name: "",
@@ -277,7 +299,18 @@ pub(crate) fn differences<'a>(
     Ok(found.differences)
 }
 
-/// Shows the differences between two tables, and returns whether there are some.
+/// A table without its bytes after the header.
+fn header_in<'e>(entry: &Entry<'e>) -> Entry<'e> {
+    let mut header = *entry;
+    header.bytes = entry
+        .bytes
+        .get(..SdtHeader::MIN_LENGTH)
+        .unwrap_or(entry.bytes);
+    header
+}
+
+/// Shows the differences between two tables, and returns whether there are some. The bytes of AML are compared by its
+/// objects.
 fn compare_pair<S: ShowDifferences>(
     alloc: Global,
     old: &Entry<'_>,
@@ -285,8 +318,16 @@ fn compare_pair<S: ShowDifferences>(
     ignored: &[&str],
     show: &mut S,
 ) -> Result<bool, AllocError> {
-    let (items, others) = (items_of(alloc, old), items_of(alloc, new));
-    let found = differences(alloc, &items, &others, ignored)?;
+    let (objects, other_objects) = (objects_of(alloc, old), objects_of(alloc, new));
+    let changes = changes_of(alloc, &objects, &other_objects, ignored)?;
+    let (front, other_front) = if objects.is_empty() && other_objects.is_empty() {
+        (*old, *new)
+    } else {
+        (header_in(old), header_in(new))
+    };
+    let (items, others) = (items_of(alloc, &front), items_of(alloc, &other_front));
+    let mut found = differences(alloc, &items, &others, ignored)?;
+    changes.add_to(&mut found)?;
     if !found.is_empty() {
         show.pair(old, new, &found);
     }

@@ -20,13 +20,16 @@ pub use value::Value;
 /// many objects stay short.
 const DEEPEST: usize = 32;
 
-/// An object: its offset in the table, its length, what it is, the segments of its path from the root on, four letters
-/// each, and what is shown of its value. A name is looked up in no other scope. An `If`, an `Else` and a `While` have
-/// no path.
+/// An object: its offset in the table, its length, between which offsets its own bytes are, what it is, the segments of
+/// its path from the root on, four letters each, and what is shown of its value. A name is looked up in no other scope.
+/// An `If`, an `Else` and a `While` have no path.
+///
+/// Its own bytes are those between its name and the first object in it, of a method the code, and else all.
 #[derive(Clone, Copy)]
 pub struct Object<'a> {
     pub offset: u64,
     pub length: u64,
+    pub own: (u64, u64),
     pub kind: &'static str,
     pub path: Option<&'a [u8]>,
     pub value: Value<'a>,
@@ -146,7 +149,7 @@ fn parts_after(code: u16) -> Option<&'static [Part]> {
 }
 
 /// An object: what it is, where its name begins and what it is, its value, where the objects in it begin, where a
-/// field's units begin, and where it ends.
+/// field's units begin, between which offsets its own bytes are, and where it ends.
 #[derive(Clone, Copy)]
 struct Found<'a> {
     kind: &'static str,
@@ -154,6 +157,7 @@ struct Found<'a> {
     value: Value<'a>,
     inner: Option<usize>,
     units: Option<usize>,
+    own: (usize, usize),
     end: usize,
 }
 
@@ -173,6 +177,7 @@ fn found_at(aml: &[u8], at: usize) -> Result<Found<'_>, AmlError>
         value: Value::Hidden,
         inner: None,
         units: None,
+        own: (at, end),
         end,
     };
     let (start, name) = match rest {
@@ -186,8 +191,16 @@ fn found_at(aml: &[u8], at: usize) -> Result<Found<'_>, AmlError>
     found.name = Some((start, name));
     found.value = Value::after_name(opcode.code, aml.get(name.end..end).unwrap_or(&[]));
     match rest {
-        Rest::Units(before) => found.units = parts_end(before, aml, name.end).ok(),
-        Rest::Entered(before) => found.inner = Some(name.end.saturating_add(before)),
+        Rest::Method => found.own.0 = name.end.saturating_add(1),
+        Rest::Units(before) => {
+            found.units = parts_end(before, aml, name.end).ok();
+            found.own = (name.end, found.units.unwrap_or(end).min(end));
+        }
+        Rest::Entered(before) => {
+            let inner = name.end.saturating_add(before);
+            found.inner = Some(inner);
+            found.own = (name.end, inner.min(end));
+        }
         _ => {}
     }
     Ok(found)
@@ -279,27 +292,23 @@ fn show_object<S: ShowObjects>(
         _ => table,
     };
     let found = found_at(aml, at)?;
-    let (offset, length) = (at as u64, (found.end - at) as u64);
-    let Some((start, name)) = &found.name else {
-        show.object(&Object {
-            offset,
-            length,
-            kind: found.kind,
-            path: None,
-            value: Value::Hidden,
-        });
-        return Ok(found.end);
-    };
-    let start = scopes.add_path(aml, *start, name)?;
-    let path = scopes.letters.get(start..).unwrap_or(&[]);
-    if scopes.open.len() >= DEEPEST || path.len() > 4 * DEEPEST {
-        return Err(Ends::Deep(at));
+    let start = scopes.letters.len();
+    if let Some((from, name)) = &found.name {
+        scopes.add_path(aml, *from, name)?;
+        let segments = scopes.letters.len().saturating_sub(start) / 4;
+        if scopes.open.len() >= DEEPEST || segments > DEEPEST {
+            return Err(Ends::Deep(at));
+        }
     }
     show.object(&Object {
-        offset,
-        length,
+        offset: at as u64,
+        length: (found.end - at) as u64,
+        own: (found.own.0 as u64, found.own.1 as u64),
         kind: found.kind,
-        path: Some(path),
+        path: match found.name {
+            Some(_) => scopes.letters.get(start..),
+            None => None,
+        },
         value: found.value,
     });
     match found.inner {
@@ -340,6 +349,7 @@ fn show_units<S: ShowObjects>(
             show.object(&Object {
                 offset: at as u64,
                 length: (unit.end - at) as u64,
+                own: (at as u64, unit.end as u64),
                 kind: "FieldUnit",
                 path: scopes.letters.get(first..),
                 value: Value::Bits(bit, unit.bits),

@@ -1,24 +1,34 @@
-//! Which structures of two tables are the same.
+//! Which structures or objects of two tables are the same.
 
-use crate::outline::{Part, Side};
+use crate::outline::Side;
+use acpi_dump_walk::out::Out;
 use std::alloc::{AllocError, Global};
+use std::cmp::Ordering;
 
-/// Which structures of two tables are the same.
+/// What one of a table is known by: what it is called, its kind, and its number in the table.
+pub(super) type Key<'a> = (&'a str, &'static str, usize);
+
+/// Which ones of two tables are the same.
 #[derive(Drop)]
 pub(super) struct Pairs {
-    /// For each one of the first table the place of that of the second one, or `usize::MAX`.
+    /// For each one of the first table the number of that of the second one, or `usize::MAX`.
     others: Vec<usize>,
     /// Of each one of the second table, whether it is that of one of the first.
     are_taken: Vec<bool>,
 }
 
 impl Pairs {
-    /// The place of the structure of the second table that is the same as one of the first.
-    pub(super) fn other(&self, part: usize) -> Option<usize> {
-        match self.others.get(part) {
-            Some(place) if *place != usize::MAX => Some(*place),
+    /// The number of the one of the second table that is the same as one of the first.
+    pub(super) fn other(&self, number: usize) -> Option<usize> {
+        match self.others.get(number) {
+            Some(other) if *other != usize::MAX => Some(*other),
             _ => None,
         }
+    }
+
+    /// Whether one of the second table is that of one of the first.
+    pub(super) fn is_taken(&self, number: usize) -> bool {
+        self.are_taken.get(number).copied().unwrap_or(true)
     }
 
     /// Whether a structure of the first table has no other, and that which it is in has one.
@@ -37,71 +47,108 @@ impl Pairs {
         }
     }
 
-    /// Whether a structure of the second table is that of one of the first.
-    fn is_taken(&self, part: usize) -> bool {
-        self.are_taken.get(part).copied().unwrap_or(true)
-    }
-
-    /// The structure between two places of the second table that is the same as one of the first, if it isn't taken.
-    fn find(
-        &self,
-        old: Side<'_>,
-        part: &Part,
-        new: Side<'_>,
-        places: (usize, usize),
-    ) -> Option<usize> {
-        let parent = self.other(part.parent)?;
-        for place in places.0..places.1 {
-            if let Some(candidate) = new.parts.get(place)
-                && candidate.parent == parent
-                && !self.is_taken(place)
-                && old.is_same(part, new, candidate)
-            {
-                return Some(place);
+    /// Pairs those of two tables that aren't paired and are called the same, in their order, and only with one of the
+    /// same kind if that is to be the same. The keys are sorted.
+    fn add(&mut self, old: &[Key<'_>], new: &[Key<'_>], is_kind_same: bool) {
+        let (mut a, mut b) = (0usize, 0usize);
+        for _ in 0..old.len().saturating_add(new.len()) {
+            let (Some(one), Some(other)) = (old.get(a), new.get(b)) else {
+                return;
+            };
+            match self.order(one, other, is_kind_same) {
+                Ordering::Less => a = a.saturating_add(1),
+                Ordering::Greater => b = b.saturating_add(1),
+                Ordering::Equal => {
+                    self.take(one.2, other.2);
+                    a = a.saturating_add(1);
+                    b = b.saturating_add(1);
+                }
             }
         }
-        None
     }
 
-    /// Takes the structure of the second table that is the same as the next one of the first, and returns where the
-    /// search for the one after that begins.
-    fn take(
-        &mut self,
-        old: Side<'_>,
-        part: &Part,
-        new: Side<'_>,
-        from: usize,
-    ) -> Result<usize, AllocError> {
-        let mut found = self.find(old, part, new, (from, new.len()));
-        if found.is_none() {
-            found = self.find(old, part, new, (1, from));
+    /// Which of two keys is skipped: one that is paired, or else the one that comes first, and neither if they are the
+    /// same.
+    fn order(&self, one: &Key<'_>, other: &Key<'_>, is_kind_same: bool) -> Ordering {
+        if self.other(one.2).is_some() {
+            Ordering::Less
+        } else if self.is_taken(other.2) {
+            Ordering::Greater
+        } else if is_kind_same {
+            (one.0, one.1).cmp(&(other.0, other.1))
+        } else {
+            one.0.cmp(&other.0)
         }
-        let place = found.unwrap_or(usize::MAX);
-        if let Some(is_taken) = self.are_taken.get_mut(place) {
+    }
+
+    /// Pairs one of the first table with one of the second.
+    fn take(&mut self, number: usize, other: usize) {
+        if let Some(place) = self.others.get_mut(number) {
+            *place = other;
+        }
+        if let Some(is_taken) = self.are_taken.get_mut(other) {
             *is_taken = true;
         }
-        self.others.push(place)?;
-        Ok(if found.is_some() {
-            place.saturating_add(1)
-        } else {
-            from
-        })
     }
 }
 
-/// Which structures of two tables are the same: those that lie in the same one, and are known by the same name and the
-/// same field, or the same place among the ones of their name. The tables themselves are the same.
-pub(super) fn pairs_of(alloc: Global, old: Side<'_>, new: Side<'_>) -> Result<Pairs, AllocError> {
+/// Pairs those of two tables that are called the same, in their order: first those of the same kind.
+pub(super) fn pairs_by(
+    alloc: Global,
+    old: Vec<Key<'_>>,
+    new: Vec<Key<'_>>,
+) -> Result<Pairs, AllocError> {
+    let (mut old, mut new) = (old, new);
     let mut pairs = Pairs {
-        others: vec![in alloc; 0usize]?,
+        others: vec![in alloc; usize::MAX; old.len()]?,
         are_taken: vec![in alloc; false; new.len()]?,
     };
-    if let Some(is_taken) = pairs.are_taken.first_mut() {
-        *is_taken = true;
-    }
-    let mut next = 1usize;
-    for part in old.parts.get(1..).unwrap_or(&[]) {
-        next = pairs.take(old, part, new, next)?;
-    }
+    old.sort()?;
+    new.sort()?;
+    pairs.add(&old, &new, true);
+    pairs.add(&old, &new, false);
     Ok(pairs)
+}
+
+/// What the structures of a table are called.
+#[derive(Drop)]
+struct Titles {
+    text: Out,
+    /// Where each one's ends in the text.
+    ends: Vec<usize>,
+}
+
+impl Titles {
+    /// What the structures of a table are called.
+    fn of(alloc: Global, side: Side<'_>) -> Result<Titles, AllocError> {
+        let mut titles = Titles {
+            text: Out::new(alloc),
+            ends: Vec::new(alloc),
+        };
+        for part in 0..side.len() {
+            side.print_path(part, &mut titles.text);
+            titles.ends.push(titles.text.length())?;
+        }
+        Ok(titles)
+    }
+
+    /// By what the structures are paired.
+    fn keys(&self, alloc: Global) -> Result<Vec<Key<'_>>, AllocError> {
+        let Some(text) = self.text.printed() else {
+            return Err(AllocError);
+        };
+        let (mut keys, mut start) = (Vec::new(alloc), 0usize);
+        for (number, end) in self.ends.iter().enumerate() {
+            keys.push((text.get(start..*end).unwrap_or(""), "", number))?;
+            start = *end;
+        }
+        Ok(keys)
+    }
+}
+
+/// Which structures of two tables are the same: those that are in the same one, and are known by the same name and the
+/// same field, or the same place among the ones of their name. The tables themselves are the same.
+pub(super) fn pairs_of(alloc: Global, old: Side<'_>, new: Side<'_>) -> Result<Pairs, AllocError> {
+    let (old, new) = (Titles::of(alloc, old)?, Titles::of(alloc, new)?);
+    pairs_by(alloc, old.keys(alloc)?, new.keys(alloc)?)
 }
