@@ -143,9 +143,11 @@ fn print_interrupts(descriptor: &[u8], out: &mut Out) {
 fn print_space(tag: u8, descriptor: &[u8], out: &mut Out) {
     for (known, width, offsets) in &SPACES {
         if *known == tag {
-            let [low, high, added, count] = offsets.map(|offset| number_in(
-                descriptor, offset, *width,
-            ));
+            let mut numbers = [0; 4];
+            for (number, offset) in numbers.iter_mut().zip(offsets) {
+                *number = number_in(descriptor, *offset, *width);
+            }
+            let [low, high, added, count] = numbers;
             out.words("#", &[count]);
             match number_in(descriptor, 3, 1) {
                 0 => out.text(" bytes of memory"),

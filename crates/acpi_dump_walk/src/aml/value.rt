@@ -133,7 +133,7 @@ fn print_integer(data: &[u8], number: u64, are_ids: bool, out: &mut Out) {
         return out.words("#", &[number]);
     };
     let letters = [*high / 4, *high % 4 * 8 + *next / 32, *next % 32];
-    if !are_ids || !letters.iter().all(|letter| (1..=26).contains(letter)) {
+    if !are_ids || !matches!(letters, [1..=26, 1..=26, 1..=26]) {
         return out.words("#", &[number]);
     }
     out.text("EISA id ");
