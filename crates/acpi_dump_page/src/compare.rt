@@ -75,22 +75,18 @@ struct Found<'a, 'i, 's> {
     /// The names of the fields that are left out.
     ignored: &'i [&'s str],
     differences: Vec<Difference<'a>>,
+    is_refused: bool,
 }
 
 impl<'a> Found<'a, '_, '_> {
     /// Adds a difference between two items, given by their numbers, of a structure of the first table, if they differ.
-    fn add(
-        &mut self,
-        part: usize,
-        was: Option<usize>,
-        place: Option<usize>,
-    ) -> Result<(), AllocError> {
+    fn add(&mut self, part: usize, was: Option<usize>, place: Option<usize>) {
         let (old, new) = (self.old.value(was), self.new.value(place));
         if let Some(item) = self.old.item(was).or(self.new.item(place))
             && old != new
             && !self.ignored.contains(&item.name)
         {
-            self.differences.push(Difference {
+            let difference = Difference {
                 side: Title::Structure(self.old),
                 part,
                 offset: item.offset,
@@ -99,13 +95,13 @@ impl<'a> Found<'a, '_, '_> {
                 new,
                 was,
                 place,
-            })?;
+            };
+            self.is_refused |= self.differences.push(difference).is_err();
         }
-        Ok(())
     }
 
     /// Adds the fields that differ between two structures, in the order of their offsets.
-    fn add_fields(&mut self, part: usize, other: usize) -> Result<(), AllocError> {
+    fn add_fields(&mut self, part: usize, other: usize) {
         let mut old = self.old.next_item(part, 0);
         let mut new = self.new.next_item(other, 0);
         for _ in 0..self.old.size().saturating_add(self.new.size()) {
@@ -113,7 +109,7 @@ impl<'a> Found<'a, '_, '_> {
             if a.or(b).is_none() {
                 break;
             }
-            self.add(part, a, b)?;
+            self.add(part, a, b);
             if let Some(place) = a {
                 old = self.old.next_item(part, place.saturating_add(1));
             }
@@ -121,37 +117,26 @@ impl<'a> Found<'a, '_, '_> {
                 new = self.new.next_item(other, place.saturating_add(1));
             }
         }
-        Ok(())
     }
 
-    /// Adds that the first table alone has a structure.
-    fn add_gone(&mut self, part: usize) -> Result<(), AllocError> {
-        self.differences.push(Difference {
-            side: Title::Structure(self.old),
+    /// Adds a structure that one of the tables alone has.
+    fn add_alone(&mut self, is_first: bool, part: usize) {
+        let (side, old, new, place) = if is_first {
+            (self.old, Some(""), None, None)
+        } else {
+            (self.new, None, Some(""), Some(part))
+        };
+        let difference = Difference {
+            side: Title::Structure(side),
             part,
-            offset: self.old.offset(part),
+            offset: side.offset(part),
             name: "",
-            old: Some(""),
-            new: None,
+            old,
+            new,
             was: None,
-            place: None,
-        })?;
-        Ok(())
-    }
-
-    /// Adds that the second table alone has a structure.
-    fn add_added(&mut self, part: usize) -> Result<(), AllocError> {
-        self.differences.push(Difference {
-            side: Title::Structure(self.new),
-            part,
-            offset: self.new.offset(part),
-            name: "",
-            old: None,
-            new: Some(""),
-            was: None,
-            place: Some(part),
-        })?;
-        Ok(())
+            place,
+        };
+        self.is_refused |= self.differences.push(difference).is_err();
     }
 
     /// Adds all differences: of the structures of the first table in their order, and then those that the second one
@@ -161,15 +146,18 @@ impl<'a> Found<'a, '_, '_> {
         let pairs = pairs_of(alloc, old, new)?;
         for part in 0..old.len() {
             if let Some(other) = pairs.other(part) {
-                self.add_fields(part, other)?;
+                self.add_fields(part, other);
             } else if pairs.is_gone(old, part) {
-                self.add_gone(part)?;
+                self.add_alone(true, part);
             }
         }
         for part in 0..new.len() {
             if pairs.is_added(new, part) {
-                self.add_added(part)?;
+                self.add_alone(false, part);
             }
+        }
+        if self.is_refused {
+            return Err(AllocError);
         }
         Ok(())
     }
@@ -294,6 +282,7 @@ pub(crate) fn differences<'a>(
         new: new.side()?,
         ignored,
         differences: Vec::new(alloc),
+        is_refused: false,
     };
     found.add_all(alloc)?;
     Ok(found.differences)
