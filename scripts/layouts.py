@@ -17,7 +17,7 @@ KINDS = rf"\*|{NUMBER}(?:-{NUMBER})?"
 LENGTH = rf"\*|z|<?{SUM}"
 COUNT = rf"\*|{SUM}"
 FIELD = rf"(?:>|{SUM}) (?:(?:{LENGTH})|{SUM}\[(?:{COUNT})\]) (?:-|dec|dec\+1|text|wide|row|guid|fn|path|gas) [^|]+"
-CODED = rf"(?:>|{SUM}) (?:{LENGTH}) (codes|flags|dec|guid) [^|]+\|(.+)"
+CODED = rf"(?:>|{SUM}) (?:{LENGTH}) (codes|flags|parts|dec|guid) [^|]+\|(.+)"
 LIST = (
     rf"(?:>|{SUM}) \{{(?:{COUNT}|~{SUM})\}} (?:(each) (?:z|{SUM})|(own) {SUM}|(typed) {SUM} {SUM}|(sized) {SUM}) (\S+)"
 )
@@ -29,6 +29,7 @@ ITEMS = {
     "guid": r"[0-9a-f]{8}(?:-[0-9a-f]{4}){3}-[0-9a-f]{12} .+",
     "flags": rf"{NUMBER}(?::{NUMBER})?(?:/{NUMBER})? .+",
 }
+ITEMS["parts"] = ITEMS["flags"]
 
 
 def sources():

@@ -27,7 +27,6 @@ hpet-unaligned error IA-PC HPET Specification 1.0a, section 3.2.4 | The register
 bgrt-version warning ACPI 6.5, section 5.2.23 | The version isn't 1 | is %, and not 1
 bgrt-type warning ACPI 6.5, section 5.2.23 | The image is of a reserved type | is %, and a bitmap's is 0
 bgrt-zero warning ACPI 6.5, section 5.2.23 | The image is at address 0 | is %
-spcr-code note Serial Port Console Redirection Table | A reserved parity or number of stop bits | # is reserved
 dbg2-console note Microsoft Debug Port Table 2 | No serial port has the registers of the SPCR \
     | no serial port of the DBG2 has # of address space %
 ";

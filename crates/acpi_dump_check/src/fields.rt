@@ -229,10 +229,6 @@ ACPI Processor UID | Hart Info Node | rhct-uid-twice once
 Offset | Hart Info Node | rhct-reference of | ISA String Node \
     | Cache Management Operation (CMO) Extension Node | MMU Node
 
-= SPCR 44:8 1-0xffffffffffffffff
-Parity | - | spcr-code 0
-Stop Bits | - | spcr-code 1
-
 = TPM2 64:4 1-0xffffffff
 Log Area Start Address (LASA) | - | tpm2-log 1-0xffffffffffffffff
 

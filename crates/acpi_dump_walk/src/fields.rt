@@ -130,7 +130,7 @@ pub fn print_meaning(shown: &Field<'_>, out: &mut Out) {
         Meaning::Function => print_function(number, out),
         Meaning::Path => print_hop(value, out),
         Meaning::Codes => print_name(name_of(number, items), out),
-        Meaning::Flags => print_flags(number, items, out),
+        Meaning::Flags | Meaning::Parts => print_flags(shown, out),
         Meaning::Register => print_register(value, out),
     }
 }
@@ -213,9 +213,9 @@ impl Flag {
 }
 
 /// Prints the parts of a number that aren't 0, and the meanings of those that are codes.
-fn print_flags(number: u64, flags: &'static str, out: &mut Out) {
-    let mut is_first = true;
-    for item in flags.split(['|', '\n']) {
+fn print_flags(shown: &Field<'_>, out: &mut Out) {
+    let (number, mut is_first) = (number_of(shown.bytes), true);
+    for item in shown.label.items.split(['|', '\n']) {
         let (word, name) = next_word(item);
         if let Some(flag) = Flag::read(word)
             && flag.is_in(number)
@@ -223,7 +223,11 @@ fn print_flags(number: u64, flags: &'static str, out: &mut Out) {
             out.text(if is_first { "  " } else { ", " });
             out.text(name.trim_ascii());
             if flag.code.is_none() && flag.first < flag.last {
-                write!(out, " {}", bits_of(number, flag.first, flag.last));
+                let part = bits_of(number, flag.first, flag.last);
+                match shown.label.meaning {
+                    Meaning::Parts => write!(out, " 0x{part:x}"),
+                    _ => write!(out, " {part}"),
+                }
             }
             is_first = false;
         }
@@ -250,7 +254,7 @@ pub fn unnamed_in(shown: &Field<'_>) -> Option<u64> {
     let (number, items) = (number_of(shown.bytes), shown.label.items);
     match shown.label.meaning {
         Meaning::Codes if name_of(number, items).is_empty() => Some(number),
-        Meaning::Flags => match unnamed_bits(number, items) {
+        Meaning::Flags | Meaning::Parts => match unnamed_bits(number, items) {
             0 => None,
             bits => Some(bits),
         },

@@ -25,9 +25,9 @@
 //!
 //! MEANING is `-` (the number itself), `dec` (also in decimal digits), `dec+1` (1 more in decimal digits),
 //! `text`, `wide` (UTF-16), `row` (numbers of a byte), `guid`, `fn` (bus, device and function), `path` (device
-//! and function), `gas` (a generic address), `codes` (`| NUMBER MEANING` for each) or `flags`: `| BIT NAME`,
-//! `| HIGH:LOW NAME` for a number, `| HIGH:LOW/NUMBER MEANING` for a code. `dec` and `guid` may have codes
-//! too. `| @BLOCK` takes them from a block.
+//! and function), `gas` (a generic address), `codes` (`| NUMBER MEANING` for each), `flags`: `| BIT NAME`,
+//! `| HIGH:LOW NAME` for a number, `| HIGH:LOW/NUMBER MEANING` for a code, or `parts`, as `flags`, but with
+//! numbers in hexadecimal digits. `dec` and `guid` may have codes too. `| @BLOCK` takes them from a block.
 //!
 //! A word that isn't understood, and the name of a block that isn't there, is the fault `Unread`.
 //! `scripts/check_layouts` reads every layout, and so finds it before a table does.
@@ -60,6 +60,8 @@ pub enum Meaning {
     Codes,
     /// The number is a set of the flags.
     Flags,
+    /// The number is made of numbers, each in some of its bits, and flags.
+    Parts,
     /// The bytes are a generic address (section 5.2.3.2).
     Register,
 }
@@ -321,7 +323,7 @@ impl Blocks {
 }
 
 /// The words of meanings.
-const MEANINGS: [(&str, Meaning); 12] = [
+const MEANINGS: [(&str, Meaning); 13] = [
     ("-", Meaning::Plain),
     ("dec", Meaning::Decimal),
     ("dec+1", Meaning::LessOne),
@@ -334,6 +336,7 @@ const MEANINGS: [(&str, Meaning); 12] = [
     ("gas", Meaning::Register),
     ("codes", Meaning::Codes),
     ("flags", Meaning::Flags),
+    ("parts", Meaning::Parts),
 ];
 
 impl Meaning {

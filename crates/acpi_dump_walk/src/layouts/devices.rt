@@ -23,8 +23,8 @@ pub(crate) const PORTS: &str = "
 53 1 dec IRQ
 54 4 dec Global System Interrupt
 58 1 codes Configured Baud Rate | 0 as it is | 3 9600 | 4 19200 | 6 57600 | 7 115200
-59 1 - Parity
-60 1 - Stop Bits
+59 1 codes Parity | 0 no parity
+60 1 codes Stop Bits | 1 1 stop bit
 61 1 flags Flow Control | 0 DCD | 1 RTS/CTS | 2 XON/XOFF
 62 1 codes Terminal Type | 0 VT100 | 1 extended VT100 | 2 VT-UTF8 | 3 ANSI
 63 1 - Language
@@ -116,7 +116,8 @@ if 12:2 0x8003-0xffff DBG2-other
 /// VRTC and the MTMR (Intel: Simple Firmware Interface's tables under ACPI).
 pub(crate) const TIMERS: &str = "
 = HPET * - IA-PC High Precision Event Timer Table
-36 4 - Event Timer Block ID
+36 4 parts Event Timer Block ID | 31:16 VENDOR_ID | 15 LEG_RT_CAP | 13 COUNT_SIZE_CAP | 12:8 NUM_TIM_CAP \
+    | 7:0 REV_ID
 40 12 gas BASE_ADDRESS
 52 1 dec HPET Number
 53 2 dec Main Counter Minimum Clock_tick

@@ -18,12 +18,19 @@ pub(crate) const MADT: &str = "
 = mps-inti-flags * - MPS INTI Flags (table 5.26)
 0x0 as the bus has it
 0x1 active high, triggered as the bus has it
+0x2 reserved polarity, triggered as the bus has it
 0x3 active low, triggered as the bus has it
 0x4 active as the bus has it, edge-triggered
 0x5 active high, edge-triggered
+0x6 reserved polarity, edge-triggered
 0x7 active low, edge-triggered
+0x8 active as the bus has it, reserved trigger mode
+0x9 active high, reserved trigger mode
+0xa reserved polarity, reserved trigger mode
+0xb active low, reserved trigger mode
 0xc active as the bus has it, level-triggered
 0xd active high, level-triggered
+0xe reserved polarity, level-triggered
 0xf active low, level-triggered
 
 = MADT-entry 0x00 8 Processor Local APIC

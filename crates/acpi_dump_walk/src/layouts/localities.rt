@@ -110,7 +110,8 @@ if 8:1 2-255 HMAT-2
 4 4 dec Length
 
 = HMAT-entry-1 0 40 Memory Subsystem Address Range Structure
-8 2 flags Flags | 0 Processor Proximity Domain field is valid | 1 Memory Proximity Domain field is valid \
+8 2 flags Flags | 0:0/0 Processor Proximity Domain field isn't valid | 0:0/1 Processor Proximity Domain field is valid \
+    | 1:1/0 Memory Proximity Domain field isn't valid | 1:1/1 Memory Proximity Domain field is valid \
     | 2 Reservation hint
 10 2 - Reserved
 12 4 dec Processor Proximity Domain
@@ -168,7 +169,8 @@ if 8:1 2-255 HMAT-2
 31:16 Cache Line size
 
 = HMAT-entry 0 40 Memory Proximity Domain Attributes Structure
-8 2 flags Flags | 0 Proximity Domain for the Attached Initiator is valid
+8 2 flags Flags | 0:0/0 Proximity Domain for the Attached Initiator isn't valid \
+    | 0:0/1 Proximity Domain for the Attached Initiator is valid
 10 2 - Reserved
 12 4 dec Proximity Domain for the Attached Initiator
 16 4 dec Proximity Domain for the Memory

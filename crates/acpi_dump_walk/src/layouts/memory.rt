@@ -159,6 +159,29 @@ pub(crate) const NFIT: &str = "
 5cea02c9-4d07-69d3-269f-4496fbe096f9 persistent virtual disk
 08018188-42cd-bb48-100f-5387d53ded3d persistent virtual CD
 
+= NFIT-attributes * - Address Range Memory Mapping Attribute (UEFI 2.10, section 7.2.3)
+0 EFI_MEMORY_UC
+1 EFI_MEMORY_WC
+2 EFI_MEMORY_WT
+3 EFI_MEMORY_WB
+4 EFI_MEMORY_UCE
+12 EFI_MEMORY_WP
+13 EFI_MEMORY_RP
+14 EFI_MEMORY_XP
+15 EFI_MEMORY_NV
+16 EFI_MEMORY_MORE_RELIABLE
+17 EFI_MEMORY_RO
+18 EFI_MEMORY_SP
+19 EFI_MEMORY_CPU_CRYPTO
+63 EFI_MEMORY_RUNTIME
+
+= NFIT-handle * - NFIT Device Handle (section 9.20.3)
+3:0 DIMM Number
+7:4 Memory Channel Number
+11:8 Memory Controller ID
+15:12 Socket ID
+27:16 Node Controller ID
+
 = NFIT-structure 0 56 System Physical Address (SPA) Range Structure
 4 2 dec SPA Range Structure Index
 6 2 flags Flags | 0 Control region only for management during hot add or online operation \
@@ -168,11 +191,11 @@ pub(crate) const NFIT: &str = "
 16 16 guid Address Range Type GUID | @NFIT-ranges
 32 8 - System Physical Address Range Base
 40 8 - System Physical Address Range Length
-48 8 - Address Range Memory Mapping Attribute
+48 8 flags Address Range Memory Mapping Attribute | @NFIT-attributes
 56 8 - SpaLocationCookie
 
 = NFIT-structure 1 48 NVDIMM Region Mapping Structure
-4 4 - NFIT Device Handle
+4 4 parts NFIT Device Handle | @NFIT-handle
 8 2 - NVDIMM Physical ID
 10 2 dec NVDIMM Region ID
 12 2 dec SPA Range Structure Index
@@ -229,7 +252,7 @@ pub(crate) const NFIT: &str = "
 32 8 - Beginning Address of First Block in Block Accessible Memory
 
 = NFIT-structure 6 16 Flush Hint Address Structure
-4 4 - NFIT Device Handle
+4 4 parts NFIT Device Handle | @NFIT-handle
 8 2 dec Number of Flush Hint Addresses
 10 6 - Reserved
 16 8[8:2] - Flush Hint Address

@@ -27,11 +27,15 @@ pub(crate) const PROCESSORS: &str = "
 12 4 dec Size
 16 4 dec Number of sets
 20 1 dec Associativity
+if 4:4 !0x38 PPTT-unstated
 21 1 flags Attributes | 1:0/0 read allocate | 1:0/1 write allocate | 1:0/2 read and write allocate \
     | 1:0/3 read and write allocate | 3:2/0 data | 3:2/1 instruction | 3:2/2 unified | 3:2/3 unified \
     | 4:4/0 write back | 4:4/1 write through
 22 2 dec Line size
 24 4 - Cache ID
+
+= PPTT-unstated * - of a cache whose flags have none of the attributes as valid
+21 1 - Attributes
 
 = PPTT-node 2 30 ID structure
 4 4 text VENDOR_ID

@@ -79,7 +79,7 @@ pub(crate) const ROOTS: &str = "
 232 12 gas X_GPE1_BLK
 244 12 gas SLEEP_CONTROL_REG
 256 12 gas SLEEP_STATUS_REG
-268 8 - Hypervisor Vendor Identity
+268 8 text Hypervisor Vendor Identity
 
 = profiles * - Preferred_PM_Profile (table 5.9)
 0 Unspecified
