@@ -2,8 +2,12 @@
 
 ghost use Rattle.std.specs.Prelude.{◌≡◌, true};
 
+use acpi::AcpiError;
 use acpi_dump_walk::out::Out;
+use acpi_image::ImageError;
+use acpi_pack_lib::save::SaveError;
 use std::alloc::{AllocError, Global};
+use std::fmt;
 use std::fmt::Display;
 
 /// Why nothing more is shown.
@@ -52,42 +56,74 @@ pub fn begin(log: &mut Log, name: &str) {
     log.text.text(": ");
 }
 
-/// What errors mean that are printed as their names.
-const MEANINGS: [(&str, &str); 8] = [
-    (
-        "MapFailed",
-        ": the input hasn't all bytes that are read there",
-    ),
-    ("Truncated", ": the file ends within a record"),
-    ("Overlap", ": two records of the file share a byte"),
-    (
-        "EndTooLarge",
-        ": a record of the file would end above 2^64 - 1",
-    ),
-    ("NotAFile", ": what is there is no file"),
-    ("SameFile", ": it is one of the inputs"),
-    ("PartExists", ": a file of this name and .part is there"),
-    ("Unwritable", ": no file can be made or replaced there"),
-];
+/// An error that is printed as its name.
+pub trait Named: Display {
+    /// What it means, after a colon, or no letters if the name has to do.
+    fn meaning(&self) -> &'static str;
+}
 
-/// What the error means whose name a message ends with, or no letters if it ends with none of them.
-fn meaning_of(message: &[u8]) -> &'static str {
-    for (name, meaning) in &MEANINGS {
-        if message.ends_with(name.as_bytes()) {
-            return *meaning;
+impl Named for AcpiError {
+    fn meaning(&self) -> &'static str {
+        match self {
+            AcpiError::MapFailed => ": the input hasn't all bytes that are read there",
+            _ => "",
         }
     }
-    ""
+}
+
+impl Named for ImageError {
+    fn meaning(&self) -> &'static str {
+        match self {
+            ImageError::Truncated => ": the file ends within a record",
+            ImageError::EndTooLarge => ": a record of the file would end above 2^64 - 1",
+            ImageError::Overlap => ": two records of the file share a byte",
+            ImageError::OutOfMemory => "",
+        }
+    }
+}
+
+impl Named for SaveError {
+    fn meaning(&self) -> &'static str {
+        match self {
+            SaveError::NotAFile => ": what is there is no file",
+            SaveError::SameFile => ": it is one of the inputs",
+            SaveError::PartExists => ": a file of this name and .part is there",
+            SaveError::Unwritable => ": no file can be made or replaced there",
+            SaveError::OutOfMemory => "",
+        }
+    }
+}
+
+/// An error at a physical address.
+#[derive(Clone, Copy)]
+pub struct At {
+    pub address: u64,
+    pub error: AcpiError,
+}
+
+impl Display for At {
+    fn fmt<W: fmt::Write>(&self, f: &mut fmt::Formatter<W>) -> fmt::Result {
+        write!(f, "0x{:x}: {}", self.address, self.error)
+    }
+}
+
+impl Named for At {
+    fn meaning(&self) -> &'static str {
+        self.error.meaning()
+    }
+}
+
+/// Says something of a file, and what that means.
+fn tell_meaning(log: &mut Log, name: &str, what: &impl Display, meaning: &str) {
+    begin(log, name);
+    log.text.value(what);
+    log.text.text(meaning);
+    log.text.text("\n");
 }
 
 /// Says something of a file.
 pub fn tell(log: &mut Log, name: &str, what: &impl Display) {
-    begin(log, name);
-    let start = log.text.length();
-    log.text.value(what);
-    let meaning = meaning_of(log.text.since(start));
-    log.text.text(meaning);
-    log.text.text("\n");
+    tell_meaning(log, name, what, "");
 }
 
 /// Says why a file isn't shown.
@@ -96,5 +132,12 @@ pub fn fail(log: &mut Log, name: &str, why: &impl Display) -> Stop
 {
     tell(log, name, why);
     log.is_incomplete = true;
+    Stop::Message
+}
+
+/// Says which error a file isn't shown for, and what that means.
+pub fn fail_with(log: &mut Log, name: &str, error: &impl Named) -> Stop {
+    log.is_incomplete = true;
+    tell_meaning(log, name, error, error.meaning());
     Stop::Message
 }

@@ -4,7 +4,7 @@ ghost use Rattle.acpi_dump_input.specs.Extract.{IsNamed, SavesFile, SavesTables}
 
 use crate::dumped::print_letters;
 use crate::entries::Entry;
-use crate::errors::{Log, Stop, fail};
+use crate::errors::{Log, Stop, fail, fail_with};
 use crate::sources::{Sources, reason_of};
 use acpi_dump_walk::out::Out;
 use acpi_pack_lib::storage::Storage;
@@ -86,7 +86,7 @@ pub fn save_file<S: Sources, T: Storage>(
     }
     let bytes = Vec::from_slice(saving.alloc, bytes)?;
     if let Err(refusal) = storage.save(path, saving.inputs, bytes)? {
-        fail(log, path, &refusal);
+        fail_with(log, path, &refusal);
         return Ok(false);
     }
     Ok(true)

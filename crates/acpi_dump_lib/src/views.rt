@@ -22,7 +22,7 @@ use acpi_dump_input::candidates::{candidates, ebda_of, starts};
 use acpi_dump_input::entries::{
     Entry, Place, bytes_from, entries_of, entries_of_files, print_name,
 };
-use acpi_dump_input::errors::{Log, Stop, begin, fail, tell};
+use acpi_dump_input::errors::{At, Log, Stop, begin, fail, fail_with, tell};
 use acpi_dump_input::extract::{Saving, save_tables};
 use acpi_dump_input::gather::Input;
 use acpi_dump_input::sources::Sources;
@@ -105,7 +105,7 @@ fn load<'i>(
         Input::Tables(files) => Ok(Loaded::Tables(files)),
         Input::Memory(bytes) => match MemoryImage::from_bytes(output.alloc, bytes) {
             Ok(image) => Ok(Loaded::Memory(image)),
-            Err(refusal) => Err(fail(log, output.name(number), &refusal)),
+            Err(refusal) => Err(fail_with(log, output.name(number), &refusal)),
         },
     }
 }
@@ -172,9 +172,9 @@ fn open_at<'h, 'i>(
     let name = output.name(number);
     match (root.open(image), root) {
         (Ok(tables), _) => Ok(tables),
-        (Err(refusal), Root::Bios) => Err(fail(log, name, &refusal)),
+        (Err(refusal), Root::Bios) => Err(fail_with(log, name, &refusal)),
         (Err(refusal), Root::Rsdt { address, .. } | Root::Rsdp { address }) => {
-            Err(fail(log, name, &format_args!("0x{address:x}: {refusal}")))
+            Err(fail_with(log, name, &At { address, error: refusal }))
         }
     }
 }
