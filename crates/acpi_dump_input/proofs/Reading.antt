@@ -5,6 +5,7 @@ use Rattle.acpi_dump_input.specs.DumpText.{Tables, all_of, lines_of, onto_first,
 use Rattle.acpi_base.proofs.FromStd.{common_steps}
 use Rattle.acpi_base.specs.Words.{spelling}
 use Rattle.acpi_image.proofs.Written.{low_bytes}
+use Rattle.std.specs.List.{slice_rotate_right}
 
 -- ---- a text, one line at a time
 
@@ -86,3 +87,8 @@ pairs_more (suc n) b bytes text rest some h e =
 
 pub number_spelled : (n : ℕ) → n < 2 ^ 64 → take 8 (to_le_bytes w64 n) ≡ spelling 8 n
 number_spelled n small = low_bytes 8 n (omega arith) small
+
+-- what two numbers of eight bytes behind bytes are once they are in front of them
+pub to_front : (bytes start size : List ℕ) → length start ≡ 8 → length size ≡ 8
+    → slice_rotate_right ((bytes ++ start) ++ size) 16 ≡ start ++ (size ++ bytes)
+to_front bytes start size es ez = grind (arith, common_steps)

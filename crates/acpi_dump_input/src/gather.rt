@@ -26,18 +26,12 @@ pub enum Input {
 /// Memory from an address on, as an image.
 ///
 /// Fails, after printing that, if it would end too high.
-fn memory_from(
-    alloc: Global,
-    name: &str,
-    address: u64,
-    bytes: &[u8],
-    log: &mut Log,
-) -> Result<Input, Stop> {
+fn memory_from(name: &str, address: u64, bytes: Vec<u8>, log: &mut Log) -> Result<Input, Stop> {
     if bytes.len() as u64 > u64::MAX - address {
         let why = format_args!("memory from 0x{address:x} on would end above 2^64 - 1");
         return Err(fail(log, name, &why));
     }
-    Ok(Input::Memory(image_of(alloc, address, bytes)?))
+    Ok(Input::Memory(image_of(address, bytes)?))
 }
 
 /// The input that one word names, which is no folder.
@@ -55,7 +49,7 @@ fn gather_file<S: Sources>(
     let (kind, bytes) = reading.read(alloc, name, sources, log)?;
     match kind {
         Some(Kind::Image) => Ok(Input::Memory(bytes)),
-        Some(Kind::Memory) => memory_from(alloc, name, reading.at.unwrap_or(0), &bytes, log),
+        Some(Kind::Memory) => memory_from(name, reading.at.unwrap_or(0), bytes, log),
         _ => {
             let mut tables = Vec::new(alloc);
             add_input(alloc, &mut tables, name, kind, bytes, log)?;

@@ -2,19 +2,21 @@
 ghost use Rattle.std.specs.Prelude.{◌≡◌, IfOk};
 ghost use Rattle.acpi_image_reader.specs.Words.{record_spelling};
 
-use std::alloc::{AllocError, Global};
+use std::alloc::AllocError;
 
-/// The image whose one record has these bytes from a physical address on.
+/// The image whose one record has these bytes from a physical address on. They are moved, since memory may be so much
+/// that two of it are too much.
 ///
 /// Fails if memory runs out.
-#[tactic(auto, using(crate::proofs::Reading::number_spelled))]
-pub(crate) fn image_of(alloc: Global, address: u64, bytes: &[u8]) -> Result<Vec<u8>, AllocError>
+#[tactic(auto, using(crate::proofs::Reading::number_spelled, crate::proofs::Reading::to_front))]
+pub(crate) fn image_of(address: u64, bytes: Vec<u8>) -> Result<Vec<u8>, AllocError>
     ensures { IfOk result (λ v. v.items
-        ≡ record_spelling (record { start = address; bytes = bytes.now })) }
+        ≡ record_spelling (record { start = address; bytes = bytes.items })) }
 {
-    let mut image = Vec::new(alloc);
+    let mut image = bytes;
+    let length = image.len() as u64;
     image.extend_from_slice(&address.to_le_bytes()[..8])?;
-    image.extend_from_slice(&(bytes.len() as u64).to_le_bytes()[..8])?;
-    image.extend_from_slice(bytes)?;
+    image.extend_from_slice(&length.to_le_bytes()[..8])?;
+    image.rotate_right(16);
     Ok(image)
 }
