@@ -83,7 +83,7 @@ impl<'a> Found<'a, '_, '_> {
     fn add(&mut self, part: usize, was: Option<usize>, place: Option<usize>) {
         let (old, new) = (self.old.value(was), self.new.value(place));
         if let Some(item) = self.old.item(was).or(self.new.item(place))
-            && old != new
+            && (old != new || self.old.hidden(was) != self.new.hidden(place))
             && !self.ignored.contains(&item.name)
         {
             let difference = Difference {
@@ -273,8 +273,8 @@ fn print_difference(difference: &Difference<'_>, out: &mut Out) {
 /// The differences between the structures and items of two tables, less the fields whose names are ignored.
 pub(crate) fn differences<'a>(
     alloc: Global,
-    old: &'a Items,
-    new: &'a Items,
+    old: &'a Items<'a>,
+    new: &'a Items<'a>,
     ignored: &[&str],
 ) -> Result<Vec<Difference<'a>>, AllocError> {
     let mut found = Found {

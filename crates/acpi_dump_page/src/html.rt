@@ -69,7 +69,7 @@ impl<'p> Source<'p> {
 }
 
 /// The structures and fields of tables.
-fn outlines_of(alloc: Global, entries: &[Entry<'_>]) -> Result<Vec<Items>, AllocError> {
+fn outlines_of<'t>(alloc: Global, entries: &[Entry<'t>]) -> Result<Vec<Items<'t>>, AllocError> {
     let mut outlines = Vec::new(alloc);
     for entry in entries {
         outlines.push(items_of(alloc, entry))?;
@@ -81,7 +81,7 @@ fn outlines_of(alloc: Global, entries: &[Entry<'_>]) -> Result<Vec<Items>, Alloc
 #[derive(Clone, Copy)]
 struct Outlined<'p> {
     entries: &'p [Entry<'p>],
-    outlines: &'p [Items],
+    outlines: &'p [Items<'p>],
 }
 
 /// The signature that a table begins with, or should.
@@ -92,43 +92,28 @@ fn signature_of(entry: &Entry<'_>) -> Signature {
     }
 }
 
-/// Adds the tables of the input as a page shows them, beside those of the first one.
+/// Adds the tables of an input as a page shows them beside those of the other one, if it is the first of two only those
+/// that the other one hasn't got.
 ///
 /// Fails if memory runs out.
 fn add_sheets<'p>(
     source: Source<'p>,
-    new: Outlined<'p>,
-    old: Outlined<'p>,
+    own: Outlined<'p>,
+    other: Outlined<'p>,
+    is_first: bool,
     sheets: &mut Vec<Sheet<'p>>,
 ) -> Result<(), AllocError> {
-    for (number, (entry, items)) in new.entries.iter().zip(new.outlines).enumerate() {
-        let id = Id::of(entry, new.entries.get(..number).unwrap_or(&[]), false);
+    for (number, (entry, items)) in own.entries.iter().zip(own.outlines).enumerate() {
+        let place = same_in(own.entries, number, other.entries);
+        if is_first && place.is_some() {
+            continue;
+        }
+        let id = Id::of(entry, own.entries.get(..number).unwrap_or(&[]), is_first);
         let mut sheet = sheet_of(source, entry, items.side()?, id, number)?;
-        if let Some(place) = same_in(new.entries, number, old.entries)
-            && let Some(other) = old.entries.get(place)
-            && let Some(old_items) = old.outlines.get(place)
-        {
-            compare_with(source, other, old_items, items, &mut sheet)?;
+        if let Some(place) = place {
+            compare_with(source, other, place, items, &mut sheet)?;
         }
         sheets.push(sheet)?;
-    }
-    Ok(())
-}
-
-/// Adds the tables of the first input that the other one hasn't got.
-///
-/// Fails if memory runs out.
-fn add_gone<'p>(
-    source: Source<'p>,
-    old: Outlined<'p>,
-    new: Outlined<'p>,
-    sheets: &mut Vec<Sheet<'p>>,
-) -> Result<(), AllocError> {
-    for (number, (entry, items)) in old.entries.iter().zip(old.outlines).enumerate() {
-        if same_in(old.entries, number, new.entries).is_none() {
-            let id = Id::of(entry, old.entries.get(..number).unwrap_or(&[]), true);
-            sheets.push(sheet_of(source, entry, items.side()?, id, number)?)?;
-        }
     }
     Ok(())
 }
@@ -164,16 +149,19 @@ fn sheet_of<'p>(
     })
 }
 
-/// Marks what differs in a table from the first input's.
+/// Marks what differs in a table from the one of this number of the first input.
 ///
 /// Fails if memory runs out.
 fn compare_with<'p>(
     source: Source<'p>,
-    old: &'p Entry<'p>,
-    old_items: &'p Items,
-    items: &'p Items,
+    first: Outlined<'p>,
+    place: usize,
+    items: &'p Items<'p>,
     sheet: &mut Sheet<'p>,
 ) -> Result<(), AllocError> {
+    let (Some(old), Some(old_items)) = (first.entries.get(place), first.outlines.get(place)) else {
+        return Ok(());
+    };
     let found = differences(source.alloc, old_items, items, source.ignored)?;
     sheet.marks.add(sheet.side, &found)?;
     sheet.standing = if old.bytes == sheet.entry.bytes {
@@ -199,8 +187,8 @@ pub fn print_page(source: Source<'_>, out: &mut Out) -> Result<(), AllocError> {
 /// Fails if memory runs out.
 fn print_outlined<'p>(
     source: Source<'p>,
-    outlines: &'p [Items],
-    old_outlines: &'p [Items],
+    outlines: &'p [Items<'p>],
+    old_outlines: &'p [Items<'p>],
     out: &mut Out,
 ) -> Result<(), AllocError> {
     let new = Outlined {
@@ -212,8 +200,8 @@ fn print_outlined<'p>(
         outlines: old_outlines,
     };
     let mut sheets = Vec::new(source.alloc);
-    add_sheets(source, new, old, &mut sheets)?;
-    add_gone(source, old, new, &mut sheets)?;
+    add_sheets(source, new, old, false, &mut sheets)?;
+    add_sheets(source, old, new, true, &mut sheets)?;
     let mut machine = Out::new(source.alloc);
     print_machine(&sheets, &mut machine)?;
     print_front(source, &sheets, machine.length() > 0, out);

@@ -1,10 +1,11 @@
-//! The structures of a table with their fields.
+//! The structures of a table with their fields, and of AML its objects.
 
 use acpi_dump_input::entries::Entry;
+use acpi_dump_walk::aml::{Ends, Object, Value};
 use acpi_dump_walk::fault::Fault;
-use acpi_dump_walk::fields::{print_hex, print_meaning, print_value};
+use acpi_dump_walk::fields::{print_hex, print_meaning, print_path, print_value};
 use acpi_dump_walk::out::Out;
-use acpi_dump_walk::walk::{DEEPEST, Field, Group, Show, walk_table};
+use acpi_dump_walk::walk::{DEEPEST, Field, Group, Show, ShowObjects, walk_with_objects};
 use std::alloc::{AllocError, Global};
 
 /// The name of an item that is bytes which no field covers, up to 16 of them.
@@ -17,7 +18,8 @@ pub(crate) const MALFORMED: &str = "malformed";
 const IDS: &str = "ID|Source|MPIDR|Segment Group Number|Segment Number|Proximity Domain";
 
 /// A field or a run of bytes: the structure that it is in, where it is in the table and in the structure, its name, and
-/// where its value is in the text of all values.
+/// where its value is in the text of all values. An object's has what it is as its name, its path as its value, and the
+/// bytes up to the first object in it.
 #[derive(Clone, Copy)]
 pub(crate) struct Item {
     pub(crate) part: usize,
@@ -33,8 +35,9 @@ pub(crate) struct Item {
     end: usize,
 }
 
-/// A structure, of which the first is the whole table: the one that it is in, where it is, what it is called, its place
-/// among the ones of its name, and between which places its items are, with the items of the structures in it.
+/// A structure, of which the first is the whole table, or an object: the one that it is in, where it is, what it is
+/// called, its place among the ones of its name, and between which places its items are, with the items of the
+/// structures in it.
 #[derive(Clone, Copy)]
 pub(crate) struct Part {
     pub(crate) parent: usize,
@@ -48,11 +51,20 @@ pub(crate) struct Part {
     pub(crate) last: usize,
     /// The number of the first field that tells it apart.
     id: Option<usize>,
+    pub(crate) is_object: bool,
+}
+
+impl Part {
+    /// Whether it is an object that has no objects in it.
+    pub(crate) fn is_row(&self) -> bool {
+        self.is_object && self.last.saturating_sub(self.first) == 1
+    }
 }
 
 /// The structures and items of a table in the order of its bytes, and their values as one text.
 #[derive(Drop)]
-pub(crate) struct Items {
+pub(crate) struct Items<'t> {
+    table: &'t [u8],
     parts: Vec<Part>,
     items: Vec<Item>,
     /// The structure that began last and hasn't ended.
@@ -72,7 +84,7 @@ fn is_id(name: &str) -> bool {
     false
 }
 
-impl Items {
+impl Items<'_> {
     /// Adds an item of `length` bytes, whose value and meaning are what was printed from two places of the text on.
     fn add(&mut self, offset: u64, length: usize, name: &'static str, places: (usize, usize)) {
         self.add_numbered(offset, length, name, None, places)
@@ -105,18 +117,9 @@ impl Items {
         self.is_refused |= self.items.push(item).is_err();
     }
 
-    /// Keeps that a field, the one of this number, tells the open structure apart, unless one before it does.
-    fn keep_id(&mut self, item: usize) {
-        if let Some(part) = self.parts.get_mut(self.open)
-            && part.id.is_none()
-        {
-            part.id = Some(item);
-        }
-    }
-
     /// The place of a new structure among the ones of its name in the one that is open.
     fn place_of(&self, name: &str) -> u64 {
-        for part in self.parts.iter().rev() {
+        for part in self.parts.get(self.open..).unwrap_or(&[]).iter().rev() {
             if part.parent == self.open && part.name == name {
                 return part.place.saturating_add(1);
             }
@@ -124,10 +127,46 @@ impl Items {
         0
     }
 
+    /// Ends the objects that end up to an offset.
+    fn leave(&mut self, offset: u64) {
+        for _ in 0..self.open {
+            match self.parts.get(self.open) {
+                Some(part) if part.is_object && part.offset.saturating_add(part.length) <= offset =>
+                    self.end(),
+                _ => break,
+            }
+        }
+    }
+
+    /// Begins an object, which is in the structure that is open, and whose path and value were printed from two places
+    /// of the text on. The bytes of the object that it is in end where it begins.
+    fn begin_object(&mut self, object: &Object<'_>, places: (usize, usize)) {
+        if let Some(outer) = self.items.last_mut()
+            && outer.part == self.open
+        {
+            outer.length = outer.length.min(object.offset.saturating_sub(outer.offset));
+        }
+        self.begin(&Group {
+            offset: object.offset,
+            length: object.length,
+            number: 0,
+            name: object.kind,
+            kind: None,
+        });
+        if let Some(part) = self.parts.get_mut(self.open) {
+            part.is_object = true;
+            if object.path.is_some() {
+                part.id = Some(part.first);
+            }
+        }
+        self.add(object.offset, object.length as usize, object.kind, places)
+    }
+
     /// These structures and items, if memory sufficed for them and their values.
     pub(crate) fn side(&self) -> Result<Side<'_>, AllocError> {
         match self.values.printed() {
             Some(values) if !self.is_refused => Ok(Side {
+                table: self.table,
                 parts: self.parts.as_slice(),
                 items: self.items.as_slice(),
                 values,
@@ -137,15 +176,18 @@ impl Items {
     }
 }
 
-impl Show for Items {
+impl Show for Items<'_> {
     fn field(&mut self, shown: &Field<'_>) {
         let start = self.values.length();
         print_value(shown, &mut self.values);
         let places = (start, self.values.length());
         print_meaning(shown, &mut self.values);
         let item = self.items.len();
-        if is_id(shown.label.name) {
-            self.keep_id(item);
+        if let Some(part) = self.parts.get_mut(self.open)
+            && part.id.is_none()
+            && is_id(shown.label.name)
+        {
+            part.id = Some(item);
         }
         let (length, name) = (shown.bytes.len(), shown.label.name);
         self.add_numbered(shown.offset, length, name, shown.number, places);
@@ -178,6 +220,7 @@ impl Show for Items {
             first: self.items.len(),
             last: 0,
             id: None,
+            is_object: false,
         };
         self.open = self.parts.len();
         self.is_refused |= self.parts.push(part).is_err();
@@ -198,9 +241,36 @@ impl Show for Items {
     }
 }
 
+impl ShowObjects for Items<'_> {
+    fn object(&mut self, object: &Object<'_>) {
+        self.leave(object.offset);
+        let start = self.values.length();
+        let path = object.path.unwrap_or(&[]);
+        if object.path.is_some() {
+            print_path(path, &mut self.values);
+        }
+        let middle = self.values.length();
+        if !matches!(object.value, Value::Hidden) {
+            self.values.text("  ");
+            object.value.print(path, "; ", &mut self.values);
+        }
+        self.begin_object(object, (start, middle))
+    }
+
+    fn ends(&mut self, offset: u64, why: Ends) {
+        self.leave(u64::MAX);
+        let start = self.values.length();
+        self.values.text("the list ends: ");
+        why.print(&mut self.values);
+        self.add(offset, 0, MALFORMED, (start, start));
+        self.bytes(offset, self.table.get(offset as usize..).unwrap_or(&[]))
+    }
+}
+
 /// The structures and items of a table, with the text that their values stand in.
 #[derive(Clone, Copy)]
 pub struct Side<'a> {
+    table: &'a [u8],
     pub(crate) parts: &'a [Part],
     pub(crate) items: &'a [Item],
     values: &'a str,
@@ -216,6 +286,17 @@ impl<'a> Side<'a> {
     pub(crate) fn value(self, item: Option<usize>) -> Option<&'a str> {
         let item = self.item(item)?;
         self.values.get(item.start..item.end)
+    }
+
+    /// The bytes of an item, unless its value has all of them: those of an object that has no objects in it.
+    pub(crate) fn hidden(self, item: Option<usize>) -> &'a [u8] {
+        if let Some(item) = self.item(item)
+            && let Some(part) = self.parts.get(item.part)
+            && part.is_row()
+        {
+            return bytes_of(self.table, item.offset, item.length);
+        }
+        &[]
     }
 
     /// The value of an item without its meaning.
@@ -246,9 +327,10 @@ impl<'a> Side<'a> {
     /// Whether two structures of one or two tables are known by the same name and value, or place.
     pub(crate) fn is_same(self, part: &Part, other: Side<'_>, candidate: &Part) -> bool {
         part.name == candidate.name
-            && match (part.id, candidate.id) {
+            && match (self.item(part.id), other.item(candidate.id)) {
                 (None, None) => part.place == candidate.place,
-                (id, other_id) => self.value(id) == other.value(other_id),
+                (Some(id), Some(other_id)) => self.digits(id) == other.digits(other_id),
+                _ => false,
             }
     }
 
@@ -271,7 +353,7 @@ impl<'a> Side<'a> {
     }
 
     /// Prints what a structure is called: its name, and the field that tells it apart or its place; and in the same way
-    /// those that it is in, but not the table.
+    /// those that it is in, but not the table. An object is called by what it is and its path.
     pub fn print_path(self, part: usize, out: &mut Out) {
         let mut place = part;
         for depth in 0..DEEPEST {
@@ -286,13 +368,17 @@ impl<'a> Side<'a> {
             }
             out.text(part.name);
             self.print_id(part, out);
-            place = part.parent;
+            place = if part.is_object { 0 } else { part.parent };
         }
     }
 
     /// Prints the field that tells a structure apart, or its place.
     fn print_id(self, part: &Part, out: &mut Out) {
         match self.item(part.id) {
+            Some(path) if part.is_object => {
+                out.text(" ");
+                out.text(self.digits(path))
+            }
             Some(id) => {
                 out.text(", ");
                 out.text(id.name);
@@ -304,9 +390,16 @@ impl<'a> Side<'a> {
     }
 }
 
+/// The bytes at an offset of a table, of this length, or none if they aren't all there.
+pub(crate) fn bytes_of(table: &[u8], offset: u64, length: u64) -> &[u8] {
+    let end = offset.saturating_add(length) as usize;
+    table.get(offset as usize..end).unwrap_or(&[])
+}
+
 /// The structures and items of a table.
-pub(crate) fn items_of(alloc: Global, entry: &Entry<'_>) -> Items {
+pub(crate) fn items_of<'t>(alloc: Global, entry: &Entry<'t>) -> Items<'t> {
     let mut items = Items {
+        table: entry.bytes,
         parts: Vec::new(alloc),
         items: Vec::new(alloc),
         open: 0,
@@ -322,8 +415,9 @@ pub(crate) fn items_of(alloc: Global, entry: &Entry<'_>) -> Items {
     };
     items.begin(&whole);
     if let Some(signature) = entry.signature() {
-        walk_table(signature, entry.bytes, &mut items);
+        walk_with_objects(alloc, signature, entry.bytes, &mut items);
     }
+    items.leave(u64::MAX);
     items.end();
     items
 }

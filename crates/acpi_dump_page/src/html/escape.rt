@@ -15,7 +15,7 @@ pub(super) enum Piece<'a> {
     /// Characters of a text or of an attribute in double quotes.
     Text(&'a str),
     Bytes(&'a [u8]),
-    /// The first digits of a value.
+    /// The first digits of a value, or a path.
     Value(&'a str),
     /// The first words of a text, of at most this many letters together.
     Words(&'a str, usize),
@@ -54,6 +54,7 @@ fn print_piece(piece: Piece<'_>, out: &mut Out) {
     match piece {
         Piece::Text(text) => print_escaped(text.as_bytes(), out),
         Piece::Bytes(bytes) => print_escaped(bytes, out),
+        Piece::Value(path) if path.starts_with('\\') => print_escaped(path.as_bytes(), out),
         Piece::Value(digits) => {
             let bytes = digits.as_bytes();
             print_escaped(bytes.get(..DIGITS).unwrap_or(bytes), out);

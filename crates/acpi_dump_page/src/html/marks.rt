@@ -94,7 +94,13 @@ impl Marks {
             match found.place {
                 None => self.gone.push((found.part, found.was))?,
                 Some(place) if found.name.is_empty() => self.add_structure(side, place),
-                Some(place) => self.change(place, found.was.map(Change::From)),
+                Some(place) => {
+                    let change = match found.was {
+                        Some(was) => Change::From(was),
+                        None => Change::Added(0),
+                    };
+                    self.change(place, change)
+                }
             }
         }
         Ok(())
@@ -104,15 +110,15 @@ impl Marks {
     fn add_structure(&mut self, side: Side<'_>, part: usize) {
         if let Some(structure) = side.parts.get(part) {
             for place in structure.first..structure.last {
-                self.change(place, Some(Change::Added(part)));
+                self.change(place, Change::Added(part));
             }
         }
     }
 
-    /// Marks a field as one that differs so, or else as one that the first table hasn't got.
-    fn change(&mut self, place: usize, change: Option<Change>) {
+    /// Marks a field as one that differs so.
+    fn change(&mut self, place: usize, change: Change) {
         if let Some(mark) = self.fields.get_mut(place) {
-            mark.change = change.unwrap_or(Change::Added(0));
+            mark.change = change;
         }
     }
 }

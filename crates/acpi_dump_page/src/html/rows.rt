@@ -1,7 +1,7 @@
 //! The fields of a table: a row for each, in folds by the structures that they are in.
 
 use super::escape::Piece::{Bytes, Decimal, Digits, Hex, Id, Name, Offset, Text, Value, Words};
-use super::escape::{print_html, word_if};
+use super::escape::{Piece, print_html, word_if};
 use super::findings::print_findings_of;
 use super::ids;
 use super::marks::{Change, Mark};
@@ -11,13 +11,15 @@ use acpi::sdt::SdtHeader;
 use acpi_dump_input::entries::header_of;
 use acpi_dump_walk::language::number_at;
 use acpi_dump_walk::out::Out;
-use acpi_dump_walk::walk::DEEPEST;
 
 /// From how many structures of one name in a row on they are in a fold.
 const MANY: usize = 9;
 
-/// The longest table whose structures begin unfolded.
-const SHORT: usize = 128;
+/// Up to how many fields and objects the structures of a table begin unfolded.
+const FEW: usize = 48;
+
+/// From how many letters on a meaning is in a box of a few lines.
+const LONG: usize = 240;
 
 /// The length of a header (ACPI 6.5, section 5.2.6).
 const HEADER: u64 = 36;
@@ -59,8 +61,7 @@ pub(super) fn print_rows<'p>(sheet: &Sheet<'p>, sheets: &[Sheet<'p>], out: &mut 
         rows.begin_header(header);
     }
     for (place, item) in sheet.side.items.iter().enumerate() {
-        rows.begin_parts(place);
-        rows.close_to(item.part);
+        rows.begin_parts(place, item);
         rows.item(place, item);
     }
     rows.close_to(0);
@@ -103,20 +104,25 @@ impl Rows<'_, '_, '_> {
         self.end = HEADER_END;
     }
 
-    /// Begins the folds of the structures that begin with the item of this number.
-    fn begin_parts(&mut self, item: usize) {
+    /// Begins the folds of the structures that begin with the item of this number, but of objects only if others are in
+    /// them, and ends those that ended before it.
+    fn begin_parts(&mut self, place: usize, item: &Item) {
         let sheet = self.sheet;
         let parts = sheet.side.parts;
+        let mut fold = item.part;
         for number in self.next..parts.len() {
             match parts.get(number) {
-                Some(part) if part.first <= item => {
+                Some(part) if part.first > place => break,
+                Some(part) if part.is_row() => fold = part.parent,
+                Some(part) => {
                     self.close_to(part.parent);
                     self.begin(number, part);
                 }
-                _ => break,
+                None => break,
             }
             self.next = number + 1;
         }
+        self.close_to(fold)
     }
 
     /// Begins the fold of a structure, and before it that of a row of structures if it is the first of many.
@@ -128,7 +134,7 @@ impl Rows<'_, '_, '_> {
         if self.group == 0 {
             self.begin_group(number, part);
         }
-        let is_short = sheet.entry.bytes.len() <= SHORT && self.group == 0;
+        let is_short = sheet.side.size() <= FEW && self.group == 0;
         let is_compared = matches!(sheet.standing, Standing::Beside(_, _));
         let is_changed = fold.has_changes && !fold.is_added;
         let is_open = fold.has_findings || is_changed || is_short && !is_compared;
@@ -158,12 +164,14 @@ impl Rows<'_, '_, '_> {
         let mut has_changes = false;
         for place in number..sheet.side.len() {
             match sheet.side.parts.get(place) {
-                Some(other) if other.parent == part.parent && other.name == part.name => {
-                    count = count.saturating_add(1);
-                    last = place;
-                    end = other.offset.saturating_add(other.length);
-                    has_changes |= sheet.fold(place).has_changes;
-                }
+                Some(other)
+                    if other.parent == part.parent && other.name == part.name && !other.is_row() =>
+                    {
+                        count = count.saturating_add(1);
+                        last = place;
+                        end = other.offset.saturating_add(other.length);
+                        has_changes |= sheet.fold(place).has_changes;
+                    }
                 Some(other) if other.parent >= number => {}
                 _ => break,
             }
@@ -188,7 +196,7 @@ impl Rows<'_, '_, '_> {
     /// Ends the folds of structures up to that of one that they are in.
     fn close_to(&mut self, part: usize) {
         let sheet = self.sheet;
-        for _ in 0..DEEPEST {
+        for _ in 0..self.open {
             if self.open == part {
                 break;
             }
@@ -208,7 +216,7 @@ impl Rows<'_, '_, '_> {
     /// Prints a field's row, with its findings.
     fn item(&mut self, place: usize, item: &Item) {
         let sheet = self.sheet;
-        if item.part == 0 && item.offset >= HEADER && self.end == HEADER_END {
+        if item.offset >= HEADER && self.end == HEADER_END {
             self.end();
         }
         let mark = sheet.mark(place);
@@ -234,7 +242,8 @@ impl Rows<'_, '_, '_> {
     fn target_of(&self, item: &Item) -> Option<ids::Id> {
         let table = self.sheet.entry.bytes;
         let address = number_at(table, item.offset as usize, item.length as usize);
-        if item.length < 4 || address == 0 {
+        let is_number = self.sheet.side.digits(item).starts_with("0x");
+        if item.length < 4 || address == 0 || !is_number {
             return None;
         }
         for sheet in self.sheets {
@@ -322,30 +331,45 @@ fn print_value(side: Side<'_>, item: &Item, target: Option<ids::Id>, out: &mut O
         Some(table) => print_html("<a href=\"#$\">$</a>", &[Id(table, None), value], out),
         None => print_html("$", &[value], out),
     }
-    print_html("<td>$\n", &[Text(side.meaning(item))], out)
+    let meaning = side.meaning(item);
+    let cell = if meaning.len() > LONG {
+        "<td><div>$</div>\n"
+    } else {
+        "<td>$\n"
+    };
+    print_html(cell, &[Text(meaning)], out)
 }
 
 /// Prints the name, the value and the meaning of a field, each with what the first input has, if that differs.
 fn print_change(old: Side<'_>, was: &Item, side: Side<'_>, item: &Item, out: &mut Out) {
+    let (old_digits, digits) = (old.digits(was), side.digits(item));
     let (meant, meaning) = (old.meaning(was), side.meaning(item));
-    let row = if meant == meaning {
-        "<th scope=\"row\">$<td><del>$</del> <ins>$</ins><td>$\n"
+    let (is_value, is_meaning) = (old_digits == digits, meant == meaning);
+    print_html("<th scope=\"row\">$<td>", &[Name(item)], out);
+    print_changed(Value(old_digits), Value(digits), is_value, out);
+    out.text("<td><div>");
+    print_changed(Text(meant), Text(meaning), is_meaning, out);
+    let is_hidden = is_value && is_meaning;
+    out.text(if is_hidden {
+        " other bytes</div>\n"
     } else {
-        "<th scope=\"row\">$<td><del>$</del> <ins>$</ins><td><del>$</del> $\n"
-    };
-    let pieces = [
-        Name(item),
-        Value(old.digits(was)),
-        Value(side.digits(item)),
-        Text(meant),
-        Text(meaning),
-    ];
-    print_html(row, &pieces, out)
+        "</div>\n"
+    })
+}
+
+/// Prints a text, after the one of the first input unless it is the same.
+fn print_changed(was: Piece<'_>, is: Piece<'_>, is_same: bool, out: &mut Out) {
+    if is_same {
+        print_html("$", &[is], out)
+    } else {
+        print_html("<del>$</del> <ins>$</ins>", &[was, is], out)
+    }
 }
 
 /// Prints a field that only the table of the first input has.
 fn print_gone<'x>(old: Side<'x>, item: &'x Item, out: &mut Out) {
-    let row = "<tr class=\"del\"><td>$<th scope=\"row\">$<td><del>$</del><td><del>$</del>\n";
+    let row =
+        "<tr class=\"del\"><td>$<th scope=\"row\">$<td><del>$</del><td><div><del>$</del></div>\n";
     let pieces = [
         Offset(item.offset),
         Name(item),
@@ -363,7 +387,7 @@ fn print_gone_part(old: Side<'_>, part: usize, out: &mut Out) {
     print_html(row, &[Offset(old.offset(part)), Bytes(path.since(0))], out)
 }
 
-/// Prints the first fields that tell of a folded structure what it is.
+/// Prints the first fields that tell of a folded structure what it is, or the path of an object.
 pub(super) fn print_digest(side: Side<'_>, number: usize, part: &Part, out: &mut Out) {
     let mut count = 0usize;
     for item in side.items.get(part.first..part.last).unwrap_or(&[]) {
@@ -374,7 +398,8 @@ pub(super) fn print_digest(side: Side<'_>, number: usize, part: &Part, out: &mut
             } else {
                 Words(meaning, 48)
             };
-            let pieces = [word_if(count > 0, ", "), Text(item.name), value];
+            let name = if part.is_object { "" } else { item.name };
+            let pieces = [word_if(count > 0, ", "), Text(name), value];
             print_html("$$ $", &pieces, out);
             count = count.saturating_add(1);
         }

@@ -1,7 +1,7 @@
 //! The script of a page. Without it the links, the folds and the bytes are there too.
 
 /// The SHA-256 of the script, in base64, which scripts/check_html compares with it.
-pub(super) const SCRIPT_HASH: &str = "6WPgAlkoc8HfoIzRRs284r2nA6ri8+KaitJWhmTo7DY=";
+pub(super) const SCRIPT_HASH: &str = "g7Bxd9MxE7HCMTOT6SCXL0/FhxxdV5fnj+6Xfu3YYzQ=";
 
 /// The script: what is under the pointer or has the focus is marked with its bytes, and the other way round.
 pub(super) const SCRIPT: &str = r#"
@@ -18,9 +18,9 @@ function told(row) { return [1, 2, 3].map(n => row.cells[n].textContent).join(" 
 function say(t, s) { t.querySelector("output").textContent = s; }
 function show(pane, e) {
   if (!e) return;
-  const p = pane.getBoundingClientRect(), r = e.getBoundingClientRect();
+  const p = pane.getBoundingClientRect(), r = e.getBoundingClientRect(), low = Math.min(p.bottom, innerHeight);
   if (r.top < p.top + 8) pane.scrollTop -= p.top + 28 - r.top;
-  else if (r.bottom > p.bottom - 8) pane.scrollTop += r.bottom - p.bottom + 28;
+  else if (r.bottom > low - 8) pane.scrollTop += r.bottom - low + 28;
   if (r.right > p.right - 8) pane.scrollLeft += r.right - p.right + 28;
   else if (r.left < p.left + 8) pane.scrollLeft = 0;
 }

@@ -3,7 +3,7 @@
 use super::escape::Piece;
 use super::ids::Id;
 use super::marks::{Change, Mark, Marks};
-use crate::outline::{Item, Side};
+use crate::outline::{Item, Side, bytes_of};
 use acpi::sdt::Signature;
 use acpi_dump_input::entries::Entry;
 use acpi_dump_input::judgement::Judgement;
@@ -180,12 +180,6 @@ impl<'p> Sheet<'p> {
         }
         worst
     }
-}
-
-/// The bytes at an offset of a table, of this length, or none if they aren't all there.
-fn bytes_of(table: &[u8], offset: u64, length: u64) -> &[u8] {
-    let end = offset.saturating_add(length) as usize;
-    table.get(offset as usize..end).unwrap_or(&[])
 }
 
 /// The classes of what was seen.

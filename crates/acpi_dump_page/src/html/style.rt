@@ -1,7 +1,7 @@
 //! The style of a page.
 
 /// The SHA-256 of the style, in base64, which scripts/check_html compares with it.
-pub(super) const STYLE_HASH: &str = "U4RbCW6M609WxsyoCluYpfYCJinEWOxGwdASWu9F/PI=";
+pub(super) const STYLE_HASH: &str = "5Pb7pLKRMNKMtAJvJWbF68nqVPuanuBhF2oLR85dFG8=";
 
 /// The style: the colours stand at its front, and are other ones in the dark.
 pub(super) const STYLE: &str = r#"
@@ -84,6 +84,7 @@ font-weight:400;overflow-wrap:anywhere;border-bottom:1px solid var(--soft)}
 .fl thead th{color:var(--dim);font-size:.78rem}.fl tr>:nth-child(1){width:3.6rem;padding-left:.2rem}
 .fl tr>:nth-child(2){width:32%}.fl tr>:nth-child(3){width:34%}.fl td:first-child,.fl td:nth-child(3){
 font:13px var(--mono)}.fl td:first-child a{color:var(--dim)}.fl td:nth-child(4){color:var(--dim)}
+.fl td div{max-height:9rem;overflow:auto}
 .s,.g{margin:.18rem 0}.s>summary,.g>summary{padding:.14rem .2rem .14rem 1.2rem;text-indent:-1rem;border-radius:4px;
 font-weight:600;font-size:14px}.s>summary span{font:13px var(--mono);color:var(--dim)}.s small,.g small{
 font-weight:400;font-size:12.5px;color:var(--dim);margin-left:.3rem}.s>table,.s>.s{margin-left:.9rem;
@@ -139,6 +140,7 @@ margin:0 -.7rem;padding:0 .7rem .5rem}}
 .s>summary,.g>summary,.list{font-size:10.5px}.fl td:nth-child(n),.fl th:nth-child(n),.s>summary span,
 .list tbody th:nth-child(n),code,small{font-size:10px!important}.list th,.list td{padding:.15rem .35rem;
 white-space:normal}.scroll{overflow:visible}.th{break-after:avoid}.two{grid-template-columns:1fr}.bs{
-position:static;max-height:none}.bs pre{overflow:visible;max-height:none;background:none;border:1px solid #ddd;
+position:static;max-height:none}.bs pre,.fl td div{overflow:visible;max-height:none}.bs pre{background:none;
+border:1px solid #ddd;
 font-size:9px}.board{columns:2}}
 "#;
