@@ -2,26 +2,51 @@
 //!
 //! `acpi_view IMAGE rsdt REVISION ADDRESS` opens the root table at an address,
 //! `acpi_view IMAGE rsdp ADDRESS` the one that the RSDP at an address leads to, and
-//! `acpi_view IMAGE bios` the one that the RSDP leads to which the BIOS areas hold.
+//! `acpi_view IMAGE bios` the one that the RSDP leads to which the BIOS areas hold. `--help` and
+//! `--version` alone print what they say.
 #![tactic(auto)]
 
 use acpi_cli::{args, borrowed};
 use acpi_view_lib::arguments::file_named;
 use acpi_view_lib::run::run;
+use std::io::Write;
 use std::process::ExitCode;
 use std::{fs, io};
+
+/// How the program is called.
+const HELP: &str = "usage: acpi_view IMAGE rsdt REVISION ADDRESS | rsdp ADDRESS | bios
+       acpi_view --help | --version
+";
+
+/// The program's version.
+const VERSION: &str = "acpi_view 1.0.0\n";
 
 fn main(rt: HostRuntime) -> ExitCode {
     ExitCode::from(status(&rt).unwrap_or(1))
 }
 
+/// Prints a text on standard output, and returns the status.
+///
+/// Fails if the write fails.
+fn print(rt: &HostRuntime, text: &str) -> io::Result<u8> {
+    let mut out = io::writer(rt);
+    out.write_all(text.as_bytes())?;
+    out.flush()?;
+    Ok(0)
+}
+
 /// The status of the program over the process's arguments, the file that they name and its outputs. No file is
 /// read if they are not a command.
 ///
-/// Fails if there is no memory for the arguments.
+/// Fails if there is no memory for the arguments, or if the help or the version can't be written.
 fn status(rt: &HostRuntime) -> io::Result<u8> {
     let args = args(rt)?;
     let words = borrowed(rt.alloc(), &args)?;
+    match words.as_slice() {
+        ["--help"] => return print(rt, HELP),
+        ["--version"] => return print(rt, VERSION),
+        _ => {}
+    }
     let image = match file_named(&words) {
         Some(name) => fs::read(rt, name).ok(),
         None => None,
