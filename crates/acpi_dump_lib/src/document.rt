@@ -2,6 +2,7 @@
 //!
 //! The members of an object stand in the order of their names.
 
+mod machine;
 mod tables;
 
 ghost use Rattle.json.specs.Reads.{token_of};
@@ -16,6 +17,7 @@ use acpi_dump_walk::language::Meaning;
 use acpi_dump_walk::out::Out;
 use acpi_dump_walk::walk::{Field, Group, Show, ShowObjects};
 use json::{Pretty, Token, is_number};
+pub(crate) use machine::add_machine;
 use std::alloc::{AllocError, Global};
 use std::fmt::Display;
 pub(crate) use tables::{add_all, add_chosen};
@@ -67,21 +69,18 @@ impl Document {
         document
     }
 
-    /// Prints the document, after its end: the view's name and the version, and the inputs if they come after what the
-    /// view shows.
-    ///
-    /// Fails if memory for a piece was refused.
-    pub(crate) fn print(
-        mut self,
-        view: &str,
-        inputs: &[&str],
-        part: &str,
-        out: &mut Out,
-    ) -> Result<(), AllocError> {
+    /// Ends the list of what a view shows, and adds the inputs if they come after it.
+    pub(crate) fn end_list(&mut self, inputs: &[&str], part: &str) {
         self.token(Token::EndArray);
         if comes_first(part) {
             self.inputs(inputs);
         }
+    }
+
+    /// Prints the document, after its end: the view's name and the version.
+    ///
+    /// Fails if memory for a piece was refused.
+    pub(crate) fn print(mut self, view: &str, out: &mut Out) -> Result<(), AllocError> {
         self.number("version", VERSION);
         self.text("view", view);
         self.token(Token::EndObject);
@@ -115,9 +114,14 @@ impl Document {
 
     /// Adds a number.
     pub(crate) fn number(&mut self, name: &str, number: u64) {
+        self.token(Token::Key(name));
+        self.digits(number)
+    }
+
+    /// Adds the digits of a number.
+    fn digits(&mut self, number: u64) {
         let mut text = Out::new(self.alloc);
         write!(text, "{number}");
-        self.token(Token::Key(name));
         match text.printed() {
             Some(digits) if is_number(digits) => self.token(Token::Number(digits)),
             _ => self.is_refused = true,
@@ -155,9 +159,18 @@ impl Document {
 
     /// Adds what a value is as a text.
     pub(crate) fn shown(&mut self, name: &str, value: &impl Display) {
+        self.token(Token::Key(name));
+        self.display(value)
+    }
+
+    /// Adds what a value is as a text without a name.
+    fn display(&mut self, value: &impl Display) {
         let mut text = Out::new(self.alloc);
         write!(text, "{value}");
-        self.printed(name, &text);
+        match text.printed() {
+            Some(text) => self.token(Token::String(text)),
+            None => self.is_refused = true,
+        }
     }
 
     /// Adds an address.

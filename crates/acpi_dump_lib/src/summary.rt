@@ -3,6 +3,7 @@
 
 mod distances;
 mod domains;
+mod facts;
 mod gic;
 mod processors;
 mod units;
@@ -16,28 +17,19 @@ use acpi::sdt::Signature;
 use acpi::spcr::Spcr;
 use acpi::{AcpiError, AcpiHandler, AcpiTables, HpetInfo, PciConfigRegions, PlatformInfo};
 use acpi_arm::gic::GicModel;
-use acpi_dump_walk::fields::size_of;
-use acpi_dump_walk::out::Out;
 use acpi_numa::{MemoryAffinities, MemoryRange, Slit, Srat};
 use distances::add_distances;
 pub(crate) use domains::add_domains;
+pub(crate) use facts::{Facts, Member, Span, Value};
 use gic::add_gic;
 use processors::add_rows;
 use std::alloc::Global;
 pub(crate) use units::add_units;
 
-/// Facts as text, a line for each: its name, a tab, and what holds.
-pub(crate) type Facts = Out;
-
-/// Adds why a part isn't known.
-fn add_refused(facts: &mut Facts, name: &str, refusal: AcpiError) {
-    writeln!(facts, "{name}\tnot known: {refusal}");
-}
-
 /// Adds why a part isn't known, unless it isn't there.
-fn add_unless_missing(facts: &mut Facts, name: &str, refusal: AcpiError) {
+fn add_unless_missing(facts: &mut Facts, name: &'static str, refusal: AcpiError) {
     if !matches!(refusal, AcpiError::TableMissing(_)) {
-        add_refused(facts, name, refusal);
+        facts.refused(name, refusal);
     }
 }
 
@@ -87,7 +79,7 @@ fn add_other<H: AcpiHandler>(
             return add_model(alloc, facts, model, processors, tables);
         }
     }
-    add_refused(facts, "platform", refusal);
+    facts.refused("platform", refusal);
 }
 
 /// Adds the processors and the interrupts.
@@ -103,7 +95,9 @@ fn add_model<H: AcpiHandler>(
         add_processors(alloc, facts, &info.boot_processor, others, tables);
     }
     match model {
-        InterruptModel::Unknown => facts.text("interrupts\tnot described by local APICs\n"),
+        InterruptModel::Unknown => {
+            facts.begin("", "interrupts\tnot described by local APICs", &[])
+        }
         InterruptModel::Apic(apic) => add_apic(facts, apic),
     }
 }
@@ -115,16 +109,16 @@ fn add_parts<H: AcpiHandler>(
     platform: &PlatformInfo<Global>,
     tables: &AcpiTables<'_, H>,
 ) {
-    writeln!(facts, "profile\t{:?}", platform.power_profile);
+    let profile = platform.power_profile;
+    facts.begin("power", "profile\t", &[]);
+    facts.code("profile", profile.code(), &format_args!("{profile:?}"));
     let (model, processors) = (&platform.interrupt_model, &platform.processor_info);
     add_model(alloc, facts, model, processors, tables);
     if let Some(timer) = platform.pm_timer {
         let bits = if timer.supports_32bit { 32 } else { 24 };
-        let (space, address) = (timer.base.address_space, timer.base.address);
-        writeln!(
-            facts,
-            "PM timer\t{bits} bits, {space:?} 0x{address:x}, 3579545 Hz"
-        );
+        facts.begin("pm_timer", "PM timer\t{bits} bits, ", &[bits]);
+        facts.register(&timer.base);
+        facts.words(", {frequency} Hz", &[3579545]);
     }
 }
 
@@ -136,7 +130,9 @@ fn add_regions<H: AcpiHandler>(alloc: Global, tables: &AcpiTables<'_, H>, facts:
                 let (first, last) = region.bus_range.into_inner();
                 let (segment, address) = (region.segment_group, region.physical_address);
                 let numbers = [segment as u64, first as u64, last as u64, address as u64];
-                facts.words("PCI segment %\tbuses % to %, from # on\n", &numbers);
+                let words =
+                    "PCI segment {segment}\tbuses {first_bus} to {last_bus}, from {#address} on";
+                facts.begin("pci_segments[]", words, &numbers);
             }
         }
         Err(refusal) => add_unless_missing(facts, "PCI", *refusal),
@@ -167,31 +163,35 @@ fn add_processors<H: AcpiHandler>(
         }
     }
     let numbers = [others.len().saturating_add(1) as u64, disabled];
-    facts.words("processors\t%, % of them disabled\n", &numbers);
+    let words = "processors\t{total}, {disabled} of them disabled";
+    facts.begin("processor_counts", words, &numbers);
     let added = match &tables.find_table::<Srat>() {
         Ok(srat) => add_rows(alloc, facts, boot, others, srat.bytes()),
         Err(_) => add_rows(alloc, facts, boot, others, &[]),
     };
     if added.is_err() {
-        facts.refuse();
+        facts.lines.refuse();
     }
 }
 
 /// Adds the controllers, where each ISA interrupt comes, and the interrupts that can't be masked.
 fn add_apic(facts: &mut Facts, apic: &Apic<Global>) {
-    let words = if apic.also_has_legacy_pics {
-        "interrupts\tlocal APICs at #, and a pair of 8259s\n"
+    let words = "interrupts\tlocal APICs at {#address}, ";
+    facts.begin("local_apics", words, &[apic.local_apic_address]);
+    facts.member("has_8259s", Value::Flag(apic.also_has_legacy_pics));
+    facts.text(if apic.also_has_legacy_pics {
+        "and a pair of 8259s"
     } else {
-        "interrupts\tlocal APICs at #, no 8259s\n"
-    };
-    facts.words(words, &[apic.local_apic_address]);
+        "no 8259s"
+    });
     for io_apic in apic.io_apics.as_slice() {
         let numbers = [
             io_apic.id as u64,
             io_apic.address as u64,
             io_apic.global_system_interrupt_base as u64,
         ];
-        facts.words("I/O APIC %\tat #, interrupts from % on\n", &numbers);
+        let words = "I/O APIC {id}\tat {#address}, interrupts from {interrupt_base} on";
+        facts.begin("io_apics[]", words, &numbers);
     }
     for irq in 0..16u8 {
         if apic.also_has_legacy_pics || is_overridden(apic, irq) {
@@ -199,7 +199,8 @@ fn add_apic(facts: &mut Facts, apic: &Apic<Global>) {
         }
     }
     for source in apic.nmi_sources.as_slice() {
-        facts.words("NMI\tinterrupt %", &[source.global_system_interrupt as u64]);
+        let interrupt = source.global_system_interrupt as u64;
+        facts.begin("nmis[]", "NMI\tinterrupt {interrupt}", &[interrupt]);
         add_signal(facts, source.polarity, source.trigger_mode);
     }
     for line in apic.local_apic_nmi_lines.as_slice() {
@@ -217,42 +218,46 @@ fn is_overridden(apic: &Apic<Global>, irq: u8) -> bool {
     false
 }
 
-/// Adds what signals an interrupt, at the end of its line.
+/// Adds what signals an interrupt.
 fn add_signal(facts: &mut Facts, polarity: Polarity, trigger: TriggerMode) {
-    facts.text(match polarity {
-        Polarity::SameAsBus => ", polarity of the bus",
-        Polarity::ActiveHigh => ", active high",
-        Polarity::ActiveLow => ", active low",
-    });
-    facts.text(match trigger {
-        TriggerMode::SameAsBus => ", trigger of the bus\n",
-        TriggerMode::Edge => ", edge\n",
-        TriggerMode::Level => ", level\n",
-    });
+    let meaning = match polarity {
+        Polarity::SameAsBus => "polarity of the bus",
+        Polarity::ActiveHigh => "active high",
+        Polarity::ActiveLow => "active low",
+    };
+    facts.text(", ");
+    facts.code("polarity", polarity.code(), &meaning);
+    let meaning = match trigger {
+        TriggerMode::SameAsBus => "trigger of the bus",
+        TriggerMode::Edge => "edge",
+        TriggerMode::Level => "level",
+    };
+    facts.text(", ");
+    facts.code("trigger", trigger.code(), &meaning)
 }
 
 /// Adds the pin of local APICs that such interrupts come to.
 fn add_nmi_line(facts: &mut Facts, nmi: &NmiLine) {
     let (words, uid) = match nmi.processor {
-        NmiProcessor::All => ("NMI\tLINT% of every processor\n", 0),
-        NmiProcessor::ProcessorUid(uid) => ("NMI\tLINT% of processor %\n", uid as u64),
+        NmiProcessor::All => ("NMI\tLINT{lint} of every processor", 0),
+        NmiProcessor::ProcessorUid(uid) => ("NMI\tLINT{lint} of processor {uid}", uid as u64),
     };
-    facts.words(words, &[nmi.line.code() as u64, uid]);
+    facts.begin("nmis[]", words, &[nmi.line.code() as u64, uid])
 }
 
 /// Adds where an ISA interrupt comes.
 fn add_isa(facts: &mut Facts, apic: &Apic<Global>, irq: u8) {
-    facts.words("ISA interrupt %\t", &[irq as u64]);
+    facts.begin("isa_interrupts[]", "ISA interrupt {irq}\t", &[irq as u64]);
     let Some(isa) = apic.isa_interrupt(irq) else {
-        return facts.text("comes nowhere\n");
+        return facts.text("comes nowhere");
     };
     let interrupt = isa.global_system_interrupt;
-    facts.words("interrupt %", &[interrupt as u64]);
+    facts.words("interrupt {interrupt}", &[interrupt as u64]);
     if let Some(pin) = apic.io_apic_for(interrupt) {
         let numbers = [pin.pin as u64, pin.io_apic.id as u64];
-        facts.words(", pin % of I/O APIC %", &numbers);
+        facts.words(", pin {pin} of I/O APIC {io_apic}", &numbers);
     }
-    add_signal(facts, isa.polarity, isa.trigger_mode);
+    add_signal(facts, isa.polarity, isa.trigger_mode)
 }
 
 /// Adds the high precision event timers.
@@ -268,36 +273,39 @@ fn add_hpet(facts: &mut Facts, info: &HpetInfo) {
         info.num_comparators() as u64,
         info.clock_tick_unit as u64,
     ];
-    facts.words(
-        "HPET %\tat #, % bits, % comparators, periods of % ticks or more\n",
-        &numbers,
-    );
+    let words =
+        "HPET {number}\tat {#address}, {bits} bits, {comparators} comparators, periods of {minimum_ticks} \
+         ticks or more";
+    facts.begin("hpets[]", words, &numbers)
 }
 
 /// Adds a range of memory and its domain.
 fn add_range(facts: &mut Facts, range: &MemoryRange) {
-    let (size, unit) = size_of(range.length);
-    facts.words("memory domain %\t% ", &[range.domain as u64, size]);
-    facts.text(unit);
-    facts.words(" from # on", &[range.base]);
-    facts.text(if range.is_hot_pluggable {
-        ", hot pluggable\n"
-    } else {
-        "\n"
-    });
+    let domain = range.domain as u64;
+    facts.begin("memory_ranges[]", "memory domain {domain}\t", &[domain]);
+    facts.size("length", range.length);
+    facts.words(" from {#base} on", &[range.base]);
+    facts.member("hot_pluggable", Value::Flag(range.is_hot_pluggable));
+    if range.is_hot_pluggable {
+        facts.text(", hot pluggable");
+    }
 }
 
 /// Adds the serial console.
 fn add_console(facts: &mut Facts, console: &Spcr) {
-    let base = match console.base_address() {
-        None => return facts.text("console\toff\n"),
-        Some(Err(refusal)) => return add_refused(facts, "console", refusal),
-        Some(Ok(base)) => base,
-    };
-    let (space, address) = (base.address_space, base.address);
-    write!(facts, "console\t{space:?} 0x{address:x}");
-    if let Some(rate) = console.baud_rate() {
-        facts.words(", % bits per second", &[rate as u64]);
+    match console.base_address() {
+        None => {
+            facts.begin("console", "console\toff", &[]);
+            facts.member("on", Value::Flag(false))
+        }
+        Some(Err(refusal)) => facts.refused("console", refusal),
+        Some(Ok(base)) => {
+            facts.begin("console", "console\t", &[]);
+            facts.member("on", Value::Flag(true));
+            facts.register(&base);
+            if let Some(rate) = console.baud_rate() {
+                facts.words(", {bits_per_second} bits per second", &[rate as u64]);
+            }
+        }
     }
-    facts.text("\n");
 }

@@ -2,6 +2,7 @@
 
 mod compared;
 mod judged;
+mod machine;
 mod packed;
 mod page;
 mod report;
@@ -12,21 +13,17 @@ ghost use Rattle.acpi_dump_input.specs.Extract.{SavesTables};
 use crate::arguments::{Request, View};
 use crate::contents::{chosen_of, print_tables, tell_missing};
 use crate::document::{Document, add_all, add_chosen};
-use crate::find::{add_candidates, add_fact_lines, print_candidates, print_facts};
+use crate::find::{add_candidates, print_candidates};
 use crate::listing::print_lines;
 use crate::paint::Paint;
-use crate::summary::{Facts, add_domains, add_facts, add_units};
 use acpi::AcpiTables;
 use acpi_cli::root::Root;
 use acpi_dump_input::candidates::{candidates, ebda_of, starts};
-use acpi_dump_input::entries::{
-    Entry, Place, bytes_from, entries_of, entries_of_files, print_name,
-};
+use acpi_dump_input::entries::{Entry, bytes_from, entries_of, entries_of_files};
 use acpi_dump_input::errors::{At, Log, Stop, begin, fail, fail_with, tell};
 use acpi_dump_input::extract::{Saving, save_tables};
 use acpi_dump_input::gather::Input;
 use acpi_dump_input::sources::Sources;
-use acpi_dump_input::status::Status;
 use acpi_dump_input::tables::TableFile;
 use acpi_dump_walk::out::Out;
 use acpi_image_reader::MemoryImage;
@@ -34,7 +31,7 @@ use acpi_pack_lib::storage::Storage;
 pub(crate) use compared::print_compared;
 pub(crate) use judged::print_all_rules;
 use judged::print_judged;
-use packed::add_facts_of_files;
+use machine::print_summary;
 pub(crate) use page::save_page;
 use std::alloc::{AllocError, Global};
 
@@ -83,12 +80,13 @@ impl<'w> Output<'_, 'w> {
     /// Prints a document that is begun so.
     fn print(
         self,
-        document: Document,
+        mut document: Document,
         view: &str,
         part: &str,
         out: &mut Out,
     ) -> Result<(), AllocError> {
-        document.print(view, &self.request.inputs, part, out)
+        document.end_list(&self.request.inputs, part);
+        document.print(view, out)
     }
 }
 
@@ -332,60 +330,4 @@ fn print_found(
         return Err(fail(log, output.name(0), &"no RSDP"));
     }
     Ok(0)
-}
-
-/// Adds the facts of an input, of files by the valid ones, and returns its tables.
-fn add_facts_in<'l>(
-    output: Output<'_, '_>,
-    loaded: &'l Loaded<'_>,
-    facts: &mut Facts,
-    log: &mut Log,
-) -> Result<Vec<Entry<'l>>, Stop> {
-    match loaded {
-        Loaded::Memory(image) => {
-            let tables = open(output, 0, image, log)?;
-            add_facts(output.alloc, &tables, facts);
-            Ok(entries_of(output.alloc, image, &tables)?)
-        }
-        Loaded::Tables(files) => {
-            let entries = entries_of_files(output.alloc, *files)?;
-            add_facts_of_files(output, &entries, facts, log)?;
-            Ok(entries)
-        }
-    }
-}
-
-/// Prints the machine in short.
-fn print_summary(
-    output: Output<'_, '_>,
-    loaded: &Loaded<'_>,
-    out: &mut Out,
-    log: &mut Log,
-) -> Result<u8, Stop> {
-    let mut facts = Out::new(output.alloc);
-    let entries = add_facts_in(output, loaded, &mut facts, log)?;
-    add_domains(output.alloc, &entries, &mut facts)?;
-    add_units(output.alloc, &entries, &mut facts);
-    for entry in &entries {
-        // A table that is somewhere, and can't be read: of one with bytes after its Length those before are.
-        let is_read = matches!(entry.status, Status::Longer(_));
-        if entry.status.is_invalid() && !is_read && !matches!(entry.place, Place::Nowhere) {
-            facts.text("not read\t");
-            print_name(entry, &mut facts);
-            facts.text(": ");
-            facts.value(&entry.status);
-            facts.text("\n");
-        }
-    }
-    let Some(facts) = facts.printed() else {
-        return Err(Stop::OutOfMemory);
-    };
-    if output.request.is_json {
-        let mut document = output.document("facts");
-        add_fact_lines(&mut document, facts);
-        output.print(document, "summary", "facts", out)?;
-    } else {
-        print_facts(facts, out);
-    }
-    Ok(strict_status(output, &entries))
 }

@@ -1,6 +1,6 @@
 //! The distances between localities.
 
-use super::Facts;
+use super::facts::{Facts, Value};
 use acpi_numa::Distances;
 
 /// Adds a line of distances for each locality of a SLIT, up to the first that the table doesn't have.
@@ -11,11 +11,13 @@ pub(super) fn add_distances(facts: &mut Facts, slit: &[u8]) {
         if distances.distance(from, count.saturating_sub(1)).is_none() {
             return;
         }
-        write!(facts, "distances from {from}\t");
+        facts.begin("distances[]", "distances from {from}\t", &[from as u64]);
+        let start = facts.lines.length();
         for to in 0..count {
             let distance = distances.distance(from, to).unwrap_or(0);
-            write!(facts, "{distance:>4}");
+            write!(facts.lines, "{distance:>4}");
         }
-        facts.text("\n");
+        let row = facts.since(start);
+        facts.member("to", Value::Row(row))
     }
 }

@@ -1,8 +1,7 @@
 //! What the domains of an SRAT have, and the latencies and bandwidths of an HMAT.
 
-use super::Facts;
+use super::facts::{Facts, Value};
 use acpi_dump_input::entries::{Entry, own_signature};
-use acpi_dump_walk::fields::size_of;
 use acpi_dump_walk::matrix::{Matrix, matrix_of};
 use acpi_dump_walk::share::{MEMORY, Share, share_of};
 use acpi_dump_walk::walk::{Group, Show, walk_table};
@@ -22,7 +21,7 @@ impl Domains<'_> {
         if let Some(share) = share_of(kind, entry)
             && self.shares.push(share).is_err()
         {
-            self.facts.refuse();
+            self.facts.lines.refuse();
         }
     }
 }
@@ -44,73 +43,68 @@ impl Show for Domains<'_> {
     }
 }
 
-/// Adds a line for each domain of shares that are in the order of the domains and the processors.
-fn add_shares(facts: &mut Facts, shares: &[Share]) {
-    let mut rest = shares;
-    for _ in 0..shares.len() {
-        let [first, ..] = rest else {
-            return;
-        };
-        let domain = first.domain;
-        let (own, others) = rest.split_at(rest.partition_point(|share| share.domain <= domain));
-        add_domain(facts, domain, own);
-        rest = others;
-    }
-}
-
-/// Adds the line of a domain: its processors, and how much memory it has.
+/// Adds a domain: its processors, and how much memory it has.
 fn add_domain(facts: &mut Facts, domain: u64, shares: &[Share]) {
-    facts.words("domain %\t", &[domain]);
+    facts.begin("domains[]", "domain {domain}\t", &[domain]);
     let (processors, ranges) = shares.split_at(shares.partition_point(|share| share.number
         != MEMORY));
-    let mut start = 0usize;
-    for (place, share) in processors.iter().enumerate() {
-        match processors.get(place.saturating_add(1)) {
-            Some(next) if next.number.saturating_sub(share.number) < 2 => continue,
-            _ => add_numbers(facts, processors.get(start), share),
+    for row in processors.chunk_by(|one, next| next.number.saturating_sub(one.number) < 2) {
+        if let ([first, ..], [.., last]) = (row, row) {
+            add_numbers(facts, first.number, last.number);
         }
-        start = place.saturating_add(1);
     }
     let mut memory = 0u64;
     for range in ranges {
         memory = memory.saturating_add(range.size);
     }
-    let (size, unit) = size_of(memory);
-    facts.words("% ", &[size]);
-    facts.fill("$ of memory\n", &[unit]);
+    facts.size("memory", memory);
+    facts.text(" of memory")
 }
 
 /// Adds processors whose numbers follow each other.
-fn add_numbers(facts: &mut Facts, first: Option<&Share>, last: &Share) {
-    match first {
-        Some(first) if first.number < last.number => {
-            facts.words("processors % to %, ", &[first.number, last.number])
-        }
-        _ => facts.words("processor %, ", &[last.number]),
-    }
+fn add_numbers(facts: &mut Facts, first: u64, last: u64) {
+    let words = if first < last {
+        "processors % to %, "
+    } else {
+        "processor %, "
+    };
+    facts.lines.words(words, &[first, last]);
+    facts.member("processors[]", Value::Range(first, last))
 }
 
 /// Adds the values of a matrix: a line with the targets, and one for each initiator, in which `-` is in place of a
 /// value that isn't given, or of a target that isn't reached.
 fn add_matrix(facts: &mut Facts, matrix: Matrix<'_>) {
-    let (words, unit) = (matrix.words, matrix.unit);
-    write!(facts, "{words} to\t");
+    facts.begin("", matrix.words, &[]);
+    facts.text(" to\t");
+    let start = facts.lines.length();
     for column in 0..matrix.columns {
         let target = matrix.name(matrix.rows.saturating_add(column));
-        write!(facts, " {target:>7}");
+        write!(facts.lines, " {target:>7}");
     }
-    facts.text("\n");
+    let targets = facts.since(start);
     for row in 0..matrix.rows {
-        let initiator = matrix.name(row);
-        write!(facts, "{words} from {initiator}\t");
-        for column in 0..matrix.columns {
-            match matrix.value(row, column) {
-                None => facts.text("       -"),
-                Some(value) => write!(facts, " {value:>7}"),
-            }
-        }
-        writeln!(facts, " {unit}");
+        facts.begin("latencies_and_bandwidths[]", "", &[]);
+        facts.member("targets", Value::Row(targets));
+        facts.shown("kind", &matrix.words);
+        facts.words(" from {initiator}\t", &[matrix.name(row)]);
+        add_row(facts, matrix, row);
+        facts.text(" ");
+        facts.shown("unit", &matrix.unit);
     }
+}
+
+/// Adds the values of a row of a matrix.
+fn add_row(facts: &mut Facts, matrix: Matrix<'_>, row: usize) {
+    let start = facts.lines.length();
+    for column in 0..matrix.columns {
+        match matrix.value(row, column) {
+            None => facts.text("       -"),
+            Some(value) => write!(facts.lines, " {value:>7}"),
+        }
+    }
+    let values = facts.since(start);
+    facts.member("values", Value::Row(values))
 }
 
 /// Adds what the domains of an SRAT or an HMAT have.
@@ -129,7 +123,11 @@ fn add_table(alloc: Global, table: &[u8], facts: &mut Facts) -> Result<(), Alloc
         ..
     } = domains;
     shares.sort_by_key(|share| (share.domain, share.number))?;
-    add_shares(facts, &shares);
+    for own in shares.chunk_by(|one, next| one.domain == next.domain) {
+        if let [first, ..] = own {
+            add_domain(facts, first.domain, own);
+        }
+    }
     Ok(())
 }
 

@@ -1,29 +1,38 @@
 //! The interrupts and the processors of an Arm machine.
 
-use super::Facts;
+use super::facts::{Facts, Value};
 use acpi_arm::gic::{GicCpuInterface, GicModel, GicMsiFrame};
 use std::alloc::Global;
 
 /// Adds the parts of a GIC, the processors first.
 pub(super) fn add_gic(facts: &mut Facts, gic: &GicModel<Global>) {
     let all = gic.cpu_interfaces.as_slice();
-    facts.words("processors\t%\n", &[all.len() as u64]);
+    facts.begin(
+        "processor_counts",
+        "processors\t{total}",
+        &[all.len() as u64],
+    );
     for processor in all {
         add_processor(facts, processor);
     }
     let distributor = gic.distributor;
-    let words = if distributor.version == 0 {
-        "interrupts\tGIC distributor at #\n"
-    } else {
-        "interrupts\tGIC distributor at #, version %\n"
-    };
-    facts.words(words, &[distributor.address, distributor.version as u64]);
+    let words = "interrupts\tGIC distributor at {#address}";
+    facts.begin("gic", words, &[distributor.address]);
+    if distributor.version != 0 {
+        facts.words(", version {version}", &[distributor.version as u64]);
+    }
     for range in gic.redistributors.as_slice() {
         let numbers = [range.address, range.length as u64];
-        facts.words("redistributors\tat #, # bytes\n", &numbers);
+        let words = "redistributors\tat {#address}, {#length} bytes";
+        facts.begin("redistributors[]", words, &numbers);
     }
     for service in gic.translation_services.as_slice() {
-        facts.words("ITS %\tat #\n", &[service.id as u64, service.address]);
+        let numbers = [service.id as u64, service.address];
+        facts.begin(
+            "translation_services[]",
+            "ITS {id}\tat {#address}",
+            &numbers,
+        );
     }
     for frame in gic.msi_frames.as_slice() {
         add_frame(facts, frame);
@@ -32,24 +41,27 @@ pub(super) fn add_gic(facts: &mut Facts, gic: &GicModel<Global>) {
 
 /// Adds a processor.
 fn add_processor(facts: &mut Facts, processor: &GicCpuInterface) {
-    let (uid, mpidr) = (processor.processor_uid, processor.mpidr);
+    let (uid, mpidr) = (processor.processor_uid as u64, processor.mpidr);
     let state = if processor.is_enabled {
-        "enabled\n"
+        "enabled"
     } else if processor.is_online_capable {
-        "can be enabled\n"
+        "can be enabled"
     } else {
-        "disabled\n"
+        "disabled"
     };
-    facts.words("processor %\tMPIDR #, ", &[uid as u64, mpidr]);
-    facts.text(state);
+    facts.begin("processors[]", "", &[]);
+    facts.member("uids", Value::Range(uid, uid));
+    facts.lines.words("processor %", &[uid]);
+    facts.words("\tMPIDR {#mpidr}, ", &[mpidr]);
+    facts.shown("state", &state)
 }
 
 /// Adds a frame that turns messages into interrupts.
 fn add_frame(facts: &mut Facts, frame: &GicMsiFrame) {
-    facts.words("MSI frame %\tat #", &[frame.id as u64, frame.address]);
+    let numbers = [frame.id as u64, frame.address];
+    facts.begin("msi_frames[]", "MSI frame {id}\tat {#address}", &numbers);
     if let Some(spis) = frame.spis {
         let numbers = [spis.count as u64, spis.base as u64];
-        facts.words(", % interrupts from % on", &numbers);
+        facts.words(", {count} interrupts from {base} on", &numbers);
     }
-    facts.text("\n");
 }

@@ -1,6 +1,6 @@
 //! Processors that have local APICs: a line for those whose numbers follow each other, and which are else alike.
 
-use super::Facts;
+use super::facts::{Facts, Value};
 use acpi::platform::{Processor, ProcessorState};
 use acpi_numa::{Domains, SratEntry};
 use std::alloc::{AllocError, Global};
@@ -12,14 +12,13 @@ struct Place {
     domain: u32,
 }
 
-/// Processors of one line: the first one, how many they are, and their domain if it is known.
+/// A processor, and its domain if it is known.
 #[derive(Clone, Copy)]
-struct Row {
+struct Placed {
     uid: u32,
     id: u32,
     state: ProcessorState,
     domain: Option<u32>,
-    count: u32,
 }
 
 /// The local APIC of an entry of an SRAT that is enabled, with its domain (sections 5.2.16.1 and 5.2.16.3).
@@ -62,38 +61,47 @@ fn domain_in(places: &[Place], id: u32) -> Option<u32> {
     }
 }
 
-impl Row {
-    /// Whether a processor comes next in the row.
-    fn has_next(&self, processor: &Processor, domain: Option<u32>) -> bool {
-        processor.state == self.state
-            && domain == self.domain
-            && processor.processor_uid == self.uid.wrapping_add(self.count)
-            && processor.local_apic_id == self.id.wrapping_add(self.count)
+impl Placed {
+    /// A processor with its domain.
+    fn new(processor: &Processor, places: &[Place]) -> Placed {
+        Placed {
+            uid: processor.processor_uid,
+            id: processor.local_apic_id,
+            state: processor.state,
+            domain: domain_in(places, processor.local_apic_id),
+        }
     }
 
-    /// Adds its line.
-    fn print(&self, facts: &mut Facts) {
-        let last = self.count.saturating_sub(1);
-        let numbers = [
-            self.uid as u64,
-            self.uid.wrapping_add(last) as u64,
-            self.id as u64,
-            self.id.wrapping_add(last) as u64,
-        ];
-        if last == 0 {
-            facts.words("processor %\tlocal APIC %, ", &[numbers[0], numbers[2]]);
-        } else {
-            facts.words("processors % to %\tlocal APICs % to %, ", &numbers);
-        }
-        facts.text(match self.state {
-            ProcessorState::Disabled => "disabled",
-            ProcessorState::WaitingForSipi => "waiting",
-            ProcessorState::Running => "running",
-        });
-        if let Some(domain) = self.domain {
-            facts.words(", domain %", &[domain as u64]);
-        }
-        facts.text("\n");
+    /// Whether another one comes next, and is else alike.
+    fn is_before(&self, next: &Placed) -> bool {
+        next.state == self.state
+            && next.domain == self.domain
+            && next.uid == self.uid.wrapping_add(1)
+            && next.id == self.id.wrapping_add(1)
+    }
+}
+
+/// Adds processors that follow each other.
+fn add_alike(facts: &mut Facts, first: &Placed, last: &Placed) {
+    let (uid, last_uid) = (first.uid as u64, last.uid as u64);
+    let (id, last_id) = (first.id as u64, last.id as u64);
+    facts.begin("processors[]", "", &[]);
+    facts.member("uids", Value::Range(uid, last_uid));
+    facts.member("apic_ids", Value::Range(id, last_id));
+    if uid == last_uid {
+        facts.lines.words("processor %\tlocal APIC %, ", &[uid, id]);
+    } else {
+        let words = "processors % to %\tlocal APICs % to %, ";
+        facts.lines.words(words, &[uid, last_uid, id, last_id]);
+    }
+    let state = match first.state {
+        ProcessorState::Disabled => "disabled",
+        ProcessorState::WaitingForSipi => "waiting",
+        ProcessorState::Running => "running",
+    };
+    facts.shown("state", &state);
+    if let Some(domain) = first.domain {
+        facts.words(", domain {domain}", &[domain as u64]);
     }
 }
 
@@ -108,26 +116,15 @@ pub(super) fn add_rows(
     srat: &[u8],
 ) -> Result<(), AllocError> {
     let places = places_of(alloc, srat)?;
-    let mut row = row_of(boot, &places);
+    let mut placed = Vec::new(alloc);
+    placed.push(Placed::new(boot, &places))?;
     for processor in others {
-        if row.has_next(processor, domain_in(&places, processor.local_apic_id)) {
-            row.count = row.count.saturating_add(1);
-        } else {
-            row.print(facts);
-            row = row_of(processor, &places);
+        placed.push(Placed::new(processor, &places))?;
+    }
+    for alike in placed.chunk_by(|one, next| one.is_before(next)) {
+        if let ([first, ..], [.., last]) = (alike, alike) {
+            add_alike(facts, first, last);
         }
     }
-    row.print(facts);
     Ok(())
-}
-
-/// The row that a processor begins.
-fn row_of(processor: &Processor, places: &[Place]) -> Row {
-    Row {
-        uid: processor.processor_uid,
-        id: processor.local_apic_id,
-        state: processor.state,
-        domain: domain_in(places, processor.local_apic_id),
-        count: 1,
-    }
 }

@@ -1,6 +1,6 @@
 //! Units and devices that tables tell of, a line each, by the fields of their structures.
 
-use super::Facts;
+use super::facts::{Facts, Value};
 use acpi_dump_input::entries::{Entry, own_signature};
 use acpi_dump_walk::fields::{number_of, print_meaning, size_of};
 use acpi_dump_walk::language::{Meaning, cut_at, next_word, number_of as number_in};
@@ -8,36 +8,48 @@ use acpi_dump_walk::out::Out;
 use acpi_dump_walk::walk::{Field, Group, Show, walk_table};
 use std::alloc::Global;
 
-/// The structures that have a line: the table's signature, the type or `-` for the table itself, and, after a bar, the
-/// line with its parts. A part is a text, and after `#` the name of the field whose value comes after it, or after `%`
-/// that of a number of bytes. The fields are in the order of the bytes; of several fields the last part has one after
-/// another.
+/// The structures that have a line: the table's signature, the type or `-` for the table itself, the subject, and,
+/// after a bar, the line with its parts. A part is a text, and after `#` the member and the name of the field whose
+/// value comes after it, or after `%` those of a number of bytes. The fields are in the order of the bytes; of several
+/// fields the last part has one after another. What comes after a tab in the first part is the kind.
 const UNITS: &str =
-    "DMAR 0|IOMMU\tVT-d|, #Flags|, segment #Segment Number|, registers at #Register Base Address
-IVRS 0x10|IOMMU\tAMD, IVHD 0x10|, function #DeviceID|, registers at #IOMMU Base Address|, segment #PCI Segment Group
-IVRS 0x11|IOMMU\tAMD, IVHD 0x11|, function #DeviceID|, registers at #IOMMU Base Address|, segment #PCI Segment Group
-IVRS 0x40|IOMMU\tAMD, IVHD 0x40|, function #DeviceID|, registers at #IOMMU Base Address|, segment #PCI Segment Group
-IORT 3|IOMMU\tArm|, registers at #Base address|, %Span|, #Model
-IORT 4|IOMMU\tArm|, registers at #Base Address|, #Model
-VIOT 3|IOMMU\tvirtio|, segment #PCI Segment|, function #PCI BDF number
-VIOT 4|IOMMU\tvirtio|, registers at #Base address
-TPM2 -|TPM\t2.0|, #Platform Class|, #Start Method|, log of %Log Area Minimum Length (LAML)| at #Log Area Start Address (LASA)
-TCPA -|TPM\t1.2|, #Platform Class|, log of %Log Area Minimum Length (LAML)| at #Log Area Start Address (LASA)
-NFIT 0|NVDIMM range |#SPA Range Structure Index|\t#Address Range Type GUID| from #System Physical Address Range Base| on, %System Physical Address Range Length
-NFIT 1|NVDIMM |#NFIT Device Handle|\trange #SPA Range Structure Index|, %NVDIMM Region Size|, #NVDIMM State Flags
-CEDT 0|CXL host bridge |#UID|\tregisters at #Base|, %Length
-CEDT 1|CXL window\tfrom |#Base HPA| on, %Window Size|, #Encoded Number of Interleave Ways (ENIW)|, #Window Restrictions|, host bridge #Interleave Target List";
+    "DMAR 0 iommus[]|IOMMU\tVT-d|, #flags=Flags|, segment #segment=Segment Number|, registers at #registers=Register Base Address
+IVRS 0x10 iommus[]|IOMMU\tAMD, IVHD 0x10|, function #function=DeviceID|, registers at #registers=IOMMU Base Address|, segment #segment=PCI Segment Group
+IVRS 0x11 iommus[]|IOMMU\tAMD, IVHD 0x11|, function #function=DeviceID|, registers at #registers=IOMMU Base Address|, segment #segment=PCI Segment Group
+IVRS 0x40 iommus[]|IOMMU\tAMD, IVHD 0x40|, function #function=DeviceID|, registers at #registers=IOMMU Base Address|, segment #segment=PCI Segment Group
+IORT 3 iommus[]|IOMMU\tArm|, registers at #registers=Base address|, %length=Span|, #model=Model
+IORT 4 iommus[]|IOMMU\tArm|, registers at #registers=Base Address|, #model=Model
+VIOT 3 iommus[]|IOMMU\tvirtio|, segment #segment=PCI Segment|, function #function=PCI BDF number
+VIOT 4 iommus[]|IOMMU\tvirtio|, registers at #registers=Base address
+TPM2 - tpms[]|TPM\t2.0|, #class=Platform Class|, #start_method=Start Method|, log of %log_length=Log Area Minimum Length (LAML)| at #log=Log Area Start Address (LASA)
+TCPA - tpms[]|TPM\t1.2|, #class=Platform Class|, log of %log_length=Log Area Minimum Length (LAML)| at #log=Log Area Start Address (LASA)
+NFIT 0 nvdimm_ranges[]|NVDIMM range |#range=SPA Range Structure Index|\t#kind=Address Range Type GUID| from #base=System Physical Address Range Base| on, %length=System Physical Address Range Length
+NFIT 1 nvdimms[]|NVDIMM |#handle=NFIT Device Handle|\trange #range=SPA Range Structure Index|, %length=NVDIMM Region Size|, #flags=NVDIMM State Flags
+CEDT 0 cxl_host_bridges[]|CXL host bridge |#uid=UID|\tregisters at #registers=Base|, %length=Length
+CEDT 1 cxl_windows[]|CXL window|\tfrom #base=Base HPA| on, %length=Window Size|, #ways=Encoded Number of Interleave Ways (ENIW)|, #restrictions=Window Restrictions|, host bridge #host_bridges[]=Interleave Target List";
 
-/// The line that a structure of this type has, or no letters if it has none.
-fn line_of(table: &[u8], kind: Option<u64>) -> &'static str {
+/// The subject and the line that a structure of this type has, or no letters if it has none.
+fn unit_of(table: &[u8], kind: Option<u64>) -> (&'static str, &'static str) {
     for unit in UNITS.split('\n') {
         let (head, line) = cut_at(unit, '|');
-        let (signature, wanted) = next_word(head);
+        let (signature, rest) = next_word(head);
+        let (wanted, subject) = next_word(rest);
         if table.starts_with(signature.as_bytes()) && number_in(wanted) == kind {
-            return line;
+            return (subject, line);
         }
     }
-    ""
+    ("", "")
+}
+
+/// Whether structures of a table have lines.
+fn has_units(table: &[u8]) -> bool {
+    for unit in UNITS.split('\n') {
+        let (signature, _) = next_word(unit);
+        if table.starts_with(signature.as_bytes()) {
+            return true;
+        }
+    }
+    false
 }
 
 /// The lines of a table's units, as a walk over it comes to their fields.
@@ -55,17 +67,39 @@ struct Units<'a> {
 impl Units<'_> {
     /// Begins the line of a structure, if it has one.
     fn start(&mut self, kind: Option<u64>) {
-        let (head, left) = cut_at(line_of(self.table, kind), '|');
-        self.facts.text(head);
+        let (subject, line) = unit_of(self.table, kind);
+        let (head, left) = cut_at(line, '|');
+        let (name, unit) = cut_at(head, '\t');
         self.left = left;
+        if !name.is_empty() {
+            self.facts.begin(subject, name, &[]);
+        }
+        if !unit.is_empty() {
+            self.facts.text("\t");
+            self.facts.shown("kind", &unit);
+        }
     }
 
-    /// Ends a line that has begun.
-    fn finish(&mut self) {
-        if !self.left.is_empty() {
-            self.facts.text("\n");
+    /// Adds a text, and the value of a field as a member, if the value has letters: of a GUID with a name, the name.
+    fn add(&mut self, before: &str, member: &'static str, shown: &Field<'_>, value: &str) {
+        if !value.is_empty() {
+            self.facts.text(before);
         }
-        self.left = "";
+        let start = self.facts.lines.length();
+        match value.rsplit_once("  ") {
+            Some((_, name)) => self.facts.text(name),
+            None => self.facts.text(value),
+        }
+        let span = self.facts.since(start);
+        let value = match shown.label.meaning {
+            Meaning::Codes | Meaning::Flags | Meaning::Function => {
+                Value::Code(number_of(shown.bytes), span)
+            }
+            Meaning::Guid => Value::Text(span),
+            _ if shown.bytes.len() > 4 => Value::Wide(number_of(shown.bytes)),
+            _ => Value::Number(number_of(shown.bytes)),
+        };
+        self.facts.member(member, value)
     }
 }
 
@@ -73,15 +107,16 @@ impl Show for Units<'_> {
     fn field(&mut self, shown: &Field<'_>) {
         let (part, left) = cut_at(self.left, '|');
         let is_size = part.contains('%');
-        let (before, name) = cut_at(part, if is_size { '%' } else { '#' });
+        let (before, names) = cut_at(part, if is_size { '%' } else { '#' });
+        let (member, name) = cut_at(names, '=');
         if self.depth > 1 || name != shown.label.name {
             return;
         }
         let mut value = Out::new(self.alloc);
         print_fact(shown, is_size, &mut value);
         match value.printed() {
-            None => self.facts.refuse(),
-            Some(text) => add_fact(before, text.trim(), self.facts),
+            None => self.facts.lines.refuse(),
+            Some(text) => self.add(before, member, shown, text.trim()),
         }
         if !left.is_empty() {
             self.left = left;
@@ -90,7 +125,6 @@ impl Show for Units<'_> {
 
     fn begin(&mut self, group: &Group) {
         if self.depth == 0 {
-            self.finish();
             self.start(group.kind);
         }
         self.depth = self.depth.saturating_add(1);
@@ -99,7 +133,7 @@ impl Show for Units<'_> {
     fn end(&mut self) {
         self.depth = self.depth.saturating_sub(1);
         if self.depth == 0 {
-            self.finish();
+            self.left = "";
         }
     }
 }
@@ -120,22 +154,10 @@ fn print_fact(shown: &Field<'_>, is_size: bool, out: &mut Out) {
     }
 }
 
-/// Adds a value after a text, unless it is empty: of a GUID with a name, the name.
-fn add_fact(before: &str, value: &str, facts: &mut Facts) {
-    if value.is_empty() {
-        return;
-    }
-    facts.text(before);
-    match value.rsplit_once("  ") {
-        Some((_, name)) => facts.text(name),
-        None => facts.text(value),
-    }
-}
-
 /// Adds the units of the tables that are read.
 pub(crate) fn add_units(alloc: Global, entries: &[Entry<'_>], facts: &mut Facts) {
     for entry in entries {
-        if entry.status.is_read() {
+        if entry.status.is_read() && has_units(entry.bytes) {
             let mut units = Units {
                 alloc,
                 table: entry.bytes,
@@ -145,7 +167,6 @@ pub(crate) fn add_units(alloc: Global, entries: &[Entry<'_>], facts: &mut Facts)
             };
             units.start(None);
             walk_table(own_signature(entry.bytes), entry.bytes, &mut units);
-            units.finish();
         }
     }
 }
