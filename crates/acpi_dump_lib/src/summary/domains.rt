@@ -7,40 +7,45 @@ use acpi_dump_walk::share::{MEMORY, Share, share_of};
 use acpi_dump_walk::walk::{Group, Show, walk_table};
 use std::alloc::{AllocError, Global};
 
-/// What a walk over an SRAT or an HMAT finds.
+/// The matrices of an HMAT, as a walk comes to them.
 #[derive(Drop)]
-struct Domains<'a> {
+struct Matrices<'a> {
     table: &'a [u8],
     facts: &'a mut Facts,
-    shares: Vec<Share>,
 }
 
-impl Domains<'_> {
-    /// Keeps what an entry of an SRAT enables, if it does.
-    fn keep(&mut self, kind: u64, entry: &[u8]) {
-        if let Some(share) = share_of(kind, entry)
-            && self.shares.push(share).is_err()
-        {
-            self.facts.lines.refuse();
-        }
-    }
-}
-
-impl Show for Domains<'_> {
+impl Show for Matrices<'_> {
     fn begin(&mut self, group: &Group) {
         let start = group.offset as usize;
         let end = start.saturating_add(group.length as usize);
-        let entry = self.table.get(start..end).unwrap_or(&[]);
-        match group.kind {
-            Some(kind) if self.table.starts_with(b"SRAT") => self.keep(kind, entry),
-            Some(1) if self.table.starts_with(b"HMAT") => {
-                if let Some(matrix) = matrix_of(entry) {
-                    add_matrix(self.facts, matrix)
-                }
-            }
-            _ => {}
+        if group.kind == Some(1)
+            && let Some(matrix) = matrix_of(self.table.get(start..end).unwrap_or(&[]))
+        {
+            add_matrix(self.facts, matrix)
         }
     }
+}
+
+/// What the entries of an SRAT enable, up to one that isn't whole (section 5.2.16).
+///
+/// Fails if memory runs out.
+fn shares_of(alloc: Global, srat: &[u8]) -> Result<Vec<Share>, AllocError> {
+    let mut shares = Vec::new(alloc);
+    let mut rest = srat.get(48..).unwrap_or(&[]);
+    for _ in 0..srat.len() {
+        let [kind, length, ..] = rest else {
+            break;
+        };
+        let length = *length as usize;
+        if length < 2 || rest.len() < length {
+            break;
+        }
+        if let Some(share) = share_of(*kind as u64, &rest[..length]) {
+            shares.push(share)?;
+        }
+        rest = &rest[length..];
+    }
+    Ok(shares)
 }
 
 /// Adds a domain: its processors, and how much memory it has.
@@ -107,30 +112,6 @@ fn add_row(facts: &mut Facts, matrix: Matrix<'_>, row: usize) {
     facts.member("values", Value::Row(values))
 }
 
-/// Adds what the domains of an SRAT or an HMAT have.
-///
-/// Fails if memory runs out.
-fn add_table(alloc: Global, table: &[u8], facts: &mut Facts) -> Result<(), AllocError> {
-    let mut domains = Domains {
-        table,
-        facts,
-        shares: Vec::new(alloc),
-    };
-    walk_table(own_signature(table), table, &mut domains);
-    let Domains {
-        facts,
-        mut shares,
-        ..
-    } = domains;
-    shares.sort_by_key(|share| (share.domain, share.number))?;
-    for own in shares.chunk_by(|one, next| one.domain == next.domain) {
-        if let [first, ..] = own {
-            add_domain(facts, first.domain, own);
-        }
-    }
-    Ok(())
-}
-
 /// Adds what the domains of the SRATs and HMATs have that are read.
 ///
 /// Fails if memory runs out.
@@ -140,9 +121,28 @@ pub(crate) fn add_domains(
     facts: &mut Facts,
 ) -> Result<(), AllocError> {
     for entry in entries {
-        let is_wanted = entry.bytes.starts_with(b"SRAT") || entry.bytes.starts_with(b"HMAT");
-        if is_wanted && entry.status.is_read() {
-            add_table(alloc, entry.table(), facts)?;
+        let table = entry.table();
+        if !entry.status.is_read() {
+            continue;
+        }
+        if table.starts_with(b"SRAT") {
+            add_srat(alloc, table, facts)?;
+        } else if table.starts_with(b"HMAT") {
+            walk_table(own_signature(table), table, &mut Matrices { table, facts });
+        }
+    }
+    Ok(())
+}
+
+/// Adds what the domains of an SRAT have.
+///
+/// Fails if memory runs out.
+fn add_srat(alloc: Global, srat: &[u8], facts: &mut Facts) -> Result<(), AllocError> {
+    let mut shares = shares_of(alloc, srat)?;
+    shares.sort_by_key(|share| (share.domain, share.number))?;
+    for own in shares.chunk_by(|one, next| one.domain == next.domain) {
+        if let [first, ..] = own {
+            add_domain(facts, first.domain, own);
         }
     }
     Ok(())
