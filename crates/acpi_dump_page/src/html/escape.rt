@@ -68,7 +68,7 @@ fn print_piece(piece: Piece<'_>, out: &mut Out) {
         Piece::Name(item) => {
             print_escaped(item.name.as_bytes(), out);
             if let Some(number) = item.number {
-                write!(out, " {number}");
+                out.words(" %", &[number])
             }
         }
         Piece::Names(names) => print_names(names, out),
@@ -81,11 +81,11 @@ fn print_piece(piece: Piece<'_>, out: &mut Out) {
         Piece::Id(id, offset) => {
             id.print(out);
             if let Some(offset) = offset {
-                write!(out, "-0x{offset:x}");
+                out.words("-#", &[offset])
             }
         }
-        Piece::Decimal(number) => write!(out, "{number}"),
-        Piece::Hex(number) => write!(out, "0x{number:x}"),
+        Piece::Decimal(number) => out.words("%", &[number]),
+        Piece::Hex(number) => out.words("#", &[number]),
         Piece::Digits(number) => write!(out, "{number:x}"),
         Piece::Offset(offset) => write!(out, "{offset:04x}"),
         Piece::Markup(text) => out.text(text),
