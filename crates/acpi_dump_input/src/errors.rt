@@ -136,8 +136,10 @@ pub fn fail(log: &mut Log, name: &str, why: &impl Display) -> Stop
 }
 
 /// Says which error a file isn't shown for, and what that means.
-pub fn fail_with(log: &mut Log, name: &str, error: &impl Named) -> Stop {
-    log.is_incomplete = true;
+pub fn fail_with(log: &mut Log, name: &str, error: &impl Named) -> Stop
+    ensures { log.new.is_incomplete ≡ true }
+{
     tell_meaning(log, name, error, error.meaning());
+    log.is_incomplete = true;
     Stop::Message
 }
