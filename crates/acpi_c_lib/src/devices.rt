@@ -111,7 +111,8 @@ pub(crate) fn generic_record(address: &GenericAddress) -> records::GenericAddres
     }
 }
 
-/// A register, or that there is none, or that its address is an error.
+/// A register, or that there is none, or that its address is an error. Apart, as a call may have a dozen.
+#[inline(never)]
 pub(crate) fn optional_register(said: AcpiResult<Option<GenericAddress>>) -> Register
     ensures { result ≡ optional_register said }
 {
