@@ -46,16 +46,16 @@ fn print_address(name: &str, address: AcpiResult<u64>, out: &mut Out) {
     }
 }
 
-/// Prints a block of registers, or its refusal.
+/// Prints a block of registers, or its refusal. One at address 0 isn't there (section 5.2.9).
 fn print_block(name: &str, block: AcpiResult<Option<GenericAddress>>, out: &mut Out) {
     write!(out, "  {name}: ");
     match block {
-        Ok(Some(block)) => writeln!(
+        Ok(Some(block)) if block.address != 0 => writeln!(
             out,
             "{:?} 0x{:x}, {} bits from bit {}, access {:?}",
             block.address_space, block.address, block.bit_width, block.bit_offset, block.access_size
         ),
-        Ok(None) => out.text("none\n"),
+        Ok(_) => out.text("none\n"),
         Err(refusal) => writeln!(out, "{refusal}"),
     }
 }

@@ -172,7 +172,11 @@ fn open_at<'h, 'i>(
         (Ok(tables), _) => Ok(tables),
         (Err(refusal), Root::Bios) => Err(fail_with(log, name, &refusal)),
         (Err(refusal), Root::Rsdt { address, .. } | Root::Rsdp { address }) => {
-            Err(fail_with(log, name, &At { address, error: refusal }))
+            let at = At {
+                address,
+                error: refusal,
+            };
+            Err(fail_with(log, name, &at))
         }
     }
 }
