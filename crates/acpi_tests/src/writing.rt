@@ -2,12 +2,12 @@
 
 mod heaps;
 
-use crate::checks::{Part, check, check_parts};
+use crate::checks::{Part, check, check_parts, check_same};
 use acpi::bgrt::Bgrt;
 use acpi::sdt::Signature;
 use acpi::{AcpiError, AcpiResult, AcpiTables};
 use acpi_image::{ImageError, MemoryImage, PlacedTable, write_image};
-use std::alloc::Global;
+use std::alloc::{AllocError, Global};
 use std::test::Fail;
 
 /// A boot graphic, displayed and turned by 180 degrees, whose checksum is 0.
@@ -131,6 +131,39 @@ fn what_is_written_is_opened(rt: HostRuntime) -> Result<(), Fail> {
         let file = write_image(rt.alloc(), 0x500, 0x1000, *revision, &tables)?;
         let opened = Ok((*revision, 2, 0x3000, 180));
         check(&rt, "opened", graphic_in(rt.alloc(), &file), Ok(opened));
+    }
+    Ok(())
+}
+
+/// An SSDT of 70,000 bytes, 0x11170, with this Checksum. Each byte from offset 36 on is its offset modulo 251: these
+/// are 278 times 0 to 250 and then 0 to 221, without the first 0 to 35. All but Checksum sum up to 8,746,601, which is
+/// 0x69 modulo 256.
+fn large_table(alloc: Global, checksum: u8) -> Result<Vec<u8>, AllocError> {
+    let mut bytes = Vec::new(alloc);
+    bytes.extend_from_slice(b"SSDT\x70\x11\x01\x00\x02")?;
+    bytes.push(checksum)?;
+    bytes.resize(36, 0)?;
+    for offset in 36..70_000u32 {
+        bytes.push((offset % 251) as u8)?;
+    }
+    Ok(bytes)
+}
+
+#[test]
+fn a_table_above_64_kib_is_read_back(rt: HostRuntime) -> Result<(), Fail> {
+    let (table, wanted) = (large_table(rt.alloc(), 0)?, large_table(rt.alloc(), 0x97)?);
+    let placed = [PlacedTable {
+        address: 0x2000,
+        bytes: &table,
+    }];
+    // Three records of 16 bytes each, with 36 bytes of the RSDP, 40 of an RSDT or 44 of an XSDT, and the table.
+    for (revision, length) in &[(0u8, 70_124), (2, 70_128)] {
+        let file = write_image(rt.alloc(), 0x500, 0x1000, *revision, &placed)?;
+        check(&rt, "length", file.len(), *length);
+        let image = MemoryImage::from_bytes(rt.alloc(), &file)?;
+        let tables = AcpiTables::from_rsdp(&image, 0x500)?;
+        let found = tables.find_sdt(Signature::SSDT)?;
+        check_same(&rt, "table", found.bytes(), &wanted);
     }
     Ok(())
 }

@@ -1,10 +1,10 @@
-//! Errors: of tables, of the crates above them, of AML, of plans and of writers.
+//! Errors: of tables, of the crates above them, of AML, of plans, of images and of writers.
 
 use super::check_apart;
 use acpi::handler::RegionError;
 use acpi::sdt::Signature;
 use acpi::{AcpiError, MadtError};
-use acpi_image::WriteError;
+use acpi_image::{ImageError, WriteError};
 use acpi_iommu::IommuError;
 use acpi_numa::NumaError;
 use acpi_sleep::{AmlError, PlanError, SleepError};
@@ -112,6 +112,13 @@ static PLAN_ERRORS: [PlanError; 5] = [
     PlanError::BadRegister(AcpiError::InvalidGenericAddress),
 ];
 
+static IMAGE_ERRORS: [ImageError; 4] = [
+    ImageError::Truncated,
+    ImageError::EndTooLarge,
+    ImageError::Overlap,
+    ImageError::OutOfMemory,
+];
+
 static WRITE_ERRORS: [WriteError; 8] = [
     WriteError::ZeroRoot,
     WriteError::BadTable(1),
@@ -143,10 +150,11 @@ static WRITER_ERRORS: [WriterError; 16] = [
 ];
 
 #[test]
-fn errors_of_plans_and_writers_are_apart(rt: HostRuntime) -> Result<(), Fail> {
+fn errors_of_plans_images_and_writers_are_apart(rt: HostRuntime) -> Result<(), Fail> {
     check_apart(&rt, "AmlError", &AML_ERRORS);
     check_apart(&rt, "SleepError", &SLEEP_ERRORS);
     check_apart(&rt, "PlanError", &PLAN_ERRORS);
+    check_apart(&rt, "ImageError", &IMAGE_ERRORS);
     check_apart(&rt, "WriteError", &WRITE_ERRORS);
     check_apart(&rt, "WriterError", &WRITER_ERRORS);
     Ok(())
