@@ -12,21 +12,31 @@ use std::alloc::Global;
 /// after a bar, the line with its parts. A part is a text, and after `#` the member and the name of the field whose
 /// value comes after it, or after `%` those of a number of bytes. The fields are in the order of the bytes; of several
 /// fields the last part has one after another. What comes after a tab in the first part is the kind.
-const UNITS: &str =
-    "DMAR 0 iommus[]|IOMMU\tVT-d|, #flags=Flags|, segment #segment=Segment Number|, registers at #registers=Register Base Address
-IVRS 0x10 iommus[]|IOMMU\tAMD, IVHD 0x10|, function #function=DeviceID|, registers at #registers=IOMMU Base Address|, segment #segment=PCI Segment Group
-IVRS 0x11 iommus[]|IOMMU\tAMD, IVHD 0x11|, function #function=DeviceID|, registers at #registers=IOMMU Base Address|, segment #segment=PCI Segment Group
-IVRS 0x40 iommus[]|IOMMU\tAMD, IVHD 0x40|, function #function=DeviceID|, registers at #registers=IOMMU Base Address|, segment #segment=PCI Segment Group
+const UNITS: &str = "\
+DMAR 0 iommus[]|IOMMU\tVT-d|, #flags=Flags|, segment #segment=Segment Number\
+    |, registers at #registers=Register Base Address
+IVRS 0x10 iommus[]|IOMMU\tAMD, IVHD 0x10|, function #function=DeviceID\
+    |, registers at #registers=IOMMU Base Address|, segment #segment=PCI Segment Group
+IVRS 0x11 iommus[]|IOMMU\tAMD, IVHD 0x11|, function #function=DeviceID\
+    |, registers at #registers=IOMMU Base Address|, segment #segment=PCI Segment Group
+IVRS 0x40 iommus[]|IOMMU\tAMD, IVHD 0x40|, function #function=DeviceID\
+    |, registers at #registers=IOMMU Base Address|, segment #segment=PCI Segment Group
 IORT 3 iommus[]|IOMMU\tArm|, registers at #registers=Base address|, %length=Span|, #model=Model
 IORT 4 iommus[]|IOMMU\tArm|, registers at #registers=Base Address|, #model=Model
 VIOT 3 iommus[]|IOMMU\tvirtio|, segment #segment=PCI Segment|, function #function=PCI BDF number
 VIOT 4 iommus[]|IOMMU\tvirtio|, registers at #registers=Base address
-TPM2 - tpms[]|TPM\t2.0|, #class=Platform Class|, #start_method=Start Method|, log of %log_length=Log Area Minimum Length (LAML)| at #log=Log Area Start Address (LASA)
-TCPA - tpms[]|TPM\t1.2|, #class=Platform Class|, log of %log_length=Log Area Minimum Length (LAML)| at #log=Log Area Start Address (LASA)
-NFIT 0 nvdimm_ranges[]|NVDIMM range |#range=SPA Range Structure Index|\t#kind=Address Range Type GUID| from #base=System Physical Address Range Base| on, %length=System Physical Address Range Length
-NFIT 1 nvdimms[]|NVDIMM |#handle=NFIT Device Handle|\trange #range=SPA Range Structure Index|, %length=NVDIMM Region Size|, #flags=NVDIMM State Flags
+TPM2 - tpms[]|TPM\t2.0|, #class=Platform Class|, #start_method=Start Method\
+    |, log of %log_length=Log Area Minimum Length (LAML)| at #log=Log Area Start Address (LASA)
+TCPA - tpms[]|TPM\t1.2|, #class=Platform Class|, log of %log_length=Log Area Minimum Length (LAML)\
+    | at #log=Log Area Start Address (LASA)
+NFIT 0 nvdimm_ranges[]|NVDIMM range |#range=SPA Range Structure Index|\t#kind=Address Range Type GUID\
+    | from #base=System Physical Address Range Base| on, %length=System Physical Address Range Length
+NFIT 1 nvdimms[]|NVDIMM |#handle=NFIT Device Handle|\trange #range=SPA Range Structure Index\
+    |, %length=NVDIMM Region Size|, #flags=NVDIMM State Flags
 CEDT 0 cxl_host_bridges[]|CXL host bridge |#uid=UID|\tregisters at #registers=Base|, %length=Length
-CEDT 1 cxl_windows[]|CXL window|\tfrom #base=Base HPA| on, %length=Window Size|, #ways=Encoded Number of Interleave Ways (ENIW)|, #restrictions=Window Restrictions|, host bridge #host_bridges[]=Interleave Target List";
+CEDT 1 cxl_windows[]|CXL window|\tfrom #base=Base HPA| on, %length=Window Size\
+    |, #ways=Encoded Number of Interleave Ways (ENIW)|, #restrictions=Window Restrictions\
+    |, host bridge #host_bridges[]=Interleave Target List";
 
 /// The subject and the line that a structure of this type has, or no letters if it has none.
 fn unit_of(table: &[u8], kind: Option<u64>) -> (&'static str, &'static str) {
