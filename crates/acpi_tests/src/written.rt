@@ -49,11 +49,11 @@ const NO_ARM: Part = (129, &[0, 0]);
 /// FADTs with no feature. Of Flags, at 112, RESET_REG_SUP, bit 10, is set for a reset register and HW_REDUCED_ACPI,
 /// bit 20, for reduced hardware, since these follow from other fields than the features.
 #[rattlefmt::skip]
-static WITHOUT_FEATURES: [(&str, FadtContents, [Part; 3]); 3] = [
-    ("neither", FadtContents { reset_register: None, ..NO_FEATURES }, [NO_LEGACY, (112, &[0, 0, 0, 0]), NO_ARM]),
-    ("a reset register", NO_FEATURES, [NO_LEGACY, (112, &[0, 4, 0, 0]), NO_ARM]),
+static WITHOUT_FEATURES: [(&str, FadtContents, &[Part]); 3] = [
+    ("neither", FadtContents { reset_register: None, ..NO_FEATURES }, &[NO_LEGACY, (112, &[0, 0, 0, 0]), NO_ARM]),
+    ("a reset register", NO_FEATURES, &[NO_LEGACY, (112, &[0, 4, 0, 0]), NO_ARM]),
     ("reduced hardware", FadtContents { hardware: FadtHardware::Reduced, reset_register: None, ..NO_FEATURES },
-        [NO_LEGACY, (112, &[0, 0, 0x10, 0]), NO_ARM]),
+        &[NO_LEGACY, (112, &[0, 0, 0x10, 0]), NO_ARM]),
 ];
 
 #[test]
