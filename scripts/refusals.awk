@@ -43,7 +43,7 @@ file == 2 && match($0, /(Refusal|AcpiError|MadtError|WriterError)::[A-Za-z]+(\(_
     sub(/Invalid(Srat|Iommu)/, "Invalid", text); sub(/^MadtError::/, "Madt", text)
     sub(/^.*::/, "", text); sub(/\(_\)/, "", text)
     split(text, parts, " => ")
-    if (parts[2] != 99) has(parts[2], parts[1])
+    if (parts[2] != 0 && parts[2] != 99) has(parts[2], parts[1])
 }
 file == 3 && match($0, /^ +[0-9]+ => [A-Za-z]+/) {
     text = $3
