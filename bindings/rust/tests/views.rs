@@ -115,7 +115,8 @@ fn registers_and_late_fields() {
     assert_eq!((register.address_space_id, register.bit_width, register.access_size), (1, 8, 1));
     assert_eq!((register.bit_offset, register.address), (0, 0xcf9));
     let older = Facp::of(&table[..117]).unwrap();
-    assert!(!older.is_whole() && older.reset_reg().address_space_id == 1 && older.hypervisor_vendor_identity() == [0; 8]);
+    assert!(!older.is_whole() && older.reset_reg().address_space_id == 1);
+    assert_eq!(older.hypervisor_vendor_identity(), [0; 8]);
     let table = with(header(b"TPM2", 52), &[&[0, 0, 0, 0, 0, 0, 0xd4, 0xfe, 0, 0, 0, 0, 6, 0, 0, 0]]);
     assert_eq!(Tpm2::of(&table).unwrap().start_method(), 6);
 }

@@ -88,7 +88,7 @@ pairs_more (suc n) b bytes text rest some h e =
 pub number_spelled : (n : ℕ) → n < 2 ^ 64 → take 8 (to_le_bytes w64 n) ≡ spelling 8 n
 number_spelled n small = low_bytes 8 n (omega arith) small
 
--- what two numbers of eight bytes behind bytes are once they are in front of them
+-- two numbers of eight bytes each, which come after some bytes, are moved before them
 pub to_front : (bytes start size : List ℕ) → length start ≡ 8 → length size ≡ 8
     → slice_rotate_right ((bytes ++ start) ++ size) 16 ≡ start ++ (size ++ bytes)
 to_front bytes start size es ez = grind (arith, common_steps)

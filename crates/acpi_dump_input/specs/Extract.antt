@@ -10,8 +10,8 @@ use Rattle.acpi_pack_lib.specs.declared.save.SaveError.{SaveError}
 abbrev pub file_of : List (List ℕ) → List ℕ → List ℕ → Result (Unit {0}) SaveError → FileSaved
 file_of inputs path bytes answer = record { name = path; sources = inputs; bytes = bytes; answer = answer }
 
--- whether it is saved: if so, it was to be saved once. If not, the run is known to be incomplete, and it was to be saved
--- and the storage failed, or nothing was
+-- whether it is saved: if so, one request to save it was made. If not, the run is marked as incomplete, and the request
+-- failed, or none was made
 abbrev pub SavesFile : List (List ℕ) → List ℕ → List ℕ → Bool → List FileSaved → List FileSaved → Bool → Type 0
 SavesFile inputs path bytes is_incomplete before after true = after ≡ before ++ file_of inputs path bytes (Ok tt) ∷ []
 SavesFile inputs path bytes is_incomplete before after false = (is_incomplete ≡ true)
@@ -19,7 +19,7 @@ SavesFile inputs path bytes is_incomplete before after false = (is_incomplete �
 
 -- ---- a page
 
--- the page of this text as the file of this path: none, if the path is `-` or there is no text
+-- a page with this text is saved at this path. No file is, if the path is `-`, or if there is no text
 abbrev pub SavesPage : List (List ℕ) → List ℕ → List ℕ → Bool → List FileSaved → List FileSaved → Type 0
 SavesPage inputs path [] is_incomplete before after = after ≡ before
 SavesPage inputs path (c ∷ text) is_incomplete before after = ((path ≡ codes "-") × (after ≡ before))
