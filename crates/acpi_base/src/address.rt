@@ -93,17 +93,24 @@ impl GenericAddress {
     /// `InvalidGenericAddress`.
     #[inline(always)]
     #[tactic(auto, unfolding(crate::specs::Address::generic_address_of))]
+    pub fn read(raw: &RawAddress) -> AcpiResult<GenericAddress>
+        ensures { result ≡ generic_address_of raw.now }
+    {
+        let address_space = AddressSpace::try_from(u8_in(raw, 0))?; // Address Space ID
+        let access_size = AccessSize::try_from(u8_in(raw, 3))?; // Access Size
+        Ok(GenericAddress {
+            address_space,
+            bit_width: u8_in(raw, 1), // Register Bit Width
+            bit_offset: u8_in(raw, 2), // Register Bit Offset
+            access_size,
+            address: field_in(raw, 4, 8), // Address
+        })
+    }
+
+    /// The register that twelve bytes encode, as `read` reads it, and with its errors.
     pub fn from_raw(raw: RawAddress) -> AcpiResult<GenericAddress>
         ensures { result ≡ generic_address_of raw }
     {
-        let address_space = AddressSpace::try_from(u8_in(&raw, 0))?; // Address Space ID
-        let access_size = AccessSize::try_from(u8_in(&raw, 3))?; // Access Size
-        Ok(GenericAddress {
-            address_space,
-            bit_width: u8_in(&raw, 1), // Register Bit Width
-            bit_offset: u8_in(&raw, 2), // Register Bit Offset
-            access_size,
-            address: field_in(&raw, 4, 8), // Address
-        })
+        GenericAddress::read(&raw)
     }
 }

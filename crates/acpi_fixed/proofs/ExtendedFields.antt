@@ -2,7 +2,7 @@
 use Rattle.std.proofs.Common.{◌-◌, Some, None, ap, drop, length-drop, option_and_then, replicate, ◌≡◌, ℕ, ◌+◌, ◌<◌, ◌≤◌, ◌&&◌, Bool, true, false, List, length, arith, refl, sym, ◌∙◌, nat_le, if◌then◌else◌}
 use Rattle.acpi_base.proofs.FromStd.{and_from, and_parts, le-leb, leb-true, length-take-le, lt-leb, take_at}
 use Rattle.acpi_base.specs.Words.{field_of, filled_part, number, part}
-use Rattle.acpi_fixed.specs.Words.{HasBlocks, Reaches, extended_bytes, has_extended, reach_of, usable_extended}
+use Rattle.acpi_fixed.specs.Words.{HasBlocks, Reaches, extended_bytes, reach_of, usable_extended}
 
 -- a table that has all blocks has each field up to the last of them
 pub whole_reaches : (b : List ℕ) → HasBlocks b → Reaches b 244

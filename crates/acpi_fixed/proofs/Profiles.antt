@@ -1,5 +1,5 @@
 -- Each code of Preferred_PM_Profile has one profile.
-use Rattle.std.proofs.Common.{◌≡◌, ℕ, ◌<◌, Bool, true, false, refl, arith, nat_lt}
+use Rattle.std.proofs.Common.{◌≡◌, ℕ, Bool, true, false, refl, arith, nat_lt}
 use Rattle.acpi_base.proofs.FromStd.{get_or_past, ltb-false, ltb-true}
 use Rattle.acpi_base.proofs.Words.{by_place}
 use Rattle.acpi_fixed.specs.declared.fadt.PowerProfile.{PowerProfile}

@@ -362,7 +362,7 @@ impl Fadt {
     pub fn reset_register(&self) -> AcpiResult<GenericAddress>
         ensures { result ≡ generic_address_of (registers_of self.now).reset }
     {
-        GenericAddress::from_raw(self.registers.reset)
+        GenericAddress::read(&self.registers.reset)
     }
 
     /// SLEEP_CONTROL_REG: the register that puts a machine of reduced hardware to sleep, or `None`

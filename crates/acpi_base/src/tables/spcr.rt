@@ -125,7 +125,7 @@ impl Spcr {
         if self.base_address == [0; 12] {
             return None;
         }
-        Some(GenericAddress::from_raw(self.base_address))
+        Some(GenericAddress::read(&self.base_address))
     }
 
     /// Precise Baud Rate or Configured Baud Rate: the rate in bits per second. It is the precise one if that

@@ -133,11 +133,13 @@ fn extended_address_in(table: &[u8], reach: usize, offset: usize) -> Option<RawA
 pub(crate) fn address_from(refusal: AcpiError, wide: u64, narrow: u32) -> AcpiResult<u64>
     ensures { result ≡ address_or refusal wide narrow }
 {
-    let address = if wide != 0 { wide } else { narrow as u64 };
-    if address == 0 {
+    if wide != 0 {
+        return Ok(wide);
+    }
+    if narrow == 0 {
         return Err(refusal);
     }
-    Ok(address)
+    Ok(narrow as u64)
 }
 
 /// The register in an extended field, or `None` if the table has no such field.
@@ -147,7 +149,7 @@ pub(crate) fn register_from(raw: Option<&RawAddress>) -> AcpiResult<Option<Gener
     ensures { result ≡ register_of (option_map (λ raw. raw.now) raw.entry) }
 {
     match raw {
-        Some(raw) => Ok(Some(GenericAddress::from_raw(*raw)?)),
+        Some(raw) => Ok(Some(GenericAddress::read(raw)?)),
         None => Ok(None),
     }
 }
@@ -196,9 +198,9 @@ impl RegisterBlock {
         ensures size { result.size ≡ self.now.size }
     {
         BlockFields {
-            extended: usable(Some(&self.extended)),
             port: field_in(&self.port, 0, 4) as u32,
             size: self.size,
+            extended: usable(Some(&self.extended)),
         }
     }
 }
@@ -245,9 +247,9 @@ impl<'t> BlockFields<'t> {
         ensures size { result.size ≡ (block_at table.now place.address place.size place.extended).size }
     {
         BlockFields {
-            extended: usable(raw_in(table, reach, place.extended)),
             port: u32_in(table, place.address),
             size: u8_in(table, place.size),
+            extended: usable(raw_in(table, reach, place.extended)),
         }
     }
 
@@ -279,7 +281,7 @@ impl<'t> BlockFields<'t> {
         ensures { result ≡ block_or_ports (extended_of self.entry) self.entry.port self.entry.size }
     {
         match self.extended {
-            Some(raw) => GenericAddress::from_raw(*raw),
+            Some(raw) => GenericAddress::read(raw),
             None => self.ports(),
         }
     }
@@ -292,10 +294,13 @@ impl<'t> BlockFields<'t> {
     pub(crate) fn optional_block(self) -> AcpiResult<Option<GenericAddress>>
         ensures { result ≡ optional_block_or_ports (extended_of self.entry) self.entry.port self.entry.size }
     {
-        if self.port == 0 && self.extended.is_none() {
+        if let Some(raw) = self.extended {
+            return Ok(Some(GenericAddress::read(raw)?));
+        }
+        if self.port == 0 {
             return Ok(None);
         }
-        Ok(Some(self.block()?))
+        Ok(Some(self.ports()?))
     }
 
     /// The block of the timer: the extended block if its address is not 0, else the ports, or `None` if the

@@ -266,7 +266,7 @@ impl<'h, H: Lender> FadtView<'h, H> {
     {
         let table = self.bytes();
         match raw_in(table, table.len(), places::RESET_REG) {
-            Some(raw) => GenericAddress::from_raw(*raw),
+            Some(raw) => GenericAddress::read(raw),
             None => GenericAddress::from_raw(filled(table, places::RESET_REG)),
         }
     }

@@ -1,4 +1,4 @@
-use Rattle.std.proofs.Common.{◌≡◌, ◌∙◌, ap, option_and_then, sym}
+use Rattle.std.proofs.Common.{◌∙◌, ap, option_and_then, sym}
 use Rattle.acpi_fixed.specs.Words.{block_at, usable_extended}
 use Rattle.acpi_fixed.proofs.ExtendedFields.{part_field, usable_in}
 use Rattle.acpi_fixed.proofs.fadt.registers.BlockFields.read.Goals as goal
