@@ -45,8 +45,8 @@ impl Policy for Accept {
     }
 }
 
-/// The bytes of the table at a physical address, if it is valid for `T` (section 5.2.6) but for the checks that the bits
-/// of `accept` give up: if these are some, only the header and the sum matter of any type.
+/// The bytes of the table at a physical address, if it is valid for `T` (section 5.2.6) but for the checks that the
+/// bits of `accept` give up: if these are some, only the header and the sum matter of any type.
 ///
 /// Fails as `map_table` does, but for those checks.
 #[inline(always)]

@@ -42,8 +42,8 @@ pub fn lists_are_models()
     ensures { ListsAreModels }
 {}
 
-/// By an `accept` of 0 each call is that for valid tables, since each kind of tables is as it was, and the model is that
-/// of `PlatformInfo`.
+/// By an `accept` of 0 each call is that for valid tables, since each kind of tables is as it was, and the model is
+/// that of `PlatformInfo`.
 #[tactic(auto, using(acpi_base::proofs::Accepted::accepts_nothing, crate::proofs::Accepted::accepts_as_readers))]
 pub fn nothing_else_is_accepted()
     ensures kinds { AcceptsNothing }
@@ -63,8 +63,8 @@ pub fn each_bit_keeps_the_other_check()
     ensures names { KeepsNames }
 {}
 
-/// `zacpi_list_faults` lists the fault of each table that the lookup skips, in order, but of no other signature; and last
-/// that of the table that it takes, if that isn't valid.
+/// `zacpi_list_faults` lists the fault of each table that the lookup skips, in order, but of no other signature; and
+/// last that of the table that it takes, if that isn't valid.
 #[tactic(auto, using(crate::proofs::Skipped::faults_are_theirs, crate::proofs::Skipped::taken_ends))]
 pub fn faults_are_of_tables()
     ensures skipped { FaultsAreTheirs }

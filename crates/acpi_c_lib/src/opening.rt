@@ -197,8 +197,8 @@ pub(crate) fn first_fadt<'h, 'k>(
     }
 }
 
-/// The first FADT that tables have. It takes the lookup that all types share, so a program that only reads the FADT links
-/// no other.
+/// The first FADT that tables have. It takes the lookup that all types share, so a program that only reads the FADT
+/// links no other.
 ///
 /// Fails as `AcpiTables::find_bytes` does.
 pub(crate) fn find_fadt<'h, H: AcpiHandler>(

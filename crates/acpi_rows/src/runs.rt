@@ -65,8 +65,8 @@ fn numbers_before(rest: &str) -> (u64, u64) {
     (number_of(first), number_of(second))
 }
 
-/// The file of a kind: the bytes, or the image that `write_image` makes of a table at 0x2000, with an RSDP of a revision
-/// at 0x500 and a root table at 0x1000.
+/// The file of a kind: the bytes, or the image that `write_image` makes of a table at 0x2000, with an RSDP of a
+/// revision at 0x500 and a root table at 0x1000.
 fn file_of(alloc: Global, bytes: &[u8], kind: &str) -> Option<Vec<u8>> {
     if kind == "file" {
         return bytes.to_vec(alloc).ok();

@@ -105,8 +105,8 @@ sleep_plan f types =
       _ ← holds (fits types.a && (is_none b || fits types.b)) SleepTypeTooHigh
       Ok (record { first = Some (pm1_step a types.a); second = option_map (λ at. pm1_step at types.b) b }))
 
--- whether a machine is always in ACPI mode: reduced hardware, and one without SMI_CMD or a value to write to it (section
--- 5.2.9)
+-- whether a machine is always in ACPI mode: reduced hardware, and one without SMI_CMD or a value to write to it
+-- (section 5.2.9)
 abbrev pub is_always_enabled : Fadt → Bool
 is_always_enabled f = is_reduced f || (f.smi_cmd_port == 0 || (f.acpi_enable == 0 && f.acpi_disable == 0))
 

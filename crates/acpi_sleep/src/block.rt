@@ -70,8 +70,8 @@ pub struct Block {
 
 /// The block whose PkgLength begins at an offset, which is at most the length of the AML.
 ///
-/// Fails with `PastEnd` if the AML ends there, and with `InvalidLength` if the length is less than its own bytes or goes
-/// past the end.
+/// Fails with `PastEnd` if the AML ends there, and with `InvalidLength` if the length is less than its own bytes or
+/// goes past the end.
 #[tactic(auto, unfolding(crate::specs::Blocks::block_at))]
 pub fn block_at(aml: &[u8], at: usize) -> Result<Block, AmlError>
     requires { at ≤ length aml.now }

@@ -79,8 +79,8 @@ impl<'h, H: Lender, P: Policy> AcpiTables<'h, H, P> {
         Ok(found.mapping())
     }
 
-    /// The bytes of the first member of the root table that is valid under a signature and a least length that are known
-    /// only at run time (section 5.2.6).
+    /// The bytes of the first member of the root table that is valid under a signature and a least length that are
+    /// known only at run time (section 5.2.6).
     ///
     /// Fails as `find_sdt` does.
     #[inline(never)]

@@ -4,8 +4,9 @@
 //! - `headers`, `whole_headers`, `members`, `ssdts` and `ranges`, each of them with the most items to print, and
 //!   `after_last`: how many headers and SSDTs there are, and what is returned after the last;
 //! - `dsdt`, `facs`, `sleep STATE`, `sdt SIGNATURE` (where the first of these is), `fadt_view` (where the FADT is, and
-//!   then, while its bytes are mapped, where it places the DSDT) and `checks` (how often the returned table was checked);
-//! - `hpet_info`, and `wake ID READS COMMAND ..`, by a mailbox that has these commands where it is read, as often at most;
+//!   then, while its bytes are mapped, where it places the DSDT) and `checks` (how often the returned table was
+//!   checked);
+//! - `hpet_info`, and `wake ID READS COMMAND ..`, by a mailbox that has these commands when read, as often at most;
 //! - calls that need memory (`gathered`), and `platforms WAY`, by each of the four calls for a platform;
 //! - `KIND CALL`, about a type of table (`types`).
 

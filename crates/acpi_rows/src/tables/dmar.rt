@@ -2,10 +2,10 @@
 //!
 //! - `record`: Host Address Width and the flags;
 //! - `structures`: each with its type, its fields and what they mean, its object's name and its scopes, of which each
-//!   has Type, Flags, Enumeration ID, Start Bus Number and hops, and whether these have ended malformed before the first
-//!   one is read and after the last one; then the same of the structures, with how many there are between;
-//! - `unit DEVICE`, `io_apic ID`, `hpet NUMBER`, `reserved DEVICE`. A device is a segment, a bus, and the device and the
-//!   function of each hop from there to it.
+//!   has Type, Flags, Enumeration ID, Start Bus Number and hops, and whether these have ended malformed before the
+//!   first one is read and after the last one; then the same of the structures, with how many there are between;
+//! - `unit DEVICE`, `io_apic ID`, `hpet NUMBER`, `reserved DEVICE`. A device is a segment, a bus, and the device and
+//!   the function of each hop from there to it.
 
 use crate::out::Out;
 use crate::words::{first_word, number_of};
