@@ -182,7 +182,7 @@ impl Fadt {
         ensures { result ≡ fadt_at bytes.now }
     {
         // Read first, since they are in part tested for: what follows is read with no branch between.
-        let registers = Registers::read(bytes, WHOLE);
+        let registers = Registers::read::<WHOLE>(bytes);
         let reach = block_reach_in(bytes, WHOLE);
         Fadt {
             header: SdtHeader::read(bytes),

@@ -336,19 +336,19 @@ pub(crate) struct Registers {
 
 impl Registers {
     /// The registers that a table contains. The blocks aren't tested for if the table is known to have all of
-    /// them.
+    /// them (`WHOLE`).
     #[inline(always)]
-    pub(super) fn read(table: &[u8], whole: bool) -> Registers
+    pub(super) fn read<const WHOLE: bool>(table: &[u8]) -> Registers
         requires table { 116 ≤ length table.now }
-        requires whole { (whole ≡ true) → HasBlocks table.now }
+        requires whole { (WHOLE ≡ true) → HasBlocks table.now }
         ensures { result ≡ registers_at table.now }
     {
-        let reset = if whole {
+        let reset = if WHOLE {
             address_in(table, places::RESET_REG)
         } else {
             filled(table, places::RESET_REG)
         };
-        let reach = block_reach_in(table, whole);
+        let reach = block_reach_in(table, WHOLE);
         Registers {
             pm1a_event: RegisterBlock::read(table, reach, places::PM1A_EVENT),
             pm1b_event: RegisterBlock::read(table, reach, places::PM1B_EVENT),
