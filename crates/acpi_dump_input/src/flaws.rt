@@ -11,6 +11,10 @@ struct Flaws {
 }
 
 impl Show for Flaws {
+    fn takes_fields(&self) -> bool {
+        false
+    }
+
     fn malformed(&mut self, _offset: u64, _fault: Fault) {
         self.are_some = true;
     }

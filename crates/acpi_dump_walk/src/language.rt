@@ -35,34 +35,27 @@
 use crate::fault::Fault;
 use acpi::sdt::field;
 
-/// The meaning of a field's bytes.
+/// The meaning of a field's bytes, as the first lines of this file say.
 #[derive(Clone, Copy)]
 pub enum Meaning {
     /// The number itself.
     Plain,
-    /// The number itself, which is easier read in decimal digits, and may be one of the codes.
+    /// The number in decimal digits too, and the name of it if it is one of the codes.
     Decimal,
     /// The number of what is counted, less 1.
     LessOne,
-    /// The bytes are a text.
     Text,
-    /// The bytes are a text in UTF-16.
     Wide,
-    /// The bytes are numbers of a byte each, which are easier read in decimal digits.
     Row,
-    /// The bytes are a GUID (section 19.6.142), which may have one of the names.
+    /// Section 19.6.142.
     Guid,
-    /// The number is a PCI function: the bus in bits 15:8, the device in bits 7:3, the function in bits 2:0.
+    /// The bus in bits 15:8, the device in bits 7:3, the function in bits 2:0.
     Function,
-    /// The bytes are the numbers of a device and a function.
     Path,
-    /// The number is one of the codes.
     Codes,
-    /// The number is a set of the flags.
     Flags,
-    /// The number is made of numbers, each in some of its bits, and flags.
     Parts,
-    /// The bytes are a generic address (section 5.2.3.2).
+    /// A generic address (section 5.2.3.2).
     Register,
 }
 
@@ -77,8 +70,9 @@ pub struct Label {
 /// A block: the parts of its first line, and the others.
 #[derive(Clone, Copy)]
 pub(crate) struct Block {
-    name: &'static str,
-    kinds: &'static str,
+    pub(crate) name: &'static str,
+    /// The first and the last type, unless it is what all begin with.
+    kinds: Option<(u64, u64)>,
     pub(crate) size: &'static str,
     pub(crate) title: &'static str,
     pub(crate) lines: &'static str,
@@ -86,16 +80,6 @@ pub(crate) struct Block {
 
 /// How many blocks a text has at most.
 const MOST: usize = 40;
-
-/// The value of a sum.
-#[derive(Clone, Copy)]
-pub(crate) struct Sum {
-    pub(crate) number: u64,
-    /// The offset after the last place that it reads.
-    pub(crate) end: usize,
-    /// The first word of it that isn't understood.
-    pub(crate) unread: Option<&'static str>,
-}
 
 /// A text up to its first separator, and the rest after that.
 pub fn cut_at(text: &str, separator: char) -> (&str, &str) {
@@ -115,11 +99,6 @@ pub fn number_of(word: &str) -> Option<u64> {
     }
 }
 
-/// Whether a word is a number by itself.
-pub(crate) fn is_number(word: &str) -> bool {
-    word.parse::<u64>().is_ok()
-}
-
 /// The number of `length` bytes at an offset, the lowest first: 0 if they aren't there.
 pub fn number_at(bytes: &[u8], offset: usize, length: usize) -> u64 {
     if length <= 8 && offset.saturating_add(length) <= bytes.len() {
@@ -130,55 +109,60 @@ pub fn number_at(bytes: &[u8], offset: usize, length: usize) -> u64 {
 }
 
 /// The number of a factor: a number, or the number at a place of bytes.
-fn factor_of(word: &'static str, bytes: &[u8]) -> Sum {
+fn factor_of(word: &str, bytes: &[u8]) -> Option<u64> {
     let (offset, length) = cut_at(word, ':');
-    match (number_of(offset), number_of(length)) {
-        (Some(number), None) if length.is_empty() => Sum::of(number),
-        (Some(offset), Some(length)) => {
-            let (offset, length) = (offset as usize, length as usize);
-            Sum {
-                number: number_at(bytes, offset, length),
-                end: offset.saturating_add(length),
-                unread: None,
-            }
-        }
-        _ => Sum {
-            unread: Some(word),
-            ..Sum::of(0)
-        },
+    let number = number_of(offset)?;
+    if length.is_empty() {
+        return Some(number);
     }
+    Some(number_at(bytes, number as usize, number_of(length)? as usize))
 }
 
 /// The product of the factors of a term.
-fn product_of(term: &'static str, bytes: &[u8]) -> Sum {
-    let mut product = Sum::of(1);
+fn product_of(term: &str, bytes: &[u8]) -> Option<u64> {
+    let mut product = 1u64;
     for word in term.split('*') {
-        let factor = factor_of(word, bytes);
-        product = product.beside(factor, product.number.saturating_mul(factor.number));
+        product = product.saturating_mul(factor_of(word, bytes)?);
     }
-    product
+    Some(product)
+}
+
+/// The value of terms that are added or taken.
+fn total_of(word: &str, bytes: &[u8]) -> Option<u64> {
+    let mut sum = 0u64;
+    for added in word.split('+') {
+        let (term, taken) = added.split_once('-').unwrap_or((added, "0"));
+        sum = sum.saturating_add(product_of(term, bytes)?);
+        sum = sum.saturating_sub(product_of(taken, bytes)?);
+    }
+    Some(sum)
 }
 
 /// The value of a sum over the bytes of a structure.
-pub(crate) fn sum_of(word: &'static str, bytes: &[u8]) -> Sum {
-    let mut sum = Sum::of(0);
-    for added in word.split('+') {
-        let (term, taken) = cut_at(added, '-');
-        let term = product_of(term, bytes);
-        sum = sum.beside(term, sum.number.saturating_add(term.number));
-        if !taken.is_empty() {
-            let taken = product_of(taken, bytes);
-            sum = sum.beside(taken, sum.number.saturating_sub(taken.number));
-        }
-    }
-    sum
+///
+/// Fails if it isn't understood.
+pub(crate) fn sum_of(word: &'static str, bytes: &[u8]) -> Result<u64, Fault> {
+    // Most sums are one number or one place.
+    let number = factor_of(word, bytes).or_else(|| total_of(word, bytes));
+    number.ok_or(Fault::Unread(word))
 }
 
-/// Whether a number is the one of a word, or in the range between its two: `None` if it isn't understood.
-fn is_within(number: u64, word: &str) -> Option<bool> {
-    let (first, last) = cut_at(word, '-');
-    let last = if last.is_empty() { first } else { last };
-    Some(number_of(first)? <= number && number <= number_of(last)?)
+/// The offset after the last place that a sum reads: 0 if it reads none.
+pub(crate) fn places_end(word: &str) -> usize {
+    let mut last = 0;
+    for factor in word.split(['+', '-', '*']) {
+        let (offset, length) = cut_at(factor, ':');
+        if let (Some(offset), Some(length)) = (number_of(offset), number_of(length)) {
+            last = last.max((offset as usize).saturating_add(length as usize));
+        }
+    }
+    last
+}
+
+/// The first and the last number of a range, or the number of a word twice.
+fn range_of(word: &str) -> Option<(u64, u64)> {
+    let (first, last) = word.split_once('-').unwrap_or((word, word));
+    Some((number_of(first)?, number_of(last)?))
 }
 
 /// Whether a number meets a word of `if`: `None` if the word isn't understood.
@@ -186,7 +170,10 @@ pub(crate) fn choice_of(number: u64, word: &str) -> Option<bool> {
     match (word.strip_prefix('&'), word.strip_prefix('!')) {
         (Some(mask), _) => Some(number & number_of(mask)? != 0),
         (_, Some(mask)) => Some(number & number_of(mask)? == 0),
-        _ => is_within(number, word),
+        _ => {
+            let (first, last) = range_of(word)?;
+            Some(first <= number && number <= last)
+        }
     }
 }
 
@@ -195,41 +182,11 @@ pub fn is_chosen(number: u64, word: &str) -> bool {
     choice_of(number, word) == Some(true)
 }
 
-impl Sum {
-    /// A number that no bytes give.
-    pub(crate) fn of(number: u64) -> Sum {
-        Sum {
-            number,
-            end: 0,
-            unread: None,
-        }
-    }
-
-    /// A number that this sum and another one give together.
-    pub(crate) fn beside(self, other: Sum, number: u64) -> Sum {
-        Sum {
-            number,
-            end: self.end.max(other.end),
-            unread: self.unread.or(other.unread),
-        }
-    }
-
-    /// The number as an offset or a length.
-    ///
-    /// Fails if a word of it isn't understood.
-    pub(crate) fn size(self) -> Result<usize, Fault> {
-        match self.unread {
-            None => Ok(self.number as usize),
-            Some(word) => Err(Fault::Unread(word)),
-        }
-    }
-}
-
 impl Block {
     /// In place of a block that isn't there: no structure has its name.
     pub(crate) const NONE: Block = Block {
         name: "",
-        kinds: "",
+        kinds: Some((1, 0)),
         size: "",
         title: "",
         lines: "",
@@ -241,21 +198,21 @@ impl Block {
         let (name, head) = next_word(head);
         let (kinds, head) = next_word(head);
         let (size, title) = next_word(head);
-        let title = title.trim_ascii_start();
         Block {
             name,
-            kinds,
+            kinds: range_of(kinds),
             size,
-            title,
+            title: title.trim_ascii_start(),
             lines,
         }
     }
 
     /// Whether it is for structures of a type, or for what all of them begin with.
     fn is_of_kind(&self, kind: Option<u64>) -> bool {
-        match kind {
-            None => self.kinds == "*",
-            Some(kind) => is_within(kind, self.kinds) == Some(true),
+        match (kind, self.kinds) {
+            (None, None) => true,
+            (Some(kind), Some((first, last))) => first <= kind && kind <= last,
+            _ => false,
         }
     }
 }
@@ -270,30 +227,18 @@ impl Blocks {
     /// The blocks of a text.
     pub(crate) fn read(text: &'static str) -> Blocks {
         let mut list = [Block::NONE; MOST];
-        let mut count = 0usize;
-        for block in text.split('=').skip(1) {
-            if count < MOST {
-                list[count] = Block::read(block);
-                count += 1;
-            }
+        for (place, block) in list.iter_mut().zip(text.split('=').skip(1)) {
+            *place = Block::read(block);
         }
         Blocks { list }
     }
 
     /// The block with a name, for structures of a type, or for what all of them begin with.
     pub(crate) fn find(&self, name: &str, kind: Option<u64>) -> Option<Block> {
-        for block in &self.list {
-            if block.name == name && block.is_of_kind(kind) {
-                return Some(*block);
-            }
-        }
-        None
-    }
-
-    /// The block that the first word names for structures of a type: `NONE` if there is none.
-    pub(crate) fn typed(&self, rest: &'static str, kind: u64) -> Block {
-        let (name, _) = next_word(rest);
-        self.find(name, Some(kind)).unwrap_or(Block::NONE)
+        let mut blocks = self.list.iter();
+        blocks
+            .find(|block| block.name == name && block.is_of_kind(kind))
+            .copied()
     }
 
     /// The block that the first word names.
@@ -305,50 +250,38 @@ impl Blocks {
     /// The name, meaning and items of a field, from a line after the field's length.
     pub(crate) fn label(&self, rest: &'static str) -> Result<Label, Fault> {
         let (word, rest) = next_word(rest);
-        let (name, items) = cut_at(rest, '|');
+        let (name, mut items) = cut_at(rest, '|');
+        if let Some(block) = items.trim_ascii().strip_prefix('@') {
+            items = self.named(block)?.lines;
+        }
         Ok(Label {
             name: name.trim_ascii(),
-            items: self.items(items)?,
+            items,
             meaning: Meaning::read(word)?,
         })
     }
-
-    /// The codes, flags or names of a line, or of the block that it names.
-    fn items(&self, items: &'static str) -> Result<&'static str, Fault> {
-        match items.trim_ascii().strip_prefix('@') {
-            Some(name) => Ok(self.named(name)?.lines),
-            None => Ok(items),
-        }
-    }
 }
-
-/// The words of meanings.
-const MEANINGS: [(&str, Meaning); 13] = [
-    ("-", Meaning::Plain),
-    ("dec", Meaning::Decimal),
-    ("dec+1", Meaning::LessOne),
-    ("text", Meaning::Text),
-    ("wide", Meaning::Wide),
-    ("row", Meaning::Row),
-    ("guid", Meaning::Guid),
-    ("fn", Meaning::Function),
-    ("path", Meaning::Path),
-    ("gas", Meaning::Register),
-    ("codes", Meaning::Codes),
-    ("flags", Meaning::Flags),
-    ("parts", Meaning::Parts),
-];
 
 impl Meaning {
     /// The meaning that a word names.
     ///
     /// Fails if it names none.
     fn read(word: &'static str) -> Result<Meaning, Fault> {
-        for (name, meaning) in &MEANINGS {
-            if *name == word {
-                return Ok(*meaning);
-            }
-        }
-        Err(Fault::Unread(word))
+        Ok(match word {
+            "-" => Meaning::Plain,
+            "dec" => Meaning::Decimal,
+            "dec+1" => Meaning::LessOne,
+            "text" => Meaning::Text,
+            "wide" => Meaning::Wide,
+            "row" => Meaning::Row,
+            "guid" => Meaning::Guid,
+            "fn" => Meaning::Function,
+            "path" => Meaning::Path,
+            "gas" => Meaning::Register,
+            "codes" => Meaning::Codes,
+            "flags" => Meaning::Flags,
+            "parts" => Meaning::Parts,
+            _ => return Err(Fault::Unread(word)),
+        })
     }
 }

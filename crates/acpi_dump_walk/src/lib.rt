@@ -1,5 +1,5 @@
-//! A walk over the bytes of a table by the layout of its type, and over the objects of AML: what there is, in the order of
-//! the bytes, and how a field is printed.
+//! A walk over the bytes of a table by the layout of its type, and over the objects of AML: what there is, in the order
+//! of the bytes, and how a field is printed.
 //!
 //! Every function returns for every input, without fault. What is shown is tested, and not proved.
 #![tactic(auto)]

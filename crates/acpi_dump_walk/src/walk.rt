@@ -3,11 +3,9 @@
 mod entry;
 mod parts;
 
-ghost use Rattle.std.specs.Prelude.{◌<◌, length};
-
 use crate::aml::{Ends, Object, show_objects};
 use crate::fault::Fault;
-use crate::language::{Label, choice_of, is_number, next_word, sum_of};
+use crate::language::{Label, choice_of, next_word, number_of, sum_of};
 use crate::layouts::{HEADER, layout_of};
 use acpi::PhysicalRecord;
 use acpi::sdt::{SdtHeader, Signature};
@@ -41,6 +39,12 @@ pub struct Group {
 
 /// What a walk shows a table to, in the order of the bytes. What it has no function for is skipped.
 pub trait Show {
+    /// Whether it takes fields. One that only looks for what is malformed doesn't, and of entries of one type whose
+    /// fields can't be, it is shown the first of a row alone.
+    fn takes_fields(&self) -> bool {
+        true
+    }
+
     /// Shows a field.
     fn field(&mut self, _shown: &Field<'_>) {}
 
@@ -166,11 +170,12 @@ fn walk_line<S: Show>(
             return Ok(base.saturating_add(end));
         }
         ">" => shown,
-        _ => sum_of(word, piece.bytes).size()?,
+        _ => sum_of(word, piece.bytes)? as usize,
     };
     let (length, rest) = next_word(rest);
     let Some(count) = length.strip_prefix('{') else {
-        return show_fields(piece, shown, start, is_number(word), length, rest, show);
+        let is_fixed = number_of(word).is_some();
+        return show_fields(piece, shown, start, is_fixed, length, rest, show);
     };
     let extent = list_extent(piece.bytes, start, count)?;
     if depth > 0 && show_start(piece, shown, extent, show)? {
@@ -188,13 +193,14 @@ fn walk_list<S: Show>(
     depth: u32,
     show: &mut S,
 ) -> usize {
-    let mut rest = piece.bytes.get(extent.start..extent.end).unwrap_or(&[]);
-    let mut offset = piece.base.saturating_add(extent.start as u64);
-    let mut number: u64 = 0;
+    let (mut start, mut number) = (extent.start, 0u64);
+    let mut known = None; // the type of entries that need not be shown again
     if depth == 0 {
-        return extent.start;
+        return start;
     }
-    'entries: while !rest.is_empty() && extent.is_more(number) {
+    'entries: while start < extent.end && extent.is_more(number) {
+        let offset = piece.at(start);
+        let rest = piece.bytes.get(start..extent.end).unwrap_or(&[]);
         let entry = match next_entry(piece, rest, how) {
             Ok(entry) => entry,
             Err(fault) => {
@@ -203,41 +209,37 @@ fn walk_list<S: Show>(
                 return extent.end;
             }
         };
-        let (bytes, others) = split(rest, entry.length);
-        show.begin(&Group {
-            offset,
-            length: entry.length as u64,
-            number,
-            name: entry.name,
-            kind: entry.kind,
-        });
-        let inner = Piece {
-            base: offset,
-            bytes,
-            blocks: piece.blocks,
-        };
-        walk_structure(inner, entry.head, entry.lines, depth - 1, show);
-        show.end();
-        if (entry.length as u64) < entry.least {
-            show.malformed(offset, Fault::Length(entry.length as u64));
+        let length = entry.length as u64;
+        if known != Some(entry.kind) {
+            show.begin(&Group {
+                offset,
+                length,
+                number,
+                name: entry.block.title,
+                kind: entry.kind,
+            });
+            let bytes = rest.get(..entry.length).unwrap_or(rest);
+            let inner = Piece {
+                base: offset,
+                bytes,
+                ..piece
+            };
+            walk_structure(inner, entry.head, entry.block.lines, depth - 1, show);
+            show.end();
+            if !show.takes_fields() && entry.is_fixed() {
+                known = Some(entry.kind);
+            }
         }
-        offset = offset.saturating_add(bytes.len() as u64);
+        if let Ok(least) = sum_of(entry.block.size, rest)
+            && length < least
+        {
+            show.malformed(offset, Fault::Length(length));
+        }
+        start = start.saturating_add(entry.length);
         number = number.saturating_add(1);
-        rest = others;
     }
-    show_missing(offset, extent, number, show);
-    extent.end.saturating_sub(rest.len())
-}
-
-/// Bytes up to a place, which isn't their beginning, and those from there on.
-fn split(bytes: &[u8], place: usize) -> (&[u8], &[u8])
-    ensures shorter { 0 < length bytes.now → length result.1.now < length bytes.now }
-{
-    if 0 < place && place <= bytes.len() {
-        (&bytes[..place], &bytes[place..])
-    } else {
-        (bytes, &[])
-    }
+    show_missing(piece.at(start), extent, number, show);
+    start
 }
 
 /// The lines of the block that a line names, or no lines if it begins with `if` and the number at the place that it
@@ -245,22 +247,15 @@ fn split(bytes: &[u8], place: usize) -> (&[u8], &[u8])
 ///
 /// Fails if a word isn't understood.
 fn chosen_lines(piece: Piece<'_>, word: &str, rest: &'static str) -> Result<&'static str, Fault> {
-    if word != "if" {
-        return Ok(piece.blocks.named(rest)?.lines);
+    let mut name = rest;
+    if word == "if" {
+        let (place, rest) = next_word(rest);
+        let (choice, rest) = next_word(rest);
+        let number = sum_of(place, piece.bytes)?;
+        if !choice_of(number, choice).ok_or(Fault::Unread(choice))? {
+            return Ok("");
+        }
+        name = rest;
     }
-    let (place, rest) = next_word(rest);
-    let (choice, name) = next_word(rest);
-    if is_met(piece, place, choice)? {
-        Ok(piece.blocks.named(name)?.lines)
-    } else {
-        Ok("")
-    }
-}
-
-/// Whether the number at a place of a structure meets a choice.
-///
-/// Fails if a word isn't understood.
-fn is_met(piece: Piece<'_>, place: &'static str, choice: &'static str) -> Result<bool, Fault> {
-    let number = sum_of(place, piece.bytes).size()?;
-    choice_of(number as u64, choice).ok_or(Fault::Unread(choice))
+    Ok(piece.blocks.named(name)?.lines)
 }

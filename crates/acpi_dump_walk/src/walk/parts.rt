@@ -2,7 +2,7 @@
 
 use super::{Field, Show};
 use crate::fault::Fault;
-use crate::language::{Blocks, Label, cut_at, is_number, sum_of};
+use crate::language::{Blocks, Label, cut_at, number_of, sum_of};
 
 /// A structure: where it begins in the table, its bytes, and the blocks that its layout is of.
 #[derive(Clone, Copy)]
@@ -31,7 +31,7 @@ impl Piece<'_> {
     }
 
     /// The offset in the table of an offset in the structure.
-    fn at(self, offset: usize) -> u64 {
+    pub(super) fn at(self, offset: usize) -> u64 {
         self.base.saturating_add(offset as u64)
     }
 }
@@ -39,18 +39,13 @@ impl Piece<'_> {
 impl Extent {
     /// Whether a list has an element of this number.
     pub(super) fn is_more(self, number: u64) -> bool {
-        match self.count {
-            Some(count) => number < count,
-            None => true,
-        }
+        self.count.is_none_or(|count| number < count)
     }
 
     /// Whether nothing is to be there.
     fn is_empty(self) -> bool {
-        match self.count {
-            Some(count) => count == 0,
-            None => self.end <= self.start,
-        }
+        self.count
+            .map_or(self.end <= self.start, |count| count == 0)
     }
 }
 
@@ -64,33 +59,17 @@ pub(super) fn after_zero(bytes: &[u8], start: usize) -> usize {
     start.max(bytes.len())
 }
 
-/// Where a list ends that begins at an offset of a structure, and how many entries it has, by the word
-/// after `{`.
+/// Where elements end that begin at an offset of a structure, and how many they are, by the word in their brackets: a
+/// count, `*` for as many as fit, or `~` and the length of all.
 pub(super) fn list_extent(bytes: &[u8], start: usize, word: &'static str) -> Result<Extent, Fault> {
-    let (word, _) = cut_at(word, '}');
-    let Some(length) = word.strip_prefix('~') else {
-        return counted_extent(bytes, start, word);
-    };
-    let end = start.saturating_add(sum_of(length, bytes).size()?);
-    Ok(Extent {
-        start,
-        end,
-        count: None,
-    })
-}
-
-/// The rest of a structure from an offset on, and how many elements it has by a word: `*` for as many as fit.
-fn counted_extent(bytes: &[u8], start: usize, word: &'static str) -> Result<Extent, Fault> {
-    let count = if word == "*" {
-        None
-    } else {
-        Some(sum_of(word, bytes).size()? as u64)
-    };
-    Ok(Extent {
-        start,
-        end: bytes.len(),
-        count,
-    })
+    let word = word.trim_end_matches(['}', ']']);
+    let (mut end, mut count) = (bytes.len(), None);
+    match word.strip_prefix('~') {
+        Some(length) => end = start.saturating_add(sum_of(length, bytes)? as usize),
+        None if word == "*" => {}
+        None => count = Some(sum_of(word, bytes)?),
+    }
+    Ok(Extent { start, end, count })
 }
 
 /// Shows the bytes up to where a part begins in a structure, of which this many bytes are shown. Returns whether the
@@ -119,18 +98,15 @@ pub(super) fn show_start<S: Show>(
 
 /// Shows how many of the elements that are counted aren't there, if some aren't.
 pub(super) fn show_missing<S: Show>(offset: u64, extent: Extent, found: u64, show: &mut S) {
-    if let Some(count) = extent.count
-        && found < count
-    {
-        return show.malformed(offset, Fault::Missing(count - found));
+    let missing = extent.count.map_or(0, |count| count.saturating_sub(found));
+    if missing > 0 {
+        show.malformed(offset, Fault::Missing(missing));
     }
 }
 
 /// Shows those bytes of a structure that no field covers.
 pub(super) fn show_gap<S: Show>(piece: Piece<'_>, start: usize, end: usize, show: &mut S) {
-    if start < end
-        && let Some(bytes) = piece.bytes.get(start..end)
-    {
+    if let Some(bytes @ [_, ..]) = piece.bytes.get(start..end) {
         return show.bytes(piece.at(start), bytes);
     }
 }
@@ -150,70 +126,58 @@ pub(super) fn show_fields<S: Show>(
     let (length, count) = cut_at(word, '[');
     let is_one = count.is_empty();
     let extent = if is_one {
-        field_extent(piece.bytes, start, length)
+        Extent {
+            start,
+            end: field_end(piece.bytes, start, length)?,
+            count: None,
+        }
     } else {
-        counted_extent(piece.bytes, start, cut_at(count, ']').0)
-    }?;
-    let is_optional = is_fixed && is_one && is_number(length);
+        list_extent(piece.bytes, start, count)?
+    };
+    let is_optional = is_fixed && is_one && number_of(length).is_some();
     let is_there = shown <= start && extent.end <= piece.bytes.len();
     if is_optional && !is_there || !show_start(piece, shown, extent, show)? {
         return Ok(shown);
     }
-    if !is_one {
-        return show_numbers(piece, extent, length, label, show);
-    }
-    show.field(&Field {
-        offset: piece.at(start),
-        bytes: piece.bytes.get(start..extent.end).unwrap_or(&[]),
-        number: None,
-        label,
-    });
-    Ok(extent.end)
-}
-
-/// Where a field begins and ends that is at an offset of a structure, by the word for its length.
-fn field_extent(bytes: &[u8], start: usize, word: &'static str) -> Result<Extent, Fault> {
-    let end = match word {
-        "*" => bytes.len(),
-        "z" => after_zero(bytes, start),
-        _ => field_end(bytes, start, word)?,
+    let length = if is_one {
+        extent.end.saturating_sub(start)
+    } else {
+        sum_of(length, piece.bytes)? as usize
     };
-    Ok(Extent {
-        start,
-        end,
-        count: None,
-    })
+    Ok(show_each(piece, extent, length, is_one, label, show))
 }
 
-/// Where a field ends that is at an offset of a structure, by a sum that is its length, or after `<` its end.
+/// Where a field ends that is at an offset of a structure, by the word for its length.
 fn field_end(bytes: &[u8], start: usize, word: &'static str) -> Result<usize, Fault> {
-    match word.strip_prefix('<') {
-        Some(end) => sum_of(end, bytes).size(),
-        None => Ok(start.saturating_add(sum_of(word, bytes).size()?)),
+    match (word, word.strip_prefix('<')) {
+        ("*", _) => Ok(bytes.len()),
+        ("z", _) => Ok(after_zero(bytes, start)),
+        (_, Some(end)) => Ok(sum_of(end, bytes)? as usize),
+        _ => Ok(start.saturating_add(sum_of(word, bytes)? as usize)),
     }
 }
 
-/// Shows fields whose length a word has, as far as they are there. Returns up to where the structure is shown
-/// then.
-fn show_numbers<S: Show>(
+/// Shows fields of a length, each but a single one with its number, as far as they are there. Returns up to where the
+/// structure is shown then.
+fn show_each<S: Show>(
     piece: Piece<'_>,
     extent: Extent,
-    word: &'static str,
+    length: usize,
+    is_one: bool,
     label: Label,
     show: &mut S,
-) -> Result<usize, Fault> {
-    let mut shown = extent.start;
-    let length = sum_of(word, piece.bytes).size()?;
+) -> usize {
+    let (mut shown, mut number) = (extent.start, 0u64);
     if length == 0 {
-        return Ok(shown);
+        return shown;
     }
-    let mut number: u64 = 0;
-    for bytes in piece.bytes.get(shown..).unwrap_or(&[]).chunks(length) {
+    let all = piece.bytes.get(shown..extent.end).unwrap_or(&[]);
+    for bytes in all.chunks(length) {
         if extent.is_more(number) && bytes.len() == length {
             show.field(&Field {
                 offset: piece.at(shown),
                 bytes,
-                number: Some(number),
+                number: (!is_one).then_some(number),
                 label,
             });
             shown = shown.saturating_add(length);
@@ -221,5 +185,5 @@ fn show_numbers<S: Show>(
         }
     }
     show_missing(piece.at(shown), extent, number, show);
-    Ok(shown)
+    shown
 }

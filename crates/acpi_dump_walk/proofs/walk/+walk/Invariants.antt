@@ -1,4 +1,4 @@
-use Rattle.std.proofs.Common.{length, ◌+◌, ◌*◌}
+use Rattle.std.proofs.Common.{◌+◌, ◌-◌, ◌*◌}
 use Rattle.acpi_dump_walk.proofs.walk.+walk.Given as goal
 
 -- each call goes a level deeper; a line's lines are on its level
@@ -16,4 +16,4 @@ decreases-walk_list g l = 2 * l.depth
 
 -- each entry leaves fewer bytes
 abbrev pub decreases-walk_list-entries : goal.decreases-walk_list-entries
-decreases-walk_list-entries g l = length l.rest
+decreases-walk_list-entries g l = l.extent.end - l.start
