@@ -29,9 +29,9 @@ pub enum Fault {
 }
 
 impl Fault {
-    /// The words that say it for an offset of the table, and the numbers in them.
-    fn words(self, offset: u64) -> (&'static str, [u64; 2]) {
-        match self {
+    /// Prints it for an offset of the table.
+    pub fn print(self, offset: u64, out: &mut Out) {
+        let (words, numbers) = match self {
             Fault::Length(length) => ("entry at # has length %", [offset, length]),
             Fault::Past(length) => (
                 "entry at # has length %, more than is left",
@@ -60,12 +60,7 @@ impl Fault {
                 "the layout of the structure at # isn't understood: ",
                 [offset, 0],
             ),
-        }
-    }
-
-    /// Prints it for an offset of the table.
-    pub fn print(self, offset: u64, out: &mut Out) {
-        let (words, numbers) = self.words(offset);
+        };
         out.words(words, &numbers);
         if let Fault::Unread(word) = self {
             out.text(word);

@@ -1,7 +1,7 @@
 //! Fields, one a line: offset, name, value, meaning.
 
 use crate::language;
-use crate::language::{Meaning, cut_at, next_word};
+use crate::language::{Meaning, cut_at, next_word, number_at};
 use crate::out::Out;
 use crate::text::print_indent;
 use crate::walk::Field;
@@ -64,13 +64,11 @@ pub fn print_path(segments: &[u8], out: &mut Out) {
 
 /// Prints segments of four letters each.
 pub(crate) fn print_segments(segments: &[u8], out: &mut Out) {
-    let mut is_first = true;
-    for segment in segments.chunks(4) {
-        if !is_first {
+    for (index, segment) in segments.chunks(4).enumerate() {
+        if index > 0 {
             out.text(".");
         }
         out.escaped(segment);
-        is_first = false;
     }
 }
 
@@ -90,23 +88,17 @@ pub fn print_value(shown: &Field<'_>, out: &mut Out) {
 
 /// The number of up to eight bytes.
 pub fn number_of(value: &[u8]) -> u64 {
-    if value.len() > 8 {
-        return 0;
-    }
-    field(value, 0, value.len())
+    number_at(value, 0, value.len())
 }
 
 /// A number of bytes in the largest unit that has a whole number of it.
 pub fn size_of(bytes: u64) -> (u64, &'static str) {
-    if bytes == 0 || bytes % 1024 != 0 {
-        (bytes, "B")
-    } else if bytes % (1 << 20) != 0 {
-        (bytes >> 10, "KiB")
-    } else if bytes % (1 << 30) != 0 {
-        (bytes >> 20, "MiB")
-    } else {
-        (bytes >> 30, "GiB")
+    for (unit, size) in [("GiB", 1 << 30), ("MiB", 1 << 20), ("KiB", 1 << 10)] {
+        if bytes != 0 && bytes % size == 0 {
+            return (bytes / size, unit);
+        }
     }
+    (bytes, "B")
 }
 
 /// Prints the meaning of a field's value, if it means more than itself.
@@ -138,12 +130,8 @@ pub fn print_meaning(shown: &Field<'_>, out: &mut Out) {
 /// Prints bytes as characters, those that aren't printable ASCII as `.`.
 pub fn print_text(bytes: &[u8], out: &mut Out) {
     for byte in bytes {
-        let shown = if (0x20..0x7f).contains(byte) {
-            *byte as char
-        } else {
-            '.'
-        };
-        write!(out, "{shown}");
+        let is_shown = (0x20..0x7f).contains(byte);
+        out.bytes(&[if is_shown { *byte } else { b'.' }]);
     }
 }
 
@@ -171,65 +159,56 @@ fn bits_of(number: u64, first: u64, last: u64) -> u64 {
     if first > 63 || last < first {
         return 0;
     }
-    let rest = number >> first;
-    let count = last.min(63) - first + 1;
-    if count < 64 {
-        rest & ((1 << count) - 1)
-    } else {
-        rest
-    }
+    number >> first & u64::MAX >> (63 - (last.min(63) - first))
 }
 
-/// The bits of a number that a word names, and the code that they have to be if it has one: `BIT`, `HIGH:LOW` or
-/// `HIGH:LOW/NUMBER`.
+/// A flag that a number has, or a number in it: the first and the last bit, the number that these are, and its name.
 #[derive(Clone, Copy)]
 struct Flag {
     first: u64,
     last: u64,
-    code: Option<u64>,
+    part: u64,
+    is_code: bool,
+    name: &'static str,
 }
 
-impl Flag {
-    /// The bits that a word names.
-    fn read(word: &str) -> Option<Flag> {
-        let (bits, code) = cut_at(word, '/');
-        let (highest, lowest) = cut_at(bits, ':');
-        let last = language::number_of(highest)?;
-        Some(Flag {
-            first: language::number_of(lowest).unwrap_or(last),
-            last,
-            code: language::number_of(code),
-        })
-    }
-
-    /// Whether a number has it: the bits are its code, or aren't 0 if it has no code.
-    fn is_in(self, number: u64) -> bool {
-        let part = bits_of(number, self.first, self.last);
-        match self.code {
-            Some(code) => part == code,
-            None => part != 0,
-        }
-    }
+/// The flag that an item names, if a number has it: `BIT`, `HIGH:LOW`, which aren't 0, or `HIGH:LOW/NUMBER`, which are
+/// that number.
+fn flag_in(number: u64, item: &'static str) -> Option<Flag> {
+    let (word, name) = next_word(item);
+    let (bits, code) = cut_at(word, '/');
+    let (highest, lowest) = cut_at(bits, ':');
+    let last = language::number_of(highest)?;
+    let first = language::number_of(lowest).unwrap_or(last);
+    let part = bits_of(number, first, last);
+    let code = language::number_of(code);
+    let is_there = match code {
+        Some(code) => part == code,
+        None => part != 0,
+    };
+    is_there.then_some(Flag {
+        first,
+        last,
+        part,
+        is_code: code.is_some(),
+        name: name.trim_ascii(),
+    })
 }
 
 /// Prints the parts of a number that aren't 0, and the meanings of those that are codes.
 fn print_flags(shown: &Field<'_>, out: &mut Out) {
-    let (number, mut is_first) = (number_of(shown.bytes), true);
+    let mut between = "  ";
     for item in shown.label.items.split(['|', '\n']) {
-        let (word, name) = next_word(item);
-        if let Some(flag) = Flag::read(word)
-            && flag.is_in(number)
-        {
-            out.text(if is_first { "  " } else { ", " });
-            out.text(name.trim_ascii());
-            if flag.code.is_none() && flag.first < flag.last {
-                let part = bits_of(number, flag.first, flag.last);
+        if let Some(flag) = flag_in(number_of(shown.bytes), item) {
+            out.text(between);
+            out.text(flag.name);
+            if !flag.is_code && flag.first < flag.last {
                 match shown.label.meaning {
-                    Meaning::Parts => write!(out, " 0x{part:x}"),
-                    _ => write!(out, " {part}"),
+                    Meaning::Parts => write!(out, " 0x{:x}", flag.part),
+                    _ => write!(out, " {}", flag.part),
                 }
             }
-            is_first = false;
+            between = ", ";
         }
     }
 }
@@ -238,9 +217,7 @@ fn print_flags(shown: &Field<'_>, out: &mut Out) {
 fn unnamed_bits(number: u64, flags: &'static str) -> u64 {
     let mut rest = number;
     for item in flags.split(['|', '\n']) {
-        let (word, _) = next_word(item);
-        if let Some(flag) = Flag::read(word)
-            && flag.is_in(number)
+        if let Some(flag) = flag_in(number, item)
             && flag.first < 64
         {
             rest &= !(bits_of(u64::MAX, flag.first, flag.last) << flag.first);

@@ -10,14 +10,12 @@ pub fn print_dump(bytes: &[u8], out: &mut Out) {
     let mut starred = false;
     let mut offset: u64 = 0;
     for line in bytes.chunks(16) {
-        if line == before {
-            if !starred {
-                out.text("*\n");
-            }
-            starred = true;
-        } else {
+        if line != before {
             print_line(offset, line, out);
             starred = false;
+        } else if !starred {
+            out.text("*\n");
+            starred = true;
         }
         before = line;
         offset = offset.saturating_add(line.len() as u64);

@@ -50,12 +50,10 @@ const TITLES: [(&str, &str); 4] = [
 
 /// What a table with this signature is called, or no letters if that isn't known.
 pub fn title_of(signature: Signature) -> &'static str {
-    for (name, title) in &TITLES {
-        if signature.as_str() == Some(*name) {
-            return *title;
-        }
+    match TITLES.iter().find(|row| signature.as_str() == Some(row.0)) {
+        Some((_, title)) => *title,
+        None => layout_of(signature).1.title,
     }
-    layout_of(signature).1.title
 }
 
 /// The blocks among which the layout of a table with this signature is, and the one that it is, with its lines after

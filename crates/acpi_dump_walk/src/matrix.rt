@@ -74,12 +74,10 @@ impl Matrix<'_> {
 
     /// A value, if it is given and the target is reached.
     pub fn value(self, row: usize, column: usize) -> Option<u64> {
-        match (
-            self.width,
-            number_at(self.bytes, self.offset(row, column), self.width),
-        ) {
+        let value = number_at(self.bytes, self.offset(row, column), self.width);
+        match (self.width, value) {
             (1, 255) | (2, 0 | 0xffff) => None,
-            (_, value) => Some(value.saturating_mul(self.base)),
+            _ => Some(value.saturating_mul(self.base)),
         }
     }
 }

@@ -23,9 +23,8 @@ pub fn share_of(kind: u64, entry: &[u8]) -> Option<Share> {
             (4, domain, number_at(entry, 3, 1), 0)
         }
         1 => (28, number_at(entry, 2, 4), MEMORY, number_at(entry, 16, 8)),
-        2 => (12, number_at(entry, 4, 4), number_at(entry, 8, 4), 0),
+        2 | 7 => (12, number_at(entry, 4, 4), number_at(entry, 8, 4), 0),
         3 => (10, number_at(entry, 2, 4), number_at(entry, 6, 4), 0),
-        7 => (12, number_at(entry, 4, 4), number_at(entry, 8, 4), 0),
         _ => return None,
     };
     if number_at(entry, flags, 4) & 1 == 0 {
