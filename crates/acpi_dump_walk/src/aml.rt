@@ -130,12 +130,8 @@ const FORMS: [(u16, &str, Rest); 25] = [
 
 /// What the object of an opcode is, and what comes after the opcode, unless that isn't known.
 fn form_of(code: u16) -> Option<(&'static str, Rest)> {
-    for (known, kind, rest) in &FORMS {
-        if *known == code {
-            return Some((*kind, *rest));
-        }
-    }
-    None
+    let (_, kind, rest) = FORMS.iter().find(|form| form.0 == code)?;
+    Some((*kind, *rest))
 }
 
 /// The parts after an opcode.
@@ -241,32 +237,15 @@ impl Scopes {
         }
     }
 
-    /// Enters an object.
-    ///
-    /// Fails if memory runs out.
-    fn enter(&mut self, scope: Scope) -> Result<(), AllocError> {
-        Ok(self.open.push(scope)?)
-    }
-
-    /// Where the path of the innermost object begins in the letters.
-    fn start(&self) -> usize {
-        match self.open.last() {
-            Some(scope) => scope.start,
-            None => 0,
-        }
-    }
-
     /// Adds the path of a name to the letters, and returns where it begins.
     ///
     /// Fails if memory runs out.
     fn add_path(&mut self, aml: &[u8], at: usize, name: &Name) -> Result<usize, AllocError> {
-        let (outer, start) = (self.start(), self.letters.len());
-        if aml.get(at) != Some(&b'\\') {
-            let end = start.saturating_sub(name.ups.saturating_mul(4));
-            for place in outer..end {
-                let letter = self.letters.get(place).copied().unwrap_or(0);
-                self.letters.push(letter)?;
-            }
+        let outer = self.open.last().map_or(0, |scope| scope.start);
+        let start = self.letters.len();
+        let end = start.saturating_sub(name.ups.saturating_mul(4));
+        if outer < end && aml.get(at) != Some(&b'\\') {
+            self.letters.extend_from_within(outer..end)?;
         }
         self.letters
             .extend_from_slice(aml.get(name.first..name.end).unwrap_or(&[]))?;
@@ -305,18 +284,19 @@ fn show_object<S: ShowObjects>(
         length: (found.end - at) as u64,
         own: (found.own.0 as u64, found.own.1 as u64),
         kind: found.kind,
-        path: match found.name {
-            Some(_) => scopes.letters.get(start..),
-            None => None,
-        },
+        path: found
+            .name
+            .as_ref()
+            .and_then(|_| scopes.letters.get(start..)),
         value: found.value,
     });
     match found.inner {
         Some(inner) if at < inner && inner < found.end => {
-            scopes.enter(Scope {
+            let scope = Scope {
                 end: found.end,
                 start,
-            })?;
+            };
+            scopes.open.push(scope).map_err(AllocError::from)?;
             Ok(inner)
         }
         _ => {

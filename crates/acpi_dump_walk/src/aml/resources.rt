@@ -2,6 +2,7 @@
 ghost use Rattle.std.specs.Prelude.{◌<◌, ◌≤◌, length, IfSome};
 
 use crate::fields::number_of;
+use crate::language::number_at;
 use crate::out::Out;
 
 /// The end tag.
@@ -99,21 +100,12 @@ fn descriptor_end(bytes: &[u8], at: usize) -> Option<usize>
 /// Prints a descriptor.
 fn print_descriptor(tag: u8, descriptor: &[u8], out: &mut Out) {
     match tag {
-        0x20 => print_bits("interrupts", number_in(descriptor, 1, 2), out),
-        0x28 => print_bits("DMA channels", number_in(descriptor, 1, 1), out),
+        0x20 => print_bits("interrupts", number_at(descriptor, 1, 2), out),
+        0x28 => print_bits("DMA channels", number_at(descriptor, 1, 1), out),
         0x89 => print_interrupts(descriptor, out),
         0x87 | 0x88 | 0x8A | 0x8B => print_space(tag, descriptor, out),
         _ => print_words(tag, descriptor, out),
     }
-}
-
-/// The number at an offset.
-fn number_in(descriptor: &[u8], offset: usize, width: usize) -> u64 {
-    number_of(
-        descriptor
-            .get(offset..offset.saturating_add(width))
-            .unwrap_or(&[]),
-    )
 }
 
 /// Prints the numbers of the bits that are set.
@@ -133,7 +125,7 @@ fn print_interrupts(descriptor: &[u8], out: &mut Out) {
         .get(5..)
         .unwrap_or(&[])
         .chunks(4)
-        .take(number_in(descriptor, 4, 1) as usize)
+        .take(number_at(descriptor, 4, 1) as usize)
     {
         out.words(" %", &[number_of(number)]);
     }
@@ -143,13 +135,11 @@ fn print_interrupts(descriptor: &[u8], out: &mut Out) {
 fn print_space(tag: u8, descriptor: &[u8], out: &mut Out) {
     for (known, width, offsets) in &SPACES {
         if *known == tag {
-            let mut numbers = [0; 4];
-            for (number, offset) in numbers.iter_mut().zip(offsets) {
-                *number = number_in(descriptor, *offset, *width);
-            }
-            let [low, high, added, count] = numbers;
+            let [low, high, added, count] = offsets.map(|offset| number_at(
+                descriptor, offset, *width,
+            ));
             out.words("#", &[count]);
-            match number_in(descriptor, 3, 1) {
+            match number_at(descriptor, 3, 1) {
                 0 => out.text(" bytes of memory"),
                 1 => out.text(" I/O ports"),
                 2 => out.text(" buses"),
@@ -169,7 +159,7 @@ fn print_words(tag: u8, descriptor: &[u8], out: &mut Out) {
         if *known == tag {
             let mut numbers = [0; 4];
             for (number, (offset, width)) in numbers.iter_mut().zip(*fields) {
-                *number = number_in(descriptor, *offset, *width);
+                *number = number_at(descriptor, *offset, *width);
             }
             return out.words(*words, &numbers);
         }

@@ -54,13 +54,9 @@ fn bits_at(aml: &[u8], at: usize) -> Result<(u64, usize), AmlError>
     requires { at ≤ length aml.now }
     ensures { IfOk result (λ r. at < r.1) }
 {
-    let Some(lead) = aml.get(at) else {
-        return Err(AmlError::PastEnd(at));
-    };
+    let lead = aml.get(at).ok_or(AmlError::PastEnd(at))?;
     let end = at + 1 + *lead as usize / 64;
-    let Some(others) = aml.get(at + 1..end) else {
-        return Err(AmlError::PastEnd(at));
-    };
+    let others = aml.get(at + 1..end).ok_or(AmlError::PastEnd(at))?;
     if others.is_empty() {
         return Ok((*lead as u64, end));
     }

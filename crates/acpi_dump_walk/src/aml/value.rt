@@ -79,10 +79,10 @@ impl<'a> Value<'a> {
 /// the ids of devices (sections 6.1.2 and 6.1.5).
 fn print_named(path: &[u8], data: &[u8], between: &str, out: &mut Out) {
     let name = path.get(path.len().saturating_sub(4)..).unwrap_or(&[]);
-    if matches!(name, b"_CRS" | b"_PRS" | b"_DMA") {
-        if let Some((_, bytes)) = buffer_in(data) {
-            return print_resources(bytes, between, out);
-        }
+    if matches!(name, b"_CRS" | b"_PRS" | b"_DMA")
+        && let Some((_, bytes)) = buffer_in(data)
+    {
+        return print_resources(bytes, between, out);
     }
     if let Some((_, [0x12 | 0x13, ..])) = elements_of(data) {
         return print_elements(data, false, DEEPEST - 1, between, out);
@@ -118,10 +118,9 @@ fn integer_in(data: &[u8]) -> Option<u64> {
         [0x00] => Some(0),
         [0x01] => Some(1),
         [0xFF] => Some(u64::MAX),
-        [0x0A, number @ ..] if number.len() == 1 => Some(number_of(number)),
-        [0x0B, number @ ..] if number.len() == 2 => Some(number_of(number)),
-        [0x0C, number @ ..] if number.len() == 4 => Some(number_of(number)),
-        [0x0E, number @ ..] if number.len() == 8 => Some(number_of(number)),
+        [0x0A, _] | [0x0B, _, _] | [0x0C, _, _, _, _] | [0x0E, _, _, _, _, _, _, _, _] => {
+            Some(number_of(&data[1..]))
+        }
         _ => None,
     }
 }
@@ -181,13 +180,9 @@ fn print_buffer(data: &[u8], out: &mut Out) {
 
 /// Whether the bytes of a buffer are a UUID of version 1 to 5, of the variant of RFC 4122.
 fn is_uuid(size: Option<u64>, bytes: &[u8]) -> bool {
-    let [_, _, _, _, _, _, _, version, variant, ..] = bytes else {
-        return false;
-    };
     size == Some(16)
         && bytes.len() == 16
-        && (0x10..0x60).contains(version)
-        && (0x80..0xC0).contains(variant)
+        && matches!(bytes, [_, _, _, _, _, _, _, 0x10..=0x5F, 0x80..=0xBF, ..])
 }
 
 /// Prints the elements of a package, each but the first after `between`: as many as it has, or fewer if no more are
