@@ -1,7 +1,7 @@
 //! The SRAT and the SLIT (ACPI 6.5, sections 5.2.16 and 5.2.17).
 
 use crate::findings::Findings;
-use crate::machine::{Machine, Table};
+use crate::machine::Machine;
 use crate::numbers::{Kept, Numbers};
 use crate::pieces::Pieces;
 use crate::spans::{Span, overlaps};
@@ -30,53 +30,54 @@ slit-too-few warning ACPI 6.5, section 5.2.17 | A domain of the SRAT isn't one o
     | domain %, and the SLIT has % localities
 ";
 
-// The lists of numbers that are judged together: the processors of the SRAT, by the ids of their local APICs and by
-// their UIDs, the processors of the MADT, and the enabled ones of these.
-const PLACED_APICS: u64 = 0;
+// The lists of numbers that are judged together: of processors those by the ids of their local APICs, and the list after
+// each those by their UIDs.
+const PLACED: u64 = 0; // by the SRAT
 
-const PLACED_UIDS: u64 = 1;
+const LISTED: u64 = 2; // by the MADT
 
-const LISTED_APICS: u64 = 2;
+const ENABLED: u64 = 4; // those of them that are enabled
 
-const LISTED_UIDS: u64 = 3;
+const DOMAINS: u64 = 6; // of the SRAT
 
-const ENABLED_APICS: u64 = 4;
-
-const ENABLED_UIDS: u64 = 5;
-
-/// The domains of the SRAT.
-const DOMAINS: u64 = 6;
+/// The enabled processors of a SRAT.
+const PLACES: [Kept; 3] = [
+    (0, PLACED, (3, 1), 4),
+    (2, PLACED, (8, 4), 12),
+    (3, PLACED + 1, (6, 4), 10),
+];
 
 /// The processors of a MADT.
 const PROCESSORS: [Kept; 6] = [
-    (0, LISTED_APICS, (3, 1), 0),
-    (0, ENABLED_APICS, (3, 1), 4),
-    (9, LISTED_APICS, (4, 4), 0),
-    (9, ENABLED_APICS, (4, 4), 8),
-    (0xb, LISTED_UIDS, (8, 4), 0),
-    (0xb, ENABLED_UIDS, (8, 4), 12),
+    (0, LISTED, (3, 1), 0),
+    (0, ENABLED, (3, 1), 4),
+    (9, LISTED, (4, 4), 0),
+    (9, ENABLED, (4, 4), 8),
+    (0xb, LISTED + 1, (8, 4), 0),
+    (0xb, ENABLED + 1, (8, 4), 12),
 ];
 
 /// Judges the first SRAT beside the first MADT and the first SLIT.
 pub(crate) fn check_affinities(machine: &Machine<'_>, findings: &mut Findings) {
-    let Some(srat) = machine.first(Signature::SRAT) else {
+    let Some((index, srat)) = machine.first(Signature::SRAT) else {
         return;
     };
+    findings.table = index;
     let mut numbers = Numbers::new(machine.alloc);
-    add_entries(srat.bytes, &mut numbers);
+    add_entries(srat, &mut numbers);
     let madt = machine.first(Signature::MADT);
     let has_processors = match madt {
-        Some(madt) => add_processors(madt.bytes, &mut numbers),
+        Some((_, madt)) => add_processors(madt, &mut numbers),
         None => false,
     };
     findings.need(numbers.sort());
-    if let Some(madt) = madt
+    if let Some((_, slit)) = machine.first(Signature::SLIT) {
+        check_localities(Distances::over(slit).localities(), &numbers, findings);
+    }
+    if let Some((madt, _)) = madt
         && has_processors
     {
-        check_processors(srat.index, madt.index, &numbers, findings);
-    }
-    if let Some(slit) = machine.first(Signature::SLIT) {
-        check_localities(srat.index, slit, &numbers, findings);
+        check_processors(index, madt, &numbers, findings);
     }
 }
 
@@ -95,14 +96,14 @@ fn add_processors(madt: &[u8], numbers: &mut Numbers) -> bool {
 }
 
 /// Judges the enabled ranges of memory of a SRAT.
-pub(crate) fn check_ranges(srat: Table<'_>, findings: &mut Findings) {
+pub(crate) fn check_ranges(srat: &[u8], findings: &mut Findings) {
     let mut ranges = Vec::new(findings.alloc);
-    let is_byte = field(srat.bytes, 8, 1) < 2; // a domain is, up to Revision 1
-    for (offset, entry) in Pieces::of(srat.bytes, 48, (1, 1)) {
+    let width = if field(srat, 8, 1) < 2 { 1 } else { 4usize }; // of a domain, by the Revision
+    for (offset, entry) in Pieces::of(srat, 48, (1, 1)) {
         // Type, Flags.
         if field(entry, 0, 1) == 1 && entry.len() >= 40 && field(entry, 28, 4) & 1 != 0 {
-            let domain = field(entry, 2, if is_byte { 1 } else { 4 });
-            if let Some(range) = range_of(srat.index, offset, entry, domain, findings) {
+            let domain = field(entry, 2, width);
+            if let Some(range) = range_of(offset, entry, domain, findings) {
                 findings.need(ranges.push(range).is_ok());
             }
         }
@@ -110,137 +111,94 @@ pub(crate) fn check_ranges(srat: Table<'_>, findings: &mut Findings) {
     for (before, range) in overlaps(&mut ranges, findings) {
         let (first, place) = (range.first, before.offset as u64);
         if range.owner == before.owner {
-            findings.add("srat-repeated", srat.index, range.offset, &[first, place]);
+            findings.add("srat-repeated", range.offset, &[first, place]);
         } else {
             let numbers = &[first, range.owner, before.owner, place];
-            findings.add("srat-overlap", srat.index, range.offset, numbers);
+            findings.add("srat-overlap", range.offset, numbers);
         }
     }
 }
 
 /// The range of memory of a domain that the entry at an offset has, if it has bytes. It finds one that has none, or
 /// ends above 2^64.
-fn range_of(
-    srat: usize,
-    offset: usize,
-    entry: &[u8],
-    domain: u64,
-    findings: &mut Findings,
-) -> Option<Span> {
+fn range_of(offset: usize, entry: &[u8], domain: u64, findings: &mut Findings) -> Option<Span> {
     let (base, length) = (field(entry, 8, 8), field(entry, 16, 8)); // Base Address, Length
     let at = offset.saturating_add(16);
     let Some(more) = length.checked_sub(1) else {
-        findings.add("srat-empty", srat, at, &[length]);
+        findings.add("srat-empty", at, &[length]);
         return None;
     };
-    let last = base.checked_add(more);
-    if last.is_none() {
-        findings.add("srat-past-end", srat, at, &[length, base]);
+    if base.checked_add(more).is_none() {
+        findings.add("srat-past-end", at, &[length, base]);
     }
-    Some(Span {
-        first: base,
-        last: last.unwrap_or(u64::MAX),
-        offset: offset.saturating_add(8),
-        owner: domain,
-    })
+    Some(Span::of(base, more, offset.saturating_add(8), domain))
 }
 
-/// Adds what the enabled entries of a SRAT name.
+/// Adds the domains and the processors that the enabled entries of a SRAT name.
 fn add_entries(srat: &[u8], numbers: &mut Numbers) {
     let revision = field(srat, 8, 1) as u8; // Revision
     let mut rest = skip(srat, 48);
     while let Some((entry, others)) = split_front(&SRAT_GRAMMAR, rest) {
         let offset = srat.len().saturating_sub(rest.len());
+        numbers.add(&PLACES, offset, entry);
         if let Some(entry) = SratEntry::read(revision, entry)
             && entry.is_enabled() != Some(false)
         {
-            add_entry(offset, &entry, numbers);
+            let (domain, place) = domain_of(&entry);
+            numbers.push(DOMAINS, domain as u64, offset.saturating_add(place));
         }
         rest = others;
     }
 }
 
-/// Adds the domain and the processor of the entry at an offset of a SRAT.
-fn add_entry(offset: usize, entry: &SratEntry, numbers: &mut Numbers) {
-    let (domain, place) = match entry {
-        SratEntry::LocalApic(it) => {
-            numbers.push(PLACED_APICS, it.apic_id as u64, offset.saturating_add(3));
-            (it.domain as u64, 2)
-        }
-        SratEntry::Memory(it) => (it.domain as u64, 2),
-        SratEntry::LocalX2Apic(it) => {
-            numbers.push(PLACED_APICS, it.x2apic_id as u64, offset.saturating_add(8));
-            (it.domain as u64, 4)
-        }
-        SratEntry::Gicc(it) => {
-            numbers.push(
-                PLACED_UIDS,
-                it.processor_uid as u64,
-                offset.saturating_add(6),
-            );
-            (it.domain as u64, 2)
-        }
-        SratEntry::GicIts(it) => (it.domain as u64, 2),
-        SratEntry::GenericInitiator(it) | SratEntry::GenericPort(it) => (it.domain as u64, 4usize),
-    };
-    numbers.push(DOMAINS, domain, offset.saturating_add(place));
+/// The domain of an entry of a SRAT, and its offset in the entry.
+fn domain_of(entry: &SratEntry) -> (u32, usize) {
+    match entry {
+        SratEntry::LocalApic(it) => (it.domain, 2),
+        SratEntry::Memory(it) => (it.domain, 2),
+        SratEntry::LocalX2Apic(it) => (it.domain, 4),
+        SratEntry::Gicc(it) => (it.domain, 2),
+        SratEntry::GicIts(it) => (it.domain, 2),
+        SratEntry::GenericInitiator(it) | SratEntry::GenericPort(it) => (it.domain, 4),
+    }
 }
-
-/// What is said of processors, by the lists that have them, and which list lacks them.
-const LACKING: [(u64, u64, &str, &str); 4] = [
-    (
-        PLACED_APICS,
-        LISTED_APICS,
-        "srat-unknown-processor",
-        "the processor with the APIC ID % isn't in the MADT",
-    ),
-    (
-        PLACED_UIDS,
-        LISTED_UIDS,
-        "srat-unknown-processor",
-        "the processor with the UID % isn't in the MADT",
-    ),
-    (
-        ENABLED_APICS,
-        PLACED_APICS,
-        "srat-no-domain",
-        "the processor with the APIC ID % has no domain in the SRAT",
-    ),
-    (
-        ENABLED_UIDS,
-        PLACED_UIDS,
-        "srat-no-domain",
-        "the processor with the UID % has no domain in the SRAT",
-    ),
-];
 
 /// Judges the processors of a MADT beside the processors of a SRAT.
 fn check_processors(srat: usize, madt: usize, numbers: &Numbers, findings: &mut Findings) {
     for (list, number, offset) in numbers.all.iter() {
-        for (of, other, id, words) in &LACKING {
-            if *of == *list && !numbers.has(*other, *number) {
-                let table = if *id == "srat-no-domain" { madt } else { srat };
-                findings.add_words(*id, table, *offset, *words, &[*number]);
-            }
+        let (by_uid, number) = (*list % 2, *number);
+        let (table, other, id, why) = match *list - by_uid {
+            PLACED => (srat, LISTED, "srat-unknown-processor", "isn't in the MADT"),
+            ENABLED => (madt, PLACED, "srat-no-domain", "has no domain in the SRAT"),
+            _ => continue,
+        };
+        if !numbers.has(other + by_uid, number) {
+            let what = if by_uid == 0 { "APIC ID" } else { "UID" };
+            let start = findings.text.length();
+            write!(
+                findings.text,
+                "the processor with the {what} {number} {why}"
+            );
+            findings.table = table;
+            findings.end(id, *offset, start);
         }
     }
 }
 
-/// Judges whether each domain of a SRAT is a locality of a SLIT.
-fn check_localities(srat: usize, slit: Table<'_>, numbers: &Numbers, findings: &mut Findings) {
-    let count = Distances::over(slit.bytes).localities();
+/// Judges whether each domain of a SRAT is one of the localities of a SLIT.
+fn check_localities(count: u64, numbers: &Numbers, findings: &mut Findings) {
     let mut before = None;
     for (list, domain, offset) in numbers.all.iter() {
         if *list == DOMAINS && *domain >= count && before != Some(*domain) {
-            findings.add("slit-too-few", srat, *offset, &[*domain, count]);
+            findings.add("slit-too-few", *offset, &[*domain, count]);
             before = Some(*domain);
         }
     }
 }
 
 /// Judges the distances of a SLIT: of each rule, the first from a locality to others.
-pub(crate) fn check_distances(slit: Table<'_>, findings: &mut Findings) {
-    let distances = Distances::over(slit.bytes);
+pub(crate) fn check_distances(slit: &[u8], findings: &mut Findings) {
+    let distances = Distances::over(slit);
     let count = distances.localities();
     for from in 0..count {
         let Some(own) = distances.distance(from, from) else {
@@ -249,7 +207,7 @@ pub(crate) fn check_distances(slit: Table<'_>, findings: &mut Findings) {
         let row = count.saturating_mul(from).saturating_add(44);
         if own != 10 {
             let at = row.saturating_add(from) as usize;
-            findings.add("slit-diagonal", slit.index, at, &[from, own as u64]);
+            findings.add("slit-diagonal", at, &[from, own as u64]);
         }
         let (mut is_low, mut is_other) = (false, false);
         for to in 0..count {
@@ -258,8 +216,7 @@ pub(crate) fn check_distances(slit: Table<'_>, findings: &mut Findings) {
             };
             let (at, distance) = (row.saturating_add(to) as usize, distance as u64);
             if distance < 10 && from != to && !is_low {
-                let numbers = &[to, distance, from];
-                findings.add("slit-reserved-distance", slit.index, at, numbers);
+                findings.add("slit-reserved-distance", at, &[to, distance, from]);
                 is_low = true;
             }
             if to < from
@@ -268,7 +225,7 @@ pub(crate) fn check_distances(slit: Table<'_>, findings: &mut Findings) {
                 && back as u64 != distance
             {
                 let numbers = &[distance, from, to, back as u64, to, from];
-                findings.add("slit-asymmetric", slit.index, at, numbers);
+                findings.add("slit-asymmetric", at, numbers);
                 is_other = true;
             }
         }

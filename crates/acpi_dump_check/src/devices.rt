@@ -2,7 +2,7 @@
 //! 5.2.23), the SPCR (Microsoft: Serial Port Console Redirection Table) and the DBG2 (Microsoft Debug Port Table 2).
 
 use crate::findings::Findings;
-use crate::machine::{Machine, Table};
+use crate::machine::Machine;
 use crate::pieces::Pieces;
 use crate::spans::{Span, overlaps};
 use acpi::mcfg::McfgEntryIter;
@@ -33,71 +33,55 @@ dbg2-console note Microsoft Debug Port Table 2 | No serial port has the register
 
 /// Judges the first SPCR beside the first DBG2.
 pub(crate) fn check_console(machine: &Machine<'_>, findings: &mut Findings) {
-    if let Some(console) = machine.first(Signature::SPCR)
-        && let Some((space, address)) = register_at(console.bytes, 40)
-        && let Some(debug) = machine.first(Signature::DBG2)
-        && has_other_ports(debug.bytes, (space, address))
+    if let Some((index, console)) = machine.first(Signature::SPCR)
+        && let Some((space, address)) = register_at(console, 40)
+        && let Some((_, debug)) = machine.first(Signature::DBG2)
+        && has_other_ports(debug, (space, address))
     {
-        findings.add("dbg2-console", console.index, 40, &[address, space]);
+        findings.table = index;
+        findings.add("dbg2-console", 40, &[address, space]);
     }
 }
 
 /// Judges the regions of an MCFG.
-pub(crate) fn check_regions(mcfg: Table<'_>, findings: &mut Findings) {
+pub(crate) fn check_regions(mcfg: &[u8], findings: &mut Findings) {
     let mut buses = Vec::new(findings.alloc);
     let mut memory = Vec::new(findings.alloc);
     let mut offset = 44usize;
-    for region in McfgEntryIter::over(mcfg.bytes) {
+    for region in McfgEntryIter::over(mcfg) {
         let (first, last) = (region.bus_number_start as u64, region.bus_number_end as u64);
         let (base, segment) = (region.base_address, region.pci_segment_group as u64);
         if last < first {
-            findings.add(
-                "mcfg-buses",
-                mcfg.index,
-                offset.saturating_add(10),
-                &[first, last],
-            );
+            findings.add("mcfg-buses", offset.saturating_add(10), &[first, last]);
         } else {
-            check_base(mcfg.index, offset, base, last, findings);
-            let bus = Span {
-                first: segment << 8 | first,
-                last: segment << 8 | last,
-                offset,
-                owner: segment << 16 | first << 8 | last, // the segment and its buses
-            };
-            let bytes = Span {
-                first: base.saturating_add(first << 20),
-                last: base.saturating_add(last << 20 | 0xfffff),
-                ..bus
-            };
+            check_base(offset, base, last, findings);
+            let (more, owner) = (last - first, segment << 16 | first << 8 | last); // the segment and its buses
+            let bus = Span::of(segment << 8 | first, more, offset, owner);
+            let start = base.saturating_add(first << 20);
+            let bytes = Span::of(start, more << 20 | 0xfffff, offset, owner);
             findings.need(buses.push(bus).is_ok() && memory.push(bytes).is_ok());
         }
         offset = offset.saturating_add(16);
     }
     for (before, region) in overlaps(&mut buses, findings) {
-        let (bus, at) = (region.first & 0xff, region.offset.saturating_add(10));
-        findings.add(
-            "mcfg-shared-bus",
-            mcfg.index,
-            at,
-            &[bus, before.offset as u64],
-        );
+        let numbers = &[region.first & 0xff, before.offset as u64];
+        findings.add("mcfg-shared-bus", region.offset.saturating_add(10), numbers);
     }
     for (before, region) in overlaps(&mut memory, findings) {
         if !shares_bus(before.owner, region.owner) {
             let numbers = &[region.first, before.offset as u64];
-            findings.add("mcfg-overlap", mcfg.index, region.offset, numbers);
+            findings.add("mcfg-overlap", region.offset, numbers);
         }
     }
 }
 
 /// Judges where a region is, by its base and its last bus.
-fn check_base(mcfg: usize, offset: usize, base: u64, last: u64, findings: &mut Findings) {
+fn check_base(offset: usize, base: u64, last: u64, findings: &mut Findings) {
     if base & 0xfffff != 0 {
-        findings.add("mcfg-unaligned", mcfg, offset, &[base]);
+        findings.add("mcfg-unaligned", offset, &[base]);
     }
     if base.checked_add(last << 20 | 0xfffff).is_none() {
-        findings.add("mcfg-past-end", mcfg, offset, &[last, base]);
+        findings.add("mcfg-past-end", offset, &[last, base]);
     }
 }
 

@@ -3,7 +3,7 @@
 use crate::findings::Findings;
 use crate::machine::Machine;
 use acpi::sdt::{Signature, field};
-use acpi_dump_input::entries::Place;
+use acpi_dump_input::entries::{Entry, Place};
 
 pub(crate) const RULES: &str = "
 facs-alignment warning ACPI 6.5, section 5.2.10 | The FACS isn't at a multiple of 64 | is at #
@@ -12,27 +12,24 @@ facs-version note ACPI 6.5, section 5.2.10 | The Version of the FACS isn't that 
     | is %, should be % beside a FADT of revision %
 ";
 
-/// Judges each FACS, beside the first FADT.
-pub(crate) fn check_facs(machine: &Machine<'_>, findings: &mut Findings) {
-    let fadt = machine.first(Signature::FADT);
-    for (index, entry) in machine.entries.iter().enumerate() {
-        if !entry.bytes.starts_with(b"FACS") {
-            continue;
-        }
-        if let Place::Address(address) = entry.place
-            && address % 64 != 0
-        {
-            findings.add("facs-alignment", index, 0, &[address]);
-        }
-        let (length, version) = (field(entry.bytes, 4, 4), field(entry.bytes, 32, 1));
-        if length < 64 {
-            findings.add("facs-length", index, 4, &[length]);
-        } else if let Some(fadt) = fadt {
-            let revision = field(fadt.bytes, 8, 1);
-            let wanted = revision.max(2).min(4) - 2;
-            if version != wanted {
-                findings.add("facs-version", index, 32, &[version, wanted, revision]);
-            }
+/// Judges a FACS, beside the first FADT.
+pub(crate) fn check_facs(machine: &Machine<'_>, entry: &Entry<'_>, findings: &mut Findings) {
+    if !entry.bytes.starts_with(b"FACS") {
+        return;
+    }
+    if let Place::Address(address) = entry.place
+        && address % 64 != 0
+    {
+        findings.add("facs-alignment", 0, &[address]);
+    }
+    let (length, version) = (field(entry.bytes, 4, 4), field(entry.bytes, 32, 1));
+    if length < 64 {
+        findings.add("facs-length", 4, &[length]);
+    } else if let Some((_, fadt)) = machine.first(Signature::FADT) {
+        let revision = field(fadt, 8, 1);
+        let wanted = revision.max(2).min(4) - 2;
+        if version != wanted {
+            findings.add("facs-version", 32, &[version, wanted, revision]);
         }
     }
 }

@@ -1,9 +1,7 @@
 //! The FADT (ACPI 6.5, section 5.2.9).
 
 use crate::findings::Findings;
-use crate::machine::Table;
 use acpi::sdt::field;
-use acpi_dump_walk::out::Out;
 
 pub(crate) const RULES: &str = "
 fadt-dsdt-differs warning ACPI 6.5, section 5.2.9 | DSDT and X_DSDT are two addresses \
@@ -44,48 +42,42 @@ const BLOCKS: [Block; 8] = [
 ];
 
 /// Judges a FADT.
-pub(crate) fn check_fadt(table: Table<'_>, findings: &mut Findings) {
-    let Table { index, bytes: fadt } = table;
-    check_addresses(index, fadt, findings);
-    check_general(index, fadt, findings);
-    // HW_REDUCED_ACPI.
-    let is_reduced = field(fadt, 112, 4) & 1 << 20 != 0;
-    // SMI_CMD, ACPI_ENABLE.
-    if !is_reduced && field(fadt, 48, 4) == 0 && field(fadt, 52, 1) != 0 {
-        findings.add("fadt-smi-command", index, 48, &[]);
-    }
-    for block in &BLOCKS {
-        check_block(index, fadt, *block, is_reduced, findings);
-    }
-}
-
-/// Judges what a FADT of any hardware has.
-fn check_general(index: usize, fadt: &[u8], findings: &mut Findings) {
+pub(crate) fn check_fadt(fadt: &[u8], findings: &mut Findings) {
+    check_addresses(fadt, findings);
+    let flags = field(fadt, 112, 4);
     let (space, width) = (field(fadt, 116, 1), field(fadt, 117, 1)); // RESET_REG
     // RESET_REG_SUP.
-    if field(fadt, 112, 4) & 1 << 10 != 0 && (space > 2 || width != 8) {
-        findings.add("fadt-reset-register", index, 116, &[width, space]);
+    if flags & 1 << 10 != 0 && (space > 2 || width != 8) {
+        findings.add("fadt-reset-register", 116, &[width, space]);
+    }
+    let is_reduced = flags & 1 << 20 != 0; // HW_REDUCED_ACPI
+    // SMI_CMD, ACPI_ENABLE.
+    if !is_reduced && field(fadt, 48, 4) == 0 && field(fadt, 52, 1) != 0 {
+        findings.add("fadt-smi-command", 48, &[]);
+    }
+    for block in &BLOCKS {
+        check_block(fadt, *block, is_reduced, findings);
     }
 }
 
 /// Judges the addresses of the DSDT and the FACS.
-fn check_addresses(index: usize, fadt: &[u8], findings: &mut Findings) {
+fn check_addresses(fadt: &[u8], findings: &mut Findings) {
     for (id, narrow, wide) in [
         ("fadt-dsdt-differs", 40usize, 140usize), // DSDT, X_DSDT
         ("fadt-facs-differs", 36, 132), // FIRMWARE_CTRL, X_FIRMWARE_CTRL
     ] {
         let (short, long) = (field(fadt, narrow, 4), field(fadt, wide, 8));
         if short != 0 && long != 0 && short != long {
-            findings.add(id, index, wide, &[long, short]);
+            findings.add(id, wide, &[long, short]);
         }
         if narrow == 40 && short == 0 && long == 0 {
-            findings.add("fadt-no-dsdt", index, 40, &[]);
+            findings.add("fadt-no-dsdt", 40, &[]);
         }
     }
 }
 
 /// Judges the two fields of a block: reduced hardware has none, and else they agree if its generic address is given.
-fn check_block(index: usize, fadt: &[u8], block: Block, is_reduced: bool, findings: &mut Findings) {
+fn check_block(fadt: &[u8], block: Block, is_reduced: bool, findings: &mut Findings) {
     let (name, narrow, length, wide) = block;
     let (port, length) = (field(fadt, narrow, 4), field(fadt, length, 1));
     let register = fadt.get(wide..).unwrap_or(&[]);
@@ -94,22 +86,25 @@ fn check_block(index: usize, fadt: &[u8], block: Block, is_reduced: bool, findin
     if is_reduced {
         if port != 0 || address != 0 {
             let offset = if port != 0 { narrow } else { wide };
-            findings.add("fadt-fixed-blocks", index, offset, &[]);
+            findings.add("fadt-fixed-blocks", offset, &[]);
         }
         return;
     }
     if address != 0 && port != 0 && (address != port || space != 1) {
-        let mut text = Out::new(findings.alloc);
+        let start = findings.text.length();
         write!(
-            text,
+            findings.text,
             "0x{address:x} in space {space}, and {name} is port 0x{port:x}"
         );
-        findings.add_text("fadt-block-differs", index, wide, &text);
+        findings.end("fadt-block-differs", wide, start);
     }
     // A width has eight bits, so that 32 bytes don't fit it.
     if address != 0 && length < 32 && width != 8 * length {
-        let mut text = Out::new(findings.alloc);
-        write!(text, "{width} bits wide, and {name} has {length} bytes");
-        findings.add_text("fadt-block-width", index, wide, &text);
+        let start = findings.text.length();
+        write!(
+            findings.text,
+            "{width} bits wide, and {name} has {length} bytes"
+        );
+        findings.end("fadt-block-width", wide, start);
     }
 }

@@ -1,20 +1,24 @@
 //! What the rules find.
 
 use crate::numbers::Numbers;
-use crate::rules::{UNKNOWN, rules};
+use crate::rules::rules;
 use acpi_dump_input::entries::{Entry, own_signature};
 use acpi_dump_input::judgement::{Finding, Judgement, Rule};
 use acpi_dump_walk::out::Out;
 use acpi_dump_walk::walk::{Field, Show, walk_table};
 use std::alloc::{AllocError, Global};
+use std::fmt::Display;
 
 /// What the rules find. It gets nothing more after memory for a finding was refused.
 #[derive(Drop)]
 pub(crate) struct Findings {
     pub(crate) alloc: Global,
+    /// The number among the entries of the table that is judged.
+    pub(crate) table: usize,
+    /// The messages, one after the other.
+    pub(crate) text: Out,
     rules: Vec<Rule>,
     list: Vec<Finding>,
-    text: Out,
     is_refused: bool,
 }
 
@@ -25,67 +29,64 @@ impl Findings {
     pub(crate) fn new(alloc: Global) -> Result<Findings, AllocError> {
         Ok(Findings {
             alloc,
+            table: 0,
+            text: Out::new(alloc),
             rules: rules(alloc)?,
             list: Vec::new(alloc),
-            text: Out::new(alloc),
             is_refused: false,
         })
     }
 
     /// The rule of an id.
-    fn rule(&self, id: &str) -> Rule {
+    fn rule(&self, id: &str) -> Option<Rule> {
         for rule in &self.rules {
             if rule.id == id {
-                return *rule;
+                return Some(*rule);
             }
         }
-        UNKNOWN
+        None
     }
 
-    /// Adds what a rule finds at an offset of the table that has this number among the entries. Its message is what was
-    /// printed from a place of the text on.
-    fn end(&mut self, rule: Rule, table: usize, offset: usize, start: usize) {
-        let finding = Finding {
-            rule,
-            table,
-            offset,
-            field: "",
-            start,
-            end: self.text.length(),
-        };
-        self.is_refused |= self.list.push(finding).is_err();
+    /// Adds what the rule of an id finds at an offset of the table. Its message is what was printed from a place of the
+    /// text on.
+    pub(crate) fn end(&mut self, id: &str, offset: usize, start: usize) {
+        if let Some(rule) = self.rule(id) {
+            let finding = Finding {
+                rule,
+                table: self.table,
+                offset,
+                field: "",
+                start,
+                end: self.text.length(),
+            };
+            self.is_refused |= self.list.push(finding).is_err();
+        }
     }
 
     /// Adds what the rule of an id finds there: words with numbers, as `Out::words` prints them.
-    pub(crate) fn add_words(
-        &mut self,
-        id: &str,
-        table: usize,
-        offset: usize,
-        words: &str,
-        numbers: &[u64],
-    ) {
-        let (rule, start) = (self.rule(id), self.text.length());
+    pub(crate) fn add_words(&mut self, id: &str, offset: usize, words: &str, numbers: &[u64]) {
+        let start = self.text.length();
         self.text.words(words, numbers);
-        self.end(rule, table, offset, start);
+        self.end(id, offset, start);
     }
 
     /// Adds what the rule of an id finds there: its message with numbers.
-    pub(crate) fn add(&mut self, id: &str, table: usize, offset: usize, numbers: &[u64]) {
-        let message = self.rule(id).message;
-        self.add_words(id, table, offset, message, numbers);
+    pub(crate) fn add(&mut self, id: &str, offset: usize, numbers: &[u64]) {
+        if let Some(rule) = self.rule(id) {
+            self.add_words(id, offset, rule.message, numbers);
+        }
     }
 
-    /// Adds what the rule of an id finds there: a message that has been printed.
-    pub(crate) fn add_text(&mut self, id: &str, table: usize, offset: usize, message: &Out) {
-        let (rule, start) = (self.rule(id), self.text.length());
-        self.text.append(message);
-        self.end(rule, table, offset, start);
+    /// Adds what the rule of an id finds there: a message that a value is.
+    pub(crate) fn add_value<D: Display>(&mut self, id: &str, offset: usize, message: &D) {
+        let start = self.text.length();
+        self.text.value(message);
+        self.end(id, offset, start);
     }
 
-    /// Adds, for each number of a table that came before in its list, what the rule of the list finds there: its
+    /// Adds, for each number that came before in its list, what the rule of the list finds there: its
     /// message with the number and where else it is. The ids are of the rules of the first lists: others have none.
-    pub(crate) fn add_repeated(&mut self, ids: &[&str], table: usize, numbers: &mut Numbers) {
+    pub(crate) fn add_repeated(&mut self, ids: &[&str], numbers: &mut Numbers) {
         self.is_refused |= !numbers.sort();
         let mut before = None;
         for (list, number, offset) in numbers.all.iter() {
@@ -94,7 +95,7 @@ impl Findings {
                 && repeated == *number
                 && let Some(id) = ids.get(*list as usize)
             {
-                self.add(*id, table, *offset, &[repeated, other as u64]);
+                self.add(*id, *offset, &[repeated, other as u64]);
             }
             before = Some((*list, *number, *offset));
         }
@@ -110,11 +111,10 @@ impl Findings {
     /// Fails if memory runs out, or did before.
     pub(crate) fn in_order(self, entries: &[Entry<'_>]) -> Result<Judgement, AllocError> {
         let Findings {
-            alloc: _,
-            rules: _,
             mut list,
             text,
             is_refused,
+            ..
         } = self;
         list.sort_by_key(|it| (it.table, it.offset))?;
         if is_refused || text.printed().is_none() {

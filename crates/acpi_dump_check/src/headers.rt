@@ -2,14 +2,12 @@
 
 use crate::devices::register_at;
 use crate::findings::Findings;
-use crate::machine::Machine;
 use acpi::AcpiError;
 use acpi::sdt::{Signature, field};
 use acpi_dump_input::entries::{Entry, own_signature};
 use acpi_dump_input::status::Status;
 use acpi_dump_walk::fault::Fault;
 use acpi_dump_walk::fields::unnamed_in;
-use acpi_dump_walk::out::Out;
 use acpi_dump_walk::walk::{Field, Show, walk_table};
 
 pub(crate) const RULES: &str = "
@@ -74,16 +72,9 @@ const FORMS: [Form; 39] = [
     ("UEFI", (1, 1), (54, 1)),
 ];
 
-/// Judges the header of each table, and the fields that it reserves.
-pub(crate) fn check_headers(machine: &Machine<'_>, findings: &mut Findings) {
-    for (index, entry) in machine.entries.iter().enumerate() {
-        check_status(entry, index, findings);
-        check_entry(entry, index, findings);
-    }
-}
-
-/// Judges the fields of a table's header, if it has one, and each field by itself.
-fn check_entry(entry: &Entry<'_>, index: usize, findings: &mut Findings) {
+/// Judges a table's header, if it has one, and each field by itself.
+pub(crate) fn check_header(entry: &Entry<'_>, findings: &mut Findings) {
+    check_status(entry, findings);
     let (signature, mut table) = (own_signature(entry.bytes), entry.bytes);
     let name = signature.as_str().unwrap_or("");
     let mut is_known = true;
@@ -92,11 +83,10 @@ fn check_entry(entry: &Entry<'_>, index: usize, findings: &mut Findings) {
             return;
         }
         table = entry.table();
-        is_known = check_form(table, index, name, findings);
+        is_known = check_form(table, name, findings);
     }
     let mut fields = Fields {
         findings,
-        index,
         name,
         is_known,
         is_whole: !matches!(entry.status, Status::Cut { .. } | Status::Refused(_)),
@@ -116,27 +106,26 @@ fn has_codes(table: &[u8], name: &str) -> bool {
 }
 
 /// Judges what the checks of a table say. What they say of a FACS of under 64 bytes is a rule of its own.
-fn check_status(entry: &Entry<'_>, index: usize, findings: &mut Findings) {
+fn check_status(entry: &Entry<'_>, findings: &mut Findings) {
     let is_short_facs = entry.bytes.starts_with(b"FACS") && field(entry.bytes, 4, 4) < 64;
     if is_short_facs || entry.bytes.is_empty() {
         return;
     }
-    let mut text = Out::new(findings.alloc);
     let offset = match entry.status {
         Status::WrongSum { is, should, .. } => {
-            write!(text, "is 0x{is:02x}, should be 0x{should:02x}");
-            return findings.add_text("header-sum", index, 9, &text);
+            let start = findings.text.length();
+            write!(findings.text, "is 0x{is:02x}, should be 0x{should:02x}");
+            return findings.end("header-sum", 9, start);
         }
         Status::Longer(over) => {
             let numbers = [field(entry.bytes, 4, 4), over as u64];
-            return findings.add("header-bytes-after", index, 4, &numbers);
+            return findings.add("header-bytes-after", 4, &numbers);
         }
         Status::Cut { .. } | Status::Refused(AcpiError::SdtInvalidLength(_)) => 4,
         Status::Refused(_) => 0,
         _ => return,
     };
-    text.value(&entry.status);
-    findings.add_text("header-refused", index, offset, &text);
+    findings.add_value("header-refused", offset, &entry.status);
 }
 
 /// The least length and the step of the form that tables of a name have in a revision, if there is one, and whether
@@ -156,17 +145,17 @@ fn form_of(name: &str, revision: u64) -> (Option<(u64, u64)>, bool) {
 
 /// Judges the letters, the length and the revision in the header of a table of a name. Returns whether the revision
 /// is known, or none of that name is.
-fn check_form(table: &[u8], index: usize, name: &str, findings: &mut Findings) -> bool {
+fn check_form(table: &[u8], name: &str, findings: &mut Findings) -> bool {
     for (offset, end) in [(10usize, 16usize), (16, 24), (28, 32)].iter() {
         if !is_printable(table.get(*offset..*end).unwrap_or(&[])) {
-            findings.add("header-letters", index, *offset, &[]);
+            findings.add("header-letters", *offset, &[]);
         }
     }
     let revision = field(table, 8, 1);
     match form_of(name, revision) {
-        (Some((least, step)), _) => check_length(table, index, least, step, findings),
+        (Some((least, step)), _) => check_length(table, least, step, findings),
         (None, true) => {
-            findings.add("header-revision", index, 8, &[revision]);
+            findings.add("header-revision", 8, &[revision]);
             return false;
         }
         _ => {}
@@ -175,7 +164,7 @@ fn check_form(table: &[u8], index: usize, name: &str, findings: &mut Findings) -
 }
 
 /// Judges the length of a table, which is a least one and steps from that on, or that one alone if the step is 0.
-fn check_length(table: &[u8], index: usize, least: u64, step: u64, findings: &mut Findings) {
+fn check_length(table: &[u8], least: u64, step: u64, findings: &mut Findings) {
     let (length, revision) = (field(table, 4, 4), field(table, 8, 1));
     let is_right = match length.checked_sub(least) {
         Some(over) if step > 0 => over % step == 0,
@@ -188,7 +177,7 @@ fn check_length(table: &[u8], index: usize, least: u64, step: u64, findings: &mu
             "is %, and for revision % %"
         };
         let numbers = &[length, revision, least, step];
-        findings.add_words("header-length", index, 4, words, numbers);
+        findings.add_words("header-length", 4, words, numbers);
     }
 }
 
@@ -209,7 +198,6 @@ fn is_printable(letters: &[u8]) -> bool {
 #[derive(Drop)]
 struct Fields<'f> {
     findings: &'f mut Findings,
-    index: usize,
     name: &'f str,
     /// Whether what it reserves is known.
     is_known: bool,
@@ -222,10 +210,9 @@ struct Fields<'f> {
 impl Show for Fields<'_> {
     fn malformed(&mut self, offset: u64, fault: Fault) {
         if self.is_whole {
-            let mut text = Out::new(self.findings.alloc);
-            fault.print(offset, &mut text);
-            self.findings
-                .add_text("table-malformed", self.index, offset as usize, &text);
+            let start = self.findings.text.length();
+            fault.print(offset, &mut self.findings.text);
+            self.findings.end("table-malformed", offset as usize, start);
         }
     }
 
@@ -234,8 +221,7 @@ impl Show for Fields<'_> {
         if self.has_codes
             && let Some(number) = unnamed_in(shown)
         {
-            self.findings
-                .add("field-code", self.index, offset, &[number]);
+            self.findings.add("field-code", offset, &[number]);
         }
         if !self.is_known || shown.label.name != "Reserved" {
             return;
@@ -248,8 +234,7 @@ impl Show for Fields<'_> {
             is_zero &= *byte == 0;
         }
         if !is_zero && !(is_one && may_be_one) {
-            self.findings
-                .add("header-reserved", self.index, offset, &[]);
+            self.findings.add("header-reserved", offset, &[]);
         }
     }
 }

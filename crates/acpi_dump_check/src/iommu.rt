@@ -2,7 +2,6 @@
 //! Technology (IOMMU) Specification 3.08, section 5.2) and the IORT (Arm DEN0049).
 
 use crate::findings::Findings;
-use crate::machine::Table;
 use crate::pieces::Pieces;
 use crate::spans::{Span, overlaps};
 use acpi::sdt::field;
@@ -29,12 +28,12 @@ iort-mapping-overlap warning Arm DEN0049, IORT | Two ID mappings of a node have 
 ";
 
 /// Judges the structures of a DMAR.
-pub(crate) fn check_dmar(dmar: Table<'_>, findings: &mut Findings) {
+pub(crate) fn check_dmar(dmar: &[u8], findings: &mut Findings) {
     // A bit for each segment whose unit with INCLUDE_PCI_ALL has come.
     let mut segments = [0u64; 1024];
-    let mut structures = DmarStructureIter::over(dmar.bytes);
+    let mut structures = DmarStructureIter::over(dmar);
     while let Some(structure) = structures.next() {
-        let end = dmar.bytes.len().saturating_sub(structures.rest().len());
+        let end = dmar.len().saturating_sub(structures.rest().len());
         let offset = end.saturating_sub(structure.length());
         match structure.fields() {
             Some(DmarFields::Drhd(unit)) => {
@@ -45,40 +44,37 @@ pub(crate) fn check_dmar(dmar: Table<'_>, findings: &mut Findings) {
                 }
                 if has_come {
                     let id = if is_all { "drhd-all" } else { "drhd-last" };
-                    let at = offset.saturating_add(4);
-                    findings.add(id, dmar.index, at, &[unit.segment as u64]);
+                    findings.add(id, offset.saturating_add(4), &[unit.segment as u64]);
                 }
             }
-            Some(DmarFields::Rmrr(range)) => check_reserved(dmar.index, offset, range, findings),
+            Some(DmarFields::Rmrr(range)) => check_reserved(offset, range, findings),
             _ => {}
         }
-        check_scopes(dmar.index, end, structure, findings);
+        check_scopes(end, structure, findings);
     }
 }
 
 /// Judges reserved memory, whose structure is at an offset.
-fn check_reserved(dmar: usize, offset: usize, range: Rmrr, findings: &mut Findings) {
+fn check_reserved(offset: usize, range: Rmrr, findings: &mut Findings) {
     let (base, limit) = (range.base, range.limit);
     if limit < base {
-        findings.add(
-            "rmrr-limit",
-            dmar,
-            offset.saturating_add(16),
-            &[limit, base],
-        );
+        findings.add("rmrr-limit", offset.saturating_add(16), &[limit, base]);
     } else if base & 0xfff != 0 || limit & 0xfff != 0xfff {
-        findings.add("rmrr-pages", dmar, offset.saturating_add(8), &[base, limit]);
+        findings.add("rmrr-pages", offset.saturating_add(8), &[base, limit]);
     }
 }
 
 /// Judges the device scopes of a structure that ends at an offset.
-fn check_scopes(dmar: usize, end: usize, structure: DmarStructure<'_>, findings: &mut Findings) {
+fn check_scopes(end: usize, structure: DmarStructure<'_>, findings: &mut Findings) {
     let mut scopes = structure.scopes();
     let mut offset = end.saturating_sub(scopes.rest().len());
     while let Some(scope) = scopes.next() {
         if scope.hops().next().is_none() {
-            let at = offset.saturating_add(1);
-            findings.add("scope-path", dmar, at, &[scope.kind() as u64]);
+            findings.add(
+                "scope-path",
+                offset.saturating_add(1),
+                &[scope.kind() as u64],
+            );
         }
         offset = end.saturating_sub(scopes.rest().len());
     }
@@ -94,32 +90,32 @@ const ENDS: [(u64, usize, &str); 4] = [
 ];
 
 /// Judges the blocks of an IVRS: its entries end where a range has no end, or an end no start.
-pub(crate) fn check_ivrs(ivrs: Table<'_>, findings: &mut Findings) {
-    let mut blocks = IvrsBlockIter::over(ivrs.bytes);
+pub(crate) fn check_ivrs(ivrs: &[u8], findings: &mut Findings) {
+    let mut blocks = IvrsBlockIter::over(ivrs);
     while let Some(block) = blocks.next() {
         let mut entries = block.entries();
         while let Some(_entry) = entries.next() {}
         let rest = entries.rest();
         let left = blocks.rest().len().saturating_add(rest.len());
-        let offset = ivrs.bytes.len().saturating_sub(left);
+        let offset = ivrs.len().saturating_sub(left);
         for (kind, length, id) in &ENDS {
             if field(rest, 0, 1) == *kind && rest.len() >= *length {
-                findings.add(*id, ivrs.index, offset, &[field(rest, 1, 2)]); // DeviceID
+                findings.add(*id, offset, &[field(rest, 1, 2)]); // DeviceID
             }
         }
     }
 }
 
 /// Judges the ID mappings of the nodes of an IORT.
-pub(crate) fn check_iort(iort: Table<'_>, findings: &mut Findings) {
-    let start = field(iort.bytes, 40, 4) as usize; // Offset to Array of IORT Nodes
-    for (offset, node) in Pieces::of(iort.bytes, start, (1, 2)) {
+pub(crate) fn check_iort(iort: &[u8], findings: &mut Findings) {
+    let start = field(iort, 40, 4) as usize; // Offset to Array of IORT Nodes
+    for (offset, node) in Pieces::of(iort, start, (1, 2)) {
         let mut mapped = Vec::new(findings.alloc);
         let (count, first) = (field(node, 8, 4) as usize, field(node, 12, 4) as usize); // ID mappings
         let mut at = offset.saturating_add(first);
         for mapping in skip(node, first).chunks(20).take(count) {
             if mapping.len() == 20
-                && let Some(span) = ids_of(iort.index, at, node, mapping, findings)
+                && let Some(span) = ids_of(at, node, mapping, findings)
             {
                 findings.need(mapped.push(span).is_ok());
             }
@@ -127,42 +123,31 @@ pub(crate) fn check_iort(iort: Table<'_>, findings: &mut Findings) {
         }
         for (before, span) in overlaps(&mut mapped, findings) {
             let numbers = &[span.first, before.offset as u64];
-            findings.add("iort-mapping-overlap", iort.index, span.offset, numbers);
+            findings.add("iort-mapping-overlap", span.offset, numbers);
         }
     }
 }
 
 /// The IDs that the mapping at an offset has. A single mapping has none, and neither has one of a Reserved Memory
 /// Range, whose input base doesn't count. It finds IDs above 32 bits.
-fn ids_of(
-    iort: usize,
-    offset: usize,
-    node: &[u8],
-    mapping: &[u8],
-    findings: &mut Findings,
-) -> Option<Span> {
+fn ids_of(offset: usize, node: &[u8], mapping: &[u8], findings: &mut Findings) -> Option<Span> {
     let (first, more) = (field(mapping, 0, 4), field(mapping, 4, 4)); // Input base, Number of IDs less 1
     if field(mapping, 16, 4) & 1 != 0 {
         return None;
     }
-    let output = offset.saturating_add(8);
-    check_ids(iort, output, field(mapping, 8, 4), more, findings); // Output base
+    let output = field(mapping, 8, 4); // Output base
+    check_ids(offset.saturating_add(8), output, more, findings);
     if field(node, 0, 1) == 6 {
         return None;
     }
-    check_ids(iort, offset, first, more, findings);
-    Some(Span {
-        first,
-        last: first.saturating_add(more),
-        offset,
-        owner: 0,
-    })
+    check_ids(offset, first, more, findings);
+    Some(Span::of(first, more, offset, 0))
 }
 
 /// Judges whether IDs have 32 bits, whose first one is at an offset, and of which this many follow.
-fn check_ids(iort: usize, offset: usize, first: u64, more: u64, findings: &mut Findings) {
+fn check_ids(offset: usize, first: u64, more: u64, findings: &mut Findings) {
     if first.saturating_add(more) >> 32 != 0 {
         let count = more.saturating_add(1);
-        findings.add("iort-mapping-end", iort, offset, &[count, first]);
+        findings.add("iort-mapping-end", offset, &[count, first]);
     }
 }

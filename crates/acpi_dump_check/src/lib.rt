@@ -24,10 +24,11 @@ mod rows;
 pub mod rules;
 mod spans;
 
+use acpi_dump_input::entries::own_signature;
 use acpi_dump_input::judgement::Judgement;
 use findings::Findings;
 pub use machine::Machine;
-use machine::Table;
+use machine::table_of;
 use std::alloc::AllocError;
 
 /// The texts of the rules, subject by subject.
@@ -52,10 +53,11 @@ fn subjects() -> [&'static str; 10] {
 pub fn findings_of(machine: &Machine<'_>) -> Result<Judgement, AllocError> {
     let mut findings = Findings::new(machine.alloc)?;
     roots::check_roots(machine, &mut findings);
-    headers::check_headers(machine, &mut findings);
-    facs::check_facs(machine, &mut findings);
-    for index in 0..machine.entries.len() {
-        if let Some(table) = machine.table(index) {
+    for (index, entry) in machine.entries.iter().enumerate() {
+        findings.table = index;
+        headers::check_header(entry, &mut findings);
+        facs::check_facs(machine, entry, &mut findings);
+        if let Some(table) = table_of(entry) {
             check_table(table, &mut findings);
         }
     }
@@ -65,8 +67,8 @@ pub fn findings_of(machine: &Machine<'_>) -> Result<Judgement, AllocError> {
 }
 
 /// Judges a table by itself.
-fn check_table(table: Table<'_>, findings: &mut Findings) {
-    match table.signature().as_str().unwrap_or("") {
+fn check_table(table: &[u8], findings: &mut Findings) {
+    match own_signature(table).as_str().unwrap_or("") {
         "APIC" => madt::check_madt(table, findings),
         "DMAR" => iommu::check_dmar(table, findings),
         "FACP" => fadt::check_fadt(table, findings),

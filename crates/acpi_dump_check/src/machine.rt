@@ -15,39 +15,23 @@ pub struct Machine<'a> {
     pub rsdt: &'a [u8],
 }
 
-/// A table that is judged: its number among the entries, and its bytes up to its length.
-#[derive(Clone, Copy)]
-pub(crate) struct Table<'a> {
-    pub(crate) index: usize,
-    pub(crate) bytes: &'a [u8],
-}
-
-impl Table<'_> {
-    /// The signature that it has.
-    pub(crate) fn signature(&self) -> Signature {
-        own_signature(self.bytes)
+/// The bytes of a table up to its length, if that is at least 36 and all of them are there. They needn't sum to 0.
+pub(crate) fn table_of<'a>(entry: &Entry<'a>) -> Option<&'a [u8]> {
+    let length = field(entry.bytes, 4, 4) as usize;
+    if length < 36 {
+        return None;
     }
+    entry.bytes.get(..length)
 }
 
 impl<'a> Machine<'a> {
-    /// The table of this number, if it has a length of at least 36 of which all bytes are there. They needn't sum to 0.
-    pub(crate) fn table(&self, index: usize) -> Option<Table<'a>> {
-        let bytes = self.entries.get(index)?.bytes;
-        let length = field(bytes, 4, 4) as usize;
-        if length < 36 {
-            return None;
-        }
-        let bytes = bytes.get(..length)?;
-        Some(Table { index, bytes })
-    }
-
-    /// The first table of a signature, as `table` returns it.
-    pub(crate) fn first(&self, signature: Signature) -> Option<Table<'a>> {
-        for index in 0..self.entries.len() {
-            if let Some(table) = self.table(index)
-                && table.signature() == signature
+    /// The first table of a signature, as `table_of` returns it, after its number among the entries.
+    pub(crate) fn first(&self, signature: Signature) -> Option<(usize, &'a [u8])> {
+        for (index, entry) in self.entries.iter().enumerate() {
+            if let Some(table) = table_of(entry)
+                && own_signature(table) == signature
             {
-                return Some(table);
+                return Some((index, table));
             }
         }
         None

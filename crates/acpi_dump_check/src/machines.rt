@@ -2,7 +2,6 @@
 //! Specification 1.2).
 
 use crate::findings::Findings;
-use crate::machine::Table;
 use crate::numbers::Numbers;
 use crate::pieces::Pieces;
 use acpi::sdt::field;
@@ -20,9 +19,9 @@ tpm2-log error TCG ACPI Specification 1.2 | The log has a length, and is at addr
 const OTHERS: u64 = 2;
 
 /// Judges whether the nodes of a PPTT lead in a circle.
-pub(crate) fn check_cycles(pptt: Table<'_>, findings: &mut Findings) {
+pub(crate) fn check_cycles(pptt: &[u8], findings: &mut Findings) {
     let mut nodes = Numbers::new(findings.alloc);
-    for (offset, node) in Pieces::of(pptt.bytes, 36, (1, 1)) {
+    for (offset, node) in Pieces::of(pptt, 36, (1, 1)) {
         nodes.push(field(node, 0, 1).min(OTHERS), offset as u64, offset); // Type
     }
     findings.need(nodes.sort());
@@ -38,14 +37,13 @@ pub(crate) fn check_cycles(pptt: Table<'_>, findings: &mut Findings) {
             if *walk == start + 1
                 && let Some((_, place, offset)) = nodes.all.get(at)
             {
-                let at = offset.saturating_add(8);
-                findings.add("pptt-cycle", pptt.index, at, &[*place]);
+                findings.add("pptt-cycle", offset.saturating_add(8), &[*place]);
             }
             if *walk != 0 {
                 break;
             }
             *walk = start + 1;
-            match next_of(pptt.bytes, &nodes, at) {
+            match next_of(pptt, &nodes, at) {
                 Some(next) => at = next,
                 None => break,
             }

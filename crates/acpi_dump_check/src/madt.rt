@@ -1,7 +1,6 @@
 //! The MADT (ACPI 6.5, section 5.2.12).
 
 use crate::findings::Findings;
-use crate::machine::Table;
 use crate::numbers::{Kept, Numbers};
 use acpi::madt::MADT_GRAMMAR;
 use acpi::sdt::field;
@@ -80,41 +79,35 @@ const KEPT: [Kept; 11] = [
 ];
 
 /// Judges a MADT.
-pub(crate) fn check_madt(table: Table<'_>, findings: &mut Findings) {
-    let Table { index, bytes: madt } = table;
+pub(crate) fn check_madt(madt: &[u8], findings: &mut Findings) {
     let mut numbers = Numbers::new(findings.alloc);
     let mut rest = skip(madt, 44);
     while let Some((entry, others)) = split_front(&MADT_GRAMMAR, rest) {
         let offset = madt.len().saturating_sub(rest.len());
         numbers.add(&KEPT, offset, entry);
-        check_entry(index, offset, entry, findings);
+        check_entry(offset, entry, findings);
         rest = others;
     }
-    findings.add_repeated(&REPEATED, index, &mut numbers);
-    check_controllers(index, &numbers, findings);
-    check_references(index, &numbers, findings);
+    findings.add_repeated(&REPEATED, &mut numbers);
+    check_controllers(&numbers, findings);
+    check_references(&numbers, findings);
 }
 
 /// Judges the entry at an offset by itself.
-fn check_entry(table: usize, offset: usize, entry: &[u8], findings: &mut Findings) {
+fn check_entry(offset: usize, entry: &[u8], findings: &mut Findings) {
     let kind = field(entry, 0, 1);
     if (0x1c..0x80).contains(&kind) {
-        findings.add("madt-reserved-type", table, offset, &[kind]);
+        findings.add("madt-reserved-type", offset, &[kind]);
     }
     let (id, flags) = (field(entry, 4, 4), field(entry, 8, 4)); // of a Processor Local x2APIC
     if kind == 9 && id < 255 && flags & 1 != 0 {
-        findings.add(
-            "madt-x2apic-below-255",
-            table,
-            offset.saturating_add(4),
-            &[id],
-        );
+        findings.add("madt-x2apic-below-255", offset.saturating_add(4), &[id]);
     }
-    check_signal(table, offset, entry, findings);
+    check_signal(offset, entry, findings);
 }
 
 /// Judges the MPS INTI Flags of the entry at an offset, if it has some.
-fn check_signal(table: usize, offset: usize, entry: &[u8], findings: &mut Findings) {
+fn check_signal(offset: usize, entry: &[u8], findings: &mut Findings) {
     let place = match field(entry, 0, 1) {
         2 => 8,
         3 | 8 | 0xa => 2,
@@ -127,26 +120,25 @@ fn check_signal(table: usize, offset: usize, entry: &[u8], findings: &mut Findin
         (_, 2) => "trigger mode 2 is reserved",
         _ => return,
     };
-    let at = offset.saturating_add(place);
-    findings.add_words("madt-inti-flags", table, at, words, &[]);
+    findings.add_words("madt-inti-flags", offset.saturating_add(place), words, &[]);
 }
 
 /// Judges which interrupt controllers there are.
-fn check_controllers(table: usize, numbers: &Numbers, findings: &mut Findings) {
+fn check_controllers(numbers: &Numbers, findings: &mut Findings) {
     match (numbers.from(APIC_IDS, 0), numbers.from(BASES, 0)) {
-        (Some((_, offset)), None) => findings.add("madt-no-io-apic", table, offset, &[]),
+        (Some((_, offset)), None) => findings.add("madt-no-io-apic", offset, &[]),
         (_, Some((base, offset))) if base != 0 => {
-            findings.add("madt-gsi-0-nowhere", table, offset, &[base]);
+            findings.add("madt-gsi-0-nowhere", offset, &[base]);
         }
         _ => {}
     }
     if let (Some((_, offset)), None) = (numbers.from(MPIDRS, 0), numbers.from(DISTRIBUTORS, 0)) {
-        findings.add("madt-no-gicd", table, offset, &[]);
+        findings.add("madt-no-gicd", offset, &[]);
     }
 }
 
 /// Judges whether an I/O APIC has the interrupt of each override, if there are I/O APICs.
-fn check_references(table: usize, numbers: &Numbers, findings: &mut Findings) {
+fn check_references(numbers: &Numbers, findings: &mut Findings) {
     if numbers.from(BASES, 0).is_none() {
         return;
     }
@@ -154,7 +146,7 @@ fn check_references(table: usize, numbers: &Numbers, findings: &mut Findings) {
         // Each I/O APIC has at most 256 pins.
         let base = numbers.from(BASES, number.saturating_sub(255));
         if *list == OVERRIDES && !matches!(base, Some((base, _)) if base <= *number) {
-            findings.add("madt-override-nowhere", table, *offset, &[*number]);
+            findings.add("madt-override-nowhere", *offset, &[*number]);
         }
     }
 }

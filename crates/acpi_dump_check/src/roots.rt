@@ -5,9 +5,8 @@ use crate::machine::Machine;
 use crate::numbers::Numbers;
 use crate::spans::{Span, overlaps};
 use acpi::sdt::{Signature, field};
-use acpi_dump_input::entries::{Place, own_signature};
+use acpi_dump_input::entries::own_signature;
 use acpi_dump_input::status::Status;
-use acpi_dump_walk::out::Out;
 
 pub(crate) const RULES: &str = "
 root-null-pointer warning ACPI 6.5, section 5.2.8 | The root table lists the address 0 | no table is at 0
@@ -36,21 +35,18 @@ const BESIDE: u64 = 1;
 /// Judges what leads to the tables, and where these are.
 pub(crate) fn check_roots(machine: &Machine<'_>, findings: &mut Findings) {
     let mut pointers = Numbers::new(machine.alloc);
-    if let Some(xsdt) = machine.first(Signature::XSDT) {
-        add_pointers(LISTED, xsdt.bytes, 8, &mut pointers);
+    if let Some((index, xsdt)) = machine.first(Signature::XSDT) {
+        findings.table = index;
+        add_pointers(LISTED, xsdt, 8, &mut pointers);
         add_pointers(BESIDE, machine.rsdt, 4, &mut pointers);
-        check_pointers(
-            xsdt.index,
-            !machine.rsdt.is_empty(),
-            &mut pointers,
-            findings,
-        );
-        check_listed(machine, xsdt.index, findings);
-    } else if let Some(rsdt) = machine.first(Signature::RSDT) {
-        add_pointers(LISTED, rsdt.bytes, 4, &mut pointers);
-        check_pointers(rsdt.index, false, &mut pointers, findings);
-        check_revision(machine, rsdt.index, findings);
-        check_listed(machine, rsdt.index, findings);
+        check_pointers(!machine.rsdt.is_empty(), &mut pointers, findings);
+        check_listed(machine, findings);
+    } else if let Some((index, rsdt)) = machine.first(Signature::RSDT) {
+        findings.table = index;
+        add_pointers(LISTED, rsdt, 4, &mut pointers);
+        check_pointers(false, &mut pointers, findings);
+        check_revision(machine, findings);
+        check_listed(machine, findings);
     }
     check_second(machine, findings);
     check_overlap(machine, findings);
@@ -68,49 +64,45 @@ fn add_pointers(list: u64, table: &[u8], width: usize, pointers: &mut Numbers) {
 }
 
 /// Judges the pointers of the root table, and compares an XSDT with the RSDT that is beside it.
-fn check_pointers(table: usize, has_beside: bool, pointers: &mut Numbers, findings: &mut Findings) {
-    findings.add_repeated(&["root-listed-twice"], table, pointers);
+fn check_pointers(has_beside: bool, pointers: &mut Numbers, findings: &mut Findings) {
+    findings.add_repeated(&["root-listed-twice"], pointers);
     for (list, address, offset) in pointers.all.iter() {
         let (list, address) = (*list, *address);
         if address == 0 {
             if list == LISTED {
-                findings.add("root-null-pointer", table, *offset, &[]);
+                findings.add("root-null-pointer", *offset, &[]);
             }
         } else if list == BESIDE {
             if !pointers.has(LISTED, address) {
                 let words = "the RSDT lists # as well";
-                findings.add_words("root-lists-differ", table, 4, words, &[address]);
+                findings.add_words("root-lists-differ", 4, words, &[address]);
             }
         } else if has_beside && address < 1 << 32 && !pointers.has(BESIDE, address) {
             let words = "the RSDT doesn't list #";
-            findings.add_words("root-lists-differ", table, *offset, words, &[address]);
+            findings.add_words("root-lists-differ", *offset, words, &[address]);
         }
     }
 }
 
 /// Judges that an RSDT leads to the tables, by the revisions of the RSDP and the FADT.
-fn check_revision(machine: &Machine<'_>, rsdt: usize, findings: &mut Findings) {
+fn check_revision(machine: &Machine<'_>, findings: &mut Findings) {
     let fadt = match machine.first(Signature::FADT) {
-        Some(fadt) => field(fadt.bytes, 8, 1),
+        Some((_, fadt)) => field(fadt, 8, 1),
         None => 0,
     };
     let rsdp = field(machine.rsdp, 15, 1);
-    let (words, revision) = if rsdp >= 2 {
-        ("the RSDP has revision %, and so an XSDT", rsdp)
+    if rsdp >= 2 {
+        let words = "the RSDP has revision %, and so an XSDT";
+        findings.add_words("root-rsdt-in-use", 0, words, &[rsdp]);
     } else if fadt >= 3 {
-        (
-            "the FADT has revision %, as machines with an XSDT have it",
-            fadt,
-        )
-    } else {
-        return;
-    };
-    findings.add_words("root-rsdt-in-use", rsdt, 0, words, &[revision]);
+        let words = "the FADT has revision %, as machines with an XSDT have it";
+        findings.add_words("root-rsdt-in-use", 0, words, &[fadt]);
+    }
 }
 
 /// Finds that the root table lists no FADT, or no MADT, if an RSDP leads to it and the input has all tables that it
 /// lists.
-fn check_listed(machine: &Machine<'_>, root: usize, findings: &mut Findings) {
+fn check_listed(machine: &Machine<'_>, findings: &mut Findings) {
     if machine.rsdp.is_empty() {
         return;
     }
@@ -124,10 +116,10 @@ fn check_listed(machine: &Machine<'_>, root: usize, findings: &mut Findings) {
         has_madt |= signature == Signature::MADT;
     }
     if !has_fadt {
-        findings.add("root-no-fadt", root, 4, &[]);
+        findings.add("root-no-fadt", 4, &[]);
     }
     if !has_madt {
-        findings.add("root-no-madt", root, 4, &[]);
+        findings.add("root-no-madt", 4, &[]);
     }
 }
 
@@ -140,18 +132,16 @@ fn check_second(machine: &Machine<'_>, findings: &mut Findings) {
         }
     }
     findings.need(tables.sort());
-    let mut before = (0, Place::Nowhere);
+    let mut before = (0, None);
     for (_, letters, index) in tables.all.iter() {
         let place = match machine.entries.get(*index) {
-            Some(entry) => entry.place,
-            None => Place::Nowhere,
+            Some(entry) => entry.place.address(),
+            None => None,
         };
-        let is_same_place = match (before.1, place) {
-            (Place::Address(one), Place::Address(other)) => one == other && one != 0,
-            _ => false,
-        };
+        let is_same_place = place == before.1 && !matches!(place, None | Some(0));
         if before.0 == *letters && !is_same_place {
-            findings.add("root-second-table", *index, 0, &[]);
+            findings.table = *index;
+            findings.add("root-second-table", 0, &[]);
         }
         before = (*letters, place);
     }
@@ -161,27 +151,22 @@ fn check_second(machine: &Machine<'_>, findings: &mut Findings) {
 fn check_overlap(machine: &Machine<'_>, findings: &mut Findings) {
     let mut spans = Vec::new(machine.alloc);
     for (index, entry) in machine.entries.iter().enumerate() {
-        let Place::Address(first) = entry.place else {
+        let address = entry.place.address().unwrap_or(0);
+        if address == 0 {
             continue;
-        };
-        let length = entry.bytes.len() as u64;
-        if first != 0 && length != 0 {
-            let span = Span {
-                first,
-                last: first.saturating_add(length).saturating_sub(1),
-                offset: index,
-                owner: first,
-            };
+        }
+        if let Some(more) = entry.bytes.len().checked_sub(1) {
+            let span = Span::of(address, more as u64, index, 0);
             findings.need(spans.push(span).is_ok());
-        } else if first != 0 && !matches!(entry.status, Status::NotHere) {
-            let mut text = Out::new(machine.alloc);
-            text.value(&entry.status);
-            findings.add_text("root-nothing-there", index, 0, &text);
+        } else if !matches!(entry.status, Status::NotHere) {
+            findings.table = index;
+            findings.add_value("root-nothing-there", 0, &entry.status);
         }
     }
     for (before, span) in overlaps(&mut spans, findings) {
         if span.first != before.first {
-            findings.add("root-overlap", span.offset, 0, &[before.first]);
+            findings.table = span.offset;
+            findings.add("root-overlap", 0, &[before.first]);
         }
     }
 }

@@ -16,7 +16,6 @@
 
 use crate::fields::ROWS;
 use crate::findings::Findings;
-use crate::machine::Table;
 use crate::numbers::Numbers;
 use acpi_dump_input::entries::own_signature;
 use acpi_dump_walk::fields::{number_of as number_in, unnamed_in};
@@ -105,7 +104,6 @@ fn meets(number: u64, test: &str) -> bool {
 #[derive(Drop)]
 struct Judged<'f> {
     findings: &'f mut Findings,
-    table: usize,
     lines: &'static str,
     /// The titles of the structures that the walk is in, the outermost first, which is the table.
     titles: [&'static str; DEPTH],
@@ -145,7 +143,7 @@ impl Show for Judged<'_> {
     }
 
     fn field(&mut self, shown: &Field<'_>) {
-        let (table, title, offset) = (self.table, self.title(), shown.offset as usize);
+        let (title, offset) = (self.title(), shown.offset as usize);
         let (lines, mut list) = (self.lines, 0u64);
         for line in lines.split('\n') {
             let row = Row::read(line);
@@ -165,7 +163,7 @@ impl Show for Judged<'_> {
                 };
                 if let Some(number) = wrong {
                     let at = offset.saturating_add(row.start());
-                    return self.findings.add(row.rule, table, at, &[number]);
+                    return self.findings.add(row.rule, at, &[number]);
                 }
             }
             list = list.saturating_add(2);
@@ -174,7 +172,7 @@ impl Show for Judged<'_> {
 }
 
 /// Judges the numbers of a table that aren't judged alone. The lists are sorted.
-fn judge_numbers(table: usize, lines: &'static str, numbers: &Numbers, findings: &mut Findings) {
+fn judge_numbers(lines: &'static str, numbers: &Numbers, findings: &mut Findings) {
     let mut before = (u64::MAX, 0u64, 0usize);
     for (list, number, offset) in numbers.all.iter() {
         let (list, number, offset) = (*list, *number, *offset);
@@ -190,42 +188,40 @@ fn judge_numbers(table: usize, lines: &'static str, numbers: &Numbers, findings:
             list % 2 == 0 && !numbers.has(list.saturating_add(1), number)
         };
         if is_wrong && number_of(row.exempt) != Some(number) {
-            findings.add(row.rule, table, offset, &[number, before.2 as u64]);
+            findings.add(row.rule, offset, &[number, before.2 as u64]);
         }
         before = (list, number, offset);
     }
 }
 
 /// Judges a table by the rows that lines are.
-fn check_lines(table: Table<'_>, lines: &'static str, findings: &mut Findings) {
+fn check_lines(table: &[u8], lines: &'static str, findings: &mut Findings) {
     let numbers = Numbers::new(findings.alloc);
     let mut judged = Judged {
         findings,
-        table: table.index,
         lines,
         titles: ["-"; DEPTH],
         depth: 0,
         numbers,
     };
-    walk_table(table.signature(), table.bytes, &mut judged);
+    walk_table(own_signature(table), table, &mut judged);
     let Judged {
         findings,
         mut numbers,
         ..
     } = judged;
     findings.need(numbers.sort());
-    judge_numbers(table.index, lines, &numbers, findings);
+    judge_numbers(lines, &numbers, findings);
 }
 
 /// Judges a table by the rows of its signature.
-pub(crate) fn check_rows(table: Table<'_>, findings: &mut Findings) {
+pub(crate) fn check_rows(table: &[u8], findings: &mut Findings) {
     for block in ROWS.split('=').skip(1) {
         let (head, lines) = cut_at(block, '\n');
         let (name, head) = next_word(head);
         let (place, range) = next_word(head);
-        if own_signature(name.as_bytes()) == table.signature()
-            && (place.is_empty()
-                || is_chosen(number_from(table.bytes, place), range.trim_ascii()))
+        if own_signature(name.as_bytes()) == own_signature(table)
+            && (place.is_empty() || is_chosen(number_from(table, place), range.trim_ascii()))
         {
             check_lines(table, lines, findings);
         }

@@ -5,15 +5,6 @@ use acpi_dump_input::judgement::{Rule, Severity};
 use acpi_dump_walk::language::{cut_at, next_word};
 use std::alloc::{AllocError, Global};
 
-/// In place of a rule that no line describes.
-pub(crate) const UNKNOWN: Rule = Rule {
-    id: "",
-    severity: Severity::Error,
-    section: "",
-    what: "",
-    message: "",
-};
-
 /// All rules, subject by subject.
 ///
 /// Fails if memory runs out.

@@ -13,6 +13,18 @@ pub(crate) struct Span {
     pub(crate) owner: u64,
 }
 
+impl Span {
+    /// A number and this many that follow it, as far as there are some.
+    pub(crate) fn of(first: u64, more: u64, offset: usize, owner: u64) -> Span {
+        Span {
+            first,
+            last: first.saturating_add(more),
+            offset,
+            owner,
+        }
+    }
+}
+
 /// The spans that begin within one that begins before them or with them, each after that one.
 pub(crate) fn overlaps(spans: &mut Vec<Span>, findings: &mut Findings) -> Vec<(Span, Span)> {
     findings.need(spans.sort_by_key(|it| (it.first, it.offset)).is_ok());
