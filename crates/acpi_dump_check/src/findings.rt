@@ -39,12 +39,7 @@ impl Findings {
 
     /// The rule of an id.
     fn rule(&self, id: &str) -> Option<Rule> {
-        for rule in &self.rules {
-            if rule.id == id {
-                return Some(*rule);
-            }
-        }
-        None
+        self.rules.iter().find(|rule| rule.id == id).copied()
     }
 
     /// Adds what the rule of an id finds at an offset of the table. Its message is what was printed from a place of the

@@ -229,10 +229,7 @@ impl Show for Fields<'_> {
         // A field of a SRAT is reserved to be 1, and INT_MODEL of ACPI 1.0 may be.
         let may_be_one = matches!((self.name, offset), ("SRAT", 36) | ("FACP", 44));
         let is_one = matches!(shown.bytes, [1] | [1, 0, 0, 0]);
-        let mut is_zero = true;
-        for byte in shown.bytes {
-            is_zero &= *byte == 0;
-        }
+        let is_zero = shown.bytes.iter().all(|byte| *byte == 0);
         if !is_zero && !(is_one && may_be_one) {
             self.findings.add("header-reserved", offset, &[]);
         }

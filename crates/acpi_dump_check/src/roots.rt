@@ -86,10 +86,9 @@ fn check_pointers(has_beside: bool, pointers: &mut Numbers, findings: &mut Findi
 
 /// Judges that an RSDT leads to the tables, by the revisions of the RSDP and the FADT.
 fn check_revision(machine: &Machine<'_>, findings: &mut Findings) {
-    let fadt = match machine.first(Signature::FADT) {
-        Some((_, fadt)) => field(fadt, 8, 1),
-        None => 0,
-    };
+    let fadt = machine
+        .first(Signature::FADT)
+        .map_or(0, |(_, fadt)| field(fadt, 8, 1));
     let rsdp = field(machine.rsdp, 15, 1);
     if rsdp >= 2 {
         let words = "the RSDP has revision %, and so an XSDT";
@@ -134,10 +133,10 @@ fn check_second(machine: &Machine<'_>, findings: &mut Findings) {
     findings.need(tables.sort());
     let mut before = (0, None);
     for (_, letters, index) in tables.all.iter() {
-        let place = match machine.entries.get(*index) {
-            Some(entry) => entry.place.address(),
-            None => None,
-        };
+        let place = machine
+            .entries
+            .get(*index)
+            .and_then(|entry| entry.place.address());
         let is_same_place = place == before.1 && !matches!(place, None | Some(0));
         if before.0 == *letters && !is_same_place {
             findings.table = *index;

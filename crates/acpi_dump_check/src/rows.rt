@@ -71,13 +71,12 @@ impl Row {
     /// Whether its number may be that of a field of a structure with a title, or the offset of the structure if the
     /// field's name has no letters.
     fn is_of(&self, title: &str, field: &str) -> bool {
-        let mut is_one = false;
-        for target in self.targets.split('|') {
-            let (structure, of) = cut_at(target, '>');
-            let structure = structure.trim_ascii();
-            is_one |= of.trim_ascii() == field && (structure == title || structure == "*");
-        }
-        is_one && self.test == "of"
+        self.test == "of"
+            && self.targets.split('|').any(|target| {
+                let (structure, of) = cut_at(target, '>');
+                let structure = structure.trim_ascii();
+                of.trim_ascii() == field && (structure == title || structure == "*")
+            })
     }
 }
 
@@ -92,12 +91,7 @@ fn number_from(bytes: &[u8], place: &str) -> u64 {
 
 /// Whether a number is in one of the ranges of a test.
 fn meets(number: u64, test: &str) -> bool {
-    for range in test.split(',') {
-        if is_chosen(number, range) {
-            return true;
-        }
-    }
-    false
+    test.split(',').any(|range| is_chosen(number, range))
 }
 
 /// The judgement of a table by its rows, as a walk comes to its fields.
@@ -115,10 +109,7 @@ struct Judged<'f> {
 impl Judged<'_> {
     /// The title of the structure that the walk is in.
     fn title(&self) -> &'static str {
-        match self.titles.get(self.depth) {
-            Some(title) => *title,
-            None => "",
-        }
+        self.titles.get(self.depth).copied().unwrap_or("")
     }
 }
 
@@ -176,12 +167,7 @@ fn judge_numbers(lines: &'static str, numbers: &Numbers, findings: &mut Findings
     let mut before = (u64::MAX, 0u64, 0usize);
     for (list, number, offset) in numbers.all.iter() {
         let (list, number, offset) = (*list, *number, *offset);
-        let mut row = Row::read("");
-        for (place, line) in lines.split('\n').enumerate() {
-            if place as u64 == list / 2 {
-                row = Row::read(line);
-            }
-        }
+        let row = Row::read(lines.split('\n').nth((list / 2) as usize).unwrap_or(""));
         let is_wrong = if row.test == "once" {
             before.0 == list && before.1 == number
         } else {
