@@ -1,14 +1,13 @@
 //! Reading the inputs that the arguments name.
 
 use crate::errors::{Log, Stop, fail, tell};
-use crate::folder::add_folder;
 use crate::kind::Kind;
 use crate::machine::of_one_machine;
 use crate::memory::image_of;
 use crate::order::in_order;
-use crate::read::{Reading, is_folder, read_any};
+use crate::read::{Reader, Reading};
 use crate::sources::Sources;
-use crate::tables::{TableFile, add_input};
+use crate::tables::TableFile;
 use std::alloc::Global;
 
 /// Where Linux shows the machine's own tables.
@@ -34,66 +33,57 @@ fn memory_from(name: &str, address: u64, bytes: Vec<u8>, log: &mut Log) -> Resul
     Ok(Input::Memory(image_of(address, bytes)?))
 }
 
-/// The input that one word names, which is no folder.
-fn gather_file<S: Sources>(
-    alloc: Global,
-    name: &str,
-    reading: Reading,
-    sources: &mut S,
-    log: &mut Log,
-) -> Result<Input, Stop> {
-    // What is said to be an image may be empty.
-    if let Some(Kind::Image) = reading.kind {
-        return Ok(Input::Memory(read_any(alloc, name, reading.most, sources, log)?));
-    }
-    let (kind, bytes) = reading.read(alloc, name, sources, log)?;
-    match kind {
-        Some(Kind::Image) => Ok(Input::Memory(bytes)),
-        Some(Kind::Memory) => memory_from(name, reading.at.unwrap_or(0), bytes, log),
-        _ => {
-            let mut tables = Vec::new(alloc);
-            add_input(alloc, &mut tables, name, kind, bytes, log)?;
-            Ok(Input::Tables(of_one_machine(alloc, tables, log)?))
+impl<S: Sources> Reader<'_, S> {
+    /// The input that one word names, which is no folder.
+    fn file(mut self, name: &str) -> Result<Input, Stop> {
+        let reading = self.reading;
+        // What is said to be an image may be empty.
+        if let Some(Kind::Image) = reading.kind {
+            return Ok(Input::Memory(self.bytes_of(name)?));
+        }
+        let (kind, bytes) = self.read(name, reading)?;
+        match kind {
+            Some(Kind::Image) => Ok(Input::Memory(bytes)),
+            Some(Kind::Memory) => memory_from(name, reading.at.unwrap_or(0), bytes, self.log),
+            _ => {
+                self.add(name, kind, bytes)?;
+                self.all()
+            }
         }
     }
-}
 
-/// Adds the tables of a file or a folder.
-fn add_word<S: Sources>(
-    alloc: Global,
-    tables: &mut Vec<TableFile>,
-    name: &str,
-    reading: Reading,
-    sources: &mut S,
-    log: &mut Log,
-) -> Result<(), Stop> {
-    if is_folder(name, sources, log)? {
-        if reading.at.is_some() {
-            return Err(fail(
-                log,
-                name,
-                &"a folder, which has no address: --at is for memory",
-            ));
+    /// Adds the tables of a file or a folder.
+    fn add_word(&mut self, name: &str) -> Result<(), Stop> {
+        let reading = self.reading;
+        if self.is_folder(name)? {
+            if reading.at.is_some() {
+                let why = "a folder, which has no address: --at is for memory";
+                return Err(fail(self.log, name, &why));
+            }
+            return self.add_folder(name);
         }
-        return add_folder(alloc, tables, name, reading, sources, log);
+        let (kind, bytes) = self.read(name, reading)?;
+        self.add(name, kind, bytes)
     }
-    let (kind, bytes) = reading.read(alloc, name, sources, log)?;
-    add_input(alloc, tables, name, kind, bytes, log)
-}
 
-/// The tables that words name, or folders, in the order of the files' names.
-fn gather_tables<S: Sources>(
-    alloc: Global,
-    names: &[&str],
-    reading: Reading,
-    sources: &mut S,
-    log: &mut Log,
-) -> Result<Input, Stop> {
-    let mut tables = Vec::new(alloc);
-    for name in &in_order(alloc, names)? {
-        add_word(alloc, &mut tables, *name, reading, sources, log)?;
+    /// The tables that words name, or folders, in the order of the files' names.
+    fn words(mut self, names: &[&str]) -> Result<Input, Stop> {
+        for name in &in_order(self.alloc, names)? {
+            self.add_word(*name)?;
+        }
+        self.all()
     }
-    Ok(Input::Tables(of_one_machine(alloc, tables, log)?))
+
+    /// The tables of one machine among those that were read.
+    fn all(self) -> Result<Input, Stop> {
+        let Reader {
+            alloc,
+            tables,
+            log,
+            ..
+        } = self;
+        Ok(Input::Tables(of_one_machine(alloc, tables, log)?))
+    }
 }
 
 /// The input that words name, or the machine's own tables if there are no words.
@@ -106,18 +96,23 @@ pub fn gather<S: Sources>(
     sources: &mut S,
     log: &mut Log,
 ) -> Result<Input, Stop> {
+    let mut reader = Reader {
+        alloc,
+        reading,
+        sources,
+        log: &mut *log,
+        tables: Vec::new(alloc),
+    };
     match names {
         [] => {
-            let own = gather_tables(alloc, &[OWN], reading, sources, log);
+            let own = reader.words(&[OWN]);
             if own.is_err() {
                 let what = "Linux shows the machine's tables there, to root alone";
                 tell(log, OWN, &what);
             }
             own
         }
-        [name] if !is_folder(*name, sources, log)? => {
-            gather_file(alloc, *name, reading, sources, log)
-        }
-        _ => gather_tables(alloc, names, reading, sources, log),
+        [name] if !reader.is_folder(*name)? => reader.file(*name),
+        _ => reader.words(names),
     }
 }

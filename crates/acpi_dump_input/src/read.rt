@@ -4,46 +4,10 @@ use crate::errors::{Log, Stop, fail};
 use crate::kind::{Kind, kind_of};
 use crate::sources;
 use crate::sources::{Sources, reason_of};
+use crate::tables::TableFile;
 use crate::wide::{is_wide, narrowed};
 use std::alloc::Global;
-
-/// Whether a word names a folder.
-///
-/// Fails, after printing why, if the system returns an error.
-pub(crate) fn is_folder<S: Sources>(
-    name: &str,
-    files: &mut S,
-    log: &mut Log,
-) -> Result<bool, Stop> {
-    if name == "-" {
-        return Ok(false);
-    }
-    match files.kind_of(name) {
-        Ok(kind) => Ok(kind == sources::Kind::Folder),
-        Err(refusal) => Err(fail(log, name, &reason_of(&refusal))),
-    }
-}
-
-/// The bytes of an input, which is standard input if its name is `-`.
-///
-/// Fails, after printing why, if the system returns an error.
-pub(crate) fn read_any<S: Sources>(
-    alloc: Global,
-    name: &str,
-    most: u64,
-    sources: &mut S,
-    log: &mut Log,
-) -> Result<Vec<u8>, Stop> {
-    let content = if name == "-" {
-        sources.read_standard_input(alloc, most)
-    } else {
-        sources.read(alloc, name, most)
-    };
-    match content {
-        Ok(bytes) => Ok(bytes),
-        Err(refusal) => Err(fail(log, name, &reason_of(&refusal))),
-    }
-}
+use std::io;
 
 /// How inputs are read.
 #[derive(Clone, Copy)]
@@ -65,26 +29,66 @@ impl Reading {
             (kind, _) => kind,
         }
     }
+}
+
+/// What reads inputs: how, what from, what it says of them, and the tables that it has read.
+#[derive(Drop)]
+pub(crate) struct Reader<'r, S> {
+    pub(crate) alloc: Global,
+    pub(crate) reading: Reading,
+    pub(crate) sources: &'r mut S,
+    pub(crate) log: &'r mut Log,
+    pub(crate) tables: Vec<TableFile>,
+}
+
+impl<S: Sources> Reader<'_, S> {
+    /// What the system returns for a name.
+    ///
+    /// Fails, after printing why, if that is an error.
+    pub(crate) fn told<T>(&mut self, name: &str, given: io::Result<T>) -> Result<T, Stop> {
+        match given {
+            Ok(value) => Ok(value),
+            Err(refusal) => Err(fail(self.log, name, &reason_of(&refusal))),
+        }
+    }
+
+    /// Whether a word names a folder.
+    pub(crate) fn is_folder(&mut self, name: &str) -> Result<bool, Stop> {
+        if name == "-" {
+            return Ok(false);
+        }
+        let kind = self.sources.kind_of(name);
+        Ok(self.told(name, kind)? == sources::Kind::Folder)
+    }
+
+    /// The bytes of an input, which is standard input if its name is `-`.
+    pub(crate) fn bytes_of(&mut self, name: &str) -> Result<Vec<u8>, Stop> {
+        let (alloc, most) = (self.alloc, self.reading.most);
+        let content = if name == "-" {
+            self.sources.read_standard_input(alloc, most)
+        } else {
+            self.sources.read(alloc, name, most)
+        };
+        self.told(name, content)
+    }
 
     /// The kind of an input, and its bytes: a text in UTF-16 as one in ASCII.
     ///
     /// Fails, after printing why, if the system returns an error or the input is empty.
-    pub(crate) fn read<S: Sources>(
-        self,
-        alloc: Global,
+    pub(crate) fn read(
+        &mut self,
         name: &str,
-        sources: &mut S,
-        log: &mut Log,
+        reading: Reading,
     ) -> Result<(Option<Kind>, Vec<u8>), Stop> {
-        let bytes = read_any(alloc, name, self.most, sources, log)?;
+        let bytes = self.bytes_of(name)?;
         if bytes.is_empty() {
-            return Err(fail(log, name, &"it is empty"));
+            return Err(fail(self.log, name, &"it is empty"));
         }
-        let kind = self.kind_of(alloc, &bytes);
+        let kind = reading.kind_of(self.alloc, &bytes);
         if !is_wide(&bytes) || !matches!(kind, None | Some(Kind::Text)) {
             return Ok((kind, bytes));
         }
-        let narrow = narrowed(alloc, &bytes)?;
-        Ok((self.kind_of(alloc, &narrow), narrow))
+        let narrow = narrowed(self.alloc, &bytes)?;
+        Ok((reading.kind_of(self.alloc, &narrow), narrow))
     }
 }
