@@ -29,23 +29,20 @@ pub struct Pointers {
 
 /// The candidate that bytes begin with, which go on to the end of the memory's record.
 fn candidate_of(address: u64, lent: &[u8]) -> Candidate {
-    if lent.len() < Rsdp::MIN_LENGTH {
-        return Candidate {
-            address,
-            refusal: Some(AcpiError::MapFailed),
-            fields: None,
-        };
+    let (mut refusal, mut fields) = (Some(AcpiError::MapFailed), None);
+    if lent.len() >= Rsdp::MIN_LENGTH {
+        let rsdp = Rsdp::read(lent);
+        refusal = rsdp.validate(lent).err();
+        fields = Some(Pointers {
+            revision: rsdp.revision(),
+            rsdt: rsdp.rsdt_address(),
+            xsdt: rsdp.xsdt_address(),
+        });
     }
-    let rsdp = Rsdp::read(lent);
-    let fields = Pointers {
-        revision: rsdp.revision(),
-        rsdt: rsdp.rsdt_address(),
-        xsdt: rsdp.xsdt_address(),
-    };
     Candidate {
         address,
-        refusal: rsdp.validate(lent).err(),
-        fields: Some(fields),
+        refusal,
+        fields,
     }
 }
 

@@ -109,11 +109,10 @@ pub fn print_name(entry: &Entry<'_>, out: &mut Out) {
 /// Whether a signature is these letters in either case.
 fn is_same(signature: Option<Signature>, letters: &[u8; 4]) -> bool {
     match signature {
-        Some(signature) => {
-            let found = signature.to_bytes();
-            let (found, letters): (&[u8], &[u8]) = (&found, letters);
-            found.eq_ignore_ascii_case(letters)
-        }
+        Some(found) => found
+            .to_bytes()
+            .as_slice()
+            .eq_ignore_ascii_case(letters.as_slice()),
         None => false,
     }
 }
@@ -134,20 +133,14 @@ fn check_typed<T: AcpiTable>(bytes: &[u8]) -> AcpiResult<()> {
 
 /// The refusal of a table by the lookup of its signature, if there is one.
 fn check_lookup(signature: Signature, bytes: &[u8]) -> AcpiResult<()> {
-    if signature == Signature::FADT {
-        check_typed::<Fadt>(bytes)
-    } else if signature == Signature::MADT {
-        check_typed::<Madt>(bytes)
-    } else if signature == Signature::HPET {
-        check_typed::<HpetTable>(bytes)
-    } else if signature == Signature::MCFG {
-        check_typed::<Mcfg>(bytes)
-    } else if signature == Signature::BGRT {
-        check_typed::<Bgrt>(bytes)
-    } else if signature == Signature::SPCR {
-        check_typed::<Spcr>(bytes)
-    } else {
-        Ok(())
+    match signature.as_str().unwrap_or("") {
+        "FACP" => check_typed::<Fadt>(bytes),
+        "APIC" => check_typed::<Madt>(bytes),
+        "HPET" => check_typed::<HpetTable>(bytes),
+        "MCFG" => check_typed::<Mcfg>(bytes),
+        "BGRT" => check_typed::<Bgrt>(bytes),
+        "SPCR" => check_typed::<Spcr>(bytes),
+        _ => Ok(()),
     }
 }
 
@@ -201,6 +194,15 @@ fn check_facs(lent: &[u8], cut: AcpiError) -> Status {
     }
 }
 
+/// What the checks say of a table that should have this signature, over the bytes that there are from its first one on.
+fn check(lent: &[u8], signature: Signature, cut: AcpiError) -> Status {
+    if signature == Signature::FACS {
+        check_facs(lent, cut)
+    } else {
+        check_header(lent, signature, cut)
+    }
+}
+
 /// What there is to say of a table, over all bytes that are shown of it, after what the checks say.
 fn looked_over(status: Status, bytes: &[u8]) -> Status {
     if !matches!(status, Status::Valid) {
@@ -224,16 +226,13 @@ fn entry_of_file(file: &TableFile) -> Entry<'_> {
         None => Place::File(file.name.as_str()),
     };
     let signature = own_signature(lent);
-    let cut = AcpiError::SdtInvalidLength(signature);
     let status = if lent.starts_with(b"RSD PTR ") {
         match check_file(lent) {
             Ok(()) => Status::Valid,
             Err(refusal) => Status::Refused(refusal),
         }
-    } else if signature == Signature::FACS {
-        check_facs(lent, cut)
     } else {
-        check_header(lent, signature, cut)
+        check(lent, signature, AcpiError::SdtInvalidLength(signature))
     };
     Entry {
         place,
@@ -273,8 +272,7 @@ pub fn entry_at<'i>(image: &MemoryImage<'i>, address: u64, sought: Option<Signat
     let own = own_signature(lent);
     let status = match sought {
         Some(_) if lent.is_empty() => Status::NotHere,
-        Some(signature) if signature == Signature::FACS => check_facs(lent, AcpiError::MapFailed),
-        Some(signature) => check_header(lent, signature, AcpiError::MapFailed),
+        Some(signature) => check(lent, signature, AcpiError::MapFailed),
         None => check_header(lent, own, AcpiError::MapFailed),
     };
     let bytes = cut_to_length(lent);

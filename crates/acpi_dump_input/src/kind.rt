@@ -63,26 +63,21 @@ pub(crate) fn text_in(bytes: &[u8]) -> Option<&str> {
 
 /// Whether bytes are a text with a heading of a table in it.
 fn is_text(bytes: &[u8]) -> bool {
-    if let Some(text) = text_in(bytes) {
-        for line in text.split('\n') {
-            if heading_in(line).is_some() {
-                return true;
-            }
-        }
+    match text_in(bytes) {
+        Some(text) => text.split('\n').any(|line| heading_in(line).is_some()),
+        None => false,
     }
-    false
 }
 
 /// Whether bytes are an image that lends some.
 fn is_image(alloc: Global, bytes: &[u8]) -> bool {
-    if let Ok(image) = &MemoryImage::from_bytes(alloc, bytes) {
-        for record in image.records() {
-            if !record.bytes.is_empty() {
-                return true;
-            }
-        }
+    match &MemoryImage::from_bytes(alloc, bytes) {
+        Ok(image) => image
+            .records()
+            .iter()
+            .any(|record| !record.bytes.is_empty()),
+        Err(_) => false,
     }
-    false
 }
 
 /// The kind of input that bytes are, or `None` if they are none. A table whose length isn't that of the bytes

@@ -13,15 +13,10 @@ pub fn letters_of(bytes: &[u8]) -> &[u8] {
 const SINGLE: [&[u8]; 6] = [b"FACP", b"DSDT", b"FACS", b"RSDT", b"XSDT", b"RSD "];
 
 /// The number of the signature of which a machine has one table, if bytes begin with one.
-fn single_of(bytes: &[u8]) -> usize {
-    let mut number = 0usize;
-    for letters in &SINGLE {
-        if letters_of(bytes) == *letters {
-            break;
-        }
-        number = number.saturating_add(1);
-    }
-    number
+fn single_of(bytes: &[u8]) -> Option<usize> {
+    SINGLE
+        .iter()
+        .position(|letters| letters_of(bytes) == *letters)
 }
 
 /// These tables, less each one whose signature another one before it has: it prints which these are.
@@ -35,13 +30,14 @@ pub(crate) fn of_one_machine(
     let mut kept: Vec<TableFile> = Vec::new(alloc);
     let mut firsts = [usize::MAX; 6];
     for table in tables {
-        let single = single_of(&table.bytes);
-        if single < 6 {
-            if let Some(first) = kept.get(firsts[single]) {
+        if let Some(single) = single_of(&table.bytes)
+            && let Some(place) = firsts.get_mut(single)
+        {
+            if let Some(first) = kept.get(*place) {
                 tell_second(&table, first, log);
                 continue;
             }
-            firsts[single] = kept.len();
+            *place = kept.len();
         }
         kept.push(table)?;
     }

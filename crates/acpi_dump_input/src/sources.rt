@@ -99,14 +99,8 @@ impl Sources for HostSources<'_> {
     }
 
     fn takes_color(&mut self) -> bool {
-        let asked_not = match env::var(self.rt, "NO_COLOR") {
-            Ok(value) => !value.is_empty(),
-            Err(_) => false,
-        };
-        let is_plain = match env::var(self.rt, "TERM") {
-            Ok(value) => value.as_str() == "dumb",
-            Err(_) => false,
-        };
+        let asked_not = env::var(self.rt, "NO_COLOR").is_ok_and(|value| !value.is_empty());
+        let is_plain = env::var(self.rt, "TERM").is_ok_and(|value| value.as_str() == "dumb");
         !asked_not && !is_plain && self.rt.stdout().is_terminal()
     }
 }
