@@ -197,10 +197,10 @@ fn flag_in(number: u64, item: &'static str) -> Option<Flag> {
 
 /// Prints the parts of a number that aren't 0, and the meanings of those that are codes.
 fn print_flags(shown: &Field<'_>, out: &mut Out) {
-    let mut between = "  ";
+    let mut is_first = true;
     for item in shown.label.items.split(['|', '\n']) {
         if let Some(flag) = flag_in(number_of(shown.bytes), item) {
-            out.text(between);
+            out.text(if is_first { "  " } else { ", " });
             out.text(flag.name);
             if !flag.is_code && flag.first < flag.last {
                 match shown.label.meaning {
@@ -208,7 +208,7 @@ fn print_flags(shown: &Field<'_>, out: &mut Out) {
                     _ => write!(out, " {}", flag.part),
                 }
             }
-            between = ", ";
+            is_first = false;
         }
     }
 }
