@@ -8,15 +8,13 @@
 
 use acpi_cli::{args, borrowed};
 use acpi_view_lib::arguments::file_named;
-use acpi_view_lib::run::run;
+use acpi_view_lib::run::{USAGE, run};
 use std::io::Write;
 use std::process::ExitCode;
 use std::{fs, io};
 
-/// How the program is called.
-const HELP: &str = "usage: acpi_view IMAGE rsdt REVISION ADDRESS | rsdp ADDRESS | bios
-       acpi_view --help | --version
-";
+/// The line after `USAGE`: how else the program is called.
+const OTHERS: &str = "       acpi_view --help | --version\n";
 
 /// The program's version.
 const VERSION: &str = "acpi_view 1.0.0\n";
@@ -43,7 +41,10 @@ fn status(rt: &HostRuntime) -> io::Result<u8> {
     let args = args(rt)?;
     let words = borrowed(rt.alloc(), &args)?;
     match words.as_slice() {
-        ["--help"] => return print(rt, HELP),
+        ["--help"] => {
+            print(rt, USAGE)?;
+            return print(rt, OTHERS);
+        }
         ["--version"] => return print(rt, VERSION),
         _ => {}
     }

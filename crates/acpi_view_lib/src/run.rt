@@ -14,6 +14,9 @@ use std::alloc::{AllocError, Global};
 use std::fmt::Display;
 use std::io::{ErrorKind, Write};
 
+/// How the program is called with tables to show.
+pub const USAGE: &str = "usage: acpi_view IMAGE rsdt REVISION ADDRESS | rsdp ADDRESS | bios\n";
+
 /// How many bytes are written at most at a time.
 const MOST: usize = 32768;
 
@@ -121,11 +124,10 @@ fn report_for(
         (string_bytes r.lines) (string_bytes r.complaints)) }
 {
     let Some(root) = asked else {
-        let usage = "usage: acpi_view IMAGE rsdt REVISION ADDRESS | rsdp ADDRESS | bios\n";
         return Ok(Report {
             status: 2,
             lines: String::new(alloc),
-            complaints: String::from_str(alloc, usage)?,
+            complaints: String::from_str(alloc, USAGE)?,
         });
     };
     let Some(bytes) = image else {
