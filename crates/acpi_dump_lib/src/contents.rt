@@ -36,17 +36,7 @@ pub(crate) fn shows(choices: &[Choice], number: usize, entry: &Entry<'_>) -> boo
     chooses(*choice, entry)
 }
 
-/// Whether some choice has a table.
-fn is_chosen(choices: &[Choice], entry: &Entry<'_>) -> bool {
-    for choice in choices {
-        if chooses(*choice, entry) {
-            return true;
-        }
-    }
-    false
-}
-
-/// The tables that some choice has.
+/// The tables that some choice has, or all if there is no choice.
 ///
 /// Fails if memory runs out.
 pub(crate) fn chosen_of<'l>(
@@ -56,7 +46,7 @@ pub(crate) fn chosen_of<'l>(
 ) -> Result<Vec<Entry<'l>>, AllocError> {
     let mut chosen = Vec::new(alloc);
     for entry in entries {
-        if is_chosen(choices, entry) {
+        if choices.is_empty() || choices.iter().any(|choice| chooses(*choice, entry)) {
             chosen.push(*entry)?;
         }
     }
@@ -77,12 +67,8 @@ pub(crate) fn print_tables(entries: &[Entry<'_>], choices: &[Choice], paint: Pai
 /// Prints of each signature that is chosen and has no table that it has none.
 pub(crate) fn tell_missing(entries: &[Entry<'_>], choices: &[Choice], name: &str, log: &mut Log) {
     for choice in choices {
-        let mut is_there = false;
-        for entry in entries {
-            is_there |= chooses(*choice, entry);
-        }
         if let Some(signature) = choice.signature
-            && !is_there
+            && !entries.iter().any(|entry| chooses(*choice, entry))
         {
             fail(log, name, &format_args!("no table {signature}"));
         }

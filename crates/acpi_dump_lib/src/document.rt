@@ -17,18 +17,13 @@ use acpi_dump_walk::language::Meaning;
 use acpi_dump_walk::out::Out;
 use acpi_dump_walk::walk::{Field, Group, Show, ShowObjects};
 use json::{Pretty, Token, is_number};
-pub(crate) use machine::add_machine;
+pub(crate) use machine::{add_fact_lines, add_machine};
 use std::alloc::{AllocError, Global};
 use std::fmt::Display;
 pub(crate) use tables::{add_all, add_chosen};
 
 /// The version of the document's form.
 const VERSION: u64 = 1;
-
-/// Whether the member with what a view shows comes before the inputs.
-fn comes_first(part: &str) -> bool {
-    matches!(part, "facts" | "findings")
-}
 
 /// Prints a document. The bytes 0x7f, which its texts may have as they are, are escaped: a terminal would obey them.
 fn print_json(document: &[u8], out: &mut Out) {
@@ -43,44 +38,59 @@ fn print_json(document: &[u8], out: &mut Out) {
 
 /// A document that is written piece by piece.
 #[derive(Drop)]
-pub(crate) struct Document {
-    alloc: Global,
+pub(crate) struct Document<'d> {
     pieces: Pretty,
+    /// The names of the inputs.
+    inputs: &'d [&'d str],
+    /// The name of the member with what a view shows.
+    part: &'static str,
     /// The structures that have begun in the table that is shown, and haven't ended.
     open: Vec<Group>,
+    /// The text of the next piece, as far as it is printed.
+    draft: Out,
     /// Whether memory for a piece was refused.
     is_refused: bool,
 }
 
-impl Document {
-    /// The beginning of a document, up to the list of what a view shows, which is a member of this name.
-    pub(crate) fn new(alloc: Global, inputs: &[&str], part: &str) -> Document {
+impl<'d> Document<'d> {
+    /// The beginning of a document, up to the list of what a view shows.
+    pub(crate) fn new(alloc: Global, inputs: &'d [&'d str], part: &'static str) -> Document<'d> {
         let mut document = Document {
-            alloc,
             pieces: Pretty::new(alloc),
+            inputs,
+            part,
             open: Vec::new(alloc),
+            draft: Out::new(alloc),
             is_refused: false,
         };
         document.token(Token::BeginObject);
-        if !comes_first(part) {
-            document.inputs(inputs);
+        if part > "inputs" {
+            document.inputs();
         }
         document.begin_list(part);
         document
     }
 
     /// Ends the list of what a view shows, and adds the inputs if they come after it.
-    pub(crate) fn end_list(&mut self, inputs: &[&str], part: &str) {
+    pub(crate) fn end_list(&mut self) {
         self.token(Token::EndArray);
-        if comes_first(part) {
-            self.inputs(inputs);
+        if self.part < "inputs" {
+            self.inputs();
         }
+    }
+
+    /// Prints the document after the end of that list.
+    ///
+    /// Fails if memory for a piece was refused.
+    pub(crate) fn print(mut self, view: &str, out: &mut Out) -> Result<(), AllocError> {
+        self.end_list();
+        self.end(view, out)
     }
 
     /// Prints the document, after its end: the view's name and the version.
     ///
     /// Fails if memory for a piece was refused.
-    pub(crate) fn print(mut self, view: &str, out: &mut Out) -> Result<(), AllocError> {
+    pub(crate) fn end(mut self, view: &str, out: &mut Out) -> Result<(), AllocError> {
         self.number("version", VERSION);
         self.text("view", view);
         self.token(Token::EndObject);
@@ -120,12 +130,14 @@ impl Document {
 
     /// Adds the digits of a number.
     fn digits(&mut self, number: u64) {
-        let mut text = Out::new(self.alloc);
-        write!(text, "{number}");
-        match text.printed() {
-            Some(digits) if is_number(digits) => self.token(Token::Number(digits)),
+        write!(self.draft, "{number}");
+        match self.draft.printed() {
+            Some(digits) if is_number(digits) => {
+                self.is_refused |= self.pieces.token(Token::Number(digits)).is_err()
+            }
             _ => self.is_refused = true,
         }
+        self.draft.clear();
     }
 
     /// Adds numbers by their names, which stand in one text.
@@ -135,10 +147,10 @@ impl Document {
         }
     }
 
-    /// Adds an object with why no more is shown from an offset on.
-    fn reason(&mut self, name: &str, why: &Out, offset: u64) {
+    /// Adds an object with why no more is shown from an offset on, which is drafted.
+    fn reason(&mut self, name: &str, offset: u64) {
         self.token(Token::BeginObject);
-        self.printed(name, why);
+        self.drafted(name);
         self.number("offset", offset);
         self.token(Token::EndObject);
     }
@@ -149,28 +161,25 @@ impl Document {
         self.token(Token::Bool(is_so));
     }
 
-    /// Adds what was printed.
-    fn printed(&mut self, name: &str, text: &Out) {
-        match text.printed() {
-            Some(text) => self.text(name, text),
+    /// Adds the text that is drafted.
+    fn drafted(&mut self, name: &str) {
+        self.token(Token::Key(name));
+        self.end_draft()
+    }
+
+    /// Adds the text that is drafted, without a name.
+    fn end_draft(&mut self) {
+        match self.draft.printed() {
+            Some(text) => self.is_refused |= self.pieces.token(Token::String(text)).is_err(),
             None => self.is_refused = true,
         }
+        self.draft.clear();
     }
 
     /// Adds what a value is as a text.
     pub(crate) fn shown(&mut self, name: &str, value: &impl Display) {
-        self.token(Token::Key(name));
-        self.display(value)
-    }
-
-    /// Adds what a value is as a text without a name.
-    fn display(&mut self, value: &impl Display) {
-        let mut text = Out::new(self.alloc);
-        write!(text, "{value}");
-        match text.printed() {
-            Some(text) => self.token(Token::String(text)),
-            None => self.is_refused = true,
-        }
+        write!(self.draft, "{value}");
+        self.drafted(name)
     }
 
     /// Adds an address.
@@ -180,37 +189,41 @@ impl Document {
 
     /// Adds a text of bytes, those that aren't printable ASCII as `.`.
     pub(crate) fn letters(&mut self, name: &str, bytes: &[u8]) {
-        let mut text = Out::new(self.alloc);
-        print_text(bytes, &mut text);
-        self.printed(name, &text);
+        print_text(bytes, &mut self.draft);
+        self.drafted(name)
     }
 
     /// Adds bytes as pairs of hexadecimal digits.
     fn hex(&mut self, name: &str, bytes: &[u8]) {
-        let mut text = Out::new(self.alloc);
-        print_hex(bytes, &mut text);
-        self.printed(name, &text);
+        print_hex(bytes, &mut self.draft);
+        self.drafted(name)
     }
 
     /// Adds the names of the inputs.
-    fn inputs(&mut self, inputs: &[&str]) {
+    fn inputs(&mut self) {
         self.begin_list("inputs");
-        for name in inputs {
+        for name in self.inputs {
             self.token(Token::String(*name));
         }
         self.token(Token::EndArray);
     }
 }
 
-impl Show for Document {
+impl Show for Document<'_> {
     fn field(&mut self, shown: &Field<'_>) {
+        let mut meaning = Out::new(self.draft.allocator());
+        if !matches!(shown.label.meaning, Meaning::Decimal) {
+            print_meaning(shown, &mut meaning);
+        }
+        self.is_refused |= meaning.printed().is_none();
+        let meaning = meaning.printed().unwrap_or("").trim();
         self.token(Token::BeginObject);
         if let Meaning::Flags = shown.label.meaning {
-            add_flags(self, shown);
+            add_flags(self, meaning);
         }
         self.number("length", shown.bytes.len() as u64);
-        if !matches!(shown.label.meaning, Meaning::Decimal) {
-            add_meaning(self, shown);
+        if !meaning.is_empty() {
+            self.text("meaning", meaning);
         }
         self.text("name", shown.label.name);
         if let Some(number) = shown.number {
@@ -256,44 +269,38 @@ impl Show for Document {
     }
 
     fn malformed(&mut self, offset: u64, fault: Fault) {
-        let mut why = Out::new(self.alloc);
-        fault.print(offset, &mut why);
-        self.reason("malformed", &why, offset)
+        fault.print(offset, &mut self.draft);
+        self.reason("malformed", offset)
     }
 }
 
-impl ShowObjects for Document {
+impl ShowObjects for Document<'_> {
     fn object(&mut self, object: &Object<'_>) {
         self.token(Token::BeginObject);
         self.text("kind", object.kind);
         self.numbers("length offset", &[object.length, object.offset]);
         if let Some(path) = object.path {
-            let mut text = Out::new(self.alloc);
-            print_path(path, &mut text);
-            self.printed("path", &text);
+            print_path(path, &mut self.draft);
+            self.drafted("path");
         }
         if !matches!(object.value, Value::Hidden) {
-            let mut text = Out::new(self.alloc);
             let path = object.path.unwrap_or(&[]);
-            object.value.print(path, "; ", &mut text);
-            self.printed("value", &text);
+            object.value.print(path, "; ", &mut self.draft);
+            self.drafted("value");
         }
         self.token(Token::EndObject);
     }
 
     fn ends(&mut self, offset: u64, why: Ends) {
-        let mut text = Out::new(self.alloc);
-        why.print(&mut text);
-        self.reason("ends", &text, offset)
+        why.print(&mut self.draft);
+        self.reason("ends", offset)
     }
 }
 
 /// Adds the names of the flags that are set.
-fn add_flags(document: &mut Document, shown: &Field<'_>) {
-    let mut text = Out::new(document.alloc);
-    print_meaning(shown, &mut text);
+fn add_flags(document: &mut Document<'_>, names: &str) {
     document.begin_list("flags");
-    for name in text.printed().unwrap_or("").trim().split(", ") {
+    for name in names.split(", ") {
         if !name.is_empty() {
             document.token(Token::String(name));
         }
@@ -302,7 +309,7 @@ fn add_flags(document: &mut Document, shown: &Field<'_>) {
 }
 
 /// Adds the parts of a generic address (section 5.2.3.2).
-fn add_parts(document: &mut Document, bytes: &[u8]) {
+fn add_parts(document: &mut Document<'_>, bytes: &[u8]) {
     let [space, width, offset, size, address @ ..] = bytes else {
         return;
     };
@@ -316,7 +323,7 @@ fn add_parts(document: &mut Document, bytes: &[u8]) {
 }
 
 /// Adds the value of a field: a number of up to four bytes as one, and else hexadecimal text.
-fn add_value(document: &mut Document, shown: &Field<'_>) {
+fn add_value(document: &mut Document<'_>, shown: &Field<'_>) {
     let is_number = !matches!(
         shown.label.meaning,
         Meaning::Text | Meaning::Wide | Meaning::Row | Meaning::Guid
@@ -324,23 +331,7 @@ fn add_value(document: &mut Document, shown: &Field<'_>) {
     if is_number && shown.bytes.len() <= 4 {
         document.number("value", number_of(shown.bytes));
     } else {
-        let mut text = Out::new(document.alloc);
-        print_value(shown, &mut text);
-        document.printed("value", &text);
-    }
-}
-
-/// Adds the meaning of a field, if it has one.
-fn add_meaning(document: &mut Document, shown: &Field<'_>) {
-    let mut text = Out::new(document.alloc);
-    print_meaning(shown, &mut text);
-    match text.printed() {
-        None => document.is_refused = true,
-        Some(meaning) => {
-            let meaning = meaning.trim();
-            if !meaning.is_empty() {
-                document.text("meaning", meaning);
-            }
-        }
+        print_value(shown, &mut document.draft);
+        document.drafted("value");
     }
 }

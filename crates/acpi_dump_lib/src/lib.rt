@@ -7,7 +7,6 @@
 mod arguments;
 mod contents;
 mod document;
-mod find;
 mod getters;
 mod listing;
 mod options;

@@ -2,8 +2,8 @@
 
 use crate::paint::Paint;
 use acpi::PhysicalRecord;
-use acpi::sdt::{SdtHeader, Signature};
-use acpi_dump_input::entries::{Entry, Place};
+use acpi::sdt::{SdtHeader, Signature, field};
+use acpi_dump_input::entries::{Entry, Place, header_of};
 use acpi_dump_walk::fields::print_text;
 use acpi_dump_walk::out::Out;
 
@@ -40,34 +40,23 @@ pub(crate) fn print_lines(entries: &[Entry<'_>], paint: Paint, out: &mut Out) {
 
 /// Prints the line of a table.
 fn print_line(entry: &Entry<'_>, width: usize, paint: Paint, out: &mut Out) {
-    let is_headless = entry.sought == Some(Signature::FACS)
-        || entry.bytes.starts_with(b"FACS")
-        || entry.bytes.starts_with(b"RSD PTR ");
-    let header = if entry.bytes.len() < SdtHeader::MIN_LENGTH {
-        None
-    } else {
-        Some(SdtHeader::read(entry.bytes))
-    };
-    match &header {
-        Some(header) => print_text(&header.signature.to_bytes(), out),
-        None => out.text("-   "),
-    }
+    let bytes = entry.bytes;
+    let is_cut = bytes.len() < SdtHeader::MIN_LENGTH;
+    print_text(if is_cut { b"-   " } else { &bytes[..4] }, out);
     print_place(entry.place, width, out);
-    match &header {
-        Some(header) if is_headless => {
+    match &header_of(entry) {
+        Some(header) if entry.sought != Some(Signature::FACS) => print_columns(header, out),
+        _ => {
             // A FACS or an RSDP has the length alone.
-            let length = if entry.bytes.starts_with(b"RSD PTR ") {
-                entry.bytes.len() as u64
+            if is_cut {
+                out.text("-       ")
+            } else if bytes.starts_with(b"RSD PTR ") {
+                write!(out, "{:08x}", bytes.len())
             } else {
-                header.length as u64
-            };
-            write!(
-                out,
-                "{length:08x} -   -      -        -        -    -       "
-            )
+                write!(out, "{:08x}", field(bytes, 4, 4))
+            }
+            out.text(" -   -      -        -        -    -       ")
         }
-        Some(header) => print_columns(header, out),
-        None => out.text("-        -   -      -        -        -    -       "),
     }
     out.text(" ");
     paint.status(entry.status, out);

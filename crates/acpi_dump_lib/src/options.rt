@@ -1,7 +1,7 @@
 //! The options, and their help.
 
 use acpi::sdt::Signature;
-use acpi_dump_input::errors::Log;
+use acpi_dump_input::errors::{Log, Stop};
 use acpi_dump_walk::language::{cut_at, next_word};
 use clap::{Arg, ArgAction, Command};
 use std::alloc::{AllocError, Global};
@@ -108,27 +108,39 @@ pub(crate) struct Choice {
     pub(crate) contents: Contents,
 }
 
-/// A word that is wrong: the option that it belongs to, the word, and what would be right.
-#[derive(Clone, Copy)]
-pub(crate) struct WrongWord<'w> {
-    pub(crate) option: &'static str,
-    pub(crate) word: &'w str,
-    pub(crate) usage: &'static str,
+/// What the word of an option may be.
+fn usage_of(option: &str) -> &'static str {
+    match option {
+        "as" => "image | memory | text | table",
+        "at" => "ADDRESS, which is 0x and one to sixteen hexadecimal digits",
+        "start" => "rsdt:REVISION:ADDRESS | rsdp:ADDRESS | bios",
+        "table" | "hex" => "SIG, four letters of either case, or all",
+        "extract" => "DIR, the name of a folder",
+        "html" => "FILE, the name of a file",
+        "check" => "error | warning | note",
+        "compare" => "A B",
+        "json" => {
+            "[--table SIG].. [--hex SIG].. | --summary | --find | --compare | --check | --rules"
+        }
+        "max-bytes" => "NUMBER, in decimal digits",
+        "color" => "auto | always | never",
+        _ => "",
+    }
 }
 
-/// Prints which word is wrong, and what would be right.
-pub(crate) fn tell_word(log: &mut Log, wrong: WrongWord<'_>) {
-    let WrongWord {
-        option,
-        word,
-        usage,
-    } = wrong;
-    let (before, after) = if option.is_empty() {
-        ("acpi_dump: ", "\nusage: acpi_dump$ $\n")
-    } else {
-        ("acpi_dump: --$: ", "\nusage: --$ $\n")
-    };
-    log.text.fill(before, &[option]);
+/// Prints that the word of an option is wrong, and what would be right.
+pub(crate) fn refuse_option(log: &mut Log, option: &'static str, word: &str) -> Stop {
+    log.text.fill("acpi_dump: --$: ", &[option]);
     log.text.escaped(word.as_bytes());
-    log.text.fill(after, &[option, usage]);
+    let texts = [option, usage_of(option)];
+    log.text.fill("\nusage: --$ $\n", &texts);
+    Stop::Message
+}
+
+/// Prints that a word or words are wrong, and what would be right.
+pub(crate) fn refuse(log: &mut Log, word: &str, usage: &str) -> Stop {
+    log.text.text("acpi_dump: ");
+    log.text.escaped(word.as_bytes());
+    log.text.fill("\nusage: acpi_dump $\n", &[usage]);
+    Stop::Message
 }

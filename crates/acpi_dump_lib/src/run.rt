@@ -1,13 +1,14 @@
 //! The program over any files, any storage and any writers.
 ghost use Rattle.acpi_dump_input.specs.Extract.{SavesOneView};
 
-use crate::arguments::{Color, Mistake, Request, View, request_of};
-use crate::options::{WrongWord, command, tell_word};
+use crate::arguments::{Color, Request, View, request_of};
+use crate::options::{command, refuse_option};
 use crate::paint::Paint;
-use crate::views::{Output, print_all_rules, print_compared, print_input, save_input, save_page};
+use crate::views::{
+    Output, has_no_start, print_compared, print_input, print_rules, save_input, save_page,
+};
 use acpi_dump_input::errors::{Log, Stop, tell};
-use acpi_dump_input::gather::{Input, gather};
-use acpi_dump_input::read::Reading;
+use acpi_dump_input::gather::gather;
 use acpi_dump_input::sources::{Sources, reason_of};
 use acpi_dump_walk::out::Out;
 use acpi_pack_lib::storage::Storage;
@@ -65,18 +66,13 @@ fn print_asked<S: Sources, T: Storage>(
 ) -> Result<u8, Stop>
     ensures { SavesOneView (T.saved storage.old) (T.saved storage.new) }
 {
-    let parsed = command(alloc)?.try_get_matches_from(arguments);
-    let request = match &parsed {
-        Ok(matches) => &request_of(alloc, matches),
-        Err(refusal) => return print_refusal(alloc, refusal, out, log),
-    };
-    match request.mistake {
-        None => print_inputs(alloc, request, sources, storage, out, log),
-        Some(Mistake::Word(wrong)) => {
-            tell_word(log, wrong);
-            Ok(2)
-        }
-        Some(Mistake::OutOfMemory) => Err(Stop::OutOfMemory),
+    match &command(alloc)?.try_get_matches_from(arguments) {
+        Ok(matches) => match &request_of(alloc, matches, log) {
+            Ok(request) => print_inputs(alloc, request, sources, storage, out, log),
+            Err(Stop::Message) => Ok(2),
+            Err(Stop::OutOfMemory) => Err(Stop::OutOfMemory),
+        },
+        Err(refusal) => print_refusal(alloc, refusal, out, log),
     }
 }
 
@@ -125,13 +121,17 @@ fn print_inputs<S: Sources, T: Storage>(
         alloc,
         request,
         paint: Paint { is_on },
+        number: 0,
     };
     match request.view {
         View::Differences => return print_two(output, sources, storage, out, log),
-        View::Rules => return print_all_rules(output, out),
+        View::Rules => return print_rules(output, out),
         _ => {}
     }
-    let input = &gather_named(output, &request.inputs, sources, log)?;
+    let input = &gather(alloc, request.inputs, request.reading, sources, log)?;
+    if has_no_start(output, input, log) {
+        return Ok(2);
+    }
     match (request.folder, request.page) {
         (Some(folder), _) => save_input(output, folder, input, sources, storage, out, log),
         (None, Some(file)) => save_page(output, file, input, None, sources, storage, out, log),
@@ -142,7 +142,7 @@ fn print_inputs<S: Sources, T: Storage>(
 /// Prints what differs between the two inputs that are named, or saves the page of it.
 #[tactic(auto, using(crate::proofs::Saved::none_in_view))]
 fn print_two<S: Sources, T: Storage>(
-    output: Output<'_, '_>,
+    output: Output<'_>,
     sources: &mut S,
     storage: &mut T,
     out: &mut Out,
@@ -150,45 +150,17 @@ fn print_two<S: Sources, T: Storage>(
 ) -> Result<u8, Stop>
     ensures { SavesOneView (T.saved storage.old) (T.saved storage.new) }
 {
-    let [old, new] = output.request.inputs.as_slice() else {
-        let wrong = WrongWord {
-            option: "compare",
-            word: "it takes two inputs",
-            usage: "A B",
-        };
-        tell_word(log, wrong);
+    let [first, second] = output.request.inputs else {
+        refuse_option(log, "compare", "it takes two inputs");
         return Ok(2);
     };
-    let first = &gather_named(output, &[*old], sources, log)?;
-    let second = &gather_named(output, &[*new], sources, log)?;
+    let reading = output.request.reading;
+    let old = &gather(output.alloc, &[*first], reading, sources, log)?;
+    let new = &gather(output.alloc, &[*second], reading, sources, log)?;
     match output.request.page {
-        Some(file) => save_page(
-            output,
-            file,
-            first,
-            Some(second),
-            sources,
-            storage,
-            out,
-            log,
-        ),
-        None => print_compared(output, first, second, out, log),
+        Some(file) => save_page(output, file, old, Some(new), sources, storage, out, log),
+        None => print_compared(output, old, new, out, log),
     }
-}
-
-/// The input that words name, read as it is asked for.
-fn gather_named<S: Sources>(
-    output: Output<'_, '_>,
-    names: &[&str],
-    sources: &mut S,
-    log: &mut Log,
-) -> Result<Input, Stop> {
-    let reading = Reading {
-        kind: output.request.kind,
-        at: output.request.at,
-        most: output.request.most,
-    };
-    gather(output.alloc, names, reading, sources, log)
 }
 
 /// Prints that the process's arguments can't be had, as when one is not UTF-8, and returns the status.

@@ -1,12 +1,24 @@
-//! The machine of a summary in a document: an object with a member for each subject.
+//! A summary in a document: its lines, and the machine as an object with a member for each subject.
 
 use super::Document;
 use crate::summary::{Member, Span, Value};
+use acpi_dump_walk::language::cut_at;
 use acpi_dump_walk::out::Out;
 use json::{Token, is_number};
 
+/// Adds the lines of facts.
+pub(crate) fn add_fact_lines(document: &mut Document<'_>, facts: &str) {
+    for fact in facts.lines() {
+        let (name, text) = cut_at(fact, '\t');
+        document.token(Token::BeginObject);
+        document.text("name", name);
+        document.text("value", text);
+        document.token(Token::EndObject);
+    }
+}
+
 /// Adds the machine by its members, in the order of the subjects, the objects and the names.
-pub(crate) fn add_machine(document: &mut Document, members: &[Member], lines: &str) {
+pub(crate) fn add_machine(document: &mut Document<'_>, members: &[Member], lines: &str) {
     document.token(Token::Key("machine"));
     document.token(Token::BeginObject);
     for of_subject in members.chunk_by(|one, next| one.subject == next.subject) {
@@ -16,7 +28,7 @@ pub(crate) fn add_machine(document: &mut Document, members: &[Member], lines: &s
 }
 
 /// Begins a member, which is a list if brackets come after its name, and returns whether it is one.
-fn begin_member(document: &mut Document, name: &str) -> bool {
+fn begin_member(document: &mut Document<'_>, name: &str) -> bool {
     match name.strip_suffix("[]") {
         Some(name) => {
             document.begin_list(name);
@@ -30,7 +42,7 @@ fn begin_member(document: &mut Document, name: &str) -> bool {
 }
 
 /// Adds the objects of a subject.
-fn add_subject(document: &mut Document, members: &[Member], lines: &str) {
+fn add_subject(document: &mut Document<'_>, members: &[Member], lines: &str) {
     let [first, ..] = members else {
         return;
     };
@@ -48,7 +60,7 @@ fn add_subject(document: &mut Document, members: &[Member], lines: &str) {
 }
 
 /// Adds a member of an object, or the items of a list.
-fn add_member(document: &mut Document, members: &[Member], lines: &str) {
+fn add_member(document: &mut Document<'_>, members: &[Member], lines: &str) {
     let [first, ..] = members else {
         return;
     };
@@ -67,10 +79,13 @@ fn text_in(lines: &str, span: Span) -> &str {
 }
 
 /// Adds what a member is.
-fn add_value(document: &mut Document, member: &Member, lines: &str) {
+fn add_value(document: &mut Document<'_>, member: &Member, lines: &str) {
     match member.value {
         Value::Number(number) => document.digits(number),
-        Value::Wide(number) => document.display(&format_args!("0x{number:x}")),
+        Value::Wide(number) => {
+            document.draft.words("#", &[number]);
+            document.end_draft()
+        }
         Value::Flag(is_so) => document.token(Token::Bool(is_so)),
         Value::Text(span) => document.token(Token::String(text_in(lines, span))),
         Value::Range(first, last) => {
@@ -90,8 +105,8 @@ fn add_value(document: &mut Document, member: &Member, lines: &str) {
 }
 
 /// Adds what the code that a member is means.
-fn add_meaning(document: &mut Document, name: &str, meaning: &str) {
-    let mut key = Out::new(document.alloc);
+fn add_meaning(document: &mut Document<'_>, name: &str, meaning: &str) {
+    let mut key = Out::new(document.draft.allocator());
     write!(key, "{name}_meaning");
     match key.printed() {
         Some(key) => document.text(key, meaning),
@@ -100,7 +115,7 @@ fn add_meaning(document: &mut Document, name: &str, meaning: &str) {
 }
 
 /// Adds numbers that come after spaces, and null for what isn't one.
-fn add_row(document: &mut Document, row: &str) {
+fn add_row(document: &mut Document<'_>, row: &str) {
     document.token(Token::BeginArray);
     for word in row.split(' ') {
         if is_number(word) {

@@ -8,7 +8,6 @@ use acpi::sdt::SdtHeader;
 use acpi_dump_input::entries::{Entry, Place, header_of};
 use acpi_dump_page::compare::{Difference, ShowDifferences};
 use acpi_dump_walk::fields::number_of;
-use acpi_dump_walk::out::Out;
 use acpi_dump_walk::walk::walk_with_objects;
 use json::Token;
 
@@ -24,7 +23,7 @@ enum Part<'p> {
     Only(&'static str),
 }
 
-impl ShowDifferences for Document {
+impl ShowDifferences for Document<'_> {
     fn alone(&mut self, is_first: bool, entry: &Entry<'_>) {
         let side = if is_first { "first" } else { "second" };
         add_table(self, entry, Part::Only(side))
@@ -35,23 +34,19 @@ impl ShowDifferences for Document {
     }
 }
 
-/// Fields of a header (section 5.2.6): the names, the offsets, the lengths, and whether they are texts.
-const CREATOR: [(&str, usize, usize, bool); 2] = [
+/// The fields of a header (section 5.2.6): the names, the offsets, the lengths, and whether they are texts.
+const HEADER: [(&str, usize, usize, bool); 7] = [
     ("creator_id", 28, 4, true),
     ("creator_revision", 32, 4, false),
-];
-
-const OEM: [(&str, usize, usize, bool); 4] = [
     ("length", 4, 4, false),
     ("oem_id", 10, 6, true),
     ("oem_revision", 24, 4, false),
     ("oem_table_id", 16, 8, true),
+    ("revision", 8, 1, false),
 ];
 
-const REVISION: [(&str, usize, usize, bool); 1] = [("revision", 8, 1, false)];
-
 /// Adds fields of a header, if it is there.
-fn add_header(document: &mut Document, header: &[u8], fields: &[(&str, usize, usize, bool)]) {
+fn add_header(document: &mut Document<'_>, header: &[u8], fields: &[(&str, usize, usize, bool)]) {
     for (name, offset, length, is_text) in fields {
         let Some(bytes) = header.get(*offset..offset.saturating_add(*length)) else {
             return;
@@ -65,10 +60,11 @@ fn add_header(document: &mut Document, header: &[u8], fields: &[(&str, usize, us
 }
 
 /// Adds a table.
-fn add_table(document: &mut Document, entry: &Entry<'_>, part: Part<'_>) {
-    let header: &[u8] = match header_of(entry) {
-        Some(_) => entry.bytes,
-        None => &[],
+fn add_table(document: &mut Document<'_>, entry: &Entry<'_>, part: Part<'_>) {
+    let header = if header_of(entry).is_some() {
+        entry.bytes
+    } else {
+        &[]
     };
     document.token(Token::BeginObject);
     if let Place::Address(address) = entry.place {
@@ -77,16 +73,16 @@ fn add_table(document: &mut Document, entry: &Entry<'_>, part: Part<'_>) {
     if let Part::Whole(Contents::Bytes) = part {
         document.hex("bytes", entry.bytes);
     }
-    add_header(document, header, &CREATOR);
+    add_header(document, header, &HEADER[..2]);
     add_fields(document, entry, part);
     if let Place::File(name) = entry.place {
         document.text("file", name);
     }
-    add_header(document, header, &OEM);
+    add_header(document, header, &HEADER[2..6]);
     if let Part::Only(side) = part {
         document.text("only", side);
     }
-    add_header(document, header, &REVISION);
+    add_header(document, header, &HEADER[6..]);
     if let Some(signature) = entry.signature() {
         document.letters("signature", &signature.to_bytes());
     }
@@ -96,28 +92,23 @@ fn add_table(document: &mut Document, entry: &Entry<'_>, part: Part<'_>) {
 }
 
 /// Adds the fields of a table, if they are shown.
-fn add_fields(document: &mut Document, entry: &Entry<'_>, part: Part<'_>) {
-    match part {
-        Part::Whole(Contents::Fields) => {
-            document.begin_list("fields");
-            if let Some(signature) = entry.signature() {
-                walk_with_objects(document.alloc, signature, entry.bytes, document);
-            }
-            document.token(Token::EndArray);
-        }
-        Part::Changed(found) => {
-            document.begin_list("fields");
-            for difference in found {
-                add_difference(document, *difference);
-            }
-            document.token(Token::EndArray);
-        }
-        _ => {}
+fn add_fields(document: &mut Document<'_>, entry: &Entry<'_>, part: Part<'_>) {
+    if !matches!(part, Part::Whole(Contents::Fields) | Part::Changed(_)) {
+        return;
     }
+    document.begin_list("fields");
+    if let Part::Changed(found) = part {
+        for difference in found {
+            add_difference(document, *difference);
+        }
+    } else if let Some(signature) = entry.signature() {
+        walk_with_objects(document.draft.allocator(), signature, entry.bytes, document);
+    }
+    document.token(Token::EndArray);
 }
 
 /// Adds a field of one of two tables, if it has it: its line's end, and what comes after two spaces there, its meaning.
-fn add_side(document: &mut Document, name: &str, name_of_meaning: &str, value: Option<&str>) {
+fn add_side(document: &mut Document<'_>, name: &str, name_of_meaning: &str, value: Option<&str>) {
     let Some(value) = value else {
         return;
     };
@@ -130,7 +121,7 @@ fn add_side(document: &mut Document, name: &str, name_of_meaning: &str, value: O
 
 /// Adds a field that differs between two tables, or a structure that one alone has, with what the structure is called,
 /// unless that is all of the table.
-fn add_difference(document: &mut Document, difference: Difference<'_>) {
+fn add_difference(document: &mut Document<'_>, difference: Difference<'_>) {
     let is_field = !difference.name.is_empty();
     document.token(Token::BeginObject);
     if is_field {
@@ -145,22 +136,23 @@ fn add_difference(document: &mut Document, difference: Difference<'_>) {
         document.text("only", if is_first { "first" } else { "second" });
     }
     if difference.part > 0 {
-        let mut path = Out::new(document.alloc);
-        difference.side.print_path(difference.part, &mut path);
-        document.printed("structure", &path);
+        difference
+            .side
+            .print_path(difference.part, &mut document.draft);
+        document.drafted("structure");
     }
     document.token(Token::EndObject);
 }
 
 /// Adds tables, without their contents.
-pub(crate) fn add_all(document: &mut Document, entries: &[Entry<'_>]) {
+pub(crate) fn add_all(document: &mut Document<'_>, entries: &[Entry<'_>]) {
     for entry in entries {
         add_table(document, entry, Part::Nothing);
     }
 }
 
 /// Adds the tables that are chosen, with their contents, choice by choice.
-pub(crate) fn add_chosen(document: &mut Document, entries: &[Entry<'_>], choices: &[Choice]) {
+pub(crate) fn add_chosen(document: &mut Document<'_>, entries: &[Entry<'_>], choices: &[Choice]) {
     for (number, choice) in choices.iter().enumerate() {
         for entry in entries {
             if shows(choices, number, entry) {

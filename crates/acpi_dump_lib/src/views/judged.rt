@@ -1,130 +1,100 @@
-//! What rules find in the tables of an input.
+//! What rules find in the tables of an input, and the rules themselves, as lines and as documents.
 
-use super::report::{add_findings, add_rules, print_findings, print_rules};
-use super::{Loaded, Output, open_at, start_of, strict_status};
+use super::read::tables_in;
+use super::{Output, strict_status};
 use crate::arguments::View;
-use acpi::sdt::{Signature, field};
-use acpi_cli::root::Root;
-use acpi_dump_check::{Machine, findings_of};
-use acpi_dump_input::entries::{Entry, bytes_from, entries_of, entries_of_files, entry_at};
+use crate::document::Document;
+use acpi_dump_check::findings_of;
+use acpi_dump_check::rules::rules;
+use acpi_dump_input::entries::{Entry, Place, own_signature, print_name};
 use acpi_dump_input::errors::{Log, Stop};
-use acpi_dump_input::judgement::{Judgement, Severity, counts_of};
+use acpi_dump_input::gather::Input;
+use acpi_dump_input::judgement::{Judgement, Rule, Severity, counts_of};
 use acpi_dump_walk::out::Out;
-use acpi_image_reader::MemoryImage;
-use std::alloc::Global;
+use json::Token;
 
-/// The tables of an input, and what leads to them.
-#[derive(Drop)]
-pub(crate) struct Judged<'l> {
-    pub(crate) entries: Vec<Entry<'l>>,
-    rsdp: &'l [u8],
-    rsdt: &'l [u8],
-}
-
-impl Judged<'_> {
-    /// The machine whose tables they are.
-    pub(crate) fn machine(&self, alloc: Global) -> Machine<'_> {
-        Machine {
-            alloc,
-            entries: self.entries.as_slice(),
-            rsdp: self.rsdp,
-            rsdt: self.rsdt,
+/// Prints a line for each finding of a severity or a higher one, and how many they are.
+fn print_findings(findings: &Judgement, entries: &[Entry<'_>], least: Severity, out: &mut Out) {
+    for finding in findings.list() {
+        let rule = finding.rule;
+        if rule.severity.rank() >= least.rank()
+            && let Some(entry) = entries.get(finding.table)
+        {
+            out.fill("$ $: ", &[rule.severity.word(), rule.id]);
+            print_name(entry, out);
+            write!(out, " 0x{:04x}", finding.offset);
+            if !finding.field.is_empty() {
+                out.fill(" $", &[finding.field]);
+            }
+            out.text(": ");
+            out.text(findings.message(finding));
+            out.fill(" ($)\n", &[rule.section]);
         }
     }
+    let [notes, warnings, errors] = counts_of(findings, least);
+    let counts = [errors as u64, warnings as u64, notes as u64];
+    out.words("errors %, warnings %, notes %\n", &counts);
 }
 
-/// The tables of an input to be judged.
-///
-/// Fails, after printing why, if there are none.
-pub(crate) fn judged_in<'l>(
-    output: Output<'_, '_>,
-    number: usize,
-    loaded: &'l Loaded<'_>,
-    log: &mut Log,
-) -> Result<Judged<'l>, Stop> {
-    match loaded {
-        Loaded::Tables(files) => Ok(judged_files(entries_of_files(output.alloc, *files)?)),
-        Loaded::Memory(image) => judged_memory(output, number, image, log),
-    }
-}
-
-/// The first bytes of tables that begin with letters, or none.
-fn beginning_with<'l>(entries: &[Entry<'l>], letters: &[u8]) -> &'l [u8] {
-    for entry in entries {
-        if entry.bytes.starts_with(letters) && !entry.status.is_invalid() {
-            return entry.bytes;
+/// Adds the findings of a severity or a higher one.
+fn add_findings(
+    findings: &Judgement,
+    entries: &[Entry<'_>],
+    least: Severity,
+    document: &mut Document<'_>,
+) {
+    for finding in findings.list() {
+        let Some(entry) = entries.get(finding.table) else {
+            continue;
+        };
+        let rule = finding.rule;
+        if rule.severity.rank() < least.rank() {
+            continue;
         }
-    }
-    &[]
-}
-
-/// Tables that come as files: an RSDP and an RSDT beside an XSDT are among them.
-fn judged_files(entries: Vec<Entry<'_>>) -> Judged<'_> {
-    let rsdt = if beginning_with(&entries, b"XSDT").is_empty() {
-        &[]
-    } else {
-        beginning_with(&entries, b"RSDT")
-    };
-    Judged {
-        rsdp: beginning_with(&entries, b"RSD PTR "),
-        rsdt,
-        entries,
-    }
-}
-
-/// The tables of a memory, whose RSDP may give a valid RSDT beside an XSDT.
-fn judged_memory<'i>(
-    output: Output<'_, '_>,
-    number: usize,
-    image: &'i MemoryImage<'_>,
-    log: &mut Log,
-) -> Result<Judged<'i>, Stop> {
-    let root = start_of(output, number, image, log)?;
-    let tables = open_at(output, number, image, root, log)?;
-    let entries = entries_of(output.alloc, image, &tables)?;
-    let mut judged = Judged {
-        entries,
-        rsdp: &[],
-        rsdt: &[],
-    };
-    if let Root::Rsdp { address } = root {
-        let rsdp = bytes_from(image, address);
-        judged.rsdp = rsdp.get(..36).unwrap_or(&[]);
-        // Revision, RsdtAddress.
-        let (revision, address) = (field(rsdp, 15, 1), field(rsdp, 16, 4));
-        let beside = entry_at(image, address, Some(Signature::RSDT));
-        if revision != 0 && !beside.status.is_invalid() {
-            judged.rsdt = beside.bytes;
+        document.token(Token::BeginObject);
+        if let Place::Address(address) = entry.place {
+            document.address("address", address);
         }
+        if !finding.field.is_empty() {
+            document.text("field", finding.field);
+        }
+        if let Place::File(name) = entry.place {
+            document.text("file", name);
+        }
+        document.text("message", findings.message(finding));
+        document.number("offset", finding.offset as u64);
+        document.text("rule", rule.id);
+        document.text("section", rule.section);
+        document.text("severity", rule.severity.word());
+        document.letters("signature", &own_signature(entry.bytes).to_bytes());
+        document.token(Token::EndObject);
     }
-    Ok(judged)
 }
 
 /// Prints what rules find in the tables of an input. Returns the status: 4 if something is bad.
 ///
 /// Fails, after printing why, if there are no tables, or if memory runs out.
 pub(super) fn print_judged(
-    output: Output<'_, '_>,
-    loaded: &Loaded<'_>,
+    output: Output<'_>,
+    input: &Input,
     out: &mut Out,
     log: &mut Log,
 ) -> Result<u8, Stop> {
-    let judged = &judged_in(output, 0, loaded, log)?;
-    let entries = judged.entries.as_slice();
-    let findings = &findings_of(&judged.machine(output.alloc))?;
+    let tables = &tables_in(output, input, log)?;
+    let findings = &findings_of(&tables.machine(output.alloc))?;
     let least = output.request.least.unwrap_or(Severity::Note);
     if output.request.is_json {
         let mut document = output.document("findings");
-        add_findings(findings, entries, least, &mut document);
-        output.print(document, "check", "findings", out)?;
+        add_findings(findings, &tables.entries, least, &mut document);
+        document.print("check", out)?;
     } else {
-        print_findings(findings, entries, least, out);
+        print_findings(findings, &tables.entries, least, out);
     }
-    Ok(status_of(output, entries, findings))
+    Ok(status_of(output, &tables.entries, findings))
 }
 
 /// The status if all is shown: 4 if something is bad and that is asked for, and else as of any other view.
-pub(super) fn status_of(output: Output<'_, '_>, entries: &[Entry<'_>], findings: &Judgement) -> u8 {
+pub(super) fn status_of(output: Output<'_>, entries: &[Entry<'_>], findings: &Judgement) -> u8 {
     let bad = output.request.least.unwrap_or(Severity::Error);
     if matches!(output.request.view, View::Findings) && counts_of(findings, bad) != [0, 0, 0] {
         return 4;
@@ -132,16 +102,32 @@ pub(super) fn status_of(output: Output<'_, '_>, entries: &[Entry<'_>], findings:
     strict_status(output, entries)
 }
 
+/// Adds the rules.
+fn add_rules(rules: &[Rule], document: &mut Document<'_>) {
+    for rule in rules {
+        document.token(Token::BeginObject);
+        document.text("rule", rule.id);
+        document.text("section", rule.section);
+        document.text("severity", rule.severity.word());
+        document.text("what", rule.what);
+        document.token(Token::EndObject);
+    }
+}
+
 /// Prints the rules.
 ///
 /// Fails if memory runs out.
-pub(crate) fn print_all_rules(output: Output<'_, '_>, out: &mut Out) -> Result<u8, Stop> {
+pub(crate) fn print_rules(output: Output<'_>, out: &mut Out) -> Result<u8, Stop> {
+    let rules = &rules(output.alloc)?;
     if output.request.is_json {
         let mut document = output.document("rules");
-        add_rules(output.alloc, &mut document)?;
-        output.print(document, "rules", "rules", out)?;
-    } else {
-        print_rules(output.alloc, out)?;
+        add_rules(rules, &mut document);
+        document.print("rules", out)?;
+        return Ok(0);
+    }
+    for rule in rules {
+        let texts = [rule.id, rule.severity.word(), rule.what, rule.section];
+        out.fill("$ $: $ ($)\n", &texts);
     }
     Ok(0)
 }

@@ -3,8 +3,9 @@
 ghost use Rattle.std.specs.Prelude.{◌≡◌, List, ℕ, IfOk, OnErr, map};
 ghost use Rattle.acpi_dump_input.specs.Extract.{SavesPage};
 
-use super::judged::{Judged, judged_in, status_of};
-use super::{Output, entries_in, has_no_start, load, strict_status};
+use super::judged::status_of;
+use super::read::{Tables, tables_in};
+use super::{Output, strict_status};
 use acpi_dump_check::findings_of;
 use acpi_dump_input::errors::{Log, Stop};
 use acpi_dump_input::extract::save_file;
@@ -19,71 +20,56 @@ use std::alloc::AllocError;
 ///
 /// Fails if memory runs out.
 fn print_judged_page(
-    output: Output<'_, '_>,
+    output: Output<'_>,
     first: Option<Given<'_>>,
     names: &[&str],
-    judged: &Judged<'_>,
+    tables: &Tables<'_>,
     page: &mut Out,
 ) -> Result<u8, Stop> {
-    let findings = &findings_of(&judged.machine(output.alloc))?;
+    let findings = &findings_of(&tables.machine(output.alloc))?;
     let source = Source {
         alloc: output.alloc,
         input: Given {
             names,
-            entries: judged.entries.as_slice(),
+            entries: &tables.entries,
         },
         first,
-        ignored: &output.request.ignored,
+        ignored: output.request.ignored,
         findings,
     };
     print_page(source, page)?;
-    Ok(status_of(output, judged.entries.as_slice(), findings))
+    Ok(status_of(output, &tables.entries, findings))
 }
 
-/// Prints the page of an input. Returns the status.
-///
-/// Fails, after printing why, if it has no tables, or if memory runs out.
-fn print_input_page(
-    output: Output<'_, '_>,
-    input: &Input,
-    page: &mut Out,
-    log: &mut Log,
-) -> Result<u8, Stop> {
-    let loaded = &load(output, 0, input, log)?;
-    if has_no_start(output, loaded, log) {
-        return Ok(2);
-    }
-    let judged = &judged_in(output, 0, loaded, log)?;
-    print_judged_page(output, None, &output.request.inputs, judged, page)
-}
-
-/// Prints the page of what differs between two inputs. Returns the status.
+/// Prints the page of an input, or of what differs between two. Returns the status.
 ///
 /// Fails, after printing why, if one has no tables, or if memory runs out.
-fn print_compared_page(
-    output: Output<'_, '_>,
-    first: &Input,
-    second: &Input,
+fn print_any_page(
+    output: Output<'_>,
+    input: &Input,
+    second: Option<&Input>,
     page: &mut Out,
     log: &mut Log,
 ) -> Result<u8, Stop> {
-    let first = &load(output, 0, first, log)?;
-    let second = &load(output, 1, second, log)?;
-    let old = &entries_in(output, 0, first, log)?;
-    let judged = &judged_in(output, 1, second, log)?;
-    let given = Given {
-        names: &[output.name(0)],
-        entries: old.as_slice(),
+    let tables = &tables_in(output, input, log)?;
+    let Some(second) = second else {
+        return print_judged_page(output, None, output.request.inputs, tables, page);
     };
-    let status = print_judged_page(output, Some(given), &[output.name(1)], judged, page)?;
-    Ok(status.max(strict_status(output, old)))
+    let other = output.second();
+    let judged = &tables_in(other, second, log)?;
+    let first = Given {
+        names: &[output.name()],
+        entries: &tables.entries,
+    };
+    let status = print_judged_page(output, Some(first), &[other.name()], judged, page)?;
+    Ok(status.max(strict_status(output, &tables.entries)))
 }
 
 /// Saves the text of a page as a file, if there is some. The file `-` is standard output.
 ///
 /// Fails if memory runs out.
 fn save_text<S: Sources, T: Storage>(
-    output: Output<'_, '_>,
+    output: Output<'_>,
     file: &str,
     text: &str,
     sources: &mut S,
@@ -91,21 +77,15 @@ fn save_text<S: Sources, T: Storage>(
     out: &mut Out,
     log: &mut Log,
 ) -> Result<(), AllocError>
-    ensures exact { IfOk result (λ _. SavesPage (map (λ i. i.now) output.entry.request.now.inputs.items) file.now
+    ensures exact { IfOk result (λ _. SavesPage (map (λ i. i.now) output.entry.request.now.inputs.now) file.now
         text.now log.new.is_incomplete (T.saved storage.old) (T.saved storage.new)) }
     ensures failed { OnErr result (T.saved storage.new ≡ T.saved storage.old) }
 {
     if file == "-" {
         out.text(text);
     } else if !text.is_empty() {
-        save_file(
-            output.saving(),
-            file,
-            text.as_bytes(),
-            sources,
-            storage,
-            log,
-        )?;
+        let bytes = text.as_bytes();
+        save_file(output.saving(), file, bytes, sources, storage, log)?;
     }
     Ok(())
 }
@@ -115,7 +95,7 @@ fn save_text<S: Sources, T: Storage>(
 ///
 /// Fails, after printing why, if one has no tables, or if memory runs out.
 pub(crate) fn save_page<S: Sources, T: Storage>(
-    output: Output<'_, '_>,
+    output: Output<'_>,
     file: &str,
     input: &Input,
     second: Option<&Input>,
@@ -126,15 +106,12 @@ pub(crate) fn save_page<S: Sources, T: Storage>(
 ) -> Result<u8, Stop>
     // The text of a page was to be saved, once, or nothing.
     ensures saved { IfOk result (λ _. (text : List ℕ)
-        × SavesPage (map (λ i. i.now) output.entry.request.now.inputs.items) file.now text log.new.is_incomplete
+        × SavesPage (map (λ i. i.now) output.entry.request.now.inputs.now) file.now text log.new.is_incomplete
         (T.saved storage.old) (T.saved storage.new)) }
     ensures failed { OnErr result (T.saved storage.new ≡ T.saved storage.old) }
 {
     let mut page = Out::new(output.alloc);
-    let status = match second {
-        None => print_input_page(output, input, &mut page, log)?,
-        Some(second) => print_compared_page(output, input, second, &mut page, log)?,
-    };
+    let status = print_any_page(output, input, second, &mut page, log)?;
     let Some(text) = page.printed() else {
         return Err(Stop::OutOfMemory);
     };

@@ -1,13 +1,16 @@
-//! The RSDPs of a memory, valid or not, and the facts of a summary, as lines and in a document.
+//! The RSDPs of a memory, valid or not.
 
+use super::Output;
+use super::read::memory_of;
 use crate::document::Document;
-use acpi_dump_input::candidates::Candidate;
-use acpi_dump_walk::language::cut_at;
+use acpi_dump_input::candidates::{Candidate, candidates};
+use acpi_dump_input::errors::{Log, Stop, fail};
+use acpi_dump_input::gather::Input;
 use acpi_dump_walk::out::Out;
 use json::Token;
 
 /// Prints a line for each RSDP: its address, what it points to, and what the checks say.
-pub(crate) fn print_candidates(found: &[Candidate], out: &mut Out) {
+fn print_candidates(found: &[Candidate], out: &mut Out) {
     for candidate in found {
         write!(out, "RSDP at {:016x}", candidate.address);
         if let Some(fields) = candidate.fields {
@@ -25,7 +28,7 @@ pub(crate) fn print_candidates(found: &[Candidate], out: &mut Out) {
 }
 
 /// Adds RSDPs.
-pub(crate) fn add_candidates(document: &mut Document, found: &[Candidate]) {
+fn add_candidates(document: &mut Document<'_>, found: &[Candidate]) {
     for candidate in found {
         document.token(Token::BeginObject);
         document.address("address", candidate.address);
@@ -47,21 +50,27 @@ pub(crate) fn add_candidates(document: &mut Document, found: &[Candidate]) {
     }
 }
 
-/// Prints the lines of facts in two columns.
-pub(crate) fn print_facts(facts: &str, out: &mut Out) {
-    for fact in facts.lines() {
-        let (name, text) = cut_at(fact, '\t');
-        writeln!(out, "{name:<20} {text}");
+/// Prints the RSDPs of a memory.
+pub(super) fn print_found(
+    output: Output<'_>,
+    input: &Input,
+    out: &mut Out,
+    log: &mut Log,
+) -> Result<u8, Stop> {
+    let Input::Memory(image) = input else {
+        let why = "tables, not memory: there is no RSDP to find";
+        return Err(fail(log, output.name(), &why));
+    };
+    let found = &candidates(output.alloc, &memory_of(output, image, log)?)?;
+    if output.request.is_json {
+        let mut document = output.document("rsdps");
+        add_candidates(&mut document, found);
+        document.print("find", out)?;
+    } else {
+        print_candidates(found, out);
     }
-}
-
-/// Adds the lines of facts.
-pub(crate) fn add_fact_lines(document: &mut Document, facts: &str) {
-    for fact in facts.lines() {
-        let (name, text) = cut_at(fact, '\t');
-        document.token(Token::BeginObject);
-        document.text("name", name);
-        document.text("value", text);
-        document.token(Token::EndObject);
+    if found.is_empty() {
+        return Err(fail(log, output.name(), &"no RSDP"));
     }
+    Ok(0)
 }
