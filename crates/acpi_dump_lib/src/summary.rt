@@ -1,11 +1,11 @@
 //! The machine in short: processors, interrupts, timers, PCI, memory domains, the console, and units of other tables,
 //! one fact a line.
 
-mod distances;
 mod domains;
 mod facts;
 mod gic;
 mod processors;
+mod shares;
 mod units;
 
 use acpi::madt::Madt;
@@ -18,7 +18,7 @@ use acpi::spcr::Spcr;
 use acpi::{AcpiError, AcpiHandler, AcpiTables, HpetInfo, PciConfigRegions, PlatformInfo};
 use acpi_arm::gic::GicModel;
 use acpi_numa::{MemoryAffinities, MemoryRange, Slit, Srat};
-use distances::add_distances;
+use domains::add_distances;
 pub(crate) use domains::add_domains;
 pub(crate) use facts::{Facts, Member, Span, Value};
 use gic::add_gic;
@@ -34,18 +34,17 @@ fn add_unless_missing(facts: &mut Facts, name: &'static str, refusal: AcpiError)
 }
 
 /// Adds the facts of a machine's tables.
-pub(crate) fn add_facts<H: AcpiHandler>(
-    alloc: Global,
-    tables: &AcpiTables<'_, H>,
-    facts: &mut Facts,
-) {
-    add_platform(alloc, tables, facts);
+pub(crate) fn add_facts<H: AcpiHandler>(tables: &AcpiTables<'_, H>, facts: &mut Facts) {
+    match &tables.find_table::<Srat>() {
+        Ok(srat) => add_platform(tables, srat.bytes(), facts),
+        Err(_) => add_platform(tables, &[], facts),
+    }
     match HpetInfo::new(tables) {
         Ok(info) => add_hpet(facts, &info),
         Err(refusal) => add_unless_missing(facts, "HPET", refusal),
     }
-    add_regions(alloc, tables, facts);
-    add_ranges(alloc, tables, facts);
+    add_regions(tables, facts);
+    add_ranges(tables, facts);
     if let Ok(slit) = &tables.find_table::<Slit>() {
         add_distances(facts, slit.bytes());
     }
@@ -54,21 +53,22 @@ pub(crate) fn add_facts<H: AcpiHandler>(
     }
 }
 
-/// Adds the facts of the platform.
-fn add_platform<H: AcpiHandler>(alloc: Global, tables: &AcpiTables<'_, H>, facts: &mut Facts) {
-    match &tables.platform_info(alloc) {
-        Ok(platform) => add_parts(alloc, facts, platform, tables),
-        Err(refusal) => add_other(alloc, tables, *refusal, facts),
+/// Adds the facts of the platform, the domains of its processors by an SRAT's bytes.
+fn add_platform<H: AcpiHandler>(tables: &AcpiTables<'_, H>, srat: &[u8], facts: &mut Facts) {
+    match &tables.platform_info(facts.allocator()) {
+        Ok(platform) => add_parts(facts, platform, srat),
+        Err(refusal) => add_other(tables, *refusal, srat, facts),
     }
 }
 
 /// Adds the parts of a GIC, or without a FADT what the MADT has of local APICs, or else why the platform isn't known.
 fn add_other<H: AcpiHandler>(
-    alloc: Global,
     tables: &AcpiTables<'_, H>,
     refusal: AcpiError,
+    srat: &[u8],
     facts: &mut Facts,
 ) {
+    let alloc = facts.allocator();
     if let Ok(madt) = &tables.find_table::<Madt>() {
         if let Ok(Some(gic)) = &GicModel::of(madt.bytes(), alloc) {
             return add_gic(facts, gic);
@@ -76,23 +76,22 @@ fn add_other<H: AcpiHandler>(
         if refusal == AcpiError::TableMissing(Signature::FADT)
             && let Ok((model, processors)) = &madt.parse_interrupt_model_in(alloc)
         {
-            return add_model(alloc, facts, model, processors, tables);
+            return add_model(facts, model, processors, srat);
         }
     }
     facts.refused("platform", refusal);
 }
 
 /// Adds the processors and the interrupts.
-fn add_model<H: AcpiHandler>(
-    alloc: Global,
+fn add_model(
     facts: &mut Facts,
     model: &InterruptModel<Global>,
     processors: &Option<ProcessorInfo<Global>>,
-    tables: &AcpiTables<'_, H>,
+    srat: &[u8],
 ) {
     if let Some(info) = processors {
         let others = info.application_processors.as_slice();
-        add_processors(alloc, facts, &info.boot_processor, others, tables);
+        add_processors(facts, &info.boot_processor, others, srat);
     }
     match model {
         InterruptModel::Unknown => {
@@ -103,17 +102,12 @@ fn add_model<H: AcpiHandler>(
 }
 
 /// Adds the parts of the platform.
-fn add_parts<H: AcpiHandler>(
-    alloc: Global,
-    facts: &mut Facts,
-    platform: &PlatformInfo<Global>,
-    tables: &AcpiTables<'_, H>,
-) {
+fn add_parts(facts: &mut Facts, platform: &PlatformInfo<Global>, srat: &[u8]) {
     let profile = platform.power_profile;
     facts.begin("power", "profile\t", &[]);
     facts.code("profile", profile.code(), &format_args!("{profile:?}"));
     let (model, processors) = (&platform.interrupt_model, &platform.processor_info);
-    add_model(alloc, facts, model, processors, tables);
+    add_model(facts, model, processors, srat);
     if let Some(timer) = platform.pm_timer {
         let bits = if timer.supports_32bit { 32 } else { 24 };
         facts.begin("pm_timer", "PM timer\t{bits} bits, ", &[bits]);
@@ -123,8 +117,8 @@ fn add_parts<H: AcpiHandler>(
 }
 
 /// Adds the regions of PCI configuration space.
-fn add_regions<H: AcpiHandler>(alloc: Global, tables: &AcpiTables<'_, H>, facts: &mut Facts) {
-    match &PciConfigRegions::new(alloc, tables) {
+fn add_regions<H: AcpiHandler>(tables: &AcpiTables<'_, H>, facts: &mut Facts) {
+    match &PciConfigRegions::new(facts.allocator(), tables) {
         Ok(regions) => {
             for region in regions.iter() {
                 let (first, last) = region.bus_range.into_inner();
@@ -140,8 +134,8 @@ fn add_regions<H: AcpiHandler>(alloc: Global, tables: &AcpiTables<'_, H>, facts:
 }
 
 /// Adds the ranges of memory with their domains.
-fn add_ranges<H: AcpiHandler>(alloc: Global, tables: &AcpiTables<'_, H>, facts: &mut Facts) {
-    if let Ok(affinities) = &MemoryAffinities::new(alloc, tables) {
+fn add_ranges<H: AcpiHandler>(tables: &AcpiTables<'_, H>, facts: &mut Facts) {
+    if let Ok(affinities) = &MemoryAffinities::new(facts.allocator(), tables) {
         for range in affinities.ranges() {
             add_range(facts, range);
         }
@@ -149,27 +143,15 @@ fn add_ranges<H: AcpiHandler>(alloc: Global, tables: &AcpiTables<'_, H>, facts: 
 }
 
 /// Adds how many processors there are, and each of them, the boot processor first.
-fn add_processors<H: AcpiHandler>(
-    alloc: Global,
-    facts: &mut Facts,
-    boot: &Processor,
-    others: &[Processor],
-    tables: &AcpiTables<'_, H>,
-) {
-    let mut disabled = 0u64;
-    for processor in others {
-        if processor.state == ProcessorState::Disabled {
-            disabled = disabled.saturating_add(1);
-        }
-    }
-    let numbers = [others.len().saturating_add(1) as u64, disabled];
+fn add_processors(facts: &mut Facts, boot: &Processor, others: &[Processor], srat: &[u8]) {
+    let disabled = others
+        .iter()
+        .filter(|it| it.state == ProcessorState::Disabled)
+        .count();
+    let numbers = [others.len().saturating_add(1) as u64, disabled as u64];
     let words = "processors\t{total}, {disabled} of them disabled";
     facts.begin("processor_counts", words, &numbers);
-    let added = match &tables.find_table::<Srat>() {
-        Ok(srat) => add_rows(alloc, facts, boot, others, srat.bytes()),
-        Err(_) => add_rows(alloc, facts, boot, others, &[]),
-    };
-    if added.is_err() {
+    if add_rows(facts, boot, others, srat).is_err() {
         facts.lines.refuse();
     }
 }
@@ -210,12 +192,8 @@ fn add_apic(facts: &mut Facts, apic: &Apic<Global>) {
 
 /// Whether an ISA interrupt has an override. Without one, and without 8259s, no device need have it.
 fn is_overridden(apic: &Apic<Global>, irq: u8) -> bool {
-    for source in apic.interrupt_source_overrides.as_slice() {
-        if source.isa_source == irq {
-            return true;
-        }
-    }
-    false
+    let overrides = apic.interrupt_source_overrides.as_slice();
+    overrides.iter().any(|source| source.isa_source == irq)
 }
 
 /// Adds what signals an interrupt.
@@ -262,14 +240,11 @@ fn add_isa(facts: &mut Facts, apic: &Apic<Global>, irq: u8) {
 
 /// Adds the high precision event timers.
 fn add_hpet(facts: &mut Facts, info: &HpetInfo) {
+    let is_wide = info.main_counter_is_64bits();
     let numbers = [
         info.hpet_number as u64,
         info.base_address as u64,
-        if info.main_counter_is_64bits() {
-            64
-        } else {
-            32
-        },
+        if is_wide { 64 } else { 32 },
         info.num_comparators() as u64,
         info.clock_tick_unit as u64,
     ];

@@ -1,11 +1,12 @@
-//! What the domains of an SRAT have, and the latencies and bandwidths of an HMAT.
+//! What the domains of an SRAT have, the latencies and bandwidths of an HMAT, and the distances of a SLIT.
 
 use super::facts::{Facts, Value};
+use super::shares::{MEMORY, Share, shares_of};
 use acpi_dump_input::entries::{Entry, own_signature};
 use acpi_dump_walk::matrix::{Matrix, matrix_of};
-use acpi_dump_walk::share::{MEMORY, Share, share_of};
 use acpi_dump_walk::walk::{Group, Show, walk_table};
-use std::alloc::{AllocError, Global};
+use acpi_numa::Distances;
+use std::alloc::AllocError;
 
 /// The matrices of an HMAT, as a walk comes to them.
 #[derive(Drop)]
@@ -26,33 +27,11 @@ impl Show for Matrices<'_> {
     }
 }
 
-/// What the entries of an SRAT enable, up to one that isn't whole (section 5.2.16).
-///
-/// Fails if memory runs out.
-fn shares_of(alloc: Global, srat: &[u8]) -> Result<Vec<Share>, AllocError> {
-    let mut shares = Vec::new(alloc);
-    let mut rest = srat.get(48..).unwrap_or(&[]);
-    for _ in 0..srat.len() {
-        let [kind, length, ..] = rest else {
-            break;
-        };
-        let length = *length as usize;
-        if length < 2 || rest.len() < length {
-            break;
-        }
-        if let Some(share) = share_of(*kind as u64, &rest[..length]) {
-            shares.push(share)?;
-        }
-        rest = &rest[length..];
-    }
-    Ok(shares)
-}
-
 /// Adds a domain: its processors, and how much memory it has.
 fn add_domain(facts: &mut Facts, domain: u64, shares: &[Share]) {
     facts.begin("domains[]", "domain {domain}\t", &[domain]);
-    let (processors, ranges) = shares.split_at(shares.partition_point(|share| share.number
-        != MEMORY));
+    let count = shares.partition_point(|share| share.number != MEMORY);
+    let (processors, ranges) = shares.split_at(count);
     for row in processors.chunk_by(|one, next| next.number.saturating_sub(one.number) < 2) {
         if let ([first, ..], [.., last]) = (row, row) {
             add_numbers(facts, first.number, last.number);
@@ -115,18 +94,14 @@ fn add_row(facts: &mut Facts, matrix: Matrix<'_>, row: usize) {
 /// Adds what the domains of the SRATs and HMATs have that are read.
 ///
 /// Fails if memory runs out.
-pub(crate) fn add_domains(
-    alloc: Global,
-    entries: &[Entry<'_>],
-    facts: &mut Facts,
-) -> Result<(), AllocError> {
+pub(crate) fn add_domains(entries: &[Entry<'_>], facts: &mut Facts) -> Result<(), AllocError> {
     for entry in entries {
         let table = entry.table();
         if !entry.status.is_read() {
             continue;
         }
         if table.starts_with(b"SRAT") {
-            add_srat(alloc, table, facts)?;
+            add_srat(table, facts)?;
         } else if table.starts_with(b"HMAT") {
             walk_table(own_signature(table), table, &mut Matrices { table, facts });
         }
@@ -137,13 +112,32 @@ pub(crate) fn add_domains(
 /// Adds what the domains of an SRAT have.
 ///
 /// Fails if memory runs out.
-fn add_srat(alloc: Global, srat: &[u8], facts: &mut Facts) -> Result<(), AllocError> {
-    let mut shares = shares_of(alloc, srat)?;
+fn add_srat(srat: &[u8], facts: &mut Facts) -> Result<(), AllocError> {
+    let mut shares = shares_of(facts.allocator(), srat)?;
     shares.sort_by_key(|share| (share.domain, share.number))?;
     for own in shares.chunk_by(|one, next| one.domain == next.domain) {
         if let [first, ..] = own {
-            add_domain(facts, first.domain, own);
+            add_domain(facts, first.domain as u64, own);
         }
     }
     Ok(())
+}
+
+/// Adds a line of distances for each locality of a SLIT, up to the first that the table doesn't have.
+pub(super) fn add_distances(facts: &mut Facts, slit: &[u8]) {
+    let distances = Distances::over(slit);
+    let count = distances.localities();
+    for from in 0..count {
+        if distances.distance(from, count.saturating_sub(1)).is_none() {
+            return;
+        }
+        facts.begin("distances[]", "distances from {from}\t", &[from as u64]);
+        let start = facts.lines.length();
+        for to in 0..count {
+            let distance = distances.distance(from, to).unwrap_or(0);
+            write!(facts.lines, "{distance:>4}");
+        }
+        let row = facts.since(start);
+        facts.member("to", Value::Row(row))
+    }
 }

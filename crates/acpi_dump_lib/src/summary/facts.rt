@@ -70,6 +70,11 @@ impl Facts {
         (lines, members)
     }
 
+    /// The allocator.
+    pub(crate) fn allocator(&self) -> Global {
+        self.lines.allocator()
+    }
+
     /// Begins a line, and an object of a subject.
     pub(crate) fn begin(&mut self, subject: &'static str, words: &'static str, numbers: &[u64]) {
         if self.lines.length() > 0 {
@@ -137,7 +142,7 @@ impl Facts {
     /// Adds a text.
     pub(crate) fn shown(&mut self, name: &'static str, text: &impl Display) {
         let start = self.lines.length();
-        write!(self.lines, "{text}");
+        self.lines.value(text);
         let span = self.since(start);
         self.member(name, Value::Text(span))
     }

@@ -7,11 +7,8 @@ use std::alloc::Global;
 /// Adds the parts of a GIC, the processors first.
 pub(super) fn add_gic(facts: &mut Facts, gic: &GicModel<Global>) {
     let all = gic.cpu_interfaces.as_slice();
-    facts.begin(
-        "processor_counts",
-        "processors\t{total}",
-        &[all.len() as u64],
-    );
+    let count = [all.len() as u64];
+    facts.begin("processor_counts", "processors\t{total}", &count);
     for processor in all {
         add_processor(facts, processor);
     }
@@ -28,11 +25,8 @@ pub(super) fn add_gic(facts: &mut Facts, gic: &GicModel<Global>) {
     }
     for service in gic.translation_services.as_slice() {
         let numbers = [service.id as u64, service.address];
-        facts.begin(
-            "translation_services[]",
-            "ITS {id}\tat {#address}",
-            &numbers,
-        );
+        let words = "ITS {id}\tat {#address}";
+        facts.begin("translation_services[]", words, &numbers);
     }
     for frame in gic.msi_frames.as_slice() {
         add_frame(facts, frame);

@@ -1,90 +1,46 @@
 //! Processors that have local APICs: a line for those whose numbers follow each other, and which are else alike.
 
 use super::facts::{Facts, Value};
+use super::shares::{Share, shares_of};
 use acpi::platform::{Processor, ProcessorState};
-use acpi_numa::{Domains, SratEntry};
-use std::alloc::{AllocError, Global};
-
-/// A local APIC, and the domain of its processor.
-#[derive(Clone, Copy)]
-struct Place {
-    id: u32,
-    domain: u32,
-}
+use std::alloc::AllocError;
 
 /// A processor, and its domain if it is known.
 #[derive(Clone, Copy)]
-struct Placed {
-    uid: u32,
-    id: u32,
-    state: ProcessorState,
+struct Placed<'p> {
+    processor: &'p Processor,
     domain: Option<u32>,
 }
 
-/// The local APIC of an entry of an SRAT that is enabled, with its domain (sections 5.2.16.1 and 5.2.16.3).
-fn place_of(entry: SratEntry) -> Option<Place> {
-    let (id, domain, flags) = match entry {
-        SratEntry::LocalApic(entry) => (entry.apic_id as u32, entry.domain, entry.flags),
-        SratEntry::LocalX2Apic(entry) => (entry.x2apic_id, entry.domain, entry.flags),
-        _ => return None,
-    };
-    if flags & 1 == 0 {
-        return None;
-    }
-    Some(Place { id, domain })
-}
-
-/// The local APICs of an SRAT in the order of their ids.
-///
-/// Fails if memory runs out.
-fn places_of(alloc: Global, srat: &[u8]) -> Result<Vec<Place>, AllocError> {
-    let mut places = Vec::new(alloc);
-    let mut entries = Domains::over(srat).entries();
-    for _ in 0..srat.len() {
-        let Some(entry) = entries.next() else {
-            break;
-        };
-        if let Some(place) = place_of(entry) {
-            places.push(place)?;
-        }
-    }
-    places.sort_by_key(|place| place.id)?;
-    Ok(places)
-}
-
-/// The domain of the last local APIC of an id, as `Domains::domain_of_apic` returns it.
-fn domain_in(places: &[Place], id: u32) -> Option<u32> {
-    let end = places.partition_point(|place| place.id <= id);
-    match places.get(..end)? {
-        [.., last] if last.id == id => Some(last.domain),
+/// The domain of a local APIC by what an SRAT has, the local APICs last, in the order of their IDs: of the last entry
+/// of this ID, as `Domains::domain_of_apic` returns it.
+fn domain_in(shares: &[Share], id: u32) -> Option<u32> {
+    let end = shares.partition_point(|share| !share.is_apic || share.number <= id as u64);
+    match shares.get(..end)? {
+        [.., last] if last.is_apic && last.number == id as u64 => Some(last.domain),
         _ => None,
     }
 }
 
-impl Placed {
-    /// A processor with its domain.
-    fn new(processor: &Processor, places: &[Place]) -> Placed {
-        Placed {
-            uid: processor.processor_uid,
-            id: processor.local_apic_id,
-            state: processor.state,
-            domain: domain_in(places, processor.local_apic_id),
-        }
-    }
-
+impl Placed<'_> {
     /// Whether another one comes next, and is else alike.
-    fn is_before(&self, next: &Placed) -> bool {
-        next.state == self.state
+    fn is_before(&self, next: &Placed<'_>) -> bool {
+        let (own, other) = (self.processor, next.processor);
+        other.state == own.state
             && next.domain == self.domain
-            && next.uid == self.uid.wrapping_add(1)
-            && next.id == self.id.wrapping_add(1)
+            && other.processor_uid == own.processor_uid.wrapping_add(1)
+            && other.local_apic_id == own.local_apic_id.wrapping_add(1)
     }
 }
 
 /// Adds processors that follow each other.
-fn add_alike(facts: &mut Facts, first: &Placed, last: &Placed) {
-    let (uid, last_uid) = (first.uid as u64, last.uid as u64);
-    let (id, last_id) = (first.id as u64, last.id as u64);
+fn add_alike(facts: &mut Facts, first: &Placed<'_>, last: &Placed<'_>) {
+    let (uid, id) = (
+        first.processor.processor_uid as u64,
+        first.processor.local_apic_id as u64,
+    );
+    let last = last.processor;
+    let (last_uid, last_id) = (last.processor_uid as u64, last.local_apic_id as u64);
     facts.begin("processors[]", "", &[]);
     facts.member("uids", Value::Range(uid, last_uid));
     facts.member("apic_ids", Value::Range(id, last_id));
@@ -94,7 +50,7 @@ fn add_alike(facts: &mut Facts, first: &Placed, last: &Placed) {
         let words = "processors % to %\tlocal APICs % to %, ";
         facts.lines.words(words, &[uid, last_uid, id, last_id]);
     }
-    let state = match first.state {
+    let state = match first.processor.state {
         ProcessorState::Disabled => "disabled",
         ProcessorState::WaitingForSipi => "waiting",
         ProcessorState::Running => "running",
@@ -109,17 +65,19 @@ fn add_alike(facts: &mut Facts, first: &Placed, last: &Placed) {
 ///
 /// Fails if memory runs out.
 pub(super) fn add_rows(
-    alloc: Global,
     facts: &mut Facts,
     boot: &Processor,
     others: &[Processor],
     srat: &[u8],
 ) -> Result<(), AllocError> {
-    let places = places_of(alloc, srat)?;
-    let mut placed = Vec::new(alloc);
-    placed.push(Placed::new(boot, &places))?;
-    for processor in others {
-        placed.push(Placed::new(processor, &places))?;
+    let mut shares = shares_of(facts.allocator(), srat)?;
+    shares.sort_by_key(|share| (share.is_apic, share.number))?;
+    let mut placed = Vec::new(facts.allocator());
+    for processor in [boot].into_iter().chain(others) {
+        placed.push(Placed {
+            processor,
+            domain: domain_in(&shares, processor.local_apic_id),
+        })?;
     }
     for alike in placed.chunk_by(|one, next| one.is_before(next)) {
         if let ([first, ..], [.., last]) = (alike, alike) {

@@ -6,7 +6,6 @@ use acpi_dump_walk::fields::{number_of, print_meaning, size_of};
 use acpi_dump_walk::language::{Meaning, cut_at, next_word, number_of as number_in};
 use acpi_dump_walk::out::Out;
 use acpi_dump_walk::walk::{Field, Group, Show, walk_table};
-use std::alloc::Global;
 
 /// The structures that have a line: the table's signature, the type or `-` for the table itself, the subject, and,
 /// after a bar, the line with its parts. A part is a text, and after `#` the member and the name of the field whose
@@ -65,7 +64,6 @@ fn has_units(table: &[u8]) -> bool {
 /// The lines of a table's units, as a walk over it comes to their fields.
 #[derive(Drop)]
 struct Units<'a> {
-    alloc: Global,
     table: &'a [u8],
     facts: &'a mut Facts,
     /// How deep the structure is that the walk is in.
@@ -122,7 +120,7 @@ impl Show for Units<'_> {
         if self.depth > 1 || name != shown.label.name {
             return;
         }
-        let mut value = Out::new(self.alloc);
+        let mut value = Out::new(self.facts.allocator());
         print_fact(shown, is_size, &mut value);
         match value.printed() {
             None => self.facts.lines.refuse(),
@@ -165,11 +163,10 @@ fn print_fact(shown: &Field<'_>, is_size: bool, out: &mut Out) {
 }
 
 /// Adds the units of the tables that are read.
-pub(crate) fn add_units(alloc: Global, entries: &[Entry<'_>], facts: &mut Facts) {
+pub(crate) fn add_units(entries: &[Entry<'_>], facts: &mut Facts) {
     for entry in entries {
         if entry.status.is_read() && has_units(entry.bytes) {
             let mut units = Units {
-                alloc,
                 table: entry.bytes,
                 facts,
                 depth: 0,

@@ -1,5 +1,5 @@
-//! The machine in short. The facts of tables that come as files are those of the valid ones, in a memory where each has a
-//! place.
+//! The machine in short. The facts of tables that come as files are those of the valid ones, in a memory where each
+//! has a place.
 
 use super::read::{memory_of, open};
 use super::{Output, strict_status};
@@ -59,7 +59,7 @@ fn add_facts_of_files(
         return Err(Stop::OutOfMemory);
     };
     let (_, tables) = &open(output, memory, log)?;
-    add_facts(output.alloc, tables, facts);
+    add_facts(tables, facts);
     Ok(())
 }
 
@@ -74,7 +74,7 @@ fn add_facts_in<'i>(
         Input::Memory(image) => {
             let memory = &memory_of(output, image, log)?;
             let (_, tables) = &open(output, memory, log)?;
-            add_facts(output.alloc, tables, facts);
+            add_facts(tables, facts);
             Ok(entries_of(output.alloc, memory, tables)?)
         }
         Input::Tables(files) => {
@@ -94,8 +94,8 @@ pub(super) fn print_summary(
 ) -> Result<u8, Stop> {
     let mut facts = Facts::new(output.alloc);
     let entries = add_facts_in(output, input, &mut facts, log)?;
-    add_domains(output.alloc, &entries, &mut facts)?;
-    add_units(output.alloc, &entries, &mut facts);
+    add_domains(&entries, &mut facts)?;
+    add_units(&entries, &mut facts);
     for entry in &entries {
         add_unread(&mut facts, entry);
     }
@@ -115,10 +115,7 @@ fn add_unread(facts: &mut Facts, entry: &Entry<'_>) {
     let name = facts.since(start);
     facts.member("table", Value::Text(name));
     facts.text(": ");
-    let start = facts.lines.length();
-    facts.lines.value(&entry.status);
-    let status = facts.since(start);
-    facts.member("status", Value::Text(status))
+    facts.shown("status", &entry.status)
 }
 
 /// Prints the facts of a machine.

@@ -1,0 +1,62 @@
+//! What the entries of an SRAT put in which domain.
+
+use acpi::sdt::field;
+use acpi_base::bytes::skip;
+use acpi_base::entries::split_front;
+use acpi_numa::srat::{SRAT_GRAMMAR, SratEntry};
+use std::alloc::{AllocError, Global};
+
+/// In place of a processor's number, for a range of memory.
+pub(super) const MEMORY: u64 = u64::MAX;
+
+/// A processor or a range of memory of a domain.
+#[derive(Clone, Copy)]
+pub(super) struct Share {
+    pub(super) domain: u32,
+    /// The number of the processor, or `MEMORY`.
+    pub(super) number: u64,
+    /// Whether that is the ID of a local APIC, and not a UID.
+    pub(super) is_apic: bool,
+    /// How many bytes the range has.
+    pub(super) size: u64,
+}
+
+/// The processor or the range of memory that an entry enables. One of type 7 is a RISC-V hart's.
+fn share_of(read: Option<SratEntry>, entry: &[u8]) -> Option<Share> {
+    let (flags, domain, number, is_apic, size) = match read {
+        Some(SratEntry::LocalApic(it)) => (it.flags, it.domain, it.apic_id as u64, true, 0),
+        Some(SratEntry::LocalX2Apic(it)) => (it.flags, it.domain, it.x2apic_id as u64, true, 0),
+        Some(SratEntry::Gicc(it)) => (it.flags, it.domain, it.processor_uid as u64, false, 0),
+        Some(SratEntry::Memory(it)) => (it.flags, it.domain, MEMORY, false, it.length),
+        None if field(entry, 0, 1) == 7 => {
+            let (flags, domain) = (field(entry, 12, 4), field(entry, 4, 4));
+            (flags as u32, domain as u32, field(entry, 8, 4), false, 0)
+        }
+        _ => return None,
+    };
+    if flags & 1 == 0 {
+        return None;
+    }
+    Some(Share {
+        domain,
+        number,
+        is_apic,
+        size,
+    })
+}
+
+/// What the entries of an SRAT enable, up to one that isn't whole (section 5.2.16).
+///
+/// Fails if memory runs out.
+pub(super) fn shares_of(alloc: Global, srat: &[u8]) -> Result<Vec<Share>, AllocError> {
+    let mut shares = Vec::new(alloc);
+    let revision = field(srat, 8, 1) as u8; // Revision
+    let mut rest = skip(srat, 48);
+    while let Some((entry, others)) = split_front(&SRAT_GRAMMAR, rest) {
+        if let Some(share) = share_of(SratEntry::read(revision, entry), entry) {
+            shares.push(share)?;
+        }
+        rest = others;
+    }
+    Ok(shares)
+}
