@@ -13,7 +13,7 @@ use acpi::sdt::field;
 use acpi_base::model::IsaOverrides;
 use acpi_dump_walk::language::{next_word, number_at, number_of};
 use acpi_dump_walk::out::Out;
-use acpi_dump_walk::share::share_of;
+use acpi_dump_walk::share::domain_of;
 use std::alloc::AllocError;
 
 /// What the tiles of each kind are called.
@@ -78,7 +78,7 @@ fn shape_of(sheet: &Sheet<'_>, table: usize, part: usize, unit: usize) -> Option
 /// The number of the tile of a kind that a structure is in, if it is in one: of a domain, or of a unit.
 fn tile_of(kind: u64, structure: &Part, entry: &[u8], unit: usize) -> Option<u64> {
     match kind {
-        DOMAINS => Some(share_of(structure.kind?, entry)?.domain),
+        DOMAINS => domain_of(structure.kind?, entry),
         IO_APICS | UNITS => Some(unit as u64),
         _ => Some(0),
     }
