@@ -51,7 +51,7 @@ struct Shape {
     class: &'static str,
     text: &'static str,
     /// An ISA interrupt, and the pin that it comes to.
-    isa: Option<(u8, u64)>,
+    isa: Option<(u64, u64)>,
 }
 
 /// Where a structure is drawn, if it is, within the one of this number that the table itself has.
@@ -121,10 +121,10 @@ fn add_interrupts(
     table: usize,
     shapes: &mut Vec<Shape>,
 ) -> Result<(), AllocError> {
-    let overrides = overrides_of(sheet);
+    let (overrides, parts) = overrides_of(sheet);
     let has_pics = number_at(sheet.entry.bytes, 40, 4) & 1 != 0; // Flags
     for irq in 0..16u8 {
-        let part = override_of(sheet, irq);
+        let part = parts[irq as usize];
         if (has_pics || part.is_some())
             && let Some(isa) = overrides.isa_interrupt(irq)
             && let Some((controller, pin)) = pin_of(sheet, isa.global_system_interrupt as u64)
@@ -135,49 +135,32 @@ fn add_interrupts(
                 is_wide: false,
                 class: if part.is_some() { "pin hot" } else { "pin" },
                 text: "",
-                isa: Some((irq, pin)),
+                isa: Some((irq as u64, pin)),
             })?;
         }
     }
     Ok(())
 }
 
-/// The source of an Interrupt Source Override of a MADT, if a structure is one.
-fn source_of(structure: &Part, entry: &[u8]) -> Option<u8> {
-    if structure.kind == Some(2) && field(entry, 2, 1) == 0 {
-        Some(field(entry, 3, 1) as u8) // Source, of the Bus 0
-    } else {
-        None
-    }
-}
-
-/// The Interrupt Source Overrides of a MADT.
-fn overrides_of(sheet: &Sheet<'_>) -> IsaOverrides {
-    let mut overrides = IsaOverrides::new();
-    for structure in sheet.side.parts {
+/// The Interrupt Source Overrides of a MADT, and the number of the structure that is the last one of each ISA interrupt.
+fn overrides_of(sheet: &Sheet<'_>) -> (IsaOverrides, [Option<usize>; 16]) {
+    let (mut overrides, mut parts) = (IsaOverrides::new(), [None; 16]);
+    for (part, structure) in sheet.side.parts.iter().enumerate() {
         let entry = sheet.bytes(structure.offset, structure.length);
-        if let Some(isa_source) = source_of(structure, entry) {
+        let (bus, isa_source) = (field(entry, 2, 1), field(entry, 3, 1) as u8);
+        if structure.kind == Some(2) && bus == 0 {
             overrides.add(&InterruptSourceOverride {
                 isa_source,
                 global_system_interrupt: field(entry, 4, 4) as u32,
                 polarity: Polarity::SameAsBus,
                 trigger_mode: TriggerMode::SameAsBus,
             });
+            if let Some(last) = parts.get_mut(isa_source as usize) {
+                *last = Some(part);
+            }
         }
     }
-    overrides
-}
-
-/// The number of the structure that is the last override of an ISA interrupt, if it has one.
-fn override_of(sheet: &Sheet<'_>, irq: u8) -> Option<usize> {
-    let mut last = None;
-    for (part, structure) in sheet.side.parts.iter().enumerate() {
-        let entry = sheet.bytes(structure.offset, structure.length);
-        if source_of(structure, entry) == Some(irq) {
-            last = Some(part);
-        }
-    }
-    last
+    (overrides, parts)
 }
 
 /// The I/O APIC of a MADT that an interrupt comes to, by the number of its structure, and the pin: the first one with
@@ -219,13 +202,8 @@ pub(super) fn print_machine(sheets: &[Sheet<'_>], out: &mut Out) -> Result<(), A
 
 /// Prints the tiles of structures in order.
 fn print_tiles(sheets: &[Sheet<'_>], shapes: &[Shape], out: &mut Out) {
-    let mut start = 0usize;
-    for (place, shape) in shapes.iter().enumerate() {
-        match shapes.get(place + 1) {
-            Some(next) if next.tile == shape.tile => continue,
-            _ => print_tile(sheets, shapes.get(start..place + 1).unwrap_or(&[]), out),
-        }
-        start = place + 1;
+    for some in shapes.chunk_by(|shape, next| shape.tile == next.tile) {
+        print_tile(sheets, some, out);
     }
 }
 
@@ -296,7 +274,7 @@ fn add_box(sheet: &Sheet<'_>, some: &[Shape], tile: &mut Tile) {
     {
         print_line(sheet, first.part, first.text, &mut tile.text);
         if let Some((irq, pin)) = first.isa {
-            let numbers = [irq as u64, pin];
+            let numbers = [irq, pin];
             tile.text.words("ISA %→%", &numbers);
             tile.title.words("ISA interrupt %, pin %: ", &numbers);
         }
