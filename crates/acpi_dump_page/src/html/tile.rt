@@ -52,17 +52,12 @@ impl Tile {
             self.x = 0;
             self.y = self.y.saturating_add(HEIGHT);
         }
-        match target {
-            Some((sheet, offset)) => {
-                self.add_rect(sheet.link(offset), class, marks, width);
-                self.add_text(width);
-                self.boxes.text("</a>\n")
-            }
-            None => {
-                self.add_text(width);
-                self.boxes.text("\n")
-            }
+        if let Some((sheet, offset)) = target {
+            self.add_rect(sheet.link(offset), class, marks, width);
         }
+        self.add_text(width);
+        self.boxes
+            .text(if target.is_some() { "</a>\n" } else { "\n" });
         self.x = self.x.saturating_add(width);
         self.text.clear();
         self.title.clear()
