@@ -21,15 +21,14 @@ mod tile;
 
 use crate::compare::{differences, same_in};
 use crate::outline::{Items, Side, items_of};
-use acpi::sdt::Signature;
-use acpi_dump_input::entries::{Entry, own_signature};
+use acpi_dump_input::entries::Entry;
 use acpi_dump_input::judgement::Judgement;
 use acpi_dump_walk::out::Out;
 use escape::Piece::Printed;
 use escape::print_html;
 use findings::print_findings;
 use frame::{print_end, print_front};
-use ids::Id;
+use ids::{Id, signature_of};
 use list::print_list;
 use machine::print_machine;
 use marks::marks_of;
@@ -82,14 +81,6 @@ fn outlines_of<'t>(alloc: Global, entries: &[Entry<'t>]) -> Result<Vec<Items<'t>
 struct Outlined<'p> {
     entries: &'p [Entry<'p>],
     outlines: &'p [Items<'p>],
-}
-
-/// The signature that a table begins with, or should.
-fn signature_of(entry: &Entry<'_>) -> Signature {
-    match entry.sought {
-        Some(sought) if entry.bytes.len() < 4 => sought,
-        _ => own_signature(entry.bytes),
-    }
 }
 
 /// Adds the tables of an input as a page shows them beside those of the other one, if it is the first of two only those

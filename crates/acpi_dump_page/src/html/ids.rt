@@ -1,6 +1,7 @@
 //! The ids by which the parts of a page are linked.
 
-use acpi_dump_input::entries::Entry;
+use acpi::sdt::Signature;
+use acpi_dump_input::entries::{Entry, own_signature};
 use acpi_dump_walk::out::Out;
 
 /// The id of a table: the letters of its signature, and its number from 1 on among the tables of the same letters. The
@@ -13,12 +14,15 @@ pub(super) struct Id {
     pub(super) is_first: bool,
 }
 
-/// The letters of a table's signature, or of the one that it should have: `_` for what is no letter or digit.
+/// The signature that a table begins with, or should.
+pub(super) fn signature_of(entry: &Entry<'_>) -> Signature {
+    let signature = entry.signature().or(entry.sought);
+    signature.unwrap_or(own_signature(&[]))
+}
+
+/// The letters of a table's signature: `_` for what is no letter or digit.
 fn letters_of(entry: &Entry<'_>) -> [u8; 4] {
-    let mut letters = [b'_'; 4];
-    if let Some(signature) = entry.signature().or(entry.sought) {
-        letters = signature.to_bytes();
-    }
+    let mut letters = signature_of(entry).to_bytes();
     for letter in &mut letters {
         if !letter.is_ascii_alphanumeric() {
             *letter = b'_';
