@@ -3,12 +3,10 @@
 mod objects;
 mod pairs;
 
-use crate::outline::{Item, Items, Side, items_of};
-use acpi::PhysicalRecord;
-use acpi::sdt::SdtHeader;
+use crate::outline::{Side, items_of};
 use acpi_dump_input::entries::{Entry, print_name};
 use acpi_dump_walk::out::Out;
-use objects::{changes_of, objects_of};
+use objects::{Known, changes_of};
 use pairs::pairs_of;
 use std::alloc::{AllocError, Global};
 
@@ -17,7 +15,10 @@ use std::alloc::{AllocError, Global};
 pub enum Title<'a> {
     /// As the table has the structure of a number.
     Structure(Side<'a>),
-    Object(&'a str),
+    /// By its path.
+    Object(Known<'a>),
+    /// With its value.
+    Alone(Known<'a>),
 }
 
 impl Title<'_> {
@@ -25,7 +26,8 @@ impl Title<'_> {
     pub fn print_path(self, part: usize, out: &mut Out) {
         match self {
             Title::Structure(side) => side.print_path(part, out),
-            Title::Object(title) => out.text(title),
+            Title::Object(object) => object.print_path(out),
+            Title::Alone(object) => object.print(out),
         }
     }
 }
@@ -55,16 +57,11 @@ fn next_pair(
     b: Option<usize>,
 ) -> (Option<usize>, Option<usize>) {
     match (old.item(a), new.item(b)) {
-        (Some(one), Some(other)) if is_same_field(one, other) => (a, b),
+        (Some(one), Some(other)) if one.within == other.within && one.name == other.name => (a, b),
         (Some(one), Some(other)) if one.within <= other.within => (a, None),
         (Some(_), None) => (a, None),
         _ => (None, b),
     }
-}
-
-/// Whether items of two tables are the same field of a structure.
-fn is_same_field(one: &Item, other: &Item) -> bool {
-    one.within == other.within && one.name == other.name
 }
 
 /// The differences between two tables, as they are found.
@@ -86,7 +83,7 @@ impl<'a> Found<'a, '_, '_> {
             && (old != new || self.old.hidden(was) != self.new.hidden(place))
             && !self.ignored.contains(&item.name)
         {
-            let difference = Difference {
+            self.push(Difference {
                 side: Title::Structure(self.old),
                 part,
                 offset: item.offset,
@@ -95,16 +92,20 @@ impl<'a> Found<'a, '_, '_> {
                 new,
                 was,
                 place,
-            };
-            self.is_refused |= self.differences.push(difference).is_err();
+            })
         }
+    }
+
+    /// Adds a difference.
+    fn push(&mut self, difference: Difference<'a>) {
+        self.is_refused |= self.differences.push(difference).is_err();
     }
 
     /// Adds the fields that differ between two structures, in the order of their offsets.
     fn add_fields(&mut self, part: usize, other: usize) {
         let mut old = self.old.next_item(part, 0);
         let mut new = self.new.next_item(other, 0);
-        for _ in 0..self.old.size().saturating_add(self.new.size()) {
+        for _ in 0..self.old.items.len().saturating_add(self.new.items.len()) {
             let (a, b) = next_pair(self.old, old, self.new, new);
             if a.or(b).is_none() {
                 break;
@@ -126,7 +127,7 @@ impl<'a> Found<'a, '_, '_> {
         } else {
             (self.new, None, Some(""), Some(part))
         };
-        let difference = Difference {
+        self.push(Difference {
             side: Title::Structure(side),
             part,
             offset: side.offset(part),
@@ -135,8 +136,7 @@ impl<'a> Found<'a, '_, '_> {
             new,
             was: None,
             place,
-        };
-        self.is_refused |= self.differences.push(difference).is_err();
+        })
     }
 
     /// Adds all differences: of the structures of the first table in their order, and then those that the second one
@@ -144,14 +144,14 @@ impl<'a> Found<'a, '_, '_> {
     fn add_all(&mut self, alloc: Global) -> Result<(), AllocError> {
         let (old, new) = (self.old, self.new);
         let pairs = pairs_of(alloc, old, new)?;
-        for part in 0..old.len() {
+        for part in 0..old.parts.len() {
             if let Some(other) = pairs.other(part) {
                 self.add_fields(part, other);
             } else if pairs.is_gone(old, part) {
                 self.add_alone(true, part);
             }
         }
-        for part in 0..new.len() {
+        for part in 0..new.parts.len() {
             if pairs.is_added(new, part) {
                 self.add_alone(false, part);
             }
@@ -273,13 +273,13 @@ fn print_difference(difference: &Difference<'_>, out: &mut Out) {
 /// The differences between the structures and items of two tables, less the fields whose names are ignored.
 pub(crate) fn differences<'a>(
     alloc: Global,
-    old: &'a Items<'a>,
-    new: &'a Items<'a>,
+    old: Side<'a>,
+    new: Side<'a>,
     ignored: &[&str],
 ) -> Result<Vec<Difference<'a>>, AllocError> {
     let mut found = Found {
-        old: old.side()?,
-        new: new.side()?,
+        old,
+        new,
         ignored,
         differences: Vec::new(alloc),
         is_refused: false,
@@ -288,35 +288,20 @@ pub(crate) fn differences<'a>(
     Ok(found.differences)
 }
 
-/// A table without its bytes after the header.
-fn header_in<'e>(entry: &Entry<'e>) -> Entry<'e> {
-    let mut header = *entry;
-    header.bytes = entry
-        .bytes
-        .get(..SdtHeader::MIN_LENGTH)
-        .unwrap_or(entry.bytes);
-    header
-}
-
 /// Shows the differences between two tables, and returns whether there are some. The bytes of AML are compared by its
 /// objects.
-fn compare_pair<S: ShowDifferences>(
+fn compare_pair<'e, S: ShowDifferences>(
     alloc: Global,
-    old: &Entry<'_>,
-    new: &Entry<'_>,
+    old: &Entry<'e>,
+    new: &Entry<'e>,
     ignored: &[&str],
     show: &mut S,
 ) -> Result<bool, AllocError> {
-    let (objects, other_objects) = (objects_of(alloc, old), objects_of(alloc, new));
-    let changes = changes_of(alloc, &objects, &other_objects, ignored)?;
-    let (front, other_front) = if objects.is_empty() && other_objects.is_empty() {
-        (*old, *new)
-    } else {
-        (header_in(old), header_in(new))
-    };
-    let (items, others) = (items_of(alloc, &front), items_of(alloc, &other_front));
-    let mut found = differences(alloc, &items, &others, ignored)?;
-    changes.add_to(&mut found)?;
+    let (items, others) = (items_of(alloc, old), items_of(alloc, new));
+    let (was, is) = (items.side()?, others.side()?);
+    let changes = changes_of(alloc, was, is, ignored)?;
+    let (front, other_front) = (was.without_objects(), is.without_objects());
+    let found = changes.after(differences(alloc, front, other_front, ignored)?)?;
     if !found.is_empty() {
         show.pair(old, new, &found);
     }

@@ -101,8 +101,10 @@ fn add_sheets<'p>(
         }
         let id = Id::of(entry, own.entries.get(..number).unwrap_or(&[]), is_first);
         let mut sheet = sheet_of(source, entry, items.side()?, id, number)?;
-        if let Some(place) = place {
-            compare_with(source, other, place, items, &mut sheet)?;
+        if let Some(place) = place
+            && let Some(old) = other.outlines.get(place)
+        {
+            compare_with(source, old.side()?, &mut sheet)?;
         }
         sheets.push(sheet)?;
     }
@@ -140,25 +142,20 @@ fn sheet_of<'p>(
     })
 }
 
-/// Marks what differs in a table from the one of this number of the first input.
+/// Marks what differs in a table from that of the first input.
 ///
 /// Fails if memory runs out.
 fn compare_with<'p>(
     source: Source<'p>,
-    first: Outlined<'p>,
-    place: usize,
-    items: &'p Items<'p>,
+    old: Side<'p>,
     sheet: &mut Sheet<'p>,
 ) -> Result<(), AllocError> {
-    let (Some(old), Some(old_items)) = (first.entries.get(place), first.outlines.get(place)) else {
-        return Ok(());
-    };
-    let found = differences(source.alloc, old_items, items, source.ignored)?;
+    let found = differences(source.alloc, old, sheet.side, source.ignored)?;
     sheet.marks.add(sheet.side, &found)?;
-    sheet.standing = if old.bytes == sheet.entry.bytes {
+    sheet.standing = if old.table == sheet.side.table {
         Standing::Same
     } else {
-        Standing::Beside(old.bytes, old_items.side()?)
+        Standing::Beside(old)
     };
     Ok(())
 }

@@ -1,5 +1,7 @@
 //! The structures of a table with their fields, and of AML its objects.
 
+use acpi::PhysicalRecord;
+use acpi::sdt::SdtHeader;
 use acpi_dump_input::entries::Entry;
 use acpi_dump_walk::aml::{Ends, Object, Value};
 use acpi_dump_walk::fault::Fault;
@@ -7,12 +9,16 @@ use acpi_dump_walk::fields::{print_hex, print_meaning, print_path, print_value};
 use acpi_dump_walk::out::Out;
 use acpi_dump_walk::walk::{DEEPEST, Field, Group, Show, ShowObjects, walk_with_objects};
 use std::alloc::{AllocError, Global};
+use std::ops::Range;
 
 /// The name of an item that is bytes which no field covers, up to 16 of them.
 pub(crate) const BYTES: &str = "bytes";
 
 /// The name of an item with why the bytes after it aren't shown by the layout.
 pub(crate) const MALFORMED: &str = "malformed";
+
+/// The name of a structure whose type isn't known, and of the whole table.
+const UNKNOWN: &str = "unknown";
 
 /// The ends of the names of fields that tell structures of one type apart.
 const IDS: &str = "ID|Source|MPIDR|Segment Group Number|Segment Number|Proximity Domain";
@@ -49,15 +55,16 @@ pub(crate) struct Part {
     place: u64,
     pub(crate) first: usize,
     pub(crate) last: usize,
-    /// The number of the first field that tells it apart.
-    id: Option<usize>,
-    pub(crate) is_object: bool,
+    /// The number of the first field that tells it apart, or of the item of an object that has a path.
+    pub(crate) id: Option<usize>,
+    /// Between which offsets an object's own bytes are.
+    pub(crate) own: Option<(u64, u64)>,
 }
 
 impl Part {
     /// Whether it is an object that has no objects in it.
     pub(crate) fn is_row(&self) -> bool {
-        self.is_object && self.last.saturating_sub(self.first) == 1
+        self.own.is_some() && self.last.saturating_sub(self.first) == 1
     }
 }
 
@@ -70,6 +77,8 @@ pub(crate) struct Items<'t> {
     /// The structure that began last and hasn't ended.
     open: usize,
     values: Out,
+    /// Up to where AML is understood, if that isn't all.
+    end: Option<u64>,
     /// Whether memory was refused.
     is_refused: bool,
 }
@@ -85,20 +94,9 @@ fn is_id(name: &str) -> bool {
 }
 
 impl Items<'_> {
-    /// Adds an item of `length` bytes, whose value and meaning are what was printed from two places of the text on.
-    fn add(&mut self, offset: u64, length: usize, name: &'static str, places: (usize, usize)) {
-        self.add_numbered(offset, length, name, None, places)
-    }
-
-    /// Adds an item in the same way, with its number if it is one of several of its name.
-    fn add_numbered(
-        &mut self,
-        offset: u64,
-        length: usize,
-        name: &'static str,
-        number: Option<u64>,
-        places: (usize, usize),
-    ) {
+    /// Adds an item of the structure that is open, whose value and meaning are what was printed from two places of the
+    /// text on.
+    fn add(&mut self, offset: u64, length: u64, name: &'static str, places: (usize, usize)) {
         let begin = match self.parts.get(self.open) {
             Some(part) => part.offset,
             None => 0,
@@ -107,14 +105,36 @@ impl Items<'_> {
             part: self.open,
             offset,
             within: offset.saturating_sub(begin),
-            length: length as u64,
+            length,
             name,
-            number,
+            number: None,
             start: places.0,
             middle: places.1,
             end: self.values.length(),
         };
         self.is_refused |= self.items.push(item).is_err();
+    }
+
+    /// A structure in the one that is open.
+    fn part(&self, offset: u64, length: u64, name: &'static str) -> Part {
+        Part {
+            parent: self.open,
+            offset,
+            length,
+            name,
+            kind: None,
+            place: self.place_of(name),
+            first: self.items.len(),
+            last: 0,
+            id: None,
+            own: None,
+        }
+    }
+
+    /// Adds a structure, which is open then.
+    fn enter(&mut self, part: Part) {
+        self.open = self.parts.len();
+        self.is_refused |= self.parts.push(part).is_err();
     }
 
     /// The place of a new structure among the ones of its name in the one that is open.
@@ -131,35 +151,21 @@ impl Items<'_> {
     fn leave(&mut self, offset: u64) {
         for _ in 0..self.open {
             match self.parts.get(self.open) {
-                Some(part) if part.is_object && part.offset.saturating_add(part.length) <= offset =>
+                Some(part)
+                    if part.own.is_some() && part.offset.saturating_add(part.length) <= offset =>
                     self.end(),
                 _ => break,
             }
         }
     }
 
-    /// Begins an object, which is in the structure that is open, and whose path and value were printed from two places
-    /// of the text on. The bytes of the object that it is in end where it begins.
-    fn begin_object(&mut self, object: &Object<'_>, places: (usize, usize)) {
+    /// Ends the bytes of the object that is open where the first object in it begins.
+    fn cut(&mut self, offset: u64) {
         if let Some(outer) = self.items.last_mut()
             && outer.part == self.open
         {
-            outer.length = outer.length.min(object.offset.saturating_sub(outer.offset));
+            outer.length = outer.length.min(offset.saturating_sub(outer.offset));
         }
-        self.begin(&Group {
-            offset: object.offset,
-            length: object.length,
-            number: 0,
-            name: object.kind,
-            kind: None,
-        });
-        if let Some(part) = self.parts.get_mut(self.open) {
-            part.is_object = true;
-            if object.path.is_some() {
-                part.id = Some(part.first);
-            }
-        }
-        self.add(object.offset, object.length as usize, object.kind, places)
     }
 
     /// These structures and items, if memory sufficed for them and their values.
@@ -170,6 +176,7 @@ impl Items<'_> {
                 parts: self.parts.as_slice(),
                 items: self.items.as_slice(),
                 values,
+                end: self.end,
             }),
             _ => Err(AllocError),
         }
@@ -189,8 +196,15 @@ impl Show for Items<'_> {
         {
             part.id = Some(item);
         }
-        let (length, name) = (shown.bytes.len(), shown.label.name);
-        self.add_numbered(shown.offset, length, name, shown.number, places);
+        self.add(
+            shown.offset,
+            shown.bytes.len() as u64,
+            shown.label.name,
+            places,
+        );
+        if let Some(item) = self.items.last_mut() {
+            item.number = shown.number;
+        }
     }
 
     fn bytes(&mut self, offset: u64, bytes: &[u8]) {
@@ -199,31 +213,21 @@ impl Show for Items<'_> {
             let start = self.values.length();
             print_hex(line, &mut self.values);
             let places = (start, self.values.length());
-            self.add(offset, line.len(), BYTES, places);
+            self.add(offset, line.len() as u64, BYTES, places);
             offset = offset.saturating_add(16);
         }
     }
 
     fn begin(&mut self, group: &Group) {
         let name = if group.name.is_empty() {
-            "unknown"
+            UNKNOWN
         } else {
             group.name
         };
-        let part = Part {
-            parent: self.open,
-            offset: group.offset,
-            length: group.length,
-            name,
+        self.enter(Part {
             kind: group.kind,
-            place: self.place_of(name),
-            first: self.items.len(),
-            last: 0,
-            id: None,
-            is_object: false,
-        };
-        self.open = self.parts.len();
-        self.is_refused |= self.parts.push(part).is_err();
+            ..self.part(group.offset, group.length, name)
+        })
     }
 
     fn end(&mut self) {
@@ -244,6 +248,7 @@ impl Show for Items<'_> {
 impl ShowObjects for Items<'_> {
     fn object(&mut self, object: &Object<'_>) {
         self.leave(object.offset);
+        self.cut(object.offset);
         let start = self.values.length();
         let path = object.path.unwrap_or(&[]);
         if object.path.is_some() {
@@ -254,11 +259,19 @@ impl ShowObjects for Items<'_> {
             self.values.text("  ");
             object.value.print(path, "; ", &mut self.values);
         }
-        self.begin_object(object, (start, middle))
+        let part = self.part(object.offset, object.length, object.kind);
+        self.enter(Part {
+            id: object.path.and(Some(part.first)),
+            own: Some(object.own),
+            ..part
+        });
+        self.add(object.offset, object.length, object.kind, (start, middle))
     }
 
     fn ends(&mut self, offset: u64, why: Ends) {
         self.leave(u64::MAX);
+        self.end = Some(offset);
+        self.is_refused |= matches!(why, Ends::OutOfMemory);
         let start = self.values.length();
         self.values.text("the list ends: ");
         why.print(&mut self.values);
@@ -270,10 +283,12 @@ impl ShowObjects for Items<'_> {
 /// The structures and items of a table, with the text that their values stand in.
 #[derive(Clone, Copy)]
 pub struct Side<'a> {
-    table: &'a [u8],
+    pub(crate) table: &'a [u8],
     pub(crate) parts: &'a [Part],
     pub(crate) items: &'a [Item],
     values: &'a str,
+    /// Up to where AML is understood, if that isn't all.
+    pub(crate) end: Option<u64>,
 }
 
 impl<'a> Side<'a> {
@@ -288,13 +303,19 @@ impl<'a> Side<'a> {
         self.values.get(item.start..item.end)
     }
 
+    /// The bytes at an offset of the table, of this length, or none if they aren't all there.
+    pub(crate) fn bytes(self, offset: u64, length: u64) -> &'a [u8] {
+        let end = offset.saturating_add(length) as usize;
+        self.table.get(offset as usize..end).unwrap_or(&[])
+    }
+
     /// The bytes of an item, unless its value has all of them: those of an object that has no objects in it.
     pub(crate) fn hidden(self, item: Option<usize>) -> &'a [u8] {
         if let Some(item) = self.item(item)
             && let Some(part) = self.parts.get(item.part)
             && part.is_row()
         {
-            return bytes_of(self.table, item.offset, item.length);
+            return self.bytes(item.offset, item.length);
         }
         &[]
     }
@@ -306,42 +327,59 @@ impl<'a> Side<'a> {
 
     /// What a value means, if there is one.
     pub(crate) fn meaning(self, item: &Item) -> &'a str {
-        self.values
-            .get(item.middle..item.end)
-            .unwrap_or("")
-            .trim_ascii()
+        self.rest(item).trim_ascii()
+    }
+
+    /// What is printed after the digits of a value.
+    pub(crate) fn rest(self, item: &Item) -> &'a str {
+        self.values.get(item.middle..item.end).unwrap_or("")
+    }
+
+    /// Whether it has AML.
+    pub(crate) fn has_objects(self) -> bool {
+        match self.parts {
+            [_, first, ..] if first.own.is_some() => true,
+            _ => self.end.is_some(),
+        }
+    }
+
+    /// The header alone, if it has AML, and else all of it.
+    pub(crate) fn without_objects(self) -> Side<'a> {
+        if !self.has_objects() {
+            return self;
+        }
+        let header = SdtHeader::MIN_LENGTH as u64;
+        let count = self.items.partition_point(|item| item.offset < header);
+        Side {
+            parts: self.parts.get(..1).unwrap_or(&[]),
+            items: self.items.get(..count).unwrap_or(&[]),
+            ..self
+        }
+    }
+
+    /// The numbers of the items of a structure, with those of the structures in it.
+    pub(crate) fn places(self, part: usize) -> Range<usize> {
+        match self.parts.get(part) {
+            Some(part) => part.first..part.last,
+            None => 0..0,
+        }
+    }
+
+    /// The items of a structure, with those of the structures in it.
+    pub(crate) fn items_in(self, part: usize) -> &'a [Item] {
+        self.items.get(self.places(part)).unwrap_or(&[])
     }
 
     /// The number of the first item of a structure itself from a number on, if there is one.
     pub(crate) fn next_item(self, part: usize, from: usize) -> Option<usize> {
-        let structure = self.parts.get(part)?;
-        for place in structure.first.max(from)..structure.last {
+        let places = self.places(part);
+        for place in places.start.max(from)..places.end {
             let item = self.items.get(place)?;
             if item.part == part && item.name != MALFORMED {
                 return Some(place);
             }
         }
         None
-    }
-
-    /// Whether two structures of one or two tables are known by the same name and value, or place.
-    pub(crate) fn is_same(self, part: &Part, other: Side<'_>, candidate: &Part) -> bool {
-        part.name == candidate.name
-            && match (self.item(part.id), other.item(candidate.id)) {
-                (None, None) => part.place == candidate.place,
-                (Some(id), Some(other_id)) => self.digits(id) == other.digits(other_id),
-                _ => false,
-            }
-    }
-
-    /// How many structures there are.
-    pub(crate) fn len(self) -> usize {
-        self.parts.len()
-    }
-
-    /// How many items there are.
-    pub(crate) fn size(self) -> usize {
-        self.items.len()
     }
 
     /// Where a structure is in the table.
@@ -368,32 +406,21 @@ impl<'a> Side<'a> {
             }
             out.text(part.name);
             self.print_id(part, out);
-            place = if part.is_object { 0 } else { part.parent };
+            place = if part.own.is_some() { 0 } else { part.parent };
         }
     }
 
     /// Prints the field that tells a structure apart, or its place.
     fn print_id(self, part: &Part, out: &mut Out) {
         match self.item(part.id) {
-            Some(path) if part.is_object => {
-                out.text(" ");
-                out.text(self.digits(path))
-            }
+            Some(path) if part.own.is_some() => out.fill(" $", &[self.digits(path)]),
             Some(id) => {
-                out.text(", ");
-                out.text(id.name);
-                out.text(" ");
+                out.fill(", $ ", &[id.name]);
                 out.text(self.value(part.id).unwrap_or(""))
             }
             None => out.words(" %", &[part.place]),
         }
     }
-}
-
-/// The bytes at an offset of a table, of this length, or none if they aren't all there.
-pub(crate) fn bytes_of(table: &[u8], offset: u64, length: u64) -> &[u8] {
-    let end = offset.saturating_add(length) as usize;
-    table.get(offset as usize..end).unwrap_or(&[])
 }
 
 /// The structures and items of a table.
@@ -404,16 +431,10 @@ pub(crate) fn items_of<'t>(alloc: Global, entry: &Entry<'t>) -> Items<'t> {
         items: Vec::new(alloc),
         open: 0,
         values: Out::new(alloc),
+        end: None,
         is_refused: false,
     };
-    let whole = Group {
-        offset: 0,
-        length: 0,
-        number: 0,
-        name: "",
-        kind: None,
-    };
-    items.begin(&whole);
+    items.enter(items.part(0, 0, UNKNOWN));
     if let Some(signature) = entry.signature() {
         walk_with_objects(alloc, signature, entry.bytes, &mut items);
     }

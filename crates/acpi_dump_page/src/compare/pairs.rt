@@ -5,14 +5,14 @@ use acpi_dump_walk::out::Out;
 use std::alloc::{AllocError, Global};
 use std::cmp::Ordering;
 
-/// What one of a table is known by: what it is called, its kind, and its number in the table.
-pub(super) type Key<'a> = (&'a str, &'static str, usize);
+/// What one of a table is known by: a word and its name, its kind, and its number in the table.
+pub(super) type Key<'a> = (&'static str, &'a str, &'static str, usize);
 
 /// Which ones of two tables are the same.
 #[derive(Drop)]
 pub(super) struct Pairs {
-    /// For each one of the first table the number of that of the second one, or `usize::MAX`.
-    others: Vec<usize>,
+    /// For each one of the first table the number of that of the second one, if there is one.
+    others: Vec<Option<usize>>,
     /// Of each one of the second table, whether it is that of one of the first.
     are_taken: Vec<bool>,
 }
@@ -20,10 +20,7 @@ pub(super) struct Pairs {
 impl Pairs {
     /// The number of the one of the second table that is the same as one of the first.
     pub(super) fn other(&self, number: usize) -> Option<usize> {
-        match self.others.get(number) {
-            Some(other) if *other != usize::MAX => Some(*other),
-            _ => None,
-        }
+        *self.others.get(number)?
     }
 
     /// Whether one of the second table is that of one of the first.
@@ -59,7 +56,7 @@ impl Pairs {
                 Ordering::Less => a = a.saturating_add(1),
                 Ordering::Greater => b = b.saturating_add(1),
                 Ordering::Equal => {
-                    self.take(one.2, other.2);
+                    self.take(one.3, other.3);
                     a = a.saturating_add(1);
                     b = b.saturating_add(1);
                 }
@@ -70,21 +67,21 @@ impl Pairs {
     /// Which of two keys is skipped: one that is paired, or else the one that comes first, and neither if they are the
     /// same.
     fn order(&self, one: &Key<'_>, other: &Key<'_>, is_kind_same: bool) -> Ordering {
-        if self.other(one.2).is_some() {
+        if self.other(one.3).is_some() {
             Ordering::Less
-        } else if self.is_taken(other.2) {
+        } else if self.is_taken(other.3) {
             Ordering::Greater
         } else if is_kind_same {
-            (one.0, one.1).cmp(&(other.0, other.1))
+            (one.0, one.1, one.2).cmp(&(other.0, other.1, other.2))
         } else {
-            one.0.cmp(&other.0)
+            (one.0, one.1).cmp(&(other.0, other.1))
         }
     }
 
     /// Pairs one of the first table with one of the second.
     fn take(&mut self, number: usize, other: usize) {
         if let Some(place) = self.others.get_mut(number) {
-            *place = other;
+            *place = Some(other);
         }
         if let Some(is_taken) = self.are_taken.get_mut(other) {
             *is_taken = true;
@@ -100,7 +97,7 @@ pub(super) fn pairs_by(
 ) -> Result<Pairs, AllocError> {
     let (mut old, mut new) = (old, new);
     let mut pairs = Pairs {
-        others: vec![in alloc; usize::MAX; old.len()]?,
+        others: vec![in alloc; None; old.len()]?,
         are_taken: vec![in alloc; false; new.len()]?,
     };
     old.sort()?;
@@ -111,44 +108,29 @@ pub(super) fn pairs_by(
 }
 
 /// What the structures of a table are called.
-#[derive(Drop)]
-struct Titles {
-    text: Out,
-    /// Where each one's ends in the text.
-    ends: Vec<usize>,
+fn titles_of(alloc: Global, side: Side<'_>) -> Result<Vec<Out>, AllocError> {
+    let mut titles = Vec::new(alloc);
+    for part in 0..side.parts.len() {
+        let mut title = Out::new(alloc);
+        side.print_path(part, &mut title);
+        titles.push(title)?;
+    }
+    Ok(titles)
 }
 
-impl Titles {
-    /// What the structures of a table are called.
-    fn of(alloc: Global, side: Side<'_>) -> Result<Titles, AllocError> {
-        let mut titles = Titles {
-            text: Out::new(alloc),
-            ends: Vec::new(alloc),
-        };
-        for part in 0..side.len() {
-            side.print_path(part, &mut titles.text);
-            titles.ends.push(titles.text.length())?;
-        }
-        Ok(titles)
+/// By what the structures are paired that are called so.
+fn keys_of<'a>(alloc: Global, titles: &'a [Out]) -> Result<Vec<Key<'a>>, AllocError> {
+    let mut keys = Vec::new(alloc);
+    for (number, title) in titles.iter().enumerate() {
+        let title = title.printed().ok_or(AllocError)?;
+        keys.push(("", title, "", number))?;
     }
-
-    /// By what the structures are paired.
-    fn keys(&self, alloc: Global) -> Result<Vec<Key<'_>>, AllocError> {
-        let Some(text) = self.text.printed() else {
-            return Err(AllocError);
-        };
-        let (mut keys, mut start) = (Vec::new(alloc), 0usize);
-        for (number, end) in self.ends.iter().enumerate() {
-            keys.push((text.get(start..*end).unwrap_or(""), "", number))?;
-            start = *end;
-        }
-        Ok(keys)
-    }
+    Ok(keys)
 }
 
 /// Which structures of two tables are the same: those that are in the same one, and are known by the same name and the
 /// same field, or the same place among the ones of their name. The tables themselves are the same.
 pub(super) fn pairs_of(alloc: Global, old: Side<'_>, new: Side<'_>) -> Result<Pairs, AllocError> {
-    let (old, new) = (Titles::of(alloc, old)?, Titles::of(alloc, new)?);
-    pairs_by(alloc, old.keys(alloc)?, new.keys(alloc)?)
+    let (old, new) = (titles_of(alloc, old)?, titles_of(alloc, new)?);
+    pairs_by(alloc, keys_of(alloc, &old)?, keys_of(alloc, &new)?)
 }

@@ -11,7 +11,7 @@ type Run = Option<(u64, bool)>;
 
 /// The run that a byte of a table is of. The number is that of the field of a byte before, and is then that of its own.
 fn run_at(sheet: &Sheet<'_>, offset: u64, field: &mut usize) -> Run {
-    for place in *field..sheet.side.size() {
+    for place in *field..sheet.side.items.len() {
         let item = sheet.side.items.get(place)?;
         *field = place;
         if offset < item.offset {

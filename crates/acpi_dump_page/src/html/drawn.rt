@@ -88,11 +88,7 @@ pub(super) fn print_line(sheet: &Sheet<'_>, structure: usize, line: &'static str
 fn print_fields(sheet: &Sheet<'_>, structure: usize, name: &'static str, out: &mut Out) {
     let wanted = name.trim_start_matches(['%', '#']);
     let mut count = 0usize;
-    let (first, last) = match sheet.side.parts.get(structure) {
-        Some(part) => (part.first, part.last),
-        None => (0, 0),
-    };
-    for item in sheet.side.items.get(first..last).unwrap_or(&[]) {
+    for item in sheet.side.items_in(structure) {
         let is_header = item.within < 5 && wanted == "Length";
         if item.part == structure && item.name == wanted && !is_header {
             out.text(if count > 0 { "/" } else { "" });
@@ -104,7 +100,7 @@ fn print_fields(sheet: &Sheet<'_>, structure: usize, name: &'static str, out: &m
 
 /// Prints a field as its name in a line has it.
 fn print_field(sheet: &Sheet<'_>, item: &Item, name: &'static str, out: &mut Out) {
-    let number = number_of(sheet.bytes(item.offset, item.length));
+    let number = number_of(sheet.side.bytes(item.offset, item.length));
     let meaning = sheet.side.meaning(item);
     if name.starts_with('%') {
         let (size, unit) = size_of(number);

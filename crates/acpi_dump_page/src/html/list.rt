@@ -88,7 +88,7 @@ pub(super) fn badges_of<'p>(sheet: &Sheet<'p>) -> [Piece<'p>; 3] {
         Standing::Only if sheet.id.is_first => " <span class=\"diff\">only in the first</span>",
         Standing::Only => " <span class=\"diff\">only in the second</span>",
         Standing::Same => " <span class=\"same\">same bytes</span>",
-        Standing::Beside(_, _) => " <span class=\"diff\">differs</span>",
+        Standing::Beside(_) => " <span class=\"diff\">differs</span>",
     };
     [Text(class), Piece::Status(status), Markup(standing)]
 }

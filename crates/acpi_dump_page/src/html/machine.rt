@@ -60,7 +60,7 @@ fn shape_of(sheet: &Sheet<'_>, table: usize, part: usize, unit: usize) -> Option
     let (kind, class, text) = line_of(sheet, structure)?;
     let (class, flags) = next_word(class);
     let kind = number_of(kind)?;
-    let entry = sheet.bytes(structure.offset, structure.length);
+    let entry = sheet.side.bytes(structure.offset, structure.length);
     Some(Shape {
         tile: (kind, table, tile_of(kind, structure, entry, unit)?),
         part,
@@ -142,11 +142,11 @@ fn add_interrupts(
     Ok(())
 }
 
-/// The Interrupt Source Overrides of a MADT, and the number of the structure that is the last one of each ISA interrupt.
+/// The Interrupt Source Overrides of a MADT, and the number of the structure that is the last of each ISA interrupt.
 fn overrides_of(sheet: &Sheet<'_>) -> (IsaOverrides, [Option<usize>; 16]) {
     let (mut overrides, mut parts) = (IsaOverrides::new(), [None; 16]);
     for (part, structure) in sheet.side.parts.iter().enumerate() {
-        let entry = sheet.bytes(structure.offset, structure.length);
+        let entry = sheet.side.bytes(structure.offset, structure.length);
         let (bus, isa_source) = (field(entry, 2, 1), field(entry, 3, 1) as u8);
         if structure.kind == Some(2) && bus == 0 {
             overrides.add(&InterruptSourceOverride {
@@ -168,7 +168,7 @@ fn overrides_of(sheet: &Sheet<'_>) -> (IsaOverrides, [Option<usize>; 16]) {
 fn pin_of(sheet: &Sheet<'_>, interrupt: u64) -> Option<(usize, u64)> {
     let mut nearest: Option<(usize, u64)> = None;
     for (part, structure) in sheet.side.parts.iter().enumerate() {
-        let entry = sheet.bytes(structure.offset, structure.length);
+        let entry = sheet.side.bytes(structure.offset, structure.length);
         let base = number_at(entry, 8, 4); // Global System Interrupt Base
         let is_nearer = match nearest {
             Some((_, pin)) => interrupt.saturating_sub(base) < pin,

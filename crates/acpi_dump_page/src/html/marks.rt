@@ -108,10 +108,8 @@ impl Marks {
 
     /// Marks the fields of a structure that the first table hasn't got.
     fn add_structure(&mut self, side: Side<'_>, part: usize) {
-        if let Some(structure) = side.parts.get(part) {
-            for place in structure.first..structure.last {
-                self.change(place, Change::Added(part));
-            }
+        for place in side.places(part) {
+            self.change(place, Change::Added(part));
         }
     }
 

@@ -19,7 +19,7 @@ pub(super) fn print_matrices(sheets: &[Sheet<'_>], out: &mut Out) {
         for part in sheet.side.parts {
             let bytes = match part.kind {
                 None if sheet.is(b"SLIT") => sheet.entry.bytes,
-                Some(1) if sheet.is(b"HMAT") => sheet.bytes(part.offset, part.length),
+                Some(1) if sheet.is(b"HMAT") => sheet.side.bytes(part.offset, part.length),
                 _ => continue,
             };
             if let Some(matrix) = matrix_of(bytes)

@@ -134,8 +134,8 @@ impl Rows<'_, '_, '_> {
         if self.group == 0 {
             self.begin_group(number, part);
         }
-        let is_short = sheet.side.size() <= FEW && self.group == 0;
-        let is_compared = matches!(sheet.standing, Standing::Beside(_, _));
+        let is_short = sheet.side.items.len() <= FEW && self.group == 0;
+        let is_compared = matches!(sheet.standing, Standing::Beside(_));
         let is_changed = fold.has_changes && !fold.is_added;
         let is_open = fold.has_findings || is_changed || is_short && !is_compared;
         print_html(
@@ -162,7 +162,7 @@ impl Rows<'_, '_, '_> {
         let sheet = self.sheet;
         let (mut count, mut last, mut end) = (0usize, number, part.offset);
         let mut has_changes = false;
-        for place in number..sheet.side.len() {
+        for place in number..sheet.side.parts.len() {
             match sheet.side.parts.get(place) {
                 Some(other)
                     if other.parent == part.parent && other.name == part.name && !other.is_row() =>
@@ -258,7 +258,7 @@ impl Rows<'_, '_, '_> {
     fn length(&self, row: usize) -> u64 {
         let sheet = self.sheet;
         let mut length = 0u64;
-        for number in row..sheet.side.size() {
+        for number in row..sheet.side.items.len() {
             match sheet.side.items.get(number) {
                 Some(item) if sheet.mark(number).row == row => {
                     length = length.saturating_add(item.length);
@@ -309,14 +309,32 @@ impl Rows<'_, '_, '_> {
     /// Prints the structures and fields that only the table of the first input has.
     fn gone(&mut self) {
         let sheet = self.sheet;
-        let Standing::Beside(_, old) = sheet.standing else {
+        let Standing::Beside(old) = sheet.standing else {
             return;
         };
         for (part, field) in sheet.marks.gone.iter() {
             self.start();
-            match old.item(*field) {
-                Some(item) => print_gone(old, item, self.out),
-                None => print_gone_part(old, *part, self.out),
+            if let Some(item) = old.item(*field) {
+                print_html(
+                    "<tr class=\"del\"><td>$<th scope=\"row\">$<td><del>$</del><td><div><del>$</del></div>\n",
+                    &[
+                        Offset(item.offset),
+                        Name(item),
+                        Value(old.digits(item)),
+                        Text(old.meaning(item)),
+                    ],
+                    self.out,
+                )
+            } else {
+                let mut path = Out::new(self.out.allocator());
+                old.print_path(*part, &mut path);
+                let row =
+                    "<tr class=\"del\"><td>$<th scope=\"row\"><del>$</del><td><td>only in the first\n";
+                print_html(
+                    row,
+                    &[Offset(old.offset(*part)), Bytes(path.since(0))],
+                    self.out,
+                )
             }
         }
         self.end();
@@ -366,31 +384,10 @@ fn print_changed(was: Piece<'_>, is: Piece<'_>, is_same: bool, out: &mut Out) {
     }
 }
 
-/// Prints a field that only the table of the first input has.
-fn print_gone<'x>(old: Side<'x>, item: &'x Item, out: &mut Out) {
-    let row =
-        "<tr class=\"del\"><td>$<th scope=\"row\">$<td><del>$</del><td><div><del>$</del></div>\n";
-    let pieces = [
-        Offset(item.offset),
-        Name(item),
-        Value(old.digits(item)),
-        Text(old.meaning(item)),
-    ];
-    print_html(row, &pieces, out)
-}
-
-/// Prints a structure that only the table of the first input has.
-fn print_gone_part(old: Side<'_>, part: usize, out: &mut Out) {
-    let mut path = Out::new(out.allocator());
-    old.print_path(part, &mut path);
-    let row = "<tr class=\"del\"><td>$<th scope=\"row\"><del>$</del><td><td>only in the first\n";
-    print_html(row, &[Offset(old.offset(part)), Bytes(path.since(0))], out)
-}
-
 /// Prints the first fields that tell of a folded structure what it is, or the path of an object.
 pub(super) fn print_digest(side: Side<'_>, number: usize, part: &Part, out: &mut Out) {
     let mut count = 0usize;
-    for item in side.items.get(part.first..part.last).unwrap_or(&[]) {
+    for item in side.items_in(number) {
         if item.part == number && tells(item) && count < 4 {
             let meaning = side.meaning(item);
             let value = if meaning.is_empty() {
@@ -398,7 +395,7 @@ pub(super) fn print_digest(side: Side<'_>, number: usize, part: &Part, out: &mut
             } else {
                 Words(meaning, 48)
             };
-            let name = if part.is_object { "" } else { item.name };
+            let name = if part.own.is_some() { "" } else { item.name };
             let pieces = [word_if(count > 0, ", "), Text(name), value];
             print_html("$$ $", &pieces, out);
             count = count.saturating_add(1);

@@ -3,7 +3,7 @@
 use super::escape::Piece;
 use super::ids::Id;
 use super::marks::{Change, Mark, Marks};
-use crate::outline::{Item, Side, bytes_of};
+use crate::outline::{Item, Side};
 use acpi::sdt::Signature;
 use acpi_dump_input::entries::Entry;
 use acpi_dump_input::judgement::Judgement;
@@ -17,8 +17,8 @@ pub(super) enum Standing<'p> {
     Only,
     /// It is, with the same bytes.
     Same,
-    /// It is, with these bytes and fields.
-    Beside(&'p [u8], Side<'p>),
+    /// It is, with these fields.
+    Beside(Side<'p>),
 }
 
 /// The worst severity of findings, by its rank from 1 on, or 0 if there are none, and whether there are changes.
@@ -67,11 +67,6 @@ impl<'p> Sheet<'p> {
         self.entry.bytes.starts_with(letters)
     }
 
-    /// The bytes at an offset, of this length.
-    pub(super) fn bytes(&self, offset: u64, length: u64) -> &'p [u8] {
-        bytes_of(self.entry.bytes, offset, length)
-    }
-
     /// The marks of the field that has this number.
     pub(super) fn mark(&self, place: usize) -> Mark {
         self.marks.fields.get(place).copied().unwrap_or(Mark {
@@ -84,23 +79,19 @@ impl<'p> Sheet<'p> {
     /// What the first input has in place of a field with these marks, if that differs: its table, and the field there.
     pub(super) fn before(&self, mark: Mark) -> Option<(Side<'p>, &'p Item)> {
         match (mark.change, self.standing) {
-            (Change::From(was), Standing::Beside(_, old)) => Some((old, old.items.get(was)?)),
+            (Change::From(was), Standing::Beside(old)) => Some((old, old.items.get(was)?)),
             _ => None,
         }
     }
 
     /// The marks of the structure that has this number.
     pub(super) fn fold(&self, number: usize) -> Fold {
-        let (first, last) = match self.side.parts.get(number) {
-            Some(part) => (part.first, part.last),
-            None => (0, 0),
-        };
         let mut fold = Fold {
             has_findings: false,
             has_changes: false,
             is_added: false,
         };
-        for place in first..last {
+        for place in self.side.places(number) {
             let mark = self.mark(place);
             fold.has_findings |= mark.findings.0 < mark.findings.1;
             fold.has_changes |= !matches!(mark.change, Change::Same);
@@ -111,7 +102,7 @@ impl<'p> Sheet<'p> {
 
     /// The number of the first field that ends after an offset.
     pub(super) fn field_at(&self, offset: u64) -> usize {
-        let (mut low, mut high) = (0usize, self.side.size());
+        let (mut low, mut high) = (0usize, self.side.items.len());
         for _ in 0..64 {
             if high <= low {
                 break;
@@ -146,7 +137,7 @@ impl<'p> Sheet<'p> {
         let end = offset.saturating_add(length);
         let (mut worst, mut has_changes) = before;
         let is_other = self.is_other(offset, length);
-        for place in self.field_at(offset)..self.side.size() {
+        for place in self.field_at(offset)..self.side.items.len() {
             let item = match self.side.items.get(place) {
                 Some(item) if item.offset < end => item,
                 _ => break,
@@ -163,7 +154,7 @@ impl<'p> Sheet<'p> {
     /// Whether `length` bytes from an offset on aren't the ones that the first input has there.
     fn is_other(&self, offset: u64, length: u64) -> bool {
         match self.standing {
-            Standing::Beside(old, _) => bytes_of(old, offset, length) != self.bytes(offset, length),
+            Standing::Beside(old) => old.bytes(offset, length) != self.side.bytes(offset, length),
             _ => true,
         }
     }

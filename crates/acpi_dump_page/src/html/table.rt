@@ -25,9 +25,9 @@ pub(super) fn print_table<'p>(sheet: &Sheet<'p>, sheets: &[Sheet<'p>], out: &mut
     );
     print_bytes(sheet.entry.bytes, Some(sheet), out);
     out.text("</pre>");
-    if let Standing::Beside(old, _) = sheet.standing {
+    if let Standing::Beside(old) = sheet.standing {
         out.text("<details class=\"old\"><summary>bytes in the first input</summary><pre>");
-        print_bytes(old, None, out);
+        print_bytes(old.table, None, out);
         out.text("</pre></details>");
     }
     out.text("</div></div></details></section>\n");
@@ -37,7 +37,7 @@ pub(super) fn print_table<'p>(sheet: &Sheet<'p>, sheets: &[Sheet<'p>], out: &mut
 /// unless it is a table of AML, long, or the same in both inputs.
 fn print_beginning(sheet: &Sheet<'_>, out: &mut Out) {
     let (class, is_same) = match sheet.standing {
-        Standing::Alone | Standing::Beside(_, _) => ("t", false),
+        Standing::Alone | Standing::Beside(_) => ("t", false),
         Standing::Same => ("t same", true),
         Standing::Only => ("t only", false),
     };
