@@ -52,7 +52,10 @@ pub(super) fn shares_of(alloc: Global, srat: &[u8]) -> Result<Vec<Share>, AllocE
     let mut shares = Vec::new(alloc);
     let revision = field(srat, 8, 1) as u8; // Revision
     let mut rest = skip(srat, 48);
-    while let Some((entry, others)) = split_front(&SRAT_GRAMMAR, rest) {
+    for _ in 0..srat.len() {
+        let Some((entry, others)) = split_front(&SRAT_GRAMMAR, rest) else {
+            break;
+        };
         if let Some(share) = share_of(SratEntry::read(revision, entry), entry) {
             shares.push(share)?;
         }
