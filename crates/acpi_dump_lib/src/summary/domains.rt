@@ -1,9 +1,9 @@
 //! What the domains of an SRAT have, the latencies and bandwidths of an HMAT, and the distances of a SLIT.
 
 use super::facts::{Facts, Value};
-use super::shares::{MEMORY, Share, shares_of};
 use acpi_dump_input::entries::{Entry, own_signature};
 use acpi_dump_walk::matrix::{Matrix, matrix_of};
+use acpi_dump_walk::share::{MEMORY, Share, shares_of};
 use acpi_dump_walk::walk::{Group, Show, walk_table};
 use acpi_numa::Distances;
 use std::alloc::AllocError;
@@ -92,8 +92,6 @@ fn add_row(facts: &mut Facts, matrix: Matrix<'_>, row: usize) {
 }
 
 /// Adds what the domains of the SRATs and HMATs have that are read.
-///
-/// Fails if memory runs out.
 pub(crate) fn add_domains(entries: &[Entry<'_>], facts: &mut Facts) -> Result<(), AllocError> {
     for entry in entries {
         let table = entry.table();
@@ -110,8 +108,6 @@ pub(crate) fn add_domains(entries: &[Entry<'_>], facts: &mut Facts) -> Result<()
 }
 
 /// Adds what the domains of an SRAT have.
-///
-/// Fails if memory runs out.
 fn add_srat(srat: &[u8], facts: &mut Facts) -> Result<(), AllocError> {
     let mut shares = shares_of(facts.allocator(), srat)?;
     shares.sort_by_key(|share| (share.domain, share.number))?;

@@ -1,8 +1,8 @@
 //! Processors that have local APICs: a line for those whose numbers follow each other, and which are else alike.
 
 use super::facts::{Facts, Value};
-use super::shares::{Share, shares_of};
 use acpi::platform::{Processor, ProcessorState};
+use acpi_dump_walk::share::{Share, shares_of};
 use std::alloc::AllocError;
 
 /// A processor, and its domain if it is known.
@@ -62,8 +62,6 @@ fn add_alike(facts: &mut Facts, first: &Placed<'_>, last: &Placed<'_>) {
 }
 
 /// Adds processors, the boot processor first, with their domains by an SRAT's bytes.
-///
-/// Fails if memory runs out.
 pub(super) fn add_rows(
     facts: &mut Facts,
     boot: &Processor,
