@@ -30,8 +30,8 @@ slit-too-few warning ACPI 6.5, section 5.2.17 | A domain of the SRAT isn't one o
     | domain %, and the SLIT has % localities
 ";
 
-// The lists of numbers that are judged together: of processors those by the ids of their local APICs, and the list after
-// each those by their UIDs.
+// The lists of numbers that are judged together: of processors those by the ids of their local APICs, and the list
+// after each those by their UIDs.
 const PLACED: u64 = 0; // by the SRAT
 
 const LISTED: u64 = 2; // by the MADT

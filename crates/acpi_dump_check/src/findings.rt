@@ -24,8 +24,6 @@ pub(crate) struct Findings {
 
 impl Findings {
     /// Nothing is found.
-    ///
-    /// Fails if memory runs out.
     pub(crate) fn new(alloc: Global) -> Result<Findings, AllocError> {
         Ok(Findings {
             alloc,

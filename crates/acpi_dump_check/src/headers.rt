@@ -8,6 +8,7 @@ use acpi_dump_input::entries::{Entry, own_signature};
 use acpi_dump_input::status::Status;
 use acpi_dump_walk::fault::Fault;
 use acpi_dump_walk::fields::unnamed_in;
+use acpi_dump_walk::language::{cut_at, is_chosen, next_word, number_of};
 use acpi_dump_walk::walk::{Field, Show, walk_table};
 
 pub(crate) const RULES: &str = "
@@ -25,52 +26,47 @@ header-reserved note ACPI 6.5, section 5.2.1 | A reserved field isn't 0 | isn't 
 field-code note ACPI 6.5, section 5.2.1 | A code or a flag is one that no specification names | # is reserved
 ";
 
-/// A form of a table: its signature, the first and the last revision that have it, and the table's length: a least one
-/// and steps from that on, or that one alone if the step is 0.
-type Form = (&'static str, (u64, u64), (u64, u64));
-
-/// The forms of tables. Each table's own specification has them.
-const FORMS: [Form; 39] = [
-    ("RSDT", (1, 1), (36, 4)),
-    ("XSDT", (1, 1), (36, 8)),
-    ("FACP", (1, 1), (116, 0)),
-    ("FACP", (2, 2), (132, 0)),
-    ("FACP", (3, 4), (244, 0)),
-    ("FACP", (5, 5), (268, 0)),
-    ("FACP", (6, 6), (276, 0)),
-    ("DSDT", (1, 2), (36, 1)),
-    ("SSDT", (1, 2), (36, 1)),
-    ("APIC", (1, 7), (44, 1)),
-    ("SBST", (1, 1), (48, 0)),
-    ("ECDT", (1, 1), (66, 1)),
-    ("SRAT", (1, 3), (48, 1)),
-    ("SLIT", (1, 1), (44, 1)),
-    ("MSCT", (1, 1), (56, 1)),
-    ("BGRT", (1, 1), (56, 0)),
-    ("FPDT", (1, 1), (36, 1)),
-    ("GTDT", (1, 1), (80, 0)),
-    ("GTDT", (2, 2), (96, 1)),
-    ("GTDT", (3, 3), (96, 1)),
-    ("PCCT", (1, 2), (48, 1)),
-    ("PPTT", (1, 3), (36, 1)),
-    ("HMAT", (1, 2), (40, 1)),
-    ("HEST", (1, 2), (40, 1)),
-    ("BERT", (1, 1), (48, 0)),
-    ("ERST", (1, 1), (48, 32)),
-    ("EINJ", (1, 2), (48, 32)),
-    ("NFIT", (1, 1), (40, 1)),
-    ("HPET", (1, 1), (56, 0)),
-    ("MCFG", (1, 1), (44, 16)),
-    ("SPCR", (1, 3), (80, 0)),
-    ("SPCR", (4, 4), (88, 1)),
-    ("DBGP", (1, 1), (52, 0)),
-    ("DBG2", (0, 0), (44, 1)),
-    ("WAET", (1, 1), (40, 0)),
-    ("TPM2", (3, 5), (52, 1)),
-    ("BOOT", (1, 1), (40, 0)),
-    ("WSMT", (1, 1), (40, 0)),
-    ("UEFI", (1, 1), (54, 1)),
-];
+/// The forms of tables: the signature, the revision or the first and the last one that have it, and the length: a least
+/// one and, after `+`, steps from that on. Each table's own specification has them.
+const FORMS: &str = "\
+RSDT 1 36+4
+XSDT 1 36+8
+FACP 1 116
+FACP 2 132
+FACP 3-4 244
+FACP 5 268
+FACP 6 276
+DSDT 1-2 36+1
+SSDT 1-2 36+1
+APIC 1-7 44+1
+SBST 1 48
+ECDT 1 66+1
+SRAT 1-3 48+1
+SLIT 1 44+1
+MSCT 1 56+1
+BGRT 1 56
+FPDT 1 36+1
+GTDT 1 80
+GTDT 2-3 96+1
+PCCT 1-2 48+1
+PPTT 1-3 36+1
+HMAT 1-2 40+1
+HEST 1-2 40+1
+BERT 1 48
+ERST 1 48+32
+EINJ 1-2 48+32
+NFIT 1 40+1
+HPET 1 56
+MCFG 1 44+16
+SPCR 1-3 80
+SPCR 4 88+1
+DBGP 1 52
+DBG2 0 44+1
+WAET 1 40
+TPM2 3-5 52+1
+BOOT 1 40
+WSMT 1 40
+UEFI 1 54+1";
 
 /// Judges a table's header, if it has one, and each field by itself.
 pub(crate) fn check_header(entry: &Entry<'_>, findings: &mut Findings) {
@@ -128,15 +124,17 @@ fn check_status(entry: &Entry<'_>, findings: &mut Findings) {
     findings.add_value("header-refused", offset, &entry.status);
 }
 
-/// The least length and the step of the form that tables of a name have in a revision, if there is one, and whether
-/// forms of the name are known.
-fn form_of(name: &str, revision: u64) -> (Option<(u64, u64)>, bool) {
+/// The length of the form that tables of a name have in a revision, if there is one, and whether forms of the name are
+/// known.
+fn form_of(name: &str, revision: u64) -> (Option<&'static str>, bool) {
     let mut has_form = false;
-    for (of, (first, last), lengths) in &FORMS {
-        if *of == name {
+    for line in FORMS.split('\n') {
+        let (of, line) = next_word(line);
+        let (revisions, length) = next_word(line);
+        if of == name {
             has_form = true;
-            if *first <= revision && revision <= *last {
-                return (Some(*lengths), true);
+            if is_chosen(revision, revisions) {
+                return (Some(length), true);
             }
         }
     }
@@ -153,7 +151,7 @@ fn check_form(table: &[u8], name: &str, findings: &mut Findings) -> bool {
     }
     let revision = field(table, 8, 1);
     match form_of(name, revision) {
-        (Some((least, step)), _) => check_length(table, least, step, findings),
+        (Some(length), _) => check_length(table, length, findings),
         (None, true) => {
             findings.add("header-revision", 8, &[revision]);
             return false;
@@ -163,9 +161,11 @@ fn check_form(table: &[u8], name: &str, findings: &mut Findings) -> bool {
     true
 }
 
-/// Judges the length of a table, which is a least one and steps from that on, or that one alone if the step is 0.
-fn check_length(table: &[u8], least: u64, step: u64, findings: &mut Findings) {
+/// Judges the length of a table, which is to be that of a form.
+fn check_length(table: &[u8], form: &str, findings: &mut Findings) {
     let (length, revision) = (field(table, 4, 4), field(table, 8, 1));
+    let (least, step) = cut_at(form, '+');
+    let (least, step) = (number_of(least).unwrap_or(0), number_of(step).unwrap_or(0));
     let is_right = match length.checked_sub(least) {
         Some(over) if step > 0 => over % step == 0,
         over => over == Some(0),

@@ -95,43 +95,39 @@ enum Rest {
     Entered(usize),
 }
 
-/// The opcodes of objects, what these are, and what comes after the opcode.
-const FORMS: [(u16, &str, Rest); 25] = [
-    (0x06, "Alias", Rest::Parts(1)),
-    (0x08, "Name", Rest::Parts(0)),
-    (0x10, "Scope", Rest::Entered(0)),
-    (0x14, "Method", Rest::Method),
-    (0x15, "External", Rest::Parts(0)),
-    (0x8A, "CreateDWordField", Rest::Parts(2)),
-    (0x8B, "CreateWordField", Rest::Parts(2)),
-    (0x8C, "CreateByteField", Rest::Parts(2)),
-    (0x8D, "CreateBitField", Rest::Parts(2)),
-    (0x8F, "CreateQWordField", Rest::Parts(2)),
-    (0xA0, "If", Rest::Block),
-    (0xA1, "Else", Rest::Block),
-    (0xA2, "While", Rest::Block),
-    (0x5B01, "Mutex", Rest::Parts(0)),
-    (0x5B02, "Event", Rest::Parts(0)),
-    (0x5B13, "CreateField", Rest::Parts(3)),
-    (0x5B80, "OperationRegion", Rest::Parts(0)),
-    (0x5B81, "Field", Rest::Units(&[Part::Byte])),
-    (0x5B82, "Device", Rest::Entered(0)),
-    (0x5B83, "Processor", Rest::Entered(6)),
-    (0x5B84, "PowerResource", Rest::Entered(3)),
-    (0x5B85, "ThermalZone", Rest::Entered(0)),
-    (0x5B86, "IndexField", Rest::Units(&[Part::Name, Part::Byte])),
-    (
-        0x5B87,
-        "BankField",
-        Rest::Units(&[Part::Name, Part::Argument, Part::Byte]),
-    ),
-    (0x5B88, "DataRegion", Rest::Parts(0)),
-];
-
 /// What the object of an opcode is, and what comes after the opcode, unless that isn't known.
 fn form_of(code: u16) -> Option<(&'static str, Rest)> {
-    let (_, kind, rest) = FORMS.iter().find(|form| form.0 == code)?;
-    Some((*kind, *rest))
+    Some(match code {
+        0x06 => ("Alias", Rest::Parts(1)),
+        0x08 => ("Name", Rest::Parts(0)),
+        0x10 => ("Scope", Rest::Entered(0)),
+        0x14 => ("Method", Rest::Method),
+        0x15 => ("External", Rest::Parts(0)),
+        0x8A => ("CreateDWordField", Rest::Parts(2)),
+        0x8B => ("CreateWordField", Rest::Parts(2)),
+        0x8C => ("CreateByteField", Rest::Parts(2)),
+        0x8D => ("CreateBitField", Rest::Parts(2)),
+        0x8F => ("CreateQWordField", Rest::Parts(2)),
+        0xA0 => ("If", Rest::Block),
+        0xA1 => ("Else", Rest::Block),
+        0xA2 => ("While", Rest::Block),
+        0x5B01 => ("Mutex", Rest::Parts(0)),
+        0x5B02 => ("Event", Rest::Parts(0)),
+        0x5B13 => ("CreateField", Rest::Parts(3)),
+        0x5B80 => ("OperationRegion", Rest::Parts(0)),
+        0x5B81 => ("Field", Rest::Units(&[Part::Byte])),
+        0x5B82 => ("Device", Rest::Entered(0)),
+        0x5B83 => ("Processor", Rest::Entered(6)),
+        0x5B84 => ("PowerResource", Rest::Entered(3)),
+        0x5B85 => ("ThermalZone", Rest::Entered(0)),
+        0x5B86 => ("IndexField", Rest::Units(&[Part::Name, Part::Byte])),
+        0x5B87 => {
+            let before = &[Part::Name, Part::Argument, Part::Byte];
+            ("BankField", Rest::Units(before))
+        }
+        0x5B88 => ("DataRegion", Rest::Parts(0)),
+        _ => return None,
+    })
 }
 
 /// The parts after an opcode.
@@ -238,8 +234,6 @@ impl Scopes {
     }
 
     /// Adds the path of a name to the letters, and returns where it begins.
-    ///
-    /// Fails if memory runs out.
     fn add_path(&mut self, aml: &[u8], at: usize, name: &Name) -> Result<usize, AllocError> {
         let outer = self.open.last().map_or(0, |scope| scope.start);
         let start = self.letters.len();
@@ -311,8 +305,6 @@ fn show_object<S: ShowObjects>(
 
 /// Shows the units of a field that have names, from an offset up to the end of the AML, or to one that isn't
 /// understood.
-///
-/// Fails if memory runs out.
 fn show_units<S: ShowObjects>(
     aml: &[u8],
     start: usize,

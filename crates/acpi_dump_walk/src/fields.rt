@@ -136,7 +136,7 @@ pub fn print_text(bytes: &[u8], out: &mut Out) {
 }
 
 /// The name of a number that is a code, or no letters if it is none.
-fn name_of(number: u64, codes: &'static str) -> &'static str {
+pub(crate) fn name_of(number: u64, codes: &'static str) -> &'static str {
     for item in codes.split(['|', '\n']) {
         let (code, name) = next_word(item);
         if language::number_of(code) == Some(number) {

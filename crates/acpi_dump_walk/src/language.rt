@@ -109,7 +109,7 @@ pub fn number_at(bytes: &[u8], offset: usize, length: usize) -> u64 {
 }
 
 /// The number of a factor: a number, or the number at a place of bytes.
-fn factor_of(word: &str, bytes: &[u8]) -> Option<u64> {
+pub(crate) fn factor_of(word: &str, bytes: &[u8]) -> Option<u64> {
     let (offset, length) = cut_at(word, ':');
     let number = number_of(offset)?;
     if length.is_empty() {

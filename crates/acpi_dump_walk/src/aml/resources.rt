@@ -1,61 +1,43 @@
 //! Descriptors of resources (section 6.4).
 ghost use Rattle.std.specs.Prelude.{◌<◌, ◌≤◌, length, IfSome};
 
-use crate::fields::number_of;
-use crate::language::number_at;
+use crate::fields::{name_of, number_of};
+use crate::language::{cut_at, factor_of, number_at};
 use crate::out::Out;
 
 /// The end tag.
 const END: u8 = 0x78;
 
-/// Descriptors: the first byte, without the length in it if that is small, words, and the offsets and widths of the
-/// numbers in these.
-const WORDS: [(u8, &str, &[(usize, usize)]); 19] = [
-    (0x30, "alternatives begin", &[]),
-    (0x38, "alternatives end", &[]),
-    (
-        0x40,
-        "% I/O ports from # to #, aligned to %",
-        &[(7, 1), (2, 2), (4, 2), (6, 1)],
-    ),
-    (0x48, "% I/O ports from #", &[(3, 1), (1, 2)]),
-    (0x50, "DMA request line %, channel %", &[(1, 2), (3, 2)]),
-    (0x70, "of the vendor", &[]),
-    (
-        0x81,
-        "# times 256 bytes of memory from # to # times 256",
-        &[(10, 2), (4, 2), (6, 2)],
-    ),
-    (
-        0x82,
-        "register of % bits at # in address space %",
-        &[(4, 1), (7, 8), (3, 1)],
-    ),
-    (0x84, "of the vendor", &[]),
-    (
-        0x85,
-        "# bytes of memory from # to #, aligned to #",
-        &[(16, 4), (4, 4), (8, 4), (12, 4)],
-    ),
-    (0x86, "# bytes of memory from #", &[(8, 4), (4, 4)]),
-    (0x8C, "GPIO connection", &[]),
-    (0x8D, "pin function", &[]),
-    (0x8E, "serial bus connection of type %", &[(5, 1)]),
-    (0x8F, "pin configuration", &[]),
-    (0x90, "pin group", &[]),
-    (0x91, "pin group function", &[]),
-    (0x92, "pin group configuration", &[]),
-    (0x93, "clock input", &[]),
-];
+/// Descriptors: the first byte, without the length in it if that is small, words, and after `@` the places of the
+/// numbers in these, each `OFFSET:LENGTH`.
+const WORDS: &str = "\
+0x30 alternatives begin
+0x38 alternatives end
+0x40 % I/O ports from # to #, aligned to % @ 7:1 2:2 4:2 6:1
+0x48 % I/O ports from # @ 3:1 1:2
+0x50 DMA request line %, channel % @ 1:2 3:2
+0x70 of the vendor
+0x81 # times 256 bytes of memory from # to # times 256 @ 10:2 4:2 6:2
+0x82 register of % bits at # in address space % @ 4:1 7:8 3:1
+0x84 of the vendor
+0x85 # bytes of memory from # to #, aligned to # @ 16:4 4:4 8:4 12:4
+0x86 # bytes of memory from # @ 8:4 4:4
+0x8C GPIO connection
+0x8D pin function
+0x8E serial bus connection of type % @ 5:1
+0x8F pin configuration
+0x90 pin group
+0x91 pin group function
+0x92 pin group configuration
+0x93 clock input";
 
-/// Descriptors of address spaces: the first byte, how many bytes each number has, and the offsets of the lowest and the
-/// highest address, of what the bridge adds to them, and of how many there are.
-const SPACES: [(u8, usize, [usize; 4]); 4] = [
-    (0x87, 4, [10, 14, 18, 22]),
-    (0x88, 2, [8, 10, 12, 14]),
-    (0x8A, 8, [14, 22, 30, 38]),
-    (0x8B, 8, [16, 24, 32, 40]),
-];
+/// Descriptors of address spaces: the first byte, and the places of the lowest and the highest address, of what the
+/// bridge adds to them, and of how many there are.
+const SPACES: &str = "\
+0x87 10:4 14:4 18:4 22:4
+0x88 8:2 10:2 12:2 14:2
+0x8A 14:8 22:8 30:8 38:8
+0x8B 16:8 24:8 32:8 40:8";
 
 /// Prints descriptors up to the end tag, each but the first after `between`.
 pub(super) fn print_resources(bytes: &[u8], between: &str, out: &mut Out) {
@@ -131,38 +113,37 @@ fn print_interrupts(descriptor: &[u8], out: &mut Out) {
     }
 }
 
+/// The numbers at up to four places of a descriptor: 0 for what isn't there.
+fn numbers_at(descriptor: &[u8], places: &str) -> [u64; 4] {
+    let mut numbers = [0; 4];
+    for (number, place) in numbers.iter_mut().zip(places.split(' ')) {
+        *number = factor_of(place, descriptor).unwrap_or(0);
+    }
+    numbers
+}
+
 /// Prints the addresses of an address space.
 fn print_space(tag: u8, descriptor: &[u8], out: &mut Out) {
-    for (known, width, offsets) in &SPACES {
-        if *known == tag {
-            let [low, high, added, count] = offsets.map(|offset| number_at(
-                descriptor, offset, *width,
-            ));
-            out.words("#", &[count]);
-            match number_at(descriptor, 3, 1) {
-                0 => out.text(" bytes of memory"),
-                1 => out.text(" I/O ports"),
-                2 => out.text(" buses"),
-                kind => out.words(" addresses of type #", &[kind]),
-            }
-            out.words(" from # to #", &[low, high]);
-            if added != 0 {
-                out.words(", translated by #", &[added]);
-            }
-        }
+    let [low, high, added, count] = numbers_at(descriptor, name_of(tag as u64, SPACES));
+    out.words("#", &[count]);
+    match number_at(descriptor, 3, 1) {
+        0 => out.text(" bytes of memory"),
+        1 => out.text(" I/O ports"),
+        2 => out.text(" buses"),
+        kind => out.words(" addresses of type #", &[kind]),
+    }
+    out.words(" from # to #", &[low, high]);
+    if added != 0 {
+        out.words(", translated by #", &[added]);
     }
 }
 
 /// Prints the words of a descriptor.
 fn print_words(tag: u8, descriptor: &[u8], out: &mut Out) {
-    for (known, words, fields) in &WORDS {
-        if *known == tag {
-            let mut numbers = [0; 4];
-            for (number, (offset, width)) in numbers.iter_mut().zip(*fields) {
-                *number = number_at(descriptor, *offset, *width);
-            }
-            return out.words(*words, &numbers);
-        }
+    let (words, places) = cut_at(name_of(tag as u64, WORDS), '@');
+    if words.is_empty() {
+        return out.words("descriptor of type #", &[tag as u64]);
     }
-    out.words("descriptor of type #", &[tag as u64])
+    let numbers = numbers_at(descriptor, places.trim_ascii());
+    out.words(words.trim_ascii(), &numbers)
 }

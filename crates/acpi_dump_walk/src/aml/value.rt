@@ -14,19 +14,9 @@ const DEEPEST: u32 = 8;
 const MOST: usize = 32;
 
 /// The address spaces of operation regions, from 0 on (section 19.6.114).
-const SPACES: [&str; 11] = [
-    "SystemMemory",
-    "SystemIO",
-    "PCI_Config",
-    "EmbeddedControl",
-    "SMBus",
-    "SystemCMOS",
-    "PciBarTarget",
-    "IPMI",
-    "GeneralPurposeIO",
-    "GenericSerialBus",
-    "PCC",
-];
+const SPACES: &str =
+    "SystemMemory SystemIO PCI_Config EmbeddedControl SMBus SystemCMOS PciBarTarget IPMI \
+    GeneralPurposeIO GenericSerialBus PCC";
 
 /// What is shown of an object besides its name.
 #[derive(Clone, Copy)]
@@ -247,8 +237,8 @@ fn print_region(parts: &[u8], out: &mut Out) {
     let [space, numbers @ ..] = parts else {
         return;
     };
-    match SPACES.get(*space as usize) {
-        Some(name) => out.text(*name),
+    match SPACES.split(' ').nth(*space as usize) {
+        Some(name) => out.text(name),
         None => out.words("space #", &[*space as u64]),
     }
     let Ok(end) = parts_end(&[Part::Argument], numbers, 0) else {
