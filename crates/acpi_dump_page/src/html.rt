@@ -19,8 +19,8 @@ mod style;
 mod table;
 mod tile;
 
-use crate::compare::{differences, same_in};
-use crate::outline::{Items, Side, items_of};
+use acpi_dump_compare::compare::{differences, same_in};
+use acpi_dump_compare::outline::{Items, Side, items_of};
 use acpi_dump_input::entries::Entry;
 use acpi_dump_input::judgement::Judgement;
 use acpi_dump_walk::out::Out;
@@ -85,8 +85,6 @@ struct Outlined<'p> {
 
 /// Adds the tables of an input as a page shows them beside those of the other one, if it is the first of two only those
 /// that the other one hasn't got.
-///
-/// Fails if memory runs out.
 fn add_sheets<'p>(
     source: Source<'p>,
     own: Outlined<'p>,
@@ -112,8 +110,6 @@ fn add_sheets<'p>(
 }
 
 /// The table of this number of an input, as a page shows it if the other one hasn't got it.
-///
-/// Fails if memory runs out.
 fn sheet_of<'p>(
     source: Source<'p>,
     entry: &'p Entry<'p>,
@@ -143,8 +139,6 @@ fn sheet_of<'p>(
 }
 
 /// Marks what differs in a table from that of the first input.
-///
-/// Fails if memory runs out.
 fn compare_with<'p>(
     source: Source<'p>,
     old: Side<'p>,
@@ -171,8 +165,6 @@ pub fn print_page(source: Source<'_>, out: &mut Out) -> Result<(), AllocError> {
 
 /// Prints the page of the tables of the input, and of the first one's that aren't in it, by their structures and
 /// fields.
-///
-/// Fails if memory runs out.
 fn print_outlined<'p>(
     source: Source<'p>,
     outlines: &'p [Items<'p>],

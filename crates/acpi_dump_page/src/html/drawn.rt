@@ -3,7 +3,7 @@
 use super::escape::Piece::{Decimal, Text, Words};
 use super::escape::{print_escaped, print_html};
 use super::sheet::Sheet;
-use crate::outline::{Item, Part};
+use acpi_dump_compare::outline::{Item, Part};
 use acpi_dump_walk::fields::{number_of, size_of};
 use acpi_dump_walk::language::cut_at;
 use acpi_dump_walk::out::Out;

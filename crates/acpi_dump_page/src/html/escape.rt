@@ -1,8 +1,8 @@
 //! Texts of tables, files and options, which stay texts in a page.
 
 use super::ids::Id;
-use crate::outline::Item;
 use acpi::sdt::Signature;
+use acpi_dump_compare::outline::Item;
 use acpi_dump_input::status::Status;
 use acpi_dump_walk::out::Out;
 

@@ -7,13 +7,12 @@ use super::matrices::print_matrices;
 use super::rows::print_digest;
 use super::sheet::{Sheet, classes_of};
 use super::tile::Tile;
-use crate::outline::Part;
 use acpi::platform::interrupt::{InterruptSourceOverride, Polarity, TriggerMode};
 use acpi::sdt::field;
 use acpi_base::model::IsaOverrides;
 use acpi_dump_walk::language::{next_word, number_at, number_of};
 use acpi_dump_walk::out::Out;
-use acpi_dump_walk::share::domain_of;
+use acpi_dump_walk::share::{revision_of, share_of};
 use std::alloc::AllocError;
 
 /// What the tiles of each kind are called.
@@ -62,7 +61,7 @@ fn shape_of(sheet: &Sheet<'_>, table: usize, part: usize, unit: usize) -> Option
     let kind = number_of(kind)?;
     let entry = sheet.side.bytes(structure.offset, structure.length);
     Some(Shape {
-        tile: (kind, table, tile_of(kind, structure, entry, unit)?),
+        tile: (kind, table, tile_of(sheet, kind, entry, unit)?),
         part,
         is_wide: flags.is_empty(),
         class: if is_off(entry, flags) {
@@ -76,9 +75,12 @@ fn shape_of(sheet: &Sheet<'_>, table: usize, part: usize, unit: usize) -> Option
 }
 
 /// The number of the tile of a kind that a structure is in, if it is in one: of a domain, or of a unit.
-fn tile_of(kind: u64, structure: &Part, entry: &[u8], unit: usize) -> Option<u64> {
+fn tile_of(sheet: &Sheet<'_>, kind: u64, entry: &[u8], unit: usize) -> Option<u64> {
     match kind {
-        DOMAINS => domain_of(structure.kind?, entry),
+        DOMAINS => {
+            let share = share_of(revision_of(sheet.entry.bytes), entry)?;
+            Some(share.domain as u64)
+        }
         IO_APICS | UNITS => Some(unit as u64),
         _ => Some(0),
     }
@@ -93,8 +95,6 @@ fn is_off(entry: &[u8], offset: &str) -> bool {
 }
 
 /// Adds the structures of a table that are drawn.
-///
-/// Fails if memory runs out.
 fn add_shapes(sheet: &Sheet<'_>, table: usize, shapes: &mut Vec<Shape>) -> Result<(), AllocError> {
     let mut unit = 0usize;
     for (part, structure) in sheet.side.parts.iter().enumerate().skip(1) {
@@ -114,8 +114,6 @@ fn add_shapes(sheet: &Sheet<'_>, table: usize, shapes: &mut Vec<Shape>) -> Resul
 /// Adds the ISA interrupts of a MADT to the tiles of the I/O APICs that they come to (sections 5.2.12.3 and 5.2.12.5):
 /// all if there are 8259s, by the flag PCAT_COMPAT, and else those that have an override. Each leads to its override,
 /// or to the I/O APIC if it has none.
-///
-/// Fails if memory runs out.
 fn add_interrupts(
     sheet: &Sheet<'_>,
     table: usize,
@@ -182,8 +180,6 @@ fn pin_of(sheet: &Sheet<'_>, interrupt: u64) -> Option<(usize, u64)> {
 }
 
 /// Prints the tiles of the drawing: none if there is nothing to draw.
-///
-/// Fails if memory runs out.
 pub(super) fn print_machine(sheets: &[Sheet<'_>], out: &mut Out) -> Result<(), AllocError> {
     let mut shapes = Vec::new(out.allocator());
     for (table, sheet) in sheets.iter().enumerate() {

@@ -1,7 +1,7 @@
 //! What a page marks in a table: findings, and what differs from the first of two inputs.
 
-use crate::compare::Difference;
-use crate::outline::{BYTES, Item, Side};
+use acpi_dump_compare::compare::Difference;
+use acpi_dump_compare::outline::{BYTES, Item, Side};
 use acpi_dump_input::judgement::Finding;
 use std::alloc::{AllocError, Global};
 
@@ -42,8 +42,6 @@ fn reach(findings: &[Finding], table: usize, end: u64) -> usize {
 
 /// The marks of the table of this number by findings, which are in the order of the tables and of their offsets: each
 /// is that of the row of its byte. A run of bytes that no field covers has one row.
-///
-/// Fails if memory runs out.
 pub(super) fn marks_of(
     alloc: Global,
     side: Side<'_>,
@@ -83,8 +81,6 @@ fn is_run(side: Side<'_>, row: usize, item: &Item) -> bool {
 
 impl Marks {
     /// Adds the differences of a table from that of the first input.
-    ///
-    /// Fails if memory runs out.
     pub(super) fn add(
         &mut self,
         side: Side<'_>,

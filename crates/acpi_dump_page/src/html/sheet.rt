@@ -3,8 +3,8 @@
 use super::escape::Piece;
 use super::ids::Id;
 use super::marks::{Change, Mark, Marks};
-use crate::outline::{Item, Side};
 use acpi::sdt::Signature;
+use acpi_dump_compare::outline::{Item, Side};
 use acpi_dump_input::entries::Entry;
 use acpi_dump_input::judgement::Judgement;
 

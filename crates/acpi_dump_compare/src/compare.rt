@@ -43,7 +43,7 @@ pub struct Difference<'a> {
     pub old: Option<&'a str>,
     pub new: Option<&'a str>,
     /// The number of the field in the first table, if it has it.
-    pub(crate) was: Option<usize>,
+    pub was: Option<usize>,
     /// The number of the field or of the structure in the second table, if it has it.
     pub place: Option<usize>,
 }
@@ -173,7 +173,7 @@ fn is_alike(one: &Entry<'_>, other: &Entry<'_>) -> bool {
 
 /// The number of the table of another input that is the same as one by its letters, and by how many with these stand
 /// before it.
-pub(crate) fn same_in(entries: &[Entry<'_>], index: usize, others: &[Entry<'_>]) -> Option<usize> {
+pub fn same_in(entries: &[Entry<'_>], index: usize, others: &[Entry<'_>]) -> Option<usize> {
     let wanted = entries.get(index)?;
     let mut before = 0usize;
     for entry in entries.get(..index)? {
@@ -271,7 +271,7 @@ fn print_difference(difference: &Difference<'_>, out: &mut Out) {
 }
 
 /// The differences between the structures and items of two tables, less the fields whose names are ignored.
-pub(crate) fn differences<'a>(
+pub fn differences<'a>(
     alloc: Global,
     old: Side<'a>,
     new: Side<'a>,

@@ -1,6 +1,6 @@
 //! The objects of AML that differ between two tables, paired by their paths.
 
-use super::pairs::{Key, pairs_by};
+use super::pairs::{Key, Pairs, pairs_by};
 use super::{Difference, Title};
 use crate::outline::{BYTES, Part, Side};
 use acpi::PhysicalRecord;
@@ -98,8 +98,6 @@ impl<'a> Objects<'a> {
     }
 
     /// By what the objects are paired: their paths, what they are, and their order.
-    ///
-    /// Fails if memory runs out.
     fn keys(&self, alloc: Global) -> Result<Vec<Key<'a>>, AllocError> {
         let mut keys = Vec::new(alloc);
         for (place, known) in self.known.iter().enumerate() {
@@ -178,9 +176,28 @@ impl<'a> Changes<'a> {
         self.add(was, Tables::Both(start, middle, end))
     }
 
+    /// Adds what differs between the objects of two tables, less those of the kinds that are ignored: in the order of
+    /// the first table, and then those that the second one alone has.
+    fn add_all(&mut self, old: &[Known<'a>], new: &[Known<'a>], pairs: &Pairs, ignored: &[&str]) {
+        for (place, was) in old.iter().enumerate() {
+            if let Some(other) = pairs.other(place)
+                && let Some(is) = new.get(other)
+            {
+                if !ignored.contains(&was.kind) {
+                    self.add_pair(was, is);
+                }
+            } else {
+                self.add(was, Tables::First);
+            }
+        }
+        for (place, is) in new.iter().enumerate() {
+            if !pairs.is_taken(place) {
+                self.add(is, Tables::Second);
+            }
+        }
+    }
+
     /// Other differences, and these after them.
-    ///
-    /// Fails if memory runs out.
     pub(super) fn after<'d>(
         &'d self,
         others: Vec<Difference<'d>>,
@@ -214,10 +231,7 @@ impl<'a> Changes<'a> {
     }
 }
 
-/// The differences between the objects of two tables, less those of objects of the kinds that are ignored: in the order
-/// of the first table, and then those that the second one alone has.
-///
-/// Fails if memory runs out.
+/// The differences between the objects of two tables, less those of objects of the kinds that are ignored.
 pub(super) fn changes_of<'a>(
     alloc: Global,
     old: Side<'a>,
@@ -231,21 +245,6 @@ pub(super) fn changes_of<'a>(
         text: Out::new(alloc),
         is_refused: old.is_refused || new.is_refused,
     };
-    for (place, was) in old.known.iter().enumerate() {
-        if let Some(other) = pairs.other(place)
-            && let Some(is) = new.known.get(other)
-        {
-            if !ignored.contains(&was.kind) {
-                changes.add_pair(was, is);
-            }
-        } else {
-            changes.add(was, Tables::First);
-        }
-    }
-    for (place, is) in new.known.iter().enumerate() {
-        if !pairs.is_taken(place) {
-            changes.add(is, Tables::Second);
-        }
-    }
+    changes.add_all(&old.known, &new.known, &pairs, ignored);
     Ok(changes)
 }

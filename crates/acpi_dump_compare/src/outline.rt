@@ -12,12 +12,12 @@ use std::alloc::{AllocError, Global};
 use std::ops::Range;
 
 /// The name of an item that is bytes which no field covers, up to 16 of them.
-pub(crate) const BYTES: &str = "bytes";
+pub const BYTES: &str = "bytes";
 
 /// The name of an item with why the bytes after it aren't shown by the layout.
-pub(crate) const MALFORMED: &str = "malformed";
+pub const MALFORMED: &str = "malformed";
 
-/// The name of a structure whose type isn't known, and of the whole table.
+/// The name of a structure whose type isn't known.
 const UNKNOWN: &str = "unknown";
 
 /// The ends of the names of fields that tell structures of one type apart.
@@ -27,50 +27,50 @@ const IDS: &str = "ID|Source|MPIDR|Segment Group Number|Segment Number|Proximity
 /// where its value is in the text of all values. An object's has what it is as its name, its path as its value, and the
 /// bytes up to the first object in it.
 #[derive(Clone, Copy)]
-pub(crate) struct Item {
-    pub(crate) part: usize,
-    pub(crate) offset: u64,
-    pub(crate) within: u64,
-    pub(crate) length: u64,
-    pub(crate) name: &'static str,
+pub struct Item {
+    pub part: usize,
+    pub offset: u64,
+    pub within: u64,
+    pub length: u64,
+    pub name: &'static str,
     /// Its number if it is one of several of its name.
-    pub(crate) number: Option<u64>,
+    pub number: Option<u64>,
     start: usize,
     /// Where the meaning is after the value.
     middle: usize,
     end: usize,
 }
 
-/// A structure, of which the first is the whole table, or an object: the one that it is in, where it is, what it is
-/// called, its place among the ones of its name, and between which places its items are, with the items of the
-/// structures in it.
+/// A structure, of which the first is the whole table and has no name, or an object: the one that it is in, where it
+/// is, what it is called, its place among the ones of its name, and between which places its items are, with the items
+/// of the structures in it.
 #[derive(Clone, Copy)]
-pub(crate) struct Part {
-    pub(crate) parent: usize,
-    pub(crate) offset: u64,
-    pub(crate) length: u64,
-    pub(crate) name: &'static str,
+pub struct Part {
+    pub parent: usize,
+    pub offset: u64,
+    pub length: u64,
+    pub name: &'static str,
     /// Its type, if it has one.
-    pub(crate) kind: Option<u64>,
+    pub kind: Option<u64>,
     place: u64,
-    pub(crate) first: usize,
+    pub first: usize,
     pub(crate) last: usize,
     /// The number of the first field that tells it apart, or of the item of an object that has a path.
     pub(crate) id: Option<usize>,
     /// Between which offsets an object's own bytes are.
-    pub(crate) own: Option<(u64, u64)>,
+    pub own: Option<(u64, u64)>,
 }
 
 impl Part {
     /// Whether it is an object that has no objects in it.
-    pub(crate) fn is_row(&self) -> bool {
+    pub fn is_row(&self) -> bool {
         self.own.is_some() && self.last.saturating_sub(self.first) == 1
     }
 }
 
 /// The structures and items of a table in the order of its bytes, and their values as one text.
 #[derive(Drop)]
-pub(crate) struct Items<'t> {
+pub struct Items<'t> {
     table: &'t [u8],
     parts: Vec<Part>,
     items: Vec<Item>,
@@ -169,7 +169,7 @@ impl Items<'_> {
     }
 
     /// These structures and items, if memory sufficed for them and their values.
-    pub(crate) fn side(&self) -> Result<Side<'_>, AllocError> {
+    pub fn side(&self) -> Result<Side<'_>, AllocError> {
         match self.values.printed() {
             Some(values) if !self.is_refused => Ok(Side {
                 table: self.table,
@@ -283,9 +283,9 @@ impl ShowObjects for Items<'_> {
 /// The structures and items of a table, with the text that their values stand in.
 #[derive(Clone, Copy)]
 pub struct Side<'a> {
-    pub(crate) table: &'a [u8],
-    pub(crate) parts: &'a [Part],
-    pub(crate) items: &'a [Item],
+    pub table: &'a [u8],
+    pub parts: &'a [Part],
+    pub items: &'a [Item],
     values: &'a str,
     /// Up to where AML is understood, if that isn't all.
     pub(crate) end: Option<u64>,
@@ -293,7 +293,7 @@ pub struct Side<'a> {
 
 impl<'a> Side<'a> {
     /// The item of this number, if there is one.
-    pub(crate) fn item(self, item: Option<usize>) -> Option<&'a Item> {
+    pub fn item(self, item: Option<usize>) -> Option<&'a Item> {
         self.items.get(item?)
     }
 
@@ -304,7 +304,7 @@ impl<'a> Side<'a> {
     }
 
     /// The bytes at an offset of the table, of this length, or none if they aren't all there.
-    pub(crate) fn bytes(self, offset: u64, length: u64) -> &'a [u8] {
+    pub fn bytes(self, offset: u64, length: u64) -> &'a [u8] {
         let end = offset.saturating_add(length) as usize;
         self.table.get(offset as usize..end).unwrap_or(&[])
     }
@@ -321,12 +321,12 @@ impl<'a> Side<'a> {
     }
 
     /// The value of an item without its meaning.
-    pub(crate) fn digits(self, item: &Item) -> &'a str {
+    pub fn digits(self, item: &Item) -> &'a str {
         self.values.get(item.start..item.middle).unwrap_or("")
     }
 
     /// What a value means, if there is one.
-    pub(crate) fn meaning(self, item: &Item) -> &'a str {
+    pub fn meaning(self, item: &Item) -> &'a str {
         self.rest(item).trim_ascii()
     }
 
@@ -358,7 +358,7 @@ impl<'a> Side<'a> {
     }
 
     /// The numbers of the items of a structure, with those of the structures in it.
-    pub(crate) fn places(self, part: usize) -> Range<usize> {
+    pub fn places(self, part: usize) -> Range<usize> {
         match self.parts.get(part) {
             Some(part) => part.first..part.last,
             None => 0..0,
@@ -366,7 +366,7 @@ impl<'a> Side<'a> {
     }
 
     /// The items of a structure, with those of the structures in it.
-    pub(crate) fn items_in(self, part: usize) -> &'a [Item] {
+    pub fn items_in(self, part: usize) -> &'a [Item] {
         self.items.get(self.places(part)).unwrap_or(&[])
     }
 
@@ -383,7 +383,7 @@ impl<'a> Side<'a> {
     }
 
     /// Where a structure is in the table.
-    pub(crate) fn offset(self, part: usize) -> u64 {
+    pub fn offset(self, part: usize) -> u64 {
         match self.parts.get(part) {
             Some(part) => part.offset,
             None => 0,
@@ -424,7 +424,7 @@ impl<'a> Side<'a> {
 }
 
 /// The structures and items of a table.
-pub(crate) fn items_of<'t>(alloc: Global, entry: &Entry<'t>) -> Items<'t> {
+pub fn items_of<'t>(alloc: Global, entry: &Entry<'t>) -> Items<'t> {
     let mut items = Items {
         table: entry.bytes,
         parts: Vec::new(alloc),
@@ -434,7 +434,7 @@ pub(crate) fn items_of<'t>(alloc: Global, entry: &Entry<'t>) -> Items<'t> {
         end: None,
         is_refused: false,
     };
-    items.enter(items.part(0, 0, UNKNOWN));
+    items.enter(items.part(0, 0, ""));
     if let Some(signature) = entry.signature() {
         walk_with_objects(alloc, signature, entry.bytes, &mut items);
     }
