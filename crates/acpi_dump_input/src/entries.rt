@@ -301,18 +301,20 @@ fn entry_led<'i>(
     }
 }
 
-/// The addresses of the DSDT and of the FACS in a valid FADT, if one is listed. A machine of reduced hardware needn't
-/// have a FACS: both fields of its address are 0 then (section 5.2.9).
-fn addresses_in(
+/// The tables that a valid FADT leads to, if one is listed: the DSDT and the FACS, each by its address and signature. A
+/// machine of reduced hardware needn't have a FACS: both fields of its address are 0 then (section 5.2.9).
+fn led_by_fadt(
     tables: &AcpiTables<'_, MemoryImage<'_>>,
-) -> Option<(AcpiResult<u64>, Option<AcpiResult<u64>>)> {
-    let fadt = &tables.find_table::<Fadt>().ok()?;
-    let fadt = fadt.get();
-    let facs = match fadt.facs_address() {
-        Err(_) if fadt.flags.system_is_hw_reduced_acpi() => None,
-        address => Some(address),
+) -> [Option<(AcpiResult<u64>, Signature)>; 2] {
+    let Ok(fadt) = &tables.find_table::<Fadt>() else {
+        return [None, None];
     };
-    Some((fadt.dsdt_address(), facs))
+    let fadt = fadt.get();
+    let dsdt = Some((fadt.dsdt_address(), Signature::DSDT));
+    match fadt.facs_address() {
+        Err(_) if fadt.flags.system_is_hw_reduced_acpi() => [dsdt, None],
+        address => [dsdt, Some((address, Signature::FACS))],
+    }
 }
 
 /// The tables that a memory has: the root table, its members, and, if a valid FADT is listed, the DSDT and the FACS
@@ -328,10 +330,9 @@ pub fn entries_of<'i>(
     for address in tables.addresses() {
         entries.push(entry_at(image, address, None))?;
     }
-    if let Some((dsdt, facs)) = addresses_in(tables) {
-        entries.push(entry_led(image, dsdt, Signature::DSDT))?;
-        if let Some(facs) = facs {
-            entries.push(entry_led(image, facs, Signature::FACS))?;
+    for led in &led_by_fadt(tables) {
+        if let Some((address, signature)) = *led {
+            entries.push(entry_led(image, address, signature))?;
         }
     }
     Ok(entries)

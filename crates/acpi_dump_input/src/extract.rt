@@ -22,8 +22,6 @@ pub struct Saving<'s> {
 }
 
 /// The path of a file in a folder, or `None` if the name would lead out of it.
-///
-/// Fails if memory runs out.
 fn path_within(alloc: Global, folder: &str, name: &str) -> Result<Option<String>, AllocError>
     ensures { IfOk result (λ o. IfSome o (λ p. IsNamed folder.now name.now (string_bytes p))) }
 {
@@ -93,8 +91,6 @@ pub fn save_file<S: Sources, T: Storage>(
 }
 
 /// Saves a table under a name in a folder, and prints it with the result of its checks, or prints why it isn't saved.
-///
-/// Fails if memory runs out.
 #[tactic(auto, using(crate::proofs::Within::no_table, crate::proofs::Within::one_table))]
 fn save_table<S: Sources, T: Storage>(
     saving: Saving<'_>,

@@ -20,8 +20,6 @@ fn single_of(bytes: &[u8]) -> Option<usize> {
 }
 
 /// These tables, less each one whose signature another one before it has: it prints which these are.
-///
-/// Fails if memory runs out.
 pub(crate) fn of_one_machine(
     alloc: Global,
     tables: Vec<TableFile>,

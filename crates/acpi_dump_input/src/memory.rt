@@ -6,8 +6,6 @@ use std::alloc::AllocError;
 
 /// The image whose one record has these bytes from a physical address on. They are moved, since memory may be so much
 /// that two of it are too much.
-///
-/// Fails if memory runs out.
 #[tactic(auto, using(crate::proofs::Reading::number_spelled, crate::proofs::Reading::to_front))]
 pub(crate) fn image_of(address: u64, bytes: Vec<u8>) -> Result<Vec<u8>, AllocError>
     ensures { IfOk result (λ v. v.items

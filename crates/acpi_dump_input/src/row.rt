@@ -70,8 +70,6 @@ fn first_pair(text: &[u8]) -> Option<(u8, &[u8])>
 
 /// Adds the bytes that up to 16 pairs spell, up to a gap in place of one or the end of the text, and returns whether
 /// all of that are pairs.
-///
-/// Fails if memory runs out.
 #[tactic(auto, using(crate::proofs::Reading::pairs_done, crate::proofs::Reading::pairs_gap, crate::proofs::Reading::pairs_wrong, crate::proofs::Reading::pairs_more))]
 pub(crate) fn push_pairs(bytes: &mut Vec<u8>, text: &[u8]) -> Result<bool, AllocError>
     ensures { IfOk result (λ all. with_pairs 16 bytes.old.items text.now

@@ -203,8 +203,6 @@ pub(crate) fn tables_in(alloc: Global, text: &str) -> Result<Vec<SpelledTable>, 
 }
 
 /// What is wrong with the line of a number, counted from 1, which is the first wrong one of a text.
-///
-/// Fails if memory runs out.
 pub(crate) fn why_wrong(
     alloc: Global,
     text: &str,

@@ -16,8 +16,6 @@ fn letter_of(unit: &[u8]) -> u8 {
 }
 
 /// The text after the mark, with `?` in place of what isn't ASCII.
-///
-/// Fails if memory runs out.
 pub(crate) fn narrowed(alloc: Global, bytes: &[u8]) -> Result<Vec<u8>, AllocError> {
     let mut text = Vec::new(alloc);
     for unit in bytes.get(2..).unwrap_or(&[]).chunks(2) {
