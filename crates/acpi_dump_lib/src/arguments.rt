@@ -254,6 +254,18 @@ impl Request<'_> {
     }
 }
 
+/// How the words of options have inputs read.
+///
+/// Fails, after printing that, if one has no value.
+fn reading_of(matches: &ArgMatches<'_>, log: &mut Log) -> Result<Reading, Stop> {
+    let most = word_of(matches, "max-bytes").parse::<u64>().ok();
+    Ok(Reading {
+        kind: checked(matches, log, "as", parse_kind(word_of(matches, "as")))?,
+        at: checked(matches, log, "at", parse_address(word_of(matches, "at")))?,
+        most: checked(matches, log, "max-bytes", most)?.unwrap_or(1 << 30),
+    })
+}
+
 /// The request that matches make.
 ///
 /// Fails if memory runs out, or, after printing that, with the first mistake in this order: the words of options, the
@@ -267,21 +279,14 @@ pub(crate) fn request_of<'m>(
         "" => None,
         word => checked(matches, log, "check", Severity::read(word))?,
     };
-    let kind = checked(matches, log, "as", parse_kind(word_of(matches, "as")))?;
-    let at = checked(matches, log, "at", parse_address(word_of(matches, "at")))?;
     let start = parse_start(word_of(matches, "start"));
-    let most = word_of(matches, "max-bytes").parse::<u64>().ok();
     let color = parse_color(word_of(matches, "color"));
     let mut request = Request {
         least,
+        reading: reading_of(matches, log)?,
         start: checked(matches, log, "start", start)?,
         folder: checked(matches, log, "extract", name_of(matches, "extract"))?,
         page: checked(matches, log, "html", name_of(matches, "html"))?,
-        reading: Reading {
-            kind,
-            at,
-            most: checked(matches, log, "max-bytes", most)?.unwrap_or(1 << 30),
-        },
         color: checked(matches, log, "color", color)?.unwrap_or(Color::Auto),
         view: View::Lines,
         choices: Vec::new(alloc),

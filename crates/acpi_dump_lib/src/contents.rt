@@ -37,8 +37,6 @@ pub(crate) fn shows(choices: &[Choice], number: usize, entry: &Entry<'_>) -> boo
 }
 
 /// The tables that some choice has, or all if there is no choice.
-///
-/// Fails if memory runs out.
 pub(crate) fn chosen_of<'l>(
     alloc: Global,
     entries: &[Entry<'l>],

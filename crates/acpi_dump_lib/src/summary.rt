@@ -5,7 +5,6 @@ mod domains;
 mod facts;
 mod gic;
 mod processors;
-mod shares;
 mod units;
 
 use acpi::madt::Madt;
@@ -15,7 +14,9 @@ use acpi::platform::interrupt::{
 use acpi::platform::{Processor, ProcessorInfo, ProcessorState};
 use acpi::sdt::Signature;
 use acpi::spcr::Spcr;
-use acpi::{AcpiError, AcpiHandler, AcpiTables, HpetInfo, PciConfigRegions, PlatformInfo};
+use acpi::{
+    AcpiError, AcpiHandler, AcpiTables, HpetInfo, PciConfigRegions, PhysicalMapping, PlatformInfo,
+};
 use acpi_arm::gic::GicModel;
 use acpi_numa::{MemoryAffinities, MemoryRange, Slit, Srat};
 use domains::add_distances;
@@ -68,18 +69,42 @@ fn add_other<H: AcpiHandler>(
     srat: &[u8],
     facts: &mut Facts,
 ) {
-    let alloc = facts.allocator();
-    if let Ok(madt) = &tables.find_table::<Madt>() {
-        if let Ok(Some(gic)) = &GicModel::of(madt.bytes(), alloc) {
-            return add_gic(facts, gic);
+    let is_known = match &tables.find_table::<Madt>() {
+        Ok(madt) if has_gic(madt.bytes(), facts) => true,
+        Ok(madt) => {
+            refusal == AcpiError::TableMissing(Signature::FADT) && has_model(madt, srat, facts)
         }
-        if refusal == AcpiError::TableMissing(Signature::FADT)
-            && let Ok((model, processors)) = &madt.parse_interrupt_model_in(alloc)
-        {
-            return add_model(facts, model, processors, srat);
-        }
+        Err(_) => false,
+    };
+    if !is_known {
+        facts.refused("platform", refusal);
     }
-    facts.refused("platform", refusal);
+}
+
+/// Adds the parts of a GIC. Returns whether a MADT has one.
+fn has_gic(madt: &[u8], facts: &mut Facts) -> bool {
+    match &GicModel::of(madt, facts.allocator()) {
+        Ok(Some(gic)) => {
+            add_gic(facts, gic);
+            true
+        }
+        _ => false,
+    }
+}
+
+/// Adds what a MADT has of local APICs. Returns whether its entries are read.
+fn has_model<H: AcpiHandler>(
+    madt: &PhysicalMapping<'_, H, Madt>,
+    srat: &[u8],
+    facts: &mut Facts,
+) -> bool {
+    match &madt.parse_interrupt_model_in(facts.allocator()) {
+        Ok((model, processors)) => {
+            add_model(facts, model, processors, srat);
+            true
+        }
+        Err(_) => false,
+    }
 }
 
 /// Adds the processors and the interrupts.

@@ -42,7 +42,7 @@ pub(crate) struct Output<'o> {
 }
 
 impl<'o> Output<'o> {
-    /// The same of the second input.
+    /// How the view of the second input is printed.
     fn second(self) -> Output<'o> {
         Output { number: 1, ..self }
     }

@@ -66,8 +66,6 @@ fn print_any_page(
 }
 
 /// Saves the text of a page as a file, if there is some. The file `-` is standard output.
-///
-/// Fails if memory runs out.
 fn save_text<S: Sources, T: Storage>(
     output: Output<'_>,
     file: &str,
