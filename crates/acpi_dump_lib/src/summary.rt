@@ -69,20 +69,19 @@ fn add_other<H: AcpiHandler>(
     srat: &[u8],
     facts: &mut Facts,
 ) {
-    let is_known = match &tables.find_table::<Madt>() {
-        Ok(madt) if has_gic(madt.bytes(), facts) => true,
-        Ok(madt) => {
-            refusal == AcpiError::TableMissing(Signature::FADT) && has_model(madt, srat, facts)
+    if let Ok(madt) = &tables.find_table::<Madt>() {
+        if add_gic_of(madt.bytes(), facts) {
+            return;
         }
-        Err(_) => false,
-    };
-    if !is_known {
-        facts.refused("platform", refusal);
+        if refusal == AcpiError::TableMissing(Signature::FADT) && add_model_of(madt, srat, facts) {
+            return;
+        }
     }
+    facts.refused("platform", refusal);
 }
 
-/// Adds the parts of a GIC. Returns whether a MADT has one.
-fn has_gic(madt: &[u8], facts: &mut Facts) -> bool {
+/// Adds the parts of a MADT's GIC, and returns whether it has one.
+fn add_gic_of(madt: &[u8], facts: &mut Facts) -> bool {
     match &GicModel::of(madt, facts.allocator()) {
         Ok(Some(gic)) => {
             add_gic(facts, gic);
@@ -92,8 +91,8 @@ fn has_gic(madt: &[u8], facts: &mut Facts) -> bool {
     }
 }
 
-/// Adds what a MADT has of local APICs. Returns whether its entries are read.
-fn has_model<H: AcpiHandler>(
+/// Adds what a MADT has of local APICs, and returns whether its entries are understood.
+fn add_model_of<H: AcpiHandler>(
     madt: &PhysicalMapping<'_, H, Madt>,
     srat: &[u8],
     facts: &mut Facts,

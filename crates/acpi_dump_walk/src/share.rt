@@ -26,8 +26,8 @@ pub fn revision_of(srat: &[u8]) -> u8 {
     field(srat, 8, 1) as u8 // Revision
 }
 
-/// The processor or the range of memory that the entry enables with which bytes of an SRAT of a revision begin, if they
-/// begin with one (section 5.2.16). One of type 7 is a RISC-V hart's.
+/// What the entry enables that bytes of an SRAT of a revision begin with: a processor or a range of memory (section
+/// 5.2.16). An entry of type 7 is a RISC-V hart's.
 pub fn share_of(revision: u8, bytes: &[u8]) -> Option<Share> {
     let (entry, _) = split_front(&SRAT_GRAMMAR, bytes)?;
     let (flags, domain, number, is_apic, size) = match SratEntry::read(revision, entry) {

@@ -16,14 +16,9 @@ fn print_document(
     new: &[Entry<'_>],
     out: &mut Out,
 ) -> Result<bool, AllocError> {
+    let (alloc, ignored) = (output.alloc, output.request.ignored);
     let mut document = output.document("tables");
-    let differ = compare(
-        output.alloc,
-        old,
-        new,
-        output.request.ignored,
-        &mut document,
-    )?;
+    let differ = compare(alloc, old, new, ignored, &mut document)?;
     document.print("compare", out)?;
     Ok(differ)
 }
