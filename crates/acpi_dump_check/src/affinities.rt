@@ -9,6 +9,7 @@ use acpi::madt::MADT_GRAMMAR;
 use acpi::sdt::{Signature, field};
 use acpi_base::bytes::skip;
 use acpi_base::entries::split_front;
+use acpi_dump_walk::share::share_of;
 use acpi_numa::Distances;
 use acpi_numa::srat::{SRAT_GRAMMAR, SratEntry};
 
@@ -98,14 +99,13 @@ fn add_processors(madt: &[u8], numbers: &mut Numbers) -> bool {
 /// Judges the enabled ranges of memory of a SRAT.
 pub(crate) fn check_ranges(srat: &[u8], findings: &mut Findings) {
     let mut ranges = Vec::new(findings.alloc);
-    let width = if field(srat, 8, 1) < 2 { 1 } else { 4usize }; // of a domain, by the Revision
     for (offset, entry) in Pieces::of(srat, 48, (1, 1)) {
-        // Type, Flags.
-        if field(entry, 0, 1) == 1 && entry.len() >= 40 && field(entry, 28, 4) & 1 != 0 {
-            let domain = field(entry, 2, width);
-            if let Some(range) = range_of(offset, entry, domain, findings) {
-                findings.need(ranges.push(range).is_ok());
-            }
+        // Type.
+        if field(entry, 0, 1) == 1
+            && let Some(share) = share_of(srat, entry)
+            && let Some(range) = range_of(offset, entry, share.domain as u64, findings)
+        {
+            findings.need(ranges.push(range).is_ok());
         }
     }
     for (before, range) in overlaps(&mut ranges, findings) {

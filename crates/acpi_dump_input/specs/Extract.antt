@@ -19,7 +19,7 @@ SavesFile inputs path bytes is_incomplete before after false = (is_incomplete �
 
 -- ---- a page
 
--- a page with this text is saved at this path. Nothing is saved if the path is `-`, or if there is no text
+-- the text of a page is saved as the file of a path, but not at `-`, which is standard output; an empty text is no file
 abbrev pub SavesPage : List (List ℕ) → List ℕ → List ℕ → Bool → List FileSaved → List FileSaved → Type 0
 SavesPage inputs path [] is_incomplete before after = after ≡ before
 SavesPage inputs path (c ∷ text) is_incomplete before after = ((path ≡ codes "-") × (after ≡ before))

@@ -14,9 +14,7 @@ use acpi::platform::interrupt::{
 use acpi::platform::{Processor, ProcessorInfo, ProcessorState};
 use acpi::sdt::Signature;
 use acpi::spcr::Spcr;
-use acpi::{
-    AcpiError, AcpiHandler, AcpiTables, HpetInfo, PciConfigRegions, PhysicalMapping, PlatformInfo,
-};
+use acpi::{AcpiError, AcpiHandler, AcpiTables, HpetInfo, PciConfigRegions, PlatformInfo};
 use acpi_arm::gic::GicModel;
 use acpi_numa::{MemoryAffinities, MemoryRange, Slit, Srat};
 use domains::add_distances;
@@ -69,41 +67,18 @@ fn add_other<H: AcpiHandler>(
     srat: &[u8],
     facts: &mut Facts,
 ) {
+    let alloc = facts.allocator();
     if let Ok(madt) = &tables.find_table::<Madt>() {
-        if add_gic_of(madt.bytes(), facts) {
-            return;
+        if let Ok(Some(gic)) = &GicModel::of(madt.bytes(), alloc) {
+            return add_gic(facts, gic);
         }
-        if refusal == AcpiError::TableMissing(Signature::FADT) && add_model_of(madt, srat, facts) {
-            return;
+        if refusal == AcpiError::TableMissing(Signature::FADT)
+            && let Ok((model, processors)) = &madt.parse_interrupt_model_in(alloc)
+        {
+            return add_model(facts, model, processors, srat);
         }
     }
     facts.refused("platform", refusal);
-}
-
-/// Adds the parts of a MADT's GIC, and returns whether it has one.
-fn add_gic_of(madt: &[u8], facts: &mut Facts) -> bool {
-    match &GicModel::of(madt, facts.allocator()) {
-        Ok(Some(gic)) => {
-            add_gic(facts, gic);
-            true
-        }
-        _ => false,
-    }
-}
-
-/// Adds what a MADT has of local APICs, and returns whether its entries are understood.
-fn add_model_of<H: AcpiHandler>(
-    madt: &PhysicalMapping<'_, H, Madt>,
-    srat: &[u8],
-    facts: &mut Facts,
-) -> bool {
-    match &madt.parse_interrupt_model_in(facts.allocator()) {
-        Ok((model, processors)) => {
-            add_model(facts, model, processors, srat);
-            true
-        }
-        Err(_) => false,
-    }
 }
 
 /// Adds the processors and the interrupts.

@@ -21,14 +21,10 @@ pub struct Share {
     pub size: u64,
 }
 
-/// The revision of an SRAT, by which its entries are read.
-pub fn revision_of(srat: &[u8]) -> u8 {
-    field(srat, 8, 1) as u8 // Revision
-}
-
-/// What the entry enables that bytes of an SRAT of a revision begin with: a processor or a range of memory (section
-/// 5.2.16). An entry of type 7 is a RISC-V hart's.
-pub fn share_of(revision: u8, bytes: &[u8]) -> Option<Share> {
+/// What the entry of an SRAT enables that bytes begin with: a processor or a range of memory (section 5.2.16). An entry
+/// of type 7 is a RISC-V hart's.
+pub fn share_of(srat: &[u8], bytes: &[u8]) -> Option<Share> {
+    let revision = field(srat, 8, 1) as u8; // Revision
     let (entry, _) = split_front(&SRAT_GRAMMAR, bytes)?;
     let (flags, domain, number, is_apic, size) = match SratEntry::read(revision, entry) {
         Some(SratEntry::LocalApic(it)) => (it.flags, it.domain, it.apic_id as u64, true, 0),
@@ -56,7 +52,7 @@ pub fn shares_of(alloc: Global, srat: &[u8]) -> Result<Vec<Share>, AllocError> {
     let mut shares = Vec::new(alloc);
     let mut rest = skip(srat, 48);
     while let Some((_, others)) = split_front(&SRAT_GRAMMAR, rest) {
-        if let Some(share) = share_of(revision_of(srat), rest) {
+        if let Some(share) = share_of(srat, rest) {
             shares.push(share)?;
         }
         rest = others;

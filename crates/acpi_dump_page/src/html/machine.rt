@@ -12,7 +12,7 @@ use acpi::sdt::field;
 use acpi_base::model::IsaOverrides;
 use acpi_dump_walk::language::{next_word, number_at, number_of};
 use acpi_dump_walk::out::Out;
-use acpi_dump_walk::share::{revision_of, share_of};
+use acpi_dump_walk::share::share_of;
 use std::alloc::AllocError;
 
 /// What the tiles of each kind are called.
@@ -77,10 +77,7 @@ fn shape_of(sheet: &Sheet<'_>, table: usize, part: usize, unit: usize) -> Option
 /// The number of the tile of a kind that a structure is in, if it is in one: of a domain, or of a unit.
 fn tile_of(sheet: &Sheet<'_>, kind: u64, entry: &[u8], unit: usize) -> Option<u64> {
     match kind {
-        DOMAINS => {
-            let share = share_of(revision_of(sheet.entry.bytes), entry)?;
-            Some(share.domain as u64)
-        }
+        DOMAINS => Some(share_of(sheet.entry.bytes, entry)?.domain as u64),
         IO_APICS | UNITS => Some(unit as u64),
         _ => Some(0),
     }
