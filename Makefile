@@ -7,7 +7,8 @@
 #   make check              calls of it by programs of examples/c and tests/c; elsewhere RUN=qemu-arm LDFLAGS=-static
 #   make install            the headers, zacpi.c, both archives, what leads pkg-config and CMake to them, examples
 #   make acpi_dump          out/acpi_dump, the program, for Linux, BSD and macOS on x86-64 and AArch64
-#   make install-programs   the programs in $(PROGRAMS), with their manual pages and completions
+#   make install-programs   acpi_dump, or the programs in $(PROGRAMS), with their manual pages and completions
+#   make uninstall          removes what both have installed
 #
 # CC, AR, CFLAGS, LDFLAGS, PREFIX, LIBDIR and DESTDIR are the usual ones.
 VERSION := $(shell sed -n 's/^.define ZACPI_VERSION "\(.*\)"/\1/p' include/zacpi.h)
@@ -25,6 +26,7 @@ PROCESSOR = $(shell echo $(firstword $(subst -, ,$(MACHINE))) | \
 PREFIX ?= /usr/local
 LIBDIR ?= $(PREFIX)/lib
 SHARE = $(DESTDIR)$(PREFIX)/share
+DOC = $(SHARE)/doc/zacpi
 RUN ?=
 OUT ?= out
 PROGRAMS ?= $(OUT)
@@ -69,7 +71,7 @@ check: $(OUT)/libzacpi.a
 # What a user includes, compiles, links and looks for. The folder can be moved as a whole.
 install: $(OUT)/libzacpi.a $(OUT)/libzacpi-kernel.a
 	mkdir -p $(DESTDIR)$(PREFIX)/include $(DESTDIR)$(LIBDIR)/pkgconfig $(DESTDIR)$(LIBDIR)/cmake/zacpi \
-	    $(SHARE)/doc/zacpi/examples
+	    $(DOC)/examples
 	$(INSTALL) include/*.h dist/zacpi.c $(DESTDIR)$(PREFIX)/include
 	$(INSTALL) $(OUT)/libzacpi.a $(OUT)/libzacpi-kernel.a $(DESTDIR)$(LIBDIR)
 	for name in zacpi zacpi-kernel; do sed "s|@NAME@|$$name|; s|@VERSION@|$(VERSION)|; s|@PREFIX@|$(PREFIX)|; \
@@ -77,20 +79,26 @@ install: $(OUT)/libzacpi.a $(OUT)/libzacpi-kernel.a
 	$(INSTALL) scripts/zacpi-config.cmake $(DESTDIR)$(LIBDIR)/cmake/zacpi/zacpi-config.cmake
 	sed 's|@VERSION@|$(VERSION)|; s|@PROCESSOR@|$(PROCESSOR)|' \
 	    scripts/zacpi-config-version.cmake.in >$(DESTDIR)$(LIBDIR)/cmake/zacpi/zacpi-config-version.cmake
-	$(INSTALL) LICENSE docs/C.md $(SHARE)/doc/zacpi
-	$(INSTALL) examples/c/*.[ch] $(SHARE)/doc/zacpi/examples
-# Those that are there.
-THERE = $(notdir $(wildcard $(addprefix $(PROGRAMS)/,acpi_dump acpi_view acpi_pack)))
-install-programs:
-	mkdir -p $(DESTDIR)$(PREFIX)/bin $(SHARE)/man/man1 $(SHARE)/bash-completion/completions $(SHARE)/zsh/site-functions
-	install -m 755 $(addprefix $(PROGRAMS)/,$(THERE)) $(DESTDIR)$(PREFIX)/bin
-	$(INSTALL) $(THERE:%=docs/%.1) $(SHARE)/man/man1
+	$(INSTALL) LICENSE dist/THIRD-PARTY docs/C.md $(DOC)
+	$(INSTALL) examples/c/*.[ch] $(DOC)/examples
+# Of these in $(PROGRAMS) the ones that are there. Where that is $(OUT), acpi_dump is made first.
+NAMES = acpi_dump acpi_view acpi_pack
+install-programs: $(filter $(OUT)/acpi_dump,$(PROGRAMS)/acpi_dump)
+	mkdir -p $(DESTDIR)$(PREFIX)/bin $(SHARE)/man/man1 $(SHARE)/bash-completion/completions \
+	    $(SHARE)/zsh/site-functions $(DOC)
+	for name in $(NAMES); do [ ! -e $(PROGRAMS)/$$name ] || { there=yes && \
+	    install -m 755 $(PROGRAMS)/$$name $(DESTDIR)$(PREFIX)/bin && \
+	    $(INSTALL) docs/$$name.1 $(SHARE)/man/man1; } || exit 1; done; \
+	    [ "$$there" = yes ] || { echo "$(PROGRAMS) has none of $(NAMES)" >&2 && exit 1; }
 	$(INSTALL) docs/completions/acpi_dump.bash $(SHARE)/bash-completion/completions/acpi_dump
 	$(INSTALL) docs/completions/_acpi_dump $(SHARE)/zsh/site-functions
+	$(INSTALL) LICENSE dist/THIRD-PARTY docs/acpi_dump.schema.json $(DOC)
 uninstall:
-	rm -rf $(DESTDIR)$(LIBDIR)/cmake/zacpi $(SHARE)/doc/zacpi
+	rm -rf $(DESTDIR)$(LIBDIR)/cmake/zacpi $(DOC)
 	rm -f $(addprefix $(DESTDIR)$(LIBDIR)/,libzacpi.a libzacpi-kernel.a pkgconfig/zacpi.pc pkgconfig/zacpi-kernel.pc) \
-	    $(addprefix $(DESTDIR)$(PREFIX)/,$(wildcard include/*.h) include/zacpi.c)
+	    $(addprefix $(DESTDIR)$(PREFIX)/,$(wildcard include/*.h) include/zacpi.c $(NAMES:%=bin/%)) \
+	    $(NAMES:%=$(SHARE)/man/man1/%.1) $(SHARE)/bash-completion/completions/acpi_dump \
+	    $(SHARE)/zsh/site-functions/_acpi_dump
 clean:
 	rm -rf $(OUT)
 .PHONY: all kernel split acpi_dump check install install-programs uninstall clean
