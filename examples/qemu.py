@@ -1,10 +1,12 @@
 # SPDX-License-Identifier: MIT
 """What the runners of `kernel` and `uefi` share: a machine of QEMU, what its serial port says, and its memory."""
+import json
 import os
 import re
 import select
 import socket
 import struct
+import subprocess
 import time
 
 
@@ -30,6 +32,39 @@ class Memory:
     def stands(self, address, signature):
         t = self.table_at(address)
         return t[:4] == signature.encode('latin1') and sum(t) & 255 == 0
+
+
+def compared(lines, programs, files, image, start):
+    """What differs between these lines and acpi_view's of an image that acpi_pack makes of the files. If there is no
+    acpi_pack the first program is acpi_dump, or there is none: then the lines of tables alone are compared."""
+    view, pack = programs
+    if not view:
+        return []
+    if not pack:
+        theirs, lines = listed(view, files, image, start), [l for l in lines if l.startswith('table ')]
+    else:
+        made = subprocess.run([pack, image, 'memory'] + files, capture_output=True, text=True)
+        if made.returncode:
+            return ['acpi_pack: ' + made.stderr]
+        read = subprocess.run([view, image] + start, capture_output=True, text=True)
+        theirs = read.stdout.splitlines() + read.stderr.splitlines()
+    ours, others = [l for l in lines if l not in theirs], [l for l in theirs if l not in lines]
+    return ['here %r, in the memory %r' % (ours, others)] if lines != theirs else []
+
+
+def listed(dump, files, image, start):
+    """The valid tables that acpi_dump lists, as lines; none if it can't open them. A file is a record of an image, after
+    its address and its length. The list begins with the root table, and with a valid FADT ends with DSDT and FACS."""
+    with open(image, 'wb') as to:
+        for address, name in zip(files[::2], files[1::2]):
+            with open(name, 'rb') as f:
+                data = f.read()
+            to.write(struct.pack('<QQ', int(address, 16), len(data)) + data)
+    read = subprocess.run([dump, image] + start + ['--json'], capture_output=True, text=True)
+    tables = json.loads(read.stdout)['tables'][1:] if read.returncode == 0 else []
+    if any(t['signature'] == 'FACP' and t['valid'] for t in tables):
+        tables = tables[:-2]
+    return ['table %(signature)s length %(length)d revision %(revision)d' % t for t in tables if t['valid']]
 
 
 def numbers(lines, word):

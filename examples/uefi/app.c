@@ -1,6 +1,6 @@
-/* A UEFI application for x86-64 and AArch64 that prints on the serial port what the machine's ACPI tables contain, and
- * then powers the machine off, if it has a register for that (Arm's have PSCI). The RSDP is in the firmware's
- * configuration table, and the regions are what its memory map keeps for ACPI. */
+/* A UEFI application for x86-64 and AArch64 that prints on the serial port what the machine's ACPI tables contain,
+ * waits for a byte there, and then powers the machine off, if it has a register for that (Arm's have PSCI). The RSDP is
+ * in the firmware's configuration table, and the regions are what its memory map keeps for ACPI. */
 #include "efi.h"
 #include "lines.h"
 #include "machine.h"
@@ -84,6 +84,9 @@ uint64_t efi_main(void *image, struct system_table *system) {
     struct zacpi_signature named = {{0}};
     zacpi_status refused;
     (void)image;
+    /* Its code may use vector registers, which are forbidden further down. */
+    system->console->output_string(system->console, u"On the serial port: what the ACPI tables contain.\r\n"
+                                                    u"Then a byte there powers the machine off.\r\n");
     say(&serial, "\nbegin\n");
     source.address = rsdp_of(system);
     say(&serial, "rsdp "), say_address(&serial, source.address), line();
@@ -92,7 +95,7 @@ uint64_t efi_main(void *image, struct system_table *system) {
     refused = print_lines(&source, 0, &serial, &serial, &named);
     if (refused) say_refused(&serial, "refused", refused, &named);
     else gic(&source), enable_acpi(&source, &serial, map_register);
-    say(&serial, "end\n");
+    say(&serial, "waits for a byte\nend\n");
     wait_for_byte(); /* so that memory can be looked at from outside */
     if (!refused) power_off(&source);
     for (;;) {}

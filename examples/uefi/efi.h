@@ -35,13 +35,19 @@ struct configuration_table {
     struct guid guid;
     void *table;
 };
+/* The first fields of EFI_SIMPLE_TEXT_OUTPUT_PROTOCOL (section 12.4). A text is of UCS-2, and ends with 0. */
+struct console {
+    void *reset;
+    uint64_t(EFI_ABI *output_string)(struct console *self, const uint16_t *text);
+};
 /* EFI_SYSTEM_TABLE (section 4.3). */
 struct system_table {
     struct table_header header;
     void *vendor;
     uint32_t revision, padding;
-    void *console_in_handle, *console_in, *console_out_handle, *console_out, *error_handle, *error;
-    void *runtime;
+    void *console_in_handle, *console_in, *console_out_handle;
+    struct console *console;
+    void *error_handle, *error, *runtime;
     struct boot_services *boot;
     uint64_t tables_count;
     struct configuration_table *tables;

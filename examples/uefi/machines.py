@@ -19,10 +19,10 @@ import time
 
 sys.path.append(os.path.join(os.path.dirname(os.path.abspath(__file__)), '..'))
 from plans import plans
-from qemu import Ending, Memory, lines_until, numbers, save
+from qemu import Ending, Memory, compared, lines_until, numbers, save
 
 PROCESSOR, APP, VIEW, PACK = (sys.argv[1:] + [''])[:4]
-OWN = re.compile(r'(map|region|rsdp|gicc|gicr|begin|plan|enabled|end|powers)\b')
+OWN = re.compile(r'(map|region|rsdp|gicc|gicr|begin|plan|enabled|waits|end|powers)\b')
 CODE, VARIABLES, NAME = {
     'x86_64': ('/usr/share/OVMF/OVMF_CODE_4M.fd', '/usr/share/OVMF/OVMF_VARS_4M.fd', 'BOOTX64.EFI'),
     'aarch64': ('/usr/share/AAVMF/AAVMF_CODE.fd', '/usr/share/AAVMF/AAVMF_VARS.fd', 'BOOTAA64.EFI'),
@@ -110,13 +110,10 @@ def check(lines, files, ended, folder):
     """What is wrong with the lines, and how many of them were compared with acpi_view's."""
     if not files:
         return ['no dump: it said last %r' % lines[-4:]], 0
-    memory, packed, wrong = Memory(files), os.path.join(folder, 'image'), []
-    rsdp = numbers(lines, 'rsdp')[0][0]
-    subprocess.run([PACK, packed, 'memory'] + files, check=True, capture_output=True)
-    view = subprocess.run([VIEW, packed, 'rsdp', hex(rsdp)], capture_output=True, text=True)
-    mine, theirs = [l for l in lines if not OWN.match(l)], view.stdout.splitlines() + view.stderr.splitlines()
-    if mine != theirs or view.returncode or not any(l.startswith('table APIC ') for l in mine):
-        wrong.append('application %r acpi_view %r' % (mine, theirs))
+    memory, rsdp, mine = Memory(files), numbers(lines, 'rsdp')[0][0], [l for l in lines if not OWN.match(l)]
+    wrong = compared(mine, (VIEW, PACK), files, os.path.join(folder, 'image'), ['rsdp', hex(rsdp)])
+    if not any(l.startswith('table APIC ') for l in mine):
+        wrong.append('no MADT: %r' % mine)
     last = power(lines, memory, rsdp)
     if ended != ((0, ['shutdown']) if last[-1] == 'powers off' else None):
         wrong.append('ended by %r' % (ended,))
@@ -140,7 +137,7 @@ def main():
                 what = 'the control, a library that uses vector registers: %r' % lines[-1:]
             else:
                 wrong, compared = check(lines, files, ended, folder)
-                what = '%d lines as acpi_view, %d of the GIC' % (compared, len([l for l in lines if l.startswith('gic')]))
+                what = '%d lines of tables, %d of the GIC' % (compared, len([l for l in lines if l.startswith('gic')]))
                 what += ', powered off' if ended else ', not powered off'
         print('%s: %s, UEFI: %s (%.1f s)' % ('FAILED' if wrong else 'ok', name, what, time.time() - began))
         for w in wrong:
