@@ -9,6 +9,8 @@ fadt-dsdt-differs warning ACPI 6.5, section 5.2.9 | DSDT and X_DSDT are two addr
 fadt-facs-differs warning ACPI 6.5, section 5.2.9 | FIRMWARE_CTRL and X_FIRMWARE_CTRL are two addresses \
     | is #, and the field of 32 bits #
 fadt-no-dsdt error ACPI 6.5, section 5.2.9 | Neither DSDT nor X_DSDT is an address | is 0, as X_DSDT is
+fadt-no-facs error ACPI 6.5, section 5.2.9 | Neither FIRMWARE_CTRL nor X_FIRMWARE_CTRL is an address on fixed hardware \
+    | is 0, as X_FIRMWARE_CTRL is
 fadt-block-differs warning ACPI 6.5, section 5.2.9 | The two fields of a block of registers give it two places
 fadt-block-width warning ACPI 6.5, section 5.2.9 | The Register Bit Width of a block isn't that of its length
 fadt-event-length error ACPI 6.5, section 5.2.9 | PM1_EVT_LEN is under 4 | is %
@@ -51,6 +53,10 @@ pub(crate) fn check_fadt(fadt: &[u8], findings: &mut Findings) {
         findings.add("fadt-reset-register", 116, &[width, space]);
     }
     let is_reduced = flags & 1 << 20 != 0; // HW_REDUCED_ACPI
+    // FIRMWARE_CTRL, X_FIRMWARE_CTRL: only reduced hardware may do without a FACS.
+    if !is_reduced && field(fadt, 36, 4) == 0 && field(fadt, 132, 8) == 0 {
+        findings.add("fadt-no-facs", 36, &[]);
+    }
     // SMI_CMD, ACPI_ENABLE.
     if !is_reduced && field(fadt, 48, 4) == 0 && field(fadt, 52, 1) != 0 {
         findings.add("fadt-smi-command", 48, &[]);
