@@ -121,8 +121,14 @@ fn push_name(alloc: Global, names: &mut Vec<String>, name: &str) -> Result<(), A
     Ok(names.push(name)?)
 }
 
+/// Linux's number of the error of a path with too many links. Its kind has no name in stable Rust.
+const ELOOP: i32 = 40;
+
 /// Why the system returns an error, in a few words.
 pub fn reason_of(error: &io::Error) -> &'static str {
+    if error.raw_os_error() == Some(ELOOP) {
+        return "too many links";
+    }
     match error.kind() {
         ErrorKind::NotFound => "no such file or folder",
         ErrorKind::PermissionDenied => "permission denied",
@@ -133,7 +139,6 @@ pub fn reason_of(error: &io::Error) -> &'static str {
         ErrorKind::StorageFull => "no space left",
         ErrorKind::BrokenPipe => "no one reads it any more",
         ErrorKind::InvalidFilename => "the name is too long, or not valid UTF-8",
-        ErrorKind::FilesystemLoop => "too many links",
         ErrorKind::InvalidInput => "not a name of a file",
         _ => "it can't be read",
     }
