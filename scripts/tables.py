@@ -18,9 +18,14 @@ NUMBERS = {1: "uint8_t", 2: "uint16_t", 4: "uint32_t", 8: "uint64_t"}
 BYTES = {"text", "wide", "guid", "row", "path"}
 
 
+# Names of which zacpi.h and the Rust crate set words apart that the specifications don't.
+APART = {"oemid": "oem_id"}
+
+
 def word(text):
     """A name in C: lower case, and `_` for each run of what is no letter or digit."""
-    return re.sub(r"[^a-z0-9]+", "_", text.lower()).strip("_")
+    name = re.sub(r"[^a-z0-9]+", "_", text.lower()).strip("_")
+    return APART.get(name, name)
 
 
 def field_names(fields):

@@ -340,7 +340,7 @@ impl Headers<'_> {
         raw::list_entries(&self.source, address, Walk::plain(36, 1), &mut []).ok()?;
         let header = Header::of(bytes_in(self.source.regions(), address, 36)?)?;
         let ids = TableIds {
-            oem_id: header.oemid(),
+            oem_id: header.oem_id(),
             oem_table_id: header.oem_table_id(),
             oem_revision: header.oem_revision(),
             creator_id: header.creator_id(),
