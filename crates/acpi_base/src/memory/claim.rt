@@ -4,14 +4,14 @@ ghost use Rattle.std.specs.Prelude.{◌≤◌, length};
 use crate::error::AcpiResult;
 use crate::memory::handler::Lender;
 
-/// Bytes that a handler mapped, and how many of them are shown. A claim is no `Drop`, and only `end` takes it
-/// apart: so the compiler rejects a path that lets one go out of scope or ends one twice, and the
-/// notice names the range that was granted.
+/// Bytes that a handler mapped, and how many of them are shown. A claim is no `Drop`, so the compiler rejects a path
+/// that lets one go out of scope or ends one twice. Only `end`, `widen` and the drop of a mapping take one apart. The
+/// notice has the range that was granted.
 pub(crate) struct Claim<'h, H: Lender> {
-    start: u64,
-    lent: &'h [u8],
-    region_length: usize,
-    handler: &'h H,
+    pub(super) start: u64,
+    pub(super) lent: &'h [u8],
+    pub(super) region_length: usize,
+    pub(super) handler: &'h H,
     ghost fits: { region_length ≤ length lent.now },
 }
 
@@ -111,13 +111,19 @@ impl<'h, H: Lender> Claim<'h, H> {
     }
 
     /// Calls the handler's notice for what was mapped.
+    pub(crate) fn notice(&self) {
+        self.handler
+            .end_loan(self.start, self.region_length, self.lent.len());
+    }
+
+    /// Calls the handler's notice for what was mapped, and takes the claim apart.
     pub(crate) fn end(self) {
+        self.notice();
         let Claim {
-            start,
-            lent,
-            region_length,
-            handler,
+            start: _,
+            lent: _,
+            region_length: _,
+            handler: _,
         } = self;
-        handler.end_loan(start, region_length, lent.len());
     }
 }

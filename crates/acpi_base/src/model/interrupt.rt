@@ -129,10 +129,27 @@ impl<A: Allocator + Clone> Clone for Apic<A> {
 
 /// The controllers that a machine's interrupts come to, as its MADT describes them (ACPI 6.4, section
 /// 5.2.12).
-#[derive(Clone, Drop)]
+#[derive(Drop)]
 pub enum InterruptModel<A: Allocator> {
     /// The tables describe no APICs: a PC then has the pair of 8259 controllers alone.
     Unknown,
     /// Local APICs and I/O APICs.
     Apic(Apic<A>),
+}
+
+/// Clones with the fields of the original, or `AllocError` if memory runs out, also for a clone of the
+/// allocator. For `Unknown` nothing is asked for.
+impl<A: Allocator + Clone> Clone for InterruptModel<A> {
+    ghost use Rattle.acpi_base.specs.declared.model.interrupt.InterruptModel.TheVariants.{Unknown};
+
+    ghost is_clone = { λ x y. y ≡ x };
+
+    ghost is_infallible = { λ x. x ≡ Unknown };
+
+    fn clone(&self) -> Result<InterruptModel<A>, AllocError> {
+        match self {
+            InterruptModel::Unknown => Ok(InterruptModel::Unknown),
+            InterruptModel::Apic(apic) => Ok(InterruptModel::Apic(apic.clone()?)),
+        }
+    }
 }

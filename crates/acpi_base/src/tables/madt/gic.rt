@@ -55,6 +55,7 @@ impl PhysicalRecord for GiccEntry {
 
     ghost reading = { gicc_at };
 
+    #[inline(always)]
     fn read(bytes: &[u8]) -> Self {
         GiccEntry {
             header: EntryHeader::read(bytes),
@@ -99,6 +100,7 @@ impl PhysicalRecord for GicdEntry {
 
     ghost reading = { gicd_at };
 
+    #[inline(always)]
     fn read(bytes: &[u8]) -> Self {
         GicdEntry {
             header: EntryHeader::read(bytes),
@@ -134,6 +136,7 @@ impl PhysicalRecord for GicMsiFrameEntry {
 
     ghost reading = { gic_msi_frame_at };
 
+    #[inline(always)]
     fn read(bytes: &[u8]) -> Self {
         GicMsiFrameEntry {
             header: EntryHeader::read(bytes),
@@ -164,6 +167,7 @@ impl PhysicalRecord for GicRedistributorEntry {
 
     ghost reading = { gic_redistributor_at };
 
+    #[inline(always)]
     fn read(bytes: &[u8]) -> Self {
         GicRedistributorEntry {
             header: EntryHeader::read(bytes),
@@ -192,6 +196,7 @@ impl PhysicalRecord for GicInterruptTranslationServiceEntry {
 
     ghost reading = { gic_translation_service_at };
 
+    #[inline(always)]
     fn read(bytes: &[u8]) -> Self {
         GicInterruptTranslationServiceEntry {
             header: EntryHeader::read(bytes),

@@ -25,6 +25,7 @@ impl PhysicalRecord for IoSapicEntry {
 
     ghost reading = { io_sapic_at };
 
+    #[inline(always)]
     fn read(bytes: &[u8]) -> Self {
         IoSapicEntry {
             header: EntryHeader::read(bytes),
@@ -60,6 +61,7 @@ impl PhysicalRecord for LocalSapicEntry {
 
     ghost reading = { local_sapic_at };
 
+    #[inline(always)]
     fn read(bytes: &[u8]) -> Self {
         LocalSapicEntry {
             header: EntryHeader::read(bytes),
@@ -100,6 +102,7 @@ impl PhysicalRecord for PlatformInterruptSourceEntry {
 
     ghost reading = { platform_interrupt_source_at };
 
+    #[inline(always)]
     fn read(bytes: &[u8]) -> Self {
         PlatformInterruptSourceEntry {
             header: EntryHeader::read(bytes),

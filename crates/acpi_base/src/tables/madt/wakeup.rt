@@ -25,6 +25,7 @@ impl PhysicalRecord for MultiprocessorWakeupEntry {
 
     ghost reading = { multiprocessor_wakeup_at };
 
+    #[inline(always)]
     fn read(bytes: &[u8]) -> Self {
         MultiprocessorWakeupEntry {
             header: EntryHeader::read(bytes),
