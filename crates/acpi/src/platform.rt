@@ -47,7 +47,10 @@ impl<A: Allocator + Clone> Clone for PlatformInfo<A> {
         Ok(PlatformInfo {
             power_profile: self.power_profile,
             interrupt_model: self.interrupt_model.clone()?,
-            processor_info: self.processor_info.clone()?,
+            processor_info: match &self.processor_info {
+                Some(processors) => Some(processors.clone()?),
+                None => None,
+            },
             pm_timer: self.pm_timer,
         })
     }
