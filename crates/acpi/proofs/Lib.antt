@@ -1,4 +1,3 @@
-pub mod Accepting
 pub mod Agreed
 pub mod Among
 pub mod Asked

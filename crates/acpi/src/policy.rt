@@ -1,12 +1,13 @@
 //! Which tables a caller accepts.
-ghost use Rattle.std.specs.Prelude.{◌≡◌, ◌≤◌, ℕ, IfOk, length};
-ghost use Rattle.acpi_base.specs.Words.{Allows, Gives, IsLentOf, IsOfMemory, accepted, bytes_of, claimed_at, claimed_from, handler_of, shown_by, start_of, table_at, table_ranges};
+ghost use Rattle.std.specs.Prelude.{◌≡◌, ℕ, IfOk};
+ghost use Rattle.acpi_base.specs.Words.{Allows, Gives, IsOfMemory, accepted, bytes_of, handler_of, start_of, table_at, table_ranges};
 
-use acpi_base::bytes::has_bit;
-use acpi_base::table::{ValidTable, valid_at, valid_by};
+use acpi_base::table::accepted_at;
 use acpi_base::{AcpiResult, AcpiTable, Lender, PhysicalMapping};
 
-/// Which checks of tables a caller gives up: each table that is valid is accepted, and each that fails only these.
+/// Which checks of tables a caller gives up. Each table that is valid is accepted, and each that fails no other check: a
+/// policy only ever accepts more. For a type with a check of its own (`AcpiTable::validate`) that check stays: an error
+/// of a sum or an id that is given up doesn't count if it is the first, and after one of an id only the sum is left.
 pub trait Policy: Copy {
     // By bit 0 a table's sum may be any, by bit 1 both of its ids.
     ghost bits: { Self → ℕ };
@@ -45,33 +46,7 @@ impl Policy for Accept {
     }
 }
 
-/// The bytes of the table at a physical address, if it is valid for `T` (section 5.2.6) but for the checks that the
-/// bits of `accept` give up: if these are some, only the header and the sum matter of any type.
-///
-/// Fails as `map_table` does, but for those checks.
-#[inline(always)]
-#[tactic(auto, using(crate::proofs::Accepting::accepted_sdt, crate::proofs::Accepting::accepted_own))]
-pub(crate) fn accepted_at<'h, H: Lender, T: AcpiTable>(
-    handler: &'h H,
-    address: u64,
-    accept: u32,
-) -> AcpiResult<ValidTable<'h, H>>
-    requires { Allows (H.may handler.now) (table_ranges (H.memory handler.now) (accepted accept T.kind) address) }
-    ensures place { IfOk result (λ v. claimed_at v.claim ≡ address) }
-    ensures handler { IfOk result (λ v. claimed_from v.claim ≡ handler.now) }
-    ensures least { IfOk result (λ v. T.MIN_LENGTH ≤ length (shown_by v.claim)) }
-    ensures lent { IfOk result (λ v. IsLentOf (H.memory handler.now) v.claim) }
-    ensures table { Gives (λ v. shown_by v.claim) result
-        (table_at (H.memory handler.now) (accepted accept T.kind) address) }
-{
-    if has_bit(accept as u64, 0) || has_bit(accept as u64, 1) {
-        valid_by(handler, address, T::SIGNATURE, T::MIN_LENGTH, accept)
-    } else {
-        valid_at::<H, T>(handler, address)
-    }
-}
-
-/// That table as a mapping.
+/// The table at a physical address, if the bits of `accept` accept it for `T`.
 ///
 /// Fails as `accepted_at` does.
 #[inline(always)]

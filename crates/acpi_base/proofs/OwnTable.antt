@@ -221,13 +221,11 @@ pub checked_last : (m : Memory) (k : Kind) (p : ℕ)
     → table_at m k p ≡ (table_at m (unchecked k) p >>= λ t. k.check t >>= λ _. Ok t)
 checked_last m k p = check_after m k p (lent m p 36) refl
 
-sum_left : (s : Signature) (b : List ℕ) → check_names s (header_at b) ≡ Ok tt → nat_le 36 (length b) ≡ true
-    → field_of b 4 4 ≡ length b
-    → check_table s b ≡ holds (sum_of b == 0) (SdtInvalidChecksum s)
+of_length : (s : Signature) (b : List ℕ) → nat_le 36 (length b) ≡ true → field_of b 4 4 ≡ length b
+    → check_table s b ≡ (check_names s (header_at b) >>= λ _. holds (sum_of b == 0) (SdtInvalidChecksum s))
 unfolding check_table
-sum_left s b names long same =
+of_length s b long same =
     rw (
-      names,
       same,
       and_from (nat_le 36 (length b)) (nat_le (length b) (length b)) long
           (le-leb (length b) (length b) (omega arith)),
@@ -238,11 +236,15 @@ header_length : (b : List ℕ) → (header_at b).length ≡ field_of b 4 4
 unfolding header_at
 header_length b = refl
 
--- the sum is all that is left of the check
+-- if Length is the number of bytes, the names and the sum are all that is left of the check, and then the sum
+pub names_and_sum : (s : Signature) (b : List ℕ) → 36 ≤ length b → (header_at b).length ≡ length b
+    → check_table s b ≡ (check_names s (header_at b) >>= λ _. holds (sum_of b == 0) (SdtInvalidChecksum s))
+names_and_sum s b long same = of_length s b (le-leb 36 (length b) long) (sym (header_length b) ∙ same)
+
 pub only_sum_left : (s : Signature) (b : List ℕ) → 36 ≤ length b → check_names s (header_at b) ≡ Ok tt
     → (header_at b).length ≡ length b
     → check_table s b ≡ holds (sum_of b == 0) (SdtInvalidChecksum s)
-only_sum_left s b long names same = sum_left s b names (le-leb 36 (length b) long) (sym (header_length b) ∙ same)
+only_sum_left s b long names same = rw (names_and_sum s b long same, names) refl
 
 pub bad_rest : (s : Signature) (b : List ℕ) → 36 ≤ length b → check_names s (header_at b) ≡ Ok tt
     → (header_at b).length ≡ length b

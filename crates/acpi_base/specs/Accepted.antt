@@ -1,6 +1,6 @@
--- The tables that a caller accepts: each that is valid, and each that fails only checks which the caller skips.
-use Rattle.std.specs.Prelude.{◌≡◌, ℕ, ◌≤◌, ◌==◌, Bool, false, List, Result, Ok, if◌then◌else◌}
-use Rattle.acpi_base.specs.Types.{AcpiError, SdtHeader, SdtInvalidChecksum, Signature}
+-- The tables that a caller accepts: each that is valid, and each of which a check fails that the caller gives up.
+use Rattle.std.specs.Prelude.{◌≡◌, ℕ, ◌≤◌, ◌==◌, ◌||◌, Bool, true, false, List, Result, Ok, Err, if◌then◌else◌}
+use Rattle.acpi_base.specs.Types.{AcpiError, SdtHeader, SdtInvalidChecksum, SdtInvalidOemId, SdtInvalidTableId, Signature}
 use Rattle.acpi_base.specs.Bits.{has_bit}
 use Rattle.acpi_base.specs.Bytes.{sum_of}
 use Rattle.acpi_base.specs.Header.{check_names, check_signature, header_at}
@@ -8,17 +8,23 @@ use Rattle.acpi_base.specs.Memory.{Memory}
 use Rattle.acpi_base.specs.Steps.{◌>>=◌, holds, lent}
 use Rattle.acpi_base.specs.Table.{Kind, sdt_kind, table_at}
 
--- the bytes sum to 0 modulo 256, whatever else they are
-abbrev pub check_sum_alone : Signature → List ℕ → Result (Unit {0}) AcpiError
-check_sum_alone s b = holds (sum_of b == 0) (SdtInvalidChecksum s)
+-- what is left of the result of a kind's own check of bytes: an error of the sum counts only if no sum is given up, and
+-- one of an id only if no ids are; after one of an id that is given up, only the sum is left to check
+abbrev pub left_of : Bool → Bool → Signature → List ℕ → Result (Unit {0}) AcpiError → Result (Unit {0}) AcpiError
+left_of any_sum any_ids s b (Err (SdtInvalidChecksum t)) = holds any_sum (SdtInvalidChecksum t)
+left_of any_sum false s b (Err (SdtInvalidOemId t)) = Err (SdtInvalidOemId t)
+left_of any_sum true s b (Err (SdtInvalidOemId t)) = holds (any_sum || sum_of b == 0) (SdtInvalidChecksum s)
+left_of any_sum false s b (Err (SdtInvalidTableId t)) = Err (SdtInvalidTableId t)
+left_of any_sum true s b (Err (SdtInvalidTableId t)) = holds (any_sum || sum_of b == 0) (SdtInvalidChecksum s)
+left_of any_sum any_ids s b checked = checked
 
--- a kind whose tables may have any sum, any ids, or both: without a check of the ids only the sum is left of its own
+-- a kind whose tables may have any sum, any ids, or both. All else that it checks stays
 abbrev pub loosened : Bool → Bool → Kind → Kind
 loosened any_sum any_ids k = record {
   signature = k.signature;
   least = k.least;
   names = if any_ids then check_signature k.signature else k.names;
-  check = if any_sum then (λ _. Ok tt) else if any_ids then check_sum_alone k.signature else k.check;
+  check = if any_sum || any_ids then (λ b. left_of any_sum any_ids k.signature b (k.check b)) else k.check;
 }
 
 -- a kind with the checks that are left by the bits of `accept`: bit 0 skips the sum, bit 1 the ids
@@ -45,10 +51,22 @@ own_table_at = own_accepted 0
 abbrev pub AcceptsNothing : Type 0
 AcceptsNothing = (k : Kind) → accepted 0 k ≡ k
 
--- a table that is valid is accepted by any bits
+-- a table that is valid for a kind is accepted by any bits, whatever else the kind checks beside the names
 abbrev pub AcceptsValid : Type 0
-AcceptsValid = (accept : ℕ) (m : Memory) (s : Signature) (least p : ℕ) (table : List ℕ) → 36 ≤ least
-    → table_at m (sdt_kind s least) p ≡ Ok table → table_at m (accepted accept (sdt_kind s least)) p ≡ Ok table
+AcceptsValid = (accept : ℕ) (m : Memory) (k : Kind) (p : ℕ) (table : List ℕ) → k.names ≡ check_names k.signature
+    → table_at m k p ≡ Ok table → table_at m (accepted accept k) p ≡ Ok table
+
+-- a kind's own check stays: its result is none, or an error of a check that is given up
+abbrev pub IsGivenUp : ℕ → Result (Unit {0}) AcpiError → Type 0
+IsGivenUp accept (Ok tt) = Unit {0}
+IsGivenUp accept (Err (SdtInvalidChecksum t)) = has_bit accept 0 ≡ true
+IsGivenUp accept (Err (SdtInvalidOemId t)) = has_bit accept 1 ≡ true
+IsGivenUp accept (Err (SdtInvalidTableId t)) = has_bit accept 1 ≡ true
+IsGivenUp accept (Err e) = ⊥
+
+abbrev pub KeepsChecks : Type 0
+KeepsChecks = (accept : ℕ) (m : Memory) (k : Kind) (p : ℕ) (table : List ℕ)
+    → table_at m (accepted accept k) p ≡ Ok table → IsGivenUp accept (k.check table)
 
 -- the sum is checked unless bit 0 skips it, whatever bit 1 is
 abbrev pub KeepsSums : Type 0

@@ -1,6 +1,6 @@
 //! Laws of the definitions of memory, numbers, codes, entries, pointers, lookups, what is accepted, the search, members
 //! and places.
-ghost use Rattle.acpi_base.specs.Words.{AcceptsNothing, AcceptsValid, CodesDecode, CutIsCut, KeepsNames, KeepsSums, OneCut, FieldPastEnd, LentIsInside, NamesAreSpelled};
+ghost use Rattle.acpi_base.specs.Words.{AcceptsNothing, AcceptsValid, CodesDecode, CutIsCut, KeepsChecks, KeepsNames, KeepsSums, OneCut, FieldPastEnd, LentIsInside, NamesAreSpelled};
 ghost use Rattle.acpi_fixed.specs.Words.{ProfilesDecode};
 ghost use Rattle.acpi.specs.Words.{LookupIsFirst, OnePointers, SecondAreas, SkipsInvalid};
 ghost use Rattle.acpi_laws.specs.PlatformLaws.{FirstBoots, ListedOnce, PlatformIsTheirs, RegistersAreTheTables};
@@ -41,8 +41,10 @@ pub fn definitions_hold()
     ensures skips { SkipsInvalid }
     // By an `accept` of 0 a kind of tables is as it was, so each call is that for valid tables.
     ensures strict { AcceptsNothing }
-    // A table that is valid is accepted by any bits.
+    // A table that is valid for a kind is accepted by any bits, whatever the kind checks of a table's bytes.
     ensures valid { AcceptsValid }
+    // Of a table that is accepted the kind's own check has no error, or one of a check that is given up.
+    ensures checks_kept { KeepsChecks }
     // Bit 0 alone drops the check of the sum, and bit 1 alone the check of the ids.
     ensures sums_kept { KeepsSums }
     ensures names_kept { KeepsNames }

@@ -1,6 +1,6 @@
 //! The table at an address (section 5.2.6).
-ghost use Rattle.std.specs.Prelude.{◌≡◌, ℕ, true, ◌+◌, ◌^◌, ◌<◌, ◌≤◌, length, IfErr, IfOk, Ok, Err};
-ghost use Rattle.acpi_base.specs.Words.{IsLentOf, IsWholeClaim, accepted, claimed_at, claimed_from, header_at, own_accepted, own_accepted_ranges, sdt_kind, shown_by, unchecked, all_of, IsOfMemory, start_of, bytes_of, handler_of, lent_of, Allows, table_ranges, whole_ranges, Gives, lent, Kind, plain_kind, table_at, check_names};
+ghost use Rattle.std.specs.Prelude.{◌≡◌, ℕ, true, ◌+◌, ◌^◌, ◌<◌, ◌≤◌, ◌||◌, length, IfErr, IfOk, Ok, Err};
+ghost use Rattle.acpi_base.specs.Words.{IsLentOf, IsWholeClaim, accepted, has_bit, left_of, claimed_at, claimed_from, header_at, own_accepted, own_accepted_ranges, sdt_kind, shown_by, unchecked, all_of, IsOfMemory, start_of, bytes_of, handler_of, lent_of, Allows, table_ranges, whole_ranges, Gives, lent, Kind, plain_kind, table_at, check_names};
 
 use super::AcpiTable;
 use super::header::SdtHeader;
@@ -14,7 +14,7 @@ use crate::memory::mapping::PhysicalMapping;
 /// The header's bytes at an address, if they begin with this signature. Most members that a
 /// lookup skips have another one: so that is compared before anything else is made of them.
 #[inline(always)]
-#[tactic(auto, using(crate::proofs::OwnTable::no_header, crate::proofs::OwnTable::another_signature, crate::proofs::Accepted::another_accepted))]
+#[tactic(auto, using(crate::proofs::OwnTable::no_header, crate::proofs::Accepted::another_accepted))]
 fn claim_header<'h, H: Lender>(
     handler: &'h H,
     address: u64,
@@ -27,10 +27,8 @@ fn claim_header<'h, H: Lender>(
     ensures shown { IfOk result (λ c. lent (H.memory handler.now) address 36 ≡ Ok (shown_by c)) }
     ensures all { IfOk result (λ c. IsLentOf (H.memory handler.now) c) }
     ensures signature { IfOk result (λ c. (header_at (shown_by c)).signature ≡ signature) }
-    ensures refused { IfErr result (λ e. (k : Kind) → k.signature ≡ signature
-        → k.names ≡ check_names signature → table_at (H.memory handler.now) k address ≡ Err e) }
-    ensures unaccepted { IfErr result (λ e. (accept least : ℕ)
-        → table_at (H.memory handler.now) (accepted accept (sdt_kind signature least)) address ≡ Err e) }
+    ensures unaccepted { IfErr result (λ e. (accept : ℕ) (k : Kind) → k.signature ≡ signature
+        → k.names ≡ check_names signature → table_at (H.memory handler.now) (accepted accept k) address ≡ Err e) }
 {
     let head = Claim::request(handler, address, SdtHeader::MIN_LENGTH)?;
     if !Signature::leading(head.shown()).is(signature) {
@@ -135,6 +133,88 @@ pub fn valid_at<'h, H: Lender, T: AcpiTable>(
 {
     let head = claim_header(handler, address, T::SIGNATURE)?;
     claim_valid::<H, T>(head)
+}
+
+/// What is left of the result of a type's own check of a table's bytes by the bits of `accept`: by bit 0 an error of the
+/// sum doesn't count, by bit 1 one of an id, after which only the sum is left to check.
+fn left_of(
+    checked: AcpiResult<()>,
+    signature: Signature,
+    bytes: &[u8],
+    accept: u32,
+) -> AcpiResult<()>
+    ensures { result ≡ left_of (has_bit accept 0) (has_bit accept 1) signature bytes.now checked }
+{
+    match checked {
+        Err(AcpiError::SdtInvalidChecksum(_)) if has_bit(accept as u64, 0) => Ok(()),
+        Err(AcpiError::SdtInvalidOemId(_) | AcpiError::SdtInvalidTableId(_))
+            if has_bit(accept as u64, 1) => {
+            if !has_bit(accept as u64, 0) && byte_sum(bytes) != 0 {
+                return Err(AcpiError::SdtInvalidChecksum(signature));
+            }
+            Ok(())
+        }
+        other => other,
+    }
+}
+
+/// The bytes of the table whose header is claimed, if by the bits of `accept`, of which some are set, it is accepted
+/// for `T`.
+#[inline(never)]
+fn claim_accepted<'h, H: Lender, T: AcpiTable>(
+    head: Claim<'h, H>,
+    accept: u32,
+) -> AcpiResult<ValidTable<'h, H>>
+    requires header { length (shown_by head) ≡ 36 }
+    requires lent { IsLentOf (H.memory (claimed_from head)) head }
+    requires signature { (header_at (shown_by head)).signature ≡ T.SIGNATURE }
+    requires some { (has_bit accept 0 || has_bit accept 1) ≡ true }
+    requires asked { Allows (H.may (claimed_from head))
+        (whole_ranges (accepted accept T.kind) (claimed_at head) (shown_by head)) }
+    ensures whole { let m = H.memory (claimed_from head.entry) in
+        IfOk result (λ v. IsWholeClaim m head.entry T.MIN_LENGTH v.claim) }
+    ensures shown { let m = H.memory (claimed_from head.entry) in Gives (λ v. shown_by v.claim) result
+        (table_at m (accepted accept T.kind) (claimed_at head.entry)) }
+{
+    let claim = claim_whole(head, T::SIGNATURE, T::MIN_LENGTH, accept)?;
+    let checked = T::read(claim.shown()).validate(claim.shown());
+    match left_of(checked, T::SIGNATURE, claim.shown(), accept) {
+        Ok(()) => Ok(ValidTable { claim }),
+        Err(error) => {
+            claim.end();
+            Err(error)
+        }
+    }
+}
+
+/// The bytes of the table at a physical address, if it is accepted for `T` (section 5.2.6): if it is valid, or only
+/// checks fail that are given up. By bit 0 of `accept` its sum may be any, by bit 1 both of its ids, and by 0 it has to
+/// be valid. What `T::validate` checks besides stays: of its result an error of the sum or of an id doesn't count that
+/// is given up, and after one of an id only the sum is left to check.
+///
+/// Fails as `map_table` does, but for those errors.
+#[inline(always)]
+#[tactic(auto, using(crate::proofs::AllowedRanges::asked_header, crate::proofs::AllowedRanges::asked_whole, crate::proofs::Accepted::none_given_up))]
+pub fn accepted_at<'h, H: Lender, T: AcpiTable>(
+    handler: &'h H,
+    address: u64,
+    accept: u32,
+) -> AcpiResult<ValidTable<'h, H>>
+    requires { Allows (H.may handler.now) (table_ranges (H.memory handler.now) (accepted accept T.kind) address) }
+    ensures place { IfOk result (λ v. claimed_at v.claim ≡ address) }
+    ensures handler { IfOk result (λ v. claimed_from v.claim ≡ handler.now) }
+    ensures least { IfOk result (λ v. T.MIN_LENGTH ≤ length (shown_by v.claim)) }
+    // However many bytes are mapped, all of them are the memory's.
+    ensures lent { IfOk result (λ v. IsLentOf (H.memory handler.now) v.claim) }
+    ensures table { Gives (λ v. shown_by v.claim) result
+        (table_at (H.memory handler.now) (accepted accept T.kind) address) }
+{
+    let head = claim_header(handler, address, T::SIGNATURE)?;
+    if has_bit(accept as u64, 0) || has_bit(accept as u64, 1) {
+        claim_accepted::<H, T>(head, accept)
+    } else {
+        claim_valid::<H, T>(head)
+    }
 }
 
 /// The table at a physical address, if it is valid for `T` (sections 5.2.5 and 5.2.6).

@@ -7,7 +7,7 @@ use Rattle.acpi_base.proofs.table.lookup.claim_valid.Goals as goal
 pub claim_whole-requires-clause-asked : goal.claim_whole-requires-clause-asked
 claim_whole-requires-clause-asked g c =
     let own = g.met.T.AcpiTable.agrees in
-    let same = own_ranges g.T.AcpiTable.kind g.T.AcpiTable.SIGNATURE g.T.PhysicalRecord.MIN_LENGTH
+    let same = own_ranges 0 g.T.AcpiTable.kind g.T.AcpiTable.SIGNATURE g.T.PhysicalRecord.MIN_LENGTH
     (claimed_at c.args.head) (shown_by c.args.head) own.0 own.1 own.2 in
     grind arith
 
