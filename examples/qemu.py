@@ -53,8 +53,9 @@ def compared(lines, programs, files, image, start):
 
 
 def listed(dump, files, image, start):
-    """The valid tables that acpi_dump lists, as lines; none if it can't open them. A file is a record of an image, after
-    its address and its length. The list begins with the root table, and with a valid FADT ends with DSDT and FACS."""
+    """The tables that acpi_dump lists as valid by header and sum, as lines; none if it can't open them. A file is a
+    record of an image, after its address and its length. The list begins with the root table, and ends with DSDT and
+    FACS, which no root table lists."""
     with open(image, 'wb') as to:
         for address, name in zip(files[::2], files[1::2]):
             with open(name, 'rb') as f:
@@ -62,9 +63,8 @@ def listed(dump, files, image, start):
             to.write(struct.pack('<QQ', int(address, 16), len(data)) + data)
     read = subprocess.run([dump, image] + start + ['--json'], capture_output=True, text=True)
     tables = json.loads(read.stdout)['tables'][1:] if read.returncode == 0 else []
-    if any(t['signature'] == 'FACP' and t['valid'] for t in tables):
-        tables = tables[:-2]
-    return ['table %(signature)s length %(length)d revision %(revision)d' % t for t in tables if t['valid']]
+    valid = [t for t in tables if re.match('ok|malformed', t['status']) and t['signature'] not in ('DSDT', 'FACS')]
+    return ['table %(signature)s length %(length)d revision %(revision)d' % t for t in valid]
 
 
 def numbers(lines, word):
