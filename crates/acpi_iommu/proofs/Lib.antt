@@ -1,3 +1,3 @@
 pub mod Cuts
 mod Sure
-mod Units
+pub mod Units
