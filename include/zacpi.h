@@ -51,6 +51,9 @@
 #define ZACPI_VERSION_NUMBER 0x010000 /* to compare: one byte for each part of the version */
 #define ZACPI_ABI 1 /* part of the library's symbols: with another library nothing links */
 
+/* Records are laid out as the library has them, also in a unit where another packing is open. */
+#pragma pack(push, 8)
+
 /* With pointers of 32 bits a record is laid out as with 64 bits: a pointer is in the first half of its 8 bytes,
  * and what counts or measures has 64 bits. */
 #if UINTPTR_MAX > 0xffffffff
@@ -1475,6 +1478,7 @@ ZACPI_STATUS zacpi_list_ivrs_memory(const struct zacpi_source *source, uint16_t 
 
 #include "zacpi_write.h" /* the tables that are written */
 #include "zacpi_calls.h"
+#pragma pack(pop)
 
 #ifdef __cplusplus
 #if defined(__GNUC__)

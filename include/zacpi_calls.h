@@ -1,6 +1,6 @@
 /* SPDX-License-Identifier: MIT */
-/* The inlines of zacpi.h, which includes this file. scripts/calls made it of the prototypes there, and says what they are
- * for. */
+/* The inlines of zacpi.h, which includes this file, and checks of its records. scripts/calls made them of the prototypes
+ * and structs there, and says what they are for. */
 #ifndef ZACPI_H
 #error "include zacpi.h, which includes this file"
 #else
@@ -18,16 +18,114 @@
 #if UINTPTR_MAX > 0xffffffff
 typedef size_t zacpi_number;
 #define ZACPI_COUNTED(count) count
-#define ZACPI_COUNTING(count, call) return call
+#define ZACPI_COUNTING(count, call) \
+    ZACPI_FITS; \
+    return call
 #else
 typedef uint64_t zacpi_number;
 #define ZACPI_COUNTED(count) &zacpi_counted
 #define ZACPI_COUNTING(count, call) \
     zacpi_number zacpi_counted; \
     const zacpi_status zacpi_returned = call; \
+    ZACPI_FITS; \
     if (!zacpi_returned) *count = zacpi_counted > SIZE_MAX ? SIZE_MAX : (size_t)zacpi_counted; \
     return zacpi_returned
 #endif
+
+/* The layouts by which the library reads and writes records: a record's size, its last field and that one's offset, the
+ * same with pointers of 32 bits and 64. An array of -1 here is a record that is laid out otherwise, by a flag that no
+ * pragma undoes, as gcc's -fpack-struct. A kernel's own offsetof may be no constant. */
+#if defined(__GNUC__)
+#define ZACPI_OFFSET(record, field) __builtin_offsetof(struct record, field)
+#else
+#define ZACPI_OFFSET(record, field) offsetof(struct record, field)
+#endif
+#define ZACPI_LAID_OUT(record, size, field, offset) \
+    typedef char record##_is_laid_out[sizeof(struct record) == size && ZACPI_OFFSET(record, field) == offset ? 1 : -1]
+ZACPI_LAID_OUT(zacpi_region, 24, length, 16);
+ZACPI_LAID_OUT(zacpi_range, 16, length, 8);
+ZACPI_LAID_OUT(zacpi_source, 32, accept, 28);
+ZACPI_LAID_OUT(zacpi_place, 16, offset, 8);
+ZACPI_LAID_OUT(zacpi_signature, 4, letters, 0);
+ZACPI_LAID_OUT(zacpi_root, 32, rsdp_length, 24);
+ZACPI_LAID_OUT(zacpi_rsdp, 32, oem_id, 25);
+ZACPI_LAID_OUT(zacpi_table, 48, creator_revision, 40);
+ZACPI_LAID_OUT(zacpi_member, 56, has_header, 52);
+ZACPI_LAID_OUT(zacpi_fault, 16, accepted, 12);
+ZACPI_LAID_OUT(zacpi_walk, 8, length_width, 7);
+ZACPI_LAID_OUT(zacpi_entry, 16, length, 12);
+ZACPI_LAID_OUT(zacpi_aml_table, 24, table_address, 16);
+ZACPI_LAID_OUT(zacpi_generic_address, 16, access_size, 11);
+ZACPI_LAID_OUT(zacpi_register, 24, present, 16);
+ZACPI_LAID_OUT(zacpi_pm_timer, 24, is_32_bit, 17);
+ZACPI_LAID_OUT(zacpi_hpet_info, 16, page_protection, 15);
+ZACPI_LAID_OUT(zacpi_boot_graphic, 24, image_type, 19);
+ZACPI_LAID_OUT(zacpi_gpe_block, 16, present, 10);
+ZACPI_LAID_OUT(zacpi_fixed_hardware, 360, hypervisor_id, 352);
+ZACPI_LAID_OUT(zacpi_facs, 40, version, 32);
+ZACPI_LAID_OUT(zacpi_console, 56, pci_function, 54);
+ZACPI_LAID_OUT(zacpi_step, 40, kind, 33);
+ZACPI_LAID_OUT(zacpi_plan, 328, count, 320);
+ZACPI_LAID_OUT(zacpi_sleep_types, 2, b, 1);
+ZACPI_LAID_OUT(zacpi_pci_region, 16, last_bus, 11);
+ZACPI_LAID_OUT(zacpi_ecam_range, 24, present, 18);
+ZACPI_LAID_OUT(zacpi_interrupt_model, 56, also_has_8259, 49);
+ZACPI_LAID_OUT(zacpi_local_apic, 16, also_has_8259, 8);
+ZACPI_LAID_OUT(zacpi_io_apic, 12, id, 8);
+ZACPI_LAID_OUT(zacpi_interrupt_source_override, 8, bus, 7);
+ZACPI_LAID_OUT(zacpi_nmi_source, 8, trigger, 5);
+ZACPI_LAID_OUT(zacpi_nmi_line, 8, trigger, 7);
+ZACPI_LAID_OUT(zacpi_processor, 12, is_x2apic, 11);
+ZACPI_LAID_OUT(zacpi_entry_fault, 16, entry_type, 12);
+ZACPI_LAID_OUT(zacpi_platform_lists, 120, nmi_lines_count, 112);
+ZACPI_LAID_OUT(zacpi_interrupt, 8, trigger, 5);
+ZACPI_LAID_OUT(zacpi_io_apic_pin, 16, pin, 12);
+ZACPI_LAID_OUT(zacpi_isa_route, 28, has_pin, 25);
+ZACPI_LAID_OUT(zacpi_isa_interrupts, 448, routes, 0);
+ZACPI_LAID_OUT(zacpi_gic_distributor, 24, version, 16);
+ZACPI_LAID_OUT(zacpi_gic_cpu_interface, 80, efficiency_class, 76);
+ZACPI_LAID_OUT(zacpi_gic_translation_service, 16, id, 8);
+ZACPI_LAID_OUT(zacpi_gic_msi_frame, 24, has_spis, 16);
+ZACPI_LAID_OUT(zacpi_arm_timer, 8, present, 7);
+ZACPI_LAID_OUT(zacpi_arm_timers, 64, platform_timers_malformed, 56);
+ZACPI_LAID_OUT(zacpi_gt_frame, 40, is_always_on, 38);
+ZACPI_LAID_OUT(zacpi_watchdog, 24, is_secure, 22);
+ZACPI_LAID_OUT(zacpi_rintc, 40, version, 32);
+ZACPI_LAID_OUT(zacpi_imsic, 16, version, 12);
+ZACPI_LAID_OUT(zacpi_aplic, 40, version, 33);
+ZACPI_LAID_OUT(zacpi_plic, 40, version, 33);
+ZACPI_LAID_OUT(zacpi_memory_affinity, 24, is_non_volatile, 21);
+ZACPI_LAID_OUT(zacpi_processor_affinity, 16, entry_type, 12);
+ZACPI_LAID_OUT(zacpi_generic_initiator, 24, handle, 6);
+ZACPI_LAID_OUT(zacpi_its_affinity, 8, its_id, 4);
+ZACPI_LAID_OUT(zacpi_localities, 16, is_sane, 8);
+ZACPI_LAID_OUT(zacpi_dmar_flags, 4, flags, 2);
+ZACPI_LAID_OUT(zacpi_hop, 2, function, 1);
+ZACPI_LAID_OUT(zacpi_dmar_unit, 24, size, 20);
+ZACPI_LAID_OUT(zacpi_dmar_scope, 48, path, 12);
+ZACPI_LAID_OUT(zacpi_dmar_source, 32, has_hop, 27);
+ZACPI_LAID_OUT(zacpi_dmar_reserved, 24, segment, 16);
+ZACPI_LAID_OUT(zacpi_dmar_root_ports, 4, flags, 3);
+ZACPI_LAID_OUT(zacpi_dmar_affinity, 16, domain, 8);
+ZACPI_LAID_OUT(zacpi_ivrs_unit, 32, has_extended_features, 30);
+ZACPI_LAID_OUT(zacpi_ivrs_device, 40, settings, 34);
+ZACPI_LAID_OUT(zacpi_ivrs_memory, 24, flags, 21);
+ZACPI_LAID_OUT(zacpi_ivrs_entry, 72, unique_id, 39);
+ZACPI_LAID_OUT(zacpi_table_ids, 28, creator_revision, 24);
+ZACPI_LAID_OUT(zacpi_madt_contents, 104, has_wakeup_mailbox, 97);
+ZACPI_LAID_OUT(zacpi_gic_contents, 88, msi_frames_length, 80);
+ZACPI_LAID_OUT(zacpi_riscv_contents, 64, plics_length, 56);
+ZACPI_LAID_OUT(zacpi_rhct_contents, 48, flags, 40);
+ZACPI_LAID_OUT(zacpi_apic_domain, 8, domain, 4);
+ZACPI_LAID_OUT(zacpi_gicc_domain, 8, domain, 4);
+ZACPI_LAID_OUT(zacpi_srat_contents, 48, ranges_length, 40);
+ZACPI_LAID_OUT(zacpi_spcr_contents, 64, terminal_type, 58);
+ZACPI_LAID_OUT(zacpi_platform_timer, 56, watchdog, 32);
+ZACPI_LAID_OUT(zacpi_gtdt_contents, 80, platform_timers_length, 72);
+ZACPI_LAID_OUT(zacpi_facs_contents, 24, supports_64_bit_wake, 17);
+ZACPI_LAID_OUT(zacpi_aml_contents, 24, revision, 16);
+ZACPI_LAID_OUT(zacpi_listed_table, 16, length, 8);
+ZACPI_LAID_OUT(zacpi_machine, 80, facs_length, 72);
 
 static inline struct zacpi_source zacpi_source_kept(const struct zacpi_source *given) {
     struct zacpi_source kept = *given;
@@ -141,7 +239,6 @@ ZACPI_STATUS zacpi_clip_ranges(struct zacpi_range *ranges, size_t ranges_length,
                                struct zacpi_range *without, size_t without_length,
                                const struct zacpi_range *window, struct zacpi_range *out,
                                size_t capacity, size_t *count) {
-    ZACPI_FITS;
     ZACPI_COUNTING(count, zacpi_1_clip_ranges(
                    ranges_length ? ranges : (struct zacpi_range *)ZACPI_NOTHING, ranges_length,
                    without_length ? without : (struct zacpi_range *)ZACPI_NOTHING, without_length,
@@ -208,7 +305,6 @@ ZACPI_STATUS zacpi_list_missing_ranges(const struct zacpi_source *source, struct
                                        struct zacpi_signature *signature) {
     const struct zacpi_source kept_source = zacpi_source_kept(source);
     struct zacpi_signature unasked;
-    ZACPI_FITS;
     ZACPI_COUNTING(count, zacpi_1_list_missing_ranges(&kept_source,
                    capacity ? out : (struct zacpi_range *)ZACPI_NOTHING, capacity,
                    ZACPI_COUNTED(count), signature ? signature : &unasked));
@@ -222,7 +318,6 @@ ZACPI_STATUS zacpi_list_tables(const struct zacpi_source *source, struct zacpi_t
                                size_t capacity, size_t *count, struct zacpi_signature *signature) {
     const struct zacpi_source kept_source = zacpi_source_kept(source);
     struct zacpi_signature unasked;
-    ZACPI_FITS;
     ZACPI_COUNTING(count, zacpi_1_list_tables(&kept_source,
                    capacity ? out : (struct zacpi_table *)ZACPI_NOTHING, capacity,
                    ZACPI_COUNTED(count), signature ? signature : &unasked));
@@ -237,7 +332,6 @@ ZACPI_STATUS zacpi_list_members(const struct zacpi_source *source, struct zacpi_
                                 size_t capacity, size_t *count, struct zacpi_signature *signature) {
     const struct zacpi_source kept_source = zacpi_source_kept(source);
     struct zacpi_signature unasked;
-    ZACPI_FITS;
     ZACPI_COUNTING(count, zacpi_1_list_members(&kept_source,
                    capacity ? out : (struct zacpi_member *)ZACPI_NOTHING, capacity,
                    ZACPI_COUNTED(count), signature ? signature : &unasked));
@@ -281,7 +375,6 @@ ZACPI_STATUS zacpi_list_entries(const struct zacpi_source *source, uint64_t tabl
                                 struct zacpi_signature *signature) {
     const struct zacpi_source kept_source = zacpi_source_kept(source);
     struct zacpi_signature unasked;
-    ZACPI_FITS;
     ZACPI_COUNTING(count, zacpi_1_list_entries(&kept_source, table, walk,
                    capacity ? out : (struct zacpi_entry *)ZACPI_NOTHING, capacity,
                    ZACPI_COUNTED(count), malformed, signature ? signature : &unasked));
@@ -297,7 +390,6 @@ ZACPI_STATUS zacpi_list_faults(const struct zacpi_source *source, struct zacpi_s
                                struct zacpi_signature *signature) {
     const struct zacpi_source kept_source = zacpi_source_kept(source);
     struct zacpi_signature unasked;
-    ZACPI_FITS;
     ZACPI_COUNTING(count, zacpi_1_list_faults(&kept_source, wanted,
                    capacity ? out : (struct zacpi_fault *)ZACPI_NOTHING, capacity,
                    ZACPI_COUNTED(count), signature ? signature : &unasked));
@@ -323,7 +415,6 @@ ZACPI_STATUS zacpi_list_ssdts(const struct zacpi_source *source, struct zacpi_am
                               size_t capacity, size_t *count, struct zacpi_signature *signature) {
     const struct zacpi_source kept_source = zacpi_source_kept(source);
     struct zacpi_signature unasked;
-    ZACPI_FITS;
     ZACPI_COUNTING(count, zacpi_1_list_ssdts(&kept_source,
                    capacity ? out : (struct zacpi_aml_table *)ZACPI_NOTHING, capacity,
                    ZACPI_COUNTED(count), signature ? signature : &unasked));
@@ -337,7 +428,6 @@ ZACPI_STATUS zacpi_list_ranges(const struct zacpi_source *source, struct zacpi_r
                                size_t capacity, size_t *count, struct zacpi_signature *signature) {
     const struct zacpi_source kept_source = zacpi_source_kept(source);
     struct zacpi_signature unasked;
-    ZACPI_FITS;
     ZACPI_COUNTING(count, zacpi_1_list_ranges(&kept_source,
                    capacity ? out : (struct zacpi_range *)ZACPI_NOTHING, capacity,
                    ZACPI_COUNTED(count), signature ? signature : &unasked));
@@ -411,7 +501,6 @@ ZACPI_STATUS zacpi_list_hpets(const struct zacpi_source *source, struct zacpi_hp
                               size_t capacity, size_t *count, struct zacpi_signature *signature) {
     const struct zacpi_source kept_source = zacpi_source_kept(source);
     struct zacpi_signature unasked;
-    ZACPI_FITS;
     ZACPI_COUNTING(count, zacpi_1_list_hpets(&kept_source,
                    capacity ? out : (struct zacpi_hpet_info *)ZACPI_NOTHING, capacity,
                    ZACPI_COUNTED(count), signature ? signature : &unasked));
@@ -501,7 +590,6 @@ ZACPI_STATUS zacpi_list_pci_regions(const struct zacpi_source *source, struct za
                                     struct zacpi_signature *signature) {
     const struct zacpi_source kept_source = zacpi_source_kept(source);
     struct zacpi_signature unasked;
-    ZACPI_FITS;
     ZACPI_COUNTING(count, zacpi_1_list_pci_regions(&kept_source,
                    capacity ? out : (struct zacpi_pci_region *)ZACPI_NOTHING, capacity,
                    ZACPI_COUNTED(count), signature ? signature : &unasked));
@@ -517,7 +605,6 @@ ZACPI_STATUS zacpi_list_ecam_ranges(const struct zacpi_source *source, struct za
                                     struct zacpi_signature *signature) {
     const struct zacpi_source kept_source = zacpi_source_kept(source);
     struct zacpi_signature unasked;
-    ZACPI_FITS;
     ZACPI_COUNTING(count, zacpi_1_list_ecam_ranges(&kept_source,
                    capacity ? out : (struct zacpi_ecam_range *)ZACPI_NOTHING, capacity,
                    ZACPI_COUNTED(count), signature ? signature : &unasked));
@@ -573,7 +660,6 @@ ZACPI_STATUS zacpi_list_io_apics(const struct zacpi_source *source, struct zacpi
                                  struct zacpi_signature *signature) {
     const struct zacpi_source kept_source = zacpi_source_kept(source);
     struct zacpi_signature unasked;
-    ZACPI_FITS;
     ZACPI_COUNTING(count, zacpi_1_list_io_apics(&kept_source,
                    capacity ? out : (struct zacpi_io_apic *)ZACPI_NOTHING, capacity,
                    ZACPI_COUNTED(count), signature ? signature : &unasked));
@@ -589,7 +675,6 @@ ZACPI_STATUS zacpi_list_overrides(const struct zacpi_source *source,
                                   size_t *count, struct zacpi_signature *signature) {
     const struct zacpi_source kept_source = zacpi_source_kept(source);
     struct zacpi_signature unasked;
-    ZACPI_FITS;
     ZACPI_COUNTING(count, zacpi_1_list_overrides(&kept_source,
                    capacity ? out : (struct zacpi_interrupt_source_override *)ZACPI_NOTHING,
                    capacity, ZACPI_COUNTED(count), signature ? signature : &unasked));
@@ -605,7 +690,6 @@ ZACPI_STATUS zacpi_list_nmi_sources(const struct zacpi_source *source, struct za
                                     struct zacpi_signature *signature) {
     const struct zacpi_source kept_source = zacpi_source_kept(source);
     struct zacpi_signature unasked;
-    ZACPI_FITS;
     ZACPI_COUNTING(count, zacpi_1_list_nmi_sources(&kept_source,
                    capacity ? out : (struct zacpi_nmi_source *)ZACPI_NOTHING, capacity,
                    ZACPI_COUNTED(count), signature ? signature : &unasked));
@@ -621,7 +705,6 @@ ZACPI_STATUS zacpi_list_nmi_lines(const struct zacpi_source *source, struct zacp
                                   struct zacpi_signature *signature) {
     const struct zacpi_source kept_source = zacpi_source_kept(source);
     struct zacpi_signature unasked;
-    ZACPI_FITS;
     ZACPI_COUNTING(count, zacpi_1_list_nmi_lines(&kept_source,
                    capacity ? out : (struct zacpi_nmi_line *)ZACPI_NOTHING, capacity,
                    ZACPI_COUNTED(count), signature ? signature : &unasked));
@@ -637,7 +720,6 @@ ZACPI_STATUS zacpi_list_processors(const struct zacpi_source *source, struct zac
                                    struct zacpi_signature *signature) {
     const struct zacpi_source kept_source = zacpi_source_kept(source);
     struct zacpi_signature unasked;
-    ZACPI_FITS;
     ZACPI_COUNTING(count, zacpi_1_list_processors(&kept_source,
                    capacity ? out : (struct zacpi_processor *)ZACPI_NOTHING, capacity,
                    ZACPI_COUNTED(count), signature ? signature : &unasked));
@@ -665,7 +747,6 @@ ZACPI_STATUS zacpi_list_madt_faults(const struct zacpi_source *source,
                                     struct zacpi_signature *signature) {
     const struct zacpi_source kept_source = zacpi_source_kept(source);
     struct zacpi_signature unasked;
-    ZACPI_FITS;
     ZACPI_COUNTING(count, zacpi_1_list_madt_faults(&kept_source,
                    capacity ? out : (struct zacpi_entry_fault *)ZACPI_NOTHING, capacity,
                    ZACPI_COUNTED(count), signature ? signature : &unasked));
@@ -770,7 +851,6 @@ ZACPI_STATUS zacpi_list_gic_cpu_interfaces(const struct zacpi_source *source,
                                            size_t *count, struct zacpi_signature *signature) {
     const struct zacpi_source kept_source = zacpi_source_kept(source);
     struct zacpi_signature unasked;
-    ZACPI_FITS;
     ZACPI_COUNTING(count, zacpi_1_list_gic_cpu_interfaces(&kept_source,
                    capacity ? out : (struct zacpi_gic_cpu_interface *)ZACPI_NOTHING, capacity,
                    ZACPI_COUNTED(count), signature ? signature : &unasked));
@@ -786,7 +866,6 @@ ZACPI_STATUS zacpi_list_gic_redistributors(const struct zacpi_source *source,
                                            struct zacpi_signature *signature) {
     const struct zacpi_source kept_source = zacpi_source_kept(source);
     struct zacpi_signature unasked;
-    ZACPI_FITS;
     ZACPI_COUNTING(count, zacpi_1_list_gic_redistributors(&kept_source,
                    capacity ? out : (struct zacpi_range *)ZACPI_NOTHING, capacity,
                    ZACPI_COUNTED(count), signature ? signature : &unasked));
@@ -804,7 +883,6 @@ ZACPI_STATUS zacpi_list_gic_translation_services(const struct zacpi_source *sour
                                                  struct zacpi_signature *signature) {
     const struct zacpi_source kept_source = zacpi_source_kept(source);
     struct zacpi_signature unasked;
-    ZACPI_FITS;
     ZACPI_COUNTING(count, zacpi_1_list_gic_translation_services(&kept_source,
                    capacity ? out : (struct zacpi_gic_translation_service *)ZACPI_NOTHING, capacity,
                    ZACPI_COUNTED(count), signature ? signature : &unasked));
@@ -820,7 +898,6 @@ ZACPI_STATUS zacpi_list_gic_msi_frames(const struct zacpi_source *source,
                                        size_t *count, struct zacpi_signature *signature) {
     const struct zacpi_source kept_source = zacpi_source_kept(source);
     struct zacpi_signature unasked;
-    ZACPI_FITS;
     ZACPI_COUNTING(count, zacpi_1_list_gic_msi_frames(&kept_source,
                    capacity ? out : (struct zacpi_gic_msi_frame *)ZACPI_NOTHING, capacity,
                    ZACPI_COUNTED(count), signature ? signature : &unasked));
@@ -848,7 +925,6 @@ ZACPI_STATUS zacpi_list_gt_frames(const struct zacpi_source *source, struct zacp
                                   struct zacpi_signature *signature) {
     const struct zacpi_source kept_source = zacpi_source_kept(source);
     struct zacpi_signature unasked;
-    ZACPI_FITS;
     ZACPI_COUNTING(count, zacpi_1_list_gt_frames(&kept_source,
                    capacity ? out : (struct zacpi_gt_frame *)ZACPI_NOTHING, capacity,
                    ZACPI_COUNTED(count), signature ? signature : &unasked));
@@ -864,7 +940,6 @@ ZACPI_STATUS zacpi_list_watchdogs(const struct zacpi_source *source, struct zacp
                                   struct zacpi_signature *signature) {
     const struct zacpi_source kept_source = zacpi_source_kept(source);
     struct zacpi_signature unasked;
-    ZACPI_FITS;
     ZACPI_COUNTING(count, zacpi_1_list_watchdogs(&kept_source,
                    capacity ? out : (struct zacpi_watchdog *)ZACPI_NOTHING, capacity,
                    ZACPI_COUNTED(count), signature ? signature : &unasked));
@@ -880,7 +955,6 @@ ZACPI_STATUS zacpi_list_gtdt_faults(const struct zacpi_source *source,
                                     struct zacpi_signature *signature) {
     const struct zacpi_source kept_source = zacpi_source_kept(source);
     struct zacpi_signature unasked;
-    ZACPI_FITS;
     ZACPI_COUNTING(count, zacpi_1_list_gtdt_faults(&kept_source,
                    capacity ? out : (struct zacpi_entry_fault *)ZACPI_NOTHING, capacity,
                    ZACPI_COUNTED(count), signature ? signature : &unasked));
@@ -894,7 +968,6 @@ ZACPI_STATUS zacpi_list_rintcs(const struct zacpi_source *source, struct zacpi_r
                                size_t capacity, size_t *count, struct zacpi_signature *signature) {
     const struct zacpi_source kept_source = zacpi_source_kept(source);
     struct zacpi_signature unasked;
-    ZACPI_FITS;
     ZACPI_COUNTING(count, zacpi_1_list_rintcs(&kept_source,
                    capacity ? out : (struct zacpi_rintc *)ZACPI_NOTHING, capacity,
                    ZACPI_COUNTED(count), signature ? signature : &unasked));
@@ -908,7 +981,6 @@ ZACPI_STATUS zacpi_list_imsics(const struct zacpi_source *source, struct zacpi_i
                                size_t capacity, size_t *count, struct zacpi_signature *signature) {
     const struct zacpi_source kept_source = zacpi_source_kept(source);
     struct zacpi_signature unasked;
-    ZACPI_FITS;
     ZACPI_COUNTING(count, zacpi_1_list_imsics(&kept_source,
                    capacity ? out : (struct zacpi_imsic *)ZACPI_NOTHING, capacity,
                    ZACPI_COUNTED(count), signature ? signature : &unasked));
@@ -922,7 +994,6 @@ ZACPI_STATUS zacpi_list_aplics(const struct zacpi_source *source, struct zacpi_a
                                size_t capacity, size_t *count, struct zacpi_signature *signature) {
     const struct zacpi_source kept_source = zacpi_source_kept(source);
     struct zacpi_signature unasked;
-    ZACPI_FITS;
     ZACPI_COUNTING(count, zacpi_1_list_aplics(&kept_source,
                    capacity ? out : (struct zacpi_aplic *)ZACPI_NOTHING, capacity,
                    ZACPI_COUNTED(count), signature ? signature : &unasked));
@@ -936,7 +1007,6 @@ ZACPI_STATUS zacpi_list_plics(const struct zacpi_source *source, struct zacpi_pl
                               size_t capacity, size_t *count, struct zacpi_signature *signature) {
     const struct zacpi_source kept_source = zacpi_source_kept(source);
     struct zacpi_signature unasked;
-    ZACPI_FITS;
     ZACPI_COUNTING(count, zacpi_1_list_plics(&kept_source,
                    capacity ? out : (struct zacpi_plic *)ZACPI_NOTHING, capacity,
                    ZACPI_COUNTED(count), signature ? signature : &unasked));
@@ -952,7 +1022,6 @@ ZACPI_STATUS zacpi_list_memory_affinities(const struct zacpi_source *source,
                                           size_t *count, struct zacpi_signature *signature) {
     const struct zacpi_source kept_source = zacpi_source_kept(source);
     struct zacpi_signature unasked;
-    ZACPI_FITS;
     ZACPI_COUNTING(count, zacpi_1_list_memory_affinities(&kept_source,
                    capacity ? out : (struct zacpi_memory_affinity *)ZACPI_NOTHING, capacity,
                    ZACPI_COUNTED(count), signature ? signature : &unasked));
@@ -969,7 +1038,6 @@ ZACPI_STATUS zacpi_list_processor_affinities(const struct zacpi_source *source,
                                              size_t *count, struct zacpi_signature *signature) {
     const struct zacpi_source kept_source = zacpi_source_kept(source);
     struct zacpi_signature unasked;
-    ZACPI_FITS;
     ZACPI_COUNTING(count, zacpi_1_list_processor_affinities(&kept_source,
                    capacity ? out : (struct zacpi_processor_affinity *)ZACPI_NOTHING, capacity,
                    ZACPI_COUNTED(count), signature ? signature : &unasked));
@@ -985,7 +1053,6 @@ ZACPI_STATUS zacpi_list_generic_initiators(const struct zacpi_source *source,
                                            size_t *count, struct zacpi_signature *signature) {
     const struct zacpi_source kept_source = zacpi_source_kept(source);
     struct zacpi_signature unasked;
-    ZACPI_FITS;
     ZACPI_COUNTING(count, zacpi_1_list_generic_initiators(&kept_source,
                    capacity ? out : (struct zacpi_generic_initiator *)ZACPI_NOTHING, capacity,
                    ZACPI_COUNTED(count), signature ? signature : &unasked));
@@ -1001,7 +1068,6 @@ ZACPI_STATUS zacpi_list_its_affinities(const struct zacpi_source *source,
                                        size_t *count, struct zacpi_signature *signature) {
     const struct zacpi_source kept_source = zacpi_source_kept(source);
     struct zacpi_signature unasked;
-    ZACPI_FITS;
     ZACPI_COUNTING(count, zacpi_1_list_its_affinities(&kept_source,
                    capacity ? out : (struct zacpi_its_affinity *)ZACPI_NOTHING, capacity,
                    ZACPI_COUNTED(count), signature ? signature : &unasked));
@@ -1017,7 +1083,6 @@ ZACPI_STATUS zacpi_list_srat_faults(const struct zacpi_source *source,
                                     struct zacpi_signature *signature) {
     const struct zacpi_source kept_source = zacpi_source_kept(source);
     struct zacpi_signature unasked;
-    ZACPI_FITS;
     ZACPI_COUNTING(count, zacpi_1_list_srat_faults(&kept_source,
                    capacity ? out : (struct zacpi_entry_fault *)ZACPI_NOTHING, capacity,
                    ZACPI_COUNTED(count), signature ? signature : &unasked));
@@ -1106,7 +1171,6 @@ ZACPI_STATUS zacpi_list_dmar_units(const struct zacpi_source *source, struct zac
                                    struct zacpi_signature *signature) {
     const struct zacpi_source kept_source = zacpi_source_kept(source);
     struct zacpi_signature unasked;
-    ZACPI_FITS;
     ZACPI_COUNTING(count, zacpi_1_list_dmar_units(&kept_source,
                    capacity ? out : (struct zacpi_dmar_unit *)ZACPI_NOTHING, capacity,
                    ZACPI_COUNTED(count), signature ? signature : &unasked));
@@ -1122,7 +1186,6 @@ ZACPI_STATUS zacpi_list_dmar_scopes(const struct zacpi_source *source, size_t in
                                     struct zacpi_signature *signature) {
     const struct zacpi_source kept_source = zacpi_source_kept(source);
     struct zacpi_signature unasked;
-    ZACPI_FITS;
     ZACPI_COUNTING(count, zacpi_1_list_dmar_scopes(&kept_source, index,
                    capacity ? out : (struct zacpi_dmar_scope *)ZACPI_NOTHING, capacity,
                    ZACPI_COUNTED(count), signature ? signature : &unasked));
@@ -1138,7 +1201,6 @@ ZACPI_STATUS zacpi_list_dmar_regions(const struct zacpi_source *source,
                                      size_t *count, struct zacpi_signature *signature) {
     const struct zacpi_source kept_source = zacpi_source_kept(source);
     struct zacpi_signature unasked;
-    ZACPI_FITS;
     ZACPI_COUNTING(count, zacpi_1_list_dmar_regions(&kept_source,
                    capacity ? out : (struct zacpi_dmar_reserved *)ZACPI_NOTHING, capacity,
                    ZACPI_COUNTED(count), signature ? signature : &unasked));
@@ -1154,7 +1216,6 @@ ZACPI_STATUS zacpi_list_dmar_root_ports(const struct zacpi_source *source,
                                         size_t *count, struct zacpi_signature *signature) {
     const struct zacpi_source kept_source = zacpi_source_kept(source);
     struct zacpi_signature unasked;
-    ZACPI_FITS;
     ZACPI_COUNTING(count, zacpi_1_list_dmar_root_ports(&kept_source,
                    capacity ? out : (struct zacpi_dmar_root_ports *)ZACPI_NOTHING, capacity,
                    ZACPI_COUNTED(count), signature ? signature : &unasked));
@@ -1170,7 +1231,6 @@ ZACPI_STATUS zacpi_list_dmar_affinities(const struct zacpi_source *source,
                                         size_t *count, struct zacpi_signature *signature) {
     const struct zacpi_source kept_source = zacpi_source_kept(source);
     struct zacpi_signature unasked;
-    ZACPI_FITS;
     ZACPI_COUNTING(count, zacpi_1_list_dmar_affinities(&kept_source,
                    capacity ? out : (struct zacpi_dmar_affinity *)ZACPI_NOTHING, capacity,
                    ZACPI_COUNTED(count), signature ? signature : &unasked));
@@ -1190,7 +1250,6 @@ ZACPI_STATUS zacpi_list_dmar_structure_scopes(const struct zacpi_source *source,
                                               size_t *count, struct zacpi_signature *signature) {
     const struct zacpi_source kept_source = zacpi_source_kept(source);
     struct zacpi_signature unasked;
-    ZACPI_FITS;
     ZACPI_COUNTING(count, zacpi_1_list_dmar_structure_scopes(&kept_source, structure_type, index,
                    capacity ? out : (struct zacpi_dmar_scope *)ZACPI_NOTHING, capacity,
                    ZACPI_COUNTED(count), signature ? signature : &unasked));
@@ -1206,7 +1265,6 @@ ZACPI_STATUS zacpi_list_dmar_faults(const struct zacpi_source *source,
                                     struct zacpi_signature *signature) {
     const struct zacpi_source kept_source = zacpi_source_kept(source);
     struct zacpi_signature unasked;
-    ZACPI_FITS;
     ZACPI_COUNTING(count, zacpi_1_list_dmar_faults(&kept_source,
                    capacity ? out : (struct zacpi_entry_fault *)ZACPI_NOTHING, capacity,
                    ZACPI_COUNTED(count), signature ? signature : &unasked));
@@ -1267,7 +1325,6 @@ ZACPI_STATUS zacpi_list_dmar_reserved(const struct zacpi_source *source, uint16_
                                       size_t *count, struct zacpi_signature *signature) {
     const struct zacpi_source kept_source = zacpi_source_kept(source);
     struct zacpi_signature unasked;
-    ZACPI_FITS;
     ZACPI_COUNTING(count, zacpi_1_list_dmar_reserved(&kept_source, segment, bus,
                    hops_length ? hops : (const struct zacpi_hop *)ZACPI_NOTHING, hops_length,
                    capacity ? out : (struct zacpi_dmar_reserved *)ZACPI_NOTHING, capacity,
@@ -1284,7 +1341,6 @@ ZACPI_STATUS zacpi_list_ivrs_units(const struct zacpi_source *source, struct zac
                                    struct zacpi_signature *signature) {
     const struct zacpi_source kept_source = zacpi_source_kept(source);
     struct zacpi_signature unasked;
-    ZACPI_FITS;
     ZACPI_COUNTING(count, zacpi_1_list_ivrs_units(&kept_source,
                    capacity ? out : (struct zacpi_ivrs_unit *)ZACPI_NOTHING, capacity,
                    ZACPI_COUNTED(count), signature ? signature : &unasked));
@@ -1300,7 +1356,6 @@ ZACPI_STATUS zacpi_list_ivrs_entries(const struct zacpi_source *source, size_t i
                                      struct zacpi_signature *signature) {
     const struct zacpi_source kept_source = zacpi_source_kept(source);
     struct zacpi_signature unasked;
-    ZACPI_FITS;
     ZACPI_COUNTING(count, zacpi_1_list_ivrs_entries(&kept_source, index,
                    capacity ? out : (struct zacpi_ivrs_entry *)ZACPI_NOTHING, capacity,
                    ZACPI_COUNTED(count), signature ? signature : &unasked));
@@ -1316,7 +1371,6 @@ ZACPI_STATUS zacpi_list_ivrs_faults(const struct zacpi_source *source,
                                     struct zacpi_signature *signature) {
     const struct zacpi_source kept_source = zacpi_source_kept(source);
     struct zacpi_signature unasked;
-    ZACPI_FITS;
     ZACPI_COUNTING(count, zacpi_1_list_ivrs_faults(&kept_source,
                    capacity ? out : (struct zacpi_entry_fault *)ZACPI_NOTHING, capacity,
                    ZACPI_COUNTED(count), signature ? signature : &unasked));
@@ -1346,7 +1400,6 @@ ZACPI_STATUS zacpi_list_ivrs_regions(const struct zacpi_source *source,
                                      struct zacpi_signature *signature) {
     const struct zacpi_source kept_source = zacpi_source_kept(source);
     struct zacpi_signature unasked;
-    ZACPI_FITS;
     ZACPI_COUNTING(count, zacpi_1_list_ivrs_regions(&kept_source,
                    capacity ? out : (struct zacpi_ivrs_memory *)ZACPI_NOTHING, capacity,
                    ZACPI_COUNTED(count), signature ? signature : &unasked));
@@ -1362,7 +1415,6 @@ ZACPI_STATUS zacpi_list_ivrs_memory(const struct zacpi_source *source, uint16_t 
                                     struct zacpi_signature *signature) {
     const struct zacpi_source kept_source = zacpi_source_kept(source);
     struct zacpi_signature unasked;
-    ZACPI_FITS;
     ZACPI_COUNTING(count, zacpi_1_list_ivrs_memory(&kept_source, device_id,
                    capacity ? out : (struct zacpi_ivrs_memory *)ZACPI_NOTHING, capacity,
                    ZACPI_COUNTED(count), signature ? signature : &unasked));
@@ -1374,7 +1426,6 @@ zacpi_status ZACPI_CALL zacpi_1_write_rsdp(const struct zacpi_table_ids *ids, ui
 ZACPI_NONNULL((1, 5))
 ZACPI_STATUS zacpi_write_rsdp(const struct zacpi_table_ids *ids, uint64_t xsdt, uint8_t *out,
                               size_t capacity, size_t *length) {
-    ZACPI_FITS;
     ZACPI_COUNTING(length, zacpi_1_write_rsdp(ids, xsdt, capacity ? out : (uint8_t *)ZACPI_NOTHING,
                    capacity, ZACPI_COUNTED(length)));
 }
@@ -1387,7 +1438,6 @@ ZACPI_NONNULL((1, 6))
 ZACPI_STATUS zacpi_write_rsdt(const struct zacpi_table_ids *ids, const uint32_t *addresses,
                               size_t addresses_length, uint8_t *out, size_t capacity,
                               size_t *length) {
-    ZACPI_FITS;
     ZACPI_COUNTING(length, zacpi_1_write_rsdt(ids,
                    addresses_length ? addresses : (const uint32_t *)ZACPI_NOTHING, addresses_length,
                    capacity ? out : (uint8_t *)ZACPI_NOTHING, capacity, ZACPI_COUNTED(length)));
@@ -1401,7 +1451,6 @@ ZACPI_NONNULL((1, 6))
 ZACPI_STATUS zacpi_write_xsdt(const struct zacpi_table_ids *ids, const uint64_t *addresses,
                               size_t addresses_length, uint8_t *out, size_t capacity,
                               size_t *length) {
-    ZACPI_FITS;
     ZACPI_COUNTING(length, zacpi_1_write_xsdt(ids,
                    addresses_length ? addresses : (const uint64_t *)ZACPI_NOTHING, addresses_length,
                    capacity ? out : (uint8_t *)ZACPI_NOTHING, capacity, ZACPI_COUNTED(length)));
@@ -1415,7 +1464,6 @@ ZACPI_NONNULL((1, 7))
 ZACPI_STATUS zacpi_write_dsdt(const struct zacpi_table_ids *ids, uint8_t revision,
                               const uint8_t *aml, size_t aml_length, uint8_t *out, size_t capacity,
                               size_t *length) {
-    ZACPI_FITS;
     ZACPI_COUNTING(length, zacpi_1_write_dsdt(ids, revision,
                    aml_length ? aml : (const uint8_t *)ZACPI_NOTHING, aml_length,
                    capacity ? out : (uint8_t *)ZACPI_NOTHING, capacity, ZACPI_COUNTED(length)));
@@ -1429,7 +1477,6 @@ ZACPI_NONNULL((1, 7))
 ZACPI_STATUS zacpi_write_ssdt(const struct zacpi_table_ids *ids, uint8_t revision,
                               const uint8_t *aml, size_t aml_length, uint8_t *out, size_t capacity,
                               size_t *length) {
-    ZACPI_FITS;
     ZACPI_COUNTING(length, zacpi_1_write_ssdt(ids, revision,
                    aml_length ? aml : (const uint8_t *)ZACPI_NOTHING, aml_length,
                    capacity ? out : (uint8_t *)ZACPI_NOTHING, capacity, ZACPI_COUNTED(length)));
@@ -1444,7 +1491,6 @@ ZACPI_NONNULL((1, 8))
 ZACPI_STATUS zacpi_write_table(const struct zacpi_table_ids *ids, struct zacpi_signature wanted,
                                uint8_t revision, const uint8_t *body, size_t body_length,
                                uint8_t *out, size_t capacity, size_t *length) {
-    ZACPI_FITS;
     ZACPI_COUNTING(length, zacpi_1_write_table(ids, wanted, revision,
                    body_length ? body : (const uint8_t *)ZACPI_NOTHING, body_length,
                    capacity ? out : (uint8_t *)ZACPI_NOTHING, capacity, ZACPI_COUNTED(length)));
@@ -1458,7 +1504,6 @@ ZACPI_STATUS zacpi_write_madt(const struct zacpi_table_ids *ids,
                               const struct zacpi_madt_contents *contents, uint8_t *out,
                               size_t capacity, size_t *length) {
     const struct zacpi_madt_contents kept_contents = zacpi_madt_contents_kept(contents);
-    ZACPI_FITS;
     ZACPI_COUNTING(length, zacpi_1_write_madt(ids, &kept_contents,
                    capacity ? out : (uint8_t *)ZACPI_NOTHING, capacity, ZACPI_COUNTED(length)));
 }
@@ -1472,7 +1517,6 @@ ZACPI_STATUS zacpi_write_gic_madt(const struct zacpi_table_ids *ids,
                                   const struct zacpi_gic_contents *contents, uint8_t *out,
                                   size_t capacity, size_t *length) {
     const struct zacpi_gic_contents kept_contents = zacpi_gic_contents_kept(contents);
-    ZACPI_FITS;
     ZACPI_COUNTING(length, zacpi_1_write_gic_madt(ids, &kept_contents,
                    capacity ? out : (uint8_t *)ZACPI_NOTHING, capacity, ZACPI_COUNTED(length)));
 }
@@ -1486,7 +1530,6 @@ ZACPI_STATUS zacpi_write_riscv_madt(const struct zacpi_table_ids *ids,
                                     const struct zacpi_riscv_contents *contents, uint8_t *out,
                                     size_t capacity, size_t *length) {
     const struct zacpi_riscv_contents kept_contents = zacpi_riscv_contents_kept(contents);
-    ZACPI_FITS;
     ZACPI_COUNTING(length, zacpi_1_write_riscv_madt(ids, &kept_contents,
                    capacity ? out : (uint8_t *)ZACPI_NOTHING, capacity, ZACPI_COUNTED(length)));
 }
@@ -1499,7 +1542,6 @@ ZACPI_STATUS zacpi_write_rhct(const struct zacpi_table_ids *ids,
                               const struct zacpi_rhct_contents *contents, uint8_t *out,
                               size_t capacity, size_t *length) {
     const struct zacpi_rhct_contents kept_contents = zacpi_rhct_contents_kept(contents);
-    ZACPI_FITS;
     ZACPI_COUNTING(length, zacpi_1_write_rhct(ids, &kept_contents,
                    capacity ? out : (uint8_t *)ZACPI_NOTHING, capacity, ZACPI_COUNTED(length)));
 }
@@ -1512,7 +1554,6 @@ ZACPI_NONNULL((1, 6))
 ZACPI_STATUS zacpi_write_mcfg(const struct zacpi_table_ids *ids,
                               const struct zacpi_pci_region *regions, size_t regions_length,
                               uint8_t *out, size_t capacity, size_t *length) {
-    ZACPI_FITS;
     ZACPI_COUNTING(length, zacpi_1_write_mcfg(ids,
                    regions_length ? regions : (const struct zacpi_pci_region *)ZACPI_NOTHING,
                    regions_length, capacity ? out : (uint8_t *)ZACPI_NOTHING, capacity,
@@ -1525,7 +1566,6 @@ zacpi_status ZACPI_CALL zacpi_1_write_hpet(const struct zacpi_table_ids *ids,
 ZACPI_NONNULL((1, 2, 5))
 ZACPI_STATUS zacpi_write_hpet(const struct zacpi_table_ids *ids, const struct zacpi_hpet_info *info,
                               uint8_t *out, size_t capacity, size_t *length) {
-    ZACPI_FITS;
     ZACPI_COUNTING(length, zacpi_1_write_hpet(ids, info, capacity ? out : (uint8_t *)ZACPI_NOTHING,
                    capacity, ZACPI_COUNTED(length)));
 }
@@ -1538,7 +1578,6 @@ ZACPI_NONNULL((1, 7))
 ZACPI_STATUS zacpi_write_slit(const struct zacpi_table_ids *ids, uint64_t localities,
                               const uint8_t *distances, size_t distances_length, uint8_t *out,
                               size_t capacity, size_t *length) {
-    ZACPI_FITS;
     ZACPI_COUNTING(length, zacpi_1_write_slit(ids, localities,
                    distances_length ? distances : (const uint8_t *)ZACPI_NOTHING, distances_length,
                    capacity ? out : (uint8_t *)ZACPI_NOTHING, capacity, ZACPI_COUNTED(length)));
@@ -1552,7 +1591,6 @@ ZACPI_STATUS zacpi_write_srat(const struct zacpi_table_ids *ids,
                               const struct zacpi_srat_contents *contents, uint8_t *out,
                               size_t capacity, size_t *length) {
     const struct zacpi_srat_contents kept_contents = zacpi_srat_contents_kept(contents);
-    ZACPI_FITS;
     ZACPI_COUNTING(length, zacpi_1_write_srat(ids, &kept_contents,
                    capacity ? out : (uint8_t *)ZACPI_NOTHING, capacity, ZACPI_COUNTED(length)));
 }
@@ -1564,7 +1602,6 @@ ZACPI_NONNULL((1, 2, 5))
 ZACPI_STATUS zacpi_write_bgrt(const struct zacpi_table_ids *ids,
                               const struct zacpi_boot_graphic *graphic, uint8_t *out,
                               size_t capacity, size_t *length) {
-    ZACPI_FITS;
     ZACPI_COUNTING(length, zacpi_1_write_bgrt(ids, graphic,
                    capacity ? out : (uint8_t *)ZACPI_NOTHING, capacity, ZACPI_COUNTED(length)));
 }
@@ -1576,7 +1613,6 @@ ZACPI_NONNULL((1, 2, 5))
 ZACPI_STATUS zacpi_write_spcr(const struct zacpi_table_ids *ids,
                               const struct zacpi_spcr_contents *contents, uint8_t *out,
                               size_t capacity, size_t *length) {
-    ZACPI_FITS;
     ZACPI_COUNTING(length, zacpi_1_write_spcr(ids, contents,
                    capacity ? out : (uint8_t *)ZACPI_NOTHING, capacity, ZACPI_COUNTED(length)));
 }
@@ -1589,7 +1625,6 @@ ZACPI_STATUS zacpi_write_gtdt(const struct zacpi_table_ids *ids,
                               const struct zacpi_gtdt_contents *contents, uint8_t *out,
                               size_t capacity, size_t *length) {
     const struct zacpi_gtdt_contents kept_contents = zacpi_gtdt_contents_kept(contents);
-    ZACPI_FITS;
     ZACPI_COUNTING(length, zacpi_1_write_gtdt(ids, &kept_contents,
                    capacity ? out : (uint8_t *)ZACPI_NOTHING, capacity, ZACPI_COUNTED(length)));
 }
@@ -1601,7 +1636,6 @@ ZACPI_NONNULL((1, 2, 5))
 ZACPI_STATUS zacpi_write_fadt(const struct zacpi_table_ids *ids,
                               const struct zacpi_fixed_hardware *fadt, uint8_t *out,
                               size_t capacity, size_t *length) {
-    ZACPI_FITS;
     ZACPI_COUNTING(length, zacpi_1_write_fadt(ids, fadt, capacity ? out : (uint8_t *)ZACPI_NOTHING,
                    capacity, ZACPI_COUNTED(length)));
 }
@@ -1611,7 +1645,6 @@ zacpi_status ZACPI_CALL zacpi_1_write_facs(const struct zacpi_facs_contents *con
 ZACPI_NONNULL((1, 4))
 ZACPI_STATUS zacpi_write_facs(const struct zacpi_facs_contents *contents, uint8_t *out,
                               size_t capacity, size_t *length) {
-    ZACPI_FITS;
     ZACPI_COUNTING(length, zacpi_1_write_facs(contents, capacity ? out : (uint8_t *)ZACPI_NOTHING,
                    capacity, ZACPI_COUNTED(length)));
 }
@@ -1623,7 +1656,6 @@ ZACPI_NONNULL((1, 5))
 ZACPI_STATUS zacpi_write_tables(const struct zacpi_machine *machine, uint64_t address, uint8_t *out,
                                 size_t capacity, size_t *length) {
     const struct zacpi_machine kept_machine = zacpi_machine_kept(machine);
-    ZACPI_FITS;
     ZACPI_COUNTING(length, zacpi_1_write_tables(&kept_machine, address,
                    capacity ? out : (uint8_t *)ZACPI_NOTHING, capacity, ZACPI_COUNTED(length)));
 }
@@ -1636,7 +1668,6 @@ ZACPI_NONNULL((1, 5))
 ZACPI_STATUS zacpi_write_tables_without_rsdp(const struct zacpi_machine *machine, uint64_t address,
                                              uint8_t *out, size_t capacity, size_t *length) {
     const struct zacpi_machine kept_machine = zacpi_machine_kept(machine);
-    ZACPI_FITS;
     ZACPI_COUNTING(length, zacpi_1_write_tables_without_rsdp(&kept_machine, address,
                    capacity ? out : (uint8_t *)ZACPI_NOTHING, capacity, ZACPI_COUNTED(length)));
 }
@@ -1646,7 +1677,6 @@ zacpi_status ZACPI_CALL zacpi_1_tables_size(const struct zacpi_machine *machine,
 ZACPI_NONNULL((1, 2))
 ZACPI_STATUS zacpi_tables_size(const struct zacpi_machine *machine, size_t *length) {
     const struct zacpi_machine kept_machine = zacpi_machine_kept(machine);
-    ZACPI_FITS;
     ZACPI_COUNTING(length, zacpi_1_tables_size(&kept_machine, ZACPI_COUNTED(length)));
 }
 

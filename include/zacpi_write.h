@@ -260,7 +260,7 @@ struct zacpi_listed_table { /* a whole table, whoever wrote it */
 };
 struct zacpi_machine {
     struct zacpi_table_ids ids;
-    const struct zacpi_listed_table *ZACPI_SLOT tables; /* in the order of the XSDT */
+    ZACPI_SLOT const struct zacpi_listed_table *tables; /* in the order of the XSDT */
     zacpi_size tables_length;
     const struct zacpi_aml_contents *dsdts;  /* the first is the DSDT, if there is one */
     zacpi_size dsdts_length;

@@ -8,7 +8,7 @@ ROOT = Path(__file__).resolve().parent.parent
 LENGTH = r'\w*(?:length|capacity)\b' # what the number of a list's items is named; another number is none
 text = ''.join((ROOT / 'include' / name).read_text() for name in ('zacpi.h', 'zacpi_write.h'))
 text = re.sub(r'/\*.*?\*/', ' ', text, flags=re.S)
-text = re.sub(r'\bZACPI_SLOT (?=\w)', '', text)
+text = re.sub(r'\bZACPI_SLOT ', '', text)
 abi = re.search(r'#define ZACPI_ABI (\d+)', text)[1]
 
 
@@ -30,6 +30,23 @@ structs = {name: [field for part in body.split(';') if part.strip() for field in
            for name, body in re.findall(r'\nstruct (zacpi_\w+) \{(.*?)\n\};', text, flags=re.S)}
 calls = {name: [field for part in arguments.split(',') for field in split(part)]
          for name, arguments in re.findall(r'\nZACPI_STATUS (zacpi_\w+)\(([^;]*)\);', text)}
+SIZES = {'uint8_t': 1, 'uint16_t': 2, 'uint32_t': 4, 'zacpi_status': 4, 'zacpi_u64': 8, 'zacpi_size': 8}
+
+
+def layout(kind):
+    """The size and the alignment of a type, and of a struct the offset of its last field: as the library has them, which
+    is as C lays them out where pointers have 64 bits."""
+    if kind.endswith('*'):
+        return 8, 8, 0
+    if not kind.startswith('struct '):
+        return SIZES[kind], SIZES[kind], 0
+    at = last = most = 0
+    for of, name in structs[kind.removeprefix('struct ')]:
+        size, alignment, _ = layout(of)
+        count = re.search(r'\[(\d+)\]$', name)
+        last = -(-at // alignment) * alignment
+        at, most = last + size * int(count[1] if count else 1), max(most, alignment)
+    return -(-at // most) * most, most, last
 
 
 # the head of a section, a comment that stands alone, a struct, and a call
