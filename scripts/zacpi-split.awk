@@ -8,6 +8,7 @@ BEGIN { RS = "" }
     next
 }
 /^static const / { begun = 1 }
+/^#pragma pop_macro/ { next }
 !begun || /^static const / {
     shared = shared $0 "\n\n"
     next
@@ -19,13 +20,13 @@ BEGIN { RS = "" }
     names[++count] = name
     bodies[count] = $0
     if (head ~ /^zacpi_status /) next
-    sub(/^(static|APART|INLINE) /, "", head)
-    sub(/^(static|APART|INLINE) /, "", bodies[count])
+    sub(/^(LOCAL|APART|INLINE) /, "", head)
+    sub(/^(LOCAL|APART|INLINE) /, "", bodies[count])
     renamed = renamed "#define " name " zacpi_split_" name "\n"
     prototypes = prototypes "HIDDEN " head ";\n"
 }
 END {
-    hidden = "#if defined(__GNUC__) && !defined(_WIN32)\n#define HIDDEN __attribute__((visibility(\"hidden\")))\n" \
+    hidden = "#if defined(__GNUC__) && !defined(_WIN32)\n#define HIDDEN __attribute__((__visibility__(\"hidden\")))\n" \
         "#else\n#define HIDDEN\n#endif\n"
     for (i = 1; i <= count; i++) {
         file = folder "/" names[i] ".c"
