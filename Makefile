@@ -10,7 +10,10 @@
 #   make install-programs   acpi_dump, or the programs in $(PROGRAMS), with their manual pages and completions
 #   make uninstall          removes what both have installed
 #
-# CC, AR, CFLAGS, LDFLAGS, PREFIX, LIBDIR and DESTDIR are the usual ones.
+# CC, AR, CFLAGS, LDFLAGS, PREFIX, LIBDIR and DESTDIR are the usual ones. OUT=FOLDER takes the place of out.
+ifeq ($(wildcard dist/zacpi.c),)
+$(error it makes all in its own folder: make -C FOLDER, with OUT=FOLDER for what is made)
+endif
 VERSION := $(shell sed -n 's/^.define ZACPI_VERSION "\(.*\)"/\1/p' include/zacpi.h)
 CFLAGS ?= -O2
 SECTIONS = -std=c99 -fPIC -ffunction-sections -fdata-sections
