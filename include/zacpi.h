@@ -110,7 +110,8 @@ enum zacpi_status_code {
 
     /* What is passed. */
     ZACPI_REGIONS_NOT_ASCENDING = 1, /* a region begins below the end of the one before it */
-    ZACPI_REGION_TOO_HIGH = 2,       /* a region ends at 2^64 or above */
+    ZACPI_REGION_TOO_HIGH = 2,       /* a region ends at 2^64 or above. Of both errors a call returns
+                                      * that of the first region with one */
     ZACPI_UNKNOWN_START = 3,         /* `start` isn't one of enum zacpi_start */
     ZACPI_RANGE_TOO_HIGH = 4,        /* a range ends at 2^64 or above */
     ZACPI_UNKNOWN_WIDTH = 5,         /* a width of a walk isn't 1, 2 or 4 */
@@ -159,8 +160,10 @@ enum zacpi_status_code {
     /* Bus of an Interrupt Source Override isn't 0, ISA (section 5.2.12.5) */
     ZACPI_MADT_INTERRUPT_OVERRIDE_ENTRY_HAS_INVALID_BUS = 45,
     ZACPI_MADT_INVALID_LOCAL_NMI_LINE = 46, /* LINT# isn't 0 or 1 (section 5.2.12.7) */
-    ZACPI_MADT_MPS_INTI_INVALID_POLARITY = 47, /* Polarity is 2, reserved (section 5.2.12.5) */
-    ZACPI_MADT_MPS_INTI_INVALID_TRIGGER_MODE = 48, /* Trigger Mode is 2, reserved */
+    ZACPI_MADT_MPS_INTI_INVALID_POLARITY = 47, /* Polarity of an override or an NMI Source is 2,
+                                                * reserved (section 5.2.12.5) */
+    ZACPI_MADT_MPS_INTI_INVALID_TRIGGER_MODE = 48, /* so is Trigger Mode. Neither is an error of a
+                                                    * Local APIC NMI or a Local x2APIC NMI */
     ZACPI_MADT_INVALID_ENTRY_LENGTH = 49, /* bytes are left in which no entry begins */
 
     /* The SRAT (section 5.2.16), whose entries begin so from byte 48 on, with a Length of at least
@@ -385,8 +388,8 @@ ZACPI_STATUS zacpi_start_of_rsdp(const uint8_t *rsdp, size_t rsdp_length,
                                  struct zacpi_source *source);
 
 /* Returns the root table (sections 5.2.7 and 5.2.8). Fails with an opening error, in this order:
- *   what is passed     ZACPI_REGIONS_NOT_ASCENDING, ZACPI_REGION_TOO_HIGH, ZACPI_UNKNOWN_POLICY,
- *                      ZACPI_UNKNOWN_START
+ *   what is passed     ZACPI_REGIONS_NOT_ASCENDING or ZACPI_REGION_TOO_HIGH,
+ *                      ZACPI_UNKNOWN_POLICY, ZACPI_UNKNOWN_START
  *   a search           ZACPI_MAP_FAILED (a BIOS search), ZACPI_NO_VALID_RSDP
  *   an RSDP at address ZACPI_MAP_FAILED, ZACPI_RSDP_INCORRECT_SIGNATURE, ..._OEM_ID, ..._CHECKSUM
  *   the root table     the errors of a table, with "RSDT" or "XSDT"
@@ -645,9 +648,9 @@ ZACPI_STATUS zacpi_get_fixed_hardware(const struct zacpi_source *source,
                                       struct zacpi_signature *signature);
 
 /* Returns the FACS of the FADT. Fails with an opening error, ZACPI_TABLE_MISSING "FACP",
- * ZACPI_TABLE_MISSING "FACS" if no field has an address, ZACPI_MAP_FAILED, with "FACS"
- * ZACPI_SDT_INVALID_SIGNATURE, or ZACPI_SDT_INVALID_LENGTH below 64, or ZACPI_MAP_FAILED of the
- * bytes that Length counts. */
+ * ZACPI_TABLE_MISSING "FACS" if no field has an address, ZACPI_MAP_FAILED of its first 36 bytes,
+ * with "FACS" ZACPI_SDT_INVALID_SIGNATURE, or ZACPI_SDT_INVALID_LENGTH below 64, or
+ * ZACPI_MAP_FAILED of the bytes that Length counts. */
 ZACPI_STATUS zacpi_get_facs(const struct zacpi_source *source, struct zacpi_facs *out,
                             struct zacpi_signature *signature);
 
@@ -1428,7 +1431,8 @@ struct zacpi_ivrs_memory { /* I/O Virtualization Memory Definition (IVMD) */
 };
 
 struct zacpi_ivrs_entry { /* a device entry; a field that its Type lacks is 0. Padding, Types 0 and
-                           * 0x40, has entry_type alone */
+                           * 0x40, has entry_type alone; other reserved Types have bytes 1 and 2 in
+                           * `first` and `last`, and byte 3 in `settings` */
     zacpi_size unique_id_length; /* `unique_id` has the first 32 bytes of Unique ID, and zeros */
     uint32_t extended_settings;
     uint16_t first, last;    /* DeviceID; of a range, its start and end. 0 and 0xffff for all
