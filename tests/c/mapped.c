@@ -1,19 +1,12 @@
 /* mapped IMAGE rsdt REVISION ADDRESS N | rsdp ADDRESS N | bios N: whether zacpi_map_tables leads to the answers over
  * the whole memory of an image, and of N copies of it of which some bytes are changed and a part is missing, the same
  * each time. `bios` tries both searches.
- * mapped: whether zacpi_map_wanted_tables maps what it has to of a machine whose root table has hundreds of pointers to
- * nothing before those to tables, by page and by byte.
- *
- * Its mapper counts what it maps. Pages without access stand before and after each range that it maps, and what it
- * unmaps becomes such pages, so reading them ends the program. */
+ * mapped: whether the machines of mapped_rows.h are mapped as they have to be. */
 #define _DEFAULT_SOURCE
 #include "chance.h"
 #include "image.h"
 #include "start.h"
-#include "zacpi_map.h"
-#include <sys/mman.h>
-
-enum { PAGE = 4096, MOST = 4096 };
+#include "mapped_rows.h"
 
 /* The memory: the pages of the image's records, zeros around the records, and those that touch as one. There is what of
  * it isn't missing. */
@@ -21,91 +14,6 @@ static struct zacpi_region records[MOST], memory[MOST], there[MOST + 1];
 static zacpi_size records_count;
 static size_t memory_count, there_count;
 static uint8_t *bytes;
-/* The mapper's page: each range begins and ends at a multiple of it. */
-static uint64_t unit;
-
-/* What the mapper has mapped, also what it unmapped since, how many of these are mapped now, and how many were at most
- * when one more was asked for or the run ended: as many regions there were. */
-static struct {
-    uint64_t address, length;
-    uint8_t *base;
-    const void *at;
-    int is_mapped;
-} mapped[MOST];
-static size_t mapped_count, mapped_now, mapped_most;
-/* Whether a range was unmapped that no other holds. */
-static int is_lost;
-/* The ranges that it refused, and whether there is room for them, so that none is requested again. */
-static struct zacpi_range refused[MOST];
-static size_t refused_count;
-static int are_kept;
-
-static int wrong(const char *what) {
-    fprintf(stderr, "%s\n", what);
-    return 0;
-}
-static void end(const char *what) {
-    wrong(what);
-    exit(1);
-}
-static int holds(uint64_t outer, uint64_t outer_length, uint64_t address, uint64_t length) {
-    return address >= outer && length <= outer_length && address - outer <= outer_length - length;
-}
-static size_t in_pages(uint64_t length) { return (size_t)(length + PAGE - 1) / PAGE * PAGE; }
-
-static const void *map(void *context, uint64_t address, uint64_t length) {
-    const size_t size = in_pages(length);
-    uint8_t *base, *at;
-    size_t i;
-    if (context != &mapped) end("map: another context");
-    if (address % unit || length % unit || !length) end("map: no whole pages");
-    for (i = 0; i < mapped_count; i++)
-        if (mapped[i].is_mapped && holds(mapped[i].address, mapped[i].length, address, length))
-            end("map: it is mapped");
-    if (mapped_now > mapped_most) mapped_most = mapped_now;
-    for (i = 0; are_kept && i < refused_count; i++)
-        if (holds(address, length, refused[i].address, refused[i].length)) end("map: a refused range again");
-    for (i = 0; i < there_count && !holds(there[i].address, there[i].length, address, length); i++) continue;
-    if (refused_count == MOST || mapped_count == MOST) end("map: too many");
-    if (i == there_count) {
-        refused[refused_count].address = address;
-        refused[refused_count++].length = length;
-        return NULL;
-    }
-    base = (uint8_t *)mmap(NULL, size + 2 * PAGE, PROT_NONE, MAP_PRIVATE | MAP_ANONYMOUS, -1, 0);
-    if (base == MAP_FAILED || mprotect(base + PAGE, size, PROT_READ | PROT_WRITE)) end("map: no memory");
-    at = base + PAGE + (size - length);
-    memcpy(at, there[i].bytes + (address - there[i].address), (size_t)length);
-    if (mprotect(base + PAGE, size, PROT_READ)) end("map: no protection");
-    mapped[mapped_count].address = address;
-    mapped[mapped_count].length = length;
-    mapped[mapped_count].base = base;
-    mapped[mapped_count].at = at;
-    mapped[mapped_count++].is_mapped = 1;
-    mapped_now++;
-    return at;
-}
-/* The pages stay without access until the run ends, so that nothing else takes their place. */
-static void unmap(void *context, const void *at, uint64_t address, uint64_t length) {
-    size_t i;
-    if (context != &mapped) end("unmap: another context");
-    for (i = 0; i < mapped_count && mapped[i].at != at; i++) continue;
-    if (i == mapped_count || !mapped[i].is_mapped || mapped[i].address != address || mapped[i].length != length)
-        end("unmap: what isn't mapped");
-    if (mprotect(mapped[i].base + PAGE, in_pages(length), PROT_NONE)) end("unmap: no protection");
-    mapped[i].is_mapped = 0;
-    mapped_now--;
-    for (i = 0; i < mapped_count; i++)
-        if (mapped[i].is_mapped && holds(mapped[i].address, mapped[i].length, address, length)) return;
-    is_lost = 1;
-}
-static void forget(void) {
-    while (mapped_count) {
-        mapped_count--;
-        munmap(mapped[mapped_count].base, in_pages(mapped[mapped_count].length) + 2 * PAGE);
-    }
-    refused_count = 0;
-}
 
 /* What calls of the library say: of each its status, then what it wrote. */
 static struct said {
@@ -137,26 +45,8 @@ static void ask(const struct zacpi_source *source, struct said *said) {
 }
 static int same(void) { return memcmp(&over_all, &over_mapped, sizeof over_all) == 0; }
 
-static struct zacpi_region regions[MOST + 1];
-static int was_lost; /* by the last run, before all is unmapped */
-static struct zacpi_range ranges[MOST + 1];
-
-/* Maps what there is below 1 MiB, and the page after it, into which an RSDP at the end may reach: for a search that
- * looks at nothing else. Whether there is room for it. */
-static int map_low(struct zacpi_source *source, size_t capacity) {
-    const uint64_t limit = 0x101000;
-    size_t i;
-    source->regions = regions;
-    for (i = 0; i < there_count && there[i].address < limit; i++) {
-        const uint64_t left = limit - there[i].address;
-        if (i == capacity) return 0;
-        regions[i].address = there[i].address;
-        regions[i].length = there[i].length < left ? there[i].length : (size_t)left;
-        regions[i].bytes = (const uint8_t *)map(&mapped, regions[i].address, regions[i].length);
-        source->regions_length = i + 1;
-    }
-    return 1;
-}
+/* Whether something was unmapped that isn't in a region, before all is. After a search its areas are. */
+static int was_lost;
 
 /* Whether each table that was found over what is mapped is one of all memory, by the same root table: the first ones
  * are, if there was no room for others. */
@@ -174,28 +64,27 @@ static int are_among(void) {
 
 /* One run, with so much room. Nothing is mapped in the end, and nothing is written past the room. */
 static zacpi_status run(struct zacpi_source source, size_t capacity, size_t room) {
+    const struct zacpi_source found = after_search(source);
+    const int searches = is_search(&source);
     struct zacpi_mapper mapper = {&mapped, map, unmap, 0};
     zacpi_status status;
     size_t i;
     if (unit != PAGE) mapper.page = unit;
     mapped_most = 0;
-    is_lost = 0;
+    is_searching = searches;
     are_kept = room == MOST;
     source.regions_length = 0;
     regions[capacity].length = ranges[room].length = 12345;
-    if (source.start == ZACPI_START_SEARCH && !map_low(&source, capacity)) {
-        zacpi_unmap_tables(&mapper, &source);
-        forget();
-        return ZACPI_NO_ROOM;
-    }
     status = zacpi_map_tables(&mapper, &source, regions, capacity, ranges, room);
-    was_lost = is_lost;
+    was_lost = 0;
+    for (i = 0; i < mapped_count && !searches; i++) was_lost |= !is_held(mapped[i].address, mapped[i].length);
     if (regions[capacity].length != 12345 || ranges[room].length != 12345) end("something is written past the room");
     if (mapped_now != source.regions_length) end("more is mapped than there are regions");
     if (status != ZACPI_OK && mapped_now) end("an error, and something is mapped");
     if (mapped_now > mapped_most) mapped_most = mapped_now;
     for (i = 1; i < source.regions_length; i++)
         if (regions[i - 1].address + regions[i - 1].length >= regions[i].address) end("two regions touch");
+    if (status == ZACPI_OK && (source.start != found.start || source.address != found.address)) end("another RSDP");
     if (status == ZACPI_OK) ask(&source, &over_mapped);
     zacpi_unmap_tables(&mapper, &source);
     if (mapped_now || source.regions_length) end("something is mapped in the end");
@@ -203,8 +92,9 @@ static zacpi_status run(struct zacpi_source source, size_t capacity, size_t room
     return status;
 }
 static int agrees(const struct zacpi_source *over) {
+    const struct zacpi_source found = after_search(*over);
     size_t most, room;
-    ask(over, &over_all);
+    ask(&found, &over_all);
     if (run(*over, MOST, MOST) != ZACPI_OK) return wrong("no answer");
     if (!same()) return wrong("other answers than over the whole memory");
     if (was_lost) return wrong("memory was unmapped that isn't in a region");
@@ -219,7 +109,7 @@ static int agrees(const struct zacpi_source *over) {
         if (status != ZACPI_NO_ROOM && !(status == ZACPI_OK && (room ? same() : are_among())))
             return wrong("few ranges");
     }
-    if (over->start == ZACPI_START_SEARCH || over->start == ZACPI_START_BIOS_SEARCH) return 1;
+    if (is_search(over)) return 1;
     return run(*over, MOST, 8) == ZACPI_OK && same() ? 1 : wrong("eight ranges");
 }
 
@@ -238,8 +128,8 @@ static void damage(uint8_t *places[4], uint8_t was[4], size_t count) {
     }
 }
 
-/* What is there, without the page at a place. */
-static void without(size_t region, uint64_t offset) {
+/* What is there, without `length` bytes at a place. */
+static void without(size_t region, uint64_t offset, uint64_t length) {
     size_t i;
     there_count = 0;
     for (i = 0; i < memory_count; i++) {
@@ -247,7 +137,7 @@ static void without(size_t region, uint64_t offset) {
         if (i == region) {
             there[there_count].length = (size_t)offset;
             if (offset) there_count++;
-            offset += unit;
+            offset += length;
             if (offset == memory[i].length) continue;
             there[there_count].address = memory[i].address + offset;
             there[there_count].bytes = memory[i].bytes + offset;
@@ -283,118 +173,13 @@ static int lay_out(void) {
     return 1;
 }
 
-/* The crowded machine: pages from ROOT on, of which the RSDT has the first. Its pointers are 300 null ones, 300 to no
- * memory, 300 to a page each that begins as a table "JUNK", and those to the FADT, the MADT and the HPET, each in a page
- * of its own that touches no other. The FADT, of revision 1, points to the DSDT and the FACS. */
-enum {
-    ROOT = 0x100000,
-    JUNK = 0x110000,
-    NOWHERE = 0x40000000,
-    EACH = 300,
-    FADT = 0x300000,
-    MADT = 0x302000,
-    HPET = 0x304000,
-    DSDT = 0x306000,
-    FACS = 0x308000,
-    END = 0x30a000
-};
-static uint8_t crowded[END - ROOT];
-
-static void put(uint64_t address, uint64_t value, size_t length) {
-    while (length--) crowded[address++ - ROOT] = (uint8_t)value, value >>= 8;
-}
-static void table(uint64_t address, const char *letters, uint32_t length) {
-    memcpy(crowded + (address - ROOT), letters, 4);
-    put(address + 4, length, 4);
-    zacpi_set_checksum(crowded + (address - ROOT), length);
-}
-static void crowd(struct zacpi_source *source) {
-    uint64_t i, at = ROOT + 36 + 4 * EACH;
-    for (i = 0; i < EACH; i++, at += 4) put(at, NOWHERE + 0x1000 * i, 4);
-    for (i = 0; i < EACH; i++, at += 4) put(at, JUNK + 0x1000 * i, 4), table(JUNK + 0x1000 * i, "JUNK", 36);
-    put(at, FADT, 4), put(at + 4, MADT, 4), put(at + 8, HPET, 4);
-    table(ROOT, "RSDT", 36 + 4 * (3 * EACH + 3));
-    put(FADT + 36, FACS, 4), put(FADT + 40, DSDT, 4), put(FADT + 8, 1, 1), table(FADT, "FACP", 116);
-    table(MADT, "APIC", 44), table(HPET, "HPET", 56), table(DSDT, "DSDT", 0x1010), table(FACS, "FACS", 64);
-    there[0].address = ROOT;
-    there[0].bytes = crowded;
-    there[0].length = sizeof crowded;
-    there_count = 1;
-    source->address = ROOT;
-    source->start = ZACPI_START_RSDT;
-}
-static const void *map_crowded(void *context, uint64_t address, uint64_t length) {
-    if (!address) end("map: a null pointer");
-    return map(context, address, length);
-}
-/* Maps by these capacities what is named, and compares the regions, and the calls for a DSDT, a FACS and an HPET. */
-struct want {
-    const char *names;
-    size_t capacity, room, page;
-    uint64_t found[5][2]; /* the regions' addresses and lengths */
-    zacpi_status dsdt, facs, hpet;
-};
-static int maps(struct zacpi_source *source, const struct want *want) {
-    const struct zacpi_mapper mapper = {&mapped, map_crowded, unmap, want->page};
-    struct zacpi_signature wanted[4];
-    struct zacpi_aml_table dsdt;
-    struct zacpi_facs facs;
-    struct zacpi_hpet_info hpet;
-    const size_t length = strlen(want->names);
-    size_t i;
-    int agreed;
-    memcpy(wanted, want->names, length);
-    unit = want->page;
-    are_kept = 0;
-    agreed = !zacpi_map_wanted_tables(&mapper, source, wanted, length / 4, regions, want->capacity, ranges, want->room);
-    for (i = 0; i < source->regions_length && i < 5; i++)
-        agreed &= regions[i].address == want->found[i][0] && regions[i].length == want->found[i][1];
-    agreed &= (i == 5 || !want->found[i][1]) && zacpi_get_dsdt(source, &dsdt, NULL) == want->dsdt &&
-              zacpi_get_facs(source, &facs, NULL) == want->facs && zacpi_get_hpet(source, &hpet, NULL) == want->hpet;
-    zacpi_unmap_tables(&mapper, source);
-    forget();
-    return agreed;
-}
-static int maps_wanted(void) {
-    enum { NO = ZACPI_MAP_FAILED, NO_TABLE = ZACPI_TABLE_MISSING, LISTED = 4 * (3 * EACH + 3) + 36 };
-    static const struct want wants[] = {
-        {"APICFACPDSDT",
-         4,
-         2,
-         0x1000,
-         {{ROOT, 0x1000}, {FADT, 0x1000}, {MADT, 0x1000}, {DSDT, 0x2000}},
-         0,
-         NO,
-         NO_TABLE},
-        {"FACPFACSHPET", 4, 9, 0x1000, {{ROOT, 0x1000}, {FADT, 0x1000}, {HPET, 0x1000}, {FACS, 0x1000}}, NO, 0, 0},
-        {"DSDTFACS", 4, 64, 0x1000, {{ROOT, 0x1000}}, NO_TABLE, NO_TABLE, NO_TABLE},
-        {"FACPDSDTFACS", 4, 1, 1, {{ROOT, LISTED}, {FADT, 116}, {DSDT, 0x1010}, {FACS, 64}}, 0, 0, NO_TABLE},
-        {"HPETFACPAPIC", 2, 64, 1, {{ROOT, LISTED}, {FADT, 116}}, NO, NO, NO_TABLE},
-        /* Without names the first in memory have the room. */
-        {"",
-         4,
-         64,
-         1,
-         {{ROOT, LISTED}, {JUNK, 36}, {JUNK + 0x1000, 36}, {JUNK + 0x2000, 36}},
-         NO_TABLE,
-         NO_TABLE,
-         NO_TABLE},
-    };
-    struct zacpi_source source = {0};
-    size_t i;
-    crowd(&source);
-    for (i = 0; i < sizeof wants / sizeof *wants; i++)
-        if (!maps(&source, &wants[i])) return fprintf(stderr, "at %s %lu\n", wants[i].names, (unsigned long)i), 0;
-    return printf("%lu rows\n", (unsigned long)i), 1;
-}
-
 int main(int argc, char **argv) {
     struct zacpi_source whole = {0};
     uint8_t revision, *image, *places[4], was[4];
     size_t length, changed, i, runs;
     const int taken = start_of(argc, argv, &whole, &revision);
     int agreed;
-    if (argc == 1) return !maps_wanted();
+    if (argc == 1) return !(maps_wanted() && maps_searches());
     if (!taken || argc != taken + 1) return wrong("IMAGE START N") + 2;
     image = contents(argv[1], &length);
     if (!image) return wrong("no such file") + 1;
@@ -408,10 +193,11 @@ int main(int argc, char **argv) {
         changed = i ? 1 + below(4) : 0;
         damage(places, was, changed);
         unit = i % 2 ? 64 : PAGE;
-        without(MOST, 0);
+        without(MOST, 0, 0);
         if (i % 4 > 1) {
-            const size_t region = below(memory_count);
-            without(region, below(memory[region].length / unit) * unit);
+            /* A search's areas are mapped by pages of at least 4 KiB. */
+            const size_t region = below(memory_count), missing = is_search(&whole) ? PAGE : (size_t)unit;
+            without(region, below(memory[region].length / missing) * missing, missing);
         }
         whole.regions_length = there_count;
         agreed = agrees(&whole);
