@@ -49,17 +49,6 @@ static void make_memory(void) {
     memory.length = pages_of(all, n, own, kept, sizeof kept / sizeof *kept);
     if (!memory.length) stop("no memory, or too many ranges");
 }
-/* Maps what a search looks at. */
-static void map_areas(struct zacpi_source *source) {
-    struct zacpi_range areas[3], pages[3];
-    const struct zacpi_range none = {0, 0};
-    const size_t count = pages_of(areas, bios_areas(areas), none, pages, 3);
-    source->regions_length = 0;
-    for (size_t i = 0; i < count; i++) {
-        const uint8_t *bytes = map_window(&memory, pages[i].address, pages[i].length);
-        if (bytes) regions[source->regions_length++] = (struct zacpi_region){pages[i].address, bytes, pages[i].length};
-    }
-}
 static zacpi_status map_tables(struct zacpi_source *source) {
     return zacpi_map_tables(&mapper, source, regions, sizeof regions / sizeof *regions, missing,
                             sizeof missing / sizeof *missing);
@@ -77,16 +66,16 @@ static void find_tables(struct zacpi_source *source) {
     const volatile uint8_t *p = word_after(&loaded, "rsdp=0x");
     struct zacpi_signature named;
     struct zacpi_root root;
-    source->start = loaded.rsdp ? ZACPI_START_RSDP : ZACPI_START_SEARCH, source->address = loaded.rsdp;
-    if (!loaded.rsdp) map_areas(source);
+    int is_told = loaded.rsdp != 0;
+    source->start = is_told ? ZACPI_START_RSDP : ZACPI_START_SEARCH, source->address = loaded.rsdp;
     zacpi_status status = map_tables(source);
     if (!status && p && zacpi_open(source, &root, &named) == ZACPI_NO_VALID_RSDP) {
         zacpi_unmap_tables(&mapper, source);
-        source->start = ZACPI_START_RSDP, source->address = number_after(p);
+        source->start = ZACPI_START_RSDP, source->address = number_after(p), is_told = 1;
         status = map_tables(source);
     }
     if (status) stop(zacpi_status_name(status));
-    if (source->start == ZACPI_START_RSDP) say(&serial, "rsdp "), say_address(&serial, source->address), line();
+    if (is_told) say(&serial, "rsdp "), say_address(&serial, source->address), line();
     for (size_t i = 0; i < source->regions_length; i++)
         named_range("region ", regions[i].address, regions[i].length), line();
     named_number("window ", window_most()), line();
@@ -168,8 +157,7 @@ static void first_unit(const struct zacpi_source *source) {
         named_number("call " #name " stack ", depth_); \
         named_number(" cycles ", first_), named_number(" ", best_), line(); \
     } while (0)
-/* The source from the root table on that this one led to. The search costs more than all else, and each call would make
- * it anew. */
+/* The source from the root table on that this one led to, so that no call looks at the RSDP anew. */
 static struct zacpi_source from_root(const struct zacpi_source *source, const struct zacpi_root *root) {
     struct zacpi_source known = *source;
     known.address = root->address, known.start = root->pointer_width == 8 ? ZACPI_START_XSDT : ZACPI_START_RSDT;

@@ -26,6 +26,7 @@ void kernel(uint32_t magic, uint32_t information) {
     ask_loader(magic, information, &serial, &loaded);
     memory.length = pages_of(loaded.memory, loaded.memory_length, own, kept, 129); // what may be mapped
     struct zacpi_source source = {regions, 0, loaded.rsdp, ZACPI_START_RSDP, ZACPI_ACCEPT_SUMS | ZACPI_ACCEPT_IDS};
+    if (!loaded.rsdp) source.start = ZACPI_START_SEARCH;
     zacpi_status status = zacpi_map_tables(&mapper, &source, regions, 128, missing, 256);
     if (!status) status = zacpi_list_processors(&source, processors, 256, &count, 0);
     if (status) stop(zacpi_status_name(status));
