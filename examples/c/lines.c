@@ -23,11 +23,20 @@ void say(const struct printer *p, const char *text) {
     p->write(p->to, text, n);
 }
 
+/* Divides by 10 in pieces of 16 bits, since a kernel of 32 bits may have no function that divides 64. */
 void say_number(const struct printer *p, uint64_t number) {
+    uint32_t pieces[4] = {(uint32_t)(number >> 48), number >> 32 & 0xffff, number >> 16 & 0xffff, number & 0xffff};
     char digits[20];
-    size_t at = sizeof digits;
-    do digits[--at] = (char)('0' + number % 10);
-    while (number /= 10);
+    size_t at = sizeof digits, i;
+    do {
+        uint32_t rest = 0;
+        for (i = 0; i < 4; i++) {
+            rest = rest << 16 | pieces[i];
+            pieces[i] = rest / 10;
+            rest %= 10;
+        }
+        digits[--at] = (char)('0' + rest);
+    } while (pieces[0] | pieces[1] | pieces[2] | pieces[3]);
     p->write(p->to, digits + at, sizeof digits - at);
 }
 

@@ -1,7 +1,9 @@
-/* A kernel for processors of 32 bits that counts the processors and powers the machine off by zacpi.c. All memory below
- * 4 GiB is one region, since nothing is mapped, and the RSDP is searched for, since multiboot doesn't pass it. */
+/* A kernel for processors of 32 bits that counts the processors and powers the machine off by zacpi.c. It has no paging,
+ * so an address below 4 GiB is its pointer, and searches for the RSDP, since multiboot doesn't pass it. It is linked
+ * without the compiler's library. */
 #include "lines.h"
 #include "plan.h"
+#include "zacpi_map.h"
 
 static void out8(uint16_t port, uint8_t value) { __asm__ volatile("outb %0, %1" : : "a"(value), "Nd"(port)); }
 static uint8_t in8(uint16_t port) {
@@ -40,21 +42,31 @@ static void *at(uint32_t address) {
     __asm__("" : "+r"(address));
     return (void *)address;
 }
-static volatile void *map(uint64_t address) { return address >> 32 ? NULL : at((uint32_t)address); }
+static volatile void *map_register(uint64_t address) { return address >> 32 ? NULL : at((uint32_t)address); }
+static const void *map(void *context, uint64_t address, uint64_t length) {
+    (void)context;
+    return address < 0xfffff000 && length < 0xfffff000 - address ? at((uint32_t)address) : NULL;
+}
+static void unmap(void *context, const void *at, uint64_t address, uint64_t length) {
+    (void)context, (void)at, (void)address, (void)length;
+}
 
 void kernel(void);
 void kernel(void) {
     static const struct printer serial = {to_serial, NULL};
     static struct zacpi_processor processors[256];
     static struct zacpi_plan plan;
-    const struct zacpi_region all = {0x400, at(0x400), 0xfffff000u - 0x400u};
-    const struct zacpi_source source = {&all, 1, 0, ZACPI_START_SEARCH, 0};
+    static struct zacpi_region regions[64];
+    static struct zacpi_range ranges[64];
+    const struct zacpi_mapper mapper = {NULL, map, unmap, 1}; /* nothing is at a null pointer then */
+    struct zacpi_source source = {regions, 0, 0, ZACPI_START_SEARCH, 0};
     size_t count;
-    zacpi_status status = zacpi_list_processors(&source, processors, 256, &count, NULL);
+    zacpi_status status = zacpi_map_tables(&mapper, &source, regions, 64, ranges, 64);
+    if (!status) status = zacpi_list_processors(&source, processors, 256, &count, NULL);
     if (!status) say_number(&serial, count), say(&serial, " processors\n");
     if (!status) status = zacpi_get_enable_plan(&source, &plan, NULL);
-    if (!status && run_plan(&plan, map) < plan.count) say(&serial, "ACPI isn't enabled\n");
+    if (!status && run_plan(&plan, map_register) < plan.count) say(&serial, "ACPI isn't enabled\n");
     if (!status) status = zacpi_get_power_off_plan(&source, &plan, NULL);
     if (status) say(&serial, zacpi_status_name(status)), say(&serial, "\n");
-    else run_plan(&plan, map);
+    else run_plan(&plan, map_register);
 }
