@@ -7,7 +7,7 @@ use Rattle.acpi.specs.Types.{AcpiError, DSDT, Fadt, AddressRange}
 use Rattle.acpi_base.specs.Words.{accepted, mailbox_of, mcfg_entries_of, Memory, at, AgreesOn, DependsOn, Ranges, own_table_ranges, table_ranges, unless_found, ◌>>=◌, lent, Kind, plain_kind, table_at}
 use Rattle.acpi_fixed.specs.Words.{dsdt_address_of, facs_address_of, fadt_at}
 use Rattle.acpi.proofs.First.{here}
-use Rattle.acpi.specs.Words.{FootprintBelow, accepted_below, header_ranges, lookup_ranges, accepted_root_ranges, accepted_root_at, accept_of, accepted_by, accepted_dsdt, accepted_dsdt_ranges, accepted_led, accepted_led_ranges, platform_ranges, hpet_at, hpet_kind, info_of, hpet_of, or_later, fadt_kind, faults_of, own_header_at, stream_by, streams_by, unless_valid, valid_headers, lookup, found_at, kind_ranges, members_of, tables_found, mcfg_kind, found_regions, both_place_ranges, dsdt_place, dsdt_place_ranges, facs_at, facs_length_in, facs_place, facs_place_ranges, facs_ranges, led_by, led_ranges, place_at, place_ranges, places_of, madt_kind, platform_of, root_kind, root_of_revision, mailbox_found, kind_of, memory_of, pointers_of, root_address_of, root_of, AcpiTables, opened_at, opened_from, opened_by_rsdp, opened_by_search, area_ranges, length_ranges, opened_ranges, or_else_ranges, rsdp_ranges, search_ranges, walk_ranges, opened_by_rsdp_ranges, opened_by_search_ranges, check_whole, checked_length, root_of_rsdp, rsdp_at, count_of, first_area, found_in, found_rsdp, or_else, room_of, second_area, walk, word_in, Area, areas_ranges, count_in, first_in, found_among, found_in_areas, walk_in, opened_in_areas_ranges, opened_in_areas, last_in}
+use Rattle.acpi.specs.Words.{FootprintBelow, accepted_below, header_ranges, lookup_ranges, accepted_root_ranges, accepted_root_at, accept_of, accepted_by, accepted_dsdt, accepted_dsdt_ranges, accepted_led, accepted_led_ranges, accepted_opened, accepted_opened_ranges, platform_ranges, hpet_at, hpet_kind, info_of, hpet_of, or_later, fadt_kind, faults_of, own_header_at, stream_by, streams_by, unless_valid, valid_headers, lookup, found_at, kind_ranges, members_of, tables_found, mcfg_kind, found_regions, both_place_ranges, dsdt_place, dsdt_place_ranges, facs_at, facs_length_in, facs_place, facs_place_ranges, facs_ranges, led_by, led_ranges, place_at, place_ranges, places_of, madt_kind, platform_of, root_kind, root_of_revision, mailbox_found, kind_of, memory_of, pointers_of, root_address_of, root_of, AcpiTables, opened_at, opened_from, opened_by_rsdp, opened_by_search, area_ranges, length_ranges, opened_ranges, or_else_ranges, rsdp_ranges, search_ranges, walk_ranges, opened_by_rsdp_ranges, opened_by_search_ranges, check_whole, checked_length, root_of_rsdp, rsdp_at, count_of, first_area, found_in, found_rsdp, or_else, room_of, second_area, walk, word_in, Area, areas_ranges, count_in, first_in, found_among, found_in_areas, walk_in, opened_in_areas_ranges, opened_in_areas, last_in}
 use Rattle.acpi_base.specs.Ranges as ranges
 
 -- ---- lookups
@@ -297,8 +297,12 @@ same_search m n h = rw (same_word m n h.0) (then_same m n (λ word. area_ranges 
 
 -- ---- what is opened
 
+pub same_accepted_opened : (accept : ℕ) → DependsOn (accepted_opened_ranges accept) (accepted_opened accept)
+same_accepted_opened accept m n place h =
+    rw (same_table (accepted accept (root_kind place.kind)) m n place.address h) refl
+
 pub same_opened : DependsOn opened_ranges opened_from
-same_opened m n place h = rw (same_table (root_kind place.kind) m n place.address h) refl
+same_opened = same_accepted_opened 0
 
 pub same_opened_at : (m n : Memory) (revision address : ℕ)
     → AgreesOn m n (opened_ranges m (root_of_revision revision address))

@@ -1,4 +1,4 @@
-//! All valid tables of a type.
+//! All accepted tables of a type.
 ghost use Rattle.std.proofs.Props.{props};
 ghost use Rattle.std.specs.Prelude.{◌≡◌};
 ghost use Rattle.acpi_base.specs.FromStd.{YieldsFirstBy, item_count};
@@ -12,7 +12,7 @@ use crate::walk::{Asked, next_asked};
 use acpi_base::{AcpiTable, Lender, PhysicalMapping};
 use std::marker::PhantomData;
 
-/// The members of the root table that are valid for `T`, in its order, as `AcpiTables::find_tables` gives
+/// The members of the root table that are accepted for `T`, in its order, as `AcpiTables::find_tables` gives
 /// them: each is a mapping of the table. A table that is listed twice comes twice.
 #[derive(Drop)]
 pub struct FoundTables<'t, 'h, H: Lender, T: AcpiTable> {
@@ -68,7 +68,7 @@ impl<'h, H: Lender, T: AcpiTable> Iterator for FoundTables<'_, 'h, H, T> {
     }
 }
 
-/// A table that is valid for `T`.
+/// A table that is accepted for `T`.
 impl<H: Lender, T: AcpiTable> Asked for PhysicalMapping<'_, H, T> {
     ghost ranges = { λ a m. table_ranges m (accepted a T.kind) };
 }

@@ -1,4 +1,4 @@
-//! The AML of all valid SSDTs.
+//! The AML of all accepted SSDTs.
 ghost use Rattle.std.proofs.Props.{props};
 ghost use Rattle.std.specs.Prelude.{◌≡◌};
 ghost use Rattle.acpi_base.specs.FromStd.{YieldsFirst, item_count, result_ok};
@@ -13,7 +13,7 @@ use crate::walk::{Asked, Found, next_found};
 use acpi_base::Lender;
 use acpi_base::sdt::Signature;
 
-/// The AML of all members that are valid SSDTs (section 5.2.11.2), in the order of the root table, as
+/// The AML of all members that are accepted as SSDTs (section 5.2.11.2), in the order of the root table, as
 /// `AcpiTables::ssdts` gives it. A table that is listed twice comes twice.
 #[derive(Drop)]
 pub struct SsdtIterator<'t, 'h, H: Lender> {

@@ -27,6 +27,9 @@ use std::alloc::{Allocator, Global};
 /// The tables that a root table leads to: an RSDT (section 5.2.7) or an XSDT (section 5.2.8). Its pointers
 /// are physical addresses, and what they lead to are its members, in the order of the pointers. The root
 /// table stays mapped until this is dropped.
+///
+/// A table is accepted if it is valid, but for the checks that the policy `P` gives up. Without a policy it has to be
+/// valid.
 #[derive(Drop)]
 pub struct AcpiTables<'h, H: Lender, P: Policy = Valid> {
     policy: P,
@@ -64,7 +67,7 @@ impl<'h, H: Lender, P: Policy> AcpiTables<'h, H, P> {
         Pointers::new(self.kind.width(), skip(self.root.bytes(), 36))
     }
 
-    /// The bytes of the first member that is valid for `T`.
+    /// The bytes of the first member that is accepted for `T`.
     fn first_valid<T: AcpiTable>(&self) -> AcpiResult<ValidTable<'h, H>>
         requires { AllowsBelow self.now (λ m. lookup_ranges m (accepted_by self.now T.kind)) }
         ensures handler { IfOk result (λ v. claimed_from v.claim ≡ lender_of self.now) }
@@ -85,10 +88,10 @@ impl<'h, H: Lender, P: Policy> AcpiTables<'h, H, P> {
         Err(AcpiError::TableMissing(T::SIGNATURE))
     }
 
-    /// The first member of the root table that is valid for `T` (sections 5.2.7 and 5.2.8): its address
+    /// The first member of the root table that is accepted for `T` (sections 5.2.7 and 5.2.8): its address
     /// is the mapping's `physical_start`, and its bytes are the mapping's.
     ///
-    /// Fails with `TableMissing`, carrying `T::SIGNATURE`, if no member is valid for `T`. A
+    /// Fails with `TableMissing`, carrying `T::SIGNATURE`, if no member is accepted for `T`. A
     /// member that isn't lent, or fails another check, is passed over.
     #[inline(always)]
     pub fn find_table<T: AcpiTable>(&self) -> AcpiResult<PhysicalMapping<'h, H, T>>
@@ -98,10 +101,14 @@ impl<'h, H: Lender, P: Policy> AcpiTables<'h, H, P> {
         ensures lent { IfOk result (λ m. IsOfMemory (memory_of self.now) m) }
         ensures exact { Gives (λ m. (start_of m, bytes_of m)) result
             (of_tables self.now (λ m. lookup m (accepted_by self.now T.kind))) }
-        // In the reader's words: the table found is valid, and none listed before it is.
+        // Of tables that were opened without a policy: the first that is valid for the type. The clauses below are about
+        // that too, since by 0 a kind is as it was.
+        ensures strict { accept_of self.now ≡ 0
+            → Gives (λ m. (start_of m, bytes_of m)) result (of_tables self.now (λ m. lookup m T.kind)) }
+        // In the reader's words: the table found is accepted, and none listed before it is.
         ensures first { IfOk result (λ m.
             IsFirstValid (memory_of self.now) (accepted_by self.now T.kind) (pointers_of self.now) (start_of m) (bytes_of m)) }
-        // A member that isn't valid, put anywhere into the list, changes nothing.
+        // A member that isn't accepted, put anywhere into the list, changes nothing.
         ensures skips { (before after : List ℕ) (p : ℕ) → pointers_of self.now ≡ before ++ after
             → IsErr (table_at (memory_of self.now) (accepted_by self.now T.kind) p)
             → Gives (λ m. (start_of m, bytes_of m)) result
@@ -121,7 +128,7 @@ impl<'h, H: Lender, P: Policy> AcpiTables<'h, H, P> {
         }
     }
 
-    /// The first member of the root table that is a valid FADT (section 5.2.9), as `find_table` finds it: a
+    /// The first member of the root table that is accepted as a FADT (section 5.2.9), as `find_table` finds it: a
     /// field of it is read when it is asked for.
     ///
     /// Fails as `find_table` does.
@@ -141,7 +148,7 @@ impl<'h, H: Lender, P: Policy> AcpiTables<'h, H, P> {
         Ok(FadtView::new(self.first_valid::<Fadt>()?))
     }
 
-    /// The AML of all members that are valid SSDTs, in order (section 5.2.11.2). It gives at most
+    /// The AML of all members that are accepted as SSDTs, in order (section 5.2.11.2). It gives at most
     /// one for each pointer.
     pub fn ssdts(&self) -> SsdtIterator<'_, 'h, H>
         requires { AllowsBelow self.now (λ m. kind_ranges m (accepted_by self.now (plain_kind SSDT))) }
@@ -158,9 +165,9 @@ impl<'h, H: Lender, P: Policy> AcpiTables<'h, H, P> {
     }
 
     /// The AML of the DSDT (section 5.2.11.1): that of the table at the address that the first
-    /// valid FADT gives (section 5.2.9).
+    /// accepted FADT gives (section 5.2.9).
     ///
-    /// Fails, in this order, with `TableMissing` if no valid FADT is listed, `InvalidDsdtAddress` if
+    /// Fails, in this order, with `TableMissing` if no accepted FADT is listed, `InvalidDsdtAddress` if
     /// that FADT gives no address, and with the error of the table there: `MapFailed`,
     /// `SdtInvalidSignature` and so on, carrying the DSDT's signature.
     #[tactic(auto, using(crate::proofs::Agreed::dsdt_from_tables))]
@@ -183,7 +190,7 @@ impl<'h, H: Lender, P: Policy> AcpiTables<'h, H, P> {
     }
 
     /// Why members were passed over in a lookup of `T`: the address and the error of each member
-    /// before the first one that is valid for `T` (of all members if none is) whose error isn't
+    /// before the first one that is accepted for `T` (of all members if none is) whose error isn't
     /// `SdtInvalidSignature`, in order. It gives at most one for each pointer.
     pub fn faults<T: AcpiTable>(&self) -> TableFaults<'_, 'h, H, T>
         requires { AllowsBelow self.now (λ m. lookup_ranges m (accepted_by self.now T.kind)) }

@@ -4,7 +4,7 @@ use Rattle.acpi_base.specs.FromStd.{is_utf8}
 use Rattle.acpi_base.proofs.FromStd.{bytes_eq-Decides, eqb-true, leb-true, ne_eqb}
 use Rattle.acpi_base.proofs.OwnTable.{Passed, checked_last, is_whole, length_there, names_there, no_header, names_and_sum, only_sum_left, passed, passes, refused_by_names, signature_first}
 use Rattle.acpi_base.proofs.Steps.{bind_ok}
-use Rattle.acpi_base.specs.Words.{AcceptsNothing, AcceptsValid, AcpiError, IsGivenUp, KeepsChecks, KeepsNames, KeepsSums, Kind, Memory, SdtHeader, SdtInvalidChecksum, SdtInvalidOemId, SdtInvalidSignature, SdtInvalidTableId, Signature, accepted, check_ids, check_names, check_signature, has_bit, header_at, holds, left_of, lent, loosened, part, sdt_kind, sum_of, table_at, unchecked, whole_ranges, ◌>>=◌}
+use Rattle.acpi_base.specs.Words.{AcceptsNothing, AcceptsValid, AcpiError, IsGivenUp, KeepsChecks, KeepsNames, KeepsSums, Kind, Memory, OwnIsValid, SdtHeader, SdtInvalidChecksum, SdtInvalidOemId, SdtInvalidSignature, SdtInvalidTableId, Signature, accepted, check_ids, check_names, check_signature, has_bit, header_at, holds, left_of, lent, loosened, own_accepted, part, sdt_kind, sum_of, table_at, unchecked, whole_ranges, ◌>>=◌}
 
 -- ---- the header
 
@@ -186,6 +186,10 @@ none_given_up accept k none = none_if (has_bit accept 0) (has_bit accept 1) k no
 
 pub accepts_nothing : AcceptsNothing
 accepts_nothing k = refl
+
+pub own_is_valid : OwnIsValid
+unfolding own_accepted
+own_is_valid m p = refl
 
 held : (b : Bool) (e : AcpiError) → holds b e ≡ Ok tt → b ≡ true
 held true e is = refl

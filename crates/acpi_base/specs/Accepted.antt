@@ -6,7 +6,7 @@ use Rattle.acpi_base.specs.Bytes.{sum_of}
 use Rattle.acpi_base.specs.Header.{check_names, check_signature, header_at}
 use Rattle.acpi_base.specs.Memory.{Memory}
 use Rattle.acpi_base.specs.Steps.{◌>>=◌, holds, lent}
-use Rattle.acpi_base.specs.Table.{Kind, sdt_kind, table_at}
+use Rattle.acpi_base.specs.Table.{Kind, plain_kind, sdt_kind, table_at}
 
 -- what is left of the result of a kind's own check of bytes: an error of the sum counts only if no sum is given up, and
 -- one of an id only if no ids are; after one of an id that is given up, only the sum is left to check
@@ -50,6 +50,11 @@ own_table_at = own_accepted 0
 -- by 0 each kind is as it was, so each call that is passed an `accept` of 0 is the strict one
 abbrev pub AcceptsNothing : Type 0
 AcceptsNothing = (k : Kind) → accepted 0 k ≡ k
+
+-- a table that is valid under its own signature: its header is mapped, and it is valid under the signature there
+abbrev pub OwnIsValid : Type 0
+OwnIsValid = (m : Memory) (p : ℕ)
+    → own_table_at m p ≡ (lent m p 36 >>= λ head. table_at m (plain_kind (header_at head).signature) p)
 
 -- a table that is valid for a kind is accepted by any bits, whatever else the kind checks beside the names
 abbrev pub AcceptsValid : Type 0

@@ -6,6 +6,7 @@ pub use Rattle.acpi_base.specs.Accepted.{
   KeepsChecks,
   KeepsNames,
   KeepsSums,
+  OwnIsValid,
   accepted,
   left_of,
   loosened,

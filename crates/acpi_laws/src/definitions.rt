@@ -1,6 +1,6 @@
 //! Laws of the definitions of memory, numbers, codes, entries, pointers, lookups, what is accepted, the search, members
 //! and places.
-ghost use Rattle.acpi_base.specs.Words.{AcceptsNothing, AcceptsValid, CodesDecode, CutIsCut, KeepsChecks, KeepsNames, KeepsSums, OneCut, FieldPastEnd, LentIsInside, NamesAreSpelled};
+ghost use Rattle.acpi_base.specs.Words.{AcceptsNothing, AcceptsValid, CodesDecode, CutIsCut, KeepsChecks, KeepsNames, KeepsSums, OneCut, FieldPastEnd, LentIsInside, NamesAreSpelled, OwnIsValid};
 ghost use Rattle.acpi_fixed.specs.Words.{ProfilesDecode};
 ghost use Rattle.acpi.specs.Words.{LookupIsFirst, OnePointers, SecondAreas, SkipsInvalid};
 ghost use Rattle.acpi_laws.specs.PlatformLaws.{FirstBoots, ListedOnce, PlatformIsTheirs, RegistersAreTheTables};
@@ -41,6 +41,8 @@ pub fn definitions_hold()
     ensures skips { SkipsInvalid }
     // By an `accept` of 0 a kind of tables is as it was, so each call is that for valid tables.
     ensures strict { AcceptsNothing }
+    // A table is valid under its own signature if it is valid under the one that its header has.
+    ensures own { OwnIsValid }
     // A table that is valid for a kind is accepted by any bits, whatever the kind checks of a table's bytes.
     ensures valid { AcceptsValid }
     // Of a table that is accepted the kind's own check has no error, or one of a check that is given up.

@@ -23,6 +23,8 @@ impl<'h, H: Lender> AcpiTables<'h, H> {
     pub fn from_rsdp(handler: &'h H, address: u64) -> AcpiResult<Self>
         requires { Allows (H.may handler.now) (opened_by_rsdp_ranges (H.memory handler.now) address) }
         ensures handler { IfOk result (λ t. lender_of t ≡ handler.now) }
+        // No check is given up, here and in what is looked up below the root table.
+        ensures strict { IfOk result (λ t. accept_of t ≡ 0) }
         ensures exact { Gives (λ t. opened_of t) result
             (opened_by_rsdp (H.memory handler.now) address) }
         // In the reader's words: the root table's bytes encode these pointers and no others.
@@ -43,6 +45,8 @@ impl<'h, H: Lender> AcpiTables<'h, H> {
     pub fn search_for_rsdp_bios(handler: &'h H) -> AcpiResult<Self>
         requires { Allows (H.may handler.now) (opened_by_search_ranges (H.memory handler.now)) }
         ensures handler { IfOk result (λ t. lender_of t ≡ handler.now) }
+        // No check is given up, here and in what is looked up below the root table.
+        ensures strict { IfOk result (λ t. accept_of t ≡ 0) }
         ensures exact { Gives (λ t. opened_of t) result (opened_by_search (H.memory handler.now)) }
         // In the reader's words: the root table's bytes encode these pointers and no others.
         ensures pointers { IfOk result (λ t. SpellsPointers t) }
@@ -63,6 +67,8 @@ impl<'h, H: Lender> AcpiTables<'h, H> {
         requires { Allows (H.may handler.now)
             (opened_in_areas_ranges (H.memory handler.now) areas.now) }
         ensures handler { IfOk result (λ t. lender_of t ≡ handler.now) }
+        // No check is given up, here and in what is looked up below the root table.
+        ensures strict { IfOk result (λ t. accept_of t ≡ 0) }
         ensures exact { Gives (λ t. opened_of t) result
             (opened_in_areas (H.memory handler.now) areas.now) }
         // In the reader's words: the root table's bytes encode these pointers and no others.
@@ -88,6 +94,8 @@ impl<'h, H: Lender> AcpiTables<'h, H> {
         requires asked { Allows (H.may handler.now)
             (opened_by_rsdp_ranges (H.memory handler.now) (start_of mapping)) }
         ensures handler { IfOk result (λ t. lender_of t ≡ handler.now) }
+        // No check is given up, here and in what is looked up below the root table.
+        ensures strict { IfOk result (λ t. accept_of t ≡ 0) }
         ensures exact { Gives (λ t. opened_of t) result
             (opened_by_rsdp (H.memory handler.now) (start_of mapping.entry)) }
         // In the reader's words: the root table's bytes encode these pointers and no others.
@@ -131,6 +139,8 @@ impl<'h, H: Lender> AcpiTables<'h, H> {
         requires { Allows (H.may handler.now)
             (opened_ranges (H.memory handler.now) (root_of_revision revision address)) }
         ensures handler { IfOk result (λ t. lender_of t ≡ handler.now) }
+        // No check is given up, here and in what is looked up below the root table.
+        ensures strict { IfOk result (λ t. accept_of t ≡ 0) }
         ensures exact { Gives (λ t. opened_of t) result
             (opened_at (H.memory handler.now) (revision, address)) }
         // In the reader's words: the root table's bytes encode these pointers and no others.
@@ -173,6 +183,10 @@ impl<'h, H: Lender, P: Policy> AcpiTables<'h, H, P> {
             (accepted_opened (P.bits policy) (H.memory handler.now) root_pointer) }
         // In the reader's words: the root table's bytes encode these pointers and no others.
         ensures pointers { IfOk result (λ t. SpellsPointers t) }
+        // It depends on the root table and on no other byte.
+        ensures footprint { let m = H.memory handler.now in
+            Footprint m (accepted_opened_ranges (P.bits policy) m root_pointer)
+            (λ n. accepted_opened (P.bits policy) n root_pointer) (Gives (λ t. opened_of t) result) }
     {
         let signature = root_pointer.kind.signature();
         let least = SdtHeader::MIN_LENGTH;

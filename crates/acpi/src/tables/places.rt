@@ -1,7 +1,7 @@
 //! The places of the tables, all tables of a type, and a lookup by a signature.
 ghost use Rattle.std.specs.Prelude.{◌≡◌, ◌^◌, ◌<◌, ◌≤◌, ◌+◌, List, Ok, IfOk, length, map};
 ghost use Rattle.acpi_base.specs.FromStd.{result_ok};
-ghost use Rattle.acpi_base.specs.Words.{IsLentOf, claimed_at, claimed_from, own_accepted, own_accepted_ranges, sdt_kind, shown_by, table_at, table_ranges, IsOfMemory, bytes_of, handler_of, start_of, Allows, Gives, plain_kind};
+ghost use Rattle.acpi_base.specs.Words.{IsLentOf, claimed_at, claimed_from, own_accepted, own_accepted_ranges, sdt_kind, shown_by, table_at, table_ranges, IsOfMemory, bytes_of, handler_of, start_of, Allows, Footprint, Gives, plain_kind};
 ghost use Rattle.acpi_fixed.specs.Words.{viewed};
 ghost use Rattle.acpi.specs.Words.{AllowsBelow, FootprintBelow, header_ranges, lookup_ranges, lookup, kind_ranges, members_of, tables_found, found_left, members_left, places_left, root_place, pointers_left, dsdt_place, dsdt_place_ranges, facs_place, facs_place_ranges, accepted_led, accepted_led_ranges, led_by, led_ranges, place_ranges, places_of, signature_of, accept_of, accepted_by, kind_of, lender_of, may_of, memory_of, of_tables, pointers_of, root_address_of, root_of};
 
@@ -58,10 +58,10 @@ impl<'h, H: Lender, P: Policy> AcpiTables<'h, H, P> {
         self.pointers()
     }
 
-    /// The first member of the root table that is valid under a signature that is known only at run time
+    /// The first member of the root table that is accepted under a signature that is known only at run time
     /// (section 5.2.6), with at least the 36 bytes of a header, mapped as its header.
     ///
-    /// Fails with `TableMissing`, carrying the signature, if no member is valid so. A member that
+    /// Fails with `TableMissing`, carrying the signature, if no member is accepted so. A member that
     /// isn't lent, or fails another check, is passed over.
     pub fn find_sdt(&self, signature: Signature) -> AcpiResult<PhysicalMapping<'h, H, SdtHeader>>
         requires { AllowsBelow self.now (λ m. lookup_ranges m (accepted_by self.now (plain_kind signature))) }
@@ -79,8 +79,8 @@ impl<'h, H: Lender, P: Policy> AcpiTables<'h, H, P> {
         Ok(found.mapping())
     }
 
-    /// The bytes of the first member of the root table that is valid under a signature and a least length that are
-    /// known only at run time (section 5.2.6).
+    /// The bytes of the first member of the root table that is accepted under a signature and a least length, of at least
+    /// 36, that are known only at run time (section 5.2.6).
     ///
     /// Fails as `find_sdt` does.
     #[inline(never)]
@@ -93,6 +93,11 @@ impl<'h, H: Lender, P: Policy> AcpiTables<'h, H, P> {
         ensures ends { IfOk result (λ v. claimed_at v.claim + length (shown_by v.claim) < 2 ^ 64) }
         ensures found { Gives (λ v. (claimed_at v.claim, shown_by v.claim)) result
             (of_tables self.now (λ m. lookup m (accepted_by self.now (sdt_kind signature least)))) }
+        // It depends on what a lookup depends on.
+        ensures footprint { FootprintBelow self.now
+            (λ m. lookup_ranges m (accepted_by self.now (sdt_kind signature least)))
+            (λ n. lookup n (accepted_by self.now (sdt_kind signature least)))
+            (Gives (λ v. (claimed_at v.claim, shown_by v.claim)) result) }
     {
         for address in self.pointers() {
             if let Ok(found) = valid_by(
@@ -108,7 +113,7 @@ impl<'h, H: Lender, P: Policy> AcpiTables<'h, H, P> {
         Err(AcpiError::TableMissing(signature))
     }
 
-    /// The table at a physical address, whether it is a member or not, mapped as its header, if it is valid under a
+    /// The table at a physical address, whether it is a member or not, mapped as its header, if it is accepted under a
     /// signature that is known only at run time (section 5.2.6).
     ///
     /// Fails as `sdt::map_sdt` does, but for the checks that are given up.
@@ -127,6 +132,9 @@ impl<'h, H: Lender, P: Policy> AcpiTables<'h, H, P> {
         ensures ends { IfOk result (λ m. start_of m + length (bytes_of m) < 2 ^ 64) }
         ensures table { Gives (λ m. bytes_of m) result
             (table_at (memory_of self.now) (accepted_by self.now (plain_kind signature)) address) }
+        // It depends on that table and on no other byte.
+        ensures footprint { let m = memory_of self.now in let k = accepted_by self.now (plain_kind signature) in
+            Footprint m (table_ranges m k address) (λ n. table_at n k address) (Gives (λ m. bytes_of m) result) }
     {
         let accept = self.policy.bits();
         let table = valid_by(
@@ -139,7 +147,7 @@ impl<'h, H: Lender, P: Policy> AcpiTables<'h, H, P> {
         Ok(table.mapping())
     }
 
-    /// The table at a physical address, whether it is a member or not, mapped as its header, if it is valid under the
+    /// The table at a physical address, whether it is a member or not, mapped as its header, if it is accepted under the
     /// signature that it has itself (section 5.2.6).
     ///
     /// Fails as `sdt_at` does for that signature.
@@ -153,12 +161,16 @@ impl<'h, H: Lender, P: Policy> AcpiTables<'h, H, P> {
         ensures ends { IfOk result (λ m. start_of m + length (bytes_of m) < 2 ^ 64) }
         ensures table { Gives (λ m. bytes_of m) result
             (own_accepted (accept_of self.now) (memory_of self.now) address) }
+        // It depends on that table and on no other byte.
+        ensures footprint { let m = memory_of self.now in let accept = accept_of self.now in
+            Footprint m (own_accepted_ranges accept m address) (λ n. own_accepted accept n address)
+            (Gives (λ m. bytes_of m) result) }
     {
         let table = own_valid_by(self.root.handler(), address, self.policy.bits())?;
         Ok(table.mapping())
     }
 
-    /// The table at a physical address, whether it is a member or not, if it is valid for `T` (section 5.2.6).
+    /// The table at a physical address, whether it is a member or not, if it is accepted for `T` (section 5.2.6).
     ///
     /// Fails as `sdt::map_table` does, but for the checks that are given up.
     pub fn table_at<T: AcpiTable>(&self, address: u64) -> AcpiResult<PhysicalMapping<'h, H, T>>
@@ -169,11 +181,14 @@ impl<'h, H: Lender, P: Policy> AcpiTables<'h, H, P> {
         ensures lent { IfOk result (λ m. IsOfMemory (memory_of self.now) m) }
         ensures table { Gives (λ m. bytes_of m) result
             (table_at (memory_of self.now) (accepted_by self.now T.kind) address) }
+        // It depends on that table and on no other byte.
+        ensures footprint { let m = memory_of self.now in let k = accepted_by self.now T.kind in
+            Footprint m (table_ranges m k address) (λ n. table_at n k address) (Gives (λ m. bytes_of m) result) }
     {
         map_accepted(self.root.handler(), address, self.policy.bits())
     }
 
-    /// All members of the root table that are valid for `T`, in order. It gives at most one for each
+    /// All members of the root table that are accepted for `T`, in order. It gives at most one for each
     /// pointer.
     pub fn find_tables<T: AcpiTable>(&self) -> FoundTables<'_, 'h, H, T>
         requires { AllowsBelow self.now (λ m. kind_ranges m (accepted_by self.now T.kind)) }
@@ -189,10 +204,10 @@ impl<'h, H: Lender, P: Policy> AcpiTables<'h, H, P> {
         FoundTables::new(self.root.handler(), self.pointers(), self.policy.bits())
     }
 
-    /// Where the FACS lies, as many bytes as its Length says (section 5.2.10): that of the first valid FADT (section
+    /// Where the FACS lies, as many bytes as its Length says (section 5.2.10): that of the first accepted FADT (section
     /// 5.2.9).
     ///
-    /// Fails, in this order, with `TableMissing` if no valid FADT is listed, `InvalidFacsAddress` if that FADT gives no
+    /// Fails, in this order, with `TableMissing` if no accepted FADT is listed, `InvalidFacsAddress` if that FADT gives no
     /// address, `MapFailed` if 36 bytes aren't lent there, as `facs_length` does, and with `MapFailed` if as many bytes
     /// as the length says aren't lent.
     #[tactic(auto, using(crate::proofs::Agreed::facs_from_tables))]

@@ -1,6 +1,6 @@
 //! The table at an address (section 5.2.6).
 ghost use Rattle.std.specs.Prelude.{◌≡◌, ℕ, true, ◌+◌, ◌^◌, ◌<◌, ◌≤◌, ◌||◌, length, IfErr, IfOk, Ok, Err};
-ghost use Rattle.acpi_base.specs.Words.{IsLentOf, IsWholeClaim, accepted, has_bit, left_of, claimed_at, claimed_from, header_at, own_accepted, own_accepted_ranges, sdt_kind, shown_by, unchecked, all_of, IsOfMemory, start_of, bytes_of, handler_of, lent_of, Allows, table_ranges, whole_ranges, Gives, lent, Kind, plain_kind, table_at, check_names};
+ghost use Rattle.acpi_base.specs.Words.{IsLentOf, IsWholeClaim, accepted, has_bit, left_of, claimed_at, claimed_from, header_at, own_accepted, own_accepted_ranges, own_table_at, own_table_ranges, sdt_kind, shown_by, unchecked, all_of, IsOfMemory, start_of, bytes_of, handler_of, lent_of, Allows, table_ranges, whole_ranges, Gives, lent, Kind, plain_kind, table_at, check_names};
 
 use super::AcpiTable;
 use super::header::SdtHeader;
@@ -68,7 +68,7 @@ fn claim_whole<'h, H: Lender>(
     }
 }
 
-/// The bytes of a table that is valid for some type, as they are mapped: small, so that a walk along
+/// The bytes of a table that is accepted for some type, as they are mapped: small, so that a walk along
 /// many addresses makes nothing as big as a record of the ones that it skips.
 pub struct ValidTable<'h, H: Lender> {
     claim: Claim<'h, H>,
@@ -359,13 +359,13 @@ pub fn map_own_sdt<'h, H: Lender>(
     handler: &'h H,
     address: u64,
 ) -> AcpiResult<PhysicalMapping<'h, H, SdtHeader>>
-    requires { Allows (H.may handler.now) (own_accepted_ranges 0 (H.memory handler.now) address) }
+    requires { Allows (H.may handler.now) (own_table_ranges (H.memory handler.now) address) }
     ensures place { IfOk result (λ m. start_of m ≡ address) }
     ensures handler { IfOk result (λ m. handler_of m ≡ handler.now) }
     // However many bytes are mapped, all of them are the memory's.
     ensures lent { IfOk result (λ m. IsOfMemory (H.memory handler.now) m) }
     ensures short { IfOk result (λ m. length (bytes_of m) < 2 ^ 32) }
-    ensures table { Gives (λ m. bytes_of m) result (own_accepted 0 (H.memory handler.now) address) }
+    ensures table { Gives (λ m. bytes_of m) result (own_table_at (H.memory handler.now) address) }
 {
     let valid = own_valid_by(handler, address, 0)?;
     Ok(valid.mapping())

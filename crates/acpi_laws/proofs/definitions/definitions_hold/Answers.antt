@@ -2,7 +2,7 @@ use Rattle.std.proofs.Common.{rules}
 use Rattle.acpi.proofs.First.{lookup_is_first, skips_invalid}
 use Rattle.acpi.proofs.Placing.{addresses_are}
 use Rattle.acpi.proofs.Spelled.{one_pointers}
-use Rattle.acpi_base.proofs.Accepted.{accepts_nothing, accepts_valid, keeps_checks, keeps_names, keeps_sums}
+use Rattle.acpi_base.proofs.Accepted.{accepts_nothing, accepts_valid, keeps_checks, keeps_names, keeps_sums, own_is_valid}
 use Rattle.acpi_base.proofs.Words.{codes_decode, cut_is_cut, field_past_end, lent_is_inside, one_cut}
 use Rattle.acpi_fixed.proofs.Profiles.{profiles_decode}
 use Rattle.acpi_laws.proofs.Placed.{first_is_found, found_by_signature, headers_of_members, root_lies_in_range, tables_lie_in_ranges}
@@ -26,6 +26,7 @@ returns c = record {
   lookup = lookup_is_first;
   skips = skips_invalid;
   strict = accepts_nothing;
+  own = own_is_valid;
   valid = accepts_valid;
   checks_kept = keeps_checks;
   sums_kept = keeps_sums;

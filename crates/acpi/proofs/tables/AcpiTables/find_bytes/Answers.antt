@@ -1,5 +1,6 @@
-use Rattle.std.proofs.Common.{subst, sym, ◌∙◌}
+use Rattle.std.proofs.Common.{rules, subst, sym, ◌∙◌}
 use Rattle.acpi_base.specs.Words.{Allows, accepted, sdt_kind, table_ranges}
+use Rattle.acpi.proofs.Agreed.{from_tables, same_lookup}
 use Rattle.acpi.proofs.Asked.{asked_member, found_member, later_kept}
 use Rattle.acpi.specs.Words.{accepted_by, may_of, memory_of}
 use Rattle.acpi.proofs.tables.AcpiTables.find_bytes.Goals as goal
@@ -33,3 +34,13 @@ returns-in-Ok-clause-handler g c = c.in-Ok.ensures.handler ∙ c.handler.ensures
 
 pub returns-in-Ok-clause-lent : goal.returns-in-Ok-clause-lent
 returns-in-Ok-clause-lent g c = rw c.handler.ensures at c.in-Ok.ensures.lent
+
+pub returns-in-Ok-clause-footprint : goal.returns-in-Ok-clause-footprint
+returns-in-Ok-clause-footprint g c n h =
+    rw (from_tables c.args.self.now _ _ (same_lookup (accepted_by c.args.self.now (sdt_kind c.args.signature
+    c.args.least))) c.args.self.now.valid n h) (returns-in-Ok-clause-found g c)
+
+pub returns-clause-footprint : goal.returns-clause-footprint
+returns-clause-footprint g c n h =
+    rw (from_tables c.args.self.now _ _ (same_lookup (accepted_by c.args.self.now (sdt_kind c.args.signature
+    c.args.least))) c.args.self.now.valid n h) (search rules)

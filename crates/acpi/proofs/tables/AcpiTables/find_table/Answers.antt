@@ -1,7 +1,7 @@
-use Rattle.std.proofs.Common.{ap, Ok, ◌∙◌}
-use Rattle.acpi_base.specs.Words.{bytes_of, start_of}
+use Rattle.std.proofs.Common.{◌≡◌, ap, Err, Ok, subst, ◌∙◌}
+use Rattle.acpi_base.specs.Words.{accepted, bytes_of, start_of}
 use Rattle.acpi.specs.Types.{TableMissing}
-use Rattle.acpi.specs.Words.{accepted_by}
+use Rattle.acpi.specs.Words.{accepted_by, lookup, memory_of, pointers_of}
 use Rattle.acpi.proofs.Agreed.{from_tables, same_lookup}
 use Rattle.acpi.proofs.First.{gives_absent, gives_first, gives_skipping, none_valid, skips_invalid}
 use Rattle.acpi.proofs.tables.AcpiTables.find_table.Goals as goal
@@ -43,3 +43,9 @@ pub returns-in-Err-clause-footprint : goal.returns-in-Err-clause-footprint
 returns-in-Err-clause-footprint g c = λ n h.
     rw (from_tables c.args.self.now _ _ (same_lookup (accepted_by c.args.self.now g.T.AcpiTable.kind)) c.args.self.now.valid n h)
     c.in-Err.ensures.found
+
+pub returns-in-Err-clause-strict : goal.returns-in-Err-clause-strict
+returns-in-Err-clause-strict g c = λ strict.
+    let t = c.args.self.now in
+    subst (λ accept. lookup (memory_of t) (accepted accept g.T.AcpiTable.kind) (pointers_of t)
+    ≡ Err c.in-Err.error) strict c.in-Err.ensures.found
