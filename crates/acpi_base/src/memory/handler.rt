@@ -4,7 +4,7 @@ ghost use Rattle.acpi_base.specs.Memory.{Memory, IsMemory, at};
 ghost use Rattle.acpi_base.specs.Types.{MapFailed};
 
 use crate::bytes::field;
-use crate::error::AcpiResult;
+use crate::error::{AcpiError, AcpiResult};
 
 /// Maps physical memory, in the kernel or the boot loader that implements this.
 ///
@@ -71,7 +71,12 @@ impl<H: AcpiHandler> Lender for H {
     ghost may = { λ _ _ _. true };
 
     fn lend(&self, address: u64, size: usize) -> AcpiResult<&[u8]> {
-        self.map_physical_region(address, size)
+        let lent = self.map_physical_region(address, size)?;
+        // No handler that is proved maps fewer.
+        if lent.len() < size {
+            return Err(AcpiError::MapFailed);
+        }
+        Ok(lent)
     }
 
     fn end_loan(&self, address: u64, region_length: usize, mapped_length: usize) {
