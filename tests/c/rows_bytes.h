@@ -12,6 +12,9 @@ static const struct zacpi_region placed[] = {{0x1000, sixteen, 16}, {0x1010, six
                                             {0x2000, sixteen, 8}, {ONES - 16, sixteen, 16}};
 static const struct zacpi_region placed_over[] = {{0x1000, sixteen, 16}, {0x100f, sixteen, 1}};
 static const struct zacpi_region placed_too_high[] = {{0x1000, sixteen, 16}, {ONES - 15, sixteen, 16}};
+/* Two at fault, each before the other: a region that begins too low, and one that ends too high. */
+static const struct zacpi_region placed_low_first[] = {{0x1000, sixteen, 16}, {0x100f, sixteen, 1}, {ONES, sixteen, 1}};
+static const struct zacpi_region placed_high_first[] = {{0x1000, sixteen, 16}, {ONES, sixteen, 1}, {0x100f, sixteen, 1}};
 #define REGIONS(regions) regions, sizeof(regions) / sizeof *(regions)
 
 static const struct place_row {
@@ -47,7 +50,9 @@ static const struct place_row {
     {placed, 1, 0x100f, 1, ZACPI_OK, {0, 15}},
     {placed, 2, 0x1010, 1, ZACPI_OK, {1, 0}},
     {REGIONS(placed_over), 0x1000, 1, ZACPI_REGIONS_NOT_ASCENDING, {0, 0}},
-    {REGIONS(placed_too_high), 0x1000, 1, ZACPI_REGION_TOO_HIGH, {0, 0}}};
+    {REGIONS(placed_too_high), 0x1000, 1, ZACPI_REGION_TOO_HIGH, {0, 0}},
+    {REGIONS(placed_low_first), 0x1000, 1, ZACPI_REGIONS_NOT_ASCENDING, {0, 0}},
+    {REGIONS(placed_high_first), 0x1000, 1, ZACPI_REGION_TOO_HIGH, {0, 0}}};
 
 FIELDS(of_place, F(struct zacpi_place, region), F(struct zacpi_place, offset));
 static const struct call call_locate = {"locate", NULL, of_place, sizeof(struct zacpi_place), 0};

@@ -126,6 +126,13 @@ static void shares_no_byte(void) {
     EXPECT(!make(2) && is_region(1, 0x5000, second, 0) && is_region(2, 0x5000, first, 52) && tables() == 2);
     put(0, 0x5000, first, 52), put(1, 0x5001, second, 0);
     EXPECT(make(2) == ZACPI_REGIONS_NOT_ASCENDING);
+    put(0, 0x5001, second, 0), put(1, 0x5000, first, 52);
+    EXPECT(make(2) == ZACPI_REGIONS_NOT_ASCENDING);
+    /* Of two errors the first table's comes: one that shares bytes, and one that ends too high. */
+    put(0, 0x5000, first, 52), put(1, 0x5033, second, 52), put(2, UINT64_MAX - 51, second, 52);
+    EXPECT(make(3) == ZACPI_REGIONS_NOT_ASCENDING);
+    put(0, 0x5000, first, 52), put(1, UINT64_MAX - 51, second, 52), put(2, 0x5033, second, 52);
+    EXPECT(make(3) == ZACPI_REGION_TOO_HIGH);
 }
 
 /* A region ends at 2^64 - 1 at most. The one from 1 on leaves no address to the XSDT. */
