@@ -51,11 +51,13 @@ enum {
 };
 enum { NULLS = 1, NOWHERES = 2, JUNKS = 4, NONES = 8, CROWD = NULLS | NOWHERES | JUNKS };
 
-/* No table: zeros; bytes of no memory; a table that is longer than the memory; and letters that are none. */
+/* No table: zeros; bytes of no memory; "OEM1" of 256 MiB, which is longer than the memory, and of 35 bytes; and what
+ * isn't printable, of 36 bytes. */
 static void put_none(uint64_t address, uint64_t i) {
-    memset(bytes_of_machine + address, i % 4 == 1 ? 0xff : 0, 36);
-    if (i % 4 == 2) put(address, 0x10000000314d454f, 8); /* "OEM1" of 256 MiB */
-    if (i % 4 == 3) put(address, 0x0000002401010101, 8); /* of 36 bytes */
+    memset(bytes_of_machine + address, i % 5 == 1 ? 0xff : 0, 36);
+    if (i % 5 == 2) put(address, 0x10000000314d454f, 8);
+    if (i % 5 == 3) put(address, 0x00000023314d454f, 8);
+    if (i % 5 == 4) put(address, 0x0000002401010101, 8);
 }
 static uint64_t put_pointers(uint64_t at, uint64_t first, uint64_t step) {
     uint64_t i;
@@ -133,6 +135,7 @@ static int maps_wanted(void) {
         {"DSDTFACS", CROWD, 64, 4, 64, 0x1000,
          {{ROOT, 0x1000}, {FADT, 0x1000}, {DSDT, 0x2000}, {FACS, 0x1000}}, 0, 0, MISSING},
         {"FACS", CROWD, 64, 4, 64, 1, {{ROOT, LISTED}, {FADT, 116}, {FACS, 64}}, UNMAPPED, 0, MISSING},
+        {"DSDT", CROWD, 64, 4, 64, 1, {{ROOT, LISTED}, {FADT, 116}, {DSDT, 0x1010}}, 0, UNMAPPED, MISSING},
         {"FACPDSDTFACS", CROWD, 64, 4, 1, 1,
          {{ROOT, LISTED}, {FADT, 116}, {DSDT, 0x1010}, {FACS, 64}}, 0, 0, MISSING},
         {"HPETFACPAPIC", CROWD, 64, 2, 64, 1, {{ROOT, LISTED}, {FADT, 116}}, UNMAPPED, UNMAPPED, MISSING},
@@ -178,7 +181,8 @@ struct search {
     uint32_t tables;      /* how many are listed */
     size_t capacity, room, page;
     zacpi_status status, opened;
-    uint32_t found; /* which RSDP */
+    uint32_t found;  /* which RSDP */
+    size_t searched; /* how many ranges the search requests, or 0 */
 };
 /* Of the RSDP Checksum is at 8, Revision at 15, RsdtAddress at 16, Length at 20 and Extended Checksum at 32 (section
  * 5.2.5.3). */
@@ -227,13 +231,15 @@ static int finds(const struct search *search) {
     whole.regions_length = there_count;
     whole = after_search(whole);
     unit = search->page;
-    are_kept = is_searching = 0;
+    are_kept = 0;
+    is_searching = 1;
     status = zacpi_map_tables(&mapper, &source, regions, search->capacity, ranges, search->room);
     if (status || search->status) return forget(), status == search->status && !source.regions_length;
     opened = zacpi_open(&source, &root, NULL);
     agreed = opened == search->opened && opened == zacpi_open(&whole, &root, NULL);
     agreed &= source.start == whole.start && source.address == whole.address;
     if (!opened) agreed &= source.start == ZACPI_START_RSDP && source.address == search->found;
+    if (search->searched) agreed &= searched == search->searched;
     if (!opened) agreed &= !zacpi_list_tables(&source, NULL, 0, &count, NULL) && count == search->tables;
     zacpi_unmap_tables(&mapper, &source);
     forget();
@@ -250,37 +256,45 @@ static int maps_searches(void) {
     /* clang-format off */
     static const struct search searches[] = {
         /* In the EBDA, at the end of memory; in the upper half alone; in both, of which the EBDA comes first. */
-        {USUAL, SEARCH, 0x9fc0, {{0x9fc20, 36}}, 2, 10, 8, 0x1000, 0, 0, 0x9fc20},
-        {USUAL, SEARCH, 0x9fc0, {{0xf59e0, 20}}, 2, 10, 8, 0x1000, 0, 0, 0xf59e0},
-        {USUAL, SEARCH, 0x9fc0, {{0x9fc20, 36}, {0xf59e0, 20}}, 2, 10, 8, 0x1000, 0, 0, 0x9fc20},
-        {USUAL, SEARCH, 0x9fc0, {{0x9fc20, 36}, {0xf59e0, 20}}, 2, 10, 8, 1, 0, 0, 0x9fc20},
-        {ALL, SEARCH, 0x9fc0, {{0xe0000, 36}, {0xf59e0, 20}}, 2, 10, 8, 0x10000, 0, 0, 0xe0000},
+        {USUAL, SEARCH, 0x9fc0, {{0x9fc20, 36}}, 2, 10, 8, 0x1000, 0, 0, 0x9fc20, 0},
+        {USUAL, SEARCH, 0x9fc0, {{0xf59e0, 20}}, 2, 10, 8, 0x1000, 0, 0, 0xf59e0, 0},
+        {USUAL, SEARCH, 0x9fc0, {{0x9fc20, 36}, {0xf59e0, 20}}, 2, 10, 8, 0x1000, 0, 0, 0x9fc20, 0},
+        {USUAL, SEARCH, 0x9fc0, {{0x9fc20, 36}, {0xf59e0, 20}}, 2, 10, 8, 1, 0, 0, 0x9fc20, 0},
+        {ALL, SEARCH, 0x9fc0, {{0xe0000, 36}, {0xf59e0, 20}}, 2, 10, 8, 0x10000, 0, 0, 0xe0000, 0},
         /* Without the word; with a word of no EBDA. Byte by byte nothing is at a null pointer. */
-        {USUAL & ~WITH_WORD, SEARCH, 0x9fc0, {{0x9fc20, 36}, {0xf59e0, 20}}, 2, 10, 8, 0x1000, 0, 0, 0xf59e0},
-        {USUAL, SEARCH, 0, {{0xf59e0, 20}}, 2, 10, 8, 1, 0, 0, 0xf59e0},
-        {USUAL, SEARCH, 0xffff, {{0xf59e0, 20}}, 2, 10, 8, 1, 0, 0, 0xf59e0},
+        {USUAL & ~WITH_WORD, SEARCH, 0x9fc0, {{0x9fc20, 36}, {0xf59e0, 20}}, 2, 10, 8, 0x1000, 0, 0, 0xf59e0, 0},
+        {USUAL, SEARCH, 0, {{0xf59e0, 20}}, 2, 10, 8, 1, 0, 0, 0xf59e0, 0},
+        {USUAL, SEARCH, 0xffff, {{0xf59e0, 20}}, 2, 10, 8, 1, 0, 0, 0xf59e0, 0},
         /* The last one of the BIOS area ends 4 bytes after it: 36 bytes have to be there. */
-        {USUAL | WITH_MIB, SEARCH, 0x9fc0, {{0xfffe0, 20}}, 2, 10, 8, 0x1000, 0, 0, 0xfffe0},
-        {USUAL | WITH_MIB, SEARCH, 0x9fc0, {{0xfffe0, 20}}, 2, 10, 8, 1, 0, 0, 0xfffe0},
-        {USUAL, SEARCH, 0x9fc0, {{0xfffe0, 20}}, 2, 10, 8, 0x1000, 0, NOT_FOUND, 0},
-        {USUAL, SEARCH, 0x9fc0, {{0}}, 2, 10, 8, 0x1000, 0, NOT_FOUND, 0},
-        {0, SEARCH, 0x9fc0, {{0}}, 2, 10, 8, 0x1000, 0, NOT_FOUND, 0},
+        {USUAL | WITH_MIB, SEARCH, 0x9fc0, {{0xfffe0, 20}}, 2, 10, 8, 0x1000, 0, 0, 0xfffe0, 0},
+        {USUAL | WITH_MIB, SEARCH, 0x9fc0, {{0xfffe0, 20}}, 2, 10, 8, 1, 0, 0, 0xfffe0, 0},
+        {USUAL, SEARCH, 0x9fc0, {{0xfffe0, 20}}, 2, 10, 8, 0x1000, 0, NOT_FOUND, 0, 0},
+        {USUAL, SEARCH, 0x9fc0, {{0}}, 2, 10, 8, 0x1000, 0, NOT_FOUND, 0, 0},
+        {0, SEARCH, 0x9fc0, {{0}}, 2, 10, 8, 0x1000, 0, NOT_FOUND, 0, 0},
         /* One whose Length reaches past its area is mapped first; one that reaches past the memory is skipped. */
-        {USUAL, SEARCH, 0x9f00, {{0x9f3e0, 0x100}, {0xf59e0, 20}}, 2, 10, 1, 1, 0, 0, 0x9f3e0},
-        {USUAL, SEARCH, 0x9f00, {{0x9f3e0, 0x1000}, {0xf59e0, 20}}, 2, 10, 2, 1, 0, 0, 0xf59e0},
-        {USUAL, SEARCH, 0x9f00, {{0x9f3e0, 0x1000}, {0xf59e0, 20}}, 2, 10, 2, 0x1000, 0, 0, 0xf59e0},
-        {USUAL, SEARCH, 0x9f00, {{0x9f3e0, 0x1000}, {0xf59e0, 20}}, 2, 10, 0, 1, FULL, 0, 0},
-        /* A region for each piece of the areas. */
-        {USUAL, SEARCH, 0x9fc0, {{0xf59e0, 20}}, 2, 2, 8, 0x1000, FULL, 0, 0},
-        {USUAL, SEARCH, 0x9fc0, {{0xf59e0, 20}}, 0, 3, 8, 0x1000, 0, 0, 0xf59e0},
-        {USUAL, SEARCH, 0x9fc0, {{0xf59e0, 20}}, 0, 0, 8, 0x1000, FULL, 0, 0},
+        {USUAL, SEARCH, 0x9f00, {{0x9f3e0, 0x100}, {0xf59e0, 20}}, 2, 10, 1, 1, 0, 0, 0x9f3e0, 0},
+        {USUAL, SEARCH, 0x9f00, {{0x9f3e0, 0x1000}, {0xf59e0, 20}}, 2, 10, 2, 1, 0, 0, 0xf59e0, 0},
+        {USUAL, SEARCH, 0x9f00, {{0x9f3e0, 0x1000}, {0xf59e0, 20}}, 2, 10, 2, 0x1000, 0, 0, 0xf59e0, 0},
+        {USUAL, SEARCH, 0x9f00, {{0x9f3e0, 0x1000}, {0xf59e0, 20}}, 2, 10, 1, 1, FULL, 0, 0, 0},
+        {USUAL, SEARCH, 0x9f00, {{0x9f3e0, 0x1000}, {0xf59e0, 20}}, 2, 10, 0, 1, FULL, 0, 0, 0},
+        /* A region for each piece of the areas, also if the first has an RSDP. */
+        {USUAL, SEARCH, 0x9fc0, {{0x9fc20, 36}}, 2, 2, 8, 0x1000, FULL, 0, 0, 0},
+        {USUAL, SEARCH, 0x9fc0, {{0xf59e0, 20}}, 2, 2, 8, 0x1000, FULL, 0, 0, 0},
+        {USUAL, SEARCH, 0x9fc0, {{0xf59e0, 20}}, 0, 3, 8, 0x1000, 0, 0, 0xf59e0, 0},
+        {USUAL, SEARCH, 0x9fc0, {{0xf59e0, 20}}, 0, 0, 8, 0x1000, FULL, 0, 0, 0},
+        /* The word, the KiB and the BIOS area are a range each. Else each page of an area is one, after the area
+         * itself: of the KiB two, of the BIOS area 33, or if a page has 64 KiB three. */
+        {ALL, SEARCH, 0x9f00, {{0xf59e0, 20}}, 2, 10, 8, 0x1000, 0, 0, 0xf59e0, 3},
+        {ALL, SEARCH, 0x9f00, {{0xf59e0, 20}}, 2, 10, 8, 1, 0, 0, 0xf59e0, 3},
+        {USUAL, SEARCH, 0x9fc0, {{0xf59e0, 20}}, 2, 10, 8, 0x1000, 0, 0, 0xf59e0, 1 + 3 + 34},
+        {USUAL, SEARCH, 0, {{0xf59e0, 20}}, 2, 10, 8, 0x10000, 0, 0, 0xf59e0, 1 + 4},
         /* Nine tables are below 1 MiB too: they are none of a search's, for which eight ranges are enough. */
-        {USUAL, SEARCH, 0x9fc0, {{0xf59e0, 20}}, 9, 17, 8, 0x1000, 0, 0, 0xf59e0},
-        {ALL, BIOS, 0x9fc0, {{0xf59e0, 20}}, 9, 17, 8, 1, 0, 0, 0xf59e0},
+        {USUAL, SEARCH, 0x9fc0, {{0xf59e0, 20}}, 9, 17, 8, 0x1000, 0, 0, 0xf59e0, 0},
+        {ALL, BIOS, 0x9fc0, {{0xf59e0, 20}}, 9, 17, 8, 1, 0, 0, 0xf59e0, 0},
         /* The other search looks at the BIOS area first, and wants each area in one range. */
-        {ALL, BIOS, 0x9f00, {{0x9f020, 36}, {0xf59e0, 20}}, 2, 10, 8, 0x1000, 0, 0, 0xf59e0},
-        {ALL, BIOS, 0x9f00, {{0x9f020, 36}}, 2, 10, 8, 0x1000, 0, 0, 0x9f020},
-        {ALL & ~WITH_LOWER, BIOS, 0x9f00, {{0xf59e0, 20}}, 2, 10, 8, 0x1000, 0, UNMAPPED, 0},
+        {ALL, BIOS, 0x9f00, {{0x9f020, 36}, {0xf59e0, 20}}, 2, 10, 8, 0x1000, 0, 0, 0xf59e0, 0},
+        {ALL, BIOS, 0x9f00, {{0x9f020, 36}}, 2, 10, 8, 0x1000, 0, 0, 0x9f020, 0},
+        {ALL & ~WITH_LOWER, BIOS, 0x9f00, {{0xf59e0, 20}}, 2, 10, 8, 0x1000, 0, UNMAPPED, 0, 0},
     };
     /* clang-format on */
     size_t i;

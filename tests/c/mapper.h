@@ -28,8 +28,10 @@ static struct {
     int is_mapped;
 } mapped[MOST];
 static size_t mapped_count, mapped_now, mapped_most;
-/* Whether the run is at its search, after which all is unmapped: there may be the most regions then, too. */
+/* Whether the run is at its search, after which all is unmapped: there may be the most regions then, too. How many
+ * ranges it requested. */
 static int is_searching;
+static size_t searched;
 /* The ranges that it refused, and whether there is room for them, so that none is requested again. */
 static struct zacpi_range refused[MOST];
 static size_t refused_count;
@@ -99,6 +101,7 @@ static void unmap(void *context, const void *at, uint64_t address, uint64_t leng
     if (is_searching && !is_held(address, length)) {
         if (mapped_now > mapped_most) mapped_most = mapped_now;
         is_searching = 0;
+        searched = mapped_count + refused_count;
         refused_count = 0;
     }
     mapped_now--;
