@@ -54,9 +54,15 @@
 /* Records are laid out as the library has them, also in a unit where another packing is open. */
 #pragma pack(push, 8)
 
+/* A kernel's own stdint.h may lack UINTPTR_MAX. */
+#if defined(__SIZEOF_POINTER__)
+#define ZACPI_IS_64_BIT (__SIZEOF_POINTER__ > 4)
+#else
+#define ZACPI_IS_64_BIT (UINTPTR_MAX > 0xffffffff)
+#endif
 /* With pointers of 32 bits a record is laid out as with 64 bits: a pointer is in the first half of its 8 bytes,
  * and what counts or measures has 64 bits. */
-#if UINTPTR_MAX > 0xffffffff
+#if ZACPI_IS_64_BIT
 typedef uint64_t zacpi_u64;
 typedef size_t zacpi_size;
 #define ZACPI_SLOT

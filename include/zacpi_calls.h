@@ -1,6 +1,6 @@
 /* SPDX-License-Identifier: MIT */
-/* The inlines of zacpi.h, which includes this file, and checks of its records. scripts/calls made them of the prototypes
- * and structs there, and says what they are for. */
+/* The inlines of zacpi.h, which includes this file, and checks of its records. scripts/calls made them of the
+ * prototypes and structs there, and says what they are for. */
 #ifndef ZACPI_H
 #error "include zacpi.h, which includes this file"
 #else
@@ -15,7 +15,7 @@
 
 /* What the library writes a count to, and the call that does it. With pointers of 32 bits that is a variable, of which
  * the caller has a copy: the largest size_t if it has more bits. */
-#if UINTPTR_MAX > 0xffffffff
+#if ZACPI_IS_64_BIT
 typedef size_t zacpi_number;
 #define ZACPI_COUNTED(count) count
 #define ZACPI_COUNTING(count, call) \
@@ -28,7 +28,7 @@ typedef uint64_t zacpi_number;
     zacpi_number zacpi_counted; \
     const zacpi_status zacpi_returned = call; \
     ZACPI_FITS; \
-    if (!zacpi_returned) *count = zacpi_counted > SIZE_MAX ? SIZE_MAX : (size_t)zacpi_counted; \
+    if (!zacpi_returned) *count = zacpi_counted > ~(size_t)0 ? ~(size_t)0 : (size_t)zacpi_counted; \
     return zacpi_returned
 #endif
 

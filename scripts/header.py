@@ -34,8 +34,8 @@ SIZES = {'uint8_t': 1, 'uint16_t': 2, 'uint32_t': 4, 'zacpi_status': 4, 'zacpi_u
 
 
 def layout(kind):
-    """The size and the alignment of a type, and of a struct the offset of its last field: as the library has them, which
-    is as C lays them out where pointers have 64 bits."""
+    """The size and the alignment of a type, and of a struct the offset of its last field: as the library has them,
+    which is as C lays them out where pointers have 64 bits."""
     if kind.endswith('*'):
         return 8, 8, 0
     if not kind.startswith('struct '):
