@@ -5,9 +5,10 @@ ghost use Rattle.acpi_base.specs.Words.{Allows, Gives, IsOfMemory, accepted, byt
 use acpi_base::table::accepted_at;
 use acpi_base::{AcpiResult, AcpiTable, Lender, PhysicalMapping};
 
-/// Which checks of tables a caller gives up. Each table that is valid is accepted, and each that fails no other check: a
-/// policy only ever accepts more. For a type with a check of its own (`AcpiTable::validate`) that check stays: an error
-/// of a sum or an id that is given up doesn't count if it is the first, and after one of an id only the sum is left.
+/// Which checks of tables a caller gives up. Each table that is valid is accepted, and each that fails no other check:
+/// a policy only ever accepts more. For a type with a check of its own (`AcpiTable::validate`) that check stays: an
+/// error of a sum or an id that is given up doesn't count if it is the first, and after one of an id only the sum is
+/// left to check.
 pub trait Policy: Copy {
     // By bit 0 a table's sum may be any, by bit 1 both of its ids.
     ghost bits: { Self → ℕ };

@@ -101,8 +101,8 @@ impl<'h, H: Lender, P: Policy> AcpiTables<'h, H, P> {
         ensures lent { IfOk result (λ m. IsOfMemory (memory_of self.now) m) }
         ensures exact { Gives (λ m. (start_of m, bytes_of m)) result
             (of_tables self.now (λ m. lookup m (accepted_by self.now T.kind))) }
-        // Of tables that were opened without a policy: the first that is valid for the type. The clauses below are about
-        // that too, since by 0 a kind is as it was.
+        // Of tables that were opened without a policy: the first that is valid for the type. Then the clauses below
+        // have the plain kind too, since by 0 it is as it was (`AcceptsNothing`).
         ensures strict { accept_of self.now ≡ 0
             → Gives (λ m. (start_of m, bytes_of m)) result (of_tables self.now (λ m. lookup m T.kind)) }
         // In the reader's words: the table found is accepted, and none listed before it is.

@@ -18,7 +18,7 @@ left_of any_sum false s b (Err (SdtInvalidTableId t)) = Err (SdtInvalidTableId t
 left_of any_sum true s b (Err (SdtInvalidTableId t)) = holds (any_sum || sum_of b == 0) (SdtInvalidChecksum s)
 left_of any_sum any_ids s b checked = checked
 
--- a kind whose tables may have any sum, any ids, or both. All else that it checks stays
+-- a kind whose tables may have any sum, any ids, or both. Its own check stays, up to an error that is given up
 abbrev pub loosened : Bool → Bool → Kind → Kind
 loosened any_sum any_ids k = record {
   signature = k.signature;

@@ -36,7 +36,8 @@ pub trait AcpiTable: PhysicalRecord {
 
     /// Checks the table that this value was read from, by its bytes, and returns the error of `kind.check`. Most
     /// types return `self.header().validate(Self::SIGNATURE, bytes)`, and have an `sdt_kind` of that
-    /// signature as their kind.
+    /// signature as their kind. Where a caller gives checks up, `SdtInvalidChecksum`, or `SdtInvalidOemId` and
+    /// `SdtInvalidTableId`, don't count (`accepted_at`), so a type checks what is its own before these.
     fn validate(&self, bytes: &[u8]) -> AcpiResult<()>
         requires least { Self.MIN_LENGTH ≤ length bytes.now }
         requires read { self.now ≡ Self.reading bytes.now }

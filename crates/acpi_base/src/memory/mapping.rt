@@ -24,9 +24,9 @@ impl<'h, H: Lender, T: PhysicalRecord> PhysicalMapping<'h, H, T> {
     ghost use Rattle.acpi_base.specs.Memory.{at};
     ghost use Rattle.acpi_base.specs.Steps.{Gives, lent};
 
-    /// The mapping of the first `region_length` of these bytes, at least `T::MIN_LENGTH` and at most all, which are from
-    /// the physical address `physical_start` on. It reads the record from them. The bytes may come from anywhere; when the
-    /// mapping is dropped, the handler gets the notice.
+    /// The mapping of the first `region_length` of these bytes, at least `T::MIN_LENGTH` and at most all, which are
+    /// from the physical address `physical_start` on. It reads the record from them. The bytes may come from
+    /// anywhere; when the mapping is dropped, the handler gets the notice.
     pub fn new(physical_start: u64, bytes: &'h [u8], region_length: usize, handler: &'h H) -> Self
         requires fits { region_length ≤ length bytes.now }
         requires least { T.MIN_LENGTH ≤ region_length }
@@ -50,8 +50,8 @@ impl<'h, H: Lender, T: PhysicalRecord> PhysicalMapping<'h, H, T> {
         PhysicalMapping { claim, value }
     }
 
-    /// The mapping of the `size` bytes, at least one and at least `T::MIN_LENGTH`, at a physical address, as the handler
-    /// maps them.
+    /// The mapping of the `size` bytes, at least one and at least `T::MIN_LENGTH`, at a physical address, as the
+    /// handler maps them.
     ///
     /// Fails with `MapFailed` if they aren't all inside one region.
     pub fn map(handler: &'h H, address: u64, size: usize) -> AcpiResult<Self>

@@ -11,10 +11,10 @@ returns-in-Ok-clause-pointers g c =
 
 pub returns-in-Ok-clause-footprint : goal.returns-in-Ok-clause-footprint
 returns-in-Ok-clause-footprint g c n h =
-    rw (same_accepted_opened (g.P.Policy.bits c.args.policy) (g.H.Lender.memory c.args.handler.now) n c.args.root_pointer
-    h) (search rules)
+    rw (same_accepted_opened (g.P.Policy.bits c.args.policy) (g.H.Lender.memory c.args.handler.now) n
+    c.args.root_pointer h) (search rules)
 
 pub returns-in-Err-clause-footprint : goal.returns-in-Err-clause-footprint
 returns-in-Err-clause-footprint g c n h =
-    rw (same_accepted_opened (g.P.Policy.bits c.args.policy) (g.H.Lender.memory c.args.handler.now) n c.args.root_pointer
-    h) (search rules)
+    rw (same_accepted_opened (g.P.Policy.bits c.args.policy) (g.H.Lender.memory c.args.handler.now) n
+    c.args.root_pointer h) (search rules)
