@@ -4,6 +4,7 @@
 
 mod error;
 pub mod laws;
+pub mod sums;
 pub mod write;
 
 pub use acpi_image_reader::{ImageError, MemoryImage, Record, image, reader};

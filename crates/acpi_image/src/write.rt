@@ -11,7 +11,7 @@ pub use crate::error::WriteError;
 use checks::check_plan;
 pub use places::range_of;
 use records::put_records;
-pub use records::{put_region, put_root_table, put_rsdp, rsdp_to, set_sum};
+pub use records::{put_region, put_root_table, put_rsdp};
 use std::alloc::{Allocator, Global};
 
 /// A table that is to be written, and its place.

@@ -5,7 +5,7 @@ ghost use Rattle.acpi_pack_lib.specs.Words.{all_summed, contents, has_sum, is_un
 
 use crate::sources::FileBytes;
 use acpi_base::bytes::field;
-use acpi_image::write::set_sum;
+use acpi_image::sums::set_sum;
 use std::alloc::{AllocError, Global};
 
 /// Whether bytes begin as what may have a table's length, but no Checksum at byte 9: a FACS (section 5.2.10), one of

@@ -14,7 +14,7 @@ use crate::numbers::qword;
 use crate::rsdp::{put_front, rsdp_bytes};
 use crate::table::table_head;
 use acpi_base::Signature;
-use acpi_image::write::set_sum;
+use acpi_image::sums::set_sum;
 
 /// A machine, as its tables describe it.
 #[derive(Clone, Copy)]

@@ -5,7 +5,7 @@ ghost use Rattle.acpi_writer.specs.Words.{Gives, Keeps, front_written};
 
 use crate::error::WriterError;
 use crate::ids::TableIds;
-use acpi_image::write::rsdp_to;
+use acpi_image::sums::rsdp_to;
 
 /// An RSDP of revision 2.
 #[tactic(auto, unfolding(crate::specs::Rsdp::rsdp_bytes))]

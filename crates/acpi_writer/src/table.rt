@@ -9,7 +9,7 @@ use crate::listed::Listed;
 use crate::numbers::dword;
 use crate::spelled::Spelled;
 use acpi_base::Signature;
-use acpi_image::write::set_sum;
+use acpi_image::sums::set_sum;
 
 /// The header of a table of a length, with a Checksum of 0.
 #[tactic(auto, unfolding(crate::specs::Table::table_head))]

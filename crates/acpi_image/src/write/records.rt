@@ -6,73 +6,10 @@ ghost use Rattle.acpi_image_reader.specs.Words.{record_spelling};
 ghost use Rattle.acpi_image.specs.Words.{HasFront, placed, placed_region, plan, records_of, root_header, root_length, root_record, root_to, root_unsummed, rsdp_record, rsdp_to, rsdp_unsummed, starts_of, summed, with_sum, OutOfMemory};
 
 use crate::error::WriteError;
+use crate::sums::{dword, rsdp_to, set_sum};
 use crate::write::PlacedTable;
 use crate::write::checks::{root_length, signature, width};
-use acpi_base::bytes::byte_sum;
 use std::alloc::Allocator;
-
-/// Sets the byte at an offset, a checksum, so that all bytes sum to 0 modulo 256 (sections 5.2.5.3 and 5.2.6).
-#[tactic(auto, unfolding(crate::specs::Written::with_sum, crate::specs::Written::sum_byte))]
-pub fn set_sum(bytes: &mut [u8], offset: usize)
-    requires { offset < length bytes.old }
-    ensures { bytes.new ≡ with_sum offset bytes.old }
-{
-    bytes[offset] = 0;
-    bytes[offset] = 0u8.wrapping_sub(byte_sum(bytes));
-}
-
-/// The low four bytes of a number, the lowest first.
-#[tactic(auto, using(crate::proofs::Written::low_four))]
-fn dword(number: u64) -> [u8; 4]
-    ensures { result ≡ spelling 4 number }
-{
-    let mut bytes = [0; 4];
-    bytes.copy_from_slice(&number.to_le_bytes()[..4]);
-    bytes
-}
-
-/// The eight bytes of a number, the lowest first.
-#[tactic(auto, using(crate::proofs::Written::le_bytes))]
-fn qword(number: u64) -> [u8; 8]
-    ensures { result ≡ spelling 8 number }
-{
-    number.to_le_bytes()
-}
-
-/// An RSDP whose checksums are 0 (section 5.2.5.3).
-#[tactic(auto, unfolding(crate::specs::Written::rsdp_unsummed, acpi_base::specs::Bytes::spelling))]
-fn rsdp_unsummed(oem_id: [u8; 6], revision: u8, rsdt: u64, count: u64, xsdt: u64) -> [u8; 36]
-    ensures { result ≡ rsdp_unsummed oem_id revision rsdt count xsdt }
-{
-    // From the last field to the first: what is set is always put before what is set already, as the definition joins
-    // them.
-    let mut rsdp = [0; 36];
-    rsdp[24..32].copy_from_slice(&qword(xsdt)); // XsdtAddress
-    rsdp[20..24].copy_from_slice(&dword(count)); // Length
-    rsdp[16..20].copy_from_slice(&dword(rsdt)); // RsdtAddress
-    rsdp[15] = revision; // Revision
-    rsdp[9..15].copy_from_slice(&oem_id); // OEMID
-    rsdp[..8].copy_from_slice(b"RSD PTR "); // Signature
-    rsdp
-}
-
-/// The RSDP of an OEMID and a revision that leads to the root table at an address (section 5.2.5.3): the RSDT for
-/// revision 0, otherwise the XSDT.
-#[tactic(auto, unfolding(crate::specs::Written::rsdp_to, crate::specs::Written::with_first_sum))]
-pub fn rsdp_to(oem_id: [u8; 6], revision: u8, root: u64) -> [u8; 36]
-    ensures { result ≡ rsdp_to oem_id revision root }
-{
-    if revision == 0 {
-        let mut rsdp = rsdp_unsummed(oem_id, 0, root, 0, 0);
-        set_sum(&mut rsdp[..20], 8); // Checksum
-        rsdp
-    } else {
-        let mut rsdp = rsdp_unsummed(oem_id, revision, 0, 36, root);
-        set_sum(&mut rsdp[..20], 8); // Checksum
-        set_sum(&mut rsdp, 32); // Extended Checksum
-        rsdp
-    }
-}
 
 /// Puts bytes after a file's.
 ///

@@ -1,0 +1,173 @@
+// Made by scripts/erase of crates/acpi/src/rsdp.rt, where it is proved.
+//! The Root System Description Pointer (RSDP), which leads to the root table (section 5.2.5).
+
+mod areas;
+mod bios;
+
+use crate::acpi::root::{RootKind, RootPointer};
+use crate::base::bytes::{byte_sum, field_in, is_text, text_of, u8_in, u32_in};
+use crate::base::{AcpiError, AcpiResult, Lender, PhysicalMapping, PhysicalRecord};
+pub use areas::bios_areas;
+
+/// The Root System Description Pointer (RSDP), by its 36 bytes (section 5.2.5.3). Revision 0 has only the
+/// first 20 of them: the fields after these mean nothing there.
+#[derive(Clone, Copy, Debug)]
+pub struct Rsdp {
+    signature: [u8; 8],
+    checksum: u8,
+    oem_id: [u8; 6],
+    revision: u8,
+    rsdt_address: u32,
+    length: u32,
+    xsdt_address: u64,
+    ext_checksum: u8,
+}
+
+impl PhysicalRecord for Rsdp {
+    const MIN_LENGTH: usize = 36;
+
+    fn read(bytes: &[u8]) -> Self {
+        Rsdp {
+            // Signature
+            signature: [bytes[0], bytes[1], bytes[2], bytes[3], bytes[4], bytes[5], bytes[6], bytes[7]],
+            checksum: u8_in(bytes, 8), // Checksum
+            // OEMID
+            oem_id: [bytes[9], bytes[10], bytes[11], bytes[12], bytes[13], bytes[14]],
+            revision: u8_in(bytes, 15),           // Revision
+            rsdt_address: u32_in(bytes, 16),      // RsdtAddress
+            length: u32_in(bytes, 20),            // Length
+            xsdt_address: field_in(bytes, 24, 8), // XsdtAddress
+            ext_checksum: u8_in(bytes, 32),       // Extended Checksum
+        }
+    }
+}
+
+impl Rsdp {
+    /// Signature: `RSD PTR ` if the RSDP is valid (section 5.2.5.3).
+    pub fn signature(&self) -> [u8; 8] {
+        self.signature
+    }
+
+    /// Checksum: the byte by which the first 20 bytes of a valid RSDP sum to 0 modulo 256 (section
+    /// 5.2.5.3).
+    pub fn checksum(&self) -> u8 {
+        self.checksum
+    }
+
+    /// OEMID: the OEM's name, or `None` if it is not valid UTF-8 (section 5.2.5.3).
+    pub fn oem_id(&self) -> Option<&str> {
+        text_of(&self.oem_id)
+    }
+
+    /// Revision: the revision of the RSDP, 0 in ACPI 1.0 and 2 since (section 5.2.5.3).
+    pub fn revision(&self) -> u8 {
+        self.revision
+    }
+
+    /// RsdtAddress: the physical address of the RSDT (section 5.2.5.3).
+    pub fn rsdt_address(&self) -> u32 {
+        self.rsdt_address
+    }
+
+    /// Length: how many bytes the whole RSDP has, or `None` for revision 0 (section 5.2.5.3).
+    pub fn length(&self) -> Option<u32> {
+        (self.revision != 0).then_some(self.length)
+    }
+
+    /// XsdtAddress: the physical address of the XSDT, or `None` for revision 0 (section 5.2.5.3).
+    pub fn xsdt_address(&self) -> Option<u64> {
+        (self.revision != 0).then_some(self.xsdt_address)
+    }
+
+    /// Extended Checksum: the byte by which all bytes of a valid RSDP sum to 0 modulo 256, or `None` for
+    /// revision 0 (section 5.2.5.3).
+    pub fn ext_checksum(&self) -> Option<u8> {
+        (self.revision != 0).then_some(self.ext_checksum)
+    }
+
+    /// The root table that a valid RSDP leads to: the RSDT if the revision or the XSDT's address is 0,
+    /// else the XSDT, however bad the table there is.
+    pub fn root(&self) -> RootPointer {
+        let (kind, address) = match self.xsdt_address() {
+            None | Some(0) => (RootKind::Rsdt, self.rsdt_address as u64),
+            Some(address) => (RootKind::Xsdt, address),
+        };
+        RootPointer { revision: self.revision, kind, address }
+    }
+
+    /// Checks an RSDP (section 5.2.5.3) by the bytes that it was read from. Bytes after its length don't
+    /// count.
+    ///
+    /// Fails, in this order, with `RsdpIncorrectSignature` if the signature is not `RSD PTR `,
+    /// `RsdpInvalidOemId` if the OEM id is not valid UTF-8, and `RsdpInvalidChecksum` if the first
+    /// 20 bytes do not sum to 0 modulo 256. For a revision above 0 it also fails with
+    /// `RsdpInvalidChecksum` if the length is under 36 or above the number of bytes, or if that many
+    /// bytes do not sum to 0 modulo 256.
+    pub fn validate(&self, bytes: &[u8]) -> AcpiResult<()> {
+        match self.summed_length(bytes)? {
+            None => Ok(()),
+            Some(length) if length > bytes.len() => Err(AcpiError::RsdpInvalidChecksum),
+            Some(length) => check_sum(&bytes[..length]),
+        }
+    }
+
+    /// Checks the first 20 bytes, which every revision has, and returns how many bytes are to sum to 0 after
+    /// that: `None` for revision 0, else the length.
+    fn summed_length(&self, bytes: &[u8]) -> AcpiResult<Option<usize>> {
+        if self.signature != *b"RSD PTR " {
+            return Err(AcpiError::RsdpIncorrectSignature);
+        }
+        if !is_text(&self.oem_id) {
+            return Err(AcpiError::RsdpInvalidOemId);
+        }
+        check_sum(&bytes[..20])?;
+        match self.length() {
+            None => Ok(None),
+            Some(length) if length < 36 => Err(AcpiError::RsdpInvalidChecksum),
+            Some(length) => Ok(Some(length as usize)),
+        }
+    }
+}
+
+/// A record that means nothing: a mapping of it shows the bytes, at least one, as they are.
+#[derive(Clone, Copy)]
+struct RawBytes;
+
+impl PhysicalRecord for RawBytes {
+    const MIN_LENGTH: usize = 1;
+
+    fn read(_bytes: &[u8]) -> Self {
+        RawBytes
+    }
+}
+
+/// Checks that bytes of an RSDP sum to 0 modulo 256.
+fn check_sum(bytes: &[u8]) -> AcpiResult<()> {
+    if byte_sum(bytes) != 0 {
+        return Err(AcpiError::RsdpInvalidChecksum);
+    }
+    Ok(())
+}
+
+/// The checks of an RSDP whose 36 bytes are mapped. For the sum of the whole, as many bytes are mapped as its
+/// length.
+fn check_mapped<H: Lender>(handler: &H, rsdp: &PhysicalMapping<'_, H, Rsdp>) -> AcpiResult<()> {
+    let Some(length) = rsdp.get().summed_length(rsdp.bytes())? else {
+        return Ok(());
+    };
+    let whole = PhysicalMapping::<'_, H, RawBytes>::map(handler, rsdp.physical_start(), length)?;
+    check_sum(whole.bytes())
+}
+
+/// The valid RSDP at an address: a mapping of its 36 bytes.
+///
+/// Fails, in this order, with `MapFailed` if 36 bytes aren't mapped, `RsdpIncorrectSignature`
+/// if the signature is not `RSD PTR `, `RsdpInvalidOemId` if the OEM id is not valid UTF-8, and
+/// `RsdpInvalidChecksum` if the first 20 bytes do not sum to 0 modulo 256. For a revision above
+/// 0 it goes on with `RsdpInvalidChecksum` if the length is under 36, `MapFailed` if that
+/// many bytes aren't mapped, and `RsdpInvalidChecksum` if they do not sum to 0 modulo 256.
+pub fn map_rsdp<'h, H: Lender>(handler: &'h H, address: u64) -> AcpiResult<PhysicalMapping<'h, H, Rsdp>> {
+    let rsdp = PhysicalMapping::<'h, H, Rsdp>::map(handler, address, 36)?;
+    check_mapped(handler, &rsdp)?;
+    Ok(rsdp)
+}

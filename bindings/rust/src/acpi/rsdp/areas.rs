@@ -1,0 +1,117 @@
+// Made by scripts/erase of crates/acpi/src/rsdp/areas.rt, where it is proved.
+//! The search for the RSDP in areas that a caller passes, if firmware maps less than whole areas.
+
+use super::{Rsdp, check_mapped};
+use crate::base::bytes::skip;
+use crate::base::{AcpiError, AcpiResult, AddressRange, Lender, PhysicalMapping, PhysicalRecord};
+
+/// The areas that a BIOS puts the RSDP in, in the order of section 5.2.5.1: the first KiB of the
+/// extended BIOS data area (EBDA), and 0xe0000..0x100000.
+///
+/// The EBDA is given by its physical address, which is 16 times the word at 0x40e, and not by that
+/// word. Its KiB is cut at 0xa0000, where video memory begins. The first area has no bytes, at address
+/// 0, if the EBDA isn't given or doesn't begin within 0x400..0xa0000.
+///
+/// `Rsdp::search_for_on_bios` looks at the EBDA last, so if both areas have a valid RSDP a search in these
+/// areas may return another one.
+pub fn bios_areas(ebda: Option<u64>) -> [AddressRange; 2] {
+    let first = match ebda {
+        Some(address) if address >= 0x400 && address < 0xa0000 => {
+            AddressRange { address, length: if address + 1024 <= 0xa0000 { 1024 } else { 0xa0000 - address } }
+        }
+        _ => AddressRange { address: 0, length: 0 },
+    };
+    let second = AddressRange { address: 0xe0000, length: 0x20000 };
+    [first, second]
+}
+
+/// The first candidate of an area, and how many there are, each 16 bytes after the one before. The
+/// first is 0 if there is none.
+fn candidates(area: &AddressRange) -> (u64, u64) {
+    let skipped = (16 - area.address % 16) % 16;
+    let room = area.length.min(u64::MAX - area.address);
+    if room < skipped + 20 {
+        return (0, 0);
+    }
+    (area.address + skipped, (room - skipped - 4) / 16)
+}
+
+/// Whether bytes contain a candidate's at an offset, and its own checks fail for these.
+fn is_refused_in(bytes: &[u8], offset: usize) -> bool {
+    let front = skip(bytes, offset);
+    if front.len() < 36 {
+        return false;
+    }
+    let candidate = &front[..36];
+    Rsdp::read(candidate).summed_length(candidate).is_err()
+}
+
+/// The RSDP at an address, if it is valid, or else how many candidates from there on are invalid,
+/// as far as is known from what was mapped there: each 16 bytes after the one before.
+fn candidate_at<'h, H: Lender>(handler: &'h H, address: u64, left: u64) -> Result<PhysicalMapping<'h, H, Rsdp>, u64> {
+    match PhysicalMapping::<'h, H, Rsdp>::map(handler, address, 36) {
+        Ok(rsdp) => match check_mapped(handler, &rsdp) {
+            Ok(()) => Ok(rsdp),
+            Err(_) => {
+                // The bytes that were mapped with its own may show that the ones after it are invalid too.
+                let bytes = rsdp.lent_bytes();
+                let other = (1..left).find(|k| !is_refused_in(bytes, 16 * *k as usize));
+                Err(other.unwrap_or(left))
+            }
+        },
+        Err(_) => Err(1),
+    }
+}
+
+/// The first valid one of a number of candidates from an address on.
+fn first_valid<'h, H: Lender>(handler: &'h H, first: u64, count: u64) -> Option<PhysicalMapping<'h, H, Rsdp>> {
+    let mut passed = 0;
+    while passed < count {
+        match candidate_at(handler, first + 16 * passed, count - passed) {
+            Ok(found) => return Some(found),
+            Err(refused) => passed += refused,
+        }
+    }
+    None
+}
+
+/// The first valid candidate of an area.
+fn first_of_area<'h, H: Lender>(handler: &'h H, area: &AddressRange) -> Option<PhysicalMapping<'h, H, Rsdp>> {
+    let (first, count) = candidates(area);
+    if count == 0 {
+        return None;
+    }
+    first_valid(handler, first, count)
+}
+
+/// The first valid candidate of the areas, in their order. Fails with `NoValidRsdp` if there is none.
+fn first_of_areas<'h, H: Lender>(handler: &'h H, areas: &[AddressRange]) -> AcpiResult<PhysicalMapping<'h, H, Rsdp>> {
+    for area in areas {
+        if let Some(found) = first_of_area(handler, area) {
+            return Ok(found);
+        }
+    }
+    Err(AcpiError::NoValidRsdp)
+}
+
+impl Rsdp {
+    /// The RSDP in areas that the caller passes (section 5.2.5.1), such as `bios_areas` or the ones that
+    /// a firmware's memory map names: a mapping of the 36 bytes of the first valid candidate.
+    ///
+    /// The areas are looked at in their order, and the candidates of one from the lowest on: they are
+    /// the multiples of 16 in it with 20 bytes before its end, and an end above 2^64 counts as 2^64. A
+    /// candidate that fails any check of an RSDP at an address is skipped, also one whose bytes
+    /// aren't mapped. A candidate's 36 bytes, and as many as its length, may reach past the area's end;
+    /// no other byte there is requested.
+    ///
+    /// No area is requested as a whole. No clause counts the requests: tests see at most two for a
+    /// candidate, and none if the bytes that were mapped for one before it show that it isn't valid.
+    ///
+    /// Fails with `NoValidRsdp` if no candidate is left, also if there are no areas.
+    pub fn search_in<'h, H: Lender>(
+        handler: &'h H,
+        areas: &[AddressRange],
+    ) -> AcpiResult<PhysicalMapping<'h, H, Rsdp>> {
+        first_of_areas(handler, areas)
+    }
+}

@@ -1,0 +1,58 @@
+//! Sixteen bytes that are added lane by lane, as `std::simd` has them, of which a compiler makes vectors.
+use core::ops::{Add, BitAnd};
+
+/// The names of `std::simd::prelude`.
+pub(crate) mod prelude {
+    pub(crate) use super::u8x16;
+}
+
+/// Sixteen bytes.
+#[allow(non_camel_case_types)]
+#[derive(Clone, Copy)]
+pub(crate) struct u8x16([u8; 16]);
+
+impl u8x16 {
+    /// A byte in each lane.
+    #[inline(always)]
+    pub(crate) fn splat(byte: u8) -> Self {
+        u8x16([byte; 16])
+    }
+
+    /// The first sixteen bytes of a slice that has so many.
+    #[inline(always)]
+    pub(crate) fn from_slice(bytes: &[u8]) -> Self {
+        match bytes.first_chunk() {
+            Some(first) => u8x16(*first),
+            None => panic!("fewer than 16 bytes"),
+        }
+    }
+
+    /// The sum of the lanes modulo 256.
+    #[inline(always)]
+    pub(crate) fn reduce_sum(self) -> u8 {
+        self.0.iter().fold(0, |sum, byte| sum.wrapping_add(*byte))
+    }
+
+    #[inline(always)]
+    fn each(self, other: Self, of: impl Fn(u8, u8) -> u8) -> Self {
+        u8x16(core::array::from_fn(|lane| of(self.0[lane], other.0[lane])))
+    }
+}
+
+impl Add for u8x16 {
+    type Output = Self;
+
+    #[inline(always)]
+    fn add(self, other: Self) -> Self {
+        self.each(other, u8::wrapping_add)
+    }
+}
+
+impl BitAnd for u8x16 {
+    type Output = Self;
+
+    #[inline(always)]
+    fn bitand(self, other: Self) -> Self {
+        self.each(other, |a, b| a & b)
+    }
+}

@@ -1,0 +1,14 @@
+// Made by scripts/erase of crates/acpi_arm/src/lib.rt, where it is proved.
+//! An Arm machine as its tables describe it: the Generic Interrupt Controller (GIC), by the MADT (section
+//! 5.2.12), and the generic timers, by the GTDT (section 5.2.24).
+//!
+//! Section numbers are the ACPI Specification's, version 6.4.
+
+#![forbid(unsafe_code)]
+
+mod frames;
+pub mod gic;
+pub mod gtdt;
+mod interrupt;
+mod structures;
+mod timers;

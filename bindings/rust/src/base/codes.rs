@@ -1,0 +1,221 @@
+// Made by scripts/erase of crates/acpi_base/src/codes.rt, where it is proved.
+//! Codes: the number by which a table encodes each value of an enumeration, and the value of a number.
+
+use crate::base::address::{AccessSize, AddressSpace};
+use crate::base::error::{AcpiError, AcpiResult, MadtError};
+use crate::base::model::{LocalInterruptLine, NmiProcessor, Polarity, TriggerMode};
+use crate::base::spcr::SpcrInterfaceType;
+
+impl Polarity {
+    /// Its code: Polarity, bits 0 and 1 of MPS INTI Flags (ACPI 6.4, section 5.2.12.5).
+    pub fn code(self) -> u8 {
+        self as u8
+    }
+}
+
+impl TryFrom<u8> for Polarity {
+    type Error = MadtError;
+
+    /// The polarity of a code. Fails for other codes, which are reserved, with `MpsIntiInvalidPolarity`.
+    fn try_from(code: u8) -> Result<Polarity, MadtError> {
+        match code {
+            0 => Ok(Polarity::SameAsBus),
+            1 => Ok(Polarity::ActiveHigh),
+            3 => Ok(Polarity::ActiveLow),
+            _ => Err(MadtError::MpsIntiInvalidPolarity),
+        }
+    }
+}
+
+impl TriggerMode {
+    /// Its code: Trigger Mode, bits 2 and 3 of MPS INTI Flags (ACPI 6.4, section 5.2.12.5).
+    pub fn code(self) -> u8 {
+        self as u8
+    }
+}
+
+impl TryFrom<u8> for TriggerMode {
+    type Error = MadtError;
+
+    /// The trigger mode of a code. Fails for other codes, which are reserved, with `MpsIntiInvalidTriggerMode`.
+    fn try_from(code: u8) -> Result<TriggerMode, MadtError> {
+        match code {
+            0 => Ok(TriggerMode::SameAsBus),
+            1 => Ok(TriggerMode::Edge),
+            3 => Ok(TriggerMode::Level),
+            _ => Err(MadtError::MpsIntiInvalidTriggerMode),
+        }
+    }
+}
+
+impl LocalInterruptLine {
+    /// Its number: LINT# (ACPI 6.4, sections 5.2.12.7 and 5.2.12.13).
+    pub fn code(self) -> u8 {
+        self as u8
+    }
+}
+
+impl TryFrom<u8> for LocalInterruptLine {
+    type Error = MadtError;
+
+    /// The pin of a number. Fails for other numbers than 0 and 1 with `InvalidLocalNmiLine`.
+    fn try_from(code: u8) -> Result<LocalInterruptLine, MadtError> {
+        match code {
+            0 => Ok(LocalInterruptLine::Lint0),
+            1 => Ok(LocalInterruptLine::Lint1),
+            _ => Err(MadtError::InvalidLocalNmiLine),
+        }
+    }
+}
+
+impl NmiProcessor {
+    /// The UID that means all processors in a Local APIC NMI (ACPI 6.4, section 5.2.12.7).
+    pub const ALL_APICS: u32 = 0xff;
+    /// The UID that means all processors in a Local x2APIC NMI (ACPI 6.4, section 5.2.12.13).
+    pub const ALL_X2APICS: u32 = 0xffffffff;
+
+    /// Its ACPI Processor UID, if `all` means all processors.
+    pub fn uid(self, all: u32) -> u32 {
+        match self {
+            NmiProcessor::All => all,
+            NmiProcessor::ProcessorUid(uid) => uid,
+        }
+    }
+
+    /// The processor of an ACPI Processor UID, if `all` means all processors.
+    pub fn from_uid(uid: u32, all: u32) -> NmiProcessor {
+        if uid == all { NmiProcessor::All } else { NmiProcessor::ProcessorUid(uid) }
+    }
+}
+
+impl AddressSpace {
+    /// Its code: Address Space ID (section 5.2.3.2).
+    pub fn code(self) -> u8 {
+        match self {
+            AddressSpace::SystemMemory => 0x00,
+            AddressSpace::SystemIo => 0x01,
+            AddressSpace::PciConfigSpace => 0x02,
+            AddressSpace::EmbeddedController => 0x03,
+            AddressSpace::SMBus => 0x04,
+            AddressSpace::SystemCmos => 0x05,
+            AddressSpace::PciBarTarget => 0x06,
+            AddressSpace::Ipmi => 0x07,
+            AddressSpace::GeneralIo => 0x08,
+            AddressSpace::GenericSerialBus => 0x09,
+            AddressSpace::PlatformCommunicationsChannel => 0x0a,
+            AddressSpace::FunctionalFixedHardware => 0x7f,
+            AddressSpace::OemDefined(code) => code,
+        }
+    }
+}
+
+impl TryFrom<u8> for AddressSpace {
+    type Error = AcpiError;
+
+    /// The space of a code of Address Space ID (section 5.2.3.2).
+    ///
+    /// Fails for a reserved code with `InvalidGenericAddress`: 0x0b to 0xbf, but for 0x7f.
+    fn try_from(code: u8) -> AcpiResult<AddressSpace> {
+        match code {
+            0x00 => Ok(AddressSpace::SystemMemory),
+            0x01 => Ok(AddressSpace::SystemIo),
+            0x02 => Ok(AddressSpace::PciConfigSpace),
+            0x03 => Ok(AddressSpace::EmbeddedController),
+            0x04 => Ok(AddressSpace::SMBus),
+            0x05 => Ok(AddressSpace::SystemCmos),
+            0x06 => Ok(AddressSpace::PciBarTarget),
+            0x07 => Ok(AddressSpace::Ipmi),
+            0x08 => Ok(AddressSpace::GeneralIo),
+            0x09 => Ok(AddressSpace::GenericSerialBus),
+            0x0a => Ok(AddressSpace::PlatformCommunicationsChannel),
+            0x7f => Ok(AddressSpace::FunctionalFixedHardware),
+            0xc0..=0xff => Ok(AddressSpace::OemDefined(code)),
+            _ => Err(AcpiError::InvalidGenericAddress),
+        }
+    }
+}
+
+impl AccessSize {
+    /// Its code: Access Size (section 5.2.3.2).
+    pub fn code(self) -> u8 {
+        self as u8
+    }
+}
+
+impl TryFrom<u8> for AccessSize {
+    type Error = AcpiError;
+
+    /// The access size of a code of Access Size (section 5.2.3.2).
+    ///
+    /// Fails for a reserved code with `InvalidGenericAddress`: 5 and above.
+    fn try_from(code: u8) -> AcpiResult<AccessSize> {
+        match code {
+            0 => Ok(AccessSize::Undefined),
+            1 => Ok(AccessSize::ByteAccess),
+            2 => Ok(AccessSize::WordAccess),
+            3 => Ok(AccessSize::DWordAccess),
+            4 => Ok(AccessSize::QWordAccess),
+            _ => Err(AcpiError::InvalidGenericAddress),
+        }
+    }
+}
+
+impl SpcrInterfaceType {
+    /// Its code: Interface Type of the SPCR.
+    pub fn code(self) -> u8 {
+        match self {
+            SpcrInterfaceType::Full16550 => 0x00,
+            SpcrInterfaceType::Full16450 => 0x01,
+            SpcrInterfaceType::MAX311xE => 0x02,
+            SpcrInterfaceType::ArmPL011 => 0x03,
+            SpcrInterfaceType::MSM8x60 => 0x04,
+            SpcrInterfaceType::Nvidia16550 => 0x05,
+            SpcrInterfaceType::TiOmap => 0x06,
+            SpcrInterfaceType::APM88xxxx => 0x08,
+            SpcrInterfaceType::Msm8974 => 0x09,
+            SpcrInterfaceType::Sam5250 => 0x0a,
+            SpcrInterfaceType::IntelUSIF => 0x0b,
+            SpcrInterfaceType::Imx6 => 0x0c,
+            SpcrInterfaceType::ArmSBSAGeneric32bit => 0x0d,
+            SpcrInterfaceType::ArmSBSAGeneric => 0x0e,
+            SpcrInterfaceType::ArmDCC => 0x0f,
+            SpcrInterfaceType::Bcm2835 => 0x10,
+            SpcrInterfaceType::Sdm845_18432 => 0x11,
+            SpcrInterfaceType::Generic16550 => 0x12,
+            SpcrInterfaceType::Sdm845_7372 => 0x13,
+            SpcrInterfaceType::IntelLPSS => 0x14,
+            SpcrInterfaceType::RiscVSbi => 0x15,
+            SpcrInterfaceType::Unknown(code) => code,
+        }
+    }
+}
+
+impl From<u8> for SpcrInterfaceType {
+    /// The interface of a code of Interface Type.
+    fn from(code: u8) -> SpcrInterfaceType {
+        match code {
+            0x00 => SpcrInterfaceType::Full16550,
+            0x01 => SpcrInterfaceType::Full16450,
+            0x02 => SpcrInterfaceType::MAX311xE,
+            0x03 => SpcrInterfaceType::ArmPL011,
+            0x04 => SpcrInterfaceType::MSM8x60,
+            0x05 => SpcrInterfaceType::Nvidia16550,
+            0x06 => SpcrInterfaceType::TiOmap,
+            0x08 => SpcrInterfaceType::APM88xxxx,
+            0x09 => SpcrInterfaceType::Msm8974,
+            0x0a => SpcrInterfaceType::Sam5250,
+            0x0b => SpcrInterfaceType::IntelUSIF,
+            0x0c => SpcrInterfaceType::Imx6,
+            0x0d => SpcrInterfaceType::ArmSBSAGeneric32bit,
+            0x0e => SpcrInterfaceType::ArmSBSAGeneric,
+            0x0f => SpcrInterfaceType::ArmDCC,
+            0x10 => SpcrInterfaceType::Bcm2835,
+            0x11 => SpcrInterfaceType::Sdm845_18432,
+            0x12 => SpcrInterfaceType::Generic16550,
+            0x13 => SpcrInterfaceType::Sdm845_7372,
+            0x14 => SpcrInterfaceType::IntelLPSS,
+            0x15 => SpcrInterfaceType::RiscVSbi,
+            other => SpcrInterfaceType::Unknown(other),
+        }
+    }
+}

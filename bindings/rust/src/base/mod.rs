@@ -1,0 +1,35 @@
+// Made by scripts/erase of crates/acpi_base/src/lib.rt, where it is proved.
+//! The lowest layer of a reader of static ACPI tables: memory that a handler maps, mappings of
+//! records in it, and the headers and checks that every table has.
+//!
+//! The MADT, the MCFG and the SPCR are here too, and the interrupt model that a MADT leads to:
+//! some of their functions are methods of a table's mapping, since they read entries or a text of the
+//! mapped bytes after the record, and a mapping gets methods in its own crate alone. The records of
+//! the FADT and of the BGRT have all that their functions return, so they are in `acpi_fixed`.
+//!
+//! Section numbers are those of the ACPI Specification, version 6.4.
+
+#![forbid(unsafe_code)]
+
+pub mod address;
+pub mod bytes;
+mod codes;
+pub mod entries;
+pub mod error;
+pub mod extended;
+pub mod managed_slice;
+pub mod memory;
+pub mod model;
+pub mod range;
+pub mod table;
+pub mod tables;
+
+pub use error::{AcpiError, AcpiResult, MadtError};
+pub use memory::guarded::Guarded;
+pub use memory::handler::{AcpiHandler, Lender, PhysicalRecord};
+pub use memory::mapping::PhysicalMapping;
+pub use memory::{guarded, handler, mapping};
+pub use range::AddressRange;
+pub use table::signature::Signature;
+pub use table::{AcpiTable, SdtTable, header as sdt, signature};
+pub use tables::{madt, mcfg, spcr};

@@ -1,0 +1,161 @@
+// Made by scripts/erase of crates/acpi_base/src/table/lookup.rt, where it is proved.
+//! The table at an address (section 5.2.6).
+
+use super::AcpiTable;
+use super::header::SdtHeader;
+use super::signature::Signature;
+use crate::base::bytes::{byte_sum, has_bit};
+use crate::base::error::{AcpiError, AcpiResult};
+use crate::base::memory::claim::Claim;
+use crate::base::memory::handler::{Lender, PhysicalRecord};
+use crate::base::memory::mapping::PhysicalMapping;
+
+/// The header's bytes at an address, if they begin with this signature. Most members that a
+/// lookup skips have another one: so that is compared before anything else is made of them.
+#[inline(always)]
+fn claim_header<'h, H: Lender>(handler: &'h H, address: u64, signature: Signature) -> AcpiResult<Claim<'h, H>> {
+    let head = Claim::request(handler, address, SdtHeader::MIN_LENGTH)?;
+    if !Signature::leading(head.shown()).is(signature) {
+        head.end();
+        return Err(AcpiError::SdtInvalidSignature(signature));
+    }
+    Ok(head)
+}
+
+/// The bytes of the table whose header is claimed and has this signature, as many as its Length, if it passes the
+/// checks that the bits of `accept` leave and has the least length. The sum is still to be checked. If the bytes mapped
+/// for the header contain the whole table, they are shown; else the header's claim ends before the request.
+#[inline(always)]
+fn claim_whole<'h, H: Lender>(
+    head: Claim<'h, H>,
+    signature: Signature,
+    least: usize,
+    accept: u32,
+) -> AcpiResult<Claim<'h, H>> {
+    match SdtHeader::read(head.shown()).table_length(signature, least, accept) {
+        Ok(length) => head.widen(length),
+        Err(error) => {
+            head.end();
+            Err(error)
+        }
+    }
+}
+
+/// The bytes of a table that is valid for some type, as they are mapped: small, so that a walk along
+/// many addresses makes nothing as big as a record of the ones that it skips.
+pub struct ValidTable<'h, H: Lender> {
+    claim: Claim<'h, H>,
+}
+
+impl<'h, H: Lender> ValidTable<'h, H> {
+    /// The mapping of these bytes: the table's record, and its bytes.
+    #[inline(always)]
+    pub fn mapping<T: PhysicalRecord>(self) -> PhysicalMapping<'h, H, T> {
+        let ValidTable { claim } = self;
+        PhysicalMapping::of_claim(claim)
+    }
+}
+
+/// The bytes of the table whose header is claimed, if it is valid for `T`. No record is made of them here:
+/// they are small to pass on, and the record is read where it is to be.
+#[inline(never)]
+fn claim_valid<'h, H: Lender, T: AcpiTable>(head: Claim<'h, H>) -> AcpiResult<ValidTable<'h, H>> {
+    let claim = claim_whole(head, T::SIGNATURE, T::MIN_LENGTH, 0)?;
+    match T::validate_rest(claim.shown()) {
+        Ok(()) => Ok(ValidTable { claim }),
+        Err(error) => {
+            claim.end();
+            Err(error)
+        }
+    }
+}
+
+/// The bytes of the table at a physical address, if it is valid for `T` (section 5.2.6).
+///
+/// Fails as `map_table` does.
+#[inline(always)]
+pub fn valid_at<'h, H: Lender, T: AcpiTable>(handler: &'h H, address: u64) -> AcpiResult<ValidTable<'h, H>> {
+    let head = claim_header(handler, address, T::SIGNATURE)?;
+    claim_valid::<H, T>(head)
+}
+
+/// The table at a physical address, if it is valid for `T` (sections 5.2.5 and 5.2.6).
+///
+/// Fails, in this order, with `MapFailed` if 36 bytes aren't mapped, `SdtInvalidSignature` if the signature
+/// is another or is not valid UTF-8, `SdtInvalidOemId` and `SdtInvalidTableId` if that id is not valid
+/// UTF-8, `SdtInvalidLength` if the length in the header is under `T::MIN_LENGTH`, `MapFailed` if that many
+/// bytes aren't mapped, and with the error of `T::validate` for these bytes.
+#[inline(always)]
+pub fn map_table<'h, H: Lender, T: AcpiTable>(handler: &'h H, address: u64) -> AcpiResult<PhysicalMapping<'h, H, T>> {
+    let valid = valid_at::<H, T>(handler, address)?;
+    Ok(valid.mapping())
+}
+
+/// The bytes of the table whose header is claimed and has this signature, if by the bits of `accept` it is accepted as
+/// one of a least length of which only the header and the sum matter.
+#[inline(never)]
+fn claim_by<'h, H: Lender>(
+    head: Claim<'h, H>,
+    signature: Signature,
+    least: usize,
+    accept: u32,
+) -> AcpiResult<ValidTable<'h, H>> {
+    let claim = claim_whole(head, signature, least, accept)?;
+    if !has_bit(accept as u64, 0) && byte_sum(claim.shown()) != 0 {
+        claim.end();
+        return Err(AcpiError::SdtInvalidChecksum(signature));
+    }
+    Ok(ValidTable { claim })
+}
+
+/// The bytes of the table at a physical address, if it is accepted under a signature that is known only at run time, as
+/// one of a least length of which only the header and the sum matter (section 5.2.6). By bit 0 of `accept` its sum may
+/// be any, by bit 1 both of its ids, and by 0 it has to be valid.
+///
+/// Fails as `map_table` does for a type with that signature and least length, but for the checks that are skipped.
+#[inline(always)]
+pub fn valid_by<'h, H: Lender>(
+    handler: &'h H,
+    address: u64,
+    signature: Signature,
+    least: usize,
+    accept: u32,
+) -> AcpiResult<ValidTable<'h, H>> {
+    let head = claim_header(handler, address, signature)?;
+    claim_by(head, signature, least, accept)
+}
+
+/// The bytes of the table at a physical address, if it is accepted in this way under the signature that it has itself,
+/// whatever that is, with the least length 36 (section 5.2.6).
+///
+/// Fails as `valid_by` does for that signature.
+#[inline(always)]
+pub fn own_valid_by<'h, H: Lender>(handler: &'h H, address: u64, accept: u32) -> AcpiResult<ValidTable<'h, H>> {
+    let head = Claim::request(handler, address, SdtHeader::MIN_LENGTH)?;
+    let signature = Signature::leading(head.shown());
+    claim_by(head, signature, SdtHeader::MIN_LENGTH, accept)
+}
+
+/// The table at a physical address under a signature that is known only at run time, mapped as its header
+/// (section 5.2.6): of least length 36, and with only the checks of `SdtHeader::validate`.
+///
+/// Fails as `map_table` does for a type with that signature, the least length 36 and these checks.
+#[inline(always)]
+pub fn map_sdt<'h, H: Lender>(
+    handler: &'h H,
+    address: u64,
+    signature: Signature,
+) -> AcpiResult<PhysicalMapping<'h, H, SdtHeader>> {
+    let valid = valid_by(handler, address, signature, SdtHeader::MIN_LENGTH, 0)?;
+    Ok(valid.mapping())
+}
+
+/// The table at a physical address under the signature that it has itself, whatever that is, mapped as
+/// its header (section 5.2.6).
+///
+/// Fails as `map_sdt` does for that signature.
+#[inline(always)]
+pub fn map_own_sdt<'h, H: Lender>(handler: &'h H, address: u64) -> AcpiResult<PhysicalMapping<'h, H, SdtHeader>> {
+    let valid = own_valid_by(handler, address, 0)?;
+    Ok(valid.mapping())
+}

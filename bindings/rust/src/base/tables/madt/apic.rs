@@ -1,0 +1,212 @@
+// Made by scripts/erase of crates/acpi_base/src/tables/madt/apic.rt, where it is proved.
+//! Entries of the APIC model (ACPI 6.4, sections 5.2.12.2 to 5.2.12.8, 5.2.12.12 and 5.2.12.13).
+
+use super::entry::EntryHeader;
+use crate::base::bytes::{field_in, u8_in, u16_in, u32_in};
+use crate::base::memory::handler::PhysicalRecord;
+
+/// Processor Local APIC: a processor and its local APIC (ACPI 6.4, section 5.2.12.2).
+#[derive(Clone, Copy, Debug)]
+pub struct LocalApicEntry {
+    /// Type and Length: the entry's type, and its length in bytes.
+    pub header: EntryHeader,
+    /// ACPI Processor UID: the `_UID` of the processor's object in the namespace.
+    pub processor_id: u8,
+    /// APIC ID: the id of the processor's local APIC.
+    pub apic_id: u8,
+    /// Flags: bit 0 Enabled, the processor can be used; bit 1 Online Capable, it can be enabled later.
+    pub flags: u32,
+}
+
+impl PhysicalRecord for LocalApicEntry {
+    const MIN_LENGTH: usize = 8;
+
+    fn read(bytes: &[u8]) -> Self {
+        LocalApicEntry {
+            header: EntryHeader::read(bytes),
+            processor_id: u8_in(bytes, 2), // ACPI Processor UID
+            apic_id: u8_in(bytes, 3),      // APIC ID
+            flags: u32_in(bytes, 4),       // Flags (Local APIC Flags)
+        }
+    }
+}
+
+/// I/O APIC (ACPI 6.4, section 5.2.12.3).
+#[derive(Clone, Copy, Debug)]
+pub struct IoApicEntry {
+    /// Type and Length: the entry's type, and its length in bytes.
+    pub header: EntryHeader,
+    /// I/O APIC ID: its id.
+    pub io_apic_id: u8,
+    /// I/O APIC Address: the physical address of its registers.
+    pub io_apic_address: u32,
+    /// Global System Interrupt Base: the global system interrupt of its first input.
+    pub global_system_interrupt_base: u32,
+}
+
+impl PhysicalRecord for IoApicEntry {
+    const MIN_LENGTH: usize = 12;
+
+    fn read(bytes: &[u8]) -> Self {
+        IoApicEntry {
+            header: EntryHeader::read(bytes),
+            io_apic_id: u8_in(bytes, 2),                    // I/O APIC ID
+            io_apic_address: u32_in(bytes, 4),              // I/O APIC Address
+            global_system_interrupt_base: u32_in(bytes, 8), // Global System Interrupt Base
+        }
+    }
+}
+
+/// Interrupt Source Override: an ISA interrupt that is not wired to the global system interrupt of
+/// the same number (ACPI 6.4, section 5.2.12.5).
+#[derive(Clone, Copy, Debug)]
+pub struct InterruptSourceOverrideEntry {
+    /// Type and Length: the entry's type, and its length in bytes.
+    pub header: EntryHeader,
+    /// Bus: 0 for ISA, the only bus that is defined.
+    pub bus: u8,
+    /// Source: the interrupt (IRQ) on that bus.
+    pub irq: u8,
+    /// Global System Interrupt: the interrupt that the source is wired to.
+    pub global_system_interrupt: u32,
+    /// MPS INTI Flags: bits 0 and 1 the polarity, bits 2 and 3 the trigger mode.
+    pub flags: u16,
+}
+
+impl PhysicalRecord for InterruptSourceOverrideEntry {
+    const MIN_LENGTH: usize = 10;
+
+    fn read(bytes: &[u8]) -> Self {
+        InterruptSourceOverrideEntry {
+            header: EntryHeader::read(bytes),
+            bus: u8_in(bytes, 2),                      // Bus
+            irq: u8_in(bytes, 3),                      // Source
+            global_system_interrupt: u32_in(bytes, 4), // Global System Interrupt
+            flags: u16_in(bytes, 8),                   // Flags (MPS INTI Flags)
+        }
+    }
+}
+
+/// NMI Source: an interrupt that is to be non-maskable (ACPI 6.4, section 5.2.12.6).
+#[derive(Clone, Copy, Debug)]
+pub struct NmiSourceEntry {
+    /// Type and Length: the entry's type, and its length in bytes.
+    pub header: EntryHeader,
+    /// MPS INTI Flags: bits 0 and 1 the polarity, bits 2 and 3 the trigger mode.
+    pub flags: u16,
+    /// Global System Interrupt: the interrupt that is non-maskable.
+    pub global_system_interrupt: u32,
+}
+
+impl PhysicalRecord for NmiSourceEntry {
+    const MIN_LENGTH: usize = 8;
+
+    fn read(bytes: &[u8]) -> Self {
+        NmiSourceEntry {
+            header: EntryHeader::read(bytes),
+            flags: u16_in(bytes, 2),                   // Flags (MPS INTI Flags)
+            global_system_interrupt: u32_in(bytes, 4), // Global System Interrupt
+        }
+    }
+}
+
+/// Local APIC NMI: the LINT pin of a local APIC that NMIs are connected to (ACPI 6.4, section
+/// 5.2.12.7).
+#[derive(Clone, Copy, Debug)]
+pub struct LocalApicNmiEntry {
+    /// Type and Length: the entry's type, and its length in bytes.
+    pub header: EntryHeader,
+    /// ACPI Processor UID: the `_UID` of the processor's object; 0xff for all processors.
+    pub processor_id: u8,
+    /// LINT# of the local APIC: 0 for LINT0, 1 for LINT1.
+    pub nmi_line: u8,
+    /// MPS INTI Flags: bits 0 and 1 the polarity, bits 2 and 3 the trigger mode.
+    pub flags: u16,
+}
+
+impl PhysicalRecord for LocalApicNmiEntry {
+    const MIN_LENGTH: usize = 6;
+
+    fn read(bytes: &[u8]) -> Self {
+        LocalApicNmiEntry {
+            header: EntryHeader::read(bytes),
+            processor_id: u8_in(bytes, 2), // ACPI Processor UID
+            flags: u16_in(bytes, 3),       // Flags (MPS INTI Flags)
+            nmi_line: u8_in(bytes, 5),     // Local APIC LINT#
+        }
+    }
+}
+
+/// Local APIC Address Override: a 64-bit address of the local APICs, in place of the 32-bit one in
+/// the MADT itself (ACPI 6.4, section 5.2.12.8).
+#[derive(Clone, Copy, Debug)]
+pub struct LocalApicAddressOverrideEntry {
+    /// Type and Length: the entry's type, and its length in bytes.
+    pub header: EntryHeader,
+    /// Local APIC Address: the physical address at which each processor reaches its local APIC.
+    pub local_apic_address: u64,
+}
+
+impl PhysicalRecord for LocalApicAddressOverrideEntry {
+    const MIN_LENGTH: usize = 12;
+
+    fn read(bytes: &[u8]) -> Self {
+        LocalApicAddressOverrideEntry {
+            header: EntryHeader::read(bytes),
+            local_apic_address: field_in(bytes, 4, 8), // Local APIC Address
+        }
+    }
+}
+
+/// Processor Local x2APIC: a processor and its local x2APIC (ACPI 6.4, section 5.2.12.12).
+#[derive(Clone, Copy, Debug)]
+pub struct LocalX2ApicEntry {
+    /// Type and Length: the entry's type, and its length in bytes.
+    pub header: EntryHeader,
+    /// X2APIC ID: the id of the processor's local x2APIC.
+    pub x2apic_id: u32,
+    /// Flags: bit 0 Enabled, the processor can be used; bit 1 Online Capable, it can be enabled later.
+    pub flags: u32,
+    /// ACPI Processor UID: the `_UID` of the processor's object in the namespace.
+    pub processor_uid: u32,
+}
+
+impl PhysicalRecord for LocalX2ApicEntry {
+    const MIN_LENGTH: usize = 16;
+
+    fn read(bytes: &[u8]) -> Self {
+        LocalX2ApicEntry {
+            header: EntryHeader::read(bytes),
+            x2apic_id: u32_in(bytes, 4),      // X2APIC ID
+            flags: u32_in(bytes, 8),          // Flags (Local APIC Flags)
+            processor_uid: u32_in(bytes, 12), // ACPI Processor UID
+        }
+    }
+}
+
+/// Local x2APIC NMI: the LINT pin of a local x2APIC that NMIs are connected to (ACPI 6.4, section
+/// 5.2.12.13).
+#[derive(Clone, Copy, Debug)]
+pub struct X2ApicNmiEntry {
+    /// Type and Length: the entry's type, and its length in bytes.
+    pub header: EntryHeader,
+    /// MPS INTI Flags: bits 0 and 1 the polarity, bits 2 and 3 the trigger mode.
+    pub flags: u16,
+    /// ACPI Processor UID: the `_UID` of the processor's object; 0xffffffff for all processors.
+    pub processor_uid: u32,
+    /// LINT# of the local APIC: 0 for LINT0, 1 for LINT1.
+    pub nmi_line: u8,
+}
+
+impl PhysicalRecord for X2ApicNmiEntry {
+    const MIN_LENGTH: usize = 12;
+
+    fn read(bytes: &[u8]) -> Self {
+        X2ApicNmiEntry {
+            header: EntryHeader::read(bytes),
+            flags: u16_in(bytes, 2),         // Flags (MPS INTI Flags)
+            processor_uid: u32_in(bytes, 4), // ACPI Processor UID
+            nmi_line: u8_in(bytes, 8),       // Local x2APIC LINT#
+        }
+    }
+}

@@ -1,0 +1,182 @@
+// Made by scripts/erase of crates/acpi_base/src/tables/madt/gic.rt, where it is proved.
+//! Entries of the GIC model (ACPI 6.4, sections 5.2.12.14 to 5.2.12.18).
+
+use super::entry::EntryHeader;
+use crate::base::bytes::{field, field_in, u8_in, u16_in, u32_in};
+use crate::base::extended::ExtendedField;
+use crate::base::memory::handler::PhysicalRecord;
+
+/// GIC CPU Interface (GICC): a processor and its interface to the generic interrupt controller. A
+/// field that reaches past the end of a short entry is read as if zeros followed (ACPI 6.4, section
+/// 5.2.12.14).
+#[derive(Clone, Copy, Debug)]
+pub struct GiccEntry {
+    /// Type and Length: the entry's type, and its length in bytes.
+    pub header: EntryHeader,
+    /// CPU Interface Number: the number of the interface.
+    pub cpu_interface_number: u32,
+    /// ACPI Processor UID: the `_UID` of the processor's object in the namespace.
+    pub processor_uid: u32,
+    /// Flags: bit 0 Enabled, the processor can be used. Bit 1 Performance Interrupt Mode and bit 2 VGIC
+    /// Maintenance Interrupt Mode: if set, that interrupt is edge-triggered. Bit 3 Online Capable, since
+    /// ACPI 6.5: a processor that isn't enabled can be enabled later.
+    pub flags: u32,
+    /// Parking Protocol Version: 0 if the processor has none.
+    pub parking_protocol_version: u32,
+    /// Performance Interrupt GSIV: the interrupt of the performance counters.
+    pub performance_interrupt_gsiv: u32,
+    /// Parked Address: the physical address of the parking protocol's mailbox.
+    pub parked_address: u64,
+    /// Physical Base Address (GICC): that of the interface's registers.
+    pub gic_registers_address: u64,
+    /// GICV: the physical address of the virtual interface's registers.
+    pub gic_virtual_registers_address: u64,
+    /// GICH: the physical address of the registers that control the virtual interface.
+    pub gic_hypervisor_registers_address: u64,
+    /// VGIC Maintenance interrupt: that of the virtual interface.
+    pub vgic_maintenance_interrupt: u32,
+    /// GICR Base Address: that of the processor's redistributor. 0: it is in one of the ranges of
+    /// a `GicRedistributorEntry`.
+    pub gicr_base_address: u64,
+    /// MPIDR: the processor's affinity, as in its register of that name.
+    pub mpidr: u64,
+    /// Processor Power Efficiency Class: how much power it takes next to the others; less is less.
+    pub processor_power_efficiency_class: u8,
+    /// SPE overflow Interrupt: that of the statistical profiling extension. 0: there is none.
+    pub spe_overflow_interrupt: u16,
+    /// TRBE Interrupt: that of the trace buffer, for the MADT's revision 6 and above. 0: there is none.
+    pub trbe_interrupt: ExtendedField<u16, 6>,
+}
+
+impl PhysicalRecord for GiccEntry {
+    const MIN_LENGTH: usize = 76;
+
+    fn read(bytes: &[u8]) -> Self {
+        GiccEntry {
+            header: EntryHeader::read(bytes),
+            cpu_interface_number: u32_in(bytes, 4),        // CPU Interface Number
+            processor_uid: u32_in(bytes, 8),               // ACPI Processor UID
+            flags: u32_in(bytes, 12),                      // Flags (GICC CPU Interface Flags)
+            parking_protocol_version: u32_in(bytes, 16),   // Parking Protocol Version
+            performance_interrupt_gsiv: u32_in(bytes, 20), // Performance Interrupt GSIV
+            parked_address: field_in(bytes, 24, 8),        // Parked Address
+            gic_registers_address: field_in(bytes, 32, 8), // Physical Base Address
+            gic_virtual_registers_address: field_in(bytes, 40, 8), // GICV
+            gic_hypervisor_registers_address: field_in(bytes, 48, 8), // GICH
+            vgic_maintenance_interrupt: u32_in(bytes, 56), // VGIC Maintenance interrupt
+            gicr_base_address: field_in(bytes, 60, 8),     // GICR Base Address
+            mpidr: field_in(bytes, 68, 8),                 // MPIDR
+            processor_power_efficiency_class: field(bytes, 76, 1) as u8, // Processor Power Efficiency Class
+            spe_overflow_interrupt: field(bytes, 78, 2) as u16, // SPE overflow Interrupt
+            trbe_interrupt: ExtendedField::read(bytes, 80), // TRBE Interrupt, since ACPI 6.5
+        }
+    }
+}
+
+/// GIC Distributor (GICD): that of the generic interrupt controller (ACPI 6.4, section 5.2.12.15).
+#[derive(Clone, Copy, Debug)]
+pub struct GicdEntry {
+    /// Type and Length: the entry's type, and its length in bytes.
+    pub header: EntryHeader,
+    /// GIC ID: the id of the distributor.
+    pub gic_id: u32,
+    /// Physical Base Address: that of its registers.
+    pub physical_base_address: u64,
+    /// System Vector Base: the first interrupt of the distributor; reserved, and 0.
+    pub system_vector_base: u32,
+    /// GIC version: that of the controller, 1 to 4. 0: the hardware has it.
+    pub gic_version: u8,
+}
+
+impl PhysicalRecord for GicdEntry {
+    const MIN_LENGTH: usize = 24;
+
+    fn read(bytes: &[u8]) -> Self {
+        GicdEntry {
+            header: EntryHeader::read(bytes),
+            gic_id: u32_in(bytes, 4),                     // GIC ID
+            physical_base_address: field_in(bytes, 8, 8), // Physical Base Address
+            system_vector_base: u32_in(bytes, 16),        // System Vector Base
+            gic_version: u8_in(bytes, 20),                // GIC version
+        }
+    }
+}
+
+/// GIC MSI Frame: a frame that turns messages into interrupts (ACPI 6.4, section 5.2.12.16).
+#[derive(Clone, Copy, Debug)]
+pub struct GicMsiFrameEntry {
+    /// Type and Length: the entry's type, and its length in bytes.
+    pub header: EntryHeader,
+    /// GIC MSI Frame ID: the id of the frame.
+    pub frame_id: u32,
+    /// Physical Base Address: that of its registers.
+    pub physical_base_address: u64,
+    /// Flags: bit 0 SPI Count/Base Select, the next two fields count and not the registers.
+    pub flags: u32,
+    /// SPI Count: the number of interrupts (SPIs) of the frame.
+    pub spi_count: u16,
+    /// SPI Base: the first interrupt (SPI) of the frame.
+    pub spi_base: u16,
+}
+
+impl PhysicalRecord for GicMsiFrameEntry {
+    const MIN_LENGTH: usize = 24;
+
+    fn read(bytes: &[u8]) -> Self {
+        GicMsiFrameEntry {
+            header: EntryHeader::read(bytes),
+            frame_id: u32_in(bytes, 4),                   // GIC MSI Frame ID
+            physical_base_address: field_in(bytes, 8, 8), // Physical Base Address
+            flags: u32_in(bytes, 16),                     // Flags (GIC MSI Frame Flags)
+            spi_count: u16_in(bytes, 20),                 // SPI Count
+            spi_base: u16_in(bytes, 22),                  // SPI Base
+        }
+    }
+}
+
+/// GIC Redistributor (GICR): a range of memory that holds redistributors (ACPI 6.4, section 5.2.12.17).
+#[derive(Clone, Copy, Debug)]
+pub struct GicRedistributorEntry {
+    /// Type and Length: the entry's type, and its length in bytes.
+    pub header: EntryHeader,
+    /// Discovery Range Base Address: the physical address of the range.
+    pub discovery_range_base_address: u64,
+    /// Discovery Range Length: the number of bytes of the range.
+    pub discovery_range_length: u32,
+}
+
+impl PhysicalRecord for GicRedistributorEntry {
+    const MIN_LENGTH: usize = 16;
+
+    fn read(bytes: &[u8]) -> Self {
+        GicRedistributorEntry {
+            header: EntryHeader::read(bytes),
+            discovery_range_base_address: field_in(bytes, 4, 8), // Discovery Range Base Address
+            discovery_range_length: u32_in(bytes, 12),           // Discovery Range Length
+        }
+    }
+}
+
+/// GIC Interrupt Translation Service (ITS): it translates messages to interrupts (ACPI 6.4, section
+/// 5.2.12.18).
+#[derive(Clone, Copy, Debug)]
+pub struct GicInterruptTranslationServiceEntry {
+    /// Type and Length: the entry's type, and its length in bytes.
+    pub header: EntryHeader,
+    /// GIC ITS ID: the id of the service.
+    pub id: u32,
+    /// Physical Base Address: that of its registers.
+    pub physical_base_address: u64,
+}
+
+impl PhysicalRecord for GicInterruptTranslationServiceEntry {
+    const MIN_LENGTH: usize = 20;
+
+    fn read(bytes: &[u8]) -> Self {
+        GicInterruptTranslationServiceEntry {
+            header: EntryHeader::read(bytes),
+            id: u32_in(bytes, 4),                         // GIC ITS ID
+            physical_base_address: field_in(bytes, 8, 8), // Physical Base Address
+        }
+    }
+}

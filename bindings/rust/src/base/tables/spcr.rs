@@ -1,0 +1,226 @@
+// Made by scripts/erase of crates/acpi_base/src/tables/spcr.rt, where it is proved.
+//! The Serial Port Console Redirection Table (SPCR): the serial console that the firmware used.
+
+mod flags;
+mod interface;
+
+use crate::base::address::{GenericAddress, RawAddress};
+use crate::base::bytes::{bits, field, filled, has_bit, text_of, u8_in, u16_in, u32_in};
+use crate::base::error::{AcpiError, AcpiResult};
+use crate::base::memory::handler::{Lender, PhysicalRecord};
+use crate::base::memory::mapping::PhysicalMapping;
+use crate::base::table::SdtTable;
+use crate::base::table::header::SdtHeader;
+use crate::base::table::signature::Signature;
+use crate::flags::Flags;
+pub use flags::{SpcrFlowControl, SpcrInterruptType, SpcrTerminalType};
+pub use interface::SpcrInterfaceType;
+
+/// The Serial Port Console Redirection Table (SPCR): the serial console that the firmware used. Section
+/// 5.2.6 reserves its signature, and its layout is Microsoft's. A field that reaches past the table's end is
+/// read as if zeros followed.
+#[derive(Debug)]
+pub struct Spcr {
+    /// The header that every table begins with.
+    pub header: SdtHeader,
+    interface_type: u8,
+    base_address: RawAddress,
+    interrupt_type: u8,
+    irq: u8,
+    global_system_interrupt: u32,
+    configured_baud_rate: u8,
+    /// Parity: 0 is no parity; other codes are reserved, and kept as they are.
+    pub parity: u8,
+    /// Stop Bits: 1 is one stop bit; other codes are reserved, and kept as they are.
+    pub stop_bits: u8,
+    flow_control: u8,
+    terminal_type: u8,
+    /// Language: that of the texts that the firmware printed, 0 by the layout. It is kept as it is.
+    pub language: u8,
+    pci_device_id: u16,
+    pci_vendor_id: u16,
+    pci_bus_number: u8,
+    pci_device_number: u8,
+    pci_function_number: u8,
+    /// PCI Flags: bit 0 set means that the operating system must neither suppress the device's enumeration
+    /// nor disable its power management.
+    pub pci_flags: u32,
+    /// PCI Segment: the PCI segment group of the device.
+    pub pci_segment: u8,
+    uart_clock_frequency: u32,
+    precise_baud_rate: u32,
+    namespace_length: u16,
+    namespace_offset: u16,
+}
+
+impl PhysicalRecord for Spcr {
+    const MIN_LENGTH: usize = 80;
+
+    fn read(bytes: &[u8]) -> Self {
+        Spcr {
+            header: SdtHeader::read(bytes),
+            interface_type: u8_in(bytes, 36),              // Interface Type
+            base_address: filled(bytes, 40),               // Base Address
+            interrupt_type: u8_in(bytes, 52),              // Interrupt Type
+            irq: u8_in(bytes, 53),                         // IRQ
+            global_system_interrupt: u32_in(bytes, 54),    // Global System Interrupt
+            configured_baud_rate: u8_in(bytes, 58),        // Configured Baud Rate
+            parity: u8_in(bytes, 59),                      // Parity
+            stop_bits: u8_in(bytes, 60),                   // Stop Bits
+            flow_control: u8_in(bytes, 61),                // Flow Control
+            terminal_type: u8_in(bytes, 62),               // Terminal Type
+            language: u8_in(bytes, 63),                    // Language
+            pci_device_id: u16_in(bytes, 64),              // PCI Device ID
+            pci_vendor_id: u16_in(bytes, 66),              // PCI Vendor ID
+            pci_bus_number: u8_in(bytes, 68),              // PCI Bus Number
+            pci_device_number: u8_in(bytes, 69),           // PCI Device Number
+            pci_function_number: u8_in(bytes, 70),         // PCI Function Number
+            pci_flags: u32_in(bytes, 71),                  // PCI Flags
+            pci_segment: u8_in(bytes, 75),                 // PCI Segment
+            uart_clock_frequency: u32_in(bytes, 76),       // UART Clock Frequency
+            precise_baud_rate: field(bytes, 80, 4) as u32, // Precise Baud Rate
+            namespace_length: field(bytes, 84, 2) as u16,  // NamespaceStringLength
+            namespace_offset: field(bytes, 86, 2) as u16,  // NamespaceStringOffset
+        }
+    }
+}
+
+impl SdtTable for Spcr {
+    const NAME: Signature = Signature::SPCR;
+
+    fn sdt_header(&self) -> &SdtHeader {
+        &self.header
+    }
+}
+
+impl Spcr {
+    /// Interface Type: the interface of the serial port's registers.
+    pub fn interface_type(&self) -> SpcrInterfaceType {
+        SpcrInterfaceType::from(self.interface_type)
+    }
+
+    /// Base Address: the generic address (section 5.2.3.2) of the serial port's registers, or `None` if all
+    /// twelve bytes are zero: console redirection is then off.
+    ///
+    /// Fails with `InvalidGenericAddress` if the address has a reserved code.
+    pub fn base_address(&self) -> Option<AcpiResult<GenericAddress>> {
+        if self.base_address == [0; 12] {
+            return None;
+        }
+        Some(GenericAddress::read(&self.base_address))
+    }
+
+    /// Precise Baud Rate or Configured Baud Rate: the rate in bits per second. It is the precise one if that
+    /// isn't 0, else that of the configured code (3, 4, 6 and 7: 9600, 19200, 57600 and 115200), or `None`
+    /// for every other code.
+    pub fn baud_rate(&self) -> Option<u32> {
+        if self.precise_baud_rate != 0 {
+            return Some(self.precise_baud_rate);
+        }
+        match self.configured_baud_rate {
+            3 => Some(9600),
+            4 => Some(19200),
+            6 => Some(57600),
+            7 => Some(115200),
+            _ => None,
+        }
+    }
+
+    /// IRQ: the interrupt on the pair of 8259 controllers, or `None` if bit 0 of Interrupt Type isn't set:
+    /// the port has none there.
+    pub fn irq(&self) -> Option<u8> {
+        // Interrupt Type, bit 0: the 8259 controllers.
+        if has_bit(self.interrupt_type as u64, 0) { Some(self.irq) } else { None }
+    }
+
+    /// Global System Interrupt: that of the port, or `None` if none of bits 1 to 4 of Interrupt Type is set:
+    /// the port has no interrupt on another controller than the 8259s.
+    pub fn global_system_interrupt(&self) -> Option<u32> {
+        // Interrupt Type, bits 1 to 4: the other controllers.
+        if bits(self.interrupt_type as u64, 1, 4) == 0 {
+            return None;
+        }
+        Some(self.global_system_interrupt)
+    }
+
+    /// Interrupt Type: the controllers that the port's interrupt comes to, by the lowest 5 bits of the
+    /// table's byte.
+    pub fn interrupt_type(&self) -> SpcrInterruptType {
+        SpcrInterruptType::from_bits_truncate(self.interrupt_type)
+    }
+
+    /// Terminal Type: the terminals that the firmware spoke to, by the lowest 4 bits of the table's byte.
+    pub fn terminal_type(&self) -> SpcrTerminalType {
+        SpcrTerminalType::from_bits_truncate(self.terminal_type)
+    }
+
+    /// Flow Control: the ways in which the flow of bytes is controlled, by the lowest 3 bits of the table's
+    /// byte.
+    pub fn flow_control(&self) -> SpcrFlowControl {
+        SpcrFlowControl::from_bits_truncate(self.flow_control)
+    }
+
+    /// PCI Device ID: that of the port, or `None` if that is 0xffff: the port is not a PCI device.
+    pub fn pci_device_id(&self) -> Option<u16> {
+        unless(self.pci_device_id, 0xffff)
+    }
+
+    /// PCI Vendor ID: that of the port, or `None` if that is 0xffff: the port is not a PCI device.
+    pub fn pci_vendor_id(&self) -> Option<u16> {
+        unless(self.pci_vendor_id, 0xffff)
+    }
+
+    /// PCI Bus Number: that of the port, or `None` if that is 0.
+    pub fn pci_bus_number(&self) -> Option<u8> {
+        unless(self.pci_bus_number, 0)
+    }
+
+    /// PCI Device Number: that of the port, or `None` if that is 0.
+    pub fn pci_device_number(&self) -> Option<u8> {
+        unless(self.pci_device_number, 0)
+    }
+
+    /// PCI Function Number: that of the port, or `None` if that is 0.
+    pub fn pci_function_number(&self) -> Option<u8> {
+        unless(self.pci_function_number, 0)
+    }
+
+    /// UART Clock Frequency: the clock of the port in Hz, or `None` if that is 0 or the table's revision is
+    /// 2 or below.
+    pub fn uart_clock_frequency(&self) -> Option<u32> {
+        if self.header.revision > 2 { unless(self.uart_clock_frequency, 0) } else { None }
+    }
+}
+
+/// A number, unless it is the one that means none.
+fn unless<N: Copy + PartialEq>(number: N, none: N) -> Option<N> {
+    if number == none { None } else { Some(number) }
+}
+
+/// The name that a table's bytes contain at the place that its fields have.
+fn namespace_in<'t>(spcr: &Spcr, table: &'t [u8]) -> AcpiResult<&'t str> {
+    let (offset, length) = (spcr.namespace_offset as usize, spcr.namespace_length as usize);
+    if offset + length > table.len() {
+        return Err(AcpiError::InvalidNamespaceString);
+    }
+    name_of(&table[offset..offset + length])
+}
+
+/// The name that bytes encode.
+fn name_of(bytes: &[u8]) -> AcpiResult<&str> {
+    match text_of(bytes) {
+        Some(text) => Ok(text),
+        None => Err(AcpiError::InvalidNamespaceString),
+    }
+}
+
+impl<'h, H: Lender> PhysicalMapping<'h, H, Spcr> {
+    /// NamespaceString: the name of the port's object in the ACPI namespace, or `.` if it has none. It has
+    /// NamespaceStringLength bytes, from NamespaceStringOffset on, counted from the table's first byte.
+    ///
+    /// Fails with `InvalidNamespaceString` if these bytes reach past the table's end, or are not valid
+    /// UTF-8.
+    pub fn namespace_string(&self) -> AcpiResult<&str> {
+        namespace_in(self.get(), self.bytes())
+    }
+}

@@ -1,0 +1,262 @@
+// Made by scripts/erase of crates/acpi_fixed/src/fadt/registers.rt, where it is proved.
+//! Registers and addresses that the FADT has in two ways: by a field of its first versions, and by an
+//! extended one (section 5.2.9).
+//!
+//! Extended fields came with revision 2. Most tables have all the extended blocks: for a reader that knows it
+//! (`whole`) nothing is tested.
+
+mod gpe;
+
+use super::places;
+use crate::base::address::{AccessSize, AddressSpace, GenericAddress, RawAddress};
+use crate::base::bytes::{field, field_in, filled, filled_in, u8_in, u32_in};
+use crate::base::{AcpiError, AcpiResult};
+pub use gpe::GpeBlock;
+pub(super) use gpe::base_beside;
+
+/// Where extended fields may be: before this offset, the length of a table whose FADT Major Version, at 8, is 2 or
+/// above, and of an older one 0.
+#[inline(always)]
+pub(super) fn reach_in(table: &[u8]) -> usize {
+    if u8_in(table, 8) >= 2 { table.len() } else { 0 }
+}
+
+/// What `reach_in` is, as far as the extended blocks go: their end, if the table is known to have all of them.
+#[inline(always)]
+pub(super) fn block_reach_in(table: &[u8], whole: bool) -> usize {
+    if whole { places::BLOCKS_END } else { reach_in(table) }
+}
+
+/// The number of a plain field: nothing is tested if the table is known to have all extended blocks.
+#[inline(always)]
+pub(super) fn number_in(table: &[u8], offset: usize, n: usize, whole: bool) -> u64 {
+    if whole { field_in(table, offset, n) } else { field(table, offset, n) }
+}
+
+/// The twelve bytes of a generic address at an offset, all of which are there. They are one by one, since
+/// the compiler then copies them with no detour by an array of zeros.
+#[inline(always)]
+fn address_in(table: &[u8], offset: usize) -> RawAddress {
+    let bytes = &table[offset..];
+    [
+        bytes[0], bytes[1], bytes[2], bytes[3], bytes[4], bytes[5], bytes[6], bytes[7], bytes[8], bytes[9], bytes[10],
+        bytes[11],
+    ]
+}
+
+/// The twelve bytes of a generic address at an offset, where they are, or `None` if they end after `reach`.
+#[inline(always)]
+pub(super) fn raw_in(table: &[u8], reach: usize, offset: usize) -> Option<&RawAddress> {
+    if offset + 12 > reach {
+        return None;
+    }
+    <&RawAddress>::try_from(&table[offset..offset + 12]).ok()
+}
+
+/// The number of eight bytes at an offset, or 0 if they end after `reach`.
+#[inline(always)]
+pub(super) fn extended_number_in(table: &[u8], reach: usize, offset: usize) -> u64 {
+    if offset + 8 <= reach { field_in(table, offset, 8) } else { 0 }
+}
+
+/// The twelve bytes of a generic address at an offset, or zeros if they end after `reach`.
+#[inline(always)]
+fn extended_bytes_in(table: &[u8], reach: usize, offset: usize) -> RawAddress {
+    if offset + 12 <= reach { address_in(table, offset) } else { [0; 12] }
+}
+
+/// The twelve bytes of a generic address at an offset, or `None` if they end after `reach`.
+#[inline(always)]
+fn extended_address_in(table: &[u8], reach: usize, offset: usize) -> Option<RawAddress> {
+    if offset + 12 <= reach { Some(address_in(table, offset)) } else { None }
+}
+
+/// The 64-bit address if it is not 0, else the 32-bit one.
+///
+/// Fails with `refusal` if that is 0.
+pub(crate) fn address_from(refusal: AcpiError, wide: u64, narrow: u32) -> AcpiResult<u64> {
+    if wide != 0 {
+        return Ok(wide);
+    }
+    if narrow == 0 {
+        return Err(refusal);
+    }
+    Ok(narrow as u64)
+}
+
+/// The register in an extended field, or `None` if the table has no such field.
+///
+/// Fails for reserved codes with `InvalidGenericAddress`.
+pub(crate) fn register_from(raw: Option<&RawAddress>) -> AcpiResult<Option<GenericAddress>> {
+    match raw {
+        Some(raw) => Ok(Some(GenericAddress::read(raw)?)),
+        None => Ok(None),
+    }
+}
+
+/// The offsets of a block's address, of its length and of its extended field in a table.
+#[derive(Clone, Copy)]
+pub(super) struct BlockPlace {
+    pub(super) address: usize,
+    pub(super) size: usize,
+    pub(super) extended: usize,
+}
+
+/// A block of registers: by the number of bytes and the first port that the first versions of the table
+/// have, and by its extended field, which is zeros if the table has none. It is bytes alone, so that no
+/// gaps are between blocks.
+#[derive(Clone, Copy, Debug)]
+pub(crate) struct RegisterBlock {
+    size: u8,
+    port: [u8; 4],
+    extended: RawAddress,
+}
+
+impl RegisterBlock {
+    /// The block that a table has at a place.
+    #[inline(always)]
+    fn read(table: &[u8], reach: usize, place: BlockPlace) -> RegisterBlock {
+        RegisterBlock {
+            size: field_in(table, place.size, 1) as u8,
+            port: filled_in(table, place.address),
+            extended: extended_bytes_in(table, reach, place.extended),
+        }
+    }
+
+    /// What its getters look at.
+    #[inline(always)]
+    pub(crate) fn fields(&self) -> BlockFields<'_> {
+        BlockFields { port: field_in(&self.port, 0, 4) as u32, size: self.size, extended: usable(Some(&self.extended)) }
+    }
+}
+
+/// What a table has of a block of registers: the extended field, unless its address is 0, and of the first versions'
+/// fields the first port and the number of bytes.
+#[derive(Clone, Copy)]
+pub(crate) struct BlockFields<'t> {
+    extended: Option<&'t RawAddress>,
+    port: u32,
+    size: u8,
+}
+
+/// An extended field, or `None` if there is none or its address is 0.
+#[inline(always)]
+fn usable(raw: Option<&RawAddress>) -> Option<&RawAddress> {
+    match raw {
+        Some(field) => {
+            // Address
+            if field_in(field, 4, 8) == 0 {
+                return None;
+            }
+            Some(field)
+        }
+        None => None,
+    }
+}
+
+impl<'t> BlockFields<'t> {
+    /// The fields that a table has at a place, where they are.
+    #[inline(always)]
+    pub(super) fn read(table: &'t [u8], reach: usize, place: BlockPlace) -> BlockFields<'t> {
+        BlockFields {
+            port: u32_in(table, place.address),
+            size: u8_in(table, place.size),
+            extended: usable(raw_in(table, reach, place.extended)),
+        }
+    }
+
+    /// The ports of the first versions, eight bits for each byte.
+    ///
+    /// Fails with `InvalidGenericAddress` if these are 32 bytes or more, more than a width can express.
+    #[inline(always)]
+    fn ports(self) -> AcpiResult<GenericAddress> {
+        if self.size >= 32 {
+            return Err(AcpiError::InvalidGenericAddress);
+        }
+        Ok(GenericAddress {
+            address_space: AddressSpace::SystemIo,
+            bit_width: self.size * 8,
+            bit_offset: 0,
+            access_size: AccessSize::Undefined,
+            address: self.port as u64,
+        })
+    }
+
+    /// The extended block if its address is not 0, else the ports.
+    ///
+    /// Fails with `InvalidGenericAddress` for reserved codes in the extended block, and for 32 bytes of ports and
+    /// more.
+    #[inline(always)]
+    pub(crate) fn block(self) -> AcpiResult<GenericAddress> {
+        match self.extended {
+            Some(raw) => GenericAddress::read(raw),
+            None => self.ports(),
+        }
+    }
+
+    /// The extended block if its address is not 0, else the ports, of a block that a machine need not have:
+    /// `None` if neither field has an address.
+    ///
+    /// Fails as `block` does.
+    #[inline(always)]
+    pub(crate) fn optional_block(self) -> AcpiResult<Option<GenericAddress>> {
+        if let Some(raw) = self.extended {
+            return Ok(Some(GenericAddress::read(raw)?));
+        }
+        if self.port == 0 {
+            return Ok(None);
+        }
+        Ok(Some(self.ports()?))
+    }
+
+    /// The block of the timer: the extended block if its address is not 0, else the ports, or `None` if the
+    /// length isn't 4 or neither field has an address.
+    ///
+    /// Fails with `InvalidGenericAddress` for a reserved code in the extended block.
+    #[inline(always)]
+    pub(crate) fn timer_block(self) -> AcpiResult<Option<GenericAddress>> {
+        if self.size != 4 {
+            return Ok(None);
+        }
+        self.optional_block()
+    }
+}
+
+/// The registers of the fixed hardware, as the FADT has them.
+#[derive(Clone, Copy, Debug)]
+pub(crate) struct Registers {
+    pub(crate) pm1a_event: RegisterBlock,
+    pub(crate) pm1b_event: RegisterBlock,
+    pub(crate) pm1a_control: RegisterBlock,
+    pub(crate) pm1b_control: RegisterBlock,
+    pub(crate) pm2_control: RegisterBlock,
+    pub(crate) pm_timer: RegisterBlock,
+    pub(crate) gpe0: RegisterBlock,
+    pub(crate) gpe1: RegisterBlock,
+    pub(crate) reset: RawAddress,
+    pub(crate) sleep_control: Option<RawAddress>,
+    pub(crate) sleep_status: Option<RawAddress>,
+}
+
+impl Registers {
+    /// The registers that a table contains. The blocks aren't tested for if the table is known to have all of
+    /// them (`WHOLE`).
+    #[inline(always)]
+    pub(super) fn read<const WHOLE: bool>(table: &[u8]) -> Registers {
+        let reset = if WHOLE { address_in(table, places::RESET_REG) } else { filled(table, places::RESET_REG) };
+        let reach = block_reach_in(table, WHOLE);
+        Registers {
+            pm1a_event: RegisterBlock::read(table, reach, places::PM1A_EVENT),
+            pm1b_event: RegisterBlock::read(table, reach, places::PM1B_EVENT),
+            pm1a_control: RegisterBlock::read(table, reach, places::PM1A_CONTROL),
+            pm1b_control: RegisterBlock::read(table, reach, places::PM1B_CONTROL),
+            pm2_control: RegisterBlock::read(table, reach, places::PM2_CONTROL),
+            pm_timer: RegisterBlock::read(table, reach, places::PM_TIMER),
+            gpe0: RegisterBlock::read(table, reach, places::GPE0),
+            gpe1: RegisterBlock::read(table, reach, places::GPE1),
+            reset,
+            sleep_control: extended_address_in(table, reach_in(table), places::SLEEP_CONTROL_REG),
+            sleep_status: extended_address_in(table, reach_in(table), places::SLEEP_STATUS_REG),
+        }
+    }
+}

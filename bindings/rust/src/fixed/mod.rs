@@ -1,0 +1,10 @@
+// Made by scripts/erase of crates/acpi_fixed/src/lib.rt, where it is proved.
+//! Tables of one fixed layout: the Fixed ACPI Description Table (FADT, section 5.2.9), and the Boot Graphics
+//! Resource Table (BGRT, section 5.2.22).
+//!
+//! Section numbers are the ACPI Specification's, version 6.4.
+
+#![forbid(unsafe_code)]
+
+pub mod bgrt;
+pub mod fadt;

@@ -1,0 +1,42 @@
+// Made by scripts/erase of crates/acpi_iommu/src/ivrs.rt, where it is proved.
+//! The I/O Virtualization Reporting Structure (IVRS, section 5.2): which unit remaps a device's requests of memory, and
+//! which memory has its own rules.
+
+mod block;
+mod blocks;
+mod entry;
+
+use crate::base::bytes::field_in;
+use crate::base::sdt::SdtHeader;
+use crate::base::{PhysicalRecord, SdtTable, Signature};
+pub use block::{Ivhd, Ivmd, IvrsBlock, IvrsBlockIter, IvrsFields};
+pub use blocks::{BestBlockIter, DeviceUnit, IvrsBlocks, MemoryIter};
+pub use entry::{DeviceEntry, DeviceEntryIter, SpecialDevice};
+
+/// The I/O Virtualization Reporting Structure (IVRS, section 5.2). Its blocks are after 48 fixed bytes; `IvrsBlocks`
+/// reads them.
+pub struct Ivrs {
+    /// The header that every table begins with.
+    pub header: SdtHeader,
+    /// IVinfo: what the units have in common, in bits that the specification names.
+    pub info: u32,
+}
+
+impl PhysicalRecord for Ivrs {
+    const MIN_LENGTH: usize = 48;
+
+    fn read(bytes: &[u8]) -> Self {
+        Ivrs {
+            header: SdtHeader::read(bytes),
+            info: field_in(bytes, 36, 4) as u32, // IVinfo
+        }
+    }
+}
+
+impl SdtTable for Ivrs {
+    const NAME: Signature = Signature::IVRS;
+
+    fn sdt_header(&self) -> &SdtHeader {
+        &self.header
+    }
+}

@@ -1,0 +1,18 @@
+// Made by scripts/erase of crates/acpi_c_lib/src/entry_faults.rt, where it is proved.
+//! The entries of a table at fault, each at its address, and the malformed front that ends them.
+
+use crate::lists::refusal::Refusal;
+
+/// An entry at fault, or the malformed front that ends a table's entries.
+#[repr(C)]
+#[derive(Clone, Copy)]
+pub struct EntryFault {
+    pub address: u64,
+    pub status: u32,
+    pub entry_type: u16,
+}
+
+/// An entry of a type, at an address, with its error.
+pub(crate) fn entry_fault(address: u64, entry_type: u16, error: Refusal) -> EntryFault {
+    EntryFault { address, entry_type, status: error.code() }
+}

@@ -1,0 +1,98 @@
+// Made by scripts/erase of crates/acpi_c_lib/src/numa.rt, where it is proved.
+//! The domains that memory and processors are in, by the SRAT, and the distances between localities, by the SLIT.
+
+use crate::lists::lists::{Listing, fill};
+use crate::lists::numa_records::{Localities, MemoryAffinity};
+use crate::lists::opening::first;
+use crate::lists::records::Source;
+use crate::lists::refusal::Refusal;
+use crate::lists::regions::Mapped;
+use crate::numa::srat::{SratEntry, SratEntryIter};
+use crate::numa::{Distances, Domains, MemoryRange, Slit, Srat};
+
+/// Lists the ranges of memory that the first valid SRAT puts into domains.
+pub fn affinities(source: &Source<'_>, out: &mut [MemoryAffinity]) -> Result<usize, Refusal> {
+    let memory = Mapped::new(source.regions);
+    let srat = first::<Srat>(&memory, source)?;
+    Ok(fill(Domains::over(srat.bytes()).entries(), &(), out))
+}
+
+impl Listing<(), MemoryAffinity> for SratEntryIter<'_> {
+    fn record(_known: &(), entry: SratEntry) -> Option<MemoryAffinity> {
+        let range = entry.memory_range()?;
+        Some(MemoryAffinity {
+            address: range.base,
+            length: range.length,
+            domain: range.domain,
+            is_hot_pluggable: range.is_hot_pluggable as u8,
+            is_non_volatile: range.is_non_volatile as u8,
+        })
+    }
+}
+
+/// The domain of the memory at a physical address, by the first valid SRAT.
+pub fn domain_of_address(source: &Source<'_>, address: u64) -> Result<u32, Refusal> {
+    let memory = Mapped::new(source.regions);
+    let srat = first::<Srat>(&memory, source)?;
+    match range_at(srat.bytes(), address) {
+        Some(range) if range.ends_below() => Ok(range.domain),
+        Some(_) => Err(Refusal::InvalidMemoryRange),
+        None => Err(no_domain(srat.bytes())),
+    }
+}
+
+/// The first range in a SRAT's bytes that holds an address.
+fn range_at(table: &[u8], address: u64) -> Option<MemoryRange> {
+    let mut entries = Domains::over(table).entries();
+    while let Some(entry) = entries.next() {
+        if let Some(range) = entry.memory_range()
+            && range.holds(address)
+        {
+            return Some(range);
+        }
+    }
+    None
+}
+
+/// Why a SRAT's bytes put something into no domain: the malformed front might.
+fn no_domain(table: &[u8]) -> Refusal {
+    let mut entries = Domains::over(table).entries();
+    'all: while let Some(_) = entries.next() {}
+    if entries.ended_malformed() { Refusal::InvalidSratEntryLength } else { Refusal::NoDomain }
+}
+
+/// The domain of the processor whose local APIC or x2APIC has an id, by the first valid SRAT.
+pub fn domain_of_apic(source: &Source<'_>, local_apic_id: u32) -> Result<u32, Refusal> {
+    let memory = Mapped::new(source.regions);
+    let srat = first::<Srat>(&memory, source)?;
+    match Domains::over(srat.bytes()).domain_of_apic(local_apic_id) {
+        Some(domain) => Ok(domain),
+        None => Err(no_domain(srat.bytes())),
+    }
+}
+
+/// The domain of the processor of a uid, which has an interface to the GIC, by the first valid SRAT.
+pub fn domain_of_processor(source: &Source<'_>, uid: u32) -> Result<u32, Refusal> {
+    let memory = Mapped::new(source.regions);
+    let srat = first::<Srat>(&memory, source)?;
+    match Domains::over(srat.bytes()).domain_of_processor(uid) {
+        Some(domain) => Ok(domain),
+        None => Err(no_domain(srat.bytes())),
+    }
+}
+
+/// How far one locality is from another, by the first valid SLIT.
+pub fn distance(source: &Source<'_>, from: u64, to: u64) -> Result<u8, Refusal> {
+    let memory = Mapped::new(source.regions);
+    let slit = first::<Slit>(&memory, source)?;
+    let distances = Distances::over(slit.bytes());
+    distances.distance(from, to).ok_or(Refusal::NoDistance)
+}
+
+/// How many localities the first valid SLIT has distances of, and whether it can be believed.
+pub fn localities(source: &Source<'_>) -> Result<Localities, Refusal> {
+    let memory = Mapped::new(source.regions);
+    let slit = first::<Slit>(&memory, source)?;
+    let distances = Distances::over(slit.bytes());
+    Ok(Localities { localities: distances.localities(), is_sane: distances.is_sane() as u8 })
+}

@@ -1,0 +1,199 @@
+// Made by scripts/erase of crates/acpi_c_lib/src/records.rt, where it is proved.
+//! Made by scripts/records: what C sees of memory, tables, registers and devices.
+//! `include/zacpi.h` has what each field is.
+
+use crate::lists::regions::Region;
+
+/// `struct zacpi_range`.
+#[repr(C)]
+#[derive(Clone, Copy)]
+pub struct Range {
+    pub address: u64,
+    pub length: u64,
+}
+
+/// `struct zacpi_source`.
+#[repr(C)]
+#[derive(Clone, Copy)]
+pub struct Source<'a> {
+    pub regions: &'a [Region<'a>],
+    pub address: u64,
+    pub start: u32,
+    pub accept: u32,
+}
+
+/// `struct zacpi_place`.
+#[repr(C)]
+#[derive(Clone, Copy)]
+pub struct Place {
+    pub region: usize,
+    pub offset: usize,
+}
+
+/// `struct zacpi_signature`.
+#[repr(C)]
+#[derive(Clone, Copy)]
+pub struct Signature {
+    pub letters: [u8; 4],
+}
+
+/// `struct zacpi_root`.
+#[repr(C)]
+#[derive(Clone, Copy)]
+pub struct Root {
+    pub address: u64,
+    pub length: u32,
+    pub revision: u8,
+    pub pointer_width: u8,
+    pub rsdp_address: u64,
+    pub rsdp_length: u32,
+}
+
+/// `struct zacpi_rsdp`.
+#[repr(C)]
+#[derive(Clone, Copy)]
+pub struct Rsdp {
+    pub address: u64,
+    pub xsdt_address: u64,
+    pub rsdt_address: u32,
+    pub length: u32,
+    pub revision: u8,
+    pub oem_id: [u8; 6],
+}
+
+/// `struct zacpi_table`.
+#[repr(C)]
+#[derive(Clone, Copy)]
+pub struct Table {
+    pub address: u64,
+    pub length: u32,
+    pub signature: [u8; 4],
+    pub revision: u8,
+    pub oem_id: [u8; 6],
+    pub oem_table_id: [u8; 8],
+    pub oem_revision: u32,
+    pub creator_id: [u8; 4],
+    pub creator_revision: u32,
+}
+
+/// `struct zacpi_member`.
+#[repr(C)]
+#[derive(Clone, Copy)]
+pub struct Member {
+    pub table: Table,
+    pub status: u32,
+    pub has_header: u8,
+}
+
+/// `struct zacpi_fault`.
+#[repr(C)]
+#[derive(Clone, Copy)]
+pub struct Fault {
+    pub address: u64,
+    pub status: u32,
+    pub accepted: u8,
+}
+
+/// `struct zacpi_walk`.
+#[repr(C)]
+#[derive(Clone, Copy)]
+pub struct Walk {
+    pub first: u32,
+    pub type_offset: u8,
+    pub type_width: u8,
+    pub length_offset: u8,
+    pub length_width: u8,
+}
+
+/// `struct zacpi_entry`.
+#[repr(C)]
+#[derive(Clone, Copy)]
+pub struct Entry {
+    pub address: u64,
+    pub entry_type: u32,
+    pub length: u32,
+}
+
+/// `struct zacpi_aml_table`.
+#[repr(C)]
+#[derive(Clone, Copy)]
+pub struct AmlTable {
+    pub address: u64,
+    pub length: u32,
+    pub revision: u8,
+    pub table_address: u64,
+}
+
+/// `struct zacpi_generic_address`.
+#[repr(C)]
+#[derive(Clone, Copy, Default)]
+pub struct GenericAddress {
+    pub address: u64,
+    pub space: u8,
+    pub bit_width: u8,
+    pub bit_offset: u8,
+    pub access_size: u8,
+}
+
+/// `struct zacpi_register`.
+#[repr(C)]
+#[derive(Clone, Copy)]
+pub struct Register {
+    pub at: GenericAddress,
+    pub present: u8,
+}
+
+/// `struct zacpi_pm_timer`.
+#[repr(C)]
+#[derive(Clone, Copy, Default)]
+pub struct PmTimer {
+    pub base: GenericAddress,
+    pub present: u8,
+    pub is_32_bit: u8,
+}
+
+/// `struct zacpi_hpet_info`.
+#[repr(C)]
+#[derive(Clone, Copy)]
+pub struct HpetInfo {
+    pub base_address: u64,
+    pub event_timer_block_id: u32,
+    pub clock_tick_unit: u16,
+    pub number: u8,
+    pub page_protection: u8,
+}
+
+/// `struct zacpi_boot_graphic`.
+#[repr(C)]
+#[derive(Clone, Copy)]
+pub struct BootGraphic {
+    pub address: u64,
+    pub x: u32,
+    pub y: u32,
+    pub orientation: u16,
+    pub displayed: u8,
+    pub image_type: u8,
+}
+
+/// `struct zacpi_facs`.
+#[repr(C)]
+#[derive(Clone, Copy)]
+pub struct Facs {
+    pub address: u64,
+    pub waking_vector_64: u64,
+    pub length: u32,
+    pub hardware_signature: u32,
+    pub waking_vector: u32,
+    pub flags: u32,
+    pub version: u8,
+}
+
+/// `struct zacpi_pci_region`.
+#[repr(C)]
+#[derive(Clone, Copy)]
+pub struct PciRegion {
+    pub base_address: u64,
+    pub segment_group: u16,
+    pub first_bus: u8,
+    pub last_bus: u8,
+}

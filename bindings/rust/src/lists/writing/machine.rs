@@ -1,0 +1,141 @@
+// Made by scripts/erase of crates/acpi_c_lib/src/writing/machine.rt, where it is proved.
+//! The tables of a whole machine that are written for C, from the records of each table.
+
+use crate::base::bytes::{byte_sum, field};
+use crate::lists::fixed_records::FixedHardware;
+use crate::lists::records::{BootGraphic, HpetInfo, PciRegion};
+use crate::lists::refusal::Refusal;
+use crate::lists::writing::{bgrt, fadt, gtdt, madt, spcr};
+use crate::lists::written_records::{
+    GicContents, GtdtContents, ListedTable, Machine, MadtContents, SpcrContents, SratContents,
+};
+use crate::write::{
+    Listed, TableIds, WriterError, dsdt_address, require, write_bgrt, write_fadt, write_gic_madt, write_gtdt,
+    write_hpet, write_madt, write_mcfg, write_spcr, write_srat,
+};
+
+/// What a table is to contain that is written from a record of C's.
+#[derive(Clone, Copy)]
+pub enum Contents<'a> {
+    Fadt(FixedHardware),
+    Madt(MadtContents<'a>),
+    Mcfg(&'a [PciRegion]),
+    Hpet(HpetInfo),
+    Srat(SratContents<'a>),
+    Bgrt(BootGraphic),
+    Spcr(SpcrContents),
+    Gtdt(GtdtContents<'a>),
+    Gic(GicContents<'a>),
+}
+
+/// Writes the table that is to contain this.
+///
+/// Returns `UnknownCode` if the record has a code that is reserved, of a GIC `BadRange` if a range of redistributors
+/// has 2^32 bytes or more, and then the errors of the call of `acpi_writer` for such a table, in its order.
+#[inline(always)] // a call of one kind links that kind's code alone
+pub fn write_contents(out: &mut [u8], ids: &TableIds, contents: &Contents<'_>) -> Result<usize, Refusal> {
+    let size = match contents {
+        Contents::Fadt(hardware) => write_hardware(out, ids, hardware)?,
+        Contents::Madt(lists) => {
+            require(madt::has_codes(lists), Refusal::UnknownCode)?;
+            write_madt(out, ids, &lists.contents())?
+        }
+        Contents::Mcfg(regions) => write_mcfg(out, ids, regions)?,
+        Contents::Hpet(info) => write_hpet(out, ids, &info.info())?,
+        Contents::Srat(domains) => write_srat(out, ids, &domains.contents())?,
+        Contents::Bgrt(graphic) => {
+            require(bgrt::has_codes(graphic), Refusal::UnknownCode)?;
+            write_bgrt(out, ids, &bgrt::contents(graphic))?
+        }
+        Contents::Spcr(console) => {
+            require(spcr::has_codes(console), Refusal::UnknownCode)?;
+            write_spcr(out, ids, &spcr::contents(console))?
+        }
+        Contents::Gtdt(timers) => {
+            require(gtdt::has_codes(timers), Refusal::UnknownCode)?;
+            write_gtdt(out, ids, &gtdt::contents(timers))?
+        }
+        Contents::Gic(parts) => {
+            parts.check()?;
+            write_gic_madt(out, ids, &parts.contents())?
+        }
+    };
+    Ok(size)
+}
+
+/// Writes a FADT, with the errors of `write_contents`.
+pub fn write_hardware(out: &mut [u8], ids: &TableIds, hardware: &FixedHardware) -> Result<usize, Refusal> {
+    require(fadt::has_codes(hardware), Refusal::UnknownCode)?;
+    Ok(write_fadt(out, ids, &fadt::contents(hardware))?)
+}
+
+impl ListedTable<'_> {
+    /// Whether the bytes are one table: a header, whose Length is the number of bytes, and a sum of 0 (section 5.2.6).
+    fn is_table(&self) -> bool {
+        self.bytes.len() >= 36
+            && field(self.bytes, 4, 4) == self.bytes.len() as u64 // Length
+            && byte_sum(self.bytes) == 0
+    }
+}
+
+impl Listed for ListedTable<'_> {
+    fn size(&self, _: &TableIds) -> Result<usize, WriterError> {
+        require(self.bytes.len() < 1 << 32, WriterError::TooLong)?;
+        Ok(self.bytes.len())
+    }
+
+    fn put(&self, out: &mut [u8], _: &TableIds) {
+        out.copy_from_slice(self.bytes);
+    }
+}
+
+impl<'a> Machine<'a> {
+    /// The machine, as the writer has it. Of several DSDTs, and of several FACS, the first counts.
+    pub fn whole(&self) -> crate::write::Machine<'a, ListedTable<'a>> {
+        crate::write::Machine {
+            ids: self.ids,
+            dsdt: match self.dsdts {
+                [first, ..] => Some(crate::write::AmlContents { revision: first.revision, bytes: first.aml }),
+                [] => None,
+            },
+            facs: match self.facs {
+                [first, ..] => Some(first.contents()),
+                [] => None,
+            },
+            tables: self.tables,
+        }
+    }
+}
+
+fn are_tables(listed: &[ListedTable<'_>]) -> bool {
+    listed.iter().all(|table| table.is_table())
+}
+
+/// Writes all tables of a machine to the front of a buffer that is to be at this physical address.
+///
+/// Returns `BadTable` if bytes that are listed aren't a table, and then the errors of `crate::write::write_tables`, in
+/// its order.
+pub fn write_tables(out: &mut [u8], address: u64, machine: &Machine<'_>) -> Result<usize, Refusal> {
+    require(are_tables(machine.tables), Refusal::BadTable)?;
+    Ok(crate::write::write_tables(out, address, &machine.whole())?)
+}
+
+/// Writes all tables of a machine but the RSDP to the front of a buffer that is to be at this physical address.
+///
+/// Returns `BadTable` if bytes that are listed aren't a table, and then the errors of
+/// `crate::write::write_tables_without_rsdp`, in its order.
+pub fn write_tables_without_rsdp(out: &mut [u8], address: u64, machine: &Machine<'_>) -> Result<usize, Refusal> {
+    require(are_tables(machine.tables), Refusal::BadTable)?;
+    Ok(crate::write::write_tables_without_rsdp(out, address, &machine.whole())?)
+}
+
+/// How many bytes `write_tables` writes, or the first error but of capacity and address.
+pub fn tables_size(machine: &Machine<'_>) -> Result<usize, Refusal> {
+    require(are_tables(machine.tables), Refusal::BadTable)?;
+    Ok(crate::write::tables_size(&machine.whole())?)
+}
+
+/// The address at which `write_tables` puts the DSDT of a machine with `tables` tables, or `NoAddress`.
+pub fn dsdt_place(address: u64, tables: usize) -> Result<u64, Refusal> {
+    dsdt_address(address, tables).ok_or(Refusal::Writer(WriterError::NoAddress))
+}

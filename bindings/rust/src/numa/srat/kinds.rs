@@ -1,0 +1,185 @@
+// Made by scripts/erase of crates/acpi_numa/src/srat/kinds.rt, where it is proved.
+//! The entries of a SRAT by their types, each with its fields (section 5.2.16).
+//!
+//! The domain of types 0 and 1 has four bytes since revision 2 of the table: in tables of revision
+//! 0 and 1 it is its lowest byte alone, and the others are reserved. By bit 0 of the flags an entry
+//! counts: `SratEntry::is_enabled`.
+
+use crate::base::bytes::{field_in, filled_in, has_bit};
+
+/// Processor Local APIC/SAPIC Affinity Structure: the domain of a processor with a local APIC (section
+/// 5.2.16.1).
+#[derive(Clone, Copy, Debug)]
+pub struct LocalApicAffinity {
+    /// Proximity Domain: the domain of the processor. In tables of revision 0 and 1 it is its lowest byte
+    /// alone.
+    pub domain: u32,
+    /// APIC ID: the id of the local APIC.
+    pub apic_id: u8,
+    /// Flags: bit 0 Enabled, the entry counts.
+    pub flags: u32,
+    /// Local SAPIC EID: the extended id of a local SAPIC.
+    pub sapic_eid: u8,
+    /// Clock Domain: the clock domain of the processor.
+    pub clock_domain: u32,
+}
+
+impl LocalApicAffinity {
+    /// The entry that bytes mean in a table of a revision.
+    pub(super) fn read(revision: u8, bytes: &[u8]) -> Self {
+        let lowest = field_in(bytes, 2, 1) as u32; // Proximity Domain [7:0]
+        let higher = field_in(bytes, 9, 3) as u32; // Proximity Domain [31:8]
+        LocalApicAffinity {
+            domain: if revision < 2 { lowest } else { lowest + 256 * higher },
+            apic_id: field_in(bytes, 3, 1) as u8,        // APIC ID
+            flags: field_in(bytes, 4, 4) as u32,         // Flags
+            sapic_eid: field_in(bytes, 8, 1) as u8,      // Local SAPIC EID
+            clock_domain: field_in(bytes, 12, 4) as u32, // Clock Domain
+        }
+    }
+}
+
+/// Memory Affinity Structure: the domain of a range of memory (section 5.2.16.2).
+#[derive(Clone, Copy, Debug)]
+pub struct MemoryAffinity {
+    /// Proximity Domain: the domain of the range. In tables of revision 0 and 1 it is its lowest byte alone.
+    pub domain: u32,
+    /// Base Address: the physical address of the range's first byte.
+    pub base: u64,
+    /// Length: how many bytes the range has; it can be 0.
+    pub length: u64,
+    /// Flags: bit 0 Enabled, the entry counts. Bit 1 Hot Pluggable, the memory can be plugged in while the
+    /// machine runs. Bit 2 NonVolatile, the memory is non-volatile.
+    pub flags: u32,
+}
+
+impl MemoryAffinity {
+    /// The entry that bytes mean in a table of a revision.
+    pub(super) fn read(revision: u8, bytes: &[u8]) -> Self {
+        let width = if revision < 2 { 1 } else { 4 };
+        MemoryAffinity {
+            domain: field_in(bytes, 2, width) as u32, // Proximity Domain
+            base: field_in(bytes, 8, 8),              // Base Address Low, Base Address High
+            length: field_in(bytes, 16, 8),           // Length Low, Length High
+            flags: field_in(bytes, 28, 4) as u32,     // Flags
+        }
+    }
+
+    /// Hot Pluggable (bit 1 of the flags, section 5.2.16.2): whether the memory can be plugged in while the
+    /// machine runs.
+    pub fn is_hot_pluggable(&self) -> bool {
+        has_bit(self.flags as u64, 1) // Hot Pluggable
+    }
+
+    /// NonVolatile (bit 2 of the flags, section 5.2.16.2): whether the memory is non-volatile.
+    pub fn is_non_volatile(&self) -> bool {
+        has_bit(self.flags as u64, 2) // NonVolatile
+    }
+}
+
+/// Processor Local x2APIC Affinity Structure: the domain of a processor with a local x2APIC (section
+/// 5.2.16.3).
+#[derive(Clone, Copy, Debug)]
+pub struct LocalX2ApicAffinity {
+    /// Proximity Domain: the domain of the processor.
+    pub domain: u32,
+    /// X2APIC ID: the id of the local x2APIC.
+    pub x2apic_id: u32,
+    /// Flags: bit 0 Enabled, the entry counts.
+    pub flags: u32,
+    /// Clock Domain: the clock domain of the processor.
+    pub clock_domain: u32,
+}
+
+impl LocalX2ApicAffinity {
+    /// The entry that bytes mean.
+    pub(super) fn read(bytes: &[u8]) -> Self {
+        LocalX2ApicAffinity {
+            domain: field_in(bytes, 4, 4) as u32,        // Proximity Domain
+            x2apic_id: field_in(bytes, 8, 4) as u32,     // X2APIC ID
+            flags: field_in(bytes, 12, 4) as u32,        // Flags
+            clock_domain: field_in(bytes, 16, 4) as u32, // Clock Domain
+        }
+    }
+}
+
+/// GICC Affinity Structure: the domain of a processor with an interface to the Generic Interrupt Controller
+/// (GIC; section 5.2.16.4).
+#[derive(Clone, Copy, Debug)]
+pub struct GiccAffinity {
+    /// Proximity Domain: the domain of the processor.
+    pub domain: u32,
+    /// ACPI Processor UID: the `_UID` of the processor's object in the namespace.
+    pub processor_uid: u32,
+    /// Flags: bit 0 Enabled, the entry counts.
+    pub flags: u32,
+    /// Clock Domain: the clock domain of the processor.
+    pub clock_domain: u32,
+}
+
+impl GiccAffinity {
+    /// The entry that bytes mean.
+    pub(super) fn read(bytes: &[u8]) -> Self {
+        GiccAffinity {
+            domain: field_in(bytes, 2, 4) as u32,        // Proximity Domain
+            processor_uid: field_in(bytes, 6, 4) as u32, // ACPI Processor UID
+            flags: field_in(bytes, 10, 4) as u32,        // Flags
+            clock_domain: field_in(bytes, 14, 4) as u32, // Clock Domain
+        }
+    }
+}
+
+/// GIC Interrupt Translation Service (ITS) Affinity Structure: the domain of such a service (section
+/// 5.2.16.5). It has no flags.
+#[derive(Clone, Copy, Debug)]
+pub struct GicItsAffinity {
+    /// Proximity Domain: the domain of the service.
+    pub domain: u32,
+    /// ITS ID: the id of the service.
+    pub its_id: u32,
+}
+
+impl GicItsAffinity {
+    /// The entry that bytes mean.
+    pub(super) fn read(bytes: &[u8]) -> Self {
+        GicItsAffinity {
+            domain: field_in(bytes, 2, 4) as u32, // Proximity Domain
+            its_id: field_in(bytes, 8, 4) as u32, // ITS ID
+        }
+    }
+}
+
+/// Generic Initiator Affinity Structure: the domain of a device that reads and writes memory by itself
+/// (section 5.2.16.6). A Generic Port Affinity Structure has the same fields: it has the domain of a port
+/// that devices are attached to.
+#[derive(Clone, Copy, Debug)]
+pub struct GenericAffinity {
+    /// Device Handle Type: the form of the handle. 0: it names the device in the namespace. 1: it is the
+    /// device's PCI address. Others are reserved, and kept as they are.
+    pub handle_type: u8,
+    /// Proximity Domain: the domain of the device or the port.
+    pub domain: u32,
+    /// Device Handle: 16 bytes that name the device, in the form of Device Handle Type.
+    pub device_handle: [u8; 16],
+    /// Flags: bit 0 Enabled, the entry counts. Bit 1 Architectural Transactions, all transactions of the
+    /// device are architectural ones.
+    pub flags: u32,
+}
+
+impl GenericAffinity {
+    /// The entry that bytes mean.
+    pub(super) fn read(bytes: &[u8]) -> Self {
+        GenericAffinity {
+            handle_type: field_in(bytes, 3, 1) as u8, // Device Handle Type
+            domain: field_in(bytes, 4, 4) as u32,     // Proximity Domain
+            device_handle: filled_in(bytes, 8),       // Device Handle
+            flags: field_in(bytes, 24, 4) as u32,     // Flags
+        }
+    }
+
+    /// Architectural Transactions (bit 1 of the flags, section 5.2.16.6): whether all transactions of the
+    /// device are architectural ones.
+    pub fn has_architectural_transactions(&self) -> bool {
+        has_bit(self.flags as u64, 1) // Architectural Transactions
+    }
+}

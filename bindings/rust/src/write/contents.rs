@@ -1,0 +1,109 @@
+// Made by scripts/erase of crates/acpi_writer/src/contents.rt, where it is proved.
+//! The tables that an XSDT can list, each from its contents.
+
+use crate::acpi::HpetInfo;
+use crate::base::Signature;
+use crate::base::mcfg::McfgEntry;
+use crate::write::aml::Aml;
+use crate::write::bgrt::BgrtContents;
+use crate::write::error::WriterError;
+use crate::write::fadt::FadtContents;
+use crate::write::gtdt::GtdtContents;
+use crate::write::ids::TableIds;
+use crate::write::listed::Listed;
+use crate::write::madt::MadtContents;
+use crate::write::madt::gic::GicContents;
+use crate::write::mcfg::Regions;
+use crate::write::spcr::SpcrContents;
+use crate::write::srat::SratContents;
+
+/// What a table of AML is to have after its header (section 5.2.11).
+#[derive(Clone, Copy)]
+pub struct AmlContents<'a> {
+    /// Revision: by 1 AML's integers have 32 bits, by 2 they have 64.
+    pub revision: u8,
+    /// The AML bytes, taken as they are.
+    pub bytes: &'a [u8],
+}
+
+/// The contents of a SLIT (section 5.2.17).
+#[derive(Clone, Copy)]
+pub struct SlitContents<'a> {
+    /// Number of System Localities.
+    pub localities: u64,
+    /// The distances, row by row: those from the first locality come first.
+    pub distances: &'a [u8],
+}
+
+/// A table that an XSDT can list, with its contents. Each is written as the function of its name writes it.
+#[derive(Clone, Copy)]
+pub enum TableContents<'a> {
+    /// `write_madt`.
+    Madt(MadtContents<'a>),
+    /// `write_mcfg`.
+    Mcfg(&'a [McfgEntry]),
+    /// `write_hpet`.
+    Hpet(HpetInfo),
+    /// `write_slit`.
+    Slit(SlitContents<'a>),
+    /// `write_ssdt`.
+    Ssdt(AmlContents<'a>),
+    /// `write_fadt`. `dsdt_address` is where the machine's DSDT is.
+    Fadt(FadtContents),
+    /// `write_srat`.
+    Srat(SratContents<'a>),
+    /// `write_spcr`.
+    Spcr(SpcrContents<'a>),
+    /// `write_bgrt`.
+    Bgrt(BgrtContents),
+    /// `write_gtdt`.
+    Gtdt(GtdtContents<'a>),
+    /// `write_gic_madt`.
+    GicMadt(GicContents<'a>),
+}
+
+/// The least multiple of 16 that isn't below a number.
+pub(crate) fn rounded(n: usize) -> usize {
+    n + (15 - (n + 15) % 16)
+}
+
+/// Puts zeros after this number of bytes, up to a multiple of 16, which it returns.
+pub(crate) fn fill_up(out: &mut [u8], size: usize) -> usize {
+    let end = rounded(size);
+    out[size..end].fill(0);
+    end
+}
+
+impl Listed for TableContents<'_> {
+    fn size(&self, ids: &TableIds) -> Result<usize, WriterError> {
+        match self {
+            TableContents::Madt(contents) => contents.size(ids),
+            TableContents::Mcfg(regions) => Regions(regions).size(ids),
+            TableContents::Hpet(info) => info.size(ids),
+            TableContents::Slit(contents) => contents.size(ids),
+            TableContents::Ssdt(contents) => Aml(Signature::SSDT, *contents).size(ids),
+            TableContents::Fadt(contents) => contents.size(ids),
+            TableContents::Srat(contents) => contents.size(ids),
+            TableContents::Spcr(contents) => contents.size(ids),
+            TableContents::Bgrt(contents) => contents.size(ids),
+            TableContents::Gtdt(contents) => contents.size(ids),
+            TableContents::GicMadt(contents) => contents.size(ids),
+        }
+    }
+
+    fn put(&self, out: &mut [u8], ids: &TableIds) {
+        match self {
+            TableContents::Madt(contents) => contents.put(out, ids),
+            TableContents::Mcfg(regions) => Regions(regions).put(out, ids),
+            TableContents::Hpet(info) => Listed::put(info, out, ids),
+            TableContents::Slit(contents) => contents.put(out, ids),
+            TableContents::Ssdt(contents) => Aml(Signature::SSDT, *contents).put(out, ids),
+            TableContents::Fadt(contents) => contents.put(out, ids),
+            TableContents::Srat(contents) => contents.put(out, ids),
+            TableContents::Spcr(contents) => Listed::put(contents, out, ids),
+            TableContents::Bgrt(contents) => Listed::put(contents, out, ids),
+            TableContents::Gtdt(contents) => Listed::put(contents, out, ids),
+            TableContents::GicMadt(contents) => contents.put(out, ids),
+        }
+    }
+}
