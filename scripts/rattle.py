@@ -92,9 +92,6 @@ class Source:
                 self.attribute(at)
             elif kind == 'word' and text == 'Drop':
                 self.bound(at)
-        for at, (kind, text) in enumerate(self.tokens):
-            if kind == 'word' and text == 'Global':
-                self.global_allocator(at)
 
     def end_of_ghost(self, at):
         """The `;` or `,` that ends a ghost member, outside the braces of its terms."""
@@ -168,6 +165,12 @@ class Source:
             self.tokens[at][1] = 'Sized'
         elif self.is_at(before, ':') and not self.is_at(self.before(before), ':'):
             self.drop(before, at, False)
+
+    def drop_global(self):
+        """Drops each parameter of the global allocator."""
+        for at, (kind, text) in enumerate(self.tokens):
+            if kind == 'word' and text == 'Global':
+                self.global_allocator(at)
 
     def global_allocator(self, at):
         """Drops a parameter `NAME: Global`: the global allocator is any code's in Rust, so the body names it itself, and a
@@ -259,10 +262,13 @@ def imports(code):
     yield from (name for name in MACROS if re.search(rf'\b{name}!(?:\(|\[)(?:in\b|rt\b|&)', code))
 
 
-def erased(text):
-    """The text as Rust's, with `std` still as Rattle has it, and the names that it has to bring in."""
+def erased(text, is_library):
+    """The text as Rust's, with `std` still as Rattle has it, and the names that it has to bring in. A library isn't passed
+    the global allocator."""
     source = Source(text)
     source.erase()
+    if is_library:
+        source.drop_global()
     text = respelled(source.text())
     code = code_of(text)
     check(code)

@@ -5,6 +5,8 @@
 
 #[cfg(any(feature = "alloc", feature = "allocator_api"))]
 extern crate alloc as rust_alloc;
+#[cfg(feature = "std")]
+extern crate std;
 
 // The proved crates, each as a module: made by scripts/erase.
 mod acpi;
@@ -12,6 +14,7 @@ pub mod arm;
 pub mod base;
 mod fixed;
 pub mod iommu;
+#[allow(missing_docs)] // fields of records: include/zacpi.h has them
 pub mod lists;
 pub mod numa;
 pub mod riscv;

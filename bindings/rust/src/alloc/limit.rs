@@ -13,6 +13,13 @@ impl fmt::Display for AllocError {
 
 impl core::error::Error for AllocError {}
 
+#[cfg(feature = "std")]
+impl From<AllocError> for std::io::Error {
+    fn from(_: AllocError) -> Self {
+        std::io::ErrorKind::OutOfMemory.into()
+    }
+}
+
 /// A part of the global allocator's memory. The memory comes from the global allocator, if this has no objection.
 pub trait Allocator {
     /// Called before a block of `size` bytes is taken. An error means that it isn't to be.
