@@ -4,7 +4,7 @@
 
 /// `struct zacpi_gic_distributor`.
 #[repr(C)]
-#[derive(Clone, Copy)]
+#[derive(Clone, Copy, Debug, Default, PartialEq, Eq)]
 pub struct GicDistributor {
     pub address: u64,
     pub id: u32,
@@ -14,7 +14,7 @@ pub struct GicDistributor {
 
 /// `struct zacpi_gic_cpu_interface`.
 #[repr(C)]
-#[derive(Clone, Copy)]
+#[derive(Clone, Copy, Debug, Default, PartialEq, Eq)]
 pub struct GicCpuInterface {
     pub mpidr: u64,
     pub parked_address: u64,
@@ -38,7 +38,7 @@ pub struct GicCpuInterface {
 
 /// `struct zacpi_gic_translation_service`.
 #[repr(C)]
-#[derive(Clone, Copy)]
+#[derive(Clone, Copy, Debug, Default, PartialEq, Eq)]
 pub struct GicTranslationService {
     pub address: u64,
     pub id: u32,
@@ -46,7 +46,7 @@ pub struct GicTranslationService {
 
 /// `struct zacpi_gic_msi_frame`.
 #[repr(C)]
-#[derive(Clone, Copy)]
+#[derive(Clone, Copy, Debug, Default, PartialEq, Eq)]
 pub struct GicMsiFrame {
     pub address: u64,
     pub id: u32,
@@ -57,7 +57,7 @@ pub struct GicMsiFrame {
 
 /// `struct zacpi_arm_timer`.
 #[repr(C)]
-#[derive(Clone, Copy, Default)]
+#[derive(Clone, Copy, Debug, Default, PartialEq, Eq)]
 pub struct ArmTimer {
     pub interrupt: u32,
     pub polarity: u8,
@@ -68,7 +68,7 @@ pub struct ArmTimer {
 
 /// `struct zacpi_arm_timers`.
 #[repr(C)]
-#[derive(Clone, Copy)]
+#[derive(Clone, Copy, Debug, Default, PartialEq, Eq)]
 pub struct ArmTimers {
     pub control_base: u64,
     pub read_base: u64,
@@ -82,7 +82,7 @@ pub struct ArmTimers {
 
 /// `struct zacpi_gt_frame`.
 #[repr(C)]
-#[derive(Clone, Copy)]
+#[derive(Clone, Copy, Debug, Default, PartialEq, Eq)]
 pub struct GtFrame {
     pub block_address: u64,
     pub address: u64,
@@ -100,7 +100,7 @@ pub struct GtFrame {
 
 /// `struct zacpi_watchdog`.
 #[repr(C)]
-#[derive(Clone, Copy)]
+#[derive(Clone, Copy, Debug, Default, PartialEq, Eq)]
 pub struct Watchdog {
     pub refresh_frame: u64,
     pub control_frame: u64,

@@ -5,7 +5,7 @@ use crate::lists::refusal::Refusal;
 
 /// An entry at fault, or the malformed front that ends a table's entries.
 #[repr(C)]
-#[derive(Clone, Copy)]
+#[derive(Clone, Copy, Debug, Default, PartialEq, Eq)]
 pub struct EntryFault {
     pub address: u64,
     pub status: u32,

@@ -6,7 +6,7 @@ use crate::lists::records::Register;
 
 /// `struct zacpi_gpe_block`.
 #[repr(C)]
-#[derive(Clone, Copy, Default)]
+#[derive(Clone, Copy, Debug, Default, PartialEq, Eq)]
 pub struct GpeBlock {
     pub address: u64,
     pub space: u8,
@@ -16,7 +16,7 @@ pub struct GpeBlock {
 
 /// `struct zacpi_fixed_hardware`.
 #[repr(C)]
-#[derive(Clone, Copy)]
+#[derive(Clone, Copy, Debug, Default, PartialEq, Eq)]
 pub struct FixedHardware {
     pub facs_address: u64,
     pub dsdt_address: u64,
@@ -62,7 +62,7 @@ pub struct FixedHardware {
 
 /// `struct zacpi_console`.
 #[repr(C)]
-#[derive(Clone, Copy)]
+#[derive(Clone, Copy, Debug, Default, PartialEq, Eq)]
 pub struct Console {
     pub base: Register,
     pub baud_rate: u32,
@@ -86,7 +86,7 @@ pub struct Console {
 
 /// `struct zacpi_ecam_range`.
 #[repr(C)]
-#[derive(Clone, Copy)]
+#[derive(Clone, Copy, Debug, Default, PartialEq, Eq)]
 pub struct EcamRange {
     pub address: u64,
     pub length: u64,

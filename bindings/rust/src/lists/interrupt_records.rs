@@ -4,7 +4,7 @@
 
 /// `struct zacpi_interrupt_model`.
 #[repr(C)]
-#[derive(Clone, Copy, Default)]
+#[derive(Clone, Copy, Debug, Default, PartialEq, Eq)]
 pub struct InterruptModel {
     pub local_apic_address: u64,
     pub io_apics: usize,
@@ -18,7 +18,7 @@ pub struct InterruptModel {
 
 /// `struct zacpi_local_apic`.
 #[repr(C)]
-#[derive(Clone, Copy)]
+#[derive(Clone, Copy, Debug, Default, PartialEq, Eq)]
 pub struct LocalApic {
     pub address: u64,
     pub also_has_8259: u8,
@@ -26,7 +26,7 @@ pub struct LocalApic {
 
 /// `struct zacpi_io_apic`.
 #[repr(C)]
-#[derive(Clone, Copy, Default)]
+#[derive(Clone, Copy, Debug, Default, PartialEq, Eq)]
 pub struct IoApic {
     pub address: u32,
     pub global_system_interrupt_base: u32,
@@ -35,7 +35,7 @@ pub struct IoApic {
 
 /// `struct zacpi_interrupt_source_override`.
 #[repr(C)]
-#[derive(Clone, Copy)]
+#[derive(Clone, Copy, Debug, Default, PartialEq, Eq)]
 pub struct InterruptSourceOverride {
     pub global_system_interrupt: u32,
     pub isa_source: u8,
@@ -46,7 +46,7 @@ pub struct InterruptSourceOverride {
 
 /// `struct zacpi_nmi_source`.
 #[repr(C)]
-#[derive(Clone, Copy)]
+#[derive(Clone, Copy, Debug, Default, PartialEq, Eq)]
 pub struct NmiSource {
     pub global_system_interrupt: u32,
     pub polarity: u8,
@@ -55,7 +55,7 @@ pub struct NmiSource {
 
 /// `struct zacpi_nmi_line`.
 #[repr(C)]
-#[derive(Clone, Copy)]
+#[derive(Clone, Copy, Debug, Default, PartialEq, Eq)]
 pub struct NmiLine {
     pub processor_uid: u32,
     pub of_all: u8,
@@ -66,7 +66,7 @@ pub struct NmiLine {
 
 /// `struct zacpi_processor`.
 #[repr(C)]
-#[derive(Clone, Copy)]
+#[derive(Clone, Copy, Debug, Default, PartialEq, Eq)]
 pub struct Processor {
     pub uid: u32,
     pub local_apic_id: u32,
@@ -93,7 +93,7 @@ pub struct PlatformLists<'a> {
 
 /// `struct zacpi_interrupt`.
 #[repr(C)]
-#[derive(Clone, Copy, Default)]
+#[derive(Clone, Copy, Debug, Default, PartialEq, Eq)]
 pub struct Interrupt {
     pub global_system_interrupt: u32,
     pub polarity: u8,
@@ -102,7 +102,7 @@ pub struct Interrupt {
 
 /// `struct zacpi_io_apic_pin`.
 #[repr(C)]
-#[derive(Clone, Copy, Default)]
+#[derive(Clone, Copy, Debug, Default, PartialEq, Eq)]
 pub struct IoApicPin {
     pub io_apic: IoApic,
     pub pin: u32,
@@ -110,7 +110,7 @@ pub struct IoApicPin {
 
 /// `struct zacpi_isa_route`.
 #[repr(C)]
-#[derive(Clone, Copy, Default)]
+#[derive(Clone, Copy, Debug, Default, PartialEq, Eq)]
 pub struct IsaRoute {
     pub interrupt: Interrupt,
     pub pin: IoApicPin,
@@ -120,7 +120,7 @@ pub struct IsaRoute {
 
 /// `struct zacpi_isa_interrupts`.
 #[repr(C)]
-#[derive(Clone, Copy)]
+#[derive(Clone, Copy, Debug, Default, PartialEq, Eq)]
 pub struct IsaInterrupts {
     pub routes: [IsaRoute; 16],
 }

@@ -6,7 +6,7 @@ pub use crate::iommu::Hop;
 
 /// `struct zacpi_dmar_flags`.
 #[repr(C)]
-#[derive(Clone, Copy)]
+#[derive(Clone, Copy, Debug, Default, PartialEq, Eq)]
 pub struct DmarFlags {
     pub address_bits: u16,
     pub flags: u8,
@@ -14,7 +14,7 @@ pub struct DmarFlags {
 
 /// `struct zacpi_dmar_unit`.
 #[repr(C)]
-#[derive(Clone, Copy)]
+#[derive(Clone, Copy, Debug, Default, PartialEq, Eq)]
 pub struct DmarUnit {
     pub register_base: u64,
     pub register_bytes: u64,
@@ -26,7 +26,7 @@ pub struct DmarUnit {
 
 /// `struct zacpi_dmar_scope`.
 #[repr(C)]
-#[derive(Clone, Copy)]
+#[derive(Clone, Copy, Debug, Default, PartialEq, Eq)]
 pub struct DmarScope {
     pub path_length: usize,
     pub scope_type: u8,
@@ -38,7 +38,7 @@ pub struct DmarScope {
 
 /// `struct zacpi_dmar_source`.
 #[repr(C)]
-#[derive(Clone, Copy)]
+#[derive(Clone, Copy, Debug, Default, PartialEq, Eq)]
 pub struct DmarSource {
     pub unit: DmarUnit,
     pub bus: u8,
@@ -48,7 +48,7 @@ pub struct DmarSource {
 
 /// `struct zacpi_dmar_reserved`.
 #[repr(C)]
-#[derive(Clone, Copy)]
+#[derive(Clone, Copy, Debug, Default, PartialEq, Eq)]
 pub struct DmarReserved {
     pub base: u64,
     pub limit: u64,
@@ -57,7 +57,7 @@ pub struct DmarReserved {
 
 /// `struct zacpi_dmar_root_ports`.
 #[repr(C)]
-#[derive(Clone, Copy)]
+#[derive(Clone, Copy, Debug, Default, PartialEq, Eq)]
 pub struct DmarRootPorts {
     pub segment: u16,
     pub includes_all: u8,
@@ -66,7 +66,7 @@ pub struct DmarRootPorts {
 
 /// `struct zacpi_dmar_affinity`.
 #[repr(C)]
-#[derive(Clone, Copy)]
+#[derive(Clone, Copy, Debug, Default, PartialEq, Eq)]
 pub struct DmarAffinity {
     pub register_base: u64,
     pub domain: u32,
@@ -74,7 +74,7 @@ pub struct DmarAffinity {
 
 /// `struct zacpi_ivrs_unit`.
 #[repr(C)]
-#[derive(Clone, Copy)]
+#[derive(Clone, Copy, Debug, Default, PartialEq, Eq)]
 pub struct IvrsUnit {
     pub base: u64,
     pub extended_features: u64,
@@ -90,7 +90,7 @@ pub struct IvrsUnit {
 
 /// `struct zacpi_ivrs_device`.
 #[repr(C)]
-#[derive(Clone, Copy)]
+#[derive(Clone, Copy, Debug, Default, PartialEq, Eq)]
 pub struct IvrsDevice {
     pub unit: IvrsUnit,
     pub source_id: u16,
@@ -99,7 +99,7 @@ pub struct IvrsDevice {
 
 /// `struct zacpi_ivrs_memory`.
 #[repr(C)]
-#[derive(Clone, Copy)]
+#[derive(Clone, Copy, Debug, Default, PartialEq, Eq)]
 pub struct IvrsMemory {
     pub start: u64,
     pub length: u64,
@@ -111,7 +111,7 @@ pub struct IvrsMemory {
 
 /// `struct zacpi_ivrs_entry`.
 #[repr(C)]
-#[derive(Clone, Copy)]
+#[derive(Clone, Copy, Debug, Default, PartialEq, Eq)]
 pub struct IvrsEntry {
     pub unique_id_length: usize,
     pub extended_settings: u32,

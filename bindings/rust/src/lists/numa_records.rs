@@ -4,7 +4,7 @@
 
 /// `struct zacpi_memory_affinity`.
 #[repr(C)]
-#[derive(Clone, Copy)]
+#[derive(Clone, Copy, Debug, Default, PartialEq, Eq)]
 pub struct MemoryAffinity {
     pub address: u64,
     pub length: u64,
@@ -15,7 +15,7 @@ pub struct MemoryAffinity {
 
 /// `struct zacpi_processor_affinity`.
 #[repr(C)]
-#[derive(Clone, Copy)]
+#[derive(Clone, Copy, Debug, Default, PartialEq, Eq)]
 pub struct ProcessorAffinity {
     pub id: u32,
     pub domain: u32,
@@ -25,7 +25,7 @@ pub struct ProcessorAffinity {
 
 /// `struct zacpi_generic_initiator`.
 #[repr(C)]
-#[derive(Clone, Copy)]
+#[derive(Clone, Copy, Debug, Default, PartialEq, Eq)]
 pub struct GenericInitiator {
     pub domain: u32,
     pub is_architectural: u8,
@@ -35,7 +35,7 @@ pub struct GenericInitiator {
 
 /// `struct zacpi_its_affinity`.
 #[repr(C)]
-#[derive(Clone, Copy)]
+#[derive(Clone, Copy, Debug, Default, PartialEq, Eq)]
 pub struct ItsAffinity {
     pub domain: u32,
     pub its_id: u32,
@@ -43,7 +43,7 @@ pub struct ItsAffinity {
 
 /// `struct zacpi_localities`.
 #[repr(C)]
-#[derive(Clone, Copy)]
+#[derive(Clone, Copy, Debug, Default, PartialEq, Eq)]
 pub struct Localities {
     pub localities: u64,
     pub is_sane: u8,

@@ -6,7 +6,7 @@ use crate::lists::records::Register;
 
 /// `struct zacpi_step`.
 #[repr(C)]
-#[derive(Clone, Copy)]
+#[derive(Clone, Copy, Debug, Default, PartialEq, Eq)]
 pub struct Step {
     pub at: Register,
     pub mask: u32,
@@ -17,7 +17,7 @@ pub struct Step {
 
 /// `struct zacpi_plan`.
 #[repr(C)]
-#[derive(Clone, Copy)]
+#[derive(Clone, Copy, Debug, Default, PartialEq, Eq)]
 pub struct Plan {
     pub steps: [Step; 8],
     pub count: u32,
@@ -25,7 +25,7 @@ pub struct Plan {
 
 /// `struct zacpi_sleep_types`.
 #[repr(C)]
-#[derive(Clone, Copy)]
+#[derive(Clone, Copy, Debug, Default, PartialEq, Eq)]
 pub struct SleepTypes {
     pub a: u8,
     pub b: u8,

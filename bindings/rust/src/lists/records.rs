@@ -6,7 +6,7 @@ use crate::lists::regions::Region;
 
 /// `struct zacpi_range`.
 #[repr(C)]
-#[derive(Clone, Copy)]
+#[derive(Clone, Copy, Debug, Default, PartialEq, Eq)]
 pub struct Range {
     pub address: u64,
     pub length: u64,
@@ -14,7 +14,7 @@ pub struct Range {
 
 /// `struct zacpi_source`.
 #[repr(C)]
-#[derive(Clone, Copy)]
+#[derive(Clone, Copy, Debug, Default, PartialEq, Eq)]
 pub struct Source<'a> {
     pub regions: &'a [Region<'a>],
     pub address: u64,
@@ -24,7 +24,7 @@ pub struct Source<'a> {
 
 /// `struct zacpi_place`.
 #[repr(C)]
-#[derive(Clone, Copy)]
+#[derive(Clone, Copy, Debug, Default, PartialEq, Eq)]
 pub struct Place {
     pub region: usize,
     pub offset: usize,
@@ -32,14 +32,14 @@ pub struct Place {
 
 /// `struct zacpi_signature`.
 #[repr(C)]
-#[derive(Clone, Copy)]
+#[derive(Clone, Copy, Debug, Default, PartialEq, Eq)]
 pub struct Signature {
     pub letters: [u8; 4],
 }
 
 /// `struct zacpi_root`.
 #[repr(C)]
-#[derive(Clone, Copy)]
+#[derive(Clone, Copy, Debug, Default, PartialEq, Eq)]
 pub struct Root {
     pub address: u64,
     pub length: u32,
@@ -51,7 +51,7 @@ pub struct Root {
 
 /// `struct zacpi_rsdp`.
 #[repr(C)]
-#[derive(Clone, Copy)]
+#[derive(Clone, Copy, Debug, Default, PartialEq, Eq)]
 pub struct Rsdp {
     pub address: u64,
     pub xsdt_address: u64,
@@ -63,7 +63,7 @@ pub struct Rsdp {
 
 /// `struct zacpi_table`.
 #[repr(C)]
-#[derive(Clone, Copy)]
+#[derive(Clone, Copy, Debug, Default, PartialEq, Eq)]
 pub struct Table {
     pub address: u64,
     pub length: u32,
@@ -78,7 +78,7 @@ pub struct Table {
 
 /// `struct zacpi_member`.
 #[repr(C)]
-#[derive(Clone, Copy)]
+#[derive(Clone, Copy, Debug, Default, PartialEq, Eq)]
 pub struct Member {
     pub table: Table,
     pub status: u32,
@@ -87,7 +87,7 @@ pub struct Member {
 
 /// `struct zacpi_fault`.
 #[repr(C)]
-#[derive(Clone, Copy)]
+#[derive(Clone, Copy, Debug, Default, PartialEq, Eq)]
 pub struct Fault {
     pub address: u64,
     pub status: u32,
@@ -96,7 +96,7 @@ pub struct Fault {
 
 /// `struct zacpi_walk`.
 #[repr(C)]
-#[derive(Clone, Copy)]
+#[derive(Clone, Copy, Debug, Default, PartialEq, Eq)]
 pub struct Walk {
     pub first: u32,
     pub type_offset: u8,
@@ -107,7 +107,7 @@ pub struct Walk {
 
 /// `struct zacpi_entry`.
 #[repr(C)]
-#[derive(Clone, Copy)]
+#[derive(Clone, Copy, Debug, Default, PartialEq, Eq)]
 pub struct Entry {
     pub address: u64,
     pub entry_type: u32,
@@ -116,7 +116,7 @@ pub struct Entry {
 
 /// `struct zacpi_aml_table`.
 #[repr(C)]
-#[derive(Clone, Copy)]
+#[derive(Clone, Copy, Debug, Default, PartialEq, Eq)]
 pub struct AmlTable {
     pub address: u64,
     pub length: u32,
@@ -126,7 +126,7 @@ pub struct AmlTable {
 
 /// `struct zacpi_generic_address`.
 #[repr(C)]
-#[derive(Clone, Copy, Default)]
+#[derive(Clone, Copy, Debug, Default, PartialEq, Eq)]
 pub struct GenericAddress {
     pub address: u64,
     pub space: u8,
@@ -137,7 +137,7 @@ pub struct GenericAddress {
 
 /// `struct zacpi_register`.
 #[repr(C)]
-#[derive(Clone, Copy)]
+#[derive(Clone, Copy, Debug, Default, PartialEq, Eq)]
 pub struct Register {
     pub at: GenericAddress,
     pub present: u8,
@@ -145,7 +145,7 @@ pub struct Register {
 
 /// `struct zacpi_pm_timer`.
 #[repr(C)]
-#[derive(Clone, Copy, Default)]
+#[derive(Clone, Copy, Debug, Default, PartialEq, Eq)]
 pub struct PmTimer {
     pub base: GenericAddress,
     pub present: u8,
@@ -154,7 +154,7 @@ pub struct PmTimer {
 
 /// `struct zacpi_hpet_info`.
 #[repr(C)]
-#[derive(Clone, Copy)]
+#[derive(Clone, Copy, Debug, Default, PartialEq, Eq)]
 pub struct HpetInfo {
     pub base_address: u64,
     pub event_timer_block_id: u32,
@@ -165,7 +165,7 @@ pub struct HpetInfo {
 
 /// `struct zacpi_boot_graphic`.
 #[repr(C)]
-#[derive(Clone, Copy)]
+#[derive(Clone, Copy, Debug, Default, PartialEq, Eq)]
 pub struct BootGraphic {
     pub address: u64,
     pub x: u32,
@@ -177,7 +177,7 @@ pub struct BootGraphic {
 
 /// `struct zacpi_facs`.
 #[repr(C)]
-#[derive(Clone, Copy)]
+#[derive(Clone, Copy, Debug, Default, PartialEq, Eq)]
 pub struct Facs {
     pub address: u64,
     pub waking_vector_64: u64,
@@ -190,7 +190,7 @@ pub struct Facs {
 
 /// `struct zacpi_pci_region`.
 #[repr(C)]
-#[derive(Clone, Copy)]
+#[derive(Clone, Copy, Debug, Default, PartialEq, Eq)]
 pub struct PciRegion {
     pub base_address: u64,
     pub segment_group: u16,

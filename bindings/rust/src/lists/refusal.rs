@@ -7,7 +7,7 @@ use crate::sleep::{PlanError, SleepError};
 use crate::write::WriterError;
 
 /// Why a call fails. `enum zacpi_status_code` of `include/zacpi.h` has what each error means.
-#[derive(Clone, Copy)]
+#[derive(Clone, Copy, Debug, PartialEq, Eq)]
 pub enum Refusal {
     RegionsNotAscending,
     RegionTooHigh,

@@ -7,7 +7,7 @@ use crate::lists::refusal::Refusal;
 
 /// A range of physical memory, and the bytes that it is mapped at.
 #[repr(C)]
-#[derive(Clone, Copy)]
+#[derive(Clone, Copy, Debug, Default, PartialEq, Eq)]
 pub struct Region<'k> {
     /// The physical address of the first byte.
     pub address: u64,

@@ -13,7 +13,7 @@ pub use crate::write::{ApicDomain, GiccDomain, RhctContents, RiscvContents, Tabl
 
 /// `struct zacpi_madt_contents`.
 #[repr(C)]
-#[derive(Clone, Copy)]
+#[derive(Clone, Copy, Debug, Default, PartialEq, Eq)]
 pub struct MadtContents<'a> {
     pub processors: &'a [Processor],
     pub io_apics: &'a [IoApic],
@@ -28,7 +28,7 @@ pub struct MadtContents<'a> {
 
 /// `struct zacpi_gic_contents`.
 #[repr(C)]
-#[derive(Clone, Copy)]
+#[derive(Clone, Copy, Debug, Default, PartialEq, Eq)]
 pub struct GicContents<'a> {
     pub distributor: GicDistributor,
     pub cpu_interfaces: &'a [GicCpuInterface],
@@ -39,7 +39,7 @@ pub struct GicContents<'a> {
 
 /// `struct zacpi_srat_contents`.
 #[repr(C)]
-#[derive(Clone, Copy)]
+#[derive(Clone, Copy, Debug, Default, PartialEq, Eq)]
 pub struct SratContents<'a> {
     pub apics: &'a [ApicDomain],
     pub giccs: &'a [GiccDomain],
@@ -48,7 +48,7 @@ pub struct SratContents<'a> {
 
 /// `struct zacpi_spcr_contents`.
 #[repr(C)]
-#[derive(Clone, Copy)]
+#[derive(Clone, Copy, Debug, Default, PartialEq, Eq)]
 pub struct SpcrContents {
     pub console: Console,
     pub interrupt_controllers: u8,
@@ -58,7 +58,7 @@ pub struct SpcrContents {
 
 /// `struct zacpi_platform_timer`.
 #[repr(C)]
-#[derive(Clone, Copy)]
+#[derive(Clone, Copy, Debug, Default, PartialEq, Eq)]
 pub struct PlatformTimer<'a> {
     pub kind: u32,
     pub block_address: u64,
@@ -68,7 +68,7 @@ pub struct PlatformTimer<'a> {
 
 /// `struct zacpi_gtdt_contents`.
 #[repr(C)]
-#[derive(Clone, Copy)]
+#[derive(Clone, Copy, Debug, Default, PartialEq, Eq)]
 pub struct GtdtContents<'a> {
     pub timers: ArmTimers,
     pub platform_timers: &'a [PlatformTimer<'a>],
@@ -76,7 +76,7 @@ pub struct GtdtContents<'a> {
 
 /// `struct zacpi_facs_contents`.
 #[repr(C)]
-#[derive(Clone, Copy)]
+#[derive(Clone, Copy, Debug, Default, PartialEq, Eq)]
 pub struct FacsContents {
     pub waking_vector_64: u64,
     pub hardware_signature: u32,
@@ -87,7 +87,7 @@ pub struct FacsContents {
 
 /// `struct zacpi_aml_contents`.
 #[repr(C)]
-#[derive(Clone, Copy)]
+#[derive(Clone, Copy, Debug, Default, PartialEq, Eq)]
 pub struct AmlContents<'a> {
     pub aml: &'a [u8],
     pub revision: u8,
@@ -95,14 +95,14 @@ pub struct AmlContents<'a> {
 
 /// `struct zacpi_listed_table`.
 #[repr(C)]
-#[derive(Clone, Copy)]
+#[derive(Clone, Copy, Debug, Default, PartialEq, Eq)]
 pub struct ListedTable<'a> {
     pub bytes: &'a [u8],
 }
 
 /// `struct zacpi_machine`.
 #[repr(C)]
-#[derive(Clone, Copy)]
+#[derive(Clone, Copy, Debug, Default, PartialEq, Eq)]
 pub struct Machine<'a> {
     pub ids: TableIds,
     pub tables: &'a [ListedTable<'a>],

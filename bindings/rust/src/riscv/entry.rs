@@ -6,7 +6,7 @@ use crate::base::bytes::field;
 /// RISC-V Interrupt Controller (RINTC), type 0x18: a hart and its interrupt controller. An entry of 20 bytes has no
 /// External Interrupt Controller ID and no IMSIC: these fields are 0.
 #[repr(C)]
-#[derive(Clone, Copy, Debug)]
+#[derive(Clone, Copy, Debug, Default, PartialEq, Eq)]
 pub struct Rintc {
     /// Hart ID: the hart's `mhartid`.
     pub hart_id: u64,
@@ -27,7 +27,7 @@ pub struct Rintc {
 
 /// Incoming MSI Controller (IMSIC), type 0x19: what the IMSICs of all harts have in common.
 #[repr(C)]
-#[derive(Clone, Copy, Debug)]
+#[derive(Clone, Copy, Debug, Default, PartialEq, Eq)]
 pub struct Imsic {
     /// Flags: reserved.
     pub flags: u32,
@@ -49,7 +49,7 @@ pub struct Imsic {
 
 /// Advanced Platform Level Interrupt Controller (APLIC), type 0x1a.
 #[repr(C)]
-#[derive(Clone, Copy, Debug)]
+#[derive(Clone, Copy, Debug, Default, PartialEq, Eq)]
 pub struct Aplic {
     /// APLIC Address: the physical address of its registers.
     pub address: u64,
@@ -73,7 +73,7 @@ pub struct Aplic {
 
 /// Platform Level Interrupt Controller (PLIC), type 0x1b.
 #[repr(C)]
-#[derive(Clone, Copy, Debug)]
+#[derive(Clone, Copy, Debug, Default, PartialEq, Eq)]
 pub struct Plic {
     /// PLIC Address: the physical address of its registers.
     pub address: u64,

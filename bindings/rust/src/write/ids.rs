@@ -6,7 +6,7 @@ use crate::base::bytes::is_text;
 /// The fields of a table's header by which its makers are known (section 5.2.6). The names are filled up with spaces
 /// or zeros, and have to be valid UTF-8.
 #[repr(C)]
-#[derive(Clone, Copy)]
+#[derive(Clone, Copy, Debug, Default, PartialEq, Eq)]
 pub struct TableIds {
     /// OEMID: the OEM's name.
     pub oem_id: [u8; 6],

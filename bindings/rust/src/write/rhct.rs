@@ -11,7 +11,7 @@ use core::marker::PhantomData;
 
 /// What an RHCT is to contain.
 #[repr(C)]
-#[derive(Clone, Copy)]
+#[derive(Clone, Copy, Debug, Default, PartialEq, Eq)]
 pub struct RhctContents<'a> {
     /// ISA string: the instructions that the harts have, as `rv64imafdc`, without a zero at its end.
     pub isa: &'a [u8],

@@ -14,7 +14,7 @@ use core::marker::PhantomData;
 
 /// A processor with a local APIC, and the proximity domain that it is in (sections 5.2.16.1 and 5.2.16.3).
 #[repr(C)]
-#[derive(Clone, Copy)]
+#[derive(Clone, Copy, Debug, Default, PartialEq, Eq)]
 pub struct ApicDomain {
     /// APIC ID or X2APIC ID.
     pub local_apic_id: u32,
@@ -24,7 +24,7 @@ pub struct ApicDomain {
 
 /// A processor with an interface to the GIC, and the proximity domain that it is in (section 5.2.16.4).
 #[repr(C)]
-#[derive(Clone, Copy)]
+#[derive(Clone, Copy, Debug, Default, PartialEq, Eq)]
 pub struct GiccDomain {
     /// ACPI Processor UID.
     pub processor_uid: u32,

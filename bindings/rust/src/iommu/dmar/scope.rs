@@ -6,7 +6,7 @@ use crate::iommu::pieces::{PieceIter, PieceKind, said};
 
 /// A step from a bus to a device on it (section 8.3.1). C passes it as these two bytes.
 #[repr(C)]
-#[derive(Clone, Copy, Debug)]
+#[derive(Clone, Copy, Debug, Default, PartialEq, Eq)]
 pub struct Hop {
     /// The device's number.
     pub device: u8,

@@ -14,7 +14,7 @@ use crate::write::table::{Table, write};
 
 /// What the MADT of a RISC-V machine is to contain, in the order of its entries.
 #[repr(C)]
-#[derive(Clone, Copy)]
+#[derive(Clone, Copy, Debug, Default, PartialEq, Eq)]
 pub struct RiscvContents<'a> {
     /// The harts.
     pub rintcs: &'a [Rintc],
