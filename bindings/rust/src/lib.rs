@@ -25,6 +25,13 @@ pub mod write;
 // What is beside them.
 pub mod alloc;
 pub mod flags;
+mod mapper;
+mod memory;
+mod of_tables;
+mod upstream;
 
 pub use acpi::*;
 pub use alloc::TryClone;
+pub use mapper::{MappedMailbox, Mapper, PhysicalMapper};
+pub use memory::{SourceMemory, clip_ranges};
+pub use of_tables::of_tables;

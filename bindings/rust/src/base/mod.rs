@@ -10,6 +10,8 @@
 //! Section numbers are those of the ACPI Specification, version 6.4.
 
 #![forbid(unsafe_code)]
+// What contracts alone use.
+#![allow(dead_code, unused_imports, unused_labels, unused_variables)]
 
 pub mod address;
 pub mod bytes;

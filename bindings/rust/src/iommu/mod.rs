@@ -4,6 +4,8 @@
 //! 3.08, section 5.2).
 
 #![forbid(unsafe_code)]
+// What contracts alone use.
+#![allow(dead_code, unused_imports, unused_labels, unused_variables)]
 
 pub mod dmar;
 pub mod error;

@@ -7,6 +7,8 @@
 //! its capacity, and returns the number of all items.
 
 #![forbid(unsafe_code)]
+// What contracts alone use.
+#![allow(dead_code, unused_imports, unused_labels, unused_variables)]
 
 pub mod affinities;
 pub mod answer;

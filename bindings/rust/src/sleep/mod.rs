@@ -8,6 +8,8 @@
 //! Section numbers are the ACPI Specification's, version 6.4.
 
 #![forbid(unsafe_code)]
+// What contracts alone use.
+#![allow(dead_code, unused_imports, unused_labels, unused_variables)]
 
 mod argument;
 pub mod block;

@@ -4,6 +4,8 @@
 //! Section numbers refer to the ACPI Specification, version 6.4.
 
 #![forbid(unsafe_code)]
+// What contracts alone use.
+#![allow(dead_code, unused_imports, unused_labels, unused_variables)]
 
 pub mod aml;
 mod arm;
