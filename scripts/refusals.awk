@@ -1,9 +1,8 @@
 # SPDX-License-Identifier: MIT
 # Compares the numbers of errors, and fails if they differ: those of enum zacpi_status_code in include/zacpi.h with those
-# that the crate's refusal.rt gives out, with the names that zacpi_status_name shows, and with those that error.rs and
-# write/mod.rs of the Rust bindings know. These four files are what it reads, in this order. Names are compared in the
-# manner of Rust, those of the MADT's errors with `Madt` before them, and those of the SRAT's and of the IOMMUs' without
-# what says that they are.
+# that the crate's refusal.rt gives out, and with the names that zacpi_status_name shows. These two files are what it
+# reads, in this order. Names are compared in the manner of Rust, those of the MADT's errors with `Madt` before them, and
+# those of the SRAT's and of the IOMMUs' without what says that they are.
 function complain(what) { print what; differ = 1 }
 function has(number, name) {
     if ((file, number) in name_of) complain(FILENAME ": two names of " number)
@@ -45,28 +44,13 @@ file == 2 && match($0, /(Refusal|AcpiError|MadtError|WriterError)::[A-Za-z]+(\(_
     split(text, parts, " => ")
     if (parts[2] != 0 && parts[2] != 99) has(parts[2], parts[1])
 }
-file == 3 && match($0, /^ +[0-9]+ => [A-Za-z]+/) {
-    text = $3
-    sub(/^InvalidMadt\(MadtError::/, "Madt", text); sub(/[(),].*$/, "", text)
-    has($1, text)
-}
-file == 4 && match($0, /^ +[0-9]+ = [A-Za-z]+,$/) {
-    sub(/,$/, "", $3)
-    if (name_of[3, $1]) complain("two names of " $1)
-    name_of[3, $1] = $3
-    found[file]++
-}
 END {
-    # The bindings don't know that of a policy, which no call returns to them, since they pass none but policies.
-    unknown[7] = 1
     for (i = 1; i <= most; i++) {
         here = name_of[1, i]
         if (here != shown_name[i]) complain(i ": the header has '" here "', and shows '" shown_name[i] "'")
         if (here != name_of[2, i]) complain(i ": the header has '" here "', and refusal.rt '" name_of[2, i] "'")
-        if (i in unknown) here = ""
-        if (here != name_of[3, i]) complain(i ": the header has '" here "', and the bindings '" name_of[3, i] "'")
     }
     if (number != count) complain("the header shows " number " names of " count " numbers")
-    if (file != 4 || !found[1] || !found[2] || !found[3] || !found[4]) complain("numbers of one of the four files aren't found")
+    if (file != 2 || !found[1] || !found[2]) complain("numbers of one of the two files aren't found")
     exit differ
 }
