@@ -84,7 +84,7 @@ def one_crate(erase, folder, name, needs, places):
     others = [need for need in needs if need not in erase.MODULES and need != 'bitflags']
     lines = [f'{need} = {{ path = "../{need}" }}' for need in ['zacpi', 'rattle', *others]]
     for path in erase.files_of(name):
-        head = ['#![forbid(unsafe_code)]\n#![allow(unused)]\n'] if str(path) in ('lib.rt', 'main.rt') else []
+        head = '#![forbid(unsafe_code)]\n#![allow(unused)]\n' if str(path) in ('lib.rt', 'main.rt') else ''
         text = without_global(erase.file_text(name, str(path), '', places, 'rattle', head))
         to = folder / name / 'src' / path.with_suffix('.rs')
         to.parent.mkdir(parents=True, exist_ok=True)

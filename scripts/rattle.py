@@ -5,7 +5,9 @@ spells otherwise, and stops at what it knows nothing of (`Unknown`).
 Dropped: `ghost` members, fields and imports; `requires` and `ensures`; the attributes `tactic` and `cycle`; the `Drop` of
 derives and bounds; an `impl Model`; comments that are directly above what is dropped. Respelled: what RESPELLED lists."""
 import re
+from pathlib import Path
 
+ROOT = Path(__file__).resolve().parent.parent
 TOKEN = re.compile(r"""(?P<doc>//[/!][^\n]*)|(?P<comment>//[^\n]*)|(?P<text>b?r(?P<hashes>\#*)".*?"(?P=hashes)
     |b?"(?:\\.|[^"\\])*"|b?'(?:\\(?:x..|u\{[^}]*\}|.)|[^\\'\n])')|(?P<lifetime>'[A-Za-z_]\w*)|(?P<word>[A-Za-z_]\w*)
     |(?P<number>\d\w*)|(?P<space>\s+)|(?P<sign>.)""", re.S | re.X)
@@ -152,19 +154,23 @@ class Source:
             elif i == names[-1]:
                 self.drop(self.before(i), i, False)
             else:
-                self.drop(i, self.after(i) + (self.tokens[self.after(i) + 1][0] == 'space'), False)
+                self.drop(i, self.with_space(self.after(i)), False)
 
     def bound(self, at):
         """Drops a bound `Drop`: of `T: Drop`, `T: Drop + U`, `T: U + Drop`. A trait's becomes `Sized`, as its types are."""
         before, after = self.before(at), self.after(at)
         if self.is_at(before, '+'):
-            self.drop(before, at, False)
+            self.drop(before - (self.tokens[before - 1][0] == 'space'), at, False)
         elif self.is_at(before, ':') and self.is_at(after, '+'):
             self.drop(at, after + 1, False)
         elif self.is_at(before, ':') and self.is_at(after, '{'):
             self.tokens[at][1] = 'Sized'
         elif self.is_at(before, ':') and not self.is_at(self.before(before), ':'):
             self.drop(before, at, False)
+
+    def with_space(self, at):
+        """The place of the blank after a token, if there is one."""
+        return at + (self.tokens[at + 1][0] == 'space')
 
     def drop_global(self):
         """Drops each parameter of the global allocator."""
@@ -186,14 +192,14 @@ class Source:
         for i in range(body, self.closer(body)):
             if self.tokens[i] == ['word', word]:
                 if self.is_at(self.before(i), '(') and self.is_at(self.before(self.before(i)), 'new'):
-                    self.drop(i, self.after(i), False)
+                    self.drop(i, self.with_space(self.after(i)), False)
                 else:
                     self.tokens[i][1] = 'Global'
         if self.is_at(opened, ','):
             self.drop(opened, at, False)
         else:
-            self.drop(name, after if self.is_at(after, ',') else at, False)
-        first = next(i for i in range(name, 0, -1) if self.tokens[i] == ['word', 'pub'])
+            self.drop(name, self.with_space(after) if self.is_at(after, ',') else at, False)
+        first = next(i for i in range(name, -1, -1) if self.tokens[i] == ['word', 'pub'])
         self.tokens[first][1] = '#[cfg(feature = "alloc")]\npub'
 
     def text(self):

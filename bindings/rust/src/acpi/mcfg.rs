@@ -1,11 +1,10 @@
 // Made by scripts/erase of crates/acpi/src/mcfg.rt, where it is proved.
 //! The addresses of the configuration space of PCI functions, by the MCFG.
 
-use crate::alloc::Vec;
-
 mod ecam;
 
 use crate::acpi::tables::AcpiTables;
+use crate::alloc::Vec;
 use crate::alloc::{AllocError, Allocator, Global};
 use crate::base::managed_slice::ManagedSlice;
 pub use crate::base::mcfg::{Mcfg, McfgEntry, McfgEntryIter};

@@ -1,8 +1,6 @@
 // Made by scripts/erase of crates/acpi/src/platform.rt, where it is proved.
 //! A machine's purpose, interrupt controllers, processors and timer, by the FADT and the MADT.
 
-use crate::alloc::TryClone;
-
 pub mod interrupt;
 mod mailbox;
 mod script;
@@ -10,6 +8,7 @@ mod timer;
 mod wakeup;
 
 use crate::acpi::tables::AcpiTables;
+use crate::alloc::TryClone;
 use crate::alloc::{AllocError, Allocator, Global};
 use crate::base::madt::Madt;
 pub use crate::base::model::{ModelAndProcessors, Processor, ProcessorInfo, ProcessorState};

@@ -1,8 +1,6 @@
 // Made by scripts/erase of crates/acpi/src/tables.rt, where it is proved.
 //! The root table (sections 5.2.7 and 5.2.8), and the tables that it leads to.
 
-use crate::alloc::TryClone;
-
 mod opening;
 mod places;
 
@@ -14,6 +12,7 @@ use crate::acpi::policy::{Policy, Valid, accepted_at};
 use crate::acpi::records::{AmlTable, stream_at};
 use crate::acpi::root::RootKind;
 use crate::acpi::ssdts::SsdtIterator;
+use crate::alloc::TryClone;
 use crate::alloc::{Allocator, Global};
 use crate::base::bytes::skip;
 use crate::base::sdt::SdtHeader;

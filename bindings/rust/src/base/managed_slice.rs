@@ -1,9 +1,8 @@
 // Made by scripts/erase of crates/acpi_base/src/managed_slice.rt, where it is proved.
 //! Slices that are owned, in memory of any allocator.
 
-use crate::alloc::{TryClone, Vec};
-
 use crate::alloc::{AllocError, Allocator, Global};
+use crate::alloc::{TryClone, Vec};
 use crate::base::error::AcpiResult;
 
 /// A slice of fixed length, which owns its items and the memory that they are in. Both end with

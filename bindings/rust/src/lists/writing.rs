@@ -32,7 +32,7 @@ pub fn written(said: Result<usize, WriterError>, length: &mut usize) -> u32 {
     answer_plain(said.map_err(Refusal::Writer), length)
 }
 
-/// Writes a table of this signature, whatever it is, with these bytes after its header, as `crate::write::write_table`
+/// Writes a table of this signature, whatever it is, with these bytes after its header, as `write::write_table`
 /// does.
 pub fn write_table(
     out: &mut [u8],
@@ -44,7 +44,7 @@ pub fn write_table(
     crate::write::write_table(out, signature_named(signature), revision, ids, &Bytes(body))
 }
 
-/// Writes a FACS, as `crate::write::write_facs` does.
+/// Writes a FACS, as `write::write_facs` does.
 pub fn write_facs(out: &mut [u8], contents: &FacsContents) -> Result<usize, WriterError> {
     crate::write::write_facs(out, &contents.contents())
 }

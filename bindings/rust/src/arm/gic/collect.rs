@@ -1,9 +1,8 @@
 // Made by scripts/erase of crates/acpi_arm/src/gic/collect.rt, where it is proved.
 //! The walks along the entries of a MADT: for the distributor, and for each list.
 
-use crate::alloc::Vec;
-
 use super::part::{GicDistributor, GicPart, distributor_in};
+use crate::alloc::Vec;
 use crate::alloc::{AllocError, Allocator};
 use crate::base::bytes::field;
 use crate::base::madt::MadtEntryIter;

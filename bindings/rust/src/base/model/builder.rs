@@ -1,14 +1,13 @@
 // Made by scripts/erase of crates/acpi_base/src/model/builder.rt, where it is proved.
 //! A model that is being gathered.
 
-use crate::alloc::{TryClone, Vec};
-
 use super::ModelAndProcessors;
 use super::counts::Counts;
 use super::interrupt::{Apic, InterruptModel, InterruptSourceOverride, IoApic, NmiLine, NmiSource};
 use super::item::{MadtItem, processor_of, x2apic_processor_of};
 use super::processor::{Processor, ProcessorInfo, ProcessorState};
 use crate::alloc::{AllocError, Allocator};
+use crate::alloc::{TryClone, Vec};
 use crate::base::error::AcpiResult;
 use crate::base::managed_slice::ManagedSlice;
 use crate::base::memory::handler::PhysicalRecord;

@@ -1,13 +1,12 @@
 // Made by scripts/erase of crates/acpi_base/src/model/gather.rt, where it is proved.
 //! The walks along the entries: the first one counts, or finds a fault, and the second one gathers.
 
-use crate::alloc::TryClone;
-
 use super::ModelAndProcessors;
 use super::builder::ModelBuilder;
 use super::counts::Counts;
 use super::interrupt::InterruptModel;
 use crate::alloc::Allocator;
+use crate::alloc::TryClone;
 use crate::base::bytes::skip;
 use crate::base::entries::split_whole;
 use crate::base::error::AcpiResult;

@@ -2,7 +2,6 @@
 //! Interrupt controllers, and how interrupts come to them (section 5.2.12).
 
 use crate::alloc::TryClone;
-
 use crate::alloc::{AllocError, Allocator};
 use crate::base::managed_slice::ManagedSlice;
 

@@ -2,7 +2,6 @@
 //! The processors that a MADT lists (sections 5.2.12.2 and 5.2.12.12).
 
 use crate::alloc::TryClone;
-
 use crate::alloc::{AllocError, Allocator};
 use crate::base::managed_slice::ManagedSlice;
 

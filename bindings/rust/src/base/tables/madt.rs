@@ -1,8 +1,6 @@
 // Made by scripts/erase of crates/acpi_base/src/tables/madt.rt, where it is proved.
 //! The Multiple APIC Description Table (MADT): interrupt controllers and processors (section 5.2.12).
 
-use crate::alloc::TryClone;
-
 mod apic;
 mod entry;
 mod gic;
@@ -11,6 +9,7 @@ mod wakeup;
 mod walk;
 
 use crate::alloc::Allocator;
+use crate::alloc::TryClone;
 use crate::base::bytes::{has_bit, u32_in};
 pub use crate::base::error::MadtError;
 use crate::base::error::{AcpiError, AcpiResult};

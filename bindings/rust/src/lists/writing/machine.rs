@@ -113,7 +113,7 @@ fn are_tables(listed: &[ListedTable<'_>]) -> bool {
 
 /// Writes all tables of a machine to the front of a buffer that is to be at this physical address.
 ///
-/// Returns `BadTable` if bytes that are listed aren't a table, and then the errors of `crate::write::write_tables`, in
+/// Returns `BadTable` if bytes that are listed aren't a table, and then the errors of `write::write_tables`, in
 /// its order.
 pub fn write_tables(out: &mut [u8], address: u64, machine: &Machine<'_>) -> Result<usize, Refusal> {
     require(are_tables(machine.tables), Refusal::BadTable)?;
@@ -123,7 +123,7 @@ pub fn write_tables(out: &mut [u8], address: u64, machine: &Machine<'_>) -> Resu
 /// Writes all tables of a machine but the RSDP to the front of a buffer that is to be at this physical address.
 ///
 /// Returns `BadTable` if bytes that are listed aren't a table, and then the errors of
-/// `crate::write::write_tables_without_rsdp`, in its order.
+/// `write::write_tables_without_rsdp`, in its order.
 pub fn write_tables_without_rsdp(out: &mut [u8], address: u64, machine: &Machine<'_>) -> Result<usize, Refusal> {
     require(are_tables(machine.tables), Refusal::BadTable)?;
     Ok(crate::write::write_tables_without_rsdp(out, address, &machine.whole())?)

@@ -1,11 +1,10 @@
 // Made by scripts/erase of crates/acpi_numa/src/srat/affinities.rt, where it is proved.
 //! The proximity domain of each range of memory (section 5.2.16.2).
 
-use crate::alloc::Vec;
-
 use super::Srat;
 use super::domains::Domains;
 use crate::acpi::AcpiTables;
+use crate::alloc::Vec;
 use crate::alloc::{AllocError, Allocator, Global};
 use crate::base::managed_slice::ManagedSlice;
 use crate::base::{AddressRange, Lender};
