@@ -1,11 +1,12 @@
 // Made by scripts/erase of crates/acpi/src/policy.rt, where it is proved.
 //! Which tables a caller accepts.
 
-use crate::base::bytes::has_bit;
-use crate::base::table::{ValidTable, valid_at, valid_by};
+use crate::base::table::accepted_at;
 use crate::base::{AcpiResult, AcpiTable, Lender, PhysicalMapping};
 
-/// Which checks of tables a caller gives up: each table that is valid is accepted, and each that fails only these.
+/// Which checks of tables a caller gives up. Each table that is valid is accepted, and each that fails no other check: a
+/// policy only ever accepts more. For a type with a check of its own (`AcpiTable::validate`) that check stays: an error
+/// of a sum or an id that is given up doesn't count if it is the first, and after one of an id only the sum is left.
 pub trait Policy: Copy {
     /// The checks that are given up: bit 0 is that of a table's sum, bit 1 that of both its ids. No other bit counts.
     fn bits(&self) -> u32;
@@ -36,24 +37,7 @@ impl Policy for Accept {
     }
 }
 
-/// The bytes of the table at a physical address, if it is valid for `T` (section 5.2.6) but for the checks that the
-/// bits of `accept` give up: if these are some, only the header and the sum matter of any type.
-///
-/// Fails as `map_table` does, but for those checks.
-#[inline(always)]
-pub(crate) fn accepted_at<'h, H: Lender, T: AcpiTable>(
-    handler: &'h H,
-    address: u64,
-    accept: u32,
-) -> AcpiResult<ValidTable<'h, H>> {
-    if has_bit(accept as u64, 0) || has_bit(accept as u64, 1) {
-        valid_by(handler, address, T::SIGNATURE, T::MIN_LENGTH, accept)
-    } else {
-        valid_at::<H, T>(handler, address)
-    }
-}
-
-/// That table as a mapping.
+/// The table at a physical address, if the bits of `accept` accept it for `T`.
 ///
 /// Fails as `accepted_at` does.
 #[inline(always)]

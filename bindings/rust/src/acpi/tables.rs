@@ -8,7 +8,7 @@ use crate::acpi::faults::TableFaults;
 use crate::acpi::headers::SdtHeaderIterator;
 use crate::acpi::platform::PlatformInfo;
 use crate::acpi::pointers::Pointers;
-use crate::acpi::policy::{Policy, Valid, accepted_at};
+use crate::acpi::policy::{Policy, Valid};
 use crate::acpi::records::{AmlTable, stream_at};
 use crate::acpi::root::RootKind;
 use crate::acpi::ssdts::SsdtIterator;
@@ -16,7 +16,7 @@ use crate::alloc::TryClone;
 use crate::alloc::{Allocator, Global};
 use crate::base::bytes::skip;
 use crate::base::sdt::SdtHeader;
-use crate::base::table::ValidTable;
+use crate::base::table::{ValidTable, accepted_at};
 use crate::base::{AcpiError, AcpiResult, AcpiTable, Lender, PhysicalMapping, Signature};
 use crate::fixed::fadt::{Fadt, FadtView};
 

@@ -10,7 +10,7 @@ use crate::base::bytes::byte_sum;
 use crate::base::error::{AcpiError, AcpiResult};
 use crate::base::memory::handler::PhysicalRecord;
 use header::SdtHeader;
-pub use lookup::{ValidTable, map_own_sdt, map_sdt, map_table, own_valid_by, valid_at, valid_by};
+pub use lookup::{ValidTable, accepted_at, map_own_sdt, map_sdt, map_table, own_valid_by, valid_at, valid_by};
 use signature::Signature;
 
 /// A type of table (section 5.2.6). A kernel may add types of its own. `kind` is what a lookup checks: the

@@ -59,11 +59,15 @@ impl AcpiHandler for MappedRegion<'_> {
         if address < self.start {
             return Err(AcpiError::MapFailed);
         }
-        let skipped = (address - self.start) as usize;
-        if skipped > self.bytes.len() || size > self.bytes.len() - skipped {
+        let skipped = address - self.start;
+        if skipped > self.bytes.len() as u64 {
             return Err(AcpiError::MapFailed);
         }
-        Ok(&self.bytes[skipped..])
+        let rest = &self.bytes[skipped as usize..];
+        if size > rest.len() {
+            return Err(AcpiError::MapFailed);
+        }
+        Ok(rest)
     }
 
     /// Does nothing: what is mapped stays mapped.

@@ -84,7 +84,7 @@ impl<'h, H: Lender, T: PhysicalRecord> Deref for PhysicalMapping<'h, H, T> {
 impl<'h, H: Lender, T: PhysicalRecord> Drop for PhysicalMapping<'h, H, T> {
     fn drop(&mut self) {
         let PhysicalMapping { claim, value: _ } = self;
-        // A drop of Rust's moves nothing out, so it doesn't call `end`.
+        // Not `end`, which takes the claim: in Rust a drop moves nothing out of its value.
         claim.notice();
         let Claim { start: _, lent: _, region_length: _, handler: _ } = claim;
     }

@@ -134,6 +134,8 @@ pub enum InterruptModel<A: Allocator> {
     Apic(Apic<A>),
 }
 
+/// Clones with the fields of the original, or `AllocError` if memory runs out, also for a clone of the
+/// allocator. For `Unknown` nothing is asked for.
 impl<A: Allocator + TryClone> TryClone for InterruptModel<A> {
     fn try_clone(&self) -> Result<InterruptModel<A>, AllocError> {
         match self {

@@ -79,6 +79,56 @@ pub fn valid_at<'h, H: Lender, T: AcpiTable>(handler: &'h H, address: u64) -> Ac
     claim_valid::<H, T>(head)
 }
 
+/// What is left of the result of a type's own check of a table's bytes by the bits of `accept`: by bit 0 an error of the
+/// sum doesn't count, by bit 1 one of an id, after which only the sum is left to check.
+fn left_of(checked: AcpiResult<()>, signature: Signature, bytes: &[u8], accept: u32) -> AcpiResult<()> {
+    match checked {
+        Err(AcpiError::SdtInvalidChecksum(_)) if has_bit(accept as u64, 0) => Ok(()),
+        Err(AcpiError::SdtInvalidOemId(_) | AcpiError::SdtInvalidTableId(_)) if has_bit(accept as u64, 1) => {
+            if !has_bit(accept as u64, 0) && byte_sum(bytes) != 0 {
+                return Err(AcpiError::SdtInvalidChecksum(signature));
+            }
+            Ok(())
+        }
+        other => other,
+    }
+}
+
+/// The bytes of the table whose header is claimed, if by the bits of `accept`, of which some are set, it is accepted
+/// for `T`.
+#[inline(never)]
+fn claim_accepted<'h, H: Lender, T: AcpiTable>(head: Claim<'h, H>, accept: u32) -> AcpiResult<ValidTable<'h, H>> {
+    let claim = claim_whole(head, T::SIGNATURE, T::MIN_LENGTH, accept)?;
+    let checked = T::read(claim.shown()).validate(claim.shown());
+    match left_of(checked, T::SIGNATURE, claim.shown(), accept) {
+        Ok(()) => Ok(ValidTable { claim }),
+        Err(error) => {
+            claim.end();
+            Err(error)
+        }
+    }
+}
+
+/// The bytes of the table at a physical address, if it is accepted for `T` (section 5.2.6): if it is valid, or only
+/// checks fail that are given up. By bit 0 of `accept` its sum may be any, by bit 1 both of its ids, and by 0 it has to
+/// be valid. What `T::validate` checks besides stays: of its result an error of the sum or of an id doesn't count that
+/// is given up, and after one of an id only the sum is left to check.
+///
+/// Fails as `map_table` does, but for those errors.
+#[inline(always)]
+pub fn accepted_at<'h, H: Lender, T: AcpiTable>(
+    handler: &'h H,
+    address: u64,
+    accept: u32,
+) -> AcpiResult<ValidTable<'h, H>> {
+    let head = claim_header(handler, address, T::SIGNATURE)?;
+    if has_bit(accept as u64, 0) || has_bit(accept as u64, 1) {
+        claim_accepted::<H, T>(head, accept)
+    } else {
+        claim_valid::<H, T>(head)
+    }
+}
+
 /// The table at a physical address, if it is valid for `T` (sections 5.2.5 and 5.2.6).
 ///
 /// Fails, in this order, with `MapFailed` if 36 bytes aren't mapped, `SdtInvalidSignature` if the signature

@@ -21,6 +21,7 @@ pub struct IoSapicEntry {
 impl PhysicalRecord for IoSapicEntry {
     const MIN_LENGTH: usize = 16;
 
+    #[inline(always)]
     fn read(bytes: &[u8]) -> Self {
         IoSapicEntry {
             header: EntryHeader::read(bytes),
@@ -52,6 +53,7 @@ pub struct LocalSapicEntry {
 impl PhysicalRecord for LocalSapicEntry {
     const MIN_LENGTH: usize = 16;
 
+    #[inline(always)]
     fn read(bytes: &[u8]) -> Self {
         LocalSapicEntry {
             header: EntryHeader::read(bytes),
@@ -88,6 +90,7 @@ pub struct PlatformInterruptSourceEntry {
 impl PhysicalRecord for PlatformInterruptSourceEntry {
     const MIN_LENGTH: usize = 16;
 
+    #[inline(always)]
     fn read(bytes: &[u8]) -> Self {
         PlatformInterruptSourceEntry {
             header: EntryHeader::read(bytes),
