@@ -6,6 +6,8 @@
 #![forbid(unsafe_code)]
 // What contracts alone use.
 #![allow(dead_code, unused_imports, unused_labels, unused_variables)]
+// It is written as it is proved.
+#![allow(clippy::style, clippy::complexity, clippy::perf, clippy::manual_unwrap_or_default)]
 
 mod entry;
 mod walk;
