@@ -1,5 +1,5 @@
 // Made by scripts/erase of crates/acpi/src/matches.rt, where it is proved.
-//! All valid tables of a type.
+//! All accepted tables of a type.
 
 use crate::acpi::pointers::Pointers;
 use crate::acpi::policy::map_accepted;
@@ -7,7 +7,7 @@ use crate::acpi::walk::{Asked, next_asked};
 use crate::base::{AcpiTable, Lender, PhysicalMapping};
 use core::marker::PhantomData;
 
-/// The members of the root table that are valid for `T`, in its order, as `AcpiTables::find_tables` gives
+/// The members of the root table that are accepted for `T`, in its order, as `AcpiTables::find_tables` gives
 /// them: each is a mapping of the table. A table that is listed twice comes twice.
 pub struct FoundTables<'t, 'h, H: Lender, T: AcpiTable> {
     handler: &'h H,
@@ -37,5 +37,5 @@ impl<'h, H: Lender, T: AcpiTable> Iterator for FoundTables<'_, 'h, H, T> {
     }
 }
 
-/// A table that is valid for `T`.
+/// A table that is accepted for `T`.
 impl<H: Lender, T: AcpiTable> Asked for PhysicalMapping<'_, H, T> {}

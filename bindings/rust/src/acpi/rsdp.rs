@@ -95,7 +95,7 @@ impl Rsdp {
         RootPointer { revision: self.revision, kind, address }
     }
 
-    /// Checks an RSDP (section 5.2.5.3) by the bytes that it was read from. Bytes after its length don't
+    /// Checks an RSDP (section 5.2.5.3) by the bytes that it was read from, at least 36. Bytes after its length don't
     /// count.
     ///
     /// Fails, in this order, with `RsdpIncorrectSignature` if the signature is not `RSD PTR `,

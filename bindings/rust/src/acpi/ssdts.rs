@@ -1,5 +1,5 @@
 // Made by scripts/erase of crates/acpi/src/ssdts.rt, where it is proved.
-//! The AML of all valid SSDTs.
+//! The AML of all accepted SSDTs.
 
 use crate::acpi::pointers::Pointers;
 use crate::acpi::records::{AmlTable, stream_at};
@@ -7,7 +7,7 @@ use crate::acpi::walk::{Asked, Found, next_found};
 use crate::base::Lender;
 use crate::base::sdt::Signature;
 
-/// The AML of all members that are valid SSDTs (section 5.2.11.2), in the order of the root table, as
+/// The AML of all members that are accepted as SSDTs (section 5.2.11.2), in the order of the root table, as
 /// `AcpiTables::ssdts` gives it. A table that is listed twice comes twice.
 pub struct SsdtIterator<'t, 'h, H: Lender> {
     handler: &'h H,

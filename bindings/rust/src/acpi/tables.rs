@@ -23,6 +23,9 @@ use crate::fixed::fadt::{Fadt, FadtView};
 /// The tables that a root table leads to: an RSDT (section 5.2.7) or an XSDT (section 5.2.8). Its pointers
 /// are physical addresses, and what they lead to are its members, in the order of the pointers. The root
 /// table stays mapped until this is dropped.
+///
+/// A table is accepted if it is valid, but for the checks that the policy `P` gives up. Without a policy it has to be
+/// valid.
 pub struct AcpiTables<'h, H: Lender, P: Policy = Valid> {
     policy: P,
     revision: u8,
@@ -42,7 +45,7 @@ impl<'h, H: Lender, P: Policy> AcpiTables<'h, H, P> {
         Pointers::new(self.kind.width(), skip(self.root.bytes(), 36))
     }
 
-    /// The bytes of the first member that is valid for `T`.
+    /// The bytes of the first member that is accepted for `T`.
     fn first_valid<T: AcpiTable>(&self) -> AcpiResult<ValidTable<'h, H>> {
         for address in self.pointers() {
             if let Ok(found) = accepted_at::<H, T>(self.root.handler(), address, self.policy.bits()) {
@@ -52,10 +55,10 @@ impl<'h, H: Lender, P: Policy> AcpiTables<'h, H, P> {
         Err(AcpiError::TableMissing(T::SIGNATURE))
     }
 
-    /// The first member of the root table that is valid for `T` (sections 5.2.7 and 5.2.8): its address
+    /// The first member of the root table that is accepted for `T` (sections 5.2.7 and 5.2.8): its address
     /// is the mapping's `physical_start`, and its bytes are the mapping's.
     ///
-    /// Fails with `TableMissing`, carrying `T::SIGNATURE`, if no member is valid for `T`. A
+    /// Fails with `TableMissing`, carrying `T::SIGNATURE`, if no member is accepted for `T`. A
     /// member that isn't lent, or fails another check, is passed over.
     #[inline(always)]
     pub fn find_table<T: AcpiTable>(&self) -> AcpiResult<PhysicalMapping<'h, H, T>> {
@@ -65,7 +68,7 @@ impl<'h, H: Lender, P: Policy> AcpiTables<'h, H, P> {
         }
     }
 
-    /// The first member of the root table that is a valid FADT (section 5.2.9), as `find_table` finds it: a
+    /// The first member of the root table that is accepted as a FADT (section 5.2.9), as `find_table` finds it: a
     /// field of it is read when it is asked for.
     ///
     /// Fails as `find_table` does.
@@ -73,16 +76,16 @@ impl<'h, H: Lender, P: Policy> AcpiTables<'h, H, P> {
         Ok(FadtView::new(self.first_valid::<Fadt>()?))
     }
 
-    /// The AML of all members that are valid SSDTs, in order (section 5.2.11.2). It gives at most
+    /// The AML of all members that are accepted as SSDTs, in order (section 5.2.11.2). It gives at most
     /// one for each pointer.
     pub fn ssdts(&self) -> SsdtIterator<'_, 'h, H> {
         SsdtIterator::new(self.root.handler(), self.pointers(), self.policy.bits())
     }
 
     /// The AML of the DSDT (section 5.2.11.1): that of the table at the address that the first
-    /// valid FADT gives (section 5.2.9).
+    /// accepted FADT gives (section 5.2.9).
     ///
-    /// Fails, in this order, with `TableMissing` if no valid FADT is listed, `InvalidDsdtAddress` if
+    /// Fails, in this order, with `TableMissing` if no accepted FADT is listed, `InvalidDsdtAddress` if
     /// that FADT gives no address, and with the error of the table there: `MapFailed`,
     /// `SdtInvalidSignature` and so on, carrying the DSDT's signature.
     pub fn dsdt(&self) -> AcpiResult<AmlTable> {
@@ -92,7 +95,7 @@ impl<'h, H: Lender, P: Policy> AcpiTables<'h, H, P> {
     }
 
     /// Why members were passed over in a lookup of `T`: the address and the error of each member
-    /// before the first one that is valid for `T` (of all members if none is) whose error isn't
+    /// before the first one that is accepted for `T` (of all members if none is) whose error isn't
     /// `SdtInvalidSignature`, in order. It gives at most one for each pointer.
     pub fn faults<T: AcpiTable>(&self) -> TableFaults<'_, 'h, H, T> {
         TableFaults::new(self.root.handler(), self.pointers(), self.policy.bits())

@@ -109,13 +109,13 @@ pub(crate) fn has_part(bytes: &[u8], offset: usize, n: usize) -> bool {
     offset <= bytes.len() && n <= bytes.len() - offset
 }
 
-/// Whether bit `k` of a number is set, bit 0 being the lowest.
+/// Whether bit `k`, for `k` below 64, of a number is set, bit 0 being the lowest.
 #[inline(always)]
 pub fn has_bit(number: u64, k: u32) -> bool {
     (number >> k) & 1 == 1
 }
 
-/// The number of the `width` bits from bit `low` on, bit 0 being the lowest.
+/// The number of the `width` bits from bit `low` on, both below 64, bit 0 being the lowest.
 #[inline(always)]
 pub fn bits(number: u64, low: u32, width: u32) -> u64 {
     (number >> low) % (1 << width)

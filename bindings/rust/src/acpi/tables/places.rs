@@ -39,18 +39,18 @@ impl<'h, H: Lender, P: Policy> AcpiTables<'h, H, P> {
         self.pointers()
     }
 
-    /// The first member of the root table that is valid under a signature that is known only at run time
+    /// The first member of the root table that is accepted under a signature that is known only at run time
     /// (section 5.2.6), with at least the 36 bytes of a header, mapped as its header.
     ///
-    /// Fails with `TableMissing`, carrying the signature, if no member is valid so. A member that
+    /// Fails with `TableMissing`, carrying the signature, if no member is accepted so. A member that
     /// isn't lent, or fails another check, is passed over.
     pub fn find_sdt(&self, signature: Signature) -> AcpiResult<PhysicalMapping<'h, H, SdtHeader>> {
         let found = self.find_bytes(signature, SdtHeader::MIN_LENGTH)?;
         Ok(found.mapping())
     }
 
-    /// The bytes of the first member of the root table that is valid under a signature and a least length that are
-    /// known only at run time (section 5.2.6).
+    /// The bytes of the first member of the root table that is accepted under a signature and a least length, of at least
+    /// 36, that are known only at run time (section 5.2.6).
     ///
     /// Fails as `find_sdt` does.
     #[inline(never)]
@@ -63,7 +63,7 @@ impl<'h, H: Lender, P: Policy> AcpiTables<'h, H, P> {
         Err(AcpiError::TableMissing(signature))
     }
 
-    /// The table at a physical address, whether it is a member or not, mapped as its header, if it is valid under a
+    /// The table at a physical address, whether it is a member or not, mapped as its header, if it is accepted under a
     /// signature that is known only at run time (section 5.2.6).
     ///
     /// Fails as `sdt::map_sdt` does, but for the checks that are given up.
@@ -73,7 +73,7 @@ impl<'h, H: Lender, P: Policy> AcpiTables<'h, H, P> {
         Ok(table.mapping())
     }
 
-    /// The table at a physical address, whether it is a member or not, mapped as its header, if it is valid under the
+    /// The table at a physical address, whether it is a member or not, mapped as its header, if it is accepted under the
     /// signature that it has itself (section 5.2.6).
     ///
     /// Fails as `sdt_at` does for that signature.
@@ -82,23 +82,23 @@ impl<'h, H: Lender, P: Policy> AcpiTables<'h, H, P> {
         Ok(table.mapping())
     }
 
-    /// The table at a physical address, whether it is a member or not, if it is valid for `T` (section 5.2.6).
+    /// The table at a physical address, whether it is a member or not, if it is accepted for `T` (section 5.2.6).
     ///
     /// Fails as `sdt::map_table` does, but for the checks that are given up.
     pub fn table_at<T: AcpiTable>(&self, address: u64) -> AcpiResult<PhysicalMapping<'h, H, T>> {
         map_accepted(self.root.handler(), address, self.policy.bits())
     }
 
-    /// All members of the root table that are valid for `T`, in order. It gives at most one for each
+    /// All members of the root table that are accepted for `T`, in order. It gives at most one for each
     /// pointer.
     pub fn find_tables<T: AcpiTable>(&self) -> FoundTables<'_, 'h, H, T> {
         FoundTables::new(self.root.handler(), self.pointers(), self.policy.bits())
     }
 
-    /// Where the FACS lies, as many bytes as its Length says (section 5.2.10): that of the first valid FADT (section
+    /// Where the FACS lies, as many bytes as its Length says (section 5.2.10): that of the first accepted FADT (section
     /// 5.2.9).
     ///
-    /// Fails, in this order, with `TableMissing` if no valid FADT is listed, `InvalidFacsAddress` if that FADT gives no
+    /// Fails, in this order, with `TableMissing` if no accepted FADT is listed, `InvalidFacsAddress` if that FADT gives no
     /// address, `MapFailed` if 36 bytes aren't lent there, as `facs_length` does, and with `MapFailed` if as many bytes
     /// as the length says aren't lent.
     pub fn facs(&self) -> AcpiResult<AddressRange> {

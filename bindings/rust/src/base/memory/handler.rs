@@ -2,7 +2,7 @@
 //! Handlers and lenders of physical memory, and records that are read from it.
 
 use crate::base::bytes::field;
-use crate::base::error::AcpiResult;
+use crate::base::error::{AcpiError, AcpiResult};
 
 /// Maps physical memory, in the kernel or the boot loader that implements this.
 ///
@@ -41,7 +41,12 @@ pub trait Lender {
 
 impl<H: AcpiHandler> Lender for H {
     fn lend(&self, address: u64, size: usize) -> AcpiResult<&[u8]> {
-        self.map_physical_region(address, size)
+        let lent = self.map_physical_region(address, size)?;
+        // No handler that is proved maps fewer.
+        if lent.len() < size {
+            return Err(AcpiError::MapFailed);
+        }
+        Ok(lent)
     }
 
     fn end_loan(&self, address: u64, region_length: usize, mapped_length: usize) {

@@ -41,7 +41,7 @@ fn claim_whole<'h, H: Lender>(
     }
 }
 
-/// The bytes of a table that is valid for some type, as they are mapped: small, so that a walk along
+/// The bytes of a table that is accepted for some type, as they are mapped: small, so that a walk along
 /// many addresses makes nothing as big as a record of the ones that it skips.
 pub struct ValidTable<'h, H: Lender> {
     claim: Claim<'h, H>,
