@@ -24,10 +24,12 @@ pub mod write;
 
 // What is beside them.
 pub mod alloc;
+mod errors;
 pub mod flags;
 mod mapper;
 mod memory;
 mod of_tables;
+pub mod tables;
 mod upstream;
 
 pub use acpi::*;

@@ -1,12 +1,15 @@
 //! The GIC and the generic timers.
+#![cfg(feature = "alloc")]
 mod common;
-use common::{Memory, ROOT};
-use zacpi::gic::{GicCpuInterface, GicDistributor, GicMsiFrame, GicTranslationService};
-use zacpi::gtdt::{ArmTimer, EntryFault, GtFrame, Gtdt, TimerInterrupt, Watchdog};
-use zacpi::platform::interrupt::{InputPolarity, InputTrigger};
-use zacpi::{AcpiError, GicModel, MadtError, Range, Signature, Slot};
-
-const TABLE: u64 = ROOT + 0x1000;
+use common::{Memory, TABLE, all, plain, plains, with};
+use zacpi::alloc::Global;
+use zacpi::arm::gic::{GicModel, distributor_of};
+use zacpi::arm::gtdt::{Gtdt, PlatformTimer, PlatformTimerIter, TimerStructureIter, timer_count, timers_offset};
+use zacpi::lists::arm_records::{GicCpuInterface, GicMsiFrame, GicTranslationService, GtFrame, Watchdog};
+use zacpi::lists::{arm_timers, gic, gtdt_faults, records::Range, refusal::Refusal};
+use zacpi::madt::Madt;
+use zacpi::sdt::Signature;
+use zacpi::{AcpiError, MadtError};
 
 #[test]
 fn reads_a_gic() {
@@ -29,56 +32,54 @@ fn reads_a_gic() {
         (262, 2, 0x180d), (266, 4, 6), (270, 8, 0x802_0000), (278, 4, 1), (282, 2, 64), (284, 2, 80),
         (286, 2, 0x180d), (290, 4, 7), (294, 8, 0x803_0000), (302, 4, 0), (306, 2, 64), (308, 2, 80),
     ];
-    let mut memory = Memory::rsdt(&[TABLE]);
-    memory.table(TABLE, "APIC", 6, 310, &fields);
+    let memory = with("APIC", 6, 310, &fields);
     memory.ask(|tables| {
-        let gic = GicModel::new(&tables).unwrap();
-        let mut distributor = GicDistributor::new(0x800_0000, Some(3));
-        (distributor.id, distributor.system_vector_base) = (1, 2);
-        assert_eq!(gic.distributor, distributor);
-        let mut first = GicCpuInterface::new(1, 2, 0x101);
-        (first.is_online_capable, first.efficiency_class) = (true, 4);
-        (first.address, first.virtual_address) = (Some(0x801_0000), Some(0x802_0000));
-        (first.hypervisor_address, first.redistributor_address) = (Some(0x803_0000), Some(0x80a_0000));
-        (first.parked_address, first.parking_protocol_version) = (Some(0x4000_0000), Some(3));
-        first.performance_interrupt = Some((23, InputTrigger::Edge));
-        first.maintenance_interrupt = Some((25, InputTrigger::Level));
-        (first.spe_overflow_interrupt, first.trace_buffer_interrupt) = (Some(21), Some(22));
-        let mut second = GicCpuInterface::new(0, 0, 0);
-        (second.is_enabled, second.is_online_capable) = (false, true);
-        let mut room = [Slot::default(); 4];
-        let list = gic.cpu_interfaces().fill(&mut room).unwrap();
-        assert_eq!(list.iter().collect::<Vec<_>>(), [first, second]);
-        let mut room = [Slot::default(); 4];
-        let list = gic.redistributors().fill(&mut room).unwrap();
-        assert_eq!(list.iter().collect::<Vec<_>>(), [Range { address: 0x80a_0000, length: 0x4_0000 }]);
-        let mut room = [Slot::default(); 4];
-        let list = gic.translation_services().fill(&mut room).unwrap();
-        assert_eq!(list.iter().collect::<Vec<_>>(), [GicTranslationService::new(5, 0x808_0000)]);
-        let mut room = [Slot::default(); 4];
-        let list = gic.msi_frames().fill(&mut room).unwrap();
-        let frames = [GicMsiFrame::new(6, 0x802_0000, Some((80, 64))), GicMsiFrame::new(7, 0x803_0000, None)];
-        assert_eq!(list.iter().collect::<Vec<_>>(), frames);
+        let gic = GicModel::new(tables).ok().unwrap().unwrap();
+        assert_eq!(plain(gic.distributor), "GicDistributor 1 8000000 3 2");
+        let interfaces = [
+            "1 2 101 true true 17 Edge 3 40000000 8010000 8020000 8030000 19 Level 80a0000 4 15 16",
+            "0 0 0 false true 0 Level 0 0 0 0 0 0 Level 0 0 0 None",
+        ];
+        assert_eq!(plains(&gic.cpu_interfaces), interfaces.map(|it| format!("GicCpuInterface {it}")));
+        assert_eq!(plains(&gic.redistributors), ["GicRedistributors 80a0000 40000"]);
+        assert_eq!(plains(&gic.translation_services), ["GicTranslationService 5 8080000"]);
+        assert_eq!(plains(&gic.msi_frames), ["GicMsiFrame 6 8020000 50 40", "GicMsiFrame 7 8030000 None"]);
+        let other = GicModel::new_in(tables, Global).ok().unwrap().unwrap();
+        assert_eq!(plains(&other.cpu_interfaces), plains(&gic.cpu_interfaces));
     });
-    // Two bytes after a GICD in which no entry begins, and before one; no GICD at all; no MADT.
-    let mut memory = Memory::rsdt(&[TABLE]);
-    memory.table(TABLE, "APIC", 6, 70, &[(44, 2, 0x180c)]);
-    memory.ask(|tables| assert_eq!(GicModel::new(&tables).unwrap().cpu_interfaces().count(), Ok(0)));
-    let mut memory = Memory::rsdt(&[TABLE]);
-    memory.table(TABLE, "APIC", 6, 70, &[(46, 2, 0x180c)]);
-    memory.ask(|tables| {
-        let refusal = AcpiError::InvalidMadt(MadtError::InvalidEntryLength);
-        assert_eq!(GicModel::new(&tables).unwrap_err(), refusal);
+    memory.bytes_of::<Madt, _>(|table| {
+        assert_eq!(distributor_of(table).map(plain), Ok("Some 1 8000000 3 2".into()));
+        assert_eq!(GicModel::of(table, Global).ok().unwrap().unwrap().msi_frames.len(), 2);
     });
-    let mut memory = Memory::rsdt(&[TABLE]);
-    memory.table(TABLE, "APIC", 6, 44, &[]);
-    memory.ask(|tables| assert_eq!(GicModel::new(&tables).unwrap_err(), AcpiError::NoGic));
-    let missing = AcpiError::TableMissing(Signature::MADT);
-    Memory::rsdt(&[]).ask(|tables| assert_eq!(GicModel::new(&tables).unwrap_err(), missing));
+    memory.list(|source| {
+        assert_eq!(gic::distributor(source).map(plain), Ok("GicDistributor 8000000 1 2 3".into()));
+        let list: Vec<GicCpuInterface> = all(|out| gic::parts(source, out)).unwrap();
+        let first = "101 40000000 8010000 8020000 8030000 80a0000 1 2 17 19 3 15 16 1 1 1 3 4";
+        assert_eq!((list.len(), plain(list[0])), (2, format!("GicCpuInterface {first}")));
+        let list: Vec<Range> = all(|out| gic::parts(source, out)).unwrap();
+        assert_eq!(list, [Range { address: 0x80a_0000, length: 0x4_0000 }]);
+        let list: Vec<GicTranslationService> = all(|out| gic::parts(source, out)).unwrap();
+        assert_eq!(plains(&list), ["GicTranslationService 8080000 5"]);
+        let list: Vec<GicMsiFrame> = all(|out| gic::parts(source, out)).unwrap();
+        assert_eq!(plains(&list), ["GicMsiFrame 8020000 6 50 40 1", "GicMsiFrame 8030000 7 0 0 0"]);
+    });
 }
 
-fn interrupt(interrupt: u32, polarity: InputPolarity, trigger_mode: InputTrigger) -> TimerInterrupt {
-    TimerInterrupt { interrupt, polarity, trigger_mode }
+/// Two bytes after a GICD in which no entry begins, and before one; no GICD at all; no MADT.
+#[test]
+fn needs_a_distributor() {
+    let model =
+        |memory: &Memory| memory.ask(|tables| GicModel::new(tables).map(|it| it.map(|gic| gic.cpu_interfaces.len())));
+    let distributor = |memory: &Memory| memory.list(gic::distributor).map(|it| it.address);
+    let after = with("APIC", 6, 70, &[(44, 2, 0x180c)]);
+    let refusal = AcpiError::InvalidMadt(MadtError::InvalidEntryLength);
+    assert_eq!((model(&after), distributor(&after)), (Err(refusal), Ok(0)));
+    let before = with("APIC", 6, 70, &[(46, 2, 0x180c)]);
+    assert_eq!((model(&before), distributor(&before)), (Err(refusal), Err(Refusal::Acpi(refusal))));
+    let none = with("APIC", 6, 44, &[]);
+    assert_eq!((model(&none), distributor(&none)), (Ok(None), Err(Refusal::NoGic)));
+    let missing = AcpiError::TableMissing(Signature::MADT);
+    assert_eq!(model(&Memory::rsdt(&[])), Err(missing));
 }
 
 #[test]
@@ -100,60 +101,59 @@ fn reads_generic_timers() {
         // A watchdog of 28 bytes: Type 1, RefreshFrame at 4, WatchdogControlFrame at 12, GSIV at 20, flags at 24.
         (164, 1, 1), (165, 2, 28), (168, 8, 0x2a45_0000), (176, 8, 0x2a44_0000), (184, 4, 59), (188, 4, 6),
     ];
-    let mut memory = Memory::rsdt(&[TABLE]);
-    memory.table(TABLE, "GTDT", 3, 192, &fields);
+    let memory = with("GTDT", 3, 192, &fields);
     memory.ask(|tables| {
-        let timers = tables.find_table::<Gtdt>().unwrap();
-        assert_eq!((timers.control_base, timers.read_base), (None, Some(0x2a80_0000)));
-        let timer = |interrupt, always_on| {
-            let mut timer = ArmTimer::new(interrupt);
-            timer.always_on = always_on;
-            Some(timer)
-        };
-        let secure = interrupt(29, InputPolarity::ActiveLow, InputTrigger::Level);
-        let non_secure = interrupt(30, InputPolarity::ActiveHigh, InputTrigger::Edge);
-        assert_eq!(timers.secure_el1, timer(Some(secure), false));
-        assert_eq!(timers.non_secure_el1, timer(Some(non_secure), true));
-        let level = interrupt(27, InputPolarity::ActiveHigh, InputTrigger::Level);
-        assert_eq!(timers.virtual_el1, timer(Some(level), false));
-        assert_eq!(timers.el2, timer(None, true));
-        let el2 = interrupt(28, InputPolarity::ActiveLow, InputTrigger::Edge);
-        assert_eq!(timers.virtual_el2, timer(Some(el2), false));
-        assert!(!timers.platform_timers_malformed);
-        let mut frame = GtFrame::new(0x2a81_0000, 1, 0x2a82_0000);
-        frame.physical_interrupt = Some(interrupt(57, InputPolarity::ActiveHigh, InputTrigger::Edge));
-        frame.is_always_on = true;
-        let mut room = [Slot::default(); 4];
-        assert_eq!(timers.frames().fill(&mut room).unwrap().iter().collect::<Vec<_>>(), [frame]);
-        let level = interrupt(59, InputPolarity::ActiveLow, InputTrigger::Level);
-        let mut watchdog = Watchdog::new(0x2a45_0000, 0x2a44_0000, level);
-        watchdog.is_secure = true;
-        let mut room = [Slot::default(); 4];
-        assert_eq!(timers.watchdogs().fill(&mut room).unwrap().iter().collect::<Vec<_>>(), [watchdog]);
+        let gtdt = tables.find_table::<Gtdt>().ok().unwrap();
+        assert_eq!((gtdt.counter_control_base(), gtdt.counter_read_base()), (None, Some(0x2a80_0000)));
+        let timers = [gtdt.secure_el1_timer, gtdt.non_secure_el1_timer, gtdt.virtual_el1_timer, gtdt.el2_timer];
+        let expected = ["1d Level ActiveLow false", "1e Edge ActiveHigh true", "1b Level ActiveHigh false"];
+        assert_eq!(plains(&timers[..3]), expected.map(|it| format!("ArmTimer {it}")));
+        assert_eq!((timers[3].interrupt, timers[3].always_on), (0, true));
+        assert_eq!(plain(gtdt.virtual_el2_timer()), "Some 1c Edge ActiveLow false");
+        let table = gtdt.bytes();
+        assert_eq!((timer_count(table), timers_offset(table)), (2, 104));
+        let mut timers = PlatformTimerIter::over(table);
+        let Some(PlatformTimer::GtBlock(block)) = timers.next() else { panic!("a block") };
+        assert_eq!(block.address, 0x2a81_0000);
+        let frame = "GtFrame 1 2a820000 None 39 Edge ActiveHigh 0 Level ActiveHigh false true";
+        assert_eq!(plains(block.frames), [frame]);
+        let Some(PlatformTimer::SbsaWatchdog(watchdog)) = timers.next() else { panic!("a watchdog") };
+        assert_eq!(plain(watchdog), "SbsaWatchdog 2a450000 2a440000 3b Level ActiveLow true");
+        assert!(timers.next().is_none() && !timers.ended_malformed());
+        assert_eq!(TimerStructureIter::over(table).count(), 2);
     });
+    memory.list(|source| {
+        let timers = arm_timers::arm_timers(source).unwrap();
+        assert_eq!((timers.control_base, timers.read_base), (u64::MAX, 0x2a80_0000));
+        let all_timers = [timers.secure_el1, timers.non_secure_el1, timers.el2, timers.virtual_el2];
+        let expected = ["1d 3 3 0 1", "1e 1 1 1 1", "0 1 3 1 1", "1c 3 1 0 1"];
+        assert_eq!(plains(all_timers), expected.map(|it| format!("ArmTimer {it}")));
+        let frames: Vec<GtFrame> = all(|out| arm_timers::frames(source, out)).unwrap();
+        let frame = "GtFrame 2a810000 2a820000 ffffffffffffffff 39 0 1 1 1 1 3 0 1";
+        assert_eq!(plains(&frames), [frame]);
+        let watchdogs: Vec<Watchdog> = all(|out| arm_timers::watchdogs(source, out)).unwrap();
+        assert_eq!(plains(&watchdogs), ["Watchdog 2a450000 2a440000 3b 3 3 1"]);
+    });
+}
+
+#[test]
+fn timers_may_end_malformed() {
     // Revision 2: no virtual timer of EL2; one structure at the table's end.
-    let mut memory = Memory::rsdt(&[TABLE]);
-    memory.table(TABLE, "GTDT", 2, 96, &[(88, 4, 1), (92, 4, 96)]);
+    let memory = with("GTDT", 2, 96, &[(88, 4, 1), (92, 4, 96)]);
     memory.ask(|tables| {
-        let timers = tables.find_table::<Gtdt>().unwrap();
-        assert_eq!((timers.control_base, timers.read_base, timers.virtual_el2), (Some(0), Some(0), None));
-        assert!(timers.platform_timers_malformed);
-        assert_eq!((timers.frames().count(), timers.watchdogs().count()), (Ok(0), Ok(0)));
-        let fault = EntryFault { address: TABLE + 96, entry_type: 0, refusal: AcpiError::InvalidTimerLength };
-        let mut room = [Slot::default(); 2];
-        assert_eq!(timers.faults().fill(&mut room).unwrap().iter().collect::<Vec<_>>(), [fault]);
+        let gtdt = tables.find_table::<Gtdt>().ok().unwrap();
+        let bases = (gtdt.counter_control_base(), gtdt.counter_read_base());
+        assert_eq!((bases, gtdt.virtual_el2_timer().is_none()), ((Some(0), Some(0)), true));
+        let mut timers = PlatformTimerIter::over(gtdt.bytes());
+        assert!(timers.next().is_none() && timers.ended_malformed());
     });
     // A block of 60 bytes whose frame of 40 begins at its byte 21, and structures from 95 on, in the table's fixed bytes.
-    for (offset, at) in [(96, 117), (95, 95)] {
-        let mut memory = Memory::rsdt(&[TABLE]);
-        let block = [(88, 4, 1), (92, 4, offset), (97, 2, 60), (108, 4, 1), (112, 4, 21)];
-        memory.table(TABLE, "GTDT", 2, 156, &block);
-        memory.ask(|tables| {
-            let fault = EntryFault { address: TABLE + at, entry_type: 0, refusal: AcpiError::InvalidTimerLength };
-            let timers = tables.find_table::<Gtdt>().unwrap();
-            assert!(timers.faults().fill(&mut [Slot::default(); 2]).unwrap().iter().eq([fault]));
-        });
+    let block = |offset| [(88, 4, 1), (92, 4, offset), (97, 2, 60), (108, 4, 1), (112, 4, 21)];
+    let cases = [(with("GTDT", 2, 156, &block(96)), 117), (with("GTDT", 2, 156, &block(95)), 95), (memory, 96)];
+    for (memory, at) in cases {
+        let faults = memory.list(|source| all(|out| gtdt_faults::gtdt_faults(source, out))).unwrap();
+        assert_eq!(plains(&faults), [format!("EntryFault {:x} 39 0", TABLE + at)]);
     }
     let missing = AcpiError::TableMissing(Signature::GTDT);
-    Memory::rsdt(&[]).ask(|tables| assert_eq!(tables.find_table::<Gtdt>().unwrap_err(), missing));
+    Memory::rsdt(&[]).ask(|tables| assert_eq!(tables.find_table::<Gtdt>().err(), Some(missing)));
 }

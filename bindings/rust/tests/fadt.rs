@@ -1,27 +1,42 @@
 //! The FADT's fields, getters and flags.
 mod common;
-use common::{generic, Field, Memory, ROOT};
+use common::{Field, Memory, TABLE, generic, plain, ports, with};
 use zacpi::address::{AccessSize, AddressSpace, GenericAddress};
-use zacpi::fadt::{ArmBootArchFlags, Fadt, FixedFeatureFlags, GpeBlock, IaPcBootArchFlags};
-use zacpi::{AcpiError, PowerProfile, Signature};
+use zacpi::fadt::{ArmBootArchFlags, Fadt, FixedFeatureFlags, IaPcBootArchFlags};
+use zacpi::lists::{devices, fixed, refusal::Refusal};
+use zacpi::sdt::Signature;
+use zacpi::{AcpiError, PhysicalRecord, PowerProfile};
 
-const FADT: u64 = ROOT + 0x1000;
-
-/// What is read of a FADT of these fields (section 5.2.9).
-fn fadt<T>(revision: u64, length: usize, fields: &[Field], ask: impl FnOnce(Fadt) -> T) -> T {
-    let mut memory = Memory::rsdt(&[FADT]);
-    memory.table(FADT, "FACP", revision, length, fields);
-    memory.ask(|tables| ask(tables.find_table::<Fadt>().unwrap()))
-}
-
-fn ports(address: u64, bit_width: u8) -> GenericAddress {
-    GenericAddress {
-        address_space: AddressSpace::SystemIo,
-        bit_width,
-        bit_offset: 0,
-        access_size: AccessSize::Undefined,
-        address,
-    }
+/// What is read of a FADT of these fields (section 5.2.9), which its view has too.
+fn fadt<T>(revision: u64, length: usize, fields: &[Field], ask: impl FnOnce(&Fadt) -> T) -> T {
+    with("FACP", revision, length, fields).ask(|tables| {
+        let fadt = tables.find_table::<Fadt>().ok().unwrap();
+        let (view, f) = (tables.find_fadt().ok().unwrap(), fadt.get());
+        assert_eq!((view.physical_start(), view.bytes()), (TABLE, fadt.bytes()));
+        assert_eq!(plain(view.record()), plain(f));
+        let numbers = (view.sci_interrupt(), view.smi_cmd_port(), view.acpi_enable(), view.acpi_disable());
+        assert_eq!(numbers, (f.sci_interrupt, f.smi_cmd_port, f.acpi_enable, f.acpi_disable));
+        assert_eq!((view.power_profile(), view.reset_value()), (f.power_profile(), f.reset_value));
+        let flags = [plain(view.flags()), plain(view.iapc_boot_arch()), plain(view.arm_boot_arch())];
+        assert_eq!(flags, [plain(f.flags), plain(f.iapc_boot_arch), plain(f.arm_boot_arch)]);
+        assert_eq!((view.facs_address(), view.dsdt_address()), (f.facs_address(), f.dsdt_address()));
+        let required = [view.pm1a_event_block(), view.pm1a_control_block(), view.reset_register()];
+        assert_eq!(required, [f.pm1a_event_block(), f.pm1a_control_block(), f.reset_register()]);
+        let optional = [
+            (view.pm1b_event_block(), f.pm1b_event_block()),
+            (view.pm1b_control_block(), f.pm1b_control_block()),
+            (view.pm2_control_block(), f.pm2_control_block()),
+            (view.pm_timer_block(), f.pm_timer_block()),
+            (view.gpe0_block(), f.gpe0_block()),
+            (view.gpe1_block(), f.gpe1_block()),
+            (view.sleep_control_register(), f.sleep_control_register()),
+            (view.sleep_status_register(), f.sleep_status_register()),
+        ];
+        assert!(optional.iter().all(|(seen, read)| seen == read));
+        assert_eq!([plain(view.gpe0()), plain(view.gpe1())], [plain(f.gpe0()), plain(f.gpe1())]);
+        assert_eq!(view.gpe1_base(), f.gpe1_base());
+        ask(f)
+    })
 }
 
 #[test]
@@ -75,7 +90,7 @@ fn reads_the_fields_of_the_first_revision() {
         assert_eq!((f.flush_size, f.flush_stride), (1024, 16));
         assert_eq!((f.duty_offset, f.duty_width), (1, 3));
         assert_eq!((f.day_alarm, f.month_alarm, f.century, f.reset_value), (0xd, 0xe, 0x32, 0));
-        assert_eq!((f.flags.bits(), f.iapc_boot_arch.bits(), f.arm_boot_arch.bits()), (0x501, 3, 0));
+        assert_eq!([plain(f.flags), plain(f.iapc_boot_arch)], ["FixedFeatureFlags 501", "IaPcBootArchFlags 3"]);
         assert_eq!(f.pm1a_event_block(), Ok(ports(0x600, 32)));
         assert_eq!(f.pm1b_event_block(), Ok(Some(ports(0x610, 32))));
         assert_eq!(f.pm1a_control_block(), Ok(ports(0x604, 16)));
@@ -84,10 +99,18 @@ fn reads_the_fields_of_the_first_revision() {
         assert_eq!(f.pm_timer_block(), Ok(Some(ports(0x608, 32))));
         assert_eq!(f.gpe0_block(), Ok(Some(ports(0x620, 64))));
         assert_eq!(f.gpe1_block(), Ok(Some(ports(0x630, 48))));
-        let events = |address, byte_length| GpeBlock { address, address_space: AddressSpace::SystemIo, byte_length };
-        assert_eq!(f.gpe0_block_bytes(), Ok(Some(events(0x620, 8))));
-        assert_eq!(f.gpe1_block_bytes(), Ok(Some(events(0x630, 6))));
+        let [first, second] = [f.gpe0(), f.gpe1()].map(|block| plain(block.unwrap().unwrap()));
+        assert_eq!([first, second], ["GpeBlock SystemIo 620 8", "GpeBlock SystemIo 630 6"]);
+        assert_eq!(f.gpe1_base(), Some(0x10));
         assert_eq!((f.sleep_control_register(), f.sleep_status_register()), (Ok(None), Ok(None)));
+    });
+    with("FACP", 1, 116, &fields).list(|source| {
+        let timer = "PmTimer 608 1 20 0 0 1 1";
+        assert_eq!(devices::timer(source).map(plain), Ok(timer.into()));
+        let f = fixed::fixed(source).unwrap();
+        assert_eq!((f.facs_address, f.dsdt_address, f.smi_command, f.flags), (0x1000, 0x2000, 0xb2, 0x501));
+        assert_eq!((f.pm1a_event.at.address, f.pm1a_event.present, f.sleep_control.present), (0x600, 1, 0));
+        assert_eq!((plain(f.gpe0_block), f.power_profile, f.century), ("GpeBlock 620 1 8 1".into(), 2, 0x32));
         assert_eq!((f.revision, f.minor_revision, f.hypervisor_id), (1, 0, 0));
     });
 }
@@ -122,9 +145,8 @@ fn reads_the_fields_of_later_revisions() {
             address,
         };
         assert_eq!((f.facs_address(), f.dsdt_address()), (Ok(0x1_0000_1000), Ok(0x1_0000_2000)));
-        assert_eq!(f.power_profile(), PowerProfile::Reserved(9));
-        assert_eq!((f.reset_value, f.arm_boot_arch.bits()), (6, 3));
-        assert_eq!((f.revision, f.minor_revision, f.hypervisor_id), (6, 0x14, 0x4d56_4b4d_564b));
+        assert_eq!((f.power_profile(), f.reset_value), (PowerProfile::Reserved(9), 6));
+        assert_eq!(plain(f.arm_boot_arch), "ArmBootArchFlags 3");
         assert_eq!(f.reset_register(), Ok(at(AddressSpace::SystemIo, 8, 0, AccessSize::ByteAccess, 0xcf9)));
         let event = at(AddressSpace::SystemMemory, 32, 0, AccessSize::DWordAccess, 0x1_0000_3000);
         assert_eq!(f.pm1a_event_block(), Ok(event));
@@ -135,19 +157,16 @@ fn reads_the_fields_of_later_revisions() {
         let timer = at(AddressSpace::PciConfigSpace, 32, 0, AccessSize::WordAccess, 0x0001_0002_0003);
         assert_eq!(f.pm_timer_block(), Ok(Some(timer)));
         assert_eq!((f.pm2_control_block(), f.gpe0_block(), f.gpe1_block()), (Ok(None), Ok(None), Ok(None)));
-        assert_eq!((f.gpe0_block_bytes(), f.gpe1_block_bytes()), (Ok(None), Ok(None)));
+        assert!(matches!((f.gpe0(), f.gpe1(), f.gpe1_base()), (Ok(None), Ok(None), None)));
         let sleep = at(AddressSpace::FunctionalFixedHardware, 8, 0, AccessSize::Undefined, 0x1234);
         assert_eq!(f.sleep_control_register(), Ok(Some(sleep)));
         let none = at(AddressSpace::SystemIo, 8, 0, AccessSize::Undefined, 0);
         assert_eq!(f.sleep_status_register(), Ok(Some(none)));
     });
-}
-
-/// Hypervisor Vendor Identity counts from revision 6 on.
-#[test]
-fn reads_no_hypervisor_of_an_older_revision() {
-    let fields = [(131, 1, 1), (268, 8, 0x4d56_4b4d_564b)];
-    fadt(5, 276, &fields, |f| assert_eq!((f.revision, f.minor_revision, f.hypervisor_id), (5, 1, 0)));
+    // Hypervisor Vendor Identity counts from revision 6 on.
+    let of = |revision| with("FACP", revision, 276, &fields).list(|source| fixed::fixed(source).unwrap());
+    let hypervisor = [6, 5].map(|revision| (of(revision).minor_revision, of(revision).hypervisor_id));
+    assert_eq!(hypervisor, [(0x14, 0x4d56_4b4d_564b), (0x14, 0)]);
 }
 
 #[test]
@@ -157,16 +176,25 @@ fn says_that_addresses_are_missing() {
         assert_eq!(f.dsdt_address(), Err(AcpiError::InvalidDsdtAddress));
         assert_eq!(f.pm1a_event_block(), Ok(ports(0, 0)));
     });
+    let missing = AcpiError::TableMissing(Signature::FADT);
     Memory::rsdt(&[]).ask(|tables| {
-        assert_eq!(tables.find_table::<Fadt>(), Err(AcpiError::TableMissing(Signature::FADT)));
-        assert_eq!(tables.dsdt(), Err(AcpiError::TableMissing(Signature::FADT)));
+        assert_eq!((tables.find_table::<Fadt>().err(), tables.find_fadt().err()), (Some(missing), Some(missing)));
+        assert_eq!(tables.dsdt(), Err(missing));
     });
+    assert_eq!(Memory::rsdt(&[]).list(fixed::fixed), Err(Refusal::Acpi(missing)));
+}
+
+/// A FADT of these bytes at an offset.
+fn of_bytes(at: usize, bytes: &[u8]) -> Fadt {
+    let mut table = [0; 276];
+    table[at..at + bytes.len()].copy_from_slice(bytes);
+    Fadt::read(&table)
 }
 
 /// Each getter returns its own bit, which is its place in the list (tables 5.10, 5.12 and 5.13).
 #[test]
 fn flags_are_their_bits() {
-    let fixed: [fn(FixedFeatureFlags) -> bool; 22] = [
+    let fixed: [fn(&FixedFeatureFlags) -> bool; 22] = [
         FixedFeatureFlags::supports_equivalent_to_wbinvd,
         FixedFeatureFlags::wbinvd_flushes_all_caches,
         FixedFeatureFlags::all_procs_support_c1_power_state,
@@ -190,10 +218,7 @@ fn flags_are_their_bits() {
         FixedFeatureFlags::system_is_hw_reduced_acpi,
         FixedFeatureFlags::no_benefit_to_s3,
     ];
-    for (n, flag) in fixed.iter().enumerate() {
-        assert!(flag(FixedFeatureFlags::from(1 << n)) && !flag(FixedFeatureFlags::from(!(1 << n))), "bit {n}");
-    }
-    let pc: [fn(IaPcBootArchFlags) -> bool; 6] = [
+    let pc: [fn(&IaPcBootArchFlags) -> bool; 6] = [
         IaPcBootArchFlags::legacy_devices_are_accessible,
         IaPcBootArchFlags::motherboard_implements_8042,
         IaPcBootArchFlags::dont_probe_vga,
@@ -201,12 +226,16 @@ fn flags_are_their_bits() {
         IaPcBootArchFlags::dont_enable_pcie_aspm,
         IaPcBootArchFlags::use_time_and_alarm_namespace_for_rtc,
     ];
-    for (n, flag) in pc.iter().enumerate() {
-        assert!(flag(IaPcBootArchFlags::from(1 << n)) && !flag(IaPcBootArchFlags::from(!(1 << n))), "bit {n}");
-    }
-    let arm: [fn(ArmBootArchFlags) -> bool; 2] =
+    let arm: [fn(&ArmBootArchFlags) -> bool; 2] =
         [ArmBootArchFlags::implements_psci, ArmBootArchFlags::use_hvc_as_psci_conduit];
-    for (n, flag) in arm.iter().enumerate() {
-        assert!(flag(ArmBootArchFlags::from(1 << n)) && !flag(ArmBootArchFlags::from(!(1 << n))), "bit {n}");
+    for bit in 0..22 {
+        for (bits, is_set) in [(1u32 << bit, true), (!(1u32 << bit), false)] {
+            let low = (bits as u16).to_le_bytes();
+            assert_eq!(fixed[bit](&of_bytes(112, &bits.to_le_bytes()).flags), is_set, "Flags, bit {bit}");
+            let found = pc.get(bit).is_none_or(|flag| flag(&of_bytes(109, &low).iapc_boot_arch) == is_set);
+            assert!(found, "IAPC_BOOT_ARCH, bit {bit}");
+            let found = arm.get(bit).is_none_or(|flag| flag(&of_bytes(129, &low).arm_boot_arch) == is_set);
+            assert!(found, "ARM_BOOT_ARCH, bit {bit}");
+        }
     }
 }

@@ -1,17 +1,19 @@
 //! The units that remap what devices ask of memory.
 mod common;
-use common::{Memory, ROOT};
-use zacpi::iommu::{Dmar, DmarType, EntryFault, Hop, Ivrs};
-use zacpi::{AcpiError, Signature, Slot};
-
-const TABLE: u64 = ROOT + 0x1000;
+use common::{Memory, all, filled, plain, plains, with};
+use zacpi::AcpiError;
+use zacpi::iommu::{Dmar, DmarFields, DmarStructureIter, DmarUnits, Hop, IommuError, Ivrs, IvrsBlockIter, IvrsBlocks};
+use zacpi::lists::iommu_records::{DmarAffinity, DmarReserved, DmarRootPorts, DmarUnit, IvrsMemory, IvrsUnit};
+use zacpi::lists::{iommu, iommu_faults, iommu_lists, iommu_regions, refusal::Refusal};
+use zacpi::sdt::Signature;
 
 fn hop(device: u8, function: u8) -> Hop {
     Hop { device, function }
 }
 
-#[test]
-fn reads_a_dmar() {
+const UNITS: [&str; 2] = ["Drhd 0 0 0 1fed90000", "Drhd 1 3 0 1fed91000"];
+
+fn dmar() -> Memory {
     #[rustfmt::skip]
     let fields = [
         // Host Address Width at 36, Flags at 37.
@@ -29,79 +31,104 @@ fn reads_a_dmar() {
         (166, 4, 0x10_0002), (170, 1, 1), (172, 2, 2), (174, 2, 0x0802), (180, 2, 0x001c),
         (182, 4, 0x14_0003), (190, 8, 0x1_fed9_1000), (198, 4, 0x102),
     ];
-    let mut memory = Memory::rsdt(&[TABLE]);
-    memory.table(TABLE, "DMAR", 1, 202, &fields);
-    memory.ask(|tables| {
-        let dmar = tables.find_table::<Dmar>().unwrap();
-        assert_eq!((dmar.table.address, dmar.table.length), (TABLE, 202));
-        let flags = dmar.flags().unwrap();
-        assert_eq!((flags.address_bits, flags.flags), (39, 3));
-        let first = dmar.unit_for(0, 0, &[hop(2, 0)]).unwrap().unwrap();
-        assert_eq!((first.register_base, first.register_bytes), (0x1_fed9_0000, 4096));
-        assert_eq!((first.segment, first.includes_pci_all), (0, false));
-        let second = dmar.unit_for(0, 0, &[hop(2, 0), hop(0, 0)]).unwrap().unwrap();
-        assert_eq!((second.register_base, second.register_bytes), (0x1_fed9_1000, 32768));
-        assert_eq!((second.segment, second.includes_pci_all), (0, true));
-        assert_eq!(dmar.unit_for(1, 0, &[hop(2, 0)]), Ok(None));
-        let io_apic = dmar.unit_of_io_apic(2).unwrap().unwrap();
-        assert_eq!((io_apic.unit, io_apic.bus, io_apic.hop), (second, 0xf0, Some(hop(0x1f, 0))));
-        let hpet = dmar.unit_of_hpet(1).unwrap().unwrap();
-        assert_eq!((hpet.unit, hpet.bus, hpet.hop), (second, 0, None));
-        assert_eq!((dmar.unit_of_io_apic(1), dmar.unit_of_hpet(2)), (Ok(None), Ok(None)));
-        let mut room = [Slot::default(); 2];
-        let list = dmar.reserved_for(0, 0, &[hop(2, 0)], &mut room).unwrap();
-        assert_eq!((list.count(), list.len()), (1, 1));
-        let reserved = list.get(0).unwrap();
-        assert_eq!((reserved.base, reserved.limit, reserved.segment), (0x7b80_0000, 0x7fff_ffff, 0));
-        let list = dmar.reserved_for(0, 0, &[hop(3, 0)], &mut room).unwrap();
-        let inverted = list.get(0).unwrap();
-        assert_eq!((list.count(), inverted.base, inverted.limit), (1, 2, 1));
-        let fault = EntryFault { address: TABLE + 134, entry_type: 1, refusal: AcpiError::InvalidMemoryRange };
-        let mut faults = [Slot::default(); 2];
-        assert!(dmar.faults().fill(&mut faults).unwrap().iter().eq([fault]));
-        let mut units = [Slot::default(); 3];
-        let units = dmar.units().fill(&mut units).unwrap();
-        assert!(units.iter().eq([first, second]));
-        assert_eq!((first.flags, first.size, second.flags, second.size), (0, 0, 1, 3));
-        let mut scopes = [Slot::default(); 3];
-        let scopes = dmar.scopes(1, &mut scopes).unwrap().unwrap();
-        assert_eq!((scopes.count(), scopes.len()), (2, 2));
-        let scope = scopes.get(0).unwrap();
-        assert_eq!((scope.scope_type, scope.flags, scope.enumeration_id, scope.bus), (3, 0, 2, 0xf0));
-        assert_eq!((scope.path_length, scope.path[0], scope.path[1]), (1, hop(0x1f, 0), hop(0, 0)));
-        assert_eq!(scopes.get(1).unwrap().path_length, 0);
-        assert!(dmar.scopes(2, &mut []).unwrap().is_none());
-        let mut regions = [Slot::default(); 3];
-        let regions = dmar.regions().fill(&mut regions).unwrap();
-        assert!(regions.iter().eq([reserved, inverted]));
-        let ports = dmar.root_ports().fill(&mut [Slot::default(); 2]).unwrap().get(0).unwrap();
-        assert_eq!((ports.segment, ports.includes_all, ports.flags), (2, true, 1));
-        let mut scopes = [Slot::default(); 2];
-        let scopes = dmar.structure_scopes(DmarType::Atsr, 0, &mut scopes).unwrap().unwrap();
-        assert_eq!((scopes.count(), scopes.get(0).unwrap().path[0]), (1, hop(0x1c, 0)));
-        let unit = dmar.affinities().fill(&mut [Slot::default(); 2]).unwrap().get(0).unwrap();
-        assert_eq!((unit.register_base, unit.domain), (second.register_base, 0x102));
-    });
-    // A byte after the fixed fields; a table that is too short.
-    let mut memory = Memory::rsdt(&[TABLE]);
-    memory.table(TABLE, "DMAR", 1, 49, &[]);
-    memory.ask(|tables| {
-        let dmar = tables.find_table::<Dmar>().unwrap();
-        assert_eq!(dmar.unit_for(0, 0, &[hop(2, 0)]), Err(AcpiError::InvalidStructureLength));
-        assert_eq!(dmar.unit_of_io_apic(2), Err(AcpiError::InvalidStructureLength));
-        assert_eq!(dmar.units().count(), Ok(0));
-        assert_eq!(dmar.reserved_for(0, 0, &[hop(2, 0)], &mut []).unwrap().count(), 0);
-        let fault = EntryFault { address: TABLE + 48, entry_type: 0, refusal: AcpiError::InvalidStructureLength };
-        assert!(dmar.faults().fill(&mut [Slot::default(); 1]).unwrap().iter().eq([fault]));
-    });
-    let mut memory = Memory::rsdt(&[TABLE]);
-    memory.table(TABLE, "DMAR", 1, 47, &[]);
-    let missing = AcpiError::TableMissing(Signature::DMAR);
-    memory.ask(|tables| assert_eq!(tables.find_table::<Dmar>().unwrap_err(), missing));
+    with("DMAR", 1, 202, &fields)
 }
 
 #[test]
-fn reads_an_ivrs() {
+fn reads_a_dmar() {
+    dmar().ask(|tables| {
+        let dmar = tables.find_table::<Dmar>().ok().unwrap();
+        assert_eq!((dmar.address_bits(), dmar.flags), (39, 3));
+        let flags = (dmar.remaps_interrupts(), dmar.opts_out_of_x2apic(), dmar.opts_into_dma_control());
+        assert_eq!(flags, (true, true, false));
+        let units = DmarUnits::over(dmar.bytes());
+        let unit = |segment, hops: &[Hop]| units.unit_for(segment, 0, hops).map(|it| it.map(plain));
+        assert_eq!(unit(0, &[hop(2, 0)]), Ok(Some(UNITS[0].into())));
+        assert_eq!(unit(0, &[hop(2, 0), hop(0, 0)]), Ok(Some(UNITS[1].into())));
+        assert_eq!((unit(1, &[hop(2, 0)]), units.find_unit(1, 0, &[]).map(plain)), (Ok(None), Ok("None".into())));
+        let io_apic = units.unit_of_io_apic(2).unwrap().unwrap();
+        assert_eq!((io_apic.bus, io_apic.hop), (0xf0, Some(hop(0x1f, 0))));
+        assert_eq!((io_apic.unit.register_bytes(), io_apic.unit.includes_pci_all()), (32768, true));
+        let hpet = units.unit_of_hpet(1).unwrap().unwrap();
+        assert_eq!((plain(hpet.unit), hpet.bus, hpet.hop), (UNITS[1].into(), 0, None));
+        assert!(units.unit_of_io_apic(1).unwrap().is_none() && units.find_source(4, 2).unwrap().is_none());
+        let reserved = |device| plains(units.each_reserved(0, 0, &[hop(device, 0)]));
+        let failed = |device| units.reserved_for(0, 0, &[hop(device, 0)]).err();
+        assert_eq!([2, 3].map(failed), [None, Some(IommuError::InvalidMemoryRange)]);
+        let ranges = ["Rmrr 0 7b800000 7fffffff", "Rmrr 0 2 1"];
+        assert_eq!((reserved(2), reserved(3), reserved(4).len()), (vec![ranges[0].into()], vec![ranges[1].into()], 0));
+        assert_eq!(units.each_reserved(0, 0, &[hop(2, 0)]).next().unwrap().length(), Some(0x480_0000));
+        let mut structures = DmarStructureIter::over(dmar.bytes());
+        let all: Vec<_> = structures.by_ref().collect();
+        assert!(!structures.ended_malformed() && structures.rest().is_empty());
+        assert_eq!(
+            all.iter().map(|it| (it.kind(), it.length())).collect::<Vec<_>>(),
+            [(0, 24), (0, 30), (1, 32), (1, 32), (2, 16), (3, 20)]
+        );
+        let fields = [0, 4, 5].map(|n: usize| plain(all[n].fields().unwrap()));
+        assert_eq!(fields, [UNITS[0], "Atsr 1 2", "Rhsa 1fed91000 102"]);
+        assert!(matches!(all[4].fields(), Some(DmarFields::Atsr(it)) if it.has_all_ports()));
+        assert_eq!((all[3].fault(), all[2].fault()), (Some(IommuError::InvalidMemoryRange), None));
+        assert_eq!((all[1].drhd().map(plain), all[2].drhd().is_none()), (Some(UNITS[1].into()), true));
+        assert!(all[0].names(0, &[hop(2, 0)]) && !all[0].names(1, &[hop(2, 0)]) && all[0].object_name() == Some(""));
+        let scopes: Vec<_> = all[1].scopes().collect();
+        let scope = (scopes[0].kind(), scopes[0].flags(), scopes[0].enumeration_id(), scopes[0].start_bus());
+        assert_eq!((scopes.len(), scope), (2, (3, 0, 2, 0xf0)));
+        assert_eq!((scopes[0].hops().collect::<Vec<_>>(), scopes[1].hops().count()), (vec![hop(0x1f, 0)], 0));
+        assert!(!scopes[0].names(0xf0, &[hop(0x1f, 0)])); // Types 1 and 2 alone name devices
+        assert_eq!(units.structures().count(), 6);
+    });
+}
+
+/// Units have Size and Flags last.
+#[test]
+fn fills_the_lists_of_a_dmar() {
+    dmar().list(|source| {
+        assert_eq!(iommu::dmar_flags(source).map(plain), Ok("DmarFlags 27 3".into()));
+        let (first, second) = ("DmarUnit 1fed90000 1000 0 0 0 0", "DmarUnit 1fed91000 8000 0 1 1 3");
+        let units: Vec<DmarUnit> = all(|out| iommu_regions::dmar_structures(source, out)).unwrap();
+        assert_eq!(plains(&units), [first, second]);
+        assert_eq!(iommu::dmar_unit(source, 0, 0, &[hop(2, 0)]), Ok(units[0]));
+        assert_eq!(iommu::dmar_unit(source, 1, 0, &[hop(2, 0)]), Err(Refusal::NoIommu));
+        let io_apic = iommu::dmar_io_apic(source, 2).unwrap();
+        assert_eq!((io_apic.unit, io_apic.bus, io_apic.hop, io_apic.has_hop), (units[1], 0xf0, hop(0x1f, 0), 1));
+        let hpet = iommu::dmar_hpet(source, 1).unwrap();
+        assert_eq!((hpet.unit, hpet.bus, hpet.has_hop), (units[1], 0, 0));
+        let regions: Vec<DmarReserved> = all(|out| iommu_regions::dmar_structures(source, out)).unwrap();
+        assert_eq!(plains(&regions), ["DmarReserved 7b800000 7fffffff 0", "DmarReserved 2 1 0"]);
+        assert_eq!(all(|out| iommu::dmar_reserved(source, 0, 0, &[hop(3, 0)], out)), Ok(vec![regions[1]]));
+        let ports: Vec<DmarRootPorts> = all(|out| iommu_regions::dmar_structures(source, out)).unwrap();
+        assert_eq!(plains(&ports), ["DmarRootPorts 2 1 1"]);
+        let near: Vec<DmarAffinity> = all(|out| iommu_regions::dmar_structures(source, out)).unwrap();
+        assert_eq!(plains(&near), ["DmarAffinity 1fed91000 102"]);
+        let scopes = all(|out| iommu_lists::dmar_scopes(source, 1, out)).unwrap();
+        let of = |n: usize| (scopes[n].path_length, scopes[n].scope_type, scopes[n].enumeration_id, scopes[n].bus);
+        assert_eq!((of(0), of(1), scopes[0].path[0]), ((1, 3, 2, 0xf0), (0, 4, 1, 0), hop(0x1f, 0)));
+        assert_eq!(filled(1, |out| iommu_lists::dmar_scopes(source, 1, out)), Ok((vec![scopes[0]], 2)));
+        assert_eq!(iommu_lists::dmar_scopes(source, 2, &mut []), Err(Refusal::NoIommu));
+        let scopes = all(|out| iommu_lists::dmar_structure_scopes(source, 2, 0, out)).unwrap();
+        assert_eq!((scopes.len(), scopes[0].path[0]), (1, hop(0x1c, 0)));
+        let faults = all(|out| iommu_faults::dmar_faults(source, out)).unwrap();
+        assert_eq!(plains(&faults), ["EntryFault 101086 37 1"]);
+    });
+    // A byte after the fixed fields; a table that is too short.
+    let memory = with("DMAR", 1, 49, &[]);
+    memory.bytes_of::<Dmar, _>(|table| {
+        let units = DmarUnits::over(table);
+        assert_eq!(units.unit_for(0, 0, &[hop(2, 0)]).err(), Some(IommuError::InvalidStructureLength));
+        assert_eq!(units.unit_of_io_apic(2).err(), Some(IommuError::InvalidStructureLength));
+        assert_eq!((units.structures().count(), units.each_reserved(0, 0, &[]).count()), (0, 0));
+    });
+    memory.list(|source| {
+        assert_eq!(iommu::dmar_unit(source, 0, 0, &[hop(2, 0)]), Err(Refusal::InvalidIommuStructureLength));
+        let faults = all(|out| iommu_faults::dmar_faults(source, out)).unwrap();
+        assert_eq!(plains(&faults), ["EntryFault 101030 36 0"]);
+    });
+    let missing = AcpiError::TableMissing(Signature::DMAR);
+    with("DMAR", 1, 47, &[]).ask(|tables| assert_eq!(tables.find_table::<Dmar>().err(), Some(missing)));
+}
+
+fn ivrs() -> Memory {
     #[rustfmt::skip]
     let fields = [
         // IVHD (section 5.2): Type, Flags at 1, Length at 2, DeviceID at 4, Capability Offset at 6, IOMMU Base Address
@@ -114,60 +141,74 @@ fn reads_an_ivrs() {
         (100, 4, 0x20_0822), (104, 2, 0x100), (106, 2, 0x1ff), (116, 8, 0x1_0000_0000), (124, 8, 0x2_0000),
         (132, 4, 0x20_0121), (136, 2, 0x300), (148, 8, u64::MAX), (156, 8, 1),
     ];
-    let mut memory = Memory::rsdt(&[TABLE]);
-    memory.table(TABLE, "IVRS", 2, 164, &fields);
-    memory.ask(|tables| {
-        let ivrs = tables.find_table::<Ivrs>().unwrap();
-        assert_eq!((ivrs.table.address, ivrs.table.length), (TABLE, 164));
-        let device = ivrs.block_for(0, 0x10).unwrap().unwrap();
-        assert_eq!((device.source_id, device.settings), (0x10, 0xd7));
-        let unit = device.unit;
-        assert_eq!((unit.base, unit.extended_features), (0x1_feb8_0000, Some(0x2465_77ef_a225_4afa)));
-        assert_eq!((unit.features, unit.segment, unit.device_id), (0x8004_8f6e, 0, 2));
-        assert_eq!((unit.capability_offset, unit.info, unit.block_type, unit.flags), (0x40, 0x105, 0x11, 0xb0));
-        let alias = ivrs.block_for(0, 0x300).unwrap().unwrap();
-        assert_eq!((alias.unit, alias.source_id, alias.settings), (unit, 0x308, 2));
-        assert_eq!((ivrs.block_for(0, 0x11), ivrs.block_for(1, 0x10)), (Ok(None), Ok(None)));
-        let mut room = [Slot::default(); 2];
-        let list = ivrs.memory_for(0x180, &mut room).unwrap();
-        assert_eq!((list.count(), list.len()), (1, 1));
-        let memory = list.get(0).unwrap();
-        assert_eq!((memory.start, memory.length, memory.device_id), (0x1_0000_0000, 0x2_0000, 0x100));
-        assert_eq!((memory.auxiliary, memory.block_type, memory.flags), (0x1ff, 0x22, 8));
-        let list = ivrs.memory_for(0x300, &mut room).unwrap();
-        assert_eq!((list.count(), list.get(0).unwrap().start), (1, u64::MAX));
-        let fault = EntryFault { address: TABLE + 132, entry_type: 0x21, refusal: AcpiError::InvalidMemoryRange };
-        assert!(ivrs.faults().fill(&mut [Slot::default(); 2]).unwrap().iter().eq([fault]));
-        assert!(ivrs.units().fill(&mut [Slot::default(); 2]).unwrap().iter().eq([unit]));
-        let mut regions = [Slot::default(); 2];
-        let regions = ivrs.regions().fill(&mut regions).unwrap();
-        assert_eq!((regions.count(), regions.get(0), regions.get(1).unwrap().start), (2, Some(memory), u64::MAX));
-        let mut entries = [Slot::default(); 3];
-        let entries = ivrs.entries(0, &mut entries).unwrap().unwrap();
-        assert_eq!((entries.count(), entries.len()), (2, 2));
-        let select = entries.get(0).unwrap();
-        assert_eq!((select.entry_type, select.first, select.last, select.settings), (2, 0x10, 0x10, 0xd7));
-        let alias = entries.get(1).unwrap();
-        assert_eq!((alias.entry_type, alias.first, alias.source_id, alias.settings), (0x42, 0x300, 0x308, 2));
-        assert_eq!((alias.extended_settings, alias.unique_id_length, alias.hardware_id), (0, 0, [0; 8]));
-        assert!(ivrs.entries(1, &mut []).unwrap().is_none());
+    with("IVRS", 2, 164, &fields)
+}
+
+#[test]
+fn reads_an_ivrs() {
+    ivrs().bytes_of::<Ivrs, _>(|table| {
+        let blocks = IvrsBlocks::over(table);
+        let device = |segment, id| blocks.block_for(segment, id).unwrap().map(plain);
+        let unit = "11 b0 2 40 1feb80000 0 105 80048f6e 246577efa2254afa";
+        assert_eq!(device(0, 0x10), Some(format!("DeviceUnit {unit} d7 10")));
+        assert_eq!(device(0, 0x300), Some(format!("DeviceUnit {unit} 2 308")));
+        assert_eq!((device(0, 0x11), device(1, 0x10)), (None, None));
+        assert_eq!(blocks.find_block(0, 0x10).unwrap().map(|it| it.source), Some(0x10));
+        let memory = |id| plains(blocks.each_memory(id));
+        let failed = |id| blocks.memory_for(id).err();
+        assert_eq!([0x180, 0x300].map(failed), [None, Some(IommuError::InvalidMemoryRange)]);
+        let rules = ["Ivmd 22 8 100 1ff 100000000 20000", "Ivmd 21 1 300 0 ffffffffffffffff 1"];
+        assert_eq!([0x180, 0x300].map(memory), [[rules[0]], [rules[1]]].map(|it| it.map(String::from).to_vec()));
+        let all: Vec<_> = IvrsBlockIter::over(table).collect();
+        assert_eq!(
+            all.iter().map(|it| (it.kind(), it.length())).collect::<Vec<_>>(),
+            [(0x11, 52), (0x22, 32), (0x21, 32)]
+        );
+        assert_eq!((all[0].ivhd().map(plain), all[1].fields().is_some()), (Some(format!("Ivhd {unit}")), true));
+        assert_eq!([0, 1, 2].map(|n: usize| all[n].fault()), [None, None, Some(IommuError::InvalidMemoryRange)]);
+        let entries: Vec<_> = all[0].entries().collect();
+        let of = |n: usize| (entries[n].kind(), entries[n].first(), entries[n].last(), entries[n].settings());
+        assert_eq!((entries.len(), of(0), of(1)), (2, (2, 0x10, 0x10, 0xd7), (0x42, 0x300, 0x300, 2)));
+        let second = entries[1];
+        assert_eq!((second.alias(), second.extended_settings(), second.covers(0x300)), (Some(0x308), None, true));
+        let none = (second.special().is_none(), second.hardware_id(), second.compatible_id());
+        assert_eq!((none, second.unique_id_format(), second.unique_id()), ((true, Some(""), Some("")), None, &[][..]));
+        assert_eq!(second.bytes(), [0x42, 0, 3, 2, 0, 8, 3, 0]);
+        assert_eq!((blocks.blocks().count(), blocks.blocks_of_best_type().unwrap().count()), (3, 1));
+    });
+}
+
+#[test]
+fn fills_the_lists_of_an_ivrs() {
+    ivrs().list(|source| {
+        let units: Vec<IvrsUnit> = all(|out| iommu_regions::ivrs_blocks(source, out)).unwrap();
+        let unit = "1feb80000 246577efa2254afa 80048f6e 0 2 40 105 11 b0 1";
+        assert_eq!(plains(&units), [format!("IvrsUnit {unit}")]);
+        assert_eq!(iommu::ivrs_unit(source, 0, 0x300).map(plain), Ok(format!("IvrsDevice {unit} 308 2")));
+        assert_eq!(iommu::ivrs_unit(source, 0, 0x11), Err(Refusal::NoIommu));
+        let rules: Vec<IvrsMemory> = all(|out| iommu_regions::ivrs_blocks(source, out)).unwrap();
+        let first = "IvrsMemory 100000000 20000 100 1ff 22 8";
+        assert_eq!(plains(&rules), [first, "IvrsMemory ffffffffffffffff 1 300 0 21 1"]);
+        assert_eq!(all(|out| iommu::ivrs_memory(source, 0x180, out)), Ok(vec![rules[0]]));
+        let faults = all(|out| iommu_faults::ivrs_faults(source, out)).unwrap();
+        assert_eq!(plains(&faults), ["EntryFault 101084 37 21"]);
+        let entries = all(|out| iommu_lists::ivrs_entries(source, 0, out)).unwrap();
+        let of = |n: usize| (entries[n].entry_type, entries[n].first, entries[n].last, entries[n].settings);
+        assert_eq!((entries.len(), of(0), of(1)), (2, (2, 0x10, 0x10, 0xd7), (0x42, 0x300, 0x300, 2)));
+        assert_eq!((entries[1].source_id, entries[1].unique_id_length, entries[1].hardware_id), (0x308, 0, [0; 8]));
+        assert_eq!(iommu_lists::ivrs_entries(source, 1, &mut []), Err(Refusal::NoIommu));
     });
     // Type 0x10 has no image, and an entry for all devices. Then a byte after the fixed fields.
-    let mut memory = Memory::rsdt(&[TABLE]);
-    memory.table(TABLE, "IVRS", 2, 76, &[(48, 4, 0x1c_0010), (72, 4, 0xd700_0901)]);
-    memory.ask(|tables| {
-        let ivrs = tables.find_table::<Ivrs>().unwrap();
-        let device = ivrs.block_for(0, 0x1234).unwrap().unwrap();
-        assert_eq!((device.unit.extended_features, device.source_id), (None, 0x1234));
-        let mut entries = [Slot::default(); 1];
-        let all = ivrs.entries(0, &mut entries).unwrap().unwrap().get(0).unwrap();
-        assert_eq!((all.entry_type, all.first, all.last, all.settings), (1, 0, 0xffff, 0xd7));
+    let memory = with("IVRS", 2, 76, &[(48, 4, 0x1c_0010), (72, 4, 0xd700_0901)]);
+    memory.list(|source| {
+        let device = iommu::ivrs_unit(source, 0, 0x1234).unwrap();
+        assert_eq!((device.unit.has_extended_features, device.source_id), (0, 0x1234));
+        let entry = all(|out| iommu_lists::ivrs_entries(source, 0, out)).unwrap()[0];
+        assert_eq!((entry.entry_type, entry.first, entry.last, entry.settings), (1, 0, 0xffff, 0xd7));
     });
-    let mut memory = Memory::rsdt(&[TABLE]);
-    memory.table(TABLE, "IVRS", 2, 49, &[]);
-    memory.ask(|tables| {
-        let ivrs = tables.find_table::<Ivrs>().unwrap();
-        assert_eq!(ivrs.block_for(0, 0), Err(AcpiError::InvalidStructureLength));
-        assert_eq!(ivrs.memory_for(0, &mut []).unwrap().count(), 0);
+    with("IVRS", 2, 49, &[]).bytes_of::<Ivrs, _>(|table| {
+        let blocks = IvrsBlocks::over(table);
+        assert_eq!(blocks.block_for(0, 0).err(), Some(IommuError::InvalidStructureLength));
+        assert_eq!(blocks.each_memory(0).count(), 0);
     });
 }

@@ -1,10 +1,14 @@
 //! Sleep types and plans: what a machine is to be written so that it sleeps, is off, is reset, or has ACPI.
 mod common;
-use common::{generic, Field, Memory, ROOT};
-use zacpi::address::{AccessSize, AddressSpace, GenericAddress};
-use zacpi::platform::PmTimer;
-use zacpi::power::{Plan, SleepTypes, Step, StepKind};
-use zacpi::{AcpiError, AcpiResult, Signature};
+use common::{Field, Memory, ROOT, generic, plain};
+use zacpi::lists::power_records::Plan;
+use zacpi::lists::{power, refusal::Refusal};
+use zacpi::sdt::Signature;
+use zacpi::sleep::{
+    self, PlanError, PlanStep, SleepAnswer, SleepError, SleepTables, SleepTypes, StepKind, enable_plan, pm_timer_ticks,
+    reset_plan, sleep_plan,
+};
+use zacpi::{AcpiError, AcpiResult};
 
 const FADT: u64 = ROOT + 0x1000;
 const DSDT: u64 = ROOT + 0x2000;
@@ -34,57 +38,90 @@ fn machine(fields: &[Field], dsdt: &[u8], ssdt: &[u8]) -> Memory {
 
 /// A step as numbers: space, address, width, mask, value, and whether it waits.
 type Numbers = (u8, u64, u8, u32, u32, bool);
-fn numbers(step: Step) -> Numbers {
-    let GenericAddress { address_space, address, .. } = step.at;
-    (address_space.into(), address, step.width, step.mask, step.value, step.kind == StepKind::Wait)
-}
-fn steps(plan: AcpiResult<Plan>) -> AcpiResult<Vec<Numbers>> {
-    plan.map(|plan| plan.into_iter().map(numbers).collect())
+
+/// The steps of a plan, which both calls have.
+fn steps(listed: Result<Plan, Refusal>, plan: Result<sleep::Plan, PlanError>) -> Result<Vec<Numbers>, Refusal> {
+    let numbers = |step: PlanStep| {
+        let at = step.register;
+        (at.address_space.code(), at.address, step.width, step.mask, step.value, step.kind == StepKind::Wait)
+    };
+    let plan = plan.map(|it| it.first.into_iter().chain(it.second).map(numbers).collect::<Vec<_>>());
+    let listed = listed.map(|plan| {
+        let steps = plan.steps[..plan.count as usize].iter();
+        let at = steps.map(|it| (it.at.at.space, it.at.at.address, it.width, it.mask, it.value, it.kind == 1));
+        at.collect::<Vec<_>>()
+    });
+    assert_eq!(listed, plan.map_err(Refusal::from));
+    listed
 }
 
 #[test]
 fn sleep_types_are_constants_of_aml() {
-    let types = |dsdt: &[u8], ssdt: &[u8], state| machine(&[], dsdt, ssdt).ask(|tables| tables.sleep_types(state));
-    assert_eq!(types(S5, &[], 5), Ok(SleepTypes { a: 5, b: 7 }));
-    assert_eq!(types(S5, S3, 3), Ok(SleepTypes { a: 1, b: 1 }));
-    assert_eq!(types(S5, S3, 4), Err(AcpiError::SleepStateAbsent));
-    assert_eq!(types(S5, S3, 6), Err(AcpiError::NoSuchState));
+    let types = |dsdt: &[u8], ssdt: &[u8], state| {
+        let memory = machine(&[], dsdt, ssdt);
+        let found = memory.list(|source| power::sleep_types(source, state).map(|types| (types.a, types.b)));
+        let answer = match memory.ask(|tables| tables.sleep_types(state as u8)) {
+            Ok(SleepAnswer::Types(types)) => Ok((types.a, types.b)),
+            Ok(SleepAnswer::Absent) => Err(Refusal::SleepStateAbsent),
+            Ok(SleepAnswer::NotSeen(_)) => Err(Refusal::SleepStateNotSeen),
+            Err(error) => Err(Refusal::from(error)),
+        };
+        assert_eq!(found, answer);
+        found
+    };
+    assert_eq!(types(S5, &[], 5), Ok((5, 7)));
+    assert_eq!(types(S5, S3, 3), Ok((1, 1)));
+    assert_eq!(types(S5, S3, 4), Err(Refusal::SleepStateAbsent));
+    assert_eq!(types(S5, S3, 6), Err(Refusal::NoSuchState));
     // If (One) {..}: IfOp, PkgLength, the predicate.
     let branch = [&[0xa0, 2 + S5.len() as u8, 1], S5].concat();
-    assert_eq!(types(&branch, &[], 5), Err(AcpiError::SleepStateNotSeen));
-    assert_eq!(types(&branch, S5, 5), Ok(SleepTypes { a: 5, b: 7 }));
+    assert_eq!(types(&branch, &[], 5), Err(Refusal::SleepStateNotSeen));
+    assert_eq!(types(&branch, S5, 5), Ok((5, 7)));
     // ScopeOp, PkgLength, _SB_; and two of \, one in the other.
     let other = [&[0x10, 5 + S5.len() as u8], &b"_SB_"[..], S5].concat();
-    assert_eq!(types(&other, &[], 5), Err(AcpiError::SleepStateNotSeen));
-    assert_eq!(types(&other, &[], 4), Err(AcpiError::SleepStateAbsent));
+    assert_eq!(types(&other, &[], 5), Err(Refusal::SleepStateNotSeen));
+    assert_eq!(types(&other, &[], 4), Err(Refusal::SleepStateAbsent));
     let root = [&[0x10, 7 + S5.len() as u8], &b"\\\0"[..], &[0x10, 3 + S5.len() as u8], b"\\\0", S5].concat();
-    assert_eq!(types(&root, &[], 5), Ok(SleepTypes { a: 5, b: 7 }));
+    assert_eq!(types(&root, &[], 5), Ok((5, 7)));
     // StoreOp.
-    assert_eq!(types(b"\x70\x01\x60", &[], 5), Err(AcpiError::SleepStateNotSeen));
+    assert_eq!(types(b"\x70\x01\x60", &[], 5), Err(Refusal::SleepStateNotSeen));
     // The package ends after the block.
-    assert_eq!(types(&S5[..S5.len() - 1], &[], 5), Err(AcpiError::AmlInvalid(Signature::DSDT)));
+    assert_eq!(types(&S5[..S5.len() - 1], &[], 5), Err(Refusal::AmlInvalid(Signature::DSDT)));
+    assert_eq!(sleep::sleep_types(S5, 5), Ok(SleepAnswer::Types(SleepTypes { a: 5, b: 7 })));
+    let missing = Memory::rsdt(&[]).ask(|tables| tables.sleep_types(5));
+    assert_eq!(missing, Err(SleepError::Acpi(AcpiError::TableMissing(Signature::FADT))));
 }
 
 /// SLP_TYPx of PM1 control is at bits 10 to 12, SLP_EN at 13 (section 4.8.3.2.1).
 #[test]
 fn powers_off_by_pm1_control() {
-    let off = |fields: &[Field]| machine(fields, S5, S3).ask(|tables| steps(tables.power_off_plan()));
+    let with_types = |fields: &[Field], dsdt: &[u8], types| {
+        let memory = machine(fields, dsdt, S3);
+        memory.ask(|tables| {
+            let plan = sleep_plan(&tables.find_fadt().ok().unwrap(), types);
+            steps(memory.list(power::power_off_plan), plan)
+        })
+    };
+    let off = |fields: &[Field]| with_types(fields, S5, SleepTypes { a: 5, b: 7 });
     let a = (1, 0x604, 16, 0x3c00, 0x3400, false);
     assert_eq!(off(&[]), Ok(vec![a]));
     assert_eq!(off(&[(68, 4, 0x614)]), Ok(vec![a, (1, 0x614, 16, 0x3c00, 0x3c00, false)]));
-    assert_eq!(off(&[(64, 4, 0)]), Err(AcpiError::NoRegister));
+    assert_eq!(off(&[(64, 4, 0)]), Err(Refusal::NoRegister));
     // Name (_S5, Package {7, 8}): the second is written to PM1b_CNT alone.
-    let high = |fields: &[Field]| {
-        machine(fields, b"\x08_S5_\x12\x06\x02\x0a\x07\x0a\x08", S3).ask(|tables| steps(tables.power_off_plan()))
-    };
+    let high =
+        |fields: &[Field]| with_types(fields, b"\x08_S5_\x12\x06\x02\x0a\x07\x0a\x08", SleepTypes { a: 7, b: 8 });
     assert_eq!(high(&[]), Ok(vec![(1, 0x604, 16, 0x3c00, 0x3c00, false)]));
-    assert_eq!(high(&[(68, 4, 0x614)]), Err(AcpiError::SleepTypeTooHigh));
-    let sleep = |state| machine(&[], S5, S3).ask(|tables| steps(tables.sleep_plan(state)));
-    assert_eq!(sleep(3), Ok(vec![(1, 0x604, 16, 0x3c00, 0x2400, false)]));
-    assert_eq!(sleep(2), Err(AcpiError::SleepStateAbsent));
-    assert_eq!(sleep(7), Err(AcpiError::NoSuchState));
-    let missing = Memory::rsdt(&[]).ask(|tables| steps(tables.power_off_plan()));
-    assert_eq!(missing, Err(AcpiError::TableMissing(Signature::FADT)));
+    assert_eq!(high(&[(68, 4, 0x614)]), Err(Refusal::SleepTypeTooHigh));
+    let sleep =
+        |state| machine(&[], S5, S3).list(|source| power::sleep_plan(source, state).map(|it| it.steps[0].value));
+    assert_eq!([3, 2, 7].map(sleep), [Ok(0x2400), Err(Refusal::SleepStateAbsent), Err(Refusal::NoSuchState)]);
+    let missing = Memory::rsdt(&[]).list(power::power_off_plan);
+    assert_eq!(missing, Err(Refusal::Acpi(AcpiError::TableMissing(Signature::FADT))));
+}
+
+fn enabled(fields: &[Field]) -> Result<Vec<Numbers>, Refusal> {
+    let memory = machine(fields, S5, S3);
+    memory.ask(|tables| steps(memory.list(power::enable_plan), enable_plan(&tables.find_fadt().ok().unwrap())))
 }
 
 /// HW_REDUCED_ACPI is bit 20 of Flags. SLP_TYPx of SLEEP_CONTROL_REG, at 244, is at bits 2 to 4, SLP_EN at 5.
@@ -92,24 +129,21 @@ fn powers_off_by_pm1_control() {
 fn reduced_hardware_has_a_register_of_its_own() {
     let mut fields = generic(244, 0, 8, 0, 1, 0xfea0_0200).to_vec();
     fields.push((112, 4, 1 << 20));
-    let plans = |fields: &[Field]| {
-        machine(fields, S5, S3).ask(|tables| (steps(tables.power_off_plan()), steps(tables.enable_plan())))
-    };
-    assert_eq!(plans(&fields), (Ok(vec![(0, 0xfea0_0200, 8, 0x3c, 0x34, false)]), Ok(vec![])));
-    assert_eq!(plans(&fields[5..]), (Err(AcpiError::NoRegister), Ok(vec![])));
+    let off = |fields: &[Field]| machine(fields, S5, S3).list(power::power_off_plan).map(|it| plain(it.steps[0]));
+    assert_eq!((off(&fields), enabled(&fields)), (Ok("Step fea00200 0 8 0 1 1 3c 34 8 0".into()), Ok(vec![])));
+    assert_eq!((off(&fields[5..]), enabled(&fields[5..])), (Err(Refusal::NoRegister), Ok(vec![])));
 }
 
 /// SCI_EN is bit 0 of PM1 control (section 4.8.3.2.1).
 #[test]
 fn acpi_is_enabled_by_a_port() {
-    let enable = |fields: &[Field]| machine(fields, S5, S3).ask(|tables| steps(tables.enable_plan()));
-    assert_eq!(enable(&[]), Ok(vec![(1, 0xb2, 8, 0xff, 0xa0, false), (1, 0x604, 16, 1, 1, true)]));
-    assert_eq!(enable(&[(48, 4, 0)]), Ok(vec![]));
+    let wait = (1, 0x604, 16, 1, 1, true);
+    assert_eq!(enabled(&[]), Ok(vec![(1, 0xb2, 8, 0xff, 0xa0, false), wait]));
+    assert_eq!(enabled(&[(48, 4, 0)]), Ok(vec![]));
     // ACPI_DISABLE is at 53.
-    assert_eq!(enable(&[(52, 1, 0)]), Ok(vec![]));
-    let zero = Ok(vec![(1, 0xb2, 8, 0xff, 0, false), (1, 0x604, 16, 1, 1, true)]);
-    assert_eq!(enable(&[(52, 1, 0), (53, 1, 0xa1)]), zero);
-    assert_eq!(enable(&[(64, 4, 0)]), Err(AcpiError::NoRegister));
+    assert_eq!(enabled(&[(52, 1, 0)]), Ok(vec![]));
+    assert_eq!(enabled(&[(52, 1, 0), (53, 1, 0xa1)]), Ok(vec![(1, 0xb2, 8, 0xff, 0, false), wait]));
+    assert_eq!(enabled(&[(64, 4, 0)]), Err(Refusal::NoRegister));
 }
 
 /// RESET_REG_SUP is bit 10 of Flags.
@@ -117,38 +151,21 @@ fn acpi_is_enabled_by_a_port() {
 fn a_register_resets_the_machine() {
     let mut fields = generic(116, 1, 8, 0, 1, 0xcf9).to_vec();
     fields.extend([(112, 4, 1 << 10), (128, 1, 6)]);
-    let reset = |fields: &[Field]| machine(fields, S5, S3).ask(|tables| steps(tables.reset_plan()));
-    assert_eq!(reset(&fields), Ok(vec![(1, 0xcf9, 8, 0xff, 6, false)]));
-    assert_eq!(reset(&fields[..5]), Err(AcpiError::NoReset));
-    fields[0] = (116, 1, 0x0b); // a reserved code of Address Space ID
-    assert_eq!(reset(&fields), Err(AcpiError::InvalidGenericAddress));
-}
-
-#[test]
-fn a_step_keeps_the_other_bits() {
-    let plan = machine(&[], S5, S3).ask(|tables| tables.power_off_plan().unwrap());
-    let off = plan.into_iter().next().unwrap();
-    let port = GenericAddress {
-        address_space: AddressSpace::SystemIo,
-        bit_width: 16,
-        bit_offset: 0,
-        access_size: AccessSize::Undefined,
-        address: 0x604,
+    let reset = |fields: &[Field]| {
+        let memory = machine(fields, S5, S3);
+        memory.ask(|tables| steps(memory.list(power::reset_plan), reset_plan(&tables.find_fadt().ok().unwrap())))
     };
-    assert_eq!((off.at, off.is_whole(), off.over(0x8a05)), (port, false, 0xb605));
-    let plan = machine(&[], S5, S3).ask(|tables| tables.enable_plan().unwrap());
-    let [first, second] = plan.into_iter().collect::<Vec<_>>()[..] else { panic!("there are two steps") };
-    assert_eq!((first.at, first.is_whole(), first.over(0)), (GenericAddress::port(0xb2, 8), true, 0xa0));
-    assert_eq!([0, 0xfffe, 1, 0xffff].map(|read| second.is_reached(read)), [false, false, true, true]);
+    assert_eq!(reset(&fields), Ok(vec![(1, 0xcf9, 8, 0xff, 6, false)]));
+    assert_eq!(reset(&fields[..5]), Err(Refusal::NoReset));
+    fields[0] = (116, 1, 0x0b); // a reserved code of Address Space ID
+    let refused: AcpiResult<()> = Err(AcpiError::InvalidGenericAddress);
+    assert_eq!(reset(&fields), Err(Refusal::Acpi(refused.unwrap_err())));
 }
 
-/// TMR_VAL has 24 bits, or 32 (section 4.8.3.3). PM_TMR_BLK is at 76, PM_TMR_LEN at 91, TMR_VAL_EXT bit 8 of Flags.
+/// TMR_VAL has 24 bits, or 32 (section 4.8.3.3).
 #[test]
 fn the_timer_goes_around() {
-    let timer = |flags| {
-        machine(&[(76, 4, 0x608), (91, 1, 4), (112, 4, flags)], S5, S3).ask(|tables| PmTimer::new(&tables).unwrap())
-    };
-    let [short, long] = [0, 1 << 8].map(|flags| timer(flags).unwrap());
-    assert_eq!([short.ticks(5, 12), short.ticks(0xff_fff0, 0x10), short.ticks(7, 7)], [7, 0x20, 0]);
-    assert_eq!([long.ticks(5, 12), long.ticks(0xff_fff0, 0x10), long.ticks(u32::MAX, 1)], [7, 0xff00_0020, 2]);
+    let [short, long] = [false, true].map(|is_32_bit| move |before, after| pm_timer_ticks(before, after, is_32_bit));
+    assert_eq!([short(5, 12), short(0xff_fff0, 0x10), short(7, 7)], [7, 0x20, 0]);
+    assert_eq!([long(5, 12), long(0xff_fff0, 0x10), long(u32::MAX, 1)], [7, 0xff00_0020, 2]);
 }

@@ -1,392 +1,686 @@
-//! Each kind of table that is written is read back, and each error has its name.
+//! Each kind of table that is written is read back, by the types and by the records of `lists`, and each error has its
+//! name; and whole machines.
+#![cfg(feature = "alloc")]
 mod common;
-use common::ROOT;
-use zacpi::address::{AccessSize, AddressSpace, GenericAddress};
-use zacpi::fadt::{Fadt, FixedFeatureFlags, GpeBlock, IaPcBootArchFlags};
-use zacpi::gic::{GicCpuInterface, GicDistributor, GicMsiFrame, GicTranslationService};
-use zacpi::gtdt::{ArmTimer, GtFrame, Gtdt, TimerInterrupt, Watchdog};
+#[allow(dead_code)]
+#[path = "../examples/guest.rs"]
+mod guest;
+use common::{IDS, ROOT, Tables, all, plain, plains, ports};
+use zacpi::address::{AddressSpace, GenericAddress};
+use zacpi::alloc::Global;
+use zacpi::arm::gic::SpiRange;
+use zacpi::arm::gic::{
+    GicCpuInterface, GicDistributor, GicModel, GicMsiFrame, GicRedistributors, GicTranslationService,
+};
+use zacpi::arm::gtdt::{ArmTimer, GtFrame, Gtdt, PlatformTimer, PlatformTimerIter, SbsaWatchdog, TimerInterrupt};
+use zacpi::bgrt::Bgrt;
+use zacpi::fadt::{Fadt, GpeBlock};
+use zacpi::handler::MappedRegion;
+use zacpi::lists::records::Source;
+use zacpi::lists::refusal::Refusal;
+use zacpi::lists::regions::Region;
+use zacpi::lists::writing::{self, Contents};
+use zacpi::lists::{self, written_records as records};
+use zacpi::mcfg::{Mcfg, McfgEntry};
+use zacpi::numa::{Distances, Domains, MemoryAffinities, MemoryRange, Slit, Srat};
 use zacpi::platform::interrupt::{
-    InputPolarity, InputTrigger, InterruptSourceOverride, LocalInterruptLine, NmiLine, NmiProcessor, Polarity,
-    TriggerMode,
+    InterruptModel, InterruptSourceOverride, IoApic, LocalInterruptLine, NmiProcessor, NmiSource, Polarity, TriggerMode,
 };
-use zacpi::platform::Processor;
-use zacpi::spcr::{Spcr, SpcrInterfaceType};
-use zacpi::srat::{MemoryAffinity, Srat};
-use zacpi::write::{
-    self, byte_sum, set_checksum, Aml, ApicDomain, Bytes, GiccDomain, PlatformTimer, TableIds, WriteError,
-};
-use zacpi::{AcpiTables, GicModel, PowerProfile, Range, Region, Signature, Slot, Start};
+use zacpi::sdt::{Signature, byte_sum};
+use zacpi::spcr::{Spcr, SpcrFlowControl, SpcrInterfaceType, SpcrInterruptType, SpcrTerminalType};
+use zacpi::write::fadt::{FixedFeatures, FixedHardware, LegacyFields, PcBootFeatures};
+use zacpi::write::spelled::Bytes;
+use zacpi::write::*;
+use zacpi::{AcpiHandler, AcpiTables, HpetInfo, PowerProfile};
 
-const IDS: TableIds = TableIds {
-    oem_id: *b"OEMID ",
-    oem_table_id: *b"HANDMADE",
-    oem_revision: 1,
-    creator_id: *b"TEST",
-    creator_revision: 2,
-};
 const TABLE: u64 = ROOT + 0x1000;
 
-/// Writes a table of this size, below an XSDT, and reads the tables.
-fn read_back<T>(
+/// Writes a table of this size, below an XSDT, reads it, and asks its records.
+fn read_back<E: std::fmt::Debug + PartialEq + From<WriterError>, T>(
     size: usize,
-    write: impl Fn(&mut [u8]) -> Result<usize, WriteError>,
-    ask: impl FnOnce(AcpiTables<'_>) -> T,
+    write: impl Fn(&mut [u8]) -> Result<usize, E>,
+    ask: impl FnOnce(&Tables<'_>, &Source<'_>) -> T,
 ) -> T {
     let mut memory = vec![0x5a; 0x1000 + size + 1];
-    let xsdt = write::Xsdt { ids: IDS, addresses: &[TABLE] };
-    assert_eq!(xsdt.write(&mut memory), Ok(xsdt.size()));
-    assert_eq!(fails(&write, size - 1), WriteError::NoRoom);
+    assert_eq!(write_xsdt(&mut memory, &IDS, &[TABLE]), Ok(44));
+    assert_eq!(fails(&write, size - 1), E::from(WriterError::NoRoom));
     assert_eq!(write(&mut memory[0x1000..]), Ok(size));
     assert_eq!(memory.last(), Some(&0x5a));
-    let regions = [Region::new(ROOT, &memory)];
-    ask(AcpiTables::open_root(&regions, 2, ROOT).unwrap())
+    let handler = MappedRegion::new(ROOT, &memory).unwrap();
+    let regions = [Region { address: ROOT, bytes: &memory }];
+    let source = Source { regions: &regions, address: ROOT, start: 2, accept: 0 };
+    ask(&AcpiTables::from_rsdt(&handler, 2, ROOT).ok().unwrap(), &source)
 }
 
 /// The error of writing to so many bytes, which are as they were then.
-fn fails(write: impl Fn(&mut [u8]) -> Result<usize, WriteError>, length: usize) -> WriteError {
+fn fails<E: std::fmt::Debug>(write: impl Fn(&mut [u8]) -> Result<usize, E>, length: usize) -> E {
     let mut memory = vec![0x5a; length];
     let error = write(&mut memory).unwrap_err();
-    assert!(memory.iter().all(|byte| *byte == 0x5a), "{error}");
+    assert!(memory.iter().all(|byte| *byte == 0x5a), "{error:?}");
     error
 }
 
-fn ports(address: u16, bit_width: u8) -> GenericAddress {
-    GenericAddress { access_size: AccessSize::Undefined, ..GenericAddress::port(address, bit_width) }
+/// What is written again of the records that were read is the same table.
+fn again(tables: &Tables<'_>, signature: Signature, contents: Contents<'_>) {
+    let table = tables.find_sdt(signature).ok().unwrap();
+    read_back(
+        table.region_length(),
+        |out| writing::write_contents(out, &IDS, &contents),
+        |again, _| {
+            assert_eq!(again.find_sdt(signature).ok().unwrap().bytes(), table.bytes());
+        },
+    );
 }
 
 #[test]
 fn writes_a_header_and_bytes() {
-    let table = Bytes { ids: IDS, signature: Signature::new("OEM7"), revision: 3, bytes: &[1, 2, 3] };
     #[rustfmt::skip]
     let expected = [
         b'O', b'E', b'M', b'7', 39, 0, 0, 0, 3, // Signature, Length, Revision
         b'O', b'E', b'M', b'I', b'D', b' ', b'H', b'A', b'N', b'D', b'M', b'A', b'D', b'E', // OEMID, OEM Table ID
         1, 0, 0, 0, b'T', b'E', b'S', b'T', 2, 0, 0, 0, 1, 2, 3, // OEM Revision, Creator ID, Creator Revision, bytes
     ];
-    read_back(
-        table.size(),
-        |at| table.write(at),
-        |tables| {
-            let found = tables.find(Signature::new("OEM7")).unwrap();
-            let mut bytes = tables.bytes(&found).unwrap().to_vec();
-            bytes.remove(9); // Checksum, which reading has looked at
-            assert_eq!(bytes, expected);
-            assert_eq!((found.revision, found.ids), (3, IDS));
-        },
-    );
+    let signature = Signature::from_bytes(*b"OEM7");
+    let check = |tables: &Tables<'_>, _: &Source<'_>| {
+        let found = tables.find_sdt(signature).ok().unwrap();
+        let mut bytes = found.bytes().to_vec();
+        bytes.remove(9); // Checksum, which reading has looked at
+        assert_eq!(bytes, expected);
+        assert_eq!(byte_sum(found.bytes()), 0);
+    };
+    read_back(39, |out| write_table(out, signature, 3, &IDS, &Bytes(&[1, 2, 3])), check);
+    let named = lists::records::Signature { letters: *b"OEM7" };
+    read_back(39, |out| writing::write_table(out, &IDS, named, 3, &[1, 2, 3]), check);
+    let ids = TableIds { creator_id: [0xff; 4], ..IDS };
+    assert_eq!(fails(|out| write_table(out, signature, 3, &ids, &Bytes(&[])), 99), WriterError::BadName);
+    assert_eq!((ids.are_texts(), IDS.are_texts()), (false, true));
 }
 
 #[test]
 fn writes_roots_and_aml() {
     let mut memory = [0; 0x100];
-    let rsdp = write::Rsdp { ids: IDS, xsdt: ROOT + 36 };
-    assert_eq!(rsdp.write(&mut memory), Ok(rsdp.size()));
-    let aml = Aml { ids: IDS, revision: 2, bytes: &[0xa3, 0xa3] };
-    let xsdt = write::Xsdt { ids: IDS, addresses: &[ROOT + 0x80] };
-    assert_eq!(xsdt.write(&mut memory[36..]), Ok(44));
-    assert_eq!(aml.write_ssdt(&mut memory[0x80..]), Ok(aml.size()));
-    let regions = [Region::new(ROOT, &memory)];
-    let tables = AcpiTables::open(&regions, Start::Rsdp(ROOT)).unwrap();
-    let ssdts = tables.ssdts().count();
-    assert_eq!((ssdts, tables.find(Signature::SSDT).map(|table| table.length)), (Ok(1), Ok(38)));
+    assert_eq!(write_rsdp(&mut memory, &IDS, ROOT + 36), Ok(36));
+    assert_eq!(write_xsdt(&mut memory[36..], &IDS, &[ROOT + 0x80]), Ok(44));
+    assert_eq!(write_ssdt(&mut memory[0x80..], &IDS, 2, &[0xa3, 0xa3]), Ok(38));
+    let handler = MappedRegion::new(ROOT, &memory).unwrap();
+    let tables = AcpiTables::from_rsdp(&handler, ROOT).ok().unwrap();
+    assert_eq!(tables.ssdts().map(|aml| aml.length).collect::<Vec<_>>(), [2]);
     let mut memory = [0; 0x100];
-    let rsdt = write::Rsdt { ids: IDS, addresses: &[ROOT as u32 + 0x80, 0] };
-    assert_eq!((rsdt.size(), rsdt.write(&mut memory)), (44, Ok(44)));
-    assert_eq!(aml.write_dsdt(&mut memory[0x80..]), Ok(38));
-    let regions = [Region::new(ROOT, &memory)];
-    let tables = AcpiTables::open_root(&regions, 0, ROOT).unwrap();
-    assert_eq!(tables.find(Signature::DSDT).map(|table| table.revision), Ok(2));
+    assert_eq!(write_rsdt(&mut memory, &IDS, &[ROOT as u32 + 0x80, 0]), Ok(44));
+    assert_eq!(write_dsdt(&mut memory[0x80..], &IDS, 2, &[0xa3, 0xa3]), Ok(38));
+    let handler = MappedRegion::new(ROOT, &memory).unwrap();
+    let tables = AcpiTables::from_rsdt(&handler, 0, ROOT).ok().unwrap();
+    assert_eq!(tables.find_sdt(Signature::DSDT).ok().unwrap().revision, 2);
     // The table that was written isn't the AML of one.
-    let whole = Aml { bytes: &memory[0x80..0x80 + 38], ..aml };
-    assert_eq!(whole.write_dsdt(&mut [0; 0x100]), Err(WriteError::HasHeader));
-    assert_eq!(whole.write_ssdt(&mut [0; 0x100]), Ok(74));
+    let whole = &memory[0x80..0x80 + 38];
+    assert_eq!(fails(|out| write_dsdt(out, &IDS, 2, whole), 0x100), WriterError::HasHeader);
+    assert_eq!(write_ssdt(&mut [0; 0x100], &IDS, 2, whole), Ok(74));
+    assert_eq!(fails(|out| write_rsdp(out, &IDS, 0), 36), WriterError::NoAddress);
 }
 
 /// The FADT of a PC, with each register.
+fn pc() -> FadtContents {
+    let block = |address, byte_length| Some(GpeBlock { space: AddressSpace::SystemIo, address, byte_length });
+    let hardware = FixedHardware {
+        smi_cmd_port: 0xb2,
+        acpi_enable: 0xa0,
+        acpi_disable: 0xa1,
+        s4bios_req: 0,
+        pstate_control: 0,
+        c_state_control: 0,
+        pm1a_event: ports(0x600, 32),
+        pm1b_event: Some(ports(0x610, 32)),
+        pm1a_control: ports(0x604, 16),
+        pm1b_control: Some(ports(0x614, 16)),
+        pm2_control: Some(ports(0x650, 8)),
+        pm_timer: Some(ports(0x608, 32)),
+        gpe0: block(0x620, 16),
+        gpe1: block(0x640, 4),
+        gpe1_base: 0x40,
+    };
+    FadtContents {
+        facs: Some(0x1_0000_0040),
+        power_profile: PowerProfile::Mobile,
+        sci_interrupt: 9,
+        hardware: FadtHardware::Fixed(hardware),
+        reset_register: Some(ports(0xcf9, 8)),
+        reset_value: 6,
+        sleep_control: Some(ports(0x700, 8)),
+        sleep_status: Some(ports(0x701, 8)),
+        features: FixedFeatures { pm_timer_is_32_bit: true, ..FixedFeatures::NONE },
+        pc_boot: PcBootFeatures { motherboard_implements_8042: true, ..PcBootFeatures::NONE },
+        legacy: LegacyFields { flush_size: 1024, century: 0x32, ..LegacyFields::NONE },
+        ..guest::reduced(0x1234_5678)
+    }
+}
+
 #[test]
 fn writes_fixed_hardware() {
-    let block = |address, byte_length| GpeBlock { address, address_space: AddressSpace::SystemIo, byte_length };
-    let mut hardware = Fadt::new(0x1234_5678)
-        .with_facs(0x1_0000_0040)
-        .with_power_profile(PowerProfile::Mobile)
-        .with_pm1a_event_block(ports(0x600, 32))
-        .with_pm1b_event_block(ports(0x610, 32))
-        .with_pm1a_control_block(ports(0x604, 16))
-        .with_pm1b_control_block(ports(0x614, 16))
-        .with_pm2_control_block(ports(0x650, 8))
-        .with_pm_timer_block(ports(0x608, 32))
-        .with_gpe0_block(block(0x620, 16))
-        .with_gpe1_block(block(0x640, 4), 0x40)
-        .with_reset_register(ports(0xcf9, 8), 6)
-        .with_sleep_control_register(ports(0x700, 8))
-        .with_sleep_status_register(ports(0x701, 8));
-    hardware.sci_interrupt = 9;
-    hardware.smi_cmd_port = 0xb2;
-    (hardware.acpi_enable, hardware.acpi_disable) = (0xa0, 0xa1);
-    (hardware.flush_size, hardware.century) = (1024, 0x32);
-    hardware.iapc_boot_arch = IaPcBootArchFlags::from(3);
-    hardware.flags = FixedFeatureFlags::from(hardware.flags.bits() | 1 << 8);
-    let table = write::Fadt { ids: IDS, hardware };
-    let read = read_back(table.size(), |at| table.write(at), |tables| tables.find_table::<Fadt>().unwrap());
-    assert_eq!(read, hardware);
-    assert_eq!(read.gpe0_block_bytes(), Ok(Some(block(0x620, 16))));
-    let table = write::Fadt { ids: IDS, hardware: Fadt::reduced(0x1000) };
-    let read = read_back(table.size(), |at| table.write(at), |tables| tables.find_table::<Fadt>().unwrap());
-    assert_eq!(read, table.hardware);
-    assert_eq!((read.revision, read.minor_revision, read.hypervisor_id), (6, 4, 0));
-    let table = write::Fadt { ids: IDS, hardware: Fadt::new(1).with_pm1a_event_block(ports(0, 32)) };
-    assert_eq!(fails(|at| table.write(at), 276), WriteError::BadRegister);
+    read_back(
+        276,
+        |out| write_fadt(out, &IDS, &pc()),
+        |tables, source| {
+            let f = tables.find_table::<Fadt>().ok().unwrap();
+            assert_eq!((f.dsdt_address(), f.facs_address()), (Ok(0x1234_5678), Ok(0x1_0000_0040)));
+            assert_eq!((f.power_profile(), f.sci_interrupt, f.smi_cmd_port), (PowerProfile::Mobile, 9, 0xb2));
+            assert_eq!((f.acpi_enable, f.acpi_disable, f.flush_size, f.century), (0xa0, 0xa1, 1024, 0x32));
+            let required = [f.pm1a_event_block(), f.pm1a_control_block(), f.reset_register()];
+            assert_eq!(required, [Ok(ports(0x600, 32)), Ok(ports(0x604, 16)), Ok(ports(0xcf9, 8))]);
+            assert_eq!(
+                (f.pm1b_event_block(), f.pm_timer_block()),
+                (Ok(Some(ports(0x610, 32))), Ok(Some(ports(0x608, 32))))
+            );
+            assert_eq!(f.pm2_control_block(), Ok(Some(ports(0x650, 8))));
+            assert_eq!((plain(f.gpe0()), plain(f.gpe1())), ("Ok SystemIo 620 10".into(), "Ok SystemIo 640 4".into()));
+            assert_eq!(
+                (f.gpe1_base(), f.reset_value, f.sleep_status_register()),
+                (Some(0x40), 6, Ok(Some(ports(0x701, 8))))
+            );
+            assert!(f.flags.pm_timer_is_32_bit() && f.flags.supports_system_reset_via_fadt());
+            assert!(f.iapc_boot_arch.motherboard_implements_8042() && !f.flags.system_is_hw_reduced_acpi());
+            again(tables, Signature::FADT, Contents::Fadt(lists::fixed::fixed(source).unwrap()));
+            let mut hardware = lists::fixed::fixed(source).unwrap();
+            hardware.pm1a_event.at.space = 0x0b;
+            assert_eq!(fails(|out| writing::write_hardware(out, &IDS, &hardware), 276), Refusal::UnknownCode);
+        },
+    );
+    let reduced = guest::reduced(0x1000);
+    read_back(
+        276,
+        |out| write_fadt(out, &IDS, &reduced),
+        |tables, source| {
+            let f = tables.find_table::<Fadt>().ok().unwrap();
+            assert!(f.flags.system_is_hw_reduced_acpi() && f.pm_timer_block() == Ok(None));
+            let f = lists::fixed::fixed(source).unwrap();
+            assert_eq!((f.revision, f.minor_revision, f.hypervisor_id), (6, 4, 0));
+            again(tables, Signature::FADT, Contents::Fadt(f));
+        },
+    );
+    let fixed = |pm1a_event| {
+        let FadtHardware::Fixed(hardware) = pc().hardware else { panic!("it is fixed") };
+        let hardware = FadtHardware::Fixed(FixedHardware { pm1a_event, ..hardware });
+        fails(|out| write_fadt(out, &IDS, &FadtContents { hardware, ..pc() }), 276)
+    };
+    assert_eq!(fixed(ports(0, 32)), WriterError::BadRegister);
     let space = GenericAddress { address_space: AddressSpace::OemDefined(0x0b), ..ports(0x600, 32) };
-    let table = write::Fadt { ids: IDS, hardware: hardware.with_pm1a_event_block(space) };
-    assert_eq!(fails(|at| table.write(at), 276), WriteError::UnknownCode);
-    let table = write::Fadt { ids: IDS, hardware: Fadt::reduced(0) };
-    assert_eq!(fails(|at| table.write(at), 276), WriteError::NoAddress);
+    assert_eq!(fixed(space), WriterError::BadRegister);
+    assert_eq!(fails(|out| write_fadt(out, &IDS, &guest::reduced(0)), 276), WriterError::NoAddress);
+    let profile = FadtContents { power_profile: PowerProfile::Reserved(1), ..pc() };
+    assert_eq!(fails(|out| write_fadt(out, &IDS, &profile), 276), WriterError::BadProfile);
 }
 
 #[test]
 fn writes_a_console() {
-    let mut console = Spcr::new(SpcrInterfaceType::Full16550)
-        .with_base_address(ports(0x3f8, 8))
-        .with_baud_rate(115_200)
-        .with_irq(4)
-        .with_global_system_interrupt(20)
-        .with_uart_clock_frequency(1_843_200)
-        .with_pci_device((0x8086, 0x1234), (1, 2, 3));
-    (console.parity, console.pci_flags, console.pci_segment) = (0, 1, 4);
-    (console.flow_control, console.terminal_type) = (2, 1);
-    let table = write::Spcr::new(IDS, console);
-    let read = read_back(
-        table.size(),
-        |at| table.write(at),
-        |tables| {
-            let found = tables.find(Signature::SPCR).unwrap();
-            let bytes = tables.bytes(&found).unwrap();
-            // Interrupt Type: an 8259 and an I/O APIC; Flow Control: RTS and CTS; Terminal Type: VT100+.
+    let device =
+        SpcrPciDevice { device_id: 0x1234, vendor_id: 0x8086, bus: 1, device: 2, function: 3, flags: 1, segment: 4 };
+    let console = SpcrContents {
+        base_address: Some(ports(0x3f8, 8)),
+        interrupt_type: SpcrInterruptType::DUAL_8259 | SpcrInterruptType::IO_APIC,
+        irq: 4,
+        flow_control: SpcrFlowControl::RTS_CTS,
+        terminal_type: SpcrTerminalType::VT1000,
+        pci_device: Some(device),
+        uart_clock_frequency: 1_843_200,
+        ..guest::console(0x3f8, 20, 115_200)
+    };
+    read_back(
+        90,
+        |out| write_spcr(out, &IDS, &console),
+        |tables, source| {
+            let found = tables.find_table::<Spcr>().ok().unwrap();
+            // Interrupt Type: an 8259 and an I/O APIC; Flow Control: RTS and CTS; Terminal Type: VT100.
+            let bytes = found.bytes();
             assert_eq!((bytes[52], bytes[61], bytes[62]), (3, 2, 1));
-            assert_eq!(Spcr::namespace_string(&tables), Ok("."));
-            tables.find_table::<Spcr>().unwrap()
+            assert_eq!((found.namespace_string(), found.base_address()), (Ok(".\0"), Some(Ok(ports(0x3f8, 8)))));
+            assert_eq!(
+                (found.irq(), found.global_system_interrupt(), found.baud_rate()),
+                (Some(4), Some(20), Some(115_200))
+            );
+            assert_eq!(
+                (found.pci_vendor_id(), found.pci_function_number(), found.pci_segment),
+                (Some(0x8086), Some(3), 4)
+            );
+            assert_eq!((found.uart_clock_frequency(), found.stop_bits, found.pci_flags), (Some(1_843_200), 1, 1));
+            let mut contents = records::SpcrContents {
+                console: lists::console::console(source).unwrap(),
+                interrupt_controllers: 2,
+                flow_control: 2,
+                terminal_type: 1,
+            };
+            again(tables, Signature::SPCR, Contents::Spcr(contents));
+            contents.interrupt_controllers = 1;
+            let refused = fails(|out| writing::write_contents(out, &IDS, &Contents::Spcr(contents)), 90);
+            assert_eq!(refused, Refusal::UnknownCode);
         },
     );
-    assert_eq!(read, console);
-    for code in 0..=u8::MAX {
-        assert_eq!(u8::from(SpcrInterfaceType::from(code)), code);
-    }
-    let plain = write::Spcr::new(IDS, Spcr::new(SpcrInterfaceType::ArmPL011));
-    let read = read_back(plain.size(), |at| plain.write(at), |tables| tables.find_table::<Spcr>().unwrap());
-    assert_eq!(read, plain.console);
-    let mut table = write::Spcr::new(IDS, console.with_base_address(ports(0, 8)));
-    assert_eq!(fails(|at| table.write(at), 90), WriteError::NoAddress);
-    table = write::Spcr::new(IDS, console);
-    table.interrupt_controllers = 1;
-    assert_eq!(fails(|at| table.write(at), 90), WriteError::UnknownCode);
+    let error = |console: SpcrContents<'_>| fails(|out| write_spcr(out, &IDS, &console), 90);
+    assert_eq!(error(SpcrContents { base_address: Some(ports(0, 8)), ..console }), WriterError::NoAddress);
+    assert_eq!(error(SpcrContents { interface_type: SpcrInterfaceType::Unknown(3), ..console }), WriterError::BadCode);
 }
 
 #[test]
 fn writes_an_image() {
-    use zacpi::bgrt::Bgrt;
-    let image = Bgrt::new(0x1_2345_6789).at((640, 480), 270).displayed(true);
-    let table = write::Bgrt { ids: IDS, image };
-    let read = read_back(table.size(), |at| table.write(at), |tables| tables.find_table::<Bgrt>().unwrap());
-    assert_eq!(read, image);
-    let table = write::Bgrt { ids: IDS, image: image.at((0, 0), 45) };
-    assert_eq!(fails(|at| table.write(at), 56), WriteError::UnknownCode);
+    let image = BgrtContents {
+        was_displayed: true,
+        orientation_offset: BgrtOrientation::Degrees270,
+        image_address: 0x1_2345_6789,
+        image_offset: (640, 480),
+    };
+    read_back(
+        56,
+        |out| write_bgrt(out, &IDS, &image),
+        |tables, source| {
+            let found = tables.find_table::<Bgrt>().ok().unwrap();
+            assert_eq!((found.image_address, found.image_offset()), (0x1_2345_6789, (640, 480)));
+            assert_eq!((found.was_displayed(), found.orientation_offset()), (true, 270));
+            let graphic = lists::devices::graphic(source).unwrap();
+            again(tables, Signature::BGRT, Contents::Bgrt(graphic));
+            let turned = lists::records::BootGraphic { orientation: 45, ..graphic };
+            let refused = fails(|out| writing::write_contents(out, &IDS, &Contents::Bgrt(turned)), 56);
+            assert_eq!(refused, Refusal::UnknownCode);
+        },
+    );
 }
 
 #[test]
 fn writes_a_gic() {
-    let mut distributor = GicDistributor::new(0x0800_0000, Some(3));
-    distributor.id = 1;
-    let interface = |n: u32| {
-        let mut interface = GicCpuInterface::new(n, n, n.into());
-        interface.hypervisor_address = Some(0x0803_0000);
-        interface.performance_interrupt = Some((23, InputTrigger::Level));
-        interface.maintenance_interrupt = (n == 0).then_some((25, InputTrigger::Edge));
-        (interface.spe_overflow_interrupt, interface.efficiency_class) = (Some(21), 5);
-        interface.trace_buffer_interrupt = (n == 1).then_some(22);
-        interface
+    let interface = |n: u32| GicCpuInterface {
+        number: n,
+        processor_uid: n,
+        mpidr: n.into(),
+        is_enabled: true,
+        is_online_capable: false,
+        performance_interrupt: 23,
+        performance_trigger: TriggerMode::Level,
+        parking_protocol_version: 0,
+        parked_address: 0,
+        address: 0,
+        virtual_address: 0,
+        hypervisor_address: 0x0803_0000,
+        maintenance_interrupt: 25,
+        maintenance_trigger: TriggerMode::Edge,
+        redistributor_address: 0,
+        efficiency_class: 5,
+        spe_overflow_interrupt: 21,
+        trace_buffer_interrupt: (n == 1).then_some(22),
     };
-    let interfaces = [interface(0), interface(1)];
-    let frames = [GicMsiFrame::new(2, 0x0802_0000, Some((64, 32))), GicMsiFrame::new(3, 0x0802_1000, None)];
-    let slots = interfaces.map(Slot::from);
-    let frame_slots = frames.map(Slot::from);
-    let redistributors = [Range { address: 0x080a_0000, length: 0x10_0000 }];
-    let services = [GicTranslationService::new(4, 0x0808_0000)];
-    let mut table = write::GicMadt::new(IDS, distributor, &slots);
-    table.redistributors = &redistributors;
-    table.translation_services = &services;
-    table.msi_frames = &frame_slots;
+    let frame = |id, spis| GicMsiFrame { id, address: 0x0802_0000, spis };
+    let contents = GicContents {
+        distributor: GicDistributor { id: 1, address: 0x0800_0000, version: 3, system_vector_base: 0 },
+        cpu_interfaces: &[interface(0), interface(1)],
+        redistributors: &[GicRedistributors { address: 0x080a_0000, length: 0x10_0000 }],
+        translation_services: &[GicTranslationService { id: 4, address: 0x0808_0000 }],
+        msi_frames: &[frame(2, Some(SpiRange { base: 64, count: 32 })), frame(3, None)],
+    };
+    // The MADT's 44 bytes, a GICD of 24, GICCs of 80 and 82, a GICR of 16, an ITS of 20, MSI frames of 24.
     read_back(
-        table.size(),
-        |at| table.write(at),
-        |tables| {
-            let gic = GicModel::new(&tables).unwrap();
-            assert_eq!(gic.distributor, distributor);
-            let mut room = [Slot::default(); 2];
-            assert_eq!(gic.cpu_interfaces().fill(&mut room).unwrap().iter().collect::<Vec<_>>(), interfaces);
-            let mut room = [Slot::default(); 2];
-            assert_eq!(gic.redistributors().fill(&mut room).unwrap().iter().collect::<Vec<_>>(), redistributors);
-            let mut room = [Slot::default(); 2];
-            assert_eq!(gic.translation_services().fill(&mut room).unwrap().iter().collect::<Vec<_>>(), services);
-            let mut room = [Slot::default(); 2];
-            assert_eq!(gic.msi_frames().fill(&mut room).unwrap().iter().collect::<Vec<_>>(), frames);
+        44 + 24 + 80 + 82 + 16 + 20 + 48,
+        |out| write_gic_madt(out, &IDS, &contents),
+        |tables, source| {
+            let gic = GicModel::new(tables).ok().unwrap().unwrap();
+            assert_eq!(plain(gic.distributor), plain(contents.distributor));
+            assert_eq!(plains(&gic.cpu_interfaces), plains(contents.cpu_interfaces));
+            assert_eq!(plains(&gic.redistributors), plains(contents.redistributors));
+            assert_eq!(plains(&gic.translation_services), plains(contents.translation_services));
+            assert_eq!(plains(&gic.msi_frames), plains(contents.msi_frames));
+            let parts = records::GicContents {
+                distributor: lists::gic::distributor(source).unwrap(),
+                cpu_interfaces: &all(|out| lists::gic::parts(source, out)).unwrap(),
+                redistributors: &all(|out| lists::gic::parts(source, out)).unwrap(),
+                translation_services: &all(|out| lists::gic::parts(source, out)).unwrap(),
+                msi_frames: &all(|out| lists::gic::parts(source, out)).unwrap(),
+            };
+            again(tables, Signature::MADT, Contents::Gic(parts));
+            let long = lists::records::Range { address: 0, length: 1 << 32 };
+            let parts = records::GicContents { redistributors: &[long], ..parts };
+            let refused = fails(|out| writing::write_contents(out, &IDS, &Contents::Gic(parts)), 1000);
+            assert_eq!(refused, Refusal::Writer(WriterError::BadRange));
         },
     );
-    let table = write::GicMadt::new(IDS, distributor, &[]);
-    assert_eq!(fails(|at| table.write(at), 1000), WriteError::NoProcessor);
-    let mut table = write::GicMadt::new(IDS, distributor, &slots);
-    table.redistributors = &[Range { address: 0, length: 1 << 32 }];
-    assert_eq!(fails(|at| table.write(at), 1000), WriteError::BadRange);
+    let none = GicContents { cpu_interfaces: &[], ..contents };
+    assert_eq!(fails(|out| write_gic_madt(out, &IDS, &none), 1000), WriterError::NoProcessor);
 }
 
 #[test]
 fn writes_timers() {
-    let (polarity, trigger_mode) = (InputPolarity::ActiveLow, InputTrigger::Level);
+    let (polarity, trigger_mode) = (Polarity::ActiveLow, TriggerMode::Level);
+    let timer = |interrupt, always_on| ArmTimer { interrupt, polarity, trigger_mode, always_on };
+    let none = ArmTimer { polarity: Polarity::ActiveHigh, trigger_mode: TriggerMode::Level, ..timer(0, false) };
     let level = |interrupt| TimerInterrupt { interrupt, polarity, trigger_mode };
-    let timer = |interrupt| {
-        let mut timer = ArmTimer::new(Some(level(interrupt)));
-        timer.always_on = true;
-        timer
+    let frame = |number: u8| GtFrame {
+        number,
+        base: 0x2000 + u64::from(number),
+        el0_base: (number == 1).then_some(0x3000),
+        physical_timer: level(40),
+        virtual_timer: level(41),
+        is_secure: false,
+        is_always_on: true,
     };
-    let frame = |number, block_address| {
-        let mut frame = GtFrame::new(block_address, number, 0x2000 + u64::from(number));
-        frame.el0_address = (number == 1).then_some(0x3000);
-        frame.physical_interrupt = Some(level(40));
-        frame.virtual_interrupt = (number == 0).then_some(level(41));
-        frame.is_always_on = true;
-        frame
+    let frames = [frame(0), frame(1)];
+    let (interrupt, is_secure) = (42, true);
+    let (refresh_frame, control_frame) = (0x5000, 0x6000);
+    let watchdog = SbsaWatchdog { refresh_frame, control_frame, interrupt, trigger_mode, polarity, is_secure };
+    let contents = GtdtContents {
+        counter_control_base: Some(0x7000),
+        secure_el1_timer: none,
+        non_secure_el1_timer: timer(30, true),
+        virtual_el1_timer: timer(27, true),
+        el2_timer: none,
+        counter_read_base: None,
+        virtual_el2_timer: none,
+        platform_timers: &[
+            PlatformTimerContents::GtBlock(GtBlockContents { address: 0x1000, frames: &frames }),
+            PlatformTimerContents::SbsaWatchdog(watchdog),
+        ],
     };
-    let frames = [frame(0, 0x1000), frame(1, 0x1000)];
-    let mut watchdog = Watchdog::new(0x5000, 0x6000, level(42));
-    watchdog.is_secure = true;
-    let slots = frames.map(Slot::from);
-    let platform = [PlatformTimer::block(0x1000, &slots), PlatformTimer::watchdog(watchdog)];
-    let mut table = write::Gtdt::new(IDS);
-    (table.control_base, table.non_secure_el1, table.virtual_el1) = (Some(0x7000), timer(30), timer(27));
-    table.platform_timers = &platform;
-    assert_eq!(table.size(), 104 + 20 + 2 * 40 + 28);
     read_back(
-        table.size(),
-        |at| table.write(at),
-        |tables| {
-            let read = tables.find_table::<Gtdt>().unwrap();
-            let none = Some(ArmTimer::new(None));
+        104 + 20 + 2 * 40 + 28,
+        |out| write_gtdt(out, &IDS, &contents),
+        |tables, source| {
+            let read = tables.find_table::<Gtdt>().ok().unwrap();
+            assert_eq!((read.counter_control_base(), read.counter_read_base()), (Some(0x7000), None));
+            assert_eq!(plains([read.secure_el1_timer, read.el2_timer]), plains([none, none]));
             assert_eq!(
-                (read.control_base, read.read_base, read.platform_timers_malformed),
-                (Some(0x7000), None, false)
+                plains([read.non_secure_el1_timer, read.virtual_el1_timer]),
+                plains([timer(30, true), timer(27, true)])
             );
-            assert_eq!((read.secure_el1, read.el2, read.virtual_el2), (none, none, none));
-            assert_eq!((read.non_secure_el1, read.virtual_el1), (Some(timer(30)), Some(timer(27))));
-            let mut room = [Slot::default(); 4];
-            assert_eq!(read.frames().fill(&mut room).unwrap().iter().collect::<Vec<_>>(), frames);
-            let mut room = [Slot::default(); 4];
-            assert_eq!(read.watchdogs().fill(&mut room).unwrap().iter().collect::<Vec<_>>(), [watchdog]);
+            let mut timers = PlatformTimerIter::over(read.bytes());
+            let Some(PlatformTimer::GtBlock(block)) = timers.next() else { panic!("a block") };
+            assert_eq!((block.address, plains(block.frames)), (0x1000, plains(frames)));
+            let Some(PlatformTimer::SbsaWatchdog(it)) = timers.next() else { panic!("a watchdog") };
+            assert_eq!((plain(it), timers.next().is_none()), (plain(watchdog), true));
+            let frames: Vec<_> = all(|out| lists::arm_timers::frames(source, out)).unwrap();
+            let watchdogs: Vec<_> = all(|out| lists::arm_timers::watchdogs(source, out)).unwrap();
+            let platform_timers = [
+                records::PlatformTimer { kind: 0, block_address: 0x1000, frames: &frames, ..Default::default() },
+                records::PlatformTimer { kind: 1, watchdog: watchdogs[0], ..Default::default() },
+            ];
+            let timers = lists::arm_timers::arm_timers(source).unwrap();
+            again(
+                tables,
+                Signature::GTDT,
+                Contents::Gtdt(records::GtdtContents { timers, platform_timers: &platform_timers }),
+            );
         },
     );
-    let many = vec![Slot::from(frame(0, 0)); 1638];
-    let platform = [PlatformTimer::block(0x1000, &many)];
-    table.platform_timers = &platform;
-    assert_eq!(fails(|at| table.write(at), 100_000), WriteError::TooManyFrames);
+    let many = [PlatformTimerContents::GtBlock(GtBlockContents { address: 0x1000, frames: &[frame(0); 1638] })];
+    let many = GtdtContents { platform_timers: &many, ..contents };
+    assert_eq!(fails(|out| write_gtdt(out, &IDS, &many), 100_000), WriterError::TooManyFrames);
+    let bus = GtdtContents { el2_timer: ArmTimer { polarity: Polarity::SameAsBus, ..none }, ..contents };
+    assert_eq!(fails(|out| write_gtdt(out, &IDS, &bus), 1000), WriterError::SameAsBus);
+}
+
+fn range(base: u64, length: u64, domain: u32) -> MemoryRange {
+    MemoryRange { domain, base, length, is_hot_pluggable: false, is_non_volatile: true }
 }
 
 #[test]
 fn writes_domains() {
-    let mut range = MemoryAffinity::new(0x1000, u64::MAX - 0x1000, 0x1234_5678);
-    range.is_non_volatile = true;
-    let ranges = [range.into()];
-    let mut table = write::Srat::new(IDS, &ranges);
-    let (apics, giccs) = ([ApicDomain::new(254, 1), ApicDomain::new(255, 2)], [GiccDomain::new(9, 3)]);
-    (table.apics, table.giccs) = (&apics, &giccs);
-    assert_eq!(table.size(), 48 + 16 + 24 + 18 + 40);
+    let apic = |local_apic_id, domain| ApicDomain { local_apic_id, domain };
+    let ranges = [range(0x1000, u64::MAX - 0x1000, 0x1234_5678)];
+    let (apics, giccs) = ([apic(254, 1), apic(255, 2)], [GiccDomain { processor_uid: 9, domain: 3 }]);
+    let contents = SratContents { apics: &apics, giccs: &giccs, ranges: &ranges };
     read_back(
-        table.size(),
-        |at| table.write(at),
-        |tables| {
-            let srat = tables.find_table::<Srat>().unwrap();
-            assert_eq!((srat.domain_of_apic(254), srat.domain_of_apic(255)), (Ok(Some(1)), Ok(Some(2))));
-            assert_eq!(srat.domain_of_processor(9), Ok(Some(3)));
-            let mut room = [Slot::default(); 2];
-            assert_eq!(srat.memory_affinities().fill(&mut room).unwrap().get(0), Some(range));
+        48 + 16 + 24 + 18 + 40,
+        |out| write_srat(out, &IDS, &contents),
+        |tables, source| {
+            let srat = tables.find_table::<Srat>().ok().unwrap();
+            let domains = Domains::over(srat.bytes());
+            assert_eq!([254, 255].map(|id| domains.domain_of_apic(id)), [Some(1), Some(2)]);
+            assert_eq!(domains.domain_of_processor(9), Some(3));
+            assert_eq!(plains(MemoryAffinities::new(tables).ok().unwrap().ranges()), plains(ranges));
+            let ranges: Vec<_> = all(|out| lists::numa::affinities(source, out)).unwrap();
+            let contents = records::SratContents { apics: &apics, giccs: &giccs, ranges: &ranges };
+            again(tables, Signature::SRAT, Contents::Srat(contents));
         },
     );
-    let of_all = [ApicDomain::new(u32::MAX, 1)];
-    table.apics = &of_all;
-    assert_eq!(fails(|at| table.write(at), 1000), WriteError::IdOfAll);
-    let none = [MemoryAffinity::new(0x1000, 0, 1).into()];
-    let table = write::Srat::new(IDS, &none);
-    assert_eq!(fails(|at| table.write(at), 1000), WriteError::BadRange);
-    let table = write::Slit { ids: IDS, localities: 2, distances: &[10, 20, 255, 10] };
+    let error = |contents: SratContents<'_>| fails(|out| write_srat(out, &IDS, &contents), 1000);
+    assert_eq!(error(SratContents { apics: &[apic(u32::MAX, 1)], ..contents }), WriterError::IdOfAll);
+    assert_eq!(error(SratContents { ranges: &[range(0x1000, 0, 1)], ..contents }), WriterError::BadRange);
+    let distances = [10, 20, 255, 10];
     read_back(
-        table.size(),
-        |at| table.write(at),
-        |tables| {
-            let slit = tables.find_table::<zacpi::slit::Slit>().unwrap();
-            assert_eq!((slit.localities, slit.is_sane, slit.distance(1, 0)), (2, true, Some(255)));
+        48,
+        |out| write_slit(out, &IDS, 2, &distances),
+        |tables, _| {
+            let slit = tables.find_table::<Slit>().ok().unwrap();
+            assert_eq!((slit.localities, Distances::over(slit.bytes()).distance(1, 0)), (2, Some(255)));
         },
     );
-    let table = write::Slit { localities: 3, ..table };
-    assert_eq!(fails(|at| table.write(at), 1000), WriteError::BadMatrix);
-}
-
-/// The errors of a MADT, a register and a name; and an error's text.
-/// A DMAR's Signature, which sums to 0x124, and its Length, 0x30: 0x154, with Checksum 0xac. Of "XMAR" they sum to 0x168,
-/// with Checksum 0x98.
-#[test]
-fn sums_bytes() {
-    let mut table = [0; 48];
-    table[..10].copy_from_slice(b"DMAR\x30\0\0\0\0\xac");
-    assert_eq!((byte_sum(&table[..5]), byte_sum(&table), byte_sum(&[])), (0x54, 0, 0));
-    table[0] = b'X';
-    assert_eq!(byte_sum(&table), 0x14);
-    set_checksum(&mut table);
-    assert_eq!((table[9], byte_sum(&table)), (0x98, 0));
-    let mut short = [1; 35];
-    set_checksum(&mut short);
-    assert_eq!(short, [1; 35]);
+    assert_eq!(fails(|out| write_slit(out, &IDS, 3, &distances), 1000), WriterError::BadMatrix);
 }
 
 #[test]
-fn errors_have_names() {
-    let processor = |id| Slot::from(Processor::boot(0, id));
-    let table = write::Madt::new(IDS, &[]);
-    assert_eq!(fails(|at| table.write(at), 1000), WriteError::NoProcessor);
-    let all = [processor(u32::MAX)];
-    let table = write::Madt::new(IDS, &all);
-    assert_eq!(fails(|at| table.write(at), 1000), WriteError::IdOfAll);
-    let one = [processor(0)];
-    let mut table = write::Madt::new(IDS, &one);
-    let lines = [NmiLine::new(NmiProcessor::ProcessorUid(u32::MAX), LocalInterruptLine::Lint1).into()];
-    table.local_apic_nmi_lines = &lines;
-    assert_eq!(fails(|at| table.write(at), 1000), WriteError::UidOfAll);
-    // What only a list of entries at fault has isn't written.
-    let reserved = [NmiLine::new(NmiProcessor::All, LocalInterruptLine::Reserved(2)).into()];
-    table.local_apic_nmi_lines = &reserved;
-    assert_eq!(fails(|at| table.write(at), 1000), WriteError::UnknownCode);
-    let mut line = NmiLine::new(NmiProcessor::All, LocalInterruptLine::Lint1);
-    line.trigger_mode = TriggerMode::Reserved;
-    let reserved = [line.into()];
-    table.local_apic_nmi_lines = &reserved;
-    assert_eq!(fails(|at| table.write(at), 1000), WriteError::UnknownCode);
-    table.local_apic_nmi_lines = &[];
-    let mut other_bus = InterruptSourceOverride::new(9, 9, Polarity::ActiveLow, TriggerMode::Level);
-    other_bus.bus = 1;
-    let other_bus = [other_bus.into()];
-    table.interrupt_source_overrides = &other_bus;
-    assert_eq!(fails(|at| table.write(at), 1000), WriteError::UnknownCode);
-    table.interrupt_source_overrides = &[];
-    for (polarity, trigger) in [(Polarity::Reserved, TriggerMode::Edge), (Polarity::ActiveLow, TriggerMode::Reserved)] {
-        let overrides = [InterruptSourceOverride::new(9, 9, polarity, trigger).into()];
-        let mut table = table;
-        table.interrupt_source_overrides = &overrides;
-        assert_eq!(fails(|at| table.write(at), 1000), WriteError::UnknownCode);
+fn writes_devices() {
+    let info = HpetInfo {
+        event_timer_block_id: 0x8086_a201,
+        base_address: 0xfed0_0000,
+        hpet_number: 1,
+        clock_tick_unit: 100,
+        page_protection: zacpi::hpet::PageProtection::Protected64K,
+    };
+    read_back(
+        56,
+        |out| write_hpet(out, &IDS, &info),
+        |tables, source| {
+            assert_eq!(HpetInfo::new(tables).map(plain), Ok(plain(info)));
+            again(tables, Signature::HPET, Contents::Hpet(lists::devices::hpet(source).unwrap()));
+        },
+    );
+    let entry = McfgEntry { base_address: 0xb000_0000, pci_segment_group: 1, bus_number_start: 0, bus_number_end: 63 };
+    read_back(
+        60,
+        |out| write_mcfg(out, &IDS, &[entry]),
+        |tables, source| {
+            assert_eq!(plains(tables.find_table::<Mcfg>().ok().unwrap().entries()), [plain(entry)]);
+            let regions: Vec<_> = all(|out| lists::pci::pci_regions(source, out)).unwrap();
+            again(tables, Signature::MCFG, Contents::Mcfg(&regions));
+        },
+    );
+    let facs = FacsContents {
+        hardware_signature: 0x1234_5678,
+        waking_vector: 1,
+        x_waking_vector: 2,
+        supports_s4bios: true,
+        supports_64_bit_wake: true,
+    };
+    let (mut bytes, mut again) = ([0; 64], [0; 64]);
+    assert_eq!(write_facs(&mut bytes, &facs), Ok(64));
+    // Hardware Signature at 8, Firmware_Waking_Vector at 12, Flags at 20, X_Firmware_Waking_Vector at 24.
+    assert_eq!((bytes[8..13].to_vec(), bytes[20], bytes[24], bytes[32]), (vec![0x78, 0x56, 0x34, 0x12, 1], 3, 2, 2));
+    let mut record =
+        records::FacsContents { waking_vector_64: 2, hardware_signature: 0x1234_5678, ..Default::default() };
+    (record.waking_vector, record.supports_s4bios, record.supports_64_bit_wake) = (1, 1, 1);
+    assert_eq!((writing::write_facs(&mut again, &record), bytes == again), (Ok(64), true));
+}
+
+fn processor(id: u32) -> MadtProcessor {
+    let (is_enabled, is_online_capable) = (id % 3 != 2, id % 5 == 2);
+    MadtProcessor { processor_uid: id, local_apic_id: 2 * id, is_enabled, is_online_capable, is_x2apic: id % 7 == 1 }
+}
+
+fn line(processor: NmiProcessor) -> MadtNmiLine {
+    MadtNmiLine {
+        processor,
+        line: LocalInterruptLine::Lint1,
+        polarity: Polarity::ActiveHigh,
+        trigger_mode: TriggerMode::Edge,
     }
-    let mut table = write::Madt::new(TableIds { creator_id: [0xff; 4], ..IDS }, &one);
-    assert_eq!(fails(|at| table.write(at), 1000), WriteError::BadName);
-    table.ids = IDS;
-    (table.local_apic_address, table.wakeup_mailbox) = (1 << 32, Some(0x1000));
-    assert_eq!(table.size(), 44 + 8 + 12 + 16);
-    read_back(table.size(), |at| table.write(at), |tables| assert_eq!(tables.mailbox_address(), Ok(Some(0x1000))));
-    let rsdp = write::Rsdp { ids: IDS, xsdt: 0 };
-    assert_eq!(fails(|at| rsdp.write(at), 36), WriteError::NoAddress);
-    let error: &dyn core::error::Error = &WriteError::TooManyFrames;
-    assert_eq!(error.to_string(), "TooManyFrames");
+}
+
+/// What one processor takes: a Local APIC of 8 bytes, or an x2APIC of 16 if an id is 255 or above or it is to be one.
+fn entry_size(it: &MadtProcessor) -> usize {
+    if it.is_x2apic || it.processor_uid >= 255 || it.local_apic_id >= 255 { 16 } else { 8 }
+}
+
+/// MADTs of so many processors are read back as they were written.
+#[test]
+fn writes_processors() {
+    for count in [1, 4, 255, 4096] {
+        let processors: Vec<_> = (0..count).map(processor).collect();
+        let io_apics = [IoApic { id: 7, address: 0xfec0_0000, global_system_interrupt_base: 0 }];
+        let (polarity, trigger_mode) = (Polarity::ActiveLow, TriggerMode::Level);
+        let overrides =
+            [InterruptSourceOverride { isa_source: 9, global_system_interrupt: 20, polarity, trigger_mode }];
+        let nmi_sources = [NmiSource { global_system_interrupt: 2, polarity, trigger_mode }];
+        let lines = [NmiProcessor::All, NmiProcessor::ProcessorUid(3), NmiProcessor::ProcessorUid(300)].map(line);
+        let contents = MadtContents {
+            local_apic_address: 1 << 32,
+            also_has_legacy_pics: true,
+            processors: &processors,
+            io_apics: &io_apics,
+            interrupt_source_overrides: &overrides,
+            nmi_sources: &nmi_sources,
+            local_apic_nmi_lines: &lines,
+            wakeup_mailbox: Some(0x1000),
+        };
+        // An address override of 12 bytes, an I/O APIC of 12, 10, 8, two lines of 6 and one of 12, a mailbox of 16.
+        let size = 44 + processors.iter().map(entry_size).sum::<usize>() + 12 + 12 + 10 + 8 + 24 + 16;
+        read_back(
+            size,
+            |out| write_madt(out, &IDS, &contents),
+            |tables, source| {
+                assert_eq!(lists::apics::mailbox(source), Ok(0x1000));
+                let madt = tables.find_table::<zacpi::madt::Madt>().ok().unwrap();
+                let (model, info) = madt.parse_interrupt_model_in(Global).ok().unwrap();
+                let InterruptModel::Apic(apic) = model else { panic!("the model is known") };
+                assert_eq!((apic.local_apic_address, apic.also_has_legacy_pics), (1 << 32, true));
+                assert_eq!(plains(&apic.io_apics), plains(io_apics));
+                assert_eq!(plains(&apic.interrupt_source_overrides), plains(overrides));
+                assert_eq!(plains(&apic.nmi_sources), plains(nmi_sources));
+                let read = apic.local_apic_nmi_lines.iter().map(|it| (it.processor, it.line));
+                assert!(read.eq(lines.iter().map(|it| (it.processor, it.line))));
+                assert_eq!(info.unwrap().application_processors.len() + 1, processors.len());
+                let mut list = vec![Default::default(); processors.len()];
+                assert_eq!(lists::apics::processors(source, &mut list), Ok(processors.len()));
+                let read = list.iter().map(|it| (it.uid, it.local_apic_id, it.state != 0, it.is_online_capable == 1));
+                let written = processors
+                    .iter()
+                    .map(|it| (it.processor_uid, it.local_apic_id, it.is_enabled, it.is_online_capable));
+                assert!(read.eq(written));
+                let contents = records::MadtContents {
+                    processors: &list,
+                    io_apics: &all(|out| lists::apics::entries(source, out)).unwrap(),
+                    overrides: &all(|out| lists::apics::entries(source, out)).unwrap(),
+                    nmi_sources: &all(|out| lists::apics::entries(source, out)).unwrap(),
+                    nmi_lines: &all(|out| lists::apics::entries(source, out)).unwrap(),
+                    local_apic_address: 1 << 32,
+                    wakeup_mailbox: 0x1000,
+                    also_has_8259: 1,
+                    has_wakeup_mailbox: 1,
+                };
+                again(tables, Signature::MADT, Contents::Madt(contents));
+                // What only a list of entries at fault has isn't written.
+                let mut bad = contents.nmi_lines.to_vec();
+                (bad[0].lint, bad[1].polarity) = (2, 2);
+                let bus = contents
+                    .overrides
+                    .iter()
+                    .map(|it| lists::interrupt_records::InterruptSourceOverride { bus: 1, ..*it });
+                let refused = [
+                    records::MadtContents { nmi_lines: &bad[..1], ..contents },
+                    records::MadtContents { nmi_lines: &bad[1..2], ..contents },
+                    records::MadtContents { overrides: &bus.collect::<Vec<_>>(), ..contents },
+                ];
+                for contents in refused.map(Contents::Madt) {
+                    let error = fails(|out| writing::write_contents(out, &IDS, &contents), size);
+                    assert_eq!(error, Refusal::UnknownCode);
+                }
+            },
+        );
+        let error = |contents: MadtContents<'_>| fails(|out| write_madt(out, &IDS, &contents), size);
+        assert_eq!(error(MadtContents { processors: &[], ..contents }), WriterError::NoProcessor);
+        let one = MadtProcessor { local_apic_id: u32::MAX, ..processors[0] };
+        assert_eq!(error(MadtContents { processors: &[one], ..contents }), WriterError::IdOfAll);
+        let lines = [line(NmiProcessor::ProcessorUid(u32::MAX))];
+        assert_eq!(error(MadtContents { local_apic_nmi_lines: &lines, ..contents }), WriterError::UidOfAll);
+    }
+}
+
+/// The guest of the example is read back.
+#[test]
+fn reads_the_example() {
+    let memory = guest::guest().unwrap();
+    let handler = MappedRegion::new(guest::TABLES, &memory).unwrap();
+    let tables = AcpiTables::from_rsdp(&handler, guest::TABLES).ok().unwrap();
+    let signatures: Vec<_> = tables.headers().map(|table| table.signature.to_string()).collect();
+    assert_eq!(signatures, ["FACP", "APIC", "MCFG", "HPET", "SPCR", "SRAT", "SLIT"]);
+    let srat = tables.find_table::<Srat>().ok().unwrap();
+    let domains = Domains::over(srat.bytes());
+    assert_eq!([0, 1, 2, 3, 4].map(|id| domains.domain_of_apic(id)), [Some(0), Some(0), Some(1), Some(1), None]);
+    let console = tables.find_table::<Spcr>().ok().unwrap();
+    assert_eq!((console.baud_rate(), console.irq()), (Some(115_200), None));
+    assert_eq!(zacpi::PciConfigRegions::new(&tables).ok().unwrap().ecam_address(0, 1, 0, 0), Some(0xb010_0000));
+    assert_eq!(tables.dsdt().map(|aml| aml.length), Ok(10));
+}
+
+/// A machine whose tables are in memory with and without an RSDP; a FACS is at a multiple of 64.
+#[test]
+fn writes_a_machine() {
+    let at = 0x700_0000;
+    let dsdt = AmlContents { revision: 2, bytes: &[0xa3; 7] };
+    let facs_at = facs_address(at, 1, Some(dsdt)).unwrap();
+    let facs = FacsContents {
+        hardware_signature: 7,
+        waking_vector: 0,
+        x_waking_vector: 0,
+        supports_s4bios: false,
+        supports_64_bit_wake: false,
+    };
+    let fadt = FadtContents { facs: Some(facs_at), ..guest::reduced(dsdt_address(at, 1).unwrap()) };
+    let tables = [TableContents::Fadt(fadt)];
+    let machine = Machine { ids: IDS, dsdt: Some(dsdt), facs: Some(facs), tables: &tables };
+    let size = tables_size(&machine).unwrap();
+    let mut memory = vec![0x5a; size + 16];
+    assert_eq!(write_tables(&mut memory, at, &machine), Ok(size));
+    assert!(memory[size..].iter().all(|byte| *byte == 0x5a));
+    let handler = MappedRegion::new(at, &memory).unwrap();
+    let read = AcpiTables::from_rsdp(&handler, at).ok().unwrap();
+    let aml = read.dsdt().unwrap();
+    assert_eq!(handler.map_physical_region(aml.address, 7).unwrap()[..7], [0xa3; 7]);
+    assert_eq!((read.facs().map(|it| it.address), facs_at % 64), (Ok(facs_at), 0));
+    let mut without = vec![0; size - 48];
+    assert_eq!(write_tables_without_rsdp(&mut without, at, &machine), Ok(size - 48));
+    let handler = MappedRegion::new(at, &without).unwrap();
+    assert_eq!(AcpiTables::from_rsdt(&handler, 2, at).ok().unwrap().headers().count(), 1);
+    // The same of tables that are written already.
+    let mut bytes = [0; 276];
+    assert_eq!(write_fadt(&mut bytes, &IDS, &fadt), Ok(276));
+    let list = [records::ListedTable { bytes: &bytes }];
+    let dsdts = [records::AmlContents { aml: dsdt.bytes, revision: 2 }];
+    let facs = [records::FacsContents { hardware_signature: 7, ..Default::default() }];
+    let listed = records::Machine { ids: IDS, tables: &list, dsdts: &dsdts, facs: &facs };
+    let mut copy = vec![0x5a; size + 16];
+    assert_eq!((writing::tables_size(&listed), writing::write_tables(&mut copy, at, &listed)), (Ok(size), Ok(size)));
+    assert!(copy == memory && writing::dsdt_place(at, 1) == Ok(dsdt_address(at, 1).unwrap()));
+    assert_eq!(writing::write_tables_without_rsdp(&mut copy, at, &listed), Ok(size - 48));
+    let short = [records::ListedTable { bytes: &bytes[..35] }];
+    let short = records::Machine { tables: &short, ..listed };
+    assert_eq!(fails(|out| writing::write_tables(out, at, &short), 4096), Refusal::BadTable);
+}
+
+/// After each error the memory is as it was.
+#[test]
+fn fails_as_a_whole() {
+    let empty: Machine<'_> = Machine { ids: IDS, dsdt: None, facs: None, tables: &[] };
+    let error = |machine: &Machine<'_>, at, length| fails(|out| write_tables(out, at, machine), length);
+    let size = tables_size(&empty).unwrap();
+    assert_eq!((error(&empty, 0x1000, size - 1), error(&empty, 0x1000, 0)), (WriterError::NoRoom, WriterError::NoRoom));
+    for at in [0x1008, 0, u64::MAX - 15] {
+        assert_eq!(error(&empty, at, 4096), WriterError::NoAddress);
+    }
+    let mut unnamed = empty;
+    unnamed.ids.oem_id[0] = 0xff;
+    assert_eq!(
+        (error(&unnamed, 0x1000, 4096), tables_size(&unnamed)),
+        (WriterError::BadName, Err(WriterError::BadName))
+    );
+    assert_eq!((dsdt_address(u64::MAX, 1), facs_address(u64::MAX - 84, 1, None)), (None, None));
+    assert_eq!(writing::dsdt_place(u64::MAX, 1), Err(Refusal::Writer(WriterError::NoAddress)));
+    // 4 GiB of zeros, of which none is looked at: Length can't count so many.
+    #[cfg(target_pointer_width = "64")]
+    {
+        let long = vec![0; 1 << 32];
+        let machine = Machine { dsdt: Some(AmlContents { revision: 2, bytes: &long }), ..empty };
+        assert_eq!(error(&machine, 0x1000, 4096), WriterError::TooLong);
+    }
 }

@@ -1,7 +1,14 @@
 //! Memory that tests lay out by hand, a field at a time: an offset is beside the name that the specification has
 //! for its field.
 #![allow(dead_code)]
-use zacpi::{AcpiTables, Region};
+use std::fmt::Debug;
+use zacpi::address::{AccessSize, AddressSpace, GenericAddress};
+use zacpi::handler::MappedRegion;
+use zacpi::lists::records::Source;
+use zacpi::lists::refusal::Refusal;
+use zacpi::lists::regions::Region;
+use zacpi::write::TableIds;
+use zacpi::{AcpiTable, AcpiTables};
 
 /// A field: its offset, its width in bytes, and its value, which is written its lowest byte first.
 pub type Field = (usize, usize, u64);
@@ -12,6 +19,21 @@ pub fn generic(at: usize, space: u64, width: u64, offset: u64, access: u64, addr
     [(at, 1, space), (at + 1, 1, width), (at + 2, 1, offset), (at + 3, 1, access), (at + 4, 8, address)]
 }
 
+/// A register of ports, as a field of 32 bits has it.
+pub fn ports(address: u64, bit_width: u8) -> GenericAddress {
+    let (address_space, access_size) = (AddressSpace::SystemIo, AccessSize::Undefined);
+    GenericAddress { address_space, bit_width, bit_offset: 0, access_size, address }
+}
+
+/// Who made the tables of [`Memory`].
+pub const IDS: TableIds = TableIds {
+    oem_id: *b"OEMID ",
+    oem_table_id: *b"HANDMADE",
+    oem_revision: 1,
+    creator_id: *b"TEST",
+    creator_revision: 2,
+};
+
 /// Where root tables lie.
 pub const ROOT: u64 = 0x10_0000;
 
@@ -19,6 +41,8 @@ pub const ROOT: u64 = 0x10_0000;
 pub struct Memory {
     pub bytes: Vec<u8>,
 }
+
+pub type Tables<'h> = AcpiTables<'h, MappedRegion<'h>>;
 
 impl Memory {
     pub fn new() -> Self {
@@ -59,18 +83,73 @@ impl Memory {
         bytes[checksum_at] = bytes.iter().fold(0u8, |sum, byte| sum.wrapping_sub(*byte));
     }
 
-    pub fn regions(&self) -> [Region<'_>; 1] {
-        [Region::new(ROOT, &self.bytes)]
+    /// An RSDP (section 5.2.5.3) of revision 0, or of revision 2 if there is an XSDT: Checksum at 8, Revision at 15,
+    /// RsdtAddress at 16, Length at 20, XsdtAddress at 24, Extended Checksum at 32.
+    pub fn rsdp(&mut self, address: u64, rsdt: u64, xsdt: Option<u64>) {
+        self.put(address, &[(0, 8, u64::from_le_bytes(*b"RSD PTR ")), (16, 4, rsdt)]);
+        let Some(xsdt) = xsdt else { return self.sum(address, 20, 8) };
+        self.put(address, &[(15, 1, 2), (20, 4, 36), (24, 8, xsdt)]);
+        self.sum(address, 20, 8);
+        self.sum(address, 36, 32);
+    }
+
+    pub fn handler(&self) -> MappedRegion<'_> {
+        MappedRegion::new(ROOT, &self.bytes).unwrap()
     }
 
     /// Asks the tables below the RSDT.
-    pub fn ask<T>(&self, ask: impl FnOnce(AcpiTables<'_>) -> T) -> T {
-        let regions = self.regions();
-        ask(AcpiTables::open_root(&regions, 0, ROOT).unwrap())
+    pub fn ask<T>(&self, ask: impl FnOnce(&Tables<'_>) -> T) -> T {
+        ask(&AcpiTables::from_rsdt(&self.handler(), 0, ROOT).unwrap())
+    }
+
+    /// Asks the calls that need no heap about the tables below the RSDT.
+    pub fn list<T>(&self, ask: impl FnOnce(&Source<'_>) -> T) -> T {
+        let regions = [Region { address: ROOT, bytes: &self.bytes }];
+        ask(&Source { regions: &regions, address: ROOT, start: 1, accept: 0 })
+    }
+
+    /// Asks the bytes of the first table of a type.
+    pub fn bytes_of<A: AcpiTable, T>(&self, ask: impl FnOnce(&[u8]) -> T) -> T {
+        self.ask(|tables| ask(tables.find_table::<A>().unwrap().bytes()))
     }
 }
 
-/// The bytes of a sample image's only record: crates/acpi_dump/data/README.md describes it.
-pub fn record_of(image: &[u8]) -> (u64, &[u8]) {
-    (u64::from_le_bytes(image[..8].try_into().unwrap()), &image[16..])
+/// A memory of one table at this address.
+pub const TABLE: u64 = ROOT + 0x1000;
+
+pub fn with(signature: &str, revision: u64, length: usize, fields: &[Field]) -> Memory {
+    let mut memory = Memory::rsdt(&[TABLE]);
+    memory.table(TABLE, signature, revision, length, fields);
+    memory
+}
+
+/// The items that a call writes into a slice of so many, and how many it says that there are.
+pub fn filled<T: Copy + Default>(
+    capacity: usize,
+    call: impl FnOnce(&mut [T]) -> Result<usize, Refusal>,
+) -> Result<(Vec<T>, usize), Refusal> {
+    let mut items = vec![T::default(); capacity];
+    let count = call(&mut items)?;
+    items.truncate(count);
+    Ok((items, count))
+}
+
+/// All items that a call lists, of at most 64.
+pub fn all<T: Copy + Default>(call: impl FnOnce(&mut [T]) -> Result<usize, Refusal>) -> Result<Vec<T>, Refusal> {
+    filled(64, call).map(|(items, _)| items)
+}
+
+/// A value's name and its fields in the order of their declaration, numbers in hexadecimal. An error has its text.
+pub fn plain(value: impl Debug) -> String {
+    let text = format!("{value:#x?}");
+    let mut lines = text.lines().map(|line| line.trim().trim_end_matches(','));
+    let name = lines.next().unwrap_or("").trim_end_matches(['{', '(', '[', ' ']);
+    let fields = lines.map(|line| line.rsplit(": ").next().unwrap_or(line));
+    let values = fields.filter(|field| !field.ends_with(['{', '(', '[', '}', ')', ']']) || field.ends_with("[]"));
+    values.fold(name.to_string(), |all, value| all + " " + value.trim_start_matches("0x"))
+}
+
+/// The same of each.
+pub fn plains<T: Debug>(values: impl IntoIterator<Item = T>) -> Vec<String> {
+    values.into_iter().map(plain).collect()
 }
