@@ -1,23 +1,23 @@
 use acpi::fadt::Fadt;
 use acpi::platform::interrupt::{InterruptModel, Polarity, TriggerMode};
 use acpi::platform::ProcessorState;
-use acpi::{AcpiError, AcpiTables, HpetInfo, PciConfigRegions, PhysicalMapper, Range};
-use core::ptr::NonNull;
+use acpi::{AcpiError, AcpiHandler, AcpiResult, AcpiTables, HpetInfo, PciConfigRegions};
+use core::slice::from_raw_parts;
 
 #[derive(Clone)]
 struct Handler;
 
-impl PhysicalMapper for Handler {
-    unsafe fn map(&self, range: Range) -> Option<NonNull<u8>> {
-        NonNull::new((PHYSICAL_MEMORY + range.address) as *mut u8).filter(|_| is_memory(range))
+impl AcpiHandler for Handler {
+    fn map_physical_region(&self, address: u64, size: usize) -> AcpiResult<&[u8]> {
+        let at = (PHYSICAL_MEMORY + address) as *const u8;
+        is_memory(address, size).then(|| unsafe { from_raw_parts(at, size) }).ok_or(AcpiError::MapFailed)
     }
-    fn unmap(&self, _: NonNull<u8>, _: Range) {}
+    fn unmap_physical_region(&self, _: u64, _: usize, _: usize) {}
 }
 
 pub fn start(kernel: &mut Kernel, rsdp: usize) -> Result<(), AcpiError> {
-    let mapped = unsafe { AcpiTables::from_rsdp(Handler, rsdp as u64)? };
-    let tables = mapped.tables();
-    let platform = tables.platform_info_alloc()?;
+    let tables = AcpiTables::from_rsdp(&Handler, rsdp as u64)?;
+    let platform = tables.platform_info()?;
     if let InterruptModel::Apic(apic) = &platform.interrupt_model {
         kernel.local_apic(apic.local_apic_address);
         for io_apic in apic.io_apics.iter() {
@@ -30,7 +30,7 @@ pub fn start(kernel: &mut Kernel, rsdp: usize) -> Result<(), AcpiError> {
         }
     }
     if let Some(info) = &platform.processor_info {
-        for processor in info.application_processors() {
+        for processor in info.application_processors.iter() {
             if processor.state == ProcessorState::WaitingForSipi {
                 kernel.start_processor(processor.local_apic_id);
             }
@@ -39,7 +39,7 @@ pub fn start(kernel: &mut Kernel, rsdp: usize) -> Result<(), AcpiError> {
     if let Ok(hpet) = HpetInfo::new(&tables) {
         kernel.hpet(hpet.base_address as u64, hpet.main_counter_is_64bits());
     }
-    if let Some(at) = PciConfigRegions::new(&tables)?.ecam_address(0, 0, 0, 0) {
+    if let Some(at) = PciConfigRegions::new(&tables)?.physical_address(0, 0, 0, 0) {
         kernel.pci(at);
     }
     let fadt = tables.find_table::<Fadt>()?;
