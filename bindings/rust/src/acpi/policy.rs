@@ -4,9 +4,10 @@
 use crate::base::table::accepted_at;
 use crate::base::{AcpiResult, AcpiTable, Lender, PhysicalMapping};
 
-/// Which checks of tables a caller gives up. Each table that is valid is accepted, and each that fails no other check: a
-/// policy only ever accepts more. For a type with a check of its own (`AcpiTable::validate`) that check stays: an error
-/// of a sum or an id that is given up doesn't count if it is the first, and after one of an id only the sum is left.
+/// Which checks of tables a caller gives up. Each table that is valid is accepted, and each that fails no other check:
+/// a policy only ever accepts more. For a type with a check of its own (`AcpiTable::validate`) that check stays: an
+/// error of a sum or an id that is given up doesn't count if it is the first, and after one of an id only the sum is
+/// left to check.
 pub trait Policy: Copy {
     /// The checks that are given up: bit 0 is that of a table's sum, bit 1 that of both its ids. No other bit counts.
     fn bits(&self) -> u32;

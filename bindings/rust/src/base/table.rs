@@ -25,7 +25,8 @@ pub trait AcpiTable: PhysicalRecord {
 
     /// Checks the table that this value was read from, by its bytes, and returns the error of `kind.check`. Most
     /// types return `self.header().validate(Self::SIGNATURE, bytes)`, and have an `sdt_kind` of that
-    /// signature as their kind.
+    /// signature as their kind. Where a caller gives checks up, `SdtInvalidChecksum`, or `SdtInvalidOemId` and
+    /// `SdtInvalidTableId`, don't count (`accepted_at`), so a type checks what is its own before these.
     fn validate(&self, bytes: &[u8]) -> AcpiResult<()>;
 
     /// What `validate` returns for the record that these bytes mean, if their header is known to have the

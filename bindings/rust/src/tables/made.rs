@@ -5,7 +5,7 @@ view! {
     /// The header of tables: The header that every table begins with (section 5.2.6, table 5.4). An S3PT and an FBPT have
     /// only its first two fields: after their records, fields at lower offsets aren't shown.
     Header 0 of 36 {
-        signature: 4 @ 0, length: u32 @ 4, revision: u8 @ 8, checksum: u8 @ 9, oemid: 6 @ 10, oem_table_id: 8 @ 16,
+        signature: 4 @ 0, length: u32 @ 4, revision: u8 @ 8, checksum: u8 @ 9, oem_id: 6 @ 10, oem_table_id: 8 @ 16,
         oem_revision: u32 @ 24, creator_id: 4 @ 28, creator_revision: u32 @ 32,
     }
 }

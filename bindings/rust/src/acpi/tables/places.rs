@@ -49,8 +49,8 @@ impl<'h, H: Lender, P: Policy> AcpiTables<'h, H, P> {
         Ok(found.mapping())
     }
 
-    /// The bytes of the first member of the root table that is accepted under a signature and a least length, of at least
-    /// 36, that are known only at run time (section 5.2.6).
+    /// The bytes of the first member of the root table that is accepted under a signature and a least length, of at
+    /// least 36, that are known only at run time (section 5.2.6).
     ///
     /// Fails as `find_sdt` does.
     #[inline(never)]
@@ -73,8 +73,8 @@ impl<'h, H: Lender, P: Policy> AcpiTables<'h, H, P> {
         Ok(table.mapping())
     }
 
-    /// The table at a physical address, whether it is a member or not, mapped as its header, if it is accepted under the
-    /// signature that it has itself (section 5.2.6).
+    /// The table at a physical address, whether it is a member or not, mapped as its header, if it is accepted under
+    /// the signature that it has itself (section 5.2.6).
     ///
     /// Fails as `sdt_at` does for that signature.
     pub fn own_sdt_at(&self, address: u64) -> AcpiResult<PhysicalMapping<'h, H, SdtHeader>> {
@@ -95,12 +95,12 @@ impl<'h, H: Lender, P: Policy> AcpiTables<'h, H, P> {
         FoundTables::new(self.root.handler(), self.pointers(), self.policy.bits())
     }
 
-    /// Where the FACS lies, as many bytes as its Length says (section 5.2.10): that of the first accepted FADT (section
+    /// Where the FACS is, as many bytes as its Length has (section 5.2.10): that of the first accepted FADT (section
     /// 5.2.9).
     ///
-    /// Fails, in this order, with `TableMissing` if no accepted FADT is listed, `InvalidFacsAddress` if that FADT gives no
-    /// address, `MapFailed` if 36 bytes aren't lent there, as `facs_length` does, and with `MapFailed` if as many bytes
-    /// as the length says aren't lent.
+    /// Fails, in this order, with `TableMissing` if no accepted FADT is listed, `InvalidFacsAddress` if that FADT has
+    /// no address, `MapFailed` if 36 bytes aren't lent there, as `facs_length` does, and with `MapFailed` if as many
+    /// bytes as the length has aren't lent.
     pub fn facs(&self) -> AcpiResult<AddressRange> {
         self.facs_place(&self.find_fadt()?)
     }

@@ -14,9 +14,9 @@ pub struct PhysicalMapping<'h, H: Lender, T: PhysicalRecord> {
 }
 
 impl<'h, H: Lender, T: PhysicalRecord> PhysicalMapping<'h, H, T> {
-    /// The mapping of the first `region_length` of these bytes, at least `T::MIN_LENGTH` and at most all, which are from
-    /// the physical address `physical_start` on. It reads the record from them. The bytes may come from anywhere; when the
-    /// mapping is dropped, the handler gets the notice.
+    /// The mapping of the first `region_length` of these bytes, at least `T::MIN_LENGTH` and at most all, which are
+    /// from the physical address `physical_start` on. It reads the record from them. The bytes may come from
+    /// anywhere; when the mapping is dropped, the handler gets the notice.
     pub fn new(physical_start: u64, bytes: &'h [u8], region_length: usize, handler: &'h H) -> Self {
         PhysicalMapping::of_claim(Claim::new(physical_start, bytes, region_length, handler))
     }
@@ -27,8 +27,8 @@ impl<'h, H: Lender, T: PhysicalRecord> PhysicalMapping<'h, H, T> {
         PhysicalMapping { claim, value }
     }
 
-    /// The mapping of the `size` bytes, at least one and at least `T::MIN_LENGTH`, at a physical address, as the handler
-    /// maps them.
+    /// The mapping of the `size` bytes, at least one and at least `T::MIN_LENGTH`, at a physical address, as the
+    /// handler maps them.
     ///
     /// Fails with `MapFailed` if they aren't all inside one region.
     pub fn map(handler: &'h H, address: u64, size: usize) -> AcpiResult<Self> {

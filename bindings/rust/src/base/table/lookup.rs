@@ -79,8 +79,8 @@ pub fn valid_at<'h, H: Lender, T: AcpiTable>(handler: &'h H, address: u64) -> Ac
     claim_valid::<H, T>(head)
 }
 
-/// What is left of the result of a type's own check of a table's bytes by the bits of `accept`: by bit 0 an error of the
-/// sum doesn't count, by bit 1 one of an id, after which only the sum is left to check.
+/// What is left of the result of a type's own check of a table's bytes by the bits of `accept`: by bit 0 an error of
+/// the sum doesn't count, by bit 1 one of an id, after which only the sum is left to check.
 fn left_of(checked: AcpiResult<()>, signature: Signature, bytes: &[u8], accept: u32) -> AcpiResult<()> {
     match checked {
         Err(AcpiError::SdtInvalidChecksum(_)) if has_bit(accept as u64, 0) => Ok(()),
@@ -159,8 +159,8 @@ fn claim_by<'h, H: Lender>(
 }
 
 /// The bytes of the table at a physical address, if it is accepted under a signature that is known only at run time, as
-/// one of a least length of which only the header and the sum matter (section 5.2.6). By bit 0 of `accept` its sum may
-/// be any, by bit 1 both of its ids, and by 0 it has to be valid.
+/// one of a least length, of at least 36, of which only the header and the sum matter (section 5.2.6). By bit 0 of
+/// `accept` its sum may be any, by bit 1 both of its ids, and by 0 it has to be valid.
 ///
 /// Fails as `map_table` does for a type with that signature and least length, but for the checks that are skipped.
 #[inline(always)]
