@@ -149,10 +149,12 @@ enum zacpi_status_code {
     ZACPI_NO_RESET = 34,                /* RESET_REG_SUP is clear, or RESET_REG at address 0 */
     ZACPI_SLEEP_STATE_ABSENT = 35,      /* no table defines the state's name */
     ZACPI_SLEEP_STATE_NOT_SEEN = 36,    /* a table may define it, if its AML is run, or defines it,
-                                         * but not as a package of constants */
+                                         * but not as a package that begins with two integer
+                                         * constants, or has one alone */
     ZACPI_AML_INVALID = 37,             /* the table whose signature is written has bytes that no
                                          * AML is (section 20.2) */
-    ZACPI_SLEEP_TYPE_TOO_HIGH = 38,     /* above 7, where SLP_TYP has three bits */
+    ZACPI_SLEEP_TYPE_TOO_HIGH = 38,     /* above 7, where SLP_TYP has three bits and the type is
+                                         * written; above 255, where it is returned */
 
     /* The MADT (section 5.2.12). An entry begins, from byte 44 on, where its Length is at most the
      * bytes left and at least 8, 12, 10, 8, 6, 12, 16, 16, 16, 16, 12, 76, 24, 24, 16, 20 and 16
@@ -707,11 +709,32 @@ struct zacpi_sleep_types {
     uint8_t a, b; /* SLP_TYPa and SLP_TYPb */
 };
 
-/* Returns the sleep types of S0 to S5, constants in the AML (section 7.4.2), which isn't run: of
- * the first of the DSDT and the SSDTs that has the state's package. Fails with an opening error, or
- * ZACPI_NO_SUCH_STATE; if no table has it, with ZACPI_TABLE_MISSING "FACP",
- * ZACPI_INVALID_DSDT_ADDRESS, an error of a table with "DSDT", ZACPI_AML_INVALID or
- * ZACPI_SLEEP_STATE_NOT_SEEN of the first table with one of them, or ZACPI_SLEEP_STATE_ABSENT. */
+/* Where sleep types are (section 7.4.2), as AML isn't run: in the package of the first Name of the
+ * state, _S0_ to _S5_, at the root or in Scope (\) there. They are its first two elements, or the
+ * low byte of an only one and what is above it, and have to be integer constants; elements after
+ * the second don't matter.
+ *
+ * On the way to it these are skipped by their length: If, Else, While, Method, Device, Processor,
+ * PowerResource, ThermalZone, other Scopes and fields. So are Name, Alias, External, Mutex, Event,
+ * Noop, regions, and CreateField and its like, if their arguments are integer constants, texts,
+ * buffers, packages, names, locals, or Add, Subtract, ShiftLeft, ShiftRight, And and Or of these.
+ * Another statement or expression, such as Store, Revision or a call, hides what follows it, up to
+ * the end of its Scope (\) or of the table. What is no AML is ZACPI_AML_INVALID, as an integer
+ * constant by itself is; but right after a region, a CreateField or its like, or a Name whose value
+ * is a name or an operator, it may belong to a call there, and hides what follows.
+ *
+ * ZACPI_SLEEP_STATE_NOT_SEEN is for a name that may be defined by what is hidden; by an If, Else or
+ * While; by a Method or Alias of it; or by another object with its four letters in its bytes, but
+ * not by a Name, Alias or Method of another name (what a method's body defines ends with the call),
+ * nor by an External, also of the name itself, which another table defines. It is also for a Name
+ * of the state that has another value than such a package, be it an integer or a package of no
+ * elements, and hides what follows. */
+
+/* Returns the sleep types of S0 to S5: those of the first of the DSDT and the SSDTs that has the
+ * state's package, each as a byte. Fails with an opening error, or ZACPI_NO_SUCH_STATE; if no table
+ * has it, with ZACPI_TABLE_MISSING "FACP", ZACPI_INVALID_DSDT_ADDRESS, an error of a table with
+ * "DSDT", ZACPI_AML_INVALID or ZACPI_SLEEP_STATE_NOT_SEEN of the first table with one of them, or
+ * ZACPI_SLEEP_STATE_ABSENT; then with ZACPI_SLEEP_TYPE_TOO_HIGH if one of the two is above 255. */
 ZACPI_STATUS zacpi_get_sleep_types(const struct zacpi_source *source, uint32_t state,
                                    struct zacpi_sleep_types *out,
                                    struct zacpi_signature *signature);

@@ -49,6 +49,11 @@ static const struct row power_rows[] = {
     GOOD(get_sleep_types, HIGH, NULL, A(2), 1, 5, 6), /* in a scope of the root in another */
     REFUSED(get_sleep_types, HIGH, NULL, A(3), ZACPI_SLEEP_STATE_NOT_SEEN, NULL), /* in a scope that is passed */
     REFUSED(get_sleep_types, HIGH, NULL, A(1), ZACPI_SLEEP_STATE_NOT_SEEN, NULL), /* StoreOp */
+    REFUSED(get_sleep_types, WIDE_PLAIN, NULL, A(4), ZACPI_SLEEP_TYPE_TOO_HIGH, NULL), /* 0x105, which isn't 5 */
+    REFUSED(get_sleep_types, WIDE_PLAIN, NULL, A(3), ZACPI_SLEEP_TYPE_TOO_HIGH, NULL), /* the second */
+    GOOD(get_sleep_types, WIDE_PLAIN, NULL, A(2), 1, 5, 7), /* the two bytes of an only element */
+    GOOD(get_sleep_types, WIDE_PLAIN, NULL, A(1), 1, 7, 7),
+    REFUSED(get_sleep_types, WIDE_PLAIN, NULL, A(0), ZACPI_SLEEP_STATE_ABSENT, NULL), /* External */
 
     GOOD(get_sleep_plan, POWER, NULL, A(5), 1, TWO_STEPS(PM1A, PM1B)),
     GOOD(get_sleep_plan, PLAIN, NULL, A(5), 1, ONE_STEP(PM1A)),
@@ -66,6 +71,10 @@ static const struct row power_rows[] = {
     REFUSED(get_sleep_plan, HIGH_REDUCED, NULL, A(0), ZACPI_SLEEP_TYPE_TOO_HIGH, NULL), /* of SLEEP_CONTROL_REG */
     GOOD(get_sleep_plan, HIGH_REDUCED, NULL, A(4), 1, /* SLP_TYP 7, 0x1c; that of PM1b_CNT isn't written */
          ONE_STEP(STEP(0, 8, 1, 0xfee00010, 0x3c, 0x3c, 8, ZACPI_STEP_WRITE))),
+    REFUSED(get_sleep_plan, WIDE_PLAIN, NULL, A(4), ZACPI_SLEEP_TYPE_TOO_HIGH, NULL),
+    GOOD(get_sleep_plan, WIDE_PLAIN, NULL, A(3), 1, ONE_STEP(PM1A)), /* the second isn't written */
+    REFUSED(get_sleep_plan, WIDE_REDUCED, NULL, A(4), ZACPI_SLEEP_TYPE_TOO_HIGH, NULL),
+    GOOD(get_sleep_plan, WIDE_REDUCED, NULL, A(3), 1, ONE_STEP(SLEEP_CONTROL)),
     REFUSED(get_power_off_plan, HIGH, NULL, NO, ZACPI_SLEEP_TYPE_TOO_HIGH, NULL),
     GOOD(get_power_off_plan, POWER, NULL, NO, 1, TWO_STEPS(PM1A, PM1B)),
     GOOD(get_power_off_plan, REDUCED, NULL, NO, 1, ONE_STEP(SLEEP_CONTROL)),

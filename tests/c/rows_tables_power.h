@@ -4,8 +4,9 @@
 #define ROWS_TABLES_POWER_H
 
 /* Root tables: the package in the second SSDT; reduced hardware; fixed hardware with neither PM1b_CNT nor SMI_CMD;
- * reduced hardware without SLEEP_CONTROL_REG; a DSDT whose AML begins with no object; an SSDT alone; and sleep types
- * above 7, on a machine that is always in ACPI mode, on one without PM1b_CNT and on reduced hardware. */
+ * reduced hardware without SLEEP_CONTROL_REG; a DSDT whose AML begins with no object; an SSDT alone; sleep types
+ * above 7, on a machine that is always in ACPI mode, on one without PM1b_CNT and on reduced hardware; and sleep types
+ * above 255 on the last two. */
 PUTS(power, {36, 4, AT(FADT_POWER)}, {40, 4, AT(SSDT_0)}, {44, 4, AT(SSDT_S5)});
 PUTS(reduced, {36, 4, AT(FADT_REDUCED)});
 PUTS(plain, {36, 4, AT(FADT_PLAIN)});
@@ -15,6 +16,8 @@ PUTS(fadtless, {36, 4, AT(SSDT_S5)});
 PUTS(high, {36, 4, AT(FADT_HIGH)}, {40, 4, AT(SSDT_HIGH)});
 PUTS(high_plain, {36, 4, AT(FADT_PLAIN)}, {40, 4, AT(SSDT_HIGH)});
 PUTS(high_reduced, {36, 4, AT(FADT_REDUCED)}, {40, 4, AT(SSDT_HIGH)});
+PUTS(wide_plain, {36, 4, AT(FADT_PLAIN)}, {40, 4, AT(SSDT_WIDE)});
+PUTS(wide_reduced, {36, 4, AT(FADT_REDUCED)}, {40, 4, AT(SSDT_WIDE)});
 
 PUTS(fadt_power,
     {40, 4, AT(DSDT_POWER)} /* DSDT */, {48, 4, 0xb2} /* SMI_CMD */, {52, 1, 0xf1} /* ACPI_ENABLE */,
@@ -57,5 +60,16 @@ PUTS(ssdt_high,
     {36, 1, 0x08}, {37, 4, 0x5f35535f}, {41, 1, 0x12}, {42, 1, 5}, {43, 1, 2}, {44, 2, 0x080a}, {46, 1, 1},
     {47, 1, 0x08}, {48, 4, 0x5f34535f}, {52, 1, 0x12}, {53, 1, 6}, {54, 1, 2}, {55, 2, 0x070a}, {57, 2, 0x080a},
     {59, 1, 0x08}, {60, 4, 0x5f30535f}, {64, 1, 0x12}, {65, 1, 5}, {66, 1, 2}, {67, 2, 0x080a}, {69, 1, 1});
+/* With WordPrefix _S4_ of 0x0105 and 0, _S3_ of 5 and 0x0105, and _S2_ of 0x0705 alone: 5 and 7. _S1_ of 7, 7, a
+ * package and a text. External _S0_ of no type, and 0 arguments. */
+PUTS(ssdt_wide,
+    {36, 1, 0x08}, {37, 4, 0x5f34535f}, {41, 1, 0x12}, {42, 1, 6}, {43, 1, 2}, {44, 1, 0x0b}, {45, 2, 0x0105},
+    {47, 1, 0},
+    {48, 1, 0x08}, {49, 4, 0x5f33535f}, {53, 1, 0x12}, {54, 1, 7}, {55, 1, 2}, {56, 2, 0x050a}, {58, 1, 0x0b},
+    {59, 2, 0x0105},
+    {61, 1, 0x08}, {62, 4, 0x5f32535f}, {66, 1, 0x12}, {67, 1, 5}, {68, 1, 1}, {69, 1, 0x0b}, {70, 2, 0x0705},
+    {72, 1, 0x08}, {73, 4, 0x5f31535f}, {77, 1, 0x12}, {78, 1, 12}, {79, 1, 4}, {80, 2, 0x070a}, {82, 2, 0x070a},
+    {84, 3, 0x000212}, {87, 3, 0x00780d},
+    {90, 1, 0x15}, {91, 4, 0x5f30535f}, {95, 2, 0});
 
 #endif

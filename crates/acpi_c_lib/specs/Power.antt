@@ -1,7 +1,7 @@
 -- Sleep types, and what to write to sleep, to enable ACPI and to reset, as C gets them.
-use Rattle.std.specs.Prelude.{ℕ, ◌+◌, List, ◌∷◌, nat_le, replicate, Option, Some, None, Result, Ok, Err, if◌then◌else◌}
+use Rattle.std.specs.Prelude.{ℕ, ◌+◌, ◌&&◌, List, ◌∷◌, nat_le, replicate, Option, Some, None, Result, Ok, Err, if◌then◌else◌}
 use Rattle.std.specs.Option.{is_some}
-use Rattle.acpi_base.specs.Words.{Memory, plain_kind, ◌>>=◌, accepted, table_at}
+use Rattle.acpi_base.specs.Words.{Memory, plain_kind, ◌>>=◌, accepted, holds, table_at}
 use Rattle.acpi.specs.Types.{AcpiError, DSDT, Fadt, SSDT}
 use Rattle.acpi.specs.Words.{fadt_kind, lookup, tables_found}
 use Rattle.acpi_fixed.specs.Words.{dsdt_address_of, fadt_at}
@@ -10,7 +10,6 @@ use Rattle.acpi_sleep.specs.declared.error.PlanError.TheVariants as plans
 use Rattle.acpi_sleep.specs.declared.error.SleepError.TheVariants as errors
 use Rattle.acpi_sleep.specs.declared.plan.StepKind.TheVariants as kinds
 use Rattle.acpi_sleep.specs.declared.sleep.SleepAnswer.TheVariants as answers
-use Rattle.acpi_c_lib.specs.Answers.{result_map}
 use Rattle.acpi_c_lib.specs.Below.{Refusal, Source, below, first_table}
 use Rattle.acpi_c_lib.specs.Devices.{flag, optional_register}
 use Rattle.acpi_c_lib.specs.Types.{Acpi, AmlInvalid, NoRegister, NoReset, NoSuchState, Plan, PlanError, PlanStep, SleepError, SleepStateAbsent, SleepStateNotSeen, SleepTypeTooHigh, SleepTypes, Step, StepKind}
@@ -58,11 +57,14 @@ accepted_answer accept state m ps =
 abbrev pub types_below : Source → ℕ → Result SleepTypes Refusal
 types_below s state = below s (λ m ps. types_said (accepted_answer s.accept state m ps))
 
-abbrev pub types_record : SleepTypes → records.SleepTypes
-types_record types = record { a = types.a; b = types.b }
+-- each has one byte
+abbrev pub types_record : SleepTypes → Result records.SleepTypes Refusal
+types_record types = do
+  _ ← holds (nat_le types.a 255 && nat_le types.b 255) SleepTypeTooHigh
+  Ok (record { a = types.a; b = types.b })
 
 abbrev pub sleep_types_below : Source → ℕ → Result records.SleepTypes Refusal
-sleep_types_below s state = result_map types_record (types_below s state)
+sleep_types_below s state = types_below s state >>= types_record
 
 -- ---- plans
 

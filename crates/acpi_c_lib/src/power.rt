@@ -15,14 +15,17 @@ use acpi::{Accept, AcpiHandler, AcpiTables};
 use acpi_sleep::tables::{block_answer, or_after};
 use acpi_sleep::{PlanError, PlanStep, SleepAnswer, SleepError, StepKind};
 
-/// The sleep types of a sleep state, by the DSDT and the SSDTs.
+/// The sleep types of a sleep state, by the DSDT and the SSDTs, if each fits a byte.
 pub fn sleep_types(source: &Source<'_>, state: u32) -> Result<SleepTypes, Refusal>
     ensures { result ≡ sleep_types_below source.now state }
 {
     let types = types_of(source, state)?;
+    if types.a > 255 || types.b > 255 {
+        return Err(Refusal::SleepTypeTooHigh);
+    }
     Ok(SleepTypes {
-        a: types.a,
-        b: types.b,
+        a: types.a as u8,
+        b: types.b as u8,
     })
 }
 

@@ -3,7 +3,7 @@
 //!
 //! Sleep states have methods of AML besides: before the first step an interpreter runs `_TTS` and `_PTS` with the
 //! state's number, and `_GTS` where a machine still has it, and after a sleep `_WAK` (section 7.4).
-ghost use Rattle.std.specs.Prelude.{◌≡◌};
+ghost use Rattle.std.specs.Prelude.{◌≡◌, ◌≤◌};
 ghost use Rattle.acpi_fixed.specs.Words.{viewed};
 ghost use Rattle.acpi_sleep.specs.Words.{byte_step, enable_plan, fits, is_always_enabled, pm1_step, pm1a_control, port, reset_plan, sci_step, sleep_control, sleep_control_step, sleep_plan, timer_bits, timer_ticks, unless_zero};
 
@@ -48,7 +48,8 @@ pub struct Plan {
 }
 
 /// That PM1 control gets a sleep type and SLP_EN (section 4.8.3.2.1).
-fn pm1_step(register: GenericAddress, sleep_type: u8) -> PlanStep
+fn pm1_step(register: GenericAddress, sleep_type: u64) -> PlanStep
+    requires { sleep_type ≤ 7 }
     ensures { result ≡ pm1_step register sleep_type }
 {
     PlanStep {
@@ -61,7 +62,8 @@ fn pm1_step(register: GenericAddress, sleep_type: u8) -> PlanStep
 }
 
 /// That SLEEP_CONTROL_REG gets a sleep type and SLP_EN (section 4.8.3.7).
-fn sleep_control_step(register: GenericAddress, sleep_type: u8) -> PlanStep
+fn sleep_control_step(register: GenericAddress, sleep_type: u64) -> PlanStep
+    requires { sleep_type ≤ 7 }
     ensures { result ≡ sleep_control_step register sleep_type }
 {
     PlanStep {
@@ -143,7 +145,7 @@ fn sleep_control<H: Lender>(fadt: &FadtView<'_, H>) -> Result<GenericAddress, Pl
 }
 
 /// Whether a sleep type fits the three bits of SLP_TYPx.
-fn fits(sleep_type: u8) -> bool
+fn fits(sleep_type: u64) -> bool
     ensures { result ≡ fits sleep_type }
 {
     sleep_type <= 7
