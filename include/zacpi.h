@@ -1234,9 +1234,9 @@ struct zacpi_localities {
                           * locality from itself, and more than 10 of others */
 };
 
-/* Lists the memory that the SRAT puts into domains: its Memory Affinity entries that are enabled
- * and have a byte, up to where no entry begins. They may overlap. Fails with an opening error, or
- * ZACPI_TABLE_MISSING "SRAT". */
+/* Lists the memory that the SRAT puts into domains: its Memory Affinity entries that are enabled,
+ * have a byte, and end below 2^64, up to where no entry begins. They may overlap. Fails with an
+ * opening error, or ZACPI_TABLE_MISSING "SRAT". */
 ZACPI_STATUS zacpi_list_memory_affinities(const struct zacpi_source *source,
                                           struct zacpi_memory_affinity *out, size_t capacity,
                                           size_t *count, struct zacpi_signature *signature);
@@ -1258,15 +1258,16 @@ ZACPI_STATUS zacpi_list_generic_initiators(const struct zacpi_source *source,
 ZACPI_STATUS zacpi_list_its_affinities(const struct zacpi_source *source,
                                        struct zacpi_its_affinity *out, size_t capacity,
                                        size_t *count, struct zacpi_signature *signature);
-/* Lists the entries of memory that ends at 2^64 or above, and last, if bytes are left, where
- * none begins. Fails with an opening error, or ZACPI_TABLE_MISSING "SRAT". */
+/* Lists the enabled entries of memory that ends at 2^64 or above, which
+ * zacpi_list_memory_affinities leaves out, and last, if bytes are left, where none begins. Fails
+ * with an opening error, or ZACPI_TABLE_MISSING "SRAT". */
 ZACPI_STATUS zacpi_list_srat_faults(const struct zacpi_source *source,
                                     struct zacpi_entry_fault *out, size_t capacity, size_t *count,
                                     struct zacpi_signature *signature);
-/* Returns the domain of the memory at an address: of the first item of zacpi_list_memory_affinities
- * that contains it. Fails with an opening error, ZACPI_TABLE_MISSING "SRAT",
- * ZACPI_NUMA_INVALID_MEMORY_RANGE of that item, or without one ZACPI_NUMA_INVALID_ENTRY_LENGTH,
- * else ZACPI_NO_DOMAIN. */
+/* Returns the domain of the memory at an address: of the first enabled entry whose memory contains
+ * it. Fails with an opening error, ZACPI_TABLE_MISSING "SRAT", ZACPI_NUMA_INVALID_MEMORY_RANGE if
+ * that memory ends at 2^64 or above, or without such an entry ZACPI_NUMA_INVALID_ENTRY_LENGTH, else
+ * ZACPI_NO_DOMAIN. */
 ZACPI_STATUS zacpi_domain_of_address(const struct zacpi_source *source, uint64_t address,
                                      uint32_t *out, struct zacpi_signature *signature);
 /* Returns the domain of the processor with this APIC ID or X2APIC ID: of the last enabled entry for
@@ -1360,9 +1361,10 @@ ZACPI_STATUS zacpi_list_dmar_units(const struct zacpi_source *source, struct zac
 ZACPI_STATUS zacpi_list_dmar_scopes(const struct zacpi_source *source, size_t index,
                                     struct zacpi_dmar_scope *out, size_t capacity, size_t *count,
                                     struct zacpi_signature *signature);
-/* Lists the memory that is reserved for devices: the RMRRs, also those that are no range, up to the
- * first byte at which no structure begins. Fails with an opening error, or ZACPI_TABLE_MISSING
- * "DMAR". */
+/* Lists the memory that is reserved for devices: the RMRRs, up to the first byte at which no
+ * structure begins. One that is no range, whose `base` is above `limit`, is listed too, and by
+ * zacpi_list_dmar_faults with its error: the index of an item is that of its structure. Fails with
+ * an opening error, or ZACPI_TABLE_MISSING "DMAR". */
 ZACPI_STATUS zacpi_list_dmar_regions(const struct zacpi_source *source,
                                      struct zacpi_dmar_reserved *out, size_t capacity,
                                      size_t *count, struct zacpi_signature *signature);

@@ -604,9 +604,8 @@ static const struct row rows[] = {
     GOOD(list_memory_affinities, OLD, NULL, NO, 1, 0x1000, 0x2000, 7, 0, 0),
     NOTHING(list_memory_affinities, LEAST),
     NOTHING(list_memory_affinities, ODD),
-    GOOD(list_memory_affinities, HOLES, NULL, NO, 1, 0xfffffffffffff000, 0x1000, 0, 0, 0),
-    GOOD(list_memory_affinities, FAULTS, NULL, NO, 3, 0x1000, 0x1000, 1, 0, 0, 0xfffffffffffff000, 0x2000, 2, 1, 0,
-         0x3000, 0x1000, 3, 0, 1),
+    NOTHING(list_memory_affinities, HOLES), /* memory at fault alone */
+    GOOD(list_memory_affinities, FAULTS, NULL, NO, 2, 0x1000, 0x1000, 1, 0, 0, 0x3000, 0x1000, 3, 0, 1),
     GOOD(list_memory_affinities, FRONTS, NULL, NO, 2, 0x1000, 0x1000, 1, 0, 0, 0x3000, 0x1000, 2, 0, 0),
     REFUSED(list_memory_affinities, EMPTY, NULL, NO, ZACPI_TABLE_MISSING, "SRAT"),
     GOOD(list_srat_faults, ODD, NULL, NO, 1, AT(SRAT_CUT) + 64, ZACPI_NUMA_INVALID_ENTRY_LENGTH, 0),

@@ -1,13 +1,25 @@
--- What the SRAT puts into domains beside memory (section 5.2.16), as C gets it: the entries up to the first malformed
--- front.
-use Rattle.std.specs.Prelude.{ℕ, List, filter_map, Option, Some, None, Result, if◌then◌else◌}
+-- What the SRAT puts into domains (section 5.2.16), as C gets it: the entries up to the first malformed front.
+use Rattle.std.specs.Prelude.{ℕ, List, filter_map, Option, Some, None, Result, if◌then◌else◌, option_and_then}
 use Rattle.acpi_base.specs.Words.{has_bit}
-use Rattle.acpi_numa.specs.Words.{entries_of}
+use Rattle.acpi_numa.specs.Words.{entries_of, range_in}
 use Rattle.acpi_numa.specs.declared.srat.entry.SratEntry.{SratEntry}
 use Rattle.acpi_numa.specs.declared.srat.entry.SratEntry.TheVariants as kinds
-use Rattle.acpi_c_lib.specs.Types.{srat_kind, GenericInitiator, ItsAffinity, ProcessorAffinity}
+use Rattle.acpi_c_lib.specs.Types.{srat_kind, ends_below, GenericInitiator, ItsAffinity, MemoryAffinity, MemoryRange, ProcessorAffinity}
 use Rattle.acpi_c_lib.specs.Below.{Refusal, Source, below_first}
 use Rattle.acpi_c_lib.specs.Devices.{flag}
+
+-- the memory of a range (section 5.2.16.2), if that ends below 2^64: else its entry is at fault
+abbrev pub memory_affinity : MemoryRange → Option MemoryAffinity
+memory_affinity r = if ends_below r then Some (record {
+  address = r.base;
+  length = r.length;
+  domain = r.domain;
+  is_hot_pluggable = flag r.is_hot_pluggable;
+  is_non_volatile = flag r.is_non_volatile;
+}) else None
+
+abbrev pub memory_shown : SratEntry → Option MemoryAffinity
+memory_shown e = option_and_then memory_affinity (range_in e)
 
 -- an item, if the Flags of its entry have bit 0, Enabled: else the entry doesn't count
 abbrev pub counted_if : {R : Type 0} → ℕ → R → Option R

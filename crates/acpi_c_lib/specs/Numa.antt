@@ -1,26 +1,10 @@
 -- Domains and distances as C gets them. What an entry of a SRAT contains changes no result that isn't about it.
-use Rattle.std.specs.Prelude.{◌≡◌, ◌+◌, ◌≤◌, ◌↔◌, ℕ, List, find, map, Option, Some, None, Result, Ok, Err, if◌then◌else◌, ok_or, option_and_then}
+use Rattle.std.specs.Prelude.{◌≡◌, ◌+◌, ◌≤◌, ◌↔◌, ℕ, List, find, Option, Some, None, Result, Ok, Err, if◌then◌else◌, ok_or, option_and_then}
 use Rattle.acpi_numa.specs.Words.{cut_of, lies_in, range_in}
-use Rattle.acpi_c_lib.specs.Types.{◌>>=◌, Kind, is_left, sdt_kind, SLIT, ends_below, entry_of, ranges_of, revision_of, srat_kind, IsSane, distance_of, localities_of, domain_of_apic, domain_of_processor, MemoryRange, Localities, MemoryAffinity, InvalidMemoryRange, InvalidSratEntryLength, NoDistance, NoDomain, EntryFault}
+use Rattle.acpi_c_lib.specs.Types.{◌>>=◌, Kind, is_left, sdt_kind, SLIT, ends_below, entry_of, ranges_of, revision_of, srat_kind, IsSane, distance_of, localities_of, domain_of_apic, domain_of_processor, MemoryRange, Localities, InvalidMemoryRange, InvalidSratEntryLength, NoDistance, NoDomain, EntryFault}
 use Rattle.acpi_c_lib.specs.Answers.{result_map}
 use Rattle.acpi_c_lib.specs.Below.{Refusal, Source, below_first, first_table, found_table}
-use Rattle.acpi_c_lib.specs.Devices.{flag}
 use Rattle.acpi_c_lib.specs.EntryFaults.{fault_at, faults_from, rest_faults}
-
--- ---- ranges of memory
-
-abbrev pub affinity_record : MemoryRange → MemoryAffinity
-affinity_record r = record {
-  address = r.base;
-  length = r.length;
-  domain = r.domain;
-  is_hot_pluggable = flag r.is_hot_pluggable;
-  is_non_volatile = flag r.is_non_volatile;
-}
-
--- the ranges of memory that the first valid SRAT puts into domains, up to the first malformed front (section 5.2.16.2)
-abbrev pub affinities_below : Source → Result (List MemoryAffinity) Refusal
-affinities_below s = below_first srat_kind s (λ table. map affinity_record (ranges_of table))
 
 -- ---- entries at fault
 

@@ -6,6 +6,7 @@ pub use Rattle.acpi_c_lib.specs.Affinities.{
   counted_if,
   initiator_shown,
   its_shown,
+  memory_shown,
   processor_affinity,
 }
 pub use Rattle.acpi_c_lib.specs.Answers.{
@@ -243,7 +244,6 @@ unfoldable pub use Rattle.acpi_c_lib.specs.IsaList.{isa_numbers}
 pub use Rattle.acpi_c_lib.specs.Listed.{
   lists_by,
   lists_each,
-  lists_found,
   lists_some,
 }
 pub use Rattle.acpi_c_lib.specs.LocalApic.{local_apic_below}
@@ -312,8 +312,6 @@ pub use Rattle.acpi_c_lib.specs.Model.{
 }
 pub use Rattle.acpi_c_lib.specs.Numa.{
   IsLocalities,
-  affinities_below,
-  affinity_record,
   distance_below,
   domain_of_address_below,
   domain_of_apic_below,

@@ -1,11 +1,11 @@
-//! What the SRAT puts into domains beside memory (section 5.2.16): processors, generic initiators and Interrupt
-//! Translation Services.
+//! What the SRAT puts into domains (section 5.2.16): memory, processors, generic initiators and Interrupt Translation
+//! Services.
 ghost use Rattle.std.specs.Prelude.{◌≡◌, Option, filter_map};
 ghost use Rattle.acpi_numa.specs.Words.{entries_left};
-ghost use Rattle.acpi_c_lib.specs.Words.{Fills, SratEntry, affinity_shown, below_srat, counted_if, initiator_shown, its_shown, lists_some, processor_affinity};
+ghost use Rattle.acpi_c_lib.specs.Words.{Fills, SratEntry, affinity_shown, below_srat, counted_if, initiator_shown, its_shown, lists_some, memory_shown, processor_affinity};
 
 use crate::lists::{Listing, fill};
-use crate::numa_records::{GenericInitiator, ItsAffinity, ProcessorAffinity};
+use crate::numa_records::{GenericInitiator, ItsAffinity, MemoryAffinity, ProcessorAffinity};
 use crate::opening::first;
 use crate::records::Source;
 use crate::refusal::Refusal;
@@ -46,6 +46,25 @@ pub fn srat_entries<R: SratRecord>(source: &Source<'_>, out: &mut [R]) -> Result
     let memory = Mapped::new(source.regions);
     let srat = first::<Srat>(&memory, source)?;
     Ok(fill(Domains::over(srat.bytes()).entries(), &(), out))
+}
+
+// Memory (section 5.2.16.2). A range that ends at 2^64 or above is none.
+impl SratRecord for MemoryAffinity {
+    ghost record_in = { memory_shown };
+
+    fn of(entry: &SratEntry) -> Option<MemoryAffinity> {
+        let range = entry.memory_range()?;
+        if !range.ends_below() {
+            return None;
+        }
+        Some(MemoryAffinity {
+            address: range.base,
+            length: range.length,
+            domain: range.domain,
+            is_hot_pluggable: range.is_hot_pluggable as u8,
+            is_non_volatile: range.is_non_volatile as u8,
+        })
+    }
 }
 
 // Processors, of three types (sections 5.2.16.1, 5.2.16.3 and 5.2.16.4).

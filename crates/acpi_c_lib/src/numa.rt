@@ -1,48 +1,14 @@
 //! The domains that memory and processors are in, by the SRAT, and the distances between localities, by the SLIT.
-ghost use Rattle.std.specs.Prelude.{◌≡◌, find, map, filter_map, option_map};
-ghost use Rattle.acpi_numa.specs.Words.{lies_in, ranges_of, range_in, entries_left};
-ghost use Rattle.acpi_c_lib.specs.Words.{Fills, GivesSome, IsLocalities, affinities_below, distance_below, slit_in, no_domain, affinity_record, domain_of_address_below, domain_of_apic_below, domain_of_processor_below, lists_found};
+ghost use Rattle.std.specs.Prelude.{◌≡◌, find};
+ghost use Rattle.acpi_numa.specs.Words.{lies_in, ranges_of};
+ghost use Rattle.acpi_c_lib.specs.Words.{GivesSome, IsLocalities, distance_below, slit_in, no_domain, domain_of_address_below, domain_of_apic_below, domain_of_processor_below};
 
-use crate::lists::{Listing, fill};
-use crate::numa_records::{Localities, MemoryAffinity};
+use crate::numa_records::Localities;
 use crate::opening::first;
 use crate::records::Source;
 use crate::refusal::Refusal;
 use crate::regions::Mapped;
-use acpi_numa::srat::{SratEntry, SratEntryIter};
 use acpi_numa::{Distances, Domains, MemoryRange, Slit, Srat};
-
-/// Lists the ranges of memory that the first valid SRAT puts into domains.
-#[tactic(auto, using(crate::proofs::Written::found_few))]
-pub fn affinities(source: &Source<'_>, out: &mut [MemoryAffinity]) -> Result<usize, Refusal>
-    ensures { Fills result out.old out.new (affinities_below source.now) }
-{
-    let memory = Mapped::new(source.regions);
-    let srat = first::<Srat>(&memory, source)?;
-    Ok(fill(Domains::over(srat.bytes()).entries(), &(), out))
-}
-
-impl Listing<(), MemoryAffinity> for SratEntryIter<'_> {
-    ghost record_of = { λ known x. option_map affinity_record (range_in x) };
-
-    ghost left = { λ known s. map affinity_record (filter_map range_in (entries_left s)) };
-
-    ghost gives_first = { λ known s item t given.
-        lists_found affinity_record range_in (λ x. entries_left x) s item t given.0 };
-
-    fn record(_known: &(), entry: SratEntry) -> Option<MemoryAffinity>
-        ensures { result ≡ option_map affinity_record (range_in entry) }
-    {
-        let range = entry.memory_range()?;
-        Some(MemoryAffinity {
-            address: range.base,
-            length: range.length,
-            domain: range.domain,
-            is_hot_pluggable: range.is_hot_pluggable as u8,
-            is_non_volatile: range.is_non_volatile as u8,
-        })
-    }
-}
 
 /// The domain of the memory at a physical address, by the first valid SRAT.
 pub fn domain_of_address(source: &Source<'_>, address: u64) -> Result<u32, Refusal>

@@ -56,8 +56,7 @@ pub extern "C" fn zacpi_1_list_dmar_scopes(
     answer(dmar_scopes(source, index, out), count, named)
 }
 
-/// Lists the memory that is reserved for devices: the RMRRs, also those that are no range, up to the first byte at
-/// which no structure begins.
+/// Lists the memory that is reserved for devices: the RMRRs, up to the first byte at which no structure begins.
 #[unsafe(no_mangle)]
 pub extern "C" fn zacpi_1_list_dmar_regions(
     source: &Source<'_>,

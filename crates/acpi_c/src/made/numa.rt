@@ -1,11 +1,11 @@
 //! Made by scripts/exports of include/zacpi.h, which has what each call does.
-ghost use Rattle.acpi_c_lib.specs.Words.{Answers, AnswersList, AnswersSome, IsLocalities, affinities_below, affinity_shown, below_srat, distance_below, domain_of_address_below, domain_of_apic_below, domain_of_processor_below, initiator_shown, its_shown, slit_in, srat_faults_below};
+ghost use Rattle.acpi_c_lib.specs.Words.{Answers, AnswersList, AnswersSome, IsLocalities, affinity_shown, below_srat, distance_below, domain_of_address_below, domain_of_apic_below, domain_of_processor_below, initiator_shown, its_shown, memory_shown, slit_in, srat_faults_below};
 
 use acpi_c_lib::affinities::srat_entries;
 use acpi_c_lib::answer::answer;
 use acpi_c_lib::entry_faults::EntryFault;
 use acpi_c_lib::numa::{
-    affinities, distance, domain_of_address, domain_of_apic, domain_of_processor, localities,
+    distance, domain_of_address, domain_of_apic, domain_of_processor, localities,
 };
 use acpi_c_lib::numa_records::{
     GenericInitiator, ItsAffinity, Localities, MemoryAffinity, ProcessorAffinity,
@@ -13,8 +13,8 @@ use acpi_c_lib::numa_records::{
 use acpi_c_lib::records::{Signature, Source};
 use acpi_c_lib::srat_faults::srat_faults;
 
-/// Lists the memory that the SRAT puts into domains: its Memory Affinity entries that are enabled and have a byte, up
-/// to where no entry begins.
+/// Lists the memory that the SRAT puts into domains: its Memory Affinity entries that are enabled, have a byte, and end
+/// below 2^64, up to where no entry begins.
 #[unsafe(no_mangle)]
 pub extern "C" fn zacpi_1_list_memory_affinities(
     source: &Source<'_>,
@@ -22,9 +22,10 @@ pub extern "C" fn zacpi_1_list_memory_affinities(
     count: &mut usize,
     named: &mut Signature,
 ) -> u32
-    ensures { AnswersList result out.old out.new count.old count.new named.old named.new (affinities_below source.now) }
+    ensures { AnswersList result out.old out.new count.old count.new named.old named.new
+        (below_srat source.now memory_shown) }
 {
-    answer(affinities(source, out), count, named)
+    answer(srat_entries(source, out), count, named)
 }
 
 /// Lists the processors that the SRAT puts into domains, those that the MADT lacks too: its entries of Types 0, 2 and 3
@@ -72,7 +73,8 @@ pub extern "C" fn zacpi_1_list_its_affinities(
     answer(srat_entries(source, out), count, named)
 }
 
-/// Lists the entries of memory that ends at 2^64 or above, and last, if bytes are left, where none begins.
+/// Lists the enabled entries of memory that ends at 2^64 or above, which zacpi_list_memory_affinities leaves out, and
+/// last, if bytes are left, where none begins.
 #[unsafe(no_mangle)]
 pub extern "C" fn zacpi_1_list_srat_faults(
     source: &Source<'_>,
@@ -86,7 +88,7 @@ pub extern "C" fn zacpi_1_list_srat_faults(
     answer(srat_faults(source, out), count, named)
 }
 
-/// Returns the domain of the memory at an address: of the first item of zacpi_list_memory_affinities that contains it.
+/// Returns the domain of the memory at an address: of the first enabled entry whose memory contains it.
 #[unsafe(no_mangle)]
 pub extern "C" fn zacpi_1_domain_of_address(
     source: &Source<'_>,
