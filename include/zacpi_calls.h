@@ -1687,4 +1687,17 @@ ZACPI_STATUS zacpi_dsdt_address(uint64_t address, size_t tables_length, uint64_t
     ZACPI_FITS;
     return zacpi_1_dsdt_address(address, tables_length, out);
 }
+
+zacpi_status ZACPI_CALL zacpi_1_facs_address(uint64_t address, zacpi_number tables_length,
+                                             const struct zacpi_aml_contents *dsdts,
+                                             zacpi_number dsdts_length, uint64_t *out);
+ZACPI_NONNULL((5))
+ZACPI_STATUS zacpi_facs_address(uint64_t address, size_t tables_length,
+                                const struct zacpi_aml_contents *dsdts, size_t dsdts_length,
+                                uint64_t *out) {
+    ZACPI_FITS;
+    return zacpi_1_facs_address(address, tables_length,
+                            dsdts_length ? dsdts : (const struct zacpi_aml_contents *)ZACPI_NOTHING,
+                                dsdts_length, out);
+}
 #endif

@@ -288,5 +288,13 @@ ZACPI_STATUS zacpi_tables_size(const struct zacpi_machine *machine, size_t *leng
  * of listed tables. Fails with ZACPI_NO_ADDRESS if that is 2^64 or above, or an XSDT can't list
  * this number. */
 ZACPI_STATUS zacpi_dsdt_address(uint64_t address, size_t tables_length, uint64_t *out);
+/* Returns the address of the FACS that zacpi_write_tables writes for this address, this number of
+ * listed tables, and as the DSDT the first of `dsdts`, if there is one, of which only the length is
+ * looked at. A FADT has to have a FACS, unless the hardware is reduced (section 5.2.9). Fails with
+ * ZACPI_NO_ADDRESS if that is 2^64 or above, an XSDT can't list this number, or the DSDT would have
+ * 2^32 bytes or more. */
+ZACPI_STATUS zacpi_facs_address(uint64_t address, size_t tables_length,
+                                const struct zacpi_aml_contents *dsdts, size_t dsdts_length,
+                                uint64_t *out);
 
 #endif

@@ -59,12 +59,19 @@ static zacpi_status write_machine(size_t count, size_t *length) {
     const struct zacpi_srat_contents srat = {
         .apics = domains, .apics_length = count, .ranges = halves, .ranges_length = 2};
     const struct zacpi_aml_contents dsdt = {soft_off, sizeof soft_off, 2};
+    const struct zacpi_facs_contents facs = {0, 0, 0, 0, 0};
     struct zacpi_fixed_hardware fadt = hardware();
     struct zacpi_listed_table tables[6];
-    const struct zacpi_machine machine = {
-        .ids = ids, .tables = tables, .tables_length = 6, .dsdts = &dsdt, .dsdts_length = 1};
+    const struct zacpi_machine machine = {.ids = ids,
+                                          .tables = tables,
+                                          .tables_length = 6,
+                                          .dsdts = &dsdt,
+                                          .dsdts_length = 1,
+                                          .facs = &facs,
+                                          .facs_length = 1};
     size_t written, used = 0; /* of `scratch`, to which each table is written first */
     zacpi_status refused = zacpi_dsdt_address(TABLES, 6, &fadt.dsdt_address);
+    if (!refused) refused = zacpi_facs_address(TABLES, 6, &dsdt, 1, &fadt.facs_address);
 #define LIST(i, table, ...) \
     tables[i].bytes = scratch + used; \
     if (!refused) refused = zacpi_write_##table(&ids, __VA_ARGS__, scratch + used, ROOM - used, &written); \

@@ -21,6 +21,7 @@ static size_t write_machine(void) {
     struct zacpi_listed_table tables[2] = {{.bytes = scratch[0]}, {.bytes = scratch[1]}};
     const struct zacpi_machine machine = {.ids = ids, .tables = tables, .tables_length = 2};
     const struct zacpi_machine none = {.ids = ids};
+    uint64_t facs;
     size_t length;
     EXPECT(!zacpi_write_madt(&ids, &madt, scratch[0], sizeof scratch[0], &length));
     tables[0].length = length;
@@ -28,6 +29,7 @@ static size_t write_machine(void) {
     EXPECT(!zacpi_write_table(&ids, ZACPI_SIGNATURE("OEM9"), 1, NULL, 0, scratch[1], 36, &length));
     tables[1].length = length;
     EXPECT(!zacpi_tables_size(&none, &length) && length == 96);
+    EXPECT(!zacpi_facs_address(0x10000, 0, NULL, 0, &facs) && facs == 0x10000 + 128);
     EXPECT(zacpi_write_tables(&machine, 0x10000, NULL, 0, &length) == ZACPI_NO_ROOM);
     EXPECT(!zacpi_write_tables(&machine, 0x10000, memory, sizeof memory, &length) && length == 48 + 64 + 64 + 48);
     return length;

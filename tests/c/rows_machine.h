@@ -290,4 +290,28 @@ static void check_places(void) {
         result(got == dsdts[i].status && dsdt == (got ? UNCOUNTED : dsdts[i].dsdt), "a DSDT", (int)i, 0, got);
     }
 }
+/* Where its FACS lies. The AML isn't read, so that its length may be any: of 10 bytes the DSDT has 46, and with 6 tables
+ * it ends at 0x90 and 48, a multiple of 64; of 4 it has 40, and ends there too. */
+static void check_facs_places(void) {
+    static const struct {
+        uint64_t address, tables, dsdts, aml, facs;
+        zacpi_status status;
+    } facses[] = {{0x7fe00000, 6, 1, 10, 0x7fe000c0, ZACPI_OK}, {0x7fe00000, 6, 1, 4, 0x7fe000c0, ZACPI_OK},
+                  {0x7fe00000, 6, 1, 13, 0x7fe00100, ZACPI_OK}, {0x7fe00000, 6, 0, 10, 0x7fe000c0, ZACPI_OK},
+                  {0x7fe00000, 4, 0, 10, 0x7fe00080, ZACPI_OK}, {0, 0, 2, 28, 0xc0, ZACPI_OK},
+                  {0xffffffffffffff60, 0, 0, 0, 0xffffffffffffffc0, ZACPI_OK},
+                  {0xffffffffffffff61, 0, 0, 0, 0, ZACPI_NO_ADDRESS},
+                  {0xffffffffffffffa0, 0, 0, 0, 0, ZACPI_NO_ADDRESS},
+                  {0, 0, 1, 0xffffffdb, 0x100000080, ZACPI_OK}, {0, 0, 1, 0xffffffdc, 0, ZACPI_NO_ADDRESS},
+                  {0, 0x1ffffffb, 0, 0, 0x100000040, ZACPI_OK}, {0, 0x1ffffffc, 0, 0, 0, ZACPI_NO_ADDRESS}};
+    size_t i;
+    for (i = 0; i < sizeof facses / sizeof *facses; i++) {
+        const struct zacpi_aml_contents dsdts_of[] = {{code, facses[i].aml, 2}, {code, 0, 2}};
+        uint64_t at = UNCOUNTED;
+        zacpi_status got;
+        if (facses[i].tables > SIZE_MAX) continue;
+        got = zacpi_facs_address(facses[i].address, facses[i].tables, dsdts_of, facses[i].dsdts, &at);
+        result(got == facses[i].status && at == (got ? UNCOUNTED : facses[i].facs), "a FACS", (int)i, 0, got);
+    }
+}
 #endif

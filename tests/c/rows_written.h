@@ -441,6 +441,7 @@ static void check_all_written(void) {
     check_arm_codes();
     check_gic_codes();
     check_places();
+    check_facs_places();
     check_all_read();
 }
 #endif

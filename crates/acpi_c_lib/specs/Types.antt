@@ -336,6 +336,7 @@ pub use Rattle.acpi_writer.specs.Words.{
   TimerOf,
   bgrt_written,
   dsdt_at,
+  facs_at,
   frame_bytes,
   frame_checked,
   gic_meant,

@@ -547,6 +547,7 @@ pub use Rattle.acpi_c_lib.specs.Writing.{
 pub use Rattle.acpi_c_lib.specs.WrittenFadt.{facs_contents}
 pub use Rattle.acpi_c_lib.specs.WrittenMachine.{
   dsdt_said,
+  facs_said,
   machine_said,
   size_said,
   table_said,

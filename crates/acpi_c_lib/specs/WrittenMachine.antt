@@ -9,7 +9,7 @@ use Rattle.acpi_c_lib.specs.WrittenSpcr as spcr
 use Rattle.acpi_c_lib.specs.WrittenSrat as srat
 use Rattle.acpi_c_lib.specs.Writing as writing
 use Rattle.acpi_c_lib.specs.Writing.{Refusal, TableIds, WriterError, hpet_info_of, region_of, writer_refused}
-use Rattle.acpi_c_lib.specs.Types.{list_all, ◌>>=◌, field_of, sum_of, UnknownCode, BadTable, Writer, Bgrt, Fadt, Gic, Hpet, Madt, Mcfg, Spcr, Srat, ListedTable, AmlContents, FacsContents, NoAddress, TooLong, bgrt_written, fadt_written, hpet_written, MachineOf, dsdt_at, gic_written, machine_size, machine_written, tree_written, madt_written, mcfg_written, srat_written}
+use Rattle.acpi_c_lib.specs.Types.{list_all, ◌>>=◌, field_of, sum_of, UnknownCode, BadTable, Writer, Bgrt, Fadt, Gic, Hpet, Madt, Mcfg, Spcr, Srat, ListedTable, AmlContents, FacsContents, NoAddress, TooLong, bgrt_written, fadt_written, hpet_written, MachineOf, dsdt_at, facs_at, gic_written, machine_size, machine_written, tree_written, madt_written, mcfg_written, srat_written}
 pub use Rattle.acpi_c_lib.specs.declared.writing.machine.Contents.{Contents}
 use Rattle.acpi_c_lib.specs.declared.writing.machine.Contents.TheVariants.{Gtdt}
 use Rattle.acpi_c_lib.specs.declared.written_records.AmlContents as aml
@@ -86,3 +86,7 @@ size_said m = of_tables m (machine_size listed_written (machine_of m))
 -- the address of the DSDT of a machine with n tables
 abbrev pub dsdt_said : ℕ → ℕ → Result ℕ Refusal
 dsdt_said a n = ok_or (dsdt_at a n) (Writer NoAddress)
+
+-- and that of its FACS, after the DSDT, the first of these, if there is one
+abbrev pub facs_said : ℕ → ℕ → List aml.AmlContents → Result ℕ Refusal
+facs_said a n dsdts = ok_or (facs_at a n (dsdt_in dsdts)) (Writer NoAddress)

@@ -27,7 +27,7 @@ pub use acpi_writer::{
     write_xsdt,
 };
 pub use machine::{
-    Contents, dsdt_place, tables_size, write_contents, write_hardware, write_tables,
+    Contents, dsdt_place, facs_place, tables_size, write_contents, write_hardware, write_tables,
     write_tables_without_rsdp,
 };
 

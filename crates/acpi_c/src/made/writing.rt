@@ -1,7 +1,7 @@
 //! Made by scripts/exports of include/zacpi.h, which has what each call does.
 ghost use Rattle.acpi.specs.Types.{DSDT, SSDT};
 ghost use Rattle.acpi.specs.declared.root.RootKind.TheVariants.{Rsdt, Xsdt};
-ghost use Rattle.acpi_c_lib.specs.Words.{AnswersPlain, WritesTable, dsdt_said, facs_contents, machine_said, signature_named, size_said, table_said, tree_said, writer_refused};
+ghost use Rattle.acpi_c_lib.specs.Words.{AnswersPlain, WritesTable, dsdt_said, facs_contents, facs_said, machine_said, signature_named, size_said, table_said, tree_said, writer_refused};
 ghost use Rattle.acpi_c_lib.specs.declared.writing.machine.Contents.TheVariants.{Bgrt, Fadt, Gic, Gtdt, Hpet, Madt, Mcfg, Spcr, Srat};
 ghost use Rattle.acpi_writer.specs.Words.{aml_written, facs_written, rhct_written, riscv_written, root_written, rsdp_written, slit_written, table_written};
 ghost use Rattle.std.specs.Prelude.{length};
@@ -10,13 +10,13 @@ use acpi_c_lib::answer::answer_plain;
 use acpi_c_lib::fixed_records::FixedHardware;
 use acpi_c_lib::records::{BootGraphic, HpetInfo, PciRegion, Signature};
 use acpi_c_lib::writing::{
-    Contents, dsdt_place, tables_size, write_contents, write_dsdt, write_facs, write_hardware,
-    write_rhct, write_riscv_madt, write_rsdp, write_rsdt, write_slit, write_ssdt, write_table,
-    write_tables, write_tables_without_rsdp, write_xsdt, written,
+    Contents, dsdt_place, facs_place, tables_size, write_contents, write_dsdt, write_facs,
+    write_hardware, write_rhct, write_riscv_madt, write_rsdp, write_rsdt, write_slit, write_ssdt,
+    write_table, write_tables, write_tables_without_rsdp, write_xsdt, written,
 };
 use acpi_c_lib::written_records::{
-    FacsContents, GicContents, GtdtContents, Machine, MadtContents, RhctContents, RiscvContents,
-    SpcrContents, SratContents, TableIds,
+    AmlContents, FacsContents, GicContents, GtdtContents, Machine, MadtContents, RhctContents,
+    RiscvContents, SpcrContents, SratContents, TableIds,
 };
 
 /// Writes an RSDP of revision 2 that points to an XSDT (section 5.2.5.3): 36 bytes.
@@ -339,4 +339,18 @@ pub extern "C" fn zacpi_1_dsdt_address(address: u64, tables: usize, out: &mut u6
     ensures { AnswersPlain result out.old out.new (dsdt_said address tables) }
 {
     answer_plain(dsdt_place(address, tables), out)
+}
+
+/// Returns the address of the FACS that zacpi_write_tables writes for this address, this number of listed tables, and
+/// as the DSDT the first of `dsdts`, if there is one, of which only the length is looked at.
+#[unsafe(no_mangle)]
+pub extern "C" fn zacpi_1_facs_address(
+    address: u64,
+    tables: usize,
+    dsdts: &[AmlContents<'_>],
+    out: &mut u64,
+) -> u32
+    ensures { AnswersPlain result out.old out.new (facs_said address tables dsdts.now) }
+{
+    answer_plain(facs_place(address, tables, dsdts), out)
 }

@@ -9,12 +9,13 @@ use crate::records::{BootGraphic, HpetInfo, PciRegion};
 use crate::refusal::Refusal;
 use crate::writing::{bgrt, fadt, gtdt, madt, spcr};
 use crate::written_records::{
-    GicContents, GtdtContents, ListedTable, Machine, MadtContents, SpcrContents, SratContents,
+    AmlContents, GicContents, GtdtContents, ListedTable, Machine, MadtContents, SpcrContents,
+    SratContents,
 };
 use acpi_base::bytes::{byte_sum, field};
 use acpi_writer::{
-    Listed, TableIds, WriterError, dsdt_address, require, write_bgrt, write_fadt, write_gic_madt,
-    write_gtdt, write_hpet, write_madt, write_mcfg, write_spcr, write_srat,
+    Listed, TableIds, WriterError, dsdt_address, facs_address, require, write_bgrt, write_fadt,
+    write_gic_madt, write_gtdt, write_hpet, write_madt, write_mcfg, write_spcr, write_srat,
 };
 
 /// What a table is to contain that is written from a record of C's.
@@ -114,6 +115,19 @@ impl Listed for ListedTable<'_> {
     }
 }
 
+/// The DSDT of a machine, as the writer has it: the first of these, if there is one.
+fn first_dsdt<'a>(dsdts: &[AmlContents<'a>]) -> Option<acpi_writer::AmlContents<'a>>
+    ensures { result ≡ whole.dsdt_in dsdts.now }
+{
+    match dsdts {
+        [first, ..] => Some(acpi_writer::AmlContents {
+            revision: first.revision,
+            bytes: first.aml,
+        }),
+        [] => None,
+    }
+}
+
 impl<'a> Machine<'a> {
     /// The machine, as the writer has it. Of several DSDTs, and of several FACS, the first counts.
     pub fn whole(&self) -> acpi_writer::Machine<'a, ListedTable<'a>>
@@ -121,13 +135,7 @@ impl<'a> Machine<'a> {
     {
         acpi_writer::Machine {
             ids: self.ids,
-            dsdt: match self.dsdts {
-                [first, ..] => Some(acpi_writer::AmlContents {
-                    revision: first.revision,
-                    bytes: first.aml,
-                }),
-                [] => None,
-            },
+            dsdt: first_dsdt(self.dsdts),
             facs: match self.facs {
                 [first, ..] => Some(first.contents()),
                 [] => None,
@@ -184,4 +192,12 @@ pub fn dsdt_place(address: u64, tables: usize) -> Result<u64, Refusal>
     ensures { result ≡ whole.dsdt_said address tables }
 {
     dsdt_address(address, tables).ok_or(Refusal::Writer(WriterError::NoAddress))
+}
+
+/// The address at which `write_tables` puts the FACS of a machine with `tables` tables and, as its DSDT, the first of
+/// these, if there is one, or `NoAddress`.
+pub fn facs_place(address: u64, tables: usize, dsdts: &[AmlContents<'_>]) -> Result<u64, Refusal>
+    ensures { result ≡ whole.facs_said address tables dsdts.now }
+{
+    facs_address(address, tables, first_dsdt(dsdts)).ok_or(Refusal::Writer(WriterError::NoAddress))
 }
