@@ -1,7 +1,7 @@
 -- What isn't mapped: of what opening requests and what points to a table, and of the candidates of a search.
 use Rattle.std.proofs.Common.{◌≡◌, ℕ, ◌≤◌, List, [], ◌∷◌, ◌++◌, Bool, true, false, Option, Some, None, Result, Ok, Err, arith, refl, sym, ap, subst, ◌∙◌, if◌then◌else◌, ◌+◌, length, ◌^◌, ◌<◌, zero, suc, ◌-◌, ◌*◌, ◌/◌, drop, ◌==◌, ok_or, option_map, bytes_eq, nat_lt}
 use Rattle.acpi_base.specs.FromStd.{last_or, cons_option, is_some, is_ok, result_ok}
-use Rattle.acpi_base.specs.Words.{accepted, field_of, has_bit, loosened, own_accepted, own_kind, check_names, check_table, header_at, Memory, at, ◌>>=◌, holds, lent, table_at, plain_kind, letters_of}
+use Rattle.acpi_base.specs.Words.{accepted, field_of, has_bit, left_of, loosened, own_accepted, own_kind, check_names, check_table, header_at, Memory, at, ◌>>=◌, holds, lent, table_at, plain_kind, letters_of}
 use Rattle.acpi.specs.Types.{MapFailed, NoValidRsdp, SdtHeader, Signature, AddressRange}
 use Rattle.acpi.specs.Words.{accepted_root_at, bios_areas, found_among, found_in_areas, count_in, ebda_area, end_of, first_in, Opened, area_ranges, or_else_ranges, search_ranges, length_ranges, rsdp_ranges, root_of_revision, signature_of, check_first, check_sum, extended_length_of, checked_length, root_of_rsdp, rsdp_at, rsdp_of, first_area, found_in, found_rsdp, or_else, room_of, second_area, word_in, area, count_of, walk, or_later}
 use Rattle.acpi.specs.Areas.{range}
@@ -42,12 +42,17 @@ pub ruleset rsdp_refusals = (rsdp_not, rsdp_length, rsdp_long, sum_not)
 
 -- ---- what is accepted
 
+-- of what is left of a check's result, the errors are the check's or that of the sum
+left_not : (a b : Bool) (s : Signature) (bytes : List ℕ) (r : Result (Unit {0}) AcpiError)
+    → left_of a b s bytes r ≡ Err MapFailed → r ≡ Err MapFailed
+left_not a b s bytes r e = grind arith
+
 loosened_unlent : (a b : Bool) (m : Memory) (s : Signature) (p : ℕ)
     → table_at m (loosened a b (plain_kind s)) p ≡ Err MapFailed → IsUnlent m (table_hole m p (Err MapFailed))
 unfolding table_at
-loosened_unlent true true m s p e = grind arith
-loosened_unlent true false m s p e = grind (arith, names_not)
-loosened_unlent false true m s p e = grind arith
+loosened_unlent true true m s p e = grind (arith, left_not, table_not)
+loosened_unlent true false m s p e = grind (arith, names_not, left_not, table_not)
+loosened_unlent false true m s p e = grind (arith, left_not, table_not)
 loosened_unlent false false m s p e = grind (arith, names_not, table_not)
 
 pub accepted_unlent : (accept : ℕ) (m : Memory) (s : Signature) (p : ℕ)
