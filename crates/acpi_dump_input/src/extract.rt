@@ -5,7 +5,7 @@ ghost use Rattle.acpi_dump_input.specs.Extract.{IsNamed, SavesFile, SavesTables}
 use crate::dumped::print_letters;
 use crate::entries::Entry;
 use crate::errors::{Log, Stop, fail, fail_with};
-use crate::sources::{Sources, reason_of};
+use crate::sources::{Kind, Sources, reason_of};
 use acpi_dump_walk::out::Out;
 use acpi_pack_lib::storage::Storage;
 use std::alloc::{AllocError, Global};
@@ -29,6 +29,30 @@ fn path_within(alloc: Global, folder: &str, name: &str) -> Result<Option<String>
         return Ok(None);
     }
     Ok(Some(format!(in alloc; "{folder}/{name}.dat")?))
+}
+
+/// Whether files can be saved in a folder. It is made if nothing has its name; if it can't be, that is printed.
+fn has_folder<S: Sources, T: Storage>(
+    folder: &str,
+    sources: &mut S,
+    storage: &mut T,
+    log: &mut Log,
+) -> bool
+    ensures { T.saved storage.new ≡ T.saved storage.old }
+{
+    let why = match sources.kind_of(folder) {
+        Ok(Kind::Folder) => return true,
+        Ok(_) => "not a folder",
+        Err(refusal) if refusal.kind() == ErrorKind::NotFound => {
+            if storage.make_folder(folder).is_ok() {
+                return true;
+            }
+            "no folder can be made there"
+        }
+        Err(refusal) => reason_of(&refusal),
+    };
+    fail(log, folder, &why);
+    false
 }
 
 /// The names of tables' files, less the numbers, each on its line.
@@ -117,7 +141,7 @@ fn save_table<S: Sources, T: Storage>(
     Ok(())
 }
 
-/// Saves each table of which some byte is there as a file of a folder.
+/// Saves each table of which some byte is there as a file of a folder, which is made if it isn't there.
 ///
 /// Fails if memory runs out.
 #[tactic(auto, using(crate::proofs::Within::no_table, crate::proofs::Within::more_tables))]
@@ -137,6 +161,9 @@ pub fn save_tables<S: Sources, T: Storage>(
     let Some(names) = names.printed() else {
         return Err(Stop::OutOfMemory);
     };
+    if !entries.is_empty() && !has_folder(folder, sources, storage, log) {
+        return Ok(());
+    }
     for (line, name) in names.lines().enumerate() {
         if let Some(entry) = entries.get(line)
             && !entry.bytes.is_empty()

@@ -4,6 +4,9 @@ ghost use Rattle.acpi_pack_lib.specs.Saves.{FileSaved};
 
 use crate::save::{SaveError, save};
 use std::alloc::{AllocError, Global};
+use std::fs::DirBuilder;
+use std::io;
+use std::os::unix::fs::DirBuilderExt;
 
 /// A storage in which files are saved, as a program or a test reaches it. It means one thing: the list of all
 /// files that were to be saved, in order, each with the result.
@@ -27,6 +30,12 @@ pub trait Storage {
           answer = a;
         } ∷ []) }
         ensures refused { OnErr result (saved self.new ≡ saved self.old) };
+
+    /// Makes a folder that only its owner may use.
+    ///
+    /// Fails with the error of the system.
+    fn make_folder(&mut self, name: &str) -> io::Result<()>
+        ensures { saved self.new ≡ saved self.old };
 }
 
 /// A file that was to be saved, with the result of `save`.
@@ -99,5 +108,11 @@ impl Storage for HostStorage<'_> {
             unreachable!()
         };
         Ok(answer)
+    }
+
+    fn make_folder(&mut self, name: &str) -> io::Result<()> {
+        let mut builder = DirBuilder::new();
+        builder.mode(0o700);
+        builder.create(self.rt, name)
     }
 }
