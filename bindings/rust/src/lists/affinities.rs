@@ -1,10 +1,10 @@
 // Made by scripts/erase of crates/acpi_c_lib/src/affinities.rt, where it is proved.
-//! What the SRAT puts into domains beside memory (section 5.2.16): processors, generic initiators and Interrupt
-//! Translation Services.
+//! What the SRAT puts into domains (section 5.2.16): memory, processors, generic initiators and Interrupt Translation
+//! Services.
 
 use crate::base::bytes::has_bit;
 use crate::lists::lists::{Listing, fill};
-use crate::lists::numa_records::{GenericInitiator, ItsAffinity, ProcessorAffinity};
+use crate::lists::numa_records::{GenericInitiator, ItsAffinity, MemoryAffinity, ProcessorAffinity};
 use crate::lists::opening::first;
 use crate::lists::records::Source;
 use crate::lists::refusal::Refusal;
@@ -29,6 +29,23 @@ pub fn srat_entries<R: SratRecord>(source: &Source<'_>, out: &mut [R]) -> Result
     let memory = Mapped::new(source.regions);
     let srat = first::<Srat>(&memory, source)?;
     Ok(fill(Domains::over(srat.bytes()).entries(), &(), out))
+}
+
+// Memory (section 5.2.16.2). A range that ends at 2^64 or above is none.
+impl SratRecord for MemoryAffinity {
+    fn of(entry: &SratEntry) -> Option<MemoryAffinity> {
+        let range = entry.memory_range()?;
+        if !range.ends_below() {
+            return None;
+        }
+        Some(MemoryAffinity {
+            address: range.base,
+            length: range.length,
+            domain: range.domain,
+            is_hot_pluggable: range.is_hot_pluggable as u8,
+            is_non_volatile: range.is_non_volatile as u8,
+        })
+    }
 }
 
 // Processors, of three types (sections 5.2.16.1, 5.2.16.3 and 5.2.16.4).

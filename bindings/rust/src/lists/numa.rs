@@ -1,34 +1,12 @@
 // Made by scripts/erase of crates/acpi_c_lib/src/numa.rt, where it is proved.
 //! The domains that memory and processors are in, by the SRAT, and the distances between localities, by the SLIT.
 
-use crate::lists::lists::{Listing, fill};
-use crate::lists::numa_records::{Localities, MemoryAffinity};
+use crate::lists::numa_records::Localities;
 use crate::lists::opening::first;
 use crate::lists::records::Source;
 use crate::lists::refusal::Refusal;
 use crate::lists::regions::Mapped;
-use crate::numa::srat::{SratEntry, SratEntryIter};
 use crate::numa::{Distances, Domains, MemoryRange, Slit, Srat};
-
-/// Lists the ranges of memory that the first valid SRAT puts into domains.
-pub fn affinities(source: &Source<'_>, out: &mut [MemoryAffinity]) -> Result<usize, Refusal> {
-    let memory = Mapped::new(source.regions);
-    let srat = first::<Srat>(&memory, source)?;
-    Ok(fill(Domains::over(srat.bytes()).entries(), &(), out))
-}
-
-impl Listing<(), MemoryAffinity> for SratEntryIter<'_> {
-    fn record(_known: &(), entry: SratEntry) -> Option<MemoryAffinity> {
-        let range = entry.memory_range()?;
-        Some(MemoryAffinity {
-            address: range.base,
-            length: range.length,
-            domain: range.domain,
-            is_hot_pluggable: range.is_hot_pluggable as u8,
-            is_non_volatile: range.is_non_volatile as u8,
-        })
-    }
-}
 
 /// The domain of the memory at a physical address, by the first valid SRAT.
 pub fn domain_of_address(source: &Source<'_>, address: u64) -> Result<u32, Refusal> {

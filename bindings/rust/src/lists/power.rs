@@ -12,10 +12,13 @@ use crate::lists::regions::Mapped;
 use crate::sleep::tables::{block_answer, or_after};
 use crate::sleep::{PlanError, PlanStep, SleepAnswer, SleepError, StepKind};
 
-/// The sleep types of a sleep state, by the DSDT and the SSDTs.
+/// The sleep types of a sleep state, by the DSDT and the SSDTs, if each fits a byte.
 pub fn sleep_types(source: &Source<'_>, state: u32) -> Result<SleepTypes, Refusal> {
     let types = types_of(source, state)?;
-    Ok(SleepTypes { a: types.a, b: types.b })
+    if types.a > 255 || types.b > 255 {
+        return Err(Refusal::SleepTypeTooHigh);
+    }
+    Ok(SleepTypes { a: types.a as u8, b: types.b as u8 })
 }
 
 /// The same as the library has them.

@@ -24,7 +24,8 @@ pub use crate::write::{
     write_dsdt, write_rhct, write_riscv_madt, write_rsdp, write_rsdt, write_slit, write_ssdt, write_xsdt,
 };
 pub use machine::{
-    Contents, dsdt_place, tables_size, write_contents, write_hardware, write_tables, write_tables_without_rsdp,
+    Contents, dsdt_place, facs_place, tables_size, write_contents, write_hardware, write_tables,
+    write_tables_without_rsdp,
 };
 
 /// The number that C gets: 0, with the length of the table, or that of the error.

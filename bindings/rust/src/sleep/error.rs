@@ -15,8 +15,8 @@ pub enum AmlError {
     InvalidName(usize),
     /// What begins here is no term and no argument of AML (section 20.2.5).
     UnknownTerm(usize),
-    /// AML begins here that this crate doesn't read: a statement, an expression or a call, which is run; or another
-    /// value than a package of integer constants where a sleep state has one.
+    /// AML begins here that this crate doesn't read: a statement, an expression (`Revision` too) or a call, which is
+    /// run; or where a sleep state has its package another value, or an element that is no integer constant.
     NotRead(usize),
 }
 

@@ -13,10 +13,10 @@ fn elements_at(aml: &[u8], at: usize, count: u8) -> Result<SleepTypes, AmlError>
     }
     let first = integer_at(aml, at)?;
     if count == 1 {
-        return Ok(SleepTypes { a: (first.value % 256) as u8, b: (first.value / 256 % 256) as u8 });
+        return Ok(SleepTypes { a: first.value % 256, b: first.value / 256 });
     }
     let second = integer_at(aml, first.end)?;
-    Ok(SleepTypes { a: (first.value % 256) as u8, b: (second.value % 256) as u8 })
+    Ok(SleepTypes { a: first.value, b: second.value })
 }
 
 /// The sleep types of the package at an offset. Fails with `NotRead` for another value.

@@ -46,7 +46,7 @@ pub struct Plan {
 }
 
 /// That PM1 control gets a sleep type and SLP_EN (section 4.8.3.2.1).
-fn pm1_step(register: GenericAddress, sleep_type: u8) -> PlanStep {
+fn pm1_step(register: GenericAddress, sleep_type: u64) -> PlanStep {
     PlanStep {
         register,
         width: 16,
@@ -57,7 +57,7 @@ fn pm1_step(register: GenericAddress, sleep_type: u8) -> PlanStep {
 }
 
 /// That SLEEP_CONTROL_REG gets a sleep type and SLP_EN (section 4.8.3.7).
-fn sleep_control_step(register: GenericAddress, sleep_type: u8) -> PlanStep {
+fn sleep_control_step(register: GenericAddress, sleep_type: u64) -> PlanStep {
     PlanStep {
         register,
         width: 8,
@@ -107,7 +107,7 @@ fn sleep_control<H: Lender>(fadt: &FadtView<'_, H>) -> Result<GenericAddress, Pl
 }
 
 /// Whether a sleep type fits the three bits of SLP_TYPx.
-fn fits(sleep_type: u8) -> bool {
+fn fits(sleep_type: u64) -> bool {
     sleep_type <= 7
 }
 

@@ -7,11 +7,11 @@ use crate::lists::records::{BootGraphic, HpetInfo, PciRegion};
 use crate::lists::refusal::Refusal;
 use crate::lists::writing::{bgrt, fadt, gtdt, madt, spcr};
 use crate::lists::written_records::{
-    GicContents, GtdtContents, ListedTable, Machine, MadtContents, SpcrContents, SratContents,
+    AmlContents, GicContents, GtdtContents, ListedTable, Machine, MadtContents, SpcrContents, SratContents,
 };
 use crate::write::{
-    Listed, TableIds, WriterError, dsdt_address, require, write_bgrt, write_fadt, write_gic_madt, write_gtdt,
-    write_hpet, write_madt, write_mcfg, write_spcr, write_srat,
+    Listed, TableIds, WriterError, dsdt_address, facs_address, require, write_bgrt, write_fadt, write_gic_madt,
+    write_gtdt, write_hpet, write_madt, write_mcfg, write_spcr, write_srat,
 };
 
 /// What a table is to contain that is written from a record of C's.
@@ -89,15 +89,20 @@ impl Listed for ListedTable<'_> {
     }
 }
 
+/// The DSDT of a machine, as the writer has it: the first of these, if there is one.
+fn first_dsdt<'a>(dsdts: &[AmlContents<'a>]) -> Option<crate::write::AmlContents<'a>> {
+    match dsdts {
+        [first, ..] => Some(crate::write::AmlContents { revision: first.revision, bytes: first.aml }),
+        [] => None,
+    }
+}
+
 impl<'a> Machine<'a> {
     /// The machine, as the writer has it. Of several DSDTs, and of several FACS, the first counts.
     pub fn whole(&self) -> crate::write::Machine<'a, ListedTable<'a>> {
         crate::write::Machine {
             ids: self.ids,
-            dsdt: match self.dsdts {
-                [first, ..] => Some(crate::write::AmlContents { revision: first.revision, bytes: first.aml }),
-                [] => None,
-            },
+            dsdt: first_dsdt(self.dsdts),
             facs: match self.facs {
                 [first, ..] => Some(first.contents()),
                 [] => None,
@@ -138,4 +143,10 @@ pub fn tables_size(machine: &Machine<'_>) -> Result<usize, Refusal> {
 /// The address at which `write_tables` puts the DSDT of a machine with `tables` tables, or `NoAddress`.
 pub fn dsdt_place(address: u64, tables: usize) -> Result<u64, Refusal> {
     dsdt_address(address, tables).ok_or(Refusal::Writer(WriterError::NoAddress))
+}
+
+/// The address at which `write_tables` puts the FACS of a machine with `tables` tables and, as its DSDT, the first of
+/// these, if there is one, or `NoAddress`.
+pub fn facs_place(address: u64, tables: usize, dsdts: &[AmlContents<'_>]) -> Result<u64, Refusal> {
+    facs_address(address, tables, first_dsdt(dsdts)).ok_or(Refusal::Writer(WriterError::NoAddress))
 }
