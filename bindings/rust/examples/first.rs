@@ -1,12 +1,17 @@
 //! Counts the processors, by the tables in 64 KiB of memory from the RSDP at 0x70000000 on, as examples/c/first.c does.
 use std::io::Read;
-use zacpi::{Accept, AcpiResult, AcpiTables, Region, Start};
+use zacpi::lists::records::Source;
+use zacpi::lists::refusal::Refusal;
+use zacpi::lists::{apics, regions::Region};
 
-fn count(bytes: &[u8]) -> AcpiResult<usize> {
-    let regions = [Region::new(0x70000000, bytes)];
-    let accept = Accept { sums: true, ids: true };
-    let tables = AcpiTables::open_accepting(&regions, Start::Rsdp(0x70000000), accept)?;
-    tables.processors().count()
+/// Accepts tables with bad sums and names: bits 0 and 1.
+const ACCEPT: u32 = 3;
+
+fn count(bytes: &[u8]) -> Result<usize, Refusal> {
+    let regions = [Region { address: 0x70000000, bytes }];
+    // Start 0 is at an RSDP.
+    let source = Source { regions: &regions, address: 0x70000000, start: 0, accept: ACCEPT };
+    apics::processors(&source, &mut [])
 }
 
 fn main() {
