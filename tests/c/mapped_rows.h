@@ -272,7 +272,8 @@ static int maps_searches(void) {
         {USUAL, SEARCH, 0x9fc0, {{0}}, 2, 10, 8, 0x1000, 0, NOT_FOUND, 0, 0},
         {0, SEARCH, 0x9fc0, {{0}}, 2, 10, 8, 0x1000, 0, NOT_FOUND, 0, 0},
         /* One whose Length reaches past its area is mapped first; one that reaches past the memory is skipped. */
-        {USUAL, SEARCH, 0x9f00, {{0x9f3e0, 0x100}, {0xf59e0, 20}}, 2, 10, 1, 1, 0, 0, 0x9f3e0, 0},
+        {USUAL, SEARCH, 0x9f00, {{0x9f3d0, 0x100}, {0xf59e0, 20}}, 2, 10, 1, 1, 0, 0, 0x9f3d0, 0},
+        {USUAL, SEARCH, 0x41, {{0x7f0, 0x100}, {0xf59e0, 20}}, 2, 10, 1, 1, 0, 0, 0x7f0, 0},
         {USUAL, SEARCH, 0x9f00, {{0x9f3e0, 0x1000}, {0xf59e0, 20}}, 2, 10, 2, 1, 0, 0, 0xf59e0, 0},
         {USUAL, SEARCH, 0x9f00, {{0x9f3e0, 0x1000}, {0xf59e0, 20}}, 2, 10, 2, 0x1000, 0, 0, 0xf59e0, 0},
         {USUAL, SEARCH, 0x9f00, {{0x9f3e0, 0x1000}, {0xf59e0, 20}}, 2, 10, 1, 1, FULL, 0, 0, 0},
