@@ -32,19 +32,18 @@ impl u8x16 {
     pub(crate) fn reduce_sum(self) -> u8 {
         self.0.iter().fold(0, |sum, byte| sum.wrapping_add(*byte))
     }
-
-    #[inline(always)]
-    fn each(self, other: Self, of: impl Fn(u8, u8) -> u8) -> Self {
-        u8x16(core::array::from_fn(|lane| of(self.0[lane], other.0[lane])))
-    }
 }
 
+// Loops over places are what a compiler makes one instruction of.
 impl Add for u8x16 {
     type Output = Self;
 
     #[inline(always)]
-    fn add(self, other: Self) -> Self {
-        self.each(other, u8::wrapping_add)
+    fn add(mut self, other: Self) -> Self {
+        for lane in 0..16 {
+            self.0[lane] = self.0[lane].wrapping_add(other.0[lane]);
+        }
+        self
     }
 }
 
@@ -52,7 +51,10 @@ impl BitAnd for u8x16 {
     type Output = Self;
 
     #[inline(always)]
-    fn bitand(self, other: Self) -> Self {
-        self.each(other, |a, b| a & b)
+    fn bitand(mut self, other: Self) -> Self {
+        for lane in 0..16 {
+            self.0[lane] &= other.0[lane];
+        }
+        self
     }
 }
