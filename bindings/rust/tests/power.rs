@@ -1,6 +1,7 @@
 //! Sleep types and plans: what a machine is to be written so that it sleeps, is off, is reset, or has ACPI.
 mod common;
 use common::{Field, Memory, ROOT, generic, plain};
+use zacpi::AcpiError;
 use zacpi::lists::power_records::Plan;
 use zacpi::lists::{power, refusal::Refusal};
 use zacpi::sdt::Signature;
@@ -8,7 +9,6 @@ use zacpi::sleep::{
     self, PlanError, PlanStep, SleepAnswer, SleepError, SleepTables, SleepTypes, StepKind, enable_plan, pm_timer_ticks,
     reset_plan, sleep_plan,
 };
-use zacpi::{AcpiError, AcpiResult};
 
 const FADT: u64 = ROOT + 0x1000;
 const DSDT: u64 = ROOT + 0x2000;
@@ -158,8 +158,7 @@ fn a_register_resets_the_machine() {
     assert_eq!(reset(&fields), Ok(vec![(1, 0xcf9, 8, 0xff, 6, false)]));
     assert_eq!(reset(&fields[..5]), Err(Refusal::NoReset));
     fields[0] = (116, 1, 0x0b); // a reserved code of Address Space ID
-    let refused: AcpiResult<()> = Err(AcpiError::InvalidGenericAddress);
-    assert_eq!(reset(&fields), Err(Refusal::Acpi(refused.unwrap_err())));
+    assert_eq!(reset(&fields), Err(Refusal::Acpi(AcpiError::InvalidGenericAddress)));
 }
 
 /// TMR_VAL has 24 bits, or 32 (section 4.8.3.3).

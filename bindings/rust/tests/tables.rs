@@ -344,7 +344,9 @@ fn walk(first: u32, width: u8) -> Walk {
 }
 
 /// Each entry's offset, type and length, and whether bytes are left.
-fn walked(memory: &Memory, address: u64, walk: Walk) -> Result<(Vec<(u64, u32, u32)>, bool), Refusal> {
+type Walked = (Vec<(u64, u32, u32)>, bool);
+
+fn walked(memory: &Memory, address: u64, walk: Walk) -> Result<Walked, Refusal> {
     let mut malformed = 0;
     let found: Vec<Entry> =
         memory.list(|source| all(|out| entries::table_entries(source, address, walk, out, &mut malformed)))?;

@@ -20,7 +20,7 @@ use acpi::sdt::{ExtendedField, SdtHeader, Signature};
 use acpi::spcr::{Spcr, SpcrFlowControl, SpcrInterfaceType, SpcrInterruptType, SpcrTerminalType};
 //- use acpi::{AcpiError, AcpiHandler, AcpiResult, AcpiTable, AcpiTables, AmlTable, HpetInfo, InterruptModel, MadtError};
 use acpi::{AcpiError, AcpiHandler, AcpiResult, AcpiTable, AcpiTables, AmlTable, HpetInfo, InterruptModel}; //+
-use acpi::{MadtError, PhysicalRecord, SdtTable, TryClone, platform::Mailbox}; //+
+use acpi::{MadtError, PhysicalRecord, SdtTable, platform::Mailbox}; //+
 use acpi::{ManagedSlice, PciConfigRegions, PhysicalMapping, PlatformInfo, PowerProfile, Sdt, SdtHeaderIterator};
 use acpi::SsdtIterator;
 //- use std::alloc::Global;
