@@ -1,17 +1,12 @@
-//! Counts the processors, by the tables in 64 KiB of memory from the RSDP at 0x70000000 on, as examples/c/first.c does.
+//! Counts the processors, by the tables in 64 KiB of memory from the RSDP at 0x70000000 on.
 use std::io::Read;
-use zacpi::lists::records::Source;
-use zacpi::lists::refusal::Refusal;
-use zacpi::lists::{apics, regions::Region};
+use zacpi::handler::MappedRegion;
+use zacpi::{AcpiError, AcpiResult, AcpiTables};
 
-/// Accepts tables with bad sums and names: bits 0 and 1.
-const ACCEPT: u32 = 3;
-
-fn count(bytes: &[u8]) -> Result<usize, Refusal> {
-    let regions = [Region { address: 0x70000000, bytes }];
-    // Start 0 is at an RSDP.
-    let source = Source { regions: &regions, address: 0x70000000, start: 0, accept: ACCEPT };
-    apics::processors(&source, &mut [])
+fn count(bytes: &[u8]) -> AcpiResult<usize> {
+    let memory = MappedRegion::new(0x70000000, bytes).map_err(|_| AcpiError::MapFailed)?;
+    let platform = AcpiTables::from_rsdp(&memory, 0x70000000)?.platform_info()?;
+    Ok(platform.processor_info.map_or(0, |info| 1 + info.application_processors.len()))
 }
 
 fn main() {

@@ -228,10 +228,10 @@ fn flags_are_their_bits() {
     ];
     let arm: [fn(&ArmBootArchFlags) -> bool; 2] =
         [ArmBootArchFlags::implements_psci, ArmBootArchFlags::use_hvc_as_psci_conduit];
-    for bit in 0..22 {
+    for (bit, flag) in fixed.iter().enumerate() {
         for (bits, is_set) in [(1u32 << bit, true), (!(1u32 << bit), false)] {
             let low = (bits as u16).to_le_bytes();
-            assert_eq!(fixed[bit](&of_bytes(112, &bits.to_le_bytes()).flags), is_set, "Flags, bit {bit}");
+            assert_eq!(flag(&of_bytes(112, &bits.to_le_bytes()).flags), is_set, "Flags, bit {bit}");
             let found = pc.get(bit).is_none_or(|flag| flag(&of_bytes(109, &low).iapc_boot_arch) == is_set);
             assert!(found, "IAPC_BOOT_ARCH, bit {bit}");
             let found = arm.get(bit).is_none_or(|flag| flag(&of_bytes(129, &low).arm_boot_arch) == is_set);
