@@ -63,7 +63,7 @@ fn reads_domains() {
         assert_eq!(domains.entries().filter(|entry| entry.memory_range().is_some()).count(), 2);
     });
     memory.list(|source| {
-        let list: Vec<MemoryAffinity> = all(|out| numa::affinities(source, out)).unwrap();
+        let list: Vec<MemoryAffinity> = all(|out| affinities::srat_entries(source, out)).unwrap();
         assert_eq!(plains(&list), ["MemoryAffinity 1000 1000 1 0 0", "MemoryAffinity 2000 2000 2 1 1"]);
         let list: Vec<ProcessorAffinity> = all(|out| affinities::srat_entries(source, out)).unwrap();
         let expected = ["ProcessorAffinity 3 105 0 0", "ProcessorAffinity 100 6 0 2", "ProcessorAffinity 9 7 8 3"];
@@ -87,7 +87,7 @@ fn entries_may_be_at_fault() {
     let high = with("SRAT", 3, 88, &[(48, 2, 0x2801), (56, 8, u64::MAX), (64, 8, 1), (76, 4, 1)]);
     high.bytes_of::<Srat, _>(|table| assert_eq!(affinities_count(table), Err(NumaError::InvalidMemoryRange)));
     memory.list(|source| {
-        assert_eq!(all(|out| numa::affinities(source, out)).map(|list| list.len()), Ok(1));
+        assert_eq!(affinities::srat_entries::<MemoryAffinity>(source, &mut []), Ok(0));
         let faults = all(|out| srat_faults::srat_faults(source, out)).unwrap();
         assert_eq!(plains(&faults), ["EntryFault 101030 33 1", "EntryFault 101058 32 0"]);
         assert_eq!(numa::domain_of_address(source, u64::MAX), Err(Refusal::InvalidMemoryRange));

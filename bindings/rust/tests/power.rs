@@ -59,8 +59,9 @@ fn steps(listed: Result<Plan, Refusal>, plan: Result<sleep::Plan, PlanError>) ->
 fn sleep_types_are_constants_of_aml() {
     let types = |dsdt: &[u8], ssdt: &[u8], state| {
         let memory = machine(&[], dsdt, ssdt);
-        let found = memory.list(|source| power::sleep_types(source, state).map(|types| (types.a, types.b)));
+        let found = memory.list(|source| power::sleep_types(source, state).map(|it| (it.a.into(), it.b.into())));
         let answer = match memory.ask(|tables| tables.sleep_types(state as u8)) {
+            Ok(SleepAnswer::Types(types)) if types.a.max(types.b) > 255 => Err(Refusal::SleepTypeTooHigh),
             Ok(SleepAnswer::Types(types)) => Ok((types.a, types.b)),
             Ok(SleepAnswer::Absent) => Err(Refusal::SleepStateAbsent),
             Ok(SleepAnswer::NotSeen(_)) => Err(Refusal::SleepStateNotSeen),
@@ -85,6 +86,9 @@ fn sleep_types_are_constants_of_aml() {
     assert_eq!(types(&root, &[], 5), Ok((5, 7)));
     // StoreOp.
     assert_eq!(types(b"\x70\x01\x60", &[], 5), Err(Refusal::SleepStateNotSeen));
+    // WordPrefix: the first of two, 0x105, is above 255, and an only one has the second in its high byte.
+    assert_eq!(types(b"\x08_S5_\x12\x06\x02\x0b\x05\x01\0", &[], 5), Err(Refusal::SleepTypeTooHigh));
+    assert_eq!(types(b"\x08_S5_\x12\x05\x01\x0b\x05\x07", &[], 5), Ok((5, 7)));
     // The package ends after the block.
     assert_eq!(types(&S5[..S5.len() - 1], &[], 5), Err(Refusal::AmlInvalid(Signature::DSDT)));
     assert_eq!(sleep::sleep_types(S5, 5), Ok(SleepAnswer::Types(SleepTypes { a: 5, b: 7 })));

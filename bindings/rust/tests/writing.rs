@@ -35,21 +35,29 @@ use zacpi::{AcpiHandler, AcpiTables, HpetInfo, PowerProfile};
 
 const TABLE: u64 = ROOT + 0x1000;
 
-/// Writes a table of this size, below an XSDT, reads it, and asks its records.
-fn read_back<E: std::fmt::Debug + PartialEq + From<WriterError>, T>(
+/// A table of this size that is written below an XSDT.
+fn written<E: std::fmt::Debug + PartialEq + From<WriterError>>(
     size: usize,
     write: impl Fn(&mut [u8]) -> Result<usize, E>,
-    ask: impl FnOnce(&Tables<'_>, &Source<'_>) -> T,
-) -> T {
+) -> Written {
     let mut memory = vec![0x5a; 0x1000 + size + 1];
     assert_eq!(write_xsdt(&mut memory, &IDS, &[TABLE]), Ok(44));
     assert_eq!(fails(&write, size - 1), E::from(WriterError::NoRoom));
     assert_eq!(write(&mut memory[0x1000..]), Ok(size));
     assert_eq!(memory.last(), Some(&0x5a));
-    let handler = MappedRegion::new(ROOT, &memory).unwrap();
-    let regions = [Region { address: ROOT, bytes: &memory }];
-    let source = Source { regions: &regions, address: ROOT, start: 2, accept: 0 };
-    ask(&AcpiTables::from_rsdt(&handler, 2, ROOT).ok().unwrap(), &source)
+    Written(memory)
+}
+
+struct Written(Vec<u8>);
+
+impl Written {
+    /// Asks the tables, and the calls without a heap.
+    fn ask(&self, ask: impl FnOnce(&Tables<'_>, &Source<'_>)) {
+        let handler = MappedRegion::new(ROOT, &self.0).unwrap();
+        let regions = [Region { address: ROOT, bytes: &self.0 }];
+        let source = Source { regions: &regions, address: ROOT, start: 2, accept: 0 };
+        ask(&AcpiTables::from_rsdt(&handler, 2, ROOT).ok().unwrap(), &source);
+    }
 }
 
 /// The error of writing to so many bytes, which are as they were then.
@@ -63,13 +71,9 @@ fn fails<E: std::fmt::Debug>(write: impl Fn(&mut [u8]) -> Result<usize, E>, leng
 /// What is written again of the records that were read is the same table.
 fn again(tables: &Tables<'_>, signature: Signature, contents: Contents<'_>) {
     let table = tables.find_sdt(signature).ok().unwrap();
-    read_back(
-        table.region_length(),
-        |out| writing::write_contents(out, &IDS, &contents),
-        |again, _| {
-            assert_eq!(again.find_sdt(signature).ok().unwrap().bytes(), table.bytes());
-        },
-    );
+    written(table.region_length(), |out| writing::write_contents(out, &IDS, &contents)).ask(|again, _| {
+        assert_eq!(again.find_sdt(signature).ok().unwrap().bytes(), table.bytes());
+    });
 }
 
 #[test]
@@ -88,9 +92,9 @@ fn writes_a_header_and_bytes() {
         assert_eq!(bytes, expected);
         assert_eq!(byte_sum(found.bytes()), 0);
     };
-    read_back(39, |out| write_table(out, signature, 3, &IDS, &Bytes(&[1, 2, 3])), check);
+    written(39, |out| write_table(out, signature, 3, &IDS, &Bytes(&[1, 2, 3]))).ask(check);
     let named = lists::records::Signature { letters: *b"OEM7" };
-    read_back(39, |out| writing::write_table(out, &IDS, named, 3, &[1, 2, 3]), check);
+    written(39, |out| writing::write_table(out, &IDS, named, 3, &[1, 2, 3])).ask(check);
     let ids = TableIds { creator_id: [0xff; 4], ..IDS };
     assert_eq!(fails(|out| write_table(out, signature, 3, &ids, &Bytes(&[])), 99), WriterError::BadName);
     assert_eq!((ids.are_texts(), IDS.are_texts()), (false, true));
@@ -156,46 +160,38 @@ fn pc() -> FadtContents {
 
 #[test]
 fn writes_fixed_hardware() {
-    read_back(
-        276,
-        |out| write_fadt(out, &IDS, &pc()),
-        |tables, source| {
-            let f = tables.find_table::<Fadt>().ok().unwrap();
-            assert_eq!((f.dsdt_address(), f.facs_address()), (Ok(0x1234_5678), Ok(0x1_0000_0040)));
-            assert_eq!((f.power_profile(), f.sci_interrupt, f.smi_cmd_port), (PowerProfile::Mobile, 9, 0xb2));
-            assert_eq!((f.acpi_enable, f.acpi_disable, f.flush_size, f.century), (0xa0, 0xa1, 1024, 0x32));
-            let required = [f.pm1a_event_block(), f.pm1a_control_block(), f.reset_register()];
-            assert_eq!(required, [Ok(ports(0x600, 32)), Ok(ports(0x604, 16)), Ok(ports(0xcf9, 8))]);
-            assert_eq!(
-                (f.pm1b_event_block(), f.pm_timer_block()),
-                (Ok(Some(ports(0x610, 32))), Ok(Some(ports(0x608, 32))))
-            );
-            assert_eq!(f.pm2_control_block(), Ok(Some(ports(0x650, 8))));
-            assert_eq!((plain(f.gpe0()), plain(f.gpe1())), ("Ok SystemIo 620 10".into(), "Ok SystemIo 640 4".into()));
-            assert_eq!(
-                (f.gpe1_base(), f.reset_value, f.sleep_status_register()),
-                (Some(0x40), 6, Ok(Some(ports(0x701, 8))))
-            );
-            assert!(f.flags.pm_timer_is_32_bit() && f.flags.supports_system_reset_via_fadt());
-            assert!(f.iapc_boot_arch.motherboard_implements_8042() && !f.flags.system_is_hw_reduced_acpi());
-            again(tables, Signature::FADT, Contents::Fadt(lists::fixed::fixed(source).unwrap()));
-            let mut hardware = lists::fixed::fixed(source).unwrap();
-            hardware.pm1a_event.at.space = 0x0b;
-            assert_eq!(fails(|out| writing::write_hardware(out, &IDS, &hardware), 276), Refusal::UnknownCode);
-        },
-    );
+    written(276, |out| write_fadt(out, &IDS, &pc())).ask(|tables, source| {
+        let f = tables.find_table::<Fadt>().ok().unwrap();
+        assert_eq!((f.dsdt_address(), f.facs_address()), (Ok(0x1234_5678), Ok(0x1_0000_0040)));
+        assert_eq!((f.power_profile(), f.sci_interrupt, f.smi_cmd_port), (PowerProfile::Mobile, 9, 0xb2));
+        assert_eq!((f.acpi_enable, f.acpi_disable, f.flush_size, f.century), (0xa0, 0xa1, 1024, 0x32));
+        let required = [f.pm1a_event_block(), f.pm1a_control_block(), f.reset_register()];
+        assert_eq!(required, [Ok(ports(0x600, 32)), Ok(ports(0x604, 16)), Ok(ports(0xcf9, 8))]);
+        assert_eq!(
+            (f.pm1b_event_block(), f.pm_timer_block()),
+            (Ok(Some(ports(0x610, 32))), Ok(Some(ports(0x608, 32))))
+        );
+        assert_eq!(f.pm2_control_block(), Ok(Some(ports(0x650, 8))));
+        assert_eq!((plain(f.gpe0()), plain(f.gpe1())), ("Ok SystemIo 620 10".into(), "Ok SystemIo 640 4".into()));
+        assert_eq!(
+            (f.gpe1_base(), f.reset_value, f.sleep_status_register()),
+            (Some(0x40), 6, Ok(Some(ports(0x701, 8))))
+        );
+        assert!(f.flags.pm_timer_is_32_bit() && f.flags.supports_system_reset_via_fadt());
+        assert!(f.iapc_boot_arch.motherboard_implements_8042() && !f.flags.system_is_hw_reduced_acpi());
+        again(tables, Signature::FADT, Contents::Fadt(lists::fixed::fixed(source).unwrap()));
+        let mut hardware = lists::fixed::fixed(source).unwrap();
+        hardware.pm1a_event.at.space = 0x0b;
+        assert_eq!(fails(|out| writing::write_hardware(out, &IDS, &hardware), 276), Refusal::UnknownCode);
+    });
     let reduced = guest::reduced(0x1000);
-    read_back(
-        276,
-        |out| write_fadt(out, &IDS, &reduced),
-        |tables, source| {
-            let f = tables.find_table::<Fadt>().ok().unwrap();
-            assert!(f.flags.system_is_hw_reduced_acpi() && f.pm_timer_block() == Ok(None));
-            let f = lists::fixed::fixed(source).unwrap();
-            assert_eq!((f.revision, f.minor_revision, f.hypervisor_id), (6, 4, 0));
-            again(tables, Signature::FADT, Contents::Fadt(f));
-        },
-    );
+    written(276, |out| write_fadt(out, &IDS, &reduced)).ask(|tables, source| {
+        let f = tables.find_table::<Fadt>().ok().unwrap();
+        assert!(f.flags.system_is_hw_reduced_acpi() && f.pm_timer_block() == Ok(None));
+        let f = lists::fixed::fixed(source).unwrap();
+        assert_eq!((f.revision, f.minor_revision, f.hypervisor_id), (6, 4, 0));
+        again(tables, Signature::FADT, Contents::Fadt(f));
+    });
     let fixed = |pm1a_event| {
         let FadtHardware::Fixed(hardware) = pc().hardware else { panic!("it is fixed") };
         let hardware = FadtHardware::Fixed(FixedHardware { pm1a_event, ..hardware });
@@ -223,36 +219,29 @@ fn writes_a_console() {
         uart_clock_frequency: 1_843_200,
         ..guest::console(0x3f8, 20, 115_200)
     };
-    read_back(
-        90,
-        |out| write_spcr(out, &IDS, &console),
-        |tables, source| {
-            let found = tables.find_table::<Spcr>().ok().unwrap();
-            // Interrupt Type: an 8259 and an I/O APIC; Flow Control: RTS and CTS; Terminal Type: VT100.
-            let bytes = found.bytes();
-            assert_eq!((bytes[52], bytes[61], bytes[62]), (3, 2, 1));
-            assert_eq!((found.namespace_string(), found.base_address()), (Ok(".\0"), Some(Ok(ports(0x3f8, 8)))));
-            assert_eq!(
-                (found.irq(), found.global_system_interrupt(), found.baud_rate()),
-                (Some(4), Some(20), Some(115_200))
-            );
-            assert_eq!(
-                (found.pci_vendor_id(), found.pci_function_number(), found.pci_segment),
-                (Some(0x8086), Some(3), 4)
-            );
-            assert_eq!((found.uart_clock_frequency(), found.stop_bits, found.pci_flags), (Some(1_843_200), 1, 1));
-            let mut contents = records::SpcrContents {
-                console: lists::console::console(source).unwrap(),
-                interrupt_controllers: 2,
-                flow_control: 2,
-                terminal_type: 1,
-            };
-            again(tables, Signature::SPCR, Contents::Spcr(contents));
-            contents.interrupt_controllers = 1;
-            let refused = fails(|out| writing::write_contents(out, &IDS, &Contents::Spcr(contents)), 90);
-            assert_eq!(refused, Refusal::UnknownCode);
-        },
-    );
+    written(90, |out| write_spcr(out, &IDS, &console)).ask(|tables, source| {
+        let found = tables.find_table::<Spcr>().ok().unwrap();
+        // Interrupt Type: an 8259 and an I/O APIC; Flow Control: RTS and CTS; Terminal Type: VT100.
+        let bytes = found.bytes();
+        assert_eq!((bytes[52], bytes[61], bytes[62]), (3, 2, 1));
+        assert_eq!((found.namespace_string(), found.base_address()), (Ok(".\0"), Some(Ok(ports(0x3f8, 8)))));
+        assert_eq!(
+            (found.irq(), found.global_system_interrupt(), found.baud_rate()),
+            (Some(4), Some(20), Some(115_200))
+        );
+        assert_eq!((found.pci_vendor_id(), found.pci_function_number(), found.pci_segment), (Some(0x8086), Some(3), 4));
+        assert_eq!((found.uart_clock_frequency(), found.stop_bits, found.pci_flags), (Some(1_843_200), 1, 1));
+        let mut contents = records::SpcrContents {
+            console: lists::console::console(source).unwrap(),
+            interrupt_controllers: 2,
+            flow_control: 2,
+            terminal_type: 1,
+        };
+        again(tables, Signature::SPCR, Contents::Spcr(contents));
+        contents.interrupt_controllers = 1;
+        let refused = fails(|out| writing::write_contents(out, &IDS, &Contents::Spcr(contents)), 90);
+        assert_eq!(refused, Refusal::UnknownCode);
+    });
     let error = |console: SpcrContents<'_>| fails(|out| write_spcr(out, &IDS, &console), 90);
     assert_eq!(error(SpcrContents { base_address: Some(ports(0, 8)), ..console }), WriterError::NoAddress);
     assert_eq!(error(SpcrContents { interface_type: SpcrInterfaceType::Unknown(3), ..console }), WriterError::BadCode);
@@ -266,20 +255,16 @@ fn writes_an_image() {
         image_address: 0x1_2345_6789,
         image_offset: (640, 480),
     };
-    read_back(
-        56,
-        |out| write_bgrt(out, &IDS, &image),
-        |tables, source| {
-            let found = tables.find_table::<Bgrt>().ok().unwrap();
-            assert_eq!((found.image_address, found.image_offset()), (0x1_2345_6789, (640, 480)));
-            assert_eq!((found.was_displayed(), found.orientation_offset()), (true, 270));
-            let graphic = lists::devices::graphic(source).unwrap();
-            again(tables, Signature::BGRT, Contents::Bgrt(graphic));
-            let turned = lists::records::BootGraphic { orientation: 45, ..graphic };
-            let refused = fails(|out| writing::write_contents(out, &IDS, &Contents::Bgrt(turned)), 56);
-            assert_eq!(refused, Refusal::UnknownCode);
-        },
-    );
+    written(56, |out| write_bgrt(out, &IDS, &image)).ask(|tables, source| {
+        let found = tables.find_table::<Bgrt>().ok().unwrap();
+        assert_eq!((found.image_address, found.image_offset()), (0x1_2345_6789, (640, 480)));
+        assert_eq!((found.was_displayed(), found.orientation_offset()), (true, 270));
+        let graphic = lists::devices::graphic(source).unwrap();
+        again(tables, Signature::BGRT, Contents::Bgrt(graphic));
+        let turned = lists::records::BootGraphic { orientation: 45, ..graphic };
+        let refused = fails(|out| writing::write_contents(out, &IDS, &Contents::Bgrt(turned)), 56);
+        assert_eq!(refused, Refusal::UnknownCode);
+    });
 }
 
 #[test]
@@ -313,30 +298,26 @@ fn writes_a_gic() {
         msi_frames: &[frame(2, Some(SpiRange { base: 64, count: 32 })), frame(3, None)],
     };
     // The MADT's 44 bytes, a GICD of 24, GICCs of 80 and 82, a GICR of 16, an ITS of 20, MSI frames of 24.
-    read_back(
-        44 + 24 + 80 + 82 + 16 + 20 + 48,
-        |out| write_gic_madt(out, &IDS, &contents),
-        |tables, source| {
-            let gic = GicModel::new(tables).ok().unwrap().unwrap();
-            assert_eq!(plain(gic.distributor), plain(contents.distributor));
-            assert_eq!(plains(&gic.cpu_interfaces), plains(contents.cpu_interfaces));
-            assert_eq!(plains(&gic.redistributors), plains(contents.redistributors));
-            assert_eq!(plains(&gic.translation_services), plains(contents.translation_services));
-            assert_eq!(plains(&gic.msi_frames), plains(contents.msi_frames));
-            let parts = records::GicContents {
-                distributor: lists::gic::distributor(source).unwrap(),
-                cpu_interfaces: &all(|out| lists::gic::parts(source, out)).unwrap(),
-                redistributors: &all(|out| lists::gic::parts(source, out)).unwrap(),
-                translation_services: &all(|out| lists::gic::parts(source, out)).unwrap(),
-                msi_frames: &all(|out| lists::gic::parts(source, out)).unwrap(),
-            };
-            again(tables, Signature::MADT, Contents::Gic(parts));
-            let long = lists::records::Range { address: 0, length: 1 << 32 };
-            let parts = records::GicContents { redistributors: &[long], ..parts };
-            let refused = fails(|out| writing::write_contents(out, &IDS, &Contents::Gic(parts)), 1000);
-            assert_eq!(refused, Refusal::Writer(WriterError::BadRange));
-        },
-    );
+    written(44 + 24 + 80 + 82 + 16 + 20 + 48, |out| write_gic_madt(out, &IDS, &contents)).ask(|tables, source| {
+        let gic = GicModel::new(tables).ok().unwrap().unwrap();
+        assert_eq!(plain(gic.distributor), plain(contents.distributor));
+        assert_eq!(plains(&gic.cpu_interfaces), plains(contents.cpu_interfaces));
+        assert_eq!(plains(&gic.redistributors), plains(contents.redistributors));
+        assert_eq!(plains(&gic.translation_services), plains(contents.translation_services));
+        assert_eq!(plains(&gic.msi_frames), plains(contents.msi_frames));
+        let parts = records::GicContents {
+            distributor: lists::gic::distributor(source).unwrap(),
+            cpu_interfaces: &all(|out| lists::gic::parts(source, out)).unwrap(),
+            redistributors: &all(|out| lists::gic::parts(source, out)).unwrap(),
+            translation_services: &all(|out| lists::gic::parts(source, out)).unwrap(),
+            msi_frames: &all(|out| lists::gic::parts(source, out)).unwrap(),
+        };
+        again(tables, Signature::MADT, Contents::Gic(parts));
+        let long = lists::records::Range { address: 0, length: 1 << 32 };
+        let parts = records::GicContents { redistributors: &[long], ..parts };
+        let refused = fails(|out| writing::write_contents(out, &IDS, &Contents::Gic(parts)), 1000);
+        assert_eq!(refused, Refusal::Writer(WriterError::BadRange));
+    });
     let none = GicContents { cpu_interfaces: &[], ..contents };
     assert_eq!(fails(|out| write_gic_madt(out, &IDS, &none), 1000), WriterError::NoProcessor);
 }
@@ -373,36 +354,32 @@ fn writes_timers() {
             PlatformTimerContents::SbsaWatchdog(watchdog),
         ],
     };
-    read_back(
-        104 + 20 + 2 * 40 + 28,
-        |out| write_gtdt(out, &IDS, &contents),
-        |tables, source| {
-            let read = tables.find_table::<Gtdt>().ok().unwrap();
-            assert_eq!((read.counter_control_base(), read.counter_read_base()), (Some(0x7000), None));
-            assert_eq!(plains([read.secure_el1_timer, read.el2_timer]), plains([none, none]));
-            assert_eq!(
-                plains([read.non_secure_el1_timer, read.virtual_el1_timer]),
-                plains([timer(30, true), timer(27, true)])
-            );
-            let mut timers = PlatformTimerIter::over(read.bytes());
-            let Some(PlatformTimer::GtBlock(block)) = timers.next() else { panic!("a block") };
-            assert_eq!((block.address, plains(block.frames)), (0x1000, plains(frames)));
-            let Some(PlatformTimer::SbsaWatchdog(it)) = timers.next() else { panic!("a watchdog") };
-            assert_eq!((plain(it), timers.next().is_none()), (plain(watchdog), true));
-            let frames: Vec<_> = all(|out| lists::arm_timers::frames(source, out)).unwrap();
-            let watchdogs: Vec<_> = all(|out| lists::arm_timers::watchdogs(source, out)).unwrap();
-            let platform_timers = [
-                records::PlatformTimer { kind: 0, block_address: 0x1000, frames: &frames, ..Default::default() },
-                records::PlatformTimer { kind: 1, watchdog: watchdogs[0], ..Default::default() },
-            ];
-            let timers = lists::arm_timers::arm_timers(source).unwrap();
-            again(
-                tables,
-                Signature::GTDT,
-                Contents::Gtdt(records::GtdtContents { timers, platform_timers: &platform_timers }),
-            );
-        },
-    );
+    written(104 + 20 + 2 * 40 + 28, |out| write_gtdt(out, &IDS, &contents)).ask(|tables, source| {
+        let read = tables.find_table::<Gtdt>().ok().unwrap();
+        assert_eq!((read.counter_control_base(), read.counter_read_base()), (Some(0x7000), None));
+        assert_eq!(plains([read.secure_el1_timer, read.el2_timer]), plains([none, none]));
+        assert_eq!(
+            plains([read.non_secure_el1_timer, read.virtual_el1_timer]),
+            plains([timer(30, true), timer(27, true)])
+        );
+        let mut timers = PlatformTimerIter::over(read.bytes());
+        let Some(PlatformTimer::GtBlock(block)) = timers.next() else { panic!("a block") };
+        assert_eq!((block.address, plains(block.frames)), (0x1000, plains(frames)));
+        let Some(PlatformTimer::SbsaWatchdog(it)) = timers.next() else { panic!("a watchdog") };
+        assert_eq!((plain(it), timers.next().is_none()), (plain(watchdog), true));
+        let frames: Vec<_> = all(|out| lists::arm_timers::frames(source, out)).unwrap();
+        let watchdogs: Vec<_> = all(|out| lists::arm_timers::watchdogs(source, out)).unwrap();
+        let platform_timers = [
+            records::PlatformTimer { kind: 0, block_address: 0x1000, frames: &frames, ..Default::default() },
+            records::PlatformTimer { kind: 1, watchdog: watchdogs[0], ..Default::default() },
+        ];
+        let timers = lists::arm_timers::arm_timers(source).unwrap();
+        again(
+            tables,
+            Signature::GTDT,
+            Contents::Gtdt(records::GtdtContents { timers, platform_timers: &platform_timers }),
+        );
+    });
     let many = [PlatformTimerContents::GtBlock(GtBlockContents { address: 0x1000, frames: &[frame(0); 1638] })];
     let many = GtdtContents { platform_timers: &many, ..contents };
     assert_eq!(fails(|out| write_gtdt(out, &IDS, &many), 100_000), WriterError::TooManyFrames);
@@ -420,32 +397,24 @@ fn writes_domains() {
     let ranges = [range(0x1000, u64::MAX - 0x1000, 0x1234_5678)];
     let (apics, giccs) = ([apic(254, 1), apic(255, 2)], [GiccDomain { processor_uid: 9, domain: 3 }]);
     let contents = SratContents { apics: &apics, giccs: &giccs, ranges: &ranges };
-    read_back(
-        48 + 16 + 24 + 18 + 40,
-        |out| write_srat(out, &IDS, &contents),
-        |tables, source| {
-            let srat = tables.find_table::<Srat>().ok().unwrap();
-            let domains = Domains::over(srat.bytes());
-            assert_eq!([254, 255].map(|id| domains.domain_of_apic(id)), [Some(1), Some(2)]);
-            assert_eq!(domains.domain_of_processor(9), Some(3));
-            assert_eq!(plains(MemoryAffinities::new(tables).ok().unwrap().ranges()), plains(ranges));
-            let ranges: Vec<_> = all(|out| lists::numa::affinities(source, out)).unwrap();
-            let contents = records::SratContents { apics: &apics, giccs: &giccs, ranges: &ranges };
-            again(tables, Signature::SRAT, Contents::Srat(contents));
-        },
-    );
+    written(48 + 16 + 24 + 18 + 40, |out| write_srat(out, &IDS, &contents)).ask(|tables, source| {
+        let srat = tables.find_table::<Srat>().ok().unwrap();
+        let domains = Domains::over(srat.bytes());
+        assert_eq!([254, 255].map(|id| domains.domain_of_apic(id)), [Some(1), Some(2)]);
+        assert_eq!(domains.domain_of_processor(9), Some(3));
+        assert_eq!(plains(MemoryAffinities::new(tables).ok().unwrap().ranges()), plains(ranges));
+        let ranges: Vec<_> = all(|out| lists::affinities::srat_entries(source, out)).unwrap();
+        let contents = records::SratContents { apics: &apics, giccs: &giccs, ranges: &ranges };
+        again(tables, Signature::SRAT, Contents::Srat(contents));
+    });
     let error = |contents: SratContents<'_>| fails(|out| write_srat(out, &IDS, &contents), 1000);
     assert_eq!(error(SratContents { apics: &[apic(u32::MAX, 1)], ..contents }), WriterError::IdOfAll);
     assert_eq!(error(SratContents { ranges: &[range(0x1000, 0, 1)], ..contents }), WriterError::BadRange);
     let distances = [10, 20, 255, 10];
-    read_back(
-        48,
-        |out| write_slit(out, &IDS, 2, &distances),
-        |tables, _| {
-            let slit = tables.find_table::<Slit>().ok().unwrap();
-            assert_eq!((slit.localities, Distances::over(slit.bytes()).distance(1, 0)), (2, Some(255)));
-        },
-    );
+    written(48, |out| write_slit(out, &IDS, 2, &distances)).ask(|tables, _| {
+        let slit = tables.find_table::<Slit>().ok().unwrap();
+        assert_eq!((slit.localities, Distances::over(slit.bytes()).distance(1, 0)), (2, Some(255)));
+    });
     assert_eq!(fails(|out| write_slit(out, &IDS, 3, &distances), 1000), WriterError::BadMatrix);
 }
 
@@ -458,24 +427,16 @@ fn writes_devices() {
         clock_tick_unit: 100,
         page_protection: zacpi::hpet::PageProtection::Protected64K,
     };
-    read_back(
-        56,
-        |out| write_hpet(out, &IDS, &info),
-        |tables, source| {
-            assert_eq!(HpetInfo::new(tables).map(plain), Ok(plain(info)));
-            again(tables, Signature::HPET, Contents::Hpet(lists::devices::hpet(source).unwrap()));
-        },
-    );
+    written(56, |out| write_hpet(out, &IDS, &info)).ask(|tables, source| {
+        assert_eq!(HpetInfo::new(tables).map(plain), Ok(plain(info)));
+        again(tables, Signature::HPET, Contents::Hpet(lists::devices::hpet(source).unwrap()));
+    });
     let entry = McfgEntry { base_address: 0xb000_0000, pci_segment_group: 1, bus_number_start: 0, bus_number_end: 63 };
-    read_back(
-        60,
-        |out| write_mcfg(out, &IDS, &[entry]),
-        |tables, source| {
-            assert_eq!(plains(tables.find_table::<Mcfg>().ok().unwrap().entries()), [plain(entry)]);
-            let regions: Vec<_> = all(|out| lists::pci::pci_regions(source, out)).unwrap();
-            again(tables, Signature::MCFG, Contents::Mcfg(&regions));
-        },
-    );
+    written(60, |out| write_mcfg(out, &IDS, &[entry])).ask(|tables, source| {
+        assert_eq!(plains(tables.find_table::<Mcfg>().ok().unwrap().entries()), [plain(entry)]);
+        let regions: Vec<_> = all(|out| lists::pci::pci_regions(source, out)).unwrap();
+        again(tables, Signature::MCFG, Contents::Mcfg(&regions));
+    });
     let facs = FacsContents {
         hardware_signature: 0x1234_5678,
         waking_vector: 1,
@@ -535,58 +496,51 @@ fn writes_processors() {
         };
         // An address override of 12 bytes, an I/O APIC of 12, 10, 8, two lines of 6 and one of 12, a mailbox of 16.
         let size = 44 + processors.iter().map(entry_size).sum::<usize>() + 12 + 12 + 10 + 8 + 24 + 16;
-        read_back(
-            size,
-            |out| write_madt(out, &IDS, &contents),
-            |tables, source| {
-                assert_eq!(lists::apics::mailbox(source), Ok(0x1000));
-                let madt = tables.find_table::<zacpi::madt::Madt>().ok().unwrap();
-                let (model, info) = madt.parse_interrupt_model_in(Global).ok().unwrap();
-                let InterruptModel::Apic(apic) = model else { panic!("the model is known") };
-                assert_eq!((apic.local_apic_address, apic.also_has_legacy_pics), (1 << 32, true));
-                assert_eq!(plains(&apic.io_apics), plains(io_apics));
-                assert_eq!(plains(&apic.interrupt_source_overrides), plains(overrides));
-                assert_eq!(plains(&apic.nmi_sources), plains(nmi_sources));
-                let read = apic.local_apic_nmi_lines.iter().map(|it| (it.processor, it.line));
-                assert!(read.eq(lines.iter().map(|it| (it.processor, it.line))));
-                assert_eq!(info.unwrap().application_processors.len() + 1, processors.len());
-                let mut list = vec![Default::default(); processors.len()];
-                assert_eq!(lists::apics::processors(source, &mut list), Ok(processors.len()));
-                let read = list.iter().map(|it| (it.uid, it.local_apic_id, it.state != 0, it.is_online_capable == 1));
-                let written = processors
-                    .iter()
-                    .map(|it| (it.processor_uid, it.local_apic_id, it.is_enabled, it.is_online_capable));
-                assert!(read.eq(written));
-                let contents = records::MadtContents {
-                    processors: &list,
-                    io_apics: &all(|out| lists::apics::entries(source, out)).unwrap(),
-                    overrides: &all(|out| lists::apics::entries(source, out)).unwrap(),
-                    nmi_sources: &all(|out| lists::apics::entries(source, out)).unwrap(),
-                    nmi_lines: &all(|out| lists::apics::entries(source, out)).unwrap(),
-                    local_apic_address: 1 << 32,
-                    wakeup_mailbox: 0x1000,
-                    also_has_8259: 1,
-                    has_wakeup_mailbox: 1,
-                };
-                again(tables, Signature::MADT, Contents::Madt(contents));
-                // What only a list of entries at fault has isn't written.
-                let mut bad = contents.nmi_lines.to_vec();
-                (bad[0].lint, bad[1].polarity) = (2, 2);
-                let bus = contents
-                    .overrides
-                    .iter()
-                    .map(|it| lists::interrupt_records::InterruptSourceOverride { bus: 1, ..*it });
-                let refused = [
-                    records::MadtContents { nmi_lines: &bad[..1], ..contents },
-                    records::MadtContents { nmi_lines: &bad[1..2], ..contents },
-                    records::MadtContents { overrides: &bus.collect::<Vec<_>>(), ..contents },
-                ];
-                for contents in refused.map(Contents::Madt) {
-                    let error = fails(|out| writing::write_contents(out, &IDS, &contents), size);
-                    assert_eq!(error, Refusal::UnknownCode);
-                }
-            },
-        );
+        written(size, |out| write_madt(out, &IDS, &contents)).ask(|tables, source| {
+            assert_eq!(lists::apics::mailbox(source), Ok(0x1000));
+            let madt = tables.find_table::<zacpi::madt::Madt>().ok().unwrap();
+            let (model, info) = madt.parse_interrupt_model_in(Global).ok().unwrap();
+            let InterruptModel::Apic(apic) = model else { panic!("the model is known") };
+            assert_eq!((apic.local_apic_address, apic.also_has_legacy_pics), (1 << 32, true));
+            assert_eq!(plains(&apic.io_apics), plains(io_apics));
+            assert_eq!(plains(&apic.interrupt_source_overrides), plains(overrides));
+            assert_eq!(plains(&apic.nmi_sources), plains(nmi_sources));
+            let read = apic.local_apic_nmi_lines.iter().map(|it| (it.processor, it.line));
+            assert!(read.eq(lines.iter().map(|it| (it.processor, it.line))));
+            assert_eq!(info.unwrap().application_processors.len() + 1, processors.len());
+            let mut list = vec![Default::default(); processors.len()];
+            assert_eq!(lists::apics::processors(source, &mut list), Ok(processors.len()));
+            let read = list.iter().map(|it| (it.uid, it.local_apic_id, it.state != 0, it.is_online_capable == 1));
+            let written =
+                processors.iter().map(|it| (it.processor_uid, it.local_apic_id, it.is_enabled, it.is_online_capable));
+            assert!(read.eq(written));
+            let contents = records::MadtContents {
+                processors: &list,
+                io_apics: &all(|out| lists::apics::entries(source, out)).unwrap(),
+                overrides: &all(|out| lists::apics::entries(source, out)).unwrap(),
+                nmi_sources: &all(|out| lists::apics::entries(source, out)).unwrap(),
+                nmi_lines: &all(|out| lists::apics::entries(source, out)).unwrap(),
+                local_apic_address: 1 << 32,
+                wakeup_mailbox: 0x1000,
+                also_has_8259: 1,
+                has_wakeup_mailbox: 1,
+            };
+            again(tables, Signature::MADT, Contents::Madt(contents));
+            // What only a list of entries at fault has isn't written.
+            let mut bad = contents.nmi_lines.to_vec();
+            (bad[0].lint, bad[1].polarity) = (2, 2);
+            let bus =
+                contents.overrides.iter().map(|it| lists::interrupt_records::InterruptSourceOverride { bus: 1, ..*it });
+            let refused = [
+                records::MadtContents { nmi_lines: &bad[..1], ..contents },
+                records::MadtContents { nmi_lines: &bad[1..2], ..contents },
+                records::MadtContents { overrides: &bus.collect::<Vec<_>>(), ..contents },
+            ];
+            for contents in refused.map(Contents::Madt) {
+                let error = fails(|out| writing::write_contents(out, &IDS, &contents), size);
+                assert_eq!(error, Refusal::UnknownCode);
+            }
+        });
         let error = |contents: MadtContents<'_>| fails(|out| write_madt(out, &IDS, &contents), size);
         assert_eq!(error(MadtContents { processors: &[], ..contents }), WriterError::NoProcessor);
         let one = MadtProcessor { local_apic_id: u32::MAX, ..processors[0] };
@@ -652,6 +606,7 @@ fn writes_a_machine() {
     let mut copy = vec![0x5a; size + 16];
     assert_eq!((writing::tables_size(&listed), writing::write_tables(&mut copy, at, &listed)), (Ok(size), Ok(size)));
     assert!(copy == memory && writing::dsdt_place(at, 1) == Ok(dsdt_address(at, 1).unwrap()));
+    assert_eq!(writing::facs_place(at, 1, &dsdts), Ok(facs_at));
     assert_eq!(writing::write_tables_without_rsdp(&mut copy, at, &listed), Ok(size - 48));
     let short = [records::ListedTable { bytes: &bytes[..35] }];
     let short = records::Machine { tables: &short, ..listed };
