@@ -8,6 +8,7 @@
 //! What is printed begins with a mark (`out`), and ends with one for each call, and for each part.
 #![tactic(auto)]
 
+mod checked;
 mod handlers;
 mod heaps;
 mod memory;

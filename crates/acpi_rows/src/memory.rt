@@ -2,6 +2,7 @@
 //!
 //! A handler maps all it has from an address on (`generous`), or just what is requested (`exact`).
 
+mod accepting;
 mod all;
 mod gathered;
 mod guarded;

@@ -4,7 +4,8 @@
 //!   `close` drops them.
 //! - `search` and `within ADDRESS LENGTH, ..` look an RSDP up and drop it, `bios_areas EBDA` prints where the former
 //!   looks. `lend ADDRESS LENGTH, ..` requests bytes, and prints all that are mapped for each;
-//!   `guarded` requests two numbers, as it may (`guarded`).
+//!   `guarded` requests two numbers, as it may (`guarded`), and `accepting BITS` looks two types up with a check of
+//!   their own (`accepting`).
 //! - `keep` finds the boot graphic and keeps its mapping. `table ADDRESS`, `named ADDRESS NAME`, `own ADDRESS`, `given
 //!   ADDRESS` and `map ADDRESS` keep what they map (`kept`). `show` prints what was kept last, and `release PLACE`
 //!   drops one, or else the first.
@@ -12,9 +13,9 @@
 
 use super::kept::{Kept, mapped};
 use super::ways::{found, open};
-use super::{all, guarded};
+use super::{accepting, all, guarded};
 use crate::out::Out;
-use crate::words::{areas_of, number_of};
+use crate::words::{areas_of, id_of, number_of};
 use acpi::rsdp::bios_areas;
 use acpi::{AcpiHandler, AcpiResult, AcpiTables, AddressRange, Lender};
 use acpi_cli::parse_address;
@@ -54,6 +55,7 @@ impl<'r, H: AcpiHandler> Scene<'r, H> {
                 Err(refusal) => out.show(&refusal),
             },
             "guarded" => guarded::numbers(out, self.handler),
+            "accepting" => accepting::answer(out, self.handler, id_of(rest)),
             "close" => self.tables = None,
             "release" => self.release(number_of(rest) as usize),
             "show" => {
