@@ -106,7 +106,7 @@ impl Listed for ListedTable<'_> {
     ghost fits = { λ _. Unit {0} };
 
     fn size(&self, _: &TableIds) -> Result<usize, WriterError> {
-        require(self.bytes.len() < 1 << 32, WriterError::TooLong)?;
+        require((self.bytes.len() as u64) < 1 << 32, WriterError::TooLong)?;
         Ok(self.bytes.len())
     }
 
