@@ -32,8 +32,8 @@ impl<'k> Region<'k> {
         if address < self.address {
             return None;
         }
-        let skipped = (address - self.address) as usize;
-        if skipped < self.bytes.len() { Some(&self.bytes[skipped..]) } else { None }
+        let skipped = address - self.address;
+        if skipped < length_of(self.bytes) { Some(&self.bytes[skipped as usize..]) } else { None }
     }
 }
 

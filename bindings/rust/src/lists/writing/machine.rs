@@ -80,7 +80,7 @@ impl ListedTable<'_> {
 
 impl Listed for ListedTable<'_> {
     fn size(&self, _: &TableIds) -> Result<usize, WriterError> {
-        require(self.bytes.len() < 1 << 32, WriterError::TooLong)?;
+        require((self.bytes.len() as u64) < 1 << 32, WriterError::TooLong)?;
         Ok(self.bytes.len())
     }
 
