@@ -2,7 +2,9 @@
 mod common;
 use common::{Memory, all, filled, plain, plains, with};
 use zacpi::AcpiError;
-use zacpi::iommu::{Dmar, DmarFields, DmarStructureIter, DmarUnits, Hop, IommuError, Ivrs, IvrsBlockIter, IvrsBlocks};
+use zacpi::iommu::{
+    Dmar, DmarFields, DmarStructureIter, DmarUnits, Hop, IommuError, Ivrs, IvrsBlockIter, IvrsBlocks, Satc,
+};
 use zacpi::lists::iommu_records::{DmarAffinity, DmarReserved, DmarRootPorts, DmarUnit, IvrsMemory, IvrsUnit};
 use zacpi::lists::{iommu, iommu_faults, iommu_lists, iommu_regions, refusal::Refusal};
 use zacpi::sdt::Signature;
@@ -77,6 +79,7 @@ fn reads_a_dmar() {
         assert_eq!((scopes[0].hops().collect::<Vec<_>>(), scopes[1].hops().count()), (vec![hop(0x1f, 0)], 0));
         assert!(!scopes[0].names(0xf0, &[hop(0x1f, 0)])); // Types 1 and 2 alone name devices
         assert_eq!(units.structures().count(), 6);
+        assert!(Satc { flags: 1, segment: 0 }.requires_cache() && !Satc { flags: 2, segment: 0 }.requires_cache());
     });
 }
 

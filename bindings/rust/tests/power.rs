@@ -5,9 +5,14 @@ use zacpi::AcpiError;
 use zacpi::lists::power_records::Plan;
 use zacpi::lists::{power, refusal::Refusal};
 use zacpi::sdt::Signature;
+use zacpi::sleep::block::block_at;
+use zacpi::sleep::name::name_at;
+use zacpi::sleep::opcode::opcode_at;
+use zacpi::sleep::tables::{block_answer, or_after};
+use zacpi::sleep::term::{parts_end, parts_of};
 use zacpi::sleep::{
-    self, PlanError, PlanStep, SleepAnswer, SleepError, SleepTables, SleepTypes, StepKind, enable_plan, pm_timer_ticks,
-    reset_plan, sleep_plan,
+    self, AmlError, PlanError, PlanStep, SleepAnswer, SleepError, SleepTables, SleepTypes, StepKind, enable_plan,
+    pm_timer_ticks, reset_plan, sleep_plan,
 };
 
 const FADT: u64 = ROOT + 0x1000;
@@ -171,4 +176,23 @@ fn the_timer_goes_around() {
     let [short, long] = [false, true].map(|is_32_bit| move |before, after| pm_timer_ticks(before, after, is_32_bit));
     assert_eq!([short(5, 12), short(0xff_fff0, 0x10), short(7, 7)], [7, 0x20, 0]);
     assert_eq!([long(5, 12), long(0xff_fff0, 0x10), long(u32::MAX, 1)], [7, 0xff00_0020, 2]);
+}
+
+/// Of S5: NameOp, a name of one segment, PackageOp, and a PkgLength of 6 bytes with its own.
+#[test]
+fn parts_of_aml_are_read() {
+    let opcode = |aml: &[u8]| opcode_at(aml, 0).map(|it| (it.code, it.end));
+    assert_eq!(
+        (opcode(S5), opcode(b"\x5b\x80"), opcode(&[])),
+        (Ok((8, 1)), Ok((0x5b80, 2)), Err(AmlError::PastEnd(0)))
+    );
+    let name = |at| name_at(S5, at).map(|it| (it.ups, it.first, it.segments, it.end));
+    assert_eq!((name(1), name(0)), (Ok((0, 1, 1, 5)), Err(AmlError::InvalidName(0))));
+    let block = |aml: &[u8], at| block_at(aml, at).map(|it| (it.start, it.end));
+    assert_eq!((block(S5, 6), block(&S5[..11], 6)), (Ok((7, 12)), Err(AmlError::InvalidLength(6))));
+    // External: a name, a type and a number of arguments.
+    assert_eq!(parts_end(parts_of(0x15).unwrap(), b"\x15ABCD\x08\x02", 1), Ok(7));
+    let types = Ok(SleepAnswer::Types(SleepTypes { a: 5, b: 7 }));
+    assert_eq!(block_answer(Signature::DSDT, 5, &[&[0; 36], S5].concat()), types);
+    assert_eq!(or_after(Ok(SleepAnswer::Absent), types), types);
 }
