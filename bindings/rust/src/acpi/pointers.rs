@@ -11,6 +11,10 @@ pub struct Pointers<'t> {
 
 impl<'t> Pointers<'t> {
     /// The pointers that bytes encode, each in a number of bytes.
+    ///
+    /// # Panics
+    ///
+    /// A walk along them doesn't end if `width` is 0.
     pub fn new(width: usize, rest: &'t [u8]) -> Self {
         Pointers { width, rest }
     }

@@ -103,6 +103,10 @@ impl Rsdp {
     /// 20 bytes do not sum to 0 modulo 256. For a revision above 0 it also fails with
     /// `RsdpInvalidChecksum` if the length is under 36 or above the number of bytes, or if that many
     /// bytes do not sum to 0 modulo 256.
+    ///
+    /// # Panics
+    ///
+    /// Panics if there are fewer than 36 bytes, or fewer than the length that this RSDP has.
     pub fn validate(&self, bytes: &[u8]) -> AcpiResult<()> {
         match self.summed_length(bytes)? {
             None => Ok(()),

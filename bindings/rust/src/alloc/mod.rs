@@ -8,7 +8,6 @@
 #[cfg(not(feature = "allocator_api"))]
 mod limit;
 mod memory;
-pub(crate) mod simd;
 mod try_clone;
 mod vec;
 

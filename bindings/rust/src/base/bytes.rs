@@ -14,6 +14,10 @@ pub fn filled<const N: usize>(bytes: &[u8], offset: usize) -> [u8; N] {
 }
 
 /// The `N` bytes at an offset, all of which are there: nothing is tested.
+///
+/// # Panics
+///
+/// Panics if the bytes end before the array would.
 #[inline(always)]
 pub fn filled_in<const N: usize>(bytes: &[u8], offset: usize) -> [u8; N] {
     let rest = &bytes[offset..];
@@ -66,6 +70,10 @@ pub fn field(bytes: &[u8], offset: usize, n: usize) -> u64 {
 
 /// The little-endian number of the `n` bytes at an offset, for `n` of at most 8, all of which are there:
 /// nothing is tested (numbers: section 5.2).
+///
+/// # Panics
+///
+/// Panics if the bytes end before the field does.
 #[inline(always)]
 pub fn field_in(bytes: &[u8], offset: usize, n: usize) -> u64 {
     let rest = &bytes[offset..];
@@ -73,18 +81,30 @@ pub fn field_in(bytes: &[u8], offset: usize, n: usize) -> u64 {
 }
 
 /// The number of the byte at an offset, which is there: `field_in` for a field of this width.
+///
+/// # Panics
+///
+/// Panics if the bytes end before the field does.
 #[inline(always)]
 pub fn u8_in(bytes: &[u8], offset: usize) -> u8 {
     field_in(bytes, offset, 1) as u8
 }
 
 /// The number of the two bytes at an offset, which are there: `field_in` for a field of this width.
+///
+/// # Panics
+///
+/// Panics if the bytes end before the field does.
 #[inline(always)]
 pub fn u16_in(bytes: &[u8], offset: usize) -> u16 {
     field_in(bytes, offset, 2) as u16
 }
 
 /// The number of the four bytes at an offset, which are there: `field_in` for a field of this width.
+///
+/// # Panics
+///
+/// Panics if the bytes end before the field does.
 #[inline(always)]
 pub fn u32_in(bytes: &[u8], offset: usize) -> u32 {
     field_in(bytes, offset, 4) as u32
@@ -110,12 +130,20 @@ pub(crate) fn has_part(bytes: &[u8], offset: usize, n: usize) -> bool {
 }
 
 /// Whether bit `k`, for `k` below 64, of a number is set, bit 0 being the lowest.
+///
+/// # Panics
+///
+/// Panics if `k` is above 63, where overflow is checked.
 #[inline(always)]
 pub fn has_bit(number: u64, k: u32) -> bool {
     (number >> k) & 1 == 1
 }
 
 /// The number of the `width` bits from bit `low` on, both below 64, bit 0 being the lowest.
+///
+/// # Panics
+///
+/// Panics if `low` or `width` is above 63, where overflow is checked.
 #[inline(always)]
 pub fn bits(number: u64, low: u32, width: u32) -> u64 {
     (number >> low) % (1 << width)

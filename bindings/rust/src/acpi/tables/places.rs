@@ -53,6 +53,10 @@ impl<'h, H: Lender, P: Policy> AcpiTables<'h, H, P> {
     /// least 36, that are known only at run time (section 5.2.6).
     ///
     /// Fails as `find_sdt` does.
+    ///
+    /// # Panics
+    ///
+    /// Panics if `least` is below 36.
     #[inline(never)]
     pub fn find_bytes(&self, signature: Signature, least: usize) -> AcpiResult<ValidTable<'h, H>> {
         for address in self.pointers() {

@@ -17,6 +17,10 @@ impl<'h, H: Lender, T: PhysicalRecord> PhysicalMapping<'h, H, T> {
     /// The mapping of the first `region_length` of these bytes, at least `T::MIN_LENGTH` and at most all, which are
     /// from the physical address `physical_start` on. It reads the record from them. The bytes may come from
     /// anywhere; when the mapping is dropped, the handler gets the notice.
+    ///
+    /// # Panics
+    ///
+    /// Panics if `region_length` is above the number of bytes, or below `T::MIN_LENGTH`.
     pub fn new(physical_start: u64, bytes: &'h [u8], region_length: usize, handler: &'h H) -> Self {
         PhysicalMapping::of_claim(Claim::new(physical_start, bytes, region_length, handler))
     }
@@ -31,6 +35,10 @@ impl<'h, H: Lender, T: PhysicalRecord> PhysicalMapping<'h, H, T> {
     /// handler maps them.
     ///
     /// Fails with `MapFailed` if they aren't all inside one region.
+    ///
+    /// # Panics
+    ///
+    /// Panics if `size` is below `T::MIN_LENGTH`.
     pub fn map(handler: &'h H, address: u64, size: usize) -> AcpiResult<Self> {
         let claim = Claim::request(handler, address, size)?;
         return Ok(PhysicalMapping::of_claim(claim));

@@ -89,6 +89,10 @@ impl MadtItem {
 
     /// What is wrong with an entry's bytes, or `None` if nothing is: the error with which the strict model fails for
     /// it.
+    ///
+    /// # Panics
+    ///
+    /// Panics if the entry is shorter than one of its type.
     pub fn fault(entry: &[u8]) -> Option<MadtError> {
         match MadtItem::said(entry) {
             Some(Err(fault)) => Some(fault),

@@ -49,6 +49,10 @@ pub struct ValidTable<'h, H: Lender> {
 
 impl<'h, H: Lender> ValidTable<'h, H> {
     /// The mapping of these bytes: the table's record, and its bytes.
+    ///
+    /// # Panics
+    ///
+    /// Panics if the table is shorter than `T::MIN_LENGTH`.
     #[inline(always)]
     pub fn mapping<T: PhysicalRecord>(self) -> PhysicalMapping<'h, H, T> {
         let ValidTable { claim } = self;
@@ -163,6 +167,10 @@ fn claim_by<'h, H: Lender>(
 /// `accept` its sum may be any, by bit 1 both of its ids, and by 0 it has to be valid.
 ///
 /// Fails as `map_table` does for a type with that signature and least length, but for the checks that are skipped.
+///
+/// # Panics
+///
+/// Panics if `least` is below 36.
 #[inline(always)]
 pub fn valid_by<'h, H: Lender>(
     handler: &'h H,

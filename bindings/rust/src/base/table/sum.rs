@@ -2,7 +2,6 @@
 //! The sum of bytes modulo 256: in lanes, where sixteen bytes are added at once, each to a sum of its own, or in words
 //! of eight bytes.
 
-use crate::alloc::simd::prelude::*;
 use crate::base::bytes::field_in;
 
 const LANES: usize = 16;
@@ -12,12 +11,6 @@ const WORD: usize = 8;
 
 /// As many bytes as one turn of a loop adds.
 const BLOCK: usize = 4 * LANES;
-
-/// From place `n` on, these are the lanes that keep the last `n` of sixteen.
-static TAIL_MASKS: [u8; 32] = [
-    0, 0, 0, 0, 0, 0, 0, 0, 0, 0, 0, 0, 0, 0, 0, 0, 255, 255, 255, 255, 255, 255, 255, 255, 255, 255, 255, 255, 255,
-    255, 255, 255,
-];
 
 /// The bytes of a word that are at even places.
 const EVEN: u64 = 0x00ff_00ff_00ff_00ff;
@@ -35,15 +28,7 @@ fn has_vectors() -> bool {
 /// The sum of the bytes modulo 256, which is 0 over the whole of a valid table (section 5.2.6).
 #[inline]
 pub fn byte_sum(bytes: &[u8]) -> u8 {
-    if !has_vectors() {
-        word_sum(bytes)
-    } else if bytes.len() < LANES {
-        plain_sum(bytes)
-    } else if bytes.len() < BLOCK {
-        finished(u8x16::splat(0), bytes, 0)
-    } else {
-        long_sum(bytes)
-    }
+    if !has_vectors() { word_sum(bytes) } else { plain_sum(bytes) }
 }
 
 /// The sum of few bytes modulo 256, one at a time.
@@ -54,52 +39,6 @@ fn plain_sum(bytes: &[u8]) -> u8 {
         total = total.wrapping_add(*byte);
     }
     total
-}
-
-/// The sum of many bytes modulo 256, out of line, so that callers hold the code for few alone.
-#[inline(never)]
-fn long_sum(bytes: &[u8]) -> u8 {
-    let mut lanes = u8x16::splat(0);
-    let mut at = 0;
-    while bytes.len() - at >= BLOCK {
-        lanes = with_vector(lanes, bytes, at);
-        lanes = with_vector(lanes, bytes, at + LANES);
-        lanes = with_vector(lanes, bytes, at + 2 * LANES);
-        lanes = with_vector(lanes, bytes, at + 3 * LANES);
-        at += BLOCK;
-    }
-    finished(lanes, bytes, at)
-}
-
-/// The sum of all bytes, if lanes contain that of the bytes before a place and less than a block
-/// is after it.
-#[inline(always)]
-fn finished(begun: u8x16, bytes: &[u8], begin: usize) -> u8 {
-    // At most three vectors are after the blocks.
-    let (lanes, at) = one_more(begun, bytes, begin);
-    let (lanes, at) = one_more(lanes, bytes, at);
-    let (lanes, at) = one_more(lanes, bytes, at);
-    // The last vector, of which the lanes that are counted already are 0.
-    let last = vector_at(bytes, bytes.len() - LANES) & vector_at(&TAIL_MASKS, bytes.len() - at);
-    (lanes + last).reduce_sum()
-}
-
-/// One vector more, if a whole one is at the place.
-#[inline(always)]
-fn one_more(lanes: u8x16, bytes: &[u8], at: usize) -> (u8x16, usize) {
-    if bytes.len() - at < LANES { (lanes, at) } else { (with_vector(lanes, bytes, at), at + LANES) }
-}
-
-/// The lanes with the vector at a place added.
-#[inline(always)]
-fn with_vector(lanes: u8x16, bytes: &[u8], at: usize) -> u8x16 {
-    lanes + vector_at(bytes, at)
-}
-
-/// The sixteen bytes at a place.
-#[inline(always)]
-fn vector_at(bytes: &[u8], at: usize) -> u8x16 {
-    u8x16::from_slice(&bytes[at..])
 }
 
 /// The sum of the bytes modulo 256, in words.

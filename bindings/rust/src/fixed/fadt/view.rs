@@ -32,6 +32,10 @@ pub struct FadtView<'h, H: Lender> {
 
 impl<'h, H: Lender> FadtView<'h, H> {
     /// The view of a table that is valid for `Fadt`: its bytes stay mapped.
+    ///
+    /// # Panics
+    ///
+    /// Functions of the view panic if the table is shorter than 116 bytes.
     pub fn new(table: ValidTable<'h, H>) -> Self {
         let mapping: PhysicalMapping<'h, H, Unread> = table.mapping();
         let reach = reach_in(mapping.bytes());

@@ -54,6 +54,10 @@ pub const SRAT_GRAMMAR: Grammar<7> = Grammar {
 
 impl SratEntry {
     /// The entry that bytes mean in a table of a revision, or `None` if its type isn't one of 0 to 6.
+    ///
+    /// # Panics
+    ///
+    /// Panics if the entry is shorter than one of its type.
     pub fn read(revision: u8, entry: &[u8]) -> Option<SratEntry> {
         match entry[0] {
             0 => Some(SratEntry::LocalApic(LocalApicAffinity::read(revision, entry))),
