@@ -83,8 +83,10 @@ fn without_a_heap(source: &Source<'_>) {
         power::power_off_plan power::enable_plan power::reset_plan processors::model routes::sci rsdp::rsdp tables::dsdt }
     lists! { source: apics::processors arm_timers::frames arm_timers::watchdogs devices::hpets gtdt_faults::gtdt_faults
         iommu_faults::dmar_faults iommu_faults::ivrs_faults madt_faults::madt_faults members::members missing::missing
-        numa::affinities pci::pci_regions pci::ecam_ranges srat_faults::srat_faults tables::tables tables::ssdts
+        pci::pci_regions pci::ecam_ranges srat_faults::srat_faults tables::tables tables::ssdts
         walks::ranges }
+    let mut ranges = [numa_records::MemoryAffinity::default(); 32];
+    say("affinities", affinities::srat_entries(source, &mut ranges).map(|count| (count, ranges)));
 }
 
 fn with_types<H: Lender>(tables: &AcpiTables<'_, H>) {
