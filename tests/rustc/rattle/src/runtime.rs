@@ -140,6 +140,24 @@ pub mod fs {
         }
     }
 
+    /// How a folder is made.
+    pub struct DirBuilder(std::fs::DirBuilder);
+
+    impl DirBuilder {
+        #[allow(clippy::new_without_default)]
+        pub fn new() -> DirBuilder {
+            DirBuilder(std::fs::DirBuilder::new())
+        }
+
+        pub fn mode(&mut self, mode: u32) {
+            std::os::unix::fs::DirBuilderExt::mode(&mut self.0, mode);
+        }
+
+        pub fn create(&self, _rt: &HostRuntime, name: &str) -> Result<()> {
+            self.0.create(name)
+        }
+    }
+
     /// An entry of a folder, whose name is valid UTF-8.
     pub struct DirEntry(String);
 
@@ -240,6 +258,8 @@ pub mod os {
             pub use std::os::unix::fs::MetadataExt;
             #[allow(unused)]
             pub trait OpenOptionsExt {}
+            #[allow(unused)]
+            pub trait DirBuilderExt {}
         }
     }
 }
