@@ -83,10 +83,10 @@ impl IsaOverrides {
         ensures { (overrides : _) → IsGathered overrides self.now → result ≡ sci_interrupt overrides sci }
     {
         let (polarity, trigger_mode) = (Polarity::ActiveLow, TriggerMode::Level);
-        if sci < 16
-            && let Some(wiring) = self.own[sci as usize]
-        {
-            return wired(&wiring, polarity, trigger_mode);
+        if sci < 16 {
+            if let Some(wiring) = self.own[sci as usize] {
+                return wired(&wiring, polarity, trigger_mode);
+            }
         }
         straight(sci as u32, polarity, trigger_mode)
     }

@@ -55,10 +55,10 @@ impl IsaOverrides {
     /// What `Apic::sci_interrupt` returns for the SCI's number, if the overrides that were added are all.
     pub fn sci_interrupt(&self, sci: u16) -> IsaInterrupt {
         let (polarity, trigger_mode) = (Polarity::ActiveLow, TriggerMode::Level);
-        if sci < 16
-            && let Some(wiring) = self.own[sci as usize]
-        {
-            return wired(&wiring, polarity, trigger_mode);
+        if sci < 16 {
+            if let Some(wiring) = self.own[sci as usize] {
+                return wired(&wiring, polarity, trigger_mode);
+            }
         }
         straight(sci as u32, polarity, trigger_mode)
     }

@@ -1,16 +1,16 @@
 // Made by scripts/erase of crates/acpi_base/src/table/sum.rt, where it is proved.
-//! The sum of bytes modulo 256: in lanes, where sixteen bytes are added at once, each to a sum of its own, or in words
-//! of eight bytes.
+//! The sum of bytes modulo 256: in lanes, where the processor has vectors, or in words of eight bytes.
+
+mod lanes;
 
 use crate::base::bytes::field_in;
-
-const LANES: usize = 16;
+use lanes::{LANES, lane_sum};
 
 /// As many bytes as a word has.
 const WORD: usize = 8;
 
 /// As many bytes as one turn of a loop adds.
-const BLOCK: usize = 4 * LANES;
+const BLOCK: usize = 8 * WORD;
 
 /// The bytes of a word that are at even places.
 const EVEN: u64 = 0x00ff_00ff_00ff_00ff;
@@ -28,7 +28,13 @@ fn has_vectors() -> bool {
 /// The sum of the bytes modulo 256, which is 0 over the whole of a valid table (section 5.2.6).
 #[inline]
 pub fn byte_sum(bytes: &[u8]) -> u8 {
-    if !has_vectors() { word_sum(bytes) } else { plain_sum(bytes) }
+    if !has_vectors() {
+        word_sum(bytes)
+    } else if bytes.len() < LANES {
+        plain_sum(bytes)
+    } else {
+        lane_sum(bytes)
+    }
 }
 
 /// The sum of few bytes modulo 256, one at a time.

@@ -25,7 +25,6 @@ impl PhysicalRecord for LocalApicEntry {
 
     ghost reading = { local_apic_at };
 
-    #[inline(always)]
     fn read(bytes: &[u8]) -> Self {
         LocalApicEntry {
             header: EntryHeader::read(bytes),
@@ -56,7 +55,6 @@ impl PhysicalRecord for IoApicEntry {
 
     ghost reading = { io_apic_at };
 
-    #[inline(always)]
     fn read(bytes: &[u8]) -> Self {
         IoApicEntry {
             header: EntryHeader::read(bytes),
@@ -90,7 +88,6 @@ impl PhysicalRecord for InterruptSourceOverrideEntry {
 
     ghost reading = { interrupt_source_override_at };
 
-    #[inline(always)]
     fn read(bytes: &[u8]) -> Self {
         InterruptSourceOverrideEntry {
             header: EntryHeader::read(bytes),
@@ -120,7 +117,6 @@ impl PhysicalRecord for NmiSourceEntry {
 
     ghost reading = { nmi_source_at };
 
-    #[inline(always)]
     fn read(bytes: &[u8]) -> Self {
         NmiSourceEntry {
             header: EntryHeader::read(bytes),
@@ -151,7 +147,6 @@ impl PhysicalRecord for LocalApicNmiEntry {
 
     ghost reading = { local_apic_nmi_at };
 
-    #[inline(always)]
     fn read(bytes: &[u8]) -> Self {
         LocalApicNmiEntry {
             header: EntryHeader::read(bytes),
@@ -179,7 +174,6 @@ impl PhysicalRecord for LocalApicAddressOverrideEntry {
 
     ghost reading = { local_apic_address_override_at };
 
-    #[inline(always)]
     fn read(bytes: &[u8]) -> Self {
         LocalApicAddressOverrideEntry {
             header: EntryHeader::read(bytes),
@@ -208,7 +202,6 @@ impl PhysicalRecord for LocalX2ApicEntry {
 
     ghost reading = { local_x2apic_at };
 
-    #[inline(always)]
     fn read(bytes: &[u8]) -> Self {
         LocalX2ApicEntry {
             header: EntryHeader::read(bytes),
@@ -240,7 +233,6 @@ impl PhysicalRecord for X2ApicNmiEntry {
 
     ghost reading = { x2apic_nmi_at };
 
-    #[inline(always)]
     fn read(bytes: &[u8]) -> Self {
         X2ApicNmiEntry {
             header: EntryHeader::read(bytes),

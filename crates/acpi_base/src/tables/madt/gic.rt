@@ -55,7 +55,6 @@ impl PhysicalRecord for GiccEntry {
 
     ghost reading = { gicc_at };
 
-    #[inline(always)]
     fn read(bytes: &[u8]) -> Self {
         GiccEntry {
             header: EntryHeader::read(bytes),
@@ -100,7 +99,6 @@ impl PhysicalRecord for GicdEntry {
 
     ghost reading = { gicd_at };
 
-    #[inline(always)]
     fn read(bytes: &[u8]) -> Self {
         GicdEntry {
             header: EntryHeader::read(bytes),
@@ -136,7 +134,6 @@ impl PhysicalRecord for GicMsiFrameEntry {
 
     ghost reading = { gic_msi_frame_at };
 
-    #[inline(always)]
     fn read(bytes: &[u8]) -> Self {
         GicMsiFrameEntry {
             header: EntryHeader::read(bytes),
@@ -167,7 +164,6 @@ impl PhysicalRecord for GicRedistributorEntry {
 
     ghost reading = { gic_redistributor_at };
 
-    #[inline(always)]
     fn read(bytes: &[u8]) -> Self {
         GicRedistributorEntry {
             header: EntryHeader::read(bytes),
@@ -196,7 +192,6 @@ impl PhysicalRecord for GicInterruptTranslationServiceEntry {
 
     ghost reading = { gic_translation_service_at };
 
-    #[inline(always)]
     fn read(bytes: &[u8]) -> Self {
         GicInterruptTranslationServiceEntry {
             header: EntryHeader::read(bytes),

@@ -25,7 +25,6 @@ impl PhysicalRecord for IoSapicEntry {
 
     ghost reading = { io_sapic_at };
 
-    #[inline(always)]
     fn read(bytes: &[u8]) -> Self {
         IoSapicEntry {
             header: EntryHeader::read(bytes),
@@ -61,7 +60,6 @@ impl PhysicalRecord for LocalSapicEntry {
 
     ghost reading = { local_sapic_at };
 
-    #[inline(always)]
     fn read(bytes: &[u8]) -> Self {
         LocalSapicEntry {
             header: EntryHeader::read(bytes),
@@ -102,7 +100,6 @@ impl PhysicalRecord for PlatformInterruptSourceEntry {
 
     ghost reading = { platform_interrupt_source_at };
 
-    #[inline(always)]
     fn read(bytes: &[u8]) -> Self {
         PlatformInterruptSourceEntry {
             header: EntryHeader::read(bytes),

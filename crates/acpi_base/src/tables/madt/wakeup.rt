@@ -25,7 +25,6 @@ impl PhysicalRecord for MultiprocessorWakeupEntry {
 
     ghost reading = { multiprocessor_wakeup_at };
 
-    #[inline(always)]
     fn read(bytes: &[u8]) -> Self {
         MultiprocessorWakeupEntry {
             header: EntryHeader::read(bytes),

@@ -21,7 +21,6 @@ pub struct LocalApicEntry {
 impl PhysicalRecord for LocalApicEntry {
     const MIN_LENGTH: usize = 8;
 
-    #[inline(always)]
     fn read(bytes: &[u8]) -> Self {
         LocalApicEntry {
             header: EntryHeader::read(bytes),
@@ -48,7 +47,6 @@ pub struct IoApicEntry {
 impl PhysicalRecord for IoApicEntry {
     const MIN_LENGTH: usize = 12;
 
-    #[inline(always)]
     fn read(bytes: &[u8]) -> Self {
         IoApicEntry {
             header: EntryHeader::read(bytes),
@@ -78,7 +76,6 @@ pub struct InterruptSourceOverrideEntry {
 impl PhysicalRecord for InterruptSourceOverrideEntry {
     const MIN_LENGTH: usize = 10;
 
-    #[inline(always)]
     fn read(bytes: &[u8]) -> Self {
         InterruptSourceOverrideEntry {
             header: EntryHeader::read(bytes),
@@ -104,7 +101,6 @@ pub struct NmiSourceEntry {
 impl PhysicalRecord for NmiSourceEntry {
     const MIN_LENGTH: usize = 8;
 
-    #[inline(always)]
     fn read(bytes: &[u8]) -> Self {
         NmiSourceEntry {
             header: EntryHeader::read(bytes),
@@ -131,7 +127,6 @@ pub struct LocalApicNmiEntry {
 impl PhysicalRecord for LocalApicNmiEntry {
     const MIN_LENGTH: usize = 6;
 
-    #[inline(always)]
     fn read(bytes: &[u8]) -> Self {
         LocalApicNmiEntry {
             header: EntryHeader::read(bytes),
@@ -155,7 +150,6 @@ pub struct LocalApicAddressOverrideEntry {
 impl PhysicalRecord for LocalApicAddressOverrideEntry {
     const MIN_LENGTH: usize = 12;
 
-    #[inline(always)]
     fn read(bytes: &[u8]) -> Self {
         LocalApicAddressOverrideEntry {
             header: EntryHeader::read(bytes),
@@ -180,7 +174,6 @@ pub struct LocalX2ApicEntry {
 impl PhysicalRecord for LocalX2ApicEntry {
     const MIN_LENGTH: usize = 16;
 
-    #[inline(always)]
     fn read(bytes: &[u8]) -> Self {
         LocalX2ApicEntry {
             header: EntryHeader::read(bytes),
@@ -208,7 +201,6 @@ pub struct X2ApicNmiEntry {
 impl PhysicalRecord for X2ApicNmiEntry {
     const MIN_LENGTH: usize = 12;
 
-    #[inline(always)]
     fn read(bytes: &[u8]) -> Self {
         X2ApicNmiEntry {
             header: EntryHeader::read(bytes),

@@ -51,7 +51,6 @@ pub struct GiccEntry {
 impl PhysicalRecord for GiccEntry {
     const MIN_LENGTH: usize = 76;
 
-    #[inline(always)]
     fn read(bytes: &[u8]) -> Self {
         GiccEntry {
             header: EntryHeader::read(bytes),
@@ -92,7 +91,6 @@ pub struct GicdEntry {
 impl PhysicalRecord for GicdEntry {
     const MIN_LENGTH: usize = 24;
 
-    #[inline(always)]
     fn read(bytes: &[u8]) -> Self {
         GicdEntry {
             header: EntryHeader::read(bytes),
@@ -124,7 +122,6 @@ pub struct GicMsiFrameEntry {
 impl PhysicalRecord for GicMsiFrameEntry {
     const MIN_LENGTH: usize = 24;
 
-    #[inline(always)]
     fn read(bytes: &[u8]) -> Self {
         GicMsiFrameEntry {
             header: EntryHeader::read(bytes),
@@ -151,7 +148,6 @@ pub struct GicRedistributorEntry {
 impl PhysicalRecord for GicRedistributorEntry {
     const MIN_LENGTH: usize = 16;
 
-    #[inline(always)]
     fn read(bytes: &[u8]) -> Self {
         GicRedistributorEntry {
             header: EntryHeader::read(bytes),
@@ -176,7 +172,6 @@ pub struct GicInterruptTranslationServiceEntry {
 impl PhysicalRecord for GicInterruptTranslationServiceEntry {
     const MIN_LENGTH: usize = 20;
 
-    #[inline(always)]
     fn read(bytes: &[u8]) -> Self {
         GicInterruptTranslationServiceEntry {
             header: EntryHeader::read(bytes),

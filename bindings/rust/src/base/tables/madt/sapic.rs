@@ -21,7 +21,6 @@ pub struct IoSapicEntry {
 impl PhysicalRecord for IoSapicEntry {
     const MIN_LENGTH: usize = 16;
 
-    #[inline(always)]
     fn read(bytes: &[u8]) -> Self {
         IoSapicEntry {
             header: EntryHeader::read(bytes),
@@ -53,7 +52,6 @@ pub struct LocalSapicEntry {
 impl PhysicalRecord for LocalSapicEntry {
     const MIN_LENGTH: usize = 16;
 
-    #[inline(always)]
     fn read(bytes: &[u8]) -> Self {
         LocalSapicEntry {
             header: EntryHeader::read(bytes),
@@ -90,7 +88,6 @@ pub struct PlatformInterruptSourceEntry {
 impl PhysicalRecord for PlatformInterruptSourceEntry {
     const MIN_LENGTH: usize = 16;
 
-    #[inline(always)]
     fn read(bytes: &[u8]) -> Self {
         PlatformInterruptSourceEntry {
             header: EntryHeader::read(bytes),

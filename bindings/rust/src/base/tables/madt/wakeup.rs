@@ -20,7 +20,6 @@ pub struct MultiprocessorWakeupEntry {
 impl PhysicalRecord for MultiprocessorWakeupEntry {
     const MIN_LENGTH: usize = 16;
 
-    #[inline(always)]
     fn read(bytes: &[u8]) -> Self {
         MultiprocessorWakeupEntry {
             header: EntryHeader::read(bytes),

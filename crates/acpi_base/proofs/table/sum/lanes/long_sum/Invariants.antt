@@ -1,6 +1,6 @@
 use Rattle.std.proofs.Common.{◌-◌, ◌≤◌, length, take}
 use Rattle.acpi_base.specs.Words.{AddsUp}
-use Rattle.acpi_base.proofs.table.sum.long_sum.Given as goal
+use Rattle.acpi_base.proofs.table.sum.lanes.long_sum.Given as goal
 
 -- the lanes hold the sum of the blocks so far
 abbrev pub invariant-loop-at : goal.invariant-loop-at

@@ -2,7 +2,7 @@ use Rattle.std.proofs.Common.{◌≡◌, ◌-◌, arith, drop, length, bit_and}
 use Rattle.acpi_base.specs.FromStd.{chunk, zip2}
 use Rattle.acpi_base.specs.Words.{AddsUp}
 use Rattle.acpi_base.proofs.Sums.{adds_up_last, adds_up_whole, masks}
-use Rattle.acpi_base.proofs.table.sum.finished.Goals as goal
+use Rattle.acpi_base.proofs.table.sum.lanes.finished.Goals as goal
 
 pub returns : goal.returns
 returns c =

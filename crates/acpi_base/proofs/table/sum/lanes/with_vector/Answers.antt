@@ -1,5 +1,5 @@
 use Rattle.acpi_base.proofs.Sums.{adds_up_next}
-use Rattle.acpi_base.proofs.table.sum.with_vector.Goals as goal
+use Rattle.acpi_base.proofs.table.sum.lanes.with_vector.Goals as goal
 
 pub returns : goal.returns
 returns c = λ end is.
