@@ -118,15 +118,15 @@ MACHINE(an_arm_machine, on_two(LISTED(gtdt_bytes), LISTED(gic_bytes), to, room, 
 
 /* Whether these timers are refused. */
 static void check_timers(int row, const struct zacpi_gtdt_contents *timers, zacpi_status status) {
-    size_t length = UNCOUNTED;
-    zacpi_status got = zacpi_write_gtdt(ids, timers, out.bytes, sizeof out.bytes, &length);
-    result(got == status && length == UNCOUNTED, "a GTDT of bad codes", row, 0, got);
+    size_t *length = paint_size(&out_count);
+    zacpi_status got = zacpi_write_gtdt(ids, timers, (uint8_t *)paint(&out, OUTPUT), OUTPUT, length);
+    result(got == status && *length == UNCOUNTED && is_left_but(&out, 0), "a GTDT of bad codes", row, 0, got);
 }
 /* Whether the MADT of this GIC is. */
 static void check_gic(int row, const struct zacpi_gic_contents *gic, zacpi_status status) {
-    size_t length = UNCOUNTED;
-    zacpi_status got = zacpi_write_gic_madt(ids, gic, out.bytes, sizeof out.bytes, &length);
-    result(got == status && length == UNCOUNTED, "a GIC of bad codes", row, 0, got);
+    size_t *length = paint_size(&out_count);
+    zacpi_status got = zacpi_write_gic_madt(ids, gic, (uint8_t *)paint(&out, OUTPUT), OUTPUT, length);
+    result(got == status && *length == UNCOUNTED && is_left_but(&out, 0), "a GIC of bad codes", row, 0, got);
 }
 /* Each trigger of a processor as the bus has it, and of a number that is no code, which comes before a range that is too
  * long, and this before a trigger as the bus has it. */

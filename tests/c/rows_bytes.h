@@ -58,10 +58,8 @@ FIELDS(of_place, F(struct zacpi_place, region), F(struct zacpi_place, offset));
 static const struct call call_locate = {"locate", NULL, of_place, sizeof(struct zacpi_place), 0};
 
 static void check_place(const struct place_row *row) {
-    zacpi_status got;
-    memset(out.bytes, PAINT, sizeof out.bytes);
-    got = zacpi_locate(row->regions, row->regions_length, row->address, row->length,
-                       (struct zacpi_place *)(void *)out.bytes);
+    const zacpi_status got = zacpi_locate(row->regions, row->regions_length, row->address, row->length,
+                                          (struct zacpi_place *)paint(&out, sizeof(struct zacpi_place)));
     result(got == row->status && is_written(&call_locate, row->values, row->status ? 0 : 1), "locate",
            (int)(row - places), 1, got);
 }
@@ -199,15 +197,16 @@ static const struct call call_entries = {"list_entries", NULL, of_entry, sizeof(
 
 static void check_entries(const struct entries_row *row, size_t room) {
     struct zacpi_signature named = {{'?', '?', '?', '?'}};
-    size_t count = UNCOUNTED, items = row->status ? 0 : room < row->count ? room : row->count;
+    const size_t items = row->status ? 0 : room < row->count ? room : row->count;
+    size_t *count = paint_size(&out_count);
     uint8_t malformed = PAINT;
-    struct zacpi_source source = {row->regions, row->regions_length, 0, 5 /* no start */, row->accept};
-    zacpi_status got;
-    memset(out.bytes, PAINT, sizeof out.bytes);
-    got = zacpi_list_entries(&source, TABLE(row->table), &row->walk, (struct zacpi_entry *)(void *)out.bytes, room,
-                             &count, &malformed, &named);
+    const struct zacpi_source given = {row->regions, row->regions_length, 0, 5 /* no start */, row->accept};
+    const struct zacpi_source source = source_at_edge(given);
+    const zacpi_status got = zacpi_list_entries(
+        &source, TABLE(row->table), &row->walk, (struct zacpi_entry *)paint(&out, room * sizeof(struct zacpi_entry)),
+        room, count, &malformed, &named);
     result(got == row->status && !memcmp(named.letters, row->named ? row->named : "????", 4)
-           && count == (row->status ? UNCOUNTED : row->count) && malformed == (row->status ? PAINT : row->malformed)
+           && *count == (row->status ? UNCOUNTED : row->count) && malformed == (row->status ? PAINT : row->malformed)
            && is_written(&call_entries, row->values, items), "list_entries", (int)(row - entry_rows), room, got);
 }
 

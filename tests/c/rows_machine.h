@@ -238,7 +238,7 @@ static void check_codes(void) {
     int i;
     for (i = 0; i < 14; i++) {
         struct zacpi_fixed_hardware fadt = pc_fadt;
-        size_t length = UNCOUNTED;
+        size_t *length = paint_size(&out_count);
         zacpi_status got;
         switch (i) {
         case 0: fadt.pm1a_event.at.space = 0x0b; break;
@@ -256,8 +256,9 @@ static void check_codes(void) {
         case 12: fadt.gpe1_block.space = 0xbf; break;
         default: fadt.reset.at.access_size = 5; break;
         }
-        got = zacpi_write_fadt(ids, &fadt, out.bytes, sizeof out.bytes, &length);
-        result(got == ZACPI_UNKNOWN_CODE && length == UNCOUNTED, "a FADT with a reserved code", i, 0, got);
+        got = zacpi_write_fadt(ids, &fadt, (uint8_t *)paint(&out, OUTPUT), OUTPUT, length);
+        result(got == ZACPI_UNKNOWN_CODE && *length == UNCOUNTED && is_left_but(&out, 0),
+               "a FADT with a reserved code", i, 0, got);
     }
 }
 /* Where a machine can lie, how long it is, and where its DSDT lies: tables' addresses end at 2^64 - 1 at most, and an
@@ -278,9 +279,10 @@ static void check_places(void) {
                  {0, 0x2000000000000000, 0, ZACPI_NO_ADDRESS}};
     size_t i;
     for (i = 0; i < sizeof places / sizeof *places; i++) {
-        size_t length = UNCOUNTED;
-        zacpi_status got = on_seven(places[i].address, 1, out.bytes, places[i].room, &length);
-        result(got == places[i].status && length == (got ? UNCOUNTED : 0x3c0), "a place", (int)i, places[i].room, got);
+        const size_t room = places[i].room;
+        size_t *length = paint_size(&out_count);
+        zacpi_status got = on_seven(places[i].address, 1, (uint8_t *)paint(&out, room), room, length);
+        result(got == places[i].status && *length == (got ? UNCOUNTED : 0x3c0), "a place", (int)i, room, got);
     }
     for (i = 0; i < sizeof dsdts / sizeof *dsdts; i++) {
         uint64_t dsdt = UNCOUNTED;

@@ -55,9 +55,8 @@ static int are_read(const struct call *call, const uint8_t *records, size_t coun
     const struct field *f;
     for (i = 0; i < count; i++)
         for (f = call->fields; f->size; f++)
-            if (memcmp(out.bytes + i * call->size + f->at, records + i * call->size + f->at, f->size)) return 0;
-    for (i = count * call->size; i < sizeof out.bytes; i++) if (out.bytes[i] != PAINT) return 0;
-    return 1;
+            if (memcmp(out.at + i * call->size + f->at, records + i * call->size + f->at, f->size)) return 0;
+    return is_left_but(&out, count * call->size);
 }
 
 /* The XSDT of 44 bytes is at 0x7fe00000, and the table 48 on. */
@@ -69,16 +68,16 @@ static void check_all_read(void) {
     for (i = 0; i < sizeof read_rows / sizeof *read_rows; i++) {
         const struct read_row *row = read_rows + i;
         struct zacpi_signature named = {{'?', '?', '?', '?'}};
-        size_t length = 0, count = UNCOUNTED;
+        size_t length = 0, *count = paint_size(&out_count);
         zacpi_status got = zacpi_write_xsdt(ids, &address, 1, written_tables, 48, &length);
         if (!got) got = row->write(written_tables + 48, sizeof written_tables - 48, &length);
-        memset(out.bytes, PAINT, sizeof out.bytes);
         if (!got) {
             const struct zacpi_region region = {0x7fe00000, written_tables, 48 + length};
-            const struct zacpi_source source = {&region, 1, 0x7fe00000, ZACPI_START_XSDT, 0};
-            got = row->call->run(&no_argument, &source, out.bytes, row->count, &count, &named);
+            const struct zacpi_source source = {all_at_edge(&region, 1), 1, 0x7fe00000, ZACPI_START_XSDT, 0};
+            got = row->call->run(&no_argument, &source, paint(&out, row->count * row->call->size), row->count, count,
+                                 &named);
         }
-        result(!got && count == (row->call->is_list ? row->count : UNCOUNTED)
+        result(!got && *count == (row->call->is_list ? row->count : UNCOUNTED)
                && are_read(row->call, row->records, row->count), row->call->name, (int)i, row->count, got);
     }
 }

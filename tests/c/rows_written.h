@@ -407,15 +407,12 @@ static const struct written_row {
     NOT_WRITTEN(an_rhct_without_hart, ZACPI_NO_PROCESSOR), NOT_WRITTEN(an_rhct_of_long_isa, ZACPI_TOO_LONG)};
 
 static void check_written(const struct written_row *row, size_t room, zacpi_status status) {
-    size_t length = UNCOUNTED, i, size = status ? 0 : row->length;
-    zacpi_status got;
-    int holds;
-    memset(out.bytes, PAINT, sizeof out.bytes);
-    got = row->run(out.bytes, room, &length);
-    holds = got == status && length == (status ? UNCOUNTED : row->length)
-        && (!size || !memcmp(out.bytes, row->bytes, size));
-    for (i = size; i < sizeof out.bytes; i++) holds = holds && out.bytes[i] == PAINT;
-    result(holds, row->name, (int)(row - written), room, got);
+    const size_t size = status ? 0 : row->length;
+    size_t *length = paint_size(&out_count);
+    const zacpi_status got = row->run((uint8_t *)paint(&out, room), room, length);
+    result(got == status && *length == (status ? UNCOUNTED : row->length)
+           && (!size || !memcmp(out.at, row->bytes, size)) && is_left_but(&out, size), row->name,
+           (int)(row - written), room, got);
 }
 
 /* With no room, one byte less than a table needs, just enough, and room to spare; then with each name made of bytes

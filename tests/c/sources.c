@@ -1,8 +1,9 @@
 /* sources: whether zacpi_source_of_tables makes the root table, the addresses and the order of the regions as it has
- * to, and what calls then return, of tables whose bytes are laid out by hand. It prints what isn't as it should be. */
+ * to, and what calls then return, of tables whose bytes are laid out by hand. It prints what isn't as it should be. Run
+ * with `end` or `begin`, tables, regions and root table are at pages that can't be touched (edges.h). */
+#define _DEFAULT_SOURCE
+#include "edges.h"
 #include "zacpi_source.h"
-#include <stdio.h>
-#include <string.h>
 
 static int failed;
 #define EXPECT(holds) \
@@ -10,10 +11,15 @@ static int failed;
         if (!(holds)) failed = 1, printf("FAILED: line %d: %s\n", __LINE__, #holds); \
     } while (0)
 
-enum { MOST = 8 };
-static struct zacpi_region regions[MOST];
-static uint8_t xsdt[36 + 8 * MOST];
+enum { MOST = 8, ROOT_SIZE = 36 + 8 * MOST };
+static struct zacpi_region *regions;
+static uint8_t *xsdt;
 static struct zacpi_source source;
+/* A table of a length, and where it was put last: at the edge, if that length isn't only claimed. */
+static struct placed {
+    const uint8_t *given, *put;
+    zacpi_size length;
+} placed[32];
 
 /* A header (section 5.2.6) of zeros but for Signature, Length, Revision and Checksum. */
 static void head(uint8_t *table, const char *letters, uint8_t length, uint8_t revision) {
@@ -26,16 +32,25 @@ static void madt(uint8_t *table, uint8_t id) {
     table[45] = 8, table[46] = 1, table[47] = id, table[48] = 1;
     head(table, "APIC", 52, 4);
 }
+static struct placed *place_of(const uint8_t *bytes, zacpi_size length) {
+    struct placed *place = placed;
+    while (place->given && (place->given != bytes || place->length != length)) place++;
+    if (!place->given) place->given = place->put = bytes, place->length = length;
+    return place;
+}
 static void put(size_t i, uint64_t address, const uint8_t *bytes, zacpi_size length) {
-    regions[i].address = address, regions[i].bytes = bytes, regions[i].length = length;
+    struct placed *place = place_of(bytes, length);
+    if (bytes && edge != NO_EDGE && length <= EDGE_PAGE) place->put = (const uint8_t *)at_edge(bytes, (size_t)length);
+    regions[i].address = address, regions[i].bytes = place->put, regions[i].length = length;
 }
 /* Makes a source, with as much capacity as it takes. */
 static zacpi_status make(size_t count) {
     memset(&source, 0, sizeof source);
-    return zacpi_source_of_tables(regions, count, MOST, xsdt, sizeof xsdt, &source);
+    return zacpi_source_of_tables(regions, count, MOST, xsdt, ROOT_SIZE, &source);
 }
 static int is_region(size_t i, uint64_t address, const uint8_t *bytes, size_t length) {
-    return regions[i].address == address && regions[i].bytes == bytes && regions[i].length == length;
+    return regions[i].address == address && regions[i].bytes == place_of(bytes, length)->put &&
+           regions[i].length == length;
 }
 /* The id of the one processor, or 999. */
 static uint32_t processor_id(void) {
@@ -60,7 +75,7 @@ static void lists_two(void) {
     struct zacpi_table found[3];
     size_t count;
     head(ssdt, "SSDT", 36, 2), madt(processors, 7);
-    memset(xsdt, 0xa5, sizeof xsdt);
+    memset(xsdt, 0xa5, ROOT_SIZE);
     put(0, 0, processors, 52), put(1, 0, ssdt, 36), put(3, 1, ssdt, 1);
     source.accept = ZACPI_ACCEPT_SUMS;
     EXPECT(!zacpi_source_of_tables(regions, 2, 3, xsdt, 52, &source));
@@ -92,7 +107,7 @@ static void chooses_a_madt(void) {
 static void needs_capacity(void) {
     static uint8_t processors[52];
     madt(processors, 7);
-    memset(xsdt, 0xa5, sizeof xsdt);
+    memset(xsdt, 0xa5, ROOT_SIZE);
     memset(&source, 0, sizeof source);
     put(0, 0, processors, 52), put(1, 0x5000, processors, 52), put(2, 0, NULL, 0);
     EXPECT(zacpi_source_of_tables(regions, 2, 2, xsdt, 52, &source) == ZACPI_NO_ROOM);
@@ -232,7 +247,12 @@ static void takes_a_whole_fadt(void) {
     EXPECT(!make(4) && dsdt_at() == 0x6000);
 }
 
-int main(void) {
+int main(int argc, char **argv) {
+    static const struct zacpi_region none[MOST];
+    static const uint8_t zeros[ROOT_SIZE];
+    if (!edge_of(argc, argv)) return 2;
+    regions = (struct zacpi_region *)at_edge(none, sizeof none);
+    xsdt = (uint8_t *)at_edge(zeros, sizeof zeros);
     lists_two();
     chooses_a_madt();
     needs_capacity();

@@ -1,13 +1,14 @@
 /* Sweeps over tables laid out by hand: each table's memory as two regions that touch, cut at each place, and each byte
  * of a table but its Length changed to each other value. No lookup may take such a table: that by its signature and
  * that of its own type refuse, nothing is written but the signature, and the list of faults has why it is passed over.
- * Prints those that fail, and how many memories were tried. The status is 0 if all hold.
+ * Prints those that fail, and how many memories were tried. The status is 0 if all hold. With `end` or `begin` each
+ * region is at a page that can't be touched (edges.h).
  * cc -std=c99 -Iinclude tests/c/sweeps.c ARCHIVE */
-#include "zacpi.h"
-#include <stdio.h>
-#include <string.h>
+#define _DEFAULT_SOURCE
+#include "edges.h"
 
 #define PAINT 0xa5
+
 #define AT(address, table) \
     { address, table, sizeof table }
 enum { LENGTH = 4, REVISION = 8, OEMID = 10, OEM_TABLE_ID = 16, OEM_REVISION = 24 }; /* fields (section 5.2.6) */
@@ -146,7 +147,7 @@ static int is_found(const struct swept *table) {
 /* The table in two regions, cut at each place. */
 static void sweep_cuts(const struct swept *table) {
     struct zacpi_region regions[10];
-    const struct zacpi_source source = {regions, table->regions_length + 1, 0x1000, ZACPI_START_RSDT, 0};
+    struct zacpi_source source = {regions, table->regions_length + 1, 0x1000, ZACPI_START_RSDT, 0};
     struct zacpi_region *front = &regions[table->index], *rest = front + 1;
     size_t after = table->regions_length - table->index, whole = table->regions[table->index].length, cut;
     memcpy(regions, table->regions, table->index * sizeof *regions);
@@ -157,6 +158,7 @@ static void sweep_cuts(const struct swept *table) {
         rest->address = front->address + cut;
         rest->bytes = front->bytes + cut;
         rest->length = whole - cut;
+        source.regions = all_at_edge(regions, table->regions_length + 1);
         result(is_passed_over(table, &source, ZACPI_MAP_FAILED), table, "cut at", cut, 0);
     }
 }
@@ -175,11 +177,10 @@ static void sweep_bytes(const struct swept *table) {
     struct zacpi_region regions[9];
     const struct zacpi_source source = {regions, table->regions_length, 0x1000, ZACPI_START_RSDT, 0};
     const struct zacpi_region *region = &table->regions[table->index];
-    uint8_t bytes[116];
+    uint8_t *bytes = (uint8_t *)at_edge(region->bytes, region->length);
     size_t offset;
     unsigned bits;
-    memcpy(regions, table->regions, table->regions_length * sizeof *regions);
-    memcpy(bytes, region->bytes, region->length);
+    memcpy(regions, all_at_edge(table->regions, table->regions_length), table->regions_length * sizeof *regions);
     regions[table->index].bytes = bytes;
     for (offset = 0; offset < region->length; offset++) {
         if (LENGTH <= offset && offset < REVISION) continue;
@@ -192,8 +193,9 @@ static void sweep_bytes(const struct swept *table) {
     }
 }
 
-int main(void) {
+int main(int argc, char **argv) {
     const struct swept *table = tables;
+    if (!edge_of(argc, argv)) return 2;
     for (; table < tables + sizeof tables / sizeof *tables; table++) {
         result(is_found(table), table, "as it is", 0, 0);
         sweep_cuts(table);
