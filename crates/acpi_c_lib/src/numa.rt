@@ -29,10 +29,9 @@ fn range_at(table: &[u8], address: u64) -> Option<MemoryRange>
 {
     let mut entries = Domains::over(table).entries();
     while let Some(entry) = entries.next() {
-        if let Some(range) = entry.memory_range()
-            && range.holds(address)
-        {
-            return Some(range);
+        match entry.memory_range() {
+            Some(range) if range.holds(address) => return Some(range),
+            _ => {}
         }
     }
     None

@@ -23,10 +23,9 @@ pub fn domain_of_address(source: &Source<'_>, address: u64) -> Result<u32, Refus
 fn range_at(table: &[u8], address: u64) -> Option<MemoryRange> {
     let mut entries = Domains::over(table).entries();
     while let Some(entry) = entries.next() {
-        if let Some(range) = entry.memory_range()
-            && range.holds(address)
-        {
-            return Some(range);
+        match entry.memory_range() {
+            Some(range) if range.holds(address) => return Some(range),
+            _ => {}
         }
     }
     None

@@ -39,10 +39,10 @@ pub fn pin(source: &Source<'_>, interrupt: u32) -> Result<IoApicPin, Refusal> {
 fn nearest(table: &[u8], interrupt: u32) -> Option<IoApic> {
     let mut found = None;
     for entry in MadtEntryIter::over(table) {
-        if let Some(io_apic) = io_apic(&entry)
-            && io_apic.global_system_interrupt_base <= interrupt
-            && is_nearer(found, &io_apic)
-        {
+        let Some(io_apic) = io_apic(&entry) else {
+            continue;
+        };
+        if io_apic.global_system_interrupt_base <= interrupt && is_nearer(found, &io_apic) {
             found = Some(io_apic);
         }
     }
