@@ -233,34 +233,6 @@ NO_TABLE(a_long_length_listed, long_bytes, 36)
 NO_TABLE(a_bad_sum_listed, unsummed_bytes, 36)
 MACHINE(no_table_at_first, on_two(unsummed_bytes, 36, LISTED(hpet_bytes), to, room, length))
 
-/* Each code of a register that is reserved. */
-static void check_codes(void) {
-    int i;
-    for (i = 0; i < 14; i++) {
-        struct zacpi_fixed_hardware fadt = pc_fadt;
-        size_t *length = paint_size(&out_count);
-        zacpi_status got;
-        switch (i) {
-        case 0: fadt.pm1a_event.at.space = 0x0b; break;
-        case 1: fadt.pm1b_event.at.space = 0xbf, fadt.pm1b_event.present = 1; break;
-        case 2: fadt.pm1a_control.at.access_size = 5; break;
-        case 3: fadt.pm1b_control.present = 2; break;
-        case 4: fadt.pm2_control.at.space = 0x7e; break;
-        case 5: fadt.pm_timer.at.access_size = 255; break;
-        case 6: fadt.reset.at.space = 0x80; break;
-        case 7: fadt.sleep_control = (struct zacpi_register){{1, 0x0b, 8, 0, 1}, 1}; break;
-        case 8: fadt.sleep_status.present = 255; break;
-        case 9: fadt.gpe0_block.space = 0x0b; break;
-        case 10: fadt.gpe1_block.present = 2; break;
-        case 11: fadt.pm2_control.present = 2; break;
-        case 12: fadt.gpe1_block.space = 0xbf; break;
-        default: fadt.reset.at.access_size = 5; break;
-        }
-        got = zacpi_write_fadt(ids, &fadt, (uint8_t *)paint(&out, OUTPUT), OUTPUT, length);
-        result(got == ZACPI_UNKNOWN_CODE && *length == UNCOUNTED && is_left_but(&out, 0),
-               "a FADT with a reserved code", i, 0, got);
-    }
-}
 /* Where a machine can lie, how long it is, and where its DSDT lies: tables' addresses end at 2^64 - 1 at most, and an
  * XSDT of 2^32 bytes and more can't be. */
 static void check_places(void) {

@@ -242,6 +242,7 @@ static const uint8_t bodiless_bytes[] = {HEAD('O', 'E', 'M', '9', 36, 255, 0x92)
 #include "rows_machine.h"
 #include "rows_arm.h"
 #include "rows_riscv.h"
+#include "rows_codes.h"
 
 /* ---- Rows ----------------------------------------------------------------------------------------------- */
 
@@ -434,7 +435,7 @@ static void check_all_written(void) {
             ids = &makers;
         }
     }
-    check_codes();
+    check_all_codes();
     check_arm_codes();
     check_gic_codes();
     check_places();
