@@ -6,7 +6,7 @@
 #include "zacpi.h"
 
 #define BASE 0x100000u
-#define SIZE 0x1b000u
+#define SIZE 0x1c000u
 #define AT(n) (BASE + 0x200u * (n))       /* where table N lies */
 #define TAIL (BASE + SIZE - 36u)          /* the last 36 bytes: a header whose table isn't lent as a whole */
 #define CUT(n) (0x180000u + 0x1000u * (n)) /* three regions with the first bytes of a table each */
@@ -40,8 +40,8 @@ enum { EMPTY, ARM, PC, ODD, HOLES, SUM, DESKTOP, MOBILE, WORKSTATION, SERVER, SO
        UNITS_BETWEEN, UNITS_FAULTS, UNITS_LATER, RISCV, RISCV_CUT, RISCV_SHORT, EARLY, LATE, PAST, ONE_LEFT, UNITS_4,
        FLAWED,
        LED_BY_SUMS, LED_BY_IDS, ROOT_OEM_ID, ROOT_LONG, OVERRIDES, MEMBERS,
-       ALL_KINDS, /* root tables, in the order of `tables` */
-       RSDP_0, RSDP_2, RSDP_40, RSDP_MIXED, RSDP_LONG, RSDP_LOST, RSDP_CUT, RSDP_SHORT, RSDP_TO_SUM,
+       ALL_KINDS, ROOT_TABLE_ID, ROOT_35, ROOT_X_TABLE_ID, /* root tables, in the order of `tables` */
+       RSDP_0, RSDP_2, RSDP_40, RSDP_MIXED, RSDP_LONG, RSDP_LOST, RSDP_CUT, RSDP_SHORT, RSDP_TO_SUM, RSDP_OEM_ID,
        RSDP_NONE, /* RSDPs, and the last one is none */
        MADT_GIC, GTDT, SRAT, SLIT, MCFG, FADT, MADT_PC, HPET_SHORT, HPET, MADT_CUT, GTDT_CUT, SRAT_CUT, SLIT_ODD,
        FADT_1, SRAT_HIGH, FADT_DESKTOP, FADT_MOBILE, FADT_WORKSTATION, FADT_SERVER, FADT_SOHO, FADT_APPLIANCE,
@@ -303,6 +303,8 @@ static const struct table {
     {AT(LED_BY_IDS), "RSDT", 1, 44, led_by_ids}, {AT(ROOT_OEM_ID), "RSDT", 1, 40, root_oem_id},
     {AT(ROOT_LONG), "RSDT", 1, SIZE, root_long}, {AT(OVERRIDES), "RSDT", 1, 40, overrides},
     {AT(MEMBERS), "RSDT", 1, 52, members}, {AT(ALL_KINDS), "RSDT", 1, 44, all_kinds},
+    {AT(ROOT_TABLE_ID), "RSDT", 1, 36, root_table_id}, {AT(ROOT_35), "RSDT", 1, 35, no_fields},
+    {AT(ROOT_X_TABLE_ID), "XSDT", 1, 36, root_table_id},
     {AT(MADT_GIC), "APIC", 6, 346, madt_gic}, {AT(GTDT), "GTDT", 3, 260, gtdt}, {AT(SRAT), "SRAT", 3, 274, srat},
     {AT(SLIT), "SLIT", 1, 48, slit}, {AT(MCFG), "MCFG", 1, 108, mcfg}, {AT(FADT), "FACP", 6, 276, fadt},
     {AT(MADT_PC), "APIC", 4, 96, madt_pc}, {AT(HPET_SHORT), "HPET", 3, 48, no_fields}, {AT(HPET), "HPET", 1, 56, hpet},
@@ -390,6 +392,7 @@ static const struct rsdp {
     {AT(RSDP_MIXED), 0, 2, AT(ARM), 36, 0}, {AT(RSDP_LONG), 0, 2, 0, SIZE, AT(PC)},
     {AT(RSDP_LOST), 0, 2, 0, 36, 0x300000000}, {AT(RSDP_CUT), 0, 0, CUT(2), 0, 0},
     {AT(RSDP_SHORT), 0, 2, 0, 35, AT(PC)}, {AT(RSDP_TO_SUM), 0, 0, AT(SUM), 0, 0},
+    {AT(RSDP_OEM_ID), 0xff, 0, AT(ARM), 0, 0},
     {BIOS + 0x1ffe0, 0, 0, BIOS + 0x10000, 0, 0},
     {EBDA + 0x40, 0, 0, 0x200000, 0, 0}, {EBDA + 0x3e0, 0, 2, 0, 0x31, AT(PC)},
     /* A byte too long for the area with the 16 bytes after it; too short; not UTF-8; and in the last 32 bytes. */

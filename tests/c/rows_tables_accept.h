@@ -14,6 +14,7 @@ PUTS(led_by_sums, {36, 4, AT(FADT_SUM)}, {40, 4, AT(MADT_TABLE_ID)}, {44, 4, AT(
 PUTS(led_by_ids, {36, 4, AT(FADT_OEM_ID)}, {40, 4, AT(MADT_LOST)});
 PUTS(root_oem_id, {36, 4, AT(MADT_OEM_ID)}, BAD_OEM_ID);
 PUTS(root_long, BAD_OEM_ID); /* Length reaches past what is lent */
+PUTS(root_table_id, BAD_TABLE_ID);
 
 /* Each has a Processor Local APIC: ACPI Processor UID at 2, APIC ID at 3, Flags at 4 (section 5.2.12.2). */
 #define PROCESSOR(uid, id) {44, 2, HEADER(0, 8)}, {44 + 2, 1, uid}, {44 + 3, 1, id}, {44 + 4, 4, 1} /* Enabled */
